@@ -49,26 +49,40 @@ still_there v fates b has = by (get fates b)
     by (Some (Put lock plain bytes)) = (bytes, refl)
 
 pub needed_below : (v : Seen) (fates : FinMap nat_cmp Fate) (blocks : List ℕ) (m : Missing) → IsNeededFor (seen_with v fates) blocks m → IsNeededFor v blocks m
-needed_below v fates blocks m needed = (needed.0, needed.1, (needed.2.0, needed.2.1, needed.2.2, record {
-  block = record {
-    own = needed.2.3.block.own;
-    absent = unseen (get fates m.block) (v.block_at m.block) needed.2.3.block.absent;
-    lock = needed.2.3.block.lock;
-    plain = needed.2.3.block.plain;
-    from = needed.2.3.block.from;
-  };
-  which = needed.2.3.which;
-}))
+needed_below v fates blocks m needed = (
+  needed.0,
+  needed.1,
+  (
+    needed.2.0,
+    needed.2.1,
+    needed.2.2,
+    record {
+      block = record {
+        own = needed.2.3.block.own;
+        absent = unseen (get fates m.block) (v.block_at m.block) needed.2.3.block.absent;
+        lock = needed.2.3.block.lock;
+        plain = needed.2.3.block.plain;
+        from = needed.2.3.block.from;
+      };
+      which = needed.2.3.which;
+    },
+  ),
+)
 
 -- in an image that stands no group is damaged in a draft that puts none of them
 pub none_breaks : GroupsBreakNothing → (v : Seen) (fates : FinMap nat_cmp Fate) (im : Image) (o : Owners) (l : Layout) (t : Tree) → IsOf v im o l t → LeavesGroups l fates
     → (blocks : List ℕ) (rule b : ℕ) → BreaksSome (seen_with v fates) blocks rule b → ⊥
 none_breaks sound v fates im o l t of leaves blocks rule b breaks =
     let f = (groups_are_listed v im o l t breaks.0 of).0 breaks.1 in
-    sound v im o l t blocks rule b of (breaks.0, breaks.1, breaks.2, λ at shown. breaks.3 at (record {
-      whole = shown.whole;
-      same = λ c bytes head e. shown.same c bytes head (sym (ap (λ x. block_with x (v.block_at c)) (leaves f.0 c f.1 (own_header f.0 c (subst (λ k. group.IsHeaderOf k c) f.2 head)))) ∙ e);
-    }))
+    sound v im o l t blocks rule b of (
+      breaks.0,
+      breaks.1,
+      breaks.2,
+      λ at shown. breaks.3 at (record {
+        whole = shown.whole;
+        same = λ c bytes head e. shown.same c bytes head (sym (ap (λ x. block_with x (v.block_at c)) (leaves f.0 c f.1 (own_header f.0 c (subst (λ k. group.IsHeaderOf k c) f.2 head)))) ∙ e);
+      }),
+    )
   where
     own_header : (k : Rindex) (c : ℕ) → group.IsHeaderOf (group_of_entry k) c → IsHeaderOf k c
     own_header k c head = record { low = head.low; high = head.high }

@@ -1,14 +1,19 @@
 -- The steps of a write, one after another, over a view.
-use Rattle.std.proofs.Common.{◌≡◌, ℕ, List, [], ◌++◌, length, refl, ap, ◌∙◌, subst, arith, Bool, true, false, Result, Ok}
+use Rattle.std.proofs.Common.{◌≡◌, Bool, true, false, Option, None, Some, Result, Ok, Err, ℕ, List, [], ◌++◌, length, refl, ap, ◌∙◌, subst, arith}
 use Rattle.std.proofs.lemmas.List.{length-append}
 use Rattle.std.specs.FinMap.{FinMap, empty}
 use Rattle.std.specs.Ordering.{nat_cmp}
 use Rattle.drafts.specs.Fates.{AreWhole, Drafted, seen_in, seen_with}
+use Rattle.std.specs.Prelude.{IfSome}
+use Rattle.drafts.specs.declared.change.Change.{Change}
 use Rattle.drafts.specs.declared.fate.Fate.{Fate}
-use Rattle.gfs2_layout.specs.Holding.{Holding}
+use Rattle.glock_names.specs.Steps.{IfIs, IfNeedBlock}
 use Rattle.glock_names.specs.declared.steps.CallFault.{CallFault}
+use Rattle.glock_names.specs.declared.steps.Missing.{Missing}
 use Rattle.glock_names.specs.declared.steps.Step.{Step}
-use Rattle.glock_names.specs.declared.steps.Step.TheVariants.{Is}
+use Rattle.glock_names.specs.declared.steps.Step.TheVariants.{Is, NeedBlock}
+use Rattle.glock_names.proofs.StepLaws.{answer_so}
+use Rattle.gfs2_layout.specs.Holding.{Holding}
 use Rattle.glock_names.specs.Views.{Seen}
 use Rattle.dinode_tree.specs.Shown.{IsShown}
 use Rattle.growth_drafts.specs.Touched.{Follows}
@@ -67,6 +72,20 @@ wrote {V} seen old now at bytes first room left h new view same used is =
     (subst (λ l. HasWritten (seen_in seen now) empty now.fates room l h at bytes) used
     (subst (λ r. HasWritten (seen_in seen now) empty now.fates r left h at bytes) same
     (subst (λ f. HasWritten (seen_in seen now) f now.fates first left h at bytes) new is)))
+
+-- what follows of a change that is answered
+pub change_so : (r : Result (Step (Option Change)) CallFault) (P Q : Change → Type 0) → ((change : Change) → P change → Q change) → IfIs r (λ done. IfSome done P) → IfIs r (λ done. IfSome done Q)
+change_so r P Q so is = answer_so r (λ done. IfSome done P) (λ done. IfSome done Q) each is
+  where
+    each : (done : Option Change) → IfSome done P → IfSome done Q
+    each None holds = tt
+    each (Some change) holds = so change holds
+
+-- a block that is needed of all that a view shows
+pub needed_all : {A : Type 0} (r : Result (Step A) CallFault) (v : Seen) (a : ℕ) (P : Holding → Missing → Type 0) → ((h : Holding) → IsShown v a h → IfNeedBlock r (P h)) → IfNeedBlock r (λ m. (h : Holding) → IsShown v a h → P h m)
+needed_all (Ok (Is answer)) v a P needed = tt
+needed_all (Ok (NeedBlock missing)) v a P needed = needed
+needed_all (Err fault) v a P needed = tt
 
 -- an answer isn't both of the two
 pub not_both : (r : Step Bool) (b : Bool) → ◌≡◌ {A = Result (Step Bool) CallFault} (Ok r) (Ok (Is true)) → r ≡ Is b → b ≡ false → ⊥

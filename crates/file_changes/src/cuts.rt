@@ -5,7 +5,7 @@ ghost use Rattle.file_tree.specs.Tree.{Tree};
 ghost use Rattle.drafts.specs.Fates.{seen_with};
 ghost use Rattle.gfs2_layout.specs.Holding.{Holding};
 ghost use Rattle.glock_names.specs.Steps.{IfIs, IfNeedBlock, IfDamaged};
-ghost use Rattle.glock_names.specs.Views.{HasBlock, IsOfView, IsView};
+ghost use Rattle.glock_names.specs.Views.{HasBlock, IsOfView};
 ghost use Rattle.growth_drafts.specs.Taken.{IsCutAt};
 ghost use Rattle.image_model.specs.Flat.{Path};
 ghost use Rattle.image_model.specs.Image.{Image};
@@ -19,7 +19,7 @@ ghost use Rattle.resource_groups.specs.Putting.{HasDataBlock};
 ghost use Rattle.file_changes.specs.Drafting.{FreesIn, IsCutDraft, IsFreedAndDone, IsNeededAt, IsWrongAt};
 ghost use Rattle.file_changes.specs.Making.{CanBeCut};
 
-use crate::inside::{check_data_blocks, check_inside};
+use crate::inside::{check_data_blocks, finish_inside, is_a_view};
 use crate::times::put_time;
 use draft_changes::groups_say_what_is_taken;
 use drafts::{Change, Draft};
@@ -29,13 +29,6 @@ use group_locks::standing_groups_are_sound;
 use growth_laws::files_are_inodes;
 use resource_groups::free_blocks;
 use std::alloc::Global;
-
-// A law: what a node has of the file system is a view of it.
-fn is_a_view<V: View>(view: &V)
-    ensures { IsView (V.seen view.now) }
-{
-    let _size = view.block_size();
-}
 
 /// Cuts a file to so many bytes in a new draft over the view, and answers the blocks that this frees, each a data block of a group; the
 /// file's dinode gets the time. None where the view's file isn't a sound one of this size at least; then the draft may be half done. It
@@ -143,10 +136,5 @@ pub fn free_and_finish<V: View>(
         Step::Is(false) => return Ok(Step::Is(None)),
         Step::NeedBlock(missing) => return Ok(Step::NeedBlock(missing)),
     }
-    let change = draft.finish()?;
-    match check_inside(alloc, view, inode, &change)? {
-        Step::Is(true) => Ok(Step::Is(Some(change))),
-        Step::Is(false) => Ok(Step::Is(None)),
-        Step::NeedBlock(missing) => Ok(Step::NeedBlock(missing)),
-    }
+    finish_inside(alloc, view, draft, inode)
 }

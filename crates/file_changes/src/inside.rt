@@ -1,5 +1,7 @@
 // Whether all blocks that a change has lie where they may, and what is told where one doesn't.
-ghost use Rattle.std.specs.Prelude.{ℕ, List, ◌≡◌, ◌≤◌, ◌<◌, ◌↔◌, true, false, Contains, IfSome, IfNone, IsTrue, Ok, length};
+ghost use Rattle.std.specs.Prelude.{ℕ, List, ◌≡◌, ◌≤◌, ◌<◌, ◌↔◌, true, false, Contains, IfSome, IsSome, IsTrue, Ok, length};
+ghost use Rattle.drafts.specs.Fates.{AreWhole};
+ghost use Rattle.drafts.specs.declared.change.Change.{Change};
 ghost use Rattle.drafts.specs.declared.change.Written.{Written};
 ghost use Rattle.gfs2_layout.specs.Holding.{Holding};
 ghost use Rattle.glock_names.specs.Steps.{IfIs, IfNeedBlock, IfDamaged};
@@ -10,11 +12,12 @@ ghost use Rattle.dinode_tree.specs.Reading.{IsNeeded};
 ghost use Rattle.dinode_tree.specs.Shown.{IsShown};
 ghost use Rattle.dinode_tree.specs.declared.below.PointedBlock.{PointedBlock};
 ghost use Rattle.image_changes.specs.Does.{AreInside, LiesInGroup};
+ghost use Rattle.image_changes.specs.Drafted.{IsFinished};
 ghost use Rattle.resource_groups.specs.Putting.{HasDataBlock};
 ghost use Rattle.file_changes.specs.Drafting.{IsWrongAt};
 
 use dinode_tree::{PointedBlock, blocks_below};
-use drafts::{Change, Written};
+use drafts::{Change, Draft, Written};
 use glock_names::{CallFault, Group, Step, View};
 use resource_groups::group_of;
 use std::alloc::Global;
@@ -102,10 +105,10 @@ fn tell_stray<V: View>(alloc: Global, view: &V, inode: u64) -> Result<Step<bool>
     }
 }
 
-/// Whether each block that a change of an inode writes lies in a group of the view. Where one doesn't, a pointer of the inode that leads to a
-/// block which is no data block is told, if there is one. It costs a look at the groups for each written block, and where one lies in none,
-/// what `blocks_below` costs and such a look for each block below.
-pub(crate) fn check_inside<V: View>(
+// Whether each block that a change of an inode writes lies in a group of the view. Where one doesn't, a pointer of the inode that leads to a
+// block which is no data block is told, if there is one. It costs a look at the groups for each written block, and where one lies in none,
+// what `blocks_below` costs and such a look for each block below.
+fn check_inside<V: View>(
     alloc: Global,
     view: &V,
     inode: u64,
@@ -124,8 +127,33 @@ pub(crate) fn check_inside<V: View>(
     tell_stray(alloc, view, inode)
 }
 
+/// Ends a draft of an inode over the view: its change, or None where some block that it writes lies in no group. It costs what `finish`
+/// costs, and a look at the groups for each written block; where one lies in none, what `blocks_below` costs and such a look for each block below.
+pub(crate) fn finish_inside<V: View>(
+    alloc: Global,
+    view: &V,
+    draft: Draft<'_, V>,
+    inode: u64,
+) -> Result<Step<Option<Change>>, CallFault>
+    requires whole { AreWhole (V.seen view.now).size draft.fates }
+    ensures finished { IfIs result (λ done. IfSome done (IsFinished draft.entry.fates)) }
+    ensures inside { IfIs result (λ done. IfSome done (AreInside (V.seen view.now))) }
+    ensures all { ((change : Change) → IsFinished draft.entry.fates change → AreInside (V.seen view.now) change) → IfIs result (λ done. IsSome done) }
+    ensures needed { (h : Holding) → IsShown (V.seen view.now) inode h → IfNeedBlock result (IsNeeded (V.seen view.now) h AnyIndex 1) }
+    ensures damaged { (blocks : List ℕ) → IfDamaged result (IsWrongAt (V.seen view.now) inode blocks) }
+    ensures kept { IfDamaged result (IsOfView (V.seen view.now)) }
+{
+    let change = draft.finish()?;
+    match check_inside(alloc, view, inode, &change)? {
+        Step::Is(true) => Ok(Step::Is(Some(change))),
+        Step::Is(false) => Ok(Step::Is(None)),
+        Step::NeedBlock(missing) => Ok(Step::NeedBlock(missing)),
+    }
+}
+
 /// Whether each of these blocks, to which an inode leads or led in a draft, is a data block of a group of the view. Where one isn't, a pointer
-/// of the inode to such a block is told, if the view has one. It costs what `check_inside` costs.
+/// of the inode to such a block is told, if the view has one. It costs a look at the groups for
+/// each block, and where one isn't, what `blocks_below` costs and such a look for each block below.
 pub(crate) fn check_data_blocks<V: View>(
     alloc: Global,
     view: &V,

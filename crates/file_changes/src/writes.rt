@@ -26,7 +26,7 @@ ghost use Rattle.resource_groups.specs.Putting.{HasDataBlock};
 ghost use Rattle.file_changes.specs.Drafting.{IsNeededAt, IsWriteDraft, IsWrongAt, TakesIn, WritesFile};
 ghost use Rattle.file_changes.specs.Making.{IsRoomIn};
 
-use crate::inside::{check_inside, is_a_view};
+use crate::inside::{finish_inside, is_a_view};
 use crate::times::put_time;
 use draft_changes::{free_blocks_are_new, groups_say_what_is_taken};
 use drafts::{Change, Draft};
@@ -175,10 +175,5 @@ pub fn write_file<V: View>(
         Step::Is(false) => return Ok(Step::Is(None)),
         Step::NeedBlock(missing) => return Ok(Step::NeedBlock(missing)),
     }
-    let change = draft.finish()?;
-    match check_inside(alloc, view, inode, &change)? {
-        Step::Is(true) => Ok(Step::Is(Some(change))),
-        Step::Is(false) => Ok(Step::Is(None)),
-        Step::NeedBlock(missing) => Ok(Step::NeedBlock(missing)),
-    }
+    finish_inside(alloc, view, draft, inode)
 }

@@ -1,5 +1,4 @@
 use Rattle.std.proofs.Common.{sym, subst}
-use Rattle.glock_names.specs.Steps.{TellsOf}
 use Rattle.glock_names.proofs.StepLaws.{answer_at}
 use Rattle.resource_groups.specs.Freeing.{AreFreed, BreaksSome}
 use Rattle.resource_groups.specs.Putting.{HasDataBlock}
