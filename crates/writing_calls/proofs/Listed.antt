@@ -10,6 +10,7 @@ use Rattle.file_tree.specs.declared.call.Call.{Call}
 use Rattle.call_locks.specs.Wants.{wanted}
 use Rattle.call_locks.specs.WantLaws.{path_of}
 use Rattle.growth_laws.specs.Need.{needed}
+use Rattle.growth_drafts.specs.Taken.{IsLookedAt}
 use Rattle.image_model.specs.Flat.{follow}
 use Rattle.image_model.specs.Image.{Image}
 use Rattle.image_model.specs.Owners.{Owners, holding}
@@ -19,7 +20,7 @@ use Rattle.file_changes.specs.Making.{goes_at}
 use Rattle.path_walks.specs.Holds.{holds_in}
 use Rattle.room_search.specs.Blocks.{room_holds}
 use Rattle.group_locks.specs.Groups.{holds_of_groups}
-use Rattle.writing_calls.specs.Writing.{Cuts, Puts, by_growth, by_write, call_holds, group_holds_at, group_holds_of, need_in}
+use Rattle.writing_calls.specs.Writing.{Cuts, Puts, by_growth, by_write, call_holds, group_holds_at, group_holds_of, looks_at, need_in}
 
 -- where the tree refuses the call no group's lock is taken
 pub plain_list : (im : Image) (o : Owners) (l : Layout) (t : Tree) (c : Call) (node : ℕ) → is_ok (apply c t).reply ≡ false → call_holds im o l t c node ≡ holds_in im o l (path_of c false) (wanted c)
@@ -48,6 +49,10 @@ module _ (im : Image) (o : Owners) (l : Layout) (c : Call) (node a : ℕ) where
   need_is size at new need same (by_write x bytes writes) is = is ∙ ap (λ k. need_in im o k a) (sym writes)
   need_is size at new need same (by_growth end cuts longer) is =
       is ∙ sym (cond-true _ (needed (holding im o a) end 0) 0 (ap (λ n. nat_lt n end) same ∙ lt-ltb size end longer)) ∙ ap (λ k. need_in im o k a) (sym cuts)
+
+  pub looks_so : (size at : ℕ) (new : List ℕ) (i : ℕ) → Puts c size at new → looks_at im o c a i → IsLookedAt (holding im o a) at (at + length new) i
+  looks_so size at new i (by_write x bytes writes) looks = subst (λ k. looks_at im o k a i) writes looks
+  looks_so size at new i (by_growth end cuts longer) looks = (subst (λ k. looks_at im o k a i) cuts looks).1
 
   -- and of one that cuts the file
   pub cut_list : (size end : ℕ) → (dinode_at im o a).size ≡ size → Cuts c size end → group_holds_of im o l c node a ≡ holds_of_groups (goes_at (holding im o a) end) l.groups

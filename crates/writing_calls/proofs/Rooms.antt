@@ -67,7 +67,7 @@ use Rattle.room_search.proofs.Holds.{block_under, lack_behind}
 use Rattle.writing_calls.specs.Writing.{IsEdit, IsNeedOf, IsTooFew, Puts, by_growth, by_write, call_holds, content_after, end_of, group_holds_of}
 use Rattle.writing_calls.proofs.Doing.{changes, inode_held}
 use Rattle.writing_calls.proofs.Images as images
-use Rattle.writing_calls.proofs.Listed.{need_is, room_list}
+use Rattle.writing_calls.proofs.Listed.{looks_so, need_is, room_list}
 use Rattle.writing_calls.proofs.Written.{put_at}
 
 -- numbers that rise stand once each
@@ -98,7 +98,7 @@ module _ (make : WritesMakeFiles) (files : InodesAreFiles) (v : Seen) (c : Call)
     counted = standing_file v im o l t of (path_of c false) p.inode walked.0.at (images.is_file v c p is seen plain short im o l t of walked) files
 
     need_so : need ≡ needed (holding im o p.inode) at (length new)
-    need_so = needs (holding im o p.inode) (is_shown v im o l t of (path_of c false) p.inode walked.0.at) counted.file
+    need_so = needs.so_many (holding im o p.inode) (is_shown v im o l t of (path_of c false) p.inode walked.0.at) counted.file
 
     same_content : content_after c content ≡ overwritten at new content
     same_content = by puts
@@ -124,6 +124,7 @@ module _ (make : WritesMakeFiles) (files : InodesAreFiles) (v : Seen) (c : Call)
       at = walked.0.at;
       on_path = walked.2;
       groups = few.groups;
+      looked = λ i looks. needs.looked (holding im o p.inode) i (is_shown v im o l t of (path_of c false) p.inode walked.0.at) counted.file (looks_so im o l c node p.inode p.dinode.size at new i puts looks);
       needs = need_is im o l c node p.inode p.dinode.size at new need size_is puts need_so;
       free_are = few.free_are;
       fewer = few.fewer;

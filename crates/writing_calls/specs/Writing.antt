@@ -23,6 +23,7 @@ use Rattle.call_locks.specs.WantLaws.{path_of}
 use Rattle.dinode_tree.specs.Shown.{IsShown}
 use Rattle.growth_laws.specs.Files.{IsFile}
 use Rattle.growth_laws.specs.Need.{needed}
+use Rattle.file_fills.specs.Filling.{IsSeenWay}
 use Rattle.growth_drafts.specs.Taken.{IsCutAt, IsLookedAt}
 use Rattle.drafts.specs.declared.attempt.Attempt.{Attempt}
 use Rattle.drafts.specs.declared.attempt.Attempt.TheVariants.{Done}
@@ -112,13 +113,21 @@ need_in im o (Write path at new) a = needed (holding im o a) at (length new)
 need_in im o (Truncate path size) a = if nat_lt (dinode_at im o a).size size then needed (holding im o a) size 0 else 0
 need_in im o call a = 0
 
--- The tree would take the call, but fewer blocks are free, in all groups, than it needs. Each lock on the path and of each group is held.
+-- the call looks at this block of content of the file in the block: it changes it in part, or an end that moves on stands in it
+abbrev pub looks_at : Image → Owners → Call → ℕ → ℕ → Type 0
+looks_at im o (Write path at new) a i = IsLookedAt (holding im o a) at (at + length new) i
+looks_at im o (Truncate path size) a i = (dinode_at im o a).size < size × IsLookedAt (holding im o a) size (size + 0) i
+looks_at im o call a i = ⊥
+
+-- The tree would take the call, but fewer blocks are free, in all groups, than it needs. Each lock on the path and of each group is held, and each
+-- block of the file at which the call looks is in the view.
 pub record IsTooFew (v : Seen) (im : Image) (o : Owners) (l : Layout) (t : Tree) (call : Call) (need free : ℕ) : Type 0 where
   pub taken : (apply call t).reply ≡ reply.Ok
   pub inode : ℕ
   pub at : IsAt im o l (path_of call false) inode
   pub on_path : AreHeld v (holds_in im o l (path_of call false) (wanted call))
   pub groups : AreHeld v (map hold_of_group (map group_of_entry l.groups))
+  pub looked : (i : ℕ) → looks_at im o call inode i → IsSeenWay v (holding im o inode) i
   pub needs : need ≡ need_in im o call inode
   pub free_are : free ≡ length (free_in_all (states_by o) (map group_of_entry l.groups))
   pub fewer : free < need
@@ -164,9 +173,10 @@ PutsThere v call a at new = (h : Holding) → IsShown v a h → Puts call (dinod
 abbrev pub CutsThere : Seen → Call → ℕ → ℕ → Type 0
 CutsThere v call a end = (h : Holding) → IsShown v a h → Cuts call (dinode_in h).size end
 
--- of each file that this may be so many blocks are needed
-abbrev pub IsNeedOf : Seen → ℕ → ℕ → List ℕ → ℕ → Type 0
-IsNeedOf v a at new need = (h : Holding) → IsShown v a h → IsFile h → need ≡ needed h at (length new)
+-- Of each file that this may be so many blocks are needed, and the view has the blocks of content at which the call looks.
+pub record IsNeedOf (v : Seen) (a at : ℕ) (new : List ℕ) (need : ℕ) : Type 0 where
+  pub so_many : (h : Holding) → IsShown v a h → IsFile h → need ≡ needed h at (length new)
+  pub looked : (h : Holding) (i : ℕ) → IsShown v a h → IsFile h → IsLookedAt h at (at + length new) i → IsSeenWay v h i
 
 -- a write goes into blocks only where its bytes haven't room behind the dinode
 abbrev pub GoesIntoBlocks : Seen → Call → ℕ → Type 0
@@ -209,14 +219,19 @@ pub data IsLackedFor (v : Seen) (call : Call) (node : ℕ) (lock : LockName) (st
   of_freed : (a size time : ℕ) (freed : List ℕ) (fates : FinMap nat_cmp Fate) → IsToChange v call a → CutsThere v call a size → IsCutDraft v a size time freed fates
       → IsFirstGroupLack v freed lock → state ≡ Ex → IsLackedFor v call node lock state
 
--- a block without which the call isn't answered: the dinode of the next inode on the path; one of the file; or one of a group whose lock is held
+-- A block without which the call isn't answered: the dinode of the next inode on the path; one of the file; one with the bits of the blocks that are
+-- taken or that go; or, where free blocks are looked for, one of a group whose lock is held.
 pub data IsNeededFor (v : Seen) (call : Call) (m : Missing) : Type 0 where
   on_path : IsUnread v (wanted call) (path_of call false) m → IsNeededFor v call m
-  of_write : (a at : ℕ) (new : List ℕ) (blocks : List ℕ) → IsToChange v call a → PutsThere v call a at new → IsNeededAt v a (λ h. IsLookedAt h at (at + length new)) blocks m → IsNeededFor v call m
-  of_cut : (a size : ℕ) (blocks : List ℕ) → IsToChange v call a → CutsThere v call a size → IsNeededAt v a (λ h. IsCutAt h size) blocks m → IsNeededFor v call m
-  of_room : (a : ℕ) → IsToChange v call a → IsGroupNeeded v m → IsNeededFor v call m
+  of_write : (a at : ℕ) (new : List ℕ) → IsToChange v call a → PutsThere v call a at new → IsNeededAt v a (λ h. IsLookedAt h at (at + length new)) [] m → IsNeededFor v call m
+  of_taken : (node a at : ℕ) (new : List ℕ) (need : ℕ) (room : List ℕ) → IsToChange v call a → PutsThere v call a at new → IsNeedOf v a at new need → IsRoomOf v node need room
+      → IsNeededAt v a (λ h. IsLookedAt h at (at + length new)) room m → IsNeededFor v call m
+  of_cut : (a size : ℕ) → IsToChange v call a → CutsThere v call a size → IsNeededAt v a (λ h. IsCutAt h size) [] m → IsNeededFor v call m
+  of_freed : (a size time : ℕ) (freed : List ℕ) (fates : FinMap nat_cmp Fate) → IsToChange v call a → CutsThere v call a size → IsCutDraft v a size time freed fates → GroupsAreHeld v freed
+      → IsNeededAt v a (λ h i. ⊥) freed m → IsNeededFor v call m
+  of_room : (a at : ℕ) (new : List ℕ) (need : ℕ) → IsToChange v call a → PutsThere v call a at new → IsNeedOf v a at new need → IsGroupNeeded v m → IsNeededFor v call m
 
--- Too few blocks are free for the call, in all groups, as far as the view shows: so many, and so many are needed.
+-- Too few blocks are free for the call, in all groups, whose locks are held, as far as the view shows: so many, and so many are needed.
 pub record IsFullFor (v : Seen) (call : Call) (need free : ℕ) : Type 0 where
   pub edits : IsEdit call
   pub inode : ℕ
@@ -225,16 +240,21 @@ pub record IsFullFor (v : Seen) (call : Call) (need free : ℕ) : Type 0 where
   pub new : List ℕ
   pub puts : PutsThere v call inode place new
   pub needs : IsNeedOf v inode place new need
+  pub held : AreHeld v (map hold_of_group v.groups)
   pub free_are : (at : ℕ → List ℕ) → AreShown v at → free ≡ length (free_in_all (said at) v.groups)
   pub fewer : free < need
 
--- the block breaks this rule: on the path; (2) the dinode at its end, into whose block is to be written, is none of the groups' data
--- blocks; of that file, or of a group that has blocks which are taken or go; or in a group whose lock is held
+-- The block breaks this rule: on the path; (2) the dinode at its end, into whose block is to be written, is none of the groups' data
+-- blocks; of that file; of a group that has blocks which are taken or go; or, where free blocks are looked for, in a group whose lock is held.
 pub data IsDamage (v : Seen) (call : Call) : ℕ → ℕ → Type 0 where
   on_path : (rule b : ℕ) → path.IsDamage v (wanted call) (path_of call false) rule b → IsDamage v call rule b
   no_data_block : (a : ℕ) → LeadsTo v (wanted call) (path_of call false) a → ¬ (HasDataBlock v a) → IsDamage v call 2 a
-  in_file : (a rule b : ℕ) (blocks : List ℕ) → IsToChange v call a → IsWrongAt v a blocks rule b → IsDamage v call rule b
-  in_group : (a rule b : ℕ) → IsToChange v call a → IsGroupBroken v rule b → IsDamage v call rule b
+  in_file : (a rule b : ℕ) → IsToChange v call a → IsWrongAt v a [] rule b → IsDamage v call rule b
+  of_taken : (node a at : ℕ) (new : List ℕ) (need : ℕ) (room : List ℕ) (rule b : ℕ) → IsToChange v call a → PutsThere v call a at new → IsNeedOf v a at new need → IsRoomOf v node need room
+      → IsWrongAt v a room rule b → IsDamage v call rule b
+  of_freed : (a size time : ℕ) (freed : List ℕ) (fates : FinMap nat_cmp Fate) (rule b : ℕ) → IsToChange v call a → CutsThere v call a size → IsCutDraft v a size time freed fates
+      → GroupsAreHeld v freed → IsWrongAt v a freed rule b → IsDamage v call rule b
+  in_group : (a at : ℕ) (new : List ℕ) (need rule b : ℕ) → IsToChange v call a → PutsThere v call a at new → IsNeedOf v a at new need → IsGroupBroken v rule b → IsDamage v call rule b
 
 -- `sync` is answered at once, with a change of nothing: it asks for no lock and no block, finds no damage, and takes no memory
 abbrev pub IsSynced : Result Attempt CallFault → Type 0

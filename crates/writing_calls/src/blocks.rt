@@ -5,7 +5,7 @@ ghost use Rattle.gfs2_layout.specs.Structures.{is_directory};
 ghost use Rattle.file_tree.specs.Tree.{Tree};
 ghost use Rattle.file_tree.specs.declared.reply.Reply.TheVariants.{Ok as OkReply};
 ghost use Rattle.glock_names.specs.Steps.{IfDamaged};
-ghost use Rattle.glock_names.specs.Views.{IsOfView};
+ghost use Rattle.glock_names.specs.Views.{IsOfView, IsView};
 ghost use Rattle.call_locks.specs.WantLaws.{path_of};
 ghost use Rattle.call_locks.specs.Wants.{wanted};
 ghost use Rattle.image_model.specs.Image.{Image};
@@ -19,13 +19,21 @@ ghost use Rattle.writing_calls.specs.Writing.{GoesIntoBlocks, IfWritten, IsDamag
 
 use crate::finds::Found;
 use drafts::Stamp;
-use file_changes::write_file;
+use file_changes::{write_file, writes_make_files};
 use file_fills::need_write;
 use file_tree::Call;
 use glock_names::{CallFault, Step, View};
+use growth_laws::files_are_inodes;
 use path_walks::Place;
 use room_search::{Locked, Taken, find_room};
 use std::alloc::Global;
+
+// A law: what a node sees is a view of an image.
+pub(crate) fn is_a_view<V: View>(view: &V)
+    ensures { IsView (V.seen view.now) }
+{
+    view.block_size();
+}
 
 // Writes bytes into blocks of the file at a place, with so many free blocks as that needs.
 fn take_and_write<V: View>(
@@ -57,6 +65,9 @@ fn take_and_write<V: View>(
     ensures damaged { IfDamaged result (IsDamage (V.seen view.now) call.now) }
     ensures kept { IfDamaged result (IsOfView (V.seen view.now)) }
 {
+    is_a_view(view);
+    files_are_inodes();
+    writes_make_files();
     let room = match find_room(alloc, view, stamp.node, need)? {
         Locked::Is(Taken::Is(room)) => room,
         Locked::Is(Taken::TooFew(free)) => return Ok(Found::NoSpace { need, free }),

@@ -17,12 +17,14 @@ ghost use Rattle.path_walks.specs.declared.walk.Walk.TheVariants.{At};
 ghost use Rattle.resource_groups.specs.Putting.{HasDataBlock};
 ghost use Rattle.writing_calls.specs.Writing.{Cuts, IfWritten, IsDamage, IsFound, IsRefusal, IsToldOf};
 
+use crate::blocks::is_a_view;
 use crate::finds::Found;
 use drafts::{Draft, Stamp};
-use file_changes::{cut_file, free_and_finish};
+use file_changes::{cut_file, cuts_free_exactly, cuts_make_files, free_and_finish};
 use file_tree::Call;
 use glock_names::{CallFault, State, Step, View};
 use group_locks::lacked_group;
+use growth_laws::files_are_inodes;
 use path_walks::Place;
 use std::alloc::Global;
 
@@ -51,6 +53,10 @@ pub(crate) fn cut_at<V: View>(
     ensures damaged { IfDamaged result (IsDamage (V.seen view.now) call.now) }
     ensures kept { IfDamaged result (IsOfView (V.seen view.now)) }
 {
+    is_a_view(view);
+    files_are_inodes();
+    cuts_free_exactly();
+    cuts_make_files();
     let mut draft = Draft::new(alloc, view);
     let freed = match cut_file(alloc, view, &mut draft, place.inode, size, stamp.time)? {
         Step::Is(Some(freed)) => freed,
