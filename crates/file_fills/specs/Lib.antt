@@ -1,3 +1,4 @@
 pub mod Filling
 pub mod Counting
+pub mod Causes
 pub mod Progress
