@@ -1,9 +1,9 @@
 -- A file that was cut: its new end, and what it has.
-use Rattle.std.proofs.Common.{◌≡◌, ◌≢◌, inl, inr, false, Option, Some, Result, Ok, Err, IfOk, OnOk, ℕ, zero, suc, ◌+◌, ◌-◌, ◌*◌, ◌/◌, ◌%◌, ◌<◌, ◌≤◌, List, [], ◌++◌, length, take, refl, sym, ap, subst, ◌∙◌, arith, append-nil}
+use Rattle.std.proofs.Common.{◌≡◌, ◌≢◌, ◌⊎◌, inl, inr, false, Option, Some, Result, Ok, Err, IfOk, OnOk, ℕ, zero, suc, ◌+◌, ◌-◌, ◌*◌, ◌/◌, ◌%◌, ◌<◌, ◌≤◌, List, [], ◌++◌, length, take, refl, sym, ap, subst, ◌∙◌, arith, append-nil}
 use Rattle.std.proofs.lemmas.Bool.{cases_Bool}
 use Rattle.std.proofs.lemmas.Nat.{div-add-mod'}
 use Rattle.std.proofs.Math.Nat.{div-eq_of_lt-le, lt-mul-div-succ, mod-lt, mul-le-mul_right}
-use Rattle.std.specs.Prelude.{IsSome, replicate}
+use Rattle.std.specs.Prelude.{Contains, IsSome, replicate}
 use Rattle.std.specs.FinMap.{FinMap}
 use Rattle.std.specs.Ordering.{nat_cmp}
 use Rattle.drafts.specs.Fates.{seen_with}
@@ -12,6 +12,7 @@ use Rattle.file_tree.specs.Apply.{resized}
 use Rattle.gfs2_layout.specs.Holding.{Pointed, Cell, Holding, part_at}
 use Rattle.gfs2_layout.specs.Inode.{block_count, content_count, content_of, dinode_in, height_in, pieces, unit}
 use Rattle.gfs2_layout.specs.Structures.{is_directory}
+use Rattle.gfs2_layout.specs.Writing.{zeros_from}
 use Rattle.gfs2_layout.specs.declared.dinode.Dinode.{Dinode}
 use Rattle.glock_names.specs.Views.{Seen}
 use Rattle.dinode_tree.specs.Shown.{IsShown}
@@ -23,21 +24,24 @@ use Rattle.growth_laws.proofs.Bare.{stuffed_content_is_put}
 use Rattle.growth_laws.proofs.Bytes.{resized_length}
 use Rattle.growth_laws.proofs.Contents.{whole_unit}
 use Rattle.growth_laws.proofs.Ends.{whole_files_are_clear}
+use Rattle.growth_laws.proofs.Parts.{not_itself}
 use Rattle.growth_laws.proofs.Places.{size_large}
 use Rattle.growth_drafts.specs.Taken.{DraftsFile, HasFreed, IsCutAt}
 use Rattle.growth_drafts.proofs.Rooms.{none_in}
 use Rattle.growth_steps.specs.Becoming.{Becomes}
 use Rattle.growth_steps.specs.Heights.{CanBeBare}
 use Rattle.growth_steps.specs.Sizes.{CanHaveSize}
+use Rattle.file_fills.specs.Causes.{ChangesOnly, LeadsToOne}
 use Rattle.file_fills.specs.Filling.{IsSeenWay}
 use Rattle.file_fills.proofs.Ways.{ways_along}
-use Rattle.file_heights.specs.Grown.{HasCleared}
+use Rattle.file_heights.specs.Grown.{HasCleared, IsUnclear}
 use Rattle.file_heights.specs.Sized.{HasSize, dinode_as}
+use Rattle.file_heights.proofs.Changing.{changes_then, changes_wider}
 use Rattle.file_heights.proofs.Joining.{grown_as, grown_then}
 use Rattle.file_heights.proofs.Sized.{counts_same, no_more}
 use Rattle.file_heights.proofs.Rising.{bare_is_risen, led_along}
 use Rattle.file_growth.proofs.Writes.{long_content}
-use Rattle.file_cuts.specs.Cut.{CanCut, HasCut, end_of, height_at}
+use Rattle.file_cuts.specs.Cut.{CanCut, HasCut, IsCutBlock, end_of, height_at}
 use Rattle.file_cuts.specs.Progress.{HasCutTo, HasNewEnd}
 use Rattle.file_cuts.proofs.Drafting.{drafts_and_frees, freed_then}
 use Rattle.file_cuts.proofs.Ending.{content_cut, exactly}
@@ -118,6 +122,7 @@ module _ (f0 f1 : FinMap nat_cmp Fate) (mid : Seen) (inode : ℕ) (h : Holding) 
     grown = grown_as f0 f1 h s.cell _ _ _ _ _ _ (ap (dinode_as (dinode_in h) size blocks) (same_height some_bytes)) refl refl s.grown;
     clear = λ high. subst (IsClearFrom (with_cells h s.cell)) size_k
         (whole_files_are_clear (with_cells h s.cell) s.grown.file (ap (λ n. n * h.size) count_k ∙ whole_pieces size h.size some none ∙ sym size_k));
+    changes = changes_wider f0 f1 _ _ (λ b e. inl e) s.changes;
   }
 
   pub end_cleared : (after : Seen) (f2 : FinMap nat_cmp Fate) → size ≢ 0 → HasCleared after f1 f2 (with_cells h s.cell) → HasNewEnd after f0 f2 h size blocks
@@ -128,7 +133,22 @@ module _ (f0 f1 : FinMap nat_cmp Fate) (mid : Seen) (inode : ℕ) (h : Holding) 
         grown_as f0 f2 h c.cell _ _ _ _ _ _ (s.grown.dinode ∙ ap (dinode_as (dinode_in h) size blocks) (same_height some_bytes)) s.grown.content refl
         (grown_then f0 f1 f2 h s.cell c.cell _ _ _ _ [] [] s.grown c.same.grown);
     clear = λ high. subst (IsClearFrom (with_cells h c.cell)) size_k c.clear;
+    changes = changes_then f0 f1 f2 _ _ _ (λ b e. inl e) unclear_before s.changes c.changes;
   }
+    where
+      unclear_before : (b : ℕ) → IsUnclear (with_cells h s.cell) (dinode_in (with_cells h s.cell)).size b → (b ≡ h.own) ⊎ IsUnclear h size b
+      unclear_before b u =
+          let placed = was b 0 u.index u.placed in
+          let other : b ≢ h.own = λ e. not_itself _ _ _ _ (sym file.own ∙ ap (part_at h) (sym e) ∙ placed.2) in
+          inr (record {
+            index = u.index;
+            behind = u.behind;
+            placed = placed;
+            some = u.some;
+            within = u.within;
+            ends = u.ends ∙ size_k;
+            unclear = λ same. u.unclear (subst (λ xs. xs ≡ zeros_from u.behind xs) (sym (s.others b other)) same);
+          })
 
   -- the last block is seen
   pub last_seen : (v : Seen) (i : ℕ) → size % h.size ≢ 0 → ((i : ℕ) → i + 1 ≡ end_of h size → IsCutAt h size i → IsSeenWay (seen_with v f0) h i) → i + 1 ≡ content_count (with_cells h s.cell) → IsSeenWay (seen_with v f1) (with_cells h s.cell) i
@@ -169,8 +189,8 @@ module _ (f0 f1 : FinMap nat_cmp Fate) (mid : Seen) (inode : ℕ) (h : Holding) 
         absurd (no_part none _ _ _ _ _ child.part)
   ]
 
-  pub end_bare : (after : Seen) (f2 : FinMap nat_cmp Fate) (cell : ℕ → Option Cell) → size ≡ 0 → IsBareTo (with_cells h s.cell) cell 0 → Becomes after f1 f2 inode (with_cells h s.cell) (with_cells h cell) → HasNewEnd after f0 f2 h size blocks
-  end_bare after f2 cell none bare becomes =
+  pub end_bare : (after : Seen) (f2 : FinMap nat_cmp Fate) (cell : ℕ → Option Cell) → size ≡ 0 → IsBareTo (with_cells h s.cell) cell 0 → Becomes after f1 f2 inode (with_cells h s.cell) (with_cells h cell) → ChangesOnly f1 f2 (λ b. b ≡ inode) → HasNewEnd after f0 f2 h size blocks
+  end_bare after f2 cell none bare becomes changes =
       let risen = bare_is_risen f1 f2 after inode (with_cells h s.cell) cell s.grown.file becomes 0 (no_content none) bare in
       let flat : 0 ≡ height_at h size = ap (height_at h) (sym none) in
       record {
@@ -180,6 +200,7 @@ module _ (f0 f1 : FinMap nat_cmp Fate) (mid : Seen) (inode : ℕ) (h : Holding) 
             grown_as f0 f2 h cell _ _ _ _ _ _ (ap (λ (d : Dinode). record d { height = 0 }) s.grown.dinode ∙ ap (dinode_as (dinode_in h) size blocks) flat) s.grown.content refl
             (grown_then f0 f1 f2 h s.cell cell _ _ _ _ [] [] s.grown risen.grown);
         clear = λ high. absurd (high (ap (λ (d : Dinode). d.height) bare.dinode));
+        changes = changes_then f0 f1 f2 _ _ _ (λ b e. inl e) (λ b e. inl (e ∙ sym own)) s.changes changes;
       }
 
 -- ---- all of it
@@ -235,13 +256,30 @@ module _ (v : Seen) (f0 f1 f2 : FinMap nat_cmp Fate) (h : Holding) (size place b
     };
     drafted = subst (λ xs. DraftsFile f0 f2 h (with_cells h n.cell) xs) (append-nil freed)
         (drafts_and_frees f0 f1 f2 h (with_cells h a.cell) (with_cells h n.cell) freed [] refl a.cut.blocks no_more_freed a.cut.drafted n.grown.drafted);
+    changes = changes_then f0 f1 f2 _ _ _ earlier later a.cut.changes n.changes;
   }
+    where
+      earlier : (x : ℕ) → Contains freed x ⊎ LeadsToOne h freed x → IsCutBlock h size freed x
+      earlier x (inl is) = inr (inl is)
+      earlier x (inr leads) = inr (inr (inl leads))
+
+      later : (x : ℕ) → (x ≡ h.own) ⊎ IsUnclear (with_cells h a.cell) size x → IsCutBlock h size freed x
+      later x (inl own) = inl own
+      later x (inr u) = inr (inr (inr (record {
+        index = u.index;
+        behind = u.behind;
+        placed = (u.placed.0, u.placed.1, sym (a.cut.parts x (is_there (a.cell x) _ u.placed.2)) ∙ u.placed.2);
+        some = u.some;
+        within = u.within;
+        ends = u.ends;
+        unclear = λ same. u.unclear (subst (λ xs. xs ≡ zeros_from u.behind xs) (sym (a.cut.contents x (u.placed.0, u.placed.1, u.index, u.placed.2))) same);
+      })))
 
 -- ---- content behind the dinode
 
 pub stuffed_cut : (after : Seen) (f0 f1 : FinMap nat_cmp Fate) (inode : ℕ) (h : Holding) (cell : ℕ → Option Cell) (size : ℕ) → CanCut h size → h.own ≡ inode → IsStuffedAs h cell (resized size (content_of h)) → Becomes after f0 f1 inode h (with_cells h cell)
-    → HasCut after f0 f1 h size []
-stuffed_cut after f0 f1 inode h cell size can own is becomes = record {
+    → ChangesOnly f0 f1 (λ b. b ≡ inode) → HasCut after f0 f1 h size []
+stuffed_cut after f0 f1 inode h cell size can own is becomes changes = record {
   g = with_cells h cell;
   shown = subst (λ a. IsShown after a (with_cells h cell)) (sym own) becomes.shown;
   is_cut = record {
@@ -261,6 +299,7 @@ stuffed_cut after f0 f1 inode h cell size can own is becomes = record {
     clear = λ high. absurd (high (ap (λ (d : Dinode). d.height) is.dinode ∙ is.stuffed));
   };
   drafted = becomes.drafted;
+  changes = changes_wider f0 f1 _ _ (λ b e. inl (e ∙ sym own)) changes;
 }
   where
     file' : IsFile (with_cells h cell) × (content_of (with_cells h cell) ≡ resized size (content_of h))

@@ -5,15 +5,16 @@ use Rattle.std.specs.Ordering.{nat_cmp}
 use Rattle.drafts.specs.Fates.{seen_with}
 use Rattle.drafts.specs.declared.fate.Fate.{Fate}
 use Rattle.file_tree.specs.Apply.{resized}
-use Rattle.gfs2_layout.specs.Holding.{Cell, Holding, part_at}
+use Rattle.gfs2_layout.specs.Holding.{Cell, Holding, part_at, bytes_at}
 use Rattle.gfs2_layout.specs.Inode.{block_count, content_count, content_of, dinode_in, height_in, span}
 use Rattle.glock_names.specs.Views.{HasBlock, Seen}
 use Rattle.dinode_tree.specs.Shown.{IsShown}
 use Rattle.growth_laws.specs.Files.{IsFile, IsPlaced, block_on, places_on, with_cells}
 use Rattle.growth_laws.specs.Steps.{IsClearFrom}
-use Rattle.growth_drafts.specs.Taken.{DraftsFile, HasFreed, IsDistinct}
+use Rattle.growth_drafts.specs.Taken.{DraftsFile, HasFreed, IsContentIn, IsDistinct}
 use Rattle.file_walks.specs.Walks.{place_above}
-use Rattle.file_heights.specs.Grown.{IsGrown}
+use Rattle.file_fills.specs.Causes.{ChangesOnly, LeadsToOne}
+use Rattle.file_heights.specs.Grown.{IsGrown, IsUnclear}
 use Rattle.file_heights.specs.Sized.{dinode_as}
 use Rattle.file_cuts.specs.Cut.{IsPastEnd, height_at}
 
@@ -33,6 +34,8 @@ pub record IsCutTo (old new : FinMap nat_cmp Fate) (h : Holding) (cell : ℕ →
   pub only : (b : ℕ) → Contains freed b → (l f : ℕ) × IsPlaced h b l f × IsPastEnd h end l f
   pub stays : (b l f : ℕ) → IsPlaced (with_cells h cell) b l f → IsBefore h level place l f → IsPastEnd h end l f → ⊥
   pub drafted : DraftsFile old new h (with_cells h cell) freed
+  pub contents : (b : ℕ) → IsContentIn (with_cells h cell) b → bytes_at (with_cells h cell) b ≡ bytes_at h b
+  pub changes : ChangesOnly old new (λ b. Contains freed b ⊎ LeadsToOne h freed b)
 
 -- the view has the file's dinode, and each of its indirect blocks on the way to the block of content with index i
 pub record IsSeenOver (v : Seen) (h : Holding) (i : ℕ) : Type 0 where
@@ -60,3 +63,4 @@ pub record HasNewEnd (after : Seen) (old new : FinMap nat_cmp Fate) (h : Holding
   pub shown : IsShown after h.own (with_cells h cell)
   pub grown : IsGrown old new h cell (dinode_as (dinode_in h) size blocks (height_at h size)) (resized size (content_of h)) []
   pub clear : height_in (with_cells h cell) ≢ 0 → IsClearFrom (with_cells h cell) size
+  pub changes : ChangesOnly old new (λ b. (b ≡ h.own) ⊎ IsUnclear h size b)

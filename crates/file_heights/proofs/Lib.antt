@@ -1,3 +1,4 @@
+pub mod Changing
 pub mod Joining
 pub mod Rising
 pub mod Clearing

@@ -24,8 +24,10 @@ use Rattle.growth_laws.proofs.Told.{counts_are_told}
 use Rattle.growth_drafts.specs.Taken.{HasTaken}
 use Rattle.growth_drafts.proofs.Rooms.{none_in}
 use Rattle.growth_steps.specs.Becoming.{Becomes}
+use Rattle.file_fills.specs.Causes.{ChangesOnly}
 use Rattle.file_heights.specs.Grown.{IsGrown}
 use Rattle.file_heights.specs.Sized.{HasSize}
+use Rattle.file_heights.proofs.Changing.{changes_wider}
 use Rattle.file_heights.proofs.Joining.{grown_as, grown_then}
 
 module _ (h : Holding) (cell : ℕ → Option Cell) (parts : (x : ℕ) → part_at (with_cells h cell) x ≡ part_at h x) where
@@ -88,12 +90,14 @@ module _ (f0 f1 f2 : FinMap nat_cmp Fate) (mid after : Seen) (inode : ℕ) (h : 
       (pointers_tell (with_cells h c1) c2 (λ none. sized.in_blocks (sym high_one ∙ none)) high_two
       (λ j. numbers_behind_are_the_same (bytes_at (with_cells h c2) h.own) (bytes_at (with_cells h c1) h.own) dinode_length dinode_length (8 * j) told.behind)) at end height
 
-  pub has_size : h.own ≡ inode → HasSize after f0 f2 h size blocks
-  has_size own = record {
+  pub has_size : h.own ≡ inode → ChangesOnly f0 f2 (λ b. b ≡ inode) → HasSize after f0 f2 h size blocks
+  has_size own changes = record {
     cell = c2;
     shown = subst (λ a. IsShown after a (with_cells h c2)) (sym own) two.shown;
     grown =
         grown_as f0 f2 h c2 _ _ _ _ _ _ (ap (λ (d : Dinode). record d { blocks = blocks }) sized.dinode) after_size.1 refl
         (grown_then f0 f1 f2 h c1 c2 _ _ _ _ [] [] grown_size grown_count);
     need = λ at end height. need_count at end height ∙ sizes_keep_need h c1 size at end height file sized;
+    others = λ b other. told.others b other ∙ sized.others b other;
+    changes = changes_wider f0 f2 _ _ (λ b e. e ∙ sym own) changes;
   }

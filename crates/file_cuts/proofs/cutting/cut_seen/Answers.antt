@@ -3,6 +3,7 @@ use Rattle.drafts.specs.Fates.{seen_in}
 use Rattle.gfs2_layout.specs.Inode.{height_in}
 use Rattle.gfs2_layout.specs.declared.dinode.Dinode.{Dinode}
 use Rattle.growth_drafts.proofs.Following.{follows_draft, follows_one}
+use Rattle.file_heights.proofs.Changing.{changes_of, changes_one}
 use Rattle.file_cuts.specs.Cut.{HasCut}
 use Rattle.file_cuts.proofs.Finishing.{stuffed_cut}
 use Rattle.file_cuts.proofs.cutting.cut_seen.Goals as goal
@@ -12,7 +13,8 @@ returns-then-dinode-eq0-clause-cut g c h shown d_is can ways last =
     let stuffed : height_in h ≡ 0 = sym (ap (λ (d : Dinode). d.height) d_is) ∙ c.if-dinode-eq0.true in
     let is = c.in_ok-resize_stuffed.ensures.resized h c.requires.there.0 can.counted.file shown d_is stuffed c.requires.there.1 in
     subst (HasCut (seen_in g.V.View.seen c.resize_stuffed.new.draft) c.args.draft.now.fates c.resize_stuffed.new.draft.fates h c.args.size) (sym c.new.ensures.items)
-    (stuffed_cut (seen_in g.V.View.seen c.resize_stuffed.new.draft) c.args.draft.now.fates c.resize_stuffed.new.draft.fates c.args.inode h _ c.args.size can shown.own is.0 is.1)
+    (stuffed_cut (seen_in g.V.View.seen c.resize_stuffed.new.draft) c.args.draft.now.fates c.resize_stuffed.new.draft.fates c.args.inode h _ c.args.size can shown.own is.0 is.1
+    (changes_of c.args.draft.now c.resize_stuffed.new.draft _ (λ b. b ≡ c.args.inode) (c.in_ok-resize_stuffed.ensures.put c.requires.there.0 c.requires.there.1) (changes_one c.args.draft.now.fates c.args.inode _)))
 
 pub returns-then-dinode-eq0-clause-within : goal.returns-then-dinode-eq0-clause-within
 returns-then-dinode-eq0-clause-within g c room =

@@ -1,10 +1,11 @@
-use Rattle.std.proofs.Common.{◌≡◌, ◌-◌, suc, ◌∷◌, inl, inr, refl, sym, ap, ◌∙◌, arith}
+use Rattle.std.proofs.Common.{◌≡◌, ◌⊎◌, ◌-◌, suc, ◌∷◌, inl, inr, refl, sym, ap, ◌∙◌, arith}
 use Rattle.std.specs.Prelude.{Contains}
 use Rattle.gfs2_layout.specs.Inode.{height_in}
 use Rattle.gfs2_layout.specs.declared.dinode.Dinode.{Dinode}
 use Rattle.growth_drafts.proofs.Following.{follows_draft, follows_two}
 use Rattle.growth_steps.proofs.Keeping.{kept_by_two}
 use Rattle.growth_steps.proofs.Stepping.{on_ok}
+use Rattle.file_heights.proofs.Changing.{changes_of, changes_two, on_both}
 use Rattle.file_heights.proofs.Rising.{can_rise, moved_has, raised_has, stuffed_along}
 use Rattle.file_heights.proofs.heights.raise_once.Goals as goal
 
@@ -17,8 +18,10 @@ raise_height-requires-clause-room g c = c.requires.room
 pub returns-then-dinode-eq0-clause-risen : goal.returns-then-dinode-eq0-clause-risen
 returns-then-dinode-eq0-clause-risen g c h left file shown d_is has fresh =
     let stuffed : height_in h ≡ 0 = sym (ap (λ (d : Dinode). d.height) d_is) ∙ c.if-dinode-eq0.true in
-    on_ok c.move_content.result _ _ (λ is. moved_has _ _ _ c.args.inode c.args.block h _ c.args.dinode.now left file shown.own d_is c.if-dinode-eq0.true is.0 is.1)
+    on_both c.move_content.result _ _ _ (λ is put. moved_has _ _ _ c.args.inode c.args.block h _ c.args.dinode.now left file shown.own d_is c.if-dinode-eq0.true is.0 is.1
+    (changes_of c.args.draft.now c.move_content.new.draft _ (λ x. (x ≡ c.args.inode) ⊎ (x ≡ c.args.block)) put (changes_two c.args.draft.now.fates c.args.inode c.args.block _ _)))
     (c.move_content.ensures.moved h c.requires.there.0 file shown d_is (record { stuffed = stuffed; content = stuffed_along h stuffed has }) fresh c.requires.there.1)
+    (c.move_content.ensures.put c.requires.there.0 c.requires.there.1)
 
 pub returns-then-dinode-eq0-clause-still : goal.returns-then-dinode-eq0-clause-still
 returns-then-dinode-eq0-clause-still g c =
@@ -33,8 +36,10 @@ returns-then-dinode-eq0-clause-within g c left =
 pub returns-clause-risen : goal.returns-clause-risen
 returns-clause-risen g c h left file shown d_is has fresh =
     let high : height_in h ≡ suc (c.args.dinode.now.height - 1) = sym (ap (λ (d : Dinode). d.height) d_is) ∙ (let up : c.args.dinode.now.height ≡ suc (c.args.dinode.now.height - 1) = omega (arith, c.if-dinode-eq0.false) in up) in
-    on_ok c.raise_height.result _ _ (λ is. raised_has _ _ _ c.args.inode (c.args.dinode.now.height - 1) c.args.block h _ c.args.dinode.now left file shown.own d_is is.0 is.1)
+    on_both c.raise_height.result _ _ _ (λ is put. raised_has _ _ _ c.args.inode (c.args.dinode.now.height - 1) c.args.block h _ c.args.dinode.now left file shown.own d_is is.0 is.1
+    (changes_of c.args.draft.now c.raise_height.new.draft _ (λ x. (x ≡ c.args.inode) ⊎ (x ≡ c.args.block)) put (changes_two c.args.draft.now.fates c.args.inode c.args.block _ _)))
     (c.raise_height.ensures.raised h (c.args.dinode.now.height - 1) c.requires.there.0 file shown d_is (can_rise h (c.args.dinode.now.height - 1) high (omega (arith, c.requires.low, c.if-dinode-eq0.false)) has) fresh c.requires.there.1)
+    (c.raise_height.ensures.put c.requires.there.0 c.requires.there.1)
 
 pub returns-clause-still : goal.returns-clause-still
 returns-clause-still g c =
