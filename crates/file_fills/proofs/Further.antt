@@ -80,7 +80,7 @@ module _ (f0 f1 f2 : FinMap nat_cmp Fate) (h : Holding) (c1 c2 : ℕ → Option 
   early_cause : (x : ℕ) → IsFilledAt (with_cells h c1) at end t1 x → IsFilledAt (with_cells h c2) at end (t1 ++ t2) x
   early_cause x (inl taken) = inl (Contains-append_left t1 t2 x taken)
   early_cause x (inr (inl (c, k, level, first, taken, part))) = inr (inl (c, k, level, first, Contains-append_left t1 t2 c taken, b.parts c ((a.blocks.blocks c).1 (inr taken)) ∙ part))
-  early_cause x (inr (inr (i, has, from, k, part))) = inr (inr (i, has, from, k, b.parts x (is_there (c1 x) _ part) ∙ part))
+  early_cause x (inr (inr (i, has, placed))) = inr (inr (i, has, (placed.0, placed.1, b.parts x (is_there (c1 x) _ placed.2) ∙ placed.2)))
 
   late_cause : (x : ℕ) → IsFilledAt (with_cells h c2) at end t2 x → IsFilledAt (with_cells h c2) at end (t1 ++ t2) x
   late_cause x (inl taken) = inl (Contains-append_right t1 t2 x taken)

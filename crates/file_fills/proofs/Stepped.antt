@@ -309,7 +309,7 @@ module _ (old : FinMap nat_cmp Fate) (h : Holding) (at end i block : ℕ) (new :
       others = λ x none not_freed. put_else x (λ e. none (subst (λ y. IsSome (put_cells y)) (sym e) (put_some block ∙ is_there (h.cell block) _ placed.2)));
     };
     changes = λ x. elim (cases_eq x block) [
-      | inl e ↦ inr (inr (inr (i, has, placed.0, placed.1, kept.0 x ∙ ap (part_at h) e ∙ placed.2)))
+      | inl e ↦ inr (inr (inr (i, has, (placed.0, placed.1, kept.0 x ∙ ap (part_at h) e ∙ placed.2))))
       | inr other ↦ inl (put_else x other)
     ];
   }
