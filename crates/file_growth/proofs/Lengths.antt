@@ -34,12 +34,12 @@ use Rattle.growth_drafts.specs.Taken.{HasTaken}
 use Rattle.growth_drafts.proofs.Rooms.{free_left, none_in}
 use Rattle.growth_steps.specs.Becoming.{Becomes}
 use Rattle.growth_steps.specs.Sizes.{CanHaveSize}
-use Rattle.file_heights.specs.Grown.{CanGrow, HasCleared, HasRisen, IsGrown, IsUnclear}
+use Rattle.file_heights.specs.Grown.{CanGrow, HasCleared, HasRisen, IsGrown}
 use Rattle.file_heights.proofs.Changing.{changes_then, changes_wider}
 use Rattle.file_heights.proofs.Joining.{grown_as, grown_then, risen_none}
 use Rattle.file_heights.proofs.Rising.{reach_of}
 use Rattle.file_heights.specs.Sized.{HasSize, dinode_as}
-use Rattle.file_growth.specs.Stretched.{CanStretch, HasEnd, HasStretched}
+use Rattle.file_growth.specs.Stretched.{CanStretch, HasEnd, HasStretched, IsStretchedAt}
 use Rattle.file_growth.specs.Written.{size_with}
 
 -- ---- the end
@@ -167,14 +167,11 @@ module _ (h : Holding) (at end need : ℕ) (room : List ℕ) (can : CanStretch h
           let second = r.risen.need at end (height_for h (size_with h end)) (omega (arith, same_for)) in
           omega (arith, first, second, s.need at end (height_for h (size_with h end)));
       changes =
-          changes_then f0 f2 f3 IsStretchedAt (λ b. b ≡ h.own) IsStretchedAt (λ b is. is) (λ b is. inl is)
-          (changes_then f0 f1 f2 _ (λ b. (b ≡ h.own) ⊎ Contains r.taken b) IsStretchedAt (λ b is. inr (inr is)) risen_at e.changes r.changes) s.changes;
+          changes_then f0 f2 f3 (IsStretchedAt h end r.taken) (λ b. b ≡ h.own) (IsStretchedAt h end r.taken) (λ b is. is) (λ b is. inl is)
+          (changes_then f0 f1 f2 _ (λ b. (b ≡ h.own) ⊎ Contains r.taken b) (IsStretchedAt h end r.taken) (λ b is. inr (inr is)) risen_at e.changes r.changes) s.changes;
     }
       where
-        abbrev IsStretchedAt : ℕ → Type 0
-        IsStretchedAt b = (b ≡ h.own) ⊎ Contains r.taken b ⊎ (((dinode_in h).size < end) × IsUnclear h (dinode_in h).size b)
-
-        risen_at : (b : ℕ) → (b ≡ h.own) ⊎ Contains r.taken b → (b ≡ h.own) ⊎ Contains r.taken b ⊎ (((dinode_in h).size < end) × IsUnclear h (dinode_in h).size b)
+        risen_at : (b : ℕ) → (b ≡ h.own) ⊎ Contains r.taken b → IsStretchedAt h end r.taken b
         risen_at b (inl own) = inl own
         risen_at b (inr taken) = inr (inl taken)
 

@@ -25,6 +25,10 @@ pub record CanStretch (h : Holding) (at end : ℕ) (room : List ℕ) : Type 0 wh
   pub free : AreFreeFor h room
   pub enough : needed_below h at end (height_for h (size_with h end)) ≤ length room
 
+-- a block to which this does something: the dinode's, one that is taken, and, where the end moves on, an unclear last one of content
+abbrev pub IsStretchedAt : Holding → ℕ → List ℕ → ℕ → Type 0
+IsStretchedAt h end taken b = (b ≡ h.own) ⊎ Contains taken b ⊎ (((dinode_in h).size < end) × IsUnclear h (dinode_in h).size b)
+
 -- over a draft that showed it: afterwards it shows it so long and so high, with blocks from the front of the room, and it needs so many less
 pub record HasStretched (after : Seen) (old new : FinMap nat_cmp Fate) (room left : List ℕ) (h : Holding) (at end need : ℕ) : Type 0 where
   pub cell : ℕ → Option Cell
@@ -33,7 +37,7 @@ pub record HasStretched (after : Seen) (old new : FinMap nat_cmp Fate) (room lef
   pub grown : IsGrown old new h cell (dinode_as (dinode_in h) (size_with h end) (((dinode_in h).blocks + need) % 2 ^ 64) (height_for h (size_with h end))) (resized (size_with h end) (content_of h)) taken
   pub from_front : room ≡ taken ++ left
   pub less : needed_below h at end (height_for h (size_with h end)) ≡ length taken + needed_below (with_cells h cell) at end (height_for h (size_with h end))
-  pub changes : ChangesOnly old new (λ b. (b ≡ h.own) ⊎ Contains taken b ⊎ (((dinode_in h).size < end) × IsUnclear h (dinode_in h).size b))
+  pub changes : ChangesOnly old new (IsStretchedAt h end taken)
 
 -- ---- on the way there
 
