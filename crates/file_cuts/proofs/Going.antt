@@ -191,7 +191,7 @@ module _ (old new : FinMap nat_cmp Fate) (h : Holding) (cell : ℕ → Option Ce
     last_is = Contains-append_right freed (b ∷ []) b (0, omega arith, refl)
 
     now_too : (x : ℕ) → (x ≡ from) ⊎ (x ≡ b) → Contains (freed ++ b ∷ []) x ⊎ LeadsToOne h (freed ++ b ∷ []) x
-    now_too x (inl e) = inr (b, k, level, first, last_is, (as_before b level first placed_b).2 ∙ ap (λ y. Some (Pointed y k level first)) (sym e))
+    now_too x (inl e) = inr (b, k, level, first, last_is, sym (cut.parts b (is_there (cell b) _ f.part)) ∙ f.part ∙ ap (λ y. Some (Pointed y k level first)) (sym e))
     now_too x (inr e) = inl (subst (Contains (freed ++ b ∷ [])) (sym e) last_is)
 
     pub cut_freed : IsCutTo old next h (freed_cells (with_cells h cell) from k b) end level (place + 1) (freed ++ b ∷ [])
