@@ -20,9 +20,11 @@ returns-then-size-eq0-clause-ended g c h file shown d_is can ways =
     let there = c.in_ok-set_size_and_count.ensures.still in
     let shown_k = subst (λ a. IsShown (seen_in g.V.View.seen c.set_size_and_count.new.draft) a (with_cells h s.cell)) shown.own s.shown in
     let is = c.in_ok-set_height.ensures.bare (with_cells h s.cell) there.0 s.grown.file shown_k (ap (λ (d : Dinode). record d { size = c.args.size; blocks = c.args.blocks }) d_is ∙ sym s.grown.dinode)
-    (can_be_bare c.args.draft.now.fates c.set_size_and_count.new.draft.fates _ c.args.inode h c.args.size c.args.blocks file shown.own can s c.if-size-eq0.true) there.1 in
-    (refl, end_bare c.args.draft.now.fates c.set_size_and_count.new.draft.fates _ c.args.inode h c.args.size c.args.blocks file shown.own can s (seen_in g.V.View.seen c.set_height.new.draft) c.set_height.new.draft.fates _ c.if-size-eq0.true is.0 is.1
-    (changes_of c.set_size_and_count.new.draft c.set_height.new.draft _ (λ b. b ≡ c.args.inode) (c.in_ok-set_height.ensures.put there.0 there.1) (changes_one c.set_size_and_count.new.draft.fates c.args.inode _)))
+    (can_be_bare c.args.draft.now.fates c.set_size_and_count.new.draft.fates _ c.args.inode h c.args.size c.args.blocks file shown.own can s c.if-size-eq0.true) there.1 in (
+      refl,
+      end_bare c.args.draft.now.fates c.set_size_and_count.new.draft.fates _ c.args.inode h c.args.size c.args.blocks file shown.own can s (seen_in g.V.View.seen c.set_height.new.draft) c.set_height.new.draft.fates _ c.if-size-eq0.true is.0 is.1
+          (changes_of c.set_size_and_count.new.draft c.set_height.new.draft _ (λ b. b ≡ c.args.inode) (c.in_ok-set_height.ensures.put there.0 there.1) (changes_one c.set_size_and_count.new.draft.fates c.args.inode _)),
+    )
 
 pub returns-then-size-eq0-clause-within : goal.returns-then-size-eq0-clause-within
 returns-then-size-eq0-clause-within g c room =
