@@ -1,9 +1,9 @@
 -- A file that was cut: its new end, and what it has.
-use Rattle.std.proofs.Common.{◌≡◌, ◌≢◌, inl, inr, false, Option, Some, Result, Ok, Err, IfOk, OnOk, ℕ, zero, suc, ◌+◌, ◌-◌, ◌*◌, ◌/◌, ◌%◌, ◌<◌, ◌≤◌, List, [], ◌++◌, length, take, drop, refl, sym, ap, subst, ◌∙◌, arith, append-nil}
+use Rattle.std.proofs.Common.{◌≡◌, ◌≢◌, ◌⊎◌, inl, inr, false, Option, Some, Result, Ok, Err, IfOk, OnOk, ℕ, zero, suc, ◌+◌, ◌-◌, ◌*◌, ◌/◌, ◌%◌, ◌<◌, ◌≤◌, List, [], ◌++◌, length, take, drop, refl, sym, ap, subst, ◌∙◌, arith, append-nil}
 use Rattle.std.proofs.lemmas.Bool.{cases_Bool}
 use Rattle.std.proofs.lemmas.Nat.{div-add-mod'}
 use Rattle.std.proofs.Math.Nat.{div-eq_of_lt-le, lt-mul-div-succ, mod-lt, mul-le-mul_right}
-use Rattle.std.specs.Prelude.{IsSome, replicate}
+use Rattle.std.specs.Prelude.{Contains, IsSome, replicate}
 use Rattle.std.specs.FinMap.{FinMap}
 use Rattle.std.specs.Ordering.{nat_cmp}
 use Rattle.drafts.specs.Fates.{seen_with}
@@ -24,22 +24,25 @@ use Rattle.growth_laws.proofs.Bare.{stuffed_content_is_put}
 use Rattle.growth_laws.proofs.Bytes.{resized_length}
 use Rattle.growth_laws.proofs.Contents.{whole_unit}
 use Rattle.growth_laws.proofs.Ends.{whole_files_are_clear}
+use Rattle.growth_laws.proofs.Parts.{not_itself}
 use Rattle.growth_laws.proofs.Places.{size_large}
 use Rattle.growth_drafts.specs.Taken.{DraftsFile, HasFreed, IsCutAt}
 use Rattle.growth_drafts.proofs.Rooms.{none_in}
 use Rattle.growth_steps.specs.Becoming.{Becomes}
 use Rattle.growth_steps.specs.Heights.{CanBeBare}
 use Rattle.growth_steps.specs.Sizes.{CanHaveSize}
+use Rattle.file_fills.specs.Causes.{ChangesOnly, LeadsToOne}
 use Rattle.file_fills.specs.Filling.{IsSeenWay}
 use Rattle.file_fills.proofs.Ways.{ways_along}
-use Rattle.file_heights.specs.Grown.{HasCleared}
+use Rattle.file_heights.specs.Grown.{HasCleared, IsUnclear}
 use Rattle.file_heights.specs.Sized.{HasSize, dinode_as}
+use Rattle.file_heights.proofs.Changing.{changes_then, changes_wider}
 use Rattle.file_heights.proofs.Joining.{grown_as, grown_then}
 use Rattle.file_heights.proofs.Sized.{counts_same, no_more}
 use Rattle.file_heights.proofs.Rising.{bare_is_risen, led_along}
 use Rattle.file_heights.proofs.Keeping.{heads_then}
 use Rattle.file_growth.proofs.Writes.{long_content}
-use Rattle.file_cuts.specs.Cut.{CanCut, HasCut, end_of, height_at}
+use Rattle.file_cuts.specs.Cut.{CanCut, HasCut, IsCutBlock, end_of, height_at}
 use Rattle.file_cuts.specs.Progress.{HasCutTo, HasNewEnd}
 use Rattle.file_cuts.proofs.Drafting.{drafts_and_frees, freed_then}
 use Rattle.file_cuts.proofs.Heads.{heads_cut, heads_on, zeros_from_there, zeros_keep_heads}
@@ -123,6 +126,7 @@ module _ (f0 f1 : FinMap nat_cmp Fate) (mid : Seen) (inode : ℕ) (h : Holding) 
         (whole_files_are_clear (with_cells h s.cell) s.grown.file (ap (λ n. n * h.size) count_k ∙ whole_pieces size h.size some none ∙ sym size_k));
     clear_behind = λ low. absurd (high_again low);
     heads = s.heads;
+    changes = changes_wider f0 f1 _ _ (λ b e. inl e) s.changes;
   }
 
   pub end_cleared : (after : Seen) (f2 : FinMap nat_cmp Fate) → size ≢ 0 → HasCleared after f1 f2 (with_cells h s.cell) → HasNewEnd after f0 f2 h size blocks
@@ -135,7 +139,22 @@ module _ (f0 f1 : FinMap nat_cmp Fate) (mid : Seen) (inode : ℕ) (h : Holding) 
     clear = λ high. subst (IsClearFrom (with_cells h c.cell)) size_k c.clear;
     clear_behind = λ low. absurd (high_again (sym (ap (λ (d : Dinode). d.height) c.same.grown.dinode) ∙ low));
     heads = heads_on h (with_cells h s.cell) (with_cells h c.cell) refl refl s.grown.file (λ b level first placed there. (s.grown.places b (suc level) first (is_there (h.cell b) _ placed.2)).1 placed) s.heads c.others;
+    changes = changes_then f0 f1 f2 _ _ _ (λ b e. inl e) unclear_before s.changes c.changes;
   }
+    where
+      unclear_before : (b : ℕ) → IsUnclear (with_cells h s.cell) (dinode_in (with_cells h s.cell)).size b → (b ≡ h.own) ⊎ IsUnclear h size b
+      unclear_before b u =
+          let placed = was b 0 u.index u.placed in
+          let other : b ≢ h.own = λ e. not_itself _ _ _ _ (sym file.own ∙ ap (part_at h) (sym e) ∙ placed.2) in
+          inr (record {
+            index = u.index;
+            behind = u.behind;
+            placed = placed;
+            some = u.some;
+            within = u.within;
+            ends = u.ends ∙ size_k;
+            unclear = λ same. u.unclear (subst (λ xs. xs ≡ zeros_from u.behind xs) (sym (s.others b other)) same);
+          })
 
   -- the last block is seen
   pub last_seen : (v : Seen) (i : ℕ) → size % h.size ≢ 0 → ((i : ℕ) → i + 1 ≡ end_of h size → IsCutAt h size i → IsSeenWay (seen_with v f0) h i) → i + 1 ≡ content_count (with_cells h s.cell) → IsSeenWay (seen_with v f1) (with_cells h s.cell) i
@@ -177,8 +196,8 @@ module _ (f0 f1 : FinMap nat_cmp Fate) (mid : Seen) (inode : ℕ) (h : Holding) 
   ]
 
   pub end_bare : (after : Seen) (f2 : FinMap nat_cmp Fate) (cell : ℕ → Option Cell) → size ≡ 0 → IsBareTo (with_cells h s.cell) cell 0 → Becomes after f1 f2 inode (with_cells h s.cell) (with_cells h cell)
-      → bytes_at (with_cells h cell) h.own ≡ dinode_put (record (dinode_in (with_cells h s.cell)) { height = 0 }) (zeros_from dinode_length (bytes_at (with_cells h s.cell) h.own)) → HasNewEnd after f0 f2 h size blocks
-  end_bare after f2 cell none bare becomes put =
+      → bytes_at (with_cells h cell) h.own ≡ dinode_put (record (dinode_in (with_cells h s.cell)) { height = 0 }) (zeros_from dinode_length (bytes_at (with_cells h s.cell) h.own)) → ChangesOnly f1 f2 (λ b. b ≡ inode) → HasNewEnd after f0 f2 h size blocks
+  end_bare after f2 cell none bare becomes put changes =
       let risen = bare_is_risen f1 f2 after inode (with_cells h s.cell) cell s.grown.file becomes 0 (no_content none) bare in
       let flat : 0 ≡ height_at h size = ap (height_at h) (sym none) in
       record {
@@ -192,6 +211,7 @@ module _ (f0 f1 : FinMap nat_cmp Fate) (mid : Seen) (inode : ℕ) (h : Holding) 
             (zeros_from_there (with_cells h s.cell) cell (record (dinode_in (with_cells h s.cell)) { height = 0 }) dinode_length s.grown.file put bare.dinode (omega arith) fits bare.others);
         heads = heads_then h (with_cells h s.cell) (with_cells h cell) refl file (λ b level first placed there. (s.grown.places b (suc level) first (is_there (h.cell b) _ placed.2)).1 placed) s.heads
             (zeros_keep_heads (with_cells h s.cell) cell (record (dinode_in (with_cells h s.cell)) { height = 0 }) dinode_length s.grown.file put bare.dinode (omega arith) fits bare.others);
+        changes = changes_then f0 f1 f2 _ _ _ (λ b e. inl e) (λ b e. inl (e ∙ sym own)) s.changes changes;
       }
     where
       fits : dinode_length ≤ h.size
@@ -253,13 +273,30 @@ module _ (v : Seen) (f0 f1 f2 : FinMap nat_cmp Fate) (h : Holding) (size place b
     };
     drafted = subst (λ xs. DraftsFile f0 f2 h (with_cells h n.cell) xs) (append-nil freed)
         (drafts_and_frees f0 f1 f2 h (with_cells h a.cell) (with_cells h n.cell) freed [] refl a.cut.blocks no_more_freed a.cut.drafted n.grown.drafted);
+    changes = changes_then f0 f1 f2 _ _ _ earlier later a.cut.changes n.changes;
   }
+    where
+      earlier : (x : ℕ) → Contains freed x ⊎ LeadsToOne h freed x → IsCutBlock h size freed x
+      earlier x (inl is) = inr (inl is)
+      earlier x (inr leads) = inr (inr (inl leads))
+
+      later : (x : ℕ) → (x ≡ h.own) ⊎ IsUnclear (with_cells h a.cell) size x → IsCutBlock h size freed x
+      later x (inl own) = inl own
+      later x (inr u) = inr (inr (inr (record {
+        index = u.index;
+        behind = u.behind;
+        placed = (u.placed.0, u.placed.1, sym (a.cut.parts x (is_there (a.cell x) _ u.placed.2)) ∙ u.placed.2);
+        some = u.some;
+        within = u.within;
+        ends = u.ends;
+        unclear = λ same. u.unclear (subst (λ xs. xs ≡ zeros_from u.behind xs) (sym (a.cut.contents x (u.placed.0, u.placed.1, u.index, u.placed.2))) same);
+      })))
 
 -- ---- content behind the dinode
 
 pub stuffed_cut : (after : Seen) (f0 f1 : FinMap nat_cmp Fate) (inode : ℕ) (h : Holding) (cell : ℕ → Option Cell) (size : ℕ) → CanCut h size → h.own ≡ inode → IsStuffedAs h cell (resized size (content_of h)) → Becomes after f0 f1 inode h (with_cells h cell)
-    → bytes_at (with_cells h cell) h.own ≡ dinode_put (record (dinode_in h) { size = size }) (zeros_from (dinode_length + size) (bytes_at h h.own)) → HasCut after f0 f1 h size []
-stuffed_cut after f0 f1 inode h cell size can own is becomes put = record {
+    → bytes_at (with_cells h cell) h.own ≡ dinode_put (record (dinode_in h) { size = size }) (zeros_from (dinode_length + size) (bytes_at h h.own)) → ChangesOnly f0 f1 (λ b. b ≡ inode) → HasCut after f0 f1 h size []
+stuffed_cut after f0 f1 inode h cell size can own is becomes put changes = record {
   g = with_cells h cell;
   shown = subst (λ a. IsShown after a (with_cells h cell)) (sym own) becomes.shown;
   is_cut = record {
@@ -281,6 +318,7 @@ stuffed_cut after f0 f1 inode h cell size can own is becomes put = record {
     heads = zeros_keep_heads h cell (record (dinode_in h) { size = size }) (dinode_length + size) can.counted.file put sized (omega arith) fits is.others;
   };
   drafted = becomes.drafted;
+  changes = changes_wider f0 f1 _ _ (λ b e. inl (e ∙ sym own)) changes;
 }
   where
     file' : IsFile (with_cells h cell) × (content_of (with_cells h cell) ≡ resized size (content_of h))

@@ -1,13 +1,13 @@
 -- How far the code has come that frees the blocks past an end, place by place.
-use Rattle.std.proofs.Common.{◌≡◌, ◌≢◌, inl, inr, ℕ, suc, ◌+◌, ◌*◌, ◌/◌, ◌<◌, ◌≤◌, List, [], ◌∷◌, ◌++◌, take, Option, refl, sym, ap, subst, ◌∙◌, arith, length-append}
+use Rattle.std.proofs.Common.{◌≡◌, ◌≢◌, ◌⊎◌, inl, inr, Some, ℕ, suc, ◌+◌, ◌*◌, ◌/◌, ◌<◌, ◌≤◌, List, [], ◌∷◌, ◌++◌, take, Option, refl, sym, ap, subst, ◌∙◌, arith, length-append}
 use Rattle.std.proofs.lemmas.Bool.{cases_eq, cases_lt}
-use Rattle.std.proofs.lemmas.List.Elements.{Contains-append_cases, Contains-append_right}
+use Rattle.std.proofs.lemmas.List.Elements.{Contains-append_cases, Contains-append_left, Contains-append_right}
 use Rattle.std.proofs.Math.Nat.{div-mul-le_self, mul-le-mul_right}
 use Rattle.std.specs.Prelude.{Contains, IsSome}
 use Rattle.std.specs.FinMap.{FinMap}
 use Rattle.std.specs.Ordering.{nat_cmp}
 use Rattle.drafts.specs.declared.fate.Fate.{Fate}
-use Rattle.gfs2_layout.specs.Holding.{Cell, Holding, bytes_at}
+use Rattle.gfs2_layout.specs.Holding.{Pointed, Cell, Holding, bytes_at}
 use Rattle.gfs2_layout.specs.Inode.{block_count, content_count, content_of, span}
 use Rattle.dinode_tree.proofs.Sound.{is_there}
 use Rattle.dinode_tree.proofs.Spans.{span_some}
@@ -22,6 +22,8 @@ use Rattle.file_cuts.proofs.Drafting.{drafts_and_frees, freed_then}
 use Rattle.growth_drafts.proofs.Rooms.{none_in, none_some, only_in}
 use Rattle.growth_steps.proofs.Putting.{drafts_nothing}
 use Rattle.file_walks.specs.Walks.{LeadsNowhere}
+use Rattle.file_fills.specs.Causes.{ChangesOnly, LeadsToOne}
+use Rattle.file_heights.proofs.Changing.{changes_then}
 use Rattle.file_cuts.specs.Cut.{IsPastEnd}
 use Rattle.file_cuts.specs.Progress.{IsCutTo}
 use Rattle.file_cuts.proofs.Past.{less_of, past_of_nowhere, something_below}
@@ -64,6 +66,8 @@ cut_none fates h end file = record {
         absurd (omega (arith, front, reaches_past h end b l f file placed past))
   ];
   drafted = drafts_nothing fates h;
+  contents = λ b is. refl;
+  changes = λ b. inl refl;
 }
 
 -- ---- other places
@@ -95,6 +99,8 @@ module _ (old new : FinMap nat_cmp Fate) (h : Holding) (cell : ℕ → Option Ce
       ]
     ];
     drafted = cut.drafted;
+    contents = cut.contents;
+    changes = cut.changes;
   }
 
   -- the next level, from the place that has the end
@@ -123,6 +129,8 @@ module _ (old new : FinMap nat_cmp Fate) (h : Holding) (cell : ℕ → Option Ce
           absurd (omega (arith, front, reaches_past h end b l f file was past))
     ];
     drafted = cut.drafted;
+    contents = cut.contents;
+    changes = cut.changes;
   }
 
   -- the block at the place stays
@@ -136,6 +144,7 @@ module _ (old new : FinMap nat_cmp Fate) (h : Holding) (cell : ℕ → Option Ce
   module _ (next : FinMap nat_cmp Fate) (from k first b : ℕ) (f : IsFreed (with_cells h cell) (freed_cells (with_cells h cell) from k b) from k level first b) (first_is : first ≡ place * span h.size level)
       (has : HasFreed (with_cells h cell) (with_cells h (freed_cells (with_cells h cell) from k b)) (b ∷ [])) (drafted : DraftsFile new next (with_cells h cell) (with_cells h (freed_cells (with_cells h cell) from k b)) (b ∷ []))
       (fronts : (x : ℕ) → IsSome (freed_cells (with_cells h cell) from k b x) → take (start_in h x) (bytes_at (with_cells h (freed_cells (with_cells h cell) from k b)) x) ≡ take (start_in h x) (bytes_at (with_cells h cell) x))
+      (changed : ChangesOnly new next (λ x. (x ≡ from) ⊎ (x ≡ b)))
       (reaches : end < first + span h.size level) (nowhere : (low : ℕ) → level ≡ suc low → LeadsNowhere (with_cells h cell) b) where
     abbrev cells : ℕ → Option Cell
     cells = freed_cells (with_cells h cell) from k b
@@ -178,6 +187,17 @@ module _ (old new : FinMap nat_cmp Fate) (h : Holding) (cell : ℕ → Option Ce
     not_yet : Contains freed b → ⊥
     not_yet is = ((cut.blocks.kept b).0 (is_there (cell b) _ f.part)).1 is
 
+    earlier : (x : ℕ) → Contains freed x ⊎ LeadsToOne h freed x → Contains (freed ++ b ∷ []) x ⊎ LeadsToOne h (freed ++ b ∷ []) x
+    earlier x (inl is) = inl (Contains-append_left freed (b ∷ []) x is)
+    earlier x (inr (c, j, l, g, is, part)) = inr (c, j, l, g, Contains-append_left freed (b ∷ []) c is, part)
+
+    last_is : Contains (freed ++ b ∷ []) b
+    last_is = Contains-append_right freed (b ∷ []) b (0, omega arith, refl)
+
+    now_too : (x : ℕ) → (x ≡ from) ⊎ (x ≡ b) → Contains (freed ++ b ∷ []) x ⊎ LeadsToOne h (freed ++ b ∷ []) x
+    now_too x (inl e) = inr (b, k, level, first, last_is, sym (cut.parts b (is_there (cell b) _ f.part)) ∙ f.part ∙ ap (λ y. Some (Pointed y k level first)) (sym e))
+    now_too x (inr e) = inl (subst (Contains (freed ++ b ∷ [])) (sym e) last_is)
+
     pub cut_freed : IsCutTo old next h (freed_cells (with_cells h cell) from k b) end level (place + 1) (freed ++ b ∷ [])
     cut_freed = record {
       file = file_after;
@@ -213,4 +233,9 @@ module _ (old new : FinMap nat_cmp Fate) (h : Holding) (cell : ℕ → Option Ce
         ]
       ];
       drafted = drafts_and_frees old new next h (with_cells h cell) (with_cells h cells) freed (b ∷ []) refl cut.blocks has cut.drafted drafted;
+      contents = λ x is.
+          let apart = other x (is_there (cells x) _ is.3) in
+          let part = sym (f.stays.parts x apart) ∙ is.3 in
+          f.stays.contents x is.0 is.1 is.2 apart part ∙ cut.contents x (is.0, is.1, is.2, part);
+      changes = changes_then old new next _ _ _ earlier now_too cut.changes changed;
     }

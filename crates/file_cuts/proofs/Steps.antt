@@ -1,5 +1,5 @@
 -- One place that is gone over, as a draft shows it.
-use Rattle.std.proofs.Common.{◌≡◌, ◌≢◌, inr, false, Option, Some, ℕ, suc, ◌+◌, ◌*◌, ◌<◌, List, [], ◌∷◌, ◌++◌, refl, sym, ap, subst, ◌∙◌, arith}
+use Rattle.std.proofs.Common.{◌≡◌, ◌≢◌, ◌⊎◌, inr, false, Option, Some, ℕ, suc, ◌+◌, ◌*◌, ◌<◌, List, [], ◌∷◌, ◌++◌, refl, sym, ap, subst, ◌∙◌, arith}
 use Rattle.std.specs.Prelude.{IsSome}
 use Rattle.std.specs.FinMap.{FinMap, insert}
 use Rattle.std.specs.Ordering.{nat_cmp}
@@ -21,6 +21,8 @@ use Rattle.growth_drafts.proofs.Shown.{from_there}
 use Rattle.file_walks.specs.Walks.{IsStop, LeadsNowhere, LeadsOn, first_of, place_above}
 use Rattle.file_walks.specs.declared.walks.Stop.{Stop}
 use Rattle.file_walks.proofs.Above.{above_self}
+use Rattle.file_fills.specs.Causes.{ChangesOnly}
+use Rattle.file_heights.proofs.Changing.{changes_two}
 use Rattle.file_cuts.specs.Progress.{CanFree, HasCutTo}
 use Rattle.file_cuts.proofs.Freed.{free_drafted, free_fronts, free_has, freed as block_freed}
 use Rattle.file_cuts.proofs.Going.{cut_freed}
@@ -78,6 +80,10 @@ module _ {V : Type 0} (seen : V → Seen) (f0 : FinMap nat_cmp Fate) (old now : 
     drafted = subst (λ fates. DraftsFile old.fates fates (with_cells h a.cell) (with_cells h after) (stop.block ∷ [])) fates_are
         (free_drafted old.fates (with_cells h a.cell) stop.pointer.from stop.pointer.index level (place * span h.size level) stop.block stop.pointer.start bytes a.cut.file part_here inside led start_here bytes_are)
 
+    changed : ChangesOnly old.fates now.fates (λ x. (x ≡ stop.pointer.from) ⊎ (x ≡ stop.block))
+    changed = subst (λ fates. ChangesOnly old.fates fates (λ x. (x ≡ stop.pointer.from) ⊎ (x ≡ stop.block))) fates_are
+        (changes_two old.fates stop.pointer.from stop.block (Put (inode_lock h.own) false (with_pointer stop.pointer.start stop.pointer.index 0 bytes)) Freed)
+
     reaches : end < place * span h.size level + span h.size level
     reaches = (let flat : (place + 1) * span h.size level ≡ place * span h.size level + span h.size level = omega arith in omega (arith, reach, flat))
 
@@ -86,7 +92,7 @@ module _ {V : Type 0} (seen : V → Seen) (f0 : FinMap nat_cmp Fate) (old now : 
         let step = block_freed old.fates (with_cells h a.cell) stop.pointer.from stop.pointer.index level (place * span h.size level) stop.block stop.pointer.start bytes a.cut.file part_here inside led start_here bytes_are in
         let gone = free_has old.fates (with_cells h a.cell) stop.pointer.from stop.pointer.index level (place * span h.size level) stop.block stop.pointer.start bytes a.cut.file part_here inside led start_here bytes_are in
         let fronts = free_fronts old.fates (with_cells h a.cell) stop.pointer.from stop.pointer.index level (place * span h.size level) stop.block stop.pointer.start bytes a.cut.file part_here inside led start_here bytes_are in
-        let next = cut_freed f0 old.fates h a.cell end level place freed can.file a.cut now.fates stop.pointer.from stop.pointer.index (place * span h.size level) stop.block step refl gone drafted fronts reaches nowhere in
+        let next = cut_freed f0 old.fates h a.cell end level place freed can.file a.cut now.fates stop.pointer.from stop.pointer.index (place * span h.size level) stop.block step refl gone drafted fronts changed reaches nowhere in
         record {
           cell = after;
           shown = subst (λ (v : V). IsShown (seen_with (seen v) now.fates) h.own (with_cells h after)) (ap (λ (d : Drafted V). d.view) put) (subst (λ x. IsShown (seen_in seen now) x (with_cells h after)) (sym can.own) shown);

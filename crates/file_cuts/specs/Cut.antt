@@ -1,5 +1,5 @@
 -- What a cut makes of a file.
-use Rattle.std.specs.Prelude.{ℕ, zero, suc, ◌≡◌, ◌≢◌, ◌↔◌, ◌+◌, ◌-◌, ◌<◌, ◌≤◌, IsSome, List, [], length, take, drop, replicate, Contains, Some}
+use Rattle.std.specs.Prelude.{ℕ, zero, suc, ◌≡◌, ◌≢◌, ◌⊎◌, ◌↔◌, ◌+◌, ◌-◌, ◌<◌, ◌≤◌, IsSome, List, [], length, take, drop, replicate, Contains, Some}
 use Rattle.std.specs.FinMap.{FinMap}
 use Rattle.std.specs.Ordering.{nat_cmp}
 use Rattle.drafts.specs.Fates.{seen_with}
@@ -15,6 +15,8 @@ use Rattle.growth_laws.specs.Steps.{IsClearFrom}
 use Rattle.growth_drafts.specs.Taken.{DraftsFile, HasFreed, IsCounted, IsDistinct}
 use Rattle.growth_drafts.specs.Touched.{Follows}
 use Rattle.file_heights.specs.Keeping.{KeepsHeads}
+use Rattle.file_fills.specs.Causes.{ChangesOnly, LeadsToOne}
+use Rattle.file_heights.specs.Grown.{IsUnclear}
 use Rattle.file_heights.specs.Sized.{dinode_as}
 
 -- how many blocks of content stand before the end of so many bytes
@@ -58,12 +60,18 @@ pub record IsCut (h g : Holding) (size : ℕ) (freed : List ℕ) : Type 0 where
   pub clear_behind : height_in g ≡ 0 → IsClearBehind g size
   pub heads : KeepsHeads h g
 
--- over a draft that showed the file: afterwards it shows it cut
+-- A block to which a cut does something: the dinode's; one that is freed, and one with a pointer to such a one; and the last block of content,
+-- if something but zeros stood behind the new end.
+abbrev pub IsCutBlock : Holding → ℕ → List ℕ → ℕ → Type 0
+IsCutBlock h size freed b = (b ≡ h.own) ⊎ Contains freed b ⊎ LeadsToOne h freed b ⊎ IsUnclear h size b
+
+-- over a draft that showed the file: afterwards it shows it cut, and nothing becomes of any block to which the cut does nothing
 pub record HasCut (after : Seen) (old new : FinMap nat_cmp Fate) (h : Holding) (size : ℕ) (freed : List ℕ) : Type 0 where
   pub g : Holding
   pub shown : IsShown after h.own g
   pub is_cut : IsCut h g size freed
   pub drafted : DraftsFile old new h g freed
+  pub changes : ChangesOnly old new (IsCutBlock h size freed)
 
 -- at some time on the way from one draft to the other, pointers of the inode led to the block
 pub record WasLedTo (v : Seen) (inode : ℕ) (old new : FinMap nat_cmp Fate) (b : ℕ) : Type 0 where

@@ -12,10 +12,11 @@ use Rattle.dinode_tree.specs.Shown.{IsShown}
 use Rattle.growth_laws.specs.Blocks.{start_in}
 use Rattle.growth_laws.specs.Files.{IsFile, IsPlaced, block_on, places_on, with_cells}
 use Rattle.growth_laws.specs.Steps.{IsClearFrom}
-use Rattle.growth_drafts.specs.Taken.{DraftsFile, HasFreed, IsDistinct}
+use Rattle.growth_drafts.specs.Taken.{DraftsFile, HasFreed, IsContentIn, IsDistinct}
 use Rattle.file_walks.specs.Walks.{place_above}
-use Rattle.file_heights.specs.Grown.{IsGrown}
+use Rattle.file_heights.specs.Grown.{IsGrown, IsUnclear}
 use Rattle.file_heights.specs.Keeping.{KeepsHeads}
+use Rattle.file_fills.specs.Causes.{ChangesOnly, LeadsToOne}
 use Rattle.file_heights.specs.Sized.{dinode_as}
 use Rattle.file_cuts.specs.Cut.{IsClearBehind, IsPastEnd, height_at}
 
@@ -36,6 +37,8 @@ pub record IsCutTo (old new : FinMap nat_cmp Fate) (h : Holding) (cell : ℕ →
   pub only : (b : ℕ) → Contains freed b → (l f : ℕ) × IsPlaced h b l f × IsPastEnd h end l f
   pub stays : (b l f : ℕ) → IsPlaced (with_cells h cell) b l f → IsBefore h level place l f → IsPastEnd h end l f → ⊥
   pub drafted : DraftsFile old new h (with_cells h cell) freed
+  pub contents : (b : ℕ) → IsContentIn (with_cells h cell) b → bytes_at (with_cells h cell) b ≡ bytes_at h b
+  pub changes : ChangesOnly old new (λ b. Contains freed b ⊎ LeadsToOne h freed b)
 
 -- the view has the file's dinode, and each of its indirect blocks on the way to the block of content with index i
 pub record IsSeenOver (v : Seen) (h : Holding) (i : ℕ) : Type 0 where
@@ -65,3 +68,4 @@ pub record HasNewEnd (after : Seen) (old new : FinMap nat_cmp Fate) (h : Holding
   pub clear : height_in (with_cells h cell) ≢ 0 → IsClearFrom (with_cells h cell) size
   pub clear_behind : height_in (with_cells h cell) ≡ 0 → IsClearBehind (with_cells h cell) size
   pub heads : KeepsHeads h (with_cells h cell)
+  pub changes : ChangesOnly old new (λ b. (b ≡ h.own) ⊎ IsUnclear h size b)

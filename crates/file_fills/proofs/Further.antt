@@ -23,6 +23,7 @@ use Rattle.growth_laws.proofs.Needing.{and_false, on_way}
 use Rattle.growth_laws.proofs.Places.{part_there, part_of_place, place_of_part}
 use Rattle.growth_drafts.specs.Taken.{IsContentIn, IsLeft, IsPutFor}
 use Rattle.growth_drafts.proofs.Rooms.{free_before, free_left, none_in, none_some}
+use Rattle.file_fills.specs.Causes.{IsFilledAt}
 use Rattle.file_fills.specs.Filling.{IsRoomFor, IsSeenWay}
 use Rattle.file_fills.specs.Progress.{IsFurther}
 use Rattle.file_fills.specs.Turns.{IsMetBefore}
@@ -49,6 +50,7 @@ further_none fates h at end file = record {
     frees = λ b none. absurd (none_in b none);
     others = λ b none not_freed. refl;
   };
+  changes = λ b. inl refl;
 }
 
 -- ---- one step after another
@@ -105,6 +107,17 @@ module _ (f0 f1 f2 : FinMap nat_cmp Fate) (h : Holding) (c1 c2 : ℕ → Option 
       (met_before (with_cells h c1) a.file x level first level' place.0 i placed (upto x level first early placed) (omega (arith, low, same)) (subst (λ n. place.0 < fan h.size dinode_length * span h.size (n - 1 - level')) same place.2)
       (omega (arith, way.0, place.1)) (omega (arith, way.1, place.1)) (λ c had. b.filled.holes y c level' first' late placed' (subst (IsPlaced (with_cells h c1) c level') (sym place.1) had)))
 
+
+  early_cause : (x : ℕ) → IsFilledAt (with_cells h c1) at end t1 x → IsFilledAt (with_cells h c2) at end (t1 ++ t2) x
+  early_cause x (inl taken) = inl (Contains-append_left t1 t2 x taken)
+  early_cause x (inr (inl (c, k, level, first, taken, part))) = inr (inl (c, k, level, first, Contains-append_left t1 t2 c taken, b.parts c ((a.blocks.blocks c).1 (inr taken)) ∙ part))
+  early_cause x (inr (inr (i, has, placed))) = inr (inr (i, has, (placed.0, placed.1, b.parts x (is_there (c1 x) _ placed.2) ∙ placed.2)))
+
+  late_cause : (x : ℕ) → IsFilledAt (with_cells h c2) at end t2 x → IsFilledAt (with_cells h c2) at end (t1 ++ t2) x
+  late_cause x (inl taken) = inl (Contains-append_right t1 t2 x taken)
+  late_cause x (inr (inl (c, k, level, first, taken, part))) = inr (inl (c, k, level, first, Contains-append_right t1 t2 c taken, part))
+  late_cause x (inr (inr written)) = inr (inr written)
+
   pub further_then : ((x y level first level' first' : ℕ) → Contains t1 x → Contains t2 y → IsPlaced (with_cells h c1) x level first → IsPlaced (with_cells h c2) y level' first' → IsMetBefore level first level' first')
       → IsFurther f0 f2 h c2 at end (t1 ++ t2)
   further_then across = record {
@@ -156,6 +169,13 @@ module _ (f0 f1 f2 : FinMap nat_cmp Fate) (h : Holding) (c1 c2 : ℕ → Option 
       frees = λ x none. absurd (none_in x none);
       others = λ x none not_freed. b.drafted.others x none (none_in x) ∙ a.drafted.others x (λ mid. none ((b.blocks.blocks x).1 (inl mid))) (none_in x);
     };
+    changes = λ x. elim (b.changes x) [
+      | inr cause ↦ inr (late_cause x cause)
+      | inl same ↦ elim (a.changes x) [
+        | inl before ↦ inl (same ∙ before)
+        | inr cause ↦ inr (early_cause x cause)
+      ]
+    ];
   }
 
 -- ---- what stays true

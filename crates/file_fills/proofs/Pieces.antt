@@ -34,6 +34,7 @@ use Rattle.growth_drafts.proofs.Rooms.{none_in}
 use Rattle.file_walks.specs.Walks.{place_above, IsUnder}
 use Rattle.file_walks.proofs.Above.{place_up}
 use Rattle.file_walks.proofs.Steps.{hole_above}
+use Rattle.file_fills.specs.Causes.{ChangesOnly, IsFilledAt}
 use Rattle.file_fills.specs.Filling.{HasFilled, IsRoomFor, IsSeenWay}
 use Rattle.file_fills.specs.Progress.{HasBlockAt, HasCome, HasGone, HasPieces, IsFurther}
 use Rattle.file_fills.specs.Turns.{AreFilled}
@@ -99,7 +100,7 @@ put_one {V} seen mid now inode g from end index block off piece bytes left there
     further : IsFurther mid.fates now.fates g (rewritten_cells g block (put_at off piece (bytes_at g block))) from end []
     further = subst (λ fates. IsFurther mid.fates fates g (rewritten_cells g block (put_at off piece (bytes_at g block))) from end []) fates_are
         (put_further mid.fates g from end index block (put_at off piece (bytes_at g block)) r.file written.1 placed
-        (λ n far. put_leaves off n piece (bytes_at g block) (omega (arith, fits, r.file.whole block _ placed.2)) (omega (arith, far, short))))
+        (λ n far. put_leaves off n piece (bytes_at g block) (omega (arith, fits, r.file.whole block _ placed.2)) (omega (arith, far, short))) has)
 
 pub block_then : (before after : Seen) (f0 f1 f2 : FinMap nat_cmp Fate) (room mid left : List ℕ) (h : Holding) (at end i block : ℕ) (bytes bytes' : List ℕ) (a : HasGone before f0 f1 room mid h at end i bytes)
     → HasBlockAt after f1 f2 mid left (with_cells h a.come.cell) at end i block bytes' → HasBlockAt after f0 f2 room left h at end i block bytes'
@@ -245,6 +246,7 @@ pieces_done after f0 f1 room left h at n end bytes r end_is n_is a = record {
       all ∙ ap (λ m. needed_below h at m (height_in h)) end_is;
   from_front = a.come.from_front;
   drafted = a.come.further.drafted;
+  changes = subst (λ m. ChangesOnly f0 f1 (IsFilledAt (with_cells h a.come.cell) at m a.come.taken)) end_is a.come.further.changes;
 }
   where
     same : height_in (with_cells h a.come.cell) ≡ height_in h

@@ -290,6 +290,13 @@ module _ (old : FinMap nat_cmp Fate) (h : Holding) (at end i : ℕ) (stop : Stop
           fate_else x (λ e. none (subst (λ y. IsSome (cells y)) (sym e) (ap is_some cell_block)))
           (λ e. none (subst (λ y. IsSome (cells y)) (sym e) (some_same stop.pointer.from apart ∙ is_there (h.cell stop.pointer.from) from_part.0 from_part.1)));
     };
+    changes = λ x. elim (cases_eq x block) [
+      | inl e ↦ inr (inl (subst (Contains (block ∷ [])) (sym e) (0, omega arith, refl)))
+      | inr other ↦ elim (cases_eq x stop.pointer.from) [
+        | inl e ↦ inr (inr (inl (block, stop.pointer.index, stop.level, first_of h 0 i stop, (0, omega arith, refl), filled.part ∙ ap (λ y. Some (Pointed y stop.pointer.index stop.level (first_of h 0 i stop))) (sym e))))
+        | inr other' ↦ inl (fate_else x other other')
+      ]
+    ];
   }
     where
       none_here : (x : ℕ) → x ≡ block → IsSome (h.cell x) → ⊥
@@ -318,7 +325,8 @@ room_left h at end i stop room r has stopped hole = elim (cases_eq (needed_below
 -- ---- bytes are put
 
 module _ (old : FinMap nat_cmp Fate) (h : Holding) (at end i block : ℕ) (new : List ℕ) (file : IsFile h) (file' : IsFile (with_cells h (rewritten_cells h block new))) (placed : IsPlaced h block 0 i)
-    (leaves : (n : ℕ) → end ≤ i * h.size + n → drop n new ≡ drop n (bytes_at h block)) where
+    (leaves : (n : ℕ) → end ≤ i * h.size + n → drop n new ≡ drop n (bytes_at h block))
+    (has : HasBytes h.size at end i) where
   abbrev put_cells : ℕ → Option Cell
   put_cells = rewritten_cells h block new
 
@@ -403,6 +411,10 @@ module _ (old : FinMap nat_cmp Fate) (h : Holding) (at end i block : ℕ) (new :
       frees = λ x none. absurd (omega (arith, none.1));
       others = λ x none not_freed. put_else x (λ e. none (subst (λ y. IsSome (put_cells y)) (sym e) (put_some block ∙ is_there (h.cell block) _ placed.2)));
     };
+    changes = λ x. elim (cases_eq x block) [
+      | inl e ↦ inr (inr (inr (i, has, (placed.0, placed.1, kept.0 x ∙ ap (part_at h) e ∙ placed.2))))
+      | inr other ↦ inl (put_else x other)
+    ];
   }
 
 -- ---- one step after another

@@ -16,6 +16,7 @@ use Rattle.growth_drafts.specs.Taken.{AreFreeFor, DraftsFile, HasTaken}
 use Rattle.file_walks.specs.Walks.{place_above}
 use Rattle.file_fills.specs.Headers.{KeepsHeaders}
 use Rattle.file_fills.specs.Turns.{AreFilled}
+use Rattle.file_fills.specs.Causes.{ChangesOnly, IsFilledAt}
 
 -- the view has the file's dinode, each of its blocks on the way to the block of content with index i, and that block itself
 pub record IsSeenWay (v : Seen) (h : Holding) (i : ℕ) : Type 0 where
@@ -48,3 +49,4 @@ pub record HasFilled (after : Seen) (old new : FinMap nat_cmp Fate) (room left :
   pub as_many : length taken ≡ needed_below h at (at + length bytes) (height_in h)
   pub from_front : room ≡ taken ++ left
   pub drafted : DraftsFile old new h g []
+  pub changes : ChangesOnly old new (IsFilledAt g at (at + length bytes) taken)

@@ -15,6 +15,7 @@ use Rattle.growth_laws.specs.Steps.{IsClearFrom}
 use Rattle.growth_drafts.specs.Taken.{DraftsFile, HasBytes, HasTaken}
 use Rattle.file_fills.specs.Headers.{KeepsHeaders}
 use Rattle.file_fills.specs.Turns.{AreFilled}
+use Rattle.file_fills.specs.Causes.{ChangesOnly, IsFilledAt}
 
 -- A file afterwards, with these cells: its dinode says the same, it has these blocks more, which are those that the write needs less now, and each block that it had stands where it stood.
 pub record IsFurther (old new : FinMap nat_cmp Fate) (h : Holding) (cell : ℕ → Option Cell) (at end : ℕ) (taken : List ℕ) : Type 0 where
@@ -29,6 +30,7 @@ pub record IsFurther (old new : FinMap nat_cmp Fate) (h : Holding) (cell : ℕ �
   pub clear : (from : ℕ) → end ≤ from → IsClearFrom h from → IsClearFrom (with_cells h cell) from
   pub need : needed_below h at end (height_in h) ≡ length taken + needed_below (with_cells h cell) at end (height_in h)
   pub drafted : DraftsFile old new h (with_cells h cell) []
+  pub changes : ChangesOnly old new (IsFilledAt (with_cells h cell) at end taken)
 
 -- over a draft that showed a file: afterwards it shows one that got so far, with this content, and with blocks from the front of the room
 pub record HasCome (after : Seen) (old new : FinMap nat_cmp Fate) (room left : List ℕ) (h : Holding) (at end : ℕ) (bytes : List ℕ) : Type 0 where

@@ -36,10 +36,11 @@ use Rattle.growth_steps.specs.Becoming.{Becomes}
 use Rattle.growth_steps.specs.Sizes.{CanHaveSize}
 use Rattle.file_fills.proofs.Turns.{stand_as}
 use Rattle.file_heights.specs.Grown.{CanGrow, HasCleared, HasRisen, IsGrown, IsLower}
+use Rattle.file_heights.proofs.Changing.{changes_then, changes_wider}
 use Rattle.file_heights.proofs.Joining.{grown_as, grown_then, risen_none}
 use Rattle.file_heights.proofs.Rising.{reach_of}
 use Rattle.file_heights.specs.Sized.{HasSize, dinode_as}
-use Rattle.file_growth.specs.Stretched.{CanStretch, HasEnd, HasStretched}
+use Rattle.file_growth.specs.Stretched.{CanStretch, HasEnd, HasStretched, IsStretchedAt}
 use Rattle.file_growth.specs.Written.{size_with}
 
 -- ---- the end
@@ -50,14 +51,21 @@ end_stays after fates inode h end file shown either = record {
   shown = subst (λ a. IsShown after a h) (sym shown.own) shown;
   same = risen_none fates h file;
   clear = λ high less. absurd (never high less either);
+  changes = λ b. inl refl;
 }
   where
     never : height_in h ≢ 0 → (dinode_in h).size < end → (height_in h ≡ 0) ⊎ (end ≤ (dinode_in h).size) → ⊥
     never high less (inl stuffed) = high stuffed
     never high less (inr far) = omega (arith, less, far)
 
-pub end_cleared : (after : Seen) (old new : FinMap nat_cmp Fate) (h : Holding) (end : ℕ) → HasCleared after old new h → HasEnd after old new h end
-end_cleared after old new h end cleared = record { cell = cleared.cell; shown = cleared.shown; same = cleared.same; clear = λ high less. cleared.clear }
+pub end_cleared : (after : Seen) (old new : FinMap nat_cmp Fate) (h : Holding) (end : ℕ) → (dinode_in h).size < end → HasCleared after old new h → HasEnd after old new h end
+end_cleared after old new h end less cleared = record {
+  cell = cleared.cell;
+  shown = cleared.shown;
+  same = cleared.same;
+  clear = λ high less. cleared.clear;
+  changes = changes_wider old new _ _ (λ b is. (less, is)) cleared.changes;
+}
 
 -- ---- a level takes a block
 
@@ -174,6 +182,9 @@ module _ (h : Holding) (at end need : ℕ) (room : List ℕ) (can : CanStretch h
           let first = e.same.need at end (height_for h (size_with h end)) reach.0 in
           let second = r.risen.need at end (height_for h (size_with h end)) (omega (arith, same_for)) in
           omega (arith, first, second, s.need at end (height_for h (size_with h end)));
+      changes =
+          changes_then f0 f2 f3 (IsStretchedAt h end r.taken) (λ b. b ≡ h.own) (IsStretchedAt h end r.taken) (λ b is. is) (λ b is. inl is)
+          (changes_then f0 f1 f2 _ (λ b. (b ≡ h.own) ⊎ Contains r.taken b) (IsStretchedAt h end r.taken) (λ b is. inr (inr is)) risen_at e.changes r.changes) s.changes;
     }
       where
         high_e : height_in (with_cells h e.cell) ≡ height_in h
@@ -192,6 +203,10 @@ module _ (h : Holding) (at end need : ℕ) (room : List ℕ) (can : CanStretch h
               | inl less ↦ e.clear high_h less
               | inr was ↦ e.same.clear high_h (λ in_blocks. was)
             ])
+
+        risen_at : (b : ℕ) → (b ≡ h.own) ⊎ Contains r.taken b → IsStretchedAt h end r.taken b
+        risen_at b (inl own) = inl own
+        risen_at b (inr taken) = inr (inl taken)
 
         told : blocks ≡ ((dinode_in h).blocks + need) % 2 ^ 64
         told = blocks_are ∙ ap (λ (x : Dinode). (x.blocks + need) % 2 ^ 64) (r.dinode ∙ high_dinode)

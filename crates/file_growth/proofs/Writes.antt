@@ -4,6 +4,7 @@ use Rattle.std.proofs.lemmas.Bool.{cases_eq, cases_lt}
 use Rattle.std.proofs.lemmas.List.Elements.{Contains-append_cases}
 use Rattle.std.proofs.lemmas.List.{length-take, length-drop, take_all}
 use Rattle.std.specs.Prelude.{Bool, ◌==◌, ◌&&◌, ◌||◌, not, nat_lt, replicate, count_by, Contains, IsSome}
+use Rattle.std.proofs.lemmas.List.Elements.{Contains-append_left, Contains-append_right}
 use Rattle.std.specs.List.{range_with_len}
 use Rattle.std.specs.FinMap.{FinMap}
 use Rattle.std.specs.Ordering.{nat_cmp}
@@ -34,17 +35,19 @@ use Rattle.growth_laws.proofs.Rising.{none_above, there_false}
 use Rattle.growth_drafts.proofs.Rooms.{free_before, free_left, none_in}
 use Rattle.growth_steps.specs.Becoming.{Becomes}
 use Rattle.growth_steps.proofs.Putting.{drafts_on}
+use Rattle.file_fills.specs.Causes.{ChangesOnly, IsFilledAt}
 use Rattle.file_fills.specs.Filling.{HasFilled, IsRoomFor, IsSeenWay}
 use Rattle.file_fills.specs.Turns.{IsMetBefore, StandIn}
 use Rattle.file_fills.proofs.Headers.{headers_then}
 use Rattle.file_fills.proofs.Turns.{stand_as, stand_then}
 use Rattle.file_fills.proofs.Ways.{ways_along}
-use Rattle.file_heights.specs.Grown.{IsLower, IsNewLevel}
+use Rattle.file_heights.specs.Grown.{IsUnclear, IsLower, IsNewLevel}
 use Rattle.file_heights.specs.Sized.{dinode_as}
+use Rattle.file_heights.proofs.Changing.{changes_then, changes_wider}
 use Rattle.file_heights.proofs.Joining.{taken_then}
 use Rattle.file_heights.proofs.Rising.{reach_of}
 use Rattle.file_growth.specs.Stretched.{CanStretch, HasStretched}
-use Rattle.file_growth.specs.Written.{CanWrite, HasWritten, IsTakenBefore, size_with}
+use Rattle.file_growth.specs.Written.{CanWrite, HasWritten, IsWrittenAt, IsTakenBefore, size_with}
 use Rattle.file_growth.proofs.Lengths.{new_level_is_needed}
 use Rattle.file_heights.proofs.Sized.{counts_same, no_more}
 
@@ -200,7 +203,18 @@ module _ (h : Holding) (at need : ℕ) (bytes room left : List ℕ) (can : CanWr
       as_many = all_taken;
       from_front = s.from_front ∙ ap (λ xs. s.taken ++ xs) f.from_front ∙ sym (append_assoc s.taken f.taken rest);
       drafted = drafts_on f0 f1 f2 h (with_cells h s.cell) f.g f.shown.own (λ x there. (f.blocks.blocks x).1 (inl there)) s.grown.drafted f.drafted;
+      changes = changes_then f0 f1 f2 _ _ _ earlier later s.changes f.changes;
     }
+      where
+        earlier : (x : ℕ) → (x ≡ h.own) ⊎ Contains s.taken x ⊎ (((dinode_in h).size < at + length bytes) × IsUnclear h (dinode_in h).size x) → IsWrittenAt h f.g at (at + length bytes) (s.taken ++ f.taken) x
+        earlier x (inl own) = inl own
+        earlier x (inr (inl taken)) = inr (inl (inl (Contains-append_left s.taken f.taken x taken)))
+        earlier x (inr (inr unclear)) = inr (inr unclear)
+
+        later : (x : ℕ) → IsFilledAt f.g at (at + length bytes) f.taken x → IsWrittenAt h f.g at (at + length bytes) (s.taken ++ f.taken) x
+        later x (inl taken) = inr (inl (inl (Contains-append_right s.taken f.taken x taken)))
+        later x (inr (inl (c, k, level, first, taken, part))) = inr (inl (inr (inl (c, k, level, first, Contains-append_right s.taken f.taken c taken, part))))
+        later x (inr (inr written)) = inr (inl (inr (inr written)))
 
 -- what lets the file be stretched
 pub can_stretch : (h : Holding) (at : ℕ) (bytes room : List ℕ) → CanWrite h at (length bytes) room → height_for h (size_with h (at + length bytes)) ≢ 0 → at + length bytes ≤ file_limit → CanStretch h at (at + length bytes) room
@@ -210,7 +224,7 @@ can_stretch h at bytes room can high short = record { file = can.counted.file; i
 
 module _ (h : Holding) (cell : ℕ → Option Cell) (at : ℕ) (bytes : List ℕ) (room : List ℕ) (can : CanWrite h at (length bytes) room) (fits : size_with h (at + length bytes) ≤ capacity h.size 0) (after : Seen) (f0 f1 : FinMap nat_cmp Fate)
     (inode : ℕ) (own : h.own ≡ inode) (is : IsStuffedAs h cell (overwritten at bytes (content_of h))) (becomes : Becomes after f0 f1 inode h (with_cells h cell))
-    (behind : drop (dinode_length + size_with h (at + length bytes)) (bytes_at (with_cells h cell) h.own) ≡ drop (dinode_length + size_with h (at + length bytes)) (bytes_at h h.own)) where
+    (behind : drop (dinode_length + size_with h (at + length bytes)) (bytes_at (with_cells h cell) h.own) ≡ drop (dinode_length + size_with h (at + length bytes)) (bytes_at h h.own)) (changes : ChangesOnly f0 f1 (λ b. b ≡ inode)) where
   file' : IsFile (with_cells h cell) × (content_of (with_cells h cell) ≡ overwritten at bytes (content_of h))
   file' = stuffed_content_is_put h cell (overwritten at bytes (content_of h)) can.counted.file is
 
@@ -258,6 +272,7 @@ module _ (h : Holding) (cell : ℕ → Option Cell) (at : ℕ) (bytes : List ℕ
     as_many = sym nothing;
     from_front = refl;
     drafted = becomes.drafted;
+    changes = changes_wider f0 f1 _ _ (λ b e. inl (e ∙ sym own)) changes;
   }
 
 -- a file whose content isn't behind its dinode, or would have no room there, is to have it in blocks

@@ -15,7 +15,8 @@ use Rattle.growth_laws.specs.Need.{height_for, is_needed, needed}
 use Rattle.growth_laws.specs.Steps.{IsClearFrom}
 use Rattle.file_fills.specs.Headers.{KeepsHeaders}
 use Rattle.file_fills.specs.Turns.{IsMetBefore, StandIn}
-use Rattle.file_heights.specs.Grown.{IsNewLevel}
+use Rattle.file_heights.specs.Grown.{IsUnclear, IsNewLevel}
+use Rattle.file_fills.specs.Causes.{ChangesOnly, IsFilledAt}
 use Rattle.file_heights.specs.Sized.{dinode_as}
 use Rattle.growth_drafts.specs.Taken.{AreFreeFor, DraftsFile, HasTaken, IsCounted}
 
@@ -55,7 +56,13 @@ pub record IsWritten (h g : Holding) (at : ℕ) (new taken : List ℕ) : Type 0 
   pub clear : height_in g ≢ 0 → (height_in h ≢ 0 → (dinode_in h).size < at + length new ⊎ IsClearFrom h (dinode_in h).size) → IsClearFrom g (size_with h (at + length new))
   pub behind : height_in g ≡ 0 → drop (dinode_length + size_with h (at + length new)) (bytes_at g h.own) ≡ drop (dinode_length + size_with h (at + length new)) (bytes_at h h.own)
 
--- over a draft that showed the file: afterwards it shows it so, with the blocks from the front of the room, as many as are needed
+-- A block to which a write of bytes up to an end does something: the dinode's; one that is taken, one with a pointer to such a one, and
+-- content with bytes of the write; and where the end moves on, the last block of content, if something but zeros stood behind the old end.
+abbrev pub IsWrittenAt : Holding → Holding → ℕ → ℕ → List ℕ → ℕ → Type 0
+IsWrittenAt h g at end taken b = (b ≡ h.own) ⊎ IsFilledAt g at end taken b ⊎ (((dinode_in h).size < end) × IsUnclear h (dinode_in h).size b)
+
+-- Over a draft that showed the file: afterwards it shows it so, with the blocks from the front of the room, as many as are needed. Nothing
+-- becomes of any block to which the write does nothing.
 pub record HasWritten (after : Seen) (old new : FinMap nat_cmp Fate) (room left : List ℕ) (h : Holding) (at : ℕ) (bytes : List ℕ) : Type 0 where
   pub g : Holding
   pub taken : List ℕ
@@ -64,3 +71,4 @@ pub record HasWritten (after : Seen) (old new : FinMap nat_cmp Fate) (room left 
   pub as_many : length taken ≡ needed h at (length bytes)
   pub from_front : room ≡ taken ++ left
   pub drafted : DraftsFile old new h g []
+  pub changes : ChangesOnly old new (IsWrittenAt h g at (at + length bytes) taken)

@@ -1,5 +1,5 @@
 -- A file in blocks whose end is clear.
-use Rattle.std.proofs.Common.{◌≡◌, ◌≢◌, ◌⊎◌, inl, inr, Bool, true, false, Option, ℕ, suc, ◌+◌, ◌-◌, ◌*◌, ◌/◌, ◌%◌, ◌<◌, ◌≤◌, List, [], ◌∷◌, take, refl, sym, ap, subst, ◌∙◌, arith}
+use Rattle.std.proofs.Common.{◌≡◌, ◌≢◌, ◌⊎◌, inl, inr, Bool, true, false, Option, Some, ℕ, suc, ◌+◌, ◌-◌, ◌*◌, ◌/◌, ◌%◌, ◌<◌, ◌≤◌, List, [], ◌∷◌, take, refl, sym, ap, subst, ◌∙◌, arith}
 use Rattle.std.proofs.lemmas.Bool.{cases_eq}
 use Rattle.std.proofs.lemmas.Nat.{div-add-mod'}
 use Rattle.std.proofs.Math.Nat.{div-eq_of_lt-le, div-mul-le_self, lt-mul-div-succ}
@@ -7,18 +7,20 @@ use Rattle.std.specs.Prelude.{is_some, not, ◌==◌, if◌then◌else◌, count
 use Rattle.std.specs.List.{range_with_len}
 use Rattle.std.specs.FinMap.{FinMap, insert}
 use Rattle.std.specs.Ordering.{nat_cmp}
-use Rattle.drafts.specs.Fates.{Drafted, seen_with}
+use Rattle.drafts.specs.Fates.{Drafted, seen_in, seen_with}
 use Rattle.drafts.specs.declared.fate.Fate.{Fate}
 use Rattle.drafts.specs.declared.fate.Fate.TheVariants.{Put}
 use Rattle.gfs2_layout.specs.Bytes.{u64_at}
-use Rattle.gfs2_layout.specs.Holding.{Cell, Holding, part_at}
+use Rattle.gfs2_layout.specs.Holding.{Cell, Holding, bytes_at, part_at}
 use Rattle.gfs2_layout.specs.Inode.{block_count, content_block, content_count, content_of, dinode_in, fan, height_in, pieces, header_length}
 use Rattle.gfs2_layout.specs.Structures.{dinode_length}
+use Rattle.gfs2_layout.specs.Writing.{zeros_from}
 use Rattle.glock_names.specs.Views.{Seen}
 use Rattle.glock_names.specs.declared.LockName.{LockName}
 use Rattle.dinode_tree.specs.Below.{IsBelow}
 use Rattle.dinode_tree.specs.Shown.{IsShown}
 use Rattle.growth_laws.specs.Files.{IsFile, IsPlaced, with_cells}
+use Rattle.dinode_tree.proofs.Sound.{is_there}
 use Rattle.growth_laws.specs.Need.{has_content, needed_below}
 use Rattle.growth_laws.specs.Steps.{IsClearFrom, IsContentPut}
 use Rattle.growth_laws.proofs.Contents.{content_part, content_place, whole_unit}
@@ -36,7 +38,9 @@ use Rattle.growth_drafts.proofs.Rooms.{none_in}
 use Rattle.growth_steps.specs.Becoming.{Becomes}
 use Rattle.file_walks.specs.Walks.{IsPlace, IsStop}
 use Rattle.file_walks.specs.declared.walks.Stop.{Stop}
-use Rattle.file_heights.specs.Grown.{HasCleared, IsRisen}
+use Rattle.file_fills.specs.Causes.{ChangesOnly}
+use Rattle.file_heights.specs.Grown.{HasCleared, IsRisen, IsUnclear}
+use Rattle.file_heights.proofs.Changing.{changes_of, changes_one, changes_wider}
 use Rattle.file_heights.proofs.Joining.{risen_none}
 
 -- ---- the last block of content
@@ -74,6 +78,7 @@ module _ (after : Seen) (fates : FinMap nat_cmp Fate) (inode : ℕ) (h : Holding
     same = risen_none fates h file;
     clear = clear;
     others = λ b other. refl;
+    changes = λ b. inl refl;
   }
 
   pub empty_is_clear : (dinode_in h).size ≡ 0 → HasCleared after fates fates h
@@ -140,13 +145,14 @@ module _ (old new : FinMap nat_cmp Fate) (after : Seen) (inode : ℕ) (h : Holdi
     levels = record { each = λ level is low. absurd (omega (arith, is.1, low)); only = λ x level first none. absurd (none_in x none); turn = tt };
   }
 
-  pub end_is_clear : h.own ≡ inode → HasCleared after old new h
-  end_is_clear own = record {
+  pub end_is_clear : h.own ≡ inode → ChangesOnly old new (IsUnclear h (dinode_in h).size) → HasCleared after old new h
+  end_is_clear own changes = record {
     cell = cell;
     shown = subst (λ a. IsShown after a (with_cells h cell)) (sym own) becomes.shown;
     same = put_is_risen;
     clear = clear;
     others = λ b other. put.others b (λ e. other (subst (IsContentIn h) (sym e) content_here));
+    changes = changes;
   }
 
 -- ---- what is touched
@@ -170,3 +176,28 @@ cleared_follows {V} v inode room old now block bytes new lock plain below put le
   | inl same ↦ subst (Follows v inode room old.fates) (sym (ap (λ (d : Drafted V). d.fates) (left same))) (as_it_was old.fates)
   | inr apart ↦ follows_draft v inode room old now _ (put apart) (follows_one v inode room old.fates block (Put lock plain new) (inr (inr below)))
 ]
+
+-- the block is put only where something but zeros stands behind the end
+pub cleared_changes : {V : Type 0} (seen : V → Seen) (old now : Drafted V) (inode : ℕ) (h : Holding) (i block at : ℕ) (bytes : List ℕ) (lock : LockName) (plain : Bool) → IsFile h → height_in h ≢ 0 → IsShown (seen_in seen old) inode h
+    → i + 1 ≡ content_count h → content_block h i ≡ block → block ≢ 0 → i * h.size + at ≡ (dinode_in h).size → 0 < at → at ≤ h.size → (seen_in seen old).block_at block ≡ Some bytes
+    → (bytes ≢ zeros_from at bytes → now ≡ record old { fates = insert old.fates block (Put lock plain (zeros_from at bytes)) }) → (bytes ≡ zeros_from at bytes → now ≡ old)
+    → ChangesOnly old.fates now.fates (IsUnclear h (dinode_in h).size)
+cleared_changes {V} seen old now inode h i block at bytes lock plain file high shown last is some ends low within there put left = elim (same_bytes_or bytes (zeros_from at bytes)) [
+  | inl same ↦ subst (λ m. ChangesOnly old.fates m (IsUnclear h (dinode_in h).size)) (sym (ap (λ (d : Drafted V). d.fates) (left same))) (λ b. inl refl)
+  | inr apart ↦ changes_of old now (insert old.fates block (Put lock plain (zeros_from at bytes))) (IsUnclear h (dinode_in h).size) (put apart)
+      (changes_wider old.fates (insert old.fates block (Put lock plain (zeros_from at bytes))) (λ b. b ≡ block) (IsUnclear h (dinode_in h).size) (λ b e. record {
+        index = i;
+        behind = at;
+        placed = subst (λ c. IsPlaced h c 0 i) (sym e) placed;
+        some = low;
+        within = within;
+        ends = ends;
+        unclear = λ same. apart (subst (λ xs. xs ≡ zeros_from at xs) (ap (bytes_at h) e ∙ bytes_are) same);
+      }) (changes_one old.fates block (Put lock plain (zeros_from at bytes))))
+]
+  where
+    placed : IsPlaced h block 0 i
+    placed = subst (λ c. IsPlaced h c 0 i) is (content_part h file high i (omega (arith, last)) (λ none. some (sym is ∙ none)))
+
+    bytes_are : bytes_at h block ≡ bytes
+    bytes_are = shown.same block bytes (is_there (h.cell block) _ placed.2) there

@@ -1,5 +1,5 @@
 -- A file that grows, one step after another.
-use Rattle.std.proofs.Common.{◌≡◌, inl, inr, Option, ℕ, ◌+◌, ◌<◌, ◌≤◌, List, [], ◌++◌, refl, sym, ap, subst, ◌∙◌, arith, length-append, append_assoc}
+use Rattle.std.proofs.Common.{◌≡◌, ◌⊎◌, inl, inr, Option, ℕ, ◌+◌, ◌<◌, ◌≤◌, List, [], ◌++◌, refl, sym, ap, subst, ◌∙◌, arith, length-append, append_assoc}
 use Rattle.std.proofs.lemmas.Bool.{cases_lt}
 use Rattle.std.proofs.lemmas.List.Elements.{Contains-append_left, Contains-append_right, Contains-append_cases}
 use Rattle.std.specs.Prelude.{Contains, IsSome}
@@ -20,6 +20,7 @@ use Rattle.growth_steps.proofs.Putting.{drafts_nothing, drafts_on}
 use Rattle.file_fills.proofs.Headers.{headers_then}
 use Rattle.file_fills.proofs.Turns.{stand_as, stand_then}
 use Rattle.file_heights.specs.Grown.{AreLevels, HasRisen, IsGrown, IsLower, IsRisen}
+use Rattle.file_heights.proofs.Changing.{changes_then}
 
 -- ---- the same file
 
@@ -152,7 +153,16 @@ has_risen_then before after f0 f1 f2 room between left h m n d d' least up a b =
   risen = risen_then f0 f1 f2 h a.cell b.cell m n a.taken b.taken least up a.risen b.risen;
   from_front = a.from_front ∙ ap (λ xs. a.taken ++ xs) b.from_front ∙ sym (append_assoc a.taken b.taken left);
   dinode = b.dinode;
+  changes = changes_then f0 f1 f2 _ _ _ earlier later a.changes b.changes;
 }
+  where
+    earlier : (x : ℕ) → (x ≡ h.own) ⊎ Contains a.taken x → (x ≡ h.own) ⊎ Contains (a.taken ++ b.taken) x
+    earlier x (inl own) = inl own
+    earlier x (inr taken) = inr (Contains-append_left a.taken b.taken x taken)
+
+    later : (x : ℕ) → (x ≡ h.own) ⊎ Contains b.taken x → (x ≡ h.own) ⊎ Contains (a.taken ++ b.taken) x
+    later x (inl own) = inl own
+    later x (inr taken) = inr (Contains-append_right a.taken b.taken x taken)
 
 -- the same file, as a draft shows it that does nothing
 pub has_risen_none : (after : Seen) (fates : FinMap nat_cmp Fate) (inode : ℕ) (room : List ℕ) (h : Holding) (d : Dinode) → IsFile h → IsShown after inode h → d ≡ dinode_in h → HasRisen after fates fates room room h d.height d
@@ -164,6 +174,7 @@ has_risen_none after fates inode room h d file shown d_is =
       risen = risen_none fates h file;
       from_front = refl;
       dinode = d_is;
+      changes = λ x. inl refl;
     })
 
 -- what is left of the room

@@ -1,3 +1,4 @@
+pub mod Changing
 pub mod Keeping
 pub mod Joining
 pub mod Rising

@@ -37,9 +37,11 @@ use Rattle.growth_steps.specs.Becoming.{Becomes}
 use Rattle.growth_steps.specs.Heights.{CanBeBare, CanRise, IsNewTo, raised_bytes, raised_cells}
 use Rattle.growth_steps.specs.New.{new_bytes}
 use Rattle.growth_steps.proofs.Stepping.{new_length}
+use Rattle.file_fills.specs.Causes.{ChangesOnly}
 use Rattle.file_fills.proofs.Counted.{pointers_go_along}
 use Rattle.file_fills.proofs.Turns.{stand_one}
 use Rattle.file_heights.specs.Grown.{AreLevels, CanGrow, HasRisen, IsLower, IsRisen}
+use Rattle.file_heights.proofs.Changing.{changes_wider}
 
 -- ---- content that goes along
 
@@ -252,9 +254,13 @@ module _ (old new : FinMap nat_cmp Fate) (after : Seen) (inode : ℕ) (h : Holdi
 
 -- ---- as the draft shows it
 
+own_or_taken : (own inode b : ℕ) → own ≡ inode → (x : ℕ) → (x ≡ inode) ⊎ (x ≡ b) → (x ≡ own) ⊎ Contains (b ∷ []) x
+own_or_taken own inode b is x (inl e) = inl (e ∙ sym is)
+own_or_taken own inode b is x (inr e) = inr (subst (Contains (b ∷ [])) (sym e) (0, omega arith, refl))
+
 pub moved_has : (after : Seen) (old new : FinMap nat_cmp Fate) (inode b : ℕ) (h : Holding) (cell : ℕ → Option Cell) (d : Dinode) (left : List ℕ) → IsFile h → h.own ≡ inode → d ≡ dinode_in h → d.height ≡ 0 → IsUnstuffed h cell b
-    → Becomes after old new inode h (with_cells h cell) → HasRisen after old new (b ∷ left) left h (d.height + 1) (record d { height = d.height + 1 })
-moved_has after old new inode b h cell d left file own d_is stuffed moved_out becomes =
+    → Becomes after old new inode h (with_cells h cell) → ChangesOnly old new (λ x. (x ≡ inode) ⊎ (x ≡ b)) → HasRisen after old new (b ∷ left) left h (d.height + 1) (record d { height = d.height + 1 })
+moved_has after old new inode b h cell d left file own d_is stuffed moved_out becomes changes =
     let one : 1 ≡ d.height + 1 = omega (arith, stuffed) in
     record {
       cell = cell;
@@ -263,11 +269,12 @@ moved_has after old new inode b h cell d left file own d_is stuffed moved_out be
       risen = subst (λ n. IsRisen old new h cell n (b ∷ [])) one (moved_is_risen old new after inode h cell file becomes b moved_out);
       from_front = refl;
       dinode = (λ t. record (d_is t) { height = sym one t }) ∙ sym moved_out.dinode;
+      changes = changes_wider old new _ _ (own_or_taken h.own inode b own) changes;
     }
 
 pub raised_has : (after : Seen) (old new : FinMap nat_cmp Fate) (inode level b : ℕ) (h : Holding) (cell : ℕ → Option Cell) (d : Dinode) (left : List ℕ) → IsFile h → h.own ≡ inode → d ≡ dinode_in h → IsRaised h cell level b
-    → take header_length (bytes_at (with_cells h cell) b) ≡ take header_length (new_bytes h.size 1) → Becomes after old new inode h (with_cells h cell) → HasRisen after old new (b ∷ left) left h (d.height + 1) (record d { height = d.height + 1 })
-raised_has after old new inode level b h cell d left file own d_is raised head becomes =
+    → take header_length (bytes_at (with_cells h cell) b) ≡ take header_length (new_bytes h.size 1) → Becomes after old new inode h (with_cells h cell) → ChangesOnly old new (λ x. (x ≡ inode) ⊎ (x ≡ b)) → HasRisen after old new (b ∷ left) left h (d.height + 1) (record d { height = d.height + 1 })
+raised_has after old new inode level b h cell d left file own d_is raised head becomes changes =
     let high : d.height ≡ suc level = ap (λ (x : Dinode). x.height) d_is ∙ raised.high in
     let more : suc (suc level) ≡ d.height + 1 = omega (arith, high) in
     record {
@@ -277,17 +284,19 @@ raised_has after old new inode level b h cell d left file own d_is raised head b
       risen = subst (λ n. IsRisen old new h cell n (b ∷ [])) more (raised_is_risen old new after inode h cell file becomes level b raised head);
       from_front = refl;
       dinode = (λ t. record (d_is t) { height = sym more t }) ∙ sym raised.dinode;
+      changes = changes_wider old new _ _ (own_or_taken h.own inode b own) changes;
     }
 
 pub bare_has : (after : Seen) (old new : FinMap nat_cmp Fate) (inode height : ℕ) (room : List ℕ) (h : Holding) (cell : ℕ → Option Cell) (d : Dinode) → IsFile h → h.own ≡ inode → d ≡ dinode_in h → has_content h ≡ false → IsBareTo h cell height
-    → Becomes after old new inode h (with_cells h cell) → HasRisen after old new room room h height (record d { height = height })
-bare_has after old new inode height room h cell d file own d_is none bare becomes = record {
+    → Becomes after old new inode h (with_cells h cell) → ChangesOnly old new (λ x. x ≡ inode) → HasRisen after old new room room h height (record d { height = height })
+bare_has after old new inode height room h cell d file own d_is none bare becomes changes = record {
   cell = cell;
   taken = [];
   shown = subst (λ a. IsShown after a (with_cells h cell)) (sym own) becomes.shown;
   risen = bare_is_risen old new after inode h cell file becomes height none bare;
   from_front = refl;
   dinode = ap (λ (x : Dinode). record x { height = height }) d_is ∙ sym bare.dinode;
+  changes = changes_wider old new _ _ (λ x e. inl (e ∙ sym own)) changes;
 }
 
 -- the room's first block is new to the file

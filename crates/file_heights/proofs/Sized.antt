@@ -27,8 +27,10 @@ use Rattle.growth_drafts.specs.Taken.{HasTaken}
 use Rattle.growth_drafts.proofs.Rooms.{none_in}
 use Rattle.growth_steps.specs.Becoming.{Becomes}
 use Rattle.file_fills.proofs.Tails.{clear_along}
+use Rattle.file_fills.specs.Causes.{ChangesOnly}
 use Rattle.file_heights.specs.Grown.{IsGrown}
 use Rattle.file_heights.specs.Sized.{HasSize}
+use Rattle.file_heights.proofs.Changing.{changes_wider}
 use Rattle.file_heights.proofs.Joining.{grown_as, grown_then}
 use Rattle.file_heights.proofs.Keeping.{behind_put, heads_then, own_large, put_keeps_heads}
 
@@ -113,8 +115,8 @@ module _ (f0 f1 f2 : FinMap nat_cmp Fate) (mid after : Seen) (inode : ℕ) (h : 
       let other : c ≢ h.own = λ e. not_itself _ _ _ _ (sym file.own ∙ ap (part_at h) (sym e) ∙ part) in
       inl ((placed.0, placed.1, part), ap (drop (size - i * h.size)) (told.others c other ∙ sized.others c other)))
 
-  pub has_size : h.own ≡ inode → HasSize after f0 f2 h size blocks
-  has_size own = record {
+  pub has_size : h.own ≡ inode → ChangesOnly f0 f2 (λ b. b ≡ inode) → HasSize after f0 f2 h size blocks
+  has_size own changes = record {
     cell = c2;
     shown = subst (λ a. IsShown after a (with_cells h c2)) (sym own) two.shown;
     grown =
@@ -125,4 +127,6 @@ module _ (f0 f1 f2 : FinMap nat_cmp Fate) (mid after : Seen) (inode : ℕ) (h : 
         (put_keeps_heads h c1 (record (dinode_in h) { size = size }) file put_size sized.dinode behind_size sized.others)
         (put_keeps_heads (with_cells h c1) c2 (record (dinode_in (with_cells h c1)) { blocks = blocks }) after_size.0 put_count told.dinode told.behind told.others);
     clear = clear_size;
+    others = λ b other. told.others b other ∙ sized.others b other;
+    changes = changes_wider f0 f2 _ _ (λ b e. e ∙ sym own) changes;
   }

@@ -1,11 +1,12 @@
 -- A file that grows in a draft: what stays of it, what it gets, and how high it becomes.
-use Rattle.std.specs.Prelude.{ℕ, ◌≡◌, ◌≢◌, ◌↔◌, ◌+◌, ◌<◌, ◌≤◌, max, Contains, IsSome, true, List, [], ◌++◌, length, Option}
+use Rattle.std.specs.Prelude.{ℕ, ◌≡◌, ◌≢◌, ◌⊎◌, ◌↔◌, ◌+◌, ◌*◌, ◌<◌, ◌≤◌, max, Contains, IsSome, true, List, [], ◌++◌, length, Option}
 use Rattle.std.specs.FinMap.{FinMap}
 use Rattle.std.specs.Ordering.{nat_cmp}
 use Rattle.drafts.specs.declared.fate.Fate.{Fate}
 use Rattle.file_tree.specs.Apply.{file_limit}
 use Rattle.gfs2_layout.specs.Holding.{Cell, Holding, bytes_at}
 use Rattle.gfs2_layout.specs.Inode.{block_count, content_of, dinode_in, height_in}
+use Rattle.gfs2_layout.specs.Writing.{zeros_from}
 use Rattle.gfs2_layout.specs.declared.dinode.Dinode.{Dinode}
 use Rattle.glock_names.specs.Views.{Seen}
 use Rattle.dinode_tree.specs.Shown.{IsShown}
@@ -15,6 +16,7 @@ use Rattle.growth_laws.specs.Steps.{IsClearFrom}
 use Rattle.growth_drafts.specs.Taken.{AreFreeFor, DraftsFile, HasTaken, IsContentIn}
 use Rattle.file_fills.specs.Headers.{KeepsHeaders}
 use Rattle.file_fills.specs.Turns.{StandIn}
+use Rattle.file_fills.specs.Causes.{ChangesOnly}
 
 -- ---- a file afterwards
 
@@ -53,7 +55,8 @@ pub record IsRisen (old new : FinMap nat_cmp Fate) (h : Holding) (cell : ℕ →
   pub along : has_content (with_cells h cell) ≡ has_content h
   pub levels : AreLevels h (with_cells h cell) height taken
 
--- over a draft that showed a file: afterwards it shows it so high, with blocks from the front of the room, and this is its dinode
+-- Over a draft that showed a file: afterwards it shows it so high, with blocks from the front of the room, and this is its dinode. Nothing
+-- becomes of any block but the dinode's and those that were taken.
 pub record HasRisen (after : Seen) (old new : FinMap nat_cmp Fate) (room left : List ℕ) (h : Holding) (height : ℕ) (d : Dinode) : Type 0 where
   pub cell : ℕ → Option Cell
   pub taken : List ℕ
@@ -61,6 +64,7 @@ pub record HasRisen (after : Seen) (old new : FinMap nat_cmp Fate) (room left : 
   pub risen : IsRisen old new h cell height taken
   pub from_front : room ≡ taken ++ left
   pub dinode : d ≡ dinode_in (with_cells h cell)
+  pub changes : ChangesOnly old new (λ b. (b ≡ h.own) ⊎ Contains taken b)
 
 -- a file that is to have so many bytes, no fewer than it has: where it has content that goes along, the room has a block for each new level
 pub record CanGrow (h : Holding) (size : ℕ) (room : List ℕ) : Type 0 where
@@ -72,11 +76,22 @@ pub record CanGrow (h : Holding) (size : ℕ) (room : List ℕ) : Type 0 where
 
 -- ---- its end
 
+-- this is the block of content with the last byte of so many, and it has something but zeros behind that byte
+pub record IsUnclear (h : Holding) (size b : ℕ) : Type 0 where
+  pub index : ℕ
+  pub behind : ℕ
+  pub placed : IsPlaced h b 0 index
+  pub some : 0 < behind
+  pub within : behind ≤ h.size
+  pub ends : index * h.size + behind ≡ size
+  pub unclear : bytes_at h b ≢ zeros_from behind (bytes_at h b)
+
 -- Over a draft that showed a file in blocks: afterwards it shows the same one, with nothing but zeros behind its end; no block but one of content
--- has other bytes.
+-- has other bytes. Where these were there, nothing becomes of any block.
 pub record HasCleared (after : Seen) (old new : FinMap nat_cmp Fate) (h : Holding) : Type 0 where
   pub cell : ℕ → Option Cell
   pub shown : IsShown after h.own (with_cells h cell)
   pub same : IsRisen old new h cell (height_in h) []
   pub clear : IsClearFrom (with_cells h cell) (dinode_in h).size
   pub others : (b : ℕ) → (IsContentIn h b → ⊥) → bytes_at (with_cells h cell) b ≡ bytes_at h b
+  pub changes : ChangesOnly old new (IsUnclear h (dinode_in h).size)

@@ -9,6 +9,7 @@ use Rattle.growth_drafts.proofs.Following.{follows_draft, follows_one, follows_t
 use Rattle.file_fills.specs.Filling.{IsSeenWay}
 use Rattle.file_growth.proofs.Lengths.{if_ok_so, on_done}
 use Rattle.file_cuts.proofs.Heads.{put_zeros_here}
+use Rattle.file_heights.proofs.Changing.{changes_of, changes_one}
 use Rattle.file_cuts.proofs.Finishing.{can_be_bare, end_as_it_is, end_bare, end_cleared, high_again, if_ok_of, last_seen}
 use Rattle.file_cuts.proofs.cutting.set_end.Goals as goal
 
@@ -25,7 +26,8 @@ returns-then-size-eq0-clause-ended g c h file shown d_is can ways =
       refl,
       end_bare c.args.draft.now.fates c.set_size_and_count.new.draft.fates _ c.args.inode h c.args.size c.args.blocks file shown.own can s (seen_in g.V.View.seen c.set_height.new.draft) c.set_height.new.draft.fates _ c.if-size-eq0.true is.0 is.1
           (put_zeros_here (seen_in g.V.View.seen c.set_size_and_count.new.draft) c.args.inode (with_cells h s.cell) _ _ dinode_length dinode_length there.0 s.grown.file shown_k there.1
-          (ap (λ (d : Dinode). record d { height = 0 }) (ap (λ (d : Dinode). record d { size = c.args.size; blocks = c.args.blocks }) d_is ∙ sym s.grown.dinode)) refl),
+          (ap (λ (d : Dinode). record d { height = 0 }) (ap (λ (d : Dinode). record d { size = c.args.size; blocks = c.args.blocks }) d_is ∙ sym s.grown.dinode)) refl)
+          (changes_of c.set_size_and_count.new.draft c.set_height.new.draft _ (λ b. b ≡ c.args.inode) (c.in_ok-set_height.ensures.put there.0 there.1) (changes_one c.set_size_and_count.new.draft.fates c.args.inode _)),
     )
 
 pub returns-then-size-eq0-clause-within : goal.returns-then-size-eq0-clause-within

@@ -20,5 +20,5 @@ returns-then-dinode-eq0-clause-within g c room = as_it_was c.args.draft.now.fate
 
 pub returns-clause-cleared : goal.returns-clause-cleared
 returns-clause-cleared g c h file shown d_is ways =
-    on_done c.clear_last.result _ _ (end_cleared _ _ _ h c.args.end)
+    on_done c.clear_last.result _ _ (end_cleared _ _ _ h c.args.end (omega (arith, c.if-dinode-end.false, ap (λ (d : Dinode). d.size) d_is)))
     (c.clear_last.ensures.cleared h file shown d_is (λ none. c.if-dinode-eq0.false (ap (λ (d : Dinode). d.height) d_is ∙ none)) (λ i last. ways i (omega (arith, c.if-dinode-end.false, ap (λ (d : Dinode). d.size) d_is)) last))

@@ -8,6 +8,7 @@ use Rattle.growth_drafts.specs.Touched.{as_it_was}
 use Rattle.growth_drafts.proofs.Following.{follows_draft, follows_one}
 use Rattle.growth_steps.specs.Stuffed.{stuffed_bytes}
 use Rattle.growth_steps.proofs.Putting.{own_seen}
+use Rattle.file_heights.proofs.Changing.{changes_of, changes_one}
 use Rattle.file_growth.specs.Written.{size_with}
 use Rattle.file_growth.proofs.Writes.{goes_up, written_behind, written_bytes}
 use Rattle.file_growth.proofs.writing.write_seen.Goals as goal
@@ -37,7 +38,8 @@ returns-then-has_room-clause-written g c h shown there can needs ways =
       written_behind h _ c.args.at c.args.bytes.now c.args.room.now.items can fits (seen_in g.V.View.seen c.put_stuffed.new.draft) c.args.draft.now.fates c.put_stuffed.new.draft.fates c.args.inode shown.own is.0 is.1
           (ap (drop (232 + size_with h (c.args.at + length c.args.bytes.now))) (written_bytes h (stuffed_bytes c.in-Some.dinode c.args.at c.args.bytes.now there.0) can.counted.file)
           ∙ subst (λ n. drop n (stuffed_bytes c.in-Some.dinode c.args.at c.args.bytes.now there.0) ≡ drop n there.0) n_is behind
-          ∙ ap (drop (232 + size_with h (c.args.at + length c.args.bytes.now))) (sym (own_seen (seen_in g.V.View.seen c.args.draft.now) c.args.inode there.0 h shown there.1))),
+          ∙ ap (drop (232 + size_with h (c.args.at + length c.args.bytes.now))) (sym (own_seen (seen_in g.V.View.seen c.args.draft.now) c.args.inode there.0 h shown there.1)))
+          (changes_of c.args.draft.now c.put_stuffed.new.draft _ (λ b. b ≡ c.args.inode) (c.in_ok-put_stuffed.ensures.put there.0 there.1) (changes_one c.args.draft.now.fates c.args.inode _)),
     )
 
 pub returns-clause-written : goal.returns-clause-written

@@ -1,11 +1,13 @@
-use Rattle.std.proofs.Common.{◌≡◌, ◌+◌, ◌-◌, ◌/◌, refl, sym, ap, ◌∙◌, arith}
+use Rattle.std.proofs.Common.{◌≡◌, ◌+◌, ◌-◌, ◌/◌, ◌%◌, ◌<◌, ◌≤◌, refl, sym, ap, ◌∙◌, arith}
+use Rattle.std.proofs.Math.Nat.{mod-lt}
 use Rattle.drafts.specs.Fates.{seen_in}
 use Rattle.gfs2_layout.specs.Inode.{dinode_in}
 use Rattle.gfs2_layout.specs.declared.dinode.Dinode.{Dinode}
+use Rattle.growth_laws.proofs.Places.{size_large}
 use Rattle.growth_drafts.specs.Touched.{as_it_was}
 use Rattle.file_walks.specs.Walks.{IsStop}
 use Rattle.file_fills.proofs.Stepped.{content_at_stop}
-use Rattle.file_heights.proofs.Clearing.{cleared_follows, empty_is_clear, end_is_clear, hole_is_clear, last_place}
+use Rattle.file_heights.proofs.Clearing.{cleared_changes, cleared_follows, empty_is_clear, end_is_clear, hole_is_clear, last_place}
 use Rattle.file_heights.proofs.ends.clear_last.Goals as goal
 
 pub returns-then-dinode-eq0-clause-cleared : goal.returns-then-dinode-eq0-clause-cleared
@@ -37,7 +39,13 @@ returns-in_ok-clear_end-clause-cleared g c h file shown d_is high ways =
     let place = last_place h (c.args.dinode.now.size - 1) c.from-size.result file high last size in
     let stopped : IsStop h 0 ((c.args.dinode.now.size - 1) / c.from-size.result) c.in-Some.stop = c.in-Some.ensures.found h file shown place.1 (ways ((c.args.dinode.now.size - 1) / c.from-size.result) place.0) in
     let is = c.in_ok-clear_end.ensures.cleared h ((c.args.dinode.now.size - 1) / c.from-size.result) file shown high place.0 (content_at_stop h _ c.in-Some.stop stopped c.if-stop-ne0.true) c.if-stop-ne0.true place.2 in
-    (refl, end_is_clear c.args.draft.now.fates c.clear_end.new.draft.fates (seen_in g.V.View.seen c.clear_end.new.draft) c.args.inode h _ _ _ file is.0 is.1 is.2 is.3 shown.own)
+    let there = c.in-Some.ensures.block c.if-stop-ne0.true in
+    let some : 0 < c.from-size.result = omega (arith, size, size_large h.size file.block_size) in
+    let within : (c.args.dinode.now.size - 1) % c.from-size.result + 1 ≤ h.size = omega (arith, size, mod-lt (c.args.dinode.now.size - 1) some) in
+    let changes = cleared_changes g.V.View.seen c.args.draft.now c.clear_end.new.draft c.args.inode h ((c.args.dinode.now.size - 1) / c.from-size.result) c.in-Some.stop.block ((c.args.dinode.now.size - 1) % c.from-size.result + 1) there.0 _ _
+    file high shown place.0 (content_at_stop h _ c.in-Some.stop stopped c.if-stop-ne0.true) c.if-stop-ne0.true place.2 (let low : 0 < (c.args.dinode.now.size - 1) % c.from-size.result + 1 = omega arith in low) within there.1
+    (c.in_ok-clear_end.ensures.put there.0 there.1) (c.in_ok-clear_end.ensures.clear there.0 there.1) in
+    (refl, end_is_clear c.args.draft.now.fates c.clear_end.new.draft.fates (seen_in g.V.View.seen c.clear_end.new.draft) c.args.inode h _ _ _ file is.0 is.1 is.2 is.3 shown.own changes)
 
 pub returns-else-stop-ne0-clause-cleared : goal.returns-else-stop-ne0-clause-cleared
 returns-else-stop-ne0-clause-cleared g c h file shown d_is high ways =

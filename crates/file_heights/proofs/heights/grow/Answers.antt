@@ -5,6 +5,7 @@ use Rattle.growth_drafts.specs.Touched.{as_it_was}
 use Rattle.growth_drafts.proofs.Following.{follows_draft, follows_one}
 use Rattle.growth_steps.proofs.Keeping.{kept_by_one}
 use Rattle.file_heights.specs.Grown.{HasRisen}
+use Rattle.file_heights.proofs.Changing.{changes_of, changes_one}
 use Rattle.file_heights.proofs.Joining.{has_risen_none}
 use Rattle.file_heights.proofs.Rising.{bare_has, can_be_bare, height_is}
 use Rattle.file_heights.proofs.heights.grow.Goals as goal
@@ -24,7 +25,8 @@ returns-clause-grown g c h shown d_is can =
     let none : has_content h ≡ false = sym (c.carries.ensures h shown d_is) ∙ c.if-carries.false in
     let is = c.in_ok-set_height.ensures.bare h c.requires.there.0 can.file shown d_is (can_be_bare h c.args.size c.height_for-height.result c.args.room.now.items can height none) c.requires.there.1 in
     subst (λ n. HasRisen (seen_in g.V.View.seen c.set_height.new.draft) c.args.draft.now.fates c.set_height.new.draft.fates c.args.room.now.items c.args.room.now.items h n (record c.args.dinode.now { height = c.height_for-height.result })) height
-    (bare_has (seen_in g.V.View.seen c.set_height.new.draft) c.args.draft.now.fates c.set_height.new.draft.fates c.args.inode c.height_for-height.result c.args.room.now.items h _ c.args.dinode.now can.file shown.own d_is none is.0 is.1)
+    (bare_has (seen_in g.V.View.seen c.set_height.new.draft) c.args.draft.now.fates c.set_height.new.draft.fates c.args.inode c.height_for-height.result c.args.room.now.items h _ c.args.dinode.now can.file shown.own d_is none is.0 is.1
+    (changes_of c.args.draft.now c.set_height.new.draft _ (λ x. x ≡ c.args.inode) (c.in_ok-set_height.ensures.put c.requires.there.0 c.requires.there.1) (changes_one c.args.draft.now.fates c.args.inode _)))
 
 pub returns-clause-still : goal.returns-clause-still
 returns-clause-still g c =
