@@ -107,7 +107,6 @@ module _ (f0 f1 f2 : FinMap nat_cmp Fate) (h : Holding) (c1 c2 : ℕ → Option 
       (met_before (with_cells h c1) a.file x level first level' place.0 i placed (upto x level first early placed) (omega (arith, low, same)) (subst (λ n. place.0 < fan h.size dinode_length * span h.size (n - 1 - level')) same place.2)
       (omega (arith, way.0, place.1)) (omega (arith, way.1, place.1)) (λ c had. b.filled.holes y c level' first' late placed' (subst (IsPlaced (with_cells h c1) c level') (sym place.1) had)))
 
-
   early_cause : (x : ℕ) → IsFilledAt (with_cells h c1) at end t1 x → IsFilledAt (with_cells h c2) at end (t1 ++ t2) x
   early_cause x (inl taken) = inl (Contains-append_left t1 t2 x taken)
   early_cause x (inr (inl (c, k, level, first, taken, part))) = inr (inl (c, k, level, first, Contains-append_left t1 t2 c taken, b.parts c ((a.blocks.blocks c).1 (inr taken)) ∙ part))
