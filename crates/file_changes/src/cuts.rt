@@ -19,6 +19,7 @@ ghost use Rattle.resource_groups.specs.Putting.{HasDataBlock};
 ghost use Rattle.file_changes.specs.Drafting.{FreesIn, IsCutDraft, IsFreedAndDone, IsNeededAt, IsWrongAt};
 ghost use Rattle.file_changes.specs.Making.{CanBeCut};
 
+use crate::groups::tell_groups;
 use crate::inside::{check_data_blocks, finish_inside, is_a_view};
 use crate::times::put_time;
 use draft_changes::groups_say_what_is_taken;
@@ -67,21 +68,6 @@ pub fn cut_file<V: View>(
         return Ok(Step::Is(None));
     }
     Ok(Step::Is(Some(freed)))
-}
-
-// Tells what is damaged or missing in the view's groups of these blocks; the answer, where nothing is, is false.
-fn tell_groups<V: View>(alloc: Global, view: &V, freed: &[u64]) -> Result<Step<bool>, CallFault>
-    requires inside { (b : ℕ) → Contains freed.now b → HasDataBlock (V.seen view.now) b }
-    ensures not { IfIs result (λ done. done ≡ false) }
-    ensures needed { IfNeedBlock result (IsNeededFor (V.seen view.now) freed.now) }
-    ensures damaged { IfDamaged result (BreaksSome (V.seen view.now) freed.now) }
-    ensures kept { IfDamaged result (IsOfView (V.seen view.now)) }
-{
-    let mut draft = Draft::new(alloc, view);
-    match free_blocks(&mut draft, freed)? {
-        Step::Is(()) => Ok(Step::Is(false)),
-        Step::NeedBlock(missing) => Ok(Step::NeedBlock(missing)),
-    }
 }
 
 // Frees blocks in a draft over the view. Where their groups are damaged there, and not in the view, the answer is false.

@@ -2,6 +2,7 @@
 #![tactic(auto)]
 
 mod cuts;
+mod groups;
 mod inside;
 mod laws;
 mod times;

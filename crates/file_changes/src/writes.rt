@@ -26,6 +26,7 @@ ghost use Rattle.resource_groups.specs.Putting.{HasDataBlock};
 ghost use Rattle.file_changes.specs.Drafting.{IsNeededAt, IsWriteDraft, IsWrongAt, TakesIn, WritesFile};
 ghost use Rattle.file_changes.specs.Making.{IsRoomIn};
 
+use crate::groups::tell_groups;
 use crate::inside::{finish_inside, is_a_view};
 use crate::times::put_time;
 use draft_changes::{free_blocks_are_new, groups_say_what_is_taken};
@@ -62,21 +63,6 @@ fn write_bytes<V: View>(
     let mut left = VecDeque::from_vec(Vec::from_slice(alloc, room)?);
     match write_range(alloc, draft, inode, at, new, &mut left)? {
         Step::Is(done) => Ok(Step::Is(done && left.is_empty())),
-        Step::NeedBlock(missing) => Ok(Step::NeedBlock(missing)),
-    }
-}
-
-// Tells what is damaged or missing in the view's groups of these blocks; the answer, where nothing is, is false.
-fn tell_groups<V: View>(alloc: Global, view: &V, room: &[u64]) -> Result<Step<bool>, CallFault>
-    requires inside { (b : ℕ) → Contains room.now b → HasDataBlock (V.seen view.now) b }
-    ensures not { IfIs result (λ done. done ≡ false) }
-    ensures needed { IfNeedBlock result (IsNeededFor (V.seen view.now) room.now) }
-    ensures damaged { IfDamaged result (BreaksSome (V.seen view.now) room.now) }
-    ensures kept { IfDamaged result (IsOfView (V.seen view.now)) }
-{
-    let mut draft = Draft::new(alloc, view);
-    match take_blocks(&mut draft, room)? {
-        Step::Is(()) => Ok(Step::Is(false)),
         Step::NeedBlock(missing) => Ok(Step::NeedBlock(missing)),
     }
 }
