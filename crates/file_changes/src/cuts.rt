@@ -32,8 +32,8 @@ use resource_groups::free_blocks;
 use std::alloc::Global;
 
 /// Cuts a file to so many bytes in a new draft over the view, and answers the blocks that this frees, each a data block of a group; the
-/// file's dinode gets the time. None where the view's file isn't a sound one of this size at least; then the draft may be half done. It
-/// costs what `cut` costs, and a look at the groups for each block.
+/// file's dinode gets the time. None isn't answered in an image that stands for a tree, where the inode is a file of this size at least; with
+/// it the draft may be half done. It costs what `cut` costs, and a look at the groups for each block.
 pub fn cut_file<V: View>(
     alloc: Global,
     view: &V,
@@ -95,8 +95,8 @@ fn free_in_draft<V: View>(
     }
 }
 
-/// Frees blocks over a draft over the view in which they were cut off from a file, and ends it. None where the draft isn't that of a
-/// sound file. It costs what `free_blocks` costs, and a look at the groups for each block that is put.
+/// Frees blocks over a draft over the view in which they were cut off from a file, and ends it. None isn't answered for a draft of `cut_file`
+/// in an image that stands for a tree. It costs what `free_blocks` costs, and a look at the groups for each block that is put.
 pub fn free_and_finish<V: View>(
     alloc: Global,
     view: &V,

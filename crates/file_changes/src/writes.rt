@@ -130,8 +130,8 @@ fn draft_write<V: View>(
 
 /// The change of a view in which bytes are written over a file's content from byte `at` on, with zeros between its end and that place:
 /// without bytes, the file goes on to `at` with zeros. The blocks of `room`, data blocks of the view's groups that are free, are taken for it, as many
-/// as `need_write` says, and say so in their groups; the file's dinode gets the time. None where the view's file isn't a sound one, or the room
-/// isn't as large as needed. It costs what `write_range` and `take_blocks` cost, and a look at the groups for each block that is put.
+/// as `need_write` says, and say so in their groups; the file's dinode gets the time. None isn't answered in an image that stands for a tree, where the
+/// inode is a file and the room is as large as needed. It costs what `write_range` and `take_blocks` cost, and a look at the groups for each block that is put.
 pub fn write_file<V: View>(
     alloc: Global,
     view: &V,
