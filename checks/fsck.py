@@ -364,7 +364,7 @@ def is_progress(line):
 
 # ---- random scripts
 
-WORDS = ["create"] * 5 + ["mkdir"] * 3 + ["unlink"] * 2 + ["rmdir"] * 2 + ["write"] * 5 + ["read"] * 3 + ["stat"] * 3 + ["list"] * 2 + ["sync"]
+WORDS = ["create"] * 5 + ["mkdir"] * 3 + ["unlink"] * 2 + ["rmdir"] * 2 + ["write"] * 7 + ["truncate"] * 2 + ["read"] * 3 + ["stat"] * 3 + ["list"] * 2 + ["sync"]
 
 
 def new_image(random, folder):
@@ -403,17 +403,27 @@ def some_path(random, paths):
     return path if len(path) < 900 else "/"
 
 
-def some_call(random, paths, room):
+def some_place(random, size):
+    """A place in a file: mostly near the start or near the end of what a height has room for, and seldom far out."""
+    room, most = size - 232, random.randrange(60)
+    for _ in range(0 if most > 20 else 3 if most == 0 else 2 if most < 3 else 1):
+        room = (size - 232) // 8 * size if room < size else room * ((size - 24) // 8)
+    return min(random.choice((0, random.randrange(room), max(0, room + random.randint(-2, 2)))), (1 << 26) + 1)
+
+
+def some_call(random, paths, size):
     word, path = random.choice(WORDS), some_path(random, paths)
     if word == "sync":
         return word
     if word == "read":
-        return "read %s %d %d" % (path, random.randrange(room + 9), random.choice((0, 1, 7, 16384)))
+        return "read %s %d %d" % (path, some_place(random, size), random.choice((0, 1, 7, 16384)))
+    if word == "truncate":
+        return "truncate %s %d" % (path, some_place(random, size))
     if word == "write":
-        at = random.choice((0, 0, random.randrange(room)))
-        count = random.randint(1, max(1, min(room - at, random.choice((3, 40, room)))))
-        fill = random.randrange(2)
-        return "write %s %d %s" % (path, at, "fill:%02x:%d" % (random.randrange(256), count) if fill else random.randbytes(count).hex())
+        count = random.randint(1, random.choice((3, 40, size, 3 * size, 16384)))
+        fill = count > 2000 or random.randrange(2)
+        content = "fill:%02x:%d" % (random.randrange(256), min(count, 16384)) if fill else random.randbytes(count).hex()
+        return "write %s %d %s" % (path, some_place(random, size), content)
     return "%s %s" % (word, path)
 
 
@@ -421,7 +431,7 @@ def some_script(random, disk):
     """A script, and the status, output and trace that the plain calls give it. The disk is as it leaves it."""
     paths, lines, before = ["/"], ["nodes 1", "client p on 1", "client q on 1"], disk.data[:]
     for _ in range(random.choice((20, 100, 400))):
-        call = some_call(random, paths, disk.size - 232)
+        call = some_call(random, paths, disk.size)
         try:
             reply = disk.answer(call)[0]
         except NotBuilt:

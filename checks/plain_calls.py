@@ -18,7 +18,7 @@ class NotBuilt(Exception):
 
 
 class Refused(Exception):
-    """The answer of a call that is refused."""
+    """The answer of a call that is refused, and how many blocks it would need where it is `nospace`."""
 
 
 def spelled(name):
@@ -72,21 +72,19 @@ class Disk:
                 if height > 1:
                     yield from self.blocks_under(pointer, 24, height - 1)
 
-    def content(self, dinode):
+    def content(self, dinode, at=0, count=None):
+        """The bytes of content from a place on, at most so many."""
         size, height = self.field(dinode, 56, 8), self.field(dinode, 138, 2)
+        end = size if count is None else min(size, at + count)
         if height == 0:
-            at = dinode * self.size + 232
-            return bytes(self.data[at:at + size])
-        found = b""
-        for index in range((size + self.size - 1) // self.size):
-            block, place, step = dinode, 232, 1
-            room = (self.size - 24) // 8
-            for level in range(height - 1, -1, -1):
-                step = room ** level
-                block = self.field(block, place + index // step * 8, 8) if block else 0
-                index, place = index % step, 24
-            found += bytes(self.data[block * self.size:(block + 1) * self.size]) if block else bytes(self.size)
-        return found[:size]
+            start = dinode * self.size + 232
+            return bytes(self.data[start + at:start + end])
+        found, first = [], at // self.size
+        for index in range(first, -(-end // self.size)):
+            pointer = self.pointer_to(dinode, height, 0, index)
+            block = self.word(pointer, 8) if pointer else 0
+            found.append(bytes(self.data[block * self.size:(block + 1) * self.size]) if block else bytes(self.size))
+        return b"".join(found)[at - first * self.size:max(0, end - first * self.size)]
 
     # ---- groups
 
@@ -194,6 +192,161 @@ class Disk:
         self.put(inode, 80, self.time, 8)
         self.put(inode, 88, self.time, 8)
 
+    # ---- files that grow and are cut
+
+    def room(self, height):
+        """How many bytes of content a file of this height has room for."""
+        if height == 0:
+            return self.size - 232
+        return (self.size - 232) // 8 * ((self.size - 24) // 8) ** (height - 1) * self.size
+
+    def span(self, level):
+        """How many blocks of content hang below a block so many levels above content."""
+        return ((self.size - 24) // 8) ** level
+
+    def pointer_to(self, inode, height, level, place):
+        """Where in the image the pointer to the block at a place of a level stands; None where a block above it is a hole, or the tree,
+        taken to be so high, is too low for it."""
+        block, at, left = inode, 232, place
+        for above in range(height - 1, level - 1, -1):
+            step = self.span(above - level)
+            at, left = at + left // step * 8, left % step
+            if at >= self.size:
+                return None
+            if above == level:
+                return block * self.size + at
+            block, at = self.field(block, at, 8), 24
+            if not block:
+                return None
+        return None
+
+    def carries(self, inode):
+        """Whether something goes along where the file gets higher: its content, or blocks."""
+        if self.field(inode, 138, 2) == 0:
+            return self.field(inode, 56, 8) != 0
+        return any(self.data[inode * self.size + 232:(inode + 1) * self.size])
+
+    def height_for(self, inode, size):
+        height = self.field(inode, 138, 2)
+        while self.room(height) < size:
+            height += 1
+        return height
+
+    def needed(self, inode, at, end):
+        """How many blocks a write needs: on each level of the file as high as it is then, those of the places above its bytes, and of
+        the first place of each new level where something goes along, which have none."""
+        old, new = self.field(inode, 138, 2), self.height_for(inode, max(self.field(inode, 56, 8), end))
+        count = 0
+        for level in range(new):
+            step = self.span(level) * self.size
+            places = set(range(at // step, -(-end // step)) if at < end else ())
+            if level >= old and self.carries(inode):
+                places.add(0)
+            for place in places:
+                pointer = self.pointer_to(inode, old, level, place)
+                count += pointer is None or self.word(pointer, 8) == 0
+        return count
+
+    def take(self, inode):
+        block = self.least_free()
+        self.set_state(block, 1)
+        self.count(block, -1, 0)
+        self.put(inode, 64, self.field(inode, 64, 8) + 1, 8)
+        return block
+
+    def give_back(self, inode, block):
+        self.set_state(block, 0)
+        self.count(block, 1, 0)
+        self.put(inode, 64, self.field(inode, 64, 8) - 1, 8)
+
+    def rise(self, inode, height):
+        """Makes a file so high: what goes along moves into a block of its own for each new level."""
+        area = inode * self.size + 232
+        for old in range(self.field(inode, 138, 2), height):
+            content = bytes(self.data[area:area + self.field(inode, 56, 8)] if old == 0 else self.data[area:area + (self.size - 232) // 8 * 8])
+            block = self.take(inode) if self.carries(inode) else 0
+            if block:
+                head = b"" if old == 0 else pack(">IIQII", MAGIC, 5, 0, 500, 0)
+                self.put(block, 0, (head + content).ljust(self.size, b"\0"))
+            self.put(inode, 232, pack(">Q", block).ljust(self.size - 232, b"\0"))
+            self.put(inode, 138, old + 1, 2)
+
+    def block_for(self, inode, index):
+        """The block of content with this index: holes on the way are filled from the top."""
+        height = self.field(inode, 138, 2)
+        for level in range(height - 1, -1, -1):
+            at = self.pointer_to(inode, height, level, index // self.span(level))
+            if not self.word(at, 8):
+                block = self.take(inode)
+                head = pack(">IIQII", MAGIC, 5, 0, 500, 0) if level else b""
+                self.put(block, 0, head.ljust(self.size, b"\0"))
+                self.data[at:at + 8] = pack(">Q", block)
+        return self.word(at, 8)
+
+    def clear_end(self, inode):
+        """Zeros behind the end of a file in blocks."""
+        size = self.field(inode, 56, 8)
+        if size % self.size:
+            at = self.pointer_to(inode, self.field(inode, 138, 2), 0, size // self.size)
+            if at is not None and self.word(at, 8):
+                self.put(self.word(at, 8), size % self.size, bytes(self.size - size % self.size))
+
+    def put_bytes(self, inode, at, content):
+        """Writes bytes over a file's content, which has zeros between its end and their place."""
+        size, end = self.field(inode, 56, 8), at + len(content)
+        total = max(size, end)
+        if self.field(inode, 138, 2) == 0 and total <= self.room(0):
+            if at > size:
+                self.put(inode, 232 + size, bytes(at - size))
+            self.put(inode, 232 + at, content)
+        else:
+            need = self.needed(inode, at, end)
+            if need > self.free_count():
+                raise Refused("nospace", need)
+            if self.field(inode, 138, 2) and end > size:
+                self.clear_end(inode)
+            self.rise(inode, self.height_for(inode, total))
+            done = 0
+            while done < len(content):
+                place = at + done
+                piece = content[done:done + self.size - place % self.size]
+                self.put(self.block_for(inode, place // self.size), place % self.size, piece)
+                done += len(piece)
+        self.put(inode, 56, total, 8)
+        self.stamp(inode)
+
+    def prune(self, inode, block, place, level, first, end):
+        """Frees what hangs below a block past an end: content, and what leads nowhere then. Its pointers lead to this level, the first
+        of them to the place `first`. Whether a pointer leads somewhere still."""
+        gone, stays = [], False
+        for index, at in enumerate(range(block * self.size + place, (block + 1) * self.size - 7, 8)):
+            below, number = self.word(at, 8), first + index
+            if not below:
+                continue
+            past = (number + 1) * self.span(level) > end
+            if past and not (level and self.prune(inode, below, 24, level - 1, number * ((self.size - 24) // 8), end)):
+                gone.append(at)
+                self.give_back(inode, below)
+            else:
+                stays = True
+        if stays or block == inode:
+            for at in gone:
+                self.data[at:at + 8] = bytes(8)
+        return stays
+
+    def cut(self, inode, size):
+        """Leaves a file its first bytes. A block that is freed keeps its bytes."""
+        height, before = self.field(inode, 138, 2), self.field(inode, 56, 8)
+        self.put(inode, 56, size, 8)
+        if height == 0:
+            self.put(inode, 232 + size, bytes(before - size))
+        else:
+            self.prune(inode, inode, 232, height - 1, 0, -(-size // self.size))
+            if size == 0:
+                self.put(inode, 138, 0, 2)
+            self.clear_end(inode)
+        self.stamp(inode)
+
     # ---- calls
 
     def walk(self, names):
@@ -221,7 +374,7 @@ class Disk:
             raise NotBuilt("line")
         block = self.least_free()
         if block is None:
-            raise Refused("nospace")
+            raise Refused("nospace", 1)
         self.set_state(block, 3)
         number = self.count(block, -1, 1, 1)
         self.put(block, 0, self.dinode(block, number, is_directory).ljust(self.size, b"\0"))
@@ -266,26 +419,31 @@ class Disk:
         return "ok"
 
     def write(self, names, at, content):
+        inode = self.file_at(names, at + len(content))
+        self.put_bytes(inode, at, content)
+        return "ok"
+
+    def truncate(self, names, size):
+        inode = self.file_at(names, size)
+        if size > self.field(inode, 56, 8):
+            self.put_bytes(inode, size, b"")
+        else:
+            self.cut(inode, size)
+        return "ok"
+
+    def file_at(self, names, end):
         inode = self.walk(names)[-1]
         if self.is_directory(inode):
             raise Refused("isdir")
-        if at + len(content) > LARGEST:
+        if end > LARGEST:
             raise Refused("toobig")
-        if at + len(content) > self.size - 232 or self.field(inode, 138, 2):
-            raise NotBuilt("line")
-        size = self.field(inode, 56, 8)
-        if at > size:
-            self.put(inode, 232 + size, bytes(at - size))
-        self.put(inode, 232 + at, content)
-        self.put(inode, 56, max(size, at + len(content)), 8)
-        self.stamp(inode)
-        return "ok"
+        return inode
 
     def read(self, names, at, count):
         inode = self.walk(names)[-1]
         if self.is_directory(inode):
             raise Refused("isdir")
-        return "data " + (self.content(inode)[at:at + count].hex() or "-")
+        return "data " + (self.content(inode, at, count).hex() or "-")
 
     def stat(self, names):
         inode = self.walk(names)[-1]
@@ -301,7 +459,7 @@ class Disk:
         return " ".join(["names %d" % len(found)] + [spelled(it) for it in found])
 
     def answer(self, call):
-        """The reply to a call, and how many blocks were free where they were too few."""
+        """The reply to a call, and, where too few blocks were free, how many it needs and how many those were."""
         word, *others = call.split(" ")
         names = names_of(others[0]) if others else []
         try:
@@ -311,6 +469,8 @@ class Disk:
                 return self.drop(names, word == "rmdir"), None
             if word == "write":
                 return self.write(names, int(others[1]), content_of(others[2])), None
+            if word == "truncate":
+                return self.truncate(names, int(others[1])), None
             if word == "read":
                 return self.read(names, int(others[1]), int(others[2])), None
             if word in ("stat", "list"):
@@ -318,7 +478,7 @@ class Disk:
             if word == "sync":
                 return "ok", None
         except Refused as refused:
-            return str(refused), self.free_count() if str(refused) == "nospace" else None
+            return refused.args[0], (refused.args[1], self.free_count()) if refused.args[0] == "nospace" else None
         raise NotBuilt("line")
 
 
@@ -340,12 +500,12 @@ def carried_out(disk, script):
         if not call:
             continue
         try:
-            reply, free = disk.answer(call)
+            reply, full = disk.answer(call)
         except NotBuilt as fault:
             end = "not built: " + ("line %d" % number if fault.args[0] == "line" else "block %d" % fault.args[0])
             break
-        if free is not None:
-            items.append("full 1 1 %d" % free)
+        if full:
+            items.append("full 1 %d %d" % full)
         replies.append((client, "%s: %s = %s" % (client, written(call), reply)))
         items.append("call 1 %s %d %s = %s" % (client, len(replies), written(call), reply))
     else:

@@ -9,6 +9,7 @@ use Rattle.file_tree.specs.declared.call.Call.TheVariants as calls
 use Rattle.call_locks.specs.Wants.{wanted}
 use Rattle.call_locks.specs.WantLaws.{path_of}
 use Rattle.file_tree.specs.Names.{parent_of}
+use Rattle.file_changes.specs.Drafting.{IsWrongAt, in_group, in_inode, stray}
 use Rattle.gfs2_layout.specs.Device.{superblock_place}
 use Rattle.gfs2_layout.specs.Headers.{HasHeader}
 use Rattle.gfs2_layout.specs.Holding.{Holding}
@@ -74,6 +75,13 @@ module _ (v : Seen) (im : Image) (read : IsReadFrom v im) where
         let listed = (read.groups k).0 has in
         broken_group listed.0 listed.1 rule b (subst (λ g. group.IsBroken im.at g rule b) listed.2 (broken im.at (group_shown k has)))
 
+    -- a file whose content changes, and the groups of blocks that it takes or gives back
+    file_told : (wants : List Want) (path : Path) (a : ℕ) (blocks : List ℕ) → LeadsTo v wants path a → (rule b : ℕ) → IsWrongAt v a blocks rule b → Breaks im rule b
+    file_told wants path a blocks leads rule b (in_inode r x broken) =
+        wrong_inode im a (led_there v im read wants path a leads) r x (path.in_inode r x (broken (every im a) (shown v im read a)))
+    file_told wants path a blocks leads rule b (stray from x led out) = stray_told wants path a from x leads (led (every im a) (shown v im read a)) out
+    file_told wants path a blocks leads rule b (in_group r x breaks) = group_told breaks.0 breaks.1 r x breaks.3
+
 -- where the root is in a group there is no exception
 as_itself : (v : Seen) (im : Image) → HasRootInside v → (rule b : ℕ) → IsTold v im rule b → Breaks im rule b
 as_itself v im inside rule b (itself r x breaks) = breaks
@@ -82,11 +90,13 @@ as_itself v im inside rule b (by_root bare breaks) = absurd (bare inside)
 -- ---- the calls
 
 pub writes_tell : WritesTell
-writes_tell v im call rule b read (writing.on_path r x broken) = itself r x (paths_tell v im (wanted call) (path_of call false) r x read broken)
-writes_tell v im call rule b read (writing.no_data_block a leads out) = root_told v im read (wanted call) (path_of call false) a leads out
+writes_tell v im call rule b read whole (writing.on_path r x broken) = itself r x (paths_tell v im (wanted call) (path_of call false) r x read broken)
+writes_tell v im call rule b read whole (writing.no_data_block a leads out) = root_told v im read (wanted call) (path_of call false) a leads out
+writes_tell v im call rule b read whole (writing.in_file a r x blocks changes wrong) = itself r x (file_told v im read whole (wanted call) (path_of call false) a blocks changes.at.leads r x wrong)
+writes_tell v im call rule b read whole (writing.in_group a r x changes broken) = itself r x (group_told v im read whole broken.group broken.has r x broken.broken)
 
 pub writes_tell_exactly : WritesTellExactly
-writes_tell_exactly v im call rule b read inside told = as_itself v im inside rule b (writes_tell v im call rule b read told)
+writes_tell_exactly v im call rule b read whole inside told = as_itself v im inside rule b (writes_tell v im call rule b read whole told)
 
 pub removals_tell : RemovalsTell
 removals_tell v im call rule b read whole (removing.on_path r x broken) = itself r x (paths_tell v im (wanted call) (path_of call false) r x read broken)
@@ -124,8 +134,8 @@ calls_tell v im (calls.Unlink p) rule b read whole told = removals_tell v im (ca
 calls_tell v im (calls.Rmdir p) rule b read whole told = removals_tell v im (calls.Rmdir p) rule b read whole told
 calls_tell v im (calls.Read p at n) rule b read whole told = path_told v im (calls.Read p at n) rule b read told
 calls_tell v im (calls.Dread p at n) rule b read whole told = path_told v im (calls.Dread p at n) rule b read told
-calls_tell v im (calls.Write p at bytes) rule b read whole told = writes_tell v im (calls.Write p at bytes) rule b read told
-calls_tell v im (calls.Truncate p n) rule b read whole told = path_told v im (calls.Truncate p n) rule b read told
+calls_tell v im (calls.Write p at bytes) rule b read whole told = writes_tell v im (calls.Write p at bytes) rule b read whole told
+calls_tell v im (calls.Truncate p n) rule b read whole told = writes_tell v im (calls.Truncate p n) rule b read whole told
 calls_tell v im (calls.Stat p) rule b read whole told = path_told v im (calls.Stat p) rule b read told
 calls_tell v im (calls.List p) rule b read whole told = path_told v im (calls.List p) rule b read told
 calls_tell v im (calls.Rename p q) rule b read whole told = path_told v im (calls.Rename p q) rule b read told

@@ -1,5 +1,5 @@
 -- A block that is needed lies out of the device: its number stands in a block that is wrong.
-use Rattle.std.proofs.Common.{◌≡◌, ◌≢◌, ℕ, ◌+◌, ◌*◌, ◌≤◌, ◌⊎◌, inl, inr, List, [], Option, None, Some, refl, sym, ap, ◌∙◌, subst, arith}
+use Rattle.std.proofs.Common.{◌≡◌, ◌≢◌, ℕ, ◌+◌, ◌*◌, ◌≤◌, ◌⊎◌, inl, inr, List, [], length, Option, None, Some, refl, sym, ap, ◌∙◌, subst, arith}
 use Rattle.std.proofs.lemmas.Bool.{cases_eq, cond-true, cond-false, eq-eqb, ne_eqb}
 use Rattle.std.specs.Prelude.{false, ◌==◌, if◌then◌else◌}
 use Rattle.call_locks.specs.declared.want.Want.{Want}
@@ -28,6 +28,9 @@ use Rattle.making_calls.specs.Making as making
 use Rattle.path_walks.specs.Walks.{LeadsTo, IsNext, the_root, the_child, IsUnread}
 use Rattle.read_calls.specs.Reading as reading
 use Rattle.removing_calls.specs.Removing as removing
+use Rattle.writing_calls.specs.Writing as writing
+use Rattle.file_changes.specs.Drafting.{IsNeededAt, of_any, of_group, of_inode}
+use Rattle.growth_drafts.specs.Taken.{IsCutAt, IsLookedAt}
 use Rattle.damage_laws.specs.Telling.{IsReadFrom, HasWholeGroups, IsBrokenSource, NeedsTell, source_of}
 use Rattle.damage_laws.proofs.Claimed.{shown, root_claimed, led_there}
 use Rattle.damage_laws.proofs.Calls.{led_inside}
@@ -135,6 +138,17 @@ module _ (v : Seen) (im : Image) (read : IsReadFrom v im) (whole : HasWholeGroup
   making_out call m (making.on_path unread) out = unread_out (wanted call) (making.directory_path call) m unread out
   making_out call m (making.of_group gets needed) out = absurd (omega (arith, out, whole.headers needed.group m.block needed.has needed.missing.own))
 
+  file_out : (wants : List Want) (path : Path) (a : ℕ) (W : Holding → ℕ → Type 0) (blocks : List ℕ) (m : Missing) → LeadsTo v wants path a → IsNeededAt v a W blocks m → im.count ≤ m.block → IsBrokenSource v im (source_of im.size m)
+  file_out wants path a W blocks m leads (of_inode needs) out = needed_out wants path a m leads W 0 needs out
+  file_out wants path a W blocks m leads (of_any needs) out = needed_out wants path a m leads (λ h. AnyIndex) 1 needs out
+  file_out wants path a W blocks m leads (of_group needs) out = absurd (omega (arith, out, whole.headers needs.0 m.block needs.1 needs.2.3.block.own))
+
+  writing_out : (call : Call) (m : Missing) → writing.IsNeededFor v call m → im.count ≤ m.block → IsBrokenSource v im (source_of im.size m)
+  writing_out call m (writing.on_path unread) out = unread_out (wanted call) (path_of call false) m unread out
+  writing_out call m (writing.of_write a at new blocks changes puts needs) out = file_out (wanted call) (path_of call false) a (λ h. IsLookedAt h at (at + length new)) blocks m changes.at.leads needs out
+  writing_out call m (writing.of_cut a size blocks changes cuts needs) out = file_out (wanted call) (path_of call false) a (λ h. IsCutAt h size) blocks m changes.at.leads needs out
+  writing_out call m (writing.of_room a changes needed) out = absurd (omega (arith, out, whole.headers needed.group m.block needed.has needed.missing.own))
+
 pub needs_tell : NeedsTell
 needs_tell v im (calls.Create p) m read whole needs out = making_out v im read whole (calls.Create p) m needs out
 needs_tell v im (calls.Mkdir p) m read whole needs out = making_out v im read whole (calls.Mkdir p) m needs out
@@ -144,9 +158,8 @@ needs_tell v im (calls.Read p at n) m read whole (reading.on_path unread) out = 
 needs_tell v im (calls.Read p at n) m read whole (reading.at_end a leads asked) out = needed_out v im read whole (wanted (calls.Read p at n)) (path_of (calls.Read p at n) false) a m leads (λ h. IsInRange h at n) 0 (λ h shown. (asked h shown).1) out
 needs_tell v im (calls.Dread p at n) m read whole (reading.on_path unread) out = unread_out v im read whole (wanted (calls.Dread p at n)) (path_of (calls.Dread p at n) false) m unread out
 needs_tell v im (calls.Dread p at n) m read whole (reading.at_end a leads asked) out = needed_out v im read whole (wanted (calls.Dread p at n)) (path_of (calls.Dread p at n) false) a m leads (λ h. IsInRange h at n) 0 (λ h shown. (asked h shown).1) out
-needs_tell v im (calls.Write p at bytes) m read whole needs out = unread_out v im read whole (wanted (calls.Write p at bytes)) (path_of (calls.Write p at bytes) false) m needs out
-needs_tell v im (calls.Truncate p n) m read whole (reading.on_path unread) out = unread_out v im read whole (wanted (calls.Truncate p n)) (path_of (calls.Truncate p n) false) m unread out
-needs_tell v im (calls.Truncate p n) m read whole (reading.at_end a leads asked) out = absurd asked
+needs_tell v im (calls.Write p at bytes) m read whole needs out = writing_out v im read whole (calls.Write p at bytes) m needs out
+needs_tell v im (calls.Truncate p n) m read whole needs out = writing_out v im read whole (calls.Truncate p n) m needs out
 needs_tell v im (calls.Stat p) m read whole (reading.on_path unread) out = unread_out v im read whole (wanted (calls.Stat p)) (path_of (calls.Stat p) false) m unread out
 needs_tell v im (calls.Stat p) m read whole (reading.at_end a leads asked) out = absurd asked
 needs_tell v im (calls.List p) m read whole (reading.on_path unread) out = unread_out v im read whole (wanted (calls.List p)) (path_of (calls.List p) false) m unread out

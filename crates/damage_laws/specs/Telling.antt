@@ -74,13 +74,13 @@ InodesAreThere = (v : Seen) (im : Image) (wants : List Want) (names : Path) (a :
 abbrev pub PathsTell : Type 0
 PathsTell = (v : Seen) (im : Image) (wants : List Want) (names : Path) (rule b : ℕ) → IsReadFrom v im → path.IsDamage v wants names rule b → Breaks im rule b
 
--- damage that a write meets
+-- damage that a change of a file's content meets
 abbrev pub WritesTell : Type 0
-WritesTell = (v : Seen) (im : Image) (call : Call) (rule b : ℕ) → IsReadFrom v im → writing.IsDamage v call rule b → IsTold v im rule b
+WritesTell = (v : Seen) (im : Image) (call : Call) (rule b : ℕ) → IsReadFrom v im → HasWholeGroups v im → writing.IsDamage v call rule b → IsTold v im rule b
 
 -- and where the root is in a group, as itself
 abbrev pub WritesTellExactly : Type 0
-WritesTellExactly = (v : Seen) (im : Image) (call : Call) (rule b : ℕ) → IsReadFrom v im → HasRootInside v → writing.IsDamage v call rule b → Breaks im rule b
+WritesTellExactly = (v : Seen) (im : Image) (call : Call) (rule b : ℕ) → IsReadFrom v im → HasWholeGroups v im → HasRootInside v → writing.IsDamage v call rule b → Breaks im rule b
 
 -- damage that the removal of a name meets
 abbrev pub RemovalsTell : Type 0

@@ -1,5 +1,5 @@
 -- A block that a call asks for.
-use Rattle.std.proofs.Common.{◌≡◌, ℕ, ◌<◌, ◌≤◌, Bool, true, false, List, [], ◌∷◌, length, None, Some, inl, inr, refl, sym, ap, ◌∙◌, subst, arith, true≢false}
+use Rattle.std.proofs.Common.{◌≡◌, ℕ, ◌+◌, ◌<◌, ◌≤◌, Bool, true, false, List, [], ◌∷◌, length, None, Some, inl, inr, refl, sym, ap, ◌∙◌, subst, arith, true≢false}
 use Rattle.std.proofs.lemmas.Bool.{cases_Bool, cases_lt}
 use Rattle.std.specs.Prelude.{Option, Contains, ◌&&◌, ◌==◌, not}
 use Rattle.std.specs.List.{AllByRecursion, list_any}
@@ -32,8 +32,8 @@ use Rattle.making_calls.specs.Making as making
 use Rattle.path_walks.specs.Holds.{Hold, holds_in, IsUnder}
 use Rattle.removing_calls.specs.Removing.{IsRemoving, holds_for}
 use Rattle.removing_calls.specs.Removing as removing
-use Rattle.writing_calls.proofs.Alone.{none_freed as none_freed_by}
-use Rattle.path_walks.proofs.Lying.{data_lies}
+use Rattle.file_changes.specs.Drafting.{IsNeededAt, of_any, of_group, of_inode}
+use Rattle.growth_drafts.specs.Taken.{IsCutAt, IsLookedAt}
 
 -- a view shows each inode
 abbrev ShowsEach : Seen → Type 0
@@ -112,18 +112,6 @@ module _ (change : Change) (is : is_nothing change ≡ true) where
   pub nothing_inside : (v : Seen) → AreInside v change
   nothing_inside v = subst (AllByRecursion (IsInside v)) (sym no_blocks) tt
 
--- one that frees nothing touches the locks that are told with it
-pub all_under : (o : Owners) (list : List Hold) (change : Change) → change.freed.items ≡ [] → writing.AreUnder list change → IsUnder o list change
-all_under o list change none all = record {
-  written = λ lock has. All-contains (λ (lock : LockName). Contains list (record { lock = lock; state = Ex })) change.locks.items lock (All-from_recursion (λ (lock : LockName). Contains list (record { lock = lock; state = Ex })) change.locks.items all) has;
-  freed = λ b a freed was. absurd (true≢false (sym freed ∙ ap (list_any (λ f. f == b)) none));
-}
-
--- a data block lies in its group
-pub data_inside : (v : Seen) (ws : List Written) → IsView v → AllByRecursion (writing.IsInside v) ws → AllByRecursion (IsInside v) ws
-data_inside v [] view all = tt
-data_inside v (w ∷ ws) view all = (record { whole = all.0.whole; inside = data_lies v w.block view all.0.inside }, data_inside v ws view all.1)
-
 -- ---- the lists of locks
 
 module _ (im : Image) (o : Owners) (l : Layout) (t : Tree) (node : ℕ) where
@@ -141,8 +129,9 @@ module _ (im : Image) (o : Owners) (l : Layout) (t : Tree) (node : ℕ) where
   reading_holds (call.Rename p q) is = absurd is
   reading_holds call.Sync is = absurd is
 
-  pub writing_holds : (c : Call) → writing.IsWriting c → call_holds im o l t c node ≡ writing.call_holds im o l c
+  pub writing_holds : (c : Call) → writing.IsWriting c → call_holds im o l t c node ≡ writing.call_holds im o l t c node
   writing_holds (call.Write p at new) is = refl
+  writing_holds (call.Truncate p size) is = refl
   writing_holds call.Sync is = refl
   writing_holds (call.Read p at count) is = absurd is
   writing_holds (call.Stat p) is = absurd is
@@ -152,7 +141,6 @@ module _ (im : Image) (o : Owners) (l : Layout) (t : Tree) (node : ℕ) where
   writing_holds (call.Unlink p) is = absurd is
   writing_holds (call.Rmdir p) is = absurd is
   writing_holds (call.Dread p at count) is = absurd is
-  writing_holds (call.Truncate p size) is = absurd is
   writing_holds (call.Rename p q) is = absurd is
 
   pub removing_holds : (c : Call) → IsRemoving c → call_holds im o l t c node ≡ holds_for im o l t c
@@ -194,38 +182,32 @@ removing_inside v c r change does inside = elim (cases_Bool (is_ok r)) [
 
 -- ---- a call that writes
 
-and_false : (b : Bool) → b && false ≡ false
-and_false true = refl
-and_false false = refl
+asked_absent : (v : Seen) (a : ℕ) (wanted : Holding → ℕ → Type 0) (blocks : List ℕ) (m : Missing) → ShowsEach v → IsNeededAt v a wanted blocks m → v.block_at m.block ≡ None
+asked_absent v a wanted blocks m shows (of_inode asks) = let s = shows a in (asks s.0 s.1).absent
+asked_absent v a wanted blocks m shows (of_any asks) = let s = shows a in (asks s.0 s.1).absent
+asked_absent v a wanted blocks m shows (of_group asks) = asks.2.3.block.absent
 
-pub writing_under : (v : Seen) (o : Owners) (list : List Hold) (c : Call) (time : ℕ) (r : Reply) (change : Change) → writing.IsWriting c → Does v c r change
-    → writing.IsAnswered v c time r change → writing.AreUnder list change → IsUnder o list change
-writing_under v o list call.Sync time r change is does answered under = nothing_under change (does.tells ∙ ap not (and_false (is_ok r))) o list does.form
-writing_under v o list (call.Write p at new) time r change is does answered under = by r does answered
-  where
-    by : (r : Reply) → Does v (call.Write p at new) r change → writing.IsAnswered v (call.Write p at new) time r change → IsUnder o list change
-    by reply.Ok does written = all_under o list change (none_freed_by v written.0 at new time change written.3) under
-    by (reply.Bytes bytes) does refused = nothing_under change (refused_nothing v (call.Write p at new) (reply.Bytes bytes) change does refl) o list does.form
-    by (reply.Stat kind size) does refused = nothing_under change (refused_nothing v (call.Write p at new) (reply.Stat kind size) change does refl) o list does.form
-    by (reply.Names names) does refused = nothing_under change (refused_nothing v (call.Write p at new) (reply.Names names) change does refl) o list does.form
-    by reply.NotFound does refused = nothing_under change (refused_nothing v (call.Write p at new) reply.NotFound change does refl) o list does.form
-    by reply.NotDir does refused = nothing_under change (refused_nothing v (call.Write p at new) reply.NotDir change does refl) o list does.form
-    by reply.IsDir does refused = nothing_under change (refused_nothing v (call.Write p at new) reply.IsDir change does refl) o list does.form
-    by reply.Exists does refused = nothing_under change (refused_nothing v (call.Write p at new) reply.Exists change does refl) o list does.form
-    by reply.NotEmpty does refused = nothing_under change (refused_nothing v (call.Write p at new) reply.NotEmpty change does refl) o list does.form
-    by reply.Inside does refused = nothing_under change (refused_nothing v (call.Write p at new) reply.Inside change does refl) o list does.form
-    by reply.TooBig does refused = nothing_under change (refused_nothing v (call.Write p at new) reply.TooBig change does refl) o list does.form
-    by reply.NoSpace does refused = nothing_under change (refused_nothing v (call.Write p at new) reply.NoSpace change does refl) o list does.form
-writing_under v o list (call.Read p at count) time r change is does answered under = absurd is
-writing_under v o list (call.Stat p) time r change is does answered under = absurd is
-writing_under v o list (call.List p) time r change is does answered under = absurd is
-writing_under v o list (call.Create p) time r change is does answered under = absurd is
-writing_under v o list (call.Mkdir p) time r change is does answered under = absurd is
-writing_under v o list (call.Unlink p) time r change is does answered under = absurd is
-writing_under v o list (call.Rmdir p) time r change is does answered under = absurd is
-writing_under v o list (call.Dread p at count) time r change is does answered under = absurd is
-writing_under v o list (call.Truncate p size) time r change is does answered under = absurd is
-writing_under v o list (call.Rename p q) time r change is does answered under = absurd is
+pub writing_absent : (v : Seen) (c : Call) (m : Missing) → ShowsEach v → writing.IsNeededFor v c m → v.block_at m.block ≡ None
+writing_absent v c m shows (writing.on_path unread) = unread.absent
+writing_absent v c m shows (writing.of_write a at new blocks changes puts asks) = asked_absent v a (λ h. IsLookedAt h at (at + length new)) blocks m shows asks
+writing_absent v c m shows (writing.of_cut a size blocks changes cuts asks) = asked_absent v a (λ h. IsCutAt h size) blocks m shows asks
+writing_absent v c m shows (writing.of_room a changes asks) = asks.missing.absent
+
+-- its want of space is the one that is told of every call
+module _ (v : Seen) (im : Image) (o : Owners) (l : Layout) (t : Tree) (need free : ℕ) where
+  pub writing_few : (c : Call) → writing.IsWriting c → writing.IsTooFew v im o l t c need free → IsTooFew v im o l t c need free
+  writing_few (call.Write p at new) is few = few
+  writing_few (call.Truncate p size) is few = few
+  writing_few call.Sync is few = absurd (omega (arith, few.needs, few.fewer))
+  writing_few (call.Read p at count) is few = absurd is
+  writing_few (call.Stat p) is few = absurd is
+  writing_few (call.List p) is few = absurd is
+  writing_few (call.Create p) is few = absurd is
+  writing_few (call.Mkdir p) is few = absurd is
+  writing_few (call.Unlink p) is few = absurd is
+  writing_few (call.Rmdir p) is few = absurd is
+  writing_few (call.Dread p at count) is few = absurd is
+  writing_few (call.Rename p q) is few = absurd is
 
 -- ---- a call that makes a name
 

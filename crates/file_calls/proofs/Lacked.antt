@@ -19,6 +19,7 @@ use Rattle.path_walks.specs.Holds.{holds}
 use Rattle.path_walks.specs.Walks.{IsLacked}
 use Rattle.making_calls.specs.Making as making
 use Rattle.removing_calls.specs.Removing as removing
+use Rattle.writing_calls.specs.Writing as writing
 use Rattle.file_calls.specs.Calls.{IsLackedFor}
 
 abbrev IsNotHeld : Seen → LockName → State → Type 0
@@ -35,6 +36,12 @@ remove_lacks : (v : Seen) (call : Call) (lock : LockName) (state : State) → re
 remove_lacks v call lock state (removing.on_path s is) = walk_lacks v (wanted call) (path_of call false) lock s is
 remove_lacks v call lock state (removing.of_group a blocks taken all is) = ap (λ (l : LockName). holds v (record { lock = l; state = Ex })) is.is ∙ is.lacks
 
+write_lacks : (v : Seen) (call : Call) (node : ℕ) (lock : LockName) (state : State) → writing.IsLackedFor v call node lock state → IsNotHeld v lock state
+write_lacks v call node lock state (writing.on_path is) = walk_lacks v (wanted call) (path_of call false) lock state is
+write_lacks v call node lock state (writing.of_room a at new need own changes puts needs of_node lacks first) = lacks
+write_lacks v call node lock state (writing.of_freed a size time freed fates changes cuts draft is exclusive) =
+    ap (λ (s : State). holds v (record { lock = lock; state = s })) exclusive ∙ ap (λ (l : LockName). holds v (record { lock = l; state = Ex })) is.is ∙ is.lacks
+
 lacks_by : (v : Seen) (call : Call) (node : ℕ) (lock : LockName) (state : State) → IsLackedFor v call node lock state → IsNotHeld v lock state
 lacks_by v (calls.Create path) node lock state is = make_lacks v (calls.Create path) node lock state is
 lacks_by v (calls.Mkdir path) node lock state is = make_lacks v (calls.Mkdir path) node lock state is
@@ -42,8 +49,8 @@ lacks_by v (calls.Unlink path) node lock state is = remove_lacks v (calls.Unlink
 lacks_by v (calls.Rmdir path) node lock state is = remove_lacks v (calls.Rmdir path) lock state is
 lacks_by v (calls.Read path at count) node lock state is = walk_lacks v (wanted (calls.Read path at count)) path lock state is
 lacks_by v (calls.Dread path at count) node lock state is = walk_lacks v (wanted (calls.Dread path at count)) path lock state is
-lacks_by v (calls.Write path at new) node lock state is = walk_lacks v (wanted (calls.Write path at new)) path lock state is
-lacks_by v (calls.Truncate path size) node lock state is = walk_lacks v (wanted (calls.Truncate path size)) path lock state is
+lacks_by v (calls.Write path at new) node lock state is = write_lacks v (calls.Write path at new) node lock state is
+lacks_by v (calls.Truncate path size) node lock state is = write_lacks v (calls.Truncate path size) node lock state is
 lacks_by v (calls.Stat path) node lock state is = walk_lacks v (wanted (calls.Stat path)) path lock state is
 lacks_by v (calls.List path) node lock state is = walk_lacks v (wanted (calls.List path)) path lock state is
 lacks_by v (calls.Rename path to) node lock state is = walk_lacks v (wanted (calls.Rename path to)) (path_of (calls.Rename path to) false) lock state is

@@ -9,6 +9,7 @@ use Rattle.image_model.specs.Owners.{Owners}
 use Rattle.image_model.specs.Stands.{Layout}
 use Rattle.making_calls.specs.Making as making
 use Rattle.removing_calls.specs.Removing as removing
+use Rattle.writing_calls.specs.Writing as writing
 use Rattle.file_calls.specs.Answers.{IsFullFor, IsMadeOf}
 
 pub making_full : (v : Seen) (c : Call) → making.IsMaking c → (need free : ℕ) → making.IsFullFor v c need free → IsFullFor v c need free
@@ -24,6 +25,20 @@ making_full v (call.Write p at new) is need free full = absurd is
 making_full v (call.Truncate p size) is need free full = absurd is
 making_full v (call.Rename p q) is need free full = absurd is
 making_full v call.Sync is need free full = absurd is
+
+pub writing_full : (v : Seen) (need free : ℕ) (c : Call) → writing.IsWriting c → writing.IsFullFor v c need free → IsFullFor v c need free
+writing_full v need free (call.Write p at new) is full = full
+writing_full v need free (call.Truncate p size) is full = full
+writing_full v need free call.Sync is full = absurd full.edits
+writing_full v need free (call.Create p) is full = absurd is
+writing_full v need free (call.Mkdir p) is full = absurd is
+writing_full v need free (call.Read p at count) is full = absurd is
+writing_full v need free (call.Dread p at count) is full = absurd is
+writing_full v need free (call.Stat p) is full = absurd is
+writing_full v need free (call.List p) is full = absurd is
+writing_full v need free (call.Unlink p) is full = absurd is
+writing_full v need free (call.Rmdir p) is full = absurd is
+writing_full v need free (call.Rename p q) is full = absurd is
 
 module _ (im : Image) (o : Owners) (l : Layout) (node time : ℕ) (change : Change) where
   pub making_made : (c : Call) → making.IsMaking c → making.IsMade im o l c node time change → making.IsStamped im o l c time change → IsMadeOf im o l c node time change

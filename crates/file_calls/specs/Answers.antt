@@ -22,14 +22,17 @@ IsAnswered seen view (calls.Create path) node time reply change = making.IsAnswe
 IsAnswered seen view (calls.Mkdir path) node time reply change = making.IsAnswered (seen view) (calls.Mkdir path) node time reply change
 IsAnswered seen view (calls.Unlink path) node time reply change = removing.IsAnswered seen view (calls.Unlink path) time reply change
 IsAnswered seen view (calls.Rmdir path) node time reply change = removing.IsAnswered seen view (calls.Rmdir path) time reply change
-IsAnswered seen view (calls.Write path at new) node time reply change = writing.IsAnswered (seen view) (calls.Write path at new) time reply change
-IsAnswered seen view calls.Sync node time reply change = writing.IsAnswered (seen view) calls.Sync time reply change
+IsAnswered seen view (calls.Write path at new) node time reply change = writing.IsAnswered (seen view) (calls.Write path at new) node time reply change
+IsAnswered seen view (calls.Truncate path size) node time reply change = writing.IsAnswered (seen view) (calls.Truncate path size) node time reply change
+IsAnswered seen view calls.Sync node time reply change = writing.IsAnswered (seen view) calls.Sync node time reply change
 IsAnswered seen view call node time reply change = reading.IsAnswered (seen view) call reply
 
--- too few blocks are free for the call, as far as the view shows: `create` and `mkdir` alone take one
+-- too few blocks are free for the call, as far as the view shows: `create` and `mkdir` take one, `write` and `truncate` what the file's content does
 abbrev pub IsFullFor : Seen → Call → ℕ → ℕ → Type 0
 IsFullFor v (calls.Create path) need free = making.IsFullFor v (calls.Create path) need free
 IsFullFor v (calls.Mkdir path) need free = making.IsFullFor v (calls.Mkdir path) need free
+IsFullFor v (calls.Write path at new) need free = writing.IsFullFor v (calls.Write path at new) need free
+IsFullFor v (calls.Truncate path size) need free = writing.IsFullFor v (calls.Truncate path size) need free
 IsFullFor v call need free = ⊥
 
 -- ---- in an image that the view may be of

@@ -14,15 +14,15 @@ use Rattle.image_model.specs.Owners.{Owners}
 use Rattle.image_model.specs.Stands.{Layout}
 use Rattle.making_calls.specs.Making as making
 use Rattle.path_walks.specs.Holds.{Hold, holds_in}
-use Rattle.path_walks.specs.Walks.{IsLacked, IsUnread}
+use Rattle.path_walks.specs.Walks.{IsLacked}
 use Rattle.path_walks.specs.Walks as path
 use Rattle.read_calls.specs.Reading as reading
 use Rattle.removing_calls.specs.Removing as removing
 use Rattle.writing_calls.specs.Writing as writing
 
--- the call is built: today all but those that cut or grow a file, or move a name
+-- the call is built: today all but that which moves a name
 abbrev pub IsBuilt : Call → Type 0
-IsBuilt (calls.Truncate path size) = ⊥
+IsBuilt (calls.Truncate path size) = Unit {0}
 IsBuilt (calls.Rename path to) = ⊥
 IsBuilt (calls.Create path) = Unit {0}
 IsBuilt (calls.Mkdir path) = Unit {0}
@@ -38,36 +38,45 @@ IsBuilt calls.Sync = Unit {0}
 -- ---- locks
 
 -- the locks that the call takes in an image, in their order: those of the inodes on its path; where a name is made those under which a
--- free block is found, and of the new inode; and where one is removed those of the groups that have the inode's blocks
+-- free block is found, and of the new inode; where one is removed those of the groups that have the inode's blocks; and where a file's content
+-- changes those of the groups in which free blocks are found, or that have the blocks that go
 abbrev pub call_holds : Image → Owners → Layout → Tree → Call → ℕ → List Hold
 call_holds im o l t (calls.Create path) node = making.call_holds im o l t (calls.Create path) node
 call_holds im o l t (calls.Mkdir path) node = making.call_holds im o l t (calls.Mkdir path) node
 call_holds im o l t (calls.Unlink path) node = removing.holds_for im o l t (calls.Unlink path)
 call_holds im o l t (calls.Rmdir path) node = removing.holds_for im o l t (calls.Rmdir path)
+call_holds im o l t (calls.Write path at new) node = writing.call_holds im o l t (calls.Write path at new) node
+call_holds im o l t (calls.Truncate path size) node = writing.call_holds im o l t (calls.Truncate path size) node
+call_holds im o l t calls.Sync node = writing.call_holds im o l t calls.Sync node
 call_holds im o l t call node = holds_in im o l (path_of call false) (wanted call)
 
 -- too few blocks are free for the call, which takes some
 abbrev pub IsTooFew : Seen → Image → Owners → Layout → Tree → Call → ℕ → ℕ → Type 0
 IsTooFew v im o l t (calls.Create path) need free = making.IsTooFew v im o l t (calls.Create path) need free
 IsTooFew v im o l t (calls.Mkdir path) need free = making.IsTooFew v im o l t (calls.Mkdir path) need free
+IsTooFew v im o l t (calls.Write path at new) need free = writing.IsTooFew v im o l t (calls.Write path at new) need free
+IsTooFew v im o l t (calls.Truncate path size) need free = writing.IsTooFew v im o l t (calls.Truncate path size) need free
 IsTooFew v im o l t call need free = ⊥
 
 -- ---- as far as the view shows
 
--- this lock isn't held so strongly, and comes next: on the path; of those under which a name is made; or of a group that has blocks of the inode
--- that goes
+-- this lock isn't held so strongly, and comes next: on the path; of those under which a name is made, or a file gets blocks; or of a group that
+-- has blocks which go
 abbrev pub IsLackedFor : Seen → Call → ℕ → LockName → State → Type 0
 IsLackedFor v (calls.Create path) node lock state = making.IsLackedFor v (calls.Create path) node lock state
 IsLackedFor v (calls.Mkdir path) node lock state = making.IsLackedFor v (calls.Mkdir path) node lock state
 IsLackedFor v (calls.Unlink path) node lock state = removing.IsLackedFor v (calls.Unlink path) lock state
 IsLackedFor v (calls.Rmdir path) node lock state = removing.IsLackedFor v (calls.Rmdir path) lock state
+IsLackedFor v (calls.Write path at new) node lock state = writing.IsLackedFor v (calls.Write path at new) node lock state
+IsLackedFor v (calls.Truncate path size) node lock state = writing.IsLackedFor v (calls.Truncate path size) node lock state
 IsLackedFor v call node lock state = IsLacked v (wanted call) (path_of call false) lock state
 
 -- a block without which the call isn't answered
 abbrev pub IsNeededFor : Seen → Call → Missing → Type 0
 IsNeededFor v (calls.Create path) m = making.IsNeededFor v (calls.Create path) m
 IsNeededFor v (calls.Mkdir path) m = making.IsNeededFor v (calls.Mkdir path) m
-IsNeededFor v (calls.Write path at new) m = IsUnread v (wanted (calls.Write path at new)) path m
+IsNeededFor v (calls.Write path at new) m = writing.IsNeededFor v (calls.Write path at new) m
+IsNeededFor v (calls.Truncate path size) m = writing.IsNeededFor v (calls.Truncate path size) m
 IsNeededFor v (calls.Unlink path) m = removing.IsNeededFor v (calls.Unlink path) m
 IsNeededFor v (calls.Rmdir path) m = removing.IsNeededFor v (calls.Rmdir path) m
 IsNeededFor v call m = reading.IsNeededFor v call m
@@ -77,6 +86,7 @@ abbrev pub IsDamage : Seen → Call → ℕ → ℕ → Type 0
 IsDamage v (calls.Create path) rule b = making.IsDamage v (calls.Create path) rule b
 IsDamage v (calls.Mkdir path) rule b = making.IsDamage v (calls.Mkdir path) rule b
 IsDamage v (calls.Write path at new) rule b = writing.IsDamage v (calls.Write path at new) rule b
+IsDamage v (calls.Truncate path size) rule b = writing.IsDamage v (calls.Truncate path size) rule b
 IsDamage v (calls.Unlink path) rule b = removing.IsDamage v (calls.Unlink path) rule b
 IsDamage v (calls.Rmdir path) rule b = removing.IsDamage v (calls.Rmdir path) rule b
 IsDamage v call rule b = path.IsDamage v (wanted call) (path_of call false) rule b
@@ -86,14 +96,16 @@ abbrev pub IsHashed : Seen → Call → ℕ → Type 0
 IsHashed v (calls.Create path) b = making.IsHashedFor v (calls.Create path) b
 IsHashed v (calls.Mkdir path) b = making.IsHashedFor v (calls.Mkdir path) b
 IsHashed v (calls.Write path at new) b = writing.IsHashedFor v (calls.Write path at new) b
+IsHashed v (calls.Truncate path size) b = writing.IsHashedFor v (calls.Truncate path size) b
 IsHashed v (calls.Unlink path) b = removing.IsHashedFor v (calls.Unlink path) b
 IsHashed v (calls.Rmdir path) b = removing.IsHashedFor v (calls.Rmdir path) b
 IsHashed v call b = reading.IsHashedFor v call b
 
--- what the call has to do isn't built yet: to put a name into a linear directory that has no room for it, or to write content of a file that
--- isn't in its dinode's block, or wouldn't be
+-- what the call has to do isn't built yet: to put a name into a linear directory that has no room for it; or it would change a file that isn't
+-- sound in itself, which none is in an image that stands for a tree
 abbrev pub IsUnbuilt : Seen → Call → Type 0
 IsUnbuilt v (calls.Create path) = making.IsUnbuilt v (calls.Create path)
 IsUnbuilt v (calls.Mkdir path) = making.IsUnbuilt v (calls.Mkdir path)
 IsUnbuilt v (calls.Write path at new) = writing.IsUnbuilt v (calls.Write path at new)
+IsUnbuilt v (calls.Truncate path size) = writing.IsUnbuilt v (calls.Truncate path size)
 IsUnbuilt v call = ⊥

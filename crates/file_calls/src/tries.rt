@@ -1,6 +1,6 @@
 // A try of a file call.
 ghost use Rattle.std.specs.Prelude.{ℕ, ◌≡◌, ◌≢◌, ◌≤◌, ◌<◌, None, false, length};
-ghost use Rattle.file_tree.specs.Apply.{apply};
+ghost use Rattle.file_tree.specs.Apply.{TakesSpace, apply};
 ghost use Rattle.file_tree.specs.Tree.{Tree};
 ghost use Rattle.file_tree.specs.declared.reply.Reply.TheVariants.{NoSpace, Ok as OkReply};
 ghost use Rattle.glock_names.specs.Steps.{IfDamaged};
@@ -11,7 +11,6 @@ ghost use Rattle.image_model.specs.Stands.{Layout};
 ghost use Rattle.image_changes.specs.Does.{IsOf, Does, AreInside};
 ghost use Rattle.path_walks.specs.Answers.{IfDone, IfNeedLock, IfNeedBlock, IfNoSpace, IfHashed, IfNotBuilt};
 ghost use Rattle.path_walks.specs.Holds.{AreHeld, IsAskedFor, IsFirstLack, IsUnder, holds};
-ghost use Rattle.making_calls.specs.Making.{IsMaking};
 ghost use Rattle.writing_calls.specs.Writing.{IfSync, IsSynced};
 ghost use Rattle.file_calls.specs.Answers.{IsAnswered, IsFullFor, IsMadeIn};
 ghost use Rattle.file_calls.specs.Calls.{IsBuilt, IsDamage, IsHashed, IsLackedFor, IsNeededFor, IsTooFew, IsUnbuilt, call_holds};
@@ -44,7 +43,7 @@ pub fn attempt<V: View>(
     ensures full { IfNoSpace result (IsFullFor (V.seen view.now) call.now) }
     ensures fewer { IfNoSpace result (λ need free. free < need) }
     ensures spaceless { IfDone result (λ reply change. reply ≢ NoSpace) }
-    ensures roomless { IfNoSpace result (λ need free. IsMaking call.now) }
+    ensures roomless { IfNoSpace result (λ need free. TakesSpace call.now) }
     ensures answered { IfDone result (IsAnswered V.seen view.now call.now stamp.now.node stamp.now.time) }
     ensures made { (im : Image) (o : Owners) (l : Layout) (t : Tree) → IsOf (V.seen view.now) im o l t → IfDone result (λ reply change. IsMadeIn im o l call.now stamp.now.node stamp.now.time reply change) }
     ensures synced { IfSync call.now (IsSynced result) }
@@ -67,7 +66,9 @@ pub fn attempt<V: View>(
         }
         Call::Create(_) | Call::Mkdir(_) => making_calls::attempt(alloc, view, call, stamp),
         Call::Unlink(_) | Call::Rmdir(_) => removing_calls::attempt(alloc, view, call, stamp),
-        Call::Write(_, _, _) | Call::Sync => writing_calls::attempt(alloc, view, call, stamp),
+        Call::Write(_, _, _) | Call::Truncate(_, _) | Call::Sync => {
+            writing_calls::attempt(alloc, view, call, stamp)
+        }
         _ => unreachable!(),
     }
 }

@@ -177,7 +177,7 @@ pub drafts_do : DraftsDo
 drafts_do v call reply fates change finished changing some puts exclusive makes = record {
   form = d.form;
   tells = ap (λ e. e && is_empty change.freed.items) (some_written change.blocks.items some (d.puts some ∙ puts)) ∙ sym (ap not changing);
-  images = λ im o l t is. does_in v call reply fates exclusive im o l t (makes im o l t is) change finished is.stands;
+  images = λ im o l t is. does_in v call reply fates (exclusive im o l t is) im o l t (makes im o l t is) change finished is.stands;
 }
   where
     d : IsOfDraft fates change

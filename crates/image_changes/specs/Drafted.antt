@@ -99,13 +99,18 @@ pub record MakesIn (v : Seen) (call : Call) (reply : Reply) (fates : FinMap nat_
   pub held : (b : ℕ) → is_freed fates b ≡ true → IsHeld v l o b
   pub groups : GroupsAreWritten (is_put fates) (is_drafted fates) o owners
 
+-- in every image that the view may be of each lock with which a draft puts a block is held exclusive
+abbrev pub ArePutUnderHeld : Seen → FinMap nat_cmp Fate → Type 0
+ArePutUnderHeld v fates = (im : Image) (o : Owners) (l : Layout) (t : Tree) → IsOf v im o l t
+    → (b : ℕ) (lock : LockName) (plain : Bool) (bytes : List ℕ) → get fates b ≡ Some (Put lock plain bytes) → v.state_of lock ≡ Ex
+
 -- a changing call that was answered Ok, and whose draft, which puts some block, puts each with a lock that is held exclusive and makes
 -- one of the four changes in every image that the view may be of, does what it should
 abbrev pub DraftsDo : Type 0
 DraftsDo = (v : Seen) (call : Call) (reply : Reply) (fates : FinMap nat_cmp Fate) (change : Change) → IsFinished fates change
     → Changes (record { call = call; reply = reply }) ≡ true
     → (some : ℕ) → is_put fates some ≡ true
-    → ((b : ℕ) (lock : LockName) (plain : Bool) (bytes : List ℕ) → get fates b ≡ Some (Put lock plain bytes) → v.state_of lock ≡ Ex)
+    → ArePutUnderHeld v fates
     → ((im : Image) (o : Owners) (l : Layout) (t : Tree) → IsOf v im o l t → MakesIn v call reply fates im o l t)
     → Does v call reply change
 

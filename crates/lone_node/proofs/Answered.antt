@@ -35,7 +35,6 @@ use Rattle.drafts.specs.declared.attempt.Attempt.{Attempt}
 use Rattle.drafts.specs.declared.attempt.Attempt.TheVariants as attempts
 use Rattle.path_walks.specs.Answers.{IfDone}
 use Rattle.path_walks.specs.Holds.{IsUnder}
-use Rattle.making_calls.specs.Making.{IsMaking}
 use Rattle.file_calls.specs.Answers.{IsAnswered, IsMadeIn}
 use Rattle.file_calls.specs.Calls.{IsDamage, IsTooFew, call_holds}
 use Rattle.lone_node.specs.Course.{IsDoneBy}
@@ -223,21 +222,6 @@ is_done view node time call a r change is one does inside under spaced answered 
   made = λ im o l t of. subst (λ k. IsMadeIn im o l call k time r change) one (subst (λ x. IfDone (Ok x) (IsMadeIn im o l call node time)) is (made im o l t of));
 }
 
--- a call that makes a name takes space
-pub makes_takes : (c : Call) → IsMaking c → TakesSpace c
-makes_takes (calls.Create p) is = tt
-makes_takes (calls.Mkdir p) is = tt
-makes_takes (calls.Write p at new) is = absurd is
-makes_takes (calls.Truncate p size) is = absurd is
-makes_takes (calls.Rename p q) is = absurd is
-makes_takes (calls.Read p at count) is = absurd is
-makes_takes (calls.Stat p) is = absurd is
-makes_takes (calls.List p) is = absurd is
-makes_takes (calls.Unlink p) is = absurd is
-makes_takes (calls.Rmdir p) is = absurd is
-makes_takes (calls.Dread p at count) is = absurd is
-makes_takes calls.Sync is = absurd is
-
 -- a call for which there is no space leaves all as it is
 pub answered_full : (d : DiskState) (n : Lone) (call : Call) (need free : ℕ) → IsOn d n → TakesSpace call
     → ((im : Image) (o : Owners) (l : Layout) (t : Tree) → IsOf (seen_alone n) im o l t → IsTooFew (seen_alone n) im o l t call need free) → IsAnsweredFrom d d n call reply.NoSpace
@@ -249,8 +233,8 @@ answered_full d n call need free on takes few = record {
     taken_by : (v : Seen) (c : Call) (t : Tree) (need free : ℕ) → TakesSpace c → (im : Image) (o : Owners) (l : Layout) → IsTooFew v im o l t c need free → (apply c t).reply ≡ reply.Ok
     taken_by v (calls.Create p) t need free takes im o l few = few.taken
     taken_by v (calls.Mkdir p) t need free takes im o l few = few.taken
-    taken_by v (calls.Write p at new) t need free takes im o l few = absurd few
-    taken_by v (calls.Truncate p size) t need free takes im o l few = absurd few
+    taken_by v (calls.Write p at new) t need free takes im o l few = few.taken
+    taken_by v (calls.Truncate p size) t need free takes im o l few = few.taken
     taken_by v (calls.Rename p q) t need free takes im o l few = absurd few
     taken_by v (calls.Read p at count) t need free takes im o l few = absurd few
     taken_by v (calls.Stat p) t need free takes im o l few = absurd few

@@ -1,6 +1,7 @@
 -- The course of a run on the disk, step by step: each call is answered from what was read of the disk as it then is, and puts on it what its
 -- change writes, and nothing else.
 use Rattle.std.specs.Prelude.{ℕ, ◌≡◌, ◌≢◌, ◌+◌, ◌<◌, ◌≤◌, List, [], ◌∷◌, ◌++◌, length, map, slice_get, take, Option, None, Some}
+use Rattle.file_tree.specs.Apply.{TakesSpace}
 use Rattle.file_tree.specs.Tree.{Tree}
 use Rattle.file_tree.specs.declared.call.Call.{Call}
 use Rattle.file_tree.specs.declared.reply.Reply.{Reply}
@@ -12,7 +13,6 @@ use Rattle.image_model.specs.Owners.{Owners}
 use Rattle.image_model.specs.Stands.{Layout}
 use Rattle.image_changes.specs.Does.{AreInside, Does, IsOf}
 use Rattle.path_walks.specs.Holds.{IsUnder}
-use Rattle.making_calls.specs.Making.{IsMaking}
 use Rattle.file_calls.specs.Answers.{IsAnswered, IsFullFor, IsMadeIn}
 use Rattle.file_calls.specs.Calls.{IsTooFew, call_holds}
 use Rattle.shared_disk.specs.Disk.{DiskState, Operation, Write, Barrier, Gains}
@@ -51,10 +51,10 @@ pub record IsDoneBy (view : Lone) (time : ℕ) (call : Call) (reply : Reply) (ch
   pub answered : IsAnswered seen_alone view call 1 time reply change
   pub made : (im : Image) (o : Owners) (l : Layout) (t : Tree) → IsOf (seen_alone view) im o l t → IsMadeIn im o l call 1 time reply change
 
--- The call makes a name, and too few blocks are free for it, as the view shows: fewer than it needs, which is told of each image that the view may
--- be of.
+-- The call is one that takes blocks, and too few are free for it, as the view shows: fewer than it needs, which is told of each image that the view
+-- may be of.
 pub record IsSpaceless (view : Lone) (call : Call) (need free : ℕ) : Type 0 where
-  pub makes : IsMaking call
+  pub takes : TakesSpace call
   pub fewer : free < need
   pub shown : IsFullFor (seen_alone view) call need free
   pub few : (im : Image) (o : Owners) (l : Layout) (t : Tree) → IsOf (seen_alone view) im o l t → IsTooFew (seen_alone view) im o l t call need free

@@ -285,7 +285,7 @@ module _ (v : Seen) (c : Call) (is : IsMaking c) (p : Place) (name : List ℕ) (
       pub addition_does : ((im : Image) (o : Owners) (l : Layout) (t : Tree) → IsOf v im o l t → IsReachedIn v im o l c p)
           → ((im : Image) (o : Owners) (l : Layout) (t : Tree) → IsOf v im o l t → drafting.IsPlaceFor im o l (directory_path c) name p r) → Does v c Ok change
       addition_does reached place =
-          drafts_do v c Ok added.fates change added.finished (changes c is) r.group.addr added.some all_exclusive
+          drafts_do v c Ok added.fates change added.finished (changes c is) r.group.addr added.some (λ im o l t of. all_exclusive)
           (λ im o l t of. adding_makes v c added.fates im o l t (directory_path c) p.inode name r.block (new_tree (makes_directory c)) of (reached im o l t of).place.at
           (added.adds im o l t (directory_path c) of (place im o l t of))
           (taken_so im o l t of (reached im o l t of) ∙ ap (λ q. record { reply = Ok; tree = put_at q (new_tree (makes_directory c)) t }) (sym whole_path)))

@@ -139,7 +139,7 @@ module _ {V : Type 0} (seen : V → Seen) (view : V) (p : ℕ) (name : List ℕ)
       → ((im : Image) (o : Owners) (l : Layout) (t : Tree) → IsOf (seen view) im o l t → IsRemovedIn call front a im o l t) → Does (seen view) call Ok change
   removal_does call front a changing held has inside images =
       let put = is.freed.frees.counts inside.0 inside.1 (a, has, inside.2) in
-      drafts_do (seen view) call Ok is.freed.fates change is.freed.finished changing inside.0.addr (ap (λ f. is_some (block_with f None)) put.1) all_held
+      drafts_do (seen view) call Ok is.freed.fates change is.freed.finished changing inside.0.addr (ap (λ f. is_some (block_with f None)) put.1) (λ im o l t of. all_held)
       (λ im o l t of. let r = images im o l t of in
       removing_makes (seen view) call is.freed.fates im o l t front p name a of r.at r.at_a
       (removes seen view im o l t of front p name a r.at r.at_a r.record_is r.named r.childless r.plain blocks r.goes change is) held r.applies)

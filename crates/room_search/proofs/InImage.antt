@@ -1,7 +1,7 @@
 -- What a search for free blocks tells, in an image that the view may be of.
 use Rattle.std.proofs.Common.{◌≡◌, ℕ, zero, suc, ◌+◌, ◌<◌, ◌≤◌, ◌==◌, Bool, List, [], ◌∷◌, ◌++◌, length, map, slice_get, Some, refl, sym, ap, ap₂, subst, ◌∙◌, arith}
 use Rattle.std.proofs.lemmas.List.FromFn.{get_or-map-range_with_len}
-use Rattle.std.specs.Prelude.{nat_lt, if◌then◌else◌, filter, slice_index_or, take}
+use Rattle.std.specs.Prelude.{nat_lt, if◌then◌else◌, filter, slice_index_or, take, Contains}
 use Rattle.std.specs.List.{range_with_len}
 use Rattle.file_tree.specs.Tree.{Tree}
 use Rattle.gfs2_layout.specs.Groups.{count_of}
@@ -24,7 +24,7 @@ use Rattle.draft_changes.proofs.Rows.{state_said}
 use Rattle.draft_changes.proofs.Views.{groups_are_listed}
 use Rattle.path_walks.specs.Holds.{Hold, AreHeld, IsAskedFor, IsFirstLack, hold_of_group}
 use Rattle.room_search.specs.Blocks.{States, states_by, free_in, free_in_all, free_for, group_holds, group_of_node, blocks_with, holds_with, room_blocks, room_holds}
-use Rattle.room_search.specs.Searches.{AreShown, IsFoundIn, IsFreeUnder, IsGroupBlock, IsGroupBroken, IsTaken, IsUnder}
+use Rattle.room_search.specs.Searches.{AreShown, IsFoundIn, IsFreeUnder, IsGroupBlock, IsGroupBroken, IsListedUnder, IsTaken, IsUnder}
 use Rattle.room_search.specs.declared.search.Locked.{Locked}
 use Rattle.room_search.specs.declared.search.Locked.TheVariants as locked
 use Rattle.room_search.specs.declared.search.Taken.{Taken}
@@ -130,6 +130,19 @@ module _ (v : Seen) (im : Image) (o : Owners) (l : Layout) (t : Tree) (of : IsOf
         free = subst (λ k. said im.at k b ≡ 0) g.2 is.free;
       }
 
+  -- and its group's lock is of the list
+  listed_under : (list list' : List Hold) → list ≡ list' → (b : ℕ) → IsFreeUnder v (said im.at) list b → IsListedUnder l list' b
+  listed_under list list' same b is =
+      let g = (groups_are_listed v im o l t is.group of).0 is.has in
+      let first = ap (λ (k : Group). k.first) g.2 in
+      let count = ap (λ (k : Group). k.count) g.2 in
+      record {
+        group = g.0;
+        listed = g.1;
+        data_block = record { low = omega (arith, is.data_block.low, first); high = omega (arith, is.data_block.high, first, count) };
+        among = subst (λ (xs : List Hold). Contains xs (hold_of_group (group_of_entry g.0))) same (subst (λ (k : Group). Contains list (hold_of_group k)) g.2 is.listed);
+      }
+
   -- all groups are held where too few blocks are free
   pub found_in : (node : ℕ) (own : Group) (need : ℕ) (r : Locked Taken) → group_of_node v.groups node ≡ Some own → HasGroup v own
       → IsUnder v (group_holds (said im.at) v.groups own need) (IsTaken v (said im.at) v.groups own need) r → IsFoundIn v im o l node need r
@@ -140,6 +153,7 @@ module _ (v : Seen) (im : Image) (o : Owners) (l : Layout) (t : Tree) (of : IsOf
       many = found.1.many;
       rise = found.1.rise;
       free = λ b there. said_free (group_holds (said im.at) v.groups own need) b (found.1.each b there);
+      under = λ b there. listed_under (group_holds (said im.at) v.groups own need) (room_holds o l node need) (room_holds_are node own need is has) b (found.1.each b there);
     },
   )
   found_in node own need (locked.Is (taken.TooFew free)) is has found = (

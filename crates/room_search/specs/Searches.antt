@@ -6,6 +6,9 @@ use Rattle.glock_names.specs.declared.State.TheVariants.{Ex}
 use Rattle.glock_names.specs.declared.steps.Missing.{Missing}
 use Rattle.glock_names.specs.declared.views.Group.{Group}
 use Rattle.resource_groups.specs.Shown.{IsShown, IsMissing, IsDataOf, IsBroken}
+use Rattle.gfs2_layout.specs.declared.rindex.Rindex.{Rindex}
+use Rattle.image_model.specs.Groups as image
+use Rattle.image_model.specs.Groups.{IsListed}
 use Rattle.image_model.specs.Image.{Image}
 use Rattle.image_model.specs.Owners.{Owners}
 use Rattle.image_model.specs.Stands.{Layout}
@@ -110,12 +113,20 @@ IsTold v need (locked.NeedBlock m) = IsGroupNeeded v m
 
 -- ---- in an image that the view may be of
 
--- the blocks are those that the node takes, as many as are needed, and each is free by its group's bits
+-- the block is a data block of a listed group, whose lock is one of these
+pub record IsListedUnder (l : Layout) (list : List Hold) (b : ℕ) : Type 0 where
+  pub group : Rindex
+  pub listed : IsListed l.groups group
+  pub data_block : image.IsDataOf group b
+  pub among : Contains list (hold_of_group (group_of_entry group))
+
+-- the blocks are those that the node takes, as many as are needed, and each is free by its group's bits, under that group's lock
 pub record IsRoomIn (im : Image) (o : Owners) (l : Layout) (node need : ℕ) (blocks : List ℕ) : Type 0 where
   pub are : blocks ≡ room_blocks o l node need
   pub many : length blocks ≡ need
   pub rise : IsStrictlyIncreasing blocks
   pub free : (b : ℕ) → Contains blocks b → IsSaidFree im l b
+  pub under : (b : ℕ) → Contains blocks b → IsListedUnder l (room_holds o l node need) b
 
 -- so many blocks are free in all groups, each of whose locks is held, fewer than are needed
 pub record IsShortIn (v : Seen) (o : Owners) (l : Layout) (need free : ℕ) : Type 0 where

@@ -418,7 +418,7 @@ const FOREIGN: [(&[u8], Option<u32>); 26] = [
     (b"nodes 1\nclient c on 1\njoin 1\n", Some(3)),
     (b"nodes 1\nclient c on 1\nwait\njoin 1\nc: sync\n", Some(4)),
     (
-        b"nodes 1\nclient c on 1\nwait\nc: list /\nc: truncate /a 0\nwait\n",
+        b"nodes 1\nclient c on 1\nwait\nc: list /\nc: rename /a /b\nwait\n",
         Some(5),
     ),
     (
@@ -434,7 +434,7 @@ const FOREIGN: [(&[u8], Option<u32>); 26] = [
     (b"nodes 1\nclient c on 1\nc: unlink /a\n", None),
     (b"nodes 1\nclient c on 1\nc: rmdir /a\n", None),
     (b"nodes 1\nclient c on 1\nc: write /a 0 00\n", None),
-    (b"nodes 1\nclient c on 1\nc: truncate /a 0\n", Some(3)),
+    (b"nodes 1\nclient c on 1\nc: truncate /a 0\n", None),
     (b"nodes 1\nclient c on 1\nc: rename /a /b\n", Some(3)),
     (b"nodes 1\nclient c on 1\nc: sync\n", None),
     (b"nodes 8\nclient c on 8\nc: list /\n", Some(1)),

@@ -1,16 +1,15 @@
--- What a write finds at its path's end.
-use Rattle.std.proofs.Common.{◌≡◌, ◌+◌, ◌<◌, ◌≤◌, ℕ, Bool, true, false, List, length, sym, ap, ◌∙◌, subst, arith, refl, inl, inr}
-use Rattle.std.proofs.lemmas.Bool.{cond-true, lt-ltb}
-use Rattle.std.specs.Prelude.{nat_lt, IsErrAnd, Result}
-use Rattle.file_tree.specs.Apply.{Answer, apply, file_limit, overwritten, put_at, refuse, write_at}
-use Rattle.file_tree.specs.Tree.{Tree, file}
+-- What a call that changes a file's content finds at its path's end: why it is refused, and a write that stays in the dinode's block.
+use Rattle.std.proofs.Common.{◌≡◌, ◌+◌, ◌<◌, ◌≤◌, ℕ, Bool, true, false, List, length, sym, ap, ◌∙◌, subst, arith, refl}
+use Rattle.std.specs.Prelude.{IsErrAnd, Result}
+use Rattle.file_tree.specs.Apply.{apply, file_limit}
+use Rattle.file_tree.specs.Tree.{Tree}
 use Rattle.file_tree.specs.declared.call.Call.{Call}
 use Rattle.file_tree.specs.declared.reply.Reply.{Reply}
 use Rattle.file_tree.specs.declared.reply.Reply.TheVariants as reply
 use Rattle.cluster_history.specs.Changes.{is_ok}
 use Rattle.drafts.specs.declared.change.Change.{Change}
 use Rattle.gfs2_layout.specs.Holding.{Holding}
-use Rattle.gfs2_layout.specs.Inode.{dinode_in, is_directory_in, content_of}
+use Rattle.gfs2_layout.specs.Inode.{content_of, dinode_in, is_directory_in}
 use Rattle.gfs2_layout.specs.Structures.{dinode_length, is_directory}
 use Rattle.gfs2_layout.specs.declared.dinode.Dinode.{Dinode}
 use Rattle.glock_names.specs.Steps.{IfDamaged, TellsOf}
@@ -22,7 +21,6 @@ use Rattle.call_locks.specs.Wants.{wanted}
 use Rattle.call_locks.specs.WantLaws.{path_of}
 use Rattle.dinode_tree.specs.Broken.{IsBroken, too_large_for_dinode}
 use Rattle.dinode_tree.specs.Shown.{IsShown}
-use Rattle.dinode_tree.proofs.Sound.{some_is_shown}
 use Rattle.image_model.specs.Image.{Image}
 use Rattle.image_model.specs.Owners.{Owners, holding}
 use Rattle.image_model.specs.Stands.{Layout}
@@ -33,15 +31,14 @@ use Rattle.path_walks.specs.Walks as path
 use Rattle.path_walks.specs.Walks.{IsSeenAt, IsWalked, in_inode}
 use Rattle.path_walks.specs.declared.walk.Place.{Place}
 use Rattle.path_walks.specs.declared.walk.Walk.TheVariants.{At}
-use Rattle.path_walks.proofs.Leads.{leads_once}
 use Rattle.path_walks.proofs.Images.{is_shown, unbroken}
-use Rattle.read_calls.proofs.Trees.{wrong_damage}
-use Rattle.writing_calls.specs.Contents.{IsAimOf, NeedsBlocks, StaysStuffed}
-use Rattle.writing_calls.specs.Drafting.{IsWrite}
-use Rattle.writing_calls.specs.Writing.{IsAtEnd, IsDamage, IsOutside, IsRefused, IsUnbuilt, Writes, end_of, is_dir, on_path, too_big}
-use Rattle.writing_calls.specs.declared.aims.Aim.TheVariants as aim
-use Rattle.writing_calls.proofs.Doing.{call_taken, file_there, write_does}
 use Rattle.path_walks.proofs.Faults.{told_on}
+use Rattle.read_calls.proofs.Trees.{wrong_damage}
+use Rattle.writing_calls.specs.Contents.{IsAimOf, IsRefusedAim, StaysStuffed}
+use Rattle.writing_calls.specs.Drafting.{IsWrite}
+use Rattle.writing_calls.specs.Writing.{IsAtEnd, IsDamage, IsEdit, IsRefused, Writes, end_of, is_dir, on_path, too_big}
+use Rattle.writing_calls.specs.declared.aims.Aim.TheVariants as aim
+use Rattle.writing_calls.proofs.Doing.{edit_of_directory, file_there, too_long, write_does}
 
 -- an inode in which the content hasn't room is broken
 broken_so : (v : Seen) (a : ℕ) (d : Dinode) (h : Holding) → IsShown v a h → d ≡ dinode_in h → d.height ≡ 0 → v.size < dinode_length + d.size → IsBroken h 8 a
@@ -57,32 +54,29 @@ pub damage_told : {B : Type 0} (v : Seen) (c : Call) (r : Result B CallFault) (f
 damage_told v c r f is on = told_on (IsDamage v c) r f is (damage_on v c f on)
 
 -- what is refused isn't answered Ok, and doesn't tell of too few free blocks
-pub aim_refusal : (size : ℕ) (d : Dinode) (end : ℕ) (r : Reply) → IsAimOf size d end (aim.Refused r) → (is_ok r ≡ false) × HasSpace r
-aim_refusal size d end reply.IsDir is = (refl, tt)
-aim_refusal size d end reply.TooBig is = (refl, tt)
-aim_refusal size d end reply.Ok is = absurd is
-aim_refusal size d end (reply.Bytes bytes) is = absurd is
-aim_refusal size d end (reply.Stat kind count) is = absurd is
-aim_refusal size d end (reply.Names names) is = absurd is
-aim_refusal size d end reply.NotFound is = absurd is
-aim_refusal size d end reply.NotDir is = absurd is
-aim_refusal size d end reply.Exists is = absurd is
-aim_refusal size d end reply.NotEmpty is = absurd is
-aim_refusal size d end reply.Inside is = absurd is
-aim_refusal size d end reply.NoSpace is = absurd is
+pub aim_refusal : (d : Dinode) (end : ℕ) (r : Reply) → IsRefusedAim d end r → (is_ok r ≡ false) × HasSpace r
+aim_refusal d end reply.IsDir is = (refl, tt)
+aim_refusal d end reply.TooBig is = (refl, tt)
+aim_refusal d end reply.Ok is = absurd is
+aim_refusal d end (reply.Bytes bytes) is = absurd is
+aim_refusal d end (reply.Stat kind count) is = absurd is
+aim_refusal d end (reply.Names names) is = absurd is
+aim_refusal d end reply.NotFound is = absurd is
+aim_refusal d end reply.NotDir is = absurd is
+aim_refusal d end reply.Exists is = absurd is
+aim_refusal d end reply.NotEmpty is = absurd is
+aim_refusal d end reply.Inside is = absurd is
+aim_refusal d end reply.NoSpace is = absurd is
 
-module _ (v : Seen) (c : Call) (at : ℕ) (new : List ℕ) (p : Place) (writes : Writes c at new) (seen : IsSeenAt v (wanted c) (path_of c false) p) where
-  abbrev end : ℕ
-  end = at + length new
-
+module _ (v : Seen) (c : Call) (p : Place) (edit : IsEdit c) (seen : IsSeenAt v (wanted c) (path_of c false) p) where
   -- ---- as far as the view shows
 
   at_end : (b : Bool) → is_directory p.dinode ≡ b → IsAtEnd v c p.inode (λ h. is_directory_in h ≡ b)
   at_end b is = record { leads = seen.leads; there = seen.there; so = λ h shown. ap is_directory (sym (seen.dinode h shown)) ∙ is }
 
-  pub refused_told : (r : Reply) → IsAimOf v.size p.dinode end (aim.Refused r) → IsRefused v c r
+  pub refused_told : (r : Reply) → IsRefusedAim p.dinode (end_of c) r → IsRefused v c r
   refused_told reply.IsDir is = is_dir p.inode (at_end true is)
-  refused_told reply.TooBig is = too_big p.inode (at_end false is.0) (subst (λ n. file_limit < n) (sym (ap end_of writes)) is.1)
+  refused_told reply.TooBig is = too_big p.inode (at_end false is.0) is.1
   refused_told reply.Ok is = absurd is
   refused_told (reply.Bytes bytes) is = absurd is
   refused_told (reply.Stat kind size) is = absurd is
@@ -94,34 +88,8 @@ module _ (v : Seen) (c : Call) (at : ℕ) (new : List ℕ) (p : Place) (writes :
   refused_told reply.Inside is = absurd is
   refused_told reply.NoSpace is = absurd is
 
-  pub unbuilt_told : IsAimOf v.size p.dinode end aim.NotBuilt → IsUnbuilt v c
-  unbuilt_told is =
-      let at : IsAtEnd v c p.inode (IsOutside end) = record {
-        leads = seen.leads;
-        there = seen.there;
-        so = λ h shown. record {
-          file = ap is_directory (sym (seen.dinode h shown)) ∙ is.0;
-          short = is.1;
-          needs = subst (λ d. NeedsBlocks h.size d end) (seen.dinode h shown) (subst (λ size. NeedsBlocks size p.dinode end) (sym shown.size) is.2);
-        };
-      } in
-      subst (IsUnbuilt v) (sym writes) (p.inode, subst (λ x. IsAtEnd v x p.inode (IsOutside end)) writes at)
-
-  -- a file that stays in its dinode's block isn't such a one
-  pub stuffed_exact : StaysStuffed v.size p.dinode end → IsUnbuilt v c → ⊥
-  stuffed_exact stays unbuilt =
-      let u = subst (IsUnbuilt v) writes unbuilt in
-      let at : IsAtEnd v c u.0 (IsOutside end) = subst (λ x. IsAtEnd v x u.0 (IsOutside end)) (sym writes) u.1 in
-      let same : u.0 ≡ p.inode = leads_once v (wanted c) (path_of c false) (path_of c false) u.0 p.inode at.leads seen.leads refl in
-      let s = some_is_shown v p.inode in
-      let out : IsOutside end s.0 = at.so s.0 (subst (λ a. IsShown v a s.0) (sym same) s.1.0) in
-      elim out.needs [
-        | inl high ↦ high (ap (λ (x : Dinode). x.height) (sym (seen.dinode s.0 s.1.0)) ∙ stays.height)
-        | inr long ↦ omega (arith, long, s.1.0.size, stays.room)
-      ]
-
-  pub broken_told : IsAimOf v.size p.dinode end aim.Broken → IsDamage v c 8 p.inode
-  broken_told is = on_path 8 p.inode (wrong_damage v (wanted c) (path_of c false) p.inode seen.leads 8 p.inode (λ h shown. in_inode 8 p.inode (broken_so v p.inode p.dinode h shown (seen.dinode h shown) is.0 is.1)))
+  pub broken_told : (end : ℕ) → IsAimOf v.size p.dinode end aim.Broken → IsDamage v c 8 p.inode
+  broken_told end is = on_path 8 p.inode (wrong_damage v (wanted c) (path_of c false) p.inode seen.leads 8 p.inode (λ h shown. in_inode 8 p.inode (broken_so v p.inode p.dinode h shown (seen.dinode h shown) is.0 is.1)))
 
   -- ---- in an image that the view may be of
 
@@ -129,15 +97,11 @@ module _ (v : Seen) (c : Call) (at : ℕ) (new : List ℕ) (p : Place) (writes :
     file_at : is_directory p.dinode ≡ false → is_directory_in (holding im o p.inode) ≡ false
     file_at is = ap is_directory (sym walked.0.dinode) ∙ is
 
-    pub refused_found : (r : Reply) → IsAimOf v.size p.dinode end (aim.Refused r) → (apply c t).reply ≡ r
+    pub refused_found : (r : Reply) → IsRefusedAim p.dinode (end_of c) r → (apply c t).reply ≡ r
     refused_found reply.IsDir is =
-        ap (λ x. (apply x t).reply) writes
-        ∙ ap (λ w. (write_at w t (path_of c false) at new).reply) (directories_list im o l t (path_of c false) p.inode of.stands walked.0.at (ap is_directory (sym walked.0.dinode) ∙ is)).walks
-    refused_found reply.TooBig is =
-        ap (λ x. (apply x t).reply) writes
-        ∙ ap (λ w. (write_at w t (path_of c false) at new).reply) (file_there v im o l t of (path_of c false) p.inode walked.0.at (file_at is.0))
-        ∙ ap (λ (x : Answer). x.reply) (cond-true (nat_lt file_limit end) (refuse reply.TooBig t)
-        (record { reply = reply.Ok; tree = put_at (path_of c false) (file (overwritten at new (content_of (holding im o p.inode)))) t }) (lt-ltb file_limit end is.1))
+        let listed = directories_list im o l t (path_of c false) p.inode of.stands walked.0.at (ap is_directory (sym walked.0.dinode) ∙ is) in
+        edit_of_directory c t listed.entries edit listed.walks
+    refused_found reply.TooBig is = too_long c t (content_of (holding im o p.inode)) edit is.1 (file_there v im o l t of (path_of c false) p.inode walked.0.at (file_at is.0))
     refused_found reply.Ok is = absurd is
     refused_found (reply.Bytes bytes) is = absurd is
     refused_found (reply.Stat kind size) is = absurd is
@@ -149,17 +113,13 @@ module _ (v : Seen) (c : Call) (at : ℕ) (new : List ℕ) (p : Place) (writes :
     refused_found reply.Inside is = absurd is
     refused_found reply.NoSpace is = absurd is
 
-    pub broken_nowhere : IsAimOf v.size p.dinode end aim.Broken → ⊥
-    broken_nowhere is =
+    pub broken_nowhere : (end : ℕ) → IsAimOf v.size p.dinode end aim.Broken → ⊥
+    broken_nowhere end is =
         unbroken v im o l t of (path_of c false) p.inode 8 p.inode walked.0.at
         (broken_so v p.inode p.dinode (holding im o p.inode) (is_shown v im o l t of (path_of c false) p.inode walked.0.at) walked.0.dinode is.0 is.1)
 
-    pub taken_found : is_directory p.dinode ≡ false → end ≤ file_limit → (apply c t).reply ≡ reply.Ok
-    taken_found is short =
-        ap (λ (x : Answer). x.reply) (call_taken c t at new (content_of (holding im o p.inode)) writes short (file_there v im o l t of (path_of c false) p.inode walked.0.at (file_at is)))
-
-  pub stuffed_does : (time : ℕ) (change : Change) → StaysStuffed v.size p.dinode end → IsWrite v p.inode at new time change
+  pub stuffed_does : (at : ℕ) (new : List ℕ) (time : ℕ) (change : Change) → Writes c at new → StaysStuffed v.size p.dinode (at + length new) → IsWrite v p.inode at new time change
       → ((im : Image) (o : Owners) (l : Layout) (t : Tree) → IsOf v im o l t → IsWalked v im o l t (path_of c false) (wanted c) (At p)) → Does v c reply.Ok change
-  stuffed_does time change stays w walked =
+  stuffed_does at new time change writes stays w walked =
       write_does v p.inode at new time change w c writes stays.short seen.leads
       (λ im o l t of. let at_place = walked im o l t of in (at_place.0.at, file_at im o l t of at_place stays.file))

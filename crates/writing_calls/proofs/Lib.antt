@@ -1,6 +1,10 @@
-pub mod Areas
-pub mod Written
-pub mod Drafts
-pub mod Doing
 pub mod Alone
+pub mod Areas
+pub mod Cutting
+pub mod Doing
+pub mod Drafts
 pub mod Finding
+pub mod Images
+pub mod Listed
+pub mod Rooms
+pub mod Written

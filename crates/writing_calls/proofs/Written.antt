@@ -35,6 +35,10 @@ grown_room size old end was now = elim (cases_lt old end) [
   | inr inside ↦ subst (HasRoom size) (sym (cond-false (nat_lt old end) end old (le-ltb old end inside))) was
 ]
 
+-- what was put is what becomes of the block
+pub put_at : (fates : FinMap nat_cmp Fate) (b : ℕ) (fate : Fate) → get (insert fates b fate) b ≡ Some fate
+put_at fates b fate = inserted_at nat_cmp_total nat_cmp-IsAntisymmetric fates b fate
+
 -- no other block is put
 pub put_alone : (a b : ℕ) (fate : Fate) → b ≢ a → get {R = nat_cmp} (insert empty a fate) b ≡ None
 put_alone a b fate other = inserted_apart nat_cmp_total nat_cmp-IsAntisymmetric empty a fate b other ∙ get-empty nat_cmp b

@@ -1,6 +1,7 @@
 -- What a write makes of a file: of its dinode, and of its content.
 use Rattle.std.specs.Prelude.{ℕ, ◌≡◌, ◌≢◌, ◌⊎◌, ◌+◌, ◌-◌, ◌<◌, ◌≤◌, nat_lt, if◌then◌else◌, true, false, Ok, List, ◌++◌, length, take, drop, replicate}
 use Rattle.file_tree.specs.Apply.{file_limit, overwritten}
+use Rattle.file_tree.specs.declared.reply.Reply.{Reply}
 use Rattle.file_tree.specs.declared.reply.Reply.TheVariants as reply
 use Rattle.gfs2_layout.specs.Holding.{Holding}
 use Rattle.gfs2_layout.specs.Inode.{IsInode, dinode_in, head_of, content_of}
@@ -48,7 +49,7 @@ put_over at new area = take at area ++ new ++ drop (at + length new) area
 
 -- ---- what a write makes of the inode with this dinode
 
--- why a file's write isn't built yet: its content isn't in the dinode's block, or won't have room there
+-- a file's write goes into blocks: its content isn't in the dinode's block, or won't have room there
 abbrev pub NeedsBlocks : ℕ → Dinode → ℕ → Type 0
 NeedsBlocks size d end = (d.height ≢ 0) ⊎ (size < dinode_length + end)
 
@@ -68,12 +69,24 @@ pub record IsBlockWritten (size : ℕ) (d : Dinode) (at : ℕ) (new : List ℕ) 
   pub area : drop dinode_length now ≡ area_after at new d.size (drop dinode_length before)
   pub bytes : now ≡ dinode_over (dinode_after d (at + length new) time) before (area_after at new d.size (drop dinode_length before))
 
--- Why nothing is written into the inode, or that the bytes go into the dinode's block. Of a broken one the content that it has would need
+-- why nothing is written into the inode of this dinode, of whose content a call makes so much at least
+abbrev pub IsRefusedAim : Dinode → ℕ → Reply → Type 0
+IsRefusedAim d end reply.IsDir = is_directory d ≡ true
+IsRefusedAim d end reply.TooBig = (is_directory d ≡ false) × (file_limit < end)
+IsRefusedAim d end r = ⊥
+
+-- Why nothing is written into the inode, or where the bytes go: into the dinode's block, or into blocks. Of a broken one the content that it has would need
 -- more room than that block has.
 abbrev pub IsAimOf : ℕ → Dinode → ℕ → Aim → Type 0
-IsAimOf size d end (aim.Refused reply.IsDir) = is_directory d ≡ true
-IsAimOf size d end (aim.Refused reply.TooBig) = (is_directory d ≡ false) × (file_limit < end)
-IsAimOf size d end aim.NotBuilt = (is_directory d ≡ false) × (end ≤ file_limit) × NeedsBlocks size d end
+IsAimOf size d end (aim.Refused r) = IsRefusedAim d end r
+IsAimOf size d end aim.Blocks = (is_directory d ≡ false) × (end ≤ file_limit) × NeedsBlocks size d end
 IsAimOf size d end aim.Broken = (d.height ≡ 0) × (size < dinode_length + d.size)
 IsAimOf size d end aim.Stuffed = StaysStuffed size d end
 IsAimOf size d end a = ⊥
+
+-- Why a file isn't cut to so many bytes, or what becomes of it: it gets longer, or is cut.
+abbrev pub IsCutAimOf : Dinode → ℕ → Aim → Type 0
+IsCutAimOf d end (aim.Refused r) = IsRefusedAim d end r
+IsCutAimOf d end aim.Blocks = (is_directory d ≡ false) × (end ≤ file_limit) × (d.size < end)
+IsCutAimOf d end aim.Cut = (is_directory d ≡ false) × (end ≤ file_limit) × (end ≤ d.size)
+IsCutAimOf d end a = ⊥

@@ -1,4 +1,4 @@
-// What a try of a write finds.
+// What a try of a call that changes a file's content finds.
 use drafts::Change;
 use file_tree::Reply;
 use glock_names::{LockName, Missing, State};
@@ -8,14 +8,16 @@ use glock_names::{LockName, Missing, State};
 pub(crate) enum Found {
     /// The call is refused, with this reply.
     Refused(Reply),
-    /// The bytes are in the file, with this change.
+    /// The file has its new content, with this change.
     Written(Change),
     /// This block isn't in the view.
     NeedBlock(Missing),
     /// This directory is hashed.
     Hashed(u64),
-    /// The file's content isn't in its dinode's block, or wouldn't be.
+    /// The file isn't sound.
     NotBuilt,
     /// This lock isn't held so strongly.
     NeedLock { lock: LockName, state: State },
+    /// So many blocks are needed, and so few are free.
+    NoSpace { need: u64, free: u64 },
 }

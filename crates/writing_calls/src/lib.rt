@@ -1,7 +1,9 @@
-//! The calls that write, over a view: `write`, of files whose content stands in their dinode's block, and `sync`.
+//! The calls that write, over a view: `write` and `truncate`, of files of any height, and `sync`.
 #![tactic(auto)]
 
 mod aims;
+mod blocks;
+mod cuts;
 mod drafting;
 mod finds;
 mod stuffed;

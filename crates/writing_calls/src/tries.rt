@@ -1,8 +1,7 @@
 // A try of a call that writes.
-ghost use Rattle.std.specs.Prelude.{ℕ, ◌≡◌, false, [], IfOk};
-ghost use Rattle.file_tree.specs.Apply.{apply};
+ghost use Rattle.std.specs.Prelude.{ℕ, ◌≡◌, ◌≤◌, false, length, IfOk};
+ghost use Rattle.file_tree.specs.declared.call.Call.TheVariants.{Truncate, Write};
 ghost use Rattle.file_tree.specs.Tree.{Tree};
-ghost use Rattle.file_tree.specs.declared.call.Call.TheVariants.{Write};
 ghost use Rattle.file_tree.specs.declared.reply.Reply.TheVariants.{Ok as OkReply};
 ghost use Rattle.glock_names.specs.Steps.{IfDamaged};
 ghost use Rattle.glock_names.specs.Views.{IsOfView};
@@ -11,14 +10,16 @@ ghost use Rattle.call_locks.specs.Wants.{wanted};
 ghost use Rattle.image_model.specs.Image.{Image};
 ghost use Rattle.image_model.specs.Owners.{Owners};
 ghost use Rattle.image_model.specs.Stands.{Layout};
-ghost use Rattle.image_changes.specs.Does.{IsOf, Does};
-ghost use Rattle.path_walks.specs.Answers.{IfDone, IfNeedLock, IfNeedBlock, IfNoSpace, IfHashed, IfNotBuilt, HasSpace};
-ghost use Rattle.path_walks.specs.Holds.{AreHeld, IsAskedFor, IsFirstLack};
-ghost use Rattle.path_walks.specs.Walks.{IsHashedOn, IsLacked, IsSeenAt, IsUnread, IsWalked};
+ghost use Rattle.image_changes.specs.Does.{AreInside, Does, IsOf};
+ghost use Rattle.path_walks.specs.Walks.{IsHashedOn, IsSeenAt, IsWalked};
 ghost use Rattle.path_walks.specs.declared.walk.Walk.TheVariants.{At};
-ghost use Rattle.writing_calls.specs.Writing.{AreInside, AreUnder, IfSync, IfWritten, IsAnswered, IsDamage, IsFound, IsHashedFor, IsRefusal, IsSynced, IsToldOf, IsUnbuilt, IsWriteAnswered, IsWriting, Writes, call_holds};
+ghost use Rattle.path_walks.specs.Answers.{HasSpace, IfDone, IfHashed, IfNeedBlock, IfNeedLock, IfNoSpace, IfNotBuilt};
+ghost use Rattle.path_walks.specs.Holds.{AreHeld, IsAskedFor, IsFirstLack, IsUnder};
+ghost use Rattle.writing_calls.specs.Writing.{IfSync, IfWritten, IsAnswered, IsDamage, IsEdit, IsEditAnswered, IsFound, IsFullFor, IsHashedFor, IsLackedFor, IsNeededFor, IsRefusal, IsSynced, IsToldOf, IsTooFew, IsUnbuilt, IsWriting, call_holds};
 
-use crate::aims::{Aim, aim_of};
+use crate::aims::{Aim, aim_of, aim_of_cut};
+use crate::blocks::write_blocks;
+use crate::cuts::cut_at;
 use crate::drafting::write_stuffed;
 use crate::finds::Found;
 use call_locks::wants;
@@ -29,6 +30,18 @@ use path_walks::{Place, Walk, nothing, walk_along};
 use resource_groups::group_of;
 use std::alloc::Global;
 
+// The path of a call that changes a file's content.
+fn path_of_edit(call: &Call) -> &Path
+    requires { IsEdit call.now }
+    ensures { result.now ≡ path_of call.now false }
+{
+    match call {
+        Call::Write(path, _, _) => path,
+        Call::Truncate(path, _) => path,
+        _ => unreachable!(),
+    }
+}
+
 // Writes bytes into the inode at a place.
 fn write_at<V: View>(
     alloc: Global,
@@ -37,65 +50,132 @@ fn write_at<V: View>(
     place: &Place,
     at: u64,
     new: &[u8],
-    time: u64,
+    stamp: &Stamp,
 ) -> Result<Found, CallFault>
-    requires writes { Writes call.now at new.now }
+    requires groups { 1 ≤ length (V.seen view.now).groups }
+    requires node { 1 ≤ stamp.now.node }
+    requires writes { call.now ≡ Write (path_of call.now false) at new.now }
     requires seen { IsSeenAt (V.seen view.now) (wanted call.now) (path_of call.now false) place.now }
     requires walked { (im : Image) (o : Owners) (l : Layout) (t : Tree) → IsOf (V.seen view.now) im o l t → IsWalked (V.seen view.now) im o l t (path_of call.now false) (wanted call.now) (At place.now) }
-    ensures found { (im : Image) (o : Owners) (l : Layout) (t : Tree) → IsOf (V.seen view.now) im o l t → IfOk result (IsFound (V.seen view.now) im o l t call.now) }
+    ensures found { (im : Image) (o : Owners) (l : Layout) (t : Tree) → IsOf (V.seen view.now) im o l t → IfOk result (IsFound (V.seen view.now) im o l t call.now stamp.now.node) }
     ensures done { IfOk result (IfWritten (Does (V.seen view.now) call.now OkReply)) }
     ensures inside { IfOk result (IfWritten (AreInside (V.seen view.now))) }
     ensures refusal { IfOk result IsRefusal }
-    ensures exact { IfOk result (IfWritten (λ change. IsUnbuilt (V.seen view.now) call.now → ⊥)) }
-    ensures told { IfOk result (IsToldOf (V.seen view.now) call.now time) }
+    ensures told { IfOk result (IsToldOf (V.seen view.now) call.now stamp.now.node stamp.now.time) }
     ensures sound { (im : Image) (o : Owners) (l : Layout) (t : Tree) → IsOf (V.seen view.now) im o l t → IfDamaged result (λ rule block. ⊥) }
     ensures damaged { IfDamaged result (IsDamage (V.seen view.now) call.now) }
     ensures kept { IfDamaged result (IsOfView (V.seen view.now)) }
 {
-    match aim_of(&place.dinode, view.block_size(), at, new.len() as u64) {
-        Aim::Refused(reply) => Ok(Found::Refused(reply)),
-        Aim::NotBuilt => Ok(Found::NotBuilt),
-        Aim::Broken => Err(CallFault::Damaged {
+    let aim = aim_of(&place.dinode, view.block_size(), at, new.len() as u64);
+    if let Aim::Refused(reply) = aim {
+        return Ok(Found::Refused(reply));
+    }
+    if let Aim::Broken = aim {
+        return Err(CallFault::Damaged {
             block: place.inode,
             rule: 8,
-        }),
-        Aim::Stuffed => {
-            if group_of(view, place.inode).is_none() {
-                return Err(CallFault::Damaged {
-                    block: place.inode,
-                    rule: 2,
-                });
-            }
-            let change = write_stuffed(alloc, view, place, at, new, time)?;
-            Ok(Found::Written(change))
-        }
+        });
     }
+    if group_of(view, place.inode).is_none() {
+        return Err(CallFault::Damaged {
+            block: place.inode,
+            rule: 2,
+        });
+    }
+    if let Aim::Blocks = aim {
+        return write_blocks(alloc, view, call, place, at, new, stamp);
+    }
+    let change = write_stuffed(alloc, view, place, at, new, stamp.time)?;
+    Ok(Found::Written(change))
 }
 
-// Walks along the path of a write, and writes into the inode at its end.
-fn find<V: View>(
+// Gives the inode at a place another size.
+fn resize_at<V: View>(
     alloc: Global,
     view: &V,
     call: &Call,
-    path: &Path,
-    at: u64,
-    new: &[u8],
-    time: u64,
+    place: &Place,
+    size: u64,
+    stamp: &Stamp,
 ) -> Result<Found, CallFault>
-    requires { call.now ≡ Write path.now at new.now }
-    ensures found { (im : Image) (o : Owners) (l : Layout) (t : Tree) → IsOf (V.seen view.now) im o l t → IfOk result (IsFound (V.seen view.now) im o l t call.now) }
+    requires groups { 1 ≤ length (V.seen view.now).groups }
+    requires node { 1 ≤ stamp.now.node }
+    requires cuts { call.now ≡ Truncate (path_of call.now false) size }
+    requires seen { IsSeenAt (V.seen view.now) (wanted call.now) (path_of call.now false) place.now }
+    requires walked { (im : Image) (o : Owners) (l : Layout) (t : Tree) → IsOf (V.seen view.now) im o l t → IsWalked (V.seen view.now) im o l t (path_of call.now false) (wanted call.now) (At place.now) }
+    ensures found { (im : Image) (o : Owners) (l : Layout) (t : Tree) → IsOf (V.seen view.now) im o l t → IfOk result (IsFound (V.seen view.now) im o l t call.now stamp.now.node) }
     ensures done { IfOk result (IfWritten (Does (V.seen view.now) call.now OkReply)) }
     ensures inside { IfOk result (IfWritten (AreInside (V.seen view.now))) }
     ensures refusal { IfOk result IsRefusal }
-    ensures exact { IfOk result (IfWritten (λ change. IsUnbuilt (V.seen view.now) call.now → ⊥)) }
-    ensures told { IfOk result (IsToldOf (V.seen view.now) call.now time) }
+    ensures told { IfOk result (IsToldOf (V.seen view.now) call.now stamp.now.node stamp.now.time) }
+    ensures sound { (im : Image) (o : Owners) (l : Layout) (t : Tree) → IsOf (V.seen view.now) im o l t → IfDamaged result (λ rule block. ⊥) }
+    ensures damaged { IfDamaged result (IsDamage (V.seen view.now) call.now) }
+    ensures kept { IfDamaged result (IsOfView (V.seen view.now)) }
+{
+    let aim = aim_of_cut(&place.dinode, size);
+    if let Aim::Refused(reply) = aim {
+        return Ok(Found::Refused(reply));
+    }
+    if group_of(view, place.inode).is_none() {
+        return Err(CallFault::Damaged {
+            block: place.inode,
+            rule: 2,
+        });
+    }
+    if let Aim::Blocks = aim {
+        return write_blocks(alloc, view, call, place, size, &[], stamp);
+    }
+    cut_at(alloc, view, call, place, size, stamp)
+}
+
+// Changes the content of the inode at a place.
+fn edit_at<V: View>(
+    alloc: Global,
+    view: &V,
+    call: &Call,
+    place: &Place,
+    stamp: &Stamp,
+) -> Result<Found, CallFault>
+    requires groups { 1 ≤ length (V.seen view.now).groups }
+    requires node { 1 ≤ stamp.now.node }
+    requires edits { IsEdit call.now }
+    requires seen { IsSeenAt (V.seen view.now) (wanted call.now) (path_of call.now false) place.now }
+    requires walked { (im : Image) (o : Owners) (l : Layout) (t : Tree) → IsOf (V.seen view.now) im o l t → IsWalked (V.seen view.now) im o l t (path_of call.now false) (wanted call.now) (At place.now) }
+    ensures found { (im : Image) (o : Owners) (l : Layout) (t : Tree) → IsOf (V.seen view.now) im o l t → IfOk result (IsFound (V.seen view.now) im o l t call.now stamp.now.node) }
+    ensures done { IfOk result (IfWritten (Does (V.seen view.now) call.now OkReply)) }
+    ensures inside { IfOk result (IfWritten (AreInside (V.seen view.now))) }
+    ensures refusal { IfOk result IsRefusal }
+    ensures told { IfOk result (IsToldOf (V.seen view.now) call.now stamp.now.node stamp.now.time) }
+    ensures sound { (im : Image) (o : Owners) (l : Layout) (t : Tree) → IsOf (V.seen view.now) im o l t → IfDamaged result (λ rule block. ⊥) }
+    ensures damaged { IfDamaged result (IsDamage (V.seen view.now) call.now) }
+    ensures kept { IfDamaged result (IsOfView (V.seen view.now)) }
+{
+    match call {
+        Call::Write(_, at, content) => {
+            write_at(alloc, view, call, place, *at, content.bytes(), stamp)
+        }
+        Call::Truncate(_, size) => resize_at(alloc, view, call, place, *size, stamp),
+        _ => unreachable!(),
+    }
+}
+
+// Walks along the call's path, and changes the content of the inode at its end.
+fn find<V: View>(alloc: Global, view: &V, call: &Call, stamp: &Stamp) -> Result<Found, CallFault>
+    requires groups { 1 ≤ length (V.seen view.now).groups }
+    requires node { 1 ≤ stamp.now.node }
+    requires edits { IsEdit call.now }
+    ensures found { (im : Image) (o : Owners) (l : Layout) (t : Tree) → IsOf (V.seen view.now) im o l t → IfOk result (IsFound (V.seen view.now) im o l t call.now stamp.now.node) }
+    ensures done { IfOk result (IfWritten (Does (V.seen view.now) call.now OkReply)) }
+    ensures inside { IfOk result (IfWritten (AreInside (V.seen view.now))) }
+    ensures refusal { IfOk result IsRefusal }
+    ensures told { IfOk result (IsToldOf (V.seen view.now) call.now stamp.now.node stamp.now.time) }
     ensures sound { (im : Image) (o : Owners) (l : Layout) (t : Tree) → IsOf (V.seen view.now) im o l t → IfDamaged result (λ rule block. ⊥) }
     ensures damaged { IfDamaged result (IsDamage (V.seen view.now) call.now) }
     ensures kept { IfDamaged result (IsOfView (V.seen view.now)) }
 {
     let wants = wants(alloc, call)?;
-    match walk_along(view, path.names(), &wants)? {
-        Walk::At(place) => write_at(alloc, view, call, &place, at, new, time),
+    match walk_along(view, path_of_edit(call).names(), &wants)? {
+        Walk::At(place) => edit_at(alloc, view, call, &place, stamp),
         Walk::NotFound => Ok(Found::Refused(Reply::NotFound)),
         Walk::NotDir => Ok(Found::Refused(Reply::NotDir)),
         Walk::Hashed(block) => Ok(Found::Hashed(block)),
@@ -104,39 +184,32 @@ fn find<V: View>(
     }
 }
 
-// Tries a write.
-fn write<V: View>(
-    alloc: Global,
-    view: &V,
-    call: &Call,
-    path: &Path,
-    at: u64,
-    new: &[u8],
-    time: u64,
-) -> Result<Attempt, CallFault>
-    requires { call.now ≡ Write path.now at new.now }
+// Tries a call that changes a file's content.
+fn edit<V: View>(alloc: Global, view: &V, call: &Call, stamp: &Stamp) -> Result<Attempt, CallFault>
+    requires groups { 1 ≤ length (V.seen view.now).groups }
+    requires node { 1 ≤ stamp.now.node }
+    requires edits { IsEdit call.now }
     ensures done { IfDone result (Does (V.seen view.now) call.now) }
-    ensures held { (im : Image) (o : Owners) (l : Layout) (t : Tree) → IsOf (V.seen view.now) im o l t → IfDone result (λ reply change. AreHeld (V.seen view.now) (call_holds im o l call.now)) }
+    ensures held { (im : Image) (o : Owners) (l : Layout) (t : Tree) → IsOf (V.seen view.now) im o l t → IfDone result (λ reply change. AreHeld (V.seen view.now) (call_holds im o l t call.now stamp.now.node)) }
     ensures inside { IfDone result (λ reply change. AreInside (V.seen view.now) change) }
-    ensures under { (im : Image) (o : Owners) (l : Layout) (t : Tree) → IsOf (V.seen view.now) im o l t → IfDone result (λ reply change. AreUnder (call_holds im o l call.now) change) }
-    ensures lock { (im : Image) (o : Owners) (l : Layout) (t : Tree) → IsOf (V.seen view.now) im o l t → IfNeedLock result (IsFirstLack (V.seen view.now) (call_holds im o l call.now)) }
-    ensures block { (im : Image) (o : Owners) (l : Layout) (t : Tree) → IsOf (V.seen view.now) im o l t → IfNeedBlock result (IsAskedFor (V.seen view.now) im o l (call_holds im o l call.now)) }
-    ensures space { IfNoSpace result (λ need free. ⊥) }
+    ensures under { (im : Image) (o : Owners) (l : Layout) (t : Tree) → IsOf (V.seen view.now) im o l t → IfDone result (λ reply change. IsUnder o (call_holds im o l t call.now stamp.now.node) change) }
+    ensures lock { (im : Image) (o : Owners) (l : Layout) (t : Tree) → IsOf (V.seen view.now) im o l t → IfNeedLock result (IsFirstLack (V.seen view.now) (call_holds im o l t call.now stamp.now.node)) }
+    ensures block { (im : Image) (o : Owners) (l : Layout) (t : Tree) → IsOf (V.seen view.now) im o l t → IfNeedBlock result (IsAskedFor (V.seen view.now) im o l (call_holds im o l t call.now stamp.now.node)) }
+    ensures space { (im : Image) (o : Owners) (l : Layout) (t : Tree) → IsOf (V.seen view.now) im o l t → IfNoSpace result (IsTooFew (V.seen view.now) im o l t call.now) }
+    ensures full { IfNoSpace result (IsFullFor (V.seen view.now) call.now) }
     ensures spaceless { IfDone result (λ reply change. HasSpace reply) }
-    ensures exact { IfDone result (λ reply change. reply ≡ OkReply → IsUnbuilt (V.seen view.now) call.now → ⊥) }
-    ensures answered { IfDone result (IsWriteAnswered (V.seen view.now) call.now time) }
-    ensures lacked { IfNeedLock result (IsLacked (V.seen view.now) (wanted call.now) (path_of call.now false)) }
-    ensures needed { IfNeedBlock result (IsUnread (V.seen view.now) (wanted call.now) (path_of call.now false)) }
+    ensures answered { IfDone result (IsEditAnswered (V.seen view.now) call.now stamp.now.node stamp.now.time) }
+    ensures lacked { IfNeedLock result (IsLackedFor (V.seen view.now) call.now stamp.now.node) }
+    ensures needed { IfNeedBlock result (IsNeededFor (V.seen view.now) call.now) }
     ensures hashed { IfHashed result (IsHashedFor (V.seen view.now) call.now) }
     ensures on_path { (im : Image) (o : Owners) (l : Layout) (t : Tree) → IsOf (V.seen view.now) im o l t → IfHashed result (IsHashedOn (V.seen view.now) im o l (path_of call.now false) (wanted call.now)) }
     ensures unbuilt { IfNotBuilt result (IsUnbuilt (V.seen view.now) call.now) }
-    ensures taken { (im : Image) (o : Owners) (l : Layout) (t : Tree) → IsOf (V.seen view.now) im o l t → IfNotBuilt result ((apply call.now t).reply ≡ OkReply) }
-    ensures reached { (im : Image) (o : Owners) (l : Layout) (t : Tree) → IsOf (V.seen view.now) im o l t → IfNotBuilt result (AreHeld (V.seen view.now) (call_holds im o l call.now)) }
+    ensures built { (im : Image) (o : Owners) (l : Layout) (t : Tree) → IsOf (V.seen view.now) im o l t → IfNotBuilt result ⊥ }
     ensures sound { (im : Image) (o : Owners) (l : Layout) (t : Tree) → IsOf (V.seen view.now) im o l t → IfDamaged result (λ rule block. ⊥) }
     ensures damaged { IfDamaged result (IsDamage (V.seen view.now) call.now) }
     ensures kept { IfDamaged result (IsOfView (V.seen view.now)) }
 {
-    Ok(match find(alloc, view, call, path, at, new, time)? {
+    Ok(match find(alloc, view, call, stamp)? {
         Found::Refused(reply) => Attempt::Done {
             reply,
             change: nothing(alloc),
@@ -149,49 +222,49 @@ fn write<V: View>(
         Found::Hashed(block) => Attempt::Hashed { block },
         Found::NotBuilt => Attempt::NotBuilt,
         Found::NeedLock { lock, state } => Attempt::NeedLock { lock, state },
+        Found::NoSpace { need, free } => Attempt::NoSpace { need, free },
     })
 }
 
-/// Tries a call that writes, over a view: its answer with what it changes, or the first lock that isn't held or block that isn't
-/// there. The file gets the stamp's time. `sync` is answered `Ok` at once: that all is on the disk is for the node to see to. A write
-/// costs a walk along the path, a pass over the groups, and two copies of the block of the file's dinode.
+/// Tries a call that writes, over a view: its answer with what it changes, or the first lock that isn't held, a block that isn't
+/// there, or that too few blocks are free. The file gets the stamp's time. `sync` is answered `Ok` at once: that all is on the disk is for the node
+/// to see to. A write or a cut costs a walk along the path, a pass over the groups, and what `write_stuffed`, `write_blocks` or `cut_at` cost: a walk
+/// down the file for each of its blocks that is written or goes, and two copies of each block that is put.
 pub fn attempt<V: View>(
     alloc: Global,
     view: &V,
     call: &Call,
     stamp: &Stamp,
 ) -> Result<Attempt, CallFault>
+    requires groups { 1 ≤ length (V.seen view.now).groups }
+    requires node { 1 ≤ stamp.now.node }
     requires writing { IsWriting call.now }
     ensures done { IfDone result (Does (V.seen view.now) call.now) }
-    ensures held { (im : Image) (o : Owners) (l : Layout) (t : Tree) → IsOf (V.seen view.now) im o l t → IfDone result (λ reply change. AreHeld (V.seen view.now) (call_holds im o l call.now)) }
+    ensures held { (im : Image) (o : Owners) (l : Layout) (t : Tree) → IsOf (V.seen view.now) im o l t → IfDone result (λ reply change. AreHeld (V.seen view.now) (call_holds im o l t call.now stamp.now.node)) }
     ensures inside { IfDone result (λ reply change. AreInside (V.seen view.now) change) }
-    ensures under { (im : Image) (o : Owners) (l : Layout) (t : Tree) → IsOf (V.seen view.now) im o l t → IfDone result (λ reply change. AreUnder (call_holds im o l call.now) change) }
-    ensures lock { (im : Image) (o : Owners) (l : Layout) (t : Tree) → IsOf (V.seen view.now) im o l t → IfNeedLock result (IsFirstLack (V.seen view.now) (call_holds im o l call.now)) }
-    ensures block { (im : Image) (o : Owners) (l : Layout) (t : Tree) → IsOf (V.seen view.now) im o l t → IfNeedBlock result (IsAskedFor (V.seen view.now) im o l (call_holds im o l call.now)) }
-    ensures space { IfNoSpace result (λ need free. ⊥) }
+    ensures under { (im : Image) (o : Owners) (l : Layout) (t : Tree) → IsOf (V.seen view.now) im o l t → IfDone result (λ reply change. IsUnder o (call_holds im o l t call.now stamp.now.node) change) }
+    ensures lock { (im : Image) (o : Owners) (l : Layout) (t : Tree) → IsOf (V.seen view.now) im o l t → IfNeedLock result (IsFirstLack (V.seen view.now) (call_holds im o l t call.now stamp.now.node)) }
+    ensures block { (im : Image) (o : Owners) (l : Layout) (t : Tree) → IsOf (V.seen view.now) im o l t → IfNeedBlock result (IsAskedFor (V.seen view.now) im o l (call_holds im o l t call.now stamp.now.node)) }
+    ensures space { (im : Image) (o : Owners) (l : Layout) (t : Tree) → IsOf (V.seen view.now) im o l t → IfNoSpace result (IsTooFew (V.seen view.now) im o l t call.now) }
+    ensures full { IfNoSpace result (IsFullFor (V.seen view.now) call.now) }
     ensures spaceless { IfDone result (λ reply change. HasSpace reply) }
-    ensures exact { IfDone result (λ reply change. reply ≡ OkReply → IsUnbuilt (V.seen view.now) call.now → ⊥) }
-    ensures answered { IfDone result (IsAnswered (V.seen view.now) call.now stamp.now.time) }
-    ensures lacked { IfNeedLock result (IsLacked (V.seen view.now) (wanted call.now) (path_of call.now false)) }
-    ensures needed { IfNeedBlock result (IsUnread (V.seen view.now) (wanted call.now) (path_of call.now false)) }
+    ensures answered { IfDone result (IsAnswered (V.seen view.now) call.now stamp.now.node stamp.now.time) }
+    ensures lacked { IfNeedLock result (IsLackedFor (V.seen view.now) call.now stamp.now.node) }
+    ensures needed { IfNeedBlock result (IsNeededFor (V.seen view.now) call.now) }
     ensures hashed { IfHashed result (IsHashedFor (V.seen view.now) call.now) }
     ensures on_path { (im : Image) (o : Owners) (l : Layout) (t : Tree) → IsOf (V.seen view.now) im o l t → IfHashed result (IsHashedOn (V.seen view.now) im o l (path_of call.now false) (wanted call.now)) }
     ensures unbuilt { IfNotBuilt result (IsUnbuilt (V.seen view.now) call.now) }
-    ensures taken { (im : Image) (o : Owners) (l : Layout) (t : Tree) → IsOf (V.seen view.now) im o l t → IfNotBuilt result ((apply call.now t).reply ≡ OkReply) }
-    ensures reached { (im : Image) (o : Owners) (l : Layout) (t : Tree) → IsOf (V.seen view.now) im o l t → IfNotBuilt result (AreHeld (V.seen view.now) (call_holds im o l call.now)) }
+    ensures built { (im : Image) (o : Owners) (l : Layout) (t : Tree) → IsOf (V.seen view.now) im o l t → IfNotBuilt result ⊥ }
     ensures synced { IfSync call.now (IsSynced result) }
     ensures sound { (im : Image) (o : Owners) (l : Layout) (t : Tree) → IsOf (V.seen view.now) im o l t → IfDamaged result (λ rule block. ⊥) }
     ensures damaged { IfDamaged result (IsDamage (V.seen view.now) call.now) }
     ensures kept { IfDamaged result (IsOfView (V.seen view.now)) }
 {
     match call {
-        Call::Write(path, at, content) => {
-            write(alloc, view, call, path, *at, content.bytes(), stamp.time)
-        }
         Call::Sync => Ok(Attempt::Done {
             reply: Reply::Ok,
             change: nothing(alloc),
         }),
-        _ => unreachable!(),
+        _ => edit(alloc, view, call, stamp),
     }
 }

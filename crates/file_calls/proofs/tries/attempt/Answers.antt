@@ -9,7 +9,7 @@ use Rattle.path_walks.specs.Answers.{IfDone, IfNeedBlock, IfNeedLock, IfNoSpace,
 use Rattle.path_walks.specs.Holds.{AreHeld, IsAskedFor, IsFirstLack, IsUnder}
 use Rattle.making_calls.specs.Making.{IsMaking}
 use Rattle.removing_calls.specs.Removing.{IsRemoving}
-use Rattle.writing_calls.specs.Writing.{IsWriting, AreUnder}
+use Rattle.writing_calls.specs.Writing.{IsWriting}
 use Rattle.file_tree.specs.declared.reply.Reply.{Reply}
 use Rattle.file_tree.specs.declared.reply.Reply.TheVariants as reply
 use Rattle.drafts.specs.declared.change.Change.{Change}
@@ -19,8 +19,8 @@ use Rattle.read_calls.proofs.Lists.{no_change}
 use Rattle.file_calls.specs.Answers.{IsMadeIn}
 use Rattle.file_calls.specs.Calls.{IsLackedFor, call_holds}
 use Rattle.file_calls.proofs.Lacked.{lacked_lacks}
-use Rattle.file_calls.proofs.Made.{making_full, making_made, removing_made}
-use Rattle.file_calls.proofs.Blocks.{needed_absent, covered_low, data_inside, making_few, making_holds, nothing_under, reading_holds, removing_absent, removing_holds, removing_inside, removing_under, writing_holds, writing_under}
+use Rattle.file_calls.proofs.Made.{making_full, making_made, removing_made, writing_full}
+use Rattle.file_calls.proofs.Blocks.{needed_absent, covered_low, making_few, making_holds, nothing_under, reading_holds, removing_absent, removing_holds, removing_inside, removing_under, writing_absent, writing_few, writing_holds}
 use Rattle.file_calls.proofs.tries.attempt.Goals as goal
 
 mapped : (r : Result Attempt CallFault) (P Q : Missing → Type 0) → ((m : Missing) → P m → Q m) → IfNeedBlock r P → IfNeedBlock r Q
@@ -89,13 +89,23 @@ returns-in-Write-clause-held g c im o l t of =
 
 pub returns-in-Write-clause-under : goal.returns-in-Write-clause-under
 returns-in-Write-clause-under g c im o l t of =
-    let v = g.V.View.seen c.args.view.now in
     let is : IsWriting c.args.call.now = search rules in
-    let list = call_holds im o l t c.args.call.now c.args.stamp.now.node in
-    let under = subst (λ list. IfDone c.attempt.result (λ reply change. AreUnder list change)) (sym (writing_holds im o l t c.args.stamp.now.node c.args.call.now is)) (c.attempt.ensures.under im o l t of) in
-    done_so c.attempt.result _ (λ reply change. IsUnder o list change)
-    (λ x change all. writing_under v o list c.args.call.now c.args.stamp.now.time x change is all.0 all.1 all.2)
-    (done_three c.attempt.result _ _ _ c.attempt.ensures.done c.attempt.ensures.answered under)
+    subst (λ list. IfDone c.attempt.result (λ reply change. IsUnder o list change)) (sym (writing_holds im o l t c.args.stamp.now.node c.args.call.now is)) (c.attempt.ensures.under im o l t of)
+
+pub returns-in-Write-clause-lock : goal.returns-in-Write-clause-lock
+returns-in-Write-clause-lock g c im o l t of =
+    let is : IsWriting c.args.call.now = search rules in
+    subst (λ list. IfNeedLock c.attempt.result (IsFirstLack (g.V.View.seen c.args.view.now) list)) (sym (writing_holds im o l t c.args.stamp.now.node c.args.call.now is)) (c.attempt.ensures.lock im o l t of)
+
+pub returns-in-Write-clause-block : goal.returns-in-Write-clause-block
+returns-in-Write-clause-block g c im o l t of =
+    let is : IsWriting c.args.call.now = search rules in
+    subst (λ list. IfNeedBlock c.attempt.result (IsAskedFor (g.V.View.seen c.args.view.now) im o l list)) (sym (writing_holds im o l t c.args.stamp.now.node c.args.call.now is)) (c.attempt.ensures.block im o l t of)
+
+pub returns-in-Write-clause-absent : goal.returns-in-Write-clause-absent
+returns-in-Write-clause-absent g c =
+    let v = g.V.View.seen c.args.view.now in
+    mapped c.attempt.result _ _ (λ m needed. writing_absent v c.args.call.now m (λ a. let s = c.every_view_shows_an_inode.ensures v a in (s.0, s.1.0)) needed) c.attempt.ensures.needed
 
 pub returns-in-Unlink-clause-held : goal.returns-in-Unlink-clause-held
 returns-in-Unlink-clause-held g c im o l t of =
@@ -134,9 +144,6 @@ returns-in-Unlink-clause-inside g c =
     let v = g.V.View.seen c.args.view.now in
     done_so c.attempt-in-Unlink.result _ (λ reply change. AreInside v change)
     (λ x change all. removing_inside v c.args.call.now x change all.0 all.1) (done_two c.attempt-in-Unlink.result _ _ c.attempt-in-Unlink.ensures.done c.attempt-in-Unlink.ensures.inside)
-
-pub returns-in-Write-clause-inside : goal.returns-in-Write-clause-inside
-returns-in-Write-clause-inside g c = done_so c.attempt.result _ _ (λ x change is. data_inside (g.V.View.seen c.args.view.now) change.blocks.items c.block_size-size.ensures.view is) c.attempt.ensures.inside
 
 pub returns-in-Create-clause-held : goal.returns-in-Create-clause-held
 returns-in-Create-clause-held g c im o l t of =
@@ -219,8 +226,16 @@ returns-in-Unlink-clause-fewer g c = few_so c.attempt-in-Unlink.result _ _ (λ n
 pub returns-in-Write-clause-spaceless : goal.returns-in-Write-clause-spaceless
 returns-in-Write-clause-spaceless g c = done_so c.attempt.result _ _ (λ x change has. space_so x has) c.attempt.ensures.spaceless
 
+pub returns-in-Write-clause-space : goal.returns-in-Write-clause-space
+returns-in-Write-clause-space g c im o l t of =
+    let is : IsWriting c.args.call.now = search rules in
+    few_so c.attempt.result _ _ (λ need free. writing_few (g.V.View.seen c.args.view.now) im o l t need free c.args.call.now is) (c.attempt.ensures.space im o l t of)
+
 pub returns-in-Write-clause-fewer : goal.returns-in-Write-clause-fewer
-returns-in-Write-clause-fewer g c = few_so c.attempt.result _ _ (λ need free never. absurd never) c.attempt.ensures.space
+returns-in-Write-clause-fewer g c = few_so c.attempt.result _ _ (λ need free full. full.fewer) c.attempt.ensures.full
+
+pub returns-in-Write-clause-taken : goal.returns-in-Write-clause-taken
+returns-in-Write-clause-taken g c im o l t of = built_so c.attempt.result _ (c.attempt.ensures.built im o l t of)
 
 pub returns-in-Create-clause-made : goal.returns-in-Create-clause-made
 returns-in-Create-clause-made g c im o l t of =
@@ -247,7 +262,9 @@ pub returns-in-Unlink-clause-full : goal.returns-in-Unlink-clause-full
 returns-in-Unlink-clause-full g c = few_so c.attempt-in-Unlink.result _ _ (λ need free never. absurd never) c.attempt-in-Unlink.ensures.space
 
 pub returns-in-Write-clause-full : goal.returns-in-Write-clause-full
-returns-in-Write-clause-full g c = few_so c.attempt.result _ _ (λ need free never. absurd never) c.attempt.ensures.space
+returns-in-Write-clause-full g c =
+    let is : IsWriting c.args.call.now = search rules in
+    few_so c.attempt.result _ _ (λ need free. writing_full (g.V.View.seen c.args.view.now) need free c.args.call.now is) c.attempt.ensures.full
 
 pub returns-in-Read-clause-lacks : goal.returns-in-Read-clause-lacks
 returns-in-Read-clause-lacks g c =

@@ -11,14 +11,14 @@ use Rattle.glock_names.specs.declared.steps.CallFault.{CallFault}
 use Rattle.glock_names.specs.declared.steps.CallFault.TheVariants as fault
 use Rattle.glock_names.specs.Steps.{TellsOf}
 use Rattle.lone_view.specs.Seeing.{Lone, seen_alone}
-use Rattle.making_calls.specs.Making.{IsMaking}
+use Rattle.file_tree.specs.Apply.{TakesSpace}
 use Rattle.file_calls.specs.Answers.{IsFullFor}
 use Rattle.file_calls.specs.Calls.{IsNeededFor, IsTooFew}
 use Rattle.lone_node.specs.Answering.{IsDamagedFor, IsFailedFor, in_a_read, in_a_write, leads_out, source_of}
 use Rattle.lone_node.specs.Course.{done, moment, spaceless}
 use Rattle.lone_node.specs.Ends.{IfDamaged, end_at}
 use Rattle.lone_node.specs.Standing.{IsOn, StandsFor, lacked_count}
-use Rattle.lone_node.proofs.Answered.{answered, answered_full, fetched_on, fewer, is_done, makes_takes, of_disk, of_view, on_again, shown_damage, writes_none}
+use Rattle.lone_node.proofs.Answered.{answered, answered_full, fetched_on, fewer, is_done, of_disk, of_view, on_again, shown_damage, writes_none}
 use Rattle.lone_node.proofs.Endings.{damaged_so, failed_so}
 use Rattle.lone_node.proofs.answering.try_once.Goals as goal
 
@@ -45,7 +45,7 @@ returns-in-Ok-NoSpace-clause-step g c =
     let v = seen_alone c.args.view.now in
     spaceless c.args.view.now c.in-Ok-NoSpace.need c.in-Ok-NoSpace.free (record { same = record { size = refl; root = refl; groups = refl }; on = c.requires.on })
     (record {
-      makes = subst (λ a. IfNoSpace (Ok a) (λ need free. IsMaking c.args.call.now)) c.in-Ok-NoSpace.field-0-is c.in-Ok-NoSpace.ensures.roomless;
+      takes = subst (λ a. IfNoSpace (Ok a) (λ need free. TakesSpace c.args.call.now)) c.in-Ok-NoSpace.field-0-is c.in-Ok-NoSpace.ensures.roomless;
       fewer = subst (λ a. IfNoSpace (Ok a) (λ need free. free < need)) c.in-Ok-NoSpace.field-0-is c.in-Ok-NoSpace.ensures.fewer;
       shown = subst (λ a. IfNoSpace (Ok a) (IsFullFor v c.args.call.now)) c.in-Ok-NoSpace.field-0-is c.in-Ok-NoSpace.ensures.full;
       few = λ im o l t of. subst (λ a. IfNoSpace (Ok a) (IsTooFew v im o l t c.args.call.now)) c.in-Ok-NoSpace.field-0-is (c.in-Ok-NoSpace.ensures.space im o l t of);
@@ -132,7 +132,7 @@ returns-in-Ok-NoSpace-clause-answered g c =
     let d = g.D.SharedDisk.state c.args.disk.now in
     let v = seen_alone c.args.view.now in
     answered_full d c.args.view.now c.args.call.now c.in-Ok-NoSpace.need c.in-Ok-NoSpace.free c.requires.on
-    (makes_takes c.args.call.now (subst (λ a. IfNoSpace (Ok a) (λ need free. IsMaking c.args.call.now)) c.in-Ok-NoSpace.field-0-is c.in-Ok-NoSpace.ensures.roomless))
+    (subst (λ a. IfNoSpace (Ok a) (λ need free. TakesSpace c.args.call.now)) c.in-Ok-NoSpace.field-0-is c.in-Ok-NoSpace.ensures.roomless)
     (λ im o l t of. subst (λ a. IfNoSpace (Ok a) (IsTooFew v im o l t c.args.call.now)) c.in-Ok-NoSpace.field-0-is (c.in-Ok-NoSpace.ensures.space im o l t of))
 
 pub returns-in-Err-fetch-clause-failed : goal.returns-in-Err-fetch-clause-failed
