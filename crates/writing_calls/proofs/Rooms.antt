@@ -59,11 +59,11 @@ use Rattle.path_walks.specs.declared.walk.Place.{Place}
 use Rattle.path_walks.specs.declared.walk.Walk.TheVariants.{At}
 use Rattle.path_walks.proofs.Images.{is_shown}
 use Rattle.path_walks.proofs.Wants.{exclusive}
+use Rattle.path_walks.proofs.Longer.{asked_behind, lack_behind}
 use Rattle.room_search.specs.Blocks.{room_holds}
 use Rattle.room_search.specs.Searches.{AreHeldBlocks, IsHeldBlock, IsRoomIn, IsShortIn}
-use Rattle.room_search.proofs.Asking.{asked_behind}
 use Rattle.room_search.proofs.InImage.{group_asked}
-use Rattle.room_search.proofs.Holds.{block_under, lack_behind}
+use Rattle.room_search.proofs.Holds.{block_under}
 use Rattle.writing_calls.specs.Writing.{IsEdit, IsNeedOf, IsTooFew, Puts, by_growth, by_write, call_holds, content_after, end_of, group_holds_of}
 use Rattle.writing_calls.proofs.Doing.{changes, inode_held}
 use Rattle.writing_calls.proofs.Images as images
