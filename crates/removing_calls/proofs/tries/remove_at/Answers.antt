@@ -44,18 +44,6 @@ returns-in-NeedBlock-clause-found g c im o l t of reached =
     inode_needed (g.V.View.seen c.args.view.now) c.args.call.now c.args.place.now c.args.name.now c.requires.last c.requires.seen im o l t of reached c.in-NeedBlock.missing
     (λ h shown. needed_at _ _ _ c.in-NeedBlock.is (c.in_ok-blocks.ensures.needed h shown))
 
-pub returns-then-clause-sound : goal.returns-then-clause-sound
-returns-then-clause-sound g c im o l t of reached =
-    let v = g.V.View.seen c.args.view.now in
-    absurd (above_apart v c.args.call.now c.args.place.now c.args.name.now c.requires.last c.requires.seen c.in-Is.blocks.items (λ h shown. answer_at _ _ _ c.in-Is.is (c.in_ok-blocks.ensures.all h shown)) c.requires.aim
-    im o l t of reached (has_any c.in-Is.blocks.items c.args.place.now.above TODO))
-
-pub returns-then-clause-damaged : goal.returns-then-clause-damaged
-returns-then-clause-damaged g c =
-    let v = g.V.View.seen c.args.view.now in
-    shared_damage v c.args.call.now c.args.place.now c.args.name.now c.requires.last c.requires.seen c.in-Is.blocks.items (λ h shown. answer_at _ _ _ c.in-Is.is (c.in_ok-blocks.ensures.all h shown)) c.requires.aim
-    (has_any c.in-Is.blocks.items c.args.place.now.above TODO)
-
 pub returns-in-Some-clause-found : goal.returns-in-Some-clause-found
 returns-in-Some-clause-found g c im o l t of reached =
     let v = g.V.View.seen c.args.view.now in
