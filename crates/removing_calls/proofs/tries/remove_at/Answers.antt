@@ -1,4 +1,6 @@
-use Rattle.std.proofs.Common.{ℕ, not, List, ap, ◌∙◌, subst}
+use Rattle.std.proofs.Common.{ℕ, not, List, sym, ap, ◌∙◌, subst}
+use Rattle.std.specs.Prelude.{Contains}
+use Rattle.gfs2_layout.proofs.StatePuts.{has_any}
 use Rattle.glock_names.specs.Steps.{TellsOf}
 use Rattle.resource_groups.specs.Freeing as freeing
 use Rattle.glock_names.proofs.StepLaws.{answer_at, needed_at}
@@ -43,6 +45,21 @@ pub returns-in-NeedBlock-clause-found : goal.returns-in-NeedBlock-clause-found
 returns-in-NeedBlock-clause-found g c im o l t of reached =
     inode_needed (g.V.View.seen c.args.view.now) c.args.call.now c.args.place.now c.args.name.now c.requires.last c.requires.seen im o l t of reached c.in-NeedBlock.missing
     (λ h shown. needed_at _ _ _ c.in-NeedBlock.is (c.in_ok-blocks.ensures.needed h shown))
+
+pub returns-then-contains-clause-sound : goal.returns-then-contains-clause-sound
+returns-then-contains-clause-sound g c im o l t of reached =
+    let v = g.V.View.seen c.args.view.now in
+    absurd (above_apart v c.args.call.now c.args.place.now c.args.name.now c.requires.last c.requires.seen c.in-Is.blocks.items (λ h shown. answer_at _ _ _ c.in-Is.is (c.in_ok-blocks.ensures.all h shown)) c.requires.aim
+    im o l t of reached (subst (λ (xs : List ℕ). Contains xs c.args.place.now.above) c.deref.ensures.value (has_any c.deref.result.now c.args.place.now.above (sym c.contains.ensures.value ∙ c.if-contains.true))))
+
+pub returns-then-contains-clause-damaged : goal.returns-then-contains-clause-damaged
+returns-then-contains-clause-damaged g c =
+    let v = g.V.View.seen c.args.view.now in
+    shared_damage v c.args.call.now c.args.place.now c.args.name.now c.requires.last c.requires.seen c.in-Is.blocks.items (λ h shown. answer_at _ _ _ c.in-Is.is (c.in_ok-blocks.ensures.all h shown)) c.requires.aim
+    (subst (λ (xs : List ℕ). Contains xs c.args.place.now.above) c.deref.ensures.value (has_any c.deref.result.now c.args.place.now.above (sym c.contains.ensures.value ∙ c.if-contains.true)))
+
+pub returns-then-contains-clause-kept : goal.returns-then-contains-clause-kept
+returns-then-contains-clause-kept g c = above_there (g.V.View.seen c.args.view.now) c.args.call.now c.args.place.now c.args.name.now c.requires.last c.requires.seen
 
 pub returns-in-Some-clause-found : goal.returns-in-Some-clause-found
 returns-in-Some-clause-found g c im o l t of reached =
