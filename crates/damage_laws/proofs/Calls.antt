@@ -23,7 +23,7 @@ use Rattle.image_model.specs.Claims.{every, Claims, below, HasInode}
 use Rattle.image_model.specs.Flat.{Path}
 use Rattle.image_model.specs.Image.{Image}
 use Rattle.image_model.specs.Owners.{Root, Below}
-use Rattle.image_model.specs.Rules.{Breaks, of_group, of_bitmap, no_header, beyond_groups, free_count, dinode_count}
+use Rattle.image_model.specs.Rules.{Breaks, of_group, of_bitmap, of_owner, no_header, beyond_groups, bits_of, free_count, dinode_count, wrong_bits}
 use Rattle.path_walks.specs.Walks.{LeadsTo, at_root, by_name, IsWrong}
 use Rattle.making_calls.specs.Making as making
 use Rattle.path_walks.specs.Walks as path
@@ -31,6 +31,7 @@ use Rattle.removing_calls.specs.Removing as removing
 use Rattle.writing_calls.specs.Writing as writing
 use Rattle.damage_laws.specs.Telling.{IsReadFrom, HasRootInside, HasWholeGroups, IsTold, itself, by_root, WritesTell, WritesTellExactly, RemovalsTell, RemovalsTellExactly, MakingsTell, MakingsTellExactly, CallsTell, CallsTellExactly}
 use Rattle.damage_laws.proofs.Claimed.{shown, root_claimed, led_there, outside}
+use Rattle.damage_laws.proofs.Owned.{dinode_state, shared_told}
 use Rattle.damage_laws.proofs.Paths.{wrong_inode, paths_tell}
 
 -- ---- an inode in no group to which a path leads is the root
@@ -103,6 +104,8 @@ removals_tell v im call rule b read whole (removing.on_path r x broken) = itself
 removals_tell v im call rule b read whole (removing.stray a from x taken led out) =
     itself 2 from (stray_told v im read (wanted call) (path_of call false) a from x taken.leads (led (every im a) (shown v im read a)) out)
 removals_tell v im call rule b read whole (removing.above a leads out) = root_told v im read (wanted call) (parent_of (path_of call false)) a leads out
+removals_tell v im call rule b read whole (removing.shared a dir taken leads goes) =
+    itself 3 dir (shared_told v im read (wanted call) (path_of call false) a dir taken.below taken.leads leads (goes (every im a) (shown v im read a)))
 removals_tell v im call rule b read whole (removing.in_group a r x blocks taken all held breaks) = itself r x (group_told v im read whole breaks.0 breaks.1 r x breaks.3)
 
 pub removals_tell_exactly : RemovalsTellExactly
@@ -112,10 +115,24 @@ module _ (v : Seen) (im : Image) (call : Call) (read : IsReadFrom v im) (whole :
   in_directory_told : (a rule b : ℕ) → LeadsTo v (wanted call) (making.directory_path call) a → ((h : Holding) → IsShown v a h → IsWrong h rule b) → Breaks im rule b
   in_directory_told a rule b leads wrong = wrong_inode im a (led_there v im read (wanted call) (making.directory_path call) a leads) rule b (wrong (every im a) (shown v im read a))
 
+  -- the directory's own block, which its group's bits call free
+  called_free_told : (a : ℕ) → LeadsTo v (wanted call) (making.directory_path call) a → making.IsCalledFree v a → Breaks im 5 a
+  called_free_told a leads free =
+      let has : HasInode im a = led_there v im read (wanted call) (making.directory_path call) a leads in
+      let listed = (read.groups free.group).0 free.has in
+      let within : group.IsDataOf (group_of_entry listed.0) a = subst (λ k. group.IsDataOf k a) listed.2 free.data_block in
+      let bits : bits_of im listed.0 a ≡ 0 = subst (λ k. group.said im.at k a ≡ 0) listed.2 (free.free im.at (λ k there. group_shown v im read whole k there)) in
+      wrong_bits listed.0 a listed.1 (record { low = within.low; high = within.high })
+      (of_owner has.1.by has.0 has.1.claimed (λ e. no_dinode (sym bits ∙ e ∙ dinode_state has.0 has.1.dinode)))
+    where
+      no_dinode : 0 ≡ 3 → ⊥
+      no_dinode e = cc
+
   makings_told : (rule b : ℕ) → making.IsDamage v call rule b → IsTold v im rule b
   makings_told rule b (making.on_path r x broken) = itself r x (paths_tell v im (wanted call) (making.directory_path call) r x read broken)
   makings_told rule b (making.in_directory a r x leads wrong) = itself r x (in_directory_told a r x leads wrong)
   makings_told rule b (making.in_group r x gets broken) = itself r x (group_told v im read whole broken.group broken.has r x broken.broken)
+  makings_told rule b (making.called_free a gets leads free) = itself 5 a (called_free_told a leads free)
   makings_told rule b (making.no_data_block a leads out) = root_told v im read (wanted call) (making.directory_path call) a leads out
 
 pub makings_tell : MakingsTell

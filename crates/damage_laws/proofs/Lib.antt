@@ -4,3 +4,4 @@ pub mod Calls
 pub mod Standing
 pub mod Mounted
 pub mod Needed
+pub mod Owned

@@ -1,16 +1,20 @@
 -- Damage in an inode, and on a path.
-use Rattle.std.proofs.Common.{◌≡◌, ℕ, suc, sym, subst}
+use Rattle.std.proofs.Common.{◌≡◌, ◌≢◌, ℕ, suc, true≢false, List, None, sym, ◌∙◌, subst}
 use Rattle.std.proofs.lemmas.Bool.{cond-false}
-use Rattle.std.specs.Prelude.{Contains}
+use Rattle.std.specs.Prelude.{Contains, codes}
 use Rattle.gfs2_layout.specs.Inode.{linear_area, records_of}
-use Rattle.gfs2_layout.specs.Records.{records_in}
+use Rattle.gfs2_layout.specs.Records.{Record, record_named, records_in}
 use Rattle.dinode_tree.specs.Broken as inode
 use Rattle.linear_dirs.specs.Broken as directory
-use Rattle.image_model.specs.Claims.{every, below, HasInode, HasDirectory, HasArea, behind_dinode}
+use Rattle.image_model.specs.Claims.{every, below, HasInode, HasDirectory, HasArea, behind_dinode, of_leaf}
 use Rattle.image_model.specs.Image.{Image}
 use Rattle.image_model.specs.Owners.{Named}
-use Rattle.image_model.specs.Rules.{Needs, of_dinode, of_indirect, of_table, HasRecords, from_dinode_block, Breaks, no_header, beyond_groups, other_address, no_number, no_mode, too_high, too_large_for_dinode, too_large_for_height, linear_height, linear_size, past_end, unfilled, no_name, directory_links, entry_count}
+use Rattle.image_model.specs.Rules.{Needs, of_dinode, of_indirect, of_table, HasRecords, from_dinode_block, Breaks, no_header, beyond_groups, other_address, no_number, no_mode, too_high, too_large_for_dinode, too_large_for_height, linear_height, linear_size, past_end, unfilled, no_name, directory_links, entry_count, no_dot, no_dots, HasRecordIn}
+use Rattle.image_model.proofs.Members.{is_in}
+use Rattle.image_reader.proofs.Directories.{leaf_is_hashed}
+use Rattle.path_walks.specs.Walks as path
 use Rattle.path_walks.specs.Walks.{IsLinearDirectory, IsWrong, in_inode, in_directory, on_path, leads_out}
+use Rattle.path_walks.proofs.Images.{none_named}
 use Rattle.damage_laws.specs.Telling.{InodesAreThere, PathsTell}
 use Rattle.damage_laws.proofs.Claimed.{shown, name_claims, led_there, next_there, outside}
 
@@ -54,9 +58,19 @@ module _ (im : Image) (a : ℕ) (has : HasInode im a) where
     broken_directory rule b (directory.wrong_entries other) = entry_count a (records_of (every im a)) records other
     broken_directory rule b (directory.wrong_links other) = directory_links a (records_of (every im a)) records other
 
+    -- its records are those of its dinode's block
+    in_records : (x : ℕ) (area : List ℕ) (r : Record) → HasArea im a x area → Contains (records_in area) r → Contains (records_of (every im a)) r
+    in_records x area r (behind_dinode has plain) in_it = subst (λ rs. Contains rs r) (sym same_records) in_it
+    in_records x area r (of_leaf y leaf) in_it = absurd (true≢false (sym (leaf_is_hashed im leaf.0 y a leaf.1 leaf.2 leaf.3) ∙ linear.linear))
+
+    no_such : (name : List ℕ) → record_named (records_of (every im a)) name ≡ None → (x : ℕ) (r : Record) → HasRecordIn im a x r → r.name ≢ name
+    no_such name none x r has same = none_named (records_of (every im a)) name none r (is_in r (records_of (every im a)) (in_records x has.0 r has.1 has.2)) same
+
   pub wrong_inode : (rule b : ℕ) → IsWrong (every im a) rule b → Breaks im rule b
   wrong_inode rule b (in_inode r x broken) = broken_inode r x broken
   wrong_inode rule b (in_directory r x linear broken) = broken_directory linear r x broken
+  wrong_inode rule b (path.no_dot linear none) = no_dot a (there linear) (no_such linear (codes ".") none)
+  wrong_inode rule b (path.no_dots linear none) = no_dots a (there linear) (no_such linear (codes "..") none)
 
 pub inodes_are_there : InodesAreThere
 inodes_are_there v im wants path a read leads = led_there v im read wants path a leads

@@ -1,14 +1,11 @@
 -- The list of a call's locks: others, and behind them those of groups.
 use Rattle.std.proofs.Common.{◌≡◌, ◌≢◌, ◌||◌, inl, inr, ℕ, zero, suc, ◌+◌, ◌<◌, ◌≤◌, Bool, true, false, true≢false, List, [], ◌∷◌, ◌++◌, refl, sym, ap, ◌∙◌, subst, arith}
 use Rattle.std.proofs.lemmas.Bool.{cases_Bool, cond-true, cond-false}
-use Rattle.std.proofs.lemmas.List.{append_assoc}
-use Rattle.std.proofs.lemmas.List.Elements.{All-nil, All-cons, All-append, All-head, All-tail}
+use Rattle.std.proofs.lemmas.List.Elements.{All-nil, All-cons, All-head, All-tail}
 use Rattle.std.specs.Prelude.{map, filter}
 use Rattle.std.specs.List.{list_any, range_with_len}
 use Rattle.gfs2_layout.specs.declared.rindex.Rindex.{Rindex}
 use Rattle.glock_names.specs.Views.{Seen, group_of_entry}
-use Rattle.glock_names.specs.declared.LockName.{LockName}
-use Rattle.glock_names.specs.declared.State.{State}
 use Rattle.glock_names.specs.declared.State.TheVariants.{Ex}
 use Rattle.glock_names.specs.declared.views.Group.{Group}
 use Rattle.resource_groups.specs.Freeing.{HasSome}
@@ -16,16 +13,6 @@ use Rattle.resource_groups.specs.Shown.{group_lock}
 use Rattle.image_model.proofs.Members.{IsIn}
 use Rattle.path_walks.specs.Holds.{Hold, AreHeld, holds, IsFirstLack, hold_of_group}
 use Rattle.group_locks.specs.Groups.{has_some, holds_of_groups}
-
--- a list behind one that is held
-pub lack_behind : (v : Seen) (list more : List Hold) (lock : LockName) (state : State) → AreHeld v list → IsFirstLack v more lock state → IsFirstLack v (list ++ more) lock state
-lack_behind v list more lock state held lack = record {
-  front = list ++ lack.front;
-  back = lack.back;
-  split = ap (λ x. list ++ x) lack.split ∙ sym (append_assoc list lack.front (record { lock = lock; state = state } ∷ lack.back));
-  held = All-append (λ h. holds v h ≡ true) list lack.front held lack.held;
-  lacks = lack.lacks;
-}
 
 -- ---- ranges
 

@@ -23,9 +23,10 @@ use Rattle.image_changes.specs.Changes.{cover, is_free}
 use Rattle.image_changes.specs.Does.{IsOf, is_content_of}
 use Rattle.draft_changes.proofs.Views.{groups_are_listed}
 use Rattle.path_walks.specs.Holds.{AreHeld, IsFirstLack, holds, hold_of_group}
+use Rattle.path_walks.proofs.Longer.{lack_behind}
 use Rattle.group_locks.specs.Groups.{has_some, holds_of_groups}
 use Rattle.group_locks.specs.Laws.{AreThose, BlocksOfGroupsAreAskedFor, FirstGroupLacksAreFirst, GroupsBreakNothing, GroupsWithBlocksAreListed, HeldGroupsHoldTheList}
-use Rattle.group_locks.proofs.Listed.{lack_behind, groups_held, first_lack, placed_in, held_upto, any_range, range_any}
+use Rattle.group_locks.proofs.Listed.{groups_held, first_lack, placed_in, held_upto, any_range, range_any}
 
 -- block k of a group
 block_in : (im : Image) (g : Rindex) (k : ℕ) → k < g.length → slice_index_or (group_blocks im.at g) k [] ≡ im.at (g.address + k)

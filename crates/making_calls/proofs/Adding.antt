@@ -255,8 +255,8 @@ module _ (v : Seen) (is_directory : Bool) (p : Place) (name : List ℕ) (r : Roo
           said = subst (λ last. IsPutIn numbered last r.group r.block 3) (λ i b. last_same at b i) (is.said.says numbered shown4);
         }
 
-    pub addition_is : IsAddition v is_directory p name r time change
-    addition_is = record {
+    pub addition_is : p.inode ≢ r.block → IsAddition v is_directory p name r time change
+    addition_is apart = record {
       fates = is.said.fates;
       finished = is.said.finished;
       locks = locks shows has;
@@ -273,7 +273,7 @@ module _ (v : Seen) (is_directory : Bool) (p : Place) (name : List ℕ) (r : Roo
       put = is.said.others r.block (no_header data_block has) (no_part data_block has) ∙ ap (λ (m : FinMap nat_cmp Fate). get m r.block) is.put ∙ put_there is.third r.block _;
       new = is.new;
       parent_bytes = is.recorded.bytes;
-      parent_put = λ apart. is.said.others p.inode (no_header inside.2 inside.1) (no_part inside.2 inside.1) ∙ of_fourth p.inode apart
+      parent_put = is.said.others p.inode (no_header inside.2 inside.1) (no_part inside.2 inside.1) ∙ of_fourth p.inode apart
           ∙ ap (λ (m : FinMap nat_cmp Fate). get m p.inode) is.recorded.put ∙ put_there is.recorded.between p.inode _;
       times = is.recorded.still;
       gets = λ old there. is.recorded.gets old (now v r.group is.number is.first is.numbered shows has p.inode inside (old, there));

@@ -9,9 +9,10 @@ use Rattle.glock_names.specs.declared.views.Group.{Group}
 use Rattle.resource_groups.specs.Shown.{IsDataOf}
 use Rattle.resource_groups.proofs.Apart.{one_group}
 use Rattle.path_walks.specs.Holds.{Hold, AreHeld, IsFirstLack, holds, hold_of, hold_for, hold_of_group}
+use Rattle.path_walks.proofs.Longer.{lack_behind}
 use Rattle.room_search.specs.Blocks.{States, free_in_all, free_for, group_holds}
 use Rattle.room_search.specs.Searches as room
-use Rattle.room_search.proofs.Holds.{held_one, lack_behind, lack_one}
+use Rattle.room_search.proofs.Holds.{held_one, lack_one}
 use Rattle.room_search.proofs.Room.{for_all}
 use Rattle.making_calls.specs.Blocks.{blocks_needed, block_holds}
 use Rattle.making_calls.specs.Searches.{IsTaken}

@@ -39,12 +39,13 @@ own_of v node some first =
 
 -- ---- the room
 
--- it lies in a group, whose lock is held, as that of the new inode is
+-- it lies in a group, whose lock is held, as that of the new inode is, and whose bits call it free
 pub record IsHeldRoom (v : Seen) (r : Room) : Type 0 where
   pub has : HasGroup v r.group
   pub data_block : IsDataOf r.group r.block
   pub group_held : holds v (hold_of_group r.group) ≡ true
   pub inode_held : holds v (hold_of r.block Ex) ≡ true
+  pub free : (at : ℕ → List ℕ) → AreShown v at → said at r.group r.block ≡ 0
 
 pub room_held : (v : Seen) (node : ℕ) (r : Room) → IsView v → 1 ≤ length v.groups → 1 ≤ node
     → ((at : ℕ → List ℕ) (own : Group) → AreShown v at → group_of_node v.groups node ≡ Some own → IsUnder v (block_holds (said at) v.groups own) (IsTaken v (said at) v.groups own) (locked.Is (taken.Is r)))
@@ -58,6 +59,7 @@ room_held v node r view some first found =
       data_block = f.1.0.data_block;
       group_held = held_in v (group_holds (said at.0) v.groups own.0 blocks_needed) (hold_of_group r.group) (held_before v (group_holds (said at.0) v.groups own.0 blocks_needed) _ f.0) f.1.1;
       inode_held = subst (AreHeld v) (ap (λ x. hold_for x Ex) f.1.0.first) (held_behind v (group_holds (said at.0) v.groups own.0 blocks_needed) _ f.0) 0 (hold_of r.block Ex) (omega arith);
+      free = λ at shown. (found at own.0 shown own.1).1.0.free;
     }
 
 -- what stands in the way of the search

@@ -53,7 +53,7 @@ use Rattle.room_search.specs.Blocks.{free_for, free_in_all, group_holds, group_o
 use Rattle.room_search.specs.Searches.{AreShown, IsGroupBlock, IsUnder}
 use Rattle.room_search.specs.declared.search.Locked.{Locked}
 use Rattle.room_search.specs.declared.search.Locked.TheVariants as locked
-use Rattle.room_search.proofs.Holds.{block_under, held_before, lack_behind}
+use Rattle.room_search.proofs.Holds.{block_under, held_before}
 use Rattle.room_search.proofs.InImage.{all_said, are_shown, blocks_said, group_asked, group_sound}
 use Rattle.room_search.proofs.Room.{all_listed}
 use Rattle.making_calls.specs.Blocks.{blocks_needed, block_holds, new_holds}
@@ -66,12 +66,12 @@ use Rattle.making_calls.specs.declared.blocks.Room.{Room}
 use Rattle.making_calls.specs.declared.blocks.NewRoom.{NewRoom}
 use Rattle.making_calls.specs.declared.blocks.NewRoom.TheVariants as taken
 use Rattle.making_calls.proofs.Chain.{apart}
-use Rattle.making_calls.proofs.InImage.{asked_behind}
 use Rattle.making_calls.proofs.Rooms.{IsHeldRoom, dinode_inside, new_are, own_of}
 use Rattle.making_calls.proofs.Trees.{changes, takes, taken_list}
 use Rattle.making_calls.proofs.Under.{change_at, directory_listed, each_lock}
 use Rattle.making_calls.proofs.Wanted.{directory_held}
 use Rattle.path_walks.proofs.Wants.{exclusive}
+use Rattle.path_walks.proofs.Longer.{asked_behind, lack_behind}
 
 -- a block that is needed isn't there
 pub needed_absent : (v : Seen) (c : Call) (m : Missing) → IsNeededFor v c m → v.block_at m.block ≡ None
@@ -211,7 +211,7 @@ module _ (v : Seen) (c : Call) (is : IsMaking c) (p : Place) (name : List ℕ) (
         block_inside : r.block < im.count
         block_inside = let fits : owned.GroupFits im its_group.0 = of.stands.laid.fit.each its_group.0 its_group.1 in omega (arith, in_its_group.high, fits.inside)
 
-        directory_apart : p.inode ≢ r.block
+        pub directory_apart : p.inode ≢ r.block
         directory_apart =
             let free = subst (λ k. said im.at k r.block ≡ 0) its_group.2 room_found.1.0.free in
             apart v im o l t of (directory_path c) p.inode reached.place.at its_group.0 its_group.1 r.block in_its_group free
@@ -239,7 +239,7 @@ module _ (v : Seen) (c : Call) (is : IsMaking c) (p : Place) (name : List ℕ) (
           gets = subst (λ n. GetsRecord (im.at p.inode) ((with_change im change).at p.inode) n (record { number = added.number; addr = r.block; kind = kind_for (makes_directory c) }) time) (sym own_name)
               (subst₂ (λ old new. GetsRecord old new name (record { number = added.number; addr = r.block; kind = kind_for (makes_directory c) }) time)
               (sym (of.agrees p.inode reached.place.there.0 reached.place.there.1))
-              (sym (change_at added.fates change added.finished im p.inode (inode_lock p.inode) added.parent_bytes (added.parent_put directory_apart)))
+              (sym (change_at added.fates change added.finished im p.inode (inode_lock p.inode) added.parent_bytes added.parent_put))
               (added.gets reached.place.there.0 reached.place.there.1));
         }
           where
@@ -249,7 +249,7 @@ module _ (v : Seen) (c : Call) (is : IsMaking c) (p : Place) (name : List ℕ) (
         -- and the directory has the time
         pub stamped : {time : ℕ} (change : Change) → IsAddition v (makes_directory c) p name r time change → damage.IsStamped im o l c time change
         stamped {time} change added =
-            let put = added.parent_put directory_apart in (
+            let put = added.parent_put in (
               p.inode,
               reached.place.at,
               subst (λ b. drafting.HasTimes (dinode_of b) time) (sym (change_at added.fates change added.finished im p.inode (inode_lock p.inode) added.parent_bytes put)) added.times,
@@ -273,6 +273,16 @@ module _ (v : Seen) (c : Call) (is : IsMaking c) (p : Place) (name : List ℕ) (
     wrong_damage gets g has held rule b (drafting.in_directory r d broken) =
         damage.in_directory p.inode r d leads (λ h shown. path.in_directory r d (lacks h shown).linear (broken h shown))
     wrong_damage gets g has held rule b (drafting.in_group r d broken) = damage.in_group r d gets (record { group = g; has = has; held = held; broken = broken })
+
+    -- the group's bits call the directory's own block free
+    pub free_damage : IsToGetName v c true → (r : Room) → IsHeldRoom v r → r.block ≡ p.inode → IsDamage v c 5 p.inode
+    free_damage gets r room same = damage.called_free p.inode gets leads (record {
+      group = r.group;
+      has = room.has;
+      data_block = subst (IsDataOf r.group) same room.data_block;
+      held = room.group_held;
+      free = λ at shown. subst (λ b. said at r.group b ≡ 0) same (room.free at shown);
+    })
 
     module _ (r : Room) (room : IsHeldRoom v r) {time : ℕ} (change : Change) (added : IsAddition v (makes_directory c) p name r time change) where
       all_exclusive : (b : ℕ) (lock : LockName) (plain : Bool) (bytes : List ℕ) → get added.fates b ≡ Some (Put lock plain bytes) → v.state_of lock ≡ Ex

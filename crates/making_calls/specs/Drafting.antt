@@ -157,7 +157,7 @@ PutsUnder size fates p r = (b : ℕ) (lock : LockName) (plain : Bool) (bytes : L
 
 -- The change is that of a draft that puts all under these locks and inside the view's groups, frees nothing, and adds the name in each image that
 -- the view may be of. The group's header is put, and counts its next number; its bits say that the new inode's block is a dinode; the new inode is
--- put with that number and with this time, and the directory with the name's record and the time, unless the two were one block.
+-- put with that number and with this time, and the directory with the name's record and the time. So the two are two blocks.
 pub record IsAddition (v : Seen) (is_directory : Bool) (p : Place) (name : List ℕ) (r : Room) (time : ℕ) (change : Change) : Type 0 where
   pub fates : FinMap nat_cmp Fate
   pub finished : IsFinished fates change
@@ -175,7 +175,7 @@ pub record IsAddition (v : Seen) (is_directory : Bool) (p : Place) (name : List 
   pub put : get fates r.block ≡ Some (Put (inode_lock r.block) false bytes)
   pub new : (count : ℕ) → r.block < count → IsNewOf is_directory p number r.block time (alone v.size count r.block bytes)
   pub parent_bytes : List ℕ
-  pub parent_put : p.inode ≢ r.block → get fates p.inode ≡ Some (Put (inode_lock p.inode) false parent_bytes)
+  pub parent_put : get fates p.inode ≡ Some (Put (inode_lock p.inode) false parent_bytes)
   pub times : HasTimes (dinode_of parent_bytes) time
   pub gets : (old : List ℕ) → v.block_at p.inode ≡ Some old → GetsRecord old parent_bytes name (record { number = number; addr = r.block; kind = kind_for is_directory }) time
   pub adds : (im : Image) (o : Owners) (l : Layout) (t : Tree) (path : Path) → IsOf v im o l t → IsPlaceFor im o l path name p r

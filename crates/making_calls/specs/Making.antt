@@ -17,7 +17,7 @@ use Rattle.gfs2_layout.specs.Inode.{is_directory_in, is_hashed_in, linear_area, 
 use Rattle.gfs2_layout.specs.Putting.{has_room, least_length}
 use Rattle.gfs2_layout.specs.Records.{child_named}
 use Rattle.gfs2_layout.specs.Structures.{dinode_of}
-use Rattle.glock_names.specs.Views.{Seen, HasBlock, group_of_entry}
+use Rattle.glock_names.specs.Views.{Seen, HasBlock, HasGroup, group_of_entry}
 use Rattle.glock_names.specs.declared.LockName.{LockName}
 use Rattle.glock_names.specs.declared.State.{State}
 use Rattle.glock_names.specs.declared.steps.Entry.{Entry}
@@ -179,13 +179,23 @@ pub data IsNeededFor (v : Seen) (call : Call) (m : Missing) : Type 0 where
   on_path : IsUnread v (wanted call) (directory_path call) m → IsNeededFor v call m
   of_group : IsToGetName v call true → IsGroupNeeded v m → IsNeededFor v call m
 
+-- A data block of a group whose lock is held, whose bits call it free, as far as the view's groups say.
+pub record IsCalledFree (v : Seen) (b : ℕ) : Type 0 where
+  pub group : Group
+  pub has : HasGroup v group
+  pub data_block : IsDataOf group b
+  pub held : holds v (hold_of_group group) ≡ true
+  pub free : (at : ℕ → List ℕ) → AreShown v at → said at group b ≡ 0
+
 -- the block breaks this rule: on the path, in the directory at its end; where this is to get the name and has room for it, in a group whose lock
--- is held; or (2) that directory is none of the groups' data blocks
+-- is held; or (2) that directory is none of the groups' data blocks; or (5), where it is to get the name and has room for it, its group's bits
+-- call its own block free
 pub data IsDamage (v : Seen) (call : Call) : ℕ → ℕ → Type 0 where
   on_path : (rule b : ℕ) → path.IsDamage v (wanted call) (directory_path call) rule b → IsDamage v call rule b
   in_directory : (a rule b : ℕ) → LeadsTo v (wanted call) (directory_path call) a → ((h : Holding) → IsShown v a h → IsWrong h rule b) → IsDamage v call rule b
   in_group : (rule b : ℕ) → IsToGetName v call true → IsGroupBroken v rule b → IsDamage v call rule b
   no_data_block : (a : ℕ) → LeadsTo v (wanted call) (directory_path call) a → ¬ (HasDataBlock v a) → IsDamage v call 2 a
+  called_free : (a : ℕ) → IsToGetName v call true → LeadsTo v (wanted call) (directory_path call) a → IsCalledFree v a → IsDamage v call 5 a
 
 -- ---- in an image that the view may be of
 

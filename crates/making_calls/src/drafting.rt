@@ -179,7 +179,7 @@ fn kind_of_new(is_directory: bool) -> u16
 }
 
 /// What a draft changes that makes a name in the linear directory at this place, which hasn't it, and the inode that it leads to, in a
-/// free block of a group. The directory has room for the record. It costs two copies of each of five blocks.
+/// free block of a group, which isn't the directory's own. The directory has room for the record. It costs two copies of each of five blocks.
 pub(crate) fn addition<V: View>(
     alloc: Global,
     view: &V,
@@ -196,6 +196,7 @@ pub(crate) fn addition<V: View>(
     requires fits { (h : Holding) → IsShown (V.seen view.now) place.now.inode h → has_room_for h name.now ≡ true }
     requires group { HasGroup (V.seen view.now) room.now.group }
     requires block { shown.IsDataOf room.now.group room.now.block }
+    requires apart { place.now.inode ≢ room.now.block }
     ensures added { IfIs result (IsAddition (V.seen view.now) is_directory place.now name.now room.now stamp.now.time) }
     ensures needed { IfNeedBlock result (shown.IsMissing (V.seen view.now) room.now.group) }
     ensures damaged { IfDamaged result (IsWrongIn (V.seen view.now) place.now.inode room.now.group) }

@@ -103,6 +103,12 @@ fn make_at<V: View>(
         Locked::NeedLock { lock, state } => return Ok(Found::NeedLock { lock, state }),
         Locked::NeedBlock(missing) => return Ok(Found::NeedBlock(missing)),
     };
+    if room.block == place.inode {
+        return Err(CallFault::Damaged {
+            block: place.inode,
+            rule: 5,
+        });
+    }
     match addition(
         alloc,
         view,

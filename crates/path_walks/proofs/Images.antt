@@ -1,13 +1,15 @@
 -- Inodes on a path, in an image that the view may be of.
-use Rattle.std.proofs.Common.{◌≡◌, inl, ℕ, true, false, true≢false, List, map, Option, None, Some, refl, sym, ap, subst, ◌∙◌}
-use Rattle.std.proofs.lemmas.Bool.{cond-true, cond-false, eq-eqb}
+use Rattle.std.proofs.Common.{◌≡◌, inl, inr, ℕ, true, false, true≢false, List, [], ◌∷◌, map, Option, None, Some, refl, sym, ap, subst, ◌∙◌}
+use Rattle.std.proofs.lemmas.Bool.{cases_Bool, cond-true, cond-false, eq-eqb}
 use Rattle.std.proofs.lemmas.Option.{slice_get-map, slice_get_within, get_or_from_slice_get}
-use Rattle.std.specs.Prelude.{IsSome, Contains, slice_get, option_map}
+use Rattle.std.proofs.lemmas.Slice.Eq.{bytes_eq-Decides}
+use Rattle.std.specs.Prelude.{IsSome, Contains, codes, slice_get, option_map}
+use Rattle.std.specs.Str.{bytes_eq}
 use Rattle.file_tree.specs.Names.{IsName}
 use Rattle.file_tree.specs.Tree.{Tree}
 use Rattle.gfs2_layout.specs.Holding.{Part, Itself, Cell, cell_bytes, cell_part, part_at}
 use Rattle.gfs2_layout.specs.Inode.{IsInode, is_directory_in, is_hashed_in, records_of}
-use Rattle.gfs2_layout.specs.Records.{child_named}
+use Rattle.gfs2_layout.specs.Records.{Record, child_named, record_named}
 use Rattle.gfs2_layout.specs.declared.rindex.Rindex.{Rindex}
 use Rattle.glock_names.specs.Views.{Seen, group_of_entry}
 use Rattle.dinode_tree.specs.Broken as inode
@@ -20,6 +22,8 @@ use Rattle.image_model.specs.Image.{Image}
 use Rattle.image_model.specs.Nodes.{node_of}
 use Rattle.image_model.specs.Owners.{Owner, Owners, Super, InGroup, Free, Nobody, Root, Master, Named, Below, Chained, part_in, cell_of, cell_in, is_dinode, IsUsed, holding}
 use Rattle.image_model.specs.Stands.{Layout, flat_of}
+use Rattle.image_model.proofs.Held.{none_some}
+use Rattle.image_model.proofs.Members.{IsIn, is_in}
 use Rattle.image_changes.specs.Changes.{inode_of, lock_in, cover, is_free}
 use Rattle.image_changes.specs.Does.{IsOf, is_content_of}
 use Rattle.image_changes.specs.Instances.{IsAt}
@@ -86,6 +90,16 @@ dinode_plain im o (Named parent name) e = refl
 dinode_plain im o (Below d b k level first) e = cc
 dinode_plain im o (Chained d hash place) e = refl
 
+-- a record of the name is found
+pub none_named : (records : List Record) (name : List ℕ) → record_named records name ≡ None → (r : Record) → IsIn r records → r.name ≡ name → ⊥
+none_named [] name none r at same = elim at [ ]
+none_named (x ∷ xs) name none r (inl e) same =
+    none_some (sym none ∙ cond-true _ (Some x) (record_named xs name) ((bytes_eq-Decides name x.name).1 (sym same ∙ ap (λ (q : Record). q.name) e)))
+none_named (x ∷ xs) name none r (inr at) same = elim (cases_Bool (bytes_eq name x.name)) [
+  | inl here ↦ none_some (sym none ∙ cond-true _ (Some x) (record_named xs name) here)
+  | inr away ↦ none_named xs name (sym (cond-false _ (Some x) (record_named xs name) away) ∙ none) r at same
+]
+
 -- a listed group is one of the view's
 has_group : (gs : List Rindex) (i : ℕ) (g : Rindex) → slice_get gs i ≡ Some g → Contains (map group_of_entry gs) (group_of_entry g)
 has_group gs i g at =
@@ -137,6 +151,17 @@ module _ (v : Seen) (im : Image) (o : Owners) (l : Layout) (t : Tree) (of : IsOf
   pub lock_of_inode : (path : Path) (a : ℕ) → IsAt im o l path a → cover l a (o a) ≡ Some (record { kind = 2; number = a })
   lock_of_inode path a at =
       dinode_cover l a (o a) (is_inode path a at) ∙ ap (lock_in l) (dinode_inode a (o a) (is_inode path a at)) ∙ own_locks im o l a of.stands.laid (inl (path, at))
+
+  -- a directory has `.` and `..`
+  pub has_dot : (path : Path) (a : ℕ) → IsAt im o l path a → is_directory_in (holding im o a) ≡ true → record_named (records_of (holding im o a)) (codes ".") ≡ None → ⊥
+  has_dot path a at dir none =
+      let is = of.stands.laid.directories a (is_inode path a at) dir in
+      none_named (records_of (holding im o a)) (codes ".") none is.dot.entry (is_in is.dot.entry (records_of (holding im o a)) is.dot.there) is.dot.named
+
+  pub has_dots : (path : Path) (a : ℕ) → IsAt im o l path a → is_directory_in (holding im o a) ≡ true → record_named (records_of (holding im o a)) (codes "..") ≡ None → ⊥
+  has_dots path a at dir none =
+      let is = of.stands.laid.directories a (is_inode path a at) dir in
+      none_named (records_of (holding im o a)) (codes "..") none is.dots.entry (is_in is.dots.entry (records_of (holding im o a)) is.dots.there) is.dots.named
 
   -- nothing is broken
   pub unbroken : (path : Path) (a rule b : ℕ) → IsAt im o l path a → inode.IsBroken (holding im o a) rule b → ⊥

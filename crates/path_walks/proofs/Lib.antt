@@ -1,6 +1,7 @@
 pub mod Steps
 pub mod Images
 pub mod Lists
+pub mod Longer
 pub mod Walking
 pub mod Leads
 pub mod Lying

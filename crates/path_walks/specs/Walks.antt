@@ -1,5 +1,5 @@
 -- Where a walk along a path ends: as far as a view shows, and in an image that the view may be of.
-use Rattle.std.specs.Prelude.{ℕ, ◌≡◌, ◌+◌, ◌++◌, true, false, List, [], ◌∷◌, length, take, slice_get, None, Some}
+use Rattle.std.specs.Prelude.{ℕ, ◌≡◌, ◌+◌, ◌++◌, true, false, List, [], ◌∷◌, codes, length, take, slice_get, None, Some}
 use Rattle.file_tree.specs.Tree.{Tree}
 use Rattle.file_tree.specs.Names.{IsName, parent_of}
 use Rattle.file_tree.specs.Apply.{Refused}
@@ -7,7 +7,7 @@ use Rattle.file_tree.specs.Apply as tree
 use Rattle.file_tree.specs.declared.reply.Reply.TheVariants.{NotFound, NotDir}
 use Rattle.gfs2_layout.specs.Holding.{Holding}
 use Rattle.gfs2_layout.specs.Inode.{dinode_in, is_directory_in, is_hashed_in, records_of}
-use Rattle.gfs2_layout.specs.Records.{child_named}
+use Rattle.gfs2_layout.specs.Records.{child_named, record_named}
 use Rattle.glock_names.specs.Views.{Seen, HasBlock}
 use Rattle.glock_names.specs.declared.LockName.{LockName}
 use Rattle.glock_names.specs.declared.State.{State}
@@ -150,10 +150,12 @@ IsWalked v im o l t path wants (walk.NeedBlock m) = IsAskedFor v im o l (holds_i
 
 -- ---- damage
 
--- the inode breaks a rule; that of a linear directory where it is one
+-- the inode breaks a rule; that of a linear directory where it is one, and (10) so where `.` or `..` is missing in it
 pub data IsWrong (h : Holding) : ℕ → ℕ → Type 0 where
   in_inode : (rule b : ℕ) → inode.IsBroken h rule b → IsWrong h rule b
   in_directory : (rule b : ℕ) → IsLinearDirectory h → directory.IsBroken h rule b → IsWrong h rule b
+  no_dot : IsLinearDirectory h → record_named (records_of h) (codes ".") ≡ None → IsWrong h 10 h.own
+  no_dots : IsLinearDirectory h → record_named (records_of h) (codes "..") ≡ None → IsWrong h 10 h.own
 
 -- As far as the view shows, the block breaks this rule: in an inode on the path; or (2) a name on the path leads to a block that is none of
 -- the groups' data blocks.

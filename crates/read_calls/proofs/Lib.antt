@@ -1,3 +1,4 @@
 pub mod Answering
+pub mod Few
 pub mod Lists
 pub mod Trees

@@ -29,10 +29,10 @@ use Rattle.image_changes.proofs.DirectoryNames.{directories_list}
 use Rattle.image_changes.proofs.Nodes.{file_thing}
 use Rattle.image_changes.proofs.Walks.{walks_find}
 use Rattle.path_walks.specs.Holds.{Hold, AreHeld, EndsWith, holds_in}
-use Rattle.path_walks.specs.Walks.{IsWrong, in_inode, in_directory, IsDamage, on_path, LeadsTo, at_root, by_name, the_root, the_child}
+use Rattle.path_walks.specs.Walks.{IsWrong, in_inode, in_directory, no_dot, no_dots, IsDamage, on_path, LeadsTo, at_root, by_name, the_root, the_child}
 use Rattle.call_locks.specs.declared.want.Want.{Want}
 use Rattle.dinode_tree.specs.Shown.{IsShown}
-use Rattle.path_walks.proofs.Images.{is_inode, is_sound, unbroken, unbroken_directory}
+use Rattle.path_walks.proofs.Images.{has_dot, has_dots, is_inode, is_sound, unbroken, unbroken_directory}
 use Rattle.read_calls.specs.Reading.{IsReading, IsRangeOf, IsStatOf, IsListOf, IsAnswerOf, IsFoundBy, IsFound, IsAsked, IsAnswered, IsNeededFor, IsHashedFor, IsToldOf}
 use Rattle.read_calls.specs.declared.answers.Read.{Read}
 use Rattle.read_calls.specs.declared.answers.Read.TheVariants as read
@@ -98,23 +98,26 @@ module _ (v : Seen) (im : Image) (o : Owners) (l : Layout) (t : Tree) (of : IsOf
   range_found list ends held from count (read.Reply reply.TooBig) is = absurd is
   range_found list ends held from count (read.Reply reply.NoSpace) is = absurd is
 
-  stat_found : (r : Reply) → IsStatOf (holding im o a) r → stat_reply (walk t path) ≡ r
-  stat_found (reply.Stat File size) is = ap stat_reply (file_there is.0) ∙ ap (reply.Stat File) (file_size ∙ sym is.1)
-  stat_found (reply.Stat Dir count) is =
+  stat_found : (list : List Hold) → AreHeld v list → (r : Read) → IsStatOf (holding im o a) r → IsFoundBy v im o l (stat_reply (walk t path)) list r
+  stat_found list held (read.Reply (reply.Stat File size)) is = (ap stat_reply (file_there is.0) ∙ ap (reply.Stat File) (file_size ∙ sym is.1), held)
+  stat_found list held (read.Reply (reply.Stat Dir count)) is =
       let names = listed is.0 in
       let counted : count_in names.entries ≡ count = omega (arith, names.counted, is.1) in
-      ap stat_reply names.walks ∙ ap (reply.Stat Dir) counted
-  stat_found reply.IsDir is = absurd is
-  stat_found (reply.Bytes bytes) is = absurd is
-  stat_found reply.Ok is = absurd is
-  stat_found (reply.Names names) is = absurd is
-  stat_found reply.NotFound is = absurd is
-  stat_found reply.NotDir is = absurd is
-  stat_found reply.Exists is = absurd is
-  stat_found reply.NotEmpty is = absurd is
-  stat_found reply.Inside is = absurd is
-  stat_found reply.TooBig is = absurd is
-  stat_found reply.NoSpace is = absurd is
+      (ap stat_reply names.walks ∙ ap (reply.Stat Dir) counted, held)
+  stat_found list held (read.Hashed b) is = tt
+  stat_found list held (read.NeedBlock m) is = absurd is
+  stat_found list held (read.NeedLock lock state) is = absurd is
+  stat_found list held (read.Reply reply.IsDir) is = absurd is
+  stat_found list held (read.Reply (reply.Bytes bytes)) is = absurd is
+  stat_found list held (read.Reply reply.Ok) is = absurd is
+  stat_found list held (read.Reply (reply.Names names)) is = absurd is
+  stat_found list held (read.Reply reply.NotFound) is = absurd is
+  stat_found list held (read.Reply reply.NotDir) is = absurd is
+  stat_found list held (read.Reply reply.Exists) is = absurd is
+  stat_found list held (read.Reply reply.NotEmpty) is = absurd is
+  stat_found list held (read.Reply reply.Inside) is = absurd is
+  stat_found list held (read.Reply reply.TooBig) is = absurd is
+  stat_found list held (read.Reply reply.NoSpace) is = absurd is
 
   list_found : (list : List Hold) → AreHeld v list → (r : Read) → IsListOf (holding im o a) r → IsFoundBy v im o l (list_reply (walk t path)) list r
   list_found list held (read.Reply reply.NotDir) is = (ap list_reply (file_there is), held)
@@ -141,10 +144,7 @@ pub answer_found : (v : Seen) (im : Image) (o : Owners) (l : Layout) (t : Tree) 
 answer_found v im o l t of (call.Read p from count) a at ends held r is = range_found v im o l t of p a at (holds_in im o l p (wanted (call.Read p from count))) ends held from count r is
 answer_found v im o l t of (call.Dread p from count) a at ends held r is = range_found v im o l t of p a at (holds_in im o l p (wanted (call.Dread p from count))) ends held from count r is
 answer_found v im o l t of (call.List p) a at ends held r is = list_found v im o l t of p a at (holds_in im o l p (wanted (call.List p))) held r is
-answer_found v im o l t of (call.Stat p) a at ends held (read.Reply r) is = (stat_found v im o l t of p a at r is, held)
-answer_found v im o l t of (call.Stat p) a at ends held (read.NeedBlock m) is = absurd is
-answer_found v im o l t of (call.Stat p) a at ends held (read.Hashed b) is = absurd is
-answer_found v im o l t of (call.Stat p) a at ends held (read.NeedLock lock state) is = absurd is
+answer_found v im o l t of (call.Stat p) a at ends held r is = stat_found v im o l t of p a at (holds_in im o l p (wanted (call.Stat p))) held r is
 answer_found v im o l t of (call.Create p) a at ends held r is = absurd is
 answer_found v im o l t of (call.Mkdir p) a at ends held r is = absurd is
 answer_found v im o l t of (call.Unlink p) a at ends held r is = absurd is
@@ -163,6 +163,8 @@ ok_so P Q so (Err f) holds = tt
 pub nothing_wrong : (v : Seen) (im : Image) (o : Owners) (l : Layout) (t : Tree) → IsOf v im o l t → (path : Path) (a : ℕ) → IsAt im o l path a → (rule b : ℕ) → IsWrong (holding im o a) rule b → ⊥
 nothing_wrong v im o l t of path a at rule b (in_inode r c broken) = unbroken v im o l t of path a r c at broken
 nothing_wrong v im o l t of path a at rule b (in_directory r c is broken) = unbroken_directory v im o l t of path a r c at is.directory is.linear broken
+nothing_wrong v im o l t of path a at rule b (no_dot is none) = has_dot v im o l t of path a at is.directory none
+nothing_wrong v im o l t of path a at rule b (no_dots is none) = has_dots v im o l t of path a at is.directory none
 
 -- what is wrong with an inode to which the path leads is damage on it
 pub wrong_damage : (v : Seen) (wants : List Want) (path : Path) (a : ℕ) → LeadsTo v wants path a → (rule b : ℕ) → ((h : Holding) → IsShown v a h → IsWrong h rule b) → IsDamage v wants path rule b

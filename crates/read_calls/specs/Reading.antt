@@ -1,5 +1,5 @@
 -- The calls that read.
-use Rattle.std.specs.Prelude.{ℕ, ◌≡◌, ◌-◌, min, ⊤, true, false, List, [], length}
+use Rattle.std.specs.Prelude.{ℕ, ◌≡◌, ◌+◌, ◌-◌, ◌<◌, min, ⊤, true, false, List, [], length}
 use Rattle.file_tree.specs.declared.call.Call.{Call}
 use Rattle.file_tree.specs.declared.call.Call.TheVariants.{Read, Dread, Stat, List as ListNames}
 use Rattle.file_tree.specs.declared.reply.Kind.TheVariants.{File, Dir}
@@ -43,10 +43,12 @@ IsRangeOf v h at count (found.Reply (reply.Bytes bytes)) = (is_directory_in h �
 IsRangeOf v h at count (found.NeedBlock m) = (is_directory_in h ≡ false) × IsNeeded v h (IsInRange h at count) 0 m
 IsRangeOf v h at count _ = ⊥
 
--- a file's size, or how many names a directory has: its dinode counts two records more
-abbrev pub IsStatOf : Holding → Reply → Type 0
-IsStatOf h (reply.Stat File size) = (is_directory_in h ≡ false) × (size ≡ (dinode_in h).size)
-IsStatOf h (reply.Stat Dir count) = (is_directory_in h ≡ true) × (count ≡ (dinode_in h).entries - 2)
+-- A file's size, or how many names a directory has: its dinode counts two records more. Of a hashed one that counts fewer than two it isn't told:
+-- its records would have to be read.
+abbrev pub IsStatOf : Holding → Found → Type 0
+IsStatOf h (found.Reply (reply.Stat File size)) = (is_directory_in h ≡ false) × (size ≡ (dinode_in h).size)
+IsStatOf h (found.Reply (reply.Stat Dir count)) = (is_directory_in h ≡ true) × (2 + count ≡ (dinode_in h).entries)
+IsStatOf h (found.Hashed a) = (a ≡ h.own) × (is_hashed_in h ≡ true) × ((dinode_in h).entries < 2)
 IsStatOf h _ = ⊥
 
 -- a directory's names in byte order
@@ -59,7 +61,7 @@ IsListOf h _ = ⊥
 abbrev pub IsAnswerOf : Seen → Holding → Call → Found → Type 0
 IsAnswerOf v h (Read path at count) f = IsRangeOf v h at count f
 IsAnswerOf v h (Dread path at count) f = IsRangeOf v h at count f
-IsAnswerOf v h (Stat path) (found.Reply r) = IsStatOf h r
+IsAnswerOf v h (Stat path) f = IsStatOf h f
 IsAnswerOf v h (ListNames path) f = IsListOf h f
 IsAnswerOf v h _ f = ⊥
 
@@ -71,17 +73,17 @@ IsAskedRange v a at count (found.Reply r) = ⊤
 IsAskedRange v a at count (found.NeedBlock m) = (h : Holding) → IsShown v a h → (is_directory_in h ≡ false) × IsNeeded v h (IsInRange h at count) 0 m
 IsAskedRange v a at count _ = ⊥
 
--- a hashed directory's names
-abbrev pub IsAskedList : Seen → ℕ → Found → Type 0
-IsAskedList v a (found.Reply r) = ⊤
-IsAskedList v a (found.Hashed b) = (b ≡ a) × ((h : Holding) → IsShown v a h → is_hashed_in h ≡ true)
-IsAskedList v a _ = ⊥
+-- the records of a hashed directory
+abbrev pub IsAskedRecords : Seen → ℕ → Found → Type 0
+IsAskedRecords v a (found.Reply r) = ⊤
+IsAskedRecords v a (found.Hashed b) = (b ≡ a) × ((h : Holding) → IsShown v a h → is_hashed_in h ≡ true)
+IsAskedRecords v a _ = ⊥
 
 abbrev pub IsAsked : Seen → ℕ → Call → Found → Type 0
 IsAsked v a (Read path at count) f = IsAskedRange v a at count f
 IsAsked v a (Dread path at count) f = IsAskedRange v a at count f
-IsAsked v a (ListNames path) f = IsAskedList v a f
-IsAsked v a (Stat path) (found.Reply r) = ⊤
+IsAsked v a (ListNames path) f = IsAskedRecords v a f
+IsAsked v a (Stat path) f = IsAskedRecords v a f
 IsAsked v a call f = ⊥
 
 -- a reply isn't that of too few free blocks
@@ -103,7 +105,7 @@ pub data IsNeededFor (v : Seen) (call : Call) (m : Missing) : Type 0 where
   on_path : IsUnread v (wanted call) (path_of call false) m → IsNeededFor v call m
   at_end : (a : ℕ) → LeadsTo v (wanted call) (path_of call false) a → IsAsked v a call (found.NeedBlock m) → IsNeededFor v call m
 
--- a hashed directory without which the call can't be answered: one on its path, or the one whose names it lists
+-- a hashed directory without which the call can't be answered: one on its path, or the one whose records it has to read
 pub data IsHashedFor (v : Seen) (call : Call) (b : ℕ) : Type 0 where
   on_path : IsOnTheWay v (wanted call) (path_of call false) b (λ h. is_hashed_in h ≡ true) → IsHashedFor v call b
   at_end : (a : ℕ) → LeadsTo v (wanted call) (path_of call false) a → IsAsked v a call (found.Hashed b) → IsHashedFor v call b

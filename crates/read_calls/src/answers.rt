@@ -1,19 +1,19 @@
 // What a call that reads answers of the inode at its path's end.
-ghost use Rattle.std.specs.Prelude.{ℕ, ◌≡◌, [], List, IfOk, OnOk};
+ghost use Rattle.std.specs.Prelude.{ℕ, ◌≡◌, ◌<◌, [], List, IfOk, OnOk};
 ghost use Rattle.file_tree.specs.Tree.{all_put};
 ghost use Rattle.gfs2_layout.specs.Holding.{Holding};
 ghost use Rattle.gfs2_layout.specs.Inode.{dinode_in};
 ghost use Rattle.glock_names.specs.Steps.{IfDamaged};
 ghost use Rattle.glock_names.specs.Views.{HasBlock, IsOfView};
 ghost use Rattle.dinode_tree.specs.Shown.{IsShown};
-ghost use Rattle.read_calls.specs.Reading.{IsReading, IsRangeOf, IsStatOf, IsListOf, IsAnswerOf, IsAskedRange, IsAskedList, IsAsked, IsSpaceless};
-ghost use Rattle.path_walks.specs.Answers.{HasSpace};
-ghost use Rattle.path_walks.specs.Walks.{IsWrong};
+ghost use Rattle.read_calls.specs.Reading.{IsReading, IsRangeOf, IsStatOf, IsListOf, IsAnswerOf, IsAskedRange, IsAskedRecords, IsAsked, IsSpaceless};
+ghost use Rattle.linear_dirs.specs.Shown.{IsLinearIn};
+ghost use Rattle.path_walks.specs.Walks.{IsLinearDirectory, IsWrong};
 
 use dinode_tree::read_range;
 use file_tree::{Call, Content, Kind, Name, NameList, Reply};
 use glock_names::{CallFault, LockName, Missing, State, Step, View};
-use linear_dirs::names;
+use linear_dirs::{look, names};
 use no_memory::NoMemory;
 use path_walks::Place;
 use std::alloc::Global;
@@ -67,16 +67,56 @@ fn read_file<V: View>(
     }
 }
 
-// A file's size, or how many names a directory has: `.` and `..` are counted in its dinode too.
-fn stat(place: &Place) -> Reply
-    ensures stat { (h : Holding) → place.now.dinode ≡ dinode_in h → IsStatOf h result }
-    ensures spaceless { HasSpace result }
+// The rule that a linear directory breaks whose dinode counts fewer records than `.` and `..`: one of these is missing in it, or it has more
+// records than are counted.
+fn rule_of_few<V: View>(view: &V, dir: u64) -> Result<u16, CallFault>
+    requires there { HasBlock (V.seen view.now) dir }
+    requires plain { IsLinearIn (V.seen view.now) dir }
+    requires linear { (h : Holding) → IsShown (V.seen view.now) dir h → IsLinearDirectory h }
+    requires few { (h : Holding) → IsShown (V.seen view.now) dir h → (dinode_in h).entries < 2 }
+    ensures rule { (h : Holding) → IsShown (V.seen view.now) dir h → IfOk result (λ rule. IsWrong h rule dir) }
+    ensures damaged { (h : Holding) → IsShown (V.seen view.now) dir h → IfDamaged result (IsWrong h) }
+    ensures kept { IfDamaged result (IsOfView (V.seen view.now)) }
 {
-    if place.dinode.is_directory() {
-        Reply::Stat(Kind::Dir, u64::from(place.dinode.entries.saturating_sub(2)))
-    } else {
-        Reply::Stat(Kind::File, place.dinode.size)
+    let Step::Is(dot) = look(view, dir, b".".as_slice())? else {
+        unreachable!()
+    };
+    if dot.is_none() {
+        return Ok(10);
     }
+    let Step::Is(dots) = look(view, dir, b"..".as_slice())? else {
+        unreachable!()
+    };
+    if dots.is_none() {
+        return Ok(10);
+    }
+    Ok(12)
+}
+
+// A file's size, or how many names a directory has: `.` and `..` are counted in its dinode too.
+fn stat<V: View>(view: &V, place: &Place) -> Result<Read, CallFault>
+    requires there { HasBlock (V.seen view.now) place.now.inode }
+    requires dinode { (h : Holding) → IsShown (V.seen view.now) place.now.inode h → place.now.dinode ≡ dinode_in h }
+    ensures read { (h : Holding) → IsShown (V.seen view.now) place.now.inode h → IfOk result (IsStatOf h) }
+    ensures asked { IfOk result (IsAskedRecords (V.seen view.now) place.now.inode) }
+    ensures spaceless { IfOk result IsSpaceless }
+    ensures damaged { (h : Holding) → IsShown (V.seen view.now) place.now.inode h → IfDamaged result (IsWrong h) }
+    ensures kept { IfDamaged result (IsOfView (V.seen view.now)) }
+{
+    if !place.dinode.is_directory() {
+        return Ok(Read::Reply(Reply::Stat(Kind::File, place.dinode.size)));
+    }
+    if let Some(count) = place.dinode.entries.checked_sub(2) {
+        return Ok(Read::Reply(Reply::Stat(Kind::Dir, u64::from(count))));
+    }
+    if place.dinode.flags / 2 % 2 == 1 {
+        return Ok(Read::Hashed(place.inode));
+    }
+    let rule = rule_of_few(view, place.inode)?;
+    Err(CallFault::Damaged {
+        block: place.inode,
+        rule,
+    })
 }
 
 // Lists the names of a directory.
@@ -84,7 +124,7 @@ fn list<V: View>(alloc: Global, view: &V, place: &Place) -> Result<Read, CallFau
     requires there { HasBlock (V.seen view.now) place.now.inode }
     requires dinode { (h : Holding) → IsShown (V.seen view.now) place.now.inode h → place.now.dinode ≡ dinode_in h }
     ensures read { (h : Holding) → IsShown (V.seen view.now) place.now.inode h → IfOk result (IsListOf h) }
-    ensures asked { IfOk result (IsAskedList (V.seen view.now) place.now.inode) }
+    ensures asked { IfOk result (IsAskedRecords (V.seen view.now) place.now.inode) }
     ensures spaceless { IfOk result IsSpaceless }
     ensures damaged { (h : Holding) → IsShown (V.seen view.now) place.now.inode h → IfDamaged result (IsWrong h) }
     ensures kept { IfDamaged result (IsOfView (V.seen view.now)) }
@@ -121,7 +161,7 @@ pub(crate) fn answer_at<V: View>(
         Call::Read(_, at, count) | Call::Dread(_, at, count) => {
             read_file(alloc, view, place, *at, *count)
         }
-        Call::Stat(_) => Ok(Read::Reply(stat(place))),
+        Call::Stat(_) => stat(view, place),
         Call::List(_) => list(alloc, view, place),
         _ => unreachable!(),
     }

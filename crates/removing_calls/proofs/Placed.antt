@@ -1,6 +1,6 @@
 -- A removal at the place to which the walk came: what is asked for, and what is damaged.
-use Rattle.std.proofs.Common.{◌≡◌, ◌≢◌, ◌↔◌, inl, ℕ, ◌+◌, true, false, List, [], ◌∷◌, ◌++◌, length, refl, sym, ap, ◌∙◌, subst}
-use Rattle.std.proofs.lemmas.List.{append_assoc, append-nil}
+use Rattle.std.proofs.Common.{◌≡◌, ◌≢◌, ◌↔◌, inl, ℕ, ◌+◌, true, false, List, [], ◌∷◌, ◌++◌, length, Some, refl, sym, ap, ◌∙◌, subst, arith}
+use Rattle.std.proofs.lemmas.List.{append_assoc, append-nil, length-append}
 use Rattle.std.specs.Prelude.{Contains}
 use Rattle.cluster_history.specs.Changes.{is_ok}
 use Rattle.file_tree.specs.Apply.{apply, Answer}
@@ -26,9 +26,11 @@ use Rattle.resource_groups.specs.Putting.{HasDataBlock}
 use Rattle.image_model.specs.Flat.{Path}
 use Rattle.image_model.specs.Image.{Image}
 use Rattle.image_model.specs.Owners.{Owners, holding, is_dinode}
-use Rattle.image_model.specs.Stands.{Layout}
+use Rattle.image_model.specs.Stands.{Layout, flat_of}
 use Rattle.image_changes.specs.Does.{IsOf}
+use Rattle.image_changes.proofs.FlatPaths.{one_path}
 use Rattle.image_changes.proofs.Frame.{dinode_its}
+use Rattle.image_changes.proofs.Laid.{root_named}
 use Rattle.path_walks.specs.Holds.{AreHeld, IsAskedFor, IsFirstLack, holds_in}
 use Rattle.path_walks.specs.Walks.{IsSeenAt, IsWrong, IsHeldAt, IsNext, LeadsTo, Names, at_root, by_name, the_root, the_child, IsLastOf}
 use Rattle.path_walks.specs.Walks as path
@@ -43,10 +45,10 @@ use Rattle.removing_calls.specs.Removing.{IsRemoving, IsAimOf, IsReachedIn, IsDa
 use Rattle.removing_calls.specs.Removing as damage
 use Rattle.removing_calls.specs.declared.aims.Aim.TheVariants as aim
 use Rattle.removing_calls.proofs.Above.{above_names, linear_in, named_in}
-use Rattle.removing_calls.proofs.Found.{taken_list, its_inside, none_broken, none_wrong_below, all_held, first_unheld, group_asked}
-use Rattle.removing_calls.proofs.Listed.{asked_before}
+use Rattle.removing_calls.proofs.Found.{goes_its, taken_list, its_inside, none_broken, none_wrong_below, all_held, first_unheld, group_asked}
 use Rattle.removing_calls.proofs.Trees.{IsTakenBy, aim_takes}
 use Rattle.path_walks.proofs.Asked.{asked}
+use Rattle.path_walks.proofs.Longer.{asked_before}
 
 -- what is wrong with an inode to which a front of the path leads is damage on the path
 wrong_on_way : (v : Seen) (wants : List Want) (front : Path) (a : ℕ) → LeadsTo v wants front a → (whole back : Path) → whole ≡ front ++ back → (rule b : ℕ)
@@ -110,6 +112,10 @@ module _ (v : Seen) (c : Call) (p : Place) (name : List ℕ) (last : IsLastOf (p
     removal_damage taken groups rule b (drafting.in_group r d breaks) =
         damage.in_group p.inode r d blocks (record { below = below_root; leads = there.leads; there = there.there; aim = taken }) goes groups breaks
 
+    pub shared_damage : ((h : Holding) → IsShown v p.inode h → IsAimOf c h aim.Taken) → Contains blocks p.above → IsDamage v c 3 p.above
+    shared_damage taken has =
+        damage.shared p.inode p.above (record { below = below_root; leads = there.leads; there = there.there; aim = taken }) there.above (λ h shown. (goes h shown p.above).0 has)
+
     module _ (taken : (h : Holding) → IsShown v p.inode h → IsAimOf c h aim.Taken) (im : Image) (o : Owners) (l : Layout) (t : Tree) (of : IsOf v im o l t) (reached : IsReachedIn v im o l c p) where
       shown : IsShown v p.inode (holding im o p.inode)
       shown = is_shown v im o l t of (path_of c false) p.inode reached.place.at
@@ -125,6 +131,16 @@ module _ (v : Seen) (c : Call) (p : Place) (name : List ℕ) (last : IsLastOf (p
 
       list_is : holds_for im o l t c ≡ holds_in im o l (path_of c false) (wanted c) ++ holds_of_groups (is_block_of (holding im o p.inode)) l.groups
       list_is = taken_list im o l t c p.inode (ap is_ok taken_ok) reached.place.at
+
+      -- the directory above is none of the blocks that go
+      pub above_apart : ¬ (Contains blocks p.above)
+      above_apart has =
+          let its = goes_its v im o l t of p.inode p.above so ((goes (holding im o p.inode) shown p.above).0 has) in
+          let own = dinode_its p.above (o p.above) (is_inode v im o l t of (parent_of (path_of c false)) p.above reached.place.above) in
+          let own_is : Some p.above ≡ Some p.inode = sym own ∙ its in
+          let same : parent_of (path_of c false) ≡ path_of c false =
+          one_path (flat_of im o) _ l.root (root_named im o l of.stands.laid) (parent_of (path_of c false)) (path_of c false) p.above reached.place.above (reached.place.at ∙ sym own_is) in
+          absurd (omega (arith, ap length same, ap length last.1, length-append last.0 (name ∷ []), ap length (ap parent_of last.1 ∙ parent_of_next last.0 name)))
 
       pub list_held : GroupsAreHeld v blocks → AreHeld v (holds_for im o l t c)
       list_held groups = subst (AreHeld v) (sym list_is)

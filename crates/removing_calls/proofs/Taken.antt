@@ -1,7 +1,7 @@
 -- A directory that is touched in a new draft, and of which a name is taken then.
 use Rattle.std.proofs.Common.{◌≡◌, ◌≢◌, ◌≤◌, ℕ, false, List, [], ◌∷◌, length, take, drop, None, Some, sym, ap, ◌∙◌, subst, subst₂}
 use Rattle.std.proofs.lemmas.Bool.{and_right}
-use Rattle.std.specs.Prelude.{IsSome, ◌&&◌}
+use Rattle.std.specs.Prelude.{Contains, IsSome, ◌&&◌}
 use Rattle.std.specs.FinMap.{FinMap, get, empty, insert, get-empty}
 use Rattle.std.specs.Ordering.{nat_cmp}
 use Rattle.drafts.specs.Fates.{AreWhole, Drafted, block_with, seen_in, seen_with}
@@ -33,6 +33,7 @@ use Rattle.new_inodes.specs.Touched.{IsTouched, with_times}
 use Rattle.new_inodes.proofs.Laid.{block_large, laid_touched}
 use Rattle.resource_groups.specs.Freeing.{AreFreed, KeepsRest, IsNeededFor, BreaksSome}
 use Rattle.resource_groups.specs.Putting.{HasDataBlock}
+use Rattle.resource_groups.proofs.Apart.{no_header_data}
 use Rattle.image_changes.specs.Drafted.{IsFinished}
 use Rattle.path_walks.specs.Walks.{IsLinearDirectory}
 use Rattle.removing_calls.specs.Drafting.{HasTimes, LosesRecord, TouchesAlone, IsNameTaken, IsFreedAndDone, IsRemoval}
@@ -252,10 +253,16 @@ module _ {V : Type 0} (seen : V → Seen) (view : V) (d : Drafted V) (same : d.v
   pub kept_of : HasBlock (seen view) dir → (b : ℕ) → HasBlock (seen_in seen d) b → HasBlock (seen view) b
   kept_of there b has = seen_before (seen view) dir d.fates (taken_alone (seen view) dir name time d.fates taken) there b (subst (λ w. HasBlock w b) seen_then has)
 
-  pub removal_of : IsView (seen view) → (blocks : List ℕ) (change : Change) → IsFreedAndDone seen d blocks change → IsRemoval seen view dir name time blocks change
-  removal_of shows blocks change freed = record {
-    shows = shows;
-    fates = d.fates;
-    taken = taken;
-    freed = subst (λ e. IsFreedAndDone seen e blocks change) (ap (λ (x : V). record { view = x; fates = d.fates }) same) freed;
-  }
+  pub removal_of : IsView (seen view) → HasDataBlock (seen view) dir → (blocks : List ℕ) → ¬ (Contains blocks dir) → (change : Change) → IsFreedAndDone seen d blocks change
+      → IsRemoval seen view dir name time blocks change
+  removal_of shows inside blocks apart change freed =
+      let over : IsFreedAndDone seen (record { view = view; fates = d.fates }) blocks change =
+      subst (λ e. IsFreedAndDone seen e blocks change) (ap (λ (x : V). record { view = x; fates = d.fates }) same) freed in
+      record {
+        shows = shows;
+        fates = d.fates;
+        taken = taken;
+        freed = over;
+        stays = over.rest.others dir apart (λ g has some head. no_header_data (seen view) shows g inside.0 has inside.1 dir head inside.2)
+            ∙ ap (λ (m : FinMap nat_cmp Fate). get m dir) taken.takes.put ∙ put_at taken.first dir _;
+      }

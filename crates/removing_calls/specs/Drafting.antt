@@ -1,7 +1,7 @@
 -- What the draft of a removal is: the directory is touched, the name is taken from it, and then blocks are freed.
 use Rattle.std.specs.Prelude.{ℕ, ◌≡◌, false, List, [], ◌∷◌, take, drop, None, Some}
 use Rattle.std.specs.Ordering.{nat_cmp}
-use Rattle.std.specs.FinMap.{FinMap, empty, insert}
+use Rattle.std.specs.FinMap.{FinMap, empty, get, insert}
 use Rattle.drafts.specs.Fates.{AreWhole, Drafted, seen_with}
 use Rattle.drafts.specs.declared.change.Change.{Change}
 use Rattle.drafts.specs.declared.fate.Fate.{Fate}
@@ -74,12 +74,14 @@ pub record IsFreedAndDone {V : Type 0} (seen : V → Seen) (old : Drafted V) (bl
   pub whole : AreWhole (seen old.view).size fates
   pub finished : IsFinished fates change
 
--- The change is that of a draft over the view in which the directory has this time and lacks the name, and these blocks are freed.
+-- The change is that of a draft over the view in which the directory has this time and lacks the name, and these blocks are freed. What was put of
+-- the directory stays, so none of the blocks is its own.
 pub record IsRemoval {V : Type 0} (seen : V → Seen) (view : V) (dir : ℕ) (name : List ℕ) (time : ℕ) (blocks : List ℕ) (change : Change) : Type 0 where
   pub shows : IsView (seen view)
   pub fates : FinMap nat_cmp Fate
   pub taken : IsNameTaken (seen view) dir name time fates
   pub freed : IsFreedAndDone seen (record { view = view; fates = fates }) blocks change
+  pub stays : get freed.fates dir ≡ Some (Put (inode_lock dir) false taken.takes.bytes)
 
 -- the directory breaks the rule, or a group that has some of these blocks does
 pub data IsWrongIn (v : Seen) (dir : ℕ) (blocks : List ℕ) : ℕ → ℕ → Type 0 where

@@ -156,11 +156,13 @@ IsToldOf seen view call time (found.Hashed b) = IsHashedFor (seen view) call b
 IsToldOf seen view call time (found.NeedLock lock state) = IsLackedFor (seen view) call lock state
 
 -- The block breaks this rule: on the path; or (2) a pointer in it of the inode that is to go leads to a block that is no data block of a group,
--- or it is the directory above, which is none; or in a group that has some of the inode's blocks, the locks of all such groups being held.
+-- or it is the directory above, which is none; or (3) it is the directory above, and one of the blocks that would go with the inode; or in a group
+-- that has some of the inode's blocks, the locks of all such groups being held.
 pub data IsDamage (v : Seen) (call : Call) : ℕ → ℕ → Type 0 where
   on_path : (rule b : ℕ) → path.IsDamage v (wanted call) (path_of call false) rule b → IsDamage v call rule b
   stray : (a from b : ℕ) → IsTakenAt v call a → ((h : Holding) → IsShown v a h → IsLedFrom h from b) → ¬ (HasDataBlock v b) → IsDamage v call 2 from
   above : (a : ℕ) → LeadsTo v (wanted call) (parent_of (path_of call false)) a → ¬ (HasDataBlock v a) → IsDamage v call 2 a
+  shared : (a b : ℕ) → IsTakenAt v call a → LeadsTo v (wanted call) (parent_of (path_of call false)) b → ((h : Holding) → IsShown v a h → Goes h b) → IsDamage v call 3 b
   in_group : (a rule b : ℕ) (blocks : List ℕ) → IsTakenAt v call a → AreAllOf v a blocks → GroupsAreHeld v blocks → freeing.BreaksSome v blocks rule b → IsDamage v call rule b
 
 -- ---- in an image that the view may be of

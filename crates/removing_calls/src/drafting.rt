@@ -82,7 +82,7 @@ fn free_and_finish<V: View>(
 }
 
 /// What a draft changes in which a linear directory, which the view has, gets a time, a name of it goes, and blocks are freed, each of
-/// them a data block of a group, as the directory's own is. It costs what `touch`, `remove` and `free_blocks` cost.
+/// them a data block of a group, as the directory's own is, which isn't among them. It costs what `touch`, `remove` and `free_blocks` cost.
 pub(crate) fn removal<V: View>(
     alloc: Global,
     view: &V,
@@ -96,6 +96,7 @@ pub(crate) fn removal<V: View>(
     requires named { HasNameIn (V.seen view.now) dir name.now }
     requires inside { HasDataBlock (V.seen view.now) dir }
     requires blocks { (b : ℕ) → Contains blocks.now b → HasDataBlock (V.seen view.now) b }
+    requires apart { ¬ (Contains blocks.now dir) }
     ensures removal { IfIs result (IsRemoval V.seen view.now dir name.now time blocks.now) }
     ensures needed { IfNeedBlock result (IsNeededFor (V.seen view.now) blocks.now) }
     ensures damaged { IfDamaged result (IsWrongIn (V.seen view.now) dir blocks.now) }

@@ -97,6 +97,12 @@ fn remove_at<V: View>(
         Step::Is(blocks) => blocks,
         Step::NeedBlock(missing) => return Ok(Found::NeedBlock(missing)),
     };
+    if blocks.contains(&place.above) {
+        return Err(CallFault::Damaged {
+            block: place.above,
+            rule: 3,
+        });
+    }
     if let Some(lock) = lacked_group(view, &blocks) {
         return Ok(Found::NeedLock {
             lock,

@@ -14,28 +14,11 @@ use Rattle.glock_names.specs.declared.views.Group.{Group}
 use Rattle.resource_groups.specs.Shown.{IsMissing}
 use Rattle.image_model.proofs.Members.{IsIn, contained, is_in}
 use Rattle.path_walks.proofs.Lists.{split_at, take_next}
+use Rattle.path_walks.proofs.Longer.{lack_before, lack_behind}
 use Rattle.path_walks.specs.Holds.{Hold, AreHeld, IsFirstLack, holds, hold_of_group}
 use Rattle.room_search.specs.Searches.{IsGroupBlock, IsGroupNeeded}
 
 -- ---- more locks behind and before
-
-pub lack_before : (v : Seen) (list more : List Hold) (lock : LockName) (state : State) → IsFirstLack v list lock state → IsFirstLack v (list ++ more) lock state
-lack_before v list more lock state is = record {
-  front = is.front;
-  back = is.back ++ more;
-  split = ap (λ xs. xs ++ more) is.split ∙ append_assoc is.front (record { lock = lock; state = state } ∷ is.back) more;
-  held = is.held;
-  lacks = is.lacks;
-}
-
-pub lack_behind : (v : Seen) (list more : List Hold) (lock : LockName) (state : State) → AreHeld v list → IsFirstLack v more lock state → IsFirstLack v (list ++ more) lock state
-lack_behind v list more lock state held is = record {
-  front = list ++ is.front;
-  back = is.back;
-  split = ap (λ xs. list ++ xs) is.split ∙ sym (append_assoc list is.front (record { lock = lock; state = state } ∷ is.back));
-  held = All-append (λ h. holds v h ≡ true) list is.front held is.held;
-  lacks = is.lacks;
-}
 
 pub block_before : (v : Seen) (list more : List Hold) (m : Missing) → IsGroupBlock v list m → IsGroupBlock v (list ++ more) m
 block_before v list more m is = record {

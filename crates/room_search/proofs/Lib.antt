@@ -1,4 +1,3 @@
-pub mod Asking
 pub mod Lists
 pub mod Free
 pub mod Collected

@@ -14,6 +14,7 @@ use Rattle.glock_names.specs.declared.views.Group.{Group}
 use Rattle.image_model.proofs.Members.{IsIn, contained, from_flat_map, is_in}
 use Rattle.image_model.proofs.Rising.{Rising}
 use Rattle.path_walks.specs.Holds.{Hold, AreHeld, IsFirstLack, holds, hold_of_group}
+use Rattle.path_walks.proofs.Longer.{lack_before, lack_behind}
 use Rattle.room_search.specs.Blocks.{States, free_in, free_in_all, free_for, group_holds, has_too_few}
 use Rattle.room_search.specs.Parts.{IsFrontOf}
 use Rattle.room_search.specs.Searches.{IsGroupBlock, IsRoom, IsTaken, IsTold, IsUnder}
@@ -22,7 +23,7 @@ use Rattle.room_search.specs.declared.search.Locked.TheVariants as locked
 use Rattle.room_search.specs.declared.search.Taken.{Taken}
 use Rattle.room_search.specs.declared.search.Taken.TheVariants as taken
 use Rattle.room_search.proofs.Free.{all_rise, free_rises, from_free}
-use Rattle.room_search.proofs.Holds.{block_before, block_behind, group_listed, group_needed, held_in, held_behind, lack_before, lack_behind}
+use Rattle.room_search.proofs.Holds.{block_before, block_behind, group_listed, group_needed, held_in, held_behind}
 use Rattle.room_search.proofs.Lists.{from_take, rising_take, unrise}
 
 -- what follows of an answer

@@ -40,9 +40,8 @@ use Rattle.path_walks.specs.declared.walk.Place.{Place}
 use Rattle.path_walks.specs.declared.walk.Walk.TheVariants.{At}
 use Rattle.path_walks.proofs.Images.{is_shown, unbroken}
 use Rattle.path_walks.proofs.Faults.{told_on}
+use Rattle.path_walks.proofs.Longer.{asked_before, lack_before}
 use Rattle.read_calls.proofs.Trees.{wrong_damage}
-use Rattle.room_search.proofs.Asking.{asked_before}
-use Rattle.room_search.proofs.Holds.{lack_before}
 use Rattle.writing_calls.specs.Contents.{IsAimOf, IsRefusedAim, NeedsBlocks, StaysStuffed}
 use Rattle.writing_calls.specs.Drafting.{IsWrite}
 use Rattle.writing_calls.specs.Writing.{GoesIntoBlocks, IfSync, IsAnswered, IsAtEnd, IsDamage, IsEdit, IsEditAnswered, IsRefused, Writes, call_holds, end_of, group_holds_at, is_dir, too_big}

@@ -59,7 +59,7 @@ use Rattle.path_walks.specs.declared.walk.Place.{Place}
 use Rattle.path_walks.specs.declared.walk.Walk.TheVariants.{At}
 use Rattle.path_walks.proofs.Asked.{asked}
 use Rattle.path_walks.proofs.Images.{is_shown, is_sound, unbroken}
-use Rattle.room_search.proofs.Asking.{asked_before}
+use Rattle.path_walks.proofs.Longer.{asked_before}
 use Rattle.writing_calls.specs.Writing.{IsEdit, IsToChange, call_holds, content_after, end_of, group_holds_of}
 use Rattle.writing_calls.proofs.Alone.{file_listed}
 use Rattle.writing_calls.proofs.Doing.{call_taken, file_there, inode_held}

@@ -58,6 +58,7 @@ use Rattle.path_walks.specs.Walks.{IsSeenAt, IsWalked}
 use Rattle.path_walks.specs.declared.walk.Place.{Place}
 use Rattle.path_walks.specs.declared.walk.Walk.TheVariants.{At}
 use Rattle.path_walks.proofs.Images.{is_shown}
+use Rattle.path_walks.proofs.Longer.{asked_behind, lack_behind}
 use Rattle.path_walks.proofs.Wants.{exclusive}
 use Rattle.room_search.specs.Blocks.{free_in_all, group_holds, group_of_node, room_holds}
 use Rattle.room_search.specs.Searches.{AreHeldBlocks, AreShown, HasOwnGroup, IsHeldBlock, IsRoomIn, IsShortIn, IsTaken}
@@ -66,9 +67,8 @@ use Rattle.room_search.specs.declared.search.Locked.{Locked}
 use Rattle.room_search.specs.declared.search.Locked.TheVariants as locked
 use Rattle.room_search.specs.declared.search.Taken.{Taken}
 use Rattle.room_search.specs.declared.search.Taken.TheVariants as taken
-use Rattle.room_search.proofs.Asking.{asked_behind}
 use Rattle.room_search.proofs.InImage.{group_asked}
-use Rattle.room_search.proofs.Holds.{block_under, lack_behind}
+use Rattle.room_search.proofs.Holds.{block_under}
 use Rattle.room_search.proofs.Room.{all_listed}
 use Rattle.room_search.proofs.Shown.{bytes_shown}
 use Rattle.writing_calls.specs.Writing.{IsEdit, IsNeedOf, IsRoomOf, IsTooFew, Puts, PutsThere, by_growth, by_write, call_holds, content_after, end_of}

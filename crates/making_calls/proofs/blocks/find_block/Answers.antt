@@ -4,11 +4,12 @@ use Rattle.glock_names.specs.StateOrder.{leq}
 use Rattle.glock_names.specs.declared.State.TheVariants.{Ex}
 use Rattle.resource_groups.specs.Shown.{said}
 use Rattle.path_walks.specs.Holds.{holds, hold_of, hold_for}
+use Rattle.path_walks.proofs.Longer.{lack_before}
 use Rattle.room_search.specs.Blocks.{free_for, group_holds}
 use Rattle.room_search.specs.Searches.{IsUnder}
 use Rattle.room_search.specs.Searches as room
 use Rattle.room_search.specs.declared.search.Locked.TheVariants as locked
-use Rattle.room_search.proofs.Holds.{block_before, lack_before}
+use Rattle.room_search.proofs.Holds.{block_before}
 use Rattle.making_calls.specs.Blocks.{blocks_needed}
 use Rattle.making_calls.proofs.Holds.{block_taken, none_held, taken_held, taken_lack}
 use Rattle.making_calls.proofs.blocks.find_block.Goals as goal

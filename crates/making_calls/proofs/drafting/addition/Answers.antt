@@ -152,7 +152,7 @@ returns-clause-added g c =
     (λ change said. addition_is v c.args.is_directory c.args.place.now c.args.name.now c.args.room.now c.args.stamp.now.time change
     (done_is g.V.View.seen c.args.view.now c.new-draft.result d1 c.new-draft.ensures same c.args.is_directory c.args.place.now c.args.name.now c.args.room.now change c.in-Is.number c.args.stamp.now.time c.kind_of_new.result d3 d4
     c.kind_of_new.ensures (answer_at _ _ _ c.in-Is.is c.in_ok-number.ensures.numbered) named (c.in_ok-done.ensures.view done) put c.say_and_finish.ensures.view said)
-    c.bytes.ensures.name c.requires.group c.requires.block c.is_a_view.ensures c.requires.inside)
+    c.bytes.ensures.name c.requires.group c.requires.block c.is_a_view.ensures c.requires.inside c.requires.apart)
     (c.say_and_finish.ensures.said k has4 c.requires.block)
 
 pub returns-clause-damaged : goal.returns-clause-damaged

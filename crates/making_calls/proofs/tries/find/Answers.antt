@@ -12,12 +12,11 @@ use Rattle.path_walks.specs.Walks.{AreInOrder, IsTold, IsWalked}
 use Rattle.path_walks.specs.Walks as path
 use Rattle.path_walks.proofs.Lists.{parent_of_next}
 use Rattle.making_calls.specs.Making.{IsDamage, IsHashedFor, IsLackedFor, IsNeededFor, IsRefused, directory_path, inode_holds, path_holds}
-use Rattle.room_search.proofs.Holds.{lack_before}
-use Rattle.making_calls.proofs.InImage.{asked_before}
 use Rattle.making_calls.proofs.Trees.{plain_list, refused}
 use Rattle.making_calls.proofs.Wanted.{as_many, in_order, wants_are}
 use Rattle.making_calls.proofs.tries.find.Goals as goal
 use Rattle.path_walks.proofs.Faults.{told_on, only_so}
+use Rattle.path_walks.proofs.Longer.{asked_before, lack_before}
 
 pub walk_along-requires-clause-as_many : goal.walk_along-requires-clause-as_many
 walk_along-requires-clause-as_many g c =

@@ -27,7 +27,7 @@ use Rattle.making_calls.specs.declared.blocks.NewRoom.TheVariants as taken
 use Rattle.making_calls.proofs.Alike.{linear_in}
 use Rattle.path_walks.specs.Holds.{IsFirstLack}
 use Rattle.making_calls.proofs.Rooms.{block_way, few_way, own_of, room_held}
-use Rattle.making_calls.proofs.Taking.{addition_does, all_held, block_lacks, directory_sound, group_lacks, inside_so, lock_lacks, made, own_name, placed, reply_ok, stamped, to_get, too_few, under, wrong_damage}
+use Rattle.making_calls.proofs.Taking.{addition_does, all_held, block_lacks, directory_apart, directory_sound, free_damage, group_lacks, inside_so, lock_lacks, made, own_name, placed, reply_ok, stamped, to_get, too_few, under, wrong_damage}
 use Rattle.making_calls.proofs.tries.make_at.Goals as goal
 use Rattle.path_walks.proofs.Faults.{told_on, tells_so, only_so}
 
@@ -85,6 +85,20 @@ pub returns-in-NeedBlock-clause-found : goal.returns-in-NeedBlock-clause-found
 returns-in-NeedBlock-clause-found g c im o l t of =
     let v = g.V.View.seen c.args.view.now in
     block_lacks v c.args.call.now c.requires.making c.args.place.now c.args.name.now c.requires.last c.requires.named c.requires.lacks im o l t of (c.requires.reached im o l t of) (λ h shown. sym (c.in_ok-fits.ensures.room h shown) ∙ c.if-not-fits.false) c.args.stamp.now.node c.requires.groups c.requires.node c.in-NeedBlock.missing (λ at own shown is. subst (IsUnder v (block_holds (said at) v.groups own) (IsTaken v (said at) v.groups own)) (c.in-NeedBlock.is) (c.in_ok-room.ensures.found at own shown is))
+
+pub returns-then-room-place-clause-sound : goal.returns-then-room-place-clause-sound
+returns-then-room-place-clause-sound g c im o l t of =
+    let v = g.V.View.seen c.args.view.now in
+    directory_apart v c.args.call.now c.requires.making c.args.place.now c.args.name.now c.requires.last c.requires.named c.requires.lacks im o l t of (c.requires.reached im o l t of) (λ h shown. sym (c.in_ok-fits.ensures.room h shown) ∙ c.if-not-fits.false) c.args.stamp.now.node c.requires.groups c.requires.node c.in-Is-Is.room
+    (λ at own shown is. subst (IsUnder v (block_holds (said at) v.groups own) (IsTaken v (said at) v.groups own)) (c.in-Is-Is.is ∙ ap locked.Is c.in-Is-Is.field-0-is) (c.in_ok-room.ensures.found at own shown is)) (sym c.if-room-place.true)
+
+pub returns-then-room-place-clause-damaged : goal.returns-then-room-place-clause-damaged
+returns-then-room-place-clause-damaged g c =
+    let v = g.V.View.seen c.args.view.now in
+    let room = room_held v c.args.stamp.now.node c.in-Is-Is.room c.is_a_view.ensures c.requires.groups c.requires.node (λ at own shown is. subst (IsUnder v (block_holds (said at) v.groups own) (IsTaken v (said at) v.groups own)) (c.in-Is-Is.is ∙ ap locked.Is c.in-Is-Is.field-0-is) (c.in_ok-room.ensures.found at own shown is)) in
+    free_damage v c.args.call.now c.requires.making c.args.place.now c.args.name.now c.requires.last c.requires.named c.requires.lacks c.requires.seen.leads
+    (to_get v c.args.call.now c.requires.making c.args.place.now c.args.name.now c.requires.last c.requires.named c.requires.lacks true c.requires.seen.leads c.requires.seen.there (λ h shown. sym (c.in_ok-fits.ensures.room h shown) ∙ c.if-not-fits.false))
+    c.in-Is-Is.room room c.if-room-place.true
 
 pub addition-requires-clause-linear : goal.addition-requires-clause-linear
 addition-requires-clause-linear g c =

@@ -29,7 +29,7 @@ pub returns-clause-removal : goal.returns-clause-removal
 returns-clause-removal g c =
     let over = ap (λ d. d.view) c.new-draft.ensures in
     let taken = subst (λ x. IsNameTaken (g.V.View.seen x) c.args.dir c.args.name.now c.args.time c.take_name.new.draft.fates) over c.in_ok-take_name.ensures.taken in
-    answer_so c.free_and_finish.result _ _ (removal_of g.V.View.seen c.args.view.now c.take_name.new.draft (c.in_ok-take_name.ensures.view ∙ over) c.args.dir c.args.name.now c.args.time taken c.is_a_view.ensures c.args.blocks.now)
+    answer_so c.free_and_finish.result _ _ (removal_of g.V.View.seen c.args.view.now c.take_name.new.draft (c.in_ok-take_name.ensures.view ∙ over) c.args.dir c.args.name.now c.args.time taken c.is_a_view.ensures c.requires.inside c.args.blocks.now c.requires.apart)
     c.free_and_finish.ensures.freed
 
 pub returns-clause-needed : goal.returns-clause-needed
