@@ -3,5 +3,7 @@
 #![tactic(auto)]
 
 mod growing;
+mod shrinking;
 
 pub use growing::drafts_grow_directories;
+pub use shrinking::drafts_shrink_directories;

@@ -1,9 +1,9 @@
 -- A draft that adds a name to a directory that may get blocks for it makes what the call should.
-use Rattle.std.proofs.Common.{zero, suc, ◌≡◌, ◌≢◌, ℕ, ◌⊎◌, inl, inr, Bool, true, false, true≢false, List, [], ◌∷◌, Option, None, Some, refl, sym, ap, ◌∙◌, subst, arith}
+use Rattle.std.proofs.Common.{◌≡◌, ◌≢◌, ℕ, ◌⊎◌, inl, inr, true, false, true≢false, List, [], ◌∷◌, Option, None, Some, refl, sym, ap, ◌∙◌, subst}
 use Rattle.std.specs.Prelude.{Contains, IsSome, ◌==◌, if◌then◌else◌}
 use Rattle.std.specs.Ordering.{nat_cmp}
 use Rattle.std.specs.FinMap.{FinMap, get}
-use Rattle.std.proofs.lemmas.Bool.{cases_Bool, cases_eq, cond-true, cond-false, eq-eqb, eqb-true, ne_eqb}
+use Rattle.std.proofs.lemmas.Bool.{cases_Bool, cases_eq, cond-true, cond-false, eq-eqb, ne_eqb}
 use Rattle.file_tree.specs.Tree.{Tree}
 use Rattle.file_tree.specs.Apply.{apply, put_at}
 use Rattle.file_tree.specs.declared.call.Call.{Call}
@@ -11,31 +11,29 @@ use Rattle.file_tree.specs.declared.reply.Reply.TheVariants.{Ok}
 use Rattle.drafts.specs.declared.change.Written.{Written}
 use Rattle.drafts.specs.declared.fate.Fate.{Fate}
 use Rattle.drafts.specs.declared.fate.Fate.TheVariants.{Put}
-use Rattle.gfs2_layout.specs.declared.dinode.Dinode.{Dinode}
 use Rattle.gfs2_layout.specs.declared.rindex.Rindex.{Rindex}
 use Rattle.gfs2_layout.specs.Exchanges.{IsExchanged, IsCounted}
-use Rattle.gfs2_layout.specs.Holding.{Part, Itself, Pointed, InChain, Cell, Holding, alone, cell_part, cell_bytes, part_at}
+use Rattle.gfs2_layout.specs.Holding.{Part, Itself, Pointed, InChain, Cell, Holding, alone, cell_part, part_at}
 use Rattle.gfs2_layout.specs.Inode.{Head, IsInode, head_of, dinode_in, is_directory_in, records_of}
 use Rattle.gfs2_layout.specs.Records.{Record}
-use Rattle.gfs2_layout.specs.Structures.{file_type, is_directory, is_regular}
 use Rattle.glock_names.specs.Views.{Seen}
 use Rattle.glock_names.specs.declared.LockName.{LockName}
 use Rattle.image_model.specs.Flat.{Path}
 use Rattle.image_model.specs.Groups.{IsHeaderOf, IsDataOf, IsListed, state_of, states_of}
 use Rattle.image_model.specs.Image.{Image}
-use Rattle.image_model.specs.Owners.{Owner, Owners, Super, InGroup, Free, Nobody, Root, Master, Named, Below, Chained, is_dinode, part_in, cell_of, cell_in, holding}
+use Rattle.image_model.specs.Owners.{Owner, Owners, InGroup, Free, Named, Below, Chained, is_dinode, part_in, cell_of, cell_in, holding}
 use Rattle.image_model.specs.Stands.{Layout, IsRecordOf, kind_of, heads_of}
-use Rattle.image_model.proofs.Held.{none_some, some_same, own_part}
+use Rattle.image_model.proofs.Held.{none_some, own_part}
 use Rattle.image_model.proofs.Members.{IsIn, contained, is_in}
 use Rattle.image_model.proofs.Table.{lies}
-use Rattle.image_changes.specs.Changes.{inode_of, IsOf as IsOfInodes, IsChange, inode_lock, cover, is_free}
+use Rattle.image_changes.specs.Changes.{inode_of, IsOf as IsOfInodes, IsChange, inode_lock, is_free}
 use Rattle.image_changes.specs.Directories.{IsBare}
-use Rattle.image_changes.specs.Does.{IsOf, IsWritten, is_content_of}
+use Rattle.image_changes.specs.Does.{IsOf, IsWritten}
 use Rattle.image_changes.specs.Drafted.{is_put, is_freed, is_drafted, with_draft, MakesIn, name_added}
 use Rattle.image_changes.specs.Flats.{in_directory}
-use Rattle.image_changes.specs.Instances.{IsAt, among, dinode_at, IsNew, empty_file, empty_directory, IsNameAdded}
+use Rattle.image_changes.specs.Instances.{IsAt, among, IsNew, empty_file, empty_directory, IsNameAdded}
 use Rattle.image_changes.proofs.Drafting.{own_locks}
-use Rattle.image_changes.proofs.Frame.{dinode_its, not_its, inode_cover}
+use Rattle.image_changes.proofs.Frame.{dinode_its, not_its}
 use Rattle.image_changes.proofs.Laid.{follow_dinode, one_group}
 use Rattle.image_changes.proofs.Nodes.{among_in, in_among}
 use Rattle.image_changes.proofs.States.{map_same}
@@ -46,61 +44,8 @@ use Rattle.draft_changes.specs.Removing.{HasSome}
 use Rattle.draft_changes.proofs.Rows.{of_its, its_used, itself_or_within, cell_its, its_cell, part_there, not_group_free, header_among, said_free}
 use Rattle.draft_changes.proofs.Framed.{none_drafted, put_drafted, gone_there, put_not_gone, bytes_put, MakesOf, leaves, moves, of_inodes, of_header, IsFramed, framed_change, header_written, header_row, header_kept, group_written, dinode_written}
 use Rattle.draft_changes.proofs.Homes.{number_of, group_of, homes, IsHome, from_homes, UsedOrFree, home, in_homes}
-use Rattle.directory_growth.specs.Growing.{GrowsByName, GrowingMakes, IsPutOrLeft, states_made}
-
--- ---- one block
-
--- a block of an inode beside its dinode has the state of one in use
-within_state : (b a : ℕ) (x : Owner) → b ≢ a → inode_of b x ≡ Some a → state_of x ≡ 1
-within_state b a (Below d above k level first) other e = refl
-within_state b a (Chained d hash place) other e = refl
-within_state b a Root other e = absurd (other (some_same e))
-within_state b a Master other e = absurd (other (some_same e))
-within_state b a (Named parent name) other e = absurd (other (some_same e))
-within_state b a Super other e = absurd (none_some e)
-within_state b a (InGroup g) other e = absurd (none_some e)
-within_state b a (Free g) other e = absurd (none_some e)
-within_state b a Nobody other e = absurd (none_some e)
-
--- what an inode has of a block is told by its part and its bytes
-cell_is : (c : Option Cell) (p : Part) (bytes : List ℕ) → cell_part c ≡ Some p → cell_bytes c ≡ bytes → cell_of (Some p) bytes ≡ c
-cell_is None p bytes e f = absurd (none_some e)
-cell_is (Some c) p bytes e f = λ i. Some (record { part = some_same (sym e) i; bytes = sym f i })
-
-part_some : (c : Option Cell) (p : Part) → cell_part c ≡ Some p → IsSome c
-part_some None p e = absurd (none_some e)
-part_some (Some c) p e = refl
-
-none_not : (c : Option Cell) → c ≡ None → IsSome c → ⊥
-none_not c e h = true≢false (sym (subst IsSome e h))
-
-not_some : (c : Option Cell) → (IsSome c → ⊥) → c ≡ None
-not_some None h = refl
-not_some (Some c) h = absurd (h refl)
-
--- no block of a directory is content of a regular file
-no_content : (im : Image) (o : Owners) (b a : ℕ) (x : Owner) → is_regular (dinode_at im o a) ≡ false → inode_of b x ≡ Some a → is_content_of im o x ≡ false
-no_content im o b a (Below d above k zero first) plain e = ap (λ z. is_regular (dinode_at im o z)) (some_same e) ∙ plain
-no_content im o b a (Below d above k (suc level) first) plain e = refl
-no_content im o b a (Chained d hash place) plain e = refl
-no_content im o b a Root plain e = refl
-no_content im o b a Master plain e = refl
-no_content im o b a (Named parent name) plain e = refl
-no_content im o b a Super plain e = refl
-no_content im o b a (InGroup g) plain e = refl
-no_content im o b a (Free g) plain e = refl
-no_content im o b a Nobody plain e = refl
-
-directory_not_regular : (d : Dinode) → is_directory d ≡ true → is_regular d ≡ false
-directory_not_regular d is =
-    let four : file_type d.mode ≡ 4 = eqb-true (file_type d.mode) 4 is in
-    ne_eqb (file_type d.mode) 8 (λ eight. absurd (omega (arith, four, eight)))
-
--- the owner of a block afterwards: the directory, as the block's part in it says; and else the owner of before
-abbrev owner_in : Option Part → ℕ → Owner → Owner
-owner_in (Some (Pointed from k level first)) p was = Below p from k level first
-owner_in (Some (InChain hash place)) p was = Chained p hash place
-owner_in q p was = was
+use Rattle.directory_changes.proofs.Blocks.{block_written, cell_is, none_not, not_some, owner_in, part_some, put_so, within_state}
+use Rattle.directory_changes.specs.Growing.{GrowsByName, GrowingMakes, IsPutOrLeft, states_made}
 
 module _ (v : Seen) (call : Call) (fates : FinMap nat_cmp Fate) (im : Image) (o : Owners) (l : Layout) (t : Tree) (path : Path) (p : ℕ) (name : List ℕ) (a : ℕ) (u : Tree) (g : Holding) (taken : List ℕ)
     (here : IsOf v im o l t) (at : IsAt im o l path p) (is : GrowsByName im o l fates p name a u g taken) where
@@ -499,30 +444,14 @@ module _ (v : Seen) (call : Call) (fates : FinMap nat_cmp Fate) (im : Image) (o 
     | inr e ↦ subst (λ z. inode_lock l z ≡ Some (record { kind = 2; number = z })) (sym e) (own_locks im o l a here.stands.laid (inr (free_row a new_in)))
   ]
 
-  irregular : is_regular (dinode_at im' o' p) ≡ false
-  irregular = directory_not_regular (dinode_at im' o' p) (ap is_directory_in held ∙ ap (λ (h : Head). h.is_dir) is.exchanged.head ∙ is.directory)
+  is_still : is_directory_in (holding im' o' p) ≡ true
+  is_still = ap is_directory_in held ∙ ap (λ (h : Head). h.is_dir) is.exchanged.head ∙ is.directory
 
   -- a block of the directory, as it is put
   directory_written : (w : Written) (lock : LockName) → get fates w.block ≡ Some (Put lock w.plain w.bytes) → IsSome (g.cell w.block) → inode_of w.block (o' w.block) ≡ Some p → IsWritten l im' o o' w lock
-  directory_written w lock e some its = record {
-    told = covers (o' w.block) its;
-    used = (its_used w.block p (o' w.block) its).1;
-    plain = put.1 ∙ sym (no_content im' o' w.block p (o' w.block) irregular its);
-    stayed = elim (was_its w.block some) [ inl was ↦ inl (covers (o w.block) was) | inr c ↦ inr (ap is_free (free_row w.block (taken_in w.block c)).1) ];
-  }
-    where
-      both : (bytes : List ℕ) → Put lock w.plain w.bytes ≡ Put (record { kind = 2; number = p }) false bytes → (lock ≡ record { kind = 2; number = p }) × (w.plain ≡ false)
-      both bytes e = (cc, cc)
-
-      by : IsPutOrLeft fates (holding im o p) p w.block → (lock ≡ record { kind = 2; number = p }) × (w.plain ≡ false)
-      by (inl put) = both put.0 (some_same (sym e ∙ put.1))
-      by (inr left) = absurd (none_some (sym left.1 ∙ e))
-
-      put : (lock ≡ record { kind = 2; number = p }) × (w.plain ≡ false)
-      put = by (is.puts w.block some)
-
-      covers : (x : Owner) → inode_of w.block x ≡ Some p → cover l w.block x ≡ Some lock
-      covers x so = inode_cover l w.block x p so ∙ locks p p_in ∙ ap Some (sym put.0)
+  directory_written w lock e some its =
+      block_written l im' o o' p (locks p p_in) is_still w lock (put_so fates (holding im o p) p w lock e (is.puts w.block some)) its
+      (elim (was_its w.block some) [ inl was ↦ inl was | inr c ↦ inr (ap is_free (free_row w.block (taken_in w.block c)).1) ])
 
   written : (w : Written) (lock : LockName) → get fates w.block ≡ Some (Put lock w.plain w.bytes) → IsWritten l im' o o' w lock
   written w lock e = by (which w.block)

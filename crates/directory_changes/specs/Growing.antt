@@ -14,7 +14,7 @@ use Rattle.drafts.specs.declared.fate.Fate.{Fate}
 use Rattle.drafts.specs.declared.fate.Fate.TheVariants.{Put}
 use Rattle.gfs2_layout.specs.declared.rindex.Rindex.{Rindex}
 use Rattle.gfs2_layout.specs.Holding.{Holding, alone}
-use Rattle.gfs2_layout.specs.Inode.{IsInode, head_of, records_of}
+use Rattle.gfs2_layout.specs.Inode.{IsInode, head_of}
 use Rattle.gfs2_layout.specs.Records.{Record, child_named}
 use Rattle.glock_names.specs.Views.{Seen}
 use Rattle.linear_dirs.specs.Exchanges.{HasExchanged}
