@@ -189,9 +189,11 @@ asked_absent v a wanted blocks m shows (of_group asks) = asks.2.3.block.absent
 
 pub writing_absent : (v : Seen) (c : Call) (m : Missing) → ShowsEach v → writing.IsNeededFor v c m → v.block_at m.block ≡ None
 writing_absent v c m shows (writing.on_path unread) = unread.absent
-writing_absent v c m shows (writing.of_write a at new blocks changes puts asks) = asked_absent v a (λ h. IsLookedAt h at (at + length new)) blocks m shows asks
-writing_absent v c m shows (writing.of_cut a size blocks changes cuts asks) = asked_absent v a (λ h. IsCutAt h size) blocks m shows asks
-writing_absent v c m shows (writing.of_room a changes asks) = asks.missing.absent
+writing_absent v c m shows (writing.of_write a at new changes puts asks) = asked_absent v a (λ h. IsLookedAt h at (at + length new)) [] m shows asks
+writing_absent v c m shows (writing.of_taken node a at new need room changes puts needs is_room asks) = asked_absent v a (λ h. IsLookedAt h at (at + length new)) room m shows asks
+writing_absent v c m shows (writing.of_cut a size changes cuts asks) = asked_absent v a (λ h. IsCutAt h size) [] m shows asks
+writing_absent v c m shows (writing.of_freed a size time freed fates changes cuts draft held asks) = asked_absent v a (λ h i. ⊥) freed m shows asks
+writing_absent v c m shows (writing.of_room a at new need changes puts needs asks) = asks.missing.absent
 
 -- its want of space is the one that is told of every call
 module _ (v : Seen) (im : Image) (o : Owners) (l : Layout) (t : Tree) (need free : ℕ) where
