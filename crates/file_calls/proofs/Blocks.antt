@@ -3,11 +3,10 @@ use Rattle.std.proofs.Common.{◌≡◌, ℕ, ◌+◌, ◌<◌, ◌≤◌, Bool,
 use Rattle.std.proofs.lemmas.Bool.{cases_Bool, cases_lt}
 use Rattle.std.specs.Prelude.{Option, Contains, ◌&&◌, ◌==◌, not}
 use Rattle.std.specs.List.{AllByRecursion, list_any}
-use Rattle.std.proofs.lemmas.List.Elements.{All-contains, All-from_recursion}
 use Rattle.file_tree.specs.declared.call.Call.{Call}
 use Rattle.file_tree.specs.declared.call.Call.TheVariants as call
 use Rattle.gfs2_layout.specs.Holding.{Holding}
-use Rattle.glock_names.specs.Views.{Seen, IsView}
+use Rattle.glock_names.specs.Views.{Seen}
 use Rattle.glock_names.specs.declared.LockName.{LockName}
 use Rattle.glock_names.specs.declared.steps.Missing.{Missing}
 use Rattle.dinode_tree.specs.Shown.{IsShown}
@@ -17,8 +16,6 @@ use Rattle.image_model.specs.Stands.{Layout, IsLaid}
 use Rattle.image_changes.specs.Changes.{cover}
 use Rattle.image_changes.specs.Does.{Does, IsFormed, IsInside, frees, is_empty, is_nothing, AreInside}
 use Rattle.drafts.specs.declared.change.Change.{Change}
-use Rattle.drafts.specs.declared.change.Written.{Written}
-use Rattle.glock_names.specs.declared.State.TheVariants.{Ex}
 use Rattle.writing_calls.specs.Writing as writing
 use Rattle.file_calls.specs.Calls.{IsTooFew, call_holds}
 use Rattle.read_calls.specs.Reading.{IsReading, IsNeededFor, on_path, at_end}
@@ -27,7 +24,6 @@ use Rattle.call_locks.specs.Wants.{wanted}
 use Rattle.cluster_history.specs.Changes.{is_ok, may_change}
 use Rattle.file_tree.specs.Tree.{Tree}
 use Rattle.file_tree.specs.declared.reply.Reply.{Reply}
-use Rattle.file_tree.specs.declared.reply.Reply.TheVariants as reply
 use Rattle.making_calls.specs.Making as making
 use Rattle.path_walks.specs.Holds.{Hold, holds_in, IsUnder}
 use Rattle.removing_calls.specs.Removing.{IsRemoving, holds_for}

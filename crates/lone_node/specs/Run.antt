@@ -13,7 +13,7 @@ use Rattle.script_lang.specs.declared.script.Line.{Line}
 use Rattle.script_lang.specs.declared.script.Line.TheVariants as line
 use Rattle.trace_text.specs.declared.item.TraceItem.{TraceItem}
 use Rattle.trace_text.specs.declared.item.TraceItem.TheVariants as trace
-use Rattle.shared_disk.specs.Disk.{DiskState, IsIdle}
+use Rattle.shared_disk.specs.Disk.{IsIdle}
 use Rattle.lone_view.specs.Seeing.{Lone}
 use Rattle.lone_node.specs.Answering.{IsAnsweredFrom, IsFailedAt, IsSameDisk, IsToldFull}
 use Rattle.lone_node.specs.Course.{HasTaken, IsStep, Moment}
