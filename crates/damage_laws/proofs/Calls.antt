@@ -127,10 +127,10 @@ module _ (v : Seen) (im : Image) (call : Call) (read : IsReadFrom v im) (whole :
       let within : group.IsDataOf (group_of_entry listed.0) a = subst (λ k. group.IsDataOf k a) listed.2 free.data_block in
       let bits : bits_of im listed.0 a ≡ 0 = subst (λ k. group.said im.at k a ≡ 0) listed.2 (free.free im.at (λ k there. group_shown v im read whole k there)) in
       wrong_bits listed.0 a listed.1 (record { low = within.low; high = within.high })
-      (of_owner has.1.by has.0 has.1.claimed (λ e. no_dinode (sym bits ∙ e ∙ dinode_state has.0 has.1.dinode)))
+      (of_owner has.1.by has.0 has.1.claimed (λ e. no_dinode (bits_of im listed.0 a) bits (e ∙ dinode_state has.0 has.1.dinode)))
     where
-      no_dinode : 0 ≡ 3 → ⊥
-      no_dinode e = cc
+      no_dinode : (n : ℕ) → n ≡ 0 → n ≡ 3 → ⊥
+      no_dinode n free dinode = absurd (omega (arith, free, dinode))
 
   makings_told : (rule b : ℕ) → making.IsDamage v call rule b → IsTold v im rule b
   makings_told rule b (making.on_path r x broken) = itself r x (paths_tell v im (wanted call) (making.directory_path call) r x read broken)

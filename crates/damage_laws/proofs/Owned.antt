@@ -36,13 +36,25 @@ root_other dir name e = cc
 same_directory : (dir other : ℕ) (name last : List ℕ) → Named dir name ≡ Named other last → dir ≡ other
 same_directory dir other name last e = cc
 
+-- the block has an owner other than this name in the directory that it is itself
+record HasOtherOwner (im : Image) (a : ℕ) (name : List ℕ) : Type 0 where
+  by : ℕ
+  owner : Owner
+  claims : Claims im by a owner
+  other : owner ≢ Named a name
+
 module _ (v : Seen) (im : Image) (read : IsReadFrom v im) (wants : List Want) where
-  -- an inode to which a path leads has an owner that is no name in it
-  other_owner : (path : Path) (a : ℕ) (name : List ℕ) → LeadsTo v wants path a → (by : ℕ) × ((o : Owner) × Claims im by a o × (o ≢ Named a name))
-  other_owner path a name (at_root held) = (superblock_place im.size, Root, root_claimed v im read, root_other a name)
+  -- so has an inode to which a path leads
+  other_owner : (path : Path) (a : ℕ) (name : List ℕ) → LeadsTo v wants path a → HasOtherOwner im a name
+  other_owner path a name (at_root held) = record { by = superblock_place im.size; owner = Root; claims = root_claimed v im read; other = root_other a name }
   other_owner path a name (by_name front dir b last leads is names inside held) = elim (cases_eq dir b) [
-    | inl same ↦ subst (λ x. (by : ℕ) × ((o : Owner) × Claims im by x o × (o ≢ Named x name))) same (other_owner front dir name leads)
-    | inr other ↦ (dir, Named dir last, name_claims v im read dir b last (led_there v im read wants front dir leads) is names, λ e. other (same_directory dir b last name e))
+    | inl same ↦ subst (λ x. HasOtherOwner im x name) same (other_owner front dir name leads)
+    | inr apart ↦ record {
+      by = dir;
+      owner = Named dir last;
+      claims = name_claims v im read dir b last (led_there v im read wants front dir leads) is names;
+      other = λ e. apart (same_directory dir b last name e);
+    }
   ]
 
   -- a name in a directory that leads to this itself
@@ -52,7 +64,7 @@ module _ (v : Seen) (im : Image) (read : IsReadFrom v im) (wants : List Want) wh
       let same : dir ≡ b = leads_once v wants front (parent_of (front ++ last ∷ [])) dir b leads above (sym (parent_of_next front last)) in
       let claims : Claims im b b (Named b last) = subst (λ x. Claims im x b (Named x last)) same (name_claims v im read dir b last (led_there v im read wants front dir leads) is names) in
       let other = other_owner front b last (subst (LeadsTo v wants front) same leads) in
-      two_owners b b other.0 (Named b last) other.1 claims other.2 (λ e. other.3 (sym e))
+      two_owners b b other.by (Named b last) other.owner claims other.claims (λ e. other.other (sym e))
 
   pub shared_told : (path : Path) (a dir : ℕ) → path ≢ [] → LeadsTo v wants path a → LeadsTo v wants (parent_of path) dir → Goes (every im a) dir → Breaks im 3 dir
   shared_told path a dir some leads above (inl own) = named_twice path dir (subst (LeadsTo v wants path) (sym own) leads) some above
