@@ -109,12 +109,15 @@ module _ (v : Seen) (node need : ℕ) (view : IsView v) (own : HasOwnGroup v nod
   under at shown = found at own.0 shown own.1
 
   pub room_of : (blocks : Vec ℕ Global) → r ≡ locked.Is (taken.Is blocks) → IsRoomOf v node need blocks.items
-  room_of blocks is = record {
-    own = own.0;
-    of_node = own.1;
-    first = λ at shown. (so at shown).1.are;
-    held = λ at shown. (so at shown).0;
-  }
+  room_of blocks is =
+      let shown = bytes_shown v view in
+      record {
+        own = own.0;
+        of_node = own.1;
+        many = (so shown.0 (λ k has. shown.1 k)).1.many;
+        first = λ at shown. (so at shown).1.are;
+        held = λ at shown. (so at shown).0;
+      }
     where
       so : (at : ℕ → List ℕ) → AreShown v at → search.IsUnder v (group_holds (said at) v.groups own.0 need) (IsTaken v (said at) v.groups own.0 need) (locked.Is (taken.Is blocks))
       so at shown = subst (search.IsUnder v (group_holds (said at) v.groups own.0 need) (IsTaken v (said at) v.groups own.0 need)) is (under at shown)

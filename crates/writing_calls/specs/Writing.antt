@@ -183,10 +183,12 @@ abbrev pub GoesIntoBlocks : Seen → Call → ℕ → Type 0
 GoesIntoBlocks v (Write path at new) a = (h : Holding) → IsShown v a h → NeedsBlocks h.size (dinode_in h) (at + length new)
 GoesIntoBlocks v call a = ⊤
 
--- these are the blocks that the node takes, as the bits of the view's groups say, and the locks under which it finds them are held
+-- These are the blocks that the node takes, as many as are needed, as the bits of the view's groups say; and the locks under which it finds them
+-- are held.
 pub record IsRoomOf (v : Seen) (node need : ℕ) (room : List ℕ) : Type 0 where
   pub own : Group
   pub of_node : group_of_node v.groups node ≡ Some own
+  pub many : length room ≡ need
   pub first : (at : ℕ → List ℕ) → AreShown v at → room ≡ free_for (said at) v.groups own need
   pub held : (at : ℕ → List ℕ) → AreShown v at → AreHeld v (group_holds (said at) v.groups own need)
 
