@@ -114,8 +114,8 @@ IsUnbuilt v call = ⊥
 
 -- ---- in an image that stands for a tree
 
--- What alone isn't built of a call where the image stands for this tree: the tree would take the call, which makes a name, and the directory for
--- it is a linear one that has no room. Every other call is built.
+-- What alone isn't built of a call where the image stands for this tree: it makes a name, and the tree would take it. Every other call is built.
+-- That the directory for the name is a linear one without room is told besides, of what was read (`IsUnbuilt`).
 pub record IsUnbuiltName (t : Tree) (call : Call) : Type 0 where
   pub taken : (apply call t).reply ≡ reply.Ok
   pub makes : making.IsMaking call

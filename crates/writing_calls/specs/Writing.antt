@@ -113,7 +113,7 @@ need_in im o (Write path at new) a = needed (holding im o a) at (length new)
 need_in im o (Truncate path size) a = if nat_lt (dinode_at im o a).size size then needed (holding im o a) size 0 else 0
 need_in im o call a = 0
 
--- the call looks at this block of content of the file in the block: it changes it in part, or an end that moves on stands in it
+-- the call looks at this block of content of the file in the block: it puts bytes there, or an end that moves on stands in it
 abbrev pub looks_at : Image → Owners → Call → ℕ → ℕ → Type 0
 looks_at im o (Write path at new) a i = IsLookedAt (holding im o a) at (at + length new) i
 looks_at im o (Truncate path size) a i = (dinode_at im o a).size < size × IsLookedAt (holding im o a) size (size + 0) i
@@ -221,7 +221,7 @@ pub data IsLackedFor (v : Seen) (call : Call) (node : ℕ) (lock : LockName) (st
   of_freed : (a size time : ℕ) (freed : List ℕ) (fates : FinMap nat_cmp Fate) → IsToChange v call a → CutsThere v call a size → IsCutDraft v a size time freed fates
       → IsFirstGroupLack v freed lock → state ≡ Ex → IsLackedFor v call node lock state
 
--- A block without which the call isn't answered: the dinode of the next inode on the path; one of the file; one with the bits of the blocks that are
+-- A block for which the call asks: the dinode of the next inode on the path; one of the file, which the call may read; one with the bits of the blocks that are
 -- taken or that go; or, where free blocks are looked for, one of a group whose lock is held.
 pub data IsNeededFor (v : Seen) (call : Call) (m : Missing) : Type 0 where
   on_path : IsUnread v (wanted call) (path_of call false) m → IsNeededFor v call m
