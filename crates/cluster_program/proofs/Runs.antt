@@ -23,7 +23,7 @@ use Rattle.lone_view.specs.Seeing.{Lone, seen_alone}
 use Rattle.lone_node.specs.Answering.{IsDamagedOn, IsHashedOn, IsUnbuiltOn, IsSameDisk}
 use Rattle.lone_node.specs.Course.{IsCourse, moment}
 use Rattle.lone_node.specs.Ends.{HasCause, IfDamaged, IfDiskFailed, IfHashed, IfNotBuilt, UnlessDiskFailed, UnlessFailed}
-use Rattle.lone_node.specs.Run.{EndsAt, EndsAtCall, HasChangedNothing, IsCallThat, IsFailedOn, IsRunOf, IsRunUpTo, IsTakenBehind, IsWholeRun, NotJoined, Taken, Unmounted}
+use Rattle.lone_node.specs.Run.{EndsAt, EndsAtCall, HasChangedNothing, IsCallThat, IsFailedOn, IsRunOf, IsRunUpTo, IsUnbuiltBehind, IsWholeRun, NotJoined, Taken, Unmounted}
 use Rattle.lone_node.specs.Standing.{StandsFor, LeavesStanding}
 use Rattle.lone_node.specs.declared.ends.RunEnd.{RunEnd}
 use Rattle.lone_node.specs.declared.ends.RunEnd.TheVariants as end
@@ -112,7 +112,7 @@ pub record HasRun (d d' : DiskState) (list list' : Option (List Operation)) (n :
   pub damaged : IfErr r (λ e. IfDamaged e (λ b rule. EndsAtCall (λ call. IsDamagedOn d' n call b rule) s.clients s.lines items (StandsFor d n)))
   pub hashed : IfErr r (λ e. IfHashed e (λ b. EndsAtCall (λ call. IsHashedOn d' n call b) s.clients s.lines items (StandsFor d n)))
   pub unbuilt : IfErr r (λ e. IfNotBuilt e (λ place. EndsAt place (λ call. IsUnbuiltOn d' n call) s.clients s.lines items (StandsFor d n)))
-  pub taken : IfErr r (λ e. IfNotBuilt e (λ place. EndsAt place (IsTakenBehind s.clients items (StandsFor d n)) s.clients s.lines items (StandsFor d n)))
+  pub built : IfErr r (λ e. IfNotBuilt e (λ place. EndsAt place (IsUnbuiltBehind s.clients items (StandsFor d n)) s.clients s.lines items (StandsFor d n)))
   pub failed : IfErr r (λ e. IfDiskFailed e (λ block. EndsAtCall (λ call. IsFailedOn (moment d list) (moment d' list') n time s.clients items call block) s.clients s.lines items (StandsFor d n)))
   pub cause : IfErr r (HasCause 1 d.count before now)
 
@@ -161,7 +161,7 @@ module _ (given left : Inputs) (m : MountedValue) (s : ScriptValue) (time : ℕ)
     call_end (end.NotBuilt place) image r =
         CallUnbuilt m place for
         (ends_from s.clients s.lines items (StandsFor given.disk n) (IsImageOf given.disk) from place (λ call holds. holds) r.unbuilt)
-        (ends_from s.clients s.lines items (StandsFor given.disk n) (IsImageOf given.disk) from place (λ call taken t is. taken t (from t is)) r.taken)
+        (ends_from s.clients s.lines items (StandsFor given.disk n) (IsImageOf given.disk) from place (λ call named t is. named t (from t is)) r.built)
     call_end end.NoMemory image r = NoRoom
 
     -- what holds of the image that is left

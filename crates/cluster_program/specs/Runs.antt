@@ -17,7 +17,7 @@ use Rattle.lone_view.specs.Seeing.{Lone, seen_alone}
 use Rattle.damage_laws.specs.Telling.{HasRootInside}
 use Rattle.lone_node.specs.Answering.{IsDamagedOn, IsHashedOn, IsSameDisk, IsUnbuiltOn}
 use Rattle.lone_node.specs.Course.{IsCourse, moment}
-use Rattle.lone_node.specs.Run.{EndsAt, EndsAtCall, HasChangedNothing, IsFailedOn, IsRunOf, IsTakenBehind, IsWholeRun}
+use Rattle.lone_node.specs.Run.{EndsAt, EndsAtCall, HasChangedNothing, IsFailedOn, IsRunOf, IsUnbuiltBehind, IsWholeRun}
 use Rattle.cluster_program.specs.Mounting.{OfImage, IsImageOf, IsMountable, NeverStands, IsMountedClean, IsMountedFor, MountEnds, is_clean_in}
 use Rattle.cluster_program.specs.World.{Inputs, KeepsDisk}
 use Rattle.cluster_program.specs.declared.status.Status.{Status}
@@ -42,8 +42,8 @@ first_line s = 2 + length s.clients + length s.armed
 
 -- How a run ends: each line is answered and the node has unmounted; the image was not mounted, before the first item; or, in a call
 -- behind the lines above it: the disk failed as its blocks were read or written; a directory is met that is a hashed one, which
--- isn't read yet; the call would be taken, and isn't built; or a block is met that breaks a rule of the image as it then was, if that still has
--- what was mounted of it; or there was no memory.
+-- isn't read yet; the call isn't built: where the image stands for a tree, that would take it, and a name has to be made; or a block is met that
+-- breaks a rule of the image as it then was, if that still has what was mounted of it; or there was no memory.
 pub data RunEnds (given left : Inputs) (s : ScriptValue) (time : ℕ) (items : List TraceItem) : Status → Type 0 where
   IsDone : AllAnswered items s → IsWholeRun s.clients s.lines items (IsImageOf given.disk) → RunEnds given left s time items status.Done
   NotMounted : (own : Status) → items ≡ [] → KeepsDisk given left → MountEnds given.disk given.disk_faults left.disk_faults own → RunEnds given left s time items own
@@ -53,7 +53,7 @@ pub data RunEnds (given left : Inputs) (s : ScriptValue) (time : ℕ) (items : L
   CallHashed : (m : MountedValue) (block : ℕ) → IsMountedFor given.disk m → AtCall given s items (λ call. IsHashedOn left.disk (as_mounted given.disk m) call block)
       → RunEnds given left s time items (status.NotBuilt (part.Block block))
   CallUnbuilt : (m : MountedValue) (place : ℕ) → IsMountedFor given.disk m → AtPlace given s items place (λ call. IsUnbuiltOn left.disk (as_mounted given.disk m) call)
-      → AtPlace given s items place (IsTakenBehind s.clients items (IsImageOf given.disk)) → RunEnds given left s time items (status.NotBuilt (part.Script (first_line s + place)))
+      → AtPlace given s items place (IsUnbuiltBehind s.clients items (IsImageOf given.disk)) → RunEnds given left s time items (status.NotBuilt (part.Script (first_line s + place)))
   CallDamaged : (m : MountedValue) (block rule : ℕ) → IsMountedFor given.disk m → OfImage given.disk NeverStands → AtCall given s items (λ call. IsDamagedOn left.disk (as_mounted given.disk m) call block rule)
       → OfImage left.disk (λ im. IsMounted im m → IsBrokenBlock im rule block) → RunEnds given left s time items (status.Damaged block rule)
   NoRoom : RunEnds given left s time items status.NoMemory

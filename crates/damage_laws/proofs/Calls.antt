@@ -1,5 +1,5 @@
 -- Damage that a call meets beside its path: at the root, below an inode that goes, and in groups.
-use Rattle.std.proofs.Common.{◌≡◌, ℕ, zero, suc, ◌+◌, ◌⊎◌, inl, inr, List, refl, sym, ◌∙◌, subst, arith}
+use Rattle.std.proofs.Common.{◌≡◌, ℕ, zero, suc, ◌+◌, ◌⊎◌, inl, inr, List, [], refl, sym, ◌∙◌, subst, arith}
 use Rattle.std.specs.Prelude.{false}
 use Rattle.call_locks.specs.declared.want.Want.{Want}
 use Rattle.dinode_tree.specs.Below.{IsLedFrom}
@@ -77,11 +77,11 @@ module _ (v : Seen) (im : Image) (read : IsReadFrom v im) where
         broken_group listed.0 listed.1 rule b (subst (λ g. group.IsBroken im.at g rule b) listed.2 (broken im.at (group_shown k has)))
 
     -- a file whose content changes, and the groups of blocks that it takes or gives back
-    file_told : (wants : List Want) (path : Path) (a : ℕ) (blocks : List ℕ) → LeadsTo v wants path a → (rule b : ℕ) → IsWrongAt v a blocks rule b → Breaks im rule b
-    file_told wants path a blocks leads rule b (in_inode r x broken) =
-        wrong_inode im a (led_there v im read wants path a leads) r x (path.in_inode r x (broken (every im a) (shown v im read a)))
-    file_told wants path a blocks leads rule b (stray from x led out) = stray_told wants path a from x leads (led (every im a) (shown v im read a)) out
-    file_told wants path a blocks leads rule b (in_group r x breaks) = group_told breaks.0 breaks.1 r x breaks.3
+    file_told : (wants : List Want) (names : Path) (a : ℕ) (blocks : List ℕ) → LeadsTo v wants names a → (rule b : ℕ) → IsWrongAt v a blocks rule b → Breaks im rule b
+    file_told wants names a blocks leads rule b (in_inode r x broken) =
+        wrong_inode im a (led_there v im read wants names a leads) r x (path.in_inode r x (broken (every im a) (shown v im read a)))
+    file_told wants names a blocks leads rule b (stray from x led out) = stray_told wants names a from x leads (led (every im a) (shown v im read a)) out
+    file_told wants names a blocks leads rule b (in_group r x breaks) = group_told breaks.0 breaks.1 r x breaks.3
 
 -- where the root is in a group there is no exception
 as_itself : (v : Seen) (im : Image) → HasRootInside v → (rule b : ℕ) → IsTold v im rule b → Breaks im rule b
@@ -93,8 +93,12 @@ as_itself v im inside rule b (by_root bare breaks) = absurd (bare inside)
 pub writes_tell : WritesTell
 writes_tell v im call rule b read whole (writing.on_path r x broken) = itself r x (paths_tell v im (wanted call) (path_of call false) r x read broken)
 writes_tell v im call rule b read whole (writing.no_data_block a leads out) = root_told v im read (wanted call) (path_of call false) a leads out
-writes_tell v im call rule b read whole (writing.in_file a r x blocks changes wrong) = itself r x (file_told v im read whole (wanted call) (path_of call false) a blocks changes.at.leads r x wrong)
-writes_tell v im call rule b read whole (writing.in_group a r x changes broken) = itself r x (group_told v im read whole broken.group broken.has r x broken.broken)
+writes_tell v im call rule b read whole (writing.in_file a r x changes wrong) = itself r x (file_told v im read whole (wanted call) (path_of call false) a [] changes.at.leads r x wrong)
+writes_tell v im call rule b read whole (writing.of_taken node a at new need room r x changes puts needs is_room wrong) =
+    itself r x (file_told v im read whole (wanted call) (path_of call false) a room changes.at.leads r x wrong)
+writes_tell v im call rule b read whole (writing.of_freed a size time freed fates r x changes cuts draft held wrong) =
+    itself r x (file_told v im read whole (wanted call) (path_of call false) a freed changes.at.leads r x wrong)
+writes_tell v im call rule b read whole (writing.in_group a at new need r x changes puts needs broken) = itself r x (group_told v im read whole broken.group broken.has r x broken.broken)
 
 pub writes_tell_exactly : WritesTellExactly
 writes_tell_exactly v im call rule b read whole inside told = as_itself v im inside rule b (writes_tell v im call rule b read whole told)

@@ -145,9 +145,12 @@ module _ (v : Seen) (im : Image) (read : IsReadFrom v im) (whole : HasWholeGroup
 
   writing_out : (call : Call) (m : Missing) → writing.IsNeededFor v call m → im.count ≤ m.block → IsBrokenSource v im (source_of im.size m)
   writing_out call m (writing.on_path unread) out = unread_out (wanted call) (path_of call false) m unread out
-  writing_out call m (writing.of_write a at new blocks changes puts needs) out = file_out (wanted call) (path_of call false) a (λ h. IsLookedAt h at (at + length new)) blocks m changes.at.leads needs out
-  writing_out call m (writing.of_cut a size blocks changes cuts needs) out = file_out (wanted call) (path_of call false) a (λ h. IsCutAt h size) blocks m changes.at.leads needs out
-  writing_out call m (writing.of_room a changes needed) out = absurd (omega (arith, out, whole.headers needed.group m.block needed.has needed.missing.own))
+  writing_out call m (writing.of_write a at new changes puts needs) out = file_out (wanted call) (path_of call false) a (λ h. IsLookedAt h at (at + length new)) [] m changes.at.leads needs out
+  writing_out call m (writing.of_taken node a at new need room changes puts has is_room needs) out =
+      file_out (wanted call) (path_of call false) a (λ h. IsLookedAt h at (at + length new)) room m changes.at.leads needs out
+  writing_out call m (writing.of_cut a size changes cuts needs) out = file_out (wanted call) (path_of call false) a (λ h. IsCutAt h size) [] m changes.at.leads needs out
+  writing_out call m (writing.of_freed a size time freed fates changes cuts draft held needs) out = file_out (wanted call) (path_of call false) a (λ h i. ⊥) freed m changes.at.leads needs out
+  writing_out call m (writing.of_room a at new need changes puts has needed) out = absurd (omega (arith, out, whole.headers needed.group m.block needed.has needed.missing.own))
 
 pub needs_tell : NeedsTell
 needs_tell v im (calls.Create p) m read whole needs out = making_out v im read whole (calls.Create p) m needs out

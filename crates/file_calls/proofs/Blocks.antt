@@ -3,11 +3,10 @@ use Rattle.std.proofs.Common.{◌≡◌, ℕ, ◌+◌, ◌<◌, ◌≤◌, Bool,
 use Rattle.std.proofs.lemmas.Bool.{cases_Bool, cases_lt}
 use Rattle.std.specs.Prelude.{Option, Contains, ◌&&◌, ◌==◌, not}
 use Rattle.std.specs.List.{AllByRecursion, list_any}
-use Rattle.std.proofs.lemmas.List.Elements.{All-contains, All-from_recursion}
 use Rattle.file_tree.specs.declared.call.Call.{Call}
 use Rattle.file_tree.specs.declared.call.Call.TheVariants as call
 use Rattle.gfs2_layout.specs.Holding.{Holding}
-use Rattle.glock_names.specs.Views.{Seen, IsView}
+use Rattle.glock_names.specs.Views.{Seen}
 use Rattle.glock_names.specs.declared.LockName.{LockName}
 use Rattle.glock_names.specs.declared.steps.Missing.{Missing}
 use Rattle.dinode_tree.specs.Shown.{IsShown}
@@ -17,8 +16,6 @@ use Rattle.image_model.specs.Stands.{Layout, IsLaid}
 use Rattle.image_changes.specs.Changes.{cover}
 use Rattle.image_changes.specs.Does.{Does, IsFormed, IsInside, frees, is_empty, is_nothing, AreInside}
 use Rattle.drafts.specs.declared.change.Change.{Change}
-use Rattle.drafts.specs.declared.change.Written.{Written}
-use Rattle.glock_names.specs.declared.State.TheVariants.{Ex}
 use Rattle.writing_calls.specs.Writing as writing
 use Rattle.file_calls.specs.Calls.{IsTooFew, call_holds}
 use Rattle.read_calls.specs.Reading.{IsReading, IsNeededFor, on_path, at_end}
@@ -27,7 +24,6 @@ use Rattle.call_locks.specs.Wants.{wanted}
 use Rattle.cluster_history.specs.Changes.{is_ok, may_change}
 use Rattle.file_tree.specs.Tree.{Tree}
 use Rattle.file_tree.specs.declared.reply.Reply.{Reply}
-use Rattle.file_tree.specs.declared.reply.Reply.TheVariants as reply
 use Rattle.making_calls.specs.Making as making
 use Rattle.path_walks.specs.Holds.{Hold, holds_in, IsUnder}
 use Rattle.removing_calls.specs.Removing.{IsRemoving, holds_for}
@@ -189,9 +185,11 @@ asked_absent v a wanted blocks m shows (of_group asks) = asks.2.3.block.absent
 
 pub writing_absent : (v : Seen) (c : Call) (m : Missing) → ShowsEach v → writing.IsNeededFor v c m → v.block_at m.block ≡ None
 writing_absent v c m shows (writing.on_path unread) = unread.absent
-writing_absent v c m shows (writing.of_write a at new blocks changes puts asks) = asked_absent v a (λ h. IsLookedAt h at (at + length new)) blocks m shows asks
-writing_absent v c m shows (writing.of_cut a size blocks changes cuts asks) = asked_absent v a (λ h. IsCutAt h size) blocks m shows asks
-writing_absent v c m shows (writing.of_room a changes asks) = asks.missing.absent
+writing_absent v c m shows (writing.of_write a at new changes puts asks) = asked_absent v a (λ h. IsLookedAt h at (at + length new)) [] m shows asks
+writing_absent v c m shows (writing.of_taken node a at new need room changes puts needs is_room asks) = asked_absent v a (λ h. IsLookedAt h at (at + length new)) room m shows asks
+writing_absent v c m shows (writing.of_cut a size changes cuts asks) = asked_absent v a (λ h. IsCutAt h size) [] m shows asks
+writing_absent v c m shows (writing.of_freed a size time freed fates changes cuts draft held asks) = asked_absent v a (λ h i. ⊥) freed m shows asks
+writing_absent v c m shows (writing.of_room a at new need changes puts needs asks) = asks.missing.absent
 
 -- its want of space is the one that is told of every call
 module _ (v : Seen) (im : Image) (o : Owners) (l : Layout) (t : Tree) (need free : ℕ) where

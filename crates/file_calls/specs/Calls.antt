@@ -1,8 +1,10 @@
 -- The file calls that are built: what holds of every one.
-use Rattle.std.specs.Prelude.{ℕ, false, List}
+use Rattle.std.specs.Prelude.{ℕ, ◌≡◌, false, List}
+use Rattle.file_tree.specs.Apply.{apply}
 use Rattle.file_tree.specs.Tree.{Tree}
 use Rattle.file_tree.specs.declared.call.Call.{Call}
 use Rattle.file_tree.specs.declared.call.Call.TheVariants as calls
+use Rattle.file_tree.specs.declared.reply.Reply.TheVariants as reply
 use Rattle.glock_names.specs.Views.{Seen}
 use Rattle.glock_names.specs.declared.LockName.{LockName}
 use Rattle.glock_names.specs.declared.State.{State}
@@ -109,3 +111,11 @@ IsUnbuilt v (calls.Mkdir path) = making.IsUnbuilt v (calls.Mkdir path)
 IsUnbuilt v (calls.Write path at new) = writing.IsUnbuilt v (calls.Write path at new)
 IsUnbuilt v (calls.Truncate path size) = writing.IsUnbuilt v (calls.Truncate path size)
 IsUnbuilt v call = ⊥
+
+-- ---- in an image that stands for a tree
+
+-- What alone isn't built of a call where the image stands for this tree: it makes a name, and the tree would take it. Every other call is built.
+-- That the directory for the name is a linear one without room is told besides, of what was read (`IsUnbuilt`).
+pub record IsUnbuiltName (t : Tree) (call : Call) : Type 0 where
+  pub taken : (apply call t).reply ≡ reply.Ok
+  pub makes : making.IsMaking call

@@ -1,8 +1,8 @@
 // A try of a file call.
 ghost use Rattle.std.specs.Prelude.{ℕ, ◌≡◌, ◌≢◌, ◌≤◌, ◌<◌, None, false, length};
-ghost use Rattle.file_tree.specs.Apply.{TakesSpace, apply};
+ghost use Rattle.file_tree.specs.Apply.{TakesSpace};
 ghost use Rattle.file_tree.specs.Tree.{Tree};
-ghost use Rattle.file_tree.specs.declared.reply.Reply.TheVariants.{NoSpace, Ok as OkReply};
+ghost use Rattle.file_tree.specs.declared.reply.Reply.TheVariants.{NoSpace};
 ghost use Rattle.glock_names.specs.Steps.{IfDamaged};
 ghost use Rattle.glock_names.specs.Views.{IsOfView};
 ghost use Rattle.image_model.specs.Image.{Image};
@@ -13,7 +13,7 @@ ghost use Rattle.path_walks.specs.Answers.{IfDone, IfNeedLock, IfNeedBlock, IfNo
 ghost use Rattle.path_walks.specs.Holds.{AreHeld, IsAskedFor, IsFirstLack, IsUnder, holds};
 ghost use Rattle.writing_calls.specs.Writing.{IfSync, IsSynced};
 ghost use Rattle.file_calls.specs.Answers.{IsAnswered, IsFullFor, IsMadeIn};
-ghost use Rattle.file_calls.specs.Calls.{IsBuilt, IsDamage, IsHashed, IsLackedFor, IsNeededFor, IsTooFew, IsUnbuilt, call_holds};
+ghost use Rattle.file_calls.specs.Calls.{IsBuilt, IsDamage, IsHashed, IsLackedFor, IsNeededFor, IsTooFew, IsUnbuilt, IsUnbuiltName, call_holds};
 
 use dinode_tree::every_view_shows_an_inode;
 use drafts::{Attempt, Stamp};
@@ -53,7 +53,7 @@ pub fn attempt<V: View>(
     ensures absent { IfNeedBlock result (λ m. (V.seen view.now).block_at m.block ≡ None) }
     ensures hashed { IfHashed result (IsHashed (V.seen view.now) call.now) }
     ensures unbuilt { IfNotBuilt result (IsUnbuilt (V.seen view.now) call.now) }
-    ensures taken { (im : Image) (o : Owners) (l : Layout) (t : Tree) → IsOf (V.seen view.now) im o l t → IfNotBuilt result ((apply call.now t).reply ≡ OkReply) }
+    ensures built { (im : Image) (o : Owners) (l : Layout) (t : Tree) → IsOf (V.seen view.now) im o l t → IfNotBuilt result (IsUnbuiltName t call.now) }
     ensures sound { (im : Image) (o : Owners) (l : Layout) (t : Tree) → IsOf (V.seen view.now) im o l t → IfDamaged result (λ rule block. ⊥) }
     ensures damaged { IfDamaged result (IsDamage (V.seen view.now) call.now) }
     ensures kept { IfDamaged result (IsOfView (V.seen view.now)) }

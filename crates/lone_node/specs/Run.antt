@@ -1,11 +1,10 @@
 -- The items of one node that takes a script's lines one by one.
 use Rattle.std.specs.Prelude.{ℕ, ◌≡◌, false, List, [], ◌∷◌, ◌++◌, length, map, take, slice_get, Option, Some}
 use Rattle.std.specs.List.{AllByRecursion, filter}
-use Rattle.file_tree.specs.Apply.{apply}
 use Rattle.file_tree.specs.Tree.{Tree}
 use Rattle.file_tree.specs.declared.call.Call.{Call}
 use Rattle.file_tree.specs.declared.reply.Reply.{Reply}
-use Rattle.file_tree.specs.declared.reply.Reply.TheVariants as replies
+use Rattle.file_calls.specs.Calls.{IsUnbuiltName}
 use Rattle.cluster_history.specs.Changes.{Changes}
 use Rattle.cluster_history.specs.History.{Replied, AllAnswer, alive, tree_of}
 use Rattle.run_rules.specs.Follows.{history_of}
@@ -14,7 +13,7 @@ use Rattle.script_lang.specs.declared.script.Line.{Line}
 use Rattle.script_lang.specs.declared.script.Line.TheVariants as line
 use Rattle.trace_text.specs.declared.item.TraceItem.{TraceItem}
 use Rattle.trace_text.specs.declared.item.TraceItem.TheVariants as trace
-use Rattle.shared_disk.specs.Disk.{DiskState, IsIdle}
+use Rattle.shared_disk.specs.Disk.{IsIdle}
 use Rattle.lone_view.specs.Seeing.{Lone}
 use Rattle.lone_node.specs.Answering.{IsAnsweredFrom, IsFailedAt, IsSameDisk, IsToldFull}
 use Rattle.lone_node.specs.Course.{HasTaken, IsStep, Moment}
@@ -61,9 +60,9 @@ pub record EndsAtCall (P : Call → Type 0) (clients : List Client) (lines : Lis
   pub count : ℕ
   pub ends : EndsAt count P clients lines items IsStart
 
--- behind these items each tree, from each with which the run may have begun, would take the call
-abbrev pub IsTakenBehind : List Client → List TraceItem → (Tree → Type 0) → Call → Type 0
-IsTakenBehind clients items IsStart call = (t : Tree) → IsStart t → (apply call (tree_of (history_of clients items) t)).reply ≡ replies.Ok
+-- behind these items each tree, from each with which the run may have begun, would take the call, which makes a name: nothing else isn't built
+abbrev pub IsUnbuiltBehind : List Client → List TraceItem → (Tree → Type 0) → Call → Type 0
+IsUnbuiltBehind clients items IsStart call = (t : Tree) → IsStart t → IsUnbuiltName (tree_of (history_of clients items) t) call
 
 -- no call among these items has changed the tree
 abbrev pub HasChangedNothing : List Client → List TraceItem → Type 0

@@ -1,12 +1,10 @@
 // One call, answered on a disk.
 ghost use Rattle.std.specs.Prelude.{ℕ, List, [], false, ◌≡◌, ◌<◌, ◌≤◌, IfOk, IfErr, IfSome, IfNone, OnOk};
-ghost use Rattle.file_tree.specs.Apply.{apply};
 ghost use Rattle.file_tree.specs.Tree.{Tree};
-ghost use Rattle.file_tree.specs.declared.reply.Reply.TheVariants.{Ok as OkReply};
 ghost use Rattle.cluster_history.specs.Changes.{Changes};
 ghost use Rattle.gfs2_layout.specs.Device.{IsBlockSize};
 ghost use Rattle.shared_disk.specs.Disk.{Gains, IsIdle, Operation};
-ghost use Rattle.file_calls.specs.Calls.{IsBuilt, IsHashed, IsUnbuilt};
+ghost use Rattle.file_calls.specs.Calls.{IsBuilt, IsHashed, IsUnbuilt, IsUnbuiltName};
 ghost use Rattle.lone_view.specs.Seeing.{seen_alone};
 ghost use Rattle.lone_node.specs.Answering.{IsAnsweredFrom, IsDamagedFor, IsDamagedOn, IsFailedAt, IsFailedFor, IsHashedOn, IsSameDisk, IsToldFull, IsUnbuiltOn};
 ghost use Rattle.lone_node.specs.Course.{AreBrought, HasStopped, IsStep, moment};
@@ -107,7 +105,7 @@ fn try_once<D: SharedDisk>(
     ensures damaged { IfErr result (λ end. IfDamaged end (IsDamagedFor (D.state disk.old) (seen_alone view.old) call.now)) }
     ensures hashed { IfErr result (λ end. IfHashed end (IsHashed (seen_alone view.old) call.now)) }
     ensures unbuilt { IfErr result (λ end. IfNotBuilt end (λ place. (place ≡ line) × IsUnbuilt (seen_alone view.old) call.now)) }
-    ensures taken { IfErr result (λ end. IfNotBuilt end (λ place. (place ≡ line) × ((t : Tree) → StandsFor (D.state disk.old) view.old t → (apply call.now t).reply ≡ OkReply))) }
+    ensures built { IfErr result (λ end. IfNotBuilt end (λ place. (place ≡ line) × ((t : Tree) → StandsFor (D.state disk.old) view.old t → IsUnbuiltName t call.now))) }
     ensures failed { IfErr result (λ end. IfDiskFailed end (IsFailedFor (moment (D.state disk.old) (D.list disk.old)) (moment (D.state disk.new) (D.list disk.new)) view.old stamp.now.time call.now)) }
     ensures later { (i : ℕ) → D.faults disk.old i ≤ D.faults disk.new i }
     ensures cause { IfErr result (HasCause 1 (D.state disk.old).count (D.faults disk.old) (D.faults disk.new)) }
@@ -163,7 +161,7 @@ pub(crate) fn answer_call<D: SharedDisk>(
     ensures damaged { IfErr result (λ end. IfDamaged end (IsDamagedOn (D.state disk.old) view.old call.now)) }
     ensures hashed { IfErr result (λ end. IfHashed end (IsHashedOn (D.state disk.old) view.old call.now)) }
     ensures unbuilt { IfErr result (λ end. IfNotBuilt end (λ place. (place ≡ line) × IsUnbuiltOn (D.state disk.old) view.old call.now)) }
-    ensures taken { IfErr result (λ end. IfNotBuilt end (λ place. (place ≡ line) × ((t : Tree) → StandsFor (D.state disk.old) view.old t → (apply call.now t).reply ≡ OkReply))) }
+    ensures built { IfErr result (λ end. IfNotBuilt end (λ place. (place ≡ line) × ((t : Tree) → StandsFor (D.state disk.old) view.old t → IsUnbuiltName t call.now))) }
     ensures failed { IfErr result (λ end. IfDiskFailed end (IsFailedAt (moment (D.state disk.old) (D.list disk.old)) (moment (D.state disk.new) (D.list disk.new)) view.old stamp.now.time call.now)) }
     ensures later { (i : ℕ) → D.faults disk.old i ≤ D.faults disk.new i }
     ensures cause { IfErr result (HasCause 1 (D.state disk.old).count (D.faults disk.old) (D.faults disk.new)) }

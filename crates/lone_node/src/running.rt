@@ -2,21 +2,19 @@
 ghost use Rattle.std.specs.Prelude.{ℕ, List, [], ◌∷◌, ◌++◌, ◌≡◌, ◌+◌, ◌<◌, ◌≤◌, length, OnOk, OnErr, IfErr};
 ghost use Rattle.std.specs.List.{AllByRecursion};
 ghost use Rattle.std.specs.Vec.{vec_len, vec_capacity};
-ghost use Rattle.file_tree.specs.Apply.{apply};
 ghost use Rattle.file_tree.specs.Tree.{Tree};
-ghost use Rattle.file_tree.specs.declared.reply.Reply.TheVariants.{Ok as OkReply};
 ghost use Rattle.cluster_history.specs.History.{Legal, NoneLost, tree_of};
 ghost use Rattle.gfs2_layout.specs.Device.{IsBlockSize};
 ghost use Rattle.run_rules.specs.Follows.{history_of};
 ghost use Rattle.run_rules.specs.History.{HoldsHistory, NoneStopped, AllAnswered};
 ghost use Rattle.shared_disk.specs.Disk.{IsIdle};
-ghost use Rattle.file_calls.specs.Calls.{IsBuilt};
+ghost use Rattle.file_calls.specs.Calls.{IsBuilt, IsUnbuiltName};
 ghost use Rattle.script_lang.specs.OneNode.{IsOneNode, IsOwnLine};
 ghost use Rattle.lone_node.specs.Answering.{IsDamagedOn, IsFailedAt, IsHashedOn, IsSameDisk, IsUnbuiltOn};
 ghost use Rattle.lone_node.specs.Course.{HasTaken, IsCourse, moment};
 ghost use Rattle.lone_node.specs.Ends.{HasCause, IfDamaged, IfDiskFailed, IfHashed, IfNotBuilt, UnlessDiskFailed, UnlessFailed};
 ghost use Rattle.lone_node.specs.Items.{full_item};
-ghost use Rattle.lone_node.specs.Run.{EndsAt, EndsAtCall, HasChangedNothing, IsFailedOn, IsRunOf, IsRunUpTo, IsTakenBehind, IsTakenCall, IsWholeRun};
+ghost use Rattle.lone_node.specs.Run.{EndsAt, EndsAtCall, HasChangedNothing, IsFailedOn, IsRunOf, IsRunUpTo, IsTakenCall, IsUnbuiltBehind, IsWholeRun};
 ghost use Rattle.lone_node.specs.Standing.{IsOn, IsSameSystem, LeavesStanding, StandsFor};
 
 use crate::RunEnd;
@@ -113,7 +111,7 @@ fn take_call<D: SharedDisk>(
     ensures damaged { IfErr result (λ end. IfDamaged end (IsDamagedOn (D.state disk.old) view.old call.now)) }
     ensures hashed { IfErr result (λ end. IfHashed end (IsHashedOn (D.state disk.old) view.old call.now)) }
     ensures unbuilt { IfErr result (λ end. IfNotBuilt end (λ place. (place ≡ line) × IsUnbuiltOn (D.state disk.old) view.old call.now)) }
-    ensures accepted { IfErr result (λ end. IfNotBuilt end (λ place. (place ≡ line) × ((t : Tree) → StandsFor (D.state disk.old) view.old t → (apply call.now t).reply ≡ OkReply))) }
+    ensures built { IfErr result (λ end. IfNotBuilt end (λ place. (place ≡ line) × ((t : Tree) → StandsFor (D.state disk.old) view.old t → IsUnbuiltName t call.now))) }
     ensures failed { IfErr result (λ end. IfDiskFailed end (IsFailedAt (moment (D.state disk.old) (D.list disk.old)) (moment (D.state disk.new) (D.list disk.new)) view.old stamp.now.time call.now)) }
     ensures later { (i : ℕ) → D.faults disk.old i ≤ D.faults disk.new i }
     ensures cause { IfErr result (HasCause 1 (D.state disk.old).count (D.faults disk.old) (D.faults disk.new)) }
@@ -159,7 +157,7 @@ fn take_lines<D: SharedDisk>(
     ensures damaged { IfErr result (λ end. IfDamaged end (λ b rule. EndsAtCall (λ call. IsDamagedOn (D.state disk.new) view.old call b rule) clients.now lines.now items.new.items (StandsFor (D.state disk.old) view.old))) }
     ensures hashed { IfErr result (λ end. IfHashed end (λ b. EndsAtCall (λ call. IsHashedOn (D.state disk.new) view.old call b) clients.now lines.now items.new.items (StandsFor (D.state disk.old) view.old))) }
     ensures unbuilt { IfErr result (λ end. IfNotBuilt end (λ line. EndsAt line (λ call. IsUnbuiltOn (D.state disk.new) view.old call) clients.now lines.now items.new.items (StandsFor (D.state disk.old) view.old))) }
-    ensures taken { IfErr result (λ end. IfNotBuilt end (λ line. EndsAt line (IsTakenBehind clients.now items.new.items (StandsFor (D.state disk.old) view.old)) clients.now lines.now items.new.items (StandsFor (D.state disk.old) view.old))) }
+    ensures built { IfErr result (λ end. IfNotBuilt end (λ line. EndsAt line (IsUnbuiltBehind clients.now items.new.items (StandsFor (D.state disk.old) view.old)) clients.now lines.now items.new.items (StandsFor (D.state disk.old) view.old))) }
     ensures failed { IfErr result (λ end. IfDiskFailed end (λ block. EndsAtCall (λ call. IsFailedOn (moment (D.state disk.old) (D.list disk.old)) (moment (D.state disk.new) (D.list disk.new)) view.old stamp.now.time clients.now items.new.items call block) clients.now lines.now items.new.items (StandsFor (D.state disk.old) view.old))) }
     ensures later { (i : ℕ) → D.faults disk.old i ≤ D.faults disk.new i }
     ensures cause { IfErr result (HasCause 1 (D.state disk.old).count (D.faults disk.old) (D.faults disk.new)) }
@@ -208,7 +206,7 @@ fn run_lines<D: SharedDisk>(
     ensures damaged { IfErr result (λ end. IfDamaged end (λ b rule. EndsAtCall (λ call. IsDamagedOn (D.state disk.new) view.old call b rule) clients.now lines.now items.new.items (StandsFor (D.state disk.old) view.old))) }
     ensures hashed { IfErr result (λ end. IfHashed end (λ b. EndsAtCall (λ call. IsHashedOn (D.state disk.new) view.old call b) clients.now lines.now items.new.items (StandsFor (D.state disk.old) view.old))) }
     ensures unbuilt { IfErr result (λ end. IfNotBuilt end (λ line. EndsAt line (λ call. IsUnbuiltOn (D.state disk.new) view.old call) clients.now lines.now items.new.items (StandsFor (D.state disk.old) view.old))) }
-    ensures taken { IfErr result (λ end. IfNotBuilt end (λ line. EndsAt line (IsTakenBehind clients.now items.new.items (StandsFor (D.state disk.old) view.old)) clients.now lines.now items.new.items (StandsFor (D.state disk.old) view.old))) }
+    ensures built { IfErr result (λ end. IfNotBuilt end (λ line. EndsAt line (IsUnbuiltBehind clients.now items.new.items (StandsFor (D.state disk.old) view.old)) clients.now lines.now items.new.items (StandsFor (D.state disk.old) view.old))) }
     ensures failed { IfErr result (λ end. IfDiskFailed end (λ block. EndsAtCall (λ call. IsFailedOn (moment (D.state disk.old) (D.list disk.old)) (moment (D.state disk.new) (D.list disk.new)) view.old stamp.now.time clients.now items.new.items call block) clients.now lines.now items.new.items (StandsFor (D.state disk.old) view.old))) }
     ensures later { (i : ℕ) → D.faults disk.old i ≤ D.faults disk.new i }
     ensures cause { IfErr result (HasCause 1 (D.state disk.old).count (D.faults disk.old) (D.faults disk.new)) }
@@ -263,7 +261,7 @@ pub fn run_script<D: SharedDisk>(
     ensures damaged { IfErr result (λ end. IfDamaged end (λ b rule. EndsAtCall (λ call. IsDamagedOn (D.state disk.new) view.old call b rule) script.now.clients script.now.lines items.new.items (StandsFor (D.state disk.old) view.old))) }
     ensures hashed { IfErr result (λ end. IfHashed end (λ b. EndsAtCall (λ call. IsHashedOn (D.state disk.new) view.old call b) script.now.clients script.now.lines items.new.items (StandsFor (D.state disk.old) view.old))) }
     ensures unbuilt { IfErr result (λ end. IfNotBuilt end (λ line. EndsAt line (λ call. IsUnbuiltOn (D.state disk.new) view.old call) script.now.clients script.now.lines items.new.items (StandsFor (D.state disk.old) view.old))) }
-    ensures taken { IfErr result (λ end. IfNotBuilt end (λ line. EndsAt line (IsTakenBehind script.now.clients items.new.items (StandsFor (D.state disk.old) view.old)) script.now.clients script.now.lines items.new.items (StandsFor (D.state disk.old) view.old))) }
+    ensures built { IfErr result (λ end. IfNotBuilt end (λ line. EndsAt line (IsUnbuiltBehind script.now.clients items.new.items (StandsFor (D.state disk.old) view.old)) script.now.clients script.now.lines items.new.items (StandsFor (D.state disk.old) view.old))) }
     ensures failed { IfErr result (λ end. IfDiskFailed end (λ block. EndsAtCall (λ call. IsFailedOn (moment (D.state disk.old) (D.list disk.old)) (moment (D.state disk.new) (D.list disk.new)) view.old time script.now.clients items.new.items call block) script.now.clients script.now.lines items.new.items (StandsFor (D.state disk.old) view.old))) }
     ensures later { (i : ℕ) → D.faults disk.old i ≤ D.faults disk.new i }
     ensures cause { IfErr result (HasCause 1 (D.state disk.old).count (D.faults disk.old) (D.faults disk.new)) }

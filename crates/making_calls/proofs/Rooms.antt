@@ -21,6 +21,7 @@ use Rattle.room_search.specs.Blocks.{group_holds, group_of_node, states_by}
 use Rattle.room_search.specs.Searches.{AreShown, IsGroupNeeded, IsUnder}
 use Rattle.room_search.specs.declared.search.Locked.TheVariants as locked
 use Rattle.room_search.proofs.Holds.{group_needed, held_before, held_behind, held_in, read_group}
+use Rattle.room_search.proofs.Room.{all_listed}
 use Rattle.room_search.proofs.Shown.{bytes_shown}
 use Rattle.making_calls.specs.Blocks.{blocks_needed, block_holds, holds_from, new_holds}
 use Rattle.making_calls.specs.Searches.{IsTaken}
@@ -77,6 +78,16 @@ module _ (v : Seen) (node : ℕ) (view : IsView v) (some : 1 ≤ length v.groups
       → ((at : ℕ → List ℕ) (own : Group) → AreShown v at → group_of_node v.groups node ≡ Some own → IsUnder v (block_holds (said at) v.groups own) (IsTaken v (said at) v.groups own) (locked.Is (taken.TooFew free)))
       → free < blocks_needed
   few_way free found = let at = bytes_shown v view in let own = own_of v node some first in (found at.0 own.0 (λ g has. at.1 g) own.1).1.fewer
+
+  -- and then each group was looked through, under its lock
+  pub all_locks : (free : ℕ)
+      → ((at : ℕ → List ℕ) (own : Group) → AreShown v at → group_of_node v.groups node ≡ Some own → IsUnder v (block_holds (said at) v.groups own) (IsTaken v (said at) v.groups own) (locked.Is (taken.TooFew free)))
+      → AreHeld v (map hold_of_group v.groups)
+  all_locks free found =
+      let at = bytes_shown v view in
+      let own = own_of v node some first in
+      let f = found at.0 own.0 (λ g has. at.1 g) own.1 in
+      all_listed v (said at.0) own.0 blocks_needed f.1.fewer_own (held_before v (group_holds (said at.0) v.groups own.0 blocks_needed) _ f.0)
 
 -- ---- in an image
 

@@ -157,10 +157,12 @@ pub data IsLackedFor (v : Seen) (call : Call) (node : ℕ) (lock : LockName) (st
   of_block : (own : Group) → IsToGetName v call true → group_of_node v.groups node ≡ Some own → holds v (record { lock = lock; state = state }) ≡ false
       → ((at : ℕ → List ℕ) → AreShown v at → IsFirstLack v (block_holds (said at) v.groups own) lock state) → IsLackedFor v call node lock state
 
--- The directory is to get the name and has room for it, but so few blocks are free, in all groups, as far as the view shows them.
+-- The directory is to get the name and has room for it, but so few blocks are free, in all groups, whose locks are held, as far as the view shows
+-- them.
 pub record IsFullFor (v : Seen) (call : Call) (need free : ℕ) : Type 0 where
   pub gets : IsToGetName v call true
   pub needs : need ≡ blocks_needed
+  pub held : AreHeld v (map hold_of_group v.groups)
   pub free_are : (at : ℕ → List ℕ) → AreShown v at → free ≡ length (free_in_all (said at) v.groups)
   pub fewer : free < need
 

@@ -79,11 +79,17 @@ IsAskedRecords v a (found.Reply r) = ⊤
 IsAskedRecords v a (found.Hashed b) = (b ≡ a) × ((h : Holding) → IsShown v a h → is_hashed_in h ≡ true)
 IsAskedRecords v a _ = ⊥
 
+-- those of a hashed directory that counts fewer than its two dots
+abbrev pub IsAskedCount : Seen → ℕ → Found → Type 0
+IsAskedCount v a (found.Reply r) = ⊤
+IsAskedCount v a (found.Hashed b) = (b ≡ a) × ((h : Holding) → IsShown v a h → (is_hashed_in h ≡ true) × ((dinode_in h).entries < 2))
+IsAskedCount v a _ = ⊥
+
 abbrev pub IsAsked : Seen → ℕ → Call → Found → Type 0
 IsAsked v a (Read path at count) f = IsAskedRange v a at count f
 IsAsked v a (Dread path at count) f = IsAskedRange v a at count f
 IsAsked v a (ListNames path) f = IsAskedRecords v a f
-IsAsked v a (Stat path) f = IsAskedRecords v a f
+IsAsked v a (Stat path) f = IsAskedCount v a f
 IsAsked v a call f = ⊥
 
 -- a reply isn't that of too few free blocks

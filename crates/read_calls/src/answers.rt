@@ -6,7 +6,7 @@ ghost use Rattle.gfs2_layout.specs.Inode.{dinode_in};
 ghost use Rattle.glock_names.specs.Steps.{IfDamaged};
 ghost use Rattle.glock_names.specs.Views.{HasBlock, IsOfView};
 ghost use Rattle.dinode_tree.specs.Shown.{IsShown};
-ghost use Rattle.read_calls.specs.Reading.{IsReading, IsRangeOf, IsStatOf, IsListOf, IsAnswerOf, IsAskedRange, IsAskedRecords, IsAsked, IsSpaceless};
+ghost use Rattle.read_calls.specs.Reading.{IsReading, IsRangeOf, IsStatOf, IsListOf, IsAnswerOf, IsAskedRange, IsAskedRecords, IsAskedCount, IsAsked, IsSpaceless};
 ghost use Rattle.linear_dirs.specs.Shown.{IsLinearIn};
 ghost use Rattle.path_walks.specs.Walks.{IsLinearDirectory, IsWrong};
 
@@ -98,7 +98,7 @@ fn stat<V: View>(view: &V, place: &Place) -> Result<Read, CallFault>
     requires there { HasBlock (V.seen view.now) place.now.inode }
     requires dinode { (h : Holding) → IsShown (V.seen view.now) place.now.inode h → place.now.dinode ≡ dinode_in h }
     ensures read { (h : Holding) → IsShown (V.seen view.now) place.now.inode h → IfOk result (IsStatOf h) }
-    ensures asked { IfOk result (IsAskedRecords (V.seen view.now) place.now.inode) }
+    ensures asked { IfOk result (IsAskedCount (V.seen view.now) place.now.inode) }
     ensures spaceless { IfOk result IsSpaceless }
     ensures damaged { (h : Holding) → IsShown (V.seen view.now) place.now.inode h → IfDamaged result (IsWrong h) }
     ensures kept { IfDamaged result (IsOfView (V.seen view.now)) }

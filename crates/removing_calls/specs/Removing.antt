@@ -112,7 +112,7 @@ pub data IsRefused (v : Seen) (call : Call) : Reply → Type 0 where
   not_dir : (a : ℕ) → IsOnTheWay v (wanted call) (path_of call false) a (λ h. is_directory_in h ≡ false) → IsRefused v call reply.NotDir
   at_end : (a : ℕ) (r : Reply) → LeadsTo v (wanted call) (path_of call false) a → HasBlock v a → ((h : Holding) → IsShown v a h → IsAimOf call h (aim.Refused r)) → IsRefused v call r
 
--- The name went, and the inode with all its blocks, the locks of whose groups are held: this is the change of it, with this time.
+-- The name went, and the inode with all its blocks, data blocks of groups whose locks are held: this is the change of it, with this time.
 pub record IsRemovedBy {V : Type 0} (seen : V → Seen) (view : V) (call : Call) (time : ℕ) (change : Change) : Type 0 where
   pub inode : ℕ
   pub directory : ℕ
@@ -123,6 +123,7 @@ pub record IsRemovedBy {V : Type 0} (seen : V → Seen) (view : V) (call : Call)
   pub inside : HasDataBlock (seen view) directory
   pub last : IsLastOf (path_of call false) name
   pub all : AreAllOf (seen view) inode blocks
+  pub goes : (b : ℕ) → Contains blocks b → HasDataBlock (seen view) b
   pub held : GroupsAreHeld (seen view) blocks
   pub is : IsRemoval seen view directory name time blocks change
 

@@ -1,5 +1,5 @@
 -- The draft of a write does what the call should.
-use Rattle.std.proofs.Common.{◌≡◌, ◌≢◌, ◌+◌, ◌<◌, ◌≤◌, inl, inr, ℕ, suc, zero, Bool, true, false, true≢false, List, [], ◌∷◌, ◌++◌, length, slice_get, None, Some, refl, sym, ap, ◌∙◌, subst, arith}
+use Rattle.std.proofs.Common.{◌≡◌, ◌≢◌, ◌+◌, ◌<◌, ◌≤◌, inl, inr, ℕ, Bool, true, false, true≢false, List, [], ◌∷◌, length, slice_get, None, Some, refl, sym, ap, ◌∙◌, subst, arith}
 use Rattle.std.proofs.lemmas.Bool.{cases_eq, cases_lt, cond-true, cond-false, le-ltb, lt-ltb}
 use Rattle.std.proofs.lemmas.List.{length-append}
 use Rattle.std.specs.Prelude.{IsSome, is_some, nat_lt}
@@ -32,6 +32,7 @@ use Rattle.image_model.specs.Image.{Image}
 use Rattle.image_model.specs.Owners.{Owners, holding}
 use Rattle.image_model.specs.Stands.{Layout}
 use Rattle.image_model.proofs.Held.{none_some, some_same, own_part}
+use Rattle.image_model.proofs.Lengths.{length_content, size_large}
 use Rattle.image_changes.specs.Does.{IsOf, Does}
 use Rattle.image_changes.specs.Drafted.{is_put, with_draft}
 use Rattle.image_changes.specs.Instances.{IsAt}
@@ -113,6 +114,10 @@ pub file_there : (v : Seen) (im : Image) (o : Owners) (l : Layout) (t : Tree) �
 file_there v im o l t of path a at plain =
     let found = walks_find im o l t path a of.stands at in
     file_in (walk t path) found.tree (content_of (holding im o a)) found.walks (some_same (sym (found.reads.same [])) ∙ file_thing im o a (is_inode v im o l t of path a at) plain)
+
+-- whose content is as long as its size says
+pub long_content : (v : Seen) (im : Image) (o : Owners) (l : Layout) (t : Tree) → IsOf v im o l t → (path : Path) (a : ℕ) → IsAt im o l path a → length (content_of (holding im o a)) ≡ (dinode_in (holding im o a)).size
+long_content v im o l t of path a at = length_content im o (size_large im.size of.stands.laid.image.block_size) a (is_inode v im o l t of path a at) (is_sound v im o l t of path a at)
 
 -- such a call, which makes the file no longer than it may be
 pub call_taken : (c : Call) (t : Tree) (bytes : List ℕ) → IsEdit c → end_of c ≤ file_limit → walk t (path_of c false) ≡ Found (file bytes)

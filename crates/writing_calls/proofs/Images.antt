@@ -1,9 +1,9 @@
 -- A call that changes a file's content, at the place to which the walk came: what the view shows, and what its change makes of an image.
-use Rattle.std.proofs.Common.{◌≡◌, ◌⊎◌, ◌≤◌, ◌<◌, inl, inr, ℕ, Bool, true, false, true≢false, List, [], ◌∷◌, ◌++◌, length, slice_get, None, Some, refl, sym, ap, ◌∙◌, subst, arith}
+use Rattle.std.proofs.Common.{◌≡◌, ◌⊎◌, ◌+◌, ◌≤◌, inl, inr, ℕ, Bool, true, false, true≢false, List, [], ◌∷◌, ◌++◌, Some, refl, sym, ap, ◌∙◌, subst, arith}
 use Rattle.std.proofs.lemmas.Bool.{cases_Bool, cases_lt}
-use Rattle.std.proofs.lemmas.Slice.{slice_get-get_or}
+use Rattle.std.proofs.lemmas.Option.{slice_get-get_or}
 use Rattle.std.proofs.lemmas.List.Elements.{Contains-append_left, Contains-append_right}
-use Rattle.std.specs.Prelude.{Contains, IsSome, get_or, is_some}
+use Rattle.std.specs.Prelude.{Contains, get_or, is_some}
 use Rattle.std.specs.Ordering.{nat_cmp}
 use Rattle.std.specs.FinMap.{FinMap, get}
 use Rattle.cluster_history.specs.Changes.{is_ok}
@@ -40,7 +40,7 @@ use Rattle.image_model.proofs.Held.{some_same}
 use Rattle.image_model.proofs.Counts.{at_in}
 use Rattle.image_model.proofs.Members.{IsIn, contained, is_in}
 use Rattle.image_changes.specs.Changes.{inode_of}
-use Rattle.image_changes.specs.Does.{IsOf, frees}
+use Rattle.image_changes.specs.Does.{IsOf}
 use Rattle.image_changes.specs.Drafted.{IsFinished, MakesIn, is_freed, is_gone}
 use Rattle.image_changes.specs.Instances.{IsAt, among, dinode_at}
 use Rattle.image_changes.proofs.Finishing.{finish_makes}
@@ -53,12 +53,12 @@ use Rattle.draft_changes.proofs.Views.{groups_are_listed, is_listed}
 use Rattle.file_changes.specs.Drafting.{IsWrongAt, in_group, in_inode, stray}
 use Rattle.file_changes.specs.Making.{MakesFile}
 use Rattle.group_locks.proofs.Locks.{groups_break_nothing}
-use Rattle.path_walks.specs.Holds.{Hold, AreHeld, IsAskedFor, IsUnder, hold_of, hold_of_group, holds_in}
+use Rattle.path_walks.specs.Holds.{Hold, IsAskedFor, IsUnder, hold_of, hold_of_group, holds_in}
 use Rattle.path_walks.specs.Walks.{IsSeenAt, IsWalked}
 use Rattle.path_walks.specs.declared.walk.Place.{Place}
 use Rattle.path_walks.specs.declared.walk.Walk.TheVariants.{At}
 use Rattle.path_walks.proofs.Asked.{asked}
-use Rattle.path_walks.proofs.Images.{is_inode, is_shown, is_sound, unbroken}
+use Rattle.path_walks.proofs.Images.{is_shown, is_sound, unbroken}
 use Rattle.path_walks.proofs.Longer.{asked_before}
 use Rattle.writing_calls.specs.Writing.{IsEdit, IsToChange, call_holds, content_after, end_of, group_holds_of}
 use Rattle.writing_calls.proofs.Alone.{file_listed}

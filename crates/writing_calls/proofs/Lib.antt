@@ -1,5 +1,6 @@
 pub mod Alone
 pub mod Areas
+pub mod Behind
 pub mod Cutting
 pub mod Doing
 pub mod Drafts

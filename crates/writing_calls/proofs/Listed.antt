@@ -1,5 +1,5 @@
 -- The locks of a call that changes a file's content, in an image.
-use Rattle.std.proofs.Common.{◌≡◌, ◌+◌, ◌<◌, ◌≤◌, ℕ, true, false, List, [], ◌++◌, length, refl, sym, ap, ◌∙◌, subst}
+use Rattle.std.proofs.Common.{◌≡◌, ◌+◌, ℕ, true, false, List, [], ◌++◌, length, sym, ap, ◌∙◌, subst}
 use Rattle.std.proofs.lemmas.Bool.{cond-true, cond-false, lt-ltb, le-ltb}
 use Rattle.std.proofs.lemmas.List.{append-nil}
 use Rattle.std.specs.Prelude.{nat_lt}
@@ -24,8 +24,8 @@ use Rattle.writing_calls.specs.Writing.{Cuts, Puts, by_growth, by_write, call_ho
 
 -- where the tree refuses the call no group's lock is taken
 pub plain_list : (im : Image) (o : Owners) (l : Layout) (t : Tree) (c : Call) (node : ℕ) → is_ok (apply c t).reply ≡ false → call_holds im o l t c node ≡ holds_in im o l (path_of c false) (wanted c)
-plain_list im o l t c node no =
-    ap (λ xs. holds_in im o l (path_of c false) (wanted c) ++ xs) (cond-false _ (group_holds_at im o l c node (follow (flat_of im o) l.root (path_of c false))) [] no)
+plain_list im o l t c node refuses =
+    ap (λ xs. holds_in im o l (path_of c false) (wanted c) ++ xs) (cond-false _ (group_holds_at im o l c node (follow (flat_of im o) l.root (path_of c false))) [] refuses)
     ∙ append-nil (holds_in im o l (path_of c false) (wanted c))
 
 -- where it takes it, those of groups stand behind the path's
@@ -58,4 +58,4 @@ module _ (im : Image) (o : Owners) (l : Layout) (c : Call) (node a : ℕ) where
   pub cut_list : (size end : ℕ) → (dinode_at im o a).size ≡ size → Cuts c size end → group_holds_of im o l c node a ≡ holds_of_groups (goes_at (holding im o a) end) l.groups
   cut_list size end same cuts =
       ap (λ k. group_holds_of im o l k node a) cuts.is
-      ∙ cond-false _ (room_holds o l node (needed (holding im o a) end 0)) (holds_of_groups (goes_at (holding im o a) end) l.groups) (ap (λ n. nat_lt n end) same ∙ le-ltb end size cuts.shorter)
+      ∙ cond-false _ (room_holds o l node (needed (holding im o a) end 0)) (holds_of_groups (goes_at (holding im o a) end) l.groups) (ap (λ n. nat_lt n end) same ∙ le-ltb size end cuts.shorter)

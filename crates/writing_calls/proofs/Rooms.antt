@@ -1,10 +1,11 @@
 -- A call that needs free blocks, at the place to which the walk came: what the search for them tells, and what its change makes.
-use Rattle.std.proofs.Common.{◌≡◌, ◌⊎◌, ◌+◌, ◌≤◌, ◌<◌, inl, inr, ℕ, Bool, true, false, List, [], ◌∷◌, ◌++◌, length, drop, None, Some, refl, sym, ap, ◌∙◌, subst, arith}
+use Rattle.std.proofs.Common.{◌≡◌, ◌+◌, ◌≤◌, ◌<◌, inl, inr, ℕ, Bool, true, false, List, [], ◌∷◌, ◌++◌, length, None, Some, refl, sym, ap, ◌∙◌, subst, arith}
 use Rattle.std.proofs.lemmas.List.{append-nil, drop_all}
 use Rattle.std.proofs.lemmas.List.Elements.{All-append, Contains-append_right}
-use Rattle.std.specs.Prelude.{Contains, is_some}
+use Rattle.std.specs.Prelude.{Contains, Vec, is_some, map}
 use Rattle.std.specs.Ordering.{nat_cmp}
-use Rattle.std.specs.FinMap.{FinMap, get, insert}
+use Rattle.std.specs.declared.alloc.Global.{Global}
+use Rattle.std.specs.FinMap.{FinMap, get}
 use Rattle.file_tree.specs.Apply.{file_limit, overwritten, resized}
 use Rattle.file_tree.specs.Tree.{Tree}
 use Rattle.file_tree.specs.declared.call.Call.{Call}
@@ -13,9 +14,9 @@ use Rattle.drafts.specs.Fates.{block_with}
 use Rattle.drafts.specs.declared.change.Change.{Change}
 use Rattle.drafts.specs.declared.fate.Fate.{Fate}
 use Rattle.drafts.specs.declared.fate.Fate.TheVariants.{Put}
-use Rattle.gfs2_layout.specs.Holding.{Holding}
 use Rattle.gfs2_layout.specs.Inode.{content_of}
 use Rattle.gfs2_layout.specs.Structures.{is_directory}
+use Rattle.gfs2_layout.specs.declared.dinode.Dinode.{Dinode}
 use Rattle.gfs2_layout.specs.declared.rindex.Rindex.{Rindex}
 use Rattle.glock_names.specs.Views.{HasGroup, Seen, IsView, group_of_entry}
 use Rattle.glock_names.specs.declared.LockName.{LockName}
@@ -29,9 +30,8 @@ use Rattle.dinode_tree.specs.Below.{AnyIndex}
 use Rattle.dinode_tree.specs.Reading.{inode_lock}
 use Rattle.growth_laws.specs.Laws.{InodesAreFiles}
 use Rattle.growth_laws.specs.Need.{needed}
-use Rattle.growth_laws.proofs.Contents.{content_length}
 use Rattle.growth_drafts.specs.Taken.{IsCounted, IsDistinct, IsLookedAt}
-use Rattle.image_model.specs.Groups.{IsDataOf, IsListed}
+use Rattle.image_model.specs.Groups.{IsListed}
 use Rattle.image_model.specs.Image.{Image}
 use Rattle.image_model.specs.Owners.{Owners, holding}
 use Rattle.image_model.specs.Stands.{Layout}
@@ -48,7 +48,7 @@ use Rattle.draft_changes.specs.Resizing.{HasSomeOf}
 use Rattle.draft_changes.proofs.Views.{groups_are_listed}
 use Rattle.resource_groups.specs.Freeing as freeing
 use Rattle.resource_groups.specs.Shown as group
-use Rattle.resource_groups.specs.Shown.{group_lock}
+use Rattle.resource_groups.specs.Shown.{group_lock, said}
 use Rattle.file_changes.specs.Drafting.{IsNeededAt, IsWriteDraft, of_any, of_group, of_inode}
 use Rattle.file_changes.specs.Making as making
 use Rattle.file_changes.specs.Making.{MakesFile, WritesMakeFiles}
@@ -58,14 +58,21 @@ use Rattle.path_walks.specs.Walks.{IsSeenAt, IsWalked}
 use Rattle.path_walks.specs.declared.walk.Place.{Place}
 use Rattle.path_walks.specs.declared.walk.Walk.TheVariants.{At}
 use Rattle.path_walks.proofs.Images.{is_shown}
-use Rattle.path_walks.proofs.Wants.{exclusive}
 use Rattle.path_walks.proofs.Longer.{asked_behind, lack_behind}
-use Rattle.room_search.specs.Blocks.{room_holds}
-use Rattle.room_search.specs.Searches.{AreHeldBlocks, IsHeldBlock, IsRoomIn, IsShortIn}
+use Rattle.path_walks.proofs.Wants.{exclusive}
+use Rattle.room_search.specs.Blocks.{free_in_all, group_holds, group_of_node, room_holds}
+use Rattle.room_search.specs.Searches.{AreHeldBlocks, AreShown, HasOwnGroup, IsHeldBlock, IsRoomIn, IsShortIn, IsTaken}
+use Rattle.room_search.specs.Searches as search
+use Rattle.room_search.specs.declared.search.Locked.{Locked}
+use Rattle.room_search.specs.declared.search.Locked.TheVariants as locked
+use Rattle.room_search.specs.declared.search.Taken.{Taken}
+use Rattle.room_search.specs.declared.search.Taken.TheVariants as taken
 use Rattle.room_search.proofs.InImage.{group_asked}
 use Rattle.room_search.proofs.Holds.{block_under}
-use Rattle.writing_calls.specs.Writing.{IsEdit, IsNeedOf, IsTooFew, Puts, by_growth, by_write, call_holds, content_after, end_of, group_holds_of}
-use Rattle.writing_calls.proofs.Doing.{changes, inode_held}
+use Rattle.room_search.proofs.Room.{all_listed}
+use Rattle.room_search.proofs.Shown.{bytes_shown}
+use Rattle.writing_calls.specs.Writing.{IsEdit, IsNeedOf, IsRoomOf, IsTooFew, Puts, PutsThere, by_growth, by_write, call_holds, content_after, end_of}
+use Rattle.writing_calls.proofs.Doing.{changes, inode_held, long_content}
 use Rattle.writing_calls.proofs.Images as images
 use Rattle.writing_calls.proofs.Listed.{looks_so, need_is, room_list}
 use Rattle.writing_calls.proofs.Written.{put_at}
@@ -79,6 +86,66 @@ grown_content : (end : ℕ) (bytes : List ℕ) → length bytes < end → overwr
 grown_content end bytes longer =
     ap (λ xs. resized end bytes ++ [] ++ xs) (drop_all (end + 0) bytes (omega (arith, longer)))
     ∙ append-nil (resized end bytes ++ []) ∙ append-nil (resized end bytes)
+
+-- what is written makes the file no longer than it may be
+pub puts_short : (c : Call) (size at : ℕ) (new : List ℕ) → Puts c size at new → at + length new ≤ file_limit → end_of c ≤ file_limit
+puts_short c size at new (by_write x bytes writes) short = subst (λ k. end_of k ≤ file_limit) (sym writes) short
+puts_short c size at new (by_growth end is longer) short = subst (λ k. end_of k ≤ file_limit) (sym is) (omega (arith, short))
+
+-- and is so as every inode that this may be says
+pub puts_there : (v : Seen) (c : Call) (p : Place) → IsSeenAt v (wanted c) (path_of c false) p → (at : ℕ) (new : List ℕ) → Puts c p.dinode.size at new → PutsThere v c p.inode at new
+puts_there v c p seen at new puts h shown = subst (λ (d : Dinode). Puts c d.size at new) (seen.dinode h shown) puts
+
+-- what the content is then
+puts_content : (c : Call) (size at : ℕ) (new content : List ℕ) → Puts c size at new → length content ≡ size → content_after c content ≡ overwritten at new content
+puts_content c size at new content (by_write x bytes writes) long = ap (λ (k : Call). content_after k content) writes
+puts_content c size at new content (by_growth end cuts longer) long = ap (λ (k : Call). content_after k content) cuts ∙ sym (grown_content end content (subst (λ n. n < end) (sym long) longer))
+
+-- ---- what the search tells, on every view
+
+module _ (v : Seen) (node need : ℕ) (view : IsView v) (own : HasOwnGroup v node) (r : Locked Taken)
+    (found : (at : ℕ → List ℕ) (k : Group) → AreShown v at → group_of_node v.groups node ≡ Some k → search.IsUnder v (group_holds (said at) v.groups k need) (IsTaken v (said at) v.groups k need) r) where
+  under : (at : ℕ → List ℕ) → AreShown v at → search.IsUnder v (group_holds (said at) v.groups own.0 need) (IsTaken v (said at) v.groups own.0 need) r
+  under at shown = found at own.0 shown own.1
+
+  pub room_of : (blocks : Vec ℕ Global) → r ≡ locked.Is (taken.Is blocks) → IsRoomOf v node need blocks.items
+  room_of blocks is =
+      let shown = bytes_shown v view in
+      record {
+        own = own.0;
+        of_node = own.1;
+        many = (so shown.0 (λ k has. shown.1 k)).1.many;
+        first = λ at shown. (so at shown).1.are;
+        held = λ at shown. (so at shown).0;
+      }
+    where
+      so : (at : ℕ → List ℕ) → AreShown v at → search.IsUnder v (group_holds (said at) v.groups own.0 need) (IsTaken v (said at) v.groups own.0 need) (locked.Is (taken.Is blocks))
+      so at shown = subst (search.IsUnder v (group_holds (said at) v.groups own.0 need) (IsTaken v (said at) v.groups own.0 need)) is (under at shown)
+
+  -- too few blocks are free in all groups, each of which is held
+  pub record IsShortOf (free : ℕ) : Type 0 where
+    pub held : AreHeld v (map hold_of_group v.groups)
+    pub free_are : (at : ℕ → List ℕ) → AreShown v at → free ≡ length (free_in_all (said at) v.groups)
+    pub fewer : free < need
+
+  pub short_of : (free : ℕ) → r ≡ locked.Is (taken.TooFew free) → IsShortOf free
+  short_of free is =
+      let shown = bytes_shown v view in
+      let one = so shown.0 (λ k has. shown.1 k) in
+      record {
+        held = all_listed v (said shown.0) own.0 need one.1.fewer_own one.0;
+        free_are = λ at shown. (so at shown).1.free_are;
+        fewer = one.1.fewer;
+      }
+    where
+      so : (at : ℕ → List ℕ) → AreShown v at → search.IsUnder v (group_holds (said at) v.groups own.0 need) (IsTaken v (said at) v.groups own.0 need) (locked.Is (taken.TooFew free))
+      so at shown = subst (search.IsUnder v (group_holds (said at) v.groups own.0 need) (IsTaken v (said at) v.groups own.0 need)) is (under at shown)
+
+  -- the first lock that isn't held is one of those
+  pub first_lacks : (lock : LockName) (state : State) → r ≡ locked.NeedLock lock state → (at : ℕ → List ℕ) → AreShown v at → IsFirstLack v (group_holds (said at) v.groups own.0 need) lock state
+  first_lacks lock state is at shown = subst (search.IsUnder v (group_holds (said at) v.groups own.0 need) (IsTaken v (said at) v.groups own.0 need)) is (under at shown)
+
+-- ---- at the place to which the walk came
 
 module _ (make : WritesMakeFiles) (files : InodesAreFiles) (v : Seen) (c : Call) (p : Place) (is : IsEdit c) (seen : IsSeenAt v (wanted c) (path_of c false) p) (plain : is_directory p.dinode ≡ false) (short : end_of c ≤ file_limit)
     (at : ℕ) (new : List ℕ) (puts : Puts c p.dinode.size at new) (low : at + length new ≤ file_limit) (need : ℕ) (needs : IsNeedOf v p.inode at new need) (node : ℕ) where
@@ -101,11 +168,7 @@ module _ (make : WritesMakeFiles) (files : InodesAreFiles) (v : Seen) (c : Call)
     need_so = needs.so_many (holding im o p.inode) (is_shown v im o l t of (path_of c false) p.inode walked.0.at) counted.file
 
     same_content : content_after c content ≡ overwritten at new content
-    same_content = by puts
-      where
-        by : Puts c p.dinode.size at new → content_after c content ≡ overwritten at new content
-        by (by_write x bytes writes) = ap (λ k. content_after k content) writes
-        by (by_growth end cuts longer) = ap (λ k. content_after k content) cuts ∙ sym (grown_content end content (subst (λ n. n < end) (sym (content_length (holding im o p.inode) counted.file ∙ size_is)) longer))
+    same_content = puts_content c p.dinode.size at new content puts (long_content v im o l t of (path_of c false) p.inode walked.0.at ∙ size_is)
 
     pub list_is : call_holds im o l t c node ≡ path_list ++ room_holds o l node need
     list_is = images.list_is v c p is seen plain short im o l t of walked node ∙ ap (λ xs. path_list ++ xs) (room_list im o l c node p.inode p.dinode.size at new need size_is puts need_so)
@@ -156,11 +219,11 @@ module _ (make : WritesMakeFiles) (files : InodesAreFiles) (v : Seen) (c : Call)
       write_asked m (of_any asks) = images.inode_asked v c p is seen plain short im o l t of walked node (λ h. AnyIndex) 1 m asks
       write_asked m (of_group asks) =
           let f = (groups_are_listed v im o l t asks.0 of).0 asks.1 in
-          let data = subst (λ (g : Group). group.IsDataOf g asks.2.0) f.2 asks.2.2 in
-          let in_room = group_listed f.0 f.1 (asks.2.0, asks.2.1, record { low = data.low; high = data.high }) in
+          let lies = subst (λ (g : Group). group.IsDataOf g asks.2.0) f.2 asks.2.2 in
+          let in_room = group_listed f.0 f.1 (asks.2.0, asks.2.1, record { low = lies.low; high = lies.high }) in
           let in_list : Contains (call_holds im o l t c node) (hold_of_group asks.0) =
-              subst (λ xs. Contains xs (hold_of_group asks.0)) (sym list_is)
-              (Contains-append_right path_list (room_holds o l node need) (hold_of_group asks.0) (subst (λ (g : Group). Contains (room_holds o l node need) (hold_of_group g)) (sym f.2) in_room)) in
+          subst (λ xs. Contains xs (hold_of_group asks.0)) (sym list_is)
+          (Contains-append_right path_list (room_holds o l node need) (hold_of_group asks.0) (subst (λ (g : Group). Contains (room_holds o l node need) (hold_of_group g)) (sym f.2) in_room)) in
           group_asked v im o l t of (call_holds im o l t c node) m (block_under v (call_holds im o l t c node) asks.0 m all_held in_list asks.1 asks.2.3.block)
 
       module _ (view : IsView v) (time : ℕ) (change : Change) (w : IsWriteDraft v p.inode at new time room change) where
@@ -213,8 +276,8 @@ module _ (make : WritesMakeFiles) (files : InodesAreFiles) (v : Seen) (c : Call)
           of_group k listed (inl some) e =
               let h = told.each some.0 some.1 in
               let f = (groups_are_listed v im o l t h.group of).0 h.has in
-              let data = subst (λ (g : Group). group.IsDataOf g some.0) f.2 h.data_block in
-              let same : k.address ≡ f.0.address = one_group im l.groups of.stands.laid.fit k f.0 some.0 listed f.1 some.2 (record { low = data.low; high = data.high }) in
+              let lies = subst (λ (g : Group). group.IsDataOf g some.0) f.2 h.data_block in
+              let same : k.address ≡ f.0.address = one_group im l.groups of.stands.laid.fit k f.0 some.0 listed f.1 some.2 (record { low = lies.low; high = lies.high }) in
               ap v.state_of (e ∙ ap (λ n. record { kind = 3; number = n }) (same ∙ ap (λ (g : Group). g.addr) (sym f.2))) ∙ exclusive (v.state_of (group_lock h.group)) h.held
 
       pub written_does : Does v c OkReply change

@@ -113,7 +113,7 @@ need_in im o (Write path at new) a = needed (holding im o a) at (length new)
 need_in im o (Truncate path size) a = if nat_lt (dinode_at im o a).size size then needed (holding im o a) size 0 else 0
 need_in im o call a = 0
 
--- the call looks at this block of content of the file in the block: it changes it in part, or an end that moves on stands in it
+-- the call looks at this block of content of the file in the block: it puts bytes there, or an end that moves on stands in it
 abbrev pub looks_at : Image → Owners → Call → ℕ → ℕ → Type 0
 looks_at im o (Write path at new) a i = IsLookedAt (holding im o a) at (at + length new) i
 looks_at im o (Truncate path size) a i = (dinode_at im o a).size < size × IsLookedAt (holding im o a) size (size + 0) i
@@ -183,10 +183,12 @@ abbrev pub GoesIntoBlocks : Seen → Call → ℕ → Type 0
 GoesIntoBlocks v (Write path at new) a = (h : Holding) → IsShown v a h → NeedsBlocks h.size (dinode_in h) (at + length new)
 GoesIntoBlocks v call a = ⊤
 
--- these are the blocks that the node takes, as the bits of the view's groups say, and the locks under which it finds them are held
+-- These are the blocks that the node takes, as many as are needed, as the bits of the view's groups say; and the locks under which it finds them
+-- are held.
 pub record IsRoomOf (v : Seen) (node need : ℕ) (room : List ℕ) : Type 0 where
   pub own : Group
   pub of_node : group_of_node v.groups node ≡ Some own
+  pub many : length room ≡ need
   pub first : (at : ℕ → List ℕ) → AreShown v at → room ≡ free_for (said at) v.groups own need
   pub held : (at : ℕ → List ℕ) → AreShown v at → AreHeld v (group_holds (said at) v.groups own need)
 
@@ -219,7 +221,7 @@ pub data IsLackedFor (v : Seen) (call : Call) (node : ℕ) (lock : LockName) (st
   of_freed : (a size time : ℕ) (freed : List ℕ) (fates : FinMap nat_cmp Fate) → IsToChange v call a → CutsThere v call a size → IsCutDraft v a size time freed fates
       → IsFirstGroupLack v freed lock → state ≡ Ex → IsLackedFor v call node lock state
 
--- A block without which the call isn't answered: the dinode of the next inode on the path; one of the file; one with the bits of the blocks that are
+-- A block for which the call asks: the dinode of the next inode on the path; one of the file, which the call may read; one with the bits of the blocks that are
 -- taken or that go; or, where free blocks are looked for, one of a group whose lock is held.
 pub data IsNeededFor (v : Seen) (call : Call) (m : Missing) : Type 0 where
   on_path : IsUnread v (wanted call) (path_of call false) m → IsNeededFor v call m

@@ -62,7 +62,7 @@ module _ (g : Over) (c : goal.After-drop-view-inside-in-Ok-run_script g) (left l
     damaged = c.in-Ok-run_script.ensures.damaged;
     hashed = c.in-Ok-run_script.ensures.hashed;
     unbuilt = c.in-Ok-run_script.ensures.unbuilt;
-    taken = c.in-Ok-run_script.ensures.taken;
+    built = c.in-Ok-run_script.ensures.built;
     failed = c.in-Ok-run_script.ensures.failed;
     cause = c.in-Ok-run_script.ensures.cause;
     same = c.in-Ok-run_script.ensures.disk;
@@ -101,7 +101,7 @@ module _ (g : Over) (c : goal.After-drop-view-inside-3 g) (left left_now : Optio
     damaged = c.in-Err-run_script.ensures.damaged;
     hashed = c.in-Err-run_script.ensures.hashed;
     unbuilt = c.in-Err-run_script.ensures.unbuilt;
-    taken = c.in-Err-run_script.ensures.taken;
+    built = c.in-Err-run_script.ensures.built;
     failed = c.in-Err-run_script.ensures.failed;
     cause = c.in-Err-run_script.ensures.cause;
     same = c.in-Err-run_script.ensures.disk;

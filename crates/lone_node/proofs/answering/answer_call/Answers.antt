@@ -1,10 +1,8 @@
 use Rattle.std.proofs.Common.{◌≡◌, Option, false, sym, ◌∙◌, subst}
 use Rattle.std.specs.Prelude.{IfSome}
-use Rattle.file_tree.specs.Apply.{apply}
 use Rattle.file_tree.specs.Tree.{Tree}
-use Rattle.file_tree.specs.declared.reply.Reply.TheVariants.{Ok as OkReply}
 use Rattle.cluster_history.specs.Changes.{Changes}
-use Rattle.file_calls.specs.Calls.{IsHashed}
+use Rattle.file_calls.specs.Calls.{IsHashed, IsUnbuiltName}
 use Rattle.lone_view.specs.Seeing.{seen_alone}
 use Rattle.lone_node.specs.Answering.{IsAnsweredFrom, IsDamagedFor, IsDamagedOn, IsFailedAt, IsFailedFor, IsHashedOn, IsToldFull, IsUnbuiltOn}
 use Rattle.lone_node.specs.Course.{IsStep, Moment, moment}
@@ -36,12 +34,12 @@ returns-in-Err-clause-unbuilt g c =
     unbuilt_so c.in-Err.end _ (λ place. (place ≡ c.args.line) × IsUnbuiltOn (g.D.SharedDisk.state c.args.disk.now) c.args.view.now c.args.call.now)
     (λ place is. (is.0, record { view = c.loop-found.view; later = record { same = so.system; on = so.on }; unbuilt = is.1 })) c.in-Err.ensures.unbuilt
 
-pub returns-in-Err-clause-taken : goal.returns-in-Err-clause-taken
-returns-in-Err-clause-taken g c =
+pub returns-in-Err-clause-built : goal.returns-in-Err-clause-built
+returns-in-Err-clause-built g c =
     let d = g.D.SharedDisk.state c.args.disk.now in
     let so = c.loop-found.invariant in
-    unbuilt_so c.in-Err.end _ (λ place. (place ≡ c.args.line) × ((t : Tree) → StandsFor d c.args.view.now t → (apply c.args.call.now t).reply ≡ OkReply))
-    (λ place is. (is.0, λ t s. is.1 t (subst (λ e. StandsFor e c.loop-found.view t) (sym so.same) (stands_on d c.args.view.now c.loop-found.view t so.system s)))) c.in-Err.ensures.taken
+    unbuilt_so c.in-Err.end _ (λ place. (place ≡ c.args.line) × ((t : Tree) → StandsFor d c.args.view.now t → IsUnbuiltName t c.args.call.now))
+    (λ place is. (is.0, λ t s. is.1 t (subst (λ e. StandsFor e c.loop-found.view t) (sym so.same) (stands_on d c.args.view.now c.loop-found.view t so.system s)))) c.in-Err.ensures.built
 
 pub returns-in-Err-clause-failed : goal.returns-in-Err-clause-failed
 returns-in-Err-clause-failed g c =

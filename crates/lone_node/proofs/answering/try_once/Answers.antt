@@ -1,8 +1,6 @@
 use Rattle.std.proofs.Common.{true, false, ◌≡◌, ◌<◌, ◌≤◌, None, Ok, refl, sym, subst, arith}
 use Rattle.std.specs.Prelude.{◌≢◌}
-use Rattle.file_tree.specs.Apply.{apply}
 use Rattle.file_tree.specs.Tree.{Tree}
-use Rattle.file_tree.specs.declared.reply.Reply.TheVariants.{Ok as OkReply}
 use Rattle.file_tree.specs.declared.reply.Reply.TheVariants as reply
 use Rattle.image_model.specs.Image.{image_of}
 use Rattle.image_changes.specs.Does.{Does, AreInside}
@@ -13,7 +11,7 @@ use Rattle.glock_names.specs.Steps.{TellsOf}
 use Rattle.lone_view.specs.Seeing.{Lone, seen_alone}
 use Rattle.file_tree.specs.Apply.{TakesSpace}
 use Rattle.file_calls.specs.Answers.{IsFullFor}
-use Rattle.file_calls.specs.Calls.{IsNeededFor, IsTooFew}
+use Rattle.file_calls.specs.Calls.{IsNeededFor, IsTooFew, IsUnbuiltName}
 use Rattle.lone_node.specs.Answering.{IsDamagedFor, IsFailedFor, in_a_read, in_a_write, leads_out, source_of}
 use Rattle.lone_node.specs.Course.{done, moment, spaceless}
 use Rattle.lone_node.specs.Ends.{IfDamaged, end_at}
@@ -158,10 +156,10 @@ returns-in-Err-carry_out-clause-failed g c =
     c.in-Ok-Done.ensures.done c.in-Ok-Done.ensures.inside c.in-Ok-Done.ensures.under c.in-Ok-Done.ensures.spaceless c.in-Ok-Done.ensures.answered c.in-Ok-Done.ensures.made) is)
     c.in-Err-carry_out.ensures.stopped
 
-pub returns-in-Ok-NotBuilt-clause-taken : goal.returns-in-Ok-NotBuilt-clause-taken
-returns-in-Ok-NotBuilt-clause-taken g c =
+pub returns-in-Ok-NotBuilt-clause-built : goal.returns-in-Ok-NotBuilt-clause-built
+returns-in-Ok-NotBuilt-clause-built g c =
     let d = g.D.SharedDisk.state c.args.disk.now in
-    (refl, λ t s. subst (λ a. IfNotBuilt (Ok a) ((apply c.args.call.now t).reply ≡ OkReply)) c.in-Ok-NotBuilt.field-0-is (c.in-Ok-NotBuilt.ensures.taken (image_of d) s.owners s.layout t (of_view d c.args.view.now t c.requires.on s)))
+    (refl, λ t s. subst (λ a. IfNotBuilt (Ok a) (IsUnbuiltName t c.args.call.now)) c.in-Ok-NotBuilt.field-0-is (c.in-Ok-NotBuilt.ensures.built (image_of d) s.owners s.layout t (of_view d c.args.view.now t c.requires.on s)))
 
 pub returns-in-Ok-NoSpace-clause-full : goal.returns-in-Ok-NoSpace-clause-full
 returns-in-Ok-NoSpace-clause-full g c = record {

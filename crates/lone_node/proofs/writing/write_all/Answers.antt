@@ -8,7 +8,6 @@ use Rattle.lone_node.proofs.Gaining.{gains_join, gains_none}
 use Rattle.lone_node.proofs.Rising.{front}
 use Rattle.lone_node.proofs.Stopping.{front_none, has_some, next_turn, nothing}
 use Rattle.lone_node.proofs.Flying.{of_front, of_back, written_more}
-use Rattle.lone_node.proofs.writing.write_all.Given.{Over}
 use Rattle.lone_node.proofs.writing.write_all.Goals as goal
 
 pub write_some-requires-clause-of_disk : goal.write_some-requires-clause-of_disk

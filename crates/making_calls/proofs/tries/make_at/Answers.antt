@@ -26,7 +26,7 @@ use Rattle.making_calls.specs.Searches.{IsTaken}
 use Rattle.making_calls.specs.declared.blocks.NewRoom.TheVariants as taken
 use Rattle.making_calls.proofs.Alike.{linear_in}
 use Rattle.path_walks.specs.Holds.{IsFirstLack}
-use Rattle.making_calls.proofs.Rooms.{block_way, few_way, own_of, room_held}
+use Rattle.making_calls.proofs.Rooms.{all_locks, block_way, few_way, own_of, room_held}
 use Rattle.making_calls.proofs.Taking.{addition_does, all_held, block_lacks, directory_apart, directory_sound, free_damage, group_lacks, inside_so, lock_lacks, made, own_name, placed, reply_ok, stamped, to_get, too_few, under, wrong_damage}
 use Rattle.making_calls.proofs.tries.make_at.Goals as goal
 use Rattle.path_walks.proofs.Faults.{told_on, tells_so, only_so}
@@ -219,6 +219,7 @@ returns-in-Is-TooFew-clause-told g c =
     record {
       gets = (to_get v c.args.call.now c.requires.making c.args.place.now c.args.name.now c.requires.last c.requires.named c.requires.lacks true c.requires.seen.leads c.requires.seen.there (λ h shown. sym (c.in_ok-fits.ensures.room h shown) ∙ c.if-not-fits.false));
       needs = refl;
+      held = all_locks v c.args.stamp.now.node c.is_a_view.ensures c.requires.groups c.requires.node c.in-Is-TooFew.free searched;
       free_are = λ at shown. (searched at own.0 shown own.1).1.free_are;
       fewer = few_way v c.args.stamp.now.node c.is_a_view.ensures c.requires.groups c.requires.node c.in-Is-TooFew.free searched;
     }

@@ -148,6 +148,7 @@ returns-in-Is-2-clause-told g c =
       inside = inside_so v c.args.place.now.above c.group_of.result (c.is_none.ensures ∙ ap not c.if-is_none.false) c.group_of.ensures.group c.group_of.ensures.own;
       last = c.requires.last;
       all = λ h shown. answer_at _ _ _ c.in-Is.is (c.in_ok-blocks.ensures.all h shown);
+      goes = answer_at _ _ _ c.in-Is.is c.in_ok-blocks.ensures.inside;
       held = subst (λ (xs : List ℕ). GroupsAreHeld v xs) c.deref-2.ensures.value c.in_default.ensures.none;
       is = is;
     }

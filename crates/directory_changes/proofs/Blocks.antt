@@ -1,0 +1,102 @@
+-- Blocks of directories, in a draft.
+use Rattle.std.proofs.Common.{zero, suc, ◌≡◌, ◌≢◌, ℕ, ◌⊎◌, inl, inr, true, false, true≢false, List, Option, None, Some, refl, sym, ap, ◌∙◌, subst, arith}
+use Rattle.std.specs.Prelude.{IsSome}
+use Rattle.std.specs.Ordering.{nat_cmp}
+use Rattle.std.specs.FinMap.{FinMap, get}
+use Rattle.std.proofs.lemmas.Bool.{eqb-true, ne_eqb}
+use Rattle.drafts.specs.declared.change.Written.{Written}
+use Rattle.drafts.specs.declared.fate.Fate.{Fate}
+use Rattle.drafts.specs.declared.fate.Fate.TheVariants.{Put}
+use Rattle.gfs2_layout.specs.declared.dinode.Dinode.{Dinode}
+use Rattle.gfs2_layout.specs.Holding.{Part, Pointed, InChain, Cell, Holding, cell_part, cell_bytes}
+use Rattle.gfs2_layout.specs.Inode.{is_directory_in}
+use Rattle.gfs2_layout.specs.Structures.{file_type, is_directory, is_regular}
+use Rattle.glock_names.specs.declared.LockName.{LockName}
+use Rattle.image_model.specs.Groups.{state_of}
+use Rattle.image_model.specs.Image.{Image}
+use Rattle.image_model.specs.Owners.{Owner, Owners, Super, InGroup, Free, Nobody, Root, Master, Named, Below, Chained, cell_of, holding}
+use Rattle.image_model.specs.Stands.{Layout}
+use Rattle.image_model.proofs.Held.{none_some, some_same}
+use Rattle.image_changes.specs.Changes.{inode_of, inode_lock, cover, is_free}
+use Rattle.image_changes.specs.Does.{IsWritten, is_content_of}
+use Rattle.image_changes.specs.Instances.{dinode_at}
+use Rattle.image_changes.proofs.Frame.{inode_cover}
+use Rattle.draft_changes.proofs.Rows.{its_used}
+use Rattle.directory_changes.specs.Growing.{IsPutOrLeft}
+
+-- ---- one block
+
+-- a block of an inode beside its dinode has the state of one in use
+pub within_state : (b a : ℕ) (x : Owner) → b ≢ a → inode_of b x ≡ Some a → state_of x ≡ 1
+within_state b a (Below d above k level first) other e = refl
+within_state b a (Chained d hash place) other e = refl
+within_state b a Root other e = absurd (other (some_same e))
+within_state b a Master other e = absurd (other (some_same e))
+within_state b a (Named parent name) other e = absurd (other (some_same e))
+within_state b a Super other e = absurd (none_some e)
+within_state b a (InGroup g) other e = absurd (none_some e)
+within_state b a (Free g) other e = absurd (none_some e)
+within_state b a Nobody other e = absurd (none_some e)
+
+-- what an inode has of a block is told by its part and its bytes
+pub cell_is : (c : Option Cell) (p : Part) (bytes : List ℕ) → cell_part c ≡ Some p → cell_bytes c ≡ bytes → cell_of (Some p) bytes ≡ c
+cell_is None p bytes e f = absurd (none_some e)
+cell_is (Some c) p bytes e f = λ i. Some (record { part = some_same (sym e) i; bytes = sym f i })
+
+pub part_some : (c : Option Cell) (p : Part) → cell_part c ≡ Some p → IsSome c
+part_some None p e = absurd (none_some e)
+part_some (Some c) p e = refl
+
+pub none_not : (c : Option Cell) → c ≡ None → IsSome c → ⊥
+none_not c e h = true≢false (sym (subst IsSome e h))
+
+pub not_some : (c : Option Cell) → (IsSome c → ⊥) → c ≡ None
+not_some None h = refl
+not_some (Some c) h = absurd (h refl)
+
+-- no block of a directory is content of a regular file
+pub no_content : (im : Image) (o : Owners) (b a : ℕ) (x : Owner) → is_regular (dinode_at im o a) ≡ false → inode_of b x ≡ Some a → is_content_of im o x ≡ false
+no_content im o b a (Below d above k zero first) plain e = ap (λ z. is_regular (dinode_at im o z)) (some_same e) ∙ plain
+no_content im o b a (Below d above k (suc level) first) plain e = refl
+no_content im o b a (Chained d hash place) plain e = refl
+no_content im o b a Root plain e = refl
+no_content im o b a Master plain e = refl
+no_content im o b a (Named parent name) plain e = refl
+no_content im o b a Super plain e = refl
+no_content im o b a (InGroup g) plain e = refl
+no_content im o b a (Free g) plain e = refl
+no_content im o b a Nobody plain e = refl
+
+pub directory_not_regular : (d : Dinode) → is_directory d ≡ true → is_regular d ≡ false
+directory_not_regular d is =
+    let four : file_type d.mode ≡ 4 = eqb-true (file_type d.mode) 4 is in
+    ne_eqb (file_type d.mode) 8 (λ eight. absurd (omega (arith, four, eight)))
+
+-- the owner of a block afterwards: the directory, as the block's part in it says; and else the owner of before
+abbrev pub owner_in : Option Part → ℕ → Owner → Owner
+owner_in (Some (Pointed from k level first)) p was = Below p from k level first
+owner_in (Some (InChain hash place)) p was = Chained p hash place
+owner_in q p was = was
+
+-- what is put of a directory's block
+pub put_so : (fates : FinMap nat_cmp Fate) (h : Holding) (dir : ℕ) (w : Written) (lock : LockName) → get fates w.block ≡ Some (Put lock w.plain w.bytes) → IsPutOrLeft fates h dir w.block
+    → (lock ≡ record { kind = 2; number = dir }) × (w.plain ≡ false)
+put_so fates h dir w lock e (inl put) = both (some_same (sym e ∙ put.1))
+  where
+    both : Put lock w.plain w.bytes ≡ Put (record { kind = 2; number = dir }) false put.0 → (lock ≡ record { kind = 2; number = dir }) × (w.plain ≡ false)
+    both e = (cc, cc)
+put_so fates h dir w lock e (inr left) = absurd (none_some (sym left.1 ∙ e))
+
+-- such a block is written as it should be
+pub block_written : (l : Layout) (im' : Image) (o o' : Owners) (dir : ℕ) → inode_lock l dir ≡ Some (record { kind = 2; number = dir }) → is_directory_in (holding im' o' dir) ≡ true
+    → (w : Written) (lock : LockName) → (lock ≡ record { kind = 2; number = dir }) × (w.plain ≡ false) → inode_of w.block (o' w.block) ≡ Some dir
+    → (inode_of w.block (o w.block) ≡ Some dir) ⊎ (is_free (o w.block) ≡ true) → IsWritten l im' o o' w lock
+block_written l im' o o' dir own is w lock put its was = record {
+  told = covers (o' w.block) its;
+  used = (its_used w.block dir (o' w.block) its).1;
+  plain = put.1 ∙ sym (no_content im' o' w.block dir (o' w.block) (directory_not_regular (dinode_at im' o' dir) is) its);
+  stayed = elim was [ inl old ↦ inl (covers (o w.block) old) | inr free ↦ inr free ];
+}
+  where
+    covers : (x : Owner) → inode_of w.block x ≡ Some dir → cover l w.block x ≡ Some lock
+    covers x so = inode_cover l w.block x dir so ∙ own ∙ ap Some (sym put.0)
