@@ -1,3 +1,5 @@
 pub mod Blocks
+pub mod Holds
+pub mod Targets
 pub mod Grown
 pub mod Shrunk

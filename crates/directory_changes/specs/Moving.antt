@@ -1,5 +1,5 @@
--- A draft that moves a name, between directories of any form or within one: in an image, the record goes here and comes there, what stood at the target is no more, and a
--- directory that gets another parent names it.
+-- A draft that moves a name, between directories of any form or within one: in an image, the record goes here and comes there, what stood at the target
+-- is no more, and a directory that gets another parent names it. A name that is moved onto itself is no change, and isn't meant here.
 use Rattle.std.specs.Prelude.{ℕ, ◌≡◌, ◌≢◌, ◌↔◌, IsSome, true, false, List, [], ◌∷◌, codes, Contains, None, Some}
 use Rattle.std.specs.Ordering.{nat_cmp}
 use Rattle.std.specs.FinMap.{FinMap, get}
@@ -56,7 +56,6 @@ pub record MovesName (im : Image) (o : Owners) (l : Layout) (fates : FinMap nat_
   -- what stood at the target
   pub target : List Record
   pub stood : IsTargetOf im o l path to name' removed target freed
-  pub apart : (c : ℕ) → Contains removed c → (c ≢ from) × (c ≢ to) × (c ≢ a)
   pub frees : (b : ℕ) → Contains freed b → get fates b ≡ Some Freed
   -- the blocks that are taken were free, and each group that has some of these or of those says so
   pub free : (b : ℕ) → Contains taken b → IsSaidFree im l b
@@ -75,7 +74,6 @@ pub record MovesName (im : Image) (o : Owners) (l : Layout) (fates : FinMap nat_
   pub puts_from : from ≢ to → (b : ℕ) → IsSome ((holding im o from).cell b) → IsPutOrLeft fates (holding im o from) from b
   pub puts_to : (b : ℕ) → IsSome (g.cell b) → IsPutOrLeft fates (holding im o to) to b
   -- the inode
-  pub other : (a ≢ from) × (a ≢ to)
   pub itself : IsInodeMoved im o fates from to a
   -- and nothing else
   pub others : (b : ℕ) → ¬ (IsSome ((holding im o from).cell b)) → ¬ (IsSome (g.cell b)) → ¬ (IsSome ((holding im o a).cell b)) → ¬ (Contains freed b)
