@@ -1,5 +1,5 @@
 -- Blocks of directories, in a draft.
-use Rattle.std.proofs.Common.{zero, suc, ◌≡◌, ◌≢◌, ℕ, ◌⊎◌, inl, inr, true, false, true≢false, List, Option, None, Some, refl, sym, ap, ◌∙◌, subst, arith}
+use Rattle.std.proofs.Common.{zero, suc, ◌≡◌, ◌≢◌, ℕ, ◌⊎◌, inl, inr, true, false, true≢false, List, [], ◌∷◌, Option, None, Some, refl, sym, ap, ◌∙◌, subst, arith}
 use Rattle.std.specs.Prelude.{Contains, IsSome}
 use Rattle.std.specs.Ordering.{nat_cmp}
 use Rattle.std.specs.FinMap.{FinMap, get}
@@ -16,13 +16,16 @@ use Rattle.glock_names.specs.declared.LockName.{LockName}
 use Rattle.image_model.specs.Groups.{state_of}
 use Rattle.image_model.specs.Image.{Image}
 use Rattle.image_model.specs.Owners.{Owner, Owners, Super, InGroup, Free, Nobody, Root, Master, Named, Below, Chained, cell_of, holding}
-use Rattle.image_model.specs.Stands.{Layout}
+use Rattle.image_model.specs.Flat.{Path, follow}
+use Rattle.image_model.specs.Stands.{Layout, flat_of}
 use Rattle.image_model.proofs.Held.{none_some, some_same}
 use Rattle.image_model.proofs.Members.{contained, is_in}
 use Rattle.image_changes.specs.Changes.{inode_of, IsOf, inode_lock, cover, is_free}
 use Rattle.image_changes.specs.Does.{IsWritten, is_content_of}
 use Rattle.image_changes.specs.Drafted.{is_gone, is_freed}
-use Rattle.image_changes.specs.Instances.{among, dinode_at}
+use Rattle.image_changes.specs.Flats.{in_directory}
+use Rattle.image_changes.specs.Instances.{IsAt, among, dinode_at}
+use Rattle.image_changes.proofs.FlatPaths.{follow-append, after_some}
 use Rattle.image_changes.proofs.Frame.{inode_cover}
 use Rattle.image_changes.proofs.Nodes.{among_in, in_among, not_among}
 use Rattle.draft_changes.proofs.Rows.{of_its, its_used}
@@ -39,6 +42,14 @@ in_list xs b c = in_among xs b (is_in b xs c)
 
 pub lacks : (xs : List ℕ) (b : ℕ) → ¬ (Contains xs b) → among xs b ≡ false
 lacks xs b none = not_among xs b (λ h. none (contained b xs h))
+
+-- ---- names
+
+-- the inode that is found by a name in a directory is that to which the name leads there
+pub child_at : (im : Image) (o : Owners) (l : Layout) (path : Path) (dir : ℕ) (name : List ℕ) (a : ℕ) → IsAt im o l path dir → IsAt im o l (in_directory path name) a → (flat_of im o dir).child name ≡ Some a
+child_at im o l path dir name a at at_a =
+    let s = after_some (λ b. follow (flat_of im o) b []) ((flat_of im o dir).child name) a (sym (follow-append (flat_of im o) path (name ∷ []) l.root dir at) ∙ at_a) in
+    s.1 ∙ s.2
 
 -- ---- one block
 

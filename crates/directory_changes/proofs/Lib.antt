@@ -3,3 +3,4 @@ pub mod Holds
 pub mod Targets
 pub mod Grown
 pub mod Shrunk
+pub mod Moved
