@@ -10,14 +10,15 @@ use Rattle.drafts.specs.declared.fate.Fate.TheVariants.{Put}
 use Rattle.gfs2_layout.specs.declared.dinode.Dinode.{Dinode}
 use Rattle.gfs2_layout.specs.declared.rindex.Rindex.{Rindex}
 use Rattle.gfs2_layout.specs.Holding.{Part, Pointed, InChain, Cell, Holding, cell_part, cell_bytes}
-use Rattle.gfs2_layout.specs.Inode.{is_directory_in}
+use Rattle.gfs2_layout.specs.Inode.{Head, is_directory_in}
+use Rattle.gfs2_layout.specs.Records.{Record}
 use Rattle.gfs2_layout.specs.Structures.{file_type, is_directory, is_regular}
 use Rattle.glock_names.specs.declared.LockName.{LockName}
 use Rattle.image_model.specs.Groups.{state_of}
 use Rattle.image_model.specs.Image.{Image}
 use Rattle.image_model.specs.Owners.{Owner, Owners, Super, InGroup, Free, Nobody, Root, Master, Named, Below, Chained, cell_of, holding}
 use Rattle.image_model.specs.Flat.{Path, follow}
-use Rattle.image_model.specs.Stands.{Layout, flat_of}
+use Rattle.image_model.specs.Stands.{Layout, IsRecordOf, kind_of, flat_of}
 use Rattle.image_model.proofs.Held.{none_some, some_same}
 use Rattle.image_model.proofs.Members.{contained, is_in}
 use Rattle.image_changes.specs.Changes.{inode_of, IsOf, inode_lock, cover, is_free}
@@ -50,6 +51,10 @@ pub child_at : (im : Image) (o : Owners) (l : Layout) (path : Path) (dir : ℕ) 
 child_at im o l path dir name a at at_a =
     let s = after_some (λ b. follow (flat_of im o) b []) ((flat_of im o dir).child name) a (sym (follow-append (flat_of im o) path (name ∷ []) l.root dir at) ∙ at_a) in
     s.1 ∙ s.2
+
+-- where an inode keeps its number and kind, a record of it is one still
+pub record_here : (heads heads' : ℕ → Head) (b : ℕ) (r : Record) → heads' b ≡ heads b → IsRecordOf heads b r → IsRecordOf heads' b r
+record_here heads heads' b r e of = record { address = of.address; number = of.number ∙ ap (λ (h : Head). h.number) (sym e); kind = of.kind ∙ ap kind_of (sym e) }
 
 -- ---- one block
 
