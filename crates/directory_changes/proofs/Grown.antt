@@ -1,5 +1,5 @@
 -- A draft that adds a name to a directory that may get blocks for it makes what the call should.
-use Rattle.std.proofs.Common.{◌≡◌, ◌≢◌, ℕ, ◌⊎◌, inl, inr, true, false, true≢false, List, [], ◌∷◌, Option, None, Some, refl, sym, ap, ◌∙◌, subst}
+use Rattle.std.proofs.Common.{◌≡◌, ◌≢◌, ℕ, ◌⊎◌, inl, inr, true, false, true≢false, List, [], ◌∷◌, None, Some, refl, sym, ap, ◌∙◌, subst}
 use Rattle.std.specs.Prelude.{Contains, IsSome, ◌==◌, is_some, if◌then◌else◌}
 use Rattle.std.specs.Ordering.{nat_cmp}
 use Rattle.std.specs.FinMap.{FinMap, get}
@@ -13,16 +13,15 @@ use Rattle.drafts.specs.declared.fate.Fate.{Fate}
 use Rattle.drafts.specs.declared.fate.Fate.TheVariants.{Put}
 use Rattle.gfs2_layout.specs.declared.rindex.Rindex.{Rindex}
 use Rattle.gfs2_layout.specs.Exchanges.{IsExchanged, IsCounted}
-use Rattle.gfs2_layout.specs.Holding.{Part, Itself, Pointed, InChain, Cell, Holding, alone, cell_part, part_at}
+use Rattle.gfs2_layout.specs.Holding.{Itself, Holding, alone, cell_part, part_at}
 use Rattle.gfs2_layout.specs.Inode.{Head, IsInode, head_of, dinode_in, is_directory_in, records_of}
-use Rattle.gfs2_layout.specs.Records.{Record}
 use Rattle.glock_names.specs.Views.{Seen}
 use Rattle.glock_names.specs.declared.LockName.{LockName}
 use Rattle.image_model.specs.Flat.{Path}
 use Rattle.image_model.specs.Groups.{IsHeaderOf, IsDataOf, IsListed, state_of, states_of}
 use Rattle.image_model.specs.Image.{Image}
-use Rattle.image_model.specs.Owners.{Owner, Owners, InGroup, Free, Named, Below, Chained, is_dinode, part_in, cell_of, cell_in, holding}
-use Rattle.image_model.specs.Stands.{Layout, IsRecordOf, kind_of, heads_of}
+use Rattle.image_model.specs.Owners.{Owners, InGroup, Free, Named, is_dinode, part_in, cell_of, cell_in, holding}
+use Rattle.image_model.specs.Stands.{Layout, heads_of}
 use Rattle.image_model.proofs.Held.{none_some, some_same}
 use Rattle.image_model.proofs.Members.{IsIn, contained, is_in}
 use Rattle.image_model.proofs.Table.{lies}
@@ -41,12 +40,12 @@ use Rattle.draft_changes.specs.Adding.{ReadsNew}
 use Rattle.draft_changes.specs.Adding as new
 use Rattle.draft_changes.specs.Groups.{PutsGroup}
 use Rattle.draft_changes.specs.Removing.{HasSome}
-use Rattle.draft_changes.proofs.Rows.{of_its, its_used, itself_or_within, cell_its, its_cell, part_there, not_group_free, header_among, said_free}
-use Rattle.draft_changes.proofs.Framed.{none_drafted, put_drafted, gone_there, put_not_gone, bytes_put, MakesOf, leaves, moves, of_inodes, of_header, IsFramed, framed_change, header_written, header_row, header_kept, group_written, dinode_written}
+use Rattle.draft_changes.proofs.Rows.{of_its, itself_or_within, cell_its, its_cell, not_group_free, header_among, said_free}
+use Rattle.draft_changes.proofs.Framed.{none_drafted, put_drafted, gone_there, put_not_gone, bytes_put, MakesOf, leaves, of_inodes, of_header, IsFramed, framed_change, header_written, header_row, header_kept, group_written, dinode_written}
 use Rattle.draft_changes.proofs.Homes.{number_of, group_of, homes, IsHome, from_homes, UsedOrFree, home, in_homes}
 use Rattle.directory_changes.proofs.Blocks.{block_written, in_list, kept_block, kept_not_freed, lacks, none_not, not_free_its, not_some, owner_in, part_some, put_so, record_here, within_state}
 use Rattle.directory_changes.proofs.Holds.{held_now, its_now, own_row, state_now}
-use Rattle.directory_changes.specs.Growing.{GrowsByName, GrowingMakes, IsPutOrLeft, states_made}
+use Rattle.directory_changes.specs.Growing.{GrowsByName, GrowingMakes, states_made}
 
 module _ (v : Seen) (call : Call) (fates : FinMap nat_cmp Fate) (im : Image) (o : Owners) (l : Layout) (t : Tree) (path : Path) (p : ℕ) (name : List ℕ) (a : ℕ) (u : Tree) (g : Holding) (taken : List ℕ)
     (here : IsOf v im o l t) (at : IsAt im o l path p) (is : GrowsByName im o l fates p name a u g taken) where

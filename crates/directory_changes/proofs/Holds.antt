@@ -1,5 +1,5 @@
 -- What an inode has after a draft, from the table of owners then.
-use Rattle.std.proofs.Common.{◌≡◌, ◌≢◌, ℕ, inl, inr, true, false, true≢false, Option, None, Some, refl, sym, ap, ◌∙◌, subst}
+use Rattle.std.proofs.Common.{◌≡◌, ℕ, inl, inr, true, false, true≢false, Option, None, Some, refl, sym, ap, ◌∙◌, subst}
 use Rattle.std.specs.Prelude.{IsSome, is_some}
 use Rattle.std.specs.Ordering.{nat_cmp}
 use Rattle.std.specs.FinMap.{FinMap, get}
@@ -9,7 +9,7 @@ use Rattle.gfs2_layout.specs.Holding.{Part, Itself, Pointed, InChain, Cell, Hold
 use Rattle.image_model.specs.Groups.{state_of}
 use Rattle.image_model.specs.Image.{Image}
 use Rattle.image_model.specs.Owners.{Owners, Below, Chained, is_dinode, part_in, cell_of, cell_in, holding}
-use Rattle.image_model.proofs.Held.{none_some, own_part}
+use Rattle.image_model.proofs.Held.{own_part}
 use Rattle.image_changes.specs.Changes.{inode_of}
 use Rattle.image_changes.specs.Drafted.{with_draft}
 use Rattle.image_changes.proofs.Frame.{dinode_its, not_its}

@@ -1,5 +1,5 @@
 -- A draft that moves a name, between directories of any form or within one, makes what the call should.
-use Rattle.std.proofs.Common.{◌≡◌, ◌≢◌, ℕ, ◌⊎◌, inl, inr, Bool, true, false, true≢false, List, [], ◌∷◌, ◌++◌, Option, None, Some, refl, sym, ap, ap₂, ◌∙◌, subst}
+use Rattle.std.proofs.Common.{◌≡◌, ◌≢◌, ℕ, ◌⊎◌, inl, inr, Bool, true, false, true≢false, List, [], ◌∷◌, ◌++◌, None, Some, refl, sym, ap, ap₂, ◌∙◌, subst}
 use Rattle.std.specs.Prelude.{Contains, IsSome, ◌==◌, is_some, if◌then◌else◌}
 use Rattle.std.specs.Ordering.{nat_cmp}
 use Rattle.std.specs.FinMap.{FinMap, get}
@@ -16,8 +16,8 @@ use Rattle.drafts.specs.declared.fate.Fate.{Fate}
 use Rattle.drafts.specs.declared.fate.Fate.TheVariants.{Put}
 use Rattle.gfs2_layout.specs.declared.rindex.Rindex.{Rindex}
 use Rattle.gfs2_layout.specs.Exchanges.{IsExchanged, IsCounted}
-use Rattle.gfs2_layout.specs.Holding.{Part, Itself, Holding, cell_part, part_at}
-use Rattle.gfs2_layout.specs.Inode.{Head, IsInode, head_of, dinode_in, is_directory_in, content_of, records_of}
+use Rattle.gfs2_layout.specs.Holding.{Itself, Holding, cell_part, part_at}
+use Rattle.gfs2_layout.specs.Inode.{Head, IsInode, head_of, dinode_in, content_of, records_of}
 use Rattle.gfs2_layout.specs.Records.{Record}
 use Rattle.glock_names.specs.Views.{Seen}
 use Rattle.glock_names.specs.declared.LockName.{LockName}
@@ -27,15 +27,15 @@ use Rattle.image_model.specs.Flat.{Path, tree_at}
 use Rattle.image_model.specs.Groups.{IsHeaderOf, IsDataOf, IsListed, state_of, states_of}
 use Rattle.image_model.specs.Image.{Image}
 use Rattle.image_model.specs.Owners.{Owner, Owners, InGroup, Free, Named, up_of, is_dinode, IsWithin, part_in, holding}
-use Rattle.image_model.specs.Stands.{Layout, IsLaid, IsRecordOf, kind_of, flat_of, heads_of}
+use Rattle.image_model.specs.Stands.{Layout, IsLaid, flat_of, heads_of}
 use Rattle.image_model.proofs.Held.{none_some, some_same}
 use Rattle.image_model.proofs.Members.{IsIn, contained, is_in}
 use Rattle.image_model.proofs.Table.{lies}
-use Rattle.image_changes.specs.Changes.{inode_of, IsOf as IsOfInodes, IsChange, inode_lock, is_free}
+use Rattle.image_changes.specs.Changes.{inode_of, IsOf as IsOfInodes, IsChange, is_free}
 use Rattle.image_changes.specs.Does.{IsOf, IsHeld, IsWritten, IsFreed}
 use Rattle.image_changes.specs.Drafted.{is_gone, is_put, is_freed, is_drafted, with_draft, MakesIn, name_moved}
 use Rattle.image_changes.specs.Flats.{in_directory}
-use Rattle.image_changes.specs.Instances.{IsAt, among, is_directory_at, records_at, dinode_at, IsTarget, IsRecordMoved, within, between, IsItself, SaysTheSame, as_before, reparented, IsNameMoved}
+use Rattle.image_changes.specs.Instances.{IsAt, among, is_directory_at, records_at, dinode_at, IsRecordMoved, within, between, IsItself, SaysTheSame, as_before, reparented, IsNameMoved}
 use Rattle.image_changes.proofs.Drafting.{own_locks}
 use Rattle.image_changes.proofs.FlatPaths.{one_path}
 use Rattle.image_changes.proofs.Frame.{dinode_its, within_its, not_its, inode_cover}
@@ -630,8 +630,7 @@ module _ (v : Seen) (call : Call) (fates : FinMap nat_cmp Fate) (im : Image) (o 
 
   held : (b : ℕ) → is_freed fates b ≡ true → IsHeld v l o b
   held b e =
-      let f = freed_its b (freed_mine b e) in
-      (
+      let f = freed_its b (freed_mine b e) in (
         record { kind = 2; number = f.inode },
         inode_cover l b (o b) f.inode f.its ∙ own_locks im o l f.inode laid (inl (in_directory path' name', removed_at f.inode f.there)),
         exclusive f.inode (contained f.inode removed f.there),

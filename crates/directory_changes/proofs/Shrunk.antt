@@ -3,28 +3,27 @@ use Rattle.std.proofs.Common.{◌≡◌, ◌≢◌, ℕ, ◌⊎◌, inl, inr, Bo
 use Rattle.std.specs.Prelude.{Contains, IsSome, is_some, if◌then◌else◌}
 use Rattle.std.specs.Ordering.{nat_cmp}
 use Rattle.std.specs.FinMap.{FinMap, get}
-use Rattle.std.proofs.lemmas.Bool.{cases_Bool, cases_eq, cond-true, cond-false}
+use Rattle.std.proofs.lemmas.Bool.{cases_Bool, cond-true, cond-false}
 use Rattle.file_tree.specs.Tree.{Tree}
 use Rattle.file_tree.specs.Apply.{apply, remove_at}
 use Rattle.file_tree.specs.declared.call.Call.{Call}
 use Rattle.file_tree.specs.declared.reply.Reply.TheVariants.{Ok}
 use Rattle.drafts.specs.declared.change.Written.{Written}
 use Rattle.drafts.specs.declared.fate.Fate.{Fate}
-use Rattle.drafts.specs.declared.fate.Fate.TheVariants.{Put, Freed}
+use Rattle.drafts.specs.declared.fate.Fate.TheVariants.{Put}
 use Rattle.gfs2_layout.specs.declared.rindex.Rindex.{Rindex}
 use Rattle.gfs2_layout.specs.Exchanges.{IsExchanged, IsCounted}
 use Rattle.gfs2_layout.specs.Inode.{Head, IsInode, head_of, dinode_in, is_directory_in, records_of}
 use Rattle.glock_names.specs.Views.{Seen}
 use Rattle.glock_names.specs.declared.LockName.{LockName}
 use Rattle.glock_names.specs.declared.State.TheVariants.{Ex}
-use Rattle.image_model.specs.Flat.{Node, Path, follow, no_node}
-use Rattle.image_model.specs.Nodes.{node_of}
+use Rattle.image_model.specs.Flat.{Path}
 use Rattle.image_model.specs.Groups.{IsListed, IsHeaderOf, IsDataOf, states_of, state_of}
 use Rattle.image_model.specs.Image.{Image}
-use Rattle.image_model.specs.Owners.{Owner, Owners, InGroup, Free, Named, is_dinode, IsWithin, part_in, cell_of, cell_in, holding}
+use Rattle.image_model.specs.Owners.{Owners, InGroup, Free, Named, is_dinode, IsWithin, part_in, holding}
 use Rattle.image_model.specs.Stands.{Layout, flat_of, heads_of}
 use Rattle.image_model.proofs.Held.{none_some, some_same}
-use Rattle.image_model.proofs.Members.{IsIn, contained, is_in}
+use Rattle.image_model.proofs.Members.{IsIn, is_in}
 use Rattle.image_model.proofs.Table.{lies}
 use Rattle.image_changes.specs.Changes.{inode_of, IsOf as IsOfInodes, IsChange, inode_lock, is_free}
 use Rattle.image_changes.specs.Does.{IsOf, IsHeld, IsWritten, IsFreed}
@@ -32,21 +31,19 @@ use Rattle.image_changes.specs.Drafted.{is_gone, is_put, is_freed, is_drafted, w
 use Rattle.image_changes.specs.Flats.{in_directory}
 use Rattle.image_changes.specs.Instances.{IsAt, among, IsNameRemoved}
 use Rattle.image_changes.proofs.Drafting.{own_locks}
-use Rattle.image_changes.proofs.FlatPaths.{follow-append, after_some}
 use Rattle.image_changes.proofs.Frame.{dinode_its, within_its, not_its, inode_cover}
 use Rattle.image_changes.proofs.Laid.{child_rows, follow_dinode}
 use Rattle.image_changes.proofs.Standing.{has_child_directory}
-use Rattle.image_model.proofs.Reach.{named_child}
 use Rattle.image_changes.proofs.Nodes.{among_in, in_among}
 use Rattle.image_changes.proofs.States.{map_same}
 use Rattle.draft_changes.specs.Groups.{PutsGroup}
 use Rattle.draft_changes.specs.Removing.{HasSome, states_without}
 use Rattle.draft_changes.proofs.Rows.{of_its, its_used, cell_its, its_cell, not_group_free, header_among}
 use Rattle.draft_changes.proofs.Homes.{number_of, group_of, homes, IsHome, IsOne, from_homes, UsedOrFree, home, in_homes}
-use Rattle.directory_changes.proofs.Blocks.{block_written, child_at, has, in_list, kept_not_freed, lacks, not_free_its, put_so}
+use Rattle.directory_changes.proofs.Blocks.{block_written, child_at, has, in_list, kept_block, kept_not_freed, lacks, not_free_its, put_so}
 use Rattle.directory_changes.proofs.Holds.{held_by_parts}
 use Rattle.directory_changes.specs.Shrinking.{ShrinksByName, ShrinkingMakes}
-use Rattle.draft_changes.proofs.Framed.{none_drafted, put_drafted, gone_drafted, gone_there, put_not_gone, MakesOf, leaves, of_inodes, of_header, IsFramed, framed_change, header_written, header_row, header_kept, group_written, dinode_written}
+use Rattle.draft_changes.proofs.Framed.{none_drafted, gone_drafted, gone_there, put_not_gone, MakesOf, leaves, of_inodes, of_header, IsFramed, framed_change, header_written, header_row, header_kept, group_written}
 
 module _ (v : Seen) (call : Call) (fates : FinMap nat_cmp Fate) (im : Image) (o : Owners) (l : Layout) (t : Tree) (path : Path) (p : ℕ) (name : List ℕ) (a : ℕ)
     (here : IsOf v im o l t) (at : IsAt im o l path p) (at_a : IsAt im o l (in_directory path name) a) (is : ShrinksByName im o l fates p name a)
@@ -162,10 +159,7 @@ module _ (v : Seen) (call : Call) (fates : FinMap nat_cmp Fate) (im : Image) (o 
 
   block : (b : ℕ) → Drafts b → MakesOf o o' fates ys gs b
   block b (freed_block e) = of_inodes (gone_drafted fates b (is.freed b (has is.blocks b e))) (of_its (among ys) b a (o b) (its b e) a_in) (subst (IsOfInodes (among ys) b) (sym (row_mine b e)) tt)
-  block b (of_parent e some) = elim (is.puts b some) [
-    | inl put ↦ of_inodes (put_drafted fates b _ _ _ put.1) (of_its (among ys) b p (o b) (cell_its im o p b some) p_in) (of_its (among ys) b p (o' b) (its_still b e some) p_in)
-    | inr left ↦ leaves (none_drafted fates b left.1) (row_other b e)
-  ]
+  block b (of_parent e some) = kept_block o o' fates ys gs (holding im o p) p b p_in (is.puts b some) (of_its (among ys) b p (o b) (cell_its im o p b some) p_in) (cell_its im o p b) (its_still b e some)
   block b (of_group e g h head) = of_header g h head (row_other b e)
   block b (of_none e none) = leaves (none_drafted fates b none) (row_other b e)
 

@@ -1,5 +1,5 @@
 -- What stood at the target of a move.
-use Rattle.std.proofs.Common.{◌≡◌, ℕ, inl, inr, false, List, [], ◌∷◌, Some, refl, sym, ap, ◌∙◌, subst}
+use Rattle.std.proofs.Common.{◌≡◌, ℕ, inl, inr, false, List, [], Some, refl, sym, ap, ◌∙◌, subst}
 use Rattle.std.specs.Prelude.{Contains}
 use Rattle.gfs2_layout.specs.Records.{Record}
 use Rattle.image_model.specs.Flat.{Path}

@@ -51,11 +51,11 @@ pub data IsInodeMoved (im : Image) (o : Owners) (fates : FinMap nat_cmp Fate) (f
 
 -- In one image the draft moves the name of the inode in block a from one directory to the other, or within one. Of the other it makes this holding, with the taken blocks
 -- more; each block of what stood at the target is freed.
-pub record MovesName (im : Image) (o : Owners) (l : Layout) (fates : FinMap nat_cmp Fate) (from : ℕ) (name : List ℕ) (path : Path) (to : ℕ) (name' : List ℕ) (a : ℕ) (g : Holding) (taken removed freed : List ℕ) : Type 0 where
+pub record MovesName (im : Image) (o : Owners) (l : Layout) (fates : FinMap nat_cmp Fate) (from : ℕ) (name : List ℕ) (path' : Path) (to : ℕ) (name' : List ℕ) (a : ℕ) (g : Holding) (taken removed freed : List ℕ) : Type 0 where
   pub whole : AreWhole im.size fates
   -- what stood at the target
   pub target : List Record
-  pub stood : IsTargetOf im o l path to name' removed target freed
+  pub stood : IsTargetOf im o l path' to name' removed target freed
   pub frees : (b : ℕ) → Contains freed b → get fates b ≡ Some Freed
   -- the blocks that are taken were free, and each group that has some of these or of those says so
   pub free : (b : ℕ) → Contains taken b → IsSaidFree im l b
