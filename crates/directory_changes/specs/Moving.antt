@@ -42,15 +42,17 @@ pub data AreRecordsMoved (im : Image) (o : Owners) (fates : FinMap nat_cmp Fate)
   in_two : from ≢ to → HasExchanged (holding im o from) (holding (with_draft im fates) o from) (old ∷ []) [] → HasExchanged (holding im o to) g target (new ∷ [])
       → AreRecordsMoved im o fates from to g old new target
 
--- The inode itself is left; or it is a directory that gets another parent, and its `..` names that.
+-- The inode itself is left, and so keeps its parent where it is a directory; or it is a directory that gets another parent, and its `..` names
+-- that, in the blocks that it has.
 pub data IsInodeMoved (im : Image) (o : Owners) (fates : FinMap nat_cmp Fate) (from to a : ℕ) : Type 0 where
   left_alone : (is_directory_at im o a ≡ true → from ≡ to) → ((b : ℕ) → IsSome ((holding im o a).cell b) → get fates b ≡ None) → IsInodeMoved im o fates from to a
   gets_parent : (old new : Record) → is_directory_at im o a ≡ true → HasExchanged (holding im o a) (holding (with_draft im fates) o a) (old ∷ []) (new ∷ [])
       → old.name ≡ codes ".." → new.name ≡ codes ".." → IsRecordOf (heads_of im o) to new
       → ((b : ℕ) → IsSome ((holding im o a).cell b) → IsPutOrLeft fates (holding im o a) a b) → IsInodeMoved im o fates from to a
 
--- In one image the draft moves the name of the inode in block a from one directory to the other, or within one. Of the other it makes this holding, with the taken blocks
--- more; each block of what stood at the target is freed.
+-- In one image the draft moves the name of the inode in block a from one directory to the other, or within one. The directory that gets the name
+-- is this holding afterwards, with the taken blocks more; each block of what stood at the target is freed. That the inode is none of the two
+-- directories, and what stood at the target none of the three, isn't asked: it follows where the paths are apart.
 pub record MovesName (im : Image) (o : Owners) (l : Layout) (fates : FinMap nat_cmp Fate) (from : ℕ) (name : List ℕ) (path' : Path) (to : ℕ) (name' : List ℕ) (a : ℕ) (g : Holding) (taken removed freed : List ℕ) : Type 0 where
   pub whole : AreWhole im.size fates
   -- what stood at the target
