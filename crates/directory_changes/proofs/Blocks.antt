@@ -1,6 +1,6 @@
 -- Blocks of directories, in a draft.
-use Rattle.std.proofs.Common.{zero, suc, ◌≡◌, ◌≢◌, ℕ, ◌⊎◌, inl, inr, true, false, true≢false, List, Option, None, Some, refl, sym, ap, ◌∙◌, subst, arith}
-use Rattle.std.specs.Prelude.{IsSome}
+use Rattle.std.proofs.Common.{zero, suc, ◌≡◌, ◌≢◌, ℕ, ◌⊎◌, inl, inr, true, false, true≢false, List, [], ◌∷◌, Option, None, Some, refl, sym, ap, ◌∙◌, subst, arith}
+use Rattle.std.specs.Prelude.{Contains, IsSome}
 use Rattle.std.specs.Ordering.{nat_cmp}
 use Rattle.std.specs.FinMap.{FinMap, get}
 use Rattle.std.proofs.lemmas.Bool.{eqb-true, ne_eqb}
@@ -8,23 +8,59 @@ use Rattle.drafts.specs.declared.change.Written.{Written}
 use Rattle.drafts.specs.declared.fate.Fate.{Fate}
 use Rattle.drafts.specs.declared.fate.Fate.TheVariants.{Put}
 use Rattle.gfs2_layout.specs.declared.dinode.Dinode.{Dinode}
+use Rattle.gfs2_layout.specs.declared.rindex.Rindex.{Rindex}
 use Rattle.gfs2_layout.specs.Holding.{Part, Pointed, InChain, Cell, Holding, cell_part, cell_bytes}
-use Rattle.gfs2_layout.specs.Inode.{is_directory_in}
+use Rattle.gfs2_layout.specs.Inode.{Head, is_directory_in}
+use Rattle.gfs2_layout.specs.Records.{Record}
 use Rattle.gfs2_layout.specs.Structures.{file_type, is_directory, is_regular}
 use Rattle.glock_names.specs.declared.LockName.{LockName}
 use Rattle.image_model.specs.Groups.{state_of}
 use Rattle.image_model.specs.Image.{Image}
 use Rattle.image_model.specs.Owners.{Owner, Owners, Super, InGroup, Free, Nobody, Root, Master, Named, Below, Chained, cell_of, holding}
-use Rattle.image_model.specs.Stands.{Layout}
+use Rattle.image_model.specs.Flat.{Path, follow}
+use Rattle.image_model.specs.Stands.{Layout, IsRecordOf, kind_of, flat_of}
 use Rattle.image_model.proofs.Held.{none_some, some_same}
-use Rattle.image_changes.specs.Changes.{inode_of, inode_lock, cover, is_free}
+use Rattle.image_model.proofs.Members.{contained, is_in}
+use Rattle.image_changes.specs.Changes.{inode_of, IsOf, inode_lock, cover, is_free}
 use Rattle.image_changes.specs.Does.{IsWritten, is_content_of}
-use Rattle.image_changes.specs.Instances.{dinode_at}
+use Rattle.image_changes.specs.Drafted.{is_gone, is_freed}
+use Rattle.image_changes.specs.Flats.{in_directory}
+use Rattle.image_changes.specs.Instances.{IsAt, among, dinode_at}
+use Rattle.image_changes.proofs.FlatPaths.{follow-append, after_some}
 use Rattle.image_changes.proofs.Frame.{inode_cover}
-use Rattle.draft_changes.proofs.Rows.{its_used}
+use Rattle.image_changes.proofs.Nodes.{among_in, in_among, not_among}
+use Rattle.draft_changes.proofs.Rows.{of_its, its_used}
+use Rattle.draft_changes.proofs.Framed.{none_drafted, put_drafted, put_not_gone, MakesOf, moves, of_inodes}
 use Rattle.directory_changes.specs.Growing.{IsPutOrLeft}
 
+-- ---- blocks of a list
+
+pub has : (xs : List ℕ) (b : ℕ) → among xs b ≡ true → Contains xs b
+has xs b e = contained b xs (among_in xs b e)
+
+pub in_list : (xs : List ℕ) (b : ℕ) → Contains xs b → among xs b ≡ true
+in_list xs b c = in_among xs b (is_in b xs c)
+
+pub lacks : (xs : List ℕ) (b : ℕ) → ¬ (Contains xs b) → among xs b ≡ false
+lacks xs b none = not_among xs b (λ h. none (contained b xs h))
+
+-- ---- names
+
+-- the inode that is found by a name in a directory is that to which the name leads there
+pub child_at : (im : Image) (o : Owners) (l : Layout) (path : Path) (dir : ℕ) (name : List ℕ) (a : ℕ) → IsAt im o l path dir → IsAt im o l (in_directory path name) a → (flat_of im o dir).child name ≡ Some a
+child_at im o l path dir name a at at_a =
+    let s = after_some (λ b. follow (flat_of im o) b []) ((flat_of im o dir).child name) a (sym (follow-append (flat_of im o) path (name ∷ []) l.root dir at) ∙ at_a) in
+    s.1 ∙ s.2
+
+-- where an inode keeps its number and kind, a record of it is one still
+pub record_here : (heads heads' : ℕ → Head) (b : ℕ) (r : Record) → heads' b ≡ heads b → IsRecordOf heads b r → IsRecordOf heads' b r
+record_here heads heads' b r e of = record { address = of.address; number = of.number ∙ ap (λ (h : Head). h.number) (sym e); kind = of.kind ∙ ap kind_of (sym e) }
+
 -- ---- one block
+
+-- a block of an inode isn't free
+pub not_free_its : (b a k : ℕ) (x : Owner) → inode_of b x ≡ Some a → x ≡ Free k → ⊥
+not_free_its b a k x its free = none_some (sym (ap (inode_of b) free) ∙ its)
 
 -- a block of an inode beside its dinode has the state of one in use
 pub within_state : (b a : ℕ) (x : Owner) → b ≢ a → inode_of b x ≡ Some a → state_of x ≡ 1
@@ -77,6 +113,17 @@ abbrev pub owner_in : Option Part → ℕ → Owner → Owner
 owner_in (Some (Pointed from k level first)) p was = Below p from k level first
 owner_in (Some (InChain hash place)) p was = Chained p hash place
 owner_in q p was = was
+
+-- a block that is put or left isn't freed
+pub kept_not_freed : (fates : FinMap nat_cmp Fate) (h : Holding) (dir b : ℕ) → IsPutOrLeft fates h dir b → is_freed fates b ≡ false
+kept_not_freed fates h dir b (inl put) = put_not_gone fates b _ _ _ put.1
+kept_not_freed fates h dir b (inr left) = ap is_gone left.1
+
+-- what becomes of a directory's block
+pub kept_block : (o o' : Owners) (fates : FinMap nat_cmp Fate) (ys : List ℕ) (gs : List Rindex) (h : Holding) (dir b : ℕ) → among ys dir ≡ true → IsPutOrLeft fates h dir b
+    → IsOf (among ys) b (o b) → (IsSome (h.cell b) → inode_of b (o b) ≡ Some dir) → inode_of b (o' b) ≡ Some dir → MakesOf o o' fates ys gs b
+kept_block o o' fates ys gs h dir b touched (inl put) old its its' = of_inodes (put_drafted fates b _ _ _ put.1) old (of_its (among ys) b dir (o' b) its' touched)
+kept_block o o' fates ys gs h dir b touched (inr left) old its its' = moves dir (none_drafted fates b left.1) touched (its left.0) its'
 
 -- what is put of a directory's block
 pub put_so : (fates : FinMap nat_cmp Fate) (h : Holding) (dir : ℕ) (w : Written) (lock : LockName) → get fates w.block ≡ Some (Put lock w.plain w.bytes) → IsPutOrLeft fates h dir w.block

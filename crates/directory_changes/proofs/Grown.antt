@@ -1,6 +1,6 @@
 -- A draft that adds a name to a directory that may get blocks for it makes what the call should.
-use Rattle.std.proofs.Common.{◌≡◌, ◌≢◌, ℕ, ◌⊎◌, inl, inr, true, false, true≢false, List, [], ◌∷◌, Option, None, Some, refl, sym, ap, ◌∙◌, subst}
-use Rattle.std.specs.Prelude.{Contains, IsSome, ◌==◌, if◌then◌else◌}
+use Rattle.std.proofs.Common.{◌≡◌, ◌≢◌, ℕ, ◌⊎◌, inl, inr, true, false, true≢false, List, [], ◌∷◌, None, Some, refl, sym, ap, ◌∙◌, subst}
+use Rattle.std.specs.Prelude.{Contains, IsSome, ◌==◌, is_some, if◌then◌else◌}
 use Rattle.std.specs.Ordering.{nat_cmp}
 use Rattle.std.specs.FinMap.{FinMap, get}
 use Rattle.std.proofs.lemmas.Bool.{cases_Bool, cases_eq, cond-true, cond-false, eq-eqb, ne_eqb}
@@ -13,17 +13,16 @@ use Rattle.drafts.specs.declared.fate.Fate.{Fate}
 use Rattle.drafts.specs.declared.fate.Fate.TheVariants.{Put}
 use Rattle.gfs2_layout.specs.declared.rindex.Rindex.{Rindex}
 use Rattle.gfs2_layout.specs.Exchanges.{IsExchanged, IsCounted}
-use Rattle.gfs2_layout.specs.Holding.{Part, Itself, Pointed, InChain, Cell, Holding, alone, cell_part, part_at}
+use Rattle.gfs2_layout.specs.Holding.{Itself, Holding, alone, cell_part, part_at}
 use Rattle.gfs2_layout.specs.Inode.{Head, IsInode, head_of, dinode_in, is_directory_in, records_of}
-use Rattle.gfs2_layout.specs.Records.{Record}
 use Rattle.glock_names.specs.Views.{Seen}
 use Rattle.glock_names.specs.declared.LockName.{LockName}
 use Rattle.image_model.specs.Flat.{Path}
 use Rattle.image_model.specs.Groups.{IsHeaderOf, IsDataOf, IsListed, state_of, states_of}
 use Rattle.image_model.specs.Image.{Image}
-use Rattle.image_model.specs.Owners.{Owner, Owners, InGroup, Free, Named, Below, Chained, is_dinode, part_in, cell_of, cell_in, holding}
-use Rattle.image_model.specs.Stands.{Layout, IsRecordOf, kind_of, heads_of}
-use Rattle.image_model.proofs.Held.{none_some, own_part}
+use Rattle.image_model.specs.Owners.{Owners, InGroup, Free, Named, is_dinode, part_in, cell_of, cell_in, holding}
+use Rattle.image_model.specs.Stands.{Layout, heads_of}
+use Rattle.image_model.proofs.Held.{none_some, some_same}
 use Rattle.image_model.proofs.Members.{IsIn, contained, is_in}
 use Rattle.image_model.proofs.Table.{lies}
 use Rattle.image_changes.specs.Changes.{inode_of, IsOf as IsOfInodes, IsChange, inode_lock, is_free}
@@ -41,11 +40,12 @@ use Rattle.draft_changes.specs.Adding.{ReadsNew}
 use Rattle.draft_changes.specs.Adding as new
 use Rattle.draft_changes.specs.Groups.{PutsGroup}
 use Rattle.draft_changes.specs.Removing.{HasSome}
-use Rattle.draft_changes.proofs.Rows.{of_its, its_used, itself_or_within, cell_its, its_cell, part_there, not_group_free, header_among, said_free}
-use Rattle.draft_changes.proofs.Framed.{none_drafted, put_drafted, gone_there, put_not_gone, bytes_put, MakesOf, leaves, moves, of_inodes, of_header, IsFramed, framed_change, header_written, header_row, header_kept, group_written, dinode_written}
+use Rattle.draft_changes.proofs.Rows.{of_its, itself_or_within, cell_its, its_cell, not_group_free, header_among, said_free}
+use Rattle.draft_changes.proofs.Framed.{none_drafted, put_drafted, gone_there, put_not_gone, bytes_put, MakesOf, leaves, of_inodes, of_header, IsFramed, framed_change, header_written, header_row, header_kept, group_written, dinode_written}
 use Rattle.draft_changes.proofs.Homes.{number_of, group_of, homes, IsHome, from_homes, UsedOrFree, home, in_homes}
-use Rattle.directory_changes.proofs.Blocks.{block_written, cell_is, none_not, not_some, owner_in, part_some, put_so, within_state}
-use Rattle.directory_changes.specs.Growing.{GrowsByName, GrowingMakes, IsPutOrLeft, states_made}
+use Rattle.directory_changes.proofs.Blocks.{block_written, in_list, kept_block, kept_not_freed, lacks, none_not, not_free_its, not_some, owner_in, part_some, put_so, record_here, within_state}
+use Rattle.directory_changes.proofs.Holds.{held_now, its_now, own_row, state_now}
+use Rattle.directory_changes.specs.Growing.{GrowsByName, GrowingMakes, states_made}
 
 module _ (v : Seen) (call : Call) (fates : FinMap nat_cmp Fate) (im : Image) (o : Owners) (l : Layout) (t : Tree) (path : Path) (p : ℕ) (name : List ℕ) (a : ℕ) (u : Tree) (g : Holding) (taken : List ℕ)
     (here : IsOf v im o l t) (at : IsAt im o l path p) (is : GrowsByName im o l fates p name a u g taken) where
@@ -65,15 +65,6 @@ module _ (v : Seen) (call : Call) (fates : FinMap nat_cmp Fate) (im : Image) (o 
   gs = homes l all
 
   -- ---- which blocks were free
-
-  has : (xs : List ℕ) (b : ℕ) → among xs b ≡ true → Contains xs b
-  has xs b e = contained b xs (among_in xs b e)
-
-  in_list : (xs : List ℕ) (b : ℕ) → Contains xs b → among xs b ≡ true
-  in_list xs b c = in_among xs b (is_in b xs c)
-
-  lacks : (xs : List ℕ) (b : ℕ) → ¬ (Contains xs b) → among xs b ≡ false
-  lacks xs b none = elim (cases_Bool (among xs b)) [ inl e ↦ absurd (none (has xs b e)) | inr e ↦ e ]
 
   new_in : Contains all a
   new_in = contained a all (inl refl)
@@ -124,37 +115,17 @@ module _ (v : Seen) (call : Call) (fates : FinMap nat_cmp Fate) (im : Image) (o 
 
   data Which (b : ℕ) : Type 0 where
     the_new : b ≡ a → Which b
-    the_dinode : b ≡ p → Which b
-    pointed : (from k level first : ℕ) → part_at g b ≡ Some (Pointed from k level first) → b ≢ p → b ≢ a → Which b
-    chained : (hash place : ℕ) → part_at g b ≡ Some (InChain hash place) → b ≢ p → b ≢ a → Which b
+    of_directory : IsSome (g.cell b) → Which b
     other_block : g.cell b ≡ None → b ≢ a → Which b
 
   which : (b : ℕ) → Which b
   which b = elim (cases_eq b a) [
     | inl same ↦ the_new same
-    | inr other ↦ by other (g.cell b) refl
+    | inr other ↦ elim (cases_Bool (is_some (g.cell b))) [
+      | inl some ↦ of_directory some
+      | inr none ↦ other_block (not_some (g.cell b) (λ some. true≢false (sym some ∙ none))) other
+    ]
   ]
-    where
-      of_part : b ≢ a → (q : Part) → part_at g b ≡ Some q → Which b
-      of_part other Itself e = the_dinode ((is.there.itself b).0 e)
-      of_part other (Pointed from k level first) e = pointed from k level first e (λ same. differ (sym e ∙ (is.there.itself b).1 same)) other
-        where
-          differ : ◌≡◌ {A = Option Part} (Some (Pointed from k level first)) (Some Itself) → ⊥
-          differ e = cc
-      of_part other (InChain hash place) e = chained hash place e (λ same. differ (sym e ∙ (is.there.itself b).1 same)) other
-        where
-          differ : ◌≡◌ {A = Option Part} (Some (InChain hash place)) (Some Itself) → ⊥
-          differ e = cc
-
-      by : b ≢ a → (c : Option Cell) → g.cell b ≡ c → Which b
-      by other None e = other_block e other
-      by other (Some c) e = of_part other c.part (ap cell_part e)
-
-  own_part_is : part_at g p ≡ Some Itself
-  own_part_is = (is.there.itself p).1 refl
-
-  own_there : IsSome (g.cell p)
-  own_there = part_some (g.cell p) Itself own_part_is
 
   -- ---- the table of owners
 
@@ -164,29 +135,31 @@ module _ (v : Seen) (call : Call) (fates : FinMap nat_cmp Fate) (im : Image) (o 
   row_else : (b : ℕ) → b ≢ a → o' b ≡ owner_in (part_at g b) p (o b)
   row_else b other = cond-false _ (Named p name) (owner_in (part_at g b) p (o b)) (ne_eqb b a other)
 
-  row_parent : o' p ≡ o p
-  row_parent = row_else p two ∙ ap (λ q. owner_in q p (o p)) own_part_is
-
-  row_pointed : (b from k level first : ℕ) → b ≢ a → part_at g b ≡ Some (Pointed from k level first) → o' b ≡ Below p from k level first
-  row_pointed b from k level first other e = row_else b other ∙ ap (λ q. owner_in q p (o b)) e
-
-  row_chained : (b hash place : ℕ) → b ≢ a → part_at g b ≡ Some (InChain hash place) → o' b ≡ Chained p hash place
-  row_chained b hash place other e = row_else b other ∙ ap (λ q. owner_in q p (o b)) e
+  row_in : (b : ℕ) → IsSome (g.cell b) → o' b ≡ owner_in (part_at g b) p (o b)
+  row_in b some = row_else b (λ e. none_not (g.cell a) none_new (subst (λ z. IsSome (g.cell z)) e some))
 
   row_other : (b : ℕ) → g.cell b ≡ None → b ≢ a → o' b ≡ o b
   row_other b none other = row_else b other ∙ ap (λ d. owner_in (cell_part d) p (o b)) none
 
-  dinode' : is_dinode (o' p) ≡ true
-  dinode' = ap is_dinode row_parent ∙ dinode
+  none_outside : (b : ℕ) → g.cell b ≡ None → inode_of b (o' b) ≡ Some p → ⊥
+  none_outside b none e = by (which b)
+    where
+      by : Which b → ⊥
+      by (the_new same) = two (some_same (sym (subst (λ z. inode_of z (o' z) ≡ Some p) same e) ∙ ap (inode_of a) row))
+      by (of_directory some) = none_not (g.cell b) none some
+      by (other_block gone other) = other_its b none (sym (ap (inode_of b) (row_other b none other)) ∙ e)
 
-  own_its' : inode_of p (o' p) ≡ Some p
-  own_its' = dinode_its p (o' p) dinode'
+  own_there : IsSome (g.cell p)
+  own_there = part_some (g.cell p) Itself ((is.there.itself p).1 refl)
 
-  pointed_its : (b from k level first : ℕ) → b ≢ a → part_at g b ≡ Some (Pointed from k level first) → inode_of b (o' b) ≡ Some p
-  pointed_its b from k level first other e = ap (inode_of b) (row_pointed b from k level first other e)
+  row_parent : o' p ≡ o p
+  row_parent = own_row im' o o' p g dinode is.there row_in none_outside
 
-  chained_its : (b hash place : ℕ) → b ≢ a → part_at g b ≡ Some (InChain hash place) → inode_of b (o' b) ≡ Some p
-  chained_its b hash place other e = ap (inode_of b) (row_chained b hash place other e)
+  its_in : (b : ℕ) → IsSome (g.cell b) → inode_of b (o' b) ≡ Some p
+  its_in = its_now im' o o' p g dinode is.there row_in none_outside
+
+  state_in : (b : ℕ) → IsSome (g.cell b) → inode_of b (o b) ≡ Some p → state_of (o' b) ≡ state_of (o b)
+  state_in = state_now im' o o' p g dinode is.there row_in none_outside
 
   p_in : among ys p ≡ true
   p_in = in_among ys p (inl refl)
@@ -198,30 +171,12 @@ module _ (v : Seen) (call : Call) (fates : FinMap nat_cmp Fate) (im : Image) (o 
   one_of y e = elim (among_in ys y e) [ inl e ↦ inl e | inr h ↦ elim h [ inl e ↦ inr e | inr h ↦ elim h [ ] ] ]
 
   dinodes : (y : ℕ) → among ys y ≡ true → is_dinode (o' y) ≡ true
-  dinodes y e = elim (one_of y e) [ inl e ↦ ap (λ z. is_dinode (o' z)) e ∙ dinode' | inr e ↦ ap (λ z. is_dinode (o' z)) e ∙ ap is_dinode row ]
+  dinodes y e = elim (one_of y e) [ inl e ↦ ap (λ z. is_dinode (o' z)) e ∙ ap is_dinode row_parent ∙ dinode | inr e ↦ ap (λ z. is_dinode (o' z)) e ∙ ap is_dinode row ]
 
   -- ---- the two inodes afterwards
 
-  part_held : (b : ℕ) → cell_in im' o' p b ≡ g.cell b
-  unfolding cell_in
-  part_held b = by (which b)
-    where
-      by : Which b → cell_of (part_in p b (o' b)) (im'.at b) ≡ g.cell b
-      by (the_new same) = subst (λ c. cell_of (part_in p c (o' c)) (im'.at c) ≡ g.cell c) (sym same)
-          (ap (λ q. cell_of q (im'.at a)) (ap (part_in p a) row ∙ cond-false _ (Some Itself) None (ne_eqb a p (λ e. two (sym e)))) ∙ sym none_new)
-      by (the_dinode same) = subst (λ c. cell_of (part_in p c (o' c)) (im'.at c) ≡ g.cell c) (sym same)
-          (ap (λ q. cell_of q (im'.at p)) (ap (part_in p p) row_parent ∙ sym (part_there im o p p) ∙ own_part im o p dinode)
-          ∙ cell_is (g.cell p) Itself (im'.at p) own_part_is (is.there.bytes p own_there))
-      by (pointed from k level first e not_p not_a) =
-          ap (λ q. cell_of q (im'.at b)) (ap (part_in p b) (row_pointed b from k level first not_a e) ∙ cond-true _ (Some (Pointed from k level first)) None (eq-eqb p p refl))
-          ∙ cell_is (g.cell b) (Pointed from k level first) (im'.at b) e (is.there.bytes b (part_some (g.cell b) _ e))
-      by (chained hash place e not_p not_a) =
-          ap (λ q. cell_of q (im'.at b)) (ap (part_in p b) (row_chained b hash place not_a e) ∙ cond-true _ (Some (InChain hash place)) None (eq-eqb p p refl))
-          ∙ cell_is (g.cell b) (InChain hash place) (im'.at b) e (is.there.bytes b (part_some (g.cell b) _ e))
-      by (other_block none not_a) = ap (λ q. cell_of q (im'.at b)) (ap (part_in p b) (row_other b none not_a) ∙ not_its p b (o b) (other_its b none)) ∙ sym none
-
   held : holding im' o' p ≡ g
-  held = λ i. record { size = sym is.there.size i; count = sym is.there.count i; own = sym is.there.own i; cell = λ b. part_held b i }
+  held = held_now im' o o' p g dinode is.there row_in none_outside
 
   abbrev fresh : Holding
   fresh = alone im.size im.count a is.bytes
@@ -250,9 +205,7 @@ module _ (v : Seen) (call : Call) (fates : FinMap nat_cmp Fate) (im : Image) (o 
         where
           by : Which b → part_in a b (o' b) ≡ None
           by (the_new same) = absurd (d same)
-          by (the_dinode same) = subst (λ z. part_in a z (o' z) ≡ None) (sym same) (ap (part_in a p) row_parent ∙ not_its a p (o p) (none_its p two))
-          by (pointed from k level first e not_p not_a) = ap (part_in a b) (row_pointed b from k level first not_a e) ∙ cond-false _ (Some (Pointed from k level first)) None (ne_eqb p a two)
-          by (chained hash place e not_p not_a) = ap (part_in a b) (row_chained b hash place not_a e) ∙ cond-false _ (Some (InChain hash place)) None (ne_eqb p a two)
+          by (of_directory some) = not_its a b (o' b) (λ f. two (some_same (sym (its_in b some) ∙ f)))
           by (other_block none not_a) = ap (part_in a b) (row_other b none not_a) ∙ not_its a b (o b) (none_its b d)
 
       other : (b : ℕ) → b ≢ a → Same b
@@ -288,19 +241,15 @@ module _ (v : Seen) (call : Call) (fates : FinMap nat_cmp Fate) (im : Image) (o 
           cond-false (b == a) 3 (if among taken b then 1 else state_of (o b)) (ne_eqb b a other)
           ∙ cond-true (among taken b) 1 (state_of (o b)) (in_list taken b c)
 
-      within : b ≢ p → b ≢ a → IsSome (g.cell b) → state_of (o' b) ≡ 1 → (if b == a then 3 else if among taken b then 1 else state_of (o b)) ≡ state_of (o' b)
-      within not_p not_a some now = elim (was_its b some) [
-        | inl its ↦ left not_a (not_taken b its) ∙ within_state b p (o b) not_p its ∙ sym now
-        | inr c ↦ used not_a c ∙ sym now
-      ]
+      not_new : IsSome (g.cell b) → b ≢ a
+      not_new some e = none_not (g.cell a) none_new (subst (λ z. IsSome (g.cell z)) e some)
 
       by : Which b → (if b == a then 3 else if among taken b then 1 else state_of (o b)) ≡ state_of (o' b)
       by (the_new same) = cond-true (b == a) 3 (if among taken b then 1 else state_of (o b)) (eq-eqb b a same) ∙ sym (ap (λ z. state_of (o' z)) same ∙ ap state_of row)
-      by (the_dinode same) =
-          left (λ e. two (sym same ∙ e)) (subst (λ z. ¬ (Contains taken z)) (sym same) (not_taken p own_its))
-          ∙ sym (subst (λ z. state_of (o' z) ≡ state_of (o z)) (sym same) (ap state_of row_parent))
-      by (pointed from k level first e not_p not_a) = within not_p not_a (part_some (g.cell b) _ e) (ap state_of (row_pointed b from k level first not_a e))
-      by (chained hash place e not_p not_a) = within not_p not_a (part_some (g.cell b) _ e) (ap state_of (row_chained b hash place not_a e))
+      by (of_directory some) = elim (was_its b some) [
+        | inl its ↦ left (not_new some) (not_taken b its) ∙ sym (state_in b some its)
+        | inr c ↦ used (not_new some) c ∙ sym (within_state b p (o' b) (λ e. not_taken p own_its (subst (Contains taken) e c)) (its_in b some))
+      ]
       by (other_block none not_a) = left not_a (other_taken b none) ∙ sym (ap state_of (row_other b none not_a))
 
   states_same : (k : Rindex) → states_made o a taken k ≡ states_of o' k
@@ -313,10 +262,6 @@ module _ (v : Seen) (call : Call) (fates : FinMap nat_cmp Fate) (im : Image) (o 
     | inl its ↦ of_its (among ys) b p (o b) its p_in
     | inr c ↦ subst (IsOfInodes (among ys) b) (sym (free_row b (taken_in b c)).1) tt
   ]
-
-  in_directory_so : (b : ℕ) (some : IsSome (g.cell b)) → inode_of b (o' b) ≡ Some p → IsPutOrLeft fates (holding im o p) p b → MakesOf o o' fates ys gs b
-  in_directory_so b some its (inl put) = of_inodes (put_drafted fates b _ _ _ put.1) (of_old b some) (of_its (among ys) b p (o' b) its p_in)
-  in_directory_so b some its (inr left) = moves p (none_drafted fates b left.1) p_in (cell_its im o p b left.0) its
 
   -- a block of neither inode is one of a group's header and bitmap, or isn't drafted
   outside : (b : ℕ) → g.cell b ≡ None → b ≢ a → ((k : Rindex) × IsIn k gs × IsHeaderOf k b) ⊎ (get fates b ≡ None)
@@ -331,9 +276,7 @@ module _ (v : Seen) (call : Call) (fates : FinMap nat_cmp Fate) (im : Image) (o 
       by : Which b → MakesOf o o' fates ys gs b
       by (the_new same) = subst (MakesOf o o' fates ys gs) (sym same)
           (of_inodes (put_drafted fates a _ _ _ is.put) (subst (IsOfInodes (among ys) a) (sym free) tt) (subst (IsOfInodes (among ys) a) (sym row) (a, refl, a_in)))
-      by (the_dinode same) = subst (MakesOf o o' fates ys gs) (sym same) (in_directory_so p own_there own_its' (is.puts p own_there))
-      by (pointed from k level first e not_p not_a) = let some = part_some (g.cell b) (Pointed from k level first) e in in_directory_so b some (pointed_its b from k level first not_a e) (is.puts b some)
-      by (chained hash place e not_p not_a) = let some = part_some (g.cell b) (InChain hash place) e in in_directory_so b some (chained_its b hash place not_a e) (is.puts b some)
+      by (of_directory some) = kept_block o o' fates ys gs (holding im o p) p b p_in (is.puts b some) (of_old b some) (cell_its im o p b) (its_in b some)
       by (other_block none not_a) = elim (outside b none not_a) [
         | inl h ↦ of_header h.0 h.1 h.2 (row_other b none not_a)
         | inr left ↦ leaves (none_drafted fates b left) (row_other b none not_a)
@@ -341,9 +284,6 @@ module _ (v : Seen) (call : Call) (fates : FinMap nat_cmp Fate) (im : Image) (o 
 
   same_number : {x y : ℕ} → Free x ≡ Free y → x ≡ y
   same_number e = cc
-
-  not_free : (x : Owner) (k : ℕ) → is_free x ≡ false → x ≡ Free k → ⊥
-  not_free x k none e = true≢false (sym (ap is_free e) ∙ none)
 
   framed : IsFramed im o o' l fates ys gs
   framed = record {
@@ -357,26 +297,16 @@ module _ (v : Seen) (call : Call) (fates : FinMap nat_cmp Fate) (im : Image) (o 
   }
     where
       free_after : (b x : ℕ) → Which b → o' b ≡ Free x → (o b ≡ Free x) ⊎ ((k : Rindex) × IsIn k gs × IsDataOf k b × (x ≡ k.address))
-      free_after b x (the_new same) e = absurd (not_free (o' b) x (ap (λ z. is_free (o' z)) same ∙ ap is_free row) e)
-      free_after b x (the_dinode same) e = inl (sym (subst (λ z. o' z ≡ o z) (sym same) row_parent) ∙ e)
-      free_after b x (pointed from k level first f not_p not_a) e = absurd (not_free (o' b) x (ap is_free (row_pointed b from k level first not_a f)) e)
-      free_after b x (chained hash place f not_p not_a) e = absurd (not_free (o' b) x (ap is_free (row_chained b hash place not_a f)) e)
+      free_after b x (the_new same) e = absurd (not_free_its a a x (o' a) (ap (inode_of a) row) (sym (ap o' same) ∙ e))
+      free_after b x (of_directory some) e = absurd (not_free_its b p x (o' b) (its_in b some) e)
       free_after b x (other_block none not_a) e = inl (sym (row_other b none not_a) ∙ e)
 
       at_home : (b : ℕ) → Contains all b → (state_of (o' b) ≡ state_of (o b)) ⊎ ((k : Rindex) × IsIn k gs × IsDataOf k b)
       at_home b c = let h = home_of b c in inr (h.group, home_in b c, h.own)
 
-      within : (b : ℕ) → b ≢ p → IsSome (g.cell b) → state_of (o' b) ≡ 1 → (state_of (o' b) ≡ state_of (o b)) ⊎ ((k : Rindex) × IsIn k gs × IsDataOf k b)
-      within b not_p some now = elim (was_its b some) [
-        | inl its ↦ inl (now ∙ sym (within_state b p (o b) not_p its))
-        | inr c ↦ at_home b (taken_in b c)
-      ]
-
       state_after : (b : ℕ) → Which b → (state_of (o' b) ≡ state_of (o b)) ⊎ ((k : Rindex) × IsIn k gs × IsDataOf k b)
       state_after b (the_new same) = at_home b (subst (Contains all) (sym same) new_in)
-      state_after b (the_dinode same) = inl (subst (λ z. state_of (o' z) ≡ state_of (o z)) (sym same) (ap state_of row_parent))
-      state_after b (pointed from k level first e not_p not_a) = within b not_p (part_some (g.cell b) _ e) (ap state_of (row_pointed b from k level first not_a e))
-      state_after b (chained hash place e not_p not_a) = within b not_p (part_some (g.cell b) _ e) (ap state_of (row_chained b hash place not_a e))
+      state_after b (of_directory some) = elim (was_its b some) [ inl its ↦ inl (state_in b some its) | inr c ↦ at_home b (taken_in b c) ]
       state_after b (other_block none not_a) = inl (ap state_of (row_other b none not_a))
 
   head_parent : heads_of im' o' p ≡ heads_of im o p
@@ -402,10 +332,6 @@ module _ (v : Seen) (call : Call) (fates : FinMap nat_cmp Fate) (im : Image) (o 
 
   -- ---- the name is added
 
-  -- a record of an inode is one by the table of all
-  record_here : (head : Head) (b : ℕ) (r : Record) → heads_of im' o' b ≡ head → IsRecordOf (λ c. head) b r → IsRecordOf (heads_of im' o') b r
-  record_here head b r e of = record { address = of.address; number = of.number ∙ ap (λ (h : Head). h.number) (sym e); kind = of.kind ∙ ap kind_of (sym e) }
-
   reads : (w : Tree) → ReadsNew (heads_of im o p) p fresh w → IsNew im' o' p a w
   reads _ (new.empty_file not size) = empty_file (ap is_directory_in new_held ∙ not) (ap (λ h. (dinode_in h).size) new_held ∙ size)
   reads _ (new.empty_directory bare) = empty_directory (ap is_directory_in new_held ∙ bare.directory)
@@ -413,8 +339,8 @@ module _ (v : Seen) (call : Call) (fates : FinMap nat_cmp Fate) (im : Image) (o 
         dot = bare.dot;
         dots = bare.dots;
         are = bare.are;
-        dot_is = (bare.dot_is.0, record_here (head_of fresh) a bare.dot head_new bare.dot_is.1);
-        dots_is = (bare.dots_is.0, record_here (heads_of im o p) p bare.dots head_parent bare.dots_is.1);
+        dot_is = (bare.dot_is.0, record_here (λ b. head_of fresh) (heads_of im' o') a bare.dot head_new bare.dot_is.1);
+        dots_is = (bare.dots_is.0, record_here (λ b. heads_of im o p) (heads_of im' o') p bare.dots head_parent bare.dots_is.1);
         entries = bare.entries;
         links = bare.links;
       }))
@@ -430,7 +356,7 @@ module _ (v : Seen) (call : Call) (fates : FinMap nat_cmp Fate) (im : Image) (o 
     absent = is.absent;
     entry = is.entry;
     named = is.named;
-    true_of = record_here (head_of fresh) a is.entry head_new is.true_of;
+    true_of = record_here (λ b. head_of fresh) (heads_of im' o') a is.entry head_new is.true_of;
     exchanged = subst (λ h. IsExchanged (records_of (holding im o p)) (records_of h) [] (is.entry ∷ [])) (sym held) is.exchanged.records;
     counted = subst (λ h. IsCounted (dinode_in (holding im o p)) (dinode_in h) [] (is.entry ∷ [])) (sym held) is.exchanged.counted;
     new = reads u is.new;
@@ -448,9 +374,9 @@ module _ (v : Seen) (call : Call) (fates : FinMap nat_cmp Fate) (im : Image) (o 
   is_still = ap is_directory_in held ∙ ap (λ (h : Head). h.is_dir) is.exchanged.head ∙ is.directory
 
   -- a block of the directory, as it is put
-  directory_written : (w : Written) (lock : LockName) → get fates w.block ≡ Some (Put lock w.plain w.bytes) → IsSome (g.cell w.block) → inode_of w.block (o' w.block) ≡ Some p → IsWritten l im' o o' w lock
-  directory_written w lock e some its =
-      block_written l im' o o' p (locks p p_in) is_still w lock (put_so fates (holding im o p) p w lock e (is.puts w.block some)) its
+  directory_written : (w : Written) (lock : LockName) → get fates w.block ≡ Some (Put lock w.plain w.bytes) → IsSome (g.cell w.block) → IsWritten l im' o o' w lock
+  directory_written w lock e some =
+      block_written l im' o o' p (locks p p_in) is_still w lock (put_so fates (holding im o p) p w lock e (is.puts w.block some)) (its_in w.block some)
       (elim (was_its w.block some) [ inl was ↦ inl was | inr c ↦ inr (ap is_free (free_row w.block (taken_in w.block c)).1) ])
 
   written : (w : Written) (lock : LockName) → get fates w.block ≡ Some (Put lock w.plain w.bytes) → IsWritten l im' o o' w lock
@@ -458,9 +384,7 @@ module _ (v : Seen) (call : Call) (fates : FinMap nat_cmp Fate) (im : Image) (o 
     where
       by : Which w.block → IsWritten l im' o o' w lock
       by (the_new same) = dinode_written im o o' l fates a is.bytes is.put (ap is_dinode row) (locks a a_in) (inr (ap is_free free)) w lock same e
-      by (the_dinode same) = directory_written w lock e (subst (λ z. IsSome (g.cell z)) (sym same) own_there) (subst (λ z. inode_of z (o' z) ≡ Some p) (sym same) own_its')
-      by (pointed from k level first f not_p not_a) = directory_written w lock e (part_some (g.cell w.block) _ f) (pointed_its w.block from k level first not_a f)
-      by (chained hash place f not_p not_a) = directory_written w lock e (part_some (g.cell w.block) _ f) (chained_its w.block hash place not_a f)
+      by (of_directory some) = directory_written w lock e some
       by (other_block none not_a) = elim (outside w.block none not_a) [
         | inl h ↦ header_written im o o' l fates ys gs framed h.0 h.1 w lock h.2 e
         | inr left ↦ absurd (none_some (sym left ∙ e))
@@ -470,17 +394,9 @@ module _ (v : Seen) (call : Call) (fates : FinMap nat_cmp Fate) (im : Image) (o 
   none_freed : (b : ℕ) → is_freed fates b ≡ true → ⊥
   none_freed b e = by (which b)
     where
-      not_its : IsSome (g.cell b) → ⊥
-      not_its some = elim (is.puts b some) [
-        | inl put ↦ true≢false (sym e ∙ put_not_gone fates b _ _ _ put.1)
-        | inr left ↦ none_some (sym left.1 ∙ gone_there fates b e)
-      ]
-
       by : Which b → ⊥
       by (the_new same) = true≢false (sym e ∙ ap (is_freed fates) same ∙ put_not_gone fates a _ _ _ is.put)
-      by (the_dinode same) = not_its (subst (λ z. IsSome (g.cell z)) (sym same) own_there)
-      by (pointed from k level first f not_p not_a) = not_its (part_some (g.cell b) _ f)
-      by (chained hash place f not_p not_a) = not_its (part_some (g.cell b) _ f)
+      by (of_directory some) = true≢false (sym e ∙ kept_not_freed fates (holding im o p) p b (is.puts b some))
       by (other_block none not_a) = elim (outside b none not_a) [
         | inl h ↦ true≢false (sym e ∙ header_kept im o o' l fates ys gs framed h.0 h.1 b h.2)
         | inr left ↦ none_some (sym left ∙ gone_there fates b e)
@@ -499,28 +415,19 @@ module _ (v : Seen) (call : Call) (fates : FinMap nat_cmp Fate) (im : Image) (o 
           let same : h.group.address ≡ f.group.address = one_group im l.groups here.stands.laid.fit h.group f.group b h.listed f.listed h.own f.data_block in
           (w.0, w.1, w.2 ∙ ap InGroup (same ∙ same_number (sym own ∙ was)))
 
-      used_now : is_free (o' b) ≡ false → (o b ≡ Free k) ⊎ (o' b ≡ Free k) → o b ≡ Free k
-      used_now none (inl e) = e
-      used_now none (inr e) = absurd (not_free (o' b) k none e)
-
-      its_not : inode_of b (o b) ≡ Some p → o b ≡ Free k → ⊥
-      its_not its e = none_some (sym (ap (inode_of b) e) ∙ its)
-
-      within : IsSome (g.cell b) → is_free (o' b) ≡ false → (n : ℕ) × (is_put fates n ≡ true) × (o' n ≡ InGroup k)
-      within some none = elim (was_its b some) [
-        | inl its ↦ absurd (its_not its (used_now none free_then))
-        | inr c ↦ by_group (taken_in b c) (used_now none free_then)
-      ]
+      used_now : (x : ℕ) → inode_of b (o' b) ≡ Some x → o b ≡ Free k
+      used_now x its = elim free_then [ inl f ↦ f | inr f ↦ absurd (not_free_its b x k (o' b) its f) ]
 
       no_header : (q : Rindex) → (o b ≡ InGroup q.address) × (o' b ≡ InGroup q.address) → (o b ≡ Free k) ⊎ (o' b ≡ Free k) → ⊥
       no_header q r (inl e) = not_group_free q.address k (sym r.0 ∙ e)
       no_header q r (inr e) = not_group_free q.address k (sym r.1 ∙ e)
 
       by : Which b → (n : ℕ) × (is_put fates n ≡ true) × (o' n ≡ InGroup k)
-      by (the_new same) = by_group (subst (Contains all) (sym same) new_in) (used_now (ap (λ z. is_free (o' z)) same ∙ ap is_free row) free_then)
-      by (the_dinode same) = within (subst (λ z. IsSome (g.cell z)) (sym same) own_there) (subst (λ z. is_free (o' z) ≡ false) (sym same) (its_used p p (o' p) own_its').1)
-      by (pointed from j level first e not_p not_a) = within (part_some (g.cell b) _ e) (ap is_free (row_pointed b from j level first not_a e))
-      by (chained hash place e not_p not_a) = within (part_some (g.cell b) _ e) (ap is_free (row_chained b hash place not_a e))
+      by (the_new same) = by_group (subst (Contains all) (sym same) new_in) (used_now a (subst (λ z. inode_of z (o' z) ≡ Some a) (sym same) (ap (inode_of a) row)))
+      by (of_directory some) = elim (was_its b some) [
+        | inl its ↦ absurd (not_free_its b p k (o b) its (used_now p (its_in b some)))
+        | inr c ↦ by_group (taken_in b c) (used_now p (its_in b some))
+      ]
       by (other_block none not_a) = elim (outside b none not_a) [
         | inl h ↦ absurd (no_header h.0 (header_row im o o' l fates ys gs framed h.0 h.1 b h.2) free_then)
         | inr left ↦ absurd (true≢false (sym drafted ∙ none_drafted fates b left))

@@ -3,28 +3,27 @@ use Rattle.std.proofs.Common.{◌≡◌, ◌≢◌, ℕ, ◌⊎◌, inl, inr, Bo
 use Rattle.std.specs.Prelude.{Contains, IsSome, is_some, if◌then◌else◌}
 use Rattle.std.specs.Ordering.{nat_cmp}
 use Rattle.std.specs.FinMap.{FinMap, get}
-use Rattle.std.proofs.lemmas.Bool.{cases_Bool, cases_eq, cond-true, cond-false}
+use Rattle.std.proofs.lemmas.Bool.{cases_Bool, cond-true, cond-false}
 use Rattle.file_tree.specs.Tree.{Tree}
 use Rattle.file_tree.specs.Apply.{apply, remove_at}
 use Rattle.file_tree.specs.declared.call.Call.{Call}
 use Rattle.file_tree.specs.declared.reply.Reply.TheVariants.{Ok}
 use Rattle.drafts.specs.declared.change.Written.{Written}
 use Rattle.drafts.specs.declared.fate.Fate.{Fate}
-use Rattle.drafts.specs.declared.fate.Fate.TheVariants.{Put, Freed}
+use Rattle.drafts.specs.declared.fate.Fate.TheVariants.{Put}
 use Rattle.gfs2_layout.specs.declared.rindex.Rindex.{Rindex}
 use Rattle.gfs2_layout.specs.Exchanges.{IsExchanged, IsCounted}
 use Rattle.gfs2_layout.specs.Inode.{Head, IsInode, head_of, dinode_in, is_directory_in, records_of}
 use Rattle.glock_names.specs.Views.{Seen}
 use Rattle.glock_names.specs.declared.LockName.{LockName}
 use Rattle.glock_names.specs.declared.State.TheVariants.{Ex}
-use Rattle.image_model.specs.Flat.{Node, Path, follow, no_node}
-use Rattle.image_model.specs.Nodes.{node_of}
+use Rattle.image_model.specs.Flat.{Path}
 use Rattle.image_model.specs.Groups.{IsListed, IsHeaderOf, IsDataOf, states_of, state_of}
 use Rattle.image_model.specs.Image.{Image}
-use Rattle.image_model.specs.Owners.{Owner, Owners, InGroup, Free, Named, is_dinode, IsWithin, part_in, cell_of, cell_in, holding}
+use Rattle.image_model.specs.Owners.{Owners, InGroup, Free, Named, is_dinode, IsWithin, part_in, holding}
 use Rattle.image_model.specs.Stands.{Layout, flat_of, heads_of}
 use Rattle.image_model.proofs.Held.{none_some, some_same}
-use Rattle.image_model.proofs.Members.{IsIn, contained, is_in}
+use Rattle.image_model.proofs.Members.{IsIn, is_in}
 use Rattle.image_model.proofs.Table.{lies}
 use Rattle.image_changes.specs.Changes.{inode_of, IsOf as IsOfInodes, IsChange, inode_lock, is_free}
 use Rattle.image_changes.specs.Does.{IsOf, IsHeld, IsWritten, IsFreed}
@@ -32,19 +31,19 @@ use Rattle.image_changes.specs.Drafted.{is_gone, is_put, is_freed, is_drafted, w
 use Rattle.image_changes.specs.Flats.{in_directory}
 use Rattle.image_changes.specs.Instances.{IsAt, among, IsNameRemoved}
 use Rattle.image_changes.proofs.Drafting.{own_locks}
-use Rattle.image_changes.proofs.FlatPaths.{follow-append, after_some}
 use Rattle.image_changes.proofs.Frame.{dinode_its, within_its, not_its, inode_cover}
 use Rattle.image_changes.proofs.Laid.{child_rows, follow_dinode}
-use Rattle.image_model.proofs.Reach.{named_child}
+use Rattle.image_changes.proofs.Standing.{has_child_directory}
 use Rattle.image_changes.proofs.Nodes.{among_in, in_among}
 use Rattle.image_changes.proofs.States.{map_same}
 use Rattle.draft_changes.specs.Groups.{PutsGroup}
 use Rattle.draft_changes.specs.Removing.{HasSome, states_without}
 use Rattle.draft_changes.proofs.Rows.{of_its, its_used, cell_its, its_cell, not_group_free, header_among}
 use Rattle.draft_changes.proofs.Homes.{number_of, group_of, homes, IsHome, IsOne, from_homes, UsedOrFree, home, in_homes}
-use Rattle.directory_changes.proofs.Blocks.{block_written, put_so}
+use Rattle.directory_changes.proofs.Blocks.{block_written, child_at, has, in_list, kept_block, kept_not_freed, lacks, not_free_its, put_so}
+use Rattle.directory_changes.proofs.Holds.{held_by_parts}
 use Rattle.directory_changes.specs.Shrinking.{ShrinksByName, ShrinkingMakes}
-use Rattle.draft_changes.proofs.Framed.{none_drafted, put_drafted, gone_drafted, gone_there, put_not_gone, MakesOf, leaves, of_inodes, of_header, IsFramed, framed_change, header_written, header_row, header_kept, group_written, dinode_written}
+use Rattle.draft_changes.proofs.Framed.{none_drafted, gone_drafted, gone_there, put_not_gone, MakesOf, leaves, of_inodes, of_header, IsFramed, framed_change, header_written, header_row, header_kept, group_written}
 
 module _ (v : Seen) (call : Call) (fates : FinMap nat_cmp Fate) (im : Image) (o : Owners) (l : Layout) (t : Tree) (path : Path) (p : ℕ) (name : List ℕ) (a : ℕ)
     (here : IsOf v im o l t) (at : IsAt im o l path p) (at_a : IsAt im o l (in_directory path name) a) (is : ShrinksByName im o l fates p name a)
@@ -63,19 +62,14 @@ module _ (v : Seen) (call : Call) (fates : FinMap nat_cmp Fate) (im : Image) (o 
 
   -- ---- the inode's blocks
 
-  has : (b : ℕ) → among is.blocks b ≡ true → Contains is.blocks b
-  has b e = contained b is.blocks (among_in is.blocks b e)
-
   its : (b : ℕ) → among is.blocks b ≡ true → inode_of b (o b) ≡ Some a
-  its b e = cell_its im o a b ((is.own b).0 (has b e))
+  its b e = cell_its im o a b ((is.own b).0 (has is.blocks b e))
 
   mine : (b : ℕ) → inode_of b (o b) ≡ Some a → among is.blocks b ≡ true
   mine b e = in_among is.blocks b (is_in b is.blocks ((is.own b).1 (its_cell im o a b e)))
 
   child : (flat_of im o p).child name ≡ Some a
-  child =
-      let s = after_some (λ b. follow (flat_of im o) b []) ((flat_of im o p).child name) a (sym (follow-append (flat_of im o) path (name ∷ []) l.root p at) ∙ at_a) in
-      s.1 ∙ s.2
+  child = child_at im o l path p name a at at_a
 
   row : o a ≡ Named p name
   row = (child_rows im o l here.stands.laid p a name child).2
@@ -90,16 +84,7 @@ module _ (v : Seen) (call : Call) (fates : FinMap nat_cmp Fate) (im : Image) (o 
   own_there = its_cell im o p p (dinode_its p (o p) dinode)
 
   p_other : among is.blocks p ≡ false
-  p_other = elim (cases_Bool (among is.blocks p)) [
-    | inr other ↦ other
-    | inl e ↦ absurd (elim (is.puts p own_there) [
-      | inl put ↦ differ put.0 (some_same (sym put.1 ∙ is.freed p (has p e)))
-      | inr left ↦ none_some (sym left.1 ∙ is.freed p (has p e))
-    ])
-  ]
-    where
-      differ : (bytes : List ℕ) → Put (record { kind = 2; number = p }) false bytes ≡ Freed → ⊥
-      differ bytes e = cc
+  p_other = lacks is.blocks p (λ c. true≢false (sym (ap is_gone (is.freed p c)) ∙ kept_not_freed fates (holding im o p) p p (is.puts p own_there)))
 
   apart : p ≢ a
   apart e = true≢false (sym a_mine ∙ ap (among is.blocks) (sym e) ∙ p_other)
@@ -130,10 +115,10 @@ module _ (v : Seen) (call : Call) (fates : FinMap nat_cmp Fate) (im : Image) (o 
   -- ---- the groups of the blocks
 
   used : (b : ℕ) → Contains is.blocks b → UsedOrFree o b
-  used b c = inl (its_used b a (o b) (its b (in_among is.blocks b (is_in b is.blocks c)))).0
+  used b c = inl (its_used b a (o b) (its b (in_list is.blocks b c))).0
 
   home_of : (b : ℕ) → among is.blocks b ≡ true → IsHome l b (number_of (lies l.groups b)) (group_of (lies l.groups b))
-  home_of b e = home im o l here.stands.laid b (used b (has b e))
+  home_of b e = home im o l here.stands.laid b (used b (has is.blocks b e))
 
   -- a group of some of the blocks
   in_gs : (g : Rindex) → IsListed l.groups g → HasSome g is.blocks → IsIn g gs
@@ -164,7 +149,7 @@ module _ (v : Seen) (call : Call) (fates : FinMap nat_cmp Fate) (im : Image) (o 
       | inl some ↦ of_parent e some
       | inr none ↦ elim (header_among gs b) [
         | inl h ↦ of_group e h.0 h.1 h.2
-        | inr away ↦ of_none e (is.others b (λ some. true≢false (sym some ∙ none)) (λ c. true≢false (sym (in_among is.blocks b (is_in b is.blocks c)) ∙ e)) (λ g at some head. away g (in_gs g at some) head))
+        | inr away ↦ of_none e (is.others b (λ some. true≢false (sym some ∙ none)) (λ c. true≢false (sym (in_list is.blocks b c) ∙ e)) (λ g at some head. away g (in_gs g at some) head))
       ]
     ]
   ]
@@ -173,11 +158,8 @@ module _ (v : Seen) (call : Call) (fates : FinMap nat_cmp Fate) (im : Image) (o 
   its_still b e some = ap (inode_of b) (row_other b e) ∙ cell_its im o p b some
 
   block : (b : ℕ) → Drafts b → MakesOf o o' fates ys gs b
-  block b (freed_block e) = of_inodes (gone_drafted fates b (is.freed b (has b e))) (of_its (among ys) b a (o b) (its b e) a_in) (subst (IsOfInodes (among ys) b) (sym (row_mine b e)) tt)
-  block b (of_parent e some) = elim (is.puts b some) [
-    | inl put ↦ of_inodes (put_drafted fates b _ _ _ put.1) (of_its (among ys) b p (o b) (cell_its im o p b some) p_in) (of_its (among ys) b p (o' b) (its_still b e some) p_in)
-    | inr left ↦ leaves (none_drafted fates b left.1) (row_other b e)
-  ]
+  block b (freed_block e) = of_inodes (gone_drafted fates b (is.freed b (has is.blocks b e))) (of_its (among ys) b a (o b) (its b e) a_in) (subst (IsOfInodes (among ys) b) (sym (row_mine b e)) tt)
+  block b (of_parent e some) = kept_block o o' fates ys gs (holding im o p) p b p_in (is.puts b some) (of_its (among ys) b p (o b) (cell_its im o p b some) p_in) (cell_its im o p b) (its_still b e some)
   block b (of_group e g h head) = of_header g h head (row_other b e)
   block b (of_none e none) = leaves (none_drafted fates b none) (row_other b e)
 
@@ -198,29 +180,25 @@ module _ (v : Seen) (call : Call) (fates : FinMap nat_cmp Fate) (im : Image) (o 
       freed : (b x : ℕ) → o' b ≡ Free x → (o b ≡ Free x) ⊎ ((g : Rindex) × IsIn g gs × IsDataOf g b × (x ≡ g.address))
       freed b x f = elim (cases_Bool (among is.blocks b)) [
         | inr e ↦ inl (sym (row_other b e) ∙ f)
-        | inl e ↦ let h = home_of b e in inr (h.group, in_gs h.group h.listed (b, has b e, h.own), h.own, same_number (sym (row_mine b e) ∙ f) ∙ h.address)
+        | inl e ↦ let h = home_of b e in inr (h.group, in_gs h.group h.listed (b, has is.blocks b e, h.own), h.own, same_number (sym (row_mine b e) ∙ f) ∙ h.address)
       ]
 
       states : (b : ℕ) → (state_of (o' b) ≡ state_of (o b)) ⊎ ((g : Rindex) × IsIn g gs × IsDataOf g b)
       states b = elim (cases_Bool (among is.blocks b)) [
         | inr e ↦ inl (ap state_of (row_other b e))
-        | inl e ↦ let h = home_of b e in inr (h.group, in_gs h.group h.listed (b, has b e, h.own), h.own)
+        | inl e ↦ let h = home_of b e in inr (h.group, in_gs h.group h.listed (b, has is.blocks b e, h.own), h.own)
       ]
 
   -- ---- the directory
 
   parent_held : holding im' o' p ≡ holding im' o p
-  unfolding cell_in
-  parent_held = λ i. record { size = im.size; count = im.count; own = p; cell = λ b. cell b i }
+  parent_held = held_by_parts im' o o' p part
     where
       part : (b : ℕ) → part_in p b (o' b) ≡ part_in p b (o b)
       part b = elim (cases_Bool (among is.blocks b)) [
         | inr e ↦ ap (part_in p b) (row_other b e)
         | inl e ↦ ap (part_in p b) (row_mine b e) ∙ sym (not_its p b (o b) (λ f. apart (some_same (sym f ∙ its b e))))
       ]
-
-      cell : (b : ℕ) → cell_in im' o' p b ≡ cell_in im' o p b
-      cell b = ap (λ q. cell_of q (im'.at b)) (part b)
 
   inodes : (x : ℕ) → among ys x ≡ true → is_dinode (o' x) ≡ true → IsInode (holding im' o' x)
   inodes x h so = elim (which x h) [
@@ -266,8 +244,7 @@ module _ (v : Seen) (call : Call) (fates : FinMap nat_cmp Fate) (im : Image) (o 
 
   -- the inode is named in it
   is_still : is_directory_in (holding im' o' p) ≡ true
-  is_still = ap is_directory_in parent_held ∙ ap (λ (h : Head). h.is_dir) is.exchanged.head
-      ∙ (named_child (holding im o p) name a (ap (λ (n : Node). n.child name) (sym (cond-true _ (node_of (holding im o p)) no_node dinode)) ∙ child)).directory
+  is_still = ap is_directory_in parent_held ∙ ap (λ (h : Head). h.is_dir) is.exchanged.head ∙ has_child_directory im o l here.stands.laid p a name child
 
   lock_p : inode_lock l p ≡ Some (record { kind = 2; number = p })
   lock_p = own_locks im o l p here.stands.laid (inl (path, at))
@@ -276,7 +253,7 @@ module _ (v : Seen) (call : Call) (fates : FinMap nat_cmp Fate) (im : Image) (o 
   written w lock e = by (drafts w.block)
     where
       by : Drafts w.block → IsWritten l im' o o' w lock
-      by (freed_block h) = absurd (true≢false (sym (ap is_gone (is.freed w.block (has w.block h))) ∙ put_not_gone fates w.block lock w.plain w.bytes e))
+      by (freed_block h) = absurd (true≢false (sym (ap is_gone (is.freed w.block (has is.blocks w.block h))) ∙ put_not_gone fates w.block lock w.plain w.bytes e))
       by (of_parent h some) = block_written l im' o o' p lock_p is_still w lock (put_so fates (holding im o p) p w lock e (is.puts w.block some)) (its_still w.block h some) (inl (cell_its im o p w.block some))
       by (of_group h g k head) = header_written im o o' l fates ys gs framed g k w lock head e
       by (of_none h none) = absurd (none_some (sym none ∙ e))
@@ -287,10 +264,7 @@ module _ (v : Seen) (call : Call) (fates : FinMap nat_cmp Fate) (im : Image) (o 
     where
       by : Drafts b → among is.blocks b ≡ true
       by (freed_block h) = h
-      by (of_parent h some) = absurd (elim (is.puts b some) [
-        | inl put ↦ true≢false (sym e ∙ put_not_gone fates b _ _ _ put.1)
-        | inr left ↦ none_some (sym left.1 ∙ gone_there fates b e)
-      ])
+      by (of_parent h some) = absurd (true≢false (sym e ∙ kept_not_freed fates (holding im o p) p b (is.puts b some)))
       by (of_group h g k head) = absurd (true≢false (sym e ∙ header_kept im o o' l fates ys gs framed g k b head))
       by (of_none h none) = absurd (none_some (sym none ∙ gone_there fates b e))
 
@@ -299,7 +273,7 @@ module _ (v : Seen) (call : Call) (fates : FinMap nat_cmp Fate) (im : Image) (o 
     free = ap is_free (row_mine b (freed_its b e));
     inode = a;
     was = its b (freed_its b e);
-    dinode = inl (ap is_gone (is.freed a (has a a_mine)));
+    dinode = inl (ap is_gone (is.freed a (has is.blocks a a_mine)));
   }
 
   held : (b : ℕ) → is_freed fates b ≡ true → IsHeld v l o b
@@ -313,19 +287,16 @@ module _ (v : Seen) (call : Call) (fates : FinMap nat_cmp Fate) (im : Image) (o 
   groups : (b g : ℕ) → is_drafted fates b ≡ true → (o b ≡ Free g) ⊎ (o' b ≡ Free g) → (n : ℕ) × (is_put fates n ≡ true) × (o' n ≡ InGroup g)
   groups b g e free = by (drafts b)
     where
-      no_free : {x : Owner} (c : ℕ) → inode_of b x ≡ Some c → x ≡ Free g → ⊥
-      no_free c f h = none_some (sym (ap (inode_of b) h) ∙ f)
-
       same_number : {x y : ℕ} → Free x ≡ Free y → x ≡ y
       same_number e = cc
 
       mine_free : among is.blocks b ≡ true → (o b ≡ Free g) ⊎ (o' b ≡ Free g) → number_of (lies l.groups b) ≡ g
-      mine_free h (inl f) = absurd (no_free a (its b h) f)
+      mine_free h (inl f) = absurd (not_free_its b a g (o b) (its b h) f)
       mine_free h (inr f) = same_number (sym (row_mine b h) ∙ f)
 
       not_parent : among is.blocks b ≡ false → IsSome ((holding im o p).cell b) → (o b ≡ Free g) ⊎ (o' b ≡ Free g) → ⊥
-      not_parent h some (inl f) = no_free p (cell_its im o p b some) f
-      not_parent h some (inr f) = no_free p (its_still b h some) f
+      not_parent h some (inl f) = not_free_its b p g (o b) (cell_its im o p b some) f
+      not_parent h some (inr f) = not_free_its b p g (o' b) (its_still b h some) f
 
       not_header : (k : Rindex) → (o b ≡ InGroup k.address) × (o' b ≡ InGroup k.address) → (o b ≡ Free g) ⊎ (o' b ≡ Free g) → ⊥
       not_header k r (inl f) = not_group_free k.address g (sym r.0 ∙ f)
@@ -334,7 +305,7 @@ module _ (v : Seen) (call : Call) (fates : FinMap nat_cmp Fate) (im : Image) (o 
       by : Drafts b → (n : ℕ) × (is_put fates n ≡ true) × (o' n ≡ InGroup g)
       by (freed_block h) =
           let k = home_of b h in
-          let w = group_written im o o' l fates ys gs framed k.group (in_gs k.group k.listed (b, has b h, k.own)) in
+          let w = group_written im o o' l fates ys gs framed k.group (in_gs k.group k.listed (b, has is.blocks b h, k.own)) in
           (w.0, w.1, w.2 ∙ ap InGroup (sym k.address ∙ mine_free h free))
       by (of_parent h some) = absurd (not_parent h some free)
       by (of_group h k j head) = absurd (not_header k (header_row im o o' l fates ys gs framed k j b head) free)
