@@ -82,8 +82,8 @@ pub record IsFreedAndDone (v : Seen) (fates : FinMap nat_cmp Fate) (freed : List
 
 -- ---- what stands in the way
 
--- A block without which bytes aren't written, or a file isn't cut, at these indexes of content: one of the inode on the way there; any of its
--- indirect blocks, where a block to which it leads is in no group; or one with the bits of these blocks.
+-- A block for which bytes that are to be written, or a cut, at these indexes of content ask: one of the inode on the way there; any of its
+-- indirect blocks, which say whether each block to which it leads is in a group; or one with the bits of these blocks.
 pub data IsNeededAt (v : Seen) (a : ℕ) (wanted : Holding → ℕ → Type 0) (blocks : List ℕ) (m : Missing) : Type 0 where
   of_inode : ((h : Holding) → IsShown v a h → IsNeeded v h (wanted h) 0 m) → IsNeededAt v a wanted blocks m
   of_any : ((h : Holding) → IsShown v a h → IsNeeded v h AnyIndex 1 m) → IsNeededAt v a wanted blocks m

@@ -39,8 +39,9 @@ use Rattle.file_heights.specs.Sized.{HasSize, dinode_as}
 use Rattle.file_heights.proofs.Changing.{changes_then, changes_wider}
 use Rattle.file_heights.proofs.Joining.{grown_as, grown_then}
 use Rattle.file_heights.proofs.Sized.{counts_same, no_more}
+use Rattle.file_heights.proofs.Pads.{before_rest, pads_over}
 use Rattle.file_heights.proofs.Rising.{bare_is_risen, led_along}
-use Rattle.file_heights.proofs.Keeping.{heads_then}
+use Rattle.file_heights.proofs.Keeping.{heads_then, own_large}
 use Rattle.file_growth.proofs.Writes.{long_content}
 use Rattle.file_cuts.specs.Cut.{CanCut, HasCut, IsCutBlock, end_of, height_at}
 use Rattle.file_cuts.specs.Progress.{HasCutTo, HasNewEnd}
@@ -198,7 +199,10 @@ module _ (f0 f1 : FinMap nat_cmp Fate) (mid : Seen) (inode : ℕ) (h : Holding) 
   pub end_bare : (after : Seen) (f2 : FinMap nat_cmp Fate) (cell : ℕ → Option Cell) → size ≡ 0 → IsBareTo (with_cells h s.cell) cell 0 → Becomes after f1 f2 inode (with_cells h s.cell) (with_cells h cell)
       → bytes_at (with_cells h cell) h.own ≡ dinode_put (record (dinode_in (with_cells h s.cell)) { height = 0 }) (zeros_from dinode_length (bytes_at (with_cells h s.cell) h.own)) → ChangesOnly f1 f2 (λ b. b ≡ inode) → HasNewEnd after f0 f2 h size blocks
   end_bare after f2 cell none bare becomes put changes =
-      let risen = bare_is_risen f1 f2 after inode (with_cells h s.cell) cell s.grown.file becomes 0 (no_content none) bare in
+      let pads =
+      pads_over (with_cells h s.cell) cell (record (dinode_in (with_cells h s.cell)) { height = 0 }) (zeros_from dinode_length (bytes_at (with_cells h s.cell) h.own)) s.grown.file
+      (before_rest dinode_length (bytes_at (with_cells h s.cell) h.own) _ (own_large (with_cells h s.cell) s.grown.file)) put in
+      let risen = bare_is_risen f1 f2 after inode (with_cells h s.cell) cell s.grown.file becomes pads 0 (no_content none) bare in
       let flat : 0 ≡ height_at h size = ap (height_at h) (sym none) in
       record {
         cell = cell;

@@ -42,7 +42,7 @@ further_none fates h at end file = record {
   parts = λ b some. refl;
   filled = record { over = λ b level j none. absurd (none_in b none); holes = λ b c level first none. absurd (none_in b none); turn = tt };
   own = refl;
-  headers = record { old = λ b level first had placed. refl; new = λ b level first none. absurd (none_in b none) };
+  headers = record { pads = λ d behind. refl; old = λ b level first had placed. refl; new = λ b level first none. absurd (none_in b none) };
   clear = λ from far clear. clear;
   need = (let same : needed_below h at end (height_in h) ≡ 0 + needed_below h at end (height_in h) = omega arith in same);
   drafted = record {
@@ -154,7 +154,7 @@ module _ (f0 f1 f2 : FinMap nat_cmp Fate) (h : Holding) (c1 c2 : ℕ → Option 
           (λ x y level first level' first' early late placed placed'. across x y level first level' first' early late (placed_back x level first early placed) placed');
     };
     own = b.own ∙ a.own;
-    headers = headers_then h (with_cells h c1) (with_cells h c2) t1 t2 refl keeps took (λ x level first mid placed. (placed.0, placed.1, sym (b.parts x mid) ∙ placed.2)) a.headers b.headers;
+    headers = headers_then h (with_cells h c1) (with_cells h c2) t1 t2 refl refl keeps took (λ x level first mid placed. (placed.0, placed.1, sym (b.parts x mid) ∙ placed.2)) a.headers b.headers;
     clear = λ from far clear. b.clear from far (a.clear from far clear);
     need =
         let later : needed_below (with_cells h c1) at end (height_in h) ≡ length t2 + needed_below (with_cells h c2) at end (height_in h)

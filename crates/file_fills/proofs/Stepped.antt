@@ -46,7 +46,7 @@ use Rattle.file_fills.specs.Progress.{HasCome, HasGone, IsFurther}
 use Rattle.file_fills.proofs.Further.{free_taken, further_then, met_across, need_same, placed_back, room_further, way_further}
 use Rattle.file_fills.specs.Headers.{KeepsHeaders}
 use Rattle.file_fills.specs.Turns.{IsMetBefore}
-use Rattle.file_fills.proofs.Headers.{before_pointer}
+use Rattle.file_fills.proofs.Headers.{before_pointer, same_front}
 use Rattle.file_fills.proofs.Over.{over_above}
 use Rattle.file_fills.proofs.Tails.{clear_along}
 use Rattle.file_fills.proofs.Turns.{stand_one}
@@ -233,8 +233,14 @@ module _ (old : FinMap nat_cmp Fate) (h : Holding) (at end i : ℕ) (stop : Stop
     | inr other' ↦ ap (take n) (ap cell_bytes (cell_else x other other'))
   ]
 
+  fill_own : take dinode_length (bytes_at (with_cells h cells) h.own) ≡ take dinode_length (bytes_at h h.own)
+  fill_own =
+      keeps_before dinode_length h.own (omega arith) (λ e. none_some (h.cell h.own) (ap h.cell e ∙ r.free.new block here) (is_there (h.cell h.own) _ r.file.own))
+      (let same : dinode_length ≡ start_in h h.own = sym (cond-true _ _ _ (eq-eqb h.own h.own refl)) in omega (arith, same))
+
   fill_headers : KeepsHeaders h (with_cells h cells) (block ∷ [])
   fill_headers = record {
+    pads = same_front (bytes_at h h.own) (bytes_at (with_cells h cells) h.own) fill_own;
     old = λ x level first had placed. keeps_before header_length x (omega arith) (λ e. none_some (h.cell x) (ap h.cell e ∙ r.free.new block here) had) (least (x == h.own));
     new = λ x level first taken placed.
         let is = stands x (suc level) first taken placed in
@@ -244,11 +250,6 @@ module _ (old : FinMap nat_cmp Fate) (h : Holding) (at end i : ℕ) (stop : Stop
       least : (b : Bool) → header_length ≤ (if b then dinode_length else header_length)
       least true = omega arith
       least false = omega arith
-
-  fill_own : take dinode_length (bytes_at (with_cells h cells) h.own) ≡ take dinode_length (bytes_at h h.own)
-  fill_own =
-      keeps_before dinode_length h.own (omega arith) (λ e. none_some (h.cell h.own) (ap h.cell e ∙ r.free.new block here) (is_there (h.cell h.own) _ r.file.own))
-      (let same : dinode_length ≡ start_in h h.own = sym (cond-true _ _ _ (eq-eqb h.own h.own refl)) in omega (arith, same))
 
   pub fill_further : IsFurther old puts h cells at end (block ∷ [])
   fill_further = record {
@@ -386,6 +387,7 @@ module _ (old : FinMap nat_cmp Fate) (h : Holding) (at end i block : ℕ) (new :
     filled = record { over = λ x level j none. absurd (none_in x none); holes = λ x c level first none. absurd (none_in x none); turn = tt };
     own = ap (take dinode_length) (kept.2 h.own own_other);
     headers = record {
+      pads = same_front (bytes_at h h.own) (bytes_at (with_cells h put_cells) h.own) (ap (take dinode_length) (kept.2 h.own own_other));
       old = λ x level first had at_x. ap (take header_length) (kept.2 x (λ e. not_indirect x level first e at_x));
       new = λ x level first none. absurd (none_in x none);
     };

@@ -37,6 +37,7 @@ use Rattle.growth_steps.specs.Becoming.{Becomes}
 use Rattle.growth_steps.proofs.Putting.{drafts_on}
 use Rattle.file_fills.specs.Causes.{ChangesOnly, IsFilledAt}
 use Rattle.file_fills.specs.Filling.{HasFilled, IsRoomFor, IsSeenWay}
+use Rattle.file_fills.specs.Headers.{HaveSamePads}
 use Rattle.file_fills.specs.Turns.{IsMetBefore, StandIn}
 use Rattle.file_fills.proofs.Headers.{headers_then}
 use Rattle.file_fills.proofs.Turns.{stand_as, stand_then}
@@ -196,7 +197,7 @@ module _ (h : Holding) (at need : ℕ) (bytes room left : List ℕ) (can : CanWr
           | inr late ↦ hole_needed b level j late placed
         ];
         turn = in_turn;
-        headers = headers_then h (with_cells h s.cell) f.g s.taken f.taken refl mid_some (λ x early. (s.grown.blocks.blocks x).1 (inr early)) (λ x level first mid'. (f.places x level first mid').0) s.grown.headers f.headers;
+        headers = headers_then h (with_cells h s.cell) f.g s.taken f.taken refl refl mid_some (λ x early. (s.grown.blocks.blocks x).1 (inr early)) (λ x level first mid'. (f.places x level first mid').0) s.grown.headers f.headers;
         clear = λ high' either. f.clear (size_with h (at + length bytes)) (let far : at + length bytes ≤ size_with h (at + length bytes) = omega arith in far) (s.clear either);
         behind = λ none. absurd (high (ap (λ (d : Dinode). d.height) (sym says) ∙ none));
       };
@@ -224,6 +225,7 @@ can_stretch h at bytes room can high short = record { file = can.counted.file; i
 
 module _ (h : Holding) (cell : ℕ → Option Cell) (at : ℕ) (bytes : List ℕ) (room : List ℕ) (can : CanWrite h at (length bytes) room) (fits : size_with h (at + length bytes) ≤ capacity h.size 0) (after : Seen) (f0 f1 : FinMap nat_cmp Fate)
     (inode : ℕ) (own : h.own ≡ inode) (is : IsStuffedAs h cell (overwritten at bytes (content_of h))) (becomes : Becomes after f0 f1 inode h (with_cells h cell))
+    (pads : HaveSamePads (bytes_at h h.own) (bytes_at (with_cells h cell) h.own))
     (behind : drop (dinode_length + size_with h (at + length bytes)) (bytes_at (with_cells h cell) h.own) ≡ drop (dinode_length + size_with h (at + length bytes)) (bytes_at h h.own)) (changes : ChangesOnly f0 f1 (λ b. b ≡ inode)) where
   file' : IsFile (with_cells h cell) × (content_of (with_cells h cell) ≡ overwritten at bytes (content_of h))
   file' = stuffed_content_is_put h cell (overwritten at bytes (content_of h)) can.counted.file is
@@ -263,6 +265,7 @@ module _ (h : Holding) (cell : ℕ → Option Cell) (at : ℕ) (bytes : List ℕ
       needed = λ b level j none. absurd (none_in b none);
       turn = tt;
       headers = record {
+        pads = pads;
         old = λ x level first had placed. ap (take header_length) (is.others x (λ e. not_itself _ _ _ _ (sym file'.0.own ∙ ap (part_at (with_cells h cell)) (sym e) ∙ placed.2)));
         new = λ x level first none. absurd (none_in x none);
       };
@@ -284,7 +287,3 @@ goes_up h end file short either none = elim either [
   where
     reach : (height_in h ≤ height_for h (size_with h end)) × (height_for h (size_with h end) ≤ 10) × (size_with h end ≤ capacity h.size (height_for h (size_with h end)))
     reach = reach_of h (size_with h end) file (let low : (dinode_in h).size ≤ size_with h end = omega arith in low) (let high : size_with h end ≤ max (dinode_in h).size file_limit = omega (arith, short) in high)
-
--- the bytes of the dinode's block, as they are put
-pub written_bytes : (h : Holding) (own : List ℕ) → IsFile h → bytes_at (with_cells h (rewritten_cells h h.own own)) h.own ≡ own
-written_bytes h own file = (rewrites_keep_the_rest h h.own Itself own file.own).1

@@ -39,8 +39,8 @@ IsTakenBefore h level first level' first' =
     ⊎ ((IsNewLevel h level' first' → ⊥) × IsMetBefore level first level' first')
 
 -- Bytes were written over the content from a place on, with zeros between its end and the place. These blocks were taken, each for a place at which
--- the write needed one, in the order of these places; every other block stands where it stood, an indirect one with the header that it had. In a file in blocks
--- nothing but zeros stands behind the end of the last block of content where the end moved on or the content came from the dinode's block, and
+-- the write needed one, in the order of these places; every other block stands where it stood, an indirect one with the header that it had, and the dinode
+-- with its pads and reserved bytes. In a file in blocks nothing but zeros stands behind the end of the last block of content where the end moved on or the content came from the dinode's block, and
 -- also where nothing else stood there before, as where that block is a new one. Content that stands in the dinode's block has the bytes behind it
 -- that it had.
 pub record IsWritten (h g : Holding) (at : ℕ) (new taken : List ℕ) : Type 0 where

@@ -39,6 +39,7 @@ use Rattle.growth_steps.specs.Becoming.{Becomes}
 use Rattle.file_walks.specs.Walks.{IsPlace, IsStop}
 use Rattle.file_walks.specs.declared.walks.Stop.{Stop}
 use Rattle.file_fills.specs.Causes.{ChangesOnly}
+use Rattle.file_fills.proofs.Headers.{same_front}
 use Rattle.file_heights.specs.Grown.{HasCleared, IsRisen, IsUnclear}
 use Rattle.file_heights.proofs.Changing.{changes_of, changes_one, changes_wider}
 use Rattle.file_heights.proofs.Joining.{risen_none}
@@ -129,6 +130,7 @@ module _ (old new : FinMap nat_cmp Fate) (after : Seen) (inode : ℕ) (h : Holdi
       counted = (let one : block_count h ≡ block_count h + 0 = omega arith in same_count ∙ one);
       places = λ x l first had. (λ placed. (placed.0, placed.1, sym (put.parts x) ∙ placed.2), λ placed. (placed.0, placed.1, put.parts x ∙ placed.2));
       headers = record {
+        pads = same_front (bytes_at h h.own) (bytes_at (with_cells h cell) h.own) (ap (take dinode_length) (own_bytes h cell i bytes file put));
         old = λ x l first had placed. ap (take header_length) (put.others x (λ e.
             let at : IsPlaced h (content_block h i) 0 i = content_part h file put.in_blocks i put.within put.there in
             let same : suc l ≡ 0 = same_level (sym placed.2 ∙ put.parts x ∙ ap (part_at h) e ∙ at.2) in

@@ -32,7 +32,7 @@ grown_none fates h file = record {
   blocks = record { count = refl; blocks = λ b. (λ some. inl some, λ either. elim either [ inl some ↦ some | inr none ↦ absurd (none_in b none) ]) };
   counted = (let same : block_count h ≡ block_count h + 0 = omega arith in same);
   places = λ b level first some. (λ x. x, λ x. x);
-  headers = record { old = λ b level first had placed. refl; new = λ b level first none. absurd (none_in b none) };
+  headers = record { pads = λ d behind. refl; old = λ b level first had placed. refl; new = λ b level first none. absurd (none_in b none) };
   drafted = drafts_nothing fates h;
 }
 
@@ -79,7 +79,7 @@ grown_then f0 f1 f2 h c1 c2 d1 d2 b1 b2 t1 t2 a b = record {
         λ placed. (a.places x level first some).0 ((b.places x level first mid).0 placed),
         λ placed. (b.places x level first mid).1 ((a.places x level first some).1 placed),
       );
-  headers = headers_then h (with_cells h c1) (with_cells h c2) t1 t2 refl (λ x had. (a.blocks.blocks x).1 (inl had)) (λ x early. (a.blocks.blocks x).1 (inr early)) (λ x level first mid. (b.places x level first mid).0) a.headers b.headers;
+  headers = headers_then h (with_cells h c1) (with_cells h c2) t1 t2 refl refl (λ x had. (a.blocks.blocks x).1 (inl had)) (λ x early. (a.blocks.blocks x).1 (inr early)) (λ x level first mid. (b.places x level first mid).0) a.headers b.headers;
   drafted = drafts_on f0 f1 f2 h (with_cells h c1) (with_cells h c2) refl (λ x mid. (b.blocks.blocks x).1 (inl mid)) a.drafted b.drafted;
 }
 

@@ -1,5 +1,6 @@
 pub mod Changing
 pub mod Keeping
+pub mod Pads
 pub mod Joining
 pub mod Rising
 pub mod Clearing

@@ -1,14 +1,12 @@
 -- A file whose height rises by a step, or without a block.
 use Rattle.std.proofs.Common.{◌≡◌, ◌≢◌, ◌⊎◌, inl, inr, true, false, Option, None, Some, ℕ, zero, suc, ◌+◌, ◌-◌, ◌*◌, ◌/◌, max, ◌<◌, ◌≤◌, List, [], ◌∷◌, length, take, drop, refl, sym, ap, subst, ◌∙◌, arith}
 use Rattle.std.proofs.lemmas.Bool.{cases_eq, cases_lt, cond-true, eq-eqb, ne_eqb}
-use Rattle.std.proofs.lemmas.List.{length-take, take-append-le, take-take}
 use Rattle.std.proofs.Math.Nat.{lt-mul-div-succ, mul-le-mul_right}
 use Rattle.std.specs.Prelude.{Contains, IsSome, is_some, ◌↔◌, not, ◌==◌}
 use Rattle.std.specs.FinMap.{FinMap}
 use Rattle.std.specs.Ordering.{nat_cmp}
 use Rattle.drafts.specs.declared.fate.Fate.{Fate}
 use Rattle.file_tree.specs.Apply.{file_limit}
-use Rattle.gfs2_layout.specs.Bytes.{put_at}
 use Rattle.gfs2_layout.specs.Holding.{Pointed, Cell, Holding, cell_bytes, bytes_at, part_at}
 use Rattle.gfs2_layout.specs.Inode.{block_count, content_count, content_of, dinode_in, fan, header_length, height_in, pieces, pointer, span}
 use Rattle.gfs2_layout.specs.Structures.{dinode_length}
@@ -38,10 +36,12 @@ use Rattle.growth_steps.specs.Heights.{CanBeBare, CanRise, IsNewTo, raised_bytes
 use Rattle.growth_steps.specs.New.{new_bytes}
 use Rattle.growth_steps.proofs.Stepping.{new_length}
 use Rattle.file_fills.specs.Causes.{ChangesOnly}
+use Rattle.file_fills.specs.Headers.{HaveSamePads}
 use Rattle.file_fills.proofs.Counted.{pointers_go_along}
 use Rattle.file_fills.proofs.Turns.{stand_one}
 use Rattle.file_heights.specs.Grown.{AreLevels, CanGrow, HasRisen, IsLower, IsRisen}
 use Rattle.file_heights.proofs.Changing.{changes_wider}
+use Rattle.file_heights.proofs.Pads.{before_rest}
 
 -- ---- content that goes along
 
@@ -94,7 +94,8 @@ one_more h cell b new here rest = record {
 
 -- ---- steps
 
-module _ (old new : FinMap nat_cmp Fate) (after : Seen) (inode : ℕ) (h : Holding) (cell : ℕ → Option Cell) (file : IsFile h) (becomes : Becomes after old new inode h (with_cells h cell)) where
+module _ (old new : FinMap nat_cmp Fate) (after : Seen) (inode : ℕ) (h : Holding) (cell : ℕ → Option Cell) (file : IsFile h) (becomes : Becomes after old new inode h (with_cells h cell))
+    (pads : HaveSamePads (bytes_at h h.own) (bytes_at (with_cells h cell) h.own)) where
   module _ (level b : ℕ) (raised : IsRaised h cell level b) (head : take header_length (bytes_at (with_cells h cell) b) ≡ take header_length (new_bytes h.size 1)) where
     keeps : IsFile (with_cells h cell) × (content_of (with_cells h cell) ≡ content_of h) × (block_count (with_cells h cell) ≡ block_count h + 1)
     keeps = raises_keep_files h cell level b file raised
@@ -135,6 +136,7 @@ module _ (old new : FinMap nat_cmp Fate) (after : Seen) (inode : ℕ) (h : Holdi
         counted = keeps.2;
         places = raised_places;
         headers = record {
+          pads = pads;
           old = λ x l first had placed. ap (take header_length) (raised.others x (apart x had) (λ e.
               not_itself _ _ _ _ (sym keeps.0.own ∙ ap (part_at (with_cells h cell)) (sym e) ∙ placed.2)));
           new = λ x l first taken placed. ap (λ y. take header_length (bytes_at (with_cells h cell) y)) (only_in b x taken) ∙ head;
@@ -186,6 +188,7 @@ module _ (old new : FinMap nat_cmp Fate) (after : Seen) (inode : ℕ) (h : Holdi
           λ placed. (placed.0, placed.1, moved_out.parts x (other x had) ∙ placed.2),
         );
         headers = record {
+          pads = pads;
           old = λ x l first had placed. ap (take header_length) (moved_out.others x (other x had) (λ e.
               not_itself _ _ _ _ (sym kept.0.own ∙ ap (part_at (with_cells h cell)) (sym e) ∙ placed.2)));
           new = λ x l first taken placed.
@@ -234,6 +237,7 @@ module _ (old new : FinMap nat_cmp Fate) (after : Seen) (inode : ℕ) (h : Holdi
         counted = (let one : block_count h ≡ block_count h + 0 = omega arith in same_count ∙ one);
         places = λ x l first had. (λ placed. (placed.0, placed.1, sym (bare.parts x) ∙ placed.2), λ placed. (placed.0, placed.1, bare.parts x ∙ placed.2));
         headers = record {
+          pads = pads;
           old = λ x l first had placed. ap (take header_length) (bare.others x (λ e. not_itself _ _ _ _ (sym same.0.own ∙ ap (part_at (with_cells h cell)) (sym e) ∙ placed.2)));
           new = λ x l first none. absurd (none_in x none);
         };
@@ -259,41 +263,41 @@ own_or_taken own inode b is x (inl e) = inl (e ∙ sym is)
 own_or_taken own inode b is x (inr e) = inr (subst (Contains (b ∷ [])) (sym e) (0, omega arith, refl))
 
 pub moved_has : (after : Seen) (old new : FinMap nat_cmp Fate) (inode b : ℕ) (h : Holding) (cell : ℕ → Option Cell) (d : Dinode) (left : List ℕ) → IsFile h → h.own ≡ inode → d ≡ dinode_in h → d.height ≡ 0 → IsUnstuffed h cell b
-    → Becomes after old new inode h (with_cells h cell) → ChangesOnly old new (λ x. (x ≡ inode) ⊎ (x ≡ b)) → HasRisen after old new (b ∷ left) left h (d.height + 1) (record d { height = d.height + 1 })
-moved_has after old new inode b h cell d left file own d_is stuffed moved_out becomes changes =
+    → Becomes after old new inode h (with_cells h cell) → HaveSamePads (bytes_at h h.own) (bytes_at (with_cells h cell) h.own) → ChangesOnly old new (λ x. (x ≡ inode) ⊎ (x ≡ b)) → HasRisen after old new (b ∷ left) left h (d.height + 1) (record d { height = d.height + 1 })
+moved_has after old new inode b h cell d left file own d_is stuffed moved_out becomes pads changes =
     let one : 1 ≡ d.height + 1 = omega (arith, stuffed) in
     record {
       cell = cell;
       taken = b ∷ [];
       shown = subst (λ a. IsShown after a (with_cells h cell)) (sym own) becomes.shown;
-      risen = subst (λ n. IsRisen old new h cell n (b ∷ [])) one (moved_is_risen old new after inode h cell file becomes b moved_out);
+      risen = subst (λ n. IsRisen old new h cell n (b ∷ [])) one (moved_is_risen old new after inode h cell file becomes pads b moved_out);
       from_front = refl;
       dinode = (λ t. record (d_is t) { height = sym one t }) ∙ sym moved_out.dinode;
       changes = changes_wider old new _ _ (own_or_taken h.own inode b own) changes;
     }
 
 pub raised_has : (after : Seen) (old new : FinMap nat_cmp Fate) (inode level b : ℕ) (h : Holding) (cell : ℕ → Option Cell) (d : Dinode) (left : List ℕ) → IsFile h → h.own ≡ inode → d ≡ dinode_in h → IsRaised h cell level b
-    → take header_length (bytes_at (with_cells h cell) b) ≡ take header_length (new_bytes h.size 1) → Becomes after old new inode h (with_cells h cell) → ChangesOnly old new (λ x. (x ≡ inode) ⊎ (x ≡ b)) → HasRisen after old new (b ∷ left) left h (d.height + 1) (record d { height = d.height + 1 })
-raised_has after old new inode level b h cell d left file own d_is raised head becomes changes =
+    → take header_length (bytes_at (with_cells h cell) b) ≡ take header_length (new_bytes h.size 1) → Becomes after old new inode h (with_cells h cell) → HaveSamePads (bytes_at h h.own) (bytes_at (with_cells h cell) h.own) → ChangesOnly old new (λ x. (x ≡ inode) ⊎ (x ≡ b)) → HasRisen after old new (b ∷ left) left h (d.height + 1) (record d { height = d.height + 1 })
+raised_has after old new inode level b h cell d left file own d_is raised head becomes pads changes =
     let high : d.height ≡ suc level = ap (λ (x : Dinode). x.height) d_is ∙ raised.high in
     let more : suc (suc level) ≡ d.height + 1 = omega (arith, high) in
     record {
       cell = cell;
       taken = b ∷ [];
       shown = subst (λ a. IsShown after a (with_cells h cell)) (sym own) becomes.shown;
-      risen = subst (λ n. IsRisen old new h cell n (b ∷ [])) more (raised_is_risen old new after inode h cell file becomes level b raised head);
+      risen = subst (λ n. IsRisen old new h cell n (b ∷ [])) more (raised_is_risen old new after inode h cell file becomes pads level b raised head);
       from_front = refl;
       dinode = (λ t. record (d_is t) { height = sym more t }) ∙ sym raised.dinode;
       changes = changes_wider old new _ _ (own_or_taken h.own inode b own) changes;
     }
 
 pub bare_has : (after : Seen) (old new : FinMap nat_cmp Fate) (inode height : ℕ) (room : List ℕ) (h : Holding) (cell : ℕ → Option Cell) (d : Dinode) → IsFile h → h.own ≡ inode → d ≡ dinode_in h → has_content h ≡ false → IsBareTo h cell height
-    → Becomes after old new inode h (with_cells h cell) → ChangesOnly old new (λ x. x ≡ inode) → HasRisen after old new room room h height (record d { height = height })
-bare_has after old new inode height room h cell d file own d_is none bare becomes changes = record {
+    → Becomes after old new inode h (with_cells h cell) → HaveSamePads (bytes_at h h.own) (bytes_at (with_cells h cell) h.own) → ChangesOnly old new (λ x. x ≡ inode) → HasRisen after old new room room h height (record d { height = height })
+bare_has after old new inode height room h cell d file own d_is none bare becomes pads changes = record {
   cell = cell;
   taken = [];
   shown = subst (λ a. IsShown after a (with_cells h cell)) (sym own) becomes.shown;
-  risen = bare_is_risen old new after inode h cell file becomes height none bare;
+  risen = bare_is_risen old new after inode h cell file becomes pads height none bare;
   from_front = refl;
   dinode = ap (λ (x : Dinode). record x { height = height }) d_is ∙ sym bare.dinode;
   changes = changes_wider old new _ _ (λ x e. inl (e ∙ sym own)) changes;
@@ -362,12 +366,9 @@ can_be_bare h size height room can is none = record {
 
 -- ---- the header of a level that is new
 
-before_put : (n : ℕ) (part bytes : List ℕ) → n ≤ length bytes → take n (put_at n part bytes) ≡ take n bytes
-before_put n part bytes low = take-append-le n (take n bytes) _ (omega (arith, low, length-take n bytes)) ∙ take-take n n bytes (omega arith)
-
 -- the header stands before the pointers that move there
 pub raised_head : (h : Holding) (level b : ℕ) (own bytes : List ℕ) → length bytes ≡ h.size → 512 ≤ h.size
     → take header_length (bytes_at (with_cells h (raised_cells h level b own (raised_bytes bytes))) b) ≡ take header_length (new_bytes h.size 1)
 raised_head h level b own bytes whole large =
     let here : bytes_at (with_cells h (raised_cells h level b own (raised_bytes bytes))) b ≡ raised_bytes bytes = ap cell_bytes (cond-true _ _ _ (eq-eqb b b refl)) in
-    ap (take header_length) here ∙ before_put header_length (drop dinode_length bytes) (new_bytes (length bytes) 1) (omega (arith, new_length (length bytes) 1 (omega (arith, whole, large)), whole, large)) ∙ ap (λ n. take header_length (new_bytes n 1)) whole
+    ap (take header_length) here ∙ before_rest header_length (new_bytes (length bytes) 1) _ (omega (arith, new_length (length bytes) 1 (omega (arith, whole, large)), whole, large)) ∙ ap (λ n. take header_length (new_bytes n 1)) whole

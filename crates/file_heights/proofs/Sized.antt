@@ -33,6 +33,7 @@ use Rattle.file_heights.specs.Sized.{HasSize}
 use Rattle.file_heights.proofs.Changing.{changes_wider}
 use Rattle.file_heights.proofs.Joining.{grown_as, grown_then}
 use Rattle.file_heights.proofs.Keeping.{behind_put, heads_then, own_large, put_keeps_heads}
+use Rattle.file_heights.proofs.Pads.{pads_over}
 
 module _ (h : Holding) (cell : ℕ → Option Cell) (parts : (x : ℕ) → part_at (with_cells h cell) x ≡ part_at h x) where
   some_same : (x : ℕ) → is_some (cell x) ≡ is_some (h.cell x)
@@ -69,6 +70,7 @@ module _ (f0 f1 f2 : FinMap nat_cmp Fate) (mid after : Seen) (inode : ℕ) (h : 
         counted = none.1;
         places = λ x l first had. (λ placed. (placed.0, placed.1, sym (sized.parts x) ∙ placed.2), λ placed. (placed.0, placed.1, sized.parts x ∙ placed.2));
         headers = record {
+          pads = pads_over h c1 (record (dinode_in h) { size = size }) (bytes_at h h.own) file refl put_size;
           old = λ x l first had placed. ap (take header_length) (sized.others x (λ e. not_itself _ _ _ _ (sym file.own ∙ ap (part_at h) (sym e) ∙ sym (sized.parts x) ∙ placed.2)));
           new = λ x l first none. absurd (none_in x none);
         };
@@ -86,6 +88,7 @@ module _ (f0 f1 f2 : FinMap nat_cmp Fate) (mid after : Seen) (inode : ℕ) (h : 
         counted = none.1;
         places = λ x l first had. (λ placed. (placed.0, placed.1, sym (told.parts x) ∙ placed.2), λ placed. (placed.0, placed.1, told.parts x ∙ placed.2));
         headers = record {
+          pads = pads_over (with_cells h c1) c2 (record (dinode_in (with_cells h c1)) { blocks = blocks }) (bytes_at (with_cells h c1) h.own) after_size.0 refl put_count;
           old = λ x l first had placed. ap (take header_length) (told.others x (λ e. not_itself _ _ _ _ (sym after_size.0.own ∙ ap (part_at (with_cells h c1)) (sym e) ∙ sym (told.parts x) ∙ placed.2)));
           new = λ x l first none. absurd (none_in x none);
         };

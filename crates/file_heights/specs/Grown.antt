@@ -20,7 +20,7 @@ use Rattle.file_fills.specs.Causes.{ChangesOnly}
 
 -- ---- a file afterwards
 
--- With these cells: the dinode says this and this is the content; it has these blocks more, and each that it had stands where it stood, an indirect one with the header that it had.
+-- With these cells: the dinode says this, and its pads and reserved bytes are as before; this is the content; it has these blocks more, and each that it had stands where it stood, an indirect one with the header that it had.
 pub record IsGrown (old new : FinMap nat_cmp Fate) (h : Holding) (cell : ℕ → Option Cell) (d : Dinode) (bytes taken : List ℕ) : Type 0 where
   pub file : IsFile (with_cells h cell)
   pub dinode : dinode_in (with_cells h cell) ≡ d
