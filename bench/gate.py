@@ -3,7 +3,7 @@
 of the proof of its tests, and of its must-fail edits, and beside them those of all else (tests and programs that run).
 
 usage: bench/gate.py [CRATE..]      (rt ci CRATE.. in place of rt ci)
-       bench/gate.py --functions CRATE    the twenty functions of a crate whose checks take longest (rt check, from nothing)
+       bench/gate.py --functions CRATE    the twenty functions of a crate whose checks take longest, in processor seconds (rt check, from nothing)
 
 What rt prints goes to standard error. Only what the run proves is measured: what an earlier run on this machine passed is kept and costs nothing. From nothing:
 move the kit's store of kept runs aside (/opt/rattle-kept) before, and back after. It watches the processes that rt starts
@@ -121,19 +121,37 @@ def measure(names):
     return run.returncode
 
 
+def seconds_below(root):
+    """The processor seconds of a process, of those that it started, and of those of them that have ended."""
+    above, seconds = {}, {}
+    for pid in (int(it) for it in os.listdir("/proc") if it.isdigit()):
+        try:
+            above[pid], seconds[pid] = stat_of(pid)
+        except (OSError, IndexError, ValueError):
+            continue
+    total = 0.0
+    for pid, found in seconds.items():
+        at = pid
+        while at in above and at != root:
+            at = above[at]
+        if at == root:
+            total += found
+    return total
+
+
 def functions(crate):
-    """A first check prints a line as each function ends; what is between two lines is about what the later one took, on one processor."""
+    """A first check prints a line as each function ends; what is between two lines is about what the later one took, in processor seconds."""
     folder = f"crates/{crate}"
     kept = f"{folder}/out.aside"
     if os.path.isdir(f"{folder}/out"):
         os.rename(f"{folder}/out", kept)
     try:
         run = subprocess.Popen(["rt", "check", "--jobs", "1"], cwd=folder, stdout=subprocess.PIPE, stderr=subprocess.STDOUT, text=True)
-        rows, at = [], time.time()
+        rows, at = [], 0.0
         for line in run.stdout:
             found = re.match(r"checked (\S+), \d+ of \d+", line)
             if found:
-                now = time.time()
+                now = seconds_below(run.pid)
                 rows.append((now - at, found.group(1)))
                 at = now
         run.wait()

@@ -8,6 +8,7 @@ use Rattle.trace_text.specs.declared.item.TraceItem.{TraceItem}
 use Rattle.script_lang.specs.Script.{ScriptValue}
 use Rattle.script_lang.specs.Grammar.{script_read, Script, Bad}
 use Rattle.script_lang.specs.Foreign.{first_foreign}
+use Rattle.image_mount.specs.Mounted.{MountedValue}
 use Rattle.cluster_program.specs.declared.status.Status.{Status}
 use Rattle.cluster_program.specs.declared.status.Status.TheVariants as status
 use Rattle.cluster_program.specs.declared.status.Which.{Which}
@@ -79,14 +80,14 @@ module _ (words : List (List ℕ)) (given left : Inputs) (sinks sinks_now : Outp
   of_show may lines own (TreeDamaged block rule clean never breaks) = absurd (never may.is.tells may.tree may.is.stands)
   of_show may lines own NothingHeld = inr refl
 
-  of_run : IsMountable given.disk → (s : ScriptValue) (time : ℕ) (items : List TraceItem) (own : Status) → RunEnds given left s time items own → IsUpToBuilt own
-  of_run may s time items own (IsDone all whole) = inl (inl refl)
-  of_run may s time items own (NotMounted own' none_yet same ends) = inl (of_mount may own ends)
-  of_run may s time items own (CallFailed m block x y for root up within at) = absurd (none.disk 1 (rose (given.disk_faults 1) (left.disk_faults 1) x y up))
-  of_run may s time items own (CallHashed m block for at) = inr (part.Block block, refl)
-  of_run may s time items own (CallUnbuilt m place for at taken) = inr (part.Script (runs.first_line s + place), refl)
-  of_run may s time items own (CallDamaged m block rule for never at told) = absurd (never may.is.tells may.tree may.is.stands)
-  of_run may s time items own runs.NoRoom = inl (inr refl)
+  of_run : IsMountable given.disk → (s : ScriptValue) (time : ℕ) (items : List TraceItem) (what : Option MountedValue) (own : Status) → RunEnds given left s time items what own → IsUpToBuilt own
+  of_run may s time items what own (IsDone m all whole) = inl (inl refl)
+  of_run may s time items what own (NotMounted own' none_yet same ends) = inl (of_mount may own ends)
+  of_run may s time items what own (CallFailed m block x y for root up within at) = absurd (none.disk 1 (rose (given.disk_faults 1) (left.disk_faults 1) x y up))
+  of_run may s time items what own (CallHashed m block for at) = inr (part.Block block, refl)
+  of_run may s time items what own (CallUnbuilt m place for at taken) = inr (part.Script (runs.first_line s + place), refl)
+  of_run may s time items what own (CallDamaged m block rule for never at told) = absurd (never may.is.tells may.tree may.is.stands)
+  of_run may s time items what own (runs.NoRoom what') = inl (inr refl)
 
   -- an image that fits its device
   of_make : (make : MakeWords) → given.disk.count ≤ most_blocks → fits (plan_for given.disk make) ≡ true → (own : Status) → Makes make given left own → IsWhole own
@@ -114,7 +115,7 @@ module _ (words : List (List ℕ)) (given left : Inputs) (sinks sinks_now : Outp
   of_running may s items lines own (MakesImage make own' asks makes) = absurd (not_make_run make may.run.run asks.read may.run.read)
   of_running may s items lines own (ShowsImage lines' own' asks script disk shows) = absurd (not_run_show may.run.run may.run.read asks.read)
   of_running may s items lines own (NoScript told asks lacks untouched same) = inl (of_script may own lacks)
-  of_running may s items lines own (RunsScript text s' items' own' asks read script built ran) = of_run may.mountable s asks.run.time items own ran.ends
+  of_running may s items lines own (RunsScript text s' items' own' asks read script built ran) = of_run may.mountable s asks.run.time items ran.value own ran.ends
 
   of_showing : IsShowable words given → (s : ScriptValue) (items : List TraceItem) (lines : List ℕ) (own : Status) → Course words given left s items lines own → IsWhole own
   of_showing may s items lines own (RefusesWords told refused untouched) = let both : None ≡ Some own = sym may.show.built ∙ refused in cc

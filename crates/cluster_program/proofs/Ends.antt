@@ -1,10 +1,11 @@
 -- What a command's end comes from.
 use Rattle.std.proofs.Common.{◌≡◌, ℕ, Bool, true, false, List, sym, ◌∙◌, subst}
-use Rattle.std.specs.Prelude.{Some, None, Result, Ok, Err, if◌then◌else◌}
+use Rattle.std.specs.Prelude.{Option, Some, None, Result, Ok, Err, if◌then◌else◌}
 use Rattle.command_words.specs.Commands.{words_read}
 use Rattle.command_words.specs.declared.command.Command.{Command}
 use Rattle.command_words.specs.declared.command.Usage.{Usage}
 use Rattle.command_words.specs.declared.command.MakeWords.{MakeWords}
+use Rattle.image_mount.specs.Mounted.{MountedValue}
 use Rattle.cluster_program.specs.declared.status.Part.TheVariants as part
 use Rattle.trace_text.specs.declared.item.TraceItem.{TraceItem}
 use Rattle.script_lang.specs.Script.{ScriptValue}
@@ -60,14 +61,14 @@ module _ (given left : Inputs) (sinks sinks_now : Outputs) where
   show_fault lines own (TreeDamaged block rule clean never breaks) = tt
   show_fault lines own NothingHeld = tt
 
-  run_fault : (s : ScriptValue) (time : ℕ) (items : List TraceItem) (own : Status) → RunEnds given left s time items own → FaultHasCause given left sinks sinks_now own
-  run_fault s time items own (IsDone all whole) = tt
-  run_fault s time items own (NotMounted own' none same ends) = mount_fault own ends
-  run_fault s time items own (CallFailed m block x y for root up within at) = up
-  run_fault s time items own (CallHashed m block for at) = tt
-  run_fault s time items own (CallUnbuilt m place for at taken) = tt
-  run_fault s time items own (CallDamaged m block rule for never at told) = tt
-  run_fault s time items own runs.NoRoom = tt
+  run_fault : (s : ScriptValue) (time : ℕ) (items : List TraceItem) (what : Option MountedValue) (own : Status) → RunEnds given left s time items what own → FaultHasCause given left sinks sinks_now own
+  run_fault s time items what own (IsDone m all whole) = tt
+  run_fault s time items what own (NotMounted own' none same ends) = mount_fault own ends
+  run_fault s time items what own (CallFailed m block x y for root up within at) = up
+  run_fault s time items what own (CallHashed m block for at) = tt
+  run_fault s time items what own (CallUnbuilt m place for at taken) = tt
+  run_fault s time items what own (CallDamaged m block rule for never at told) = tt
+  run_fault s time items what own (runs.NoRoom what') = tt
 
   make_fault : (make : MakeWords) (own : Status) → Makes make given left own → FaultHasCause given left sinks sinks_now own
   make_fault make own (IsTooLarge many same) = tt
@@ -81,7 +82,7 @@ module _ (given left : Inputs) (sinks sinks_now : Outputs) where
   course_fault words s items lines own (MakesImage make own' asks makes) = make_fault make own makes
   course_fault words s items lines own (ShowsImage lines' own' asks script disk shows) = show_fault lines own shows
   course_fault words s items lines own (NoScript told asks lacks untouched same) = script_fault own lacks
-  course_fault words s items lines own (RunsScript text s' items' own' asks read script built ran) = run_fault s asks.run.time items own ran.ends
+  course_fault words s items lines own (RunsScript text s' items' own' asks read script built ran) = run_fault s asks.run.time items ran.value own ran.ends
 
   trace_fault : (own told : Status) → Becomes which.Trace sinks.trace_faults sinks_now.trace_faults own told → FaultHasCause given left sinks sinks_now own → FaultHasCause given left sinks sinks_now told
   trace_fault own told (Stays same) cause = subst (FaultHasCause given left sinks sinks_now) (sym same) cause

@@ -1,6 +1,6 @@
 -- How a run of a script goes and ends, by what the image stands for.
 use Rattle.std.proofs.Common.{◌≡◌, ℕ, ◌+◌, ◌^◌, ◌<◌, ◌≤◌, List, [], length, Option, refl, sym, subst, arith}
-use Rattle.std.specs.Prelude.{◌≢◌, Result, Ok, Err, IfErr, OnOk}
+use Rattle.std.specs.Prelude.{◌≢◌, Some, None, Result, Ok, Err, IfErr, OnOk}
 use Rattle.fault_counts.specs.Causes.{WentUp}
 use Rattle.file_tree.specs.Tree.{Tree}
 use Rattle.file_tree.specs.declared.call.Call.{Call}
@@ -149,7 +149,7 @@ module _ (given left : Inputs) (m : MountedValue) (s : ScriptValue) (time : ℕ)
 
   -- an end in a call
   module _ (calls : CallsTellExactly) (needs : NeedsTell) (read : MountedAreRead) (inside : HasRootInside (seen_alone n)) where
-    call_end : (e : RunEnd) → UnlessFailed e (OfImage left.disk IsImage) → HasRun given.disk left.disk given.disk_list left.disk_list n before left.disk_faults s time items (Err e) → RunEnds given left s time items (status_of_end (first_line s) e)
+    call_end : (e : RunEnd) → UnlessFailed e (OfImage left.disk IsImage) → HasRun given.disk left.disk given.disk_list left.disk_list n before left.disk_faults s time items (Err e) → RunEnds given left s time items (Some m) (status_of_end (first_line s) e)
     call_end (end.DiskFailed block rise) image r =
         CallFailed m block rise.before rise.after for inside (longer (given.disk_faults 1) (before 1) (left.disk_faults 1) rise.before rise.after (earlier 1) r.cause.0) r.cause.1
         (call_from s.clients s.lines items (StandsFor given.disk n) (IsImageOf given.disk) from (λ call holds. holds) r.failed)
@@ -162,15 +162,15 @@ module _ (given left : Inputs) (m : MountedValue) (s : ScriptValue) (time : ℕ)
         CallUnbuilt m place for
         (ends_from s.clients s.lines items (StandsFor given.disk n) (IsImageOf given.disk) from place (λ call holds. holds) r.unbuilt)
         (ends_from s.clients s.lines items (StandsFor given.disk n) (IsImageOf given.disk) from place (λ call named t is. named t (from t is)) r.built)
-    call_end end.NoMemory image r = NoRoom
+    call_end end.NoMemory image r = NoRoom (Some m)
 
     -- what holds of the image that is left
     left_tree : ((t : Tree) (at : StandsFor given.disk n t) → LeavesStanding given.disk left.disk n t (tree_of (history_of s.clients items) t) at)
         → (t : Tree) → IsImageOf given.disk t → IsImageOf left.disk (tree_of (history_of s.clients items) t)
     left_tree leaves t is = image_of_tree left.disk n (tree_of (history_of s.clients items) t) (leaves t (from t is)).now
 
-    left_course : IsCourse n time s.clients (moment given.disk given.disk_list) (moment left.disk left.disk_list) items → items ≢ [] → HasCourse given left s time items
-    left_course course some = record { value = m; mounted = for; root = inside; course = course }
+    left_course : IsCourse n time s.clients (moment given.disk given.disk_list) (moment left.disk left.disk_list) items → items ≢ [] → HasCourse given left s time items m
+    left_course course some = record { mounted = for; root = inside; course = course }
 
     left_same : (HasChangedNothing s.clients items → (left.disk ≡ given.disk) × (left.disk_list ≡ given.disk_list))
         → HasChangedNothing s.clients items → KeepsDisk given left
@@ -201,6 +201,8 @@ module _ (given left : Inputs) (m : MountedValue) (s : ScriptValue) (time : ℕ)
 
     pub done : HasRun given.disk left.disk given.disk_list left.disk_list n before left.disk_faults s time items (Ok tt) → Runs given left s time items status.Done
     done r = record {
+      value = Some m;
+      began = λ some. refl;
       run = run_from s.clients s.lines items (StandsFor given.disk n) (IsImageOf given.disk) from r.run;
       history = r.history;
       members = r.members;
@@ -214,11 +216,13 @@ module _ (given left : Inputs) (m : MountedValue) (s : ScriptValue) (time : ℕ)
       mounted = λ some tells. record { value = m; mounted = for.mounted tells; clean = for.clean };
       clean = left_clean r.stands;
       still = left_still r.stands;
-      ends = IsDone r.answered (whole_from s.clients s.lines items (StandsFor given.disk n) (IsImageOf given.disk) from r.whole);
+      ends = IsDone m r.answered (whole_from s.clients s.lines items (StandsFor given.disk n) (IsImageOf given.disk) from r.whole);
     }
 
     pub ended : (e : RunEnd) → UnlessFailed e (OfImage left.disk IsImage) → HasRun given.disk left.disk given.disk_list left.disk_list n before left.disk_faults s time items (Err e) → Runs given left s time items (status_of_end (first_line s) e)
     ended e image r = record {
+      value = Some m;
+      began = λ some. refl;
       run = run_from s.clients s.lines items (StandsFor given.disk n) (IsImageOf given.disk) from r.run;
       history = r.history;
       members = r.members;
@@ -264,6 +268,8 @@ small_number end.NoMemory s items P start well at = tt
 pub not_begun : (given left : Inputs) (s : ScriptValue) (time : ℕ) (items : List TraceItem) (own : Status) → IsIdle given.disk → items ≡ [] → KeepsDisk given left → MountEnds given.disk given.disk_faults left.disk_faults own
     → Runs given left s time items own
 not_begun given left s time items own idle none same ends = record {
+  value = None;
+  began = λ some. absurd (some none);
   run = NotJoined none;
   history = subst (HoldsHistory s) (sym none) (nothing_follows s);
   members = subst NoneStopped (sym none) tt;
@@ -292,11 +298,11 @@ never_done first (end.Hashed block) is = cc
 never_done first (end.NotBuilt place) is = cc
 never_done first end.NoMemory is = cc
 
-pub no_run_fault : (given left : Inputs) (s : ScriptValue) (time : ℕ) (items : List TraceItem) (own : Status) → RunEnds given left s time items own → IsSinkFault own → ⊥
-no_run_fault given left s time items own (IsDone all whole) never = never
-no_run_fault given left s time items own (NotMounted own' none same ends) never = no_mount_fault given.disk given.disk_faults left.disk_faults own ends never
-no_run_fault given left s time items own (CallFailed m block x y for root up within at) never = never
-no_run_fault given left s time items own (CallHashed m block for at) never = never
-no_run_fault given left s time items own (CallUnbuilt m place for at taken) never = never
-no_run_fault given left s time items own (CallDamaged m block rule for none at told) never = never
-no_run_fault given left s time items own NoRoom never = never
+pub no_run_fault : (given left : Inputs) (s : ScriptValue) (time : ℕ) (items : List TraceItem) (what : Option MountedValue) (own : Status) → RunEnds given left s time items what own → IsSinkFault own → ⊥
+no_run_fault given left s time items what own (IsDone m all whole) never = never
+no_run_fault given left s time items what own (NotMounted own' none same ends) never = no_mount_fault given.disk given.disk_faults left.disk_faults own ends never
+no_run_fault given left s time items what own (CallFailed m block x y for root up within at) never = never
+no_run_fault given left s time items what own (CallHashed m block for at) never = never
+no_run_fault given left s time items what own (CallUnbuilt m place for at taken) never = never
+no_run_fault given left s time items what own (CallDamaged m block rule for none at told) never = never
+no_run_fault given left s time items what own (NoRoom what') never = never

@@ -1,5 +1,5 @@
 -- How a run of a script goes, and how it ends.
-use Rattle.std.specs.Prelude.{ℕ, ◌≡◌, ◌≢◌, ◌+◌, ◌<◌, ⊤, true, IfSome, List, [], length, slice_get, Option, Some}
+use Rattle.std.specs.Prelude.{ℕ, ◌≡◌, ◌≢◌, ◌+◌, ◌<◌, ⊤, true, IfSome, IsSome, List, [], length, slice_get, Option, None, Some}
 use Rattle.std.specs.FinMap.{empty}
 use Rattle.fault_counts.specs.Causes.{WentUp}
 use Rattle.file_tree.specs.Tree.{Tree}
@@ -40,30 +40,29 @@ AtPlace given s items place P = EndsAt place P s.clients s.lines items (IsImageO
 abbrev pub first_line : ScriptValue → ℕ
 first_line s = 2 + length s.clients + length s.armed
 
--- How a run ends: each line is answered and the node has unmounted; the image was not mounted, before the first item; or, in a call
+-- How a run of what was mounted ends, if anything was: each line is answered and the node has unmounted; the image was not mounted, before the first item; or, in a call
 -- behind the lines above it: the disk failed as its blocks were read or written; a directory is met that is a hashed one, which
 -- isn't read yet; the call isn't built: where the image stands for a tree, that would take it, and a name has to be made; or a block is met that
 -- breaks a rule of the image as it then was, if that still has what was mounted of it; or there was no memory.
-pub data RunEnds (given left : Inputs) (s : ScriptValue) (time : ℕ) (items : List TraceItem) : Status → Type 0 where
-  IsDone : AllAnswered items s → IsWholeRun s.clients s.lines items (IsImageOf given.disk) → RunEnds given left s time items status.Done
-  NotMounted : (own : Status) → items ≡ [] → KeepsDisk given left → MountEnds given.disk given.disk_faults left.disk_faults own → RunEnds given left s time items own
+pub data RunEnds (given left : Inputs) (s : ScriptValue) (time : ℕ) (items : List TraceItem) : Option MountedValue → Status → Type 0 where
+  IsDone : (m : MountedValue) → AllAnswered items s → IsWholeRun s.clients s.lines items (IsImageOf given.disk) → RunEnds given left s time items (Some m) status.Done
+  NotMounted : (own : Status) → items ≡ [] → KeepsDisk given left → MountEnds given.disk given.disk_faults left.disk_faults own → RunEnds given left s time items None own
   CallFailed : (m : MountedValue) (block : Option ℕ) (x y : ℕ) → IsMountedFor given.disk m → HasRootInside (seen_alone (as_mounted given.disk m))
       → WentUp (given.disk_faults 1) (left.disk_faults 1) x y → IfSome block (λ b. b < given.disk.count)
-      → AtCall given s items (λ call. IsFailedOn (moment given.disk given.disk_list) (moment left.disk left.disk_list) (as_mounted given.disk m) time s.clients items call block) → RunEnds given left s time items (status.DeviceFault 1 block x y)
+      → AtCall given s items (λ call. IsFailedOn (moment given.disk given.disk_list) (moment left.disk left.disk_list) (as_mounted given.disk m) time s.clients items call block) → RunEnds given left s time items (Some m) (status.DeviceFault 1 block x y)
   CallHashed : (m : MountedValue) (block : ℕ) → IsMountedFor given.disk m → AtCall given s items (λ call. IsHashedOn left.disk (as_mounted given.disk m) call block)
-      → RunEnds given left s time items (status.NotBuilt (part.Block block))
+      → RunEnds given left s time items (Some m) (status.NotBuilt (part.Block block))
   CallUnbuilt : (m : MountedValue) (place : ℕ) → IsMountedFor given.disk m → AtPlace given s items place (λ call. IsUnbuiltOn left.disk (as_mounted given.disk m) call)
-      → AtPlace given s items place (IsUnbuiltBehind s.clients items (IsImageOf given.disk)) → RunEnds given left s time items (status.NotBuilt (part.Script (first_line s + place)))
+      → AtPlace given s items place (IsUnbuiltBehind s.clients items (IsImageOf given.disk)) → RunEnds given left s time items (Some m) (status.NotBuilt (part.Script (first_line s + place)))
   CallDamaged : (m : MountedValue) (block rule : ℕ) → IsMountedFor given.disk m → OfImage given.disk NeverStands → AtCall given s items (λ call. IsDamagedOn left.disk (as_mounted given.disk m) call block rule)
-      → OfImage left.disk (λ im. IsMounted im m → IsBrokenBlock im rule block) → RunEnds given left s time items (status.Damaged block rule)
-  NoRoom : RunEnds given left s time items status.NoMemory
+      → OfImage left.disk (λ im. IsMounted im m → IsBrokenBlock im rule block) → RunEnds given left s time items (Some m) (status.Damaged block rule)
+  NoRoom : (what : Option MountedValue) → RunEnds given left s time items what status.NoMemory
 
 -- This was mounted, its root is in one of its groups, and the items are the course of a run from what was given to what is left: each of its calls is a step, at this time.
-pub record HasCourse (given left : Inputs) (s : ScriptValue) (time : ℕ) (items : List TraceItem) : Type 0 where
-  pub value : MountedValue
-  pub mounted : IsMountedFor given.disk value
-  pub root : HasRootInside (seen_alone (as_mounted given.disk value))
-  pub course : IsCourse (as_mounted given.disk value) time s.clients (moment given.disk given.disk_list) (moment left.disk left.disk_list) items
+pub record HasCourse (given left : Inputs) (s : ScriptValue) (time : ℕ) (items : List TraceItem) (m : MountedValue) : Type 0 where
+  pub mounted : IsMountedFor given.disk m
+  pub root : HasRootInside (seen_alone (as_mounted given.disk m))
+  pub course : IsCourse (as_mounted given.disk m) time s.clients (moment given.disk given.disk_list) (moment left.disk left.disk_list) items
 
 -- the journals that were mounted are clean in the image as it was left
 pub record AreCleanAtEnd (given left : DiskState) : Type 0 where
@@ -78,6 +77,9 @@ UnlessFault own P = P
 
 -- a run of the script, with this time of its changes, in seconds
 pub record Runs (given left : Inputs) (s : ScriptValue) (time : ℕ) (items : List TraceItem) (own : Status) : Type 0 where
+  -- what was mounted, of which the course and the end of the run tell; where there is an item, something was
+  pub value : Option MountedValue
+  pub began : items ≢ [] → IsSome value
   -- on every disk, also one that tells nothing: node 1 joins, takes the lines one by one, and unmounts
   pub run : IsRunOf s.clients s.lines items (IsImageOf given.disk)
   -- so the items follow the script and hold one history, no node stops, and nothing is lost
@@ -89,7 +91,7 @@ pub record Runs (given left : Inputs) (s : ScriptValue) (time : ℕ) (items : Li
   pub stands : UnlessFault own ((tree : Tree) → IsImageOf given.disk tree → IsImageOf left.disk (tree_of (history_of s.clients items) tree))
   -- call by call: each is answered from what was read of the disk as it then was, puts on it what its change writes, and nothing else; where too few
   -- blocks were free for it, an item tells how many it takes and how many there were
-  pub course : UnlessFault own (items ≢ [] → HasCourse given left s time items)
+  pub course : UnlessFault own (items ≢ [] → IfSome value (HasCourse given left s time items))
   -- where no answered call changes anything, nothing was written
   pub untouched : UnlessFault own (HasChangedNothing s.clients items → KeepsDisk given left)
   -- it is the same disk, with nothing in flight
@@ -100,4 +102,4 @@ pub record Runs (given left : Inputs) (s : ScriptValue) (time : ℕ) (items : Li
   pub clean : UnlessFault own (items ≢ [] → (tree : Tree) → IsImageOf given.disk tree → AreCleanAtEnd given.disk left.disk)
   -- an image that could be mounted can be mounted again, unless the disk failed
   pub still : UnlessFault own (IsMountable given.disk → IsMountable left.disk)
-  pub ends : RunEnds given left s time items own
+  pub ends : RunEnds given left s time items value own

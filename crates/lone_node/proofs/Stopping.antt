@@ -4,7 +4,7 @@ use Rattle.std.proofs.lemmas.List.{length-drop, length-take-le}
 use Rattle.std.proofs.lemmas.Option.{slice_get-get_or}
 use Rattle.drafts.specs.declared.change.Written.{Written}
 use Rattle.shared_disk.specs.Disk.{DiskState, Gains, Operation, Write, after_write}
-use Rattle.lone_node.specs.Course.{HasStoppedIn, IsTurn, at_barrier, before_it, behind_it, moment, writes_of}
+use Rattle.lone_node.specs.Course.{HasStoppedIn, IsTurn, at_barrier, before_it, behind_it, moment, most_in_flight, writes_of}
 use Rattle.lone_node.specs.Writing.{AreInFlight, RiseFrom, flights_of}
 use Rattle.lone_node.proofs.Flying.{flies_more}
 use Rattle.lone_node.proofs.Gaining.{gains_write}
@@ -38,7 +38,7 @@ stopped_barrier d now next a b c ws fly gains still = record {
 }
 
 -- the next turn of blocks, of which there are some
-pub next_turn : (rest : List Written) (n : ℕ) → 1 ≤ length rest → n ≡ min (length rest) 512 → IsTurn (take n rest) (drop n rest)
+pub next_turn : (rest : List Written) (n : ℕ) → 1 ≤ length rest → n ≡ min (length rest) most_in_flight → IsTurn (take n rest) (drop n rest)
 next_turn rest n some is = record {
   not_none = let long = length-take-le n rest at_most in omega (arith, long, some, is);
   few = let long = length-take-le n rest at_most in omega (arith, long, is);

@@ -69,11 +69,15 @@ writes_of blocks = map (λ (w : Written). Write 1 w.block w.bytes) blocks
 abbrev pub turn_of : List Written → List Operation
 turn_of blocks = writes_of blocks ++ Barrier 1 ∷ []
 
+-- how many writes of a node may be in flight at once
+abbrev pub most_in_flight : ℕ
+most_in_flight = 512
+
 -- The next turn of writes: as many as may be in flight at once, or all that are left.
 pub record IsTurn (some later : List Written) : Type 0 where
   pub not_none : 1 ≤ length some
-  pub few : length some ≤ 512
-  pub whole : later ≢ [] → length some ≡ 512
+  pub few : length some ≤ most_in_flight
+  pub whole : later ≢ [] → length some ≡ most_in_flight
 
 -- the operations by which these blocks are brought to the disk, turn by turn
 pub data AreBrought : List Written → List Operation → Type 0 where

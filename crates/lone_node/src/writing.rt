@@ -3,7 +3,7 @@ ghost use Rattle.std.specs.Prelude.{ℕ, List, [], ◌≡◌, ◌<◌, ◌≤◌
 ghost use Rattle.std.specs.List.{AllByRecursion};
 ghost use Rattle.shared_disk.specs.Disk.{Gains, IsIdle, Operation};
 ghost use Rattle.drafts.specs.declared.change.Written.{Written};
-ghost use Rattle.lone_node.specs.Course.{AreBrought, HasStopped, HasStoppedIn, moment, turn_of, writes_of};
+ghost use Rattle.lone_node.specs.Course.{AreBrought, HasStopped, HasStoppedIn, moment, most_in_flight, turn_of, writes_of};
 ghost use Rattle.lone_node.specs.Ends.{FailsAlone, IfDiskFailed};
 ghost use Rattle.lone_node.specs.Writing.{AreInFlight, AreOfDisk, AreWritten, flights_of, with_blocks};
 
@@ -13,6 +13,9 @@ use fault_counts::Rise;
 use lone_view::LoneView;
 use no_memory::NoMemory;
 use shared_disk::SharedDisk;
+
+// How many writes of a node may be in flight at once.
+const MOST_IN_FLIGHT: usize = 512;
 
 /// The view has these blocks as they are written. It costs a copy of each.
 pub(crate) fn keep_all(view: &mut LoneView, blocks: &[Written]) -> Result<(), NoMemory>
@@ -41,7 +44,7 @@ fn failed<D: SharedDisk>(disk: &D, block: Option<u64>, before: u64) -> RunEnd
 // Puts writes of these blocks in flight, as node 1, which has none yet.
 fn put_in_flight<D: SharedDisk>(disk: &mut D, blocks: &[Written]) -> Result<(), RunEnd>
     requires idle { IsIdle (D.state disk.old) }
-    requires few { length blocks.now ≤ 512 }
+    requires few { length blocks.now ≤ most_in_flight }
     requires of_disk { AreOfDisk (D.state disk.old) blocks.now }
     ensures flies { OnOk result (AreInFlight 1 (D.state disk.old) (D.state disk.new) (flights_of blocks.now)) }
     ensures gains { OnOk result (Gains (D.list disk.old) (D.list disk.new) (writes_of blocks.now)) }
@@ -63,7 +66,7 @@ fn put_in_flight<D: SharedDisk>(disk: &mut D, blocks: &[Written]) -> Result<(), 
 fn write_some<D: SharedDisk>(disk: &mut D, blocks: &[Written]) -> Result<(), RunEnd>
     requires idle { IsIdle (D.state disk.old) }
     requires some { 1 ≤ length blocks.now }
-    requires few { length blocks.now ≤ 512 }
+    requires few { length blocks.now ≤ most_in_flight }
     requires of_disk { AreOfDisk (D.state disk.old) blocks.now }
     ensures written { OnOk result (AreWritten (D.state disk.old) (D.state disk.new) blocks.now) }
     ensures gains { OnOk result (Gains (D.list disk.old) (D.list disk.new) (turn_of blocks.now)) }
@@ -93,7 +96,7 @@ pub(crate) fn write_all<D: SharedDisk>(disk: &mut D, blocks: &[Written]) -> Resu
 {
     let mut rest = blocks;
     while !rest.is_empty() {
-        let (some, later) = rest.split_at(rest.len().min(512));
+        let (some, later) = rest.split_at(rest.len().min(MOST_IN_FLIGHT));
         match write_some(disk, some) {
             Ok(()) => {}
             Err(end) => return Err(end),

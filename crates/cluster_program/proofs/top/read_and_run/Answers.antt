@@ -25,4 +25,5 @@ returns-clause-course g c = λ words asks time.
     (RunsScript read.0 c.in-Ok.script c.mount_and_run-own.new.items.items c.mount_and_run-own.result asks read.1 read.2 c.in-Ok.ensures.built.0 (runs_at _ _ c.in-Ok.script c.args.time asks.run.time c.mount_and_run-own.new.items.items c.mount_and_run-own.result time (c.mount_and_run-own.ensures.runs _ _ _ _)))
 
 pub returns-clause-own : goal.returns-clause-own
-returns-clause-own g c = no_run_fault _ _ c.in-Ok.script c.args.time c.mount_and_run-own.new.items.items c.mount_and_run-own.result (c.mount_and_run-own.ensures.runs None None 0 0).ends
+returns-clause-own g c =
+    let runs = c.mount_and_run-own.ensures.runs None None 0 0 in no_run_fault _ _ c.in-Ok.script c.args.time c.mount_and_run-own.new.items.items runs.value c.mount_and_run-own.result runs.ends
