@@ -1,16 +1,19 @@
 -- A table that is kept in a vector.
-use Rattle.std.specs.Prelude.{ℕ, Option, option_map, slice_get}
+use Rattle.std.specs.Prelude.{ℕ, ◌≡◌, List, Option, None, Some, option_map, slice_get, refl}
 use Rattle.gfs2_layout.specs.Holding.{Holding}
+use Rattle.pointer_tables.specs.Tables.{KeepsTable, the_same, other_counts}
 use Rattle.pointer_tables.specs.declared.pointer.Pointer.{Pointer}
 use Rattle.pointer_tables.specs.declared.vector.VectorTable.{VectorTable}
 
--- each of its pointers is told by every view
-abbrev pub pointer_in : VectorTable → ℕ → Option Pointer
-pointer_in t i = option_map (λ leaf. record { leaf = leaf; from = t.directory }) (slice_get t.leaves.items i)
+-- each of its pointers is told by every view that has the directory's block
+abbrev pub pointer_in : VectorTable → Option (List ℕ) → ℕ → Option Pointer
+pointer_in t None i = None
+pointer_in t (Some bytes) i = option_map (λ leaf. record { leaf = leaf; from = t.directory }) (slice_get t.leaves.items i)
 
--- no block keeps them, and it is no directory's
-abbrev pub IsNoPart : ℕ → Type 0
-IsNoPart b = ⊥
-
+-- it is no directory's, since no block has its pointers
 abbrev pub ShowsNone : Holding → Type 0
 ShowsNone h = ⊥
+
+pub pointers_stay : (t : VectorTable) (o p : Option (List ℕ)) (i : ℕ) → KeepsTable o p → pointer_in t p i ≡ pointer_in t o i
+pointers_stay t _ _ i (the_same o) = refl
+pointers_stay t _ _ i (other_counts old new long dinode behind) = refl

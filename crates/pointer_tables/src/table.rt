@@ -5,7 +5,7 @@ ghost use Rattle.gfs2_layout.specs.Holding.{Holding};
 ghost use Rattle.gfs2_layout.specs.Inode.{depth_in, entry, entry_block, unit};
 ghost use Rattle.drafts.specs.Fates.{seen_in};
 ghost use Rattle.glock_names.specs.Steps.{IfIs, IfNeedBlock, OnlyDamaged};
-ghost use Rattle.glock_names.specs.Views.{Seen, IsOfView};
+ghost use Rattle.glock_names.specs.Views.{Seen, HasBlock, IsOfView};
 ghost use Rattle.dinode_tree.specs.Broken.{IsBroken};
 ghost use Rattle.dinode_tree.specs.Reading.{IsNeeded};
 ghost use Rattle.linear_dirs.specs.Shown.{holding_over};
@@ -45,6 +45,7 @@ pub trait PointerTable {
         requires { index < 2 ^ deep self.now }
         ensures told { IfIs result (λ found. pointer self.now (V.seen view.now) index ≡ Some found) }
         ensures found { (h : Holding) → shows self.now (V.seen view.now) h → IfIs result (λ found. (found.leaf ≡ entry h index) × (found.from ≡ entry_block h index)) }
+        ensures there { IfIs result (λ found. HasBlock (V.seen view.now) found.from) }
         ensures absent { IfNeedBlock result (λ missing. (V.seen view.now).block_at missing.block ≡ None) }
         ensures needed { (h : Holding) → shows self.now (V.seen view.now) h → IfNeedBlock result (IsNeeded (V.seen view.now) h (λ i. i ≡ 8 * index / unit h) 0) }
         ensures damaged { (h : Holding) → shows self.now (V.seen view.now) h → OnlyDamaged result (IsBroken h) }

@@ -3,11 +3,13 @@ ghost use Rattle.std.specs.Prelude.{ℕ, ◌≡◌, ◌+◌, ◌*◌, ◌^◌, �
 
 use crate::{Pointer, PointerTable};
 use drafts::Draft;
-use glock_names::{CallFault, Step, View};
+use glock_names::{CallFault, Missing, Step, View};
+use linear_dirs::lock_of;
 use std::alloc::Global;
 use std::collections::VecDeque;
 
-/// A table whose pointers are kept in a vector, and in no block: for tests. Its directory is that with its dinode in this block.
+/// A table whose pointers are kept in a vector, for tests. No block has them; whoever asks for one is to have the block of the directory's
+/// dinode, as if that had them.
 #[derive(Drop)]
 pub struct VectorTable {
     pub directory: u64,
@@ -18,13 +20,13 @@ pub struct VectorTable {
 }
 
 impl PointerTable for VectorTable {
-    ghost use Rattle.pointer_tables.specs.Vectors.{pointer_in, IsNoPart, ShowsNone};
+    ghost use Rattle.pointer_tables.specs.Vectors.{pointer_in, pointers_stay, ShowsNone};
 
     ghost deep = { λ t. t.depth };
 
-    ghost pointer = { λ t v. pointer_in t };
+    ghost pointer = { λ t v. pointer_in t (v.block_at t.directory) };
 
-    ghost is_part = { λ t v. IsNoPart };
+    ghost is_part = { λ t v b. b ≡ t.directory };
 
     ghost shows = { λ t v. ShowsNone };
 
@@ -32,7 +34,15 @@ impl PointerTable for VectorTable {
         self.depth
     }
 
-    fn get<V: View>(&self, _view: &V, index: u32) -> Result<Step<Pointer>, CallFault> {
+    fn get<V: View>(&self, view: &V, index: u32) -> Result<Step<Pointer>, CallFault> {
+        if view.block(self.directory).is_none() {
+            return Ok(Step::NeedBlock(Missing {
+                lock: lock_of(self.directory),
+                block: self.directory,
+                plain: false,
+                from: self.directory,
+            }));
+        }
         Ok(Step::Is(Pointer {
             leaf: self.leaves[index as usize],
             from: self.directory,
@@ -63,5 +73,5 @@ impl PointerTable for VectorTable {
 
     ghost follows = { λ t v w h g shown own seen deep. absurd shown };
 
-    ghost stays = { λ t v w size parts i. refl };
+    ghost stays = { λ t v w size parts i. pointers_stay t (v.block_at t.directory) (w.block_at t.directory) i (parts t.directory refl) };
 }
