@@ -1,10 +1,12 @@
 // Leaves of a chain, as a view has them.
-ghost use Rattle.std.specs.Prelude.{ℕ, ◌≡◌, ◌≢◌, ◌≤◌, None, length};
+ghost use Rattle.std.specs.Prelude.{ℕ, ◌≡◌, ◌≢◌, ◌≤◌, None, IfOk, length, drop};
 ghost use Rattle.profile_limits.specs.Limits.{most_blocks};
-ghost use Rattle.gfs2_layout.specs.Holding.{Holding};
-ghost use Rattle.gfs2_layout.specs.Inode.{depth_in};
+ghost use Rattle.gfs2_layout.specs.Holding.{Holding, bytes_at};
+ghost use Rattle.gfs2_layout.specs.Inode.{depth_in, leaf_length};
+ghost use Rattle.gfs2_layout.specs.Structures.{leaf_of};
 ghost use Rattle.glock_names.specs.Steps.{IfIs, IfNeedBlock, OnlyDamaged};
 ghost use Rattle.glock_names.specs.Views.{HasBlock, IsOfView};
+ghost use Rattle.dinode_tree.specs.Shown.{IsAtBlock};
 ghost use Rattle.hash_dirs.specs.Shown.{IsNeededFor, IsShown, LeadsToLeaf};
 ghost use Rattle.hash_dirs.specs.Walking.{IsAreaOfBlock, IsLeafOf, IsSmall};
 ghost use Rattle.hash_dirs.specs.Broken.{IsBroken};
@@ -32,8 +34,15 @@ pub(crate) fn damaged(block: u64, rule: u16) -> CallFault
     CallFault::Damaged { block, rule }
 }
 
-// The leaf in a block with these bytes.
+// The leaf in a block with these bytes, of a directory whose table is so deep.
 fn read_leaf(bytes: &[u8], block: u64, depth: u16) -> Result<LeafAt<'_>, CallFault>
+    requires least { 512 ≤ length bytes.now }
+    requires most { length bytes.now ≤ 4096 }
+    ensures head { IfOk result (λ leaf. leaf.head ≡ leaf_of bytes.now) }
+    ensures area { IfOk result (λ leaf. leaf.area.now ≡ drop leaf_length bytes.now) }
+    ensures filled { IfOk result (λ leaf. IsAreaOfBlock leaf.area.now) }
+    ensures damaged { (h : Holding) (i from : ℕ) → bytes_at h block ≡ bytes.now → LeadsToLeaf h i from block → block ≢ 0 → depth ≡ depth_in h → OnlyDamaged result (IsBroken h) }
+    ensures own { OnlyDamaged result (IsAtBlock block) }
 {
     if !has_header(bytes, 6, 600) {
         return Err(damaged(block, 1));

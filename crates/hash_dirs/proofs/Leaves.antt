@@ -1,0 +1,87 @@
+-- What is told of a leaf that was looked at.
+use Rattle.std.proofs.Common.{◌≡◌, ◌≢◌, ℕ, ◌<◌, ◌≤◌, List, length, drop, Option, None, Some, Result, Ok, refl, sym, ap, subst, ◌∙◌, arith}
+use Rattle.std.specs.Prelude.{◌==◌, ◌+◌, IsSome}
+use Rattle.std.proofs.lemmas.Bool.{cond-true, eq-eqb}
+use Rattle.std.proofs.lemmas.Bool.Decides.{nat_tests}
+use Rattle.gfs2_layout.specs.Area.{IsArea}
+use Rattle.gfs2_layout.specs.Bytes.{u32_at}
+use Rattle.gfs2_layout.specs.Headers.{HasHeader}
+use Rattle.gfs2_layout.specs.Holding.{Holding, bytes_at}
+use Rattle.gfs2_layout.specs.Inode.{depth_in, leaf_in, leaf_length}
+use Rattle.gfs2_layout.specs.Structures.{answer, or_else, header_fault, records_fault, leaf_of, leaf_read}
+use Rattle.gfs2_layout.specs.declared.fault.LayoutFault.{LayoutFault}
+use Rattle.gfs2_layout.specs.declared.leaf.Leaf.{Leaf}
+use Rattle.gfs2_layout.proofs.HeaderLaws.{answer_ok}
+use Rattle.glock_names.specs.Steps.{IsDamage}
+use Rattle.glock_names.specs.declared.steps.CallFault.{CallFault}
+use Rattle.glock_names.specs.declared.steps.CallFault.TheVariants.{Damaged}
+use Rattle.glock_names.specs.declared.steps.CallFault.TheVariants.{NoMemory}
+use Rattle.glock_names.specs.Views.{Seen, HasBlock, IsOfView}
+use Rattle.dinode_tree.specs.Shown.{IsAtBlock}
+use Rattle.profile_limits.specs.Limits.{most_blocks}
+use Rattle.hash_dirs.specs.Broken.{IsBroken, no_header, records_format, too_deep, unfilled, no_leaf, beyond_device}
+use Rattle.hash_dirs.specs.Shown.{IsShown, LeadsToLeaf, by_pointer, by_leaf}
+use Rattle.pointer_tables.specs.Directories.{chain_head, chain_next}
+use Rattle.hash_dirs.specs.Walking.{IsLeafOf}
+use Rattle.hash_dirs.specs.declared.chains.LeafAt.{LeafAt}
+
+pub told : (h : Holding) (fault : CallFault) (b rule : ℕ) → fault ≡ Damaged b rule → IsBroken h rule b → IsDamage (IsBroken h) fault
+told h fault b rule is broken = subst (IsDamage (IsBroken h)) (sym is) broken
+
+-- ---- a leaf that is led to
+
+pub cell_there : (v : Seen) (dir : ℕ) (h : Holding) (i from x : ℕ) → IsShown v dir h → LeadsToLeaf h i from x → x ≢ 0 → IsSome (h.cell x)
+cell_there v dir h i _ _ shown (by_pointer low) some = shown.leaves i 0 _ (chain_head low) some
+cell_there v dir h i _ _ shown (by_leaf place x chain more) some = shown.leaves i (place + 1) _ (chain_next place x chain more) some
+
+pub bytes_there : (v : Seen) (dir : ℕ) (h : Holding) (i from x : ℕ) (bytes : List ℕ) → IsShown v dir h → LeadsToLeaf h i from x → x ≢ 0 → v.block_at x ≡ Some bytes → bytes_at h x ≡ bytes
+bytes_there v dir h i from x bytes shown leads some there = shown.inode.same x bytes (cell_there v dir h i from x shown leads some) there
+
+pub no_leaf_there : (h : Holding) (i from x : ℕ) → LeadsToLeaf h i from x → x ≡ 0 → IsBroken h 14 from
+no_leaf_there h i _ _ (by_pointer low) zero = no_leaf i low zero
+no_leaf_there h i _ _ (by_leaf place x chain some) zero = absurd (some zero)
+
+-- a fault at a block that the view has
+pub seen_at : (v : Seen) (fault : CallFault) (b : ℕ) → HasBlock v b → IsDamage (IsAtBlock b) fault → IsDamage (IsOfView v) fault
+seen_at v (Damaged block rule) b has at = subst (HasBlock v) (sym at) has
+seen_at v NoMemory b has at = at
+
+-- ---- the head
+
+header_well : (bytes : List ℕ) → leaf_length ≤ length bytes → HasHeader 6 600 bytes → header_fault leaf_length 6 600 bytes ≡ None
+header_well bytes long header = grind (arith, nat_tests, header.magic_is, header.kind_is, header.format_is)
+
+records_well : (bytes : List ℕ) → u32_at 28 bytes ≡ 1200 → records_fault bytes ≡ None
+records_well bytes is = cond-true _ _ _ (eq-eqb (u32_at 28 bytes) 1200 is)
+
+pub read_well : (bytes : List ℕ) → leaf_length ≤ length bytes → HasHeader 6 600 bytes → u32_at 28 bytes ≡ 1200 → leaf_read bytes ≡ Ok (leaf_of bytes)
+read_well bytes long header is =
+    ap (λ (o : Option LayoutFault). answer (or_else o (records_fault bytes)) (leaf_of bytes)) (header_well bytes long header)
+    ∙ ap (λ (o : Option LayoutFault). answer o (leaf_of bytes)) (records_well bytes is)
+
+pub head_is : (bytes : List ℕ) (head : Leaf) (result : Result Leaf LayoutFault) → result ≡ leaf_read bytes → result ≡ Ok head → head ≡ leaf_of bytes
+head_is bytes head result read is = sym (answer_ok (or_else (header_fault leaf_length 6 600 bytes) (records_fault bytes)) (leaf_of bytes) head (sym read ∙ is)).1
+
+-- ---- what is broken, of a leaf with these bytes
+
+module _ (h : Holding) (i from x : ℕ) (bytes : List ℕ) (at : bytes_at h x ≡ bytes) (leads : LeadsToLeaf h i from x) (some : x ≢ 0) (fault : CallFault) where
+  pub lacks_header : ¬ (HasHeader 6 600 bytes) → fault ≡ Damaged x 1 → IsDamage (IsBroken h) fault
+  lacks_header lacks is = told h fault x 1 is (no_header i from x leads some (subst (λ b. ¬ (HasHeader 6 600 b)) (sym at) lacks))
+
+  pub other_format : leaf_length ≤ length bytes → HasHeader 6 600 bytes → (result : Result Leaf LayoutFault) → result ≡ leaf_read bytes → ((l : Leaf) → result ≡ Ok l → ⊥) → fault ≡ Damaged x 14
+      → IsDamage (IsBroken h) fault
+  other_format long header result read wrong is =
+      told h fault x 14 is (records_format i from x leads some (λ e. wrong (leaf_of bytes) (read ∙ read_well bytes long header (ap (u32_at 28) (sym at) ∙ e))))
+
+  pub deeper : (depth : ℕ) (head : Leaf) → depth ≡ depth_in h → head ≡ leaf_of bytes → depth < head.depth → fault ≡ Damaged x 14 → IsDamage (IsBroken h) fault
+  deeper depth head depth_is head_is deep is =
+      let there : head.depth ≡ (leaf_in h x).depth = ap (λ (l : Leaf). l.depth) (head_is ∙ ap leaf_of (sym at)) in
+      told h fault x 14 is (too_deep i from x leads some (omega (arith, there, depth_is, deep)))
+
+  pub not_filled : (area : List ℕ) → area ≡ drop leaf_length bytes → ¬ (IsArea area) → fault ≡ Damaged x 9 → IsDamage (IsBroken h) fault
+  not_filled area area_is lacks is =
+      told h fault x 9 is (unfilled i from x leads some (subst (λ a. ¬ (IsArea a)) (area_is ∙ ap (drop leaf_length) (sym at)) lacks))
+
+-- what was read of it
+pub leaf_of_bytes : (h : Holding) (x : ℕ) (bytes : List ℕ) (leaf : LeafAt) → bytes_at h x ≡ bytes → leaf.head ≡ leaf_of bytes → leaf.area.now ≡ drop leaf_length bytes → IsLeafOf h x leaf
+leaf_of_bytes h x bytes leaf at head area = record { head = head ∙ ap leaf_of (sym at); area = area ∙ ap (drop leaf_length) (sym at) }
