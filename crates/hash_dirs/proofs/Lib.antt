@@ -1,2 +1,5 @@
 pub mod Returning
 pub mod Leaves
+pub mod Indexes
+pub mod Chained
+pub mod Named

@@ -1,8 +1,9 @@
 -- What a chain says of a name.
-use Rattle.std.specs.Prelude.{ℕ, ◌≡◌, ◌<◌, List, Option, None, Some}
+use Rattle.std.specs.Prelude.{ℕ, ◌≡◌, ◌^◌, ◌<◌, true, List, Option, None, Some}
 use Rattle.std.specs.Option.{option_map}
+use Rattle.crc_words.specs.Remainder.{crc32_of}
 use Rattle.gfs2_layout.specs.Holding.{Holding}
-use Rattle.gfs2_layout.specs.Inode.{leaf_area, records_of}
+use Rattle.gfs2_layout.specs.Inode.{is_hashed_in, leaf_area, records_of}
 use Rattle.gfs2_layout.specs.Records.{Record, record_named, records_in}
 use Rattle.glock_names.specs.declared.steps.Entry.{Entry}
 use Rattle.linear_dirs.specs.Shown.{entry_of}
@@ -35,4 +36,4 @@ IsFoundBy h name found = IsFoundAlong h (index_for h name) name found
 
 -- in a sound directory a name's chain says of it what the directory's records say
 abbrev pub ChainsTellNames : Type 0
-ChainsTellNames = (h : Holding) (name : List ℕ) (named : Option Record) → IsSound h → IsFirstNamed h (index_for h name) name named → named ≡ record_named (records_of h) name
+ChainsTellNames = (h : Holding) (name : List ℕ) (named : Option Record) → IsSound h → is_hashed_in h ≡ true → crc32_of name < 2 ^ 32 → IsFirstNamed h (index_for h name) name named → named ≡ record_named (records_of h) name

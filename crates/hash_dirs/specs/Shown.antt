@@ -2,6 +2,7 @@
 use Rattle.std.specs.Prelude.{ℕ, ◌≡◌, ◌≢◌, ◌+◌, ◌*◌, ◌/◌, ◌<◌, ◌≤◌, false, List, None, count_by}
 use Rattle.std.specs.Str.{bytes_eq}
 use Rattle.crc_words.specs.Remainder.{crc32_of}
+use Rattle.gfs2_layout.specs.Device.{IsBlockSize}
 use Rattle.gfs2_layout.specs.Holding.{Holding}
 use Rattle.gfs2_layout.specs.Inode.{IsInode, depth_in, entry, entry_block, leaf_in, records_of, table_count, top_bits, unit}
 use Rattle.gfs2_layout.specs.Records.{Record}
@@ -10,9 +11,10 @@ use Rattle.glock_names.specs.declared.steps.Missing.{Missing}
 use Rattle.dinode_tree.specs.Reading.{IsNeeded, inode_lock}
 pub use Rattle.pointer_tables.specs.Directories.{IsInChain, IsPlaced, IsShown}
 
--- A directory that is an inode sound in itself, its blocks in their places, no two of its records with one name. So is every hashed
+-- A directory with blocks of one of the four sizes that is an inode sound in itself, its blocks in their places, no two of its records with one name. So is every hashed
 -- directory of an image that stands for a tree.
 pub record IsSound (h : Holding) : Type 0 where
+  pub block_size : IsBlockSize h.size
   pub inode : IsInode h
   pub placed : IsPlaced h
   pub once : (name : List ℕ) → count_by (λ r. bytes_eq name r.name) (records_of h) ≤ 1

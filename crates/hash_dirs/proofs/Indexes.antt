@@ -1,0 +1,41 @@
+-- Hashes, their top bits, and indexes of a table.
+use Rattle.std.proofs.Common.{◌≡◌, ℕ, ◌+◌, ◌-◌, ◌*◌, ◌/◌, ◌^◌, ◌<◌, ◌≤◌, ◌⊎◌, inl, inr, refl, sym, ap, ◌∙◌, subst, arith}
+use Rattle.std.proofs.Math.Nat.{div-div-eq-div-mul, mul-div_cancel}
+use Rattle.std.proofs.Math.Pow.{pow_mono, pow-lt}
+use Rattle.std.proofs.lemmas.Nat.{pow-add, div_below}
+use Rattle.gfs2_layout.specs.Device.{IsBlockSize}
+use Rattle.gfs2_layout.specs.Inode.{top_bits}
+
+some_pow : (n : ℕ) → 0 < 2 ^ n
+some_pow n = let p : 2 ^ 0 ≤ 2 ^ n = pow_mono {i = 0} {j = n} (omega arith) in omega (arith, p)
+
+-- fewer top bits are the top bits of more
+pub bits_of_bits : (depth table hash : ℕ) → depth ≤ table → table ≤ 32 → top_bits table hash / 2 ^ (table - depth) ≡ top_bits depth hash
+bits_of_bits depth table hash low high =
+    div-div-eq-div-mul hash (2 ^ (32 - table)) (2 ^ (table - depth))
+    ∙ ap (λ n. hash / n) (sym (pow-add 2 (32 - table) (table - depth)) ∙ ap (λ n. 2 ^ n) (together low high))
+  where
+    together : depth ≤ table → table ≤ 32 → 32 - table + (table - depth) ≡ 32 - depth
+    together low high = omega arith
+
+-- the top bits of the first hash of some
+pub bits_of_first : (depth bits : ℕ) → top_bits depth (bits * 2 ^ (32 - depth)) ≡ bits
+bits_of_first depth bits = mul-div_cancel bits {n = 2 ^ (32 - depth)} (some_pow (32 - depth))
+
+-- an index is one of the table's
+pub bits_low : (depth hash : ℕ) → depth ≤ 32 → hash < 2 ^ 32 → top_bits depth hash < 2 ^ depth
+bits_low depth hash high small =
+    div_below hash (2 ^ (32 - depth)) (2 ^ depth) (some_pow (32 - depth)) (subst (λ n. hash < n) (ap (λ n. 2 ^ n) (whole high) ∙ pow-add 2 depth (32 - depth)) small)
+  where
+    whole : depth ≤ 32 → 32 ≡ depth + (32 - depth)
+    whole high = omega arith
+
+-- a table that isn't longer than one may be is no deeper than a hash has bits
+pub not_too_deep : (size depth : ℕ) → IsBlockSize size → 2 ^ depth ≤ 8 * size → depth ≤ 15
+not_too_deep size depth is low = elim (deep_or_not depth) [ inl fits ↦ fits | inr deep ↦ absurd (let p : 2 ^ 16 ≤ 2 ^ depth = pow_mono {i = 16} {j = depth} deep in omega (arith, p, low, most size is)) ]
+  where
+    deep_or_not : (n : ℕ) → (n ≤ 15) ⊎ (16 ≤ n)
+    deep_or_not n = grind arith
+
+    most : (n : ℕ) → IsBlockSize n → n ≤ 4096
+    most n is = omega arith
