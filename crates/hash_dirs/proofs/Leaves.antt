@@ -7,7 +7,7 @@ use Rattle.gfs2_layout.specs.Area.{IsArea}
 use Rattle.gfs2_layout.specs.Bytes.{u32_at}
 use Rattle.gfs2_layout.specs.Headers.{HasHeader}
 use Rattle.gfs2_layout.specs.Holding.{Holding, bytes_at}
-use Rattle.gfs2_layout.specs.Inode.{depth_in, leaf_in, leaf_length}
+use Rattle.gfs2_layout.specs.Inode.{depth_in, entry, entry_block, leaf_in, leaf_length, table_count}
 use Rattle.gfs2_layout.specs.Structures.{answer, or_else, header_fault, records_fault, leaf_of, leaf_read}
 use Rattle.gfs2_layout.specs.declared.fault.LayoutFault.{LayoutFault}
 use Rattle.gfs2_layout.specs.declared.leaf.Leaf.{Leaf}
@@ -18,15 +18,30 @@ use Rattle.glock_names.specs.declared.steps.CallFault.TheVariants.{Damaged}
 use Rattle.glock_names.specs.declared.steps.CallFault.TheVariants.{NoMemory}
 use Rattle.glock_names.specs.Views.{Seen, HasBlock, IsOfView}
 use Rattle.dinode_tree.specs.Shown.{IsAtBlock}
+use Rattle.dinode_tree.specs.Broken as inode
+use Rattle.pointer_tables.specs.declared.pointer.Pointer.{Pointer}
 use Rattle.profile_limits.specs.Limits.{most_blocks}
-use Rattle.hash_dirs.specs.Broken.{IsBroken, no_header, records_format, too_deep, unfilled, no_leaf, beyond_device}
+use Rattle.hash_dirs.specs.Broken.{IsBroken, no_header, records_format, too_deep, unfilled, no_leaf, beyond_device, of_inode}
 use Rattle.hash_dirs.specs.Shown.{IsShown, LeadsToLeaf, by_pointer, by_leaf}
 use Rattle.pointer_tables.specs.Directories.{chain_head, chain_next}
-use Rattle.hash_dirs.specs.Walking.{IsLeafOf}
+use Rattle.hash_dirs.specs.Walking.{IsHead, IsLeafOf}
 use Rattle.hash_dirs.specs.declared.chains.LeafAt.{LeafAt}
 
 pub told : (h : Holding) (fault : CallFault) (b rule : ℕ) → fault ≡ Damaged b rule → IsBroken h rule b → IsDamage (IsBroken h) fault
 told h fault b rule is broken = subst (IsDamage (IsBroken h)) (sym is) broken
+
+-- what breaks a rule of inodes breaks one of hashed directories
+pub damage_of : (h : Holding) (fault : CallFault) → IsDamage (inode.IsBroken h) fault → IsDamage (IsBroken h) fault
+damage_of h (Damaged block rule) broken = of_inode rule block broken
+damage_of h NoMemory broken = broken
+
+-- a pointer that the table gave for an index
+pub head_of : (h : Holding) (index i : ℕ) (p : Pointer) → index ≡ i → index < table_count h → (p.leaf ≡ entry h index) × (p.from ≡ entry_block h index) → IsHead h i p
+head_of h index i p same low is = record {
+  low = subst (λ n. n < table_count h) same low;
+  leaf = is.0 ∙ ap (entry h) same;
+  from = is.1 ∙ ap (entry_block h) same;
+}
 
 -- ---- a leaf that is led to
 

@@ -3,3 +3,4 @@ pub mod Leaves
 pub mod Indexes
 pub mod Chained
 pub mod Named
+pub mod Along

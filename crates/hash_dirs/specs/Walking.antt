@@ -40,3 +40,9 @@ pub record IsLinkAt (h : Holding) (i place : ℕ) (p : Pointer) : Type 0 where
 -- in each directory that the view shows, and of whose table the head is a pointer
 abbrev pub OfEach : Seen → ℕ → Pointer → (Holding → ℕ → Type 0) → Type 0
 OfEach v dir head P = (h : Holding) (i : ℕ) → IsShown v dir h → IsHead h i head → P h i
+
+-- so far no leaf of the chain has the name, and the link leads on
+pub record IsAlong (v : Seen) (dir : ℕ) (head : Pointer) (name : List ℕ) (place : ℕ) (link : Pointer) : Type 0 where
+  pub from : HasBlock v link.from
+  pub at : OfEach v dir head (λ h i. IsLinkAt h i place link)
+  pub later : OfEach v dir head (λ h i. IsNamedLater h i name place)
