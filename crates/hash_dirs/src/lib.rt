@@ -2,8 +2,14 @@
 #![tactic(auto)]
 
 mod chains;
+mod inserting;
 mod laws;
+mod listing;
 mod looking;
+mod removing;
 
+pub use inserting::{insert, need_insert, split, to_hashed};
 pub use laws::chains_tell_names;
+pub use listing::names;
 pub use looking::look;
+pub use removing::remove;
