@@ -1,6 +1,6 @@
 -- Hashes, their top bits, and indexes of a table.
 use Rattle.std.proofs.Common.{◌≡◌, ℕ, ◌+◌, ◌-◌, ◌*◌, ◌/◌, ◌^◌, ◌<◌, ◌≤◌, ◌⊎◌, inl, inr, refl, sym, ap, ◌∙◌, subst, arith}
-use Rattle.std.proofs.Math.Nat.{div-div-eq-div-mul, mul-div_cancel}
+use Rattle.std.proofs.Math.Nat.{div-div-eq-div-mul, mul-div_cancel, mul-le-mul_right}
 use Rattle.std.proofs.Math.Pow.{pow_mono, pow-lt}
 use Rattle.std.proofs.lemmas.Nat.{pow-add, div_below}
 use Rattle.gfs2_layout.specs.Device.{IsBlockSize}
@@ -39,3 +39,15 @@ not_too_deep size depth is low = elim (deep_or_not depth) [ inl fits ↦ fits | 
 
     most : (n : ℕ) → IsBlockSize n → n ≤ 4096
     most n is = omega arith
+
+-- behind the indexes that share so many top bits with one there is an index at most the table's end
+pub run_within : (index table depth : ℕ) → depth ≤ table → index < 2 ^ table → (index / 2 ^ (table - depth) + 1) * 2 ^ (table - depth) ≤ 2 ^ table
+run_within index table depth low small =
+    let run = 2 ^ (table - depth) in
+    let all : 2 ^ table ≡ 2 ^ depth * run = ap (λ n. 2 ^ n) (whole low) ∙ pow-add 2 depth (table - depth) in
+    let bits : index / run < 2 ^ depth = div_below index run (2 ^ depth) (some_pow (table - depth)) (subst (λ n. index < n) all small) in
+    let le : (index / run + 1) * run ≤ 2 ^ depth * run = mul-le-mul_right run (omega (arith, bits)) in
+    omega (arith, le, all)
+  where
+    whole : depth ≤ table → table ≡ depth + (table - depth)
+    whole low = omega arith

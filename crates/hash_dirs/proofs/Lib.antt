@@ -4,3 +4,4 @@ pub mod Indexes
 pub mod Chained
 pub mod Named
 pub mod Along
+pub mod Listed

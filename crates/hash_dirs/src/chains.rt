@@ -41,6 +41,7 @@ fn read_leaf(bytes: &[u8], block: u64, depth: u16) -> Result<LeafAt<'_>, CallFau
     ensures head { IfOk result (λ leaf. leaf.head ≡ leaf_of bytes.now) }
     ensures area { IfOk result (λ leaf. leaf.area.now ≡ drop leaf_length bytes.now) }
     ensures filled { IfOk result (λ leaf. IsAreaOfBlock leaf.area.now) }
+    ensures low { IfOk result (λ leaf. leaf.head.depth ≤ depth) }
     ensures damaged { (h : Holding) (i from : ℕ) → bytes_at h block ≡ bytes.now → LeadsToLeaf h i from block → block ≢ 0 → depth ≡ depth_in h → OnlyDamaged result (IsBroken h) }
     ensures own { OnlyDamaged result (IsAtBlock block) }
 {
@@ -71,6 +72,7 @@ pub(crate) fn leaf_at<'a, V: View>(
     requires from { HasBlock (V.seen view.now) link.now.from }
     ensures read { (h : Holding) (i : ℕ) → IsShown (V.seen view.now) dir h → LeadsToLeaf h i link.now.from link.now.leaf → IfIs result (IsLeafOf h link.now.leaf) }
     ensures area { IfIs result (λ leaf. IsAreaOfBlock leaf.area.now) }
+    ensures low { IfIs result (λ leaf. leaf.head.depth ≤ depth) }
     ensures small { IfIs result (λ leaf. IsSmall link.now.leaf) }
     ensures there { IfIs result (λ leaf. HasBlock (V.seen view.now) link.now.leaf) }
     ensures needed { (h : Holding) (i : ℕ) → IsShown (V.seen view.now) dir h → LeadsToLeaf h i link.now.from link.now.leaf → IfNeedBlock result (IsNeededFor (V.seen view.now) h (λ k. k ≡ i)) }
