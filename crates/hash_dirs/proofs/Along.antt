@@ -30,7 +30,7 @@ module _ (h : Holding) (i : ℕ) where
   chain_one place x y a b = chain_is place x a ∙ sym (chain_is place y b)
 
   -- all places before one are there
-  there_before : (place x : ℕ) → IsInChain h i place x → (k : ℕ) → k ≤ place → IsInChain h i k (leaf_on h i k)
+  pub there_before : (place x : ℕ) → IsInChain h i place x → (k : ℕ) → k ≤ place → IsInChain h i k (leaf_on h i k)
   unfolding leaf_on
   there_before _ _ (chain_head low) k le = subst (λ n. IsInChain h i n (leaf_on h i n)) (let z : 0 ≡ k = omega arith in z) (chain_head low)
   there_before _ _ (chain_next place x chain more) k le = elim (last k place le) [
@@ -67,7 +67,7 @@ module _ (h : Holding) (i : ℕ) where
       (place, omega arith, subst (IsInChain h i place) (round ∙ ap (leaf_on h i) last ∙ sym (chain_is n x chain)) (at place (omega arith)))
 
   -- behind a last leaf there is none
-  ended : (place x earlier y : ℕ) → IsInChain h i place x → (leaf_in h x).next ≡ 0 → place < earlier → IsInChain h i earlier y → ⊥
+  pub ended : (place x earlier y : ℕ) → IsInChain h i place x → (leaf_in h x).next ≡ 0 → place < earlier → IsInChain h i earlier y → ⊥
   ended place x _ _ chain last before (chain_head low) = let no : place < 0 = before in omega arith
   ended place x _ _ chain last before (chain_next q y more_chain more) = elim (same_or place q before) [
       inl same ↦ more (ap (λ z. (leaf_in h z).next) (chain_one q y x more_chain (subst (λ n. IsInChain h i n x) same chain)) ∙ last)

@@ -14,7 +14,7 @@ use Rattle.hash_dirs.proofs.Indexes.{bits_of_bits, bits_of_first, bits_low, not_
 some_same : {X : Type 0} (x y : X) → Some x ≡ Some y → x ≡ y
 some_same x y e = cc
 
-same_hash : (a b p q : ℕ) → Some (InChain a p) ≡ Some (InChain b q) → (a ≡ b) × (p ≡ q)
+pub same_hash : (a b p q : ℕ) → Some (InChain a p) ≡ Some (InChain b q) → (a ≡ b) × (p ≡ q)
 same_hash a b p q e = (cc, cc)
 
 cell_some : (c : Option Cell) (p : Part) → cell_part c ≡ Some p → IsSome c
@@ -40,12 +40,12 @@ leaf_part (Some (Pointed b k level first)) e = absurd (no e)
 leaf_part (Some (InChain hash place)) e = (hash, place, refl)
 
 module _ (h : Holding) (sound : IsSound h) (hashed : is_hashed_in h ≡ true) where
-  rules : IsHashed h
+  pub rules : IsHashed h
   rules = sound.inode.hashed hashed
 
   -- ---- leaves and their parts
 
-  some_block : (x : ℕ) (p : Part) → part_at h x ≡ Some p → x ≢ 0
+  pub some_block : (x : ℕ) (p : Part) → part_at h x ≡ Some p → x ≢ 0
   some_block x p part is_zero = no (sym sound.placed.nobody ∙ ap (part_at h) (sym is_zero) ∙ part)
     where
       no : ◌≡◌ {A = Option Part} None (Some p) → ⊥
@@ -56,10 +56,13 @@ module _ (h : Holding) (sound : IsSound h) (hashed : is_hashed_in h ≡ true) wh
   in_chain i _ _ (chain_head low) = rules.leads i low
   in_chain i _ _ (chain_next place x chain more) = (rules.next x (first_hash h i) place (in_chain i place x chain) more).part
 
+  pub inside : (x hash place : ℕ) → part_at h x ≡ Some (InChain hash place) → x < h.count
+  inside x hash place part = sound.placed.inside x (cell_some (h.cell x) (InChain hash place) part)
+
   pub in_leaves : (x hash place : ℕ) → part_at h x ≡ Some (InChain hash place) → IsIn x (leaves_of h)
   in_leaves x hash place part =
       in_filter (λ y. is_leaf_part (part_at h y)) x (range_with_len 0 h.count)
-      (in_range 0 h.count x (omega arith) (let low : x < h.count = sound.placed.inside x (cell_some (h.cell x) (InChain hash place) part) in omega (arith, low)))
+      (in_range 0 h.count x (omega arith) (let low : x < h.count = inside x hash place part in omega (arith, low)))
       (ap is_leaf_part part)
 
   pub of_leaves : (x : ℕ) → IsIn x (leaves_of h) → (hash place : ℕ) × (part_at h x ≡ Some (InChain hash place))
@@ -67,13 +70,13 @@ module _ (h : Holding) (sound : IsSound h) (hashed : is_hashed_in h ≡ true) wh
 
   -- ---- a leaf is in the chain of each pointer that leads to the first of its own
 
-  record Headed (x place hash : ℕ) : Type 0 where
-    first : ℕ
-    part : part_at h first ≡ Some (InChain hash 0)
-    depth : (leaf_in h x).depth ≡ (leaf_in h first).depth
-    chain : (i : ℕ) → i < table_count h → entry h i ≡ first → IsInChain h i place x
+  pub record Headed (x place hash : ℕ) : Type 0 where
+    pub first : ℕ
+    pub part : part_at h first ≡ Some (InChain hash 0)
+    pub depth : (leaf_in h x).depth ≡ (leaf_in h first).depth
+    pub chain : (i : ℕ) → i < table_count h → entry h i ≡ first → IsInChain h i place x
 
-  headed : (place x hash : ℕ) → part_at h x ≡ Some (InChain hash place) → Headed x place hash
+  pub headed : (place x hash : ℕ) → part_at h x ≡ Some (InChain hash place) → Headed x place hash
   headed zero x hash part = record { first = x; part = part; depth = refl; chain = λ i low leads. subst (IsInChain h i 0) leads (chain_head low) }
   headed (suc place) x hash part =
       let before = rules.chained x hash place part in

@@ -1,12 +1,12 @@
 -- Hashes, their top bits, and indexes of a table.
-use Rattle.std.proofs.Common.{◌≡◌, ℕ, ◌+◌, ◌-◌, ◌*◌, ◌/◌, ◌^◌, ◌<◌, ◌≤◌, ◌⊎◌, inl, inr, refl, sym, ap, ◌∙◌, subst, arith}
-use Rattle.std.proofs.Math.Nat.{div-div-eq-div-mul, mul-div_cancel, mul-le-mul_right}
+use Rattle.std.proofs.Common.{◌≡◌, ℕ, ◌+◌, ◌-◌, ◌*◌, ◌/◌, ◌%◌, ◌^◌, ◌<◌, ◌≤◌, ◌⊎◌, inl, inr, refl, sym, ap, ◌∙◌, subst, arith}
+use Rattle.std.proofs.Math.Nat.{div-div-eq-div-mul, lt-div-mul-add, mod-eq_of_lt, mul-div_cancel, mul-le-mul_right}
 use Rattle.std.proofs.Math.Pow.{pow_mono, pow-lt}
 use Rattle.std.proofs.lemmas.Nat.{pow-add, div_below}
 use Rattle.gfs2_layout.specs.Device.{IsBlockSize}
 use Rattle.gfs2_layout.specs.Inode.{top_bits}
 
-some_pow : (n : ℕ) → 0 < 2 ^ n
+pub some_pow : (n : ℕ) → 0 < 2 ^ n
 some_pow n = let p : 2 ^ 0 ≤ 2 ^ n = pow_mono {i = 0} {j = n} (omega arith) in omega (arith, p)
 
 -- fewer top bits are the top bits of more
@@ -51,3 +51,18 @@ run_within index table depth low small =
   where
     whole : depth ≤ table → table ≡ depth + (table - depth)
     whole low = omega arith
+
+-- such an index is that which is computed
+pub run_end : (index table depth : ℕ) → depth ≤ table → table ≤ 15 → index < 2 ^ table
+    → (index / 2 ^ (table - depth) + 1) * 2 ^ (table - depth) % 4294967296 ≡ (index / 2 ^ (table - depth) + 1) * 2 ^ (table - depth)
+run_end index table depth low high small =
+    let within : (index / 2 ^ (table - depth) + 1) * 2 ^ (table - depth) ≤ 2 ^ table = run_within index table depth low small in
+    let most : 2 ^ table ≤ 2 ^ 15 = pow_mono {i = table} {j = 15} high in
+    mod-eq_of_lt (omega (arith, within, most))
+
+pub run_further : (index table depth : ℕ) → index < (index / 2 ^ (table - depth) + 1) * 2 ^ (table - depth)
+run_further index table depth =
+    let run = 2 ^ (table - depth) in
+    let over : index < index / run * run + run = lt-div-mul-add (some_pow (table - depth)) in
+    let e : (index / run + 1) * run ≡ index / run * run + run = omega arith in
+    omega (arith, over, e)

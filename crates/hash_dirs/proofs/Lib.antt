@@ -5,3 +5,5 @@ pub mod Chained
 pub mod Named
 pub mod Along
 pub mod Listed
+pub mod Permuted
+pub mod Passed
