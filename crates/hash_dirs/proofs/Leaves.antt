@@ -22,7 +22,8 @@ use Rattle.dinode_tree.specs.Broken as inode
 use Rattle.pointer_tables.specs.declared.pointer.Pointer.{Pointer}
 use Rattle.profile_limits.specs.Limits.{most_blocks}
 use Rattle.hash_dirs.specs.Broken.{IsBroken, no_header, records_format, too_deep, unfilled, no_leaf, beyond_device, of_inode}
-use Rattle.hash_dirs.specs.Shown.{IsShown, LeadsToLeaf, by_pointer, by_leaf}
+use Rattle.hash_dirs.specs.Shown.{IsNeededFor, IsShown, LeadsToLeaf, a_leaf, by_pointer, by_leaf, of_table}
+use Rattle.glock_names.specs.declared.steps.Missing.{Missing}
 use Rattle.pointer_tables.specs.Directories.{chain_head, chain_next}
 use Rattle.hash_dirs.specs.Walking.{IsHead, IsLeafOf}
 use Rattle.hash_dirs.specs.declared.chains.LeafAt.{LeafAt}
@@ -34,6 +35,11 @@ told h fault b rule is broken = subst (IsDamage (IsBroken h)) (sym is) broken
 pub damage_of : (h : Holding) (fault : CallFault) → IsDamage (inode.IsBroken h) fault → IsDamage (IsBroken h) fault
 damage_of h (Damaged block rule) broken = of_inode rule block broken
 damage_of h NoMemory broken = broken
+
+-- what is needed for one pointer is needed for all
+pub needed_within : (v : Seen) (h : Holding) (i : ℕ) (wanted : ℕ → Type 0) (m : Missing) → wanted i → IsNeededFor v h (λ k. k ≡ i) m → IsNeededFor v h wanted m
+needed_within v h i wanted m is (of_table k same needed) = of_table k (subst wanted (sym same) is) needed
+needed_within v h i wanted m is (a_leaf k same leads lock plain absent) = a_leaf k (subst wanted (sym same) is) leads lock plain absent
 
 -- a pointer that the table gave for an index
 pub head_of : (h : Holding) (index i : ℕ) (p : Pointer) → index ≡ i → index < table_count h → (p.leaf ≡ entry h index) × (p.from ≡ entry_block h index) → IsHead h i p

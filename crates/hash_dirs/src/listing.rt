@@ -102,6 +102,14 @@ fn add_chain<V: View>(
     Err(damaged(link.from, 15))
 }
 
+// How many pointers a table of this depth has.
+fn pointers_in(depth: u16) -> u32
+    requires { depth ≤ 15 }
+    ensures { result ≡ 2 ^ depth }
+{
+    1 << depth
+}
+
 // The first index behind those that share the chain of a leaf of this depth with this one.
 fn behind_run(index: u32, table: u16, depth: u16) -> u32
     requires table { table ≤ 15 }
@@ -132,7 +140,7 @@ pub fn names<V: View, T: PointerTable>(
     ensures kept { IfDamaged result (IsOfView (V.seen view.now)) }
 {
     let depth = table.depth();
-    let count = 1u32 << depth;
+    let count = pointers_in(depth);
     let mut names = Vec::new(alloc);
     let mut index = 0;
     while index < count {
