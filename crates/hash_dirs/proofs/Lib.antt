@@ -7,3 +7,6 @@ pub mod Along
 pub mod Listed
 pub mod Permuted
 pub mod Passed
+pub mod Anew
+pub mod Still
+pub mod Regrouped
