@@ -5,3 +5,4 @@ pub mod Exchanging
 pub mod Inserting
 pub mod Walking
 pub mod Becoming
+pub mod Spots

@@ -1,11 +1,12 @@
 -- What the code that goes along a chain holds, as what it stands for.
-use Rattle.std.specs.Prelude.{ℕ, zero, suc, ◌≡◌, ◌≢◌, ◌+◌, ◌-◌, ◌*◌, ◌^◌, ◌<◌, ◌≤◌, ◌==◌, ◌&&◌, ◌||◌, Bool, false, nat_lt, List, ◌++◌, length, filter, flat_map, Option, Some}
+use Rattle.std.specs.Prelude.{ℕ, zero, suc, ◌≡◌, ◌≢◌, ◌+◌, ◌-◌, ◌*◌, ◌^◌, ◌<◌, ◌≤◌, ◌==◌, ◌&&◌, ◌||◌, Bool, false, nat_lt, List, ◌++◌, length, drop, filter, flat_map, Option, Some}
 use Rattle.std.specs.List.{range_with_len}
 use Rattle.std.specs.List.Sorted.{IsPermutation}
 use Rattle.profile_limits.specs.Limits.{most_blocks}
 use Rattle.gfs2_layout.specs.Area.{IsArea}
 use Rattle.gfs2_layout.specs.Holding.{Holding, Part, InChain, part_at}
-use Rattle.gfs2_layout.specs.Inode.{depth_in, entry, entry_block, leaf_area, leaf_in, table_count}
+use Rattle.gfs2_layout.specs.Inode.{depth_in, entry, entry_block, leaf_area, leaf_in, leaf_length, table_count}
+use Rattle.gfs2_layout.specs.Structures.{leaf_of}
 use Rattle.gfs2_layout.specs.Records.{names_of, records_in}
 use Rattle.glock_names.specs.Views.{Seen, HasBlock}
 use Rattle.hash_dirs.specs.Finding.{IsNamedLater}
@@ -23,6 +24,14 @@ pub record IsHead (h : Holding) (i : ℕ) (p : Pointer) : Type 0 where
 pub record IsLeafOf (h : Holding) (x : ℕ) (leaf : LeafAt) : Type 0 where
   pub head : leaf.head ≡ leaf_in h x
   pub area : leaf.area.now ≡ leaf_area h x
+
+-- this was read of the block as the view has it
+pub record IsLeafIn (v : Seen) (x : ℕ) (leaf : LeafAt) : Type 0 where
+  pub bytes : List ℕ
+  pub there : v.block_at x ≡ Some bytes
+  pub head : leaf.head ≡ leaf_of bytes
+  pub area : leaf.area.now ≡ drop leaf_length bytes
+  pub large : leaf_length ≤ length bytes
 
 -- an area of a block
 pub record IsAreaOfBlock (area : List ℕ) : Type 0 where

@@ -8,7 +8,7 @@ ghost use Rattle.glock_names.specs.Steps.{IfIs, IfNeedBlock, OnlyDamaged};
 ghost use Rattle.glock_names.specs.Views.{HasBlock, IsOfView};
 ghost use Rattle.dinode_tree.specs.Shown.{IsAtBlock};
 ghost use Rattle.hash_dirs.specs.Shown.{IsNeededFor, IsShown, LeadsToLeaf};
-ghost use Rattle.hash_dirs.specs.Walking.{IsAreaOfBlock, IsLeafOf, IsSmall};
+ghost use Rattle.hash_dirs.specs.Walking.{IsAreaOfBlock, IsLeafIn, IsLeafOf, IsSmall};
 ghost use Rattle.hash_dirs.specs.Broken.{IsBroken};
 
 use gfs2_layout::{Leaf, has_header, is_area};
@@ -72,6 +72,7 @@ pub(crate) fn leaf_at<'a, V: View>(
     requires from { HasBlock (V.seen view.now) link.now.from }
     ensures read { (h : Holding) (i : ℕ) → IsShown (V.seen view.now) dir h → LeadsToLeaf h i link.now.from link.now.leaf → IfIs result (IsLeafOf h link.now.leaf) }
     ensures area { IfIs result (λ leaf. IsAreaOfBlock leaf.area.now) }
+    ensures seen { IfIs result (IsLeafIn (V.seen view.now) link.now.leaf) }
     ensures low { IfIs result (λ leaf. leaf.head.depth ≤ depth) }
     ensures small { IfIs result (λ leaf. IsSmall link.now.leaf) }
     ensures there { IfIs result (λ leaf. HasBlock (V.seen view.now) link.now.leaf) }

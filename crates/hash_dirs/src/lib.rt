@@ -2,6 +2,7 @@
 #![tactic(auto)]
 
 mod chains;
+mod finding;
 mod inserting;
 mod laws;
 mod listing;

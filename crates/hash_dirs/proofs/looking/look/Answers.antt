@@ -18,9 +18,9 @@ returns-in-NeedBlock-clause-needed g c h shown shows =
     let index : c.index_of.result ≡ index_for h c.args.name.now = c.index_of.ensures.value ∙ ap (λ n. top_bits n c.crc32.result) deep ∙ ap (top_bits (depth_in h)) c.crc32.ensures in
     of_table c.index_of.result index (needed_at _ _ _ c.in-NeedBlock.is (c.in_ok-head.ensures.needed h shows))
 
-pub returns-clause-needed : goal.returns-clause-needed
-returns-clause-needed g c h shown shows =
+pub returns-in-NeedBlock-2-clause-needed : goal.returns-in-NeedBlock-2-clause-needed
+returns-in-NeedBlock-2-clause-needed g c h shown shows =
     let deep : c.depth-depth.result ≡ depth_in h = c.depth-depth.ensures.value ∙ g.met.T.PointerTable.deep_in c.args.table.now (g.V.View.seen c.args.view.now) h shows in
     let index : c.index_of.result ≡ index_for h c.args.name.now = c.index_of.ensures.value ∙ ap (λ n. top_bits n c.crc32.result) deep ∙ ap (top_bits (depth_in h)) c.crc32.ensures in
     let low : c.index_of.result < 2 ^ depth_in h = subst (λ n. c.index_of.result < 2 ^ n) deep c.index_of.ensures.low in
-    c.find_along.ensures.needed h (index_for h c.args.name.now) shown (head_of h c.index_of.result (index_for h c.args.name.now) c.in-Is.head index low (answer_at _ _ _ c.in-Is.is (c.in_ok-head.ensures.found h shows)))
+    needed_at _ _ _ c.in-NeedBlock-2.is (c.in_ok-found.ensures.needed h (index_for h c.args.name.now) shown (head_of h c.index_of.result (index_for h c.args.name.now) c.in-Is.head index low (answer_at _ _ _ c.in-Is.is (c.in_ok-head.ensures.found h shows))))

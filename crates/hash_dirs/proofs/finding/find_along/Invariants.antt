@@ -1,5 +1,5 @@
 use Rattle.hash_dirs.specs.Walking.{IsAlong, IsNameless}
-use Rattle.hash_dirs.proofs.looking.find_along.Given as goal
+use Rattle.hash_dirs.proofs.finding.find_along.Given as goal
 
 abbrev pub invariant-loop-place : goal.invariant-loop-place
 invariant-loop-place g l = record {
