@@ -10,3 +10,4 @@ pub mod Passed
 pub mod Anew
 pub mod Still
 pub mod Regrouped
+pub mod Cuts

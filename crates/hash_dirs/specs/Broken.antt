@@ -22,6 +22,8 @@ pub data IsBroken (h : Holding) : ℕ → ℕ → Type 0 where
   unfilled : (i from x : ℕ) → LeadsToLeaf h i from x → x ≢ 0 → ¬ (IsArea (leaf_area h x)) → IsBroken h 9 x
   no_name : (i from x : ℕ) (r : Record) → LeadsToLeaf h i from x → x ≢ 0 → Contains (records_in (leaf_area h x)) r → is_dots r.name ≡ false → ¬ (IsName r.name) → IsBroken h 9 x
   -- 12: the dinode counts other records, or other links, than there are
+  no_entries : (i from x : ℕ) (r : Record) → LeadsToLeaf h i from x → x ≢ 0 → Contains (records_in (leaf_area h x)) r → (dinode_in h).entries ≡ 0 → IsBroken h 12 h.own
+  no_links : (dinode_in h).nlink ≡ 0 → IsBroken h 12 h.own
   wrong_entries : (dinode_in h).entries ≢ length (records_of h) → IsBroken h 12 h.own
   wrong_links : (dinode_in h).nlink ≢ 2 + directory_count (records_of h) → IsBroken h 12 h.own
   -- 13: the table's depth is below the first or above the greatest, or the size isn't that of the table

@@ -17,8 +17,8 @@ use linear_dirs::lock_of;
 use pointer_tables::Pointer;
 use profile_limits::MOST_BLOCKS;
 
-// Where the records of a leaf begin.
-const IN_LEAF: usize = 104;
+/// Where the records of a leaf begin.
+pub(crate) const IN_LEAF: usize = 104;
 
 /// A leaf: what its head says, and the records behind it.
 #[derive(Clone, Copy)]
