@@ -17,7 +17,7 @@ some_same x y e = cc
 pub same_hash : (a b p q : ℕ) → Some (InChain a p) ≡ Some (InChain b q) → (a ≡ b) × (p ≡ q)
 same_hash a b p q e = (cc, cc)
 
-cell_some : (c : Option Cell) (p : Part) → cell_part c ≡ Some p → IsSome c
+pub cell_some : (c : Option Cell) (p : Part) → cell_part c ≡ Some p → IsSome c
 cell_some None p e = absurd (no e)
   where
     no : ◌≡◌ {A = Option Part} None (Some p) → ⊥

@@ -1,18 +1,21 @@
 -- What is told of a leaf that was looked at.
-use Rattle.std.proofs.Common.{◌≡◌, ◌≢◌, ℕ, ◌<◌, ◌≤◌, List, length, drop, Option, None, Some, Result, Ok, refl, sym, ap, subst, ◌∙◌, arith}
-use Rattle.std.specs.Prelude.{◌==◌, ◌+◌, IsSome}
+use Rattle.std.proofs.Common.{◌≡◌, ◌≢◌, ℕ, ◌^◌, ◌<◌, ◌≤◌, List, length, drop, Option, None, Some, Result, Ok, refl, sym, ap, subst, ◌∙◌, arith}
+use Rattle.std.specs.Prelude.{◌==◌, ◌+◌, IfSome, IsSome}
 use Rattle.std.proofs.lemmas.Bool.{cond-true, eq-eqb}
 use Rattle.std.proofs.lemmas.Bool.Decides.{nat_tests}
 use Rattle.gfs2_layout.specs.Area.{IsArea}
 use Rattle.gfs2_layout.specs.Bytes.{u32_at}
 use Rattle.gfs2_layout.specs.Headers.{HasHeader}
 use Rattle.gfs2_layout.specs.Holding.{Holding, bytes_at}
-use Rattle.gfs2_layout.specs.Inode.{depth_in, entry, entry_block, leaf_in, leaf_length, table_count}
+use Rattle.gfs2_layout.specs.Inode.{depth_in, entry, entry_block, leaf_in, leaf_length, table_count, top_bits}
 use Rattle.gfs2_layout.specs.Structures.{answer, or_else, header_fault, records_fault, leaf_of, leaf_read}
 use Rattle.gfs2_layout.specs.declared.fault.LayoutFault.{LayoutFault}
 use Rattle.gfs2_layout.specs.declared.leaf.Leaf.{Leaf}
 use Rattle.gfs2_layout.proofs.HeaderLaws.{answer_ok}
-use Rattle.glock_names.specs.Steps.{IsDamage}
+use Rattle.glock_names.specs.Steps.{IfIs, IsDamage}
+use Rattle.glock_names.specs.declared.steps.Step.{Step}
+use Rattle.glock_names.specs.declared.steps.Step.TheVariants.{Is}
+use Rattle.glock_names.proofs.StepLaws.{answer_at}
 use Rattle.glock_names.specs.declared.steps.CallFault.{CallFault}
 use Rattle.glock_names.specs.declared.steps.CallFault.TheVariants.{Damaged}
 use Rattle.glock_names.specs.declared.steps.CallFault.TheVariants.{NoMemory}
@@ -22,9 +25,12 @@ use Rattle.dinode_tree.specs.Broken as inode
 use Rattle.pointer_tables.specs.declared.pointer.Pointer.{Pointer}
 use Rattle.profile_limits.specs.Limits.{most_blocks}
 use Rattle.hash_dirs.specs.Broken.{IsBroken, no_header, records_format, too_deep, unfilled, no_leaf, beyond_device, of_inode}
-use Rattle.hash_dirs.specs.Shown.{IsNeededFor, IsShown, LeadsToLeaf, a_leaf, by_pointer, by_leaf, of_table}
+use Rattle.hash_dirs.specs.Shown.{IsNeededFor, IsShown, LeadsToLeaf, a_leaf, by_pointer, by_leaf, index_for, of_table}
+use Rattle.dinode_tree.specs.Reading.{inode_lock, the_dinode}
+use Rattle.dinode_tree.specs.Walking.{missing_dinode}
+use Rattle.crc_words.specs.Remainder.{crc32_of}
 use Rattle.glock_names.specs.declared.steps.Missing.{Missing}
-use Rattle.pointer_tables.specs.Directories.{chain_head, chain_next}
+use Rattle.pointer_tables.specs.Directories.{IsInChain, chain_head, chain_next}
 use Rattle.hash_dirs.specs.Walking.{IsHead, IsLeafOf}
 use Rattle.hash_dirs.specs.declared.chains.LeafAt.{LeafAt}
 
@@ -48,6 +54,31 @@ head_of h index i p same low is = record {
   leaf = is.0 ∙ ap (entry h) same;
   from = is.1 ∙ ap (entry_block h) same;
 }
+
+-- the index of a name as it was computed, and the pointer that was found for it
+pub index_is : (h : Holding) (name : List ℕ) (depth hash index : ℕ) → index ≡ top_bits depth hash → depth ≡ depth_in h → hash ≡ crc32_of name → index ≡ index_for h name
+index_is h name depth hash index is deep of = is ∙ ap (λ n. top_bits n hash) deep ∙ ap (top_bits (depth_in h)) of
+
+pub head_at : (h : Holding) (name : List ℕ) (depth hash index : ℕ) (p : Pointer) → index ≡ top_bits depth hash → depth ≡ depth_in h → hash ≡ crc32_of name → index < 2 ^ depth
+    → (p.leaf ≡ entry h index) × (p.from ≡ entry_block h index) → IsHead h (index_for h name) p
+head_at h name depth hash index p is deep of low found = head_of h index (index_for h name) p (index_is h name depth hash index is deep of) (subst (λ n. index < 2 ^ n) deep low) found
+
+-- the dinode's block is needed
+pub dinode_needed : (v : Seen) (h : Holding) (dir i : ℕ) (wanted : ℕ → Type 0) (m : Missing) → h.own ≡ dir → wanted i → m ≡ missing_dinode dir → v.block_at dir ≡ None → IsNeededFor v h wanted m
+dinode_needed v h dir i wanted m own is missing absent = of_table i is (record {
+  lock = ap (λ (x : Missing). x.lock) missing ∙ ap inode_lock (sym own);
+  absent = ap (λ (x : Missing). v.block_at x.block) missing ∙ absent;
+  way = the_dinode (ap (λ (x : Missing). x.block) missing ∙ sym own) (ap (λ (x : Missing). x.from) missing ∙ sym own) (ap (λ (x : Missing). x.plain) missing);
+})
+
+-- a leaf of a chain is led to
+pub led_to : (h : Holding) (i place x : ℕ) → IsInChain h i place x → (from : ℕ) × LeadsToLeaf h i from x
+led_to h i _ _ (chain_head low) = (entry_block h i, by_pointer low)
+led_to h i _ _ (chain_next place x chain more) = (x, by_leaf place x chain more)
+
+-- what holds of what was found
+pub found_at : {A : Type 0} (step : Step (Option A)) (o : Option A) (a : A) (P : A → Type 0) → step ≡ Is o → o ≡ Some a → IfIs (Ok step) (λ found. IfSome found P) → P a
+found_at step o a P is some holds = subst (λ found. IfSome found P) some (answer_at step o (λ found. IfSome found P) is holds)
 
 -- ---- a leaf that is led to
 

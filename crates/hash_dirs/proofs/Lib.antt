@@ -11,3 +11,5 @@ pub mod Anew
 pub mod Still
 pub mod Regrouped
 pub mod Cuts
+pub mod Removed
+pub mod Few

@@ -11,7 +11,7 @@ use Rattle.glock_names.specs.declared.steps.Entry.{Entry}
 use Rattle.linear_dirs.specs.Shown.{entry_of}
 use Rattle.hash_dirs.specs.Finding.{IsNamedLater}
 use Rattle.hash_dirs.specs.Shown.{IsInChain}
-use Rattle.hash_dirs.specs.Walking.{IsAreaOfBlock}
+use Rattle.hash_dirs.specs.Walking.{IsAreaOfBlock, IsSmall}
 use Rattle.hash_dirs.specs.declared.finding.Found.{Found}
 use Rattle.hash_dirs.specs.declared.finding.Spot.{Spot}
 
@@ -25,6 +25,7 @@ pub record IsSpotOf (area name : List ℕ) (s : Spot) : Type 0 where
 
 -- the same of a leaf, as the view has its block
 pub record IsSpotIn (v : Seen) (name : List ℕ) (f : Found) : Type 0 where
+  pub small : IsSmall f.block
   pub bytes : List ℕ
   pub there : v.block_at f.block ≡ Some bytes
   pub head : f.head ≡ leaf_of bytes
