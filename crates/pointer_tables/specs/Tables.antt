@@ -6,8 +6,7 @@ use Rattle.drafts.specs.declared.fate.Fate.{Fate}
 use Rattle.drafts.specs.declared.fate.Fate.TheVariants.{Put}
 use Rattle.gfs2_layout.specs.Holding.{Holding, InChain, part_at, bytes_at}
 use Rattle.gfs2_layout.specs.Inode.{dinode_in, entry, fan, header_length, pieces, span, table_count}
-use Rattle.gfs2_layout.specs.Structures.{dinode_length, dinode_of}
-use Rattle.gfs2_layout.specs.declared.dinode.Dinode.{Dinode}
+use Rattle.gfs2_layout.specs.Structures.{dinode_length}
 use Rattle.dinode_tree.specs.Reading.{inode_lock}
 use Rattle.growth_drafts.specs.Taken.{AreFreeFor, HasTaken}
 use Rattle.pointer_tables.specs.Directories.{IsPlaced, IsTreeSound}
@@ -25,18 +24,6 @@ is_within from count i = nat_le from i && nat_lt i (from + count)
 -- what leads to a leaf from so many neighbouring indexes on, and elsewhere where it led
 abbrev pub pointer_set : ℕ → ℕ → ℕ → (ℕ → Option ℕ) → ℕ → Option ℕ
 pointer_set from count leaf old i = if is_within from count i then Some leaf else old i
-
--- ---- the blocks that have them
-
--- what a dinode says but for its counts, its times, and how many blocks the inode has
-abbrev pub without_counts : Dinode → Dinode
-without_counts d = record d { entries = 0; nlink = 0; blocks = 0; atime = 0; mtime = 0; ctime = 0 }
-
--- What a block that has pointers may become so that they are told as before: the same, or a dinode's with other counts and times.
-pub data KeepsTable : Option (List ℕ) → Option (List ℕ) → Type 0 where
-  the_same : (o : Option (List ℕ)) → KeepsTable o o
-  other_counts : (old new : List ℕ) → length new ≡ length old → without_counts (dinode_of new) ≡ without_counts (dinode_of old) → drop dinode_length new ≡ drop dinode_length old
-      → KeepsTable (Some old) (Some new)
 
 -- ---- what becomes of its blocks in the draft
 

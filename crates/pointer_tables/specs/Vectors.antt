@@ -1,7 +1,6 @@
 -- A table that is kept in a vector.
-use Rattle.std.specs.Prelude.{ℕ, ◌≡◌, List, Option, None, Some, option_map, slice_get, refl}
+use Rattle.std.specs.Prelude.{ℕ, List, Option, None, Some, option_map, slice_get}
 use Rattle.gfs2_layout.specs.Holding.{Holding}
-use Rattle.pointer_tables.specs.Tables.{KeepsTable, the_same, other_counts}
 use Rattle.pointer_tables.specs.declared.pointer.Pointer.{Pointer}
 use Rattle.pointer_tables.specs.declared.vector.VectorTable.{VectorTable}
 
@@ -13,7 +12,3 @@ pointer_in t (Some bytes) i = option_map (λ leaf. record { leaf = leaf; from = 
 -- it is no directory's, since no block has its pointers
 abbrev pub ShowsNone : Holding → Type 0
 ShowsNone h = ⊥
-
-pub pointers_stay : (t : VectorTable) (o p : Option (List ℕ)) (i : ℕ) → KeepsTable o p → pointer_in t p i ≡ pointer_in t o i
-pointers_stay t _ _ i (the_same o) = refl
-pointers_stay t _ _ i (other_counts old new long dinode behind) = refl

@@ -1,8 +1,9 @@
 // What a table is.
 ghost use Rattle.std.specs.Prelude.{ℕ, List, Option, ◌≡◌, ◌+◌, ◌*◌, ◌/◌, ◌^◌, ◌<◌, ◌≤◌, ◌++◌, length, None, Some};
 ghost use Rattle.std.specs.FinMap.{get as fate_of};
+ghost use Rattle.gfs2_layout.specs.Device.{IsBlockSize};
 ghost use Rattle.gfs2_layout.specs.Holding.{Holding};
-ghost use Rattle.gfs2_layout.specs.Inode.{depth_in, entry, entry_block, unit};
+ghost use Rattle.gfs2_layout.specs.Inode.{IsInode, depth_in, entry, entry_block, unit};
 ghost use Rattle.drafts.specs.Fates.{seen_in};
 ghost use Rattle.glock_names.specs.Steps.{IfIs, IfNeedBlock, OnlyDamaged};
 ghost use Rattle.glock_names.specs.Views.{Seen, HasBlock, IsOfView};
@@ -11,7 +12,7 @@ ghost use Rattle.dinode_tree.specs.Reading.{IsNeeded};
 ghost use Rattle.linear_dirs.specs.Shown.{holding_over};
 ghost use Rattle.growth_drafts.specs.Taken.{AreFreeFor};
 ghost use Rattle.pointer_tables.specs.Directories.{IsPlaced, IsShown, IsTreeSound};
-ghost use Rattle.pointer_tables.specs.Tables.{DraftsDirectory, HasPointersSet, KeepsTable, TakesDoubled, leaf_of, pointer_set, doubling_need_of};
+ghost use Rattle.pointer_tables.specs.Tables.{DraftsDirectory, HasPointersSet, TakesDoubled, leaf_of, pointer_set, doubling_need_of};
 ghost use Rattle.pointer_tables.specs.declared.pointer.Pointer.{Pointer};
 
 use crate::Pointer;
@@ -92,9 +93,7 @@ pub trait PointerTable {
     /// A law: a table is as deep as its directory says.
     ghost deep_in: { (t : Self) (v : Seen) (h : Holding) → shows t v h → deep t ≡ depth_in h };
 
-    /// A law: a table is that of its directory in whatever else the view or the draft shows of that, as long as it says the same depth.
-    ghost follows: { (t : Self) (v w : Seen) (h g : Holding) → shows t v h → g.own ≡ h.own → IsShown w h.own g → depth_in g ≡ depth_in h → shows t w g };
-
-    /// A law: the pointers are told by the blocks that have them, and the dinode's counts and times aren't looked at.
-    ghost stays: { (t : Self) (v w : Seen) → w.size ≡ v.size → ((b : ℕ) → is_part t v b → KeepsTable (v.block_at b) (w.block_at b)) → (i : ℕ) → pointer t w i ≡ pointer t v i };
+    /// A law: a table is that of its directory in whatever else the view or a draft shows of that, as long as that is sound and says the
+    /// same depth. So blocks that don't have the pointers, and the counts and times of the dinode, may change.
+    ghost follows: { (t : Self) (v w : Seen) (h g : Holding) → shows t v h → g.own ≡ h.own → IsShown w h.own g → IsBlockSize g.size → IsInode g → depth_in g ≡ depth_in h → shows t w g };
 }

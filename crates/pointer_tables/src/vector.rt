@@ -1,10 +1,13 @@
 // A table that is kept in a vector.
-ghost use Rattle.std.specs.Prelude.{ℕ, ◌≡◌, ◌+◌, ◌*◌, ◌^◌, ◌<◌, ◌≤◌, length, refl};
+ghost use Rattle.std.specs.Prelude.{ℕ, ◌≡◌, ◌+◌, ◌*◌, ◌/◌, ◌^◌, ◌<◌, ◌≤◌, EachIndex, IfOk, if◌then◌else◌, length, slice_index};
+ghost use Rattle.dinode_tree.specs.Walking.{missing_dinode};
+ghost use Rattle.pointer_tables.specs.Tables.{is_within};
 
 use crate::{Pointer, PointerTable};
 use drafts::Draft;
 use glock_names::{CallFault, Missing, Step, View};
 use linear_dirs::lock_of;
+use no_memory::NoMemory;
 use std::alloc::Global;
 use std::collections::VecDeque;
 
@@ -19,8 +22,43 @@ pub struct VectorTable {
     ghost whole: { length leaves.items ≡ 2 ^ depth },
 }
 
+// The block of the directory's dinode, which is missing.
+fn missing_block(directory: u64) -> Missing
+    ensures { result ≡ missing_dinode directory }
+{
+    Missing {
+        lock: lock_of(directory),
+        block: directory,
+        plain: false,
+        from: directory,
+    }
+}
+
+// Makes so many neighbouring pointers lead to a leaf.
+fn set_leaves(leaves: &mut [u64], from: usize, count: usize, leaf: u64)
+    requires { from + count ≤ length leaves.old }
+    ensures { EachIndex leaves.new (λ k. slice_index leaves.new k ≡ (if is_within from count k then leaf else slice_index leaves.old k)) }
+{
+    for i in from..from + count {
+        leaves[i] = leaf;
+    }
+}
+
+// Each pointer twice.
+fn doubled_leaves(alloc: Global, leaves: &[u64]) -> Result<Vec<u64>, NoMemory>
+    requires { length leaves.now ≤ 2 ^ 32 }
+    ensures { IfOk result (λ doubled. (length doubled.items ≡ 2 * length leaves.now) × ((k : ℕ) → k < 2 * length leaves.now → slice_index doubled.items k ≡ slice_index leaves.now (k / 2))) }
+{
+    let mut doubled = Vec::new(alloc);
+    for leaf in leaves {
+        doubled.push(*leaf)?;
+        doubled.push(*leaf)?;
+    }
+    Ok(doubled)
+}
+
 impl PointerTable for VectorTable {
-    ghost use Rattle.pointer_tables.specs.Vectors.{pointer_in, pointers_stay, ShowsNone};
+    ghost use Rattle.pointer_tables.specs.Vectors.{pointer_in, ShowsNone};
 
     ghost deep = { λ t. t.depth };
 
@@ -36,12 +74,7 @@ impl PointerTable for VectorTable {
 
     fn get<V: View>(&self, view: &V, index: u32) -> Result<Step<Pointer>, CallFault> {
         if view.block(self.directory).is_none() {
-            return Ok(Step::NeedBlock(Missing {
-                lock: lock_of(self.directory),
-                block: self.directory,
-                plain: false,
-                from: self.directory,
-            }));
+            return Ok(Step::NeedBlock(missing_block(self.directory)));
         }
         Ok(Step::Is(Pointer {
             leaf: self.leaves[index as usize],
@@ -49,29 +82,36 @@ impl PointerTable for VectorTable {
         }))
     }
 
-    // A body without its work, while the contract is written.
     fn set<V: View>(
         &mut self,
-        _draft: &mut Draft<'_, V>,
-        _from: u32,
-        _count: u32,
-        _leaf: u64,
+        draft: &mut Draft<'_, V>,
+        from: u32,
+        count: u32,
+        leaf: u64,
     ) -> Result<Step<()>, CallFault> {
-        Err(CallFault::NoMemory)
+        if draft.block(self.directory).is_none() {
+            return Ok(Step::NeedBlock(missing_block(self.directory)));
+        }
+        set_leaves(&mut self.leaves, from as usize, count as usize, leaf);
+        Ok(Step::Is(()))
     }
 
     fn double<V: View>(
         &mut self,
-        _alloc: Global,
-        _draft: &mut Draft<'_, V>,
+        alloc: Global,
+        draft: &mut Draft<'_, V>,
         _room: &mut VecDeque<u64>,
     ) -> Result<Step<()>, CallFault> {
-        Err(CallFault::NoMemory)
+        if draft.block(self.directory).is_none() {
+            return Ok(Step::NeedBlock(missing_block(self.directory)));
+        }
+        let leaves = doubled_leaves(alloc, &self.leaves)?;
+        self.leaves = leaves;
+        self.depth += 1;
+        Ok(Step::Is(()))
     }
 
     ghost deep_in = { λ t v h shown. absurd shown };
 
-    ghost follows = { λ t v w h g shown own seen deep. absurd shown };
-
-    ghost stays = { λ t v w size parts i. pointers_stay t (v.block_at t.directory) (w.block_at t.directory) i (parts t.directory refl) };
+    ghost follows = { λ t v w h g shown own seen size sound deep. absurd shown };
 }

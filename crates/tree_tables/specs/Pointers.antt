@@ -2,7 +2,7 @@
 use Rattle.std.specs.Prelude.{ℕ, ◌≡◌, ◌⊎◌, ◌+◌, ◌-◌, ◌*◌, ◌/◌, ◌%◌, ◌^◌, ◌==◌, true, if◌then◌else◌, List, [], Option, None, Some, option_map, IsSome}
 use Rattle.gfs2_layout.specs.Bytes.{u64_at}
 use Rattle.gfs2_layout.specs.Holding.{Holding, Itself, bytes_at}
-use Rattle.gfs2_layout.specs.Inode.{Leads, content_block, depth_in, dinode_in, entry_block, header_length, height_in, is_directory_in, is_hashed_in, unit}
+use Rattle.gfs2_layout.specs.Inode.{Leads, content_block, depth_in, dinode_in, header_length, height_in, is_hashed_in}
 use Rattle.gfs2_layout.specs.Structures.{dinode_length}
 use Rattle.glock_names.specs.Views.{Seen}
 use Rattle.dinode_tree.specs.Reading.{AreWholeBefore}
@@ -19,17 +19,29 @@ bytes_or_none (Some bytes) = bytes
 abbrev pub seen_as : Seen → ℕ → Holding
 seen_as v a = record { size = v.size; count = 0; own = a; cell = λ b. Some (record { part = Itself; bytes = bytes_or_none (v.block_at b) }) }
 
+-- how much of the content a table block carries
+abbrev pub carries : Holding → ℕ
+carries h = h.size - header_length
+
+-- the table block that has pointer i; 0 where the table has a hole
+abbrev pub table_block : Holding → ℕ → ℕ
+table_block h i = content_block h (8 * i / carries h)
+
 -- pointer i as its block has it: behind the dinode, or behind the header of a table block; 0 where the table has a hole
 abbrev pub pointer_at : Holding → ℕ → ℕ
 pointer_at h i =
     if height_in h == 0 then u64_at (dinode_length + 8 * i) (bytes_at h h.own)
-    else (let b = content_block h (8 * i / unit h) in if b == 0 then 0 else u64_at (header_length + 8 * i % unit h) (bytes_at h b))
+    else (if table_block h i == 0 then 0 else u64_at (header_length + 8 * i % carries h) (bytes_at h (table_block h i)))
+
+-- the block that has it; the dinode's where the table has a hole
+abbrev pub block_of : Holding → ℕ → ℕ
+block_of h i = if height_in h == 0 then h.own else (if table_block h i == 0 then h.own else table_block h i)
 
 -- pointer i, and the block that has it, as a view tells them
 abbrev pub pointer_in : TreeTable → Seen → ℕ → Option Pointer
 pointer_in t v i =
     let h = seen_as v t.directory in
-    option_map (λ bytes. record { leaf = pointer_at h i; from = entry_block h i }) (v.block_at (entry_block h i))
+    option_map (λ bytes. record { leaf = pointer_at h i; from = block_of h i }) (v.block_at (block_of h i))
 
 -- the block has some of the pointers, or leads to those that have: it is the dinode's, or one to which a pointer of it leads
 abbrev pub IsPartOf : TreeTable → Seen → ℕ → Type 0
