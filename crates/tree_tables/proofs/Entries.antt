@@ -55,7 +55,7 @@ fits_block size n (inr (inr (inl e))) = subst (λ s. 8 * n % (s - 24) + 8 ≤ s 
 fits_block size n (inr (inr (inr e))) = subst (λ s. 8 * n % (s - 24) + 8 ≤ s - 24) (sym e) (omega arith)
 
 module _ (h : Holding) (level : ℕ) (block_size : IsBlockSize h.size) (directory : is_directory_in h ≡ true) (high : height_in h ≡ suc level) (fits : Fits h) (whole : (at : ℕ) → AreWholeBefore h at) where
-  unit_is : unit h ≡ h.size - header_length
+  pub unit_is : unit h ≡ h.size - header_length
   unit_is = cond-true (is_directory_in h) (h.size - header_length) h.size directory
 
   size_some : 512 ≤ h.size
@@ -80,10 +80,10 @@ module _ (h : Holding) (level : ℕ) (block_size : IsBlockSize h.size) (director
     ]
 
   module _ (i : ℕ) (low : 8 * i + 8 ≤ (dinode_in h).size) where
-    q : ℕ
+    pub q : ℕ
     q = 8 * i / unit h
 
-    within : 8 * i / unit h < content_count h
+    pub within : 8 * i / unit h < content_count h
     within = piece_within (8 * i) (dinode_in h).size (unit h) unit_some (omega (arith, low))
 
     fits_here : 8 * i % unit h + 8 ≤ unit h

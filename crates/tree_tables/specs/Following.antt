@@ -6,7 +6,7 @@ use Rattle.gfs2_layout.specs.Holding.{Holding}
 use Rattle.gfs2_layout.specs.Inode.{IsInode, depth_in}
 use Rattle.glock_names.specs.Views.{Seen}
 use Rattle.dinode_tree.specs.Shown as inode
-use Rattle.dinode_tree.proofs.Sound.{sound_whole}
+use Rattle.dinode_tree.proofs.Sound.{sound_is_whole}
 use Rattle.pointer_tables.specs.Directories.{IsShown}
 use Rattle.tree_tables.specs.Pointers.{IsTableOf}
 use Rattle.tree_tables.specs.declared.tree_table.TreeTable.{TreeTable}
@@ -17,5 +17,5 @@ follows_in t v w h g table own shown size sound deep = record {
   hashed = shown.hashed;
   depth = table.depth ∙ sym deep;
   size = (sound.hashed shown.hashed).size ∙ ap (λ n. 8 * 2 ^ n) (deep ∙ sym table.depth);
-  whole = λ at. sound_whole g at size sound;
+  whole = λ at. sound_is_whole g at size sound;
 }

@@ -2,10 +2,10 @@
 use Rattle.std.specs.Prelude.{ℕ, ◌≡◌, ◌⊎◌, ◌+◌, ◌-◌, ◌*◌, ◌/◌, ◌%◌, ◌^◌, ◌==◌, true, if◌then◌else◌, List, [], Option, None, Some, option_map, IsSome}
 use Rattle.gfs2_layout.specs.Bytes.{u64_at}
 use Rattle.gfs2_layout.specs.Holding.{Holding, Itself, bytes_at}
-use Rattle.gfs2_layout.specs.Inode.{Leads, content_block, depth_in, dinode_in, header_length, height_in, is_hashed_in}
+use Rattle.gfs2_layout.specs.Inode.{Leads, depth_in, dinode_in, header_length, height_in, is_hashed_in}
 use Rattle.gfs2_layout.specs.Structures.{dinode_length}
 use Rattle.glock_names.specs.Views.{Seen}
-use Rattle.dinode_tree.specs.Reading.{AreWholeBefore}
+use Rattle.dinode_tree.specs.Reading.{AreWholeBefore, block_at}
 use Rattle.dinode_tree.specs.Shown as inode
 use Rattle.pointer_tables.specs.declared.pointer.Pointer.{Pointer}
 use Rattle.tree_tables.specs.declared.tree_table.TreeTable.{TreeTable}
@@ -23,9 +23,13 @@ seen_as v a = record { size = v.size; count = 0; own = a; cell = λ b. Some (rec
 abbrev pub carries : Holding → ℕ
 carries h = h.size - header_length
 
+abbrev pub or_zero : Option ℕ → ℕ
+or_zero None = 0
+or_zero (Some b) = b
+
 -- the table block that has pointer i; 0 where the table has a hole
 abbrev pub table_block : Holding → ℕ → ℕ
-table_block h i = content_block h (8 * i / carries h)
+table_block h i = or_zero (block_at h (8 * i / carries h))
 
 -- pointer i as its block has it: behind the dinode, or behind the header of a table block; 0 where the table has a hole
 abbrev pub pointer_at : Holding → ℕ → ℕ
