@@ -3,8 +3,8 @@ use Rattle.std.proofs.Common.{◌≡◌, ◌≢◌, ℕ, zero, suc, ◌+◌, ◌
 use Rattle.std.specs.Option.{option_map}
 use Rattle.profile_limits.specs.Limits.{most_blocks}
 use Rattle.gfs2_layout.specs.Holding.{Holding}
-use Rattle.gfs2_layout.specs.Inode.{entry, entry_block, leaf_area, leaf_in, table_count}
-use Rattle.gfs2_layout.specs.Records.{Record, record_named, records_in}
+use Rattle.gfs2_layout.specs.Inode.{leaf_in}
+use Rattle.gfs2_layout.specs.Records.{Record}
 use Rattle.image_model.proofs.Held.{none_some}
 use Rattle.glock_names.specs.Views.{Seen, HasBlock}
 use Rattle.glock_names.specs.declared.steps.Entry.{Entry}
@@ -12,9 +12,9 @@ use Rattle.linear_dirs.specs.Shown.{entry_of}
 use Rattle.pointer_tables.specs.Directories.{IsInChain, chain_head, chain_next}
 use Rattle.pointer_tables.specs.declared.pointer.Pointer.{Pointer}
 use Rattle.hash_dirs.specs.Broken.{IsBroken, comes_again}
-use Rattle.hash_dirs.specs.Finding.{IsFirstNamed, IsFoundAlong, IsNamedLater, in_leaf, nowhere, named_in}
-use Rattle.hash_dirs.specs.Shown.{IsShown, LeadsToLeaf, by_pointer, by_leaf}
-use Rattle.hash_dirs.specs.Walking.{IsAlong, IsHead, IsLeafOf, IsLinkAt, IsNameless, IsSmall, OfEach, leaf_on}
+use Rattle.hash_dirs.specs.Finding.{IsFoundAlong, IsNamedLater, in_leaf, nowhere, named_in}
+use Rattle.hash_dirs.specs.Shown.{LeadsToLeaf, by_pointer, by_leaf}
+use Rattle.hash_dirs.specs.Walking.{IsAlong, IsLeafOf, IsNameless, IsSmall, OfEach, leaf_on}
 use Rattle.hash_dirs.specs.declared.chains.LeafAt.{LeafAt}
 use Rattle.hash_dirs.proofs.Returning.{repeats}
 
@@ -34,10 +34,10 @@ module _ (h : Holding) (i : ℕ) where
   unfolding leaf_on
   there_before _ _ (chain_head low) k le = subst (λ n. IsInChain h i n (leaf_on h i n)) (let z : 0 ≡ k = omega arith in z) (chain_head low)
   there_before _ _ (chain_next place x chain more) k le = elim (last k place le) [
-      inl low ↦ there_before place x chain k low
+    | inl low ↦ there_before place x chain k low
     | inr top ↦ subst (λ n. IsInChain h i n (leaf_on h i n)) (sym top)
         (subst (IsInChain h i (place + 1)) (chain_is (place + 1) ((leaf_in h x).next) (chain_next place x chain more)) (chain_next place x chain more))
-    ]
+  ]
     where
       last : (k place : ℕ) → k ≤ place + 1 → (k ≤ place) ⊎ (k ≡ place + 1)
       last k place le = grind arith
@@ -70,9 +70,9 @@ module _ (h : Holding) (i : ℕ) where
   pub ended : (place x earlier y : ℕ) → IsInChain h i place x → (leaf_in h x).next ≡ 0 → place < earlier → IsInChain h i earlier y → ⊥
   ended place x _ _ chain last before (chain_head low) = let no : place < 0 = before in omega arith
   ended place x _ _ chain last before (chain_next q y more_chain more) = elim (same_or place q before) [
-      inl same ↦ more (ap (λ z. (leaf_in h z).next) (chain_one q y x more_chain (subst (λ n. IsInChain h i n x) same chain)) ∙ last)
+    | inl same ↦ more (ap (λ z. (leaf_in h z).next) (chain_one q y x more_chain (subst (λ n. IsInChain h i n x) same chain)) ∙ last)
     | inr low ↦ ended place x q y chain last low more_chain
-    ]
+  ]
     where
       same_or : (place q : ℕ) → place < q + 1 → (place ≡ q) ⊎ (place < q)
       same_or place q low = grind arith
@@ -89,12 +89,12 @@ module _ (h : Holding) (i : ℕ) where
     found_nowhere none last = record {
       named = None;
       first = nowhere (λ some earlier y before there. elim (which earlier place) [
-          inl low ↦ later earlier y low there
+        | inl low ↦ later earlier y low there
         | inr high ↦ elim high [
-            inl same ↦ ap (named_in h name) (chain_one place y x (subst (λ n. IsInChain h i n y) same there) chain) ∙ none
+          | inl same ↦ ap (named_in h name) (chain_one place y x (subst (λ n. IsInChain h i n y) same there) chain) ∙ none
           | inr behind ↦ absurd (ended place x earlier y chain last behind there)
-          ]
-        ]);
+        ]
+      ]);
       leads = refl;
     }
       where
@@ -139,9 +139,9 @@ module _ (v : Seen) (dir : ℕ) (head : Pointer) where
           chain = subst (IsInChain h i (place + 1)) leaf_is (chain_next place link.leaf was.chain next_there);
           behind = λ some. (place, (refl, subst (IsInChain h i place) from_is was.chain));
           low = λ earlier x before chain. elim (last_or earlier place before) [
-              inl low ↦ was.low earlier x low chain
+            | inl low ↦ was.low earlier x low chain
             | inr top ↦ subst IsSmall (chain_one h i place link.leaf x was.chain (subst (λ n. IsInChain h i n x) top chain)) small
-            ];
+          ];
         };
   }
 
@@ -162,6 +162,6 @@ module _ (v : Seen) (dir : ℕ) (head : Pointer) where
   pub still_nameless : (name : List ℕ) (place : ℕ) (link : Pointer) → IsAlong v dir head place link → IsNameless v dir head name place → OfEach v dir head (λ h i. named_in h name link.leaf ≡ None)
       → IsNameless v dir head name (place + 1)
   still_nameless name place link along none here h i shown is earlier x before chain = elim (last_or earlier place before) [
-      inl low ↦ none h i shown is earlier x low chain
+    | inl low ↦ none h i shown is earlier x low chain
     | inr top ↦ subst (λ y. named_in h name y ≡ None) (chain_one h i place link.leaf x (along.at h i shown is).chain (subst (λ n. IsInChain h i n x) top chain)) (here h i shown is)
-    ]
+  ]

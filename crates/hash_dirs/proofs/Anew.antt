@@ -1,5 +1,5 @@
 -- An inode with other bytes in its blocks that lead where they led: its tree and its content are what they were.
-use Rattle.std.proofs.Common.{◌≡◌, ◌≢◌, ◌⊎◌, ℕ, zero, suc, ◌+◌, ◌-◌, ◌*◌, ◌/◌, ◌%◌, ◌<◌, ◌≤◌, inl, inr, List, ◌++◌, length, Option, take, drop, replicate, Some, refl, sym, ap, ap₂, ◌∙◌, subst, arith, drop-drop}
+use Rattle.std.proofs.Common.{◌≡◌, ◌≢◌, ◌⊎◌, ℕ, zero, suc, ◌+◌, ◌-◌, ◌*◌, ◌/◌, ◌%◌, ◌<◌, ◌≤◌, inl, inr, List, ◌++◌, Option, take, drop, replicate, Some, refl, sym, ap, ap₂, ◌∙◌, subst, arith, drop-drop}
 use Rattle.std.specs.Prelude.{◌==◌, flat_map, if◌then◌else◌}
 use Rattle.std.specs.Int.{w64, from_be_bytes}
 use Rattle.std.specs.List.{range_with_len}
@@ -11,7 +11,7 @@ use Rattle.gfs2_layout.specs.Bytes.{u64_at, number_at}
 use Rattle.gfs2_layout.specs.Headers.{HasHeader}
 use Rattle.gfs2_layout.specs.Holding.{Holding, Cell, Pointed, part_at, bytes_at}
 use Rattle.gfs2_layout.specs.Inode.{HasTree, IsChild, IsPointed, by_dinode, by_block, Fits, dinode_in, height_in, is_directory_in, header_length, fan, span, pointer, descend, content_block, unit, carried, pieces, content_count, content_of}
-use Rattle.gfs2_layout.specs.Structures.{dinode_of, dinode_length, is_directory}
+use Rattle.gfs2_layout.specs.Structures.{dinode_length, is_directory}
 use Rattle.gfs2_layout.specs.declared.dinode.Dinode.{Dinode}
 use Rattle.growth_laws.specs.Files.{with_cells}
 

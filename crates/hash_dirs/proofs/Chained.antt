@@ -1,12 +1,12 @@
 -- The chains of a sound directory.
-use Rattle.std.proofs.Common.{◌≡◌, ◌≢◌, ℕ, zero, suc, ◌+◌, ◌-◌, ◌*◌, ◌/◌, ◌^◌, ◌<◌, ◌≤◌, inl, inr, true, false, List, [], ◌∷◌, Option, None, Some, refl, sym, ap, ◌∙◌, subst, add-one, arith}
-use Rattle.std.specs.Prelude.{Contains, IsSome, filter, flat_map}
+use Rattle.std.proofs.Common.{◌≡◌, ◌≢◌, ℕ, zero, suc, ◌^◌, ◌<◌, ◌≤◌, true, false, List, Option, None, Some, refl, sym, ap, ◌∙◌, subst, add-one, arith}
+use Rattle.std.specs.Prelude.{Contains, IsSome}
 use Rattle.std.specs.List.{range_with_len}
 use Rattle.crc_words.specs.Remainder.{crc32_of}
 use Rattle.gfs2_layout.specs.Holding.{Holding, Part, Cell, Itself, Pointed, InChain, cell_part, part_at}
-use Rattle.gfs2_layout.specs.Inode.{IsHashed, depth_in, entry, first_hash, index_bits, is_hashed_in, is_leaf_part, leaf_area, leaf_in, leaves_of, records_of, table_count, top_bits}
+use Rattle.gfs2_layout.specs.Inode.{IsHashed, depth_in, entry, first_hash, index_bits, is_hashed_in, is_leaf_part, leaf_area, leaf_in, leaves_of, table_count, top_bits}
 use Rattle.gfs2_layout.specs.Records.{Record, records_in}
-use Rattle.image_model.proofs.Members.{IsIn, contained, is_in, in_flat_map, from_flat_map, in_filter, from_filter, in_range, from_range}
+use Rattle.image_model.proofs.Members.{IsIn, in_filter, from_filter, in_range}
 use Rattle.pointer_tables.specs.Directories.{IsInChain, chain_head, chain_next}
 use Rattle.hash_dirs.specs.Shown.{IsSound, index_for}
 use Rattle.hash_dirs.proofs.Indexes.{bits_of_bits, bits_of_first, bits_low, not_too_deep}
@@ -111,5 +111,5 @@ module _ (h : Holding) (sound : IsSound h) (hashed : is_hashed_in h ≡ true) wh
       let low : depth ≤ depth_in h = subst (λ n. n ≤ depth_in h) same_depth well.depth in
       let of_hash : top_bits depth (crc32_of r.name) ≡ top_bits depth hash = subst (λ n. top_bits n (crc32_of r.name) ≡ top_bits n hash) same_depth (well.hashes r there) in
       let bits : index_bits h depth j ≡ index_bits h depth i =
-          bits_of_bits depth (depth_in h) (crc32_of r.name) low (omega (arith, deep)) ∙ of_hash ∙ ap (top_bits depth) first ∙ bits_of_first depth (index_bits h depth i) in
+      bits_of_bits depth (depth_in h) (crc32_of r.name) low (omega (arith, deep)) ∙ of_hash ∙ ap (top_bits depth) first ∙ bits_of_first depth (index_bits h depth i) in
       up.chain j (index_low r.name small) (rules.runs i j led.1 (index_low r.name small) bits ∙ led.2)

@@ -1,5 +1,5 @@
 -- A leaf and the dinode that are put, one after the other.
-use Rattle.std.proofs.Common.{◌≡◌, ◌≢◌, ℕ, inl, inr, false, List, length, drop, Option, None, Some, Ok, refl, sym, ap, ◌∙◌, subst, arith}
+use Rattle.std.proofs.Common.{◌≡◌, ◌≢◌, ℕ, inl, inr, false, List, length, drop, Some, Ok, sym, ap, ◌∙◌, subst}
 use Rattle.std.specs.Cmp.{nat_cmp_total}
 use Rattle.std.specs.FinMap.{FinMap, insert, nat_cmp-IsAntisymmetric}
 use Rattle.std.specs.Ordering.{nat_cmp}
@@ -24,9 +24,9 @@ seen_apart v m b c lock bytes other = ap (λ fate. block_with fate (v.block_at c
 -- a block that is seen is seen where any is put
 pub there_still : (v : Seen) (m : FinMap nat_cmp Fate) (b c : ℕ) (lock : LockName) (bytes : List ℕ) → HasBlock (seen_with v m) c → HasBlock (seen_with v (insert m b (Put lock false bytes))) c
 there_still v m b c lock bytes has = elim (cases_eq c b) [
-    inl same ↦ (bytes, ap (seen_with v (insert m b (Put lock false bytes))).block_at same ∙ seen_at v m b lock bytes)
+  | inl same ↦ (bytes, ap (seen_with v (insert m b (Put lock false bytes))).block_at same ∙ seen_at v m b lock bytes)
   | inr other ↦ (has.0, seen_apart v m b c lock bytes other ∙ has.1)
-  ]
+]
 
 module _ {V : Type 0} (seen : V → Seen) (old mid new : Drafted V) (dir : ℕ) (f : Found) (leaf : List ℕ)
     (first : mid ≡ record old { fates = insert old.fates f.block (Put (inode_lock dir) false leaf) }) where

@@ -1,11 +1,10 @@
 -- Counts with no number below them, of a leaf or of a dinode whose record was found.
-use Rattle.std.proofs.Common.{◌≡◌, ◌≢◌, ◌⊎◌, ℕ, suc, ◌<◌, inl, inr, Bool, true, List, [], ◌∷◌, length, drop, Option, None, Some, refl, sym, ap, ◌∙◌, subst, arith}
+use Rattle.std.proofs.Common.{◌≡◌, ◌⊎◌, ℕ, ◌<◌, inl, inr, List, length, drop, Some, sym, ap, ◌∙◌, subst, arith}
 use Rattle.std.specs.Prelude.{Contains, option_map}
-use Rattle.gfs2_layout.specs.Area.{first_named, slots_of}
 use Rattle.gfs2_layout.specs.Cutting.{slot_from}
 use Rattle.gfs2_layout.specs.Holding.{Holding, bytes_at}
 use Rattle.gfs2_layout.specs.Inode.{dinode_in, leaf_area, leaf_in, leaf_length}
-use Rattle.gfs2_layout.specs.Records.{Record, record_named, record_of, records_in}
+use Rattle.gfs2_layout.specs.Records.{record_named, record_of, records_in}
 use Rattle.gfs2_layout.specs.Structures.{leaf_of}
 use Rattle.gfs2_layout.specs.declared.dinode.Dinode.{Dinode}
 use Rattle.gfs2_layout.specs.declared.leaf.Leaf.{Leaf}
@@ -42,7 +41,7 @@ module _ (v : Seen) (h : Holding) (dir i : ℕ) (name : List ℕ) (f : Found) (d
   broken rule block (inl leaf) =
       subst (λ b. IsBroken h rule b) (sym leaf.0) (subst (λ r. IsBroken h r f.block) (sym leaf.1)
       (leaf_entries i led.0 f.block led.1 spot.small.0 (λ e. let some = has in let low : some.0 < length (records_in (leaf_area h f.block)) = some.1 in
-        let none : f.head.entries ≡ 0 = leaf.2 in let same : f.head.entries ≡ (leaf_in h f.block).entries = ap (λ (l : Leaf). l.entries) (spot.head ∙ ap leaf_of (sym bytes)) in omega (arith, low, none, same, e))))
+      let none : f.head.entries ≡ 0 = leaf.2 in let same : f.head.entries ≡ (leaf_in h f.block).entries = ap (λ (l : Leaf). l.entries) (spot.head ∙ ap leaf_of (sym bytes)) in omega (arith, low, none, same, e))))
   broken rule block (inr own) =
       subst (λ b. IsBroken h rule b) (shown.inode.own ∙ sym own.0) (subst (λ r. IsBroken h r h.own) (sym own.1) (by own.2))
     where

@@ -1,6 +1,6 @@
 -- What is told of a leaf that was looked at.
-use Rattle.std.proofs.Common.{◌≡◌, ◌≢◌, ℕ, ◌^◌, ◌<◌, ◌≤◌, List, length, drop, Option, None, Some, Result, Ok, refl, sym, ap, subst, ◌∙◌, arith}
-use Rattle.std.specs.Prelude.{◌==◌, ◌+◌, IfSome, IsSome}
+use Rattle.std.proofs.Common.{◌≡◌, ◌≢◌, ℕ, ◌^◌, ◌<◌, ◌≤◌, List, length, drop, Option, None, Some, Result, Ok, sym, ap, subst, ◌∙◌, arith}
+use Rattle.std.specs.Prelude.{◌+◌, IfSome, IsSome}
 use Rattle.std.proofs.lemmas.Bool.{cond-true, eq-eqb}
 use Rattle.std.proofs.lemmas.Bool.Decides.{nat_tests}
 use Rattle.gfs2_layout.specs.Area.{IsArea}
@@ -23,8 +23,7 @@ use Rattle.glock_names.specs.Views.{Seen, HasBlock, IsOfView}
 use Rattle.dinode_tree.specs.Shown.{IsAtBlock}
 use Rattle.dinode_tree.specs.Broken as inode
 use Rattle.pointer_tables.specs.declared.pointer.Pointer.{Pointer}
-use Rattle.profile_limits.specs.Limits.{most_blocks}
-use Rattle.hash_dirs.specs.Broken.{IsBroken, no_header, records_format, too_deep, unfilled, no_leaf, beyond_device, of_inode}
+use Rattle.hash_dirs.specs.Broken.{IsBroken, no_header, records_format, too_deep, unfilled, no_leaf, of_inode}
 use Rattle.hash_dirs.specs.Shown.{IsNeededFor, IsShown, LeadsToLeaf, a_leaf, by_pointer, by_leaf, index_for, of_table}
 use Rattle.dinode_tree.specs.Reading.{inode_lock, the_dinode}
 use Rattle.dinode_tree.specs.Walking.{missing_dinode}

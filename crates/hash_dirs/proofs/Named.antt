@@ -1,11 +1,11 @@
 -- What a chain says of a name is what the directory says of it.
-use Rattle.std.proofs.Common.{◌≡◌, ℕ, ◌+◌, ◌^◌, ◌<◌, ◌≤◌, ◌⊎◌, inl, inr, Bool, true, false, List, [], ◌∷◌, Option, None, Some, refl, sym, ap, ◌∙◌, subst, arith, cond}
+use Rattle.std.proofs.Common.{◌≡◌, ℕ, ◌+◌, ◌^◌, ◌<◌, ◌≤◌, ◌⊎◌, inl, inr, Bool, true, false, List, [], ◌∷◌, Option, None, Some, refl, sym, ap, ◌∙◌, subst, arith}
 use Rattle.std.specs.Prelude.{count_by, find, flat_map, if◌then◌else◌}
 use Rattle.std.specs.Str.{bytes_eq}
 use Rattle.std.proofs.lemmas.Bool.{cond-true, true≢false}
 use Rattle.std.proofs.lemmas.Slice.Eq.{bytes_eq-Decides}
 use Rattle.crc_words.specs.Remainder.{crc32_of}
-use Rattle.gfs2_layout.specs.Holding.{Holding, InChain, part_at}
+use Rattle.gfs2_layout.specs.Holding.{Holding}
 use Rattle.gfs2_layout.specs.Inode.{first_hash, is_hashed_in, leaf_area, leaves_of, linear_area, records_of}
 use Rattle.gfs2_layout.specs.Records.{Record, record_named, records_in}
 use Rattle.image_model.proofs.Counts.{one_passes}
@@ -13,7 +13,7 @@ use Rattle.image_model.proofs.Held.{none_some, some_same}
 use Rattle.image_model.proofs.Members.{IsIn, contained, in_flat_map, from_flat_map}
 use Rattle.pointer_tables.specs.Directories.{IsInChain}
 use Rattle.hash_dirs.specs.Shown.{IsSound, index_for}
-use Rattle.hash_dirs.specs.Finding.{IsFirstNamed, IsNamedLater, in_leaf, nowhere, named_in}
+use Rattle.hash_dirs.specs.Finding.{IsFirstNamed, IsNamedLater, in_leaf, nowhere}
 use Rattle.hash_dirs.proofs.Chained.{in_chain, in_leaves, of_leaves, own_chain}
 
 -- ---- the first element of a list that passes a test

@@ -1,6 +1,6 @@
 -- Which leaves of a sound directory a walk over its table has passed.
-use Rattle.std.proofs.Common.{◌≡◌, ◌≢◌, ℕ, zero, suc, ◌+◌, ◌-◌, ◌*◌, ◌/◌, ◌^◌, ◌<◌, ◌≤◌, ◌⊎◌, inl, inr, Bool, true, false, List, [], ◌∷◌, ◌++◌, Option, None, Some, refl, sym, ap, ◌∙◌, subst, subst₂, add-one, append_assoc, arith}
-use Rattle.std.specs.Prelude.{◌==◌, ◌&&◌, ◌||◌, IsSome, filter, flat_map, nat_lt}
+use Rattle.std.proofs.Common.{◌≡◌, ◌≢◌, ℕ, zero, suc, ◌+◌, ◌-◌, ◌*◌, ◌/◌, ◌^◌, ◌<◌, ◌≤◌, ◌⊎◌, inl, inr, true, false, List, [], ◌∷◌, ◌++◌, Option, None, Some, refl, sym, ap, ◌∙◌, subst, subst₂, add-one, append_assoc, arith}
+use Rattle.std.specs.Prelude.{◌==◌, ◌&&◌, ◌||◌, flat_map, nat_lt}
 use Rattle.std.specs.List.{range_with_len}
 use Rattle.std.specs.List.Sorted.{IsPermutation}
 use Rattle.std.proofs.Math.Nat.{div-mul-le_self, lt-div-mul-add, mul-div_cancel, mul-le-mul_right, mul-lt-mul_of_pos_right}
@@ -15,13 +15,12 @@ use Rattle.gfs2_layout.specs.Records.{names_of, records_in}
 use Rattle.linear_dirs.proofs.Records.{names_more}
 use Rattle.std.proofs.lemmas.List.Concat.{flat_map-cons}
 use Rattle.hash_dirs.proofs.Named.{records_are}
-use Rattle.image_model.proofs.Held.{none_some, some_same}
 use Rattle.pointer_tables.specs.Directories.{IsInChain, chain_head, chain_next}
 use Rattle.hash_dirs.specs.Shown.{IsSound}
 use Rattle.hash_dirs.specs.Walking.{IsChainListed, IsListed, chain_names, hash_from, is_passed, leaf_on, names_at, passed_names}
-use Rattle.hash_dirs.proofs.Along.{chain_is, chain_one, ended, there_before}
-use Rattle.hash_dirs.proofs.Chained.{deep, headed, in_chain, rules, same_hash, some_block, inside}
-use Rattle.hash_dirs.proofs.Indexes.{bits_of_bits, bits_of_first, some_pow}
+use Rattle.hash_dirs.proofs.Along.{chain_one, ended, there_before}
+use Rattle.hash_dirs.proofs.Chained.{deep, headed, in_chain, rules, same_hash, inside}
+use Rattle.hash_dirs.proofs.Indexes.{bits_of_first, some_pow}
 use Rattle.hash_dirs.proofs.Listed.{chain_names_more}
 use Rattle.hash_dirs.proofs.Permuted.{filter_none, filter_same, one_more}
 
@@ -35,9 +34,9 @@ one_further hash place = grind (arith, nat_tests)
 
 elsewhere : (hash place other at : ℕ) → ((other ≡ hash) × (at ≡ place) → ⊥) → (nat_lt other hash || (other == hash && nat_lt at (place + 1))) ≡ (nat_lt other hash || (other == hash && nat_lt at place))
 elsewhere hash place other at apart = elim (which other hash at place) [
-    inl same ↦ absurd (apart same)
+  | inl same ↦ absurd (apart same)
   | inr differs ↦ elim differs [ inl hashes ↦ grind (arith, nat_tests, hashes) | inr places ↦ grind (arith, nat_tests, places) ]
-  ]
+]
   where
     equal_or : (a b : ℕ) → (a ≡ b) ⊎ (a ≢ b)
     equal_or a b = grind arith
@@ -92,9 +91,9 @@ module _ (h : Holding) (sound : IsSound h) (hashed : is_hashed_in h ≡ true) wh
 
   hash_one : (a b : ℕ) → hash_from h a ≡ hash_from h b → a ≡ b
   hash_one a b e = elim (compared a b) [
-      inl low ↦ absurd (let l : hash_from h a < hash_from h b = hash_rises a b low in omega (arith, l, e))
+    | inl low ↦ absurd (let l : hash_from h a < hash_from h b = hash_rises a b low in omega (arith, l, e))
     | inr rest ↦ elim rest [ inl same ↦ same | inr high ↦ absurd (let l : hash_from h b < hash_from h a = hash_rises b a high in omega (arith, l, e)) ]
-    ]
+  ]
 
   -- the first index of a pointer's chain
   pub record Start (i : ℕ) : Type 0 where
@@ -174,9 +173,9 @@ module _ (h : Holding) (sound : IsSound h) (hashed : is_hashed_in h ≡ true) wh
       let before = whole_chain i place last n chain (omega (arith, le)) in
       let two = IsPermutation-append_left (names_at h (leaf_on h i n)) (passed_names h (first_hash h i) n) (passed_names h (first_hash h i) 0 ++ chain_names h i n) before in
       let end : (passed_names h (first_hash h i) 0 ++ chain_names h i n) ++ names_at h (leaf_on h i n) ≡ passed_names h (first_hash h i) 0 ++ chain_names h i (n + 1) =
-          append_assoc (passed_names h (first_hash h i) 0) (chain_names h i n) (names_at h (leaf_on h i n)) ∙ ap (λ ns. passed_names h (first_hash h i) 0 ++ ns) (sym (chain_names_more h i n (leaf_on h i n) at)) in
+      append_assoc (passed_names h (first_hash h i) 0) (chain_names h i n) (names_at h (leaf_on h i n)) ∙ ap (λ ns. passed_names h (first_hash h i) 0 ++ ns) (sym (chain_names_more h i n (leaf_on h i n) at)) in
       let all = subst (IsPermutation (passed_names h (first_hash h i) (n + 1))) end
-          (IsPermutation-trans (passed_names h (first_hash h i) (n + 1)) (passed_names h (first_hash h i) n ++ names_at h (leaf_on h i n)) ((passed_names h (first_hash h i) 0 ++ chain_names h i n) ++ names_at h (leaf_on h i n)) one two) in
+      (IsPermutation-trans (passed_names h (first_hash h i) (n + 1)) (passed_names h (first_hash h i) n ++ names_at h (leaf_on h i n)) ((passed_names h (first_hash h i) 0 ++ chain_names h i n) ++ names_at h (leaf_on h i n)) one two) in
       subst (λ m. IsPermutation (passed_names h (first_hash h i) m) (passed_names h (first_hash h i) 0 ++ chain_names h i m)) (add-one n) all
 
   -- ---- from one pointer to the next chain's
@@ -211,8 +210,8 @@ module _ (h : Holding) (sound : IsSound h) (hashed : is_hashed_in h ≡ true) wh
     begins_here =
         let s = start i low in
         elim (less_or_same s.begin i s.le) [
-          inl before ↦ absurd (listed.parted s.begin i before (omega arith) low s.same)
-        | inr same ↦ s.hash_is ∙ ap (hash_from h) same
+          | inl before ↦ absurd (listed.parted s.begin i before (omega arith) low s.same)
+          | inr same ↦ s.hash_is ∙ ap (hash_from h) same
         ]
 
     back : i / 2 ^ (depth_in h - depth) * 2 ^ (depth_in h - depth) ≤ i
@@ -241,7 +240,7 @@ module _ (h : Holding) (sound : IsSound h) (hashed : is_hashed_in h ≡ true) wh
         let d = (leaf_in h (entry h i)).depth in
         let first = same_first i k low lowk same in
         let bits : index_bits h d k ≡ index_bits h d i =
-            sym (bits_of_first d (index_bits h d k)) ∙ ap (top_bits d) (ap (λ y. index_bits h (leaf_in h y).depth k * 2 ^ (32 - (leaf_in h y).depth)) same ∙ sym first) ∙ bits_of_first d (index_bits h d i) in
+        sym (bits_of_first d (index_bits h d k)) ∙ ap (top_bits d) (ap (λ y. index_bits h (leaf_in h y).depth k * 2 ^ (32 - (leaf_in h y).depth)) same ∙ sym first) ∙ bits_of_first d (index_bits h d i) in
         let mine : k / n ≡ i / n = subst (λ m. k / 2 ^ (depth_in h - m) ≡ i / 2 ^ (depth_in h - m)) (sym depth_same) bits in
         let over : k < k / n * n + n = lt-div-mul-add run_pos in
         let e : k / n * n ≡ i / n * n = ap (λ m. m * n) mine in
@@ -250,9 +249,9 @@ module _ (h : Holding) (sound : IsSound h) (hashed : is_hashed_in h ≡ true) wh
 
     parted_next : (j k : ℕ) → j < next → next ≤ k → k < table_count h → entry h j ≢ entry h k
     parted_next j k ltj lek lowk same = elim (which j i) [
-        inl before ↦ listed.parted j k before (let f : i < next = further in omega (arith, f, lek)) lowk same
+      | inl before ↦ listed.parted j k before (let f : i < next = further in omega (arith, f, lek)) lowk same
       | inr at ↦ apart k lek lowk (sym (leads_here j at ltj (let l : next ≤ k = lek in omega (arith, ltj, l, lowk))) ∙ same)
-      ]
+    ]
       where
         which : (j i : ℕ) → (j < i) ⊎ (i ≤ j)
         which j i = grind arith
@@ -265,19 +264,19 @@ module _ (h : Holding) (sound : IsSound h) (hashed : is_hashed_in h ≡ true) wh
         cases hash at is =
             let b = begun x hash at is in
             elim (compared b.begin i) [
-              inl before ↦ both_before hash (first_hash h i) (hash_from h next) at (more.place + 1)
-                (subst₂ (λ m n. m < n) (sym b.hash_is) (sym begins_here) (hash_rises b.begin i before))
-                (subst (λ m. m < hash_from h next) (sym b.hash_is) (hash_rises b.begin next (let f : i < next = further in omega (arith, before, f))))
-            | inr rest ↦ elim rest [
-                inl same ↦
-                  let here : hash ≡ first_hash h i = b.hash_is ∙ ap (hash_from h) same ∙ sym begins_here in
-                  let chain : IsInChain h i at x = subst (λ n. IsInChain h n at x) same b.chain in
-                  subst (λ m. (nat_lt m (first_hash h i) || (m == first_hash h i && nat_lt at (more.place + 1))) ≡ (nat_lt m (hash_from h next) || (m == hash_from h next && nat_lt at 0))) (sym here)
-                  (both_here (first_hash h i) (hash_from h next) at (more.place + 1) (subst (λ m. m < hash_from h next) (sym begins_here) (hash_rises i next further)) (not_behind at chain))
-              | inr behind ↦
-                  both_behind hash (first_hash h i) (hash_from h next) at (more.place + 1)
-                  (subst₂ (λ m n. m < n) (sym begins_here) (sym b.hash_is) (hash_rises i b.begin behind))
-                  (subst (λ m. hash_from h next ≤ m) (sym b.hash_is) (hash_le next b.begin (from_next b.begin b.low behind b.begins)))
+              | inl before ↦ both_before hash (first_hash h i) (hash_from h next) at (more.place + 1)
+                  (subst₂ (λ m n. m < n) (sym b.hash_is) (sym begins_here) (hash_rises b.begin i before))
+                  (subst (λ m. m < hash_from h next) (sym b.hash_is) (hash_rises b.begin next (let f : i < next = further in omega (arith, before, f))))
+              | inr rest ↦ elim rest [
+                | inl same ↦
+                    let here : hash ≡ first_hash h i = b.hash_is ∙ ap (hash_from h) same ∙ sym begins_here in
+                    let chain : IsInChain h i at x = subst (λ n. IsInChain h n at x) same b.chain in
+                    subst (λ m. (nat_lt m (first_hash h i) || (m == first_hash h i && nat_lt at (more.place + 1))) ≡ (nat_lt m (hash_from h next) || (m == hash_from h next && nat_lt at 0))) (sym here)
+                    (both_here (first_hash h i) (hash_from h next) at (more.place + 1) (subst (λ m. m < hash_from h next) (sym begins_here) (hash_rises i next further)) (not_behind at chain))
+                | inr behind ↦
+                    both_behind hash (first_hash h i) (hash_from h next) at (more.place + 1)
+                    (subst₂ (λ m n. m < n) (sym begins_here) (sym b.hash_is) (hash_rises i b.begin behind))
+                    (subst (λ m. hash_from h next ≤ m) (sym b.hash_is) (hash_le next b.begin (from_next b.begin b.low behind b.begins)))
               ]
             ]
           where
@@ -289,9 +288,9 @@ module _ (h : Holding) (sound : IsSound h) (hashed : is_hashed_in h ≡ true) wh
 
             from_next : (s : ℕ) → s < table_count h → i < s → first_hash h s ≡ hash_from h s → next ≤ s
             from_next s lows behind begins = elim (which s next) [
-                inl fine ↦ fine
+              | inl fine ↦ fine
               | inr within ↦ absurd (let e : s ≡ i = hash_one s i (sym begins ∙ same_first s i lows low (leads_here s (omega (arith, behind)) within lows) ∙ begins_here) in omega (arith, e, behind))
-              ]
+            ]
               where
                 which : (s n : ℕ) → (n ≤ s) ⊎ (s < n)
                 which s n = grind arith
@@ -306,9 +305,9 @@ module _ (h : Holding) (sound : IsSound h) (hashed : is_hashed_in h ≡ true) wh
     listed_next = record {
       all = subst₂ IsPermutation (sym more.names) (ap (flat_map (names_at h)) (filter_same (λ x. is_passed (first_hash h i) (more.place + 1) (part_at h x)) (λ x. is_passed (hash_from h next) 0 (part_at h x)) (range_with_len 0 h.count) passed_same))
           (IsPermutation-trans (names ++ chain_names h i (more.place + 1)) (passed_names h (first_hash h i) 0 ++ chain_names h i (more.place + 1)) (passed_names h (first_hash h i) (more.place + 1))
-            (IsPermutation-append_left (chain_names h i (more.place + 1)) names (passed_names h (first_hash h i) 0) (subst (λ m. IsPermutation names (passed_names h m 0)) (sym begins_here) listed.all))
-            (IsPermutation-sym (passed_names h (first_hash h i) (more.place + 1)) (passed_names h (first_hash h i) 0 ++ chain_names h i (more.place + 1))
-              (whole_chain i more.place more.last (more.place + 1) more.chain (let e : more.place + 1 ≤ suc more.place = omega arith in e))));
+          (IsPermutation-append_left (chain_names h i (more.place + 1)) names (passed_names h (first_hash h i) 0) (subst (λ m. IsPermutation names (passed_names h m 0)) (sym begins_here) listed.all))
+          (IsPermutation-sym (passed_names h (first_hash h i) (more.place + 1)) (passed_names h (first_hash h i) 0 ++ chain_names h i (more.place + 1))
+          (whole_chain i more.place more.last (more.place + 1) more.chain (let e : more.place + 1 ≤ suc more.place = omega arith in e))));
       parted = parted_next;
     }
 

@@ -1,11 +1,11 @@
 -- The records of all leaves, where those of one are others.
-use Rattle.std.proofs.Common.{◌≡◌, ◌≢◌, ℕ, zero, suc, ◌+◌, ◌<◌, ◌≤◌, inl, inr, Bool, true, false, List, [], ◌∷◌, ◌++◌, refl, sym, ap, ap₂, ◌∙◌, subst, subst₂, append_assoc, cond, arith}
+use Rattle.std.proofs.Common.{◌≡◌, ◌≢◌, ℕ, zero, suc, ◌+◌, ◌<◌, ◌≤◌, inl, inr, Bool, true, false, List, ◌∷◌, ◌++◌, refl, sym, ap, ap₂, ◌∙◌, subst, subst₂, append_assoc, arith}
 use Rattle.std.specs.Prelude.{filter, flat_map}
 use Rattle.std.specs.List.{range_with_len}
 use Rattle.std.specs.List.Sorted.{IsPermutation}
 use Rattle.std.proofs.lemmas.Bool.{cases_eq, cond-true, cond-false}
 use Rattle.std.proofs.lemmas.List.Concat.{flat_map-cons}
-use Rattle.std.proofs.lemmas.List.Sorted.{IsPermutation-refl, IsPermutation-trans, IsPermutation-append_left, IsPermutation-append_right, IsPermutation-append_comm}
+use Rattle.std.proofs.lemmas.List.Sorted.{IsPermutation-trans, IsPermutation-append_left, IsPermutation-append_right, IsPermutation-append_comm}
 use Rattle.gfs2_layout.specs.Exchanges.{IsExchanged}
 use Rattle.gfs2_layout.specs.Records.{Record}
 
@@ -47,26 +47,26 @@ module _ (f k : ℕ → List Record) (test : ℕ → Bool) (y : ℕ) (passes : t
   pub regrouped : (a n : ℕ) → a ≤ y → y < a + n → IsExchanged (flat_map f (filter test (range_with_len a n))) (flat_map k (filter test (range_with_len a n))) gone come
   regrouped a zero low high = absurd (omega (arith, low, high))
   regrouped a (suc n) low high = elim (cases_eq y a) [
-      inl same ↦ here same
+    | inl same ↦ here same
     | inr other ↦ later (test a) refl (regrouped (a + 1) n (omega (arith, low, other)) (omega (arith, high))) (λ e. other (sym e))
-    ]
+  ]
     where
       here : y ≡ a → Exchanged (filter test (range_with_len a (suc n)))
       here same =
           let is_in : filter test (range_with_len a (suc n)) ≡ y ∷ filter test (range_with_len (a + 1) n) =
-              cond-true (test a) (a ∷ filter test (range_with_len (a + 1) n)) (filter test (range_with_len (a + 1) n)) (ap test (sym same) ∙ passes) ∙ ap (λ b. b ∷ filter test (range_with_len (a + 1) n)) (sym same) in
+          cond-true (test a) (a ∷ filter test (range_with_len (a + 1) n)) (filter test (range_with_len (a + 1) n)) (ap test (sym same) ∙ passes) ∙ ap (λ b. b ∷ filter test (range_with_len (a + 1) n)) (sym same) in
           subst Exchanged (sym is_in)
           (subst₂ (λ xs ys. IsExchanged xs ys gone come) (sym (flat_map-cons f y (filter test (range_with_len (a + 1) n))))
-            (ap (λ zs. k y ++ zs) (sym (same_behind (a + 1) n (omega (arith, same)))) ∙ sym (flat_map-cons k y (filter test (range_with_len (a + 1) n))))
-            (beside (f y) (k y) gone come is (flat_map f (filter test (range_with_len (a + 1) n)))))
+          (ap (λ zs. k y ++ zs) (sym (same_behind (a + 1) n (omega (arith, same)))) ∙ sym (flat_map-cons k y (filter test (range_with_len (a + 1) n))))
+          (beside (f y) (k y) gone come is (flat_map f (filter test (range_with_len (a + 1) n)))))
 
       later : (b : Bool) → test a ≡ b → Exchanged (filter test (range_with_len (a + 1) n)) → a ≢ y → Exchanged (filter test (range_with_len a (suc n)))
       later true e same other =
           let is_in : filter test (range_with_len a (suc n)) ≡ a ∷ filter test (range_with_len (a + 1) n) = cond-true (test a) (a ∷ filter test (range_with_len (a + 1) n)) (filter test (range_with_len (a + 1) n)) e in
           subst Exchanged (sym is_in)
           (subst₂ (λ xs ys. IsExchanged xs ys gone come) (sym (flat_map-cons f a (filter test (range_with_len (a + 1) n))))
-            (ap (λ zs. zs ++ flat_map k (filter test (range_with_len (a + 1) n))) (sym (others a other e)) ∙ sym (flat_map-cons k a (filter test (range_with_len (a + 1) n))))
-            (behind (flat_map f (filter test (range_with_len (a + 1) n))) (flat_map k (filter test (range_with_len (a + 1) n))) gone come same (f a)))
+          (ap (λ zs. zs ++ flat_map k (filter test (range_with_len (a + 1) n))) (sym (others a other e)) ∙ sym (flat_map-cons k a (filter test (range_with_len (a + 1) n))))
+          (behind (flat_map f (filter test (range_with_len (a + 1) n))) (flat_map k (filter test (range_with_len (a + 1) n))) gone come same (f a)))
       later false e same other =
           let out : filter test (range_with_len a (suc n)) ≡ filter test (range_with_len (a + 1) n) = cond-false (test a) (a ∷ filter test (range_with_len (a + 1) n)) (filter test (range_with_len (a + 1) n)) e in
           subst Exchanged (sym out) same

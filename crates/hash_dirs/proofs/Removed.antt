@@ -1,34 +1,33 @@
 -- What a directory is after a record was cut from one of its leaves.
-use Rattle.std.proofs.Common.{◌≡◌, ◌≢◌, ◌↔◌, ◌⊎◌, ℕ, suc, ◌+◌, ◌-◌, ◌*◌, ◌^◌, ◌<◌, ◌≤◌, inl, inr, Bool, true, false, List, [], ◌∷◌, ◌++◌, length, take, drop, Option, None, Some, Ok, refl, sym, ap, ◌∙◌, subst, subst₂, arith}
-use Rattle.std.specs.Prelude.{◌&&◌, ◌==◌, Contains, IsSome, count_by, filter, flat_map, option_map}
+use Rattle.std.proofs.Common.{◌≡◌, ◌≢◌, ℕ, suc, ◌-◌, ◌<◌, ◌≤◌, inl, inr, Bool, true, false, List, [], ◌∷◌, ◌++◌, length, take, drop, Option, None, Some, refl, sym, ap, ◌∙◌, subst, subst₂, arith}
+use Rattle.std.specs.Prelude.{◌==◌, Contains, IsSome, count_by, filter, flat_map, option_map}
 use Rattle.std.specs.List.{range_with_len}
 use Rattle.std.specs.List.Sorted.{IsPermutation}
 use Rattle.std.specs.FinMap.{insert}
 use Rattle.std.specs.Str.{bytes_eq}
-use Rattle.std.proofs.lemmas.Bool.{cases_Bool, cases_eq, cond-true, cond-false, eqb-true, true≢false}
+use Rattle.std.proofs.lemmas.Bool.{cases_Bool, cases_eq, cond-false, eqb-true, true≢false}
 use Rattle.std.proofs.lemmas.List.Sums.{sum_by-cons}
 use Rattle.std.proofs.Common.{cond}
 use Rattle.gfs2_layout.specs.Device.{IsBlockSize}
 use Rattle.std.proofs.lemmas.List.Sorted.{Contains-permutation, IsPermutation-sym, length_permutation, sum_by-IsPermutation}
 use Rattle.crc_words.specs.Remainder.{crc32_of}
-use Rattle.drafts.specs.Fates.{Drafted, seen_in, seen_with}
+use Rattle.drafts.specs.Fates.{Drafted, seen_in}
 use Rattle.drafts.specs.declared.fate.Fate.TheVariants.{Put}
 use Rattle.gfs2_layout.specs.Area.{Slot, IsArea, IsRecordAt, first_named, name_of, slots_of}
 use Rattle.gfs2_layout.specs.Bytes.{u32_at}
 use Rattle.gfs2_layout.specs.Cutting.{slot_from, slots_without}
 use Rattle.gfs2_layout.specs.Exchanges.{IsCounted, IsExchanged, directory_count}
 use Rattle.gfs2_layout.specs.Headers.{HasHeader}
-use Rattle.gfs2_layout.specs.Holding.{Holding, Cell, Part, Itself, Pointed, InChain, cell_part, part_at, bytes_at, cell_bytes}
+use Rattle.gfs2_layout.specs.Holding.{Holding, Cell, Part, Itself, Pointed, InChain, part_at, bytes_at, cell_bytes}
 use Rattle.gfs2_layout.specs.Inode.{IsInode, IsLeaf, depth_in, dinode_in, first_hash, has_hash_flag, is_directory_in, is_hashed_in, is_leaf_part, leaf_area, leaf_in, leaf_length, leaves_of, records_of, top_bits}
 use Rattle.gfs2_layout.specs.Records.{IsRecordArea, Record, record_named, record_of, records_in}
 use Rattle.gfs2_layout.specs.Structures.{dinode_length, dinode_of, header_fault, is_in_use, leaf_of, or_else, records_fault}
-use Rattle.gfs2_layout.specs.Writing.{dinode_put}
 use Rattle.gfs2_layout.specs.declared.dinode.Dinode.{Dinode}
 use Rattle.gfs2_layout.specs.declared.fault.LayoutFault.{LayoutFault}
 use Rattle.gfs2_layout.specs.declared.fault.LayoutFault.TheVariants.{Value}
 use Rattle.gfs2_layout.specs.declared.leaf.Leaf.{Leaf}
 use Rattle.gfs2_layout.proofs.HeaderLaws.{answer_ok, header_from}
-use Rattle.image_model.proofs.Held.{none_some, some_same}
+use Rattle.image_model.proofs.Held.{none_some}
 use Rattle.image_model.proofs.Rows.{and_left}
 use Rattle.glock_names.specs.Views.{Seen}
 use Rattle.glock_names.specs.declared.steps.Entry.{Entry}
@@ -37,7 +36,7 @@ use Rattle.dinode_tree.specs.Reading.{inode_lock}
 use Rattle.dinode_tree.specs.Shown as inode
 use Rattle.dinode_tree.proofs.Pads.{put_keeps}
 use Rattle.linear_dirs.specs.Exchanges.{HasExchanged, uncounted}
-use Rattle.linear_dirs.specs.Shown.{bytes_over, entry_of, holding_over}
+use Rattle.linear_dirs.specs.Shown.{bytes_over, holding_over}
 use Rattle.linear_dirs.proofs.Counts.{counts_fewer}
 use Rattle.linear_dirs.proofs.Looked.{bytes_of}
 use Rattle.linear_dirs.proofs.Over.{as_seen}
@@ -47,8 +46,7 @@ use Rattle.hash_dirs.specs.Finding.{IsFirstNamed, in_leaf, named_in}
 use Rattle.hash_dirs.specs.Shown.{IsShown, IsSound, index_for}
 use Rattle.hash_dirs.specs.Spots.{IsInPlace, IsSpotIn}
 use Rattle.hash_dirs.specs.declared.finding.Found.{Found}
-use Rattle.pointer_tables.specs.Directories.{IsInChain}
-use Rattle.hash_dirs.proofs.Anew.{KeepsTree, alike}
+use Rattle.hash_dirs.proofs.Anew.{KeepsTree}
 use Rattle.hash_dirs.proofs.Chained.{cell_some, in_chain}
 use Rattle.hash_dirs.proofs.Cuts.{seen_apart}
 use Rattle.hash_dirs.proofs.Named.{records_are}
@@ -63,9 +61,9 @@ or_none (Some fault) b e = absurd (none_some (sym e))
 
 format_is : (bytes : List ℕ) → records_fault bytes ≡ None → u32_at 28 bytes ≡ 1200
 format_is bytes e = elim (cases_Bool (u32_at 28 bytes == 1200)) [
-    inl same ↦ eqb-true (u32_at 28 bytes) 1200 same
+  | inl same ↦ eqb-true (u32_at 28 bytes) 1200 same
   | inr other ↦ absurd (none_some (sym e ∙ cond-false (u32_at 28 bytes == 1200) None (Some (Value 28 (u32_at 28 bytes))) other))
-  ]
+]
 
 over_same : (o : Option (List ℕ)) (c : Option Cell) → ((bytes : List ℕ) → IsSome c → o ≡ Some bytes → cell_bytes c ≡ bytes) → cell_bytes (option_map (bytes_over o) c) ≡ cell_bytes c
 over_same o None same = refl
@@ -248,24 +246,24 @@ module _ {V : Type 0} (seen : V → Seen) (old new : Drafted V) (dir : ℕ) (nam
   keeps_leaves = record {
     header = subst (HasHeader 4 400) (sym after_own) (header_from dinode_length 4 400 put.block read_dinode.0);
     whole = λ b p at. elim (cases_eq b h.own) [
-        inl own ↦ ap (λ y. length (bytes_at after y)) own ∙ ap length after_own ∙ put.long ∙ sym shown.inode.size
+      | inl own ↦ ap (λ y. length (bytes_at after y)) own ∙ ap length after_own ∙ put.long ∙ sym shown.inode.size
       | inr not_the_own ↦ elim (cases_eq b f.block) [
-          inl here ↦ ap (λ y. length (bytes_at after y)) here ∙ ap length after_x ∙ put.leaf_long ∙ sym shown.inode.size
+        | inl here ↦ ap (λ y. length (bytes_at after y)) here ∙ ap length after_x ∙ put.leaf_long ∙ sym shown.inode.size
         | inr other ↦ ap length (after_other b other not_the_own) ∙ sound.inode.whole b p at
-        ]
-      ];
+      ]
+    ];
     depths = λ y hash at part. elim (cases_eq y f.block) [
-        inl here ↦ ap (λ z. (leaf_in after z).depth) here ∙ ap (λ (l : Leaf). l.depth) leaf_now ∙ ap (λ z. (leaf_in h z).depth) (sym here)
+      | inl here ↦ ap (λ z. (leaf_in after z).depth) here ∙ ap (λ (l : Leaf). l.depth) leaf_now ∙ ap (λ z. (leaf_in h z).depth) (sym here)
       | inr other ↦ ap (λ b. (leaf_of b).depth) (leaf_bytes y hash at part other)
-      ];
+    ];
     nexts = λ y hash at part. elim (cases_eq y f.block) [
-        inl here ↦ ap (λ z. (leaf_in after z).next) here ∙ ap (λ (l : Leaf). l.next) leaf_now ∙ ap (λ z. (leaf_in h z).next) (sym here)
+      | inl here ↦ ap (λ z. (leaf_in after z).next) here ∙ ap (λ (l : Leaf). l.next) leaf_now ∙ ap (λ z. (leaf_in h z).next) (sym here)
       | inr other ↦ ap (λ b. (leaf_of b).next) (leaf_bytes y hash at part other)
-      ];
+    ];
     leaves = λ y hash at part leaf. elim (cases_eq y f.block) [
-        inl here ↦ subst (IsLeaf after hash) (sym here) (cut_leaf hash (subst (IsLeaf h hash) here leaf))
+      | inl here ↦ subst (IsLeaf after hash) (sym here) (cut_leaf hash (subst (IsLeaf h hash) here leaf))
       | inr other ↦ leaf_stays h after hash y (leaf_bytes y hash at part other) deep leaf
-      ];
+    ];
   }
     where
       leaf_bytes : (y hash at : ℕ) → part_at h y ≡ Some (InChain hash at) → y ≢ f.block → bytes_at after y ≡ bytes_at h y
@@ -302,11 +300,11 @@ module _ {V : Type 0} (seen : V → Seen) (old new : Drafted V) (dir : ℕ) (nam
       let leaf = (sound.inode.hashed shown.hashed).leaves f.block (first_hash h (index_for h name)) place.place part_x in
       let both = exchange (subst (λ b. IsRecordArea (drop leaf_length b)) bytes_x leaf.area) in
       let here : IsExchanged (records_in (leaf_area h f.block)) (records_in (leaf_area after f.block)) (record_of slot ∷ []) [] =
-          subst₂ (λ a b. IsExchanged (records_in a) (records_in b) (record_of slot ∷ []) []) (sym area_x) (sym area_now) both.1 in
+      subst₂ (λ a b. IsExchanged (records_in a) (records_in b) (record_of slot ∷ []) []) (sym area_x) (sym area_now) both.1 in
       subst₂ (λ a b. IsExchanged a b (record_of slot ∷ []) []) (sym (records_are h shown.hashed)) (ap (flat_map (λ y. records_in (leaf_area after y))) (sym leaves_same) ∙ sym (records_are after hashed_after))
       (regrouped (λ y. records_in (leaf_area h y)) (λ y. records_in (leaf_area after y)) (λ y. is_leaf_part (part_at h y)) f.block (ap is_leaf_part part_x) (record_of slot ∷ []) [] here
-        (λ y other is_leaf. ap (λ b. records_in (drop leaf_length b)) (after_other y other (λ e. true≢false (sym is_leaf ∙ ap (λ z. is_leaf_part (part_at h z)) e ∙ ap is_leaf_part sound.placed.own))))
-        0 h.count (omega arith) (let low : f.block < h.count = sound.placed.inside f.block some_x in omega (arith, low)))
+      (λ y other is_leaf. ap (λ b. records_in (drop leaf_length b)) (after_other y other (λ e. true≢false (sym is_leaf ∙ ap (λ z. is_leaf_part (part_at h z)) e ∙ ap is_leaf_part sound.placed.own))))
+      0 h.count (omega arith) (let low : f.block < h.count = sound.placed.inside f.block some_x in omega (arith, low)))
 
   large : 512 ≤ h.size
   large = size_large h.size sound.block_size

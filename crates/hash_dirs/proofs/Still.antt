@@ -1,15 +1,15 @@
 -- A hashed directory with other bytes in its blocks that lead where they led, and leaves that are as they have to be: it is sound as before.
-use Rattle.std.proofs.Common.{◌≡◌, ◌≢◌, ◌⊎◌, ℕ, suc, ◌+◌, ◌-◌, ◌*◌, ◌/◌, ◌^◌, ◌<◌, ◌≤◌, inl, inr, Bool, true, false, List, [], ◌∷◌, ◌++◌, length, drop, Option, None, Some, refl, sym, ap, ap₂, ◌∙◌, subst, subst₂, arith}
+use Rattle.std.proofs.Common.{◌≡◌, ◌≢◌, ℕ, suc, ◌+◌, ◌-◌, ◌*◌, ◌/◌, ◌^◌, ◌<◌, ◌≤◌, inl, Bool, true, false, length, Option, None, Some, refl, sym, ap, ◌∙◌, subst, arith}
 use Rattle.std.specs.Prelude.{◌&&◌, count_by, is_some}
 use Rattle.std.specs.List.{range_with_len}
 use Rattle.gfs2_layout.specs.Bytes.{u64_at}
 use Rattle.gfs2_layout.specs.Headers.{HasHeader}
 use Rattle.gfs2_layout.specs.Holding.{Holding, Cell, Part, InChain, cell_part, part_at, bytes_at}
-use Rattle.gfs2_layout.specs.Inode.{Head, IsInode, IsHashed, IsLeaf, IsNextLeaf, block_count, depth_in, dinode_in, entry, fan, first_hash, has_hash_flag, head_of, index_bits, is_directory_in, is_hashed_in, leaf_in, span, table_count}
-use Rattle.gfs2_layout.specs.Structures.{dinode_length, is_directory, is_regular}
+use Rattle.gfs2_layout.specs.Inode.{IsInode, IsHashed, IsLeaf, IsNextLeaf, block_count, depth_in, entry, fan, first_hash, has_hash_flag, head_of, index_bits, is_directory_in, is_hashed_in, leaf_in, span, table_count}
+use Rattle.gfs2_layout.specs.Structures.{dinode_length, is_directory}
 use Rattle.gfs2_layout.specs.declared.dinode.Dinode.{Dinode}
 use Rattle.growth_laws.specs.Files.{with_cells}
-use Rattle.hash_dirs.proofs.Anew.{KeepsTree, alike, content_after, count_after, directory_after, height_after, size_after, tree_after}
+use Rattle.hash_dirs.proofs.Anew.{KeepsTree, content_after, count_after, directory_after, height_after, size_after, tree_after}
 
 pub record KeepsLeaves (h : Holding) (cell : ℕ → Option Cell) : Type 0 where
   pub header : HasHeader 4 400 (bytes_at (with_cells h cell) h.own)

@@ -17,7 +17,7 @@ use Rattle.gfs2_layout.specs.Exchanges.{directory_count}
 use Rattle.gfs2_layout.specs.Records.{Record}
 use Rattle.linear_dirs.specs.Exchanges.{uncounted}
 use Rattle.linear_dirs.specs.Reading.{IsFewer}
-use Rattle.hash_dirs.specs.Finding.{IsNamedLater, named_in}
+use Rattle.hash_dirs.specs.Finding.{IsNamedLater}
 use Rattle.hash_dirs.specs.Shown.{IsInChain, index_for}
 
 -- the bytes of a leaf's block after the record at a place was cut: the head counts one record less

@@ -1,15 +1,15 @@
 -- How a name comes into a hashed directory: leaves that are split, a table that is doubled, overflow leaves.
-use Rattle.std.specs.Prelude.{ℕ, zero, suc, ◌≡◌, ◌≢◌, ◌⊎◌, ◌+◌, ◌-◌, ◌*◌, ◌/◌, ◌%◌, ◌^◌, ◌<◌, ◌≤◌, ◌==◌, ◌&&◌, not, Bool, true, false, if◌then◌else◌, List, [], ◌∷◌, ◌++◌, length, replicate, filter, Option, None, Some}
+use Rattle.std.specs.Prelude.{ℕ, ◌≡◌, ◌≢◌, ◌⊎◌, ◌+◌, ◌-◌, ◌*◌, ◌/◌, ◌%◌, ◌^◌, ◌<◌, ◌≤◌, ◌==◌, ◌&&◌, not, Bool, true, false, if◌then◌else◌, List, [], ◌∷◌, ◌++◌, length, replicate, filter, Option, None, Some}
 use Rattle.std.specs.List.{list_any}
 use Rattle.std.specs.Option.{option_and_then}
 use Rattle.crc_words.specs.Remainder.{crc32_of}
 use Rattle.gfs2_layout.specs.Area.{Slot, IsArea, name_of, slots_of}
 use Rattle.gfs2_layout.specs.Cutting.{without}
 use Rattle.gfs2_layout.specs.Exchanges.{IsCounted}
-use Rattle.gfs2_layout.specs.Holding.{Holding, InChain, bytes_at, part_at}
-use Rattle.gfs2_layout.specs.Inode.{dinode_in, depth_in, entry, first_hash, is_hashed_in, leaf_area, leaf_in, leaf_length, linear_area, table_count}
+use Rattle.gfs2_layout.specs.Holding.{Holding, InChain, part_at}
+use Rattle.gfs2_layout.specs.Inode.{dinode_in, depth_in, entry, is_hashed_in, leaf_area, leaf_in, leaf_length, linear_area, table_count}
 use Rattle.gfs2_layout.specs.Putting.{has_room, least_length, put_slot}
-use Rattle.gfs2_layout.specs.Structures.{dinode_length, is_in_use}
+use Rattle.gfs2_layout.specs.Structures.{is_in_use}
 use Rattle.gfs2_layout.specs.declared.dirent.Dirent.{Dirent}
 use Rattle.gfs2_layout.specs.declared.leaf.Leaf.{Leaf}
 use Rattle.glock_names.specs.declared.steps.Entry.{Entry}

@@ -47,12 +47,7 @@ fn add_name(
 }
 
 // Adds the names of the records of the leaf in this block.
-fn add_names(
-    alloc: Global,
-    names: &mut Vec<Name>,
-    area: &[u8],
-    block: u64,
-) -> Result<(), CallFault>
+fn add_names(alloc: Global, names: &mut Vec<Name>, area: &[u8], block: u64) -> Result<(), CallFault>
     requires { IsArea area.now }
     ensures added { OnOk result (names.new.items ≡ names.old.items ++ names_of (records_in area.now)) }
     ensures damaged { (h : Holding) (i from : ℕ) → records_in (leaf_area h block) ≡ records_in area.now → LeadsToLeaf h i from block → block ≢ 0 → IfDamaged result (IsBroken h) }

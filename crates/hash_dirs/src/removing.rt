@@ -101,11 +101,7 @@ fn cut_found<V: View>(
 }
 
 // Writes a directory's dinode over the old one, in the draft.
-fn put_dinode<V: View>(
-    draft: &mut Draft<'_, V>,
-    dir: u64,
-    dinode: &Dinode,
-) -> Result<(), NoMemory>
+fn put_dinode<V: View>(draft: &mut Draft<'_, V>, dir: u64, dinode: &Dinode) -> Result<(), NoMemory>
     requires there { HasBlock (seen_in V.seen draft.old) dir }
     requires large { dinode_length ≤ (V.seen draft.old.view).size }
     ensures put { (bytes : List ℕ) → (seen_in V.seen draft.old).block_at dir ≡ Some bytes

@@ -1,7 +1,7 @@
 -- A hashed directory as a view shows it, and the inode that it is, its leaves aside.
 use Rattle.std.specs.Prelude.{ℕ, ◌≡◌, ◌≢◌, ◌+◌, ◌<◌, true, length, IsSome, None, Some}
 use Rattle.gfs2_layout.specs.Headers.{HasHeader}
-use Rattle.gfs2_layout.specs.Holding.{Holding, Part, Itself, InChain, bytes_at, part_at}
+use Rattle.gfs2_layout.specs.Holding.{Holding, Part, Itself, bytes_at, part_at}
 use Rattle.gfs2_layout.specs.Inode.{Fits, HasTree, block_count, dinode_in, entry, is_hashed_in, leaf_in, table_count}
 use Rattle.glock_names.specs.Views.{Seen}
 use Rattle.dinode_tree.specs.Shown as inode

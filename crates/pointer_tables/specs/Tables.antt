@@ -1,5 +1,5 @@
 -- What becomes of a directory's table.
-use Rattle.std.specs.Prelude.{ℕ, suc, zero, ◌≡◌, ◌⊎◌, ◌+◌, ◌-◌, ◌*◌, ◌/◌, ◌<◌, ◌≤◌, ◌&&◌, Bool, false, nat_le, nat_lt, if◌then◌else◌, List, ◌++◌, length, drop, Option, None, Some, IsSome, option_map}
+use Rattle.std.specs.Prelude.{ℕ, suc, zero, ◌≡◌, ◌⊎◌, ◌+◌, ◌-◌, ◌*◌, ◌/◌, ◌<◌, ◌&&◌, Bool, false, nat_le, nat_lt, if◌then◌else◌, List, ◌++◌, length, Option, Some, IsSome, option_map}
 use Rattle.std.specs.FinMap.{FinMap, get}
 use Rattle.std.specs.Ordering.{nat_cmp}
 use Rattle.drafts.specs.declared.fate.Fate.{Fate}
@@ -8,7 +8,7 @@ use Rattle.gfs2_layout.specs.Holding.{Holding, InChain, part_at, bytes_at}
 use Rattle.gfs2_layout.specs.Inode.{dinode_in, entry, fan, header_length, pieces, span, table_count}
 use Rattle.gfs2_layout.specs.Structures.{dinode_length}
 use Rattle.dinode_tree.specs.Reading.{inode_lock}
-use Rattle.growth_drafts.specs.Taken.{AreFreeFor, HasTaken}
+use Rattle.growth_drafts.specs.Taken.{HasTaken}
 use Rattle.pointer_tables.specs.Directories.{IsPlaced, IsTreeSound}
 use Rattle.pointer_tables.specs.declared.pointer.Pointer.{Pointer}
 

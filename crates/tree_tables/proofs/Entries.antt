@@ -1,19 +1,17 @@
 -- The pointers of a table in the content of its directory, as the blocks have them.
-use Rattle.std.proofs.Common.{◌≡◌, ◌≢◌, ℕ, suc, ◌+◌, ◌-◌, ◌*◌, ◌/◌, ◌%◌, ◌^◌, ◌<◌, ◌≤◌, inl, inr, Bool, true, false, List, length, take, drop, replicate, refl, sym, ap, ◌∙◌, subst, arith, drop-drop, length-drop}
+use Rattle.std.proofs.Common.{◌≡◌, ◌≢◌, ℕ, suc, ◌+◌, ◌-◌, ◌*◌, ◌/◌, ◌%◌, ◌<◌, ◌≤◌, inl, inr, true, List, length, take, drop, replicate, refl, sym, ap, ◌∙◌, subst, arith, drop-drop, length-drop}
 use Rattle.std.specs.Prelude.{flat_map, ◌==◌}
 use Rattle.std.specs.Int.{w64, from_be_bytes}
 use Rattle.std.specs.List.{range_with_len}
-use Rattle.std.proofs.Math.Nat.{mod-lt}
 use Rattle.std.proofs.lemmas.Bool.{cases_eq, cond-true, cond-false, eq-eqb, ne_eqb}
-use Rattle.std.proofs.lemmas.Nat.{div-add-mod', div_below}
+use Rattle.std.proofs.lemmas.Nat.{div-add-mod'}
 use Rattle.std.proofs.lemmas.List.{drop-take, length-replicate, take-take}
-use Rattle.std.proofs.Math.Nat.{mul-div_cancel, mul-le-mul_right}
+use Rattle.std.proofs.Math.Nat.{mul-div_cancel}
 use Rattle.growth_laws.proofs.Numbers.{zeros_are_no_number}
-use Rattle.std.proofs.lemmas.List.{drop_all}
-use Rattle.gfs2_layout.specs.Inode.{Fits, fan, pieces, span}
+use Rattle.gfs2_layout.specs.Inode.{Fits}
 use Rattle.dinode_tree.specs.Reading.{AreWholeBefore, reach}
 use Rattle.dinode_tree.proofs.Pointers.{some_within}
-use Rattle.dinode_tree.proofs.Ranges.{before_end, piece_within}
+use Rattle.dinode_tree.proofs.Ranges.{piece_within}
 use Rattle.gfs2_layout.specs.Bytes.{number_at, u64_at}
 use Rattle.gfs2_layout.specs.Device.{IsBlockSize}
 use Rattle.gfs2_layout.specs.Holding.{Holding, bytes_at}
@@ -70,14 +68,14 @@ module _ (h : Holding) (level : ℕ) (block_size : IsBlockSize h.size) (director
   -- each piece of the content is as long as a block carries
   piece_long : (j : ℕ) → j < content_count h → length (carried h (content_block h j)) ≡ unit h
   piece_long j low = elim (cases_eq (content_block h j) 0) [
-      inl none ↦ ap length (cond-true (content_block h j == 0) (replicate (unit h) 0) (drop (h.size - unit h) (bytes_at h (content_block h j))) (eq-eqb (content_block h j) 0 none)) ∙ length-replicate (unit h) 0
+    | inl none ↦ ap length (cond-true (content_block h j == 0) (replicate (unit h) 0) (drop (h.size - unit h) (bytes_at h (content_block h j))) (eq-eqb (content_block h j) 0 none)) ∙ length-replicate (unit h) 0
     | inr some ↦
         let reached : j < reach h.size (height_in h) = subst (λ n. j < reach h.size n) (sym high) (omega (arith, low, fits.under level high)) in
         let at : suc j * unit h / unit h ≡ suc j = mul-div_cancel (suc j) unit_some in
         let long : length (bytes_at h (content_block h j)) ≡ h.size = whole (suc j * unit h) j (content_block h j) (omega (arith, at)) low (some_within h j (content_block h j) reached refl some) in
         ap length (cond-false (content_block h j == 0) (replicate (unit h) 0) (drop (h.size - unit h) (bytes_at h (content_block h j))) (ne_eqb (content_block h j) 0 some))
         ∙ length-drop (h.size - unit h) (bytes_at h (content_block h j)) ∙ omega (arith, long, unit_is, size_some)
-    ]
+  ]
 
   module _ (i : ℕ) (low : 8 * i + 8 ≤ (dinode_in h).size) where
     pub q : ℕ

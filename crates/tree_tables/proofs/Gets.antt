@@ -1,12 +1,12 @@
 -- The pointer that was read, of a directory and of the view alone.
-use Rattle.std.proofs.Common.{◌≡◌, ◌≢◌, ℕ, suc, ◌+◌, ◌-◌, ◌*◌, ◌/◌, ◌%◌, ◌^◌, ◌<◌, ◌≤◌, inl, inr, Bool, true, false, List, length, drop, Option, None, Some, Result, Ok, Err, refl, sym, ap, ◌∙◌, subst, arith}
-use Rattle.std.specs.Prelude.{◌==◌, ◌&&◌, IsSome, nat_lt, option_map, if◌then◌else◌}
+use Rattle.std.proofs.Common.{◌≡◌, ◌≢◌, ℕ, suc, ◌+◌, ◌-◌, ◌*◌, ◌/◌, ◌%◌, ◌^◌, ◌<◌, ◌≤◌, inl, inr, Bool, true, false, List, None, Some, Result, Ok, Err, refl, sym, ap, ◌∙◌, subst, arith}
+use Rattle.std.specs.Prelude.{◌==◌, IsSome, nat_lt, option_map, if◌then◌else◌}
 use Rattle.std.proofs.lemmas.Bool.{cases_Bool, cases_eq, cond-true, cond-false, eq-eqb, ne_eqb, eqb-true, lt-ltb}
 use Rattle.gfs2_layout.specs.Bytes.{u64_at}
 use Rattle.gfs2_layout.specs.Device.{IsBlockSize}
 use Rattle.gfs2_layout.specs.Headers.{HasHeader}
 use Rattle.gfs2_layout.specs.Holding.{Holding, bytes_at}
-use Rattle.gfs2_layout.specs.Inode.{Fits, Leads, content_block, content_count, dinode_in, entry, entry_block, fan, header_length, height_in, is_directory_in, is_hashed_in, has_hash_flag, span, unit}
+use Rattle.gfs2_layout.specs.Inode.{Fits, Leads, content_block, dinode_in, entry, entry_block, header_length, height_in, is_directory_in, has_hash_flag, unit}
 use Rattle.gfs2_layout.specs.Structures.{dinode_length, file_type, is_regular}
 use Rattle.image_model.proofs.Held.{none_some, some_same}
 use Rattle.image_model.proofs.Rows.{and_left}
@@ -24,7 +24,7 @@ use Rattle.linear_dirs.proofs.Looked.{bytes_of}
 use Rattle.pointer_tables.specs.declared.pointer.Pointer.{Pointer}
 use Rattle.tree_tables.specs.Pointers.{IsTableOf, block_of, bytes_or_none, carries, or_zero, pointer_at, pointer_in, seen_as, table_block}
 use Rattle.tree_tables.specs.declared.tree_table.TreeTable.{TreeTable}
-use Rattle.tree_tables.proofs.Entries.{entry_in_block, entry_in_hole, entry_stuffed, unit_is, within}
+use Rattle.tree_tables.proofs.Entries.{entry_in_block, entry_in_hole, entry_stuffed, within}
 
 -- what is known of a block where there is an answer
 pub where_there : {A : Type 0} (v : Seen) (b : ℕ) (result : Result (Step A) CallFault) (F : List ℕ → A → Type 0) (Q : A → Type 0) → IfIs result (λ a. HasBlock v b)
@@ -58,9 +58,9 @@ by_two F a b c d e g = ap (λ n. F n c) e ∙ ap (λ n. F b n) g
 
 pub one_less : (n : ℕ) → n ≢ 0 → n ≡ suc (n - 1)
 one_less n some = elim (cases_eq n 0) [
-    inl none ↦ absurd (some none)
+  | inl none ↦ absurd (some none)
   | inr more ↦ omega (arith, more)
-  ]
+]
 
 -- ---- which block has the pointer
 
@@ -69,9 +69,9 @@ some_block h i b is = by (nat_lt i (reach h.size (height_in h))) (content_block 
   where
     targets : (p : ℕ) → target p ≡ Some b → (p ≡ b) × (b ≢ 0)
     targets p e = elim (cases_eq p 0) [
-        inl zero_is ↦ absurd (none_some (sym (cond-true (p == 0) None (Some p) (eq-eqb p 0 zero_is)) ∙ e))
+      | inl zero_is ↦ absurd (none_some (sym (cond-true (p == 0) None (Some p) (eq-eqb p 0 zero_is)) ∙ e))
       | inr some ↦ let same : p ≡ b = some_same (sym (cond-false (p == 0) None (Some p) (ne_eqb p 0 some)) ∙ e) in (same, λ z. some (same ∙ z))
-      ]
+    ]
 
     by : (t : Bool) (p : ℕ) → (if t then target p else None) ≡ Some b → (p ≡ b) × (b ≢ 0)
     by true p e = targets p e
@@ -79,10 +79,10 @@ some_block h i b is = by (nat_lt i (reach h.size (height_in h))) (content_block 
 
 no_block : (h : Holding) (i : ℕ) → i < reach h.size (height_in h) → block_at h i ≡ None → content_block h i ≡ 0
 no_block h i low is = elim (cases_eq (content_block h i) 0) [
-    inl none ↦ none
+  | inl none ↦ none
   | inr some ↦ absurd (none_some (sym is ∙ cond-true (nat_lt i (reach h.size (height_in h))) (target (content_block h i)) None (low_is i (reach h.size (height_in h)) low)
       ∙ cond-false (content_block h i == 0) None (Some (content_block h i)) (ne_eqb (content_block h i) 0 some)))
-  ]
+]
   where
     low_is : (a b : ℕ) → a < b → nat_lt a b ≡ true
     low_is a b less = lt-ltb a b less
@@ -137,9 +137,10 @@ module _ (t : TreeTable) (v : Seen) (h : Holding) (i : ℕ) (table : IsTableOf t
   unit_carries = cond-true (is_directory_in h) (h.size - header_length) h.size directory ∙ ap (λ n. n - header_length) table.shown.size
 
   pub found_stuffed : (p : Pointer) (bytes : List ℕ) → height_in h ≡ 0 → v.block_at t.directory ≡ Some bytes → p.leaf ≡ u64_at (dinode_length + 8 * i) bytes → p.from ≡ t.directory → (p.leaf ≡ entry h i) × (p.from ≡ entry_block h i)
-  found_stuffed p bytes none at leaf from =
-      (leaf ∙ ap (u64_at (dinode_length + 8 * i)) (sym (bytes_of v h t.directory bytes table.shown at)) ∙ sym (entry_stuffed h i inside none),
-      from ∙ sym table.shown.own ∙ sym (cond-true (height_in h == 0) _ _ (eq-eqb (height_in h) 0 none)))
+  found_stuffed p bytes none at leaf from = (
+    leaf ∙ ap (u64_at (dinode_length + 8 * i)) (sym (bytes_of v h t.directory bytes table.shown at)) ∙ sym (entry_stuffed h i inside none),
+    from ∙ sym table.shown.own ∙ sym (cond-true (height_in h == 0) _ _ (eq-eqb (height_in h) 0 none)),
+  )
 
   module _ (level : ℕ) (high : height_in h ≡ suc level) where
     not_zero : height_in h ≢ 0
@@ -148,24 +149,26 @@ module _ (t : TreeTable) (v : Seen) (h : Holding) (i : ℕ) (table : IsTableOf t
     pub found_block : (p : Pointer) (b : ℕ) (bytes : List ℕ) → block_at h (8 * i / unit h) ≡ Some b → bytes_at h b ≡ bytes → p.leaf ≡ u64_at (header_length + 8 * i % unit h) bytes → p.from ≡ b → (p.leaf ≡ entry h i) × (p.from ≡ entry_block h i)
     found_block p b bytes is at leaf from =
         let block = some_block h (8 * i / unit h) b is in
-        let some : content_block h (8 * i / unit h) ≢ 0 = λ z. block.1 (sym block.0 ∙ z) in
-        (leaf ∙ ap (u64_at (header_length + 8 * i % unit h)) (sym at ∙ ap (bytes_at h) (sym block.0)) ∙ sym (entry_in_block h level size_h directory high fits table.whole i inside some),
-        from ∙ sym block.0 ∙ sym (cond-false (height_in h == 0) _ _ (ne_eqb (height_in h) 0 not_zero) ∙ cond-false (content_block h (8 * i / unit h) == 0) _ _ (ne_eqb (content_block h (8 * i / unit h)) 0 some)))
+        let some : content_block h (8 * i / unit h) ≢ 0 = λ z. block.1 (sym block.0 ∙ z) in (
+          leaf ∙ ap (u64_at (header_length + 8 * i % unit h)) (sym at ∙ ap (bytes_at h) (sym block.0)) ∙ sym (entry_in_block h level size_h directory high fits table.whole i inside some),
+          from ∙ sym block.0 ∙ sym (cond-false (height_in h == 0) _ _ (ne_eqb (height_in h) 0 not_zero) ∙ cond-false (content_block h (8 * i / unit h) == 0) _ _ (ne_eqb (content_block h (8 * i / unit h)) 0 some)),
+        )
 
     pub found_hole : block_at h (8 * i / unit h) ≡ None → (0 ≡ entry h i) × (t.directory ≡ entry_block h i)
     found_hole is =
         let reached : 8 * i / unit h < reach h.size (height_in h) = subst (λ n. 8 * i / unit h < reach h.size n) (sym high) (omega (arith, within h level size_h directory high fits table.whole i inside, fits.under level high)) in
-        let none = no_block h (8 * i / unit h) reached is in
-        (sym (entry_in_hole h level size_h directory high fits table.whole i inside none),
-        sym table.shown.own ∙ sym (cond-false (height_in h == 0) _ _ (ne_eqb (height_in h) 0 not_zero) ∙ cond-true (content_block h (8 * i / unit h) == 0) _ _ (eq-eqb (content_block h (8 * i / unit h)) 0 none)))
+        let none = no_block h (8 * i / unit h) reached is in (
+          sym (entry_in_hole h level size_h directory high fits table.whole i inside none),
+          sym table.shown.own ∙ sym (cond-false (height_in h == 0) _ _ (ne_eqb (height_in h) 0 not_zero) ∙ cond-true (content_block h (8 * i / unit h) == 0) _ _ (eq-eqb (content_block h (8 * i / unit h)) 0 none)),
+        )
 
   -- ---- what is asked for, and what is broken
 
   no_file : is_regular (dinode_in h) ≡ false
   no_file = elim (cases_Bool (is_regular (dinode_in h))) [
-      inl file ↦ absurd (both (file_type (dinode_in h).mode) (eqb-true _ 4 directory) (eqb-true _ 8 file))
+    | inl file ↦ absurd (both (file_type (dinode_in h).mode) (eqb-true _ 4 directory) (eqb-true _ 8 file))
     | inr none ↦ none
-    ]
+  ]
     where
       both : (n : ℕ) → n ≡ 4 → n ≡ 8 → ⊥
       both n e g = omega (arith, e, g)

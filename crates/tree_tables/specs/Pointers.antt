@@ -1,5 +1,5 @@
 -- The pointers of a table that stands in its directory's blocks.
-use Rattle.std.specs.Prelude.{ℕ, ◌≡◌, ◌⊎◌, ◌+◌, ◌-◌, ◌*◌, ◌/◌, ◌%◌, ◌^◌, ◌==◌, true, if◌then◌else◌, List, [], Option, None, Some, option_map, IsSome}
+use Rattle.std.specs.Prelude.{ℕ, ◌≡◌, ◌⊎◌, ◌+◌, ◌-◌, ◌*◌, ◌/◌, ◌%◌, ◌^◌, ◌==◌, true, if◌then◌else◌, List, [], Option, None, Some, option_map}
 use Rattle.gfs2_layout.specs.Bytes.{u64_at}
 use Rattle.gfs2_layout.specs.Holding.{Holding, Itself, bytes_at}
 use Rattle.gfs2_layout.specs.Inode.{Leads, depth_in, dinode_in, header_length, height_in, is_hashed_in}

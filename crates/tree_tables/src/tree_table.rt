@@ -14,9 +14,7 @@ ghost use Rattle.dinode_tree.specs.Shown as inode;
 ghost use Rattle.hash_dirs.specs.Broken.{IsBroken};
 
 use crate::numbers::number_at;
-use dinode_tree::{
-    Located, all_blocks_are_shown, locate, read_dinode,
-};
+use dinode_tree::{Located, all_blocks_are_shown, locate, read_dinode};
 use drafts::Draft;
 use gfs2_layout::{DINODE_LENGTH, Dinode, has_header};
 use glock_names::{CallFault, Missing, Step, View, block_of};

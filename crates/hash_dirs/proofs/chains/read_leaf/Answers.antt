@@ -1,4 +1,4 @@
-use Rattle.std.proofs.Common.{refl, ap, arith}
+use Rattle.std.proofs.Common.{refl, arith}
 use Rattle.dinode_tree.proofs.Dinodes.{lacks}
 use Rattle.linear_dirs.proofs.Looked.{rest_is}
 use Rattle.hash_dirs.proofs.Leaves.{lacks_header, other_format, deeper, not_filled, head_is}

@@ -1,8 +1,7 @@
-use Rattle.std.proofs.Common.{◌≡◌, List, Option, None, Some, refl, sym, ap, ◌∙◌, subst, arith}
+use Rattle.std.proofs.Common.{Option, refl, sym, ap, ◌∙◌, subst, arith}
 use Rattle.std.specs.Option.{option_map}
-use Rattle.gfs2_layout.specs.Holding.{Holding}
 use Rattle.gfs2_layout.specs.Records.{record_named, records_in}
-use Rattle.glock_names.specs.Steps.{IsDamage, OnlyDamaged}
+use Rattle.glock_names.specs.Steps.{IsDamage}
 use Rattle.glock_names.specs.Views.{IsOfView}
 use Rattle.glock_names.proofs.StepLaws.{answer_at, needed_at}
 use Rattle.linear_dirs.specs.Shown.{entry_of}

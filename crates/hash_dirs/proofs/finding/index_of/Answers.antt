@@ -1,5 +1,4 @@
-use Rattle.std.proofs.Common.{◌≡◌, ◌∙◌, ◌<◌, ◌^◌, sym, subst, arith}
-use Rattle.gfs2_layout.specs.Inode.{top_bits}
+use Rattle.std.proofs.Common.{arith}
 use Rattle.hash_dirs.proofs.Indexes.{bits_low}
 use Rattle.hash_dirs.proofs.finding.index_of.Goals as goal
 

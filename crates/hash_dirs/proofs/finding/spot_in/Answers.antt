@@ -1,8 +1,7 @@
-use Rattle.std.proofs.Common.{◌≡◌, ◌∙◌, refl, sym, ap, drop}
+use Rattle.std.proofs.Common.{◌≡◌, ◌∙◌, ap, drop}
 use Rattle.gfs2_layout.specs.Area.{slots_of}
 use Rattle.gfs2_layout.specs.Cutting.{slot_from}
 use Rattle.gfs2_layout.specs.Structures.{dirent_of}
-use Rattle.gfs2_layout.specs.declared.dirent.Dirent.{Dirent}
 use Rattle.linear_dirs.proofs.Looked.{entry_from, rest_is}
 use Rattle.hash_dirs.proofs.finding.spot_in.Goals as goal
 

@@ -1,9 +1,9 @@
-use Rattle.std.proofs.Common.{◌≡◌, true, ◌++◌, List, [], ◌∷◌, sym, ap, ◌∙◌, subst, append_assoc}
+use Rattle.std.proofs.Common.{◌≡◌, true, ◌++◌, List, [], ◌∷◌, sym, subst}
 use Rattle.std.specs.Prelude.{Contains}
 use Rattle.gfs2_layout.specs.Area.{slot_at}
 use Rattle.gfs2_layout.specs.Inode.{leaf_area}
 use Rattle.gfs2_layout.specs.Structures.{is_in_use}
-use Rattle.gfs2_layout.specs.Records.{Record, record_of, records_in, names_of}
+use Rattle.gfs2_layout.specs.Records.{Record, record_of, records_in}
 use Rattle.glock_names.specs.Steps.{TellsOf}
 use Rattle.linear_dirs.specs.Reading.{told_in}
 use Rattle.linear_dirs.proofs.Looked.{handed}

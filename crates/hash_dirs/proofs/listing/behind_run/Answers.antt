@@ -1,4 +1,4 @@
-use Rattle.std.proofs.Common.{◌≡◌, ℕ, ◌<◌, ◌≤◌, ◌^◌, sym, subst, arith}
+use Rattle.std.proofs.Common.{◌<◌, ◌≤◌, ◌^◌, sym, subst}
 use Rattle.hash_dirs.proofs.Indexes.{run_end, run_further, run_within}
 use Rattle.hash_dirs.proofs.listing.behind_run.Goals as goal
 

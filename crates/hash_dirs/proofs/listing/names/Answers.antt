@@ -1,11 +1,11 @@
-use Rattle.std.proofs.Common.{◌≡◌, ℕ, [], ◌+◌, ◌-◌, ◌*◌, ◌/◌, ◌<◌, ◌≤◌, ◌^◌, refl, sym, ap, ◌∙◌, subst, arith}
+use Rattle.std.proofs.Common.{◌≡◌, ◌+◌, ◌-◌, ◌*◌, ◌/◌, ◌<◌, ◌≤◌, ◌^◌, refl, sym, ap, ◌∙◌, subst, arith}
 use Rattle.gfs2_layout.specs.Inode.{depth_in, table_count}
-use Rattle.glock_names.specs.Steps.{IfNeedBlock, TellsOf}
+use Rattle.glock_names.specs.Steps.{TellsOf}
 use Rattle.glock_names.proofs.StepLaws.{answer_at, needed_at}
 use Rattle.linear_dirs.proofs.Looked.{handed}
 use Rattle.hash_dirs.specs.Broken.{IsBroken}
-use Rattle.hash_dirs.specs.Shown.{IsNeededFor, of_table}
-use Rattle.hash_dirs.specs.Walking.{IsHead, IsListed}
+use Rattle.hash_dirs.specs.Shown.{of_table}
+use Rattle.hash_dirs.specs.Walking.{IsListed}
 use Rattle.hash_dirs.proofs.Leaves.{damage_of, head_of, needed_within}
 use Rattle.hash_dirs.proofs.Listed.{tells}
 use Rattle.hash_dirs.proofs.Passed.{listed_all, listed_next, listed_none}

@@ -1,4 +1,4 @@
-use Rattle.std.proofs.Common.{◌≡◌, ◌-◌, ◌≤◌, ◌^◌}
+use Rattle.std.proofs.Common.{◌-◌, ◌≤◌}
 use Rattle.gfs2_layout.specs.Holding.{Holding}
 use Rattle.hash_dirs.specs.Shown.{IsShown, IsSound}
 use Rattle.hash_dirs.specs.Walking.{IsListed}

@@ -1,4 +1,4 @@
-use Rattle.std.proofs.Common.{◌≡◌, ◌∙◌, ◌-◌, ap, sym, subst, drop, length, arith}
+use Rattle.std.proofs.Common.{◌∙◌, ◌-◌, ap, sym, subst}
 use Rattle.std.specs.Prelude.{Ok}
 use Rattle.gfs2_layout.specs.Area.{IsArea, IsRecordAt, slots_of}
 use Rattle.gfs2_layout.specs.Cutting.{slots_without}

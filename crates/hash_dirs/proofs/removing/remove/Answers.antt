@@ -1,4 +1,4 @@
-use Rattle.std.proofs.Common.{◌≡◌, ◌<◌, ◌^◌, ℕ, List, [], ◌∷◌, Some, refl, sym, ap, ◌∙◌, subst, arith}
+use Rattle.std.proofs.Common.{◌≡◌, ◌<◌, ◌^◌, [], ◌∷◌, Some, refl, sym, ◌∙◌, subst, arith}
 use Rattle.crc_words.specs.Remainder.{crc32_of}
 use Rattle.image_model.proofs.Held.{none_some}
 use Rattle.gfs2_layout.specs.Records.{Record}
@@ -120,10 +120,13 @@ returns-clause-still g c h shown shows sound done =
     let there = answer_at _ _ _ c.in-Is-2.is c.in_ok-dinode.ensures.there in
     let cut = c.in_ok-cut_and_count.ensures.cut in
     let sound_now = sound_directory g.V.View.seen c.args.draft.now c.cut_and_count.new.draft c.args.dir c.args.name.now h c.in-Is-Some.found c.in-Is-2.dinode cut.0 shown sound spot place dinode cut.1 cut.2 there.0 there.1 c.areas_exchange_records.ensures.cut c.records_are_found_by_name.ensures.first c.records_are_found_by_name.ensures.named in
-    let after = still_shown g.V.View.seen c.args.draft.now c.cut_and_count.new.draft c.args.dir c.args.name.now h c.in-Is-Some.found c.in-Is-2.dinode cut.0 shown sound spot place dinode cut.1 cut.2 there.0 there.1 c.areas_exchange_records.ensures.cut c.records_are_found_by_name.ensures.first c.records_are_found_by_name.ensures.named c.sound_inodes_are_shown.ensures in
-    (after, g.met.T.PointerTable.follows c.args.table.now v (seen_in g.V.View.seen c.cut_and_count.new.draft) h (holding_over (seen_in g.V.View.seen c.cut_and_count.new.draft) h) shows refl
-    (subst (λ a. IsShown (seen_in g.V.View.seen c.cut_and_count.new.draft) a (holding_over (seen_in g.V.View.seen c.cut_and_count.new.draft) h)) (sym shown.inode.own) after)
-    sound_now.block_size sound_now.inode (depth_kept g.V.View.seen c.args.draft.now c.cut_and_count.new.draft c.args.dir c.args.name.now h c.in-Is-Some.found c.in-Is-2.dinode cut.0 shown sound spot place dinode cut.1 cut.2 there.0 there.1 c.areas_exchange_records.ensures.cut c.records_are_found_by_name.ensures.first c.records_are_found_by_name.ensures.named), sound_now)
+    let after = still_shown g.V.View.seen c.args.draft.now c.cut_and_count.new.draft c.args.dir c.args.name.now h c.in-Is-Some.found c.in-Is-2.dinode cut.0 shown sound spot place dinode cut.1 cut.2 there.0 there.1 c.areas_exchange_records.ensures.cut c.records_are_found_by_name.ensures.first c.records_are_found_by_name.ensures.named c.sound_inodes_are_shown.ensures in (
+      after,
+      g.met.T.PointerTable.follows c.args.table.now v (seen_in g.V.View.seen c.cut_and_count.new.draft) h (holding_over (seen_in g.V.View.seen c.cut_and_count.new.draft) h) shows refl
+          (subst (λ a. IsShown (seen_in g.V.View.seen c.cut_and_count.new.draft) a (holding_over (seen_in g.V.View.seen c.cut_and_count.new.draft) h)) (sym shown.inode.own) after)
+          sound_now.block_size sound_now.inode (depth_kept g.V.View.seen c.args.draft.now c.cut_and_count.new.draft c.args.dir c.args.name.now h c.in-Is-Some.found c.in-Is-2.dinode cut.0 shown sound spot place dinode cut.1 cut.2 there.0 there.1 c.areas_exchange_records.ensures.cut c.records_are_found_by_name.ensures.first c.records_are_found_by_name.ensures.named),
+      sound_now,
+    )
 
 pub returns-in_err-cut_and_count-clause-kept : goal.returns-in_err-cut_and_count-clause-kept
 returns-in_err-cut_and_count-clause-kept g c =

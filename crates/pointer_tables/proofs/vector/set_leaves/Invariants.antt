@@ -1,4 +1,4 @@
-use Rattle.std.proofs.Common.{◌≡◌, ℕ, ◌+◌, ◌-◌, ◌<◌, ◌≤◌, get_or, length}
+use Rattle.std.proofs.Common.{◌≡◌, ℕ, ◌-◌, ◌<◌, get_or, length}
 use Rattle.std.specs.Prelude.{if◌then◌else◌}
 use Rattle.pointer_tables.specs.Tables.{is_within}
 use Rattle.pointer_tables.proofs.vector.set_leaves.Given as goal
