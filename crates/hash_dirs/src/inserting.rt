@@ -19,7 +19,7 @@ ghost use Rattle.hash_dirs.specs.Broken.{IsBroken};
 
 use drafts::Draft;
 use glock_names::{CallFault, Entry, Step, View};
-use pointer_tables::PointerTable;
+use pointer_tables::{PointerTable, PointerTableMut};
 use std::alloc::Global;
 use std::collections::VecDeque;
 
@@ -47,7 +47,7 @@ pub fn need_insert<V: View, T: PointerTable>(
 /// Puts a name that isn't there and leads to this entry into the hashed directory with its dinode in this block, by its table, into the
 /// first leaf of its chain that has room for it. Where none has, the leaf is split, the table doubled or an overflow leaf added, and
 /// blocks are taken for that from the front of `room`, as many as `need_insert` tells.
-pub fn insert<V: View, T: PointerTable>(
+pub fn insert<V: View, T: PointerTableMut>(
     alloc: Global,
     draft: &mut Draft<'_, V>,
     dir: u64,
@@ -73,7 +73,7 @@ pub fn insert<V: View, T: PointerTable>(
 
 /// Splits the one leaf of the chain of a pointer, which is less deep than the table: a new leaf, the block at the front of `room`, takes
 /// the lower half of its pointers and of its records.
-pub fn split<V: View, T: PointerTable>(
+pub fn split<V: View, T: PointerTableMut>(
     draft: &mut Draft<'_, V>,
     dir: u64,
     table: &mut T,

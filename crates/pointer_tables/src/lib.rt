@@ -6,5 +6,5 @@ mod table;
 mod vector;
 
 pub use pointer::Pointer;
-pub use table::PointerTable;
+pub use table::{PointerTable, PointerTableMut};
 pub use vector::VectorTable;

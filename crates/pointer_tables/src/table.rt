@@ -52,6 +52,16 @@ pub trait PointerTable {
         ensures damaged { (h : Holding) → shows self.now (V.seen view.now) h → OnlyDamaged result (IsBroken h) }
         ensures kept { OnlyDamaged result (IsOfView (V.seen view.now)) };
 
+    /// A law: a table is as deep as its directory says.
+    ghost deep_in: { (t : Self) (v : Seen) (h : Holding) → shows t v h → deep t ≡ depth_in h };
+
+    /// A law: a table is that of its directory in whatever else the view or a draft shows of that, as long as that is sound and says the
+    /// same depth. So blocks that don't have the pointers, and the counts and times of the dinode, may change.
+    ghost follows: { (t : Self) (v w : Seen) (h g : Holding) → shows t v h → g.own ≡ h.own → IsShown w h.own g → IsBlockSize g.size → IsInode g → depth_in g ≡ depth_in h → shows t w g };
+}
+
+/// A table whose pointers are set, and that is doubled, in a draft.
+pub trait PointerTableMut: PointerTable {
     /// Makes so many neighbouring pointers from an index on lead to a leaf; each other one leads where it led. It puts those of the
     /// blocks that have the pointers which have these, and no other block.
     fn set<V: View>(
@@ -61,13 +71,13 @@ pub trait PointerTable {
         count: u32,
         leaf: u64,
     ) -> Result<Step<()>, CallFault>
-        requires { from + count ≤ 2 ^ deep self.old }
-        ensures deep { deep self.new ≡ deep self.old }
-        ensures set { IfIs result (λ done. (i : ℕ) → i < 2 ^ deep self.old
-            → leaf_of (pointer self.new (seen_in V.seen draft.new) i) ≡ pointer_set from count leaf (λ k. leaf_of (pointer self.old (seen_in V.seen draft.old) k)) i) }
-        ensures parts { IfIs result (λ done. (b : ℕ) → (is_part self.old (seen_in V.seen draft.old) b → ⊥) → fate_of draft.new.fates b ≡ fate_of draft.old.fates b) }
-        ensures shown { (h : Holding) → shows self.old (seen_in V.seen draft.old) h → IsTreeSound h → IsPlaced h → IfIs result (λ done.
-            shows self.new (seen_in V.seen draft.new) (holding_over (seen_in V.seen draft.new) h)
+        requires { from + count ≤ 2 ^ Self.deep self.old }
+        ensures deep { Self.deep self.new ≡ Self.deep self.old }
+        ensures set { IfIs result (λ done. (i : ℕ) → i < 2 ^ Self.deep self.old
+            → leaf_of (Self.pointer self.new (seen_in V.seen draft.new) i) ≡ pointer_set from count leaf (λ k. leaf_of (Self.pointer self.old (seen_in V.seen draft.old) k)) i) }
+        ensures parts { IfIs result (λ done. (b : ℕ) → (Self.is_part self.old (seen_in V.seen draft.old) b → ⊥) → fate_of draft.new.fates b ≡ fate_of draft.old.fates b) }
+        ensures shown { (h : Holding) → Self.shows self.old (seen_in V.seen draft.old) h → IsTreeSound h → IsPlaced h → IfIs result (λ done.
+            Self.shows self.new (seen_in V.seen draft.new) (holding_over (seen_in V.seen draft.new) h)
             × HasPointersSet h (holding_over (seen_in V.seen draft.new) h) from count leaf
             × DraftsDirectory draft.old.fates draft.new.fates h (holding_over (seen_in V.seen draft.new) h)) }
         ensures view { draft.new.view ≡ draft.old.view }
@@ -81,19 +91,12 @@ pub trait PointerTable {
         draft: &mut Draft<'_, V>,
         room: &mut VecDeque<u64>,
     ) -> Result<Step<()>, CallFault>
-        requires { deep self.old < 15 }
-        ensures deep { IfIs result (λ done. deep self.new ≡ deep self.old + 1) }
-        ensures doubled { IfIs result (λ done. (i : ℕ) → i < 2 ^ deep self.new
-            → leaf_of (pointer self.new (seen_in V.seen draft.new) i) ≡ leaf_of (pointer self.old (seen_in V.seen draft.old) (i / 2))) }
-        ensures shown { (h : Holding) → shows self.old (seen_in V.seen draft.old) h → IsTreeSound h → IsPlaced h → AreFreeFor h room.old.items → doubling_need_of h ≤ length room.old.items
-            → IfIs result (λ done. (g : Holding) × shows self.new (seen_in V.seen draft.new) g × TakesDoubled draft.old.fates draft.new.fates room.old.items room.new.items h g) }
+        requires { Self.deep self.old < 15 }
+        ensures deep { IfIs result (λ done. Self.deep self.new ≡ Self.deep self.old + 1) }
+        ensures doubled { IfIs result (λ done. (i : ℕ) → i < 2 ^ Self.deep self.new
+            → leaf_of (Self.pointer self.new (seen_in V.seen draft.new) i) ≡ leaf_of (Self.pointer self.old (seen_in V.seen draft.old) (i / 2))) }
+        ensures shown { (h : Holding) → Self.shows self.old (seen_in V.seen draft.old) h → IsTreeSound h → IsPlaced h → AreFreeFor h room.old.items → doubling_need_of h ≤ length room.old.items
+            → IfIs result (λ done. (g : Holding) × Self.shows self.new (seen_in V.seen draft.new) g × TakesDoubled draft.old.fates draft.new.fates room.old.items room.new.items h g) }
         ensures view { draft.new.view ≡ draft.old.view }
         ensures absent { IfNeedBlock result (λ missing. (seen_in V.seen draft.new).block_at missing.block ≡ None) };
-
-    /// A law: a table is as deep as its directory says.
-    ghost deep_in: { (t : Self) (v : Seen) (h : Holding) → shows t v h → deep t ≡ depth_in h };
-
-    /// A law: a table is that of its directory in whatever else the view or a draft shows of that, as long as that is sound and says the
-    /// same depth. So blocks that don't have the pointers, and the counts and times of the dinode, may change.
-    ghost follows: { (t : Self) (v w : Seen) (h g : Holding) → shows t v h → g.own ≡ h.own → IsShown w h.own g → IsBlockSize g.size → IsInode g → depth_in g ≡ depth_in h → shows t w g };
 }

@@ -3,7 +3,7 @@ ghost use Rattle.std.specs.Prelude.{ℕ, ◌≡◌, ◌+◌, ◌*◌, ◌/◌, �
 ghost use Rattle.dinode_tree.specs.Walking.{missing_dinode};
 ghost use Rattle.pointer_tables.specs.Tables.{is_within};
 
-use crate::{Pointer, PointerTable};
+use crate::{Pointer, PointerTable, PointerTableMut};
 use drafts::Draft;
 use glock_names::{CallFault, Missing, Step, View};
 use linear_dirs::lock_of;
@@ -82,6 +82,12 @@ impl PointerTable for VectorTable {
         }))
     }
 
+    ghost deep_in = { λ t v h shown. absurd shown };
+
+    ghost follows = { λ t v w h g shown own seen size sound deep. absurd shown };
+}
+
+impl PointerTableMut for VectorTable {
     fn set<V: View>(
         &mut self,
         draft: &mut Draft<'_, V>,
@@ -110,8 +116,4 @@ impl PointerTable for VectorTable {
         self.depth += 1;
         Ok(Step::Is(()))
     }
-
-    ghost deep_in = { λ t v h shown. absurd shown };
-
-    ghost follows = { λ t v w h g shown own seen size sound deep. absurd shown };
 }

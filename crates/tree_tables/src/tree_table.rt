@@ -19,7 +19,7 @@ use drafts::Draft;
 use gfs2_layout::{DINODE_LENGTH, Dinode, has_header};
 use glock_names::{CallFault, Missing, Step, View, block_of};
 use linear_dirs::lock_of;
-use pointer_tables::{Pointer, PointerTable};
+use pointer_tables::{Pointer, PointerTable, PointerTableMut};
 use std::alloc::Global;
 use std::collections::VecDeque;
 
@@ -113,6 +113,12 @@ impl PointerTable for TreeTable {
         }
     }
 
+    ghost deep_in = { λ t v h shown. shown.depth };
+
+    ghost follows = { λ t v w h g shown own seen size sound deep. follows_in t v w h g shown own seen size sound deep };
+}
+
+impl PointerTableMut for TreeTable {
     // A body without its work, while the contract is written.
     fn set<V: View>(
         &mut self,
@@ -133,10 +139,6 @@ impl PointerTable for TreeTable {
     ) -> Result<Step<()>, CallFault> {
         Err(CallFault::NoMemory)
     }
-
-    ghost deep_in = { λ t v h shown. shown.depth };
-
-    ghost follows = { λ t v w h g shown own seen size sound deep. follows_in t v w h g shown own seen size sound deep };
 }
 
 // The pointer behind a dinode, so far behind it.
