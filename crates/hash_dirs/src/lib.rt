@@ -3,13 +3,11 @@
 
 mod chains;
 mod finding;
-mod inserting;
 mod laws;
 mod listing;
 mod looking;
 mod removing;
 
-pub use inserting::{insert, need_insert, split, to_hashed};
 pub use laws::chains_tell_names;
 pub use listing::names;
 pub use looking::look;

@@ -15,13 +15,10 @@ ghost use Rattle.hash_dirs.specs.Broken.{IsBroken};
 
 use crate::numbers::number_at;
 use dinode_tree::{Located, all_blocks_are_shown, locate, read_dinode};
-use drafts::Draft;
 use gfs2_layout::{DINODE_LENGTH, Dinode, has_header};
 use glock_names::{CallFault, Missing, Step, View, block_of};
 use linear_dirs::lock_of;
-use pointer_tables::{Pointer, PointerTable, PointerTableMut};
-use std::alloc::Global;
-use std::collections::VecDeque;
+use pointer_tables::{Pointer, PointerTable};
 
 // Where the pointers of a table block begin.
 const IN_TABLE: usize = 24;
@@ -116,29 +113,6 @@ impl PointerTable for TreeTable {
     ghost deep_in = { λ t v h shown. shown.depth };
 
     ghost follows = { λ t v w h g shown own seen size sound deep. follows_in t v w h g shown own seen size sound deep };
-}
-
-impl PointerTableMut for TreeTable {
-    // A body without its work, while the contract is written.
-    fn set<V: View>(
-        &mut self,
-        _draft: &mut Draft<'_, V>,
-        _from: u32,
-        _count: u32,
-        _leaf: u64,
-    ) -> Result<Step<()>, CallFault> {
-        Err(CallFault::NoMemory)
-    }
-
-    // A body without its work, while the contract is written.
-    fn double<V: View>(
-        &mut self,
-        _alloc: Global,
-        _draft: &mut Draft<'_, V>,
-        _room: &mut VecDeque<u64>,
-    ) -> Result<Step<()>, CallFault> {
-        Err(CallFault::NoMemory)
-    }
 }
 
 // The pointer behind a dinode, so far behind it.
