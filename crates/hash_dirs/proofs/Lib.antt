@@ -1,0 +1,15 @@
+pub mod Returning
+pub mod Leaves
+pub mod Indexes
+pub mod Chained
+pub mod Named
+pub mod Along
+pub mod Listed
+pub mod Permuted
+pub mod Passed
+pub mod Anew
+pub mod Still
+pub mod Regrouped
+pub mod Cuts
+pub mod Removed
+pub mod Few

@@ -1,0 +1,8 @@
+use Rattle.hash_dirs.specs.Walking.{IsAlong, IsNameless}
+use Rattle.hash_dirs.proofs.finding.find_along.Given as goal
+
+abbrev pub invariant-loop-place : goal.invariant-loop-place
+invariant-loop-place g l = record {
+  along : IsAlong (g.V.View.seen l.view) l.dir l.head l._place l.link;
+  later : IsNameless (g.V.View.seen l.view) l.dir l.head l.name l._place;
+}

@@ -1,0 +1,7 @@
+//! What the definitions mean. The functions do nothing: their contracts are the laws.
+ghost use Rattle.hash_dirs.specs.Finding.{ChainsTellNames};
+
+/// A law: in a sound directory a name's chain says of it what all records say.
+pub fn chains_tell_names()
+    ensures { ChainsTellNames }
+{}

@@ -1,0 +1,14 @@
+//! Hashed directories over views and drafts: a table of pointers leads to leaves of records, each name to one of them by its hash.
+#![tactic(auto)]
+
+mod chains;
+mod finding;
+mod laws;
+mod listing;
+mod looking;
+mod removing;
+
+pub use laws::chains_tell_names;
+pub use listing::names;
+pub use looking::look;
+pub use removing::remove;

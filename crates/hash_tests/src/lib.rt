@@ -1,0 +1,5 @@
+//! Tests of hashed directories over views and drafts, and nothing else.
+#![tactic(auto)]
+
+#[cfg(test)]
+mod reading;

@@ -1,0 +1,250 @@
+// A hashed directory on blocks of 512 bytes, laid out by hand after Linux's gfs2_ondisk.h. Its table has 32 pointers behind the dinode:
+// the lower half leads to one leaf, the upper half to another, behind which stands an overflow leaf.
+use drafts::Draft;
+use file_tree::Name;
+use glock_names::{CallFault, Entry, Group, LockName, Missing, State, Step, View};
+use hash_dirs::{look, names, remove};
+use std::alloc::{AllocError, Global};
+use std::collections::BTreeMap;
+use std::test::Fail;
+use tree_tables::TreeTable;
+
+static NO_GROUPS: [Group; 0] = [];
+
+// The blocks that are there.
+#[derive(Drop)]
+struct Shelf {
+    blocks: BTreeMap<u64, Vec<u8>>,
+}
+
+impl View for Shelf {
+    ghost use Rattle.std.specs.Prelude.{None, Some, [], length, ◌==◌, if◌then◌else◌, option_and_then};
+    ghost use Rattle.std.specs.BTreeMap.{get};
+    ghost use Rattle.std.specs.Ordering.{nat_cmp};
+    ghost use Rattle.glock_names.specs.declared.State.TheVariants.{Ex};
+
+    ghost seen = { λ v. record {
+      size = 512;
+      root = 2;
+      groups = [];
+      state_of = λ lock. Ex;
+      block_at = λ b. option_and_then (λ bytes. if length bytes.items == 512 then Some bytes.items else None) (get nat_cmp v.blocks b);
+    } };
+
+    fn state(&self, _lock: LockName) -> State {
+        State::Ex
+    }
+
+    fn block(&self, block: u64) -> Option<&[u8]> {
+        match self.blocks.get(&block) {
+            Some(bytes) if bytes.len() == 512 => Some(bytes),
+            _ => None,
+        }
+    }
+
+    fn groups(&self) -> &[Group] {
+        &NO_GROUPS
+    }
+
+    fn root(&self) -> u64 {
+        2
+    }
+
+    fn block_size(&self) -> u32 {
+        512
+    }
+}
+
+// Bytes at a place of a block.
+type Part = (u64, usize, &'static [u8]);
+
+const DIRECTORY: [Part; 32] = [
+    (60, 0, b"\x01\x16\x19\x70\x00\x00\x00\x04"),
+    (60, 16, b"\x00\x00\x01\x90"),
+    (
+        60,
+        24,
+        b"\x00\x00\x00\x00\x00\x00\x00\x08\x00\x00\x00\x00\x00\x00\x00\x3c",
+    ),
+    (60, 40, b"\x00\x00\x41\xed"),
+    (60, 52, b"\x00\x00\x00\x02"),
+    (60, 56, b"\x00\x00\x00\x00\x00\x00\x01\x00"),
+    (60, 128, b"\x00\x00\x00\x02"),
+    (60, 146, b"\x00\x05\x00\x00\x00\x05"),
+    (61, 0, b"\x01\x16\x19\x70\x00\x00\x00\x06"),
+    (61, 16, b"\x00\x00\x02\x58"),
+    (
+        61,
+        24,
+        b"\x00\x01\x00\x02\x00\x00\x04\xb0\x00\x00\x00\x00\x00\x00\x00\x00",
+    ),
+    (62, 0, b"\x01\x16\x19\x70\x00\x00\x00\x06"),
+    (62, 16, b"\x00\x00\x02\x58"),
+    (
+        62,
+        24,
+        b"\x00\x01\x00\x02\x00\x00\x04\xb0\x00\x00\x00\x00\x00\x00\x00\x3f",
+    ),
+    (63, 0, b"\x01\x16\x19\x70\x00\x00\x00\x06"),
+    (63, 16, b"\x00\x00\x02\x58"),
+    (
+        63,
+        24,
+        b"\x00\x01\x00\x01\x00\x00\x04\xb0\x00\x00\x00\x00\x00\x00\x00\x00",
+    ),
+    (
+        61,
+        104,
+        b"\x00\x00\x00\x00\x00\x00\x00\x08\x00\x00\x00\x00\x00\x00\x00\x3c",
+    ),
+    (61, 120, b"\x0e\xd4\xe2\x42\x00\x30\x00\x01\x00\x04"),
+    (61, 144, b"."),
+    (
+        61,
+        152,
+        b"\x00\x00\x00\x00\x00\x00\x00\x15\x00\x00\x00\x00\x00\x00\x00\x51",
+    ),
+    (61, 168, b"\x1a\x3c\x7b\x13\x01\x68\x00\x04\x00\x08"),
+    (61, 192, b"zeta"),
+    (
+        62,
+        104,
+        b"\x00\x00\x00\x00\x00\x00\x00\x02\x00\x00\x00\x00\x00\x00\x00\x02",
+    ),
+    (62, 120, b"\x96\x08\x16\x1c\x00\x30\x00\x02\x00\x04"),
+    (62, 144, b".."),
+    (
+        62,
+        152,
+        b"\x00\x00\x00\x00\x00\x00\x00\x16\x00\x00\x00\x00\x00\x00\x00\x52",
+    ),
+    (62, 168, b"\xd0\xe0\x39\x6a\x01\x68\x00\x05\x00\x08"),
+    (62, 192, b"alpha"),
+    (
+        63,
+        104,
+        b"\x00\x00\x00\x00\x00\x00\x00\x17\x00\x00\x00\x00\x00\x00\x00\x53",
+    ),
+    (63, 120, b"\x8f\x91\x04\x63\x01\x98\x00\x04\x00\x08"),
+    (63, 144, b"beta"),
+];
+
+// Lays a part over its block, which is made of zeros where it isn't there.
+fn lay(shelf: &mut Shelf, alloc: Global, part: Part) -> Result<(), AllocError> {
+    let (number, at, bytes) = part;
+    let mut block = match shelf.blocks.remove(&number) {
+        Some(block) => block,
+        None => vec![in alloc; 0; 512]?,
+    };
+    if at <= block.len() && bytes.len() <= block.len() - at {
+        block[at..at + bytes.len()].copy_from_slice(bytes);
+    }
+    shelf.blocks.insert(number, block)?;
+    Ok(())
+}
+
+// The directory.
+fn directory(alloc: Global) -> Result<Shelf, AllocError> {
+    let mut shelf = Shelf {
+        blocks: BTreeMap::new(alloc),
+    };
+    for part in DIRECTORY {
+        lay(&mut shelf, alloc, part)?;
+    }
+    for index in 0..32 {
+        let leaf: &[u8] = if index < 16 {
+            b"\x00\x00\x00\x00\x00\x00\x00\x3d"
+        } else {
+            b"\x00\x00\x00\x00\x00\x00\x00\x3e"
+        };
+        lay(&mut shelf, alloc, (60, 232 + 8 * index, leaf))?;
+    }
+    Ok(shelf)
+}
+
+const TABLE: TreeTable = TreeTable {
+    directory: 60,
+    depth: 5,
+};
+
+fn file(number: u64, addr: u64) -> Option<Entry> {
+    Some(Entry {
+        number,
+        addr,
+        kind: 8,
+    })
+}
+
+#[test]
+fn names_lead_by_their_chains(rt: HostRuntime) -> Result<(), Fail> {
+    let shelf = directory(rt.alloc())?;
+    assert_eq!(rt; TreeTable::of(&shelf, 60), Ok(Step::Is(TABLE)));
+    assert_eq!(rt;
+        look(&shelf, 60, b"zeta", &TABLE),
+        Ok(Step::Is(file(21, 81)))
+    );
+    assert_eq!(rt;
+        look(&shelf, 60, b"alpha", &TABLE),
+        Ok(Step::Is(file(22, 82)))
+    );
+    assert_eq!(rt;
+        look(&shelf, 60, b"beta", &TABLE),
+        Ok(Step::Is(file(23, 83)))
+    );
+    assert_eq!(rt; look(&shelf, 60, b"gamma", &TABLE), Ok(Step::Is(None)));
+    Ok(())
+}
+
+#[test]
+fn a_leaf_that_is_missing_is_named(rt: HostRuntime) -> Result<(), Fail> {
+    let mut shelf = directory(rt.alloc())?;
+    shelf.blocks.remove(&63);
+    let missing = Missing {
+        lock: LockName {
+            kind: 2,
+            number: 60,
+        },
+        block: 63,
+        plain: false,
+        from: 62,
+    };
+    assert_eq!(rt;
+        look(&shelf, 60, b"beta", &TABLE),
+        Ok(Step::NeedBlock(missing))
+    );
+    assert_eq!(rt;
+        look(&shelf, 60, b"alpha", &TABLE),
+        Ok(Step::Is(file(22, 82)))
+    );
+    Ok(())
+}
+
+// Whether these names were answered, in this order.
+fn gives(answer: Result<Step<Vec<Name>>, CallFault>, want: &[&[u8]]) -> bool {
+    match answer {
+        Ok(Step::Is(found)) => {
+            found.len() == want.len()
+                && found
+                    .iter()
+                    .zip(want.iter())
+                    .all(|(name, wanted)| name.bytes() == *wanted)
+        }
+        _ => false,
+    }
+}
+
+#[test]
+fn names_are_listed_and_taken(rt: HostRuntime) -> Result<(), Fail> {
+    let a = rt.alloc();
+    let shelf = directory(a)?;
+    assert!(rt; gives(names(a, &shelf, 60, &TABLE), &[b"zeta", b"alpha", b"beta"]));
+    let mut draft = Draft::new(a, &shelf);
+    assert_eq!(rt; remove(&mut draft, 60, b"beta", &TABLE), Ok(Step::Is(true)));
+    assert_eq!(rt;
+        remove(&mut draft, 60, b"beta", &TABLE),
+        Ok(Step::Is(false))
+    );
+    assert_eq!(rt; look(&draft, 60, b"beta", &TABLE), Ok(Step::Is(None)));
+    assert!(rt; gives(names(a, &draft, 60, &TABLE), &[b"zeta", b"alpha"]));
+    Ok(())
+}

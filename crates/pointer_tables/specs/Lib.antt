@@ -1,0 +1,3 @@
+pub mod Directories
+pub mod Tables
+pub mod Vectors

@@ -1,0 +1,7 @@
+//! The table of a hashed directory as it is kept in the directory's own blocks.
+#![tactic(auto)]
+
+mod numbers;
+mod tree_table;
+
+pub use tree_table::TreeTable;
