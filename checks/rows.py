@@ -404,6 +404,8 @@ class Book:
         return image
 
     def take_image(self, name, items):
+        if name in self.images:
+            raise Wrong("a second image of the name " + name)
         images = []
         for words, _ in items:
             if words.startswith("from "):
