@@ -207,6 +207,11 @@ impl<'a> Book<'a> {
     }
 
     fn take_image(&mut self, alloc: Global, entry: &Entry<'a>) -> Result<()> {
+        ensure!(
+            self.images(entry.name).is_err(),
+            "image {}: another one has that name",
+            entry.name
+        );
         let mut images = Vec::new(alloc);
         for item in &entry.items {
             self.make(alloc, &mut images, item)
@@ -220,6 +225,11 @@ impl<'a> Book<'a> {
     }
 
     fn take_text(&mut self, alloc: Global, entry: &Entry<'a>) -> Result<()> {
+        ensure!(
+            self.text(entry.name).is_err(),
+            "text {}: another one has that name",
+            entry.name
+        );
         let mut lines = Vec::new(alloc);
         for item in &entry.items {
             lines.push(item.words)?;
