@@ -140,7 +140,7 @@ fn find_at<V: View>(
     ensures damaged { IfDamaged result (IsDamage (V.seen view.now) call.now) }
     ensures kept { IfDamaged result (IsOfView (V.seen view.now)) }
 {
-    match aim_at(call, place) {
+    match aim_at(view, call, place)? {
         Aim::Refused(reply) => Ok(Found::Refused(reply)),
         Aim::Hashed(block) => Ok(Found::Hashed(block)),
         Aim::Taken => remove_at(alloc, view, call, place, name, time),
