@@ -165,7 +165,7 @@ IsToldOf seen view call time (found.NeedBlock m) = IsNeededFor (seen view) call 
 IsToldOf seen view call time (found.Hashed b) = IsHashedFor (seen view) call b
 IsToldOf seen view call time (found.NeedLock lock state) = IsLackedFor (seen view) call lock state
 
--- The block breaks this rule: on the path; or (2) a pointer in it of the inode that is to go leads to a block that is no data block of a group,
+-- The block breaks this rule: on the path, with the inode at its end (so of a linear directory that counts other records than it has); or (2) a pointer in it of the inode that is to go leads to a block that is no data block of a group,
 -- or it is the directory above, which is none; or (3) it is the directory above, and one of the blocks that would go with the inode; or in a group
 -- that has some of the inode's blocks, the locks of all such groups being held.
 pub data IsDamage (v : Seen) (call : Call) : ℕ → ℕ → Type 0 where
