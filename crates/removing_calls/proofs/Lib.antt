@@ -14,3 +14,4 @@ pub mod Placed
 pub mod Made
 pub mod Walked
 pub mod Under
+pub mod Counts

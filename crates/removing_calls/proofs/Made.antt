@@ -7,7 +7,6 @@ use Rattle.file_tree.specs.declared.call.Call.{Call}
 use Rattle.file_tree.specs.declared.call.Call.TheVariants as call
 use Rattle.file_tree.specs.declared.reply.Reply.{Reply}
 use Rattle.gfs2_layout.specs.Holding.{Holding}
-use Rattle.gfs2_layout.specs.Inode.{dinode_in}
 use Rattle.glock_names.specs.Views.{Seen}
 use Rattle.call_locks.specs.Wants.{wanted}
 use Rattle.call_locks.specs.WantLaws.{path_of}
@@ -41,26 +40,23 @@ hashed_of (call.List p) h b is = absurd is
 hashed_of (call.Rename p q) h b is = absurd is
 hashed_of call.Sync h b is = absurd is
 
-module _ (v : Seen) (c : Call) (p : Place) (there : IsSeenAt v (wanted c) (path_of c false) p) (made : Aim) (aims : (h : Holding) → h.own ≡ p.inode → p.dinode ≡ dinode_in h → IsAimOf c h made) where
-  pub aim_shown : (h : Holding) → IsShown v p.inode h → IsAimOf c h made
-  aim_shown h shown = aims h shown.own (there.dinode h shown)
-
+module _ (v : Seen) (c : Call) (p : Place) (there : IsSeenAt v (wanted c) (path_of c false) p) (made : Aim) (aims : (h : Holding) → IsShown v p.inode h → IsAimOf c h made) where
   pub is_refused : (r : Reply) → made ≡ aim.Refused r → (is_ok r ≡ false) × HasSpace r
-  is_refused r is = let s = some_is_shown v p.inode in aim_not_ok c s.0 r (subst (IsAimOf c s.0) is (aim_shown s.0 s.1.0))
+  is_refused r is = let s = some_is_shown v p.inode in aim_not_ok c s.0 r (subst (IsAimOf c s.0) is (aims s.0 s.1.0))
 
   pub told_refused : (r : Reply) → made ≡ aim.Refused r → IsRefused v c r
-  told_refused r is = IsRefused.at_end p.inode r there.leads there.there (λ h shown. subst (IsAimOf c h) is (aim_shown h shown))
+  told_refused r is = IsRefused.at_end p.inode r there.leads there.there (λ h shown. subst (IsAimOf c h) is (aims h shown))
 
   pub is_hashed : (b : ℕ) → path_of c false ≢ [] → made ≡ aim.Hashed b → IsHashedFor v c b
   is_hashed b below is =
       let s = some_is_shown v p.inode in
-      let same : b ≡ p.inode = hashed_of c s.0 b (subst (IsAimOf c s.0) is (aim_shown s.0 s.1.0)) ∙ s.1.0.own in
-      subst (IsHashedFor v c) (sym same) (at_end below there.leads there.there (λ h shown. subst (λ x. IsAimOf c h (aim.Hashed x)) same (subst (IsAimOf c h) is (aim_shown h shown))))
+      let same : b ≡ p.inode = hashed_of c s.0 b (subst (IsAimOf c s.0) is (aims s.0 s.1.0)) ∙ s.1.0.own in
+      subst (IsHashedFor v c) (sym same) (at_end below there.leads there.there (λ h shown. subst (λ x. IsAimOf c h (aim.Hashed x)) same (subst (IsAimOf c h) is (aims h shown))))
 
   module _ (name : List ℕ) (last : IsLastOf (path_of c false) name) (im : Image) (o : Owners) (l : Layout) (t : Tree) (of : IsOf v im o l t) (reached : IsReachedIn v im o l c p) (r : Reply) (is : made ≡ aim.Refused r) where
     pub refuses : (apply c t).reply ≡ r
     refuses = aim_refuses v im o l t of c name p.inode last reached.place.at r
-        (subst (IsAimOf c (holding im o p.inode)) is (aim_shown (holding im o p.inode) (is_shown v im o l t of (path_of c false) p.inode reached.place.at)))
+        (subst (IsAimOf c (holding im o p.inode)) is (aims (holding im o p.inode) (is_shown v im o l t of (path_of c false) p.inode reached.place.at)))
 
     pub refused_held : AreHeld v (holds_for im o l t c)
     refused_held = subst (AreHeld v) (sym (plain_list im o l t c (ap is_ok refuses ∙ (is_refused r is).0))) reached.held

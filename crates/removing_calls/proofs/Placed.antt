@@ -41,7 +41,7 @@ use Rattle.path_walks.proofs.Lists.{parent_of_next}
 use Rattle.removing_calls.specs.Drafting as drafting
 use Rattle.removing_calls.specs.Drafting.{IsWrongIn}
 use Rattle.group_locks.specs.Groups.{GroupsAreHeld, IsFirstGroupLack, holds_of_groups, is_block_of}
-use Rattle.removing_calls.specs.Removing.{IsRemoving, IsAimOf, IsReachedIn, IsDamage, IsWrongBelow, Goes, holds_for}
+use Rattle.removing_calls.specs.Removing.{BreaksAsLinear, IsRemoving, IsAimOf, IsReachedIn, IsDamage, IsWrongBelow, Goes, holds_for}
 use Rattle.removing_calls.specs.Removing as damage
 use Rattle.removing_calls.specs.declared.aims.Aim.TheVariants as aim
 use Rattle.removing_calls.proofs.Above.{above_names, linear_in, named_in}
@@ -87,7 +87,18 @@ module _ (v : Seen) (c : Call) (p : Place) (name : List ℕ) (last : IsLastOf (p
       damage.on_path r d (wrong_on_way v (wanted c) (path_of c false) p.inode there.leads (path_of c false) [] (sym (append-nil (path_of c false))) r d (λ h shown. path.in_inode r d (broken h shown)))
   below_damage taken rule b (damage.stray from d led outside) = damage.stray p.inode from d (record { below = below_root; leads = there.leads; there = there.there; aim = taken }) led outside
 
+  -- a rule of linear directories that the inode breaks
+  pub inode_damage : (rule b : ℕ) → ((h : Holding) → IsShown v p.inode h → BreaksAsLinear h rule b) → IsDamage v c rule b
+  inode_damage rule b broken =
+      damage.on_path rule b (wrong_on_way v (wanted c) (path_of c false) p.inode there.leads (path_of c false) [] (sym (append-nil (path_of c false))) rule b
+      (λ h shown. path.in_directory rule b (broken h shown).0 (broken h shown).1))
+
   module _ (im : Image) (o : Owners) (l : Layout) (t : Tree) (of : IsOf v im o l t) (reached : IsReachedIn v im o l c p) where
+    pub inode_unbroken : (rule b : ℕ) → ((h : Holding) → IsShown v p.inode h → BreaksAsLinear h rule b) → ⊥
+    inode_unbroken rule b broken =
+        let is = broken (holding im o p.inode) (is_shown v im o l t of (path_of c false) p.inode reached.place.at) in
+        unbroken_directory v im o l t of (path_of c false) p.inode rule b reached.place.at is.0.directory is.0.linear is.1
+
     pub above_inside : HasDataBlock v p.above
     above_inside = its_inside v im o l t of p.above p.above (dinode_its p.above (o p.above) (is_inode v im o l t of (parent_of (path_of c false)) p.above reached.place.above))
 

@@ -1,5 +1,5 @@
 -- The calls that remove a name: `unlink` of a file, and `rmdir` of a directory without names.
-use Rattle.std.specs.Prelude.{ℕ, ◌≡◌, ◌≢◌, ◌⊎◌, ◌↔◌, ⊤, Contains, true, false, if◌then◌else◌, List, [], ◌++◌, Option, None, Some}
+use Rattle.std.specs.Prelude.{ℕ, ◌≡◌, ◌≢◌, ◌⊎◌, ◌↔◌, ⊤, Contains, true, false, if◌then◌else◌, List, [], ◌++◌, length, Option, None, Some}
 use Rattle.cluster_history.specs.Changes.{is_ok}
 use Rattle.file_tree.specs.Apply.{apply}
 use Rattle.file_tree.specs.Names.{parent_of}
@@ -9,7 +9,7 @@ use Rattle.file_tree.specs.declared.call.Call.TheVariants.{Unlink, Rmdir}
 use Rattle.file_tree.specs.declared.reply.Reply.{Reply}
 use Rattle.file_tree.specs.declared.reply.Reply.TheVariants as reply
 use Rattle.gfs2_layout.specs.Holding.{Holding}
-use Rattle.gfs2_layout.specs.Inode.{dinode_in, is_directory_in, is_hashed_in}
+use Rattle.gfs2_layout.specs.Inode.{dinode_in, is_directory_in, is_hashed_in, records_of}
 use Rattle.gfs2_layout.specs.Structures.{dinode_of}
 use Rattle.glock_names.specs.Views.{Seen, HasBlock}
 use Rattle.glock_names.specs.declared.LockName.{LockName}
@@ -22,6 +22,7 @@ use Rattle.dinode_tree.specs.Below.{AnyIndex, IsBelow, IsLedFrom}
 use Rattle.dinode_tree.specs.Reading.{IsNeeded}
 use Rattle.dinode_tree.specs.Shown.{IsShown}
 use Rattle.dinode_tree.specs.Broken as inode
+use Rattle.linear_dirs.specs.Broken as directory
 use Rattle.resource_groups.specs.Freeing as freeing
 use Rattle.resource_groups.specs.Putting.{HasDataBlock}
 use Rattle.drafts.specs.declared.change.Change.{Change}
@@ -33,7 +34,7 @@ use Rattle.image_changes.specs.Does.{with_change}
 use Rattle.image_changes.specs.Instances.{IsAt}
 use Rattle.path_walks.specs.Answers.{Refuses}
 use Rattle.path_walks.specs.Holds.{Hold, AreHeld, EndsWith, IsAskedFor, IsFirstLack, holds_in}
-use Rattle.path_walks.specs.Walks.{LeadsTo, IsAbsent, IsLacked, IsLastOf, IsOnTheWay, IsPlaceOf, IsUnread}
+use Rattle.path_walks.specs.Walks.{LeadsTo, IsAbsent, IsLacked, IsLastOf, IsLinearDirectory, IsOnTheWay, IsPlaceOf, IsUnread}
 use Rattle.path_walks.specs.Walks as path
 use Rattle.path_walks.specs.declared.walk.Place.{Place}
 use Rattle.group_locks.specs.Groups.{GroupsAreHeld, IsFirstGroupLack, holds_of_groups, is_block_of}
@@ -57,12 +58,20 @@ IsFileAim h (aim.Refused reply.IsDir) = is_directory_in h ≡ true
 IsFileAim h aim.Taken = is_directory_in h ≡ false
 IsFileAim h a = ⊥
 
--- `rmdir` a directory whose dinode counts `.` and `..` alone
+-- the dinode counts the records that the directory has
+abbrev pub CountsItsRecords : Holding → Type 0
+CountsItsRecords h = (dinode_in h).entries ≡ length (records_of h)
+
+-- it is a linear directory, and breaks a rule of these
+abbrev pub BreaksAsLinear : Holding → ℕ → ℕ → Type 0
+BreaksAsLinear h rule b = IsLinearDirectory h × directory.IsBroken h rule b
+
+-- `rmdir` a directory whose dinode counts `.` and `..` alone; what is made of a linear one rests on its records too
 abbrev pub IsDirectoryAim : Holding → Aim → Type 0
 IsDirectoryAim h (aim.Refused reply.NotDir) = is_directory_in h ≡ false
-IsDirectoryAim h (aim.Refused reply.NotEmpty) = (is_directory_in h ≡ true) × ((dinode_in h).entries ≢ 2)
+IsDirectoryAim h (aim.Refused reply.NotEmpty) = (is_directory_in h ≡ true) × ((dinode_in h).entries ≢ 2) × (is_hashed_in h ≡ false → CountsItsRecords h)
 IsDirectoryAim h (aim.Hashed b) = (b ≡ h.own) × (is_hashed_in h ≡ true) × ((dinode_in h).entries ≡ 2)
-IsDirectoryAim h aim.Taken = (is_directory_in h ≡ true) × (is_hashed_in h ≡ false) × ((dinode_in h).entries ≡ 2)
+IsDirectoryAim h aim.Taken = (is_directory_in h ≡ true) × (is_hashed_in h ≡ false) × ((dinode_in h).entries ≡ 2) × CountsItsRecords h
 IsDirectoryAim h a = ⊥
 
 abbrev pub IsAimOf : Call → Holding → Aim → Type 0
@@ -156,7 +165,7 @@ IsToldOf seen view call time (found.NeedBlock m) = IsNeededFor (seen view) call 
 IsToldOf seen view call time (found.Hashed b) = IsHashedFor (seen view) call b
 IsToldOf seen view call time (found.NeedLock lock state) = IsLackedFor (seen view) call lock state
 
--- The block breaks this rule: on the path; or (2) a pointer in it of the inode that is to go leads to a block that is no data block of a group,
+-- The block breaks this rule: on the path, with the inode at its end (so of a linear directory that counts other records than it has); or (2) a pointer in it of the inode that is to go leads to a block that is no data block of a group,
 -- or it is the directory above, which is none; or (3) it is the directory above, and one of the blocks that would go with the inode; or in a group
 -- that has some of the inode's blocks, the locks of all such groups being held.
 pub data IsDamage (v : Seen) (call : Call) : ℕ → ℕ → Type 0 where

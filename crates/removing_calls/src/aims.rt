@@ -1,10 +1,15 @@
 // What a call that removes a name does with the inode at its path's end.
-ghost use Rattle.std.specs.Prelude.{◌≡◌};
+ghost use Rattle.std.specs.Prelude.{◌≡◌, true, IfOk};
 ghost use Rattle.gfs2_layout.specs.Holding.{Holding};
-ghost use Rattle.gfs2_layout.specs.Inode.{dinode_in};
-ghost use Rattle.removing_calls.specs.Removing.{IsAimOf, IsDirectoryAim, IsFileAim, IsRemoving};
+ghost use Rattle.gfs2_layout.specs.Inode.{dinode_in, is_hashed_in};
+ghost use Rattle.glock_names.specs.Steps.{IfDamaged};
+ghost use Rattle.glock_names.specs.Views.{HasBlock, IsOfView};
+ghost use Rattle.dinode_tree.specs.Shown.{IsShown};
+ghost use Rattle.removing_calls.specs.Removing.{BreaksAsLinear, IsAimOf, IsDirectoryAim, IsFileAim, IsRemoving};
 
+use crate::counting::check_count;
 use file_tree::{Call, Reply};
+use glock_names::{CallFault, View};
 use path_walks::Place;
 
 /// What is to become of an inode.
@@ -29,30 +34,52 @@ fn file_aim(place: &Place) -> Aim
     }
 }
 
-// Of an inode that is to be a directory without names: `.` and `..` are counted in its dinode.
-fn directory_aim(place: &Place) -> Aim
-    ensures { (h : Holding) → h.own ≡ place.now.inode → place.now.dinode ≡ dinode_in h → IsDirectoryAim h result }
+// Of a hashed directory, whose leaves aren't read yet: its dinode's count is believed.
+fn hashed_aim(place: &Place) -> Aim
+    ensures { (h : Holding) → h.own ≡ place.now.inode → place.now.dinode ≡ dinode_in h → is_hashed_in h ≡ true → IsDirectoryAim h result }
 {
-    if !place.dinode.is_directory() {
-        return Aim::Refused(Reply::NotDir);
+    if place.dinode.entries == 2 {
+        Aim::Hashed(place.inode)
+    } else {
+        Aim::Refused(Reply::NotEmpty)
     }
-    if place.dinode.entries != 2 {
-        return Aim::Refused(Reply::NotEmpty);
-    }
-    if place.dinode.flags / 2 % 2 == 1 {
-        return Aim::Hashed(place.inode);
-    }
-    Aim::Taken
 }
 
-/// What a call that removes a name makes of the inode at its path's end.
-pub(crate) fn aim_at(call: &Call, place: &Place) -> Aim
-    requires { IsRemoving call.now }
-    ensures { (h : Holding) → h.own ≡ place.now.inode → place.now.dinode ≡ dinode_in h → IsAimOf call.now h result }
+// Of an inode that is to be a directory without names: `.` and `..` are counted in its dinode, and a linear directory's count is held against
+// its records.
+fn directory_aim<V: View>(view: &V, place: &Place) -> Result<Aim, CallFault>
+    requires there { HasBlock (V.seen view.now) place.now.inode }
+    requires dinode { (h : Holding) → IsShown (V.seen view.now) place.now.inode h → place.now.dinode ≡ dinode_in h }
+    ensures aim { (h : Holding) → IsShown (V.seen view.now) place.now.inode h → IfOk result (IsDirectoryAim h) }
+    ensures damaged { (h : Holding) → IsShown (V.seen view.now) place.now.inode h → IfDamaged result (BreaksAsLinear h) }
+    ensures kept { IfDamaged result (IsOfView (V.seen view.now)) }
+{
+    if !place.dinode.is_directory() {
+        return Ok(Aim::Refused(Reply::NotDir));
+    }
+    if place.dinode.flags / 2 % 2 == 1 {
+        return Ok(hashed_aim(place));
+    }
+    check_count(view, place.inode, place.dinode.entries)?;
+    if place.dinode.entries != 2 {
+        return Ok(Aim::Refused(Reply::NotEmpty));
+    }
+    Ok(Aim::Taken)
+}
+
+/// What a call that removes a name makes of the inode at its path's end. Where that is a linear directory to be removed, it goes over its
+/// records twice.
+pub(crate) fn aim_at<V: View>(view: &V, call: &Call, place: &Place) -> Result<Aim, CallFault>
+    requires removing { IsRemoving call.now }
+    requires there { HasBlock (V.seen view.now) place.now.inode }
+    requires dinode { (h : Holding) → IsShown (V.seen view.now) place.now.inode h → place.now.dinode ≡ dinode_in h }
+    ensures aim { (h : Holding) → IsShown (V.seen view.now) place.now.inode h → IfOk result (IsAimOf call.now h) }
+    ensures damaged { (h : Holding) → IsShown (V.seen view.now) place.now.inode h → IfDamaged result (BreaksAsLinear h) }
+    ensures kept { IfDamaged result (IsOfView (V.seen view.now)) }
 {
     match call {
-        Call::Unlink(_) => file_aim(place),
-        Call::Rmdir(_) => directory_aim(place),
+        Call::Unlink(_) => Ok(file_aim(place)),
+        Call::Rmdir(_) => directory_aim(view, place),
         _ => unreachable!(),
     }
 }

@@ -3,6 +3,7 @@
 
 mod aims;
 mod blocks;
+mod counting;
 mod drafting;
 mod finds;
 mod tries;

@@ -140,7 +140,7 @@ fn find_at<V: View>(
     ensures damaged { IfDamaged result (IsDamage (V.seen view.now) call.now) }
     ensures kept { IfDamaged result (IsOfView (V.seen view.now)) }
 {
-    match aim_at(call, place) {
+    match aim_at(view, call, place)? {
         Aim::Refused(reply) => Ok(Found::Refused(reply)),
         Aim::Hashed(block) => Ok(Found::Hashed(block)),
         Aim::Taken => remove_at(alloc, view, call, place, name, time),
@@ -178,8 +178,8 @@ fn find<V: View>(alloc: Global, view: &V, call: &Call, time: u64) -> Result<Foun
 
 /// Tries a call that removes a name, over a view: its answer with what it changes, or the first lock that isn't held or block that
 /// isn't there. The directory gets the stamp's time. Beside the path's locks it takes those of the groups of the inode's blocks, before any
-/// of these is read. It costs a walk along the path, two passes over the directory's records, a step for each pointer of the inode, and
-/// for each of its blocks two copies of each of two blocks of its group.
+/// of these is read. It costs a walk along the path, two passes over the directory's records, two over those of a linear directory that
+/// is to go, a step for each pointer of the inode, and for each of its blocks two copies of each of two blocks of its group.
 pub fn attempt<V: View>(
     alloc: Global,
     view: &V,

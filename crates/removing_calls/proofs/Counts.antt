@@ -1,0 +1,48 @@
+-- How many records a linear directory has.
+use Rattle.std.proofs.Common.{◌≡◌, ◌≢◌, ℕ, ◌+◌, ◌-◌, true, false, List, [], ◌∷◌, ◌++◌, length, drop, Some, refl, sym, ap, ◌∙◌, subst}
+use Rattle.std.proofs.lemmas.List.{length-append, append-nil}
+use Rattle.std.specs.Prelude.{take}
+use Rattle.gfs2_layout.specs.Area.{Slot, IsArea}
+use Rattle.gfs2_layout.specs.Holding.{Holding}
+use Rattle.gfs2_layout.specs.Inode.{dinode_in, records_of, linear_area}
+use Rattle.gfs2_layout.specs.Records.{Record, record_of, records_in}
+use Rattle.gfs2_layout.specs.Structures.{dinode_length, is_in_use}
+use Rattle.glock_names.specs.Views.{Seen}
+use Rattle.dinode_tree.specs.Shown.{IsShown}
+use Rattle.linear_dirs.specs.Broken.{no_area, wrong_entries}
+use Rattle.linear_dirs.specs.Reading.{told_in}
+use Rattle.linear_dirs.proofs.Looked.{bytes_of, rest_is}
+use Rattle.path_walks.specs.Walks.{IsLinearDirectory}
+use Rattle.removing_calls.specs.Removing.{BreaksAsLinear, CountsItsRecords}
+
+-- a record counts where it is in use
+pub one_told : (s : Slot) (front : List Record) (n : ℕ) → is_in_use s.head ≡ true → n ≡ length front → n + 1 ≡ length (front ++ told_in (s ∷ []))
+one_told s front n used is =
+    let told : told_in (s ∷ []) ≡ record_of s ∷ [] = rw used refl in
+    ap (λ m. m + 1) is ∙ sym (ap (λ rs. length (front ++ rs)) told ∙ length-append front (record_of s ∷ []))
+
+pub none_told : (s : Slot) (front : List Record) (n : ℕ) → is_in_use s.head ≡ false → n ≡ length front → n ≡ length (front ++ told_in (s ∷ []))
+none_told s front n free is =
+    let told : told_in (s ∷ []) ≡ [] = rw free refl in
+    is ∙ sym (ap (λ rs. length (front ++ rs)) told ∙ ap length (append-nil front))
+
+-- the records of a directory that isn't hashed
+pub records_are : (h : Holding) → IsLinearDirectory h → records_of h ≡ records_in (linear_area h)
+unfolding records_of
+records_are h is = rw is.linear refl
+
+module _ (v : Seen) (h : Holding) (dir : ℕ) (bytes : List ℕ) (shown : IsShown v dir h) (there : v.block_at dir ≡ Some bytes) (is : IsLinearDirectory h) where
+  area_is : take (length bytes - dinode_length) (drop dinode_length bytes) ≡ linear_area h
+  area_is = rest_is dinode_length bytes ∙ ap (drop dinode_length) (sym (bytes_of v h dir bytes shown there))
+
+  pub area_broken : ¬ (IsArea (take (length bytes - dinode_length) (drop dinode_length bytes))) → BreaksAsLinear h 9 dir
+  area_broken lacks = subst (BreaksAsLinear h 9) shown.own (is, no_area (λ has. lacks (subst IsArea (sym area_is) has)))
+
+  counted : (n : ℕ) → n ≡ length (records_in (take (length bytes - dinode_length) (drop dinode_length bytes))) → n ≡ length (records_of h)
+  counted n e = e ∙ ap (λ area. length (records_in area)) area_is ∙ ap length (sym (records_are h is))
+
+  pub count_right : (n entries : ℕ) → n ≡ length (records_in (take (length bytes - dinode_length) (drop dinode_length bytes))) → entries ≡ (dinode_in h).entries → n ≡ entries → CountsItsRecords h
+  count_right n entries e read same = sym read ∙ sym same ∙ counted n e
+
+  pub count_wrong : (n entries : ℕ) → n ≡ length (records_in (take (length bytes - dinode_length) (drop dinode_length bytes))) → entries ≡ (dinode_in h).entries → n ≢ entries → BreaksAsLinear h 12 dir
+  count_wrong n entries e read other = subst (BreaksAsLinear h 12) shown.own (is, wrong_entries (λ right. other (counted n e ∙ sym right ∙ sym read)))
