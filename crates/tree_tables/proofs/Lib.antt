@@ -1,3 +1,4 @@
 pub mod Told
 pub mod Entries
 pub mod Gets
+pub mod Set

@@ -2,6 +2,7 @@
 #![tactic(auto)]
 
 mod numbers;
+mod putting;
 mod tree_table;
 
 pub use tree_table::TreeTable;
