@@ -2,3 +2,5 @@ pub mod Told
 pub mod Entries
 pub mod Gets
 pub mod Set
+pub mod Kept
+pub mod Fronts
