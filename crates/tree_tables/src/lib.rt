@@ -1,6 +1,7 @@
 //! The table of a hashed directory as it is kept in the directory's own blocks.
 #![tactic(auto)]
 
+mod finding;
 mod numbers;
 mod putting;
 mod tree_table;
