@@ -1,16 +1,11 @@
-use Rattle.std.proofs.Common.{rules, ℕ, List, ◌≡◌, ◌+◌, ◌-◌, ◌*◌, ◌/◌, ◌%◌, ◌^◌, ◌<◌, ◌≤◌, false, None, Some, IfOk, length, Bool, true, nat_eq, nat_lt, [], ◌∷◌, ◌++◌, slice_index_or, slice_set, bit_and, bit_or, Fits, w8, w32, w64, Bor, MutBor}
-use Rattle.gfs2_layout.specs.Device.{IsBlockSize}
-use Rattle.gfs2_layout.specs.Headers.{HasHeader}
-use Rattle.gfs2_layout.specs.Holding.{Holding}
-use Rattle.gfs2_layout.specs.Inode.{header_length}
-use Rattle.gfs2_layout.specs.Structures.{dinode_length}
-use Rattle.glock_names.specs.Steps.{IfIs, IfNeedBlock, OnlyDamaged}
-use Rattle.glock_names.specs.Views.{HasBlock}
-use Rattle.dinode_tree.specs.Reading.{inode_lock}
-use Rattle.tree_tables.specs.Pointers.{IsTableOf}
-use Rattle.tree_tables.specs.Setting.{IsRun}
+use Rattle.glock_names.proofs.StepLaws.{needed_at}
+use Rattle.tree_tables.specs.Pointers.{seen_as}
+use Rattle.tree_tables.proofs.Gets.{seen_shown}
 use Rattle.tree_tables.proofs.finding.find_run.Goals as goal
 
 -- src/finding.rt:91:1
 pub returns-in-NeedBlock-2-clause-absent : goal.returns-in-NeedBlock-2-clause-absent
-returns-in-NeedBlock-2-clause-absent g c = ?
+returns-in-NeedBlock-2-clause-absent g c =
+    let v = g.V.View.seen c.args.view.now in
+    let a = c.args.table.directory in
+    (needed_at _ _ _ c.in-NeedBlock-2.is (c.in_ok-located.ensures.needed (seen_as v a) (seen_shown c.all_blocks_are_shown.ensures v a))).absent
