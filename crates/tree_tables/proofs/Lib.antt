@@ -4,3 +4,4 @@ pub mod Gets
 pub mod Set
 pub mod Kept
 pub mod Fronts
+pub mod ContentParts
