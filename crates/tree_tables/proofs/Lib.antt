@@ -5,3 +5,4 @@ pub mod Set
 pub mod Kept
 pub mod Fronts
 pub mod ContentParts
+pub mod OneRun
