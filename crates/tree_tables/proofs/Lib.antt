@@ -6,3 +6,4 @@ pub mod Kept
 pub mod Fronts
 pub mod ContentParts
 pub mod OneRun
+pub mod Entered
