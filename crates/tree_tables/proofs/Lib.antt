@@ -7,3 +7,4 @@ pub mod Fronts
 pub mod ContentParts
 pub mod OneRun
 pub mod Entered
+pub mod RunSet
