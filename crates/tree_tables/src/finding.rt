@@ -100,6 +100,7 @@ pub(crate) fn find_run<V: View>(
     ensures some { IfIs result (λ run. 1 ≤ run.count) }
     ensures most { IfIs result (λ run. run.count ≤ most) }
     ensures fits { IfIs result (λ run. run.start + 8 * run.count ≤ (V.seen view.now).size) }
+    ensures size { IfIs result (λ run. IsBlockSize (V.seen view.now).size) }
     ensures there { IfIs result (λ run. HasBlock (V.seen view.now) run.block) }
     ensures absent { IfNeedBlock result (λ missing. (V.seen view.now).block_at missing.block ≡ None) }
 {

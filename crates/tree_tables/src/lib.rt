@@ -4,6 +4,7 @@
 mod finding;
 mod numbers;
 mod putting;
+mod setting;
 mod tree_table;
 
 pub use tree_table::TreeTable;
