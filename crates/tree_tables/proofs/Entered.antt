@@ -21,13 +21,13 @@ use Rattle.tree_tables.proofs.Fronts.{number_before, number_behind}
 use Rattle.tree_tables.proofs.Kept.{KeepsWays, content_block_after, directory_after, fits_after, height_after, size_after, sound_after, unit_after}
 use Rattle.tree_tables.proofs.OneRun.{IsBlockSet, bytes_here, bytes_old, bytes_other, cells, g}
 
-is_in : (from count i : ℕ) → from ≤ i → i < from + count → is_within from count i ≡ true
+pub is_in : (from count i : ℕ) → from ≤ i → i < from + count → is_within from count i ≡ true
 is_in from count i low high = grind (arith, nat_tests)
 
-is_before : (from count i : ℕ) → i < from → is_within from count i ≡ false
+pub is_before : (from count i : ℕ) → i < from → is_within from count i ≡ false
 is_before from count i low = grind (arith, nat_tests)
 
-is_behind : (from count i : ℕ) → from + count ≤ i → is_within from count i ≡ false
+pub is_behind : (from count i : ℕ) → from + count ≤ i → is_within from count i ≡ false
 is_behind from count i high = grind (arith, nat_tests)
 
 -- what a number is, by whether the index is one of those that are set

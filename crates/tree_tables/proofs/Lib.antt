@@ -8,3 +8,4 @@ pub mod ContentParts
 pub mod OneRun
 pub mod Entered
 pub mod RunSet
+pub mod Runs
