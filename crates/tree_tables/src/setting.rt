@@ -45,3 +45,29 @@ fn set_run<V: View>(
     )?;
     Ok(Step::Is(run.count))
 }
+
+/// Makes so many neighbouring pointers of a table from an index on lead to a leaf, run by run. Of each directory that the draft showed with
+/// this table it then shows the directory with these pointers set and all else as it was. It puts those of its blocks that have some of
+/// them, under its lock, and no other block. A pointer in a hole of the table is damage. It costs a walk to each of these blocks, and two
+/// copies of each.
+pub(crate) fn set_runs<V: View>(
+    draft: &mut Draft<'_, V>,
+    table: TreeTable,
+    from: usize,
+    count: usize,
+    leaf: u64,
+) -> Result<Step<()>, CallFault>
+    requires few { from + count ≤ 2 ^ table.depth }
+    ensures set { (h : Holding) → IsTableOf table (seen_in V.seen draft.old) h → IsTreeSound h → IsPlaced h → IfIs result (λ done. IsSetIn V.seen draft.old draft.new table h from count leaf) }
+    ensures view { draft.new.view ≡ draft.old.view }
+    ensures absent { IfNeedBlock result (λ missing. (seen_in V.seen draft.new).block_at missing.block ≡ None) }
+{
+    let mut done = 0;
+    while done < count {
+        match set_run(draft, table, from + done, count - done, leaf)? {
+            Step::Is(set) => done += set,
+            Step::NeedBlock(missing) => return Ok(Step::NeedBlock(missing)),
+        }
+    }
+    Ok(Step::Is(()))
+}
