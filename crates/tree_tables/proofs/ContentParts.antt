@@ -1,13 +1,13 @@
 -- The parts of the blocks of content of an inode whose blocks stand in a tree.
-use Rattle.std.proofs.Common.{◌≡◌, ◌≢◌, ℕ, zero, suc, ◌+◌, ◌*◌, ◌/◌, ◌%◌, ◌<◌, ◌≤◌, inl, inr, length, Option, Some, None, sym, ap, subst, ◌∙◌, refl, arith}
+use Rattle.std.proofs.Common.{◌≡◌, ◌≢◌, ℕ, zero, suc, ◌+◌, ◌*◌, ◌/◌, ◌%◌, ◌<◌, ◌≤◌, inl, inr, length, Some, sym, ap, subst, ◌∙◌, refl, arith}
 use Rattle.std.proofs.lemmas.Bool.{cases_eq}
 use Rattle.std.proofs.lemmas.Nat.{div-add-mod'}
 use Rattle.std.proofs.Math.Nat.{mod-lt, div-lt_iff_lt-mul}
 use Rattle.gfs2_layout.specs.Holding.{Holding, Pointed, part_at, bytes_at}
-use Rattle.gfs2_layout.specs.Inode.{Fits, HasTree, content_block, content_count, descend, dinode_in, fan, header_length, height_in, pointer, span}
+use Rattle.gfs2_layout.specs.Inode.{HasTree, content_block, descend, fan, header_length, height_in, pointer, span}
 use Rattle.gfs2_layout.specs.Structures.{dinode_length}
 use Rattle.image_model.proofs.Held.{none_some}
-use Rattle.dinode_tree.specs.Reading.{AreWholeBefore, block_at, reach}
+use Rattle.dinode_tree.specs.Reading.{AreWholeBefore, reach}
 use Rattle.dinode_tree.proofs.Pointers.{descend_zero, descend_one, descend_top, none_past}
 use Rattle.dinode_tree.proofs.Spans.{span_some}
 use Rattle.pointer_tables.specs.Directories.{IsTreeSound}

@@ -1,5 +1,5 @@
 -- The pointers of a table after a run of them was set in one block.
-use Rattle.std.proofs.Common.{◌≡◌, ◌≢◌, ◌⊎◌, ℕ, suc, ◌+◌, ◌-◌, ◌*◌, ◌/◌, ◌%◌, ◌<◌, ◌≤◌, inl, inr, Bool, true, false, List, Option, Some, sym, ap, ◌∙◌, subst, arith}
+use Rattle.std.proofs.Common.{◌≡◌, ◌≢◌, ◌⊎◌, ℕ, suc, ◌+◌, ◌-◌, ◌*◌, ◌/◌, ◌%◌, ◌<◌, ◌≤◌, inl, inr, true, false, List, Option, Some, sym, ap, ◌∙◌, arith}
 use Rattle.std.specs.Prelude.{IsSome, if◌then◌else◌}
 use Rattle.std.specs.Int.{w64}
 use Rattle.std.proofs.lemmas.Bool.{cases_eq, cases_lt, cond-true, cond-false}
@@ -18,7 +18,7 @@ use Rattle.pointer_tables.specs.Tables.{is_within}
 use Rattle.tree_tables.proofs.ContentParts.{content_part, whole_by_parts}
 use Rattle.tree_tables.proofs.Entries.{entry_in_block, entry_in_hole, entry_stuffed, within}
 use Rattle.tree_tables.proofs.Fronts.{number_before, number_behind}
-use Rattle.tree_tables.proofs.Kept.{KeepsWays, content_block_after, directory_after, fits_after, height_after, size_after, sound_after, unit_after}
+use Rattle.tree_tables.proofs.Kept.{KeepsWays, content_block_after, directory_after, height_after, size_after, sound_after, unit_after}
 use Rattle.tree_tables.proofs.OneRun.{IsBlockSet, bytes_here, bytes_old, bytes_other, cells, g}
 
 pub is_in : (from count i : ℕ) → from ≤ i → i < from + count → is_within from count i ≡ true

@@ -1,21 +1,20 @@
 -- A run of pointers that is set in one block of a directory, as a view shows it: the directory is sound as before.
-use Rattle.std.proofs.Common.{◌≡◌, ◌≢◌, ◌⊎◌, ℕ, zero, suc, ◌+◌, ◌-◌, ◌*◌, ◌/◌, ◌%◌, ◌^◌, ◌<◌, ◌≤◌, inl, inr, Bool, true, false, List, length, Option, Some, None, refl, sym, ap, ap₂, ◌∙◌, subst, arith}
-use Rattle.std.specs.Prelude.{◌&&◌, IsSome, option_map, if◌then◌else◌}
+use Rattle.std.proofs.Common.{◌≡◌, ◌≢◌, ℕ, suc, ◌≤◌, inl, inr, List, length, Option, Some, None, refl, sym, ap, ◌∙◌, subst, arith}
+use Rattle.std.specs.Prelude.{◌&&◌, IsSome, option_map}
 use Rattle.std.proofs.lemmas.Bool.{cases_eq}
 use Rattle.gfs2_layout.specs.Headers.{HasHeader}
-use Rattle.gfs2_layout.specs.Holding.{Holding, Cell, Part, Itself, Pointed, InChain, cell_bytes, part_at, bytes_at}
-use Rattle.gfs2_layout.specs.Inode.{Leads, dinode_in, has_hash_flag, height_in, is_hashed_in}
+use Rattle.gfs2_layout.specs.Holding.{Holding, Cell, Itself, Pointed, InChain, cell_bytes, part_at, bytes_at}
+use Rattle.gfs2_layout.specs.Inode.{dinode_in, has_hash_flag, height_in}
 use Rattle.gfs2_layout.specs.Structures.{dinode_of, is_directory}
 use Rattle.gfs2_layout.specs.declared.dinode.Dinode.{Dinode}
 use Rattle.glock_names.specs.Views.{Seen}
-use Rattle.image_model.proofs.Held.{some_same}
 use Rattle.growth_laws.proofs.Parts.{not_itself}
 use Rattle.dinode_tree.specs.Shown as inode
 use Rattle.dinode_tree.proofs.Sound.{is_there, part_of_led}
 use Rattle.linear_dirs.specs.Shown.{bytes_over, holding_over}
 use Rattle.linear_dirs.proofs.Over.{as_seen}
 use Rattle.linear_dirs.proofs.Rewritten.{over_part, over_put, over_there}
-use Rattle.pointer_tables.specs.Directories.{IsPlaced, IsTreeSound}
+use Rattle.pointer_tables.specs.Directories.{IsTreeSound}
 use Rattle.pointer_tables.specs.Tables.{LeavesStay}
 use Rattle.tree_tables.specs.Pointers.{IsTableOf}
 use Rattle.tree_tables.specs.Setting.{HasNumbersSet}

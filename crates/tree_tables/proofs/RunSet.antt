@@ -1,17 +1,15 @@
 -- A run of pointers that is put into one block in a draft.
-use Rattle.std.proofs.Common.{◌≡◌, ◌≢◌, ◌⊎◌, ℕ, suc, ◌+◌, ◌*◌, ◌/◌, ◌^◌, ◌<◌, ◌≤◌, inl, inr, true, false, List, Option, Some, None, refl, sym, ap, ◌∙◌, subst, arith}
+use Rattle.std.proofs.Common.{◌≡◌, ◌≢◌, ℕ, ◌+◌, ◌*◌, ◌/◌, ◌^◌, ◌<◌, ◌≤◌, inl, inr, true, false, List, Option, Some, refl, sym, ap, ◌∙◌, subst, arith}
 use Rattle.std.specs.Prelude.{IsSome, if◌then◌else◌}
 use Rattle.std.specs.Cmp.{nat_cmp_total}
-use Rattle.std.specs.FinMap.{FinMap, get, insert, nat_cmp-IsAntisymmetric}
-use Rattle.std.specs.Ordering.{nat_cmp}
+use Rattle.std.specs.FinMap.{get, insert, nat_cmp-IsAntisymmetric}
 use Rattle.std.proofs.lemmas.Bool.{cases_eq}
 use Rattle.finite_maps.proofs.Keys.{inserted_at, inserted_apart}
-use Rattle.drafts.specs.Fates.{Drafted, seen_in, seen_with}
-use Rattle.drafts.specs.declared.fate.Fate.{Fate}
+use Rattle.drafts.specs.Fates.{Drafted, seen_in}
 use Rattle.drafts.specs.declared.fate.Fate.TheVariants.{Put}
 use Rattle.gfs2_layout.specs.Device.{IsBlockSize}
-use Rattle.gfs2_layout.specs.Holding.{Holding, Cell, Part, Itself, Pointed, InChain, part_at, bytes_at}
-use Rattle.gfs2_layout.specs.Inode.{dinode_in, entry, fan, has_hash_flag, height_in, is_directory_in, span, unit}
+use Rattle.gfs2_layout.specs.Holding.{Holding, Cell, Itself, Pointed, InChain, part_at, bytes_at}
+use Rattle.gfs2_layout.specs.Inode.{dinode_in, entry, fan, has_hash_flag, is_directory_in, span, unit}
 use Rattle.gfs2_layout.specs.Structures.{dinode_length}
 use Rattle.glock_names.specs.Views.{Seen, HasBlock}
 use Rattle.image_model.proofs.Rows.{and_left}
@@ -20,7 +18,7 @@ use Rattle.dinode_tree.proofs.Sound.{is_there, size_large}
 use Rattle.hash_dirs.proofs.Cuts.{seen_apart, there_still}
 use Rattle.linear_dirs.proofs.Rewritten.{over_there, seen_at}
 use Rattle.pointer_tables.specs.Directories.{IsPlaced, IsTreeSound}
-use Rattle.pointer_tables.specs.Tables.{DraftsDirectory, HasPointersSet, is_within}
+use Rattle.pointer_tables.specs.Tables.{DraftsDirectory, is_within}
 use Rattle.tree_tables.specs.Pointers.{IsTableOf}
 use Rattle.tree_tables.specs.Setting.{HasNumbersSet, IsBehindDinode, IsInTable, IsRun, IsSetIn}
 use Rattle.tree_tables.specs.declared.finding.Run.{Run}

@@ -1,11 +1,10 @@
 -- Runs of pointers that are set one behind another.
-use Rattle.std.proofs.Common.{◌≡◌, ◌⊎◌, ℕ, ◌+◌, ◌^◌, ◌<◌, ◌≤◌, inl, inr, false, List, Option, Some, refl, sym, ap, ◌∙◌, subst, arith}
+use Rattle.std.proofs.Common.{◌≡◌, ◌⊎◌, ℕ, ◌+◌, ◌^◌, ◌<◌, ◌≤◌, inl, inr, false, List, Some, refl, sym, ap, ◌∙◌, subst, arith}
 use Rattle.std.specs.Prelude.{IsSome, if◌then◌else◌}
-use Rattle.std.specs.FinMap.{get}
 use Rattle.std.proofs.lemmas.Bool.{cases_lt, cond-true, cond-false}
 use Rattle.drafts.specs.Fates.{Drafted, seen_in}
 use Rattle.drafts.specs.declared.fate.Fate.TheVariants.{Put}
-use Rattle.gfs2_layout.specs.Holding.{Holding, Cell, cell_bytes, cell_part, bytes_at, part_at}
+use Rattle.gfs2_layout.specs.Holding.{Holding, cell_part}
 use Rattle.gfs2_layout.specs.Inode.{entry, table_count}
 use Rattle.gfs2_layout.specs.declared.dinode.Dinode.{Dinode}
 use Rattle.glock_names.specs.Views.{Seen, HasBlock}

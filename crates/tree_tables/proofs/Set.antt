@@ -1,8 +1,8 @@
 -- Numbers that are set one after another.
-use Rattle.std.proofs.Common.{◌≡◌, ℕ, suc, ◌+◌, ◌*◌, ◌^◌, ◌<◌, ◌≤◌, ◌⊎◌, inl, inr, List, length, refl, sym, ap, ◌∙◌, arith}
+use Rattle.std.proofs.Common.{◌≡◌, ℕ, ◌+◌, ◌*◌, ◌^◌, ◌<◌, ◌≤◌, inl, inr, List, length, refl, ap, ◌∙◌, arith}
 use Rattle.std.proofs.lemmas.Bool.{cases_lt}
 use Rattle.std.specs.Int.{w64, from_be_bytes}
-use Rattle.gfs2_layout.specs.Bytes.{slice, u64_at, number_at, with_number}
+use Rattle.gfs2_layout.specs.Bytes.{u64_at, number_at, with_number}
 use Rattle.gfs2_layout.proofs.InPlace.{is_width_64, length-with, number-with_same, slice-with_other}
 use Rattle.tree_tables.specs.Setting.{HasNumbersSet}
 

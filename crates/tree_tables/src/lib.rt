@@ -7,4 +7,5 @@ mod putting;
 mod setting;
 mod tree_table;
 
+pub use setting::set_pointers;
 pub use tree_table::TreeTable;

@@ -50,7 +50,7 @@ fn set_run<V: View>(
 /// this table it then shows the directory with these pointers set and all else as it was. It puts those of its blocks that have some of
 /// them, under its lock, and no other block. A pointer in a hole of the table is damage. It costs a walk to each of these blocks, and two
 /// copies of each.
-pub(crate) fn set_runs<V: View>(
+pub fn set_pointers<V: View>(
     draft: &mut Draft<'_, V>,
     table: TreeTable,
     from: usize,

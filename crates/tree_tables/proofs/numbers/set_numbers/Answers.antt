@@ -1,6 +1,4 @@
 use Rattle.std.proofs.Common.{◌≡◌, ℕ, ◌+◌, ◌*◌, ◌≤◌, length, List, sym, subst, arith}
-use Rattle.std.specs.Int.{w64}
-use Rattle.gfs2_layout.specs.Bytes.{with_number}
 use Rattle.tree_tables.specs.Setting.{HasNumbersSet}
 use Rattle.tree_tables.proofs.Set.{none_set, one_more}
 use Rattle.tree_tables.proofs.numbers.set_numbers.Goals as goal

@@ -1,4 +1,4 @@
-use Rattle.std.proofs.Common.{subst, ap, ◌∙◌, sym}
+use Rattle.std.proofs.Common.{subst, sym}
 use Rattle.gfs2_layout.specs.Device.{IsBlockSize}
 use Rattle.glock_names.proofs.StepLaws.{answer_at}
 use Rattle.tree_tables.proofs.RunSet.{run_is_set, seen_still}

@@ -1,10 +1,10 @@
-use Rattle.std.proofs.Common.{◌≡◌, ◌-◌, ◌≤◌, ℕ, refl, subst, ◌∙◌, arith}
+use Rattle.std.proofs.Common.{◌≡◌, ◌-◌, ◌≤◌, refl, subst, ◌∙◌, arith}
 use Rattle.drafts.specs.Fates.{seen_in}
 use Rattle.linear_dirs.specs.Shown.{holding_over}
 use Rattle.glock_names.proofs.StepLaws.{answer_at}
 use Rattle.tree_tables.specs.Setting.{IsSetIn}
 use Rattle.tree_tables.proofs.Runs.{none_set_in, runs_join}
-use Rattle.tree_tables.proofs.setting.set_runs.Goals as goal
+use Rattle.tree_tables.proofs.setting.set_pointers.Goals as goal
 
 -- src/setting.rt:66:5
 pub loop-done-init : goal.loop-done-init

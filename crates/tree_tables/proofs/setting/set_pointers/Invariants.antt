@@ -1,10 +1,10 @@
-use Rattle.std.proofs.Common.{◌-◌, ℕ, ◌≡◌, ◌≤◌}
+use Rattle.std.proofs.Common.{◌-◌, ◌≡◌, ◌≤◌}
 use Rattle.drafts.specs.Fates.{seen_in}
 use Rattle.gfs2_layout.specs.Holding.{Holding}
 use Rattle.pointer_tables.specs.Directories.{IsPlaced, IsTreeSound}
 use Rattle.tree_tables.specs.Pointers.{IsTableOf}
 use Rattle.tree_tables.specs.Setting.{IsSetIn}
-use Rattle.tree_tables.proofs.setting.set_runs.Given as goal
+use Rattle.tree_tables.proofs.setting.set_pointers.Given as goal
 
 abbrev pub invariant-loop-done : goal.invariant-loop-done
 invariant-loop-done g l = record {
