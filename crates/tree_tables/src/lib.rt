@@ -5,6 +5,7 @@ mod finding;
 mod numbers;
 mod putting;
 mod setting;
+mod table_mut;
 mod tree_table;
 
 pub use setting::set_pointers;

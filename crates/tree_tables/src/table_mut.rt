@@ -1,0 +1,30 @@
+// A table in its directory's blocks that changes in a draft.
+use crate::TreeTable;
+use crate::set_pointers;
+use drafts::Draft;
+use glock_names::{CallFault, Step, View};
+use pointer_tables::PointerTableMut;
+use std::alloc::Global;
+use std::collections::VecDeque;
+
+impl PointerTableMut for TreeTable {
+    fn set<V: View>(
+        &mut self,
+        draft: &mut Draft<'_, V>,
+        from: u32,
+        count: u32,
+        leaf: u64,
+    ) -> Result<Step<()>, CallFault> {
+        set_pointers(draft, *self, from as usize, count as usize, leaf)
+    }
+
+    // A body without its work, while the contract is written.
+    fn double<V: View>(
+        &mut self,
+        _alloc: Global,
+        _draft: &mut Draft<'_, V>,
+        _room: &mut VecDeque<u64>,
+    ) -> Result<Step<()>, CallFault> {
+        Err(CallFault::NoMemory)
+    }
+}
