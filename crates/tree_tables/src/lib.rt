@@ -5,7 +5,6 @@ mod finding;
 mod numbers;
 mod putting;
 mod setting;
-mod table_mut;
 mod tree_table;
 
 pub use setting::set_pointers;
