@@ -1,3 +1,1 @@
 pub mod Directories
-pub mod Tables
-pub mod Vectors

@@ -3,8 +3,6 @@
 
 mod pointer;
 mod table;
-mod vector;
 
 pub use pointer::Pointer;
-pub use table::{PointerTable, PointerTableMut};
-pub use vector::VectorTable;
+pub use table::PointerTable;

@@ -1,8 +1,8 @@
 -- The pointers of a table that stands in its directory's blocks.
-use Rattle.std.specs.Prelude.{ℕ, ◌≡◌, ◌⊎◌, ◌+◌, ◌-◌, ◌*◌, ◌/◌, ◌%◌, ◌^◌, ◌==◌, true, if◌then◌else◌, List, [], Option, None, Some, option_map}
+use Rattle.std.specs.Prelude.{ℕ, ◌≡◌, ◌+◌, ◌-◌, ◌*◌, ◌/◌, ◌%◌, ◌^◌, ◌==◌, true, if◌then◌else◌, List, [], Option, None, Some, option_map}
 use Rattle.gfs2_layout.specs.Bytes.{u64_at}
 use Rattle.gfs2_layout.specs.Holding.{Holding, Itself, bytes_at}
-use Rattle.gfs2_layout.specs.Inode.{Leads, depth_in, dinode_in, header_length, height_in, is_hashed_in}
+use Rattle.gfs2_layout.specs.Inode.{depth_in, dinode_in, header_length, height_in, is_hashed_in}
 use Rattle.gfs2_layout.specs.Structures.{dinode_length}
 use Rattle.glock_names.specs.Views.{Seen}
 use Rattle.dinode_tree.specs.Reading.{AreWholeBefore, block_at}
@@ -46,10 +46,6 @@ abbrev pub pointer_in : TreeTable → Seen → ℕ → Option Pointer
 pointer_in t v i =
     let h = seen_as v t.directory in
     option_map (λ bytes. record { leaf = pointer_at h i; from = block_of h i }) (v.block_at (block_of h i))
-
--- the block has some of the pointers, or leads to those that have: it is the dinode's, or one to which a pointer of it leads
-abbrev pub IsPartOf : TreeTable → Seen → ℕ → Type 0
-IsPartOf t v b = (b ≡ t.directory) ⊎ ((from k level first : ℕ) × Leads (seen_as v t.directory) from k level first b)
 
 -- the table is that of this directory
 pub record IsTableOf (t : TreeTable) (v : Seen) (h : Holding) : Type 0 where

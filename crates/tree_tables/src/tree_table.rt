@@ -21,7 +21,7 @@ use linear_dirs::lock_of;
 use pointer_tables::{Pointer, PointerTable};
 
 // Where the pointers of a table block begin.
-pub(crate) const IN_TABLE: usize = 24;
+const IN_TABLE: usize = 24;
 
 /// The table of the hashed directory with its dinode in this block, which is so deep.
 #[derive(Clone, Copy, Debug, PartialEq, Eq)]
@@ -69,14 +69,12 @@ impl TreeTable {
 }
 
 impl PointerTable for TreeTable {
-    ghost use Rattle.tree_tables.specs.Pointers.{IsPartOf, IsTableOf, pointer_in};
+    ghost use Rattle.tree_tables.specs.Pointers.{IsTableOf, pointer_in};
     ghost use Rattle.tree_tables.specs.Following.{follows_in};
 
     ghost deep = { λ t. t.depth };
 
     ghost pointer = { λ t v i. pointer_in t v i };
-
-    ghost is_part = { λ t v b. IsPartOf t v b };
 
     ghost shows = { λ t v h. IsTableOf t v h };
 
@@ -164,7 +162,7 @@ fn table_pointer<V: View>(
 }
 
 // The fault of a block that breaks a rule.
-pub(crate) fn damaged(block: u64, rule: u16) -> CallFault
+fn damaged(block: u64, rule: u16) -> CallFault
     ensures { result ≡ CallFault.Damaged block rule }
 {
     CallFault::Damaged { block, rule }
