@@ -1,0 +1,66 @@
+-- The forms of a directory, by what its dinode says.
+use Rattle.std.proofs.Common.{◌≡◌, ◌&&◌, ℕ, Bool, true, false, true≢false, List, Option, None, Some, Result, Ok, Err, sym, ap, ◌∙◌, subst, refl}
+use Rattle.std.specs.Option.{option_map}
+use Rattle.gfs2_layout.specs.Holding.{Holding}
+use Rattle.gfs2_layout.specs.Inode.{dinode_in, has_hash_flag, is_directory_in, is_hashed_in, records_of}
+use Rattle.gfs2_layout.specs.Records.{record_named}
+use Rattle.gfs2_layout.specs.Structures.{dinode_of, is_directory}
+use Rattle.gfs2_layout.specs.declared.dinode.Dinode.{Dinode}
+use Rattle.glock_names.specs.Steps.{IfIs, IsDamage, OnlyDamaged}
+use Rattle.glock_names.specs.Views.{Seen, HasBlock}
+use Rattle.glock_names.specs.declared.steps.CallFault.{CallFault}
+use Rattle.glock_names.specs.declared.steps.CallFault.TheVariants.{Damaged, NoMemory}
+use Rattle.glock_names.specs.declared.steps.Entry.{Entry}
+use Rattle.glock_names.specs.declared.steps.Step.{Step}
+use Rattle.glock_names.specs.declared.steps.Step.TheVariants.{Is, NeedBlock}
+use Rattle.dinode_tree.specs.Shown as inode
+use Rattle.linear_dirs.specs.Shown.{IsLinearIn, entry_of}
+use Rattle.hash_dirs.specs.Shown as hashed
+use Rattle.directories.specs.Shown.{IsBroken, IsDirectoryIn, IsShown, Says, in_linear}
+
+-- as a hashed one
+pub leaves_shown : (v : Seen) (a : ℕ) (h : Holding) → IsShown v a h → is_hashed_in h ≡ true → hashed.IsShown v a h
+leaves_shown v a h shown is = record { inode = shown.inode; hashed = is; leaves = shown.leaves is }
+
+-- the view's block is the dinode's
+pub dinode_here : (v : Seen) (a : ℕ) (h : Holding) (bytes : List ℕ) → inode.IsShown v a h → v.block_at a ≡ Some bytes → dinode_in h ≡ dinode_of bytes
+unfolding dinode_in
+dinode_here v a h bytes shown there = ap dinode_of (shown.same h.own bytes shown.dinode (ap v.block_at shown.own ∙ there))
+
+pub is_directory_here : (v : Seen) (a : ℕ) (h : Holding) → IsDirectoryIn v a → HasBlock v a → inode.IsShown v a h → is_directory_in h ≡ true
+is_directory_here v a h directory there shown = ap is_directory (dinode_here v a h there.0 shown there.1) ∙ directory there.0 there.1
+
+both : (a b : Bool) → a ≡ true → b ≡ true → (a && b) ≡ true
+both true b e f = f
+both false b e f = absurd (true≢false (sym e))
+
+neither : (a b : Bool) → b ≡ false → (a && b) ≡ false
+neither true b e = e
+neither false b e = refl
+
+pub hashed_here : (h : Holding) (d : Dinode) → d ≡ dinode_in h → is_directory_in h ≡ true → has_hash_flag d ≡ true → is_hashed_in h ≡ true
+hashed_here h d is directory flag = both (is_directory (dinode_in h)) (has_hash_flag (dinode_in h)) directory (ap has_hash_flag (sym is) ∙ flag)
+
+pub linear_here : (h : Holding) (d : Dinode) → d ≡ dinode_in h → has_hash_flag d ≡ false → is_hashed_in h ≡ false
+linear_here h d is flag = neither (is_directory (dinode_in h)) (has_hash_flag (dinode_in h)) (ap has_hash_flag (sym is) ∙ flag)
+
+-- where the dinode says that it is linear, so does the view's block
+pub linear_in : (v : Seen) (a : ℕ) (d : Dinode) → IsDirectoryIn v a → ((h : Holding) → inode.IsShown v a h → d ≡ dinode_in h) → ((h : Holding) × inode.IsShown v a h) → has_hash_flag d ≡ false → IsLinearIn v a
+linear_in v a d directory is some flag bytes there =
+    (directory bytes there, ap has_hash_flag (sym (is some.0 some.1 ∙ dinode_here v a some.0 bytes some.1 there)) ∙ flag)
+
+-- what a fault tells
+pub fault_as : (P Q : ℕ → ℕ → Type 0) (fault : CallFault) → ((rule b : ℕ) → P rule b → Q rule b) → IsDamage P fault → IsDamage Q fault
+fault_as P Q (Damaged b rule) so told = so rule b told
+fault_as P Q NoMemory so told = told
+
+pub answer_as : {A : Type 0} (P Q : ℕ → ℕ → Type 0) (result : Result A CallFault) → ((rule b : ℕ) → P rule b → Q rule b) → OnlyDamaged result P → OnlyDamaged result Q
+answer_as P Q (Ok x) so told = tt
+answer_as P Q (Err fault) so told = fault_as P Q fault so told
+
+-- the answer of a linear one is what it says
+pub says_linear : (h : Holding) (name : List ℕ) (r : Result (Step (Option Entry)) CallFault) → is_hashed_in h ≡ false
+    → IfIs r (λ found. found ≡ option_map entry_of (record_named (records_of h) name)) → IfIs r (Says h name)
+says_linear h name (Ok (Is found)) plain is = subst (Says h name) (sym is) (in_linear plain)
+says_linear h name (Ok (NeedBlock m)) plain is = tt
+says_linear h name (Err fault) plain is = tt
