@@ -1,6 +1,7 @@
 -- A directory of any form as a view shows it, and what it says of a name.
-use Rattle.std.specs.Prelude.{ℕ, ◌≡◌, ◌≢◌, ◌≤◌, true, false, List, Option, None, Some, IsSome}
+use Rattle.std.specs.Prelude.{ℕ, ◌≡◌, ◌≢◌, ◌^◌, ◌<◌, ◌≤◌, true, false, List, Option, None, Some, IsSome}
 use Rattle.std.specs.Option.{option_map}
+use Rattle.crc_words.specs.Remainder.{crc32_of}
 use Rattle.profile_limits.specs.Limits.{most_blocks}
 use Rattle.gfs2_layout.specs.Holding.{Holding}
 use Rattle.gfs2_layout.specs.Inode.{is_directory_in, is_hashed_in, records_of}
@@ -35,10 +36,10 @@ pub record IsShown (v : Seen) (a : ℕ) (h : Holding) : Type 0 where
 
 -- ---- what a directory says
 
--- `Says h name found`: where the first record of the name leads; of a hashed directory the first along the chain of the name's hash.
+-- `Says h name found`: where the first record of the name leads; of a hashed directory the first along the chain of the name's hash, which has 32 bits.
 pub data Says (h : Holding) (name : List ℕ) : Option Entry → Type 0 where
   in_linear : is_hashed_in h ≡ false → Says h name (option_map entry_of (record_named (records_of h) name))
-  in_hashed : (found : Option Entry) → is_hashed_in h ≡ true → IsFoundBy h name found → Says h name found
+  in_hashed : (found : Option Entry) → is_hashed_in h ≡ true → crc32_of name < 2 ^ 32 → IsFoundBy h name found → Says h name found
 
 -- the directory has the name, which leads to block b
 pub record HasName (h : Holding) (name : List ℕ) (b : ℕ) : Type 0 where

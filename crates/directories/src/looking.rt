@@ -10,6 +10,7 @@ ghost use Rattle.linear_dirs.specs.Shown.{entry_of};
 ghost use Rattle.hash_dirs.specs.Shown.{IsSound};
 ghost use Rattle.directories.specs.Shown.{IsBroken, IsDirectoryIn, IsNeededFor, IsShown, Says};
 
+use crc_words::checksums_have_32_bits;
 use dinode_tree::read_dinode;
 use gfs2_layout::Dinode;
 use glock_names::{CallFault, Entry, Step, View};
@@ -35,6 +36,7 @@ fn look_hashed<V: View>(
     ensures damaged { (h : Holding) → IsShown (V.seen view.now) dir h → is_hashed_in h ≡ true → OnlyDamaged result (IsBroken h) }
     ensures kept { OnlyDamaged result (IsOfView (V.seen view.now)) }
 {
+    checksums_have_32_bits();
     let table = match TreeTable::of(view, dir)? {
         Step::Is(table) => table,
         Step::NeedBlock(missing) => return Ok(Step::NeedBlock(missing)),
