@@ -1,5 +1,5 @@
 -- The forms of a directory, by what its dinode says.
-use Rattle.std.proofs.Common.{◌≡◌, ◌&&◌, ℕ, Bool, true, false, true≢false, List, Option, None, Some, Result, Ok, Err, sym, ap, ◌∙◌, subst, refl}
+use Rattle.std.proofs.Common.{◌≡◌, ◌&&◌, ℕ, Bool, true, false, true≢false, arith, List, Option, None, Some, Result, Ok, Err, sym, ap, ◌∙◌, subst, refl}
 use Rattle.std.specs.Option.{option_map}
 use Rattle.gfs2_layout.specs.Holding.{Holding}
 use Rattle.gfs2_layout.specs.Inode.{dinode_in, has_hash_flag, is_directory_in, is_hashed_in, records_of}
@@ -7,7 +7,11 @@ use Rattle.gfs2_layout.specs.Records.{record_named}
 use Rattle.gfs2_layout.specs.Structures.{dinode_of, is_directory}
 use Rattle.gfs2_layout.specs.declared.dinode.Dinode.{Dinode}
 use Rattle.glock_names.specs.Steps.{IfIs, IsDamage, OnlyDamaged}
-use Rattle.glock_names.specs.Views.{Seen, HasBlock}
+use Rattle.glock_names.specs.Views.{Seen, HasBlock, IsView}
+use Rattle.dinode_tree.proofs.Sound.{all_is_shown}
+use Rattle.std.proofs.lemmas.List.{length-replicate}
+use Rattle.std.specs.Prelude.{length, replicate}
+use Rattle.gfs2_layout.specs.Holding.{Itself}
 use Rattle.glock_names.specs.declared.steps.CallFault.{CallFault}
 use Rattle.glock_names.specs.declared.steps.CallFault.TheVariants.{Damaged, NoMemory}
 use Rattle.glock_names.specs.declared.steps.Entry.{Entry}
@@ -64,3 +68,23 @@ pub says_linear : (h : Holding) (name : List ℕ) (r : Result (Step (Option Entr
 says_linear h name (Ok (Is found)) plain is = subst (Says h name) (sym is) (in_linear plain)
 says_linear h name (Ok (NeedBlock m)) plain is = tt
 says_linear h name (Err fault) plain is = tt
+
+-- a view shows some directory in a block, whatever it has: the one of which each block is what the view has, or zeros
+abbrev bytes_or_zeros : ℕ → Option (List ℕ) → List ℕ
+bytes_or_zeros size None = replicate size 0
+bytes_or_zeros size (Some bytes) = bytes
+
+abbrev as_seen : Seen → ℕ → Holding
+as_seen v a = record { size = v.size; count = 0; own = a; cell = λ b. Some (record { part = Itself; bytes = bytes_or_zeros v.size (v.block_at b) }) }
+
+pub some_directory : (v : Seen) (a : ℕ) → IsView v → (h : Holding) × IsShown v a h
+some_directory v a view = (as_seen v a, record {
+  inode = all_is_shown v (as_seen v a) refl (λ b. refl) (λ b bytes there is. ap (bytes_or_zeros v.size) is);
+  leaves = λ hashed i place x chain some. refl;
+  whole = λ at i b low counted is. each b (v.block_at b) refl;
+  few = omega arith;
+})
+  where
+    each : (b : ℕ) (o : Option (List ℕ)) → v.block_at b ≡ o → length (bytes_or_zeros v.size o) ≡ v.size
+    each b None is = length-replicate v.size 0
+    each b (Some bytes) is = view.whole b bytes is

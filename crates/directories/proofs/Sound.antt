@@ -1,5 +1,5 @@
 -- What a sound directory says is what its records say, and nothing of it is broken.
-use Rattle.std.proofs.Common.{◌≡◌, ◌≢◌, ℕ, suc, ◌+◌, ◌<◌, ◌≤◌, true, false, List, [], ◌∷◌, length, Option, None, Some, refl, sym, ap, ◌∙◌, subst, arith}
+use Rattle.std.proofs.Common.{◌≡◌, ◌≢◌, ◌⊎◌, inl, inr, true≢false, ℕ, suc, ◌+◌, ◌<◌, ◌≤◌, true, false, List, [], ◌∷◌, length, Option, None, Some, refl, sym, ap, ◌∙◌, subst, arith}
 use Rattle.std.specs.Prelude.{Contains}
 use Rattle.std.specs.Option.{option_map}
 use Rattle.file_tree.specs.Names.{IsName}
@@ -15,7 +15,9 @@ use Rattle.linear_dirs.specs.Broken as linear
 use Rattle.linear_dirs.specs.Shown.{entry_of}
 use Rattle.pointer_tables.specs.Directories.{IsInChain, chain_head, chain_next}
 use Rattle.hash_dirs.specs.Broken as leaves
-use Rattle.hash_dirs.specs.Shown.{IsSound, LeadsToLeaf, by_leaf, by_pointer}
+use Rattle.hash_dirs.specs.Finding.{IsFirstNamed, IsNamedLater, in_leaf, named_in, nowhere}
+use Rattle.hash_dirs.specs.Shown.{IsSound, LeadsToLeaf, by_leaf, by_pointer, index_for}
+use Rattle.hash_dirs.proofs.Along.{chain_one}
 use Rattle.hash_dirs.proofs.Chained.{in_chain, in_leaves, inside, rules, same_hash}
 use Rattle.hash_dirs.proofs.Named.{records_are, tells}
 use Rattle.directories.specs.Shown.{HasName, IsBroken, Says}
@@ -90,3 +92,29 @@ module _ (h : Holding) (sound : IsSound h) (is : is_directory_in h ≡ true) (do
   unbroken rule b (directory.IsBroken.of_inode broken) = sound_breaks_nothing h rule b sound.inode broken
   unbroken rule b (directory.IsBroken.in_linear dir plain broken) = linear_unbroken plain rule b broken
   unbroken rule b (directory.IsBroken.in_hashed hashed broken) = hashed_unbroken h sound hashed down entries links rule b broken
+
+-- ---- a directory says one thing of a name
+
+module _ (h : Holding) (i : ℕ) (name : List ℕ) where
+  before_other : (place place' x x' : ℕ) (r r' : Record) → IsInChain h i place x → named_in h name x ≡ Some r → IsInChain h i place' x' → named_in h name x' ≡ Some r' → IsNamedLater h i name place' → place < place' → ⊥
+  before_other place place' x x' r r' chain is chain' is' later low = none_some (sym (later place x low chain) ∙ is)
+
+  first_once : (a b : Option Record) → IsFirstNamed h i name a → IsFirstNamed h i name b → a ≡ b
+  first_once _ _ (in_leaf place x r chain is later) (in_leaf place' x' r' chain' is' later') = elim (which place place') [
+    | inl low ↦ absurd (before_other place place' x x' r r' chain is chain' is' later' low)
+    | inr (inl same) ↦ sym is ∙ ap (named_in h name) (chain_one h i place x x' chain (subst (λ n. IsInChain h i n x') (sym same) chain')) ∙ is'
+    | inr (inr high) ↦ absurd (before_other place' place x' x r' r chain' is' chain is later high)
+  ]
+    where
+      which : (a b : ℕ) → (a < b) ⊎ ((a ≡ b) ⊎ (b < a))
+      which a b = grind arith
+  first_once _ _ (in_leaf place x r chain is later) (nowhere none) = absurd (none_some (sym (none (place + 1) place x (omega arith) chain) ∙ is))
+  first_once _ _ (nowhere none) (in_leaf place x r chain is later) = absurd (none_some (sym (none (place + 1) place x (omega arith) chain) ∙ is))
+  first_once _ _ (nowhere none) (nowhere none') = refl
+
+pub says_once : (h : Holding) (name : List ℕ) (a b : Option Entry) → Says h name a → Says h name b → a ≡ b
+says_once h name _ _ (directory.Says.in_linear plain) (directory.Says.in_linear plain') = refl
+says_once h name _ _ (directory.Says.in_linear plain) (directory.Says.in_hashed found hashed small by) = absurd (true≢false (sym hashed ∙ plain))
+says_once h name _ _ (directory.Says.in_hashed found hashed small by) (directory.Says.in_linear plain) = absurd (true≢false (sym hashed ∙ plain))
+says_once h name _ _ (directory.Says.in_hashed found hashed small by) (directory.Says.in_hashed found' hashed' small' by') =
+    by.leads ∙ ap (option_map entry_of) (first_once h (index_for h name) name by.named by'.named by.first by'.first) ∙ sym by'.leads
