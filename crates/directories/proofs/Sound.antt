@@ -37,7 +37,7 @@ module _ (h : Holding) (sound : IsSound h) (hashed : is_hashed_in h ≡ true) wh
   led_chain i _ _ (by_pointer low) = (0, chain_head low)
   led_chain i _ _ (by_leaf place x chain more) = (place + 1, chain_next place x chain more)
 
-  leaf_part : (i from x : ℕ) → LeadsToLeaf h i from x → (place : ℕ) × (part_at h x ≡ Some (InChain (first_hash h i) place))
+  pub leaf_part : (i from x : ℕ) → LeadsToLeaf h i from x → (place : ℕ) × (part_at h x ≡ Some (InChain (first_hash h i) place))
   leaf_part i from x leads = let c = led_chain i from x leads in (c.0, in_chain h sound hashed i c.0 x c.1)
 
   is_leaf : (i from x : ℕ) → LeadsToLeaf h i from x → IsLeaf h (first_hash h i) x

@@ -19,7 +19,7 @@ use Rattle.dinode_tree.proofs.Sound.{sound_is_whole}
 use Rattle.hash_dirs.specs.Shown.{IsSound}
 use Rattle.hash_dirs.proofs.Chained.{cell_some, in_chain}
 use Rattle.directories.specs.Shown.{HasName, Says}
-use Rattle.directories.specs.Shown as directory
+use Rattle.directories.specs.Shown as dirs
 use Rattle.directories.proofs.Sound.{says_sound}
 use Rattle.directories.proofs.Sound as sound
 use Rattle.resource_groups.specs.Putting.{HasDataBlock}
@@ -195,7 +195,7 @@ module _ (v : Seen) (im : Image) (o : Owners) (l : Layout) (t : Tree) (of : IsOf
     once = (of.stands.laid.directories a (is_inode path a at) dir).once;
   }
 
-  pub shown_directory : (path : Path) (a : ℕ) → IsAt im o l path a → is_directory_in (holding im o a) ≡ true → directory.IsShown v a (holding im o a)
+  pub shown_directory : (path : Path) (a : ℕ) → IsAt im o l path a → is_directory_in (holding im o a) ≡ true → dirs.IsShown v a (holding im o a)
   shown_directory path a at dir = record {
     inode = is_shown path a at;
     leaves = λ hashed i place x chain some. cell_some ((holding im o a).cell x) _ (in_chain (holding im o a) (sound_directory path a at dir) hashed i place x chain);
@@ -231,7 +231,7 @@ module _ (v : Seen) (im : Image) (o : Owners) (l : Layout) (t : Tree) (of : IsOf
   pub unbroken : (path : Path) (a rule b : ℕ) → IsAt im o l path a → inode.IsBroken (holding im o a) rule b → ⊥
   unbroken path a rule b at = sound_breaks_nothing (holding im o a) rule b (is_sound path a at)
 
-  pub unbroken_directory : (path : Path) (a rule b : ℕ) → IsAt im o l path a → is_directory_in (holding im o a) ≡ true → directory.IsBroken (holding im o a) rule b → ⊥
+  pub unbroken_directory : (path : Path) (a rule b : ℕ) → IsAt im o l path a → is_directory_in (holding im o a) ≡ true → dirs.IsBroken (holding im o a) rule b → ⊥
   unbroken_directory path a rule b at dir broken =
       let is = of.stands.laid.directories a (is_inode path a at) dir in
       sound.unbroken (holding im o a) (sound_directory path a at dir) dir (λ r has low. (is.down r has low).name) is.entries is.links rule b broken

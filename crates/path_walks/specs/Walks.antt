@@ -16,7 +16,7 @@ use Rattle.dinode_tree.specs.Broken as inode
 use Rattle.dinode_tree.specs.Shown.{IsShown}
 use Rattle.dinode_tree.specs.Walking.{missing_dinode}
 use Rattle.directories.specs.Shown.{HasName, Says}
-use Rattle.directories.specs.Shown as directory
+use Rattle.directories.specs.Shown as dirs
 use Rattle.resource_groups.specs.Putting.{HasDataBlock}
 use Rattle.image_model.specs.Flat.{Path}
 use Rattle.image_model.specs.Image.{Image}
@@ -46,7 +46,7 @@ IsDirectoryAt v a = (h : Holding) → IsShown v a h → is_directory_in h ≡ tr
 pub record Names (v : Seen) (dir : ℕ) (name : List ℕ) (b : ℕ) : Type 0 where
   pub there : HasBlock v dir
   pub directory : IsDirectoryAt v dir
-  pub child : (h : Holding) → directory.IsShown v dir h → HasName h name b
+  pub child : (h : Holding) → dirs.IsShown v dir h → HasName h name b
 
 -- the lock of the inode in a block is held as the want at this depth has it
 abbrev pub IsHeldAt : Seen → List Want → ℕ → ℕ → Type 0
@@ -79,7 +79,7 @@ pub record IsLacked (v : Seen) (wants : List Want) (path : Path) (lock : LockNam
 pub data IsUnread (v : Seen) (wants : List Want) (path : Path) (m : Missing) : Type 0 where
   a_dinode : (depth : ℕ) → IsNext v wants path depth m.block → IsHeldAt v wants depth m.block → v.block_at m.block ≡ None → m ≡ missing_dinode m.block → IsUnread v wants path m
   in_directory : (front back : Path) (dir : ℕ) (name : List ℕ) → path ≡ front ++ name ∷ back → LeadsTo v wants front dir → HasBlock v dir → IsDirectoryAt v dir
-      → ((h : Holding) → directory.IsShown v dir h → directory.IsNeededFor v h name m) → v.block_at m.block ≡ None → IsUnread v wants path m
+      → ((h : Holding) → dirs.IsShown v dir h → dirs.IsNeededFor v h name m) → v.block_at m.block ≡ None → IsUnread v wants path m
 
 -- a directory on the path has no such name
 pub record IsAbsent (v : Seen) (wants : List Want) (path : Path) : Type 0 where
@@ -91,7 +91,7 @@ pub record IsAbsent (v : Seen) (wants : List Want) (path : Path) : Type 0 where
   pub leads : LeadsTo v wants front dir
   pub there : HasBlock v dir
   pub directory : IsDirectoryAt v dir
-  pub absent : (h : Holding) → directory.IsShown v dir h → Says h name None
+  pub absent : (h : Holding) → dirs.IsShown v dir h → Says h name None
 
 -- an inode on the path of which a further name is asked is so, as the view shows it
 pub record IsOnTheWay (v : Seen) (wants : List Want) (path : Path) (a : ℕ) (P : Holding → Type 0) : Type 0 where
@@ -139,14 +139,14 @@ IsWalked v im o l t path wants (walk.NeedBlock m) = IsAskedFor v im o l (holds_i
 -- the inode breaks a rule; that of a directory's form where it is one, and (10) so where it hasn't `.` or `..`
 pub data IsWrong (h : Holding) : ℕ → ℕ → Type 0 where
   in_inode : (rule b : ℕ) → inode.IsBroken h rule b → IsWrong h rule b
-  in_directory : (rule b : ℕ) → directory.IsBroken h rule b → IsWrong h rule b
+  in_directory : (rule b : ℕ) → dirs.IsBroken h rule b → IsWrong h rule b
   no_dot : is_directory_in h ≡ true → Says h (codes ".") None → IsWrong h 10 h.own
   no_dots : is_directory_in h ≡ true → Says h (codes "..") None → IsWrong h 10 h.own
 
 -- As far as the view shows, the block breaks this rule: in an inode on the path; or (2) a name on the path leads to a block that is none of
 -- the groups' data blocks.
 pub data IsDamage (v : Seen) (wants : List Want) (path : Path) : ℕ → ℕ → Type 0 where
-  on_path : (depth a rule b : ℕ) → IsNext v wants path depth a → IsHeldAt v wants depth a → ((h : Holding) → directory.IsShown v a h → IsWrong h rule b) → IsDamage v wants path rule b
+  on_path : (depth a rule b : ℕ) → IsNext v wants path depth a → IsHeldAt v wants depth a → ((h : Holding) → dirs.IsShown v a h → IsWrong h rule b) → IsDamage v wants path rule b
   leads_out : (front back : Path) (dir b : ℕ) (name : List ℕ) → path ≡ front ++ name ∷ back → LeadsTo v wants front dir → IsName name → Names v dir name b → ¬ (HasDataBlock v b)
       → IsDamage v wants path 2 dir
 
@@ -177,12 +177,12 @@ pub record GoesOn (v : Seen) (dir : ℕ) (name : List ℕ) (state : State) (w : 
 -- the directory hasn't the name
 pub record LacksName (v : Seen) (dir : ℕ) (name : List ℕ) : Type 0 where
   pub directory : IsDirectoryAt v dir
-  pub absent : (h : Holding) → directory.IsShown v dir h → Says h name None
+  pub absent : (h : Holding) → dirs.IsShown v dir h → Says h name None
 
 -- a block without which it isn't told where the directory's name leads
 pub record IsNeededIn (v : Seen) (dir : ℕ) (name : List ℕ) (m : Missing) : Type 0 where
   pub directory : IsDirectoryAt v dir
-  pub needed : (h : Holding) → directory.IsShown v dir h → directory.IsNeededFor v h name m
+  pub needed : (h : Holding) → dirs.IsShown v dir h → dirs.IsNeededFor v h name m
   pub absent : v.block_at m.block ≡ None
 
 -- from this inode the walk goes on by the next name, or ends there
@@ -194,7 +194,7 @@ IsStepped v a name state w = GoesOn v a name state w
 
 -- by the next name of this directory the walk comes to damage: there, or in the inode to which it leads
 pub data IsDamageAhead (v : Seen) (dir : ℕ) (name : List ℕ) (state : State) : ℕ → ℕ → Type 0 where
-  in_this : (rule b : ℕ) → ((h : Holding) → directory.IsShown v dir h → directory.IsBroken h rule b) → IsDamageAhead v dir name state rule b
+  in_this : (rule b : ℕ) → IsDirectoryAt v dir → ((h : Holding) → dirs.IsShown v dir h → dirs.IsBroken h rule b) → IsDamageAhead v dir name state rule b
   past_groups : (b : ℕ) → Names v dir name b → ¬ (HasDataBlock v b) → IsDamageAhead v dir name state 2 dir
   in_child : (b rule c : ℕ) → Names v dir name b → HasDataBlock v b → holds v (hold_of b state) ≡ true → ((h : Holding) → IsShown v b h → inode.IsBroken h rule c)
       → IsDamageAhead v dir name state rule c
