@@ -6,7 +6,7 @@ use Rattle.gfs2_layout.specs.Inode.{dinode_in, has_hash_flag, is_directory_in, i
 use Rattle.gfs2_layout.specs.Records.{record_named}
 use Rattle.gfs2_layout.specs.Structures.{dinode_of, is_directory}
 use Rattle.gfs2_layout.specs.declared.dinode.Dinode.{Dinode}
-use Rattle.glock_names.specs.Steps.{IfIs, IsDamage, OnlyDamaged}
+use Rattle.glock_names.specs.Steps.{IfDamaged, IfIs, IsDamage, OnlyDamaged, TellsOf}
 use Rattle.glock_names.specs.Views.{Seen, HasBlock, IsView}
 use Rattle.dinode_tree.proofs.Sound.{all_is_shown}
 use Rattle.std.proofs.lemmas.List.{length-replicate}
@@ -88,3 +88,12 @@ some_directory v a view = (as_seen v a, record {
     each : (b : ℕ) (o : Option (List ℕ)) → v.block_at b ≡ o → length (bytes_or_zeros v.size o) ≡ v.size
     each b None is = length-replicate v.size 0
     each b (Some bytes) is = view.whole b bytes is
+
+-- the same of a call that takes memory
+pub tells_as : (P Q : ℕ → ℕ → Type 0) (fault : CallFault) → ((rule b : ℕ) → P rule b → Q rule b) → TellsOf P fault → TellsOf Q fault
+tells_as P Q (Damaged b rule) so told = so rule b told
+tells_as P Q NoMemory so told = tt
+
+pub damaged_as : {A : Type 0} (P Q : ℕ → ℕ → Type 0) (result : Result A CallFault) → ((rule b : ℕ) → P rule b → Q rule b) → IfDamaged result P → IfDamaged result Q
+damaged_as P Q (Ok x) so told = tt
+damaged_as P Q (Err fault) so told = tells_as P Q fault so told

@@ -4,8 +4,9 @@ use Rattle.std.specs.Option.{option_map}
 use Rattle.crc_words.specs.Remainder.{crc32_of}
 use Rattle.profile_limits.specs.Limits.{most_blocks}
 use Rattle.gfs2_layout.specs.Holding.{Holding}
-use Rattle.gfs2_layout.specs.Inode.{is_directory_in, is_hashed_in, records_of}
-use Rattle.gfs2_layout.specs.Records.{record_named}
+use Rattle.gfs2_layout.specs.Inode.{is_directory_in, is_hashed_in, records_of, table_count}
+use Rattle.gfs2_layout.specs.Records.{names_of, record_named}
+use Rattle.std.specs.List.Sorted.{IsPermutation}
 use Rattle.gfs2_layout.specs.Structures.{dinode_of, is_directory}
 use Rattle.glock_names.specs.Views.{Seen}
 use Rattle.glock_names.specs.declared.steps.Entry.{Entry}
@@ -47,6 +48,11 @@ pub record HasName (h : Holding) (name : List ℕ) (b : ℕ) : Type 0 where
   pub says : Says h name (Some entry)
   pub address : entry.addr ≡ b
 
+-- These are its names, but `.` and `..`: of a linear directory those of its records in order; of a hashed one that is sound those of all its records.
+pub record AreNames (h : Holding) (names : List (List ℕ)) : Type 0 where
+  pub in_linear : is_hashed_in h ≡ false → names ≡ names_of (records_of h)
+  pub in_sound : hashed.IsSound h → IsPermutation names (names_of (records_of h))
+
 -- ---- what is asked for
 
 -- The view hasn't this block, without which it isn't told where a name leads: the dinode's; of a hashed directory one of the way to the pointer for the
@@ -58,7 +64,7 @@ pub data IsNeededFor (v : Seen) (h : Holding) (name : List ℕ) (m : Missing) : 
 -- the same of all names
 pub data IsNeededForAll (v : Seen) (h : Holding) (m : Missing) : Type 0 where
   the_dinode : m ≡ missing_dinode h.own → v.block_at h.own ≡ None → IsNeededForAll v h m
-  in_hashed : is_hashed_in h ≡ true → (i : ℕ) → hashed.IsNeededFor v h (λ k. k ≡ i) m → IsNeededForAll v h m
+  in_hashed : is_hashed_in h ≡ true → hashed.IsNeededFor v h (λ i. i < table_count h) m → IsNeededForAll v h m
 
 -- ---- damage
 

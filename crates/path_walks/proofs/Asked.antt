@@ -93,4 +93,4 @@ module _ (v : Seen) (im : Image) (o : Owners) (l : Layout) (t : Tree) (of : IsOf
 
   pub names_asked : IsAmong v list a → is_directory_in (holding im o a) ≡ true → (m : Missing) → dirs.IsNeededForAll v (holding im o a) m → IsAskedFor v im o l list m
   names_asked among dir m (dirs.IsNeededForAll.the_dinode is absent) = own_asked among m is absent
-  names_asked among dir m (dirs.IsNeededForAll.in_hashed hashed i needs) = leaf_asked among dir hashed _ m needs
+  names_asked among dir m (dirs.IsNeededForAll.in_hashed hashed needs) = leaf_asked among dir hashed _ m needs

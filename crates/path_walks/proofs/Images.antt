@@ -1,5 +1,5 @@
 -- Inodes on a path, in an image that the view may be of.
-use Rattle.std.proofs.Common.{◌≡◌, ◌<◌, inl, inr, arith, ℕ, true, false, true≢false, List, [], ◌∷◌, map, Option, None, Some, refl, sym, ap, subst, ◌∙◌}
+use Rattle.std.proofs.Common.{◌≡◌, ◌≢◌, ◌<◌, ◌≤◌, length, inl, inr, arith, ℕ, true, false, true≢false, List, [], ◌∷◌, map, Option, None, Some, refl, sym, ap, subst, ◌∙◌}
 use Rattle.std.proofs.lemmas.Bool.{cases_Bool, cond-true, cond-false, eq-eqb}
 use Rattle.std.proofs.lemmas.Option.{slice_get-map, slice_get_within, get_or_from_slice_get}
 use Rattle.std.proofs.lemmas.Slice.Eq.{bytes_eq-Decides}
@@ -28,7 +28,9 @@ use Rattle.image_model.specs.Image.{Image}
 use Rattle.image_model.specs.Nodes.{node_of}
 use Rattle.image_model.specs.Owners.{Owner, Owners, Super, InGroup, Free, Nobody, Root, Master, Named, Below, Chained, part_in, cell_of, cell_in, is_dinode, IsUsed, holding}
 use Rattle.image_model.specs.Stands.{Layout, flat_of}
-use Rattle.image_model.proofs.Held.{itself_own, none_some}
+use Rattle.image_model.proofs.Held.{itself_own, none_some, some_same}
+use Rattle.path_walks.specs.Walks.{IsWrongAt}
+use Rattle.gfs2_layout.specs.Inode.{dinode_in}
 use Rattle.draft_changes.proofs.Rows.{cell_its, its_used}
 use Rattle.draft_changes.proofs.Views.{none_has_the_first}
 use Rattle.glock_names.specs.declared.steps.Entry.{Entry}
@@ -127,6 +129,44 @@ no_record records name is = each (record_named records name) is
 
 pub no_child : (records : List Record) (name : List ℕ) → ◌≡◌ {A = Option Entry} None (option_map entry_of (record_named records name)) → child_named records name ≡ None
 no_child records name is = ap (option_map (λ (x : Record). x.address)) (no_record records name is)
+
+-- a record that is found is there, and has the name
+found_there : (records : List Record) (name : List ℕ) (r : Record) → record_named records name ≡ Some r → IsIn r records × (r.name ≡ name)
+found_there [] name r e = absurd (none_some e)
+found_there (x ∷ xs) name r e = elim (cases_Bool (bytes_eq name x.name)) [
+  | inl here ↦
+      let same : x ≡ r = some_same (sym (cond-true _ (Some x) (record_named xs name) here) ∙ e) in
+      (inl (sym same), ap (λ (q : Record). q.name) (sym same) ∙ sym ((bytes_eq-Decides name x.name).0 here))
+  | inr away ↦
+      let later = found_there xs name r (sym (cond-false _ (Some x) (record_named xs name) away) ∙ e) in
+      (inr later.0, later.1)
+]
+
+two_long : (xs : List Record) (r s : Record) → IsIn r xs → IsIn s xs → r ≢ s → 2 ≤ length xs
+two_long [] r s first second other = elim first [ ]
+two_long (x ∷ []) r s (inl e) (inl f) other = absurd (other (e ∙ sym f))
+two_long (x ∷ []) r s (inl e) (inr at) other = elim at [ ]
+two_long (x ∷ []) r s (inr at) second other = elim at [ ]
+two_long (x ∷ y ∷ xs) r s first second other = omega arith
+
+-- `.` and `..` lead by two records
+some_record : (records : List Record) (name : List ℕ) (e : Entry) → Some e ≡ option_map entry_of (record_named records name) → (r : Record) × (record_named records name ≡ Some r)
+some_record records name e is = each (record_named records name) is
+  where
+    each : (x : Option Record) → Some e ≡ option_map entry_of x → (r : Record) × (x ≡ Some r)
+    each None is = absurd (none_some (sym is))
+    each (Some r) is = (r, refl)
+
+two_records : (records : List Record) (own up : Entry) → Some own ≡ option_map entry_of (record_named records (codes ".")) → Some up ≡ option_map entry_of (record_named records (codes "..")) → 2 ≤ length records
+two_records records own up first second =
+    let r = some_record records (codes ".") own first in
+    let s = some_record records (codes "..") up second in
+    let dot = found_there records (codes ".") r.0 r.1 in
+    let dots = found_there records (codes "..") s.0 s.1 in
+    two_long records r.0 s.0 dot.0 dots.0 (λ same. differ (sym dot.1 ∙ ap (λ (q : Record). q.name) same ∙ dots.1))
+  where
+    differ : codes "." ≡ codes ".." → ⊥
+    differ e = cc
 
 -- a listed group is one of the view's
 has_group : (gs : List Rindex) (i : ℕ) (g : Rindex) → slice_get gs i ≡ Some g → Contains (map group_of_entry gs) (group_of_entry g)
@@ -235,3 +275,23 @@ module _ (v : Seen) (im : Image) (o : Owners) (l : Layout) (t : Tree) (of : IsOf
   unbroken_directory path a rule b at dir broken =
       let is = of.stands.laid.directories a (is_inode path a at) dir in
       sound.unbroken (holding im o a) (sound_directory path a at dir) dir (λ r has low. (is.down r has low).name) is.entries is.links rule b broken
+
+  -- so nothing of an inode on a path is wrong
+  pub nothing_wrong : (path : Path) (a rule b : ℕ) → IsAt im o l path a → IsWrongAt v a rule b → ⊥
+  nothing_wrong path a rule b at (IsWrongAt.in_inode r c broken) = unbroken path a r c at (broken (holding im o a) (is_shown path a at))
+  nothing_wrong path a rule b at (IsWrongAt.in_directory r c is broken) =
+      let dir = is (holding im o a) (is_shown path a at) in
+      unbroken_directory path a r c at dir (broken (holding im o a) (shown_directory path a at dir))
+  nothing_wrong path a rule b at (IsWrongAt.no_dot is none) =
+      let dir = is (holding im o a) (is_shown path a at) in
+      has_dot path a at dir (none (holding im o a) (shown_directory path a at dir))
+  nothing_wrong path a rule b at (IsWrongAt.no_dots is none) =
+      let dir = is (holding im o a) (is_shown path a at) in
+      has_dots path a at dir (none (holding im o a) (shown_directory path a at dir))
+  nothing_wrong path a rule b at (IsWrongAt.too_few own up is has few) =
+      let dir = is (holding im o a) (is_shown path a at) in
+      let says = has (holding im o a) (shown_directory path a at dir) in
+      let counted = (of.stands.laid.directories a (is_inode path a at) dir).entries in
+      let long = two_records (records_of (holding im o a)) own up (says_records path a (codes ".") (Some own) at dir says.0) (says_records path a (codes "..") (Some up) at dir says.1) in
+      let low = few (holding im o a) (is_shown path a at) in
+      omega (arith, counted, long, low)

@@ -26,7 +26,7 @@ use Rattle.image_changes.specs.Does.{IsOf}
 use Rattle.image_changes.specs.Instances.{IsAt}
 use Rattle.image_changes.proofs.Walks.{walks_end}
 use Rattle.path_walks.specs.Holds.{Hold, AreHeld, IsAskedFor, hold_for, hold_of, holds, holds_in, holds_on}
-use Rattle.path_walks.specs.Walks.{AreInOrder, Names, IsHeldAt, LeadsTo, at_root, by_name, IsNeededIn, IsNext, the_root, the_child, IsSeenAt, IsTold, IsUnread, IsWalked, IsWrong, in_inode, IsDamage, on_path, leads_out, IsReadAt, IsVisited, GoesOn, IsStepped, IsDamageAhead, in_this, past_groups, in_child}
+use Rattle.path_walks.specs.Walks.{AreInOrder, Names, IsHeldAt, LeadsTo, at_root, by_name, IsNeededIn, IsNext, the_root, the_child, IsSeenAt, IsTold, IsUnread, IsWalked, IsWrongAt, IsDamage, on_path, leads_out, IsReadAt, IsVisited, GoesOn, IsStepped, IsDamageAhead, in_this, past_groups, in_child}
 use Rattle.path_walks.specs.declared.walk.Place.{Place}
 use Rattle.path_walks.specs.declared.walk.Walk.{Walk}
 use Rattle.path_walks.specs.declared.walk.Walk.TheVariants as walk
@@ -321,10 +321,10 @@ module _ (v : Seen) (names : Path) (wants : List Want) (order : AreInOrder wants
     pub damages : (state : State) → IsWantedAt wants (suc i) state → (rule b : ℕ) → IsDamageAhead v p.inode name state rule b → IsDamage v wants names rule b
     damages state wanted rule b (in_this r c is broken) =
         let n = came (take i names) p.inode before.leads (drop i names) (sym (take-append-drop i names)) in
-        on_path n.0 p.inode r c n.1 n.2 (λ h shown. IsWrong.in_directory r c (broken h shown))
+        on_path n.0 p.inode r c n.1 n.2 (IsWrongAt.in_directory r c is broken)
     damages state wanted rule b (past_groups c leads outside) = leads_out (take i names) (drop (suc i) names) p.inode c name front before.leads is_name leads outside
     damages state wanted rule b (in_child c r x leads inside held broken) =
-        on_path (suc i) c r x (next c leads inside) (held_at v wants (suc i) c state wanted held) (λ h shown. in_inode r x (broken h shown.inode))
+        on_path (suc i) c r x (next c leads inside) (held_at v wants (suc i) c state wanted held) (IsWrongAt.in_inode r x broken)
 
     -- in an image that stands none is met
     pub no_damage : (im : Image) (o : Owners) (l : Layout) (t : Tree) (of : IsOf v im o l t) (state : State) (rule b : ℕ) → IsDamageAhead v p.inode name state rule b → ⊥
@@ -400,7 +400,7 @@ module _ (v : Seen) (names : Path) (wants : List Want) (order : AreInOrder wants
       → ((h : Holding) → IsShown v root h → inode.IsBroken h rule b) × (holds v (hold_of root state) ≡ true) → IsDamage v wants names rule b
   root_damages state root wanted is rule b both =
       on_path 0 v.root rule b the_root (held_at v wants 0 v.root state wanted (ap (λ a. holds v (hold_of a state)) (sym is) ∙ both.1))
-      (λ h shown. in_inode rule b (both.0 h (subst (λ a. IsShown v a h) (sym is) shown.inode)))
+      (IsWrongAt.in_inode rule b (λ h shown. both.0 h (subst (λ a. IsShown v a h) (sym is) shown)))
 
 -- a visit of the root meets no damage
 pub root_sound : (v : Seen) (im : Image) (o : Owners) (l : Layout) (t : Tree) → IsOf v im o l t → (root : ℕ) → root ≡ v.root → (rule b : ℕ)

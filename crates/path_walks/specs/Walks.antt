@@ -1,5 +1,5 @@
 -- Where a walk along a path ends: as far as a view shows, and in an image that the view may be of.
-use Rattle.std.specs.Prelude.{ℕ, ◌≡◌, ◌⊎◌, ◌+◌, ◌++◌, true, false, List, [], ◌∷◌, codes, length, take, slice_get, None, Some}
+use Rattle.std.specs.Prelude.{ℕ, ◌≡◌, ◌⊎◌, ◌+◌, ◌<◌, ◌++◌, true, false, List, [], ◌∷◌, codes, length, take, slice_get, None, Some}
 use Rattle.file_tree.specs.Tree.{Tree}
 use Rattle.file_tree.specs.Names.{IsName, parent_of}
 use Rattle.file_tree.specs.Apply.{Refused}
@@ -10,6 +10,7 @@ use Rattle.gfs2_layout.specs.Inode.{dinode_in, is_directory_in}
 use Rattle.glock_names.specs.Views.{Seen, HasBlock}
 use Rattle.glock_names.specs.declared.LockName.{LockName}
 use Rattle.glock_names.specs.declared.State.{State}
+use Rattle.glock_names.specs.declared.steps.Entry.{Entry}
 use Rattle.glock_names.specs.declared.steps.Missing.{Missing}
 use Rattle.call_locks.specs.declared.want.Want.{Want}
 use Rattle.dinode_tree.specs.Broken as inode
@@ -136,17 +137,20 @@ IsWalked v im o l t path wants (walk.NeedBlock m) = IsAskedFor v im o l (holds_i
 
 -- ---- damage
 
--- the inode breaks a rule; that of a directory's form where it is one, and (10) so where it hasn't `.` or `..`
-pub data IsWrong (h : Holding) : ℕ → ℕ → Type 0 where
-  in_inode : (rule b : ℕ) → inode.IsBroken h rule b → IsWrong h rule b
-  in_directory : (rule b : ℕ) → dirs.IsBroken h rule b → IsWrong h rule b
-  no_dot : is_directory_in h ≡ true → Says h (codes ".") None → IsWrong h 10 h.own
-  no_dots : is_directory_in h ≡ true → Says h (codes "..") None → IsWrong h 10 h.own
+-- The inode with its dinode in block a is wrong, as far as the view shows it: it breaks a rule, that of a directory's form where it is one; or (10) a
+-- directory hasn't `.` or `..`; or (12) its dinode counts fewer records than these two, which it has.
+pub data IsWrongAt (v : Seen) (a : ℕ) : ℕ → ℕ → Type 0 where
+  in_inode : (rule b : ℕ) → ((h : Holding) → IsShown v a h → inode.IsBroken h rule b) → IsWrongAt v a rule b
+  in_directory : (rule b : ℕ) → IsDirectoryAt v a → ((h : Holding) → dirs.IsShown v a h → dirs.IsBroken h rule b) → IsWrongAt v a rule b
+  no_dot : IsDirectoryAt v a → ((h : Holding) → dirs.IsShown v a h → Says h (codes ".") None) → IsWrongAt v a 10 a
+  no_dots : IsDirectoryAt v a → ((h : Holding) → dirs.IsShown v a h → Says h (codes "..") None) → IsWrongAt v a 10 a
+  too_few : (own up : Entry) → IsDirectoryAt v a → ((h : Holding) → dirs.IsShown v a h → Says h (codes ".") (Some own) × Says h (codes "..") (Some up))
+      → ((h : Holding) → IsShown v a h → (dinode_in h).entries < 2) → IsWrongAt v a 12 a
 
 -- As far as the view shows, the block breaks this rule: in an inode on the path; or (2) a name on the path leads to a block that is none of
 -- the groups' data blocks.
 pub data IsDamage (v : Seen) (wants : List Want) (path : Path) : ℕ → ℕ → Type 0 where
-  on_path : (depth a rule b : ℕ) → IsNext v wants path depth a → IsHeldAt v wants depth a → ((h : Holding) → dirs.IsShown v a h → IsWrong h rule b) → IsDamage v wants path rule b
+  on_path : (depth a rule b : ℕ) → IsNext v wants path depth a → IsHeldAt v wants depth a → IsWrongAt v a rule b → IsDamage v wants path rule b
   leads_out : (front back : Path) (dir b : ℕ) (name : List ℕ) → path ≡ front ++ name ∷ back → LeadsTo v wants front dir → IsName name → Names v dir name b → ¬ (HasDataBlock v b)
       → IsDamage v wants path 2 dir
 
