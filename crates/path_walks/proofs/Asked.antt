@@ -38,7 +38,7 @@ pub record IsAmong (v : Seen) (list : List Hold) (a : ℕ) : Type 0 where
   pub split : list ≡ front ++ hold_of a state ∷ back
   pub held : AreHeld v (front ++ hold_of a state ∷ [])
 
-at_end : (v : Seen) (list : List Hold) (a : ℕ) → EndsWith list a → AreHeld v list → IsAmong v list a
+pub at_end : (v : Seen) (list : List Hold) (a : ℕ) → EndsWith list a → AreHeld v list → IsAmong v list a
 at_end v list a ends held = record { state = ends.state; front = ends.front; back = []; split = ends.split; held = subst (AreHeld v) ends.split held }
 
 module _ (v : Seen) (im : Image) (o : Owners) (l : Layout) (t : Tree) (of : IsOf v im o l t) (path : Path) (a : ℕ) (at : IsAt im o l path a) (list : List Hold) where

@@ -36,6 +36,7 @@ use Rattle.draft_changes.proofs.Views.{none_has_the_first}
 use Rattle.glock_names.specs.declared.steps.Entry.{Entry}
 use Rattle.linear_dirs.specs.Shown.{entry_of}
 use Rattle.image_model.proofs.Members.{IsIn, is_in}
+use Rattle.image_model.proofs.Rows.{and_left}
 use Rattle.image_changes.specs.Changes.{inode_of, lock_in, cover, is_free}
 use Rattle.image_changes.specs.Does.{IsOf, is_content_of}
 use Rattle.image_changes.specs.Instances.{IsAt}
@@ -235,13 +236,16 @@ module _ (v : Seen) (im : Image) (o : Owners) (l : Layout) (t : Tree) (of : IsOf
     once = (of.stands.laid.directories a (is_inode path a at) dir).once;
   }
 
-  pub shown_directory : (path : Path) (a : ℕ) → IsAt im o l path a → is_directory_in (holding im o a) ≡ true → dirs.IsShown v a (holding im o a)
-  shown_directory path a at dir = record {
+  pub shown_inode : (path : Path) (a : ℕ) → IsAt im o l path a → dirs.IsShown v a (holding im o a)
+  shown_inode path a at = record {
     inode = is_shown path a at;
-    leaves = λ hashed i place x chain some. cell_some ((holding im o a).cell x) _ (in_chain (holding im o a) (sound_directory path a at dir) hashed i place x chain);
+    leaves = λ hashed i place x chain some. cell_some ((holding im o a).cell x) _ (in_chain (holding im o a) (sound_directory path a at (and_left (is_directory_in (holding im o a)) _ hashed)) hashed i place x chain);
     whole = λ from. sound_is_whole (holding im o a) from of.stands.laid.image.block_size (is_sound path a at);
     few = of.few;
   }
+
+  pub shown_directory : (path : Path) (a : ℕ) → IsAt im o l path a → is_directory_in (holding im o a) ≡ true → dirs.IsShown v a (holding im o a)
+  shown_directory path a at dir = shown_inode path a at
 
   -- what it says is what its records say
   pub says_records : (path : Path) (a : ℕ) (name : List ℕ) (found : Option Entry) → IsAt im o l path a → is_directory_in (holding im o a) ≡ true → Says (holding im o a) name found
