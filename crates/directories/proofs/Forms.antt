@@ -82,7 +82,6 @@ some_directory v a view = (as_seen v a, record {
   inode = all_is_shown v (as_seen v a) refl (λ b. refl) (λ b bytes there is. ap (bytes_or_zeros v.size) is);
   leaves = λ hashed i place x chain some. refl;
   whole = λ at i b low counted is. each b (v.block_at b) refl;
-  few = omega arith;
 })
   where
     each : (b : ℕ) (o : Option (List ℕ)) → v.block_at b ≡ o → length (bytes_or_zeros v.size o) ≡ v.size
@@ -97,3 +96,7 @@ tells_as P Q NoMemory so told = tt
 pub damaged_as : {A : Type 0} (P Q : ℕ → ℕ → Type 0) (result : Result A CallFault) → ((rule b : ℕ) → P rule b → Q rule b) → IfDamaged result P → IfDamaged result Q
 damaged_as P Q (Ok x) so told = tt
 damaged_as P Q (Err fault) so told = tells_as P Q fault so told
+
+pub only_tells : (P : ℕ → ℕ → Type 0) (fault : CallFault) → IsDamage P fault → TellsOf P fault
+only_tells P (Damaged b rule) told = told
+only_tells P NoMemory told = tt

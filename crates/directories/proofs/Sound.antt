@@ -1,6 +1,6 @@
 -- What a sound directory says is what its records say, and nothing of it is broken.
 use Rattle.std.proofs.Common.{◌≡◌, ◌≢◌, ◌⊎◌, inl, inr, true≢false, ℕ, suc, ◌+◌, ◌<◌, ◌≤◌, true, false, List, [], ◌∷◌, length, Option, None, Some, refl, sym, ap, ◌∙◌, subst, arith}
-use Rattle.std.specs.Prelude.{Contains}
+use Rattle.std.specs.Prelude.{Contains, IsSome}
 use Rattle.std.specs.Option.{option_map}
 use Rattle.file_tree.specs.Names.{IsName}
 use Rattle.gfs2_layout.specs.Exchanges.{directory_count}
@@ -18,7 +18,9 @@ use Rattle.hash_dirs.specs.Broken as leaves
 use Rattle.hash_dirs.specs.Finding.{IsFirstNamed, IsNamedLater, in_leaf, named_in, nowhere}
 use Rattle.hash_dirs.specs.Shown.{IsSound, LeadsToLeaf, by_leaf, by_pointer, index_for}
 use Rattle.hash_dirs.proofs.Along.{chain_one}
-use Rattle.hash_dirs.proofs.Chained.{in_chain, in_leaves, inside, rules, same_hash}
+use Rattle.glock_names.specs.Views.{Seen}
+use Rattle.resource_groups.specs.Putting.{HasDataBlock}
+use Rattle.hash_dirs.proofs.Chained.{cell_some, in_chain, in_leaves, rules, same_hash}
 use Rattle.hash_dirs.proofs.Named.{records_are, tells}
 use Rattle.directories.specs.Shown.{HasName, IsBroken, Says}
 use Rattle.directories.specs.Shown as directory
@@ -57,7 +59,6 @@ module _ (h : Holding) (sound : IsSound h) (hashed : is_hashed_in h ≡ true) wh
     pub hashed_unbroken : (rule b : ℕ) → leaves.IsBroken h rule b → ⊥
     hashed_unbroken rule b (leaves.of_inode r c broken) = sound_breaks_nothing h r c sound.inode broken
     hashed_unbroken rule b (leaves.no_header i from x leads some other) = other (is_leaf i from x leads).header
-    hashed_unbroken rule b (leaves.beyond_device i from x leads far) = let p = leaf_part i from x leads in let low = inside h sound hashed x (first_hash h i) p.0 p.1 in omega (arith, far, low)
     hashed_unbroken rule b (leaves.unfilled i from x leads some other) = other (is_leaf i from x leads).area.fills
     hashed_unbroken rule b (leaves.no_name i from x r leads some there low other) = other (down r (contained r (records_of h) (record_of_leaf i from x r leads there)) low)
     hashed_unbroken rule b (leaves.no_entries i from x r leads some there none) = some_record r (records_of h) (record_of_leaf i from x r leads there) (sym entries ∙ none)
@@ -77,8 +78,8 @@ module _ (h : Holding) (sound : IsSound h) (hashed : is_hashed_in h ≡ true) wh
 
 -- ---- nothing is broken
 
-module _ (h : Holding) (sound : IsSound h) (is : is_directory_in h ≡ true) (down : (r : Record) → Contains (records_of h) r → is_dots r.name ≡ false → IsName r.name)
-  (entries : (dinode_in h).entries ≡ length (records_of h)) (links : (dinode_in h).nlink ≡ 2 + directory_count (records_of h)) where
+module _ (v : Seen) (h : Holding) (sound : IsSound h) (is : is_directory_in h ≡ true) (inside : (x : ℕ) → IsSome (h.cell x) → HasDataBlock v x)
+  (down : (r : Record) → Contains (records_of h) r → is_dots r.name ≡ false → IsName r.name) (entries : (dinode_in h).entries ≡ length (records_of h)) (links : (dinode_in h).nlink ≡ 2 + directory_count (records_of h)) where
   linear_unbroken : is_hashed_in h ≡ false → (rule b : ℕ) → linear.IsBroken h rule b → ⊥
   linear_unbroken plain rule b (linear.of_inode r c broken) = sound_breaks_nothing h r c sound.inode broken
   linear_unbroken plain rule b (linear.not_stuffed high) = high (sound.inode.linear is plain).stuffed
@@ -88,10 +89,13 @@ module _ (h : Holding) (sound : IsSound h) (is : is_directory_in h ≡ true) (do
   linear_unbroken plain rule b (linear.wrong_entries other) = other entries
   linear_unbroken plain rule b (linear.wrong_links other) = other links
 
-  pub unbroken : (rule b : ℕ) → IsBroken h rule b → ⊥
+  pub unbroken : (rule b : ℕ) → IsBroken v h rule b → ⊥
   unbroken rule b (directory.IsBroken.of_inode broken) = sound_breaks_nothing h rule b sound.inode broken
   unbroken rule b (directory.IsBroken.in_linear dir plain broken) = linear_unbroken plain rule b broken
-  unbroken rule b (directory.IsBroken.in_hashed hashed broken) = hashed_unbroken h sound hashed down entries links rule b broken
+  unbroken rule b (directory.IsBroken.in_hashed hashed (leaves.IsWrongIn.breaks r c broken)) = hashed_unbroken h sound hashed down entries links r c broken
+  unbroken rule b (directory.IsBroken.in_hashed hashed (leaves.IsWrongIn.outside i from x leads away)) =
+      let p = leaf_part h sound hashed i from x leads in
+      away (inside x (cell_some (h.cell x) _ p.1))
 
 -- ---- a directory says one thing of a name
 

@@ -1,8 +1,7 @@
 -- A directory of any form as a view shows it, and what it says of a name.
-use Rattle.std.specs.Prelude.{ℕ, ◌≡◌, ◌≢◌, ◌^◌, ◌<◌, ◌≤◌, true, false, List, Option, None, Some, IsSome}
+use Rattle.std.specs.Prelude.{ℕ, ◌≡◌, ◌≢◌, ◌^◌, ◌<◌, true, false, List, Option, None, Some, IsSome}
 use Rattle.std.specs.Option.{option_map}
 use Rattle.crc_words.specs.Remainder.{crc32_of}
-use Rattle.profile_limits.specs.Limits.{most_blocks}
 use Rattle.gfs2_layout.specs.Holding.{Holding}
 use Rattle.gfs2_layout.specs.Inode.{is_directory_in, is_hashed_in, records_of, table_count}
 use Rattle.gfs2_layout.specs.Records.{names_of, record_named}
@@ -28,12 +27,11 @@ abbrev pub IsDirectoryIn : Seen → ℕ → Type 0
 IsDirectoryIn v dir = (bytes : List ℕ) → v.block_at dir ≡ Some bytes → is_directory (dinode_of bytes) ≡ true
 
 -- The holding may be that of the inode with its dinode in block a, as far as the view tells: it has each block to which a pointer of it leads, and of a
--- hashed directory each leaf of its chains; its blocks of content are whole ones; and the image is no larger than a device may be.
+-- hashed directory each leaf of its chains; and its blocks of content are whole ones.
 pub record IsShown (v : Seen) (a : ℕ) (h : Holding) : Type 0 where
   pub inode : inode.IsShown v a h
   pub leaves : is_hashed_in h ≡ true → (i place x : ℕ) → hashed.IsInChain h i place x → x ≢ 0 → IsSome (h.cell x)
   pub whole : (at : ℕ) → AreWholeBefore h at
-  pub few : h.count ≤ most_blocks
 
 -- ---- what a directory says
 
@@ -68,8 +66,8 @@ pub data IsNeededForAll (v : Seen) (h : Holding) (m : Missing) : Type 0 where
 
 -- ---- damage
 
--- the block breaks this rule of an inode, or of a directory's form
-pub data IsBroken (h : Holding) (rule b : ℕ) : Type 0 where
-  of_inode : rules.IsBroken h rule b → IsBroken h rule b
-  in_linear : is_directory_in h ≡ true → is_hashed_in h ≡ false → linear.IsBroken h rule b → IsBroken h rule b
-  in_hashed : is_hashed_in h ≡ true → leaves.IsBroken h rule b → IsBroken h rule b
+-- the block breaks this rule of an inode, or of a directory's form, as the view shows it
+pub data IsBroken (v : Seen) (h : Holding) (rule b : ℕ) : Type 0 where
+  of_inode : rules.IsBroken h rule b → IsBroken v h rule b
+  in_linear : is_directory_in h ≡ true → is_hashed_in h ≡ false → linear.IsBroken h rule b → IsBroken v h rule b
+  in_hashed : is_hashed_in h ≡ true → leaves.IsWrongIn v h rule b → IsBroken v h rule b

@@ -22,7 +22,7 @@ fn names_hashed<V: View>(
     ensures found { (h : Holding) → IsShown (V.seen view.now) dir h → is_hashed_in h ≡ true → IfIs result (λ names. AreNames h names.items) }
     ensures needed { (h : Holding) → IsShown (V.seen view.now) dir h → is_hashed_in h ≡ true → IfNeedBlock result (IsNeededForAll (V.seen view.now) h) }
     ensures absent { IfNeedBlock result (λ missing. (V.seen view.now).block_at missing.block ≡ None) }
-    ensures damaged { (h : Holding) → IsShown (V.seen view.now) dir h → is_hashed_in h ≡ true → IfDamaged result (IsBroken h) }
+    ensures damaged { (h : Holding) → IsShown (V.seen view.now) dir h → is_hashed_in h ≡ true → IfDamaged result (IsBroken (V.seen view.now) h) }
     ensures kept { IfDamaged result (IsOfView (V.seen view.now)) }
 {
     let table = match TreeTable::of(view, dir)? {
@@ -39,7 +39,7 @@ pub fn names<V: View>(alloc: Global, view: &V, dir: u64) -> Result<Step<Vec<Name
     ensures found { (h : Holding) → IsShown (V.seen view.now) dir h → IfIs result (λ names. AreNames h names.items) }
     ensures needed { (h : Holding) → IsShown (V.seen view.now) dir h → IfNeedBlock result (IsNeededForAll (V.seen view.now) h) }
     ensures absent { IfNeedBlock result (λ missing. (V.seen view.now).block_at missing.block ≡ None) }
-    ensures damaged { (h : Holding) → IsShown (V.seen view.now) dir h → IfDamaged result (IsBroken h) }
+    ensures damaged { (h : Holding) → IsShown (V.seen view.now) dir h → IfDamaged result (IsBroken (V.seen view.now) h) }
     ensures kept { IfDamaged result (IsOfView (V.seen view.now)) }
 {
     let dinode = match read_dinode(view, dir)? {

@@ -33,7 +33,7 @@ fn look_hashed<V: View>(
     ensures sound { (h : Holding) → IsShown (V.seen view.now) dir h → is_hashed_in h ≡ true → IsSound h → IfIs result (λ found. found ≡ option_map entry_of (record_named (records_of h) name.now)) }
     ensures needed { (h : Holding) → IsShown (V.seen view.now) dir h → is_hashed_in h ≡ true → IfNeedBlock result (IsNeededFor (V.seen view.now) h name.now) }
     ensures absent { IfNeedBlock result (λ missing. (V.seen view.now).block_at missing.block ≡ None) }
-    ensures damaged { (h : Holding) → IsShown (V.seen view.now) dir h → is_hashed_in h ≡ true → OnlyDamaged result (IsBroken h) }
+    ensures damaged { (h : Holding) → IsShown (V.seen view.now) dir h → is_hashed_in h ≡ true → OnlyDamaged result (IsBroken (V.seen view.now) h) }
     ensures kept { OnlyDamaged result (IsOfView (V.seen view.now)) }
 {
     checksums_have_32_bits();
@@ -54,7 +54,7 @@ pub fn look<V: View>(view: &V, dir: u64, name: &[u8]) -> Result<Step<Option<Entr
     ensures there { IfIs result (λ found. HasBlock (V.seen view.now) dir) }
     ensures needed { (h : Holding) → IsShown (V.seen view.now) dir h → IfNeedBlock result (IsNeededFor (V.seen view.now) h name.now) }
     ensures absent { IfNeedBlock result (λ missing. (V.seen view.now).block_at missing.block ≡ None) }
-    ensures damaged { (h : Holding) → IsShown (V.seen view.now) dir h → OnlyDamaged result (IsBroken h) }
+    ensures damaged { (h : Holding) → IsShown (V.seen view.now) dir h → OnlyDamaged result (IsBroken (V.seen view.now) h) }
     ensures kept { OnlyDamaged result (IsOfView (V.seen view.now)) }
 {
     let dinode = match read_dinode(view, dir)? {

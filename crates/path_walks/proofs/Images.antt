@@ -221,7 +221,12 @@ module _ (v : Seen) (im : Image) (o : Owners) (l : Layout) (t : Tree) (of : IsOf
   lock_of_inode path a at =
       dinode_cover l a (o a) (is_inode path a at) ∙ ap (lock_in l) (dinode_inode a (o a) (is_inode path a at)) ∙ own_locks im o l a of.stands.laid (inl (path, at))
 
-  -- each block of an inode is one of the image's
+  -- each block of an inode is a data block of a group, and so one of the image's
+  pub own_inside : (a b : ℕ) → IsSome ((holding im o a).cell b) → HasDataBlock v b
+  own_inside a b some =
+      let placed = of.stands.laid.zoned.placed b (its_used b a (o b) (cell_its im o a b some)).0 in
+      (group_of_entry placed.0, subst (λ gs. Contains gs (group_of_entry placed.0)) of.groups (has_group l.groups placed.1.0 placed.0 placed.1.1), record { low = placed.2.low; high = placed.2.high })
+
   pub own_counted : (a b : ℕ) → IsSome ((holding im o a).cell b) → b < im.count
   own_counted a b some =
       let placed = of.stands.laid.zoned.placed b (its_used b a (o b) (cell_its im o a b some)).0 in
@@ -241,7 +246,6 @@ module _ (v : Seen) (im : Image) (o : Owners) (l : Layout) (t : Tree) (of : IsOf
     inode = is_shown path a at;
     leaves = λ hashed i place x chain some. cell_some ((holding im o a).cell x) _ (in_chain (holding im o a) (sound_directory path a at (and_left (is_directory_in (holding im o a)) _ hashed)) hashed i place x chain);
     whole = λ from. sound_is_whole (holding im o a) from of.stands.laid.image.block_size (is_sound path a at);
-    few = of.few;
   }
 
   pub shown_directory : (path : Path) (a : ℕ) → IsAt im o l path a → is_directory_in (holding im o a) ≡ true → dirs.IsShown v a (holding im o a)
@@ -275,10 +279,10 @@ module _ (v : Seen) (im : Image) (o : Owners) (l : Layout) (t : Tree) (of : IsOf
   pub unbroken : (path : Path) (a rule b : ℕ) → IsAt im o l path a → inode.IsBroken (holding im o a) rule b → ⊥
   unbroken path a rule b at = sound_breaks_nothing (holding im o a) rule b (is_sound path a at)
 
-  pub unbroken_directory : (path : Path) (a rule b : ℕ) → IsAt im o l path a → is_directory_in (holding im o a) ≡ true → dirs.IsBroken (holding im o a) rule b → ⊥
+  pub unbroken_directory : (path : Path) (a rule b : ℕ) → IsAt im o l path a → is_directory_in (holding im o a) ≡ true → dirs.IsBroken v (holding im o a) rule b → ⊥
   unbroken_directory path a rule b at dir broken =
       let is = of.stands.laid.directories a (is_inode path a at) dir in
-      sound.unbroken (holding im o a) (sound_directory path a at dir) dir (λ r has low. (is.down r has low).name) is.entries is.links rule b broken
+      sound.unbroken v (holding im o a) (sound_directory path a at dir) dir (own_inside a) (λ r has low. (is.down r has low).name) is.entries is.links rule b broken
 
   -- so nothing of an inode on a path is wrong
   pub nothing_wrong : (path : Path) (a rule b : ℕ) → IsAt im o l path a → IsWrongAt v a rule b → ⊥

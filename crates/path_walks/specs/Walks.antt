@@ -141,7 +141,7 @@ IsWalked v im o l t path wants (walk.NeedBlock m) = IsAskedFor v im o l (holds_i
 -- directory hasn't `.` or `..`; or (12) its dinode counts fewer records than these two, which it has.
 pub data IsWrongAt (v : Seen) (a : ℕ) : ℕ → ℕ → Type 0 where
   in_inode : (rule b : ℕ) → ((h : Holding) → IsShown v a h → inode.IsBroken h rule b) → IsWrongAt v a rule b
-  in_directory : (rule b : ℕ) → IsDirectoryAt v a → ((h : Holding) → dirs.IsShown v a h → dirs.IsBroken h rule b) → IsWrongAt v a rule b
+  in_directory : (rule b : ℕ) → IsDirectoryAt v a → ((h : Holding) → dirs.IsShown v a h → dirs.IsBroken v h rule b) → IsWrongAt v a rule b
   no_dot : IsDirectoryAt v a → ((h : Holding) → dirs.IsShown v a h → Says h (codes ".") None) → IsWrongAt v a 10 a
   no_dots : IsDirectoryAt v a → ((h : Holding) → dirs.IsShown v a h → Says h (codes "..") None) → IsWrongAt v a 10 a
   too_few : (own up : Entry) → IsDirectoryAt v a → ((h : Holding) → dirs.IsShown v a h → Says h (codes ".") (Some own) × Says h (codes "..") (Some up))
@@ -198,7 +198,7 @@ IsStepped v a name state w = GoesOn v a name state w
 
 -- by the next name of this directory the walk comes to damage: there, or in the inode to which it leads
 pub data IsDamageAhead (v : Seen) (dir : ℕ) (name : List ℕ) (state : State) : ℕ → ℕ → Type 0 where
-  in_this : (rule b : ℕ) → IsDirectoryAt v dir → ((h : Holding) → dirs.IsShown v dir h → dirs.IsBroken h rule b) → IsDamageAhead v dir name state rule b
+  in_this : (rule b : ℕ) → IsDirectoryAt v dir → ((h : Holding) → dirs.IsShown v dir h → dirs.IsBroken v h rule b) → IsDamageAhead v dir name state rule b
   past_groups : (b : ℕ) → Names v dir name b → ¬ (HasDataBlock v b) → IsDamageAhead v dir name state 2 dir
   in_child : (b rule c : ℕ) → Names v dir name b → HasDataBlock v b → holds v (hold_of b state) ≡ true → ((h : Holding) → IsShown v b h → inode.IsBroken h rule c)
       → IsDamageAhead v dir name state rule c

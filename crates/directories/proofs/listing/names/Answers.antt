@@ -35,4 +35,4 @@ returns-clause-damaged g c h shown =
     let v = g.V.View.seen c.args.view.now in
     let is = is_directory_here v c.args.dir h c.requires.directory (answer_at _ _ _ c.in-Is.is c.in_ok-dinode.ensures.there) shown.inode in
     let plain = linear_here h c.in-Is.dinode (answer_at _ _ _ c.in-Is.is (c.in_ok-dinode.ensures.found h shown.inode)) (sym c.is_hashed.ensures ∙ c.if-is_hashed.false) in
-    damaged_as (linear.IsBroken h) (directory.IsBroken h) c.names.result (λ rule b broken. directory.IsBroken.in_linear is plain broken) (c.names.ensures.damaged h shown.inode)
+    damaged_as (linear.IsBroken h) (directory.IsBroken (g.V.View.seen c.args.view.now) h) c.names.result (λ rule b broken. directory.IsBroken.in_linear is plain broken) (c.names.ensures.damaged h shown.inode)

@@ -10,8 +10,8 @@ use Rattle.directories.proofs.looking.look.Goals as goal
 
 pub returns-in_err-dinode-clause-damaged : goal.returns-in_err-dinode-clause-damaged
 returns-in_err-dinode-clause-damaged g c h shown =
-    handed c.from_residual.result _ (IsDamage (directory.IsBroken h)) c.from_residual.ensures.1
-    (fault_as _ (directory.IsBroken h) c.in_err-dinode.field-0.0 (λ rule b broken. directory.IsBroken.of_inode broken) (c.in_err-dinode.ensures.damaged h shown.inode))
+    handed c.from_residual.result _ (IsDamage (directory.IsBroken (g.V.View.seen c.args.view.now) h)) c.from_residual.ensures.1
+    (fault_as _ (directory.IsBroken (g.V.View.seen c.args.view.now) h) c.in_err-dinode.field-0.0 (λ rule b broken. directory.IsBroken.of_inode broken) (c.in_err-dinode.ensures.damaged h shown.inode))
 
 pub returns-then-is_hashed-clause-found : goal.returns-then-is_hashed-clause-found
 returns-then-is_hashed-clause-found g c h shown =
@@ -54,4 +54,4 @@ returns-clause-damaged g c h shown =
     let v = g.V.View.seen c.args.view.now in
     let is = is_directory_here v c.args.dir h c.requires.directory (answer_at _ _ _ c.in-Is.is c.in_ok-dinode.ensures.there) shown.inode in
     let plain = linear_here h c.in-Is.dinode (answer_at _ _ _ c.in-Is.is (c.in_ok-dinode.ensures.found h shown.inode)) (sym c.is_hashed.ensures ∙ c.if-is_hashed.false) in
-    answer_as (linear.IsBroken h) (directory.IsBroken h) c.look.result (λ rule b broken. directory.IsBroken.in_linear is plain broken) (c.look.ensures.damaged h shown.inode)
+    answer_as (linear.IsBroken h) (directory.IsBroken (g.V.View.seen c.args.view.now) h) c.look.result (λ rule b broken. directory.IsBroken.in_linear is plain broken) (c.look.ensures.damaged h shown.inode)

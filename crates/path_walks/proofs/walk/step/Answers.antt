@@ -19,7 +19,7 @@ returns-in_err-entry-clause-ahead g c =
     let dir = directory_all v c.args.place.now.inode c.args.place.now.dinode c.requires.dinode (sym c.is_directory.ensures ∙ c.if-not-is_directory.false) in
     handed _ _ _ c.from_residual.ensures.1
     (fault_so _ (IsDamageAhead v c.args.place.now.inode c.args.name.now c.args.state) (λ rule b broken. in_this rule b dir broken) c.in_err-entry.field-0.0
-    (fault_of_all (dirs.IsShown v c.args.place.now.inode) dirs.IsBroken _ c.in_err-entry.field-0.0 c.in_err-entry.ensures.kept c.in_err-entry.ensures.damaged))
+    (fault_of_all (dirs.IsShown v c.args.place.now.inode) (dirs.IsBroken v) _ c.in_err-entry.field-0.0 c.in_err-entry.ensures.kept c.in_err-entry.ensures.damaged))
 
 pub returns-in-NeedBlock-clause-stepped : goal.returns-in-NeedBlock-clause-stepped
 returns-in-NeedBlock-clause-stepped g c =

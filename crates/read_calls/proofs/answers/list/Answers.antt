@@ -17,8 +17,8 @@ returns-in_err-names-clause-damaged g c =
     let v = g.V.View.seen c.args.view.now in
     let is = directory_all v c.args.place.now.inode c.args.place.now.dinode c.requires.dinode (sym c.is_directory.ensures ∙ c.if-not-is_directory.false) in
     told_on (IsWrongAt v c.args.place.now.inode) _ _ c.from_residual.ensures.1
-    (tells_so (λ rule b. (h : Holding) → dirs.IsShown v c.args.place.now.inode h → dirs.IsBroken h rule b) (IsWrongAt v c.args.place.now.inode) (λ rule b broken. IsWrongAt.in_directory rule b is broken) c.in_err-names.field-0.0
-    (tells_each (dirs.IsShown v c.args.place.now.inode) dirs.IsBroken c.in_err-names.field-0.0 c.in_err-names.ensures.damaged))
+    (tells_so (λ rule b. (h : Holding) → dirs.IsShown v c.args.place.now.inode h → dirs.IsBroken v h rule b) (IsWrongAt v c.args.place.now.inode) (λ rule b broken. IsWrongAt.in_directory rule b is broken) c.in_err-names.field-0.0
+    (tells_each (dirs.IsShown v c.args.place.now.inode) (dirs.IsBroken v) c.in_err-names.field-0.0 c.in_err-names.ensures.damaged))
 
 pub returns-in-NeedBlock-clause-asked : goal.returns-in-NeedBlock-clause-asked
 returns-in-NeedBlock-clause-asked g c =

@@ -13,8 +13,8 @@ pub returns-in_err-found-clause-damaged : goal.returns-in_err-found-clause-damag
 returns-in_err-found-clause-damaged g c =
     let v = g.V.View.seen c.args.view.now in
     told_on (IsWrongAt v c.args.dir) _ _ c.from_residual.ensures.1
-    (only_so (λ rule b. (h : Holding) → dirs.IsShown v c.args.dir h → dirs.IsBroken h rule b) (IsWrongAt v c.args.dir) (λ rule b broken. IsWrongAt.in_directory rule b c.requires.directory broken) c.in_err-found.field-0.0
-    (fault_of_all (dirs.IsShown v c.args.dir) dirs.IsBroken _ c.in_err-found.field-0.0 c.in_err-found.ensures.kept c.in_err-found.ensures.damaged))
+    (only_so (λ rule b. (h : Holding) → dirs.IsShown v c.args.dir h → dirs.IsBroken v h rule b) (IsWrongAt v c.args.dir) (λ rule b broken. IsWrongAt.in_directory rule b c.requires.directory broken) c.in_err-found.field-0.0
+    (fault_of_all (dirs.IsShown v c.args.dir) (dirs.IsBroken v) _ c.in_err-found.field-0.0 c.in_err-found.ensures.kept c.in_err-found.ensures.damaged))
 
 pub returns-in-NeedBlock-clause-asked : goal.returns-in-NeedBlock-clause-asked
 returns-in-NeedBlock-clause-asked g c =
@@ -36,8 +36,8 @@ pub returns-in_err-found-2-clause-damaged : goal.returns-in_err-found-2-clause-d
 returns-in_err-found-2-clause-damaged g c =
     let v = g.V.View.seen c.args.view.now in
     told_on (IsWrongAt v c.args.dir) _ _ c.from_residual-in_err-found-2.ensures.1
-    (only_so (λ rule b. (h : Holding) → dirs.IsShown v c.args.dir h → dirs.IsBroken h rule b) (IsWrongAt v c.args.dir) (λ rule b broken. IsWrongAt.in_directory rule b c.requires.directory broken) c.in_err-found-2.field-0.0
-    (fault_of_all (dirs.IsShown v c.args.dir) dirs.IsBroken _ c.in_err-found-2.field-0.0 c.in_err-found-2.ensures.kept c.in_err-found-2.ensures.damaged))
+    (only_so (λ rule b. (h : Holding) → dirs.IsShown v c.args.dir h → dirs.IsBroken v h rule b) (IsWrongAt v c.args.dir) (λ rule b broken. IsWrongAt.in_directory rule b c.requires.directory broken) c.in_err-found-2.field-0.0
+    (fault_of_all (dirs.IsShown v c.args.dir) (dirs.IsBroken v) _ c.in_err-found-2.field-0.0 c.in_err-found-2.ensures.kept c.in_err-found-2.ensures.damaged))
 
 pub returns-in-NeedBlock-2-clause-asked : goal.returns-in-NeedBlock-2-clause-asked
 returns-in-NeedBlock-2-clause-asked g c =
