@@ -33,6 +33,11 @@ pub record IsShown (v : Seen) (a : ℕ) (h : Holding) : Type 0 where
   pub leaves : is_hashed_in h ≡ true → (i place x : ℕ) → hashed.IsInChain h i place x → x ≢ 0 → IsSome (h.cell x)
   pub whole : (at : ℕ) → AreWholeBefore h at
 
+-- a directory that isn't hashed
+pub record IsLinearDirectory (h : Holding) : Type 0 where
+  pub directory : is_directory_in h ≡ true
+  pub linear : is_hashed_in h ≡ false
+
 -- ---- what a directory says
 
 -- `Says h name found`: where the first record of the name leads; of a hashed directory the first along the chain of the name's hash, which has 32 bits.

@@ -12,7 +12,7 @@ use Rattle.dinode_tree.specs.Shown.{IsShown}
 use Rattle.linear_dirs.specs.Broken.{no_area, wrong_entries}
 use Rattle.linear_dirs.specs.Reading.{told_in}
 use Rattle.linear_dirs.proofs.Looked.{bytes_of, rest_is}
-use Rattle.path_walks.specs.Walks.{IsLinearDirectory}
+use Rattle.directories.specs.Shown.{IsLinearDirectory}
 use Rattle.removing_calls.specs.Removing.{BreaksAsLinear, CountsItsRecords}
 
 -- a record counts where it is in use

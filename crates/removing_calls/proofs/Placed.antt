@@ -9,7 +9,7 @@ use Rattle.file_tree.specs.Tree.{Tree}
 use Rattle.file_tree.specs.declared.call.Call.{Call}
 use Rattle.file_tree.specs.declared.reply.Reply.TheVariants.{Ok}
 use Rattle.gfs2_layout.specs.Holding.{Holding}
-use Rattle.glock_names.specs.Views.{Seen, HasBlock}
+use Rattle.glock_names.specs.Views.{Seen, HasBlock, IsView}
 use Rattle.glock_names.specs.declared.LockName.{LockName}
 use Rattle.glock_names.specs.declared.State.TheVariants.{Ex}
 use Rattle.glock_names.specs.declared.steps.Missing.{Missing}
@@ -32,12 +32,15 @@ use Rattle.image_changes.proofs.FlatPaths.{one_path}
 use Rattle.image_changes.proofs.Frame.{dinode_its}
 use Rattle.image_changes.proofs.Laid.{root_named}
 use Rattle.path_walks.specs.Holds.{AreHeld, IsAskedFor, IsFirstLack, holds_in}
-use Rattle.path_walks.specs.Walks.{IsSeenAt, IsWrong, IsHeldAt, IsNext, LeadsTo, Names, at_root, by_name, the_root, the_child, IsLastOf}
+use Rattle.path_walks.specs.Walks.{IsDirectoryAt, IsSeenAt, IsWrongAt, IsHeldAt, IsNext, LeadsTo, Names, at_root, by_name, the_root, the_child, IsLastOf}
 use Rattle.path_walks.specs.Walks as path
 use Rattle.path_walks.specs.declared.walk.Place.{Place}
-use Rattle.path_walks.proofs.Images.{is_inode, is_shown, unbroken_directory}
+use Rattle.path_walks.proofs.Images.{is_inode, is_shown, unbroken, unbroken_directory}
 use Rattle.path_walks.proofs.Leads.{no_end}
 use Rattle.path_walks.proofs.Lists.{parent_of_next}
+use Rattle.directories.specs.Shown.{IsLinearDirectory}
+use Rattle.directories.specs.Shown as dirs
+use Rattle.dinode_tree.specs.Broken as inode
 use Rattle.removing_calls.specs.Drafting as drafting
 use Rattle.removing_calls.specs.Drafting.{IsWrongIn}
 use Rattle.group_locks.specs.Groups.{GroupsAreHeld, IsFirstGroupLack, holds_of_groups, is_block_of}
@@ -52,7 +55,7 @@ use Rattle.path_walks.proofs.Longer.{asked_before}
 
 -- what is wrong with an inode to which a front of the path leads is damage on the path
 wrong_on_way : (v : Seen) (wants : List Want) (front : Path) (a : ℕ) → LeadsTo v wants front a → (whole back : Path) → whole ≡ front ++ back → (rule b : ℕ)
-    → ((h : Holding) → IsShown v a h → IsWrong h rule b) → path.IsDamage v wants whole rule b
+    → IsWrongAt v a rule b → path.IsDamage v wants whole rule b
 wrong_on_way v wants [] a (at_root held) whole back e rule b wrong = path.on_path 0 a rule b the_root held wrong
 wrong_on_way v wants front a (by_name f dir a' n leads is_name named inside held) whole back e rule b wrong =
     path.on_path (length f + 1) a rule b (the_child f back dir a n (e ∙ append_assoc f (n ∷ []) back) leads is_name named inside) held wrong
@@ -62,18 +65,21 @@ named_inside v wants whole a (at_root held) named = absurd (named refl)
 named_inside v wants whole a (by_name front dir b name leads is names inside held) named = inside
 
 module _ (v : Seen) (c : Call) (p : Place) (name : List ℕ) (last : IsLastOf (path_of c false) name) (there : IsSeenAt v (wanted c) (path_of c false) p) where
-  names : Names v p.above name p.inode
-  names = above_names v (wanted c) (path_of c false) p name there last
+  names : IsView v → Names v p.above name p.inode
+  names view = above_names v (wanted c) (path_of c false) p name view there last
 
   -- the directory above, as the view has it
-  pub above_there : HasBlock v p.above
-  above_there = names.there
+  pub above_there : IsView v → HasBlock v p.above
+  above_there view = (names view).there
 
-  pub above_linear : IsLinearIn v p.above
-  above_linear = linear_in v p.above names.linear
+  pub above_directory : IsView v → IsDirectoryAt v p.above
+  above_directory view = (names view).directory
 
-  pub above_named : HasNameIn v p.above name
-  above_named = named_in v p.above p.inode name names
+  pub above_linear : ((h : Holding) → IsShown v p.above h → IsLinearDirectory h) → IsLinearIn v p.above
+  above_linear linear = linear_in v p.above linear
+
+  pub above_named : IsView v → ((h : Holding) → IsShown v p.above h → IsLinearDirectory h) → HasNameIn v p.above name
+  above_named view linear = named_in v p.above p.inode name view linear (names view)
 
   pub below_root : path_of c false ≢ []
   below_root root = no_end last.0 name (sym root ∙ last.1)
@@ -84,20 +90,30 @@ module _ (v : Seen) (c : Call) (p : Place) (name : List ℕ) (last : IsLastOf (p
 
   pub below_damage : ((h : Holding) → IsShown v p.inode h → IsAimOf c h aim.Taken) → (rule b : ℕ) → IsWrongBelow v p.inode rule b → IsDamage v c rule b
   below_damage taken rule b (damage.in_inode r d broken) =
-      damage.on_path r d (wrong_on_way v (wanted c) (path_of c false) p.inode there.leads (path_of c false) [] (sym (append-nil (path_of c false))) r d (λ h shown. path.in_inode r d (broken h shown)))
+      damage.on_path r d (wrong_on_way v (wanted c) (path_of c false) p.inode there.leads (path_of c false) [] (sym (append-nil (path_of c false))) r d (IsWrongAt.in_inode r d broken))
   below_damage taken rule b (damage.stray from d led outside) = damage.stray p.inode from d (record { below = below_root; leads = there.leads; there = there.there; aim = taken }) led outside
 
   -- a rule of linear directories that the inode breaks
   pub inode_damage : (rule b : ℕ) → ((h : Holding) → IsShown v p.inode h → BreaksAsLinear h rule b) → IsDamage v c rule b
   inode_damage rule b broken =
       damage.on_path rule b (wrong_on_way v (wanted c) (path_of c false) p.inode there.leads (path_of c false) [] (sym (append-nil (path_of c false))) rule b
-      (λ h shown. path.in_directory rule b (broken h shown).0 (broken h shown).1))
+      (IsWrongAt.in_directory rule b (λ h shown. (broken h shown).0.directory) (λ h shown. let is = broken h shown.inode in dirs.IsBroken.in_linear is.0.directory is.0.linear is.1)))
+
+  -- so is a rule of an inode that the directory above breaks
+  pub above_damage : (rule b : ℕ) → ((h : Holding) → IsShown v p.above h → inode.IsBroken h rule b) → IsDamage v c rule b
+  above_damage rule b broken =
+      damage.on_path rule b (wrong_on_way v (wanted c) (parent_of (path_of c false)) p.above there.above (path_of c false) (name ∷ []) (last.1 ∙ ap (λ q. q ++ name ∷ []) (sym (ap parent_of last.1 ∙ parent_of_next last.0 name))) rule b
+      (IsWrongAt.in_inode rule b broken))
 
   module _ (im : Image) (o : Owners) (l : Layout) (t : Tree) (of : IsOf v im o l t) (reached : IsReachedIn v im o l c p) where
     pub inode_unbroken : (rule b : ℕ) → ((h : Holding) → IsShown v p.inode h → BreaksAsLinear h rule b) → ⊥
     inode_unbroken rule b broken =
         let is = broken (holding im o p.inode) (is_shown v im o l t of (path_of c false) p.inode reached.place.at) in
-        unbroken_directory v im o l t of (path_of c false) p.inode rule b reached.place.at is.0.directory is.0.linear is.1
+        unbroken_directory v im o l t of (path_of c false) p.inode rule b reached.place.at is.0.directory (dirs.IsBroken.in_linear is.0.directory is.0.linear is.1)
+
+    pub above_unbroken : (rule b : ℕ) → ((h : Holding) → IsShown v p.above h → inode.IsBroken h rule b) → ⊥
+    above_unbroken rule b broken =
+        unbroken v im o l t of (parent_of (path_of c false)) p.above rule b reached.place.above (broken (holding im o p.above) (is_shown v im o l t of (parent_of (path_of c false)) p.above reached.place.above))
 
     pub above_inside : HasDataBlock v p.above
     above_inside = its_inside v im o l t of p.above p.above (dinode_its p.above (o p.above) (is_inode v im o l t of (parent_of (path_of c false)) p.above reached.place.above))
@@ -116,11 +132,11 @@ module _ (v : Seen) (c : Call) (p : Place) (name : List ℕ) (last : IsLastOf (p
     pub own_among : Contains blocks p.inode
     own_among = let s = some_is_shown v p.inode in (goes s.0 s.1.0 p.inode).1 (inl (sym s.1.0.own))
 
-    pub removal_damage : ((h : Holding) → IsShown v p.inode h → IsAimOf c h aim.Taken) → GroupsAreHeld v blocks → (rule b : ℕ) → IsWrongIn v p.above blocks rule b → IsDamage v c rule b
-    removal_damage taken groups rule b (drafting.in_directory r d broken) =
+    pub removal_damage : ((h : Holding) → IsShown v p.above h → IsLinearDirectory h) → ((h : Holding) → IsShown v p.inode h → IsAimOf c h aim.Taken) → GroupsAreHeld v blocks → (rule b : ℕ) → IsWrongIn v p.above blocks rule b → IsDamage v c rule b
+    removal_damage linear taken groups rule b (drafting.in_directory r d broken) =
         damage.on_path r d (wrong_on_way v (wanted c) (parent_of (path_of c false)) p.above there.above (path_of c false) (name ∷ []) (last.1 ∙ ap (λ q. q ++ name ∷ []) (sym (ap parent_of last.1 ∙ parent_of_next last.0 name))) r d
-        (λ h shown. path.in_directory r d (names.linear h shown) (broken h shown)))
-    removal_damage taken groups rule b (drafting.in_group r d breaks) =
+        (IsWrongAt.in_directory r d (λ h shown. (linear h shown).directory) (λ h shown. dirs.IsBroken.in_linear (linear h shown.inode).directory (linear h shown.inode).linear (broken h shown.inode))))
+    removal_damage linear taken groups rule b (drafting.in_group r d breaks) =
         damage.in_group p.inode r d blocks (record { below = below_root; leads = there.leads; there = there.there; aim = taken }) goes groups breaks
 
     pub shared_damage : ((h : Holding) → IsShown v p.inode h → IsAimOf c h aim.Taken) → Contains blocks p.above → IsDamage v c 3 p.above
@@ -165,9 +181,9 @@ module _ (v : Seen) (c : Call) (p : Place) (name : List ℕ) (last : IsLastOf (p
       group_needed groups m needed = subst (λ list. IsAskedFor v im o l list m) (sym list_is)
           (group_asked v im o l t of p.inode so takes.plain blocks (goes (holding im o p.inode) shown) (holds_in im o l (path_of c false) (wanted c)) m reached.held groups needed)
 
-      pub nothing_wrong : (rule b : ℕ) → IsWrongIn v p.above blocks rule b → ⊥
-      nothing_wrong rule b (drafting.in_directory r d broken) =
+      pub nothing_wrong : ((h : Holding) → IsShown v p.above h → IsLinearDirectory h) → (rule b : ℕ) → IsWrongIn v p.above blocks rule b → ⊥
+      nothing_wrong linear rule b (drafting.in_directory r d broken) =
           let shown_p = is_shown v im o l t of (parent_of (path_of c false)) p.above reached.place.above in
-          let is = names.linear (holding im o p.above) shown_p in
-          unbroken_directory v im o l t of (parent_of (path_of c false)) p.above r d reached.place.above is.directory is.linear (broken (holding im o p.above) shown_p)
-      nothing_wrong rule b (drafting.in_group r d breaks) = none_broken v im o l t of blocks r d breaks
+          let is = linear (holding im o p.above) shown_p in
+          unbroken_directory v im o l t of (parent_of (path_of c false)) p.above r d reached.place.above is.directory (dirs.IsBroken.in_linear is.directory is.linear (broken (holding im o p.above) shown_p))
+      nothing_wrong linear rule b (drafting.in_group r d breaks) = none_broken v im o l t of blocks r d breaks

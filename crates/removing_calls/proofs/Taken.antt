@@ -35,7 +35,7 @@ use Rattle.resource_groups.specs.Freeing.{AreFreed, KeepsRest, IsNeededFor, Brea
 use Rattle.resource_groups.specs.Putting.{HasDataBlock}
 use Rattle.resource_groups.proofs.Apart.{no_header_data}
 use Rattle.image_changes.specs.Drafted.{IsFinished}
-use Rattle.path_walks.specs.Walks.{IsLinearDirectory}
+use Rattle.directories.specs.Shown.{IsLinearDirectory}
 use Rattle.removing_calls.specs.Drafting.{HasTimes, LosesRecord, TouchesAlone, IsNameTaken, IsFreedAndDone, IsRemoval}
 use Rattle.removing_calls.proofs.Drafted.{taken_alone, needed_before, seen_before, breaks_before}
 use Rattle.removing_calls.proofs.Lists.{put_apart, put_at}

@@ -26,7 +26,7 @@ use Rattle.image_changes.proofs.Finishing.{finish_makes}
 use Rattle.path_walks.specs.Holds.{holds_in, IsUnder}
 use Rattle.path_walks.specs.Walks.{IsSeenAt, IsLastOf}
 use Rattle.path_walks.specs.declared.walk.Place.{Place}
-use Rattle.path_walks.proofs.Images.{is_inode, is_shown}
+use Rattle.path_walks.proofs.Images.{says_child, shown_directory, is_inode, is_shown}
 use Rattle.path_walks.proofs.Lists.{parent_of_next}
 use Rattle.removing_calls.specs.Drafting.{HasTimes, IsRemoval, LosesRecord}
 use Rattle.group_locks.specs.Groups.{GroupsAreHeld}
@@ -56,8 +56,10 @@ module _ {V : Type 0} (seen : V → Seen) (view : V) (c : Call) (removing : IsRe
       let at_p : IsAt im o l last.0 p.above = subst (λ q. IsAt im o l q p.above) (ap parent_of last.1 ∙ parent_of_next last.0 name) place.above in
       let shown_p = is_shown (seen view) im o l t of last.0 p.above at_p in
       let shown_a = is_shown (seen view) im o l t of (path_of c false) p.inode place.at in
-      let names = above_names (seen view) (wanted c) (path_of c false) p name there last in
-      let r = record_of_child (record_named (records_at im o p.above) name) p.inode (names.child (holding im o p.above) shown_p) in
+      let names = above_names (seen view) (wanted c) (path_of c false) p name is.shows there last in
+      let dir = names.directory (holding im o p.above) shown_p in
+      let r = record_of_child (record_named (records_at im o p.above) name) p.inode
+          (says_child (seen view) im o l t of last.0 p.above name p.inode at_p dir (names.child (holding im o p.above) (shown_directory (seen view) im o l t of last.0 p.above at_p dir))) in
       let takes = aim_takes (seen view) im o l t of c name p.inode last place.at (taken (holding im o p.inode) shown_a) in
       record {
         at = at_p;
@@ -82,7 +84,7 @@ module _ {V : Type 0} (seen : V → Seen) (view : V) (c : Call) (removing : IsRe
       let put = parent_put seen view im o l t of last.0 p.above name p.inode r.at r.at_a r.record_is r.named r.childless r.plain blocks r.goes change is in
       let image = (finish_makes is.freed.fates change is.freed.finished).image im in
       let bytes : (with_change im change).at p.above ≡ is.taken.takes.bytes = ap (λ (i : Image). i.at p.above) image ∙ ap (λ f. unwrap_or (block_with f None) (im.at p.above)) put in
-      let has = (above_names (seen view) (wanted c) (path_of c false) p name there last).there in
+      let has = (above_names (seen view) (wanted c) (path_of c false) p name is.shows there last).there in
       record {
         directory = p.above;
         at = (places im o l t of).above;

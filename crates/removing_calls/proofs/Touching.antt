@@ -17,7 +17,7 @@ use Rattle.linear_dirs.specs.Broken as directory
 use Rattle.linear_dirs.specs.Shown.{holding_over}
 use Rattle.linear_dirs.proofs.Over.{as_seen}
 use Rattle.new_inodes.specs.Touched.{IsTouched}
-use Rattle.path_walks.specs.Walks.{IsLinearDirectory}
+use Rattle.directories.specs.Shown.{IsLinearDirectory}
 
 -- an inode whose content is in its dinode's block has no pointers
 no_pointers : (h : Holding) (b k level first c : ℕ) → height_in h ≡ 0 → Leads h b k level first c → ⊥

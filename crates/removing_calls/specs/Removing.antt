@@ -34,7 +34,8 @@ use Rattle.image_changes.specs.Does.{with_change}
 use Rattle.image_changes.specs.Instances.{IsAt}
 use Rattle.path_walks.specs.Answers.{Refuses}
 use Rattle.path_walks.specs.Holds.{Hold, AreHeld, EndsWith, IsAskedFor, IsFirstLack, holds_in}
-use Rattle.path_walks.specs.Walks.{LeadsTo, IsAbsent, IsLacked, IsLastOf, IsLinearDirectory, IsOnTheWay, IsPlaceOf, IsUnread}
+use Rattle.directories.specs.Shown.{IsLinearDirectory}
+use Rattle.path_walks.specs.Walks.{LeadsTo, IsAbsent, IsLacked, IsLastOf, IsOnTheWay, IsPlaceOf, IsUnread}
 use Rattle.path_walks.specs.Walks as path
 use Rattle.path_walks.specs.declared.walk.Place.{Place}
 use Rattle.group_locks.specs.Groups.{GroupsAreHeld, IsFirstGroupLack, holds_of_groups, is_block_of}
@@ -146,16 +147,16 @@ pub data IsLackedFor (v : Seen) (call : Call) (lock : LockName) : State → Type
   on_path : (state : State) → IsLacked v (wanted call) (path_of call false) lock state → IsLackedFor v call lock state
   of_group : (a : ℕ) (blocks : List ℕ) → IsTakenAt v call a → AreAllOf v a blocks → IsFirstGroupLack v blocks lock → IsLackedFor v call lock Ex
 
--- a block without which the call isn't answered: the dinode of the next inode on its path, an indirect block of the one that is to go, or
+-- a block without which the call isn't answered: one on its path, an indirect block of the one that is to go, or
 -- one of a group that has some of its blocks, the locks of all such groups being held
 pub data IsNeededFor (v : Seen) (call : Call) (m : Missing) : Type 0 where
   on_path : IsUnread v (wanted call) (path_of call false) m → IsNeededFor v call m
   of_inode : (a : ℕ) → IsTakenAt v call a → ((h : Holding) → IsShown v a h → IsNeeded v h AnyIndex 1 m) → IsNeededFor v call m
   of_group : (a : ℕ) (blocks : List ℕ) → IsTakenAt v call a → AreAllOf v a blocks → GroupsAreHeld v blocks → freeing.IsNeededFor v blocks m → IsNeededFor v call m
 
--- a hashed directory without which the call isn't answered: one on its path; or the one that it would remove, which isn't the root
+-- a hashed directory without which the call isn't answered: the one from which it takes a name; or the one that it would remove, which isn't the root
 pub data IsHashedFor (v : Seen) (call : Call) (b : ℕ) : Type 0 where
-  on_path : IsOnTheWay v (wanted call) (path_of call false) b (λ h. is_hashed_in h ≡ true) → IsHashedFor v call b
+  above_name : (a : ℕ) → IsTakenAt v call a → LeadsTo v (wanted call) (parent_of (path_of call false)) b → HasBlock v b → ((h : Holding) → IsShown v b h → is_hashed_in h ≡ true) → IsHashedFor v call b
   at_end : path_of call false ≢ [] → LeadsTo v (wanted call) (path_of call false) b → HasBlock v b → ((h : Holding) → IsShown v b h → IsAimOf call h (aim.Hashed b)) → IsHashedFor v call b
 
 abbrev pub IsToldOf : {V : Type 0} → (V → Seen) → V → Call → ℕ → Found → Type 0

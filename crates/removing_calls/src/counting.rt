@@ -7,7 +7,7 @@ ghost use Rattle.gfs2_layout.specs.Records.{records_in};
 ghost use Rattle.glock_names.specs.Steps.{IfDamaged};
 ghost use Rattle.glock_names.specs.Views.{HasBlock, IsOfView};
 ghost use Rattle.dinode_tree.specs.Shown.{IsShown};
-ghost use Rattle.path_walks.specs.Walks.{IsLinearDirectory};
+ghost use Rattle.directories.specs.Shown.{IsLinearDirectory};
 ghost use Rattle.removing_calls.specs.Removing.{BreaksAsLinear, CountsItsRecords};
 
 use gfs2_layout::{DINODE_LENGTH, is_area, next_record};

@@ -7,7 +7,10 @@ ghost use Rattle.file_tree.specs.declared.reply.Reply.TheVariants.{Ok as OkReply
 ghost use Rattle.gfs2_layout.specs.Holding.{Holding};
 ghost use Rattle.dinode_tree.specs.Shown.{IsShown};
 ghost use Rattle.glock_names.specs.Steps.{IfDamaged};
-ghost use Rattle.glock_names.specs.Views.{IsOfView};
+ghost use Rattle.gfs2_layout.specs.Inode.{is_hashed_in};
+ghost use Rattle.glock_names.specs.Views.{HasBlock, IsOfView, IsView};
+ghost use Rattle.dinode_tree.specs.Broken.{IsBroken};
+ghost use Rattle.directories.specs.Shown.{IsLinearDirectory};
 ghost use Rattle.call_locks.specs.WantLaws.{path_of};
 ghost use Rattle.call_locks.specs.Wants.{wanted};
 ghost use Rattle.image_model.specs.Image.{Image};
@@ -16,7 +19,7 @@ ghost use Rattle.image_model.specs.Stands.{Layout};
 ghost use Rattle.image_changes.specs.Does.{IsOf, Does, AreInside};
 ghost use Rattle.path_walks.specs.Answers.{IfDone, IfNeedLock, IfNeedBlock, IfNoSpace, IfHashed, IfNotBuilt, HasSpace};
 ghost use Rattle.path_walks.specs.Holds.{AreHeld, IsAskedFor, IsFirstLack, IsUnder};
-ghost use Rattle.path_walks.specs.Walks.{IsSeenAt, IsLastOf};
+ghost use Rattle.path_walks.specs.Walks.{IsDirectoryAt, IsSeenAt, IsLastOf};
 ghost use Rattle.removing_calls.specs.Removing.{IfRemoved, IsAimOf, IsAnswered, IsDamage, IsFound, IsHashedFor, IsLackedFor, IsNeededFor, IsPlaceIn, IsReachedIn, IsRefusal, IsRemoving, IsStamped, IsToldOf, holds_for};
 ghost use Rattle.removing_calls.specs.declared.aims.Aim.TheVariants as aim;
 
@@ -25,6 +28,7 @@ use crate::blocks::blocks_of;
 use crate::drafting::removal;
 use crate::finds::Found;
 use call_locks::wants;
+use dinode_tree::read_dinode;
 use drafts::{Attempt, Stamp};
 use file_tree::{Call, Path, Reply};
 use glock_names::{CallFault, State, Step, View};
@@ -60,6 +64,28 @@ fn refusal_of_root(call: &Call) -> Reply
     }
 }
 
+// A law: what a node has of the file system is a view of it.
+fn is_a_view<V: View>(view: &V)
+    ensures { IsView (V.seen view.now) }
+{
+    let _size = view.block_size();
+}
+
+// Whether the directory above an inode is a hashed one, from which no name is taken yet.
+fn is_hashed_above<V: View>(view: &V, place: &Place) -> Result<bool, CallFault>
+    requires there { HasBlock (V.seen view.now) place.now.above }
+    requires directory { IsDirectoryAt (V.seen view.now) place.now.above }
+    ensures hashed { IfOk result (λ hashed. hashed ≡ true → (h : Holding) → IsShown (V.seen view.now) place.now.above h → is_hashed_in h ≡ true) }
+    ensures linear { IfOk result (λ hashed. hashed ≡ false → (h : Holding) → IsShown (V.seen view.now) place.now.above h → IsLinearDirectory h) }
+    ensures damaged { (h : Holding) → IsShown (V.seen view.now) place.now.above h → IfDamaged result (IsBroken h) }
+    ensures kept { IfDamaged result (IsOfView (V.seen view.now)) }
+{
+    let Step::Is(dinode) = read_dinode(view, place.above)? else {
+        unreachable!()
+    };
+    Ok(dinode.flags / 2 % 2 == 1)
+}
+
 // Removes the inode at a place, whose last name this is: its blocks are found, the locks of their groups looked at, and then all is
 // drafted.
 fn remove_at<V: View>(
@@ -75,6 +101,7 @@ fn remove_at<V: View>(
     requires seen { IsSeenAt (V.seen view.now) (wanted call.now) (path_of call.now false) place.now }
     requires places { (im : Image) (o : Owners) (l : Layout) (t : Tree) → IsOf (V.seen view.now) im o l t → IsPlaceIn im o l call.now place.now }
     requires aim { (h : Holding) → IsShown (V.seen view.now) place.now.inode h → IsAimOf call.now h aim.Taken }
+    requires linear { (h : Holding) → IsShown (V.seen view.now) place.now.above h → IsLinearDirectory h }
     ensures found { (im : Image) (o : Owners) (l : Layout) (t : Tree) → IsOf (V.seen view.now) im o l t → IsReachedIn (V.seen view.now) im o l call.now place.now
         → IfOk result (IsFound (V.seen view.now) im o l t call.now) }
     ensures done { IfOk result (IfRemoved (Does (V.seen view.now) call.now OkReply)) }
@@ -87,6 +114,7 @@ fn remove_at<V: View>(
     ensures damaged { IfDamaged result (IsDamage (V.seen view.now) call.now) }
     ensures kept { IfDamaged result (IsOfView (V.seen view.now)) }
 {
+    is_a_view(view);
     if group_of(view, place.above).is_none() {
         return Err(CallFault::Damaged {
             block: place.above,
@@ -140,10 +168,16 @@ fn find_at<V: View>(
     ensures damaged { IfDamaged result (IsDamage (V.seen view.now) call.now) }
     ensures kept { IfDamaged result (IsOfView (V.seen view.now)) }
 {
+    is_a_view(view);
     match aim_at(view, call, place)? {
         Aim::Refused(reply) => Ok(Found::Refused(reply)),
         Aim::Hashed(block) => Ok(Found::Hashed(block)),
-        Aim::Taken => remove_at(alloc, view, call, place, name, time),
+        Aim::Taken => {
+            if is_hashed_above(view, place)? {
+                return Ok(Found::Hashed(place.above));
+            }
+            remove_at(alloc, view, call, place, name, time)
+        }
     }
 }
 
@@ -170,7 +204,6 @@ fn find<V: View>(alloc: Global, view: &V, call: &Call, time: u64) -> Result<Foun
         Walk::At(place) => find_at(alloc, view, call, &place, last.bytes(), time),
         Walk::NotFound => Ok(Found::Refused(Reply::NotFound)),
         Walk::NotDir => Ok(Found::Refused(Reply::NotDir)),
-        Walk::Hashed(block) => Ok(Found::Hashed(block)),
         Walk::NeedLock { lock, state } => Ok(Found::NeedLock { lock, state }),
         Walk::NeedBlock(missing) => Ok(Found::NeedBlock(missing)),
     }

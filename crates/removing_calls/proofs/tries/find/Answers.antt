@@ -79,12 +79,6 @@ returns-in-NotDir-clause-told g c =
     let file = subst (IsTold v (wanted c.args.call.now) (path_of c.args.call.now false)) c.in-NotDir.is told in
     not_dir file.0 file.1
 
-pub returns-in-Hashed-clause-told : goal.returns-in-Hashed-clause-told
-returns-in-Hashed-clause-told g c =
-    let v = g.V.View.seen c.args.view.now in
-    let told = subst₂ (λ names wants. IsTold v wants names c.in_ok-place.field-0) (c.names-names.ensures.names ∙ c.path_of_removing.ensures) (c.deref.ensures.value ∙ c.in_ok-wants.ensures) c.in_ok-place.ensures.told in
-    IsHashedFor.on_path (subst (IsTold v (wanted c.args.call.now) (path_of c.args.call.now false)) c.in-Hashed.is told)
-
 pub returns-in-NeedLock-clause-told : goal.returns-in-NeedLock-clause-told
 returns-in-NeedLock-clause-told g c =
     let v = g.V.View.seen c.args.view.now in

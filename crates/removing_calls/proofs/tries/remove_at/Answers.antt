@@ -24,7 +24,7 @@ returns-then-is_none-clause-damaged g c =
     above c.args.place.now.above c.requires.seen.above (none_so _ c.group_of.result (c.is_none.ensures ∙ ap not c.if-is_none.true) c.group_of.ensures.none)
 
 pub returns-then-is_none-clause-kept : goal.returns-then-is_none-clause-kept
-returns-then-is_none-clause-kept g c = above_there (g.V.View.seen c.args.view.now) c.args.call.now c.args.place.now c.args.name.now c.requires.last c.requires.seen
+returns-then-is_none-clause-kept g c = above_there (g.V.View.seen c.args.view.now) c.args.call.now c.args.place.now c.args.name.now c.requires.last c.requires.seen c.is_a_view.ensures
 
 pub blocks_of-requires : goal.blocks_of-requires
 blocks_of-requires g c = record { inside = inode_inside (g.V.View.seen c.args.view.now) c.args.call.now c.args.place.now c.args.name.now c.requires.last c.requires.seen }
@@ -59,7 +59,7 @@ returns-then-contains-clause-damaged g c =
     (subst (λ (xs : List ℕ). Contains xs c.args.place.now.above) c.deref.ensures.value (has_any c.deref.result.now c.args.place.now.above (sym c.contains.ensures.value ∙ c.if-contains.true)))
 
 pub returns-then-contains-clause-kept : goal.returns-then-contains-clause-kept
-returns-then-contains-clause-kept g c = above_there (g.V.View.seen c.args.view.now) c.args.call.now c.args.place.now c.args.name.now c.requires.last c.requires.seen
+returns-then-contains-clause-kept g c = above_there (g.V.View.seen c.args.view.now) c.args.call.now c.args.place.now c.args.name.now c.requires.last c.requires.seen c.is_a_view.ensures
 
 pub returns-in-Some-clause-found : goal.returns-in-Some-clause-found
 returns-in-Some-clause-found g c im o l t of reached =
@@ -68,27 +68,27 @@ returns-in-Some-clause-found g c im o l t of reached =
     c.requires.aim im o l t of reached c.in-Some.lock (subst (λ (xs : List ℕ). IsFirstGroupLack v xs c.in-Some.lock) c.deref-2.ensures.value c.in-Some.ensures.some)
 
 pub removal-requires-clause-there : goal.removal-requires-clause-there
-removal-requires-clause-there g c = above_there (g.V.View.seen c.args.view.now) c.args.call.now c.args.place.now c.args.name.now c.requires.last c.requires.seen
+removal-requires-clause-there g c = above_there (g.V.View.seen c.args.view.now) c.args.call.now c.args.place.now c.args.name.now c.requires.last c.requires.seen c.is_a_view.ensures
 
 pub removal-requires-clause-linear : goal.removal-requires-clause-linear
-removal-requires-clause-linear g c = above_linear (g.V.View.seen c.args.view.now) c.args.call.now c.args.place.now c.args.name.now c.requires.last c.requires.seen
+removal-requires-clause-linear g c = above_linear (g.V.View.seen c.args.view.now) c.args.call.now c.args.place.now c.args.name.now c.requires.last c.requires.seen c.requires.linear
 
 pub removal-requires-clause-named : goal.removal-requires-clause-named
-removal-requires-clause-named g c = above_named (g.V.View.seen c.args.view.now) c.args.call.now c.args.place.now c.args.name.now c.requires.last c.requires.seen
+removal-requires-clause-named g c = above_named (g.V.View.seen c.args.view.now) c.args.call.now c.args.place.now c.args.name.now c.requires.last c.requires.seen c.is_a_view.ensures c.requires.linear
 
 pub returns-in_err-change-clause-sound : goal.returns-in_err-change-clause-sound
 returns-in_err-change-clause-sound g c im o l t of reached =
     let v = g.V.View.seen c.args.view.now in
     told_on (λ rule b. ⊥) c.from_residual-in_err-change.result _ c.from_residual-in_err-change.ensures.1 (tells_so (IsWrongIn v c.args.place.now.above c.in-Is.blocks.items) (λ rule b. ⊥)
     (nothing_wrong v c.args.call.now c.args.place.now c.args.name.now c.requires.last c.requires.seen c.in-Is.blocks.items (λ h shown. answer_at _ _ _ c.in-Is.is (c.in_ok-blocks.ensures.all h shown))
-    c.requires.aim im o l t of reached) c.in_err-change.field-0.0
+    c.requires.aim im o l t of reached c.requires.linear) c.in_err-change.field-0.0
     (subst (λ (xs : List ℕ). TellsOf (IsWrongIn v c.args.place.now.above xs) c.in_err-change.field-0.0) c.deref-3.ensures.value c.in_err-change.ensures.damaged))
 
 pub returns-in_err-change-clause-damaged : goal.returns-in_err-change-clause-damaged
 returns-in_err-change-clause-damaged g c =
     let v = g.V.View.seen c.args.view.now in
     told_on (IsDamage v c.args.call.now) c.from_residual-in_err-change.result _ c.from_residual-in_err-change.ensures.1 (tells_so (IsWrongIn v c.args.place.now.above c.in-Is.blocks.items) (IsDamage v c.args.call.now)
-    (removal_damage v c.args.call.now c.args.place.now c.args.name.now c.requires.last c.requires.seen c.in-Is.blocks.items (λ h shown. answer_at _ _ _ c.in-Is.is (c.in_ok-blocks.ensures.all h shown)) c.requires.aim
+    (removal_damage v c.args.call.now c.args.place.now c.args.name.now c.requires.last c.requires.seen c.in-Is.blocks.items (λ h shown. answer_at _ _ _ c.in-Is.is (c.in_ok-blocks.ensures.all h shown)) c.requires.linear c.requires.aim
     (subst (λ (xs : List ℕ). GroupsAreHeld v xs) c.deref-2.ensures.value c.in_default.ensures.none))
     c.in_err-change.field-0.0
     (subst (λ (xs : List ℕ). TellsOf (IsWrongIn v c.args.place.now.above xs) c.in_err-change.field-0.0) c.deref-3.ensures.value c.in_err-change.ensures.damaged))
