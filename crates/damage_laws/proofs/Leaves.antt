@@ -1,5 +1,5 @@
 -- All leaves of a hashed directory, where none is beyond the device; and its records.
-use Rattle.std.proofs.Common.{◌≡◌, ◌≢◌, ℕ, zero, suc, ◌+◌, ◌<◌, ◌≤◌, ◌⊎◌, inl, inr, Bool, true, false, true≢false, List, length, refl, sym, ap, ◌∙◌, subst, arith}
+use Rattle.std.proofs.Common.{◌≡◌, ◌≢◌, ℕ, zero, suc, ◌+◌, ◌<◌, ◌≤◌, ◌⊎◌, inl, inr, Bool, true, false, true≢false, List, length, Some, refl, sym, ap, ◌∙◌, subst, arith}
 use Rattle.std.proofs.lemmas.Bool.{cases_Bool, cases_eq, cases_lt, cond-true, cond-false, eq-eqb, ne_eqb, lt-ltb, le-ltb}
 use Rattle.std.specs.Prelude.{◌==◌, nat_lt, if◌then◌else◌, Contains, flat_map}
 use Rattle.std.specs.List.{range_with_len}
@@ -11,7 +11,8 @@ use Rattle.image_model.specs.Image.{Image}
 use Rattle.image_model.specs.Owners.{Chained}
 use Rattle.image_model.specs.Rules.{AreLeaves, HasRecords, from_leaves}
 use Rattle.image_model.proofs.Members.{IsIn, contained, from_filter, from_flat_map, from_range, in_filter, in_flat_map, in_range, is_in}
-use Rattle.image_model.proofs.Rising.{increasing, rising_filter, rising_range}
+use Rattle.image_model.proofs.Rising.{rising_filter, rising_range}
+use Rattle.image_reader.proofs.Leaves.{unrise}
 use Rattle.damage_laws.specs.Telling.{IsAstray}
 use Rattle.damage_laws.proofs.Search.{seek, bare, bare_fewer, with_mark, mark_here, mark_stays, mark_before}
 
@@ -59,35 +60,35 @@ module _ (im : Image) (a : ℕ) (has : HasDirectory im a) (hashed : is_hashed_in
   closed m is on _ _ _ _ (first_leaf by d o i claimed dinode plain low) = is.heads i low
   closed m is on _ _ _ _ (next_leaf by x d hash place claimed more) = on x (closed m is on by x hash place claimed) more
 
-  grow : (fuel : ℕ) (m : ℕ → Bool) → IsMarking m → bare m im.count ≤ fuel → Found
-  step : (fuel : ℕ) (m : ℕ → Bool) → IsMarking m → bare m im.count ≤ fuel → (x : ℕ) → m x ≡ true → next x ≢ 0 → m (next x) ≡ false → Found
-
-  grow fuel m is few = elim (seek (λ x. is_open (m x) (next x == 0) (m (next x))) im.count) [
+  -- one more leaf is marked, or all are
+  more_or : (m : ℕ → Bool) → IsMarking m → ((n : ℕ → Bool) → IsMarking n → bare n im.count < bare m im.count → Found) → Found
+  more_or m is again = elim (seek (λ x. is_open (m x) (next x == 0) (m (next x))) im.count) [
     | inl found ↦
         let o = opened (m found.0) (next found.0 == 0) (m (next found.0)) found.2 in
-        step fuel m is few found.0 o.0 (λ e. true≢false (sym (eq-eqb (next found.0) 0 e) ∙ o.1)) o.2
+        step found.0 o.0 (λ e. true≢false (sym (eq-eqb (next found.0) 0 e) ∙ o.1)) o.2
     | inr none ↦ inl (m, record {
         only = is.only;
         below = is.below;
         all = λ x leaf. closed m is (λ y marked more. not_open (m y) (next y == 0) (m (next y)) (none y (is.below y marked)) marked (ne_eqb (next y) 0 more)) leaf.0 x leaf.1 leaf.2 leaf.3;
       })
   ]
-
-  step fuel m is few x marked more bare_next =
-      let leaf = is.only x marked in
-      let claimed : Claims im x (next x) (Chained a leaf.1 (leaf.2 + 1)) = next_leaf leaf.0 x a leaf.1 leaf.2 leaf.3 more in
-      elim (cases_lt (next x) im.count) [
-        | inr beyond ↦ inr (x, out x (next x) leaf.1 (leaf.2 + 1) claimed beyond)
-        | inl low ↦ again fuel few (bare_fewer m (next x) im.count low bare_next) (record {
-            only = λ y on. elim (mark_before m (next x) y on) [ inl e ↦ subst (HasLeaf im a) (sym e) (x, leaf.1, leaf.2 + 1, claimed) | inr old ↦ is.only y old ];
-            below = λ y on. elim (mark_before m (next x) y on) [ inl e ↦ subst (λ z. z < im.count) (sym e) low | inr old ↦ is.below y old ];
-            heads = λ i small. mark_stays m (next x) (entry (every im a) i) (is.heads i small);
-          })
-      ]
     where
-      again : (n : ℕ) → bare m im.count ≤ n → bare (with_mark m (next x)) im.count < bare m im.count → IsMarking (with_mark m (next x)) → Found
-      again zero low fewer later = absurd (omega (arith, low, fewer))
-      again (suc n) low fewer later = grow n (with_mark m (next x)) later (omega (arith, low, fewer))
+      step : (x : ℕ) → m x ≡ true → next x ≢ 0 → m (next x) ≡ false → Found
+      step x marked more bare_next =
+          let leaf = is.only x marked in
+          let claimed : Claims im x (next x) (Chained a leaf.1 (leaf.2 + 1)) = next_leaf leaf.0 x a leaf.1 leaf.2 leaf.3 more in
+          elim (cases_lt (next x) im.count) [
+            | inr beyond ↦ inr (x, out x (next x) leaf.1 (leaf.2 + 1) claimed beyond)
+            | inl low ↦ again (with_mark m (next x)) (record {
+                only = λ y on. elim (mark_before m (next x) y on) [ inl e ↦ subst (HasLeaf im a) (sym e) (x, leaf.1, leaf.2 + 1, claimed) | inr old ↦ is.only y old ];
+                below = λ y on. elim (mark_before m (next x) y on) [ inl e ↦ subst (λ z. z < im.count) (sym e) low | inr old ↦ is.below y old ];
+                heads = λ i small. mark_stays m (next x) (entry (every im a) i) (is.heads i small);
+              }) (bare_fewer m (next x) im.count low bare_next)
+          ]
+
+  grow : (fuel : ℕ) (m : ℕ → Bool) → IsMarking m → bare m im.count ≤ fuel → Found
+  grow zero m is few = more_or m is (λ n later fewer. absurd (omega (arith, few, fewer)))
+  grow (suc fuel) m is few = more_or m is (λ n later fewer. grow fuel n later (omega (arith, few, fewer)))
 
   -- ---- the first leaves
 
@@ -134,3 +135,52 @@ module _ (im : Image) (a : ℕ) (has : HasDirectory im a) (hashed : is_hashed_in
         | inl low ↦ low
         | inr beyond ↦ absurd (true≢false (sym (cond-false (nat_lt (entry (every im a) i) im.count) false true (le-ltb (entry (every im a) i) im.count beyond)) ∙ none))
       ]
+
+-- ---- the list of what is marked, and its records
+
+-- the directory with the marked blocks as its leaves
+abbrev pub marked : Image → (ℕ → Bool) → ℕ → Holding
+marked im m a = record { size = im.size; count = im.count; own = a; cell = λ b. Some (record { part = if m b then InChain 0 0 else Itself; bytes = im.at b }) }
+
+module _ (im : Image) (a : ℕ) (m : ℕ → Bool) where
+  marked_leaf : (x : ℕ) → is_leaf_part (part_at (marked im m a) x) ≡ m x
+  marked_leaf x = by (m x)
+    where
+      by : (b : Bool) → is_leaf_part (Some (if b then InChain 0 0 else Itself)) ≡ b
+      by true = refl
+      by false = refl
+
+  abbrev pub all_leaves : List ℕ
+  all_leaves = leaves_of (marked im m a)
+
+  abbrev pub all_records : List Record
+  all_records = flat_map (λ x. records_in (leaf_area (every im a) x)) all_leaves
+
+  module _ (has : HasDirectory im a) (hashed : is_hashed_in (every im a) ≡ true) (are : AreMarked im a has hashed m) where
+    in_leaves : (x : ℕ) → HasLeaf im a x → IsIn x all_leaves
+    in_leaves x leaf =
+        let on = are.all x leaf in
+        in_filter (λ y. is_leaf_part (part_at (marked im m a) y)) x (range_with_len 0 im.count)
+        (in_range 0 im.count x (omega arith) (let low = are.below x on in omega (arith, low))) (marked_leaf x ∙ on)
+
+    pub of_leaves : (x : ℕ) → IsIn x all_leaves → HasLeaf im a x
+    of_leaves x there = are.only x (sym (marked_leaf x) ∙ (from_filter (λ y. is_leaf_part (part_at (marked im m a) y)) x (range_with_len 0 im.count) there).1)
+
+    are_leaves : AreLeaves im a all_leaves
+    are_leaves = record {
+      rise = unrise all_leaves (rising_filter (λ y. is_leaf_part (part_at (marked im m a) y)) (range_with_len 0 im.count) (rising_range 0 im.count));
+      all = λ x leaf. contained x all_leaves (in_leaves x leaf);
+      only = λ x there. of_leaves x (is_in x all_leaves there);
+    }
+
+    pub has_records : HasRecords im a all_records
+    has_records = from_leaves all_leaves has hashed are_leaves
+
+    pub record_of_leaf : (x : ℕ) (r : Record) → HasLeaf im a x → Contains (records_in (leaf_area (every im a) x)) r → IsIn r all_records
+    record_of_leaf x r leaf there = in_flat_map (λ y. records_in (leaf_area (every im a) y)) x r all_leaves (in_leaves x leaf) (is_in r (records_in (leaf_area (every im a) x)) there)
+
+    -- a record of the directory is in a leaf
+    pub leaf_of_record : (r : Record) → IsIn r all_records → (x : ℕ) × HasLeaf im a x × Contains (records_in (leaf_area (every im a) x)) r
+    leaf_of_record r there =
+        let f = from_flat_map (λ y. records_in (leaf_area (every im a) y)) r all_leaves there in
+        (f.0, of_leaves f.0 f.1, contained r (records_in (leaf_area (every im a) f.0)) f.2)
