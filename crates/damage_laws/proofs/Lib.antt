@@ -5,3 +5,4 @@ pub mod Owned
 pub mod Leaves
 pub mod Marked
 pub mod Dots
+pub mod Paths
