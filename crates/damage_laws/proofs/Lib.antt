@@ -6,3 +6,6 @@ pub mod Leaves
 pub mod Marked
 pub mod Dots
 pub mod Paths
+pub mod Calls
+pub mod Standing
+pub mod Mounted

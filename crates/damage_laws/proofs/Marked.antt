@@ -29,6 +29,9 @@ module _ (im : Image) (m : ℕ → Bool) (a : ℕ) where
   unfolding dinode_in
   dinode_marked = refl
 
+  pub hashed_marked : is_hashed_in (marked im m a) ≡ is_hashed_in (every im a)
+  hashed_marked = ap (λ d. is_directory d && has_hash_flag d) dinode_marked
+
   block_marked : (i : ℕ) → content_block (marked im m a) i ≡ content_block (every im a) i
   unfolding content_block dinode_in
   block_marked i =
@@ -66,4 +69,4 @@ module _ (im : Image) (m : ℕ → Bool) (a : ℕ) where
 
   -- its records are those of the leaves that are marked
   pub records_marked : is_hashed_in (every im a) ≡ true → records_of (marked im m a) ≡ all_records im a m
-  records_marked hashed = records_are (marked im m a) (ap (λ d. is_directory d && has_hash_flag d) dinode_marked ∙ hashed)
+  records_marked hashed = records_are (marked im m a) (hashed_marked ∙ hashed)

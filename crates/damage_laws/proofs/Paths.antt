@@ -37,7 +37,7 @@ use Rattle.damage_laws.specs.Telling.{InodesAreThere, PathsTell, HasAstray, IsAs
 use Rattle.damage_laws.proofs.Claimed.{shown, is_directory, directory_or, astray_at, further, named_there, led_there, next_there, next_led, outside, chain_claims, leaf_claims, has_leaf, record_is, name_claims, IsNamedBy}
 use Rattle.damage_laws.proofs.Dots.{IsMisplaced, leaf, table, absent_or}
 use Rattle.damage_laws.proofs.Leaves.{AreMarked, marked, marked_or, all_records, has_records, record_of_leaf}
-use Rattle.damage_laws.proofs.Marked.{dinode_marked, leaf_marked, records_marked, shown_marked}
+use Rattle.damage_laws.proofs.Marked.{dinode_marked, hashed_marked, leaf_marked, records_marked, shown_marked}
 
 -- ---- an inode
 
@@ -50,7 +50,7 @@ module _ (im : Image) (a : ℕ) (has : HasInode im a) where
   pub broken_inode : (rule b : ℕ) → inode.IsBroken (every im a) rule b → Breaks im rule b
   broken_inode rule b (inode.no_header x kind format needs lacks) = rules.no_header x kind format (needed x kind format needs) lacks
   broken_inode rule b (inode.other_address other) = rules.other_address a has other
-  broken_inode rule b (inode.no_number zero) = rules.no_number a has zero
+  broken_inode rule b (inode.no_number none) = rules.no_number a has none
   broken_inode rule b (inode.no_mode no_dir no_file) = rules.no_mode a has no_dir no_file
   broken_inode rule b (inode.too_high high) = rules.too_high a has high
   broken_inode rule b (inode.too_large_for_dinode flat large) = rules.too_large_for_dinode a has flat large
@@ -164,12 +164,8 @@ module _ (v : Seen) (im : Image) (read : IsReadFrom v im) (is_image : IsImage im
 
         by : dirs.IsBroken v (marked im m a) rule b → Breaks im 12 a
         by (dirs.of_inode broken) = absurd (no_count (marked im m a) rule b is broken)
-        by (dirs.in_linear dir plain broken) = absurd (not_both (is_hashed_in (every im a)) hashed (still plain))
+        by (dirs.in_linear dir plain broken) = absurd (not_both (is_hashed_in (every im a)) hashed (sym (hashed_marked im m a) ∙ plain))
         by (dirs.in_hashed flag wrong) = in_it rule b is at wrong
-
-        still : is_hashed_in (marked im m a) ≡ false → is_hashed_in (every im a) ≡ false
-        unfolding dinode_in
-        still plain = plain
 
   module _ (m : ℕ → Bool) (are : AreMarked im a has hashed m) where
     broken_hashed : (rule b : ℕ) → (rule ≡ 12 → b ≡ a → Breaks im 12 a) → leaves.IsBroken (every im a) rule b → Breaks im rule b
