@@ -9,3 +9,4 @@ pub mod Paths
 pub mod Calls
 pub mod Standing
 pub mod Mounted
+pub mod Needed
