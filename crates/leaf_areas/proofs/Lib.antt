@@ -1,0 +1,5 @@
+pub mod Alone
+pub mod Next
+pub mod Packing
+pub mod Between
+pub mod Cuts

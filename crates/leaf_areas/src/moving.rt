@@ -1,5 +1,7 @@
 // Records that move from one area to another.
 ghost use Rattle.std.specs.Prelude.{◌≡◌, ◌+◌, ◌-◌, ◌^◌, ◌<◌, ◌≤◌, [], ◌∷◌, length, replicate, filter};
+ghost use Rattle.gfs2_layout.specs.Bytes.{put_at};
+ghost use Rattle.gfs2_layout.specs.Writing.{zeros_from};
 ghost use Rattle.gfs2_layout.specs.Area.{Slot, IsArea, slot_at, slots_of};
 ghost use Rattle.gfs2_layout.specs.Putting.{new_slot};
 ghost use Rattle.leaf_areas.specs.Moving.{in_use, moved_length, packed, unused};
@@ -7,6 +9,22 @@ ghost use Rattle.leaf_areas.specs.Parts.{belongs};
 
 use crate::parts::{Part, next_of};
 use gfs2_layout::{Dirent, Inum, least_length};
+
+// Zeros from a place on.
+fn put_zeros(bytes: &mut [u8], at: usize)
+    requires { at ≤ length bytes.old }
+    ensures { bytes.new ≡ zeros_from at bytes.old }
+{
+    bytes[at..].fill(0);
+}
+
+// Bytes over those from a place on.
+fn put_bytes(bytes: &mut [u8], at: usize, part: &[u8])
+    requires { at + length part.now ≤ length bytes.old }
+    ensures { bytes.new ≡ put_at at part.now bytes.old }
+{
+    bytes[at..at + part.len()].copy_from_slice(part);
+}
 
 // Makes of some bytes one record, a new one over zeros.
 fn write_record(bytes: &mut [u8], entry: &Dirent, name: &[u8])
@@ -19,10 +37,10 @@ fn write_record(bytes: &mut [u8], entry: &Dirent, name: &[u8])
         rahead: 0,
         ..*entry
     };
-    bytes.fill(0);
+    put_zeros(bytes, 40);
     head.write(bytes);
-    bytes[28..40].fill(0);
-    bytes[40..40 + name.len()].copy_from_slice(name);
+    put_bytes(bytes, 28, &[0; 12]);
+    put_bytes(bytes, 40, name);
 }
 
 /// Makes of some bytes an area without records: one record that isn't in use, all zeros but for its length.

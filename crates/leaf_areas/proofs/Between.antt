@@ -1,0 +1,1 @@
+-- Records that are packed into bytes, one behind another.
