@@ -3,3 +3,5 @@ pub mod Next
 pub mod Packing
 pub mod Between
 pub mod Cuts
+pub mod Told
+pub mod Parted
