@@ -4,4 +4,4 @@ pub mod Packing
 pub mod Between
 pub mod Cuts
 pub mod Told
-pub mod Parted
+pub mod Records

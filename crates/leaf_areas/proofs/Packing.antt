@@ -8,6 +8,7 @@ use Rattle.gfs2_layout.specs.Putting.{new_slot}
 use Rattle.gfs2_layout.specs.declared.dirent.Dirent.{Dirent}
 use Rattle.gfs2_layout.proofs.Records.{area_ends}
 use Rattle.gfs2_layout.proofs.Places.{area_none, joined}
+use Rattle.gfs2_layout.proofs.PutHere.{end_part, end_put}
 use Rattle.leaf_areas.specs.declared.parts.Part.{Part}
 use Rattle.leaf_areas.specs.Moving.{moved, moved_length, packed}
 use Rattle.leaf_areas.specs.Parts.{belongs, HoldsItsName, IsNextOf}
@@ -25,6 +26,12 @@ written s head name bytes len holds head_is name_is size named slot =
     alone bytes (moved len s)
     (slot ∙ (λ i. new_slot (record (head_is i) { rahead = 0 }) (name_is i) (replicate (len - 40) 0)) ∙ moved_is s len (omega (arith, named)))
     size (omega (arith, size, named)) (λ used. named)
+
+-- bytes in which they are packed
+pub record IsPacked (part : Part) (from : List ℕ) (room : ℕ) (new : List ℕ) : Type 0 where
+  pub slots : slots_of new ≡ packed room (filter (belongs part) (slots_of from))
+  pub filled : IsArea new
+  pub size : length new ≡ room
 
 -- the records up to a place are packed but for the last one found, which is still to be written there
 pub record IsPacking (part : Part) (from into : List ℕ) (at : ℕ) (head : Dirent) (name rest : List ℕ) (count : ℕ) : Type 0 where
@@ -65,8 +72,14 @@ module _ (part : Part) (from into : List ℕ) (at : ℕ) (head : Dirent) (name r
   front_length = length-take-le at into (omega (arith, so.room))
 
   -- another one comes behind it
-  module _ (head' : Dirent) (name' rest' : List ℕ) (next : IsNextOf part rest head' name' rest') (part' : List ℕ) (end : ℕ) (end_is : end ≡ at + moved_length so.last) (size : length part' ≡ end - at)
-      (slot : slot_at part' ≡ new_slot (record head { rahead = 0 }) name (replicate (end - at - 40) 0)) where
+  module _ (head' : Dirent) (name' rest' : List ℕ) (next : IsNextOf part rest head' name' rest') (part' : List ℕ) (end : ℕ) (end_is : end ≡ at + moved_length so.last)
+      (same_size : length part' ≡ length (take (end - at) (drop at into))) (slot : slot_at part' ≡ new_slot (record head { rahead = 0 }) name (replicate (length (take (end - at) (drop at into)) - 40) 0)) where
+    own_length : length (take (end - at) (drop at into)) ≡ end - at
+    own_length = length-take-le (end - at) (drop at into) (omega (arith, ends_within, end_is, length-drop at into))
+
+    size : length part' ≡ end - at
+    size = same_size ∙ own_length
+
     abbrev into' : List ℕ
     into' = put_mid at (end - at) into part'
 
@@ -74,7 +87,9 @@ module _ (part : Part) (from into : List ℕ) (at : ℕ) (head : Dirent) (name r
     taken = take-put_mid at (end - at) into part' end (omega (arith, size, end_is)) (omega (arith, so.room))
 
     one : IsAlone part' (moved (end - at) so.last)
-    one = written so.last head name part' (end - at) so.holds so.head_is so.name_is (sym size) (omega (arith, end_is, (moved_bounds so.last so.holds).0)) slot
+    one =
+        written so.last head name part' (end - at) so.holds so.head_is so.name_is (sym size) (omega (arith, end_is, (moved_bounds so.last so.holds).0))
+        (slot ∙ ap (λ (n : ℕ). new_slot (record head { rahead = 0 }) name (replicate (n - 40) 0)) own_length)
 
     same : length into' ≡ length into
     same = omega (arith, length-append (take at into) (part' ++ drop (end - at) (drop at into)), length-append part' (drop (end - at) (drop at into)), length-drop (end - at) (drop at into), length-drop at into, front_length, size, end_is, ends_within)
@@ -108,14 +123,23 @@ module _ (part : Part) (from into : List ℕ) (at : ℕ) (head : Dirent) (name r
   pub all_counted : filter (belongs part) (slots_of rest) ≡ [] → count ≡ length (filter (belongs part) (slots_of from))
   all_counted none = omega (arith, so.counted, ap length none)
 
-  module _ (none : filter (belongs part) (slots_of rest) ≡ []) (part' : List ℕ) (size : length part' ≡ length into - at)
-      (slot : slot_at part' ≡ new_slot (record head { rahead = 0 }) name (replicate (length into - at - 40) 0)) where
-    whole : IsAlone part' (moved (length into - at) so.last)
-    whole = written so.last head name part' (length into - at) so.holds so.head_is so.name_is (sym size) (omega (arith, so.room, so.holds.within)) slot
+  module _ (none : filter (belongs part) (slots_of rest) ≡ []) (part' : List ℕ) (same_size : length part' ≡ length (take (length into - at) (drop at into)))
+      (slot : slot_at part' ≡ new_slot (record head { rahead = 0 }) name (replicate (length (take (length into - at) (drop at into)) - 40) 0)) where
+    rest_length : length (take (length into - at) (drop at into)) ≡ length into - at
+    rest_length = ap length (end_part at into) ∙ length-drop at into
 
-    pub packing_ends : (slots_of (take at into ++ part') ≡ packed (length into) (filter (belongs part) (slots_of from))) × IsArea (take at into ++ part')
-    packing_ends =
-        let both = joined (take at into) part' so.front in (
-          both.slots ∙ ap (λ (ss : List Slot). slots_of (take at into) ++ ss) whole.slots ∙ ap (λ (ss : List Slot). slots_of (take at into) ++ packed (length into - at) (so.last ∷ ss)) (sym none) ∙ so.slots,
-          both.area whole.area,
-        )
+    whole : IsAlone part' (moved (length into - at) so.last)
+    whole =
+        written so.last head name part' (length into - at) so.holds so.head_is so.name_is (sym (same_size ∙ rest_length)) (omega (arith, so.room, so.holds.within))
+        (slot ∙ ap (λ (n : ℕ). new_slot (record head { rahead = 0 }) name (replicate (n - 40) 0)) rest_length)
+
+    pub packing_ends : (room : ℕ) → length into ≡ room → IsPacked part from room (put_mid at (length into - at) into part')
+    packing_ends room is_room =
+        let both = joined (take at into) part' so.front in
+        let all = end_put at into part' in
+        record {
+          slots = ap slots_of all ∙ both.slots ∙ ap (λ (ss : List Slot). slots_of (take at into) ++ ss) whole.slots ∙ ap (λ (ss : List Slot). slots_of (take at into) ++ packed (length into - at) (so.last ∷ ss)) (sym none) ∙ so.slots
+              ∙ ap (λ (n : ℕ). packed n (filter (belongs part) (slots_of from))) is_room;
+          filled = subst IsArea (sym all) (both.area whole.area);
+          size = omega (arith, ap length all, length-append (take at into) part', front_length, same_size, rest_length, so.room, is_room);
+        }

@@ -25,15 +25,15 @@ fn has_low_bit(name: &[u8], depth: u16) -> bool
 }
 
 // Whether a record is one of these.
-pub(crate) fn is_of(record: &Record, part: Part) -> bool
-    ensures { (s : Slot) → IsShown record.now.head record.now.name.now s → result ≡ belongs part s }
+pub(crate) fn is_of(held: &Record, part: Part) -> bool
+    ensures { (s : Slot) → IsShown held.now.head held.now.name.now s → result ≡ belongs part s }
 {
-    if !record.head.is_in_use() {
+    if !held.head.is_in_use() {
         return false;
     }
     match part {
         Part::All => true,
-        Part::Lower(depth) => has_low_bit(record.name, depth),
+        Part::Lower(depth) => has_low_bit(held.name, depth),
     }
 }
 

@@ -1,4 +1,4 @@
-use Rattle.leaf_areas.proofs.Parted.{lower_area, upper_area}
+use Rattle.leaf_areas.proofs.Records.{lower_area, upper_area}
 use Rattle.leaf_areas.proofs.laws.halves_have_the_records.Goals as goal
 
 pub returns : goal.returns

@@ -1,4 +1,4 @@
-use Rattle.leaf_areas.proofs.Parted.{moved_area}
+use Rattle.leaf_areas.proofs.Records.{moved_area}
 use Rattle.leaf_areas.proofs.laws.moved_records_stay.Goals as goal
 
 pub returns : goal.returns

@@ -26,15 +26,15 @@ loop-record-preserved c =
     let shown : is_in_use (slot_at (drop at old)).head ≡ is_in_use head = ap is_in_use (sym first.shown.head_is) in
     let place : at + c.from-at.result ≡ at + head.rec_len = ap (λ (n : ℕ). at + n) c.from-at.ensures in
     elim c.if-is_of.branch [
-    | then-is_of w ↦
-        cutting_is depth was c.if-is_of.old w.cut_record.new.area (at + c.from-at.result) (at + head.rec_len) c.if-is_of.upper upper w.old-is place w.upper-is
-        (cutting_cuts depth was old at upper so head name rest first w.cut_record.new.area (sym tells ∙ w.if-is_of.true) w.cut_record.ensures.slots w.cut_record.ensures.area w.cut_record.ensures.size)
-    | else-is_of+then-is_in_use w ↦
-        cutting_is depth was c.if-is_of.old old (at + c.from-at.result) (at + head.rec_len) c.if-is_of.upper (upper + 1) w.old-is place w.upper-is
-        (cutting_counts depth was old at upper so head name rest first (sym tells ∙ w.if-is_of.false) (shown ∙ sym w.is_in_use.ensures ∙ w.if-is_in_use.true))
-    | else-is_of+else-is_in_use w ↦
-        cutting_is depth was c.if-is_of.old old (at + c.from-at.result) (at + head.rec_len) c.if-is_of.upper upper w.old-is place w.upper-is
-        (cutting_passes depth was old at upper so head name rest first (sym tells ∙ w.if-is_of.false) (shown ∙ sym w.is_in_use.ensures ∙ w.if-is_in_use.false))
+      | then-is_of w ↦
+          cutting_is depth was c.if-is_of.old w.cut_record.new.area (at + c.from-at.result) (at + head.rec_len) c.if-is_of.upper upper w.old-is place w.upper-is
+          (cutting_cuts depth was old at upper so head name rest first w.cut_record.new.area (sym tells ∙ w.if-is_of.true) w.cut_record.ensures.slots w.cut_record.ensures.area w.cut_record.ensures.size)
+      | else-is_of+then-is_in_use w ↦
+          cutting_is depth was c.if-is_of.old old (at + c.from-at.result) (at + head.rec_len) c.if-is_of.upper (upper + 1) w.old-is place w.upper-is
+          (cutting_counts depth was old at upper so head name rest first (sym tells ∙ w.if-is_of.false) (shown ∙ sym w.is_in_use.ensures ∙ w.if-is_in_use.true))
+      | else-is_of+else-is_in_use w ↦
+          cutting_is depth was c.if-is_of.old old (at + c.from-at.result) (at + head.rec_len) c.if-is_of.upper upper w.old-is place w.upper-is
+          (cutting_passes depth was old at upper so head name rest first (sym tells ∙ w.if-is_of.false) (shown ∙ sym w.is_in_use.ensures ∙ w.if-is_in_use.false))
     ]
 
 pub returns-clause-slots : goal.returns-clause-slots
