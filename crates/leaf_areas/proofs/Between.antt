@@ -1,10 +1,10 @@
 -- A place between two records of an area, by the records before it and those behind it.
-use Rattle.std.proofs.Common.{◌≡◌, ℕ, zero, suc, ◌+◌, ◌≤◌, List, [], ◌∷◌, ◌++◌, length, take, drop, refl, sym, ap, ◌∙◌, subst, arith}
+use Rattle.std.proofs.Common.{◌≡◌, ℕ, ◌+◌, ◌≤◌, List, [], ◌∷◌, ◌++◌, length, take, drop, refl, sym, ap, ◌∙◌, subst, arith}
 use Rattle.std.specs.Prelude.{sum_by}
 use Rattle.std.proofs.lemmas.List.{drop-drop, length-drop}
 use Rattle.std.proofs.lemmas.List.Sums.{sum_by-cons}
 use Rattle.gfs2_layout.specs.Bytes.{u16_at}
-use Rattle.gfs2_layout.specs.Area.{Slot, slot_at, slot_length, slots_of, IsArea}
+use Rattle.gfs2_layout.specs.Area.{Slot, slot_length, slots_of, IsArea}
 use Rattle.gfs2_layout.proofs.Records.{behind, record_length, area_on, area_ends}
 use Rattle.gfs2_layout.proofs.Places.{alone, area_none, joined, take_on}
 

@@ -1,16 +1,15 @@
 -- Records of an area that are cut, one after another.
-use Rattle.std.proofs.Common.{◌≡◌, ℕ, ◌+◌, ◌-◌, ◌≤◌, Bool, true, false, List, [], ◌∷◌, ◌++◌, length, take, drop, refl, sym, ap, ◌∙◌, subst, arith, cond}
+use Rattle.std.proofs.Common.{◌≡◌, ℕ, ◌+◌, ◌≤◌, Bool, true, false, List, [], ◌∷◌, ◌++◌, length, take, drop, refl, sym, ap, ◌∙◌, subst, arith}
 use Rattle.std.specs.Prelude.{sum_by, filter}
-use Rattle.std.proofs.lemmas.List.{append_assoc, length-drop, length-take-le, take_all, drop_all, drop-drop}
+use Rattle.std.proofs.lemmas.List.{length-drop, length-take-le, take_all}
 use Rattle.std.proofs.lemmas.List.Sums.{sum_by-cons}
-use Rattle.std.proofs.lemmas.Bool.{cases_Bool}
 use Rattle.gfs2_layout.specs.Bytes.{u16_at}
 use Rattle.gfs2_layout.specs.Structures.{is_in_use}
 use Rattle.gfs2_layout.specs.Area.{Slot, slot_at, slot_length, slots_of, IsArea, IsRecordAt}
 use Rattle.gfs2_layout.specs.Area.{IsFirstRecord, name_of}
-use Rattle.gfs2_layout.specs.Cutting.{without, slot_from, slots_without}
+use Rattle.gfs2_layout.specs.Cutting.{without, slots_without}
 use Rattle.gfs2_layout.specs.declared.dirent.Dirent.{Dirent}
-use Rattle.gfs2_layout.proofs.Records.{behind, record_length, length_behind, area_on, area_ends}
+use Rattle.gfs2_layout.proofs.Records.{behind, record_length, area_on, area_ends}
 use Rattle.gfs2_layout.proofs.Places.{GoesOn, goes_on, area_none, behind_place}
 use Rattle.leaf_areas.specs.Splitting.{is_lower, is_lower_name, is_upper, cut_each, upper_half}
 use Rattle.leaf_areas.specs.Moving.{in_use}

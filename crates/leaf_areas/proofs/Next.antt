@@ -1,11 +1,11 @@
 -- The first of the records that are meant.
-use Rattle.std.proofs.Common.{◌≡◌, ℕ, ◌+◌, ◌≤◌, Bool, true, false, List, ◌∷◌, length, take, refl, sym, ap, ◌∙◌, subst, arith}
-use Rattle.std.specs.Prelude.{IsTrue, sum_by, filter}
+use Rattle.std.proofs.Common.{◌≡◌, ℕ, ◌+◌, ◌≤◌, Bool, true, false, List, ◌∷◌, length, refl, ap, ◌∙◌, subst, arith}
+use Rattle.std.specs.Prelude.{sum_by, filter}
 use Rattle.std.specs.List.{AllByRecursion}
 use Rattle.std.proofs.lemmas.List.{length-take-le}
 use Rattle.std.proofs.lemmas.List.Sums.{sum_by-cons}
 use Rattle.gfs2_layout.specs.Structures.{is_in_use}
-use Rattle.gfs2_layout.specs.Area.{Slot, slot_at, slot_length, slots_of, name_of, HasItsName, IsArea, IsFirstRecord}
+use Rattle.gfs2_layout.specs.Area.{Slot, slot_at, slot_length, slots_of, HasItsName, IsArea, IsFirstRecord}
 use Rattle.gfs2_layout.specs.declared.dirent.Dirent.{Dirent}
 use Rattle.gfs2_layout.proofs.CutAfter.{HoldsName, names_held}
 use Rattle.leaf_areas.specs.declared.parts.Part.{Part}

@@ -4,7 +4,7 @@ use Rattle.std.specs.Prelude.{filter, not}
 use Rattle.std.specs.List.{AllByRecursion}
 use Rattle.gfs2_layout.specs.Structures.{is_in_use}
 use Rattle.gfs2_layout.specs.Area.{Slot, slots_of, IsArea}
-use Rattle.gfs2_layout.specs.Records.{Record, record_of, records_in, HasItsHash, IsRecordArea}
+use Rattle.gfs2_layout.specs.Records.{record_of, records_in, HasItsHash, IsRecordArea}
 use Rattle.leaf_areas.specs.declared.parts.Part.TheVariants.{Lower}
 use Rattle.leaf_areas.specs.Moving.{in_use, packed}
 use Rattle.leaf_areas.specs.Splitting.{is_lower, is_lower_name, lower_half, upper_half}

@@ -1,13 +1,13 @@
 -- What records say after they moved or were halved.
-use Rattle.std.proofs.Common.{◌≡◌, ℕ, ◌+◌, ◌-◌, ◌≤◌, Bool, true, false, List, [], ◌∷◌, ◌++◌, length, take, replicate, map, refl, sym, ap, ◌∙◌, subst, arith}
+use Rattle.std.proofs.Common.{◌≡◌, ℕ, ◌-◌, Bool, true, false, List, [], ◌∷◌, ◌++◌, length, replicate, map, refl, sym, ap, ◌∙◌, arith}
 use Rattle.std.specs.Prelude.{filter, not}
 use Rattle.std.specs.List.{AllByRecursion}
 use Rattle.std.proofs.lemmas.Bool.{true≢false}
 use Rattle.std.proofs.lemmas.List.{append-nil, append_assoc, length-append, length-take-le, take_at}
 use Rattle.crc_words.specs.Remainder.{crc32_of}
 use Rattle.gfs2_layout.specs.Structures.{is_in_use}
-use Rattle.gfs2_layout.specs.Area.{Slot, slot_bytes, slots_of, name_of, IsArea}
-use Rattle.gfs2_layout.specs.Cutting.{emptied, joined, without}
+use Rattle.gfs2_layout.specs.Area.{Slot, slot_bytes, slots_of, name_of}
+use Rattle.gfs2_layout.specs.Cutting.{joined, without}
 use Rattle.gfs2_layout.specs.Records.{Record, record_of, records_in, HasItsHash, IsRecordArea}
 use Rattle.gfs2_layout.proofs.CutAfter.{HoldsName, names_held, name_joined}
 use Rattle.leaf_areas.specs.Moving.{in_use, moved, moved_length, packed}

@@ -1,7 +1,6 @@
-use Rattle.std.proofs.Common.{◌≡◌, ◌∙◌, ℕ, length, ap, subst, refl, arith}
-use Rattle.gfs2_layout.specs.Area.{slot_at}
+use Rattle.std.proofs.Common.{◌≡◌, ◌∙◌, ℕ, length, arith}
 use Rattle.leaf_areas.specs.Moving.{unused}
-use Rattle.leaf_areas.proofs.Alone.{IsAlone, alone, unused_is}
+use Rattle.leaf_areas.proofs.Alone.{alone, unused_is}
 use Rattle.leaf_areas.proofs.moving.clear_area.Goals as goal
 
 pub returns : goal.returns

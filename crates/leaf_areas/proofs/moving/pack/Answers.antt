@@ -1,4 +1,4 @@
-use Rattle.std.proofs.Common.{◌≡◌, ◌+◌, ◌∙◌, ℕ, length, ap}
+use Rattle.std.proofs.Common.{◌≡◌, ◌+◌, ℕ, length, ap}
 use Rattle.leaf_areas.specs.Moving.{moved_length}
 use Rattle.leaf_areas.proofs.Packing.{packing_begins, packing_goes_on, packing_ends, all_counted}
 use Rattle.leaf_areas.proofs.moving.pack.Goals as goal

@@ -1,6 +1,6 @@
-use Rattle.std.proofs.Common.{◌≡◌, ◌≤◌, ◌∙◌, refl, sym, ap, arith}
+use Rattle.std.proofs.Common.{◌∙◌, refl, sym, ap, arith}
 use Rattle.std.specs.Prelude.{filter}
-use Rattle.gfs2_layout.specs.Area.{slot_at, slots_of}
+use Rattle.gfs2_layout.specs.Area.{slot_at}
 use Rattle.leaf_areas.specs.Parts.{belongs}
 use Rattle.leaf_areas.proofs.Next.{is_next, none_yet}
 use Rattle.leaf_areas.proofs.parts.next_of.Goals as goal

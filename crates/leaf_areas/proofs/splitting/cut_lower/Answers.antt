@@ -1,4 +1,4 @@
-use Rattle.std.proofs.Common.{◌≡◌, ◌+◌, ◌∙◌, ℕ, List, drop, ap, sym, subst, true, false}
+use Rattle.std.proofs.Common.{◌≡◌, ◌+◌, ◌∙◌, ℕ, List, drop, ap, sym, subst}
 use Rattle.gfs2_layout.specs.Area.{IsFirstRecord, slot_at, slots_of}
 use Rattle.gfs2_layout.specs.Structures.{is_in_use}
 use Rattle.gfs2_layout.proofs.PutHere.{end_part}
