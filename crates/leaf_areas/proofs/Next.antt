@@ -9,11 +9,11 @@ use Rattle.gfs2_layout.specs.Area.{Slot, slot_at, slot_length, slots_of, HasItsN
 use Rattle.gfs2_layout.specs.declared.dirent.Dirent.{Dirent}
 use Rattle.gfs2_layout.proofs.CutAfter.{HoldsName, names_held}
 use Rattle.leaf_areas.specs.declared.parts.Part.{Part}
-use Rattle.leaf_areas.specs.declared.parts.Part.TheVariants.{All, Lower}
+use Rattle.leaf_areas.specs.declared.parts.Part.TheVariants.{InUse, Lower}
 use Rattle.leaf_areas.specs.Parts.{belongs, HoldsItsName, IsNextOf}
 
 pub belongs_used : (part : Part) (s : Slot) → belongs part s ≡ true → is_in_use s.head ≡ true
-belongs_used All s is = is
+belongs_used InUse s is = is
 belongs_used (Lower depth) s is = by_test (is_in_use s.head) refl
   where
     by_test : (b : Bool) → is_in_use s.head ≡ b → is_in_use s.head ≡ true

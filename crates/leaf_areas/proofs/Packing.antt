@@ -16,11 +16,11 @@ use Rattle.leaf_areas.proofs.Alone.{IsAlone, alone, moved_is}
 use borrow.Rule.Slice.PartMut.{put_mid}
 
 -- a record takes no less than its name needs, and no more than it took
-pub moved_bounds : (s : Slot) → HoldsItsName s → (40 + s.head.name_len ≤ moved_length s) × (moved_length s ≤ s.head.rec_len)
+moved_bounds : (s : Slot) → HoldsItsName s → (40 + s.head.name_len ≤ moved_length s) × (moved_length s ≤ s.head.rec_len)
 moved_bounds s holds = (omega (arith, holds.within), omega arith)
 
 -- bytes over which a record was written
-pub written : (s : Slot) (head : Dirent) (name bytes : List ℕ) (len : ℕ) → HoldsItsName s → head ≡ s.head → name ≡ name_of s → len ≡ length bytes → 40 + s.head.name_len ≤ len
+written : (s : Slot) (head : Dirent) (name bytes : List ℕ) (len : ℕ) → HoldsItsName s → head ≡ s.head → name ≡ name_of s → len ≡ length bytes → 40 + s.head.name_len ≤ len
     → slot_at bytes ≡ new_slot (record head { rahead = 0 }) name (replicate (len - 40) 0) → IsAlone bytes (moved len s)
 written s head name bytes len holds head_is name_is size named slot =
     alone bytes (moved len s)
@@ -61,11 +61,7 @@ packing_begins part from into head name rest room is = record {
 }
 
 module _ (part : Part) (from into : List ℕ) (at : ℕ) (head : Dirent) (name rest : List ℕ) (count : ℕ) (so : IsPacking part from into at head name rest count) where
-  -- its name has room in what it took
-  pub name_fits : 40 + length name ≤ moved_length so.last
-  name_fits = omega (arith, (moved_bounds so.last so.holds).0, ap length so.name_is, so.holds.whole)
-
-  pub ends_within : at + moved_length so.last ≤ length into
+  ends_within : at + moved_length so.last ≤ length into
   ends_within = omega (arith, (moved_bounds so.last so.holds).1, so.room)
 
   front_length : length (take at into) ≡ at

@@ -5,11 +5,11 @@ use Rattle.gfs2_layout.specs.Structures.{is_in_use}
 use Rattle.gfs2_layout.specs.declared.dirent.Dirent.{Dirent}
 use Rattle.leaf_areas.specs.Splitting.{is_lower}
 use Rattle.leaf_areas.specs.declared.parts.Part.{Part}
-use Rattle.leaf_areas.specs.declared.parts.Part.TheVariants.{All, Lower}
+use Rattle.leaf_areas.specs.declared.parts.Part.TheVariants.{InUse, Lower}
 
 -- a record is one of these
 abbrev pub belongs : Part → Slot → Bool
-belongs All s = is_in_use s.head
+belongs InUse s = is_in_use s.head
 belongs (Lower depth) s = is_lower depth s
 
 -- a record in use has its name, of the length that it tells, in it

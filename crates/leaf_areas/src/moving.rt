@@ -115,5 +115,5 @@ pub fn move_records(from: &[u8], into: &mut [u8]) -> u16
     ensures filled { IsArea into.new }
     ensures size { length into.new ≡ length into.old }
 {
-    pack(from, into, Part::All)
+    pack(from, into, Part::InUse)
 }

@@ -10,13 +10,13 @@ use gfs2_layout::{Record, next_record};
 // The records of an area that are meant.
 #[derive(Clone, Copy, Debug)]
 pub(crate) enum Part {
-    // All that are in use.
-    All,
+    // Those in use.
+    InUse,
     // Those of the lower half of a leaf of this depth.
     Lower(u16),
 }
 
-// Whether a name belongs to the lower half of a leaf of this depth.
+// Whether a name belongs to the lower half of a leaf of this depth. A hash has a bit behind 31 others at most.
 fn has_low_bit(name: &[u8], depth: u16) -> bool
     ensures { result ≡ is_lower_name depth name.now }
 {
@@ -32,7 +32,7 @@ pub(crate) fn is_of(held: &Record, part: Part) -> bool
         return false;
     }
     match part {
-        Part::All => true,
+        Part::InUse => true,
         Part::Lower(depth) => has_low_bit(held.name, depth),
     }
 }
