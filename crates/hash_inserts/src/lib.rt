@@ -1,0 +1,2 @@
+//! Names that come into hashed directories.
+#![tactic(auto)]
