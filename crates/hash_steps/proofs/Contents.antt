@@ -1,5 +1,5 @@
 -- The content of an inode whose dinode says of it what it said, and whose tree has the bytes that it had; and where the pointers of a table stand.
-use Rattle.std.proofs.Common.{◌≡◌, ◌≢◌, ◌⊎◌, ℕ, zero, suc, ◌+◌, ◌-◌, ◌*◌, ◌/◌, ◌%◌, ◌^◌, ◌<◌, ◌≤◌, inl, inr, true, List, Option, take, drop, replicate, Some, refl, sym, ap, ap₂, ◌∙◌, subst, arith}
+use Rattle.std.proofs.Common.{◌≡◌, ◌≢◌, ◌⊎◌, ℕ, zero, suc, ◌+◌, ◌-◌, ◌*◌, ◌/◌, ◌%◌, ◌<◌, ◌≤◌, inl, inr, true, List, Option, take, drop, replicate, Some, refl, sym, ap, ap₂, ◌∙◌, subst, arith}
 use Rattle.std.specs.Prelude.{◌==◌, flat_map, if◌then◌else◌}
 use Rattle.std.specs.List.{range_with_len}
 use Rattle.std.proofs.lemmas.Bool.{cases_eq, cond-true, cond-false, eq-eqb, ne_eqb}
@@ -9,7 +9,7 @@ use Rattle.dinode_tree.proofs.Ranges.{piece_within}
 use Rattle.dinode_tree.proofs.Spans.{span_some}
 use Rattle.gfs2_layout.specs.Bytes.{u64_at}
 use Rattle.gfs2_layout.specs.Holding.{Holding, Cell, Pointed, part_at, bytes_at}
-use Rattle.gfs2_layout.specs.Inode.{Fits, HasTree, dinode_in, height_in, is_directory_in, header_length, fan, span, pointer, descend, content_block, unit, carried, pieces, content_count, content_of, entry, entry_block, table_count}
+use Rattle.gfs2_layout.specs.Inode.{Fits, HasTree, dinode_in, height_in, is_directory_in, header_length, fan, span, pointer, descend, content_block, unit, carried, pieces, content_count, content_of, entry_block, table_count}
 use Rattle.gfs2_layout.specs.Structures.{dinode_length}
 use Rattle.growth_laws.specs.Files.{with_cells}
 use Rattle.growth_laws.proofs.Numbers.{numbers_behind_are_the_same}

@@ -1,6 +1,6 @@
 -- A linear directory becomes a hashed one.
-use Rattle.std.proofs.Common.{◌≡◌, ◌≢◌, ℕ, zero, suc, ◌+◌, ◌-◌, ◌*◌, ◌/◌, ◌^◌, ◌<◌, ◌≤◌, inl, inr, Bool, true, false, List, [], ◌∷◌, ◌++◌, drop, length, map, take, Option, Some, refl, sym, ap, ◌∙◌, subst, subst₂, arith, length-drop}
-use Rattle.std.specs.Prelude.{Contains, filter, flat_map}
+use Rattle.std.proofs.Common.{◌≡◌, ℕ, zero, suc, ◌-◌, ◌*◌, ◌/◌, ◌^◌, ◌<◌, ◌≤◌, inl, inr, true, false, List, [], ◌∷◌, ◌++◌, drop, length, map, Some, sym, ap, ◌∙◌, subst, subst₂, arith, length-drop}
+use Rattle.std.specs.Prelude.{filter, flat_map}
 use Rattle.std.specs.List.{All, AllByRecursion, range_with_len}
 use Rattle.std.specs.List.Sorted.{IsPermutation}
 use Rattle.std.proofs.Math.Nat.{div-eq_of_lt}
@@ -9,12 +9,11 @@ use Rattle.std.proofs.lemmas.List.{length-map}
 use Rattle.std.proofs.lemmas.List.Elements.{All-drop, All-take}
 use Rattle.std.proofs.lemmas.List.Sorted.{IsPermutation-sym}
 use Rattle.crc_words.specs.Remainder.{crc32_of}
-use Rattle.gfs2_layout.specs.Area.{Slot, IsArea, has_no_record, slot_at, slots_of, slots_within}
+use Rattle.gfs2_layout.specs.Area.{Slot, has_no_record, slot_at, slots_of, slots_within}
 use Rattle.gfs2_layout.specs.Bytes.{u16_at}
-use Rattle.gfs2_layout.specs.Device.{IsBlockSize}
-use Rattle.gfs2_layout.specs.Holding.{Holding, Itself, InChain, bytes_at, cell_part, part_at}
-use Rattle.gfs2_layout.specs.Inode.{IsHashed, IsLeaf, IsLinear, IsNextLeaf, depth_in, dinode_in, entry, first_hash, index_bits, is_directory_in, is_hashed_in, is_leaf_part, leaf_area, leaf_in, leaf_length, leaves_of, linear_area, records_of, table_count, top_bits}
-use Rattle.gfs2_layout.specs.Records.{IsRecordArea, Record, record_of, records_in}
+use Rattle.gfs2_layout.specs.Holding.{Holding, Itself, InChain, bytes_at, part_at}
+use Rattle.gfs2_layout.specs.Inode.{IsHashed, IsLeaf, IsLinear, depth_in, entry, first_hash, is_directory_in, is_hashed_in, is_leaf_part, leaf_area, leaf_in, leaf_length, leaves_of, linear_area, records_of, table_count, top_bits}
+use Rattle.gfs2_layout.specs.Records.{IsRecordArea, record_of, records_in}
 use Rattle.gfs2_layout.specs.Structures.{dinode_length, is_in_use}
 use Rattle.gfs2_layout.specs.declared.dinode.Dinode.{Dinode}
 use Rattle.gfs2_layout.specs.declared.leaf.Leaf.{Leaf}
@@ -23,10 +22,9 @@ use Rattle.image_model.proofs.Members.{is_in}
 use Rattle.leaf_areas.specs.Laws.{MovedRecordsStay}
 use Rattle.leaf_areas.specs.Moving.{in_use, packed}
 use Rattle.hash_dirs.specs.Shown.{IsSound}
-use Rattle.hash_dirs.proofs.Chained.{cell_some, same_hash}
+use Rattle.hash_dirs.proofs.Chained.{same_hash}
 use Rattle.hash_dirs.proofs.Indexes.{some_pow}
-use Rattle.hash_dirs.proofs.Named.{records_are}
-use Rattle.hash_dirs.proofs.Permuted.{filter_none, one_more}
+use Rattle.hash_dirs.proofs.Permuted.{filter_none}
 use Rattle.hash_steps.specs.Laws.{Stays}
 use Rattle.hash_steps.specs.Steps.{IsConverted}
 use Rattle.hash_steps.proofs.Leaves.{in_a_chain, leaf_is, no_later}

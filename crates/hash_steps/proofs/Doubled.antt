@@ -1,17 +1,16 @@
 -- A directory's table is doubled.
-use Rattle.std.proofs.Common.{◌≡◌, ◌≢◌, ℕ, zero, suc, ◌+◌, ◌-◌, ◌*◌, ◌/◌, ◌^◌, ◌<◌, ◌≤◌, inl, inr, Bool, true, false, List, ◌∷◌, drop, length, Option, Some, refl, sym, ap, ◌∙◌, subst, subst₂, cond, arith}
-use Rattle.std.specs.Prelude.{◌&&◌, IsSome, filter, flat_map}
+use Rattle.std.proofs.Common.{◌≡◌, ◌≢◌, ℕ, zero, suc, ◌+◌, ◌-◌, ◌*◌, ◌/◌, ◌^◌, ◌<◌, ◌≤◌, Bool, true, false, List, ◌∷◌, drop, length, Some, refl, sym, ap, ◌∙◌, subst, subst₂, cond, arith}
+use Rattle.std.specs.Prelude.{◌&&◌, filter, flat_map}
 use Rattle.std.specs.List.{range_with_len}
 use Rattle.std.specs.List.Sorted.{IsPermutation}
-use Rattle.std.proofs.Math.Nat.{div-div-eq-div-mul, mul-div_cancel_left, pow-succ'}
-use Rattle.std.proofs.lemmas.Bool.{cond-false, true≢false}
+use Rattle.std.proofs.Math.Nat.{div-div-eq-div-mul, pow-succ'}
+use Rattle.std.proofs.lemmas.Bool.{cond-false}
 use Rattle.std.proofs.lemmas.List.Sorted.{IsPermutation-refl}
-use Rattle.gfs2_layout.specs.Holding.{Cell, Holding, InChain, bytes_at, cell_bytes, cell_part, part_at}
-use Rattle.gfs2_layout.specs.Inode.{IsHashed, IsLeaf, IsNextLeaf, depth_in, dinode_in, entry, first_hash, has_hash_flag, index_bits, is_hashed_in, is_leaf_part, leaf_area, leaf_in, leaf_length, leaves_of, records_of, table_count}
+use Rattle.gfs2_layout.specs.Holding.{Holding, InChain, bytes_at, cell_bytes, cell_part, part_at}
+use Rattle.gfs2_layout.specs.Inode.{IsHashed, IsNextLeaf, depth_in, entry, first_hash, has_hash_flag, index_bits, is_hashed_in, is_leaf_part, leaf_in, leaf_length, leaves_of, records_of, table_count}
 use Rattle.gfs2_layout.specs.Records.{records_in}
 use Rattle.gfs2_layout.specs.Structures.{is_directory, leaf_of}
 use Rattle.gfs2_layout.specs.declared.dinode.Dinode.{Dinode}
-use Rattle.image_model.proofs.Members.{IsIn}
 use Rattle.image_model.proofs.Same.{flat_map_same}
 use Rattle.pointer_tables.specs.Directories.{IsPlaced, IsTreeSound}
 use Rattle.pointer_tables.specs.Tables.{IsDoubled}
@@ -22,6 +21,7 @@ use Rattle.hash_dirs.proofs.Named.{records_are}
 use Rattle.hash_dirs.proofs.Permuted.{filter_same}
 use Rattle.hash_steps.specs.Laws.{Stays}
 use Rattle.hash_steps.proofs.Leaves.{in_a_chain, leaf_kept}
+use Rattle.hash_steps.proofs.Records.{told_at}
 use Rattle.hash_steps.proofs.Sound.{directory_of, stays, untabled}
 
 -- ---- numbers
@@ -160,10 +160,10 @@ module _ (h g : Holding) (taken : List ℕ) (sound : IsSound h) (hashed : is_has
   records_same : records_of h ≡ records_of g
   records_same =
       records_are h hashed
-      ∙ flat_map_same (λ x. records_in (leaf_area h x)) (λ x. records_in (leaf_area g x)) (leaves_of h) (λ x is.
+      ∙ flat_map_same (told_at h) (told_at g) (leaves_of h) (λ x is.
       let at = of_leaves h sound hashed x is in
       ap (λ b. records_in (drop leaf_length b)) (sym (bytes_after x at.0 at.1 at.2)))
-      ∙ ap (flat_map (λ x. records_in (leaf_area g x))) (sym leaves_same) ∙ sym (records_are g still_hashed)
+      ∙ ap (flat_map (told_at g)) (sym leaves_same) ∙ sym (records_are g still_hashed)
 
   pub doubled_stays : Stays h g
   doubled_stays = stays h g sound size_same tree placed still_hashed has (directory_of h hashed) (ap untabled doubled.dinode) (subst (IsPermutation (records_of h)) records_same (IsPermutation-refl (records_of h)))

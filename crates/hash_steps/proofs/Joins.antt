@@ -1,5 +1,5 @@
 -- What goes and what comes, in one step after another.
-use Rattle.std.proofs.Common.{◌≡◌, ℕ, ◌+◌, ◌∙◌, List, [], ◌++◌, arith}
+use Rattle.std.proofs.Common.{◌∙◌, List, [], ◌++◌, arith}
 use Rattle.std.specs.List.Sorted.{IsPermutation}
 use Rattle.std.proofs.lemmas.List.Sorted.{IsPermutation-append_comm, IsPermutation-append_right, IsPermutation-refl, IsPermutation-sym, IsPermutation-trans}
 use Rattle.gfs2_layout.specs.Exchanges.{IsCounted, IsExchanged}

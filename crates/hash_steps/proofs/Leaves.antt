@@ -1,5 +1,5 @@
 -- Leaves that stay, leaves that are put, and the hashes of what a chain has.
-use Rattle.std.proofs.Common.{◌≡◌, ◌≢◌, ℕ, suc, ◌+◌, ◌-◌, ◌*◌, ◌/◌, ◌^◌, ◌<◌, ◌≤◌, true, List, length, drop, Option, None, Some, refl, sym, ap, ◌∙◌, subst, arith}
+use Rattle.std.proofs.Common.{◌≡◌, ◌≢◌, ℕ, suc, ◌<◌, ◌≤◌, true, List, length, drop, Option, None, Some, refl, sym, ap, ◌∙◌, subst, arith}
 use Rattle.std.specs.Prelude.{Contains}
 use Rattle.std.proofs.lemmas.Bool.{true≢false}
 use Rattle.crc_words.specs.Remainder.{crc32_of}
@@ -7,7 +7,7 @@ use Rattle.gfs2_layout.specs.Area.{Slot}
 use Rattle.gfs2_layout.specs.Bytes.{u32_at}
 use Rattle.gfs2_layout.specs.Headers.{HasHeader}
 use Rattle.gfs2_layout.specs.Holding.{Holding, Part, Itself, Pointed, InChain, cell_part, part_at, bytes_at}
-use Rattle.gfs2_layout.specs.Inode.{IsHashed, IsLeaf, depth_in, entry, first_hash, index_bits, is_hashed_in, is_leaf_part, leaf_area, leaf_in, leaf_length, table_count, top_bits}
+use Rattle.gfs2_layout.specs.Inode.{IsLeaf, depth_in, entry, first_hash, index_bits, is_hashed_in, is_leaf_part, leaf_area, leaf_in, leaf_length, table_count, top_bits}
 use Rattle.gfs2_layout.specs.Records.{IsRecordArea, Record, records_in}
 use Rattle.gfs2_layout.specs.Structures.{leaf_of}
 use Rattle.gfs2_layout.specs.declared.leaf.Leaf.{Leaf}

@@ -1,14 +1,14 @@
 -- A leaf is added behind the last one of a chain.
-use Rattle.std.proofs.Common.{◌≡◌, ◌≢◌, ℕ, suc, ◌+◌, ◌-◌, ◌*◌, ◌/◌, ◌^◌, ◌<◌, ◌≤◌, inl, inr, Bool, true, false, List, [], ◌∷◌, ◌++◌, drop, length, map, Option, Some, refl, sym, ap, ◌∙◌, subst, subst₂, arith}
+use Rattle.std.proofs.Common.{◌≡◌, ◌≢◌, ℕ, suc, ◌+◌, ◌-◌, ◌*◌, ◌/◌, ◌^◌, ◌<◌, ◌≤◌, inl, inr, true, List, [], ◌∷◌, ◌++◌, drop, length, map, Some, sym, ap, ◌∙◌, subst, subst₂, arith}
 use Rattle.std.specs.Prelude.{◌&&◌, Contains, filter, flat_map}
-use Rattle.std.specs.List.{AllByRecursion, range_with_len}
+use Rattle.std.specs.List.{AllByRecursion}
 use Rattle.std.specs.List.Sorted.{IsPermutation}
 use Rattle.std.proofs.lemmas.Bool.{cases_eq, true≢false}
 use Rattle.std.proofs.lemmas.List.{append-nil}
 use Rattle.std.proofs.lemmas.List.Sorted.{IsPermutation-sym}
-use Rattle.gfs2_layout.specs.Area.{Slot, IsArea, slots_of}
+use Rattle.gfs2_layout.specs.Area.{IsArea, slots_of}
 use Rattle.gfs2_layout.specs.Bytes.{u64_at}
-use Rattle.gfs2_layout.specs.Holding.{Holding, Part, InChain, bytes_at, cell_part, part_at}
+use Rattle.gfs2_layout.specs.Holding.{Holding, Part, InChain, bytes_at, part_at}
 use Rattle.gfs2_layout.specs.Inode.{IsHashed, IsLeaf, IsNextLeaf, content_of, depth_in, dinode_in, entry, first_hash, has_hash_flag, index_bits, is_hashed_in, is_leaf_part, leaf_area, leaf_in, leaf_length, leaves_of, records_of, table_count}
 use Rattle.gfs2_layout.specs.Records.{HasItsHash, IsRecordArea, Record, record_of, records_in}
 use Rattle.gfs2_layout.specs.Structures.{is_directory, is_in_use, leaf_of}
@@ -18,9 +18,8 @@ use Rattle.growth_laws.specs.Files.{with_cells}
 use Rattle.image_model.proofs.Same.{flat_map_same}
 use Rattle.leaf_areas.specs.Moving.{unused}
 use Rattle.hash_dirs.specs.Shown.{IsSound}
-use Rattle.hash_dirs.proofs.Chained.{cell_some, in_chain, of_leaves, rules, same_hash, some_block}
+use Rattle.hash_dirs.proofs.Chained.{in_chain, of_leaves, rules, same_hash, some_block}
 use Rattle.hash_dirs.proofs.Named.{records_are}
-use Rattle.hash_dirs.proofs.Permuted.{one_more}
 use Rattle.hash_steps.specs.Laws.{Stays}
 use Rattle.hash_steps.specs.Steps.{IsLengthened}
 use Rattle.hash_steps.proofs.Contents.{KeepsContent, content_same}

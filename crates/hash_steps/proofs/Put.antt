@@ -1,19 +1,18 @@
 -- A record is put into a leaf of its name's chain.
-use Rattle.std.proofs.Common.{◌≡◌, ◌≢◌, ℕ, zero, suc, ◌+◌, ◌^◌, ◌<◌, ◌≤◌, ◌⊎◌, inl, inr, Bool, true, false, List, [], ◌∷◌, ◌++◌, length, drop, Option, None, Some, refl, sym, ap, ap₂, ◌∙◌, subst, subst₂, cond, arith}
-use Rattle.std.specs.Prelude.{Contains, ◌&&◌, count_by, filter, find, flat_map, if◌then◌else◌}
+use Rattle.std.proofs.Common.{◌≡◌, ◌≢◌, ℕ, suc, ◌+◌, ◌^◌, ◌<◌, ◌≤◌, inl, inr, Bool, true, false, List, [], ◌∷◌, length, drop, None, Some, refl, sym, ap, ap₂, ◌∙◌, subst, subst₂, cond, arith}
+use Rattle.std.specs.Prelude.{◌&&◌, count_by, filter, find, flat_map, if◌then◌else◌}
 use Rattle.std.specs.List.{range_with_len}
-use Rattle.std.specs.List.Sorted.{IsPermutation}
 use Rattle.std.specs.Str.{bytes_eq}
 use Rattle.std.proofs.lemmas.Bool.{cases_Bool, cases_eq, true≢false}
-use Rattle.std.proofs.lemmas.List.Sorted.{IsPermutation-sym, IsPermutation-trans, Contains-permutation, length_permutation}
+use Rattle.std.proofs.lemmas.List.Sorted.{IsPermutation-sym, Contains-permutation, length_permutation}
 use Rattle.std.proofs.lemmas.List.Sums.{sum_by-cons}
 use Rattle.std.proofs.lemmas.Slice.Eq.{bytes_eq-Decides}
 use Rattle.crc_words.specs.Remainder.{crc32_of}
 use Rattle.gfs2_layout.specs.Area.{IsArea, slots_of}
 use Rattle.gfs2_layout.specs.Exchanges.{IsExchanged}
 use Rattle.gfs2_layout.specs.Headers.{HasHeader}
-use Rattle.gfs2_layout.specs.Holding.{Holding, Part, InChain, part_at, bytes_at}
-use Rattle.gfs2_layout.specs.Inode.{IsHashed, IsInode, IsLeaf, depth_in, dinode_in, entry, first_hash, has_hash_flag, head_of, is_hashed_in, is_leaf_part, leaf_area, leaf_in, leaf_length, leaves_of, records_of, top_bits}
+use Rattle.gfs2_layout.specs.Holding.{Holding, InChain, part_at, bytes_at}
+use Rattle.gfs2_layout.specs.Inode.{IsHashed, IsLeaf, depth_in, dinode_in, first_hash, has_hash_flag, is_hashed_in, is_leaf_part, leaf_area, leaf_in, leaf_length, leaves_of, records_of, top_bits}
 use Rattle.gfs2_layout.specs.Putting.{IsEntryOf, put_slot}
 use Rattle.gfs2_layout.specs.Records.{IsRecordArea, Record, record_named, records_in, said_by}
 use Rattle.gfs2_layout.specs.Structures.{is_directory, leaf_of}
@@ -22,18 +21,19 @@ use Rattle.gfs2_layout.specs.declared.dirent.Dirent.{Dirent}
 use Rattle.gfs2_layout.specs.declared.leaf.Leaf.{Leaf}
 use Rattle.glock_names.specs.declared.steps.Entry.{Entry}
 use Rattle.growth_laws.specs.Files.{with_cells}
-use Rattle.image_model.proofs.Members.{IsIn, contained, is_in}
+use Rattle.image_model.proofs.Members.{contained, is_in}
 use Rattle.linear_dirs.specs.Shown.{head_for, record_for}
 use Rattle.linear_dirs.proofs.Exchanged.{entry_for}
 use Rattle.hash_dirs.specs.Shown.{IsSound, index_for}
 use Rattle.hash_dirs.proofs.Anew.{KeepsTree}
 use Rattle.hash_dirs.proofs.Chained.{in_chain, inside, rules, same_hash}
-use Rattle.hash_dirs.proofs.Named.{find_none, records_are}
+use Rattle.hash_dirs.proofs.Named.{records_are}
 use Rattle.hash_dirs.proofs.Regrouped.{regrouped}
 use Rattle.hash_dirs.proofs.Still.{KeepsLeaves, has_after}
 use Rattle.hash_steps.specs.Laws.{GetsRecord}
 use Rattle.hash_steps.specs.Steps.{IsPutInLeaf}
 use Rattle.hash_steps.proofs.Leaves.{as_cells, as_deep, bits_of_name, chain_low, itself_or_chained, itself_or_pointed, leaf_kept, leaf_is, pointed_or_chained}
+use Rattle.hash_steps.proofs.Records.{told_at}
 use Rattle.hash_steps.proofs.Sound.{count_moved, inode_of, large_of, sound_of}
 
 -- an area into which a record was put, as `gfs2_layout` has it
@@ -58,20 +58,21 @@ none_counted test (x ∷ xs) e = by (test x) refl (none_counted test xs) e
 
 module _ (h g : Holding) (name : List ℕ) (e : Entry) (sound : IsSound h) (hashed : is_hashed_in h ≡ true) (some : 1 ≤ length name) (short : length name ≤ 255) (number : e.number ≢ 0) (address : e.addr ≢ 0)
     (fresh : record_named (records_of h) name ≡ None) (put : IsPutInLeaf h g name e) (law : PutsExchange) where
-  abbrev x : ℕ
-  x = put.leaf
-
+  -- the pointer of the name, and the first hash of its leaves
   abbrev i : ℕ
   i = index_for h name
 
-  abbrev r : Record
-  r = record_for name e
+  abbrev begin : ℕ
+  begin = first_hash h (index_for h name)
 
-  low : index_for h name < 2 ^ depth_in h
-  low = chain_low h (index_for h name) put.at_place put.leaf put.chain
+  abbrev new : Record
+  new = record_for name e
 
-  part_x : part_at h put.leaf ≡ Some (InChain (first_hash h (index_for h name)) put.at_place)
-  part_x = in_chain h sound hashed (index_for h name) put.at_place put.leaf put.chain
+  low : i < 2 ^ depth_in h
+  low = chain_low h i put.at_place put.leaf put.chain
+
+  part_x : part_at h put.leaf ≡ Some (InChain begin put.at_place)
+  part_x = in_chain h sound hashed i put.at_place put.leaf put.chain
 
   same_cells : with_cells h g.cell ≡ g
   same_cells = as_cells h g put.same.size put.same.count put.same.own
@@ -89,44 +90,40 @@ module _ (h g : Holding) (name : List ℕ) (e : Entry) (sound : IsSound h) (hash
     behind = put.behind;
     pointed = λ b from k level first at. put.others b
         (λ is. itself_or_pointed from k level first (sym sound.placed.own ∙ ap (part_at h) (sym is) ∙ at))
-        (λ is. pointed_or_chained from k level first (first_hash h (index_for h name)) put.at_place (sym at ∙ ap (part_at h) is ∙ part_x));
+        (λ is. pointed_or_chained from k level first begin put.at_place (sym at ∙ ap (part_at h) is ∙ part_x));
   }
 
   deep_same : depth_in (with_cells h g.cell) ≡ depth_in h
   deep_same = ap (λ (d : Dinode). d.depth) keeps.dinode
+
+  table_same : depth_in g ≡ depth_in h
+  table_same = ap (λ (d : Dinode). d.depth) put.dinode
 
   -- ---- the leaf
 
   depth_same : (leaf_in g put.leaf).depth ≡ (leaf_in h put.leaf).depth
   depth_same = ap (λ (l : Leaf). l.depth) put.is.head_is
 
-  exchange : IsLeaf h (first_hash h (index_for h name)) put.leaf → IsRecordArea (leaf_area g put.leaf) × IsExchanged (records_in (leaf_area h put.leaf)) (records_in (leaf_area g put.leaf)) [] (record_for name e ∷ [])
+  exchange : IsLeaf h begin put.leaf → IsRecordArea (leaf_area g put.leaf) × IsExchanged (told_at h put.leaf) (told_at g put.leaf) [] (new ∷ [])
   exchange leaf = law (leaf_area h put.leaf) (leaf_area g put.leaf) (head_for name e) name leaf.area (entry_for name e some short number address) (put.put ∙ ap Some (sym put.is.slots_are)) put.is.filled
 
-  was_leaf : IsLeaf h (first_hash h (index_for h name)) put.leaf
-  was_leaf = (rules h sound hashed).leaves put.leaf (first_hash h (index_for h name)) put.at_place part_x
+  was_leaf : IsLeaf h begin put.leaf
+  was_leaf = (rules h sound hashed).leaves put.leaf begin put.at_place part_x
 
-  is_leaf : IsLeaf (with_cells h g.cell) (first_hash h (index_for h name)) put.leaf
+  is_leaf : IsLeaf g begin put.leaf
   is_leaf =
       let both = exchange was_leaf in
       let before = both.1.before in
       let after = both.1.after in
-      let d : ℕ = (leaf_in h put.leaf).depth in
-      let many : length both.1.rest ≡ length (records_in (leaf_area h put.leaf)) = length_permutation (records_in (leaf_area h put.leaf)) both.1.rest before in
-      let more : suc (length both.1.rest) ≡ length (records_in (leaf_area g put.leaf)) = length_permutation (records_in (leaf_area g put.leaf)) (record_for name e ∷ both.1.rest) after in
-      record {
-        header = put.is.header;
-        records_format = put.is.records_format;
-        depth = omega (arith, was_leaf.depth, depth_same, deep_same);
-        area = both.0;
-        entries = ap (λ (l : Leaf). l.entries) put.is.head_is ∙ one_more (leaf_in h put.leaf).entries (length (records_in (leaf_area h put.leaf))) (length both.1.rest) (length (records_in (leaf_area g put.leaf))) was_leaf.entries many more;
-        hashes = λ q there. subst (λ n. top_bits n (crc32_of q.name) ≡ top_bits n (first_hash h (index_for h name))) (sym depth_same)
-            (elim (is_in q (record_for name e ∷ both.1.rest) (Contains-permutation (records_in (leaf_area g put.leaf)) (record_for name e ∷ both.1.rest) q after there)) [
-            | inl same ↦ ap (λ (p : Record). top_bits d (crc32_of p.name)) same
-                ∙ subst (λ n. top_bits n (crc32_of name) ≡ top_bits n (first_hash h (index_for h name))) (sym (as_deep h sound hashed (index_for h name) put.at_place put.leaf put.chain)) (bits_of_name h sound hashed name low)
-            | inr other ↦ was_leaf.hashes q (Contains-permutation both.1.rest (records_in (leaf_area h put.leaf)) q (IsPermutation-sym (records_in (leaf_area h put.leaf)) both.1.rest before) (contained q both.1.rest other))
-            ]);
-      }
+      let many : length both.1.rest ≡ length (told_at h put.leaf) = length_permutation (told_at h put.leaf) both.1.rest before in
+      let more : suc (length both.1.rest) ≡ length (told_at g put.leaf) = length_permutation (told_at g put.leaf) (new ∷ both.1.rest) after in
+      leaf_is g put.leaf _ _ _ put.is begin (omega (arith, was_leaf.depth, table_same)) both.0
+      (one_more (leaf_in h put.leaf).entries (length (told_at h put.leaf)) (length both.1.rest) (length (told_at g put.leaf)) was_leaf.entries many more)
+      (λ q there. elim (is_in q (new ∷ both.1.rest) (Contains-permutation (told_at g put.leaf) (new ∷ both.1.rest) q after there)) [
+        | inl same ↦ ap (λ (p : Record). top_bits (leaf_in h put.leaf).depth (crc32_of p.name)) same
+            ∙ subst (λ n. top_bits n (crc32_of name) ≡ top_bits n begin) (sym (as_deep h sound hashed i put.at_place put.leaf put.chain)) (bits_of_name h sound hashed name low)
+        | inr other ↦ was_leaf.hashes q (Contains-permutation both.1.rest (told_at h put.leaf) q (IsPermutation-sym (told_at h put.leaf) both.1.rest before) (contained q both.1.rest other))
+      ])
     where
       one_more : (a b c d : ℕ) → a ≡ b → c ≡ b → suc c ≡ d → a + 1 ≡ d
       one_more a b c d e f k = omega arith
@@ -148,8 +145,8 @@ module _ (h g : Holding) (name : List ℕ) (e : Entry) (sound : IsSound h) (hash
     ];
     leaves = λ y hash at part leaf. elim (cases_eq y put.leaf) [
       | inl here ↦
-          let one : hash ≡ first_hash h (index_for h name) = (same_hash hash (first_hash h (index_for h name)) at put.at_place (sym part ∙ ap (part_at h) here ∙ part_x)).0 in
-          subst₂ (IsLeaf (with_cells h g.cell)) (sym one) (sym here) is_leaf
+          let one : hash ≡ begin = (same_hash hash begin at put.at_place (sym part ∙ ap (part_at h) here ∙ part_x)).0 in
+          subst₂ (IsLeaf (with_cells h g.cell)) (sym one) (sym here) (subst (λ k. IsLeaf k begin put.leaf) (sym same_cells) is_leaf)
       | inr other ↦ leaf_kept h (with_cells h g.cell) hash y (leaf_bytes y hash at part other) (omega (arith, deep_same)) leaf
     ];
   }
@@ -165,19 +162,19 @@ module _ (h g : Holding) (name : List ℕ) (e : Entry) (sound : IsSound h) (hash
   leaves_same : leaves_of g ≡ leaves_of h
   leaves_same = λ t. filter (λ y. is_leaf_part (put.parts y t)) (range_with_len 0 (put.same.count t))
 
-  exchanged : IsExchanged (records_of h) (records_of g) [] (record_for name e ∷ [])
+  exchanged : IsExchanged (records_of h) (records_of g) [] (new ∷ [])
   exchanged =
-      subst₂ (λ a b. IsExchanged a b [] (record_for name e ∷ [])) (sym (records_are h hashed)) (ap (flat_map (λ y. records_in (leaf_area g y))) (sym leaves_same) ∙ sym (records_are g still_hashed))
-      (regrouped (λ y. records_in (leaf_area h y)) (λ y. records_in (leaf_area g y)) (λ y. is_leaf_part (part_at h y)) put.leaf (ap is_leaf_part part_x) [] (record_for name e ∷ []) (exchange was_leaf).1
+      subst₂ (λ a b. IsExchanged a b [] (new ∷ [])) (sym (records_are h hashed)) (ap (flat_map (told_at g)) (sym leaves_same) ∙ sym (records_are g still_hashed))
+      (regrouped (told_at h) (told_at g) (λ y. is_leaf_part (part_at h y)) put.leaf (ap is_leaf_part part_x) [] (new ∷ []) (exchange was_leaf).1
       (λ y other is_leaf. ap (λ b. records_in (drop leaf_length b)) (put.others y (λ is. true≢false (sym is_leaf ∙ ap (λ z. is_leaf_part (part_at h z)) is ∙ ap is_leaf_part sound.placed.own)) other))
-      0 h.count (omega arith) (let under : put.leaf < h.count = inside h sound hashed put.leaf (first_hash h (index_for h name)) put.at_place part_x in omega (arith, under)))
+      0 h.count (omega arith) (let under : put.leaf < h.count = inside h sound hashed put.leaf begin put.at_place part_x in omega (arith, under)))
 
   once : (other : List ℕ) → count_by (λ q. bytes_eq other q.name) (records_of g) ≤ 1
   once other =
       let test : Record → Bool = λ q. bytes_eq other q.name in
       let rest : count_by test exchanged.rest ≡ count_by test (records_of h) = count_moved test (records_of h) exchanged.rest exchanged.before in
-      let all : count_by test (record_for name e ∷ exchanged.rest) ≡ count_by test (records_of g) = count_moved test (records_of g) (record_for name e ∷ exchanged.rest) exchanged.after in
-      let split : count_by test (record_for name e ∷ exchanged.rest) ≡ one_or_none (bytes_eq other name) + count_by test exchanged.rest = sum_by-cons (λ q. cond (test q) 1 0) (record_for name e) exchanged.rest in
+      let all : count_by test (new ∷ exchanged.rest) ≡ count_by test (records_of g) = count_moved test (records_of g) (new ∷ exchanged.rest) exchanged.after in
+      let split : count_by test (new ∷ exchanged.rest) ≡ one_or_none (bytes_eq other name) + count_by test exchanged.rest = sum_by-cons (λ q. cond (test q) 1 0) new exchanged.rest in
       let was : count_by test (records_of h) ≤ 1 = sound.once other in
       elim (cases_Bool (bytes_eq other name)) [
         | inl same ↦
@@ -189,7 +186,7 @@ module _ (h g : Holding) (name : List ℕ) (e : Entry) (sound : IsSound h) (hash
             omega (arith, rest, all, split, was, none)
       ]
 
-  pub gets_record : GetsRecord h g (record_for name e)
+  pub gets_record : GetsRecord h g new
   gets_record = record {
     sound = sound_of h g sound put.same.size put.same.tree put.same.placed still_hashed has once;
     hashed = still_hashed;

@@ -1,14 +1,14 @@
 -- A hashed directory with a sound tree whose leaves keep their rules, and which has the records of one that was sound, is sound.
-use Rattle.std.proofs.Common.{◌≡◌, ◌≢◌, ℕ, ◌+◌, ◌-◌, ◌^◌, ◌<◌, ◌≤◌, inl, true, false, Bool, List, [], ◌∷◌, ◌++◌, sym, ap, ◌∙◌, subst, cond, arith}
+use Rattle.std.proofs.Common.{◌≡◌, ℕ, ◌+◌, ◌-◌, ◌^◌, ◌<◌, ◌≤◌, inl, true, Bool, List, [], sym, ap, ◌∙◌, subst, cond, arith}
 use Rattle.std.specs.Prelude.{count_by}
 use Rattle.std.specs.List.Sorted.{IsPermutation}
 use Rattle.std.specs.Str.{bytes_eq}
 use Rattle.std.proofs.lemmas.Bool.{true≢false}
 use Rattle.std.proofs.lemmas.List.Sorted.{sum_by-IsPermutation}
 use Rattle.gfs2_layout.specs.Device.{IsBlockSize}
-use Rattle.gfs2_layout.specs.Exchanges.{IsCounted, directory_count}
+use Rattle.gfs2_layout.specs.Exchanges.{directory_count}
 use Rattle.gfs2_layout.specs.Holding.{Holding}
-use Rattle.gfs2_layout.specs.Inode.{IsHashed, IsInode, dinode_in, has_hash_flag, head_of, is_directory_in, is_hashed_in, records_of}
+use Rattle.gfs2_layout.specs.Inode.{IsHashed, IsInode, dinode_in, has_hash_flag, is_directory_in, is_hashed_in, records_of}
 use Rattle.gfs2_layout.specs.Records.{Record}
 use Rattle.gfs2_layout.specs.Structures.{is_directory}
 use Rattle.gfs2_layout.specs.declared.dinode.Dinode.{Dinode}

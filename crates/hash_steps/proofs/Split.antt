@@ -1,24 +1,22 @@
--- A leaf is split: the rules of the leaves afterwards.
-use Rattle.std.proofs.Common.{◌≡◌, ◌≢◌, ◌⊎◌, ℕ, suc, ◌+◌, ◌-◌, ◌*◌, ◌/◌, ◌^◌, ◌<◌, ◌≤◌, inl, inr, Bool, true, false, List, [], ◌∷◌, ◌++◌, length, drop, Option, None, Some, refl, sym, ap, ◌∙◌, subst, subst₂, arith, length-drop}
-use Rattle.std.specs.Prelude.{Contains, ◌==◌, ◌&&◌, filter, flat_map, if◌then◌else◌, not}
-use Rattle.std.specs.List.{range_with_len}
+-- A leaf is split: where its pointers lead, how its records are parted, and what the directory is afterwards.
+use Rattle.std.proofs.Common.{◌≡◌, ◌≢◌, ℕ, suc, ◌+◌, ◌-◌, ◌*◌, ◌/◌, ◌^◌, ◌<◌, ◌≤◌, inl, inr, Bool, true, false, List, [], ◌++◌, length, drop, Some, refl, sym, ap, ◌∙◌, subst, subst₂, arith, length-drop}
+use Rattle.std.specs.Prelude.{Contains, ◌&&◌, filter, flat_map, not}
 use Rattle.std.specs.List.Sorted.{IsPermutation}
-use Rattle.std.proofs.Math.Nat.{div-mul-le_self, mul-div_cancel, mul-le-mul_right}
-use Rattle.std.proofs.lemmas.Bool.{cases_Bool, cases_eq, cond-false, cond-true, eq-eqb, eqb-true, true≢false}
+use Rattle.std.proofs.Math.Nat.{mul-div_cancel, mul-le-mul_right}
+use Rattle.std.proofs.lemmas.Bool.{cases_eq, cond-false, cond-true, eq-eqb, eqb-true, true≢false}
 use Rattle.std.proofs.lemmas.List.Sorted.{IsPermutation-filter_both, IsPermutation-refl}
 use Rattle.crc_words.specs.Remainder.{crc32_of}
-use Rattle.gfs2_layout.specs.Area.{Slot, IsArea, name_of, slots_of}
-use Rattle.gfs2_layout.specs.Device.{IsBlockSize}
+use Rattle.gfs2_layout.specs.Area.{name_of, slots_of}
 use Rattle.gfs2_layout.specs.Exchanges.{IsExchanged}
-use Rattle.gfs2_layout.specs.Holding.{Holding, Part, Itself, InChain, cell_part, part_at, bytes_at}
-use Rattle.gfs2_layout.specs.Inode.{IsHashed, IsLeaf, IsNextLeaf, depth_in, dinode_in, entry, entry_block, first_hash, has_hash_flag, index_bits, is_hashed_in, is_leaf_part, leaf_area, leaf_in, leaf_length, leaves_of, records_of, table_count, top_bits}
+use Rattle.gfs2_layout.specs.Holding.{Holding, Part, InChain, part_at, bytes_at}
+use Rattle.gfs2_layout.specs.Inode.{IsHashed, IsLeaf, IsNextLeaf, depth_in, entry, first_hash, has_hash_flag, index_bits, is_hashed_in, is_leaf_part, leaf_area, leaf_in, leaf_length, leaves_of, records_of, table_count, top_bits}
 use Rattle.gfs2_layout.specs.Records.{IsRecordArea, Record, record_of, records_in}
 use Rattle.gfs2_layout.specs.Structures.{is_directory, is_in_use, leaf_of}
 use Rattle.gfs2_layout.specs.declared.dinode.Dinode.{Dinode}
 use Rattle.gfs2_layout.specs.declared.leaf.Leaf.{Leaf}
 use Rattle.image_model.proofs.Members.{IsIn, from_filter, is_in, contained}
 use Rattle.leaf_areas.specs.Laws.{HalvesHaveTheRecords}
-use Rattle.leaf_areas.specs.Splitting.{bit_at, is_lower, is_lower_name, lower_half, upper_half}
+use Rattle.leaf_areas.specs.Splitting.{bit_at, is_lower, is_lower_name, lower_half}
 use Rattle.pointer_tables.specs.Tables.{is_within}
 use Rattle.hash_dirs.specs.Shown.{IsSound}
 use Rattle.hash_dirs.proofs.Chained.{deep, inside, rules, same_hash, some_block}
@@ -29,7 +27,7 @@ use Rattle.hash_steps.specs.Laws.{Stays}
 use Rattle.hash_steps.specs.Leaves.{HasOneLeaf, first_of, leaf_depth, middle_hash, run_of}
 use Rattle.hash_steps.specs.Steps.{IsSplit}
 use Rattle.hash_steps.proofs.Contents.{IsTableBlock, table_block}
-use Rattle.hash_steps.proofs.Halves.{count_passing, first_bits, half_bits, half_of_even, half_of_odd, half_run, odd_apart, lower_bits, lower_hash, outside_run, run_within_is, upper_bits, upper_hash, which_half, within_bounds, within_run}
+use Rattle.hash_steps.proofs.Halves.{count_passing, first_bits, half_bits, half_of_even, half_of_odd, half_run, odd_apart, lower_bits, lower_hash, outside_run, upper_bits, upper_hash, which_half, within_bounds, within_run}
 use Rattle.hash_steps.proofs.Joins.{moved_over}
 use Rattle.hash_steps.proofs.Leaves.{apart_from_new, in_a_chain, itself_or_chained, leaf_is, leaf_kept, no_later, pointed_or_chained}
 use Rattle.hash_steps.proofs.Records.{one_leaf_more, told_at}
@@ -266,9 +264,11 @@ module _ (h g : Holding) (i b : ℕ) (sound : IsSound h) (hashed : is_hashed_in 
   headed : (x hash : ℕ) → part_at g x ≡ Some (InChain hash 0) → HeadedAt x
   headed x hash part = elim (cases_eq x b) [
     | inl is ↦
-        let small = head_low (2 * bits) (omega arith) in
-        (2 * bits * 2 ^ (depth_in h - (leaf_depth h i + 1)), subst (λ n. 2 * bits * 2 ^ (depth_in h - (leaf_depth h i + 1)) < n) (sym tables_same) small,
-        lower_entry (2 * bits * 2 ^ (depth_in h - (leaf_depth h i + 1))) small (half_head (2 * bits) (omega arith)) ∙ sym is)
+        let small = head_low (2 * bits) (omega arith) in (
+          2 * bits * 2 ^ (depth_in h - (leaf_depth h i + 1)),
+          subst (λ n. 2 * bits * 2 ^ (depth_in h - (leaf_depth h i + 1)) < n) (sym tables_same) small,
+          lower_entry (2 * bits * 2 ^ (depth_in h - (leaf_depth h i + 1))) small (half_head (2 * bits) (omega arith)) ∙ sym is,
+        )
     | inr apart ↦ elim (cases_eq x (entry h i)) [
       | inl is ↦
           let n : ℕ = 2 * bits + 1 in
@@ -277,9 +277,11 @@ module _ (h g : Holding) (i b : ℕ) (sound : IsSound h) (hashed : is_hashed_in 
           let halves : half j ≡ n = half_head n (omega arith) in
           (j, subst (λ m. j < m) (sym tables_same) small, other_entry j small (odd_apart (half j) bits halves) ∙ leads_old j small (ap (λ m. m / 2) halves ∙ omega arith) ∙ sym is)
       | inr other ↦
-          let led = was.headed x hash (part_before x hash 0 apart other part) in
-          (led.0, subst (λ n. led.0 < n) (sym tables_same) led.1,
-          other_entry led.0 led.1 (λ e. other (sym led.2 ∙ leads_old led.0 led.1 (half_of_even (half led.0) bits e))) ∙ led.2)
+          let led = was.headed x hash (part_before x hash 0 apart other part) in (
+            led.0,
+            subst (λ n. led.0 < n) (sym tables_same) led.1,
+            other_entry led.0 led.1 (λ e. other (sym led.2 ∙ leads_old led.0 led.1 (half_of_even (half led.0) bits e))) ∙ led.2,
+          )
     ]
   ]
 
@@ -376,9 +378,9 @@ module _ (h g : Holding) (i b : ℕ) (sound : IsSound h) (hashed : is_hashed_in 
     parted : IsExchanged (records_of h) (flat_map (told_at g) (leaves_of h)) (told_at g b) []
     parted =
         let here : IsExchanged (told_at h (entry h i)) (told_at g (entry h i)) (told_at g b) [] = record {
-        rest = told_at g (entry h i);
-        before = subst₂ (λ xs ys. IsPermutation (records_in old) (xs ++ ys)) (sym halves.1) (sym halves.2) (IsPermutation-filter_both is_low is_high (λ r. refl) (records_in old));
-        after = IsPermutation-refl (told_at g (entry h i));
+          rest = told_at g (entry h i);
+          before = subst₂ (λ xs ys. IsPermutation (records_in old) (xs ++ ys)) (sym halves.1) (sym halves.2) (IsPermutation-filter_both is_low is_high (λ r. refl) (records_in old));
+          after = IsPermutation-refl (told_at g (entry h i));
         } in
         let under : entry h i < h.count = inside h sound hashed (entry h i) (first_hash h i) 0 part_old in
         subst (λ a. IsExchanged a (flat_map (told_at g) (leaves_of h)) (told_at g b) []) (sym (records_are h hashed))

@@ -1,13 +1,11 @@
 -- What each step leaves: a hashed directory that is sound, with the records that it had, and where one came, with that.
 use Rattle.std.specs.Prelude.{ℕ, ◌≡◌, ◌≢◌, ◌*◌, ◌<◌, ◌≤◌, true, false, List, [], ◌∷◌, length, None}
-use Rattle.gfs2_layout.specs.Device.{IsBlockSize}
 use Rattle.gfs2_layout.specs.Holding.{Holding}
-use Rattle.gfs2_layout.specs.Inode.{IsInode, depth_in, is_directory_in, is_hashed_in, records_of, table_count}
+use Rattle.gfs2_layout.specs.Inode.{depth_in, is_directory_in, is_hashed_in, records_of, table_count}
 use Rattle.gfs2_layout.specs.Records.{Record, record_named}
 use Rattle.glock_names.specs.declared.steps.Entry.{Entry}
 use Rattle.linear_dirs.specs.Exchanges.{HasExchanged}
 use Rattle.linear_dirs.specs.Shown.{record_for}
-use Rattle.pointer_tables.specs.Directories.{IsTreeSound}
 use Rattle.pointer_tables.specs.Tables.{IsDoubled}
 use Rattle.hash_dirs.specs.Shown.{IsSound}
 use Rattle.hash_steps.specs.Leaves.{HasOneLeaf, leaf_depth}

@@ -1,5 +1,5 @@
 -- A leaf as it is put, and what a step leaves of a hashed directory's other blocks.
-use Rattle.std.specs.Prelude.{ℕ, ◌≡◌, ◌+◌, ◌-◌, ◌*◌, ◌/◌, ◌^◌, ◌<◌, ◌&&◌, Bool, false, nat_le, nat_lt, List, take, replicate, Contains}
+use Rattle.std.specs.Prelude.{ℕ, ◌≡◌, ◌+◌, ◌-◌, ◌*◌, ◌/◌, ◌^◌, ◌<◌, Bool, false, List, take, replicate}
 use Rattle.std.specs.List.{list_any}
 use Rattle.gfs2_layout.specs.Area.{Slot, IsArea, slots_of}
 use Rattle.gfs2_layout.specs.Bytes.{u32_at}

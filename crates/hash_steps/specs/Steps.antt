@@ -1,11 +1,11 @@
 -- What becomes of a hashed directory, step by step: a leaf is split, a leaf is added behind a chain, a record is put into a leaf; and a linear directory
 -- becomes a hashed one.
-use Rattle.std.specs.Prelude.{ℕ, ◌≡◌, ◌≢◌, ◌⊎◌, ◌+◌, ◌-◌, ◌*◌, ◌/◌, ◌<◌, ◌≤◌, true, false, if◌then◌else◌, List, [], ◌∷◌, length, drop, filter, not, ◌&&◌, Some, None}
+use Rattle.std.specs.Prelude.{ℕ, ◌≡◌, ◌≢◌, ◌+◌, ◌-◌, ◌*◌, ◌/◌, ◌<◌, true, if◌then◌else◌, List, [], ◌∷◌, length, drop, filter, not, ◌&&◌, Some, None}
 use Rattle.std.specs.List.{All}
 use Rattle.gfs2_layout.specs.Area.{Slot, slots_of}
 use Rattle.gfs2_layout.specs.Exchanges.{IsCounted}
-use Rattle.gfs2_layout.specs.Holding.{Holding, Part, InChain, bytes_at, part_at}
-use Rattle.gfs2_layout.specs.Inode.{dinode_in, depth_in, entry, entry_block, first_hash, head_of, is_directory_in, is_hashed_in, leaf_area, leaf_in, leaf_length, linear_area, table_count}
+use Rattle.gfs2_layout.specs.Holding.{Holding, InChain, bytes_at, part_at}
+use Rattle.gfs2_layout.specs.Inode.{dinode_in, entry, entry_block, first_hash, is_hashed_in, leaf_area, leaf_in, leaf_length, linear_area, table_count}
 use Rattle.gfs2_layout.specs.Putting.{put_slot}
 use Rattle.gfs2_layout.specs.Structures.{dinode_length, is_in_use}
 use Rattle.glock_names.specs.declared.steps.Entry.{Entry}
