@@ -12,6 +12,7 @@ use Rattle.gfs2_layout.specs.Records.{IsRecordArea, Record, records_in}
 use Rattle.gfs2_layout.specs.Structures.{leaf_of}
 use Rattle.gfs2_layout.specs.declared.leaf.Leaf.{Leaf}
 use Rattle.growth_laws.specs.Files.{with_cells}
+use Rattle.image_model.proofs.Held.{none_some}
 use Rattle.pointer_tables.specs.Directories.{IsInChain, chain_head, chain_next}
 use Rattle.hash_dirs.specs.Shown.{IsSound, index_for}
 use Rattle.hash_dirs.proofs.Chained.{deep, headed, in_chain, rules}
@@ -24,9 +25,6 @@ pub as_cells : (h g : Holding) → g.size ≡ h.size → g.count ≡ h.count →
 as_cells h g size count own = λ t. record { size = sym size t; count = sym count t; own = sym own t; cell = g.cell }
 
 -- ---- parts
-
-none_there : (p : Part) → ◌≡◌ {A = Option Part} None (Some p) → ⊥
-none_there p e = cc
 
 pub itself_or_chained : (hash place : ℕ) → Some Itself ≡ Some (InChain hash place) → ⊥
 itself_or_chained hash place e = cc
@@ -45,7 +43,7 @@ in_a_chain (Some (InChain hash place)) e = (hash, place, refl)
 
 -- a block of the inode is none that it hadn't
 pub apart_from_new : (h : Holding) (b x : ℕ) (p : Part) → h.cell b ≡ None → part_at h x ≡ Some p → x ≢ b
-apart_from_new h b x p new part is = none_there p (sym (ap cell_part new) ∙ ap (part_at h) (sym is) ∙ part)
+apart_from_new h b x p new part is = none_some (sym (ap cell_part new) ∙ ap (part_at h) (sym is) ∙ part)
 
 -- ---- leaves
 
@@ -81,6 +79,7 @@ module _ (g : Holding) (x : ℕ) (over : List ℕ) (head : Leaf) (slots : List S
 pub no_later : (place : ℕ) → suc place ≡ 0 → ⊥
 no_later place e = omega arith
 
+-- a chain begins at a pointer of the table
 pub chain_low : (h : Holding) (i place x : ℕ) → IsInChain h i place x → i < table_count h
 chain_low h i _ _ (chain_head low) = low
 chain_low h i _ _ (chain_next place x chain more) = chain_low h i place x chain
