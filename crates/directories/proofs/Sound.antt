@@ -79,6 +79,7 @@ module _ (h : Holding) (sound : IsSound h) (hashed : is_hashed_in h ≡ true) wh
 -- ---- nothing is broken
 
 module _ (v : Seen) (h : Holding) (sound : IsSound h) (is : is_directory_in h ≡ true) (inside : (x : ℕ) → IsSome (h.cell x) → HasDataBlock v x)
+  (below : (r : Record) → Contains (records_of h) r → is_dots r.name ≡ false → HasDataBlock v r.address)
   (down : (r : Record) → Contains (records_of h) r → is_dots r.name ≡ false → IsName r.name) (entries : (dinode_in h).entries ≡ length (records_of h)) (links : (dinode_in h).nlink ≡ 2 + directory_count (records_of h)) where
   linear_unbroken : is_hashed_in h ≡ false → (rule b : ℕ) → linear.IsBroken h rule b → ⊥
   linear_unbroken plain rule b (linear.of_inode r c broken) = sound_breaks_nothing h r c sound.inode broken
@@ -96,6 +97,8 @@ module _ (v : Seen) (h : Holding) (sound : IsSound h) (is : is_directory_in h �
   unbroken rule b (directory.IsBroken.in_hashed hashed (leaves.IsWrongIn.outside i from x leads away)) =
       let p = leaf_part h sound hashed i from x leads in
       away (inside x (cell_some (h.cell x) _ p.1))
+  unbroken rule b (directory.IsBroken.in_hashed hashed (leaves.IsWrongIn.stray i from x r leads some there low away)) =
+      away (below r (contained r (records_of h) (record_of_leaf h sound hashed i from x r leads there)) low)
 
 -- ---- a directory says one thing of a name
 

@@ -18,9 +18,9 @@ pub fn directories_say_their_records()
     ensures { (h : Holding) (name : List ℕ) (found : Option EntryValue) → IsSound h → Says h name found → found ≡ option_map entry_of (record_named (records_of h) name) }
 {}
 
-/// A law: in a sound directory each of whose blocks is a data block of a group of the view, whose records have names, or are `.` and `..`, and whose dinode counts its records and links, nothing is broken; so no
-/// call tells that it is damaged.
+/// A law: in a sound directory each of whose blocks is a data block of a group of the view, and each block to which a name leads, whose records have
+/// names, or are `.` and `..`, and whose dinode counts its records and links, nothing is broken; so no call tells that it is damaged.
 pub fn sound_directories_break_nothing()
-    ensures { (v : Seen) (h : Holding) (rule b : ℕ) → IsSound h → is_directory_in h ≡ true → ((x : ℕ) → IsSome (h.cell x) → HasDataBlock v x) → ((r : Record) → Contains (records_of h) r → is_dots r.name ≡ false → IsName r.name)
+    ensures { (v : Seen) (h : Holding) (rule b : ℕ) → IsSound h → is_directory_in h ≡ true → ((x : ℕ) → IsSome (h.cell x) → HasDataBlock v x) → ((r : Record) → Contains (records_of h) r → is_dots r.name ≡ false → HasDataBlock v r.address) → ((r : Record) → Contains (records_of h) r → is_dots r.name ≡ false → IsName r.name)
         → (dinode_in h).entries ≡ length (records_of h) → (dinode_in h).nlink ≡ 2 + directory_count (records_of h) → IsBroken v h rule b → ⊥ }
 {}

@@ -1,13 +1,14 @@
 // Where a name of a directory leads.
-ghost use Rattle.std.specs.Prelude.{ℕ, ◌≡◌, true, None};
+ghost use Rattle.std.specs.Prelude.{ℕ, ◌≡◌, false, true, None, IfSome};
 ghost use Rattle.std.specs.Option.{option_map};
 ghost use Rattle.gfs2_layout.specs.Holding.{Holding};
 ghost use Rattle.gfs2_layout.specs.Inode.{has_hash_flag, is_hashed_in, records_of};
-ghost use Rattle.gfs2_layout.specs.Records.{record_named};
+ghost use Rattle.gfs2_layout.specs.Records.{is_dots as has_dots, record_named};
 ghost use Rattle.glock_names.specs.Steps.{IfIs, IfNeedBlock, OnlyDamaged};
 ghost use Rattle.glock_names.specs.Views.{HasBlock, IsOfView};
 ghost use Rattle.linear_dirs.specs.Shown.{entry_of};
 ghost use Rattle.hash_dirs.specs.Shown.{IsSound};
+ghost use Rattle.resource_groups.specs.Putting.{HasDataBlock};
 ghost use Rattle.directories.specs.Shown.{IsBroken, IsDirectoryIn, IsNeededFor, IsShown, Says};
 
 use crc_words::checksums_have_32_bits;
@@ -30,6 +31,7 @@ fn look_hashed<V: View>(
     name: &[u8],
 ) -> Result<Step<Option<Entry>>, CallFault>
     ensures found { (h : Holding) → IsShown (V.seen view.now) dir h → is_hashed_in h ≡ true → IfIs result (Says h name.now) }
+    ensures inside { has_dots name.now ≡ false → IfIs result (λ found. IfSome found (λ entry. HasDataBlock (V.seen view.now) entry.addr)) }
     ensures sound { (h : Holding) → IsShown (V.seen view.now) dir h → is_hashed_in h ≡ true → IsSound h → IfIs result (λ found. found ≡ option_map entry_of (record_named (records_of h) name.now)) }
     ensures needed { (h : Holding) → IsShown (V.seen view.now) dir h → is_hashed_in h ≡ true → IfNeedBlock result (IsNeededFor (V.seen view.now) h name.now) }
     ensures absent { IfNeedBlock result (λ missing. (V.seen view.now).block_at missing.block ≡ None) }
@@ -51,6 +53,7 @@ pub fn look<V: View>(view: &V, dir: u64, name: &[u8]) -> Result<Step<Option<Entr
     requires directory { IsDirectoryIn (V.seen view.now) dir }
     ensures found { (h : Holding) → IsShown (V.seen view.now) dir h → IfIs result (Says h name.now) }
     ensures sound { (h : Holding) → IsShown (V.seen view.now) dir h → IsSound h → IfIs result (λ found. found ≡ option_map entry_of (record_named (records_of h) name.now)) }
+    ensures inside { (h : Holding) → IsShown (V.seen view.now) dir h → is_hashed_in h ≡ true → has_dots name.now ≡ false → IfIs result (λ found. IfSome found (λ entry. HasDataBlock (V.seen view.now) entry.addr)) }
     ensures there { IfIs result (λ found. HasBlock (V.seen view.now) dir) }
     ensures needed { (h : Holding) → IsShown (V.seen view.now) dir h → IfNeedBlock result (IsNeededFor (V.seen view.now) h name.now) }
     ensures absent { IfNeedBlock result (λ missing. (V.seen view.now).block_at missing.block ≡ None) }

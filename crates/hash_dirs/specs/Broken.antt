@@ -38,7 +38,9 @@ pub data IsBroken (h : Holding) : ℕ → ℕ → Type 0 where
   -- 15: a chain of leaves returns to itself
   comes_again : (i place later x : ℕ) → IsInChain h i place x → IsInChain h i later x → place < later → IsBroken h 15 x
 
--- The block breaks this rule, as the view shows the directory; or (2) it has the number of a leaf that is no data block of a group.
+-- The block breaks this rule, as the view shows the directory; or (2) it has the number of a leaf that is no data block of a group, or it is a leaf
+-- in which a name leads to a block that is none.
 pub data IsWrongIn (v : Seen) (h : Holding) : ℕ → ℕ → Type 0 where
   breaks : (rule b : ℕ) → IsBroken h rule b → IsWrongIn v h rule b
   outside : (i from x : ℕ) → LeadsToLeaf h i from x → ¬ (HasDataBlock v x) → IsWrongIn v h 2 from
+  stray : (i from x : ℕ) (r : Record) → LeadsToLeaf h i from x → x ≢ 0 → Contains (records_in (leaf_area h x)) r → is_dots r.name ≡ false → ¬ (HasDataBlock v r.address) → IsWrongIn v h 2 x

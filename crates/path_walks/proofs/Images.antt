@@ -209,12 +209,14 @@ module _ (v : Seen) (im : Image) (o : Owners) (l : Layout) (t : Tree) (of : IsOf
   no_child_of_file path a name at file =
       ap (λ (n : Node). n.child name) (cond-true _ (node_of (holding im o a)) no_node (is_inode path a at)) ∙ cond-false _ _ None file
 
-  -- a child stands in a data block of a group
-  pub child_in_group : (a b : ℕ) (name : List ℕ) → (flat_of im o a).child name ≡ Some b → HasDataBlock v b
-  child_in_group a b name leads =
-      let row = (child_rows im o l of.stands.laid a b name leads).2 in
+  -- what a name leads to stands in a data block of a group
+  named_in_group : (b a : ℕ) (name : List ℕ) → o b ≡ Named a name → HasDataBlock v b
+  named_in_group b a name row =
       let placed = of.stands.laid.zoned.placed b (used_name (o b) a name row) in
       (group_of_entry placed.0, subst (λ gs. Contains gs (group_of_entry placed.0)) of.groups (has_group l.groups placed.1.0 placed.0 placed.1.1), record { low = placed.2.low; high = placed.2.high })
+
+  pub child_in_group : (a b : ℕ) (name : List ℕ) → (flat_of im o a).child name ≡ Some b → HasDataBlock v b
+  child_in_group a b name leads = named_in_group b a name (child_rows im o l of.stands.laid a b name leads).2
 
   -- the lock of an inode on a path
   pub lock_of_inode : (path : Path) (a : ℕ) → IsAt im o l path a → cover l a (o a) ≡ Some (record { kind = 2; number = a })
@@ -282,7 +284,7 @@ module _ (v : Seen) (im : Image) (o : Owners) (l : Layout) (t : Tree) (of : IsOf
   pub unbroken_directory : (path : Path) (a rule b : ℕ) → IsAt im o l path a → is_directory_in (holding im o a) ≡ true → dirs.IsBroken v (holding im o a) rule b → ⊥
   unbroken_directory path a rule b at dir broken =
       let is = of.stands.laid.directories a (is_inode path a at) dir in
-      sound.unbroken v (holding im o a) (sound_directory path a at dir) dir (own_inside a) (λ r has low. (is.down r has low).name) is.entries is.links rule b broken
+      sound.unbroken v (holding im o a) (sound_directory path a at dir) dir (own_inside a) (λ r has low. named_in_group r.address a r.name (is.down r has low).owner) (λ r has low. (is.down r has low).name) is.entries is.links rule b broken
 
   -- so nothing of an inode on a path is wrong
   pub nothing_wrong : (path : Path) (a rule b : ℕ) → IsAt im o l path a → IsWrongAt v a rule b → ⊥

@@ -322,7 +322,7 @@ module _ (v : Seen) (names : Path) (wants : List Want) (order : AreInOrder wants
     damages state wanted rule b (in_this r c is broken) =
         let n = came (take i names) p.inode before.leads (drop i names) (sym (take-append-drop i names)) in
         on_path n.0 p.inode r c n.1 n.2 (IsWrongAt.in_directory r c is broken)
-    damages state wanted rule b (past_groups c leads outside) = leads_out (take i names) (drop (suc i) names) p.inode c name front before.leads is_name leads outside
+    damages state wanted rule b (past_groups c leads linear outside) = leads_out (take i names) (drop (suc i) names) p.inode c name front before.leads is_name leads linear outside
     damages state wanted rule b (in_child c r x leads inside held broken) =
         on_path (suc i) c r x (next c leads inside) (held_at v wants (suc i) c state wanted held) (IsWrongAt.in_inode r x broken)
 
@@ -332,7 +332,7 @@ module _ (v : Seen) (names : Path) (wants : List Want) (order : AreInOrder wants
         let r' = before.images im o l t of in
         let dir = is (holding im o p.inode) (shown_at im o l t of) in
         unbroken_directory v im o l t of (take i names) p.inode r c r'.at dir (broken (holding im o p.inode) (shown_directory v im o l t of (take i names) p.inode r'.at dir))
-    no_damage im o l t of state rule b (past_groups c leads outside) =
+    no_damage im o l t of state rule b (past_groups c leads linear outside) =
         let r = before.images im o l t of in
         let dir = leads.directory (holding im o p.inode) (shown_at im o l t of) in
         outside (child_in_group v im o l t of p.inode c name

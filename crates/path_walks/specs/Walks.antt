@@ -6,7 +6,7 @@ use Rattle.file_tree.specs.Apply.{Refused}
 use Rattle.file_tree.specs.Apply as tree
 use Rattle.file_tree.specs.declared.reply.Reply.TheVariants.{NotFound, NotDir}
 use Rattle.gfs2_layout.specs.Holding.{Holding}
-use Rattle.gfs2_layout.specs.Inode.{dinode_in, is_directory_in}
+use Rattle.gfs2_layout.specs.Inode.{dinode_in, is_directory_in, is_hashed_in}
 use Rattle.glock_names.specs.Views.{Seen, HasBlock}
 use Rattle.glock_names.specs.declared.LockName.{LockName}
 use Rattle.glock_names.specs.declared.State.{State}
@@ -42,6 +42,10 @@ IsLastOf path name = (front : Path) × (path ≡ front ++ name ∷ [])
 -- the view shows the inode in this block as a directory
 abbrev pub IsDirectoryAt : Seen → ℕ → Type 0
 IsDirectoryAt v a = (h : Holding) → IsShown v a h → is_directory_in h ≡ true
+
+-- and as one that isn't hashed
+abbrev pub IsLinearAt : Seen → ℕ → Type 0
+IsLinearAt v a = (h : Holding) → dirs.IsShown v a h → is_hashed_in h ≡ false
 
 -- the view has this directory, in which the name leads to block b
 pub record Names (v : Seen) (dir : ℕ) (name : List ℕ) (b : ℕ) : Type 0 where
@@ -147,11 +151,11 @@ pub data IsWrongAt (v : Seen) (a : ℕ) : ℕ → ℕ → Type 0 where
   too_few : (own up : Entry) → IsDirectoryAt v a → ((h : Holding) → dirs.IsShown v a h → Says h (codes ".") (Some own) × Says h (codes "..") (Some up))
       → ((h : Holding) → IsShown v a h → (dinode_in h).entries < 2) → IsWrongAt v a 12 a
 
--- As far as the view shows, the block breaks this rule: in an inode on the path; or (2) a name on the path leads to a block that is none of
--- the groups' data blocks.
+-- As far as the view shows, the block breaks this rule: in an inode on the path; or (2) it is a linear directory in which a name on the path leads
+-- to a block that is none of the groups' data blocks.
 pub data IsDamage (v : Seen) (wants : List Want) (path : Path) : ℕ → ℕ → Type 0 where
   on_path : (depth a rule b : ℕ) → IsNext v wants path depth a → IsHeldAt v wants depth a → IsWrongAt v a rule b → IsDamage v wants path rule b
-  leads_out : (front back : Path) (dir b : ℕ) (name : List ℕ) → path ≡ front ++ name ∷ back → LeadsTo v wants front dir → IsName name → Names v dir name b → ¬ (HasDataBlock v b)
+  leads_out : (front back : Path) (dir b : ℕ) (name : List ℕ) → path ≡ front ++ name ∷ back → LeadsTo v wants front dir → IsName name → Names v dir name b → IsLinearAt v dir → ¬ (HasDataBlock v b)
       → IsDamage v wants path 2 dir
 
 -- ---- a step of the walk
@@ -199,6 +203,6 @@ IsStepped v a name state w = GoesOn v a name state w
 -- by the next name of this directory the walk comes to damage: there, or in the inode to which it leads
 pub data IsDamageAhead (v : Seen) (dir : ℕ) (name : List ℕ) (state : State) : ℕ → ℕ → Type 0 where
   in_this : (rule b : ℕ) → IsDirectoryAt v dir → ((h : Holding) → dirs.IsShown v dir h → dirs.IsBroken v h rule b) → IsDamageAhead v dir name state rule b
-  past_groups : (b : ℕ) → Names v dir name b → ¬ (HasDataBlock v b) → IsDamageAhead v dir name state 2 dir
+  past_groups : (b : ℕ) → Names v dir name b → IsLinearAt v dir → ¬ (HasDataBlock v b) → IsDamageAhead v dir name state 2 dir
   in_child : (b rule c : ℕ) → Names v dir name b → HasDataBlock v b → holds v (hold_of b state) ≡ true → ((h : Holding) → IsShown v b h → inode.IsBroken h rule c)
       → IsDamageAhead v dir name state rule c

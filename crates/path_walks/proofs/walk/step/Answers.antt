@@ -1,5 +1,11 @@
-use Rattle.std.proofs.Common.{inl, inr, Some, refl, sym, ap, ◌∙◌, subst}
-use Rattle.std.specs.Prelude.{not}
+use Rattle.std.proofs.Common.{◌≡◌, inl, inr, true, false, Some, refl, sym, ap, ◌∙◌, subst}
+use Rattle.std.proofs.lemmas.Bool.{cases_Bool}
+use Rattle.std.specs.Prelude.{not, IfSome}
+use Rattle.file_tree.specs.Names.{is_dots}
+use Rattle.gfs2_layout.specs.Holding.{Holding}
+use Rattle.gfs2_layout.specs.Inode.{is_hashed_in}
+use Rattle.glock_names.specs.declared.steps.Entry.{Entry}
+use Rattle.resource_groups.specs.Putting.{HasDataBlock}
 use Rattle.glock_names.proofs.StepLaws.{answer_at, needed_at}
 use Rattle.dinode_tree.specs.Broken as inode
 use Rattle.directories.specs.Shown.{HasName, Says}
@@ -43,7 +49,18 @@ returns-then-is_none-clause-ahead g c =
         address = refl;
       };
     })
-    (none_so _ c.group_of.result (c.is_none.ensures ∙ ap not c.if-is_none.true) c.group_of.ensures.none)
+    (λ h shown. elim (cases_Bool (is_hashed_in h)) [
+      | inl hashed ↦ absurd (away (here h shown hashed))
+      | inr plain ↦ plain
+    ])
+    away
+  where
+    away : ¬ (HasDataBlock (g.V.View.seen c.args.view.now) c.in-Is-Some.entry.addr)
+    away = none_so _ c.group_of.result (c.is_none.ensures ∙ ap not c.if-is_none.true) c.group_of.ensures.none
+
+    here : (h : Holding) → dirs.IsShown (g.V.View.seen c.args.view.now) c.args.place.now.inode h → is_hashed_in h ≡ true → HasDataBlock (g.V.View.seen c.args.view.now) c.in-Is-Some.entry.addr
+    here h shown hashed = subst (λ found. IfSome found (λ (e : Entry). HasDataBlock (g.V.View.seen c.args.view.now) e.addr)) c.in-Is-Some.field-0-is
+        (answer_at _ _ (λ found. IfSome found (λ (e : Entry). HasDataBlock (g.V.View.seen c.args.view.now) e.addr)) c.in-Is-Some.is (c.in_ok-entry.ensures.inside h shown hashed (subst (λ n. is_dots n ≡ false) (sym c.bytes-bytes.ensures.bytes) c.requires.named.not_dots)))
 
 pub returns-clause-ahead : goal.returns-clause-ahead
 returns-clause-ahead g c =
