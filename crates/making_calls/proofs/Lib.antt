@@ -3,6 +3,7 @@ pub mod Chain
 pub mod NewInodes
 pub mod InImage
 pub mod Alike
+pub mod Linear
 pub mod Faults
 pub mod Recording
 pub mod FirstSlot

@@ -24,10 +24,12 @@ use Rattle.glock_names.specs.declared.steps.Missing.{Missing}
 use Rattle.glock_names.specs.declared.views.Group.{Group}
 use Rattle.call_locks.specs.Wants.{wanted}
 use Rattle.call_locks.specs.WantLaws.{path_of}
+use Rattle.call_locks.specs.declared.want.Want.{Want}
 use Rattle.dinode_tree.specs.Shown.{IsShown}
 use Rattle.dinode_tree.specs.Reading.{inode_lock}
 use Rattle.resource_groups.specs.Putting.{HasDataBlock}
 use Rattle.resource_groups.specs.Shown.{IsDataOf, IsMissing, group_lock, said}
+use Rattle.image_model.specs.Flat.{Path}
 use Rattle.image_model.specs.Groups.{IsListed}
 use Rattle.image_model.specs.Groups as owned
 use Rattle.image_model.specs.Image.{Image}
@@ -42,10 +44,9 @@ use Rattle.draft_changes.proofs.Added.{adding_makes}
 use Rattle.draft_changes.proofs.Views.{groups_are_listed}
 use Rattle.path_walks.specs.Holds as locks
 use Rattle.path_walks.specs.Holds.{Hold, AreHeld, IsAskedFor, IsFirstLack, hold_for, hold_of, holds, hold_of_group}
-use Rattle.path_walks.specs.Walks.{LeadsTo, IsSeenAt, IsLastOf}
-use Rattle.path_walks.specs.Walks as path
+use Rattle.path_walks.specs.Walks.{LeadsTo, IsLastOf, IsUnread}
 use Rattle.path_walks.specs.declared.walk.Place.{Place}
-use Rattle.path_walks.proofs.Images.{is_inode, is_shown, unbroken_directory}
+use Rattle.path_walks.proofs.Images.{is_inode, is_shown}
 use Rattle.path_walks.proofs.Leads.{no_end}
 use Rattle.path_walks.proofs.Lists.{parent_of_next}
 use Rattle.file_tree.proofs.WalkLaws.{last_front}
@@ -66,6 +67,7 @@ use Rattle.making_calls.specs.declared.blocks.Room.{Room}
 use Rattle.making_calls.specs.declared.blocks.NewRoom.{NewRoom}
 use Rattle.making_calls.specs.declared.blocks.NewRoom.TheVariants as taken
 use Rattle.making_calls.proofs.Chain.{apart}
+use Rattle.making_calls.proofs.Linear.{linear_unbroken, wrong_linear}
 use Rattle.making_calls.proofs.Rooms.{IsHeldRoom, dinode_inside, new_are, own_of}
 use Rattle.making_calls.proofs.Trees.{changes, takes, taken_list}
 use Rattle.making_calls.proofs.Under.{change_at, directory_listed, each_lock}
@@ -74,8 +76,12 @@ use Rattle.path_walks.proofs.Wants.{exclusive}
 use Rattle.path_walks.proofs.Longer.{asked_behind, lack_behind}
 
 -- a block that is needed isn't there
+unread_absent : (v : Seen) (wants : List Want) (whole : Path) (m : Missing) → IsUnread v wants whole m → v.block_at m.block ≡ None
+unread_absent v wants whole m (IsUnread.a_dinode depth next held absent is) = absent
+unread_absent v wants whole m (IsUnread.in_directory front back dir name on leads there directory needed absent) = absent
+
 pub needed_absent : (v : Seen) (c : Call) (m : Missing) → IsNeededFor v c m → v.block_at m.block ≡ None
-needed_absent v c m (damage.on_path unread) = unread.absent
+needed_absent v c m (damage.on_path unread) = unread_absent v (wanted c) (directory_path c) m unread
 needed_absent v c m (damage.of_group gets needed) = needed.missing.absent
 
 later_held : (v : Seen) (x : Hold) (xs : List Hold) → AreHeld v (x ∷ xs) → AreHeld v xs
@@ -107,7 +113,7 @@ module _ (v : Seen) (c : Call) (is : IsMaking c) (p : Place) (name : List ℕ) (
     -- nothing is damaged
     pub directory_sound : (g : Group) → HasGroup v g → holds v (hold_of_group g) ≡ true → (rule b : ℕ) → IsWrongIn v p.inode g rule b → ⊥
     directory_sound g has held rule b (drafting.in_directory r d broken) =
-        unbroken_directory v im o l t of (directory_path c) p.inode r d reached.place.at here.linear.directory here.linear.linear
+        linear_unbroken v im o l t of (directory_path c) p.inode reached.place.at here.linear r d
         (broken (holding im o p.inode) (is_shown v im o l t of (directory_path c) p.inode reached.place.at))
     directory_sound g has held rule b (drafting.in_group r d broken) = group_sound v im o l t of r d (record { group = g; has = has; held = held; broken = broken })
 
@@ -271,7 +277,7 @@ module _ (v : Seen) (c : Call) (is : IsMaking c) (p : Place) (name : List ℕ) (
   module _ (leads : LeadsTo v (wanted c) (directory_path c) p.inode) where
     pub wrong_damage : IsToGetName v c true → (g : Group) → HasGroup v g → holds v (hold_of_group g) ≡ true → (rule b : ℕ) → IsWrongIn v p.inode g rule b → IsDamage v c rule b
     wrong_damage gets g has held rule b (drafting.in_directory r d broken) =
-        damage.in_directory p.inode r d leads (λ h shown. path.in_directory r d (lacks h shown).linear (broken h shown))
+        damage.in_directory p.inode r d leads (wrong_linear v p.inode (λ h shown. (lacks h shown).linear) r d broken)
     wrong_damage gets g has held rule b (drafting.in_group r d broken) = damage.in_group r d gets (record { group = g; has = has; held = held; broken = broken })
 
     -- the group's bits call the directory's own block free

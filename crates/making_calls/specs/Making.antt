@@ -37,7 +37,7 @@ use Rattle.image_changes.specs.Instances.{IsAt, dinode_at}
 use Rattle.path_walks.specs.Answers.{Refuses}
 use Rattle.path_walks.specs.Holds.{Hold, AreHeld, IsAskedFor, IsFirstLack, holds, holds_in, hold_of_group}
 use Rattle.path_walks.specs.declared.walk.Place.{Place}
-use Rattle.path_walks.specs.Walks.{LeadsTo, Names, IsAbsent, IsLacked, IsLinearDirectory, IsOnTheWay, IsPlaceOf, IsSeenAt, IsUnread, IsWrong}
+use Rattle.path_walks.specs.Walks.{LeadsTo, Names, IsAbsent, IsLacked, IsOnTheWay, IsPlaceOf, IsSeenAt, IsUnread, IsWrongAt}
 use Rattle.path_walks.specs.Walks as path
 use Rattle.room_search.specs.Blocks.{states_by, free_for, free_in_all, group_of_node}
 use Rattle.room_search.specs.Searches.{AreShown, IsGroupBroken, IsGroupNeeded}
@@ -106,7 +106,12 @@ pub record IsTooFew (v : Seen) (im : Image) (o : Owners) (l : Layout) (t : Tree)
 
 -- ---- as far as the view shows
 
--- a linear directory that hasn't the name
+-- an inode that is a directory, and not a hashed one
+pub record IsLinearDirectory (h : Holding) : Type 0 where
+  pub directory : is_directory_in h ≡ true
+  pub linear : is_hashed_in h ≡ false
+
+-- such a directory that hasn't the name
 pub record LacksName (h : Holding) (name : List ℕ) : Type 0 where
   pub linear : IsLinearDirectory h
   pub absent : child_named (records_of h) name ≡ None
@@ -121,7 +126,7 @@ pub record IsToGetName (v : Seen) (call : Call) (room : Bool) : Type 0 where
   pub room_is : (h : Holding) → IsShown v directory h → has_room_for h (name_in call) ≡ room
 
 -- The call is refused so: its path has no name; a name on the directory's path isn't there, or is asked of a file; or the inode at that path's
--- end is a file, or a linear directory that has the name already.
+-- end is a file, or a directory that has the name already.
 pub data IsRefused (v : Seen) (call : Call) : Reply → Type 0 where
   of_root : path_of call false ≡ [] → IsRefused v call reply.Exists
   not_found : IsAbsent v (wanted call) (directory_path call) → IsRefused v call reply.NotFound
@@ -166,17 +171,16 @@ pub record IsFullFor (v : Seen) (call : Call) (need free : ℕ) : Type 0 where
   pub free_are : (at : ℕ → List ℕ) → AreShown v at → free ≡ length (free_in_all (said at) v.groups)
   pub fewer : free < need
 
--- a hashed directory without which the call isn't answered: one on the way to the path's last name
+-- the path has a last name, and what is before it leads to this hashed directory, in which no name is made yet
 pub data IsHashedFor (v : Seen) (call : Call) (b : ℕ) : Type 0 where
-  on_path : IsOnTheWay v (wanted call) (directory_path call) b (λ h. is_hashed_in h ≡ true) → IsHashedFor v call b
   at_end : path_of call false ≢ [] → LeadsTo v (wanted call) (directory_path call) b → HasBlock v b → ((h : Holding) → IsShown v b h → is_hashed_in h ≡ true) → IsHashedFor v call b
 
 -- the call isn't built yet: the directory that is to get the name has no room for it, and would be hashed
 abbrev pub IsUnbuilt : Seen → Call → Type 0
 IsUnbuilt v call = IsToGetName v call false
 
--- A block without which the call isn't answered: the dinode of the next inode on the directory's path; or, where the directory is to get the name
--- and has room for it, one of the header and bitmap of a group whose lock is held.
+-- A block without which the call isn't answered: one on the directory's path; or, where the directory is to get the name and has room for it, one of
+-- the header and bitmap of a group whose lock is held.
 pub data IsNeededFor (v : Seen) (call : Call) (m : Missing) : Type 0 where
   on_path : IsUnread v (wanted call) (directory_path call) m → IsNeededFor v call m
   of_group : IsToGetName v call true → IsGroupNeeded v m → IsNeededFor v call m
@@ -194,7 +198,7 @@ pub record IsCalledFree (v : Seen) (b : ℕ) : Type 0 where
 -- call its own block free
 pub data IsDamage (v : Seen) (call : Call) : ℕ → ℕ → Type 0 where
   on_path : (rule b : ℕ) → path.IsDamage v (wanted call) (directory_path call) rule b → IsDamage v call rule b
-  in_directory : (a rule b : ℕ) → LeadsTo v (wanted call) (directory_path call) a → ((h : Holding) → IsShown v a h → IsWrong h rule b) → IsDamage v call rule b
+  in_directory : (a rule b : ℕ) → LeadsTo v (wanted call) (directory_path call) a → IsWrongAt v a rule b → IsDamage v call rule b
   in_group : (rule b : ℕ) → IsToGetName v call true → IsGroupBroken v rule b → IsDamage v call rule b
   no_data_block : (a : ℕ) → LeadsTo v (wanted call) (directory_path call) a → ¬ (HasDataBlock v a) → IsDamage v call 2 a
   called_free : (a : ℕ) → IsToGetName v call true → LeadsTo v (wanted call) (directory_path call) a → IsCalledFree v a → IsDamage v call 5 a

@@ -12,7 +12,7 @@ pub(crate) enum Found {
     Made(Change),
     /// This block isn't in the view.
     NeedBlock(Missing),
-    /// This directory is hashed.
+    /// The directory at the end of the path is hashed.
     Hashed(u64),
     /// The directory would be hashed with the name.
     NotBuilt,

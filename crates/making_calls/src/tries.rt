@@ -188,7 +188,6 @@ fn find<V: View>(alloc: Global, view: &V, call: &Call, stamp: &Stamp) -> Result<
         Walk::At(place) => find_at(alloc, view, call, &place, last, stamp),
         Walk::NotFound => Ok(Found::Refused(Reply::NotFound)),
         Walk::NotDir => Ok(Found::Refused(Reply::NotDir)),
-        Walk::Hashed(block) => Ok(Found::Hashed(block)),
         Walk::NeedLock { lock, state } => Ok(Found::NeedLock { lock, state }),
         Walk::NeedBlock(missing) => Ok(Found::NeedBlock(missing)),
     }

@@ -35,7 +35,7 @@ use Rattle.image_changes.proofs.DirectoryNames.{directories_list}
 use Rattle.path_walks.specs.Answers.{HasSpace, IfDone}
 use Rattle.path_walks.specs.Holds.{Hold, AreHeld, IsAskedFor, IsFirstLack, holds_in}
 use Rattle.path_walks.specs.Walks as path
-use Rattle.path_walks.specs.Walks.{IsSeenAt, IsWalked, in_inode}
+use Rattle.path_walks.specs.Walks.{IsSeenAt, IsWalked, IsWrongAt}
 use Rattle.path_walks.specs.declared.walk.Place.{Place}
 use Rattle.path_walks.specs.declared.walk.Walk.TheVariants.{At}
 use Rattle.path_walks.proofs.Images.{is_shown, unbroken}
@@ -149,7 +149,7 @@ module _ (v : Seen) (c : Call) (p : Place) (edit : IsEdit c) (seen : IsSeenAt v 
   refused_told reply.NoSpace is = absurd is
 
   pub broken_told : (end : ℕ) → IsAimOf v.size p.dinode end aim.Broken → IsDamage v c 8 p.inode
-  broken_told end is = IsDamage.on_path 8 p.inode (wrong_damage v (wanted c) (path_of c false) p.inode seen.leads 8 p.inode (λ h shown. in_inode 8 p.inode (broken_so v p.inode p.dinode h shown (seen.dinode h shown) is.0 is.1)))
+  broken_told end is = IsDamage.on_path 8 p.inode (wrong_damage v (wanted c) (path_of c false) p.inode seen.leads 8 p.inode (IsWrongAt.in_inode 8 p.inode (λ h shown. broken_so v p.inode p.dinode h shown (seen.dinode h shown) is.0 is.1)))
 
   -- a write goes into blocks where it must, and a file that gets longer may
   pub goes_by_write : (at : ℕ) (new : List ℕ) → Writes c at new → NeedsBlocks v.size p.dinode (at + length new) → GoesIntoBlocks v c p.inode

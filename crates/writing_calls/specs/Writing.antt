@@ -10,7 +10,7 @@ use Rattle.file_tree.specs.declared.call.Call.TheVariants.{Write, Truncate, Sync
 use Rattle.file_tree.specs.declared.reply.Reply.{Reply}
 use Rattle.file_tree.specs.declared.reply.Reply.TheVariants as reply
 use Rattle.gfs2_layout.specs.Holding.{Holding}
-use Rattle.gfs2_layout.specs.Inode.{dinode_in, is_directory_in, is_hashed_in}
+use Rattle.gfs2_layout.specs.Inode.{dinode_in, is_directory_in}
 use Rattle.glock_names.specs.Views.{Seen, HasBlock, group_of_entry}
 use Rattle.glock_names.specs.declared.LockName.{LockName}
 use Rattle.glock_names.specs.declared.State.{State}
@@ -41,7 +41,7 @@ use Rattle.file_changes.specs.Making.{goes_at}
 use Rattle.path_walks.specs.Answers.{Refuses}
 use Rattle.path_walks.specs.Holds.{Hold, AreHeld, IsAskedFor, IsFirstLack, IsUnder, hold_of_group, holds, holds_in}
 use Rattle.path_walks.specs.Walks as path
-use Rattle.path_walks.specs.Walks.{LeadsTo, IsAbsent, IsHashedOn, IsLacked, IsOnTheWay, IsUnread}
+use Rattle.path_walks.specs.Walks.{LeadsTo, IsAbsent, IsLacked, IsOnTheWay, IsUnread}
 use Rattle.room_search.specs.Blocks.{free_for, free_in_all, group_holds, group_of_node, room_holds, states_by}
 use Rattle.room_search.specs.Searches.{AreShown, IsGroupBroken, IsGroupNeeded}
 use Rattle.group_locks.specs.Groups.{GroupsAreHeld, IsFirstGroupLack, holds_of_groups}
@@ -150,10 +150,6 @@ pub record IsToChange (v : Seen) (call : Call) (a : ℕ) : Type 0 where
   pub at : IsAtEnd v call a (IsOpenTo (end_of call))
   pub inside : HasDataBlock v a
 
--- a hashed directory without which the call isn't answered: one on the path
-abbrev pub IsHashedFor : Seen → Call → ℕ → Type 0
-IsHashedFor v call b = IsOnTheWay v (wanted call) (path_of call false) b (λ h. is_hashed_in h ≡ true)
-
 -- The call isn't built for what stands there: a file is at its path's end that isn't sound in itself, in a way that no rule tells of
 -- what was read. In an image that stands for a tree no file is such a one.
 abbrev pub IsUnbuilt : Seen → Call → Type 0
@@ -221,7 +217,7 @@ pub data IsLackedFor (v : Seen) (call : Call) (node : ℕ) (lock : LockName) (st
   of_freed : (a size time : ℕ) (freed : List ℕ) (fates : FinMap nat_cmp Fate) → IsToChange v call a → CutsThere v call a size → IsCutDraft v a size time freed fates
       → IsFirstGroupLack v freed lock → state ≡ Ex → IsLackedFor v call node lock state
 
--- A block for which the call asks: the dinode of the next inode on the path; one of the file, which the call may read; one with the bits of the blocks that are
+-- A block for which the call asks: one on the path; one of the file, which the call may read; one with the bits of the blocks that are
 -- taken or that go; or, where free blocks are looked for, one of a group whose lock is held.
 pub data IsNeededFor (v : Seen) (call : Call) (m : Missing) : Type 0 where
   on_path : IsUnread v (wanted call) (path_of call false) m → IsNeededFor v call m
@@ -271,7 +267,6 @@ abbrev pub IsToldOf : Seen → Call → ℕ → ℕ → Found → Type 0
 IsToldOf v call node time (found.Refused r) = IsRefused v call r
 IsToldOf v call node time (found.Written change) = (a : ℕ) × IsToChange v call a × IsChangeOf v call node a time change
 IsToldOf v call node time (found.NeedBlock m) = IsNeededFor v call m
-IsToldOf v call node time (found.Hashed b) = IsHashedFor v call b
 IsToldOf v call node time found.NotBuilt = (a : ℕ) × IsToChange v call a
 IsToldOf v call node time (found.NeedLock lock state) = IsLackedFor v call node lock state
 IsToldOf v call node time (found.NoSpace need free) = IsFullFor v call need free
@@ -279,12 +274,11 @@ IsToldOf v call node time (found.NoSpace need free) = IsFullFor v call need free
 -- ---- in an image that the view may be of
 
 -- The reply is the tree's, and each lock of the list is held; or what stands in the way: the first lock of it that isn't held, a block
--- that the view hasn't, a hashed directory on the path, or that too few blocks are free.
+-- that the view hasn't, or that too few blocks are free.
 abbrev pub IsFoundBy : Seen → Image → Owners → Layout → Tree → Call → List Hold → Found → Type 0
 IsFoundBy v im o l t call list (found.Refused r) = ((apply call t).reply ≡ r) × AreHeld v list
 IsFoundBy v im o l t call list (found.Written change) = ((apply call t).reply ≡ reply.Ok) × AreHeld v list × IsUnder o list change
 IsFoundBy v im o l t call list (found.NeedBlock m) = IsAskedFor v im o l list m
-IsFoundBy v im o l t call list (found.Hashed b) = IsHashedOn v im o l (path_of call false) (wanted call) b
 IsFoundBy v im o l t call list found.NotBuilt = ⊥
 IsFoundBy v im o l t call list (found.NeedLock lock state) = IsFirstLack v list lock state
 IsFoundBy v im o l t call list (found.NoSpace need free) = IsTooFew v im o l t call need free

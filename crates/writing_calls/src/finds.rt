@@ -12,8 +12,6 @@ pub(crate) enum Found {
     Written(Change),
     /// This block isn't in the view.
     NeedBlock(Missing),
-    /// This directory is hashed.
-    Hashed(u64),
     /// The file isn't sound.
     NotBuilt,
     /// This lock isn't held so strongly.

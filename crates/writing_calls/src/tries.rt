@@ -11,11 +11,11 @@ ghost use Rattle.image_model.specs.Image.{Image};
 ghost use Rattle.image_model.specs.Owners.{Owners};
 ghost use Rattle.image_model.specs.Stands.{Layout};
 ghost use Rattle.image_changes.specs.Does.{AreInside, Does, IsOf};
-ghost use Rattle.path_walks.specs.Walks.{IsHashedOn, IsSeenAt, IsWalked};
+ghost use Rattle.path_walks.specs.Walks.{IsSeenAt, IsWalked};
 ghost use Rattle.path_walks.specs.declared.walk.Walk.TheVariants.{At};
 ghost use Rattle.path_walks.specs.Answers.{HasSpace, IfDone, IfHashed, IfNeedBlock, IfNeedLock, IfNoSpace, IfNotBuilt};
 ghost use Rattle.path_walks.specs.Holds.{AreHeld, IsAskedFor, IsFirstLack, IsUnder};
-ghost use Rattle.writing_calls.specs.Writing.{IfSync, IfWritten, IsAnswered, IsDamage, IsEdit, IsEditAnswered, IsFound, IsFullFor, IsHashedFor, IsLackedFor, IsNeededFor, IsRefusal, IsSynced, IsToldOf, IsTooFew, IsUnbuilt, IsWriting, call_holds};
+ghost use Rattle.writing_calls.specs.Writing.{IfSync, IfWritten, IsAnswered, IsDamage, IsEdit, IsEditAnswered, IsFound, IsFullFor, IsLackedFor, IsNeededFor, IsRefusal, IsSynced, IsToldOf, IsTooFew, IsUnbuilt, IsWriting, call_holds};
 
 use crate::aims::{Aim, aim_of, aim_of_cut};
 use crate::blocks::write_blocks;
@@ -178,7 +178,6 @@ fn find<V: View>(alloc: Global, view: &V, call: &Call, stamp: &Stamp) -> Result<
         Walk::At(place) => edit_at(alloc, view, call, &place, stamp),
         Walk::NotFound => Ok(Found::Refused(Reply::NotFound)),
         Walk::NotDir => Ok(Found::Refused(Reply::NotDir)),
-        Walk::Hashed(block) => Ok(Found::Hashed(block)),
         Walk::NeedLock { lock, state } => Ok(Found::NeedLock { lock, state }),
         Walk::NeedBlock(missing) => Ok(Found::NeedBlock(missing)),
     }
@@ -201,8 +200,7 @@ fn edit<V: View>(alloc: Global, view: &V, call: &Call, stamp: &Stamp) -> Result<
     ensures answered { IfDone result (IsEditAnswered (V.seen view.now) call.now stamp.now.node stamp.now.time) }
     ensures lacked { IfNeedLock result (IsLackedFor (V.seen view.now) call.now stamp.now.node) }
     ensures needed { IfNeedBlock result (IsNeededFor (V.seen view.now) call.now) }
-    ensures hashed { IfHashed result (IsHashedFor (V.seen view.now) call.now) }
-    ensures on_path { (im : Image) (o : Owners) (l : Layout) (t : Tree) → IsOf (V.seen view.now) im o l t → IfHashed result (IsHashedOn (V.seen view.now) im o l (path_of call.now false) (wanted call.now)) }
+    ensures hashed { IfHashed result (λ block. ⊥) }
     ensures unbuilt { IfNotBuilt result (IsUnbuilt (V.seen view.now) call.now) }
     ensures built { (im : Image) (o : Owners) (l : Layout) (t : Tree) → IsOf (V.seen view.now) im o l t → IfNotBuilt result ⊥ }
     ensures sound { (im : Image) (o : Owners) (l : Layout) (t : Tree) → IsOf (V.seen view.now) im o l t → IfDamaged result (λ rule block. ⊥) }
@@ -219,7 +217,6 @@ fn edit<V: View>(alloc: Global, view: &V, call: &Call, stamp: &Stamp) -> Result<
             change,
         },
         Found::NeedBlock(missing) => Attempt::NeedBlock(missing),
-        Found::Hashed(block) => Attempt::Hashed { block },
         Found::NotBuilt => Attempt::NotBuilt,
         Found::NeedLock { lock, state } => Attempt::NeedLock { lock, state },
         Found::NoSpace { need, free } => Attempt::NoSpace { need, free },
@@ -251,8 +248,7 @@ pub fn attempt<V: View>(
     ensures answered { IfDone result (IsAnswered (V.seen view.now) call.now stamp.now.node stamp.now.time) }
     ensures lacked { IfNeedLock result (IsLackedFor (V.seen view.now) call.now stamp.now.node) }
     ensures needed { IfNeedBlock result (IsNeededFor (V.seen view.now) call.now) }
-    ensures hashed { IfHashed result (IsHashedFor (V.seen view.now) call.now) }
-    ensures on_path { (im : Image) (o : Owners) (l : Layout) (t : Tree) → IsOf (V.seen view.now) im o l t → IfHashed result (IsHashedOn (V.seen view.now) im o l (path_of call.now false) (wanted call.now)) }
+    ensures hashed { IfHashed result (λ block. ⊥) }
     ensures unbuilt { IfNotBuilt result (IsUnbuilt (V.seen view.now) call.now) }
     ensures built { (im : Image) (o : Owners) (l : Layout) (t : Tree) → IsOf (V.seen view.now) im o l t → IfNotBuilt result ⊥ }
     ensures synced { IfSync call.now (IsSynced result) }

@@ -11,7 +11,7 @@ use Rattle.path_walks.specs.Holds.{AreHeld}
 use Rattle.path_walks.specs.Walks.{AreInOrder, IsTold, IsWalked}
 use Rattle.path_walks.specs.Walks as path
 use Rattle.path_walks.proofs.Lists.{parent_of_next}
-use Rattle.making_calls.specs.Making.{IsDamage, IsHashedFor, IsLackedFor, IsNeededFor, IsRefused, directory_path, inode_holds, path_holds}
+use Rattle.making_calls.specs.Making.{IsDamage, IsLackedFor, IsNeededFor, IsRefused, directory_path, inode_holds, path_holds}
 use Rattle.making_calls.proofs.Trees.{plain_list, refused}
 use Rattle.making_calls.proofs.Wanted.{as_many, in_order, wants_are}
 use Rattle.making_calls.proofs.tries.find.Goals as goal
@@ -84,16 +84,6 @@ returns-in-NotDir-clause-found g c im o l t of =
     let at = subst (IsWalked v im o l t (directory_path call) (wanted call)) c.in-NotDir.is walked in
     let answer : (apply call t).reply ≡ reply.NotDir = refused call t c.in-Some.last.now reply.NotDir c.requires.making (c.in-Some.front.now, whole) at.0 in
     (answer, subst (AreHeld v) (sym (plain_list im o l t call c.args.stamp.now.node (ap is_ok answer))) at.1)
-
-pub returns-in-Hashed-clause-told : goal.returns-in-Hashed-clause-told
-returns-in-Hashed-clause-told g c =
-    let v = g.V.View.seen c.args.view.now in
-    let call = c.args.call.now in
-    let whole : path_of call false ≡ c.in-Some.front.now ++ c.in-Some.last.now ∷ [] = sym (c.names.ensures.names ∙ c.path_of_making.ensures) ∙ c.in-Some.ensures.cases.0 in
-    let front : c.in-Some.front.now ≡ directory_path call = sym (ap parent_of whole ∙ parent_of_next c.in-Some.front.now c.in-Some.last.now) in
-    let told = subst₂ (λ names wants. IsTold v wants names c.in_ok-place.field-0) front (c.deref.ensures.value ∙ c.in_ok-wants.ensures) c.in_ok-place.ensures.told in
-    let at = subst (IsTold v (wanted call) (directory_path call)) c.in-Hashed.is told in
-    IsHashedFor.on_path at
 
 pub returns-in-NeedLock-clause-found : goal.returns-in-NeedLock-clause-found
 returns-in-NeedLock-clause-found g c im o l t of =

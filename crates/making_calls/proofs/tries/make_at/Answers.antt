@@ -8,8 +8,7 @@ use Rattle.dinode_tree.specs.Shown.{IsShown}
 use Rattle.resource_groups.specs.Shown.{said}
 use Rattle.linear_dirs.specs.Broken as directory
 use Rattle.image_model.specs.Owners.{holding}
-use Rattle.path_walks.specs.Walks as path
-use Rattle.path_walks.proofs.Images.{is_shown, unbroken_directory}
+use Rattle.path_walks.proofs.Images.{is_shown}
 use Rattle.path_walks.proofs.Leads.{leads_once}
 use Rattle.path_walks.proofs.Steps.{fault_all, none_so}
 use Rattle.path_walks.proofs.Steps.{inside_so as shown_inside}
@@ -25,6 +24,7 @@ use Rattle.making_calls.specs.Making as damage
 use Rattle.making_calls.specs.Searches.{IsTaken}
 use Rattle.making_calls.specs.declared.blocks.NewRoom.TheVariants as taken
 use Rattle.making_calls.proofs.Alike.{linear_in}
+use Rattle.making_calls.proofs.Linear.{linear_unbroken, wrong_linear}
 use Rattle.path_walks.specs.Holds.{IsFirstLack}
 use Rattle.making_calls.proofs.Rooms.{all_locks, block_way, few_way, own_of, room_held}
 use Rattle.making_calls.proofs.Taking.{addition_does, all_held, block_lacks, directory_apart, directory_sound, free_damage, group_lacks, inside_so, lock_lacks, made, own_name, placed, reply_ok, stamped, to_get, too_few, under, wrong_damage}
@@ -50,7 +50,7 @@ returns-in_err-fits-clause-sound g c im o l t of =
     let shown = is_shown v im o l t of (directory_path c.args.call.now) dir at in
     let is = (c.requires.lacks h shown).linear in
     told_on (λ rule b. ⊥) _ _ c.from_residual.ensures.1
-    (only_so (directory.IsBroken h) (λ rule b. ⊥) (λ rule b. unbroken_directory v im o l t of (directory_path c.args.call.now) dir rule b at is.directory is.linear) c.in_err-fits.field-0.0 (c.in_err-fits.ensures.damaged h shown))
+    (only_so (directory.IsBroken h) (λ rule b. ⊥) (linear_unbroken v im o l t of (directory_path c.args.call.now) dir at is) c.in_err-fits.field-0.0 (c.in_err-fits.ensures.damaged h shown))
 
 pub returns-in_err-fits-clause-damaged : goal.returns-in_err-fits-clause-damaged
 returns-in_err-fits-clause-damaged g c =
@@ -58,7 +58,7 @@ returns-in_err-fits-clause-damaged g c =
     let dir = c.args.place.now.inode in
     told_on (IsDamage v c.args.call.now) _ _ c.from_residual.ensures.1
     (only_so (λ rule b. (h : Holding) → IsShown v dir h → directory.IsBroken h rule b) (IsDamage v c.args.call.now)
-    (λ rule b broken. damage.in_directory dir rule b c.requires.seen.leads (λ h shown. path.in_directory rule b (c.requires.lacks h shown).linear (broken h shown)))
+    (λ rule b broken. damage.in_directory dir rule b c.requires.seen.leads (wrong_linear v dir (λ h shown. (c.requires.lacks h shown).linear) rule b broken))
     c.in_err-fits.field-0.0 (fault_all v dir directory.IsBroken c.in_err-fits.field-0.0 c.in_err-fits.ensures.damaged))
 
 pub returns-in_err-room-clause-sound : goal.returns-in_err-room-clause-sound
@@ -238,7 +238,7 @@ returns-in-Is-clause-told g c =
       gets = gets;
       place = c.args.place.now;
       at = c.requires.seen;
-      directory = leads_once v (wanted call) (directory_path call) (directory_path call) c.args.place.now.inode gets.directory c.requires.seen.leads gets.leads refl;
+      directory = leads_once v (wanted call) (directory_path call) (directory_path call) c.args.place.now.inode gets.directory c.is_a_view.ensures c.requires.seen.leads gets.leads refl;
       inside = shown_inside v c.args.place.now.inode c.group_of.result (c.is_none.ensures ∙ ap not c.if-is_none.false) c.group_of.ensures.group c.group_of.ensures.own;
       own = own.0;
       of_node = own.1;

@@ -6,7 +6,7 @@ use Rattle.path_walks.specs.Answers.{IfDone, HasSpace}
 use Rattle.path_walks.proofs.Refused.{no_change}
 use Rattle.writing_calls.specs.Writing.{IsEditAnswered, IsFound, IsRefusal, IsToldOf, IfWritten}
 use Rattle.writing_calls.proofs.Finding.{edit_refused}
-use Rattle.writing_calls.proofs.tries.edit.Goals.{in-Refused, in-Written, in-NeedBlock, in-Hashed, in-NotBuilt, in-NeedLock, in-NoSpace}
+use Rattle.writing_calls.proofs.tries.edit.Goals.{in-Refused, in-Written, in-NeedBlock, in-NotBuilt, in-NeedLock, in-NoSpace}
 use Rattle.writing_calls.proofs.tries.edit.Goals as goal
 
 pub returns-clause-done : goal.returns-clause-done
@@ -18,7 +18,6 @@ returns-clause-done g c =
       | in-Written w ↦ subst (λ a. IfDone (Ok a) (Does v c.args.call.now)) (sym w.result-is)
           (subst (IfWritten (Does v c.args.call.now reply.Ok)) w.in-Written.is c.in_ok-reply.ensures.done)
       | in-NeedBlock w ↦ subst (λ a. IfDone (Ok a) (Does v c.args.call.now)) (sym w.result-is) tt
-      | in-Hashed w ↦ subst (λ a. IfDone (Ok a) (Does v c.args.call.now)) (sym w.result-is) tt
       | in-NotBuilt w ↦ subst (λ a. IfDone (Ok a) (Does v c.args.call.now)) (sym w.result-is) tt
       | in-NeedLock w ↦ subst (λ a. IfDone (Ok a) (Does v c.args.call.now)) (sym w.result-is) tt
       | in-NoSpace w ↦ subst (λ a. IfDone (Ok a) (Does v c.args.call.now)) (sym w.result-is) tt
@@ -33,7 +32,6 @@ returns-clause-answered g c =
       | in-Written w ↦ subst (λ a. IfDone (Ok a) (IsEditAnswered v c.args.call.now c.args.stamp.now.node c.args.stamp.now.time)) (sym w.result-is)
           (subst (IsToldOf v c.args.call.now c.args.stamp.now.node c.args.stamp.now.time) w.in-Written.is c.in_ok-reply.ensures.told)
       | in-NeedBlock w ↦ subst (λ a. IfDone (Ok a) (IsEditAnswered v c.args.call.now c.args.stamp.now.node c.args.stamp.now.time)) (sym w.result-is) tt
-      | in-Hashed w ↦ subst (λ a. IfDone (Ok a) (IsEditAnswered v c.args.call.now c.args.stamp.now.node c.args.stamp.now.time)) (sym w.result-is) tt
       | in-NotBuilt w ↦ subst (λ a. IfDone (Ok a) (IsEditAnswered v c.args.call.now c.args.stamp.now.node c.args.stamp.now.time)) (sym w.result-is) tt
       | in-NeedLock w ↦ subst (λ a. IfDone (Ok a) (IsEditAnswered v c.args.call.now c.args.stamp.now.node c.args.stamp.now.time)) (sym w.result-is) tt
       | in-NoSpace w ↦ subst (λ a. IfDone (Ok a) (IsEditAnswered v c.args.call.now c.args.stamp.now.node c.args.stamp.now.time)) (sym w.result-is) tt
@@ -48,7 +46,6 @@ returns-clause-spaceless g c =
       | in-Written w ↦ subst (λ a. IfDone (Ok a) (λ reply change. HasSpace reply)) (sym w.result-is)
           (tt)
       | in-NeedBlock w ↦ subst (λ a. IfDone (Ok a) (λ reply change. HasSpace reply)) (sym w.result-is) tt
-      | in-Hashed w ↦ subst (λ a. IfDone (Ok a) (λ reply change. HasSpace reply)) (sym w.result-is) tt
       | in-NotBuilt w ↦ subst (λ a. IfDone (Ok a) (λ reply change. HasSpace reply)) (sym w.result-is) tt
       | in-NeedLock w ↦ subst (λ a. IfDone (Ok a) (λ reply change. HasSpace reply)) (sym w.result-is) tt
       | in-NoSpace w ↦ subst (λ a. IfDone (Ok a) (λ reply change. HasSpace reply)) (sym w.result-is) tt

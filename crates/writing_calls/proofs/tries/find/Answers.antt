@@ -49,16 +49,6 @@ returns-in-NotDir-clause-told g c =
     let file = (subst (IsTold v (wanted c.args.call.now) (path_of c.args.call.now false)) c.in-NotDir.is (subst₂ (λ names wants. IsTold v wants names c.in_ok-place.field-0) (c.names.ensures.names ∙ c.path_of_edit.ensures) (c.deref.ensures.value ∙ c.in_ok-wants.ensures) c.in_ok-place.ensures.told)) in
     not_dir file.0 file.1
 
-pub returns-in-Hashed-clause-told : goal.returns-in-Hashed-clause-told
-returns-in-Hashed-clause-told g c =
-    let v = g.V.View.seen c.args.view.now in
-    (subst (IsTold v (wanted c.args.call.now) (path_of c.args.call.now false)) c.in-Hashed.is (subst₂ (λ names wants. IsTold v wants names c.in_ok-place.field-0) (c.names.ensures.names ∙ c.path_of_edit.ensures) (c.deref.ensures.value ∙ c.in_ok-wants.ensures) c.in_ok-place.ensures.told))
-
-pub returns-in-Hashed-clause-found : goal.returns-in-Hashed-clause-found
-returns-in-Hashed-clause-found g c im o l t of =
-    let v = g.V.View.seen c.args.view.now in
-    (subst (IsWalked v im o l t (path_of c.args.call.now false) (wanted c.args.call.now)) c.in-Hashed.is (subst₂ (λ names wants. IsWalked v im o l t names wants c.in_ok-place.field-0) (c.names.ensures.names ∙ c.path_of_edit.ensures) (c.deref.ensures.value ∙ c.in_ok-wants.ensures) (c.in_ok-place.ensures.walked im o l t of)))
-
 pub returns-in-NeedLock-clause-found : goal.returns-in-NeedLock-clause-found
 returns-in-NeedLock-clause-found g c im o l t of =
     let v = g.V.View.seen c.args.view.now in
