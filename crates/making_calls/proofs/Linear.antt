@@ -24,7 +24,7 @@ use Rattle.image_changes.specs.Instances.{IsAt}
 use Rattle.path_walks.specs.Walks.{IsWrongAt}
 use Rattle.path_walks.proofs.Images.{unbroken_directory}
 use Rattle.path_walks.proofs.Steps.{directory_so}
-use Rattle.making_calls.specs.Making.{IsLinearDirectory}
+use Rattle.directories.specs.Shown.{IsLinearDirectory}
 
 -- the directory that was read
 pub linear_all : (v : Seen) (a : ℕ) (d : Dinode) → ((h : Holding) → IsShown v a h → d ≡ dinode_in h) → is_directory d ≡ true → has_hash_flag d ≡ false

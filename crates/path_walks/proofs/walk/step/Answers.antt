@@ -60,7 +60,7 @@ returns-then-is_none-clause-ahead g c =
 
     here : (h : Holding) → dirs.IsShown (g.V.View.seen c.args.view.now) c.args.place.now.inode h → is_hashed_in h ≡ true → HasDataBlock (g.V.View.seen c.args.view.now) c.in-Is-Some.entry.addr
     here h shown hashed = subst (λ found. IfSome found (λ (e : Entry). HasDataBlock (g.V.View.seen c.args.view.now) e.addr)) c.in-Is-Some.field-0-is
-        (answer_at _ _ (λ found. IfSome found (λ (e : Entry). HasDataBlock (g.V.View.seen c.args.view.now) e.addr)) c.in-Is-Some.is (c.in_ok-entry.ensures.inside h shown hashed (subst (λ n. is_dots n ≡ false) (sym c.bytes-bytes.ensures.bytes) c.requires.named.not_dots)))
+        (answer_at _ _ (λ found. IfSome found (λ (e : Entry). HasDataBlock (g.V.View.seen c.args.view.now) e.addr)) c.in-Is-Some.is (c.in_ok-entry.ensures.inside h shown hashed (subst (λ n. is_dots n ≡ false) (sym c.bytes-bytes.ensures.bytes) c.bytes-bytes.ensures.name.not_dots)))
 
 pub returns-clause-ahead : goal.returns-clause-ahead
 returns-clause-ahead g c =
