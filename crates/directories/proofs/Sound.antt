@@ -1,11 +1,11 @@
 -- What a sound directory says is what its records say, and nothing of it is broken.
-use Rattle.std.proofs.Common.{◌≡◌, ◌≢◌, ◌⊎◌, inl, inr, true≢false, ℕ, suc, ◌+◌, ◌<◌, ◌≤◌, true, false, List, [], ◌∷◌, length, Option, None, Some, refl, sym, ap, ◌∙◌, subst, arith}
+use Rattle.std.proofs.Common.{◌≡◌, ◌⊎◌, inl, inr, true≢false, ℕ, ◌+◌, ◌<◌, true, false, List, [], ◌∷◌, length, Option, Some, refl, sym, ap, ◌∙◌, subst, arith}
 use Rattle.std.specs.Prelude.{Contains, IsSome}
 use Rattle.std.specs.Option.{option_map}
 use Rattle.file_tree.specs.Names.{IsName}
 use Rattle.gfs2_layout.specs.Exchanges.{directory_count}
 use Rattle.gfs2_layout.specs.Holding.{Holding, InChain, part_at}
-use Rattle.gfs2_layout.specs.Inode.{IsLeaf, dinode_in, entry, first_hash, is_directory_in, is_hashed_in, leaf_area, leaf_in, leaves_of, records_of}
+use Rattle.gfs2_layout.specs.Inode.{IsLeaf, dinode_in, first_hash, is_directory_in, is_hashed_in, leaf_area, leaves_of, records_of}
 use Rattle.gfs2_layout.specs.Records.{Record, is_dots, record_named, records_in}
 use Rattle.image_model.proofs.Held.{none_some}
 use Rattle.image_model.proofs.Members.{IsIn, contained, in_flat_map, is_in}

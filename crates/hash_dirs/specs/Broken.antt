@@ -1,5 +1,5 @@
 -- What breaks which rule in a hashed directory.
-use Rattle.std.specs.Prelude.{ℕ, ◌≡◌, ◌≢◌, ◌+◌, ◌*◌, ◌/◌, ◌<◌, ◌≤◌, false, Contains, length}
+use Rattle.std.specs.Prelude.{ℕ, ◌≡◌, ◌≢◌, ◌+◌, ◌*◌, ◌/◌, ◌<◌, false, Contains, length}
 use Rattle.file_tree.specs.Names.{IsName}
 use Rattle.gfs2_layout.specs.Area.{IsArea}
 use Rattle.gfs2_layout.specs.Bytes.{u32_at}

@@ -46,6 +46,7 @@ use Rattle.path_walks.specs.Holds as locks
 use Rattle.path_walks.specs.Holds.{Hold, AreHeld, IsAskedFor, IsFirstLack, hold_for, hold_of, holds, hold_of_group}
 use Rattle.path_walks.specs.Walks.{LeadsTo, IsLastOf, IsUnread}
 use Rattle.path_walks.specs.declared.walk.Place.{Place}
+use Rattle.path_walks.proofs.Asked.{unread_absent}
 use Rattle.path_walks.proofs.Images.{is_inode, is_shown}
 use Rattle.path_walks.proofs.Leads.{no_end}
 use Rattle.path_walks.proofs.Lists.{parent_of_next}
@@ -76,10 +77,6 @@ use Rattle.path_walks.proofs.Wants.{exclusive}
 use Rattle.path_walks.proofs.Longer.{asked_behind, lack_behind}
 
 -- a block that is needed isn't there
-unread_absent : (v : Seen) (wants : List Want) (whole : Path) (m : Missing) → IsUnread v wants whole m → v.block_at m.block ≡ None
-unread_absent v wants whole m (IsUnread.a_dinode depth next held absent is) = absent
-unread_absent v wants whole m (IsUnread.in_directory front back dir name on leads there directory needed absent) = absent
-
 pub needed_absent : (v : Seen) (c : Call) (m : Missing) → IsNeededFor v c m → v.block_at m.block ≡ None
 needed_absent v c m (damage.on_path unread) = unread_absent v (wanted c) (directory_path c) m unread
 needed_absent v c m (damage.of_group gets needed) = needed.missing.absent

@@ -30,7 +30,6 @@ use Rattle.image_model.specs.Owners.{Owner, Owners, Super, InGroup, Free, Nobody
 use Rattle.image_model.specs.Stands.{Layout, flat_of}
 use Rattle.image_model.proofs.Held.{itself_own, none_some, some_same}
 use Rattle.path_walks.specs.Walks.{IsWrongAt}
-use Rattle.gfs2_layout.specs.Inode.{dinode_in}
 use Rattle.draft_changes.proofs.Rows.{cell_its, its_used}
 use Rattle.draft_changes.proofs.Views.{none_has_the_first}
 use Rattle.glock_names.specs.declared.steps.Entry.{Entry}

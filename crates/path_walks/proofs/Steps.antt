@@ -1,10 +1,9 @@
 -- A step of a walk, as far as the view tells.
-use Rattle.std.proofs.Common.{◌≡◌, ◌==◌, ◌&&◌, inl, inr, ℕ, Bool, true, false, List, Option, None, Some, Result, Ok, Err, true≢false, refl, sym, ap, subst, ◌∙◌}
+use Rattle.std.proofs.Common.{◌≡◌, ◌==◌, inl, inr, ℕ, true, false, List, Option, None, Some, Result, Ok, Err, true≢false, sym, ap, subst, ◌∙◌}
 use Rattle.std.proofs.lemmas.Bool.{eqb-true, cases_Bool}
-use Rattle.std.specs.Prelude.{option_map, is_some, IfSome, IfNone, IsErrAnd}
+use Rattle.std.specs.Prelude.{is_some, IfSome, IfNone, IsErrAnd}
 use Rattle.gfs2_layout.specs.Holding.{Holding}
-use Rattle.gfs2_layout.specs.Inode.{dinode_in, is_directory_in, is_hashed_in, has_hash_flag}
-use Rattle.gfs2_layout.specs.Records.{Record, child_named, record_named}
+use Rattle.gfs2_layout.specs.Inode.{dinode_in, is_directory_in}
 use Rattle.gfs2_layout.specs.Structures.{dinode_of, is_directory}
 use Rattle.gfs2_layout.specs.declared.dinode.Dinode.{Dinode}
 use Rattle.glock_names.specs.Steps.{OnlyDamaged, IsDamage}
@@ -14,7 +13,6 @@ use Rattle.resource_groups.specs.Shown.{IsDataOf}
 use Rattle.resource_groups.specs.Putting.{HasDataBlock}
 use Rattle.glock_names.specs.declared.steps.CallFault.{CallFault}
 use Rattle.glock_names.specs.declared.steps.CallFault.TheVariants.{Damaged, NoMemory}
-use Rattle.glock_names.specs.declared.steps.Entry.{Entry}
 use Rattle.dinode_tree.specs.Shown.{IsShown}
 use Rattle.dinode_tree.proofs.Sound.{some_is_shown}
 use Rattle.directories.specs.Shown.{IsDirectoryIn}

@@ -1,5 +1,5 @@
 -- Where a walk along a path ends: as far as a view shows, and in an image that the view may be of.
-use Rattle.std.specs.Prelude.{ℕ, ◌≡◌, ◌⊎◌, ◌+◌, ◌<◌, ◌++◌, true, false, List, [], ◌∷◌, codes, length, take, slice_get, None, Some}
+use Rattle.std.specs.Prelude.{ℕ, ◌≡◌, ◌⊎◌, ◌+◌, ◌<◌, ◌++◌, true, false, List, [], ◌∷◌, codes, length, slice_get, None, Some}
 use Rattle.file_tree.specs.Tree.{Tree}
 use Rattle.file_tree.specs.Names.{IsName, parent_of}
 use Rattle.file_tree.specs.Apply.{Refused}

@@ -1,5 +1,5 @@
 -- A directory that is searched for `.` and `..`.
-use Rattle.std.proofs.Common.{◌≡◌, ℕ, Bool, true, false, List, Option, None, Some, true≢false, refl, sym, ap, ◌∙◌, subst}
+use Rattle.std.proofs.Common.{◌≡◌, ℕ, true, false, List, Option, None, Some, true≢false, refl, sym, subst}
 use Rattle.std.specs.Prelude.{is_some}
 use Rattle.gfs2_layout.specs.Holding.{Holding}
 use Rattle.glock_names.specs.Steps.{TellsOf}

@@ -1,6 +1,5 @@
 -- What the tree answers where a walk along the call's path ended.
 use Rattle.std.proofs.Common.{◌≡◌, ◌⊎◌, inl, inr, ◌+◌, ℕ, true, false, List, [], length, Result, Ok, Err, IfOk, refl, sym, ap, ◌∙◌, arith}
-use Rattle.std.proofs.lemmas.List.Sorted.{IsPermutation-refl}
 use Rattle.file_tree.specs.Tree.{Tree, file, dir, count_in}
 use Rattle.file_tree.specs.Apply.{Walked, Found, Refused, apply, walk, read_reply, stat_reply, list_reply}
 use Rattle.file_tree.specs.declared.call.Call.{Call}
@@ -9,8 +8,7 @@ use Rattle.file_tree.specs.declared.reply.Kind.TheVariants.{File, Dir}
 use Rattle.file_tree.specs.declared.reply.Reply.{Reply}
 use Rattle.file_tree.specs.declared.reply.Reply.TheVariants as reply
 use Rattle.gfs2_layout.specs.Holding.{Holding}
-use Rattle.gfs2_layout.specs.Inode.{dinode_in, is_directory_in, content_of, records_of}
-use Rattle.gfs2_layout.specs.Records.{names_of}
+use Rattle.gfs2_layout.specs.Inode.{dinode_in, is_directory_in, content_of}
 use Rattle.glock_names.specs.Views.{Seen}
 use Rattle.call_locks.specs.Wants.{wanted}
 use Rattle.call_locks.specs.WantLaws.{path_of}
@@ -32,7 +30,6 @@ use Rattle.path_walks.specs.Holds.{Hold, AreHeld, EndsWith, IsAskedFor, holds_in
 use Rattle.std.specs.Prelude.{codes}
 use Rattle.path_walks.specs.Walks.{IsWrongAt, IsDamage, on_path, LeadsTo, at_root, by_name, the_root, the_child}
 use Rattle.call_locks.specs.declared.want.Want.{Want}
-use Rattle.dinode_tree.specs.Shown.{IsShown}
 use Rattle.path_walks.proofs.Images.{is_inode, is_shown, is_sound, shown_directory, shown_inode, sound_directory}
 use Rattle.directories.specs.Shown as dirs
 use Rattle.glock_names.specs.declared.steps.Missing.{Missing}

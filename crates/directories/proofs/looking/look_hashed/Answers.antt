@@ -1,6 +1,6 @@
 use Rattle.std.proofs.Common.{◌<◌}
 use Rattle.std.proofs.lemmas.List.Elements.{All-from_get_or}
-use Rattle.glock_names.proofs.StepLaws.{answer_at, answer_so, needed_at, needed_so}
+use Rattle.glock_names.proofs.StepLaws.{answer_at, answer_so, needed_so}
 use Rattle.hash_dirs.specs.Broken as leaves
 use Rattle.glock_names.specs.Steps.{IsDamage}
 use Rattle.linear_dirs.proofs.Looked.{handed}
