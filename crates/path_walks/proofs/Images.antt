@@ -291,13 +291,13 @@ module _ (v : Seen) (im : Image) (o : Owners) (l : Layout) (t : Tree) (of : IsOf
   nothing_wrong path a rule b at (IsWrongAt.in_directory r c is broken) =
       let dir = is (holding im o a) (is_shown path a at) in
       unbroken_directory path a r c at dir (broken (holding im o a) (shown_directory path a at dir))
-  nothing_wrong path a rule b at (IsWrongAt.no_dot is none) =
+  nothing_wrong path a rule b at (IsWrongAt.no_dot is linear none) =
       let dir = is (holding im o a) (is_shown path a at) in
       has_dot path a at dir (none (holding im o a) (shown_directory path a at dir))
-  nothing_wrong path a rule b at (IsWrongAt.no_dots is none) =
+  nothing_wrong path a rule b at (IsWrongAt.no_dots is linear none) =
       let dir = is (holding im o a) (is_shown path a at) in
       has_dots path a at dir (none (holding im o a) (shown_directory path a at dir))
-  nothing_wrong path a rule b at (IsWrongAt.too_few own up is has few) =
+  nothing_wrong path a rule b at (IsWrongAt.too_few own up is linear has few) =
       let dir = is (holding im o a) (is_shown path a at) in
       let says = has (holding im o a) (shown_directory path a at dir) in
       let counted = (of.stands.laid.directories a (is_inode path a at) dir).entries in
