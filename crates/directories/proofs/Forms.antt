@@ -81,7 +81,7 @@ pub some_directory : (v : Seen) (a : ℕ) → IsView v → (h : Holding) × IsSh
 some_directory v a view = (as_seen v a, record {
   inode = all_is_shown v (as_seen v a) refl (λ b. refl) (λ b bytes there is. ap (bytes_or_zeros v.size) is);
   leaves = λ hashed i place x chain some. refl;
-  whole = λ at i b low counted is. each b (v.block_at b) refl;
+  whole = λ hashed at i b low counted is. each b (v.block_at b) refl;
 })
   where
     each : (b : ℕ) (o : Option (List ℕ)) → v.block_at b ≡ o → length (bytes_or_zeros v.size o) ≡ v.size

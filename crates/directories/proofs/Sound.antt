@@ -63,8 +63,6 @@ module _ (h : Holding) (sound : IsSound h) (hashed : is_hashed_in h ≡ true) wh
     hashed_unbroken rule b (leaves.no_name i from x r leads some there low other) = other (down r (contained r (records_of h) (record_of_leaf i from x r leads there)) low)
     hashed_unbroken rule b (leaves.no_entries i from x r leads some there none) = some_record r (records_of h) (record_of_leaf i from x r leads there) (sym entries ∙ none)
     hashed_unbroken rule b (leaves.no_links none) = omega (arith, links, none)
-    hashed_unbroken rule b (leaves.wrong_entries other) = other entries
-    hashed_unbroken rule b (leaves.wrong_links other) = other links
     hashed_unbroken rule b (leaves.table_too_small small) = let least = (rules h sound hashed).least in omega (arith, small, least)
     hashed_unbroken rule b (leaves.table_too_large large) = let greatest = (rules h sound hashed).greatest in omega (arith, large, greatest)
     hashed_unbroken rule b (leaves.table_size other) = other (rules h sound hashed).size

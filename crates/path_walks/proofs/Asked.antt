@@ -80,7 +80,7 @@ module _ (v : Seen) (im : Image) (o : Owners) (l : Layout) (t : Tree) (of : IsOf
   -- so is a leaf of a directory
   leaf_asked : IsAmong v list a → is_directory_in (holding im o a) ≡ true → is_hashed_in (holding im o a) ≡ true → (want : ℕ → Type 0) (m : Missing) → leaves.IsNeededFor v (holding im o a) want m → IsAskedFor v im o l list m
   leaf_asked among dir hashed want m (leaves.IsNeededFor.of_table i wanted needs) = asked_among among _ 0 m needs
-  leaf_asked among dir hashed want m (leaves.IsNeededFor.a_leaf i wanted leads lock plain absent) =
+  leaf_asked among dir hashed want m (leaves.IsNeededFor.a_leaf i wanted leads inside lock plain absent) =
       let part = leaf_part (holding im o a) (sound_directory v im o l t of path a at dir) hashed i m.from m.block leads in
       let row = chained_owner im o a m.block (first_hash (holding im o a) i) part.0 part.1 in
       asked_at among m absent lock (ap (cover l m.block) row ∙ own_lock) (ap is_free row) (plain ∙ sym (ap (is_content_of im o) row))

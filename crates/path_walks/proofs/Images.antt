@@ -246,7 +246,7 @@ module _ (v : Seen) (im : Image) (o : Owners) (l : Layout) (t : Tree) (of : IsOf
   shown_inode path a at = record {
     inode = is_shown path a at;
     leaves = λ hashed i place x chain some. cell_some ((holding im o a).cell x) _ (in_chain (holding im o a) (sound_directory path a at (and_left (is_directory_in (holding im o a)) _ hashed)) hashed i place x chain);
-    whole = λ from. sound_is_whole (holding im o a) from of.stands.laid.image.block_size (is_sound path a at);
+    whole = λ hashed from. sound_is_whole (holding im o a) from of.stands.laid.image.block_size (is_sound path a at);
   }
 
   pub shown_directory : (path : Path) (a : ℕ) → IsAt im o l path a → is_directory_in (holding im o a) ≡ true → dirs.IsShown v a (holding im o a)
