@@ -1,5 +1,5 @@
 -- Damage that a call meets beside its path: at the root, below an inode that goes, and in groups.
-use Rattle.std.proofs.Common.{◌≡◌, ℕ, zero, suc, ◌+◌, ◌⊎◌, inl, inr, List, [], refl, sym, ◌∙◌, subst, arith}
+use Rattle.std.proofs.Common.{◌≡◌, ℕ, zero, suc, ◌+◌, ◌⊎◌, inl, inr, List, [], ◌++◌, refl, sym, ◌∙◌, subst, arith}
 use Rattle.std.specs.Prelude.{false}
 use Rattle.call_locks.specs.declared.want.Want.{Want}
 use Rattle.dinode_tree.specs.Below.{IsLedFrom}
@@ -12,27 +12,26 @@ use Rattle.file_tree.specs.Names.{parent_of}
 use Rattle.file_changes.specs.Drafting.{IsWrongAt, in_group, in_inode, stray}
 use Rattle.gfs2_layout.specs.Device.{superblock_place}
 use Rattle.gfs2_layout.specs.Headers.{HasHeader}
-use Rattle.gfs2_layout.specs.Holding.{Holding}
 use Rattle.gfs2_layout.specs.declared.rindex.Rindex.{Rindex}
 use Rattle.glock_names.specs.Views.{Seen, HasGroup, group_of_entry}
 use Rattle.glock_names.specs.declared.views.Group.{Group}
 use Rattle.resource_groups.specs.Putting.{HasDataBlock}
 use Rattle.resource_groups.specs.Shown as group
 use Rattle.image_model.specs.Claims as image
-use Rattle.image_model.specs.Claims.{every, Claims, below, HasInode}
+use Rattle.image_model.specs.Claims.{every, below, HasInode}
 use Rattle.image_model.specs.Flat.{Path}
-use Rattle.image_model.specs.Image.{Image}
+use Rattle.image_model.specs.Image.{Image, IsImage}
 use Rattle.image_model.specs.Owners.{Root, Below}
 use Rattle.image_model.specs.Rules.{Breaks, of_group, of_bitmap, of_owner, no_header, beyond_groups, bits_of, free_count, dinode_count, wrong_bits}
-use Rattle.path_walks.specs.Walks.{LeadsTo, at_root, by_name, IsWrong}
+use Rattle.path_walks.specs.Walks.{LeadsTo, at_root, by_name}
 use Rattle.making_calls.specs.Making as making
 use Rattle.path_walks.specs.Walks as path
 use Rattle.removing_calls.specs.Removing as removing
 use Rattle.writing_calls.specs.Writing as writing
-use Rattle.damage_laws.specs.Telling.{IsReadFrom, HasRootInside, HasWholeGroups, IsTold, itself, by_root, WritesTell, WritesTellExactly, RemovalsTell, RemovalsTellExactly, MakingsTell, MakingsTellExactly, CallsTell, CallsTellExactly}
-use Rattle.damage_laws.proofs.Claimed.{shown, root_claimed, led_there, outside}
-use Rattle.damage_laws.proofs.Owned.{dinode_state, shared_told}
-use Rattle.damage_laws.proofs.Paths.{wrong_inode, paths_tell}
+use Rattle.damage_laws.specs.Telling.{IsReadFrom, HasRootInside, HasWholeGroups, HasAstray, IsTold, itself, misplaced, too_deep, astray, IsToldOf, on_path, by_root, WritesTell, WritesTellExactly, RemovalsTell, RemovalsTellExactly, MakingsTell, MakingsTellExactly}
+use Rattle.damage_laws.proofs.Claimed.{shown, root_claimed, led_there, outside, astray_at, further}
+use Rattle.damage_laws.proofs.Owned.{dinode_state, from_parent, shared_told}
+use Rattle.damage_laws.proofs.Paths.{broken_inode, paths_tell, wrong_at}
 
 -- ---- an inode in no group to which a path leads is the root
 
@@ -40,23 +39,34 @@ pub led_inside : (v : Seen) (wants : List Want) (path : Path) (a : ℕ) → Lead
 led_inside v wants path a (at_root held) = inl refl
 led_inside v wants path a (by_name front dir b name leads is names inside held) = inr inside
 
+-- what is told below a path is told of a longer one
+longer : (v : Seen) (im : Image) (read : IsReadFrom v im) (is_image : IsImage im) (wants : List Want) (front back path : Path) → path ≡ front ++ back → (rule b : ℕ) → IsTold v im wants front rule b → IsTold v im wants path rule b
+longer v im read is_image wants front back path split _ _ (itself rule b breaks) = itself rule b breaks
+longer v im read is_image wants front back path split _ _ (misplaced a x held breaks) = misplaced a x held breaks
+longer v im read is_image wants front back path split _ _ (too_deep a breaks) = too_deep a breaks
+longer v im read is_image wants front back path split _ _ (astray rule b out) = astray rule b (further v im read is_image wants front back path split out)
+
+-- a rule that is broken, but where a block of a directory on the path is beyond the device
+told_or : (v : Seen) (im : Image) (wants : List Want) (path : Path) (rule b : ℕ) → Breaks im rule b ⊎ HasAstray v im wants path → IsTold v im wants path rule b
+told_or v im wants path rule b (inl breaks) = itself rule b breaks
+told_or v im wants path rule b (inr out) = astray rule b out
+
 module _ (v : Seen) (im : Image) (read : IsReadFrom v im) where
-  root_told : (wants : List Want) (path : Path) (a : ℕ) → LeadsTo v wants path a → ¬ (HasDataBlock v a) → IsTold v im 2 a
-  root_told wants path a leads out = elim (led_inside v wants path a leads) [
+  root_told : (call : Call) (path : Path) (a : ℕ) → IsImage im → LeadsTo v (wanted call) path a → ¬ (HasDataBlock v a) → IsToldOf v im call 2 a
+  root_told call path a is_image leads out = elim (led_inside v (wanted call) path a leads) [
     | inl e ↦
         let bare : ¬ (HasRootInside v) = subst (λ b. ¬ (HasDataBlock v b)) e out in
-        subst (IsTold v im 2) (sym e) (by_root bare (beyond_groups (superblock_place im.size) v.root Root (root_claimed v im read) (outside v im read v.root bare)))
+        subst (IsToldOf v im call 2) (sym e) (by_root bare (beyond_groups (superblock_place im.size) v.root Root (root_claimed v im read is_image) (outside v im read is_image v.root bare)))
     | inr inside ↦ absurd (out inside)
   ]
 
   -- ---- a pointer of an inode that leads to a block in no group: the number stands in the pointer's block
 
-  stray_told : (wants : List Want) (path : Path) (a from b : ℕ) → LeadsTo v wants path a → IsLedFrom (every im a) from b → ¬ (HasDataBlock v b) → Breaks im 2 from
-  stray_told wants path a from b leads led out =
-      let has = led_there v im read wants path a leads in
-      beyond_groups from b (Below a from led.0 led.1 led.2) (below has.1.by a has.0 from led.0 led.1 led.2 b has.1.claimed has.1.dinode led.3) (outside v im read b out)
-
-  -- ---- groups
+  stray_told : (is_image : IsImage im) (wants : List Want) (path : Path) (a from b : ℕ) → LeadsTo v wants path a → IsLedFrom (every im a) from b → ¬ (HasDataBlock v b) → Breaks im 2 from ⊎ HasAstray v im wants path
+  stray_told is_image wants path a from b leads led out = elim (led_there v im read is_image wants path a leads) [
+    | inr ahead ↦ inr ahead
+    | inl has ↦ inl (beyond_groups from b (Below a from led.0 led.1 led.2) (below has.1.by a has.0 from led.0 led.1 led.2 b has.1.claimed has.1.dinode led.3) (outside v im read is_image b out))
+  ]
 
   broken_group : (g : Rindex) → image.HasGroup im g → (rule b : ℕ) → group.IsBroken im.at (group_of_entry g) rule b → Breaks im rule b
   broken_group g has rule b (group.no_header zero low lacks) =
@@ -77,52 +87,65 @@ module _ (v : Seen) (im : Image) (read : IsReadFrom v im) where
         broken_group listed.0 listed.1 rule b (subst (λ g. group.IsBroken im.at g rule b) listed.2 (broken im.at (group_shown k has)))
 
     -- a file whose content changes, and the groups of blocks that it takes or gives back
-    file_told : (wants : List Want) (names : Path) (a : ℕ) (blocks : List ℕ) → LeadsTo v wants names a → (rule b : ℕ) → IsWrongAt v a blocks rule b → Breaks im rule b
-    file_told wants names a blocks leads rule b (in_inode r x broken) =
-        wrong_inode im a (led_there v im read wants names a leads) r x (path.in_inode r x (broken (every im a) (shown v im read a)))
-    file_told wants names a blocks leads rule b (stray from x led out) = stray_told wants names a from x leads (led (every im a) (shown v im read a)) out
-    file_told wants names a blocks leads rule b (in_group r x breaks) = group_told breaks.0 breaks.1 r x breaks.3
+    file_told : (wants : List Want) (names : Path) (a : ℕ) (blocks : List ℕ) → LeadsTo v wants names a → (rule b : ℕ) → IsWrongAt v a blocks rule b → IsTold v im wants names rule b
+    file_told wants names a blocks leads rule b (in_inode r x broken) = elim (led_there v im read whole.image wants names a leads) [
+      | inr ahead ↦ astray r x ahead
+      | inl has ↦ itself r x (broken_inode im a has r x (broken (every im a) (shown v im read whole.image a)))
+    ]
+    file_told wants names a blocks leads rule b (stray from x led out) = told_or v im wants names 2 from (stray_told whole.image wants names a from x leads (led (every im a) (shown v im read whole.image a)) out)
+    file_told wants names a blocks leads rule b (in_group r x breaks) = itself r x (group_told breaks.0 breaks.1 r x breaks.3)
 
 -- where the root is in a group there is no exception
-as_itself : (v : Seen) (im : Image) → HasRootInside v → (rule b : ℕ) → IsTold v im rule b → Breaks im rule b
-as_itself v im inside rule b (itself r x breaks) = breaks
-as_itself v im inside rule b (by_root bare breaks) = absurd (bare inside)
+inside_told : (v : Seen) (im : Image) (call : Call) → HasRootInside v → (rule b : ℕ) → IsToldOf v im call rule b → IsTold v im (wanted call) (path_of call false) rule b
+inside_told v im call inside _ _ (on_path rule b told) = told
+inside_told v im call inside _ _ (by_root bare breaks) = absurd (bare inside)
 
 -- ---- the calls
 
+path_told : (v : Seen) (im : Image) (call : Call) (rule b : ℕ) → IsReadFrom v im → IsImage im → path.IsDamage v (wanted call) (path_of call false) rule b → IsToldOf v im call rule b
+path_told v im call rule b read is_image broken = on_path rule b (paths_tell v im (wanted call) (path_of call false) rule b read is_image broken)
+
 pub writes_tell : WritesTell
-writes_tell v im call rule b read whole (writing.on_path r x broken) = itself r x (paths_tell v im (wanted call) (path_of call false) r x read broken)
-writes_tell v im call rule b read whole (writing.no_data_block a leads out) = root_told v im read (wanted call) (path_of call false) a leads out
-writes_tell v im call rule b read whole (writing.in_file a r x changes wrong) = itself r x (file_told v im read whole (wanted call) (path_of call false) a [] changes.at.leads r x wrong)
+writes_tell v im call rule b read whole (writing.on_path r x broken) = path_told v im call r x read whole.image broken
+writes_tell v im call rule b read whole (writing.no_data_block a leads out) = root_told v im read call (path_of call false) a whole.image leads out
+writes_tell v im call rule b read whole (writing.in_file a r x changes wrong) = on_path r x (file_told v im read whole (wanted call) (path_of call false) a [] changes.at.leads r x wrong)
 writes_tell v im call rule b read whole (writing.of_taken node a at new need room r x changes puts needs is_room wrong) =
-    itself r x (file_told v im read whole (wanted call) (path_of call false) a room changes.at.leads r x wrong)
+    on_path r x (file_told v im read whole (wanted call) (path_of call false) a room changes.at.leads r x wrong)
 writes_tell v im call rule b read whole (writing.of_freed a size time freed fates r x changes cuts draft held wrong) =
-    itself r x (file_told v im read whole (wanted call) (path_of call false) a freed changes.at.leads r x wrong)
-writes_tell v im call rule b read whole (writing.in_group a at new need r x changes puts needs broken) = itself r x (group_told v im read whole broken.group broken.has r x broken.broken)
+    on_path r x (file_told v im read whole (wanted call) (path_of call false) a freed changes.at.leads r x wrong)
+writes_tell v im call rule b read whole (writing.in_group a at new need r x changes puts needs broken) = on_path r x (itself r x (group_told v im read whole broken.group broken.has r x broken.broken))
 
 pub writes_tell_exactly : WritesTellExactly
-writes_tell_exactly v im call rule b read whole inside told = as_itself v im inside rule b (writes_tell v im call rule b read whole told)
+writes_tell_exactly v im call rule b read whole inside told = inside_told v im call inside rule b (writes_tell v im call rule b read whole told)
 
 pub removals_tell : RemovalsTell
-removals_tell v im call rule b read whole (removing.on_path r x broken) = itself r x (paths_tell v im (wanted call) (path_of call false) r x read broken)
+removals_tell v im call rule b read whole (removing.on_path r x broken) = path_told v im call r x read whole.image broken
 removals_tell v im call rule b read whole (removing.stray a from x taken led out) =
-    itself 2 from (stray_told v im read (wanted call) (path_of call false) a from x taken.leads (led (every im a) (shown v im read a)) out)
-removals_tell v im call rule b read whole (removing.above a leads out) = root_told v im read (wanted call) (parent_of (path_of call false)) a leads out
+    on_path 2 from (told_or v im (wanted call) (path_of call false) 2 from (stray_told v im read whole.image (wanted call) (path_of call false) a from x taken.leads (led (every im a) (shown v im read whole.image a)) out))
+removals_tell v im call rule b read whole (removing.above a leads out) = root_told v im read call (parent_of (path_of call false)) a whole.image leads out
 removals_tell v im call rule b read whole (removing.shared a dir taken leads goes) =
-    itself 3 dir (shared_told v im read (wanted call) (path_of call false) a dir taken.below taken.leads leads (goes (every im a) (shown v im read a)))
-removals_tell v im call rule b read whole (removing.in_group a r x blocks taken all held breaks) = itself r x (group_told v im read whole breaks.0 breaks.1 r x breaks.3)
+    on_path 3 dir (told_or v im (wanted call) (path_of call false) 3 dir (shared_told v im read whole.image (wanted call) (path_of call false) a dir taken.below taken.leads leads (goes (every im a) (shown v im read whole.image a))))
+removals_tell v im call rule b read whole (removing.in_group a r x blocks taken all held breaks) = on_path r x (itself r x (group_told v im read whole breaks.0 breaks.1 r x breaks.3))
 
 pub removals_tell_exactly : RemovalsTellExactly
-removals_tell_exactly v im call rule b read whole inside told = as_itself v im inside rule b (removals_tell v im call rule b read whole told)
+removals_tell_exactly v im call rule b read whole inside told = inside_told v im call inside rule b (removals_tell v im call rule b read whole told)
 
 module _ (v : Seen) (im : Image) (call : Call) (read : IsReadFrom v im) (whole : HasWholeGroups v im) where
-  in_directory_told : (a rule b : ℕ) → LeadsTo v (wanted call) (making.directory_path call) a → ((h : Holding) → IsShown v a h → IsWrong h rule b) → Breaks im rule b
-  in_directory_told a rule b leads wrong = wrong_inode im a (led_there v im read (wanted call) (making.directory_path call) a leads) rule b (wrong (every im a) (shown v im read a))
+  -- what is told on the directory's path is told on the call's
+  on_directory_path : (rule b : ℕ) → IsTold v im (wanted call) (making.directory_path call) rule b → IsToldOf v im call rule b
+  on_directory_path rule b told =
+      let f = from_parent (path_of call false) in
+      on_path rule b (longer v im read whole.image (wanted call) (making.directory_path call) f.0 (path_of call false) f.1 rule b told)
+
+  in_directory_told : (a rule b : ℕ) → LeadsTo v (wanted call) (making.directory_path call) a → path.IsWrongAt v a rule b → IsTold v im (wanted call) (making.directory_path call) rule b
+  in_directory_told a rule b leads wrong = elim (led_there v im read whole.image (wanted call) (making.directory_path call) a leads) [
+    | inr ahead ↦ astray rule b ahead
+    | inl has ↦ wrong_at v im read whole.image (wanted call) (making.directory_path call) a (λ out. astray_at v im read whole.image (wanted call) (making.directory_path call) a leads out) has rule b wrong
+  ]
 
   -- the directory's own block, which its group's bits call free
-  called_free_told : (a : ℕ) → LeadsTo v (wanted call) (making.directory_path call) a → making.IsCalledFree v a → Breaks im 5 a
-  called_free_told a leads free =
-      let has : HasInode im a = led_there v im read (wanted call) (making.directory_path call) a leads in
+  called_free_told : (a : ℕ) → HasInode im a → making.IsCalledFree v a → Breaks im 5 a
+  called_free_told a has free =
       let listed = (read.groups free.group).0 free.has in
       let within : group.IsDataOf (group_of_entry listed.0) a = subst (λ k. group.IsDataOf k a) listed.2 free.data_block in
       let bits : bits_of im listed.0 a ≡ 0 = subst (λ k. group.said im.at k a ≡ 0) listed.2 (free.free im.at (λ k there. group_shown v im read whole k there)) in
@@ -132,35 +155,18 @@ module _ (v : Seen) (im : Image) (call : Call) (read : IsReadFrom v im) (whole :
       no_dinode : (n : ℕ) → n ≡ 0 → n ≡ 3 → ⊥
       no_dinode n free dinode = absurd (omega (arith, free, dinode))
 
-  makings_told : (rule b : ℕ) → making.IsDamage v call rule b → IsTold v im rule b
-  makings_told rule b (making.on_path r x broken) = itself r x (paths_tell v im (wanted call) (making.directory_path call) r x read broken)
-  makings_told rule b (making.in_directory a r x leads wrong) = itself r x (in_directory_told a r x leads wrong)
-  makings_told rule b (making.in_group r x gets broken) = itself r x (group_told v im read whole broken.group broken.has r x broken.broken)
-  makings_told rule b (making.called_free a gets leads free) = itself 5 a (called_free_told a leads free)
-  makings_told rule b (making.no_data_block a leads out) = root_told v im read (wanted call) (making.directory_path call) a leads out
+  makings_told : (rule b : ℕ) → making.IsDamage v call rule b → IsToldOf v im call rule b
+  makings_told rule b (making.on_path r x broken) = on_directory_path r x (paths_tell v im (wanted call) (making.directory_path call) r x read whole.image broken)
+  makings_told rule b (making.in_directory a r x leads wrong) = on_directory_path r x (in_directory_told a r x leads wrong)
+  makings_told rule b (making.in_group r x gets broken) = on_path r x (itself r x (group_told v im read whole broken.group broken.has r x broken.broken))
+  makings_told rule b (making.called_free a gets leads free) = elim (led_there v im read whole.image (wanted call) (making.directory_path call) a leads) [
+    | inr ahead ↦ on_directory_path 5 a (astray 5 a ahead)
+    | inl has ↦ on_directory_path 5 a (itself 5 a (called_free_told a has free))
+  ]
+  makings_told rule b (making.no_data_block a leads out) = root_told v im read call (making.directory_path call) a whole.image leads out
 
 pub makings_tell : MakingsTell
 makings_tell v im call rule b read whole told = makings_told v im call read whole rule b told
 
 pub makings_tell_exactly : MakingsTellExactly
-makings_tell_exactly v im call rule b read whole inside told = as_itself v im inside rule b (makings_told v im call read whole rule b told)
-
-path_told : (v : Seen) (im : Image) (call : Call) (rule b : ℕ) → IsReadFrom v im → path.IsDamage v (wanted call) (path_of call false) rule b → IsTold v im rule b
-path_told v im call rule b read broken = itself rule b (paths_tell v im (wanted call) (path_of call false) rule b read broken)
-
-pub calls_tell : CallsTell
-calls_tell v im (calls.Create p) rule b read whole told = makings_tell v im (calls.Create p) rule b read whole told
-calls_tell v im (calls.Mkdir p) rule b read whole told = makings_tell v im (calls.Mkdir p) rule b read whole told
-calls_tell v im (calls.Unlink p) rule b read whole told = removals_tell v im (calls.Unlink p) rule b read whole told
-calls_tell v im (calls.Rmdir p) rule b read whole told = removals_tell v im (calls.Rmdir p) rule b read whole told
-calls_tell v im (calls.Read p at n) rule b read whole told = path_told v im (calls.Read p at n) rule b read told
-calls_tell v im (calls.Dread p at n) rule b read whole told = path_told v im (calls.Dread p at n) rule b read told
-calls_tell v im (calls.Write p at bytes) rule b read whole told = writes_tell v im (calls.Write p at bytes) rule b read whole told
-calls_tell v im (calls.Truncate p n) rule b read whole told = writes_tell v im (calls.Truncate p n) rule b read whole told
-calls_tell v im (calls.Stat p) rule b read whole told = path_told v im (calls.Stat p) rule b read told
-calls_tell v im (calls.List p) rule b read whole told = path_told v im (calls.List p) rule b read told
-calls_tell v im (calls.Rename p q) rule b read whole told = path_told v im (calls.Rename p q) rule b read told
-calls_tell v im calls.Sync rule b read whole told = path_told v im calls.Sync rule b read told
-
-pub calls_tell_exactly : CallsTellExactly
-calls_tell_exactly v im call rule b read whole inside told = as_itself v im inside rule b (calls_tell v im call rule b read whole told)
+makings_tell_exactly v im call rule b read whole inside told = inside_told v im call inside rule b (makings_told v im call read whole rule b told)

@@ -1,25 +1,101 @@
 -- What a view shows is the image's: inodes, names, pointers and groups.
-use Rattle.std.proofs.Common.{ℕ, List, refl, ap, ◌∙◌, subst}
+use Rattle.std.proofs.Common.{◌≡◌, ℕ, ◌+◌, ◌⊎◌, inl, inr, List, [], ◌∷◌, ◌++◌, length, Option, None, Some, true, false, refl, sym, ap, ◌∙◌, subst}
 use Rattle.std.proofs.lemmas.Bool.{cond-false}
+use Rattle.std.proofs.lemmas.List.{append-nil, append_assoc}
 use Rattle.std.specs.Prelude.{Contains}
+use Rattle.std.specs.Option.{option_map}
 use Rattle.file_tree.specs.Names.{IsName}
 use Rattle.gfs2_layout.specs.Device.{superblock_place}
-use Rattle.gfs2_layout.specs.Inode.{records_of}
-use Rattle.gfs2_layout.specs.Records.{is_dots}
+use Rattle.gfs2_layout.specs.Inode.{first_hash, is_directory_in, is_hashed_in, leaf_area, linear_area, records_of}
+use Rattle.gfs2_layout.specs.Records.{Record, is_dots, record_named, records_in}
 use Rattle.glock_names.specs.Views.{Seen, group_of_entry}
+use Rattle.glock_names.specs.declared.steps.Entry.{Entry}
 use Rattle.call_locks.specs.declared.want.Want.{Want}
 use Rattle.dinode_tree.specs.Shown.{IsShown}
+use Rattle.linear_dirs.specs.Shown.{entry_of}
+use Rattle.pointer_tables.specs.Directories.{IsInChain, chain_head, chain_next}
+use Rattle.hash_dirs.specs.Finding.{IsFirstNamed, IsFoundAlong, in_leaf, nowhere}
+use Rattle.hash_dirs.specs.Shown.{LeadsToLeaf, by_leaf, by_pointer, index_for}
+use Rattle.directories.specs.Shown.{HasName, Says, in_linear, in_hashed}
+use Rattle.directories.specs.Shown as dirs
 use Rattle.resource_groups.specs.Putting.{HasDataBlock}
-use Rattle.image_model.specs.Claims.{every, Claims, root, in_dinode, HasInode}
+use Rattle.image_model.specs.Claims.{every, Claims, root, in_dinode, first_leaf, next_leaf, HasInode, HasDirectory, HasLeaf}
+use Rattle.image_model.specs.Claims as image
 use Rattle.image_model.specs.Flat.{Path}
-use Rattle.image_model.specs.Image.{Image}
-use Rattle.image_model.specs.Owners.{Root, Named}
+use Rattle.image_model.specs.Image.{Image, IsImage}
+use Rattle.image_model.specs.Owners.{Root, Named, Chained}
 use Rattle.image_model.specs.Rules.{IsOutside}
+use Rattle.image_model.proofs.Held.{none_some}
 use Rattle.image_model.proofs.Reach.{Leading, leading}
-use Rattle.path_walks.specs.Walks.{Names, IsLinearDirectory, LeadsTo, at_root, by_name, IsNext, the_root, the_child}
-use Rattle.damage_laws.specs.Telling.{IsReadFrom}
+use Rattle.path_walks.specs.Walks.{Names, IsDirectoryAt, IsHeldAt, LeadsTo, at_root, by_name, IsNext, the_root, the_child}
+use Rattle.path_walks.proofs.Images.{child_is}
+use Rattle.damage_laws.specs.Telling.{IsReadFrom, IsAstray, HasAstray}
+use Rattle.damage_laws.proofs.Astray.{whole_or}
 
-module _ (v : Seen) (im : Image) (read : IsReadFrom v im) where
+-- ---- chains of leaves
+
+module _ (im : Image) (a : ℕ) (has : HasInode im a) (hashed : is_hashed_in (every im a) ≡ true) where
+  -- each leaf of a chain is claimed, and so is what leads to one
+  pub chain_claims : (i place x : ℕ) → IsInChain (every im a) i place x → (by : ℕ) × Claims im by x (Chained a (first_hash (every im a) i) place)
+  chain_claims i _ _ (chain_head low) = (_, first_leaf has.1.by a has.0 i has.1.claimed has.1.dinode hashed low)
+  chain_claims i _ _ (chain_next place x chain more) = (x, next_leaf (chain_claims i place x chain).0 x a (first_hash (every im a) i) place (chain_claims i place x chain).1 more)
+
+  pub leaf_claims : (i from x : ℕ) → LeadsToLeaf (every im a) i from x → (hash place : ℕ) × Claims im from x (Chained a hash place)
+  leaf_claims i _ _ (by_pointer low) = (first_hash (every im a) i, 0, first_leaf has.1.by a has.0 i has.1.claimed has.1.dinode hashed low)
+  leaf_claims i _ _ (by_leaf place x chain more) = let c = chain_claims i place x chain in (first_hash (every im a) i, place + 1, next_leaf c.0 x a (first_hash (every im a) i) place c.1 more)
+
+  pub has_leaf : (i from x : ℕ) → LeadsToLeaf (every im a) i from x → HasLeaf im a x
+  has_leaf i from x leads = let c = leaf_claims i from x leads in (from, c.0, c.1, c.2)
+
+-- ---- names
+
+-- The name in the directory claims the block to which it leads, by its own block or by a leaf of it.
+pub record IsNamedBy (im : Image) (dir b : ℕ) (name : List ℕ) : Type 0 where
+  pub by : ℕ
+  pub claims : Claims im by b (Named dir name)
+  pub from : (by ≡ dir) ⊎ HasLeaf im dir by
+
+-- the record of a name that is found
+pub record_is : (records : List Record) (name : List ℕ) (r : Record) → record_named records name ≡ Some r → Leading records name r.address
+record_is records name r found = leading records name r.address (ap (option_map (λ (x : Record). x.address)) found)
+
+module _ (im : Image) (a b : ℕ) (name : List ℕ) (has : HasInode im a) (dir : is_directory_in (every im a) ≡ true) (is : IsName name) where
+  by_record : (by : ℕ) (records : List Record) → ((by ≡ a) ⊎ HasLeaf im a by) → Leading records name b
+      → ((r : Record) → Contains records r → is_dots r.name ≡ is_dots name → Claims im by r.address (Named a r.name)) → IsNamedBy im a b name
+  by_record by records from led claims = record {
+    by = by;
+    claims = subst (λ n. Claims im by b (Named a n)) led.named (subst (λ c. Claims im by c (Named a led.entry.name)) led.address (claims led.entry led.there (ap is_dots led.named)));
+    from = from;
+  }
+
+  linear_claims : is_hashed_in (every im a) ≡ false → (e : Entry) → Some e ≡ option_map entry_of (record_named (records_of (every im a)) name) → e.addr ≡ b → IsNamedBy im a b name
+  unfolding records_of
+  linear_claims plain e found address =
+      by_record a (records_of (every im a)) (inl refl) (leading (records_of (every im a)) name b (child_is (records_of (every im a)) name e found ∙ ap Some address))
+      (λ r there dots. in_dinode has.1.by a has.0 r has.1.claimed has.1.dinode dir plain (subst (λ rs. Contains rs r) (cond-false _ _ _ plain) there) (dots ∙ is.not_dots))
+
+  hashed_claims : is_hashed_in (every im a) ≡ true → (i : ℕ) (named : Option Record) (e : Entry) → IsFirstNamed (every im a) i name named → Some e ≡ option_map entry_of named → e.addr ≡ b → IsNamedBy im a b name
+  hashed_claims hashed i _ e (nowhere none) leads address = absurd (none_some (sym leads))
+  hashed_claims hashed i _ e (in_leaf place x r chain found later) leads address =
+      let c = chain_claims im a has hashed i place x chain in
+      let led = record_is (records_in (leaf_area (every im a) x)) name r found in
+      let there : r.address ≡ b = some_address r e leads ∙ address in
+      by_record x (records_in (leaf_area (every im a) x)) (inr (c.0, first_hash (every im a) i, place, c.1)) (subst (Leading (records_in (leaf_area (every im a) x)) name) there led)
+      (λ q at dots. image.in_leaf c.0 x a (first_hash (every im a) i) place q c.1 at (dots ∙ is.not_dots))
+    where
+      some_address : (r : Record) (e : Entry) → Some e ≡ Some (entry_of r) → r.address ≡ e.addr
+      some_address r e same = cc
+
+  says_claims : (found : Option Entry) (e : Entry) → Says (every im a) name found → Some e ≡ found → e.addr ≡ b → IsNamedBy im a b name
+  says_claims _ e (in_linear plain) same address = linear_claims plain e same address
+  says_claims _ e (in_hashed found hashed small by) same address = hashed_claims hashed (index_for (every im a) name) by.named e by.first (same ∙ by.leads) address
+
+  pub name_claims : HasName (every im a) name b → IsNamedBy im a b name
+  name_claims child = says_claims (Some child.entry) child.entry child.says refl child.address
+
+-- ---- what a view shows
+
+module _ (v : Seen) (im : Image) (read : IsReadFrom v im) (is_image : IsImage im) where
   -- an inode that is read as if it had every block of the image is one that the view shows
   pub shown : (a : ℕ) → IsShown v a (every im a)
   shown a = record { own = refl; size = read.size; dinode = refl; led_to = λ b k level first c leads. refl; same = λ b bytes some e. read.agrees b bytes e }
@@ -30,32 +106,70 @@ module _ (v : Seen) (im : Image) (read : IsReadFrom v im) where
   pub root_there : HasInode im v.root
   root_there = (Root, record { by = superblock_place im.size; claimed = root_claimed; dinode = refl })
 
-  -- a name in a linear directory that the view has claims the inode to which it leads
-  pub name_claims : (dir b : ℕ) (name : List ℕ) → HasInode im dir → IsName name → Names v dir name b → Claims im dir b (Named dir name)
-  unfolding records_of
-  name_claims dir b name has is names =
-      subst (λ n. Claims im dir b (Named dir n)) led.named
-      (subst (λ c. Claims im dir c (Named dir led.entry.name)) led.address
-      (in_dinode has.1.by dir has.0 led.entry has.1.claimed has.1.dinode linear.directory linear.linear
-      (subst (λ rs. Contains rs led.entry) (cond-false _ _ _ linear.linear) led.there)
-      (ap is_dots led.named ∙ is.not_dots)))
-    where
-      linear : IsLinearDirectory (every im dir)
-      linear = names.linear (every im dir) (shown dir)
+  pub is_directory : (a : ℕ) → HasInode im a → IsDirectoryAt v a → HasDirectory im a
+  is_directory a has directory = record { inode = has; dir = directory (every im a) (shown a) }
 
-      led : Leading (records_of (every im dir)) name b
-      led = leading (records_of (every im dir)) name b (names.child (every im dir) (shown dir))
+  -- so is a directory, whose blocks of content are whole; or one of its blocks is beyond the device
+  pub directory_or : (a : ℕ) → HasDirectory im a → dirs.IsShown v a (every im a) ⊎ ((x : ℕ) × IsAstray im a x)
+  directory_or a has = elim (whole_or im is_image a has) [
+    | inl whole ↦ inl (record { inode = shown a; leaves = λ hashed i place x chain some. refl; whole = whole })
+    | inr astray ↦ inr astray
+  ]
 
-  pub named_there : (dir b : ℕ) (name : List ℕ) → HasInode im dir → IsName name → Names v dir name b → HasInode im b
-  named_there dir b name has is names = (Named dir name, record { by = dir; claimed = name_claims dir b name has is names; dinode = refl })
+  module _ (wants : List Want) where
+    abbrev pub IsAhead : Path → Type 0
+    IsAhead path = HasAstray v im wants path
 
-  pub led_there : (wants : List Want) (path : Path) (a : ℕ) → LeadsTo v wants path a → HasInode im a
-  led_there wants path a (at_root held) = root_there
-  led_there wants path a (by_name front dir b name leads is names inside held) = named_there dir b name (led_there wants front dir leads) is names
+    -- so it stays on a longer path
+    pub further : (front more path : Path) → path ≡ front ++ more → IsAhead front → IsAhead path
+    further front more path split astray = record {
+      front = astray.front;
+      back = astray.back ++ more;
+      split = split ∙ ap (λ p. p ++ more) astray.split ∙ append_assoc astray.front astray.back more;
+      directory = astray.directory;
+      leads = astray.leads;
+      block = astray.block;
+      astray = astray.astray;
+    }
 
-  pub next_there : (wants : List Want) (path : Path) (depth a : ℕ) → IsNext v wants path depth a → HasInode im a
-  next_there wants path depth a the_root = root_there
-  next_there wants path depth a (the_child front back dir b name on leads is names inside) = named_there dir b name (led_there wants front dir leads) is names
+    pub astray_at : (path : Path) (a : ℕ) → LeadsTo v wants path a → ((x : ℕ) × IsAstray im a x) → IsAhead path
+    astray_at path a leads astray = record { front = path; back = []; split = sym (append-nil path); directory = a; leads = leads; block = astray.0; astray = astray.1 }
+
+    -- a name in a directory that the view has claims the inode to which it leads
+    named_from : (front : Path) (dir b : ℕ) (name : List ℕ) → LeadsTo v wants front dir → HasInode im dir ⊎ IsAhead front → IsName name → Names v dir name b → IsNamedBy im dir b name ⊎ IsAhead front
+    named_from front dir b name leads (inr astray) is names = inr astray
+    named_from front dir b name leads (inl has) is names =
+        let there = is_directory dir has names.directory in
+        elim (directory_or dir there) [
+          | inl seen ↦ inl (name_claims im dir b name has there.dir is (names.child (every im dir) seen))
+          | inr astray ↦ inr (astray_at front dir leads astray)
+        ]
+
+    named_inode : (dir b : ℕ) (name : List ℕ) → IsNamedBy im dir b name → HasInode im b
+    named_inode dir b name named = (Named dir name, record { by = named.by; claimed = named.claims; dinode = refl })
+
+    pub led_there : (path : Path) (a : ℕ) → LeadsTo v wants path a → HasInode im a ⊎ IsAhead path
+    led_there path a (at_root held) = inl root_there
+    led_there path a (by_name front dir b name leads is names inside held) = elim (named_from front dir b name leads (led_there front dir leads) is names) [
+      | inl named ↦ inl (named_inode dir b name named)
+      | inr astray ↦ inr (further front (name ∷ []) (front ++ name ∷ []) refl astray)
+    ]
+
+    pub named_there : (front : Path) (dir b : ℕ) (name : List ℕ) → LeadsTo v wants front dir → IsName name → Names v dir name b → IsNamedBy im dir b name ⊎ IsAhead front
+    named_there front dir b name leads is names = named_from front dir b name leads (led_there front dir leads) is names
+
+    pub next_there : (path : Path) (depth a : ℕ) → IsNext v wants path depth a → HasInode im a ⊎ IsAhead path
+    next_there path depth a the_root = inl root_there
+    next_there path depth a (the_child front back dir b name on leads is names inside) = elim (named_there front dir b name leads is names) [
+      | inl named ↦ inl (named_inode dir b name named)
+      | inr astray ↦ inr (further front (name ∷ back) path on astray)
+    ]
+
+    -- the path leads to it, where its lock is held
+    pub next_led : (path : Path) (depth a : ℕ) → IsNext v wants path depth a → IsHeldAt v wants depth a → (front back : Path) × (path ≡ front ++ back) × LeadsTo v wants front a
+    next_led path depth a the_root held = ([], path, refl, at_root held)
+    next_led path depth a (the_child front back dir b name on leads is names inside) held =
+        (front ++ name ∷ [], back, on ∙ sym (append_assoc front (name ∷ []) back), by_name front dir b name leads is names inside held)
 
   -- a block in none of the view's groups is in none of the image's
   pub outside : (b : ℕ) → ¬ (HasDataBlock v b) → IsOutside im b

@@ -1,7 +1,11 @@
+pub mod Search
+pub mod Astray
 pub mod Claimed
+pub mod Owned
+pub mod Leaves
+pub mod Marked
+pub mod Dots
 pub mod Paths
 pub mod Calls
 pub mod Standing
 pub mod Mounted
-pub mod Needed
-pub mod Owned

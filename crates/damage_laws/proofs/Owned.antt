@@ -1,22 +1,27 @@
 -- A block with two owners: the directory above an inode that is to go, where it is one of the blocks that go with it.
-use Rattle.std.proofs.Common.{◌≡◌, ◌≢◌, ◌⊎◌, inl, inr, ℕ, true, false, true≢false, List, [], ◌∷◌, ◌++◌, refl, sym, ap, ◌∙◌, subst}
+use Rattle.std.proofs.Common.{◌≡◌, ◌≢◌, ◌⊎◌, inl, inr, ℕ, true, false, true≢false, List, [], ◌∷◌, ◌++◌, Some, refl, sym, ap, ◌∙◌, subst}
 use Rattle.std.proofs.lemmas.Bool.{cases_eq}
 use Rattle.call_locks.specs.declared.want.Want.{Want}
-use Rattle.file_tree.specs.Names.{parent_of}
+use Rattle.directories.proofs.Sound.{says_once}
+use Rattle.directories.specs.Shown as dirs
+use Rattle.file_tree.specs.Names.{IsName, parent_of}
 use Rattle.gfs2_layout.specs.Device.{superblock_place}
 use Rattle.glock_names.specs.Views.{Seen}
+use Rattle.glock_names.specs.declared.steps.Entry.{Entry}
+use Rattle.image_changes.proofs.FlatPaths.{last_name}
 use Rattle.image_model.specs.Claims.{every, Claims, below, HasInode}
 use Rattle.image_model.specs.Flat.{Path}
 use Rattle.image_model.specs.Groups.{state_of}
-use Rattle.image_model.specs.Image.{Image}
+use Rattle.image_model.specs.Image.{Image, IsImage}
 use Rattle.image_model.specs.Owners.{Owner, Super, InGroup, Free, Nobody, Root, Master, Named, Below, Chained, is_dinode}
 use Rattle.image_model.specs.Rules.{Breaks, two_owners}
-use Rattle.path_walks.specs.Walks.{LeadsTo, at_root, by_name}
-use Rattle.path_walks.proofs.Leads.{leads_once}
+use Rattle.image_model.proofs.Held.{some_same}
+use Rattle.path_walks.specs.Walks.{LeadsTo, Names, at_root, by_name}
+use Rattle.path_walks.proofs.Leads.{no_end}
 use Rattle.path_walks.proofs.Lists.{parent_of_next}
 use Rattle.removing_calls.specs.Removing.{Goes}
-use Rattle.damage_laws.specs.Telling.{IsReadFrom}
-use Rattle.damage_laws.proofs.Claimed.{root_claimed, name_claims, led_there}
+use Rattle.damage_laws.specs.Telling.{IsReadFrom, HasAstray}
+use Rattle.damage_laws.proofs.Claimed.{root_claimed, is_directory, directory_or, astray_at, further, named_there, led_there}
 
 -- the bits of a dinode's block
 pub dinode_state : (o : Owner) → is_dinode o ≡ true → state_of o ≡ 3
@@ -36,6 +41,12 @@ root_other dir name e = cc
 same_directory : (dir other : ℕ) (name last : List ℕ) → Named dir name ≡ Named other last → dir ≡ other
 same_directory dir other name last e = cc
 
+-- a path that has a name is the one above and that name
+pub from_parent : (path : Path) → (back : Path) × (path ≡ parent_of path ++ back)
+from_parent [] = ([], refl)
+from_parent (n ∷ []) = (n ∷ [], refl)
+from_parent (n ∷ m ∷ ns) = let f = from_parent (m ∷ ns) in (f.0, ap (λ p. n ∷ p) f.1)
+
 -- the block has an owner other than this name in the directory that it is itself
 record HasOtherOwner (im : Image) (a : ℕ) (name : List ℕ) : Type 0 where
   by : ℕ
@@ -43,34 +54,79 @@ record HasOtherOwner (im : Image) (a : ℕ) (name : List ℕ) : Type 0 where
   claims : Claims im by a owner
   other : owner ≢ Named a name
 
-module _ (v : Seen) (im : Image) (read : IsReadFrom v im) (wants : List Want) where
+module _ (v : Seen) (im : Image) (read : IsReadFrom v im) (is_image : IsImage im) (wants : List Want) where
+  abbrev IsAhead : Path → Type 0
+  IsAhead path = HasAstray v im wants path
+
+  -- a name of a directory leads to one block
+  one_child : (dir b c : ℕ) (name : List ℕ) → dirs.IsShown v dir (every im dir) → Names v dir name b → Names v dir name c → b ≡ c
+  one_child dir b c name seen first second =
+      let one = first.child (every im dir) seen in
+      let other = second.child (every im dir) seen in
+      sym one.address ∙ ap (λ (e : Entry). e.addr) (some_same (says_once (every im dir) name (Some one.entry) (Some other.entry) one.says other.says)) ∙ other.address
+
+  -- and so does a path
+  led_once : (p q : Path) (a b : ℕ) → LeadsTo v wants p a → LeadsTo v wants q b → p ≡ q → (a ≡ b) ⊎ IsAhead p
+  led_once [] [] a b (at_root held) (at_root held') e = inl refl
+  led_once [] q a b (at_root held) (by_name front dir b' name leads is_name named inside held') e = absurd (no_end front name e)
+  led_once p [] a b (by_name front dir b' name leads is_name named inside held) (at_root held') e = absurd (no_end front name (sym e))
+  led_once p q a b (by_name front dir a' name leads is_name named inside held) (by_name front' dir' b' name' leads' is_name' named' inside' held') e =
+      let same_front : front ≡ front' = sym (parent_of_next front name) ∙ ap parent_of e ∙ parent_of_next front' name' in
+      let same_name : name ≡ name' = last_name front front' name name' e in
+      let up : HasAstray v im wants front → HasAstray v im wants (front ++ name ∷ []) = λ astray. further v im read is_image wants front (name ∷ []) (front ++ name ∷ []) refl astray in
+      elim (led_once front front' dir dir' leads leads' same_front) [
+        | inr astray ↦ inr (up astray)
+        | inl same_dir ↦ elim (led_there v im read is_image wants front dir leads) [
+          | inr astray ↦ inr (up astray)
+          | inl has ↦ elim (directory_or v im read is_image dir (is_directory v im read is_image dir has named.directory)) [
+            | inr astray ↦ inr (up (astray_at v im read is_image wants front dir leads astray))
+            | inl seen ↦ inl (one_child dir a' b' name seen named (subst (λ n. Names v dir n b') (sym same_name) (subst (λ d. Names v d name' b') (sym same_dir) named')))
+          ]
+        ]
+      ]
+
   -- so has an inode to which a path leads
-  other_owner : (path : Path) (a : ℕ) (name : List ℕ) → LeadsTo v wants path a → HasOtherOwner im a name
-  other_owner path a name (at_root held) = record { by = superblock_place im.size; owner = Root; claims = root_claimed v im read; other = root_other a name }
-  other_owner path a name (by_name front dir b last leads is names inside held) = elim (cases_eq dir b) [
-    | inl same ↦ subst (λ x. HasOtherOwner im x name) same (other_owner front dir name leads)
-    | inr apart ↦ record {
-      by = dir;
-      owner = Named dir last;
-      claims = name_claims v im read dir b last (led_there v im read wants front dir leads) is names;
-      other = λ e. apart (same_directory dir b last name e);
-    }
-  ]
+  other_owner : (path : Path) (a : ℕ) (name : List ℕ) → LeadsTo v wants path a → HasOtherOwner im a name ⊎ IsAhead path
+  other_owner path a name (at_root held) = inl (record { by = superblock_place im.size; owner = Root; claims = root_claimed v im read is_image; other = root_other a name })
+  other_owner path a name (by_name front dir b last leads is names inside held) =
+      let up : HasAstray v im wants front → HasAstray v im wants (front ++ last ∷ []) = λ astray. further v im read is_image wants front (last ∷ []) (front ++ last ∷ []) refl astray in
+      elim (cases_eq dir b) [
+        | inl same ↦ elim (other_owner front dir name leads) [ inl other ↦ inl (subst (λ x. HasOtherOwner im x name) same other) | inr astray ↦ inr (up astray) ]
+        | inr apart ↦ elim (named_there v im read is_image wants front dir b last leads is names) [
+          | inl named ↦ inl (record {
+              by = named.by;
+              owner = Named dir last;
+              claims = named.claims;
+              other = λ e. apart (same_directory dir b last name e);
+            })
+          | inr astray ↦ inr (up astray)
+        ]
+      ]
 
   -- a name in a directory that leads to this itself
-  named_twice : (path : Path) (a : ℕ) → LeadsTo v wants path a → path ≢ [] → LeadsTo v wants (parent_of path) a → Breaks im 3 a
+  named_twice : (path : Path) (a : ℕ) → LeadsTo v wants path a → path ≢ [] → LeadsTo v wants (parent_of path) a → Breaks im 3 a ⊎ IsAhead path
   named_twice path a (at_root held) some above = absurd (some refl)
   named_twice path a (by_name front dir b last leads is names inside held) some above =
-      let same : dir ≡ b = leads_once v wants front (parent_of (front ++ last ∷ [])) dir b leads above (sym (parent_of_next front last)) in
-      let claims : Claims im b b (Named b last) = subst (λ x. Claims im x b (Named x last)) same (name_claims v im read dir b last (led_there v im read wants front dir leads) is names) in
-      let other = other_owner front b last (subst (LeadsTo v wants front) same leads) in
-      two_owners b b other.by (Named b last) other.owner claims other.claims (λ e. other.other (sym e))
+      let up : HasAstray v im wants front → HasAstray v im wants (front ++ last ∷ []) = λ astray. further v im read is_image wants front (last ∷ []) (front ++ last ∷ []) refl astray in
+      elim (led_once front (parent_of (front ++ last ∷ [])) dir b leads above (sym (parent_of_next front last))) [
+        | inr astray ↦ inr (up astray)
+        | inl same ↦ elim (named_there v im read is_image wants front dir b last leads is names) [
+          | inr astray ↦ inr (up astray)
+          | inl named ↦ elim (other_owner front b last (subst (LeadsTo v wants front) same leads)) [
+            | inr astray ↦ inr (up astray)
+            | inl other ↦ inl (two_owners b named.by other.by (Named b last) other.owner (subst (λ x. Claims im named.by b (Named x last)) same named.claims) other.claims (λ e. other.other (sym e)))
+          ]
+        ]
+      ]
 
-  pub shared_told : (path : Path) (a dir : ℕ) → path ≢ [] → LeadsTo v wants path a → LeadsTo v wants (parent_of path) dir → Goes (every im a) dir → Breaks im 3 dir
+  pub shared_told : (path : Path) (a dir : ℕ) → path ≢ [] → LeadsTo v wants path a → LeadsTo v wants (parent_of path) dir → Goes (every im a) dir → Breaks im 3 dir ⊎ IsAhead path
   shared_told path a dir some leads above (inl own) = named_twice path dir (subst (LeadsTo v wants path) (sym own) leads) some above
-  shared_told path a dir some leads above (inr led) =
-      let has : HasInode im a = led_there v im read wants path a leads in
-      let top : HasInode im dir = led_there v im read wants (parent_of path) dir above in
-      two_owners dir led.0 top.1.by (Below a led.0 led.1 led.2 led.3) top.0
-      (below has.1.by a has.0 led.0 led.1 led.2 led.3 dir has.1.claimed has.1.dinode led.4) top.1.claimed
-      (λ e. true≢false (sym top.1.dinode ∙ ap is_dinode (sym e)))
+  shared_told path a dir some leads above (inr led) = elim (led_there v im read is_image wants path a leads) [
+    | inr astray ↦ inr astray
+    | inl has ↦ elim (led_there v im read is_image wants (parent_of path) dir above) [
+      | inr astray ↦ let f = from_parent path in inr (further v im read is_image wants (parent_of path) f.0 path f.1 astray)
+      | inl top ↦ inl (two_owners dir led.0 top.1.by (Below a led.0 led.1 led.2 led.3) top.0
+          (below has.1.by a has.0 led.0 led.1 led.2 led.3 dir has.1.claimed has.1.dinode led.4) top.1.claimed
+          (λ e. true≢false (sym top.1.dinode ∙ ap is_dinode (sym e))))
+    ]
+  ]

@@ -1,22 +1,45 @@
 -- Damage in an inode, and on a path.
-use Rattle.std.proofs.Common.{◌≡◌, ◌≢◌, ℕ, suc, true≢false, List, None, sym, ◌∙◌, subst}
-use Rattle.std.proofs.lemmas.Bool.{cond-false}
+use Rattle.std.proofs.Common.{◌≡◌, ◌≢◌, ◌⊎◌, ℕ, zero, suc, ◌+◌, ◌<◌, ◌^◌, inl, inr, Bool, true, false, true≢false, List, [], ◌∷◌, ◌++◌, length, Option, None, Some, refl, sym, ap, ◌∙◌, subst, arith}
+use Rattle.std.proofs.lemmas.Bool.{cases_Bool, cond-false}
 use Rattle.std.specs.Prelude.{Contains, codes}
-use Rattle.gfs2_layout.specs.Inode.{linear_area, records_of}
+use Rattle.std.specs.Option.{option_map}
+use Rattle.crc_words.specs.Remainder.{crc32_of}
+use Rattle.gfs2_layout.specs.Exchanges.{directory_count}
+use Rattle.gfs2_layout.specs.Holding.{Holding}
+use Rattle.gfs2_layout.specs.Inode.{dinode_in, first_hash, is_hashed_in, leaf_area, linear_area, records_of}
 use Rattle.gfs2_layout.specs.Records.{Record, record_named, records_in}
+use Rattle.glock_names.specs.Views.{Seen}
+use Rattle.glock_names.specs.declared.steps.Entry.{Entry}
+use Rattle.call_locks.specs.declared.want.Want.{Want}
 use Rattle.dinode_tree.specs.Broken as inode
+use Rattle.dinode_tree.specs.Shown.{IsShown}
+use Rattle.directories.specs.Shown as dirs
+use Rattle.hash_dirs.specs.Broken as leaves
+use Rattle.hash_dirs.specs.Finding.{IsFirstNamed, IsNamedLater, in_leaf, nowhere}
+use Rattle.hash_dirs.specs.Shown.{index_for}
 use Rattle.linear_dirs.specs.Broken as directory
-use Rattle.image_model.specs.Claims.{every, below, HasInode, HasDirectory, HasArea, behind_dinode, of_leaf}
-use Rattle.image_model.specs.Image.{Image}
-use Rattle.image_model.specs.Owners.{Named}
-use Rattle.image_model.specs.Rules.{Needs, of_dinode, of_indirect, of_table, HasRecords, from_dinode_block, Breaks, no_header, beyond_groups, other_address, no_number, no_mode, too_high, too_large_for_dinode, too_large_for_height, linear_height, linear_size, past_end, unfilled, no_name, directory_links, entry_count, no_dot, no_dots, HasRecordIn}
-use Rattle.image_model.proofs.Members.{is_in}
-use Rattle.image_reader.proofs.Directories.{leaf_is_hashed}
+use Rattle.linear_dirs.specs.Shown.{entry_of}
+use Rattle.image_model.specs.Claims.{every, below, HasInode, HasDirectory, HasArea, HasLeaf, behind_dinode, of_leaf}
+use Rattle.image_model.specs.Claims as image
+use Rattle.image_model.specs.Flat.{Path}
+use Rattle.image_model.specs.Image.{Image, IsImage}
+use Rattle.image_model.specs.Owners.{Named, Chained}
+use Rattle.image_model.specs.Rules as rules
+use Rattle.image_model.specs.Rules.{Needs, of_dinode, of_indirect, of_table, HasRecords, from_dinode_block, Breaks, HasRecordIn}
+use Rattle.image_model.proofs.Held.{none_some}
+use Rattle.image_model.proofs.Members.{IsIn, is_in}
+use Rattle.image_model.proofs.Reach.{Leading}
+use Rattle.image_reader.proofs.Directories.{leaf_is_hashed, not_both}
 use Rattle.path_walks.specs.Walks as path
-use Rattle.path_walks.specs.Walks.{IsLinearDirectory, IsWrong, in_inode, in_directory, on_path, leads_out}
+use Rattle.path_walks.specs.Walks.{IsDirectoryAt, IsHeldAt, IsNext, IsWrongAt, LeadsTo, in_inode, in_directory, too_few, on_path, leads_out}
 use Rattle.path_walks.proofs.Images.{none_named}
-use Rattle.damage_laws.specs.Telling.{InodesAreThere, PathsTell}
-use Rattle.damage_laws.proofs.Claimed.{shown, name_claims, led_there, next_there, outside}
+use Rattle.damage_laws.specs.Telling.{InodesAreThere, PathsTell, HasAstray, IsAstray, IsReadFrom, IsTold, itself, misplaced, too_deep, astray}
+use Rattle.damage_laws.proofs.Claimed.{shown, is_directory, directory_or, astray_at, further, named_there, led_there, next_there, next_led, outside, chain_claims, leaf_claims, has_leaf, record_is, name_claims, IsNamedBy}
+use Rattle.damage_laws.proofs.Dots.{IsMisplaced, leaf, table, absent_or}
+use Rattle.damage_laws.proofs.Leaves.{AreMarked, marked, marked_or, all_records, has_records, record_of_leaf}
+use Rattle.damage_laws.proofs.Marked.{dinode_marked, hashed_marked, leaf_marked, records_marked, shown_marked}
+
+-- ---- an inode
 
 module _ (im : Image) (a : ℕ) (has : HasInode im a) where
   needed : (b kind format : ℕ) → inode.Needs (every im a) b kind format → Needs im b kind format
@@ -25,58 +48,305 @@ module _ (im : Image) (a : ℕ) (has : HasInode im a) where
   needed b kind format (inode.of_table x k first c leads is) = of_table x a c x k first (below has.1.by a has.0 x k 0 first c has.1.claimed has.1.dinode leads) is
 
   pub broken_inode : (rule b : ℕ) → inode.IsBroken (every im a) rule b → Breaks im rule b
-  broken_inode rule b (inode.no_header x kind format needs lacks) = no_header x kind format (needed x kind format needs) lacks
-  broken_inode rule b (inode.other_address other) = other_address a has other
-  broken_inode rule b (inode.no_number zero) = no_number a has zero
-  broken_inode rule b (inode.no_mode no_dir no_file) = no_mode a has no_dir no_file
-  broken_inode rule b (inode.too_high high) = too_high a has high
-  broken_inode rule b (inode.too_large_for_dinode flat large) = too_large_for_dinode a has flat large
-  broken_inode rule b (inode.too_large_for_height level height large) = too_large_for_height a level has height large
-  broken_inode rule b (inode.past_end x k level first c leads past) = past_end a x k level first c has leads past
+  broken_inode rule b (inode.no_header x kind format needs lacks) = rules.no_header x kind format (needed x kind format needs) lacks
+  broken_inode rule b (inode.other_address other) = rules.other_address a has other
+  broken_inode rule b (inode.no_number none) = rules.no_number a has none
+  broken_inode rule b (inode.no_mode no_dir no_file) = rules.no_mode a has no_dir no_file
+  broken_inode rule b (inode.too_high high) = rules.too_high a has high
+  broken_inode rule b (inode.too_large_for_dinode flat large) = rules.too_large_for_dinode a has flat large
+  broken_inode rule b (inode.too_large_for_height level height large) = rules.too_large_for_height a level has height large
+  broken_inode rule b (inode.past_end x k level first c leads past) = rules.past_end a x k level first c has leads past
 
-  module _ (linear : IsLinearDirectory (every im a)) where
-    there : HasDirectory im a
-    there = record { inode = has; dir = linear.directory }
+-- no rule of an inode counts
+no_count : (h : Holding) (rule b : ℕ) → rule ≡ 12 → inode.IsBroken h rule b → ⊥
+no_count h _ _ e (inode.no_header x kind format needs lacks) = omega (arith, e)
+no_count h _ _ e (inode.other_address other) = omega (arith, e)
+no_count h _ _ e (inode.no_number none) = omega (arith, e)
+no_count h _ _ e (inode.no_mode no_dir no_file) = omega (arith, e)
+no_count h _ _ e (inode.too_high high) = omega (arith, e)
+no_count h _ _ e (inode.too_large_for_dinode flat large) = omega (arith, e)
+no_count h _ _ e (inode.too_large_for_height level height large) = omega (arith, e)
+no_count h _ _ e (inode.past_end x k level first c leads past) = omega (arith, e)
 
-    area : HasArea im a a (linear_area (every im a))
-    area = behind_dinode there linear.linear
+-- ---- a linear directory
 
-    same_records : records_of (every im a) ≡ records_in (linear_area (every im a))
-    unfolding records_of
-    same_records = cond-false _ _ _ linear.linear
+module _ (im : Image) (a : ℕ) (has : HasDirectory im a) (linear : is_hashed_in (every im a) ≡ false) where
+  area : HasArea im a a (linear_area (every im a))
+  area = behind_dinode has linear
 
-    records : HasRecords im a (records_of (every im a))
-    records = subst (HasRecords im a) (sym same_records) (from_dinode_block there linear.linear)
+  same_records : records_of (every im a) ≡ records_in (linear_area (every im a))
+  unfolding records_of
+  same_records = cond-false _ _ _ linear
 
-    pub broken_directory : (rule b : ℕ) → directory.IsBroken (every im a) rule b → Breaks im rule b
-    broken_directory rule b (directory.of_inode r x broken) = broken_inode r x broken
-    broken_directory rule b (directory.not_stuffed height) = linear_height a there linear.linear height
-    broken_directory rule b (directory.not_filled size) = linear_size a there linear.linear size
-    broken_directory rule b (directory.no_area bad) = unfilled a a (linear_area (every im a)) area bad
-    broken_directory rule b (directory.no_name r in_it plain bad) =
-        no_name a a r (linear_area (every im a), area, subst (λ rs. Contains rs r) same_records in_it) plain bad
-    broken_directory rule b (directory.wrong_entries other) = entry_count a (records_of (every im a)) records other
-    broken_directory rule b (directory.wrong_links other) = directory_links a (records_of (every im a)) records other
+  records : HasRecords im a (records_of (every im a))
+  records = subst (HasRecords im a) (sym same_records) (from_dinode_block has linear)
 
-    -- its records are those of its dinode's block
-    in_records : (x : ℕ) (area : List ℕ) (r : Record) → HasArea im a x area → Contains (records_in area) r → Contains (records_of (every im a)) r
-    in_records x area r (behind_dinode has plain) in_it = subst (λ rs. Contains rs r) (sym same_records) in_it
-    in_records x area r (of_leaf y leaf) in_it = absurd (true≢false (sym (leaf_is_hashed im leaf.0 y a leaf.1 leaf.2 leaf.3) ∙ linear.linear))
+  pub broken_directory : (rule b : ℕ) → directory.IsBroken (every im a) rule b → Breaks im rule b
+  broken_directory rule b (directory.of_inode r x broken) = broken_inode im a has.inode r x broken
+  broken_directory rule b (directory.not_stuffed height) = rules.linear_height a has linear height
+  broken_directory rule b (directory.not_filled size) = rules.linear_size a has linear size
+  broken_directory rule b (directory.no_area bad) = rules.unfilled a a (linear_area (every im a)) area bad
+  broken_directory rule b (directory.no_name r in_it plain bad) =
+      rules.no_name a a r (linear_area (every im a), area, subst (λ rs. Contains rs r) same_records in_it) plain bad
+  broken_directory rule b (directory.wrong_entries other) = rules.entry_count a (records_of (every im a)) records other
+  broken_directory rule b (directory.wrong_links other) = rules.directory_links a (records_of (every im a)) records other
 
-    no_such : (name : List ℕ) → record_named (records_of (every im a)) name ≡ None → (x : ℕ) (r : Record) → HasRecordIn im a x r → r.name ≢ name
-    no_such name none x r has same = none_named (records_of (every im a)) name none r (is_in r (records_of (every im a)) (in_records x has.0 r has.1 has.2)) same
+  -- its records are those of its dinode's block
+  in_records : (x : ℕ) (part : List ℕ) (r : Record) → HasArea im a x part → Contains (records_in part) r → Contains (records_of (every im a)) r
+  in_records x _ r (behind_dinode _ plain) in_it = subst (λ rs. Contains rs r) (sym same_records) in_it
+  in_records x _ r (of_leaf y held) in_it = absurd (not_both (is_hashed_in (every im a)) (leaf_is_hashed im held.0 y a held.1 held.2 held.3) linear)
 
-  pub wrong_inode : (rule b : ℕ) → IsWrong (every im a) rule b → Breaks im rule b
-  wrong_inode rule b (in_inode r x broken) = broken_inode r x broken
-  wrong_inode rule b (in_directory r x linear broken) = broken_directory linear r x broken
-  wrong_inode rule b (path.no_dot linear none) = no_dot a (there linear) (no_such linear (codes ".") none)
-  wrong_inode rule b (path.no_dots linear none) = no_dots a (there linear) (no_such linear (codes "..") none)
+  pub no_such : (name : List ℕ) → record_named (records_of (every im a)) name ≡ None → (x : ℕ) (r : Record) → HasRecordIn im a x r → r.name ≢ name
+  no_such name none x r at same = none_named (records_of (every im a)) name none r (is_in r (records_of (every im a)) (in_records x at.0 r at.1 at.2)) same
+
+-- ---- a hashed directory
+
+no_entry : (named : Option Record) → None ≡ option_map entry_of named → named ≡ None
+no_entry None e = refl
+no_entry (Some r) e = absurd (none_some e)
+
+some_entry : (named : Option Record) (e : Entry) → Some e ≡ option_map entry_of named → (r : Record) × (named ≡ Some r)
+some_entry None e is = absurd (none_some (sym is))
+some_entry (Some r) e is = (r, refl)
+
+two_long : (xs : List Record) (r s : Record) → IsIn r xs → IsIn s xs → r.name ≢ s.name → length xs < 2 → ⊥
+two_long [] r s first second other few = first
+two_long (x ∷ []) r s (inl e) (inl f) other few = other (ap (λ (q : Record). q.name) (e ∙ sym f))
+two_long (x ∷ []) r s (inl e) (inr at) other few = at
+two_long (x ∷ []) r s (inr at) second other few = at
+two_long (x ∷ y ∷ ys) r s first second other few = absurd (omega (arith, few))
+
+some_in : (xs : List Record) (r : Record) → IsIn r xs → length xs ≢ 0
+some_in [] r there none = there
+some_in (x ∷ xs) r there none = absurd (omega (arith, none))
+
+module _ (v : Seen) (im : Image) (read : IsReadFrom v im) (is_image : IsImage im) (a : ℕ) (has : HasDirectory im a) (hashed : is_hashed_in (every im a) ≡ true) where
+  module _ (m : ℕ → Bool) (are : AreMarked im a has hashed m) where
+    listed : HasRecords im a (all_records im a m)
+    listed = has_records im a m has hashed are
+
+    -- it counts no records, and has one
+    counts_none : (x : ℕ) (r : Record) → HasLeaf im a x → Contains (records_in (leaf_area (every im a) x)) r → (dinode_in (every im a)).entries ≡ 0 → Breaks im 12 a
+    counts_none x r held there none = rules.entry_count a (all_records im a m) listed (λ e. some_in (all_records im a m) r (record_of_leaf im a m has hashed are x r held there) (sym e ∙ none))
+
+    links_none : (dinode_in (every im a)).nlink ≡ 0 → Breaks im 12 a
+    links_none none = rules.directory_links a (all_records im a m) listed (λ e. absurd (omega (arith, e, none)))
+
+    -- with its leaves marked, its records are counted
+    marked_told : (rule b : ℕ) → rule ≡ 12 → b ≡ a → leaves.IsBroken (marked im m a) rule b → Breaks im 12 a
+    marked_told _ _ is at (leaves.of_inode rule b broken) = absurd (no_count (marked im m a) rule b is broken)
+    marked_told _ _ is at (leaves.no_header i from x leads some lacks) = absurd (omega (arith, is))
+    marked_told _ _ is at (leaves.unfilled i from x leads some bad) = absurd (omega (arith, is))
+    marked_told _ _ is at (leaves.no_name i from x r leads some there plain bad) = absurd (omega (arith, is))
+    marked_told _ _ is at (leaves.no_entries i from x r leads some there none) =
+        counts_none x r (leaf_marked im m a has.inode hashed i from x leads) there (sym (ap (λ d. d.entries) (dinode_marked im m a)) ∙ none)
+    marked_told _ _ is at (leaves.no_links none) = links_none (sym (ap (λ d. d.nlink) (dinode_marked im m a)) ∙ none)
+    marked_told _ _ is at (leaves.wrong_entries other) =
+        rules.entry_count a (all_records im a m) listed (λ e. other (ap (λ d. d.entries) (dinode_marked im m a) ∙ e ∙ ap length (sym (records_marked im m a hashed))))
+    marked_told _ _ is at (leaves.wrong_links other) =
+        rules.directory_links a (all_records im a m) listed (λ e. other (ap (λ d. d.nlink) (dinode_marked im m a) ∙ e ∙ ap (λ rs. 2 + directory_count rs) (sym (records_marked im m a hashed))))
+    marked_told _ _ is at (leaves.table_too_small small) = absurd (omega (arith, is))
+    marked_told _ _ is at (leaves.table_too_large large) = absurd (omega (arith, is))
+    marked_told _ _ is at (leaves.table_size other) = absurd (omega (arith, is))
+    marked_told _ _ is at (leaves.no_leaf i low none) = absurd (omega (arith, is))
+    marked_told _ _ is at (leaves.records_format i from x leads some other) = absurd (omega (arith, is))
+    marked_told _ _ is at (leaves.too_deep i from x leads some deep) = absurd (omega (arith, is))
+    marked_told _ _ is at (leaves.leaf_entries i from x leads some other) = absurd (omega (arith, is))
+    marked_told _ _ is at (leaves.comes_again i place later x first second before) = absurd (omega (arith, is))
+
+    wrong_marked : (rule b : ℕ) → rule ≡ 12 → b ≡ a → dirs.IsBroken v (marked im m a) rule b → Breaks im 12 a
+    wrong_marked rule b is at told = by told
+      where
+        in_it : (rule b : ℕ) → rule ≡ 12 → b ≡ a → leaves.IsWrongIn v (marked im m a) rule b → Breaks im 12 a
+        in_it _ _ e f (leaves.breaks rule b broken) = marked_told rule b e f broken
+        in_it _ _ e f (leaves.outside i from x leads out) = absurd (omega (arith, e))
+        in_it _ _ e f (leaves.stray i from x r leads some there plain out) = absurd (omega (arith, e))
+
+        by : dirs.IsBroken v (marked im m a) rule b → Breaks im 12 a
+        by (dirs.of_inode broken) = absurd (no_count (marked im m a) rule b is broken)
+        by (dirs.in_linear dir plain broken) = absurd (not_both (is_hashed_in (every im a)) hashed (sym (hashed_marked im m a) ∙ plain))
+        by (dirs.in_hashed flag wrong) = in_it rule b is at wrong
+
+  module _ (m : ℕ → Bool) (are : AreMarked im a has hashed m) where
+    broken_hashed : (rule b : ℕ) → (rule ≡ 12 → b ≡ a → Breaks im 12 a) → leaves.IsBroken (every im a) rule b → Breaks im rule b
+    broken_hashed _ _ count (leaves.of_inode rule b broken) = broken_inode im a has.inode rule b broken
+    broken_hashed _ _ count (leaves.no_header i from x leads some lacks) = rules.no_header x 6 600 (rules.of_leaf a x (has_leaf im a has.inode hashed i from x leads)) lacks
+    broken_hashed _ _ count (leaves.unfilled i from x leads some bad) = rules.unfilled a x (leaf_area (every im a) x) (of_leaf x (has_leaf im a has.inode hashed i from x leads)) bad
+    broken_hashed _ _ count (leaves.no_name i from x r leads some there plain bad) =
+        rules.no_name a x r (leaf_area (every im a) x, of_leaf x (has_leaf im a has.inode hashed i from x leads), there) plain bad
+    broken_hashed _ _ count (leaves.no_entries i from x r leads some there none) = counts_none m are x r (has_leaf im a has.inode hashed i from x leads) there none
+    broken_hashed _ _ count (leaves.no_links none) = links_none m are none
+    broken_hashed _ _ count (leaves.wrong_entries other) = count refl refl
+    broken_hashed _ _ count (leaves.wrong_links other) = count refl refl
+    broken_hashed _ _ count (leaves.table_too_small small) = rules.table_too_small a (has.inode, hashed) small
+    broken_hashed _ _ count (leaves.table_too_large large) = rules.table_too_large a (has.inode, hashed) large
+    broken_hashed _ _ count (leaves.table_size other) = rules.table_size a (has.inode, hashed) other
+    broken_hashed _ _ count (leaves.no_leaf i low none) = rules.no_leaf a i (has.inode, hashed) low none
+    broken_hashed _ _ count (leaves.records_format i from x leads some other) = rules.records_format a x (has_leaf im a has.inode hashed i from x leads) other
+    broken_hashed _ _ count (leaves.too_deep i from x leads some deep) = rules.leaf_too_deep a x (has_leaf im a has.inode hashed i from x leads) deep
+    broken_hashed _ _ count (leaves.leaf_entries i from x leads some other) = rules.leaf_entries a x (has_leaf im a has.inode hashed i from x leads) other
+    broken_hashed _ _ count (leaves.comes_again i place later x first second before) =
+        let one = chain_claims im a has.inode hashed i place x first in
+        let other = chain_claims im a has.inode hashed i later x second in
+        rules.comes_again a (first_hash (every im a) i) x one.0 other.0 place later one.1 other.1 before
+
+    wrong_hashed : (rule b : ℕ) → (rule ≡ 12 → b ≡ a → Breaks im 12 a) → leaves.IsWrongIn v (every im a) rule b → Breaks im rule b
+    wrong_hashed _ _ count (leaves.breaks rule b broken) = broken_hashed rule b count broken
+    wrong_hashed _ _ count (leaves.outside i from x leads out) =
+        let c = leaf_claims im a has.inode hashed i from x leads in
+        rules.beyond_groups from x (Chained a c.0 c.1) c.2 (outside v im read is_image x out)
+    wrong_hashed _ _ count (leaves.stray i from x r leads some there plain out) =
+        let c = leaf_claims im a has.inode hashed i from x leads in
+        rules.beyond_groups x r.address (Named a r.name) (image.in_leaf from x a c.0 c.1 r c.2 there plain) (outside v im read is_image r.address out)
+
+    wrong_every : (rule b : ℕ) → (rule ≡ 12 → b ≡ a → Breaks im 12 a) → dirs.IsBroken v (every im a) rule b → Breaks im rule b
+    wrong_every rule b count (dirs.of_inode broken) = broken_inode im a has.inode rule b broken
+    wrong_every rule b count (dirs.in_linear dir plain broken) = absurd (not_both (is_hashed_in (every im a)) hashed plain)
+    wrong_every rule b count (dirs.in_hashed flag wrong) = wrong_hashed rule b count wrong
+
+    -- a name that it says it has not
+    nowhere_of : (i : ℕ) (name : List ℕ) (named : Option Record) → named ≡ None → IsFirstNamed (every im a) i name named → (place : ℕ) → IsNamedLater (every im a) i name place
+    nowhere_of i name _ none (in_leaf place x r chain found later) = absurd (none_some (sym none))
+    nowhere_of i name _ none (nowhere nothing) = nothing
+
+    absent_hashed : (name : List ℕ) (found : Option Entry) → None ≡ found → dirs.Says (every im a) name found → ((x : ℕ) (r : Record) → HasRecordIn im a x r → r.name ≢ name) ⊎ IsMisplaced im a
+    absent_hashed name _ none (dirs.in_linear plain) = absurd (not_both (is_hashed_in (every im a)) hashed plain)
+    absent_hashed name _ none (dirs.in_hashed found flag small by) =
+        absent_or im is_image a has hashed m are name small (nowhere_of (index_for (every im a) name) name by.named (no_entry by.named (none ∙ by.leads)) by.first)
+
+    -- a name that it says it has
+    found_of : (i : ℕ) (name : List ℕ) (named : Option Record) (r : Record) → named ≡ Some r → IsFirstNamed (every im a) i name named → (q : Record) × IsIn q (all_records im a m) × (q.name ≡ name)
+    found_of i name _ r is (nowhere nothing) = absurd (none_some is)
+    found_of i name _ r is (in_leaf place x q chain found later) =
+        let led = record_is (records_in (leaf_area (every im a) x)) name q found in
+        let c = chain_claims im a has.inode hashed i place x chain in
+        (led.entry, record_of_leaf im a m has hashed are x led.entry (c.0, first_hash (every im a) i, place, c.1) led.there, led.named)
+
+    there_hashed : (name : List ℕ) (found : Option Entry) (e : Entry) → Some e ≡ found → dirs.Says (every im a) name found → (q : Record) × IsIn q (all_records im a m) × (q.name ≡ name)
+    there_hashed name _ e some (dirs.in_linear plain) = absurd (not_both (is_hashed_in (every im a)) hashed plain)
+    there_hashed name _ e some (dirs.in_hashed found flag small by) =
+        let r = some_entry by.named e (some ∙ by.leads) in
+        found_of (index_for (every im a) name) name by.named r.0 r.1 by.first
+
+-- ---- a directory of any form
+
+absent_linear : (im : Image) (a : ℕ) → HasDirectory im a → is_hashed_in (every im a) ≡ false → (name : List ℕ) (found : Option Entry) → None ≡ found → dirs.Says (every im a) name found
+    → (x : ℕ) (r : Record) → HasRecordIn im a x r → r.name ≢ name
+absent_linear im a has linear name _ none (dirs.in_linear plain) = no_such im a has linear name (no_entry (record_named (records_of (every im a)) name) none)
+absent_linear im a has linear name _ none (dirs.in_hashed found flag small by) = absurd (not_both (is_hashed_in (every im a)) flag linear)
+
+there_linear : (im : Image) (a : ℕ) → is_hashed_in (every im a) ≡ false → (name : List ℕ) (found : Option Entry) (e : Entry) → Some e ≡ found → dirs.Says (every im a) name found
+    → (q : Record) × IsIn q (records_of (every im a)) × (q.name ≡ name)
+there_linear im a linear name _ e some (dirs.in_linear plain) =
+    let r = some_entry (record_named (records_of (every im a)) name) e some in
+    let led = record_is (records_of (every im a)) name r.0 r.1 in
+    (led.entry, is_in led.entry (records_of (every im a)) led.there, led.named)
+there_linear im a linear name _ e some (dirs.in_hashed found flag small by) = absurd (not_both (is_hashed_in (every im a)) flag linear)
+
+dots_differ : codes "." ≢ codes ".."
+dots_differ e = cc
+
+module _ (v : Seen) (im : Image) (read : IsReadFrom v im) (is_image : IsImage im) (wants : List Want) (names : Path) (a : ℕ) (up : ((x : ℕ) × IsAstray im a x) → HasAstray v im wants names) (has : HasDirectory im a) where
+  abbrev Told : ℕ → ℕ → Type 0
+  Told rule b = IsTold v im wants names rule b
+
+  few_records : (xs : List Record) → HasRecords im a xs → ((q : Record) × IsIn q xs × (q.name ≡ codes ".")) → ((q : Record) × IsIn q xs × (q.name ≡ codes "..")) → (dinode_in (every im a)).entries < 2 → Breaks im 12 a
+  few_records xs are own above few =
+      rules.entry_count a xs are (λ e. two_long xs own.0 above.0 own.1 above.1 (λ same. dots_differ (sym own.2 ∙ same ∙ above.2)) (omega (arith, e, few)))
+
+  wrong_directory : (rule b : ℕ) → ((h : Holding) → dirs.IsShown v a h → dirs.IsBroken v h rule b) → Told rule b
+  wrong_directory rule b wrong = elim (directory_or v im read is_image a has) [
+    | inr out ↦ astray rule b (up out)
+    | inl seen ↦ elim (cases_Bool (is_hashed_in (every im a))) [
+      | inr linear ↦ itself rule b (plain_told linear (wrong (every im a) seen))
+      | inl hashed ↦ elim (marked_or im a has hashed) [
+        | inr out ↦ astray rule b (up out)
+        | inl leaves ↦ itself rule b (wrong_every v im read is_image a has hashed leaves.0 leaves.1 rule b
+            (λ is at. wrong_marked v im read is_image a has hashed leaves.0 leaves.1 rule b is at (wrong (marked im leaves.0 a) (shown_marked im leaves.0 a v (shown v im read is_image a) seen)))
+            (wrong (every im a) seen))
+      ]
+    ]
+  ]
+    where
+      plain_told : is_hashed_in (every im a) ≡ false → dirs.IsBroken v (every im a) rule b → Breaks im rule b
+      plain_told linear (dirs.of_inode broken) = broken_inode im a has.inode rule b broken
+      plain_told linear (dirs.in_linear dir plain broken) = broken_directory im a has plain rule b broken
+      plain_told linear (dirs.in_hashed flag wrong) = absurd (not_both (is_hashed_in (every im a)) flag linear)
+
+  -- `.` or `..` isn't found
+  wrong_dots : (name : List ℕ) → (((x : ℕ) (r : Record) → HasRecordIn im a x r → r.name ≢ name) → Breaks im 10 a) → ((h : Holding) → dirs.IsShown v a h → dirs.Says h name None) → Told 10 a
+  wrong_dots name breaks none = elim (directory_or v im read is_image a has) [
+    | inr out ↦ astray 10 a (up out)
+    | inl seen ↦ elim (cases_Bool (is_hashed_in (every im a))) [
+      | inr linear ↦ itself 10 a (breaks (absent_linear im a has linear name None refl (none (every im a) seen)))
+      | inl hashed ↦ elim (marked_or im a has hashed) [
+        | inr out ↦ astray 10 a (up out)
+        | inl leaves ↦ elim (absent_hashed v im read is_image a has hashed leaves.0 leaves.1 name None refl (none (every im a) seen)) [
+          | inl absent ↦ itself 10 a (breaks absent)
+          | inr wrong ↦ by_leaf wrong
+        ]
+      ]
+    ]
+  ]
+    where
+      by_leaf : IsMisplaced im a → Told 10 a
+      by_leaf (leaf x held broken) = misplaced a x held broken
+      by_leaf (table broken) = too_deep a broken
+
+  wrong_few : (own above : Entry) → ((h : Holding) → dirs.IsShown v a h → dirs.Says h (codes ".") (Some own) × dirs.Says h (codes "..") (Some above)) → (dinode_in (every im a)).entries < 2 → Told 12 a
+  wrong_few own above says few = elim (directory_or v im read is_image a has) [
+    | inr out ↦ astray 12 a (up out)
+    | inl seen ↦ elim (cases_Bool (is_hashed_in (every im a))) [
+      | inr linear ↦
+          let s = says (every im a) seen in
+          itself 12 a (few_records (records_of (every im a)) (records im a has linear) (there_linear im a linear (codes ".") (Some own) own refl s.0) (there_linear im a linear (codes "..") (Some above) above refl s.1) few)
+      | inl hashed ↦ elim (marked_or im a has hashed) [
+        | inr out ↦ astray 12 a (up out)
+        | inl leaves ↦
+            let s = says (every im a) seen in
+            itself 12 a (few_records (all_records im a leaves.0) (has_records im a leaves.0 has hashed leaves.1)
+            (there_hashed v im read is_image a has hashed leaves.0 leaves.1 (codes ".") (Some own) own refl s.0) (there_hashed v im read is_image a has hashed leaves.0 leaves.1 (codes "..") (Some above) above refl s.1) few)
+      ]
+    ]
+  ]
+
+-- ---- an inode that is wrong as the view shows it
+
+pub wrong_at : (v : Seen) (im : Image) (read : IsReadFrom v im) (is_image : IsImage im) (wants : List Want) (names : Path) (a : ℕ) → (((x : ℕ) × IsAstray im a x) → HasAstray v im wants names) → HasInode im a
+    → (rule b : ℕ) → IsWrongAt v a rule b → IsTold v im wants names rule b
+wrong_at v im read is_image wants names a up has _ _ (in_inode rule b broken) = itself rule b (broken_inode im a has rule b (broken (every im a) (shown v im read is_image a)))
+wrong_at v im read is_image wants names a up has _ _ (in_directory rule b dir wrong) = wrong_directory v im read is_image wants names a up (is_directory v im read is_image a has dir) rule b wrong
+wrong_at v im read is_image wants names a up has _ _ (path.no_dot dir none) =
+    let there = is_directory v im read is_image a has dir in
+    wrong_dots v im read is_image wants names a up there (codes ".") (λ absent. rules.no_dot a there absent) none
+wrong_at v im read is_image wants names a up has _ _ (path.no_dots dir none) =
+    let there = is_directory v im read is_image a has dir in
+    wrong_dots v im read is_image wants names a up there (codes "..") (λ absent. rules.no_dots a there absent) none
+wrong_at v im read is_image wants names a up has _ _ (too_few own above dir says few) =
+    wrong_few v im read is_image wants names a up (is_directory v im read is_image a has dir) own above says (few (every im a) (shown v im read is_image a))
+
+-- ---- on a path
 
 pub inodes_are_there : InodesAreThere
-inodes_are_there v im wants path a read leads = led_there v im read wants path a leads
+inodes_are_there v im wants path a read is_image leads = led_there v im read is_image wants path a leads
 
 pub paths_tell : PathsTell
-paths_tell v im wants path rule b read (on_path depth a r x next held wrong) =
-    wrong_inode im a (next_there v im read wants path depth a next) r x (wrong (every im a) (shown v im read a))
-paths_tell v im wants path rule b read (leads_out front back dir c name on leads is names out) =
-    beyond_groups dir c (Named dir name) (name_claims v im read dir c name (led_there v im read wants front dir leads) is names) (outside v im read c out)
+paths_tell v im wants path _ _ read is_image (on_path depth a r x next held wrong) = elim (next_there v im read is_image wants path depth a next) [
+  | inr out ↦ astray r x out
+  | inl has ↦
+      let led = next_led v im read is_image wants path depth a next held in
+      wrong_at v im read is_image wants path a (λ out. further v im read is_image wants led.0 led.1 path led.2 (astray_at v im read is_image wants led.0 a led.3 out)) has r x wrong
+]
+paths_tell v im wants path _ _ read is_image (leads_out front back dir c name on leads is names linear out) = elim (led_there v im read is_image wants front dir leads) [
+  | inr ahead ↦ astray 2 dir (further v im read is_image wants front (name ∷ back) path on ahead)
+  | inl has ↦ elim (directory_or v im read is_image dir (is_directory v im read is_image dir has names.directory)) [
+    | inr far ↦ astray 2 dir (further v im read is_image wants front (name ∷ back) path on (astray_at v im read is_image wants front dir leads far))
+    | inl seen ↦ itself 2 dir (by_name (linear (every im dir) seen) (name_claims im dir c name has (is_directory v im read is_image dir has names.directory).dir is (names.child (every im dir) seen)))
+  ]
+]
+  where
+    by_name : is_hashed_in (every im dir) ≡ false → IsNamedBy im dir c name → Breaks im 2 dir
+    by_name plain named = elim named.from [
+      | inl same ↦ subst (Breaks im 2) same (rules.beyond_groups named.by c (Named dir name) named.claims (outside v im read is_image c out))
+      | inr held ↦ absurd (not_both (is_hashed_in (every im dir)) (leaf_is_hashed im held.0 named.by dir held.1 held.2 held.3) plain)
+    ]

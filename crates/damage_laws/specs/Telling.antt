@@ -1,8 +1,9 @@
 -- What a call tells of a view as damage, in each image that the view may have been read from.
-use Rattle.std.specs.Prelude.{ℕ, ◌≡◌, ◌⊎◌, ◌↔◌, ◌==◌, ◌<◌, ◌≤◌, if◌then◌else◌, List}
+use Rattle.std.specs.Prelude.{ℕ, ◌≡◌, ◌⊎◌, ◌↔◌, ◌==◌, ◌<◌, ◌≤◌, false, if◌then◌else◌, List, ◌++◌}
 use Rattle.draft_changes.specs.Shown.{AgreesWith}
 use Rattle.call_locks.specs.declared.want.Want.{Want}
-use Rattle.file_calls.specs.Calls as calls
+use Rattle.call_locks.specs.Wants.{wanted}
+use Rattle.call_locks.specs.WantLaws.{path_of}
 use Rattle.file_tree.specs.declared.call.Call.{Call}
 use Rattle.file_tree.specs.Tree.{Tree}
 use Rattle.gfs2_layout.specs.Device.{superblock_place}
@@ -12,10 +13,10 @@ use Rattle.glock_names.specs.declared.steps.Missing.{Missing}
 use Rattle.glock_names.specs.declared.views.Group.{Group}
 use Rattle.image_changes.specs.Does.{IsOf}
 use Rattle.image_model.specs.Claims as image
-use Rattle.image_model.specs.Claims.{HasInode}
+use Rattle.image_model.specs.Claims.{Claims, HasInode, HasDirectory, HasLeaf}
 use Rattle.image_model.specs.Flat.{Path}
 use Rattle.image_model.specs.Image.{Image, IsImage, superblock_in}
-use Rattle.image_model.specs.Owners.{Owners}
+use Rattle.image_model.specs.Owners.{Owner, Owners, IsWithin}
 use Rattle.image_model.specs.Rules.{Breaks}
 use Rattle.image_model.specs.Stands.{Layout}
 use Rattle.image_mount.specs.Mounted.{IsMounted, MountedValue}
@@ -51,10 +52,38 @@ pub record IsOfMounted (v : Seen) (im : Image) (m : MountedValue) : Type 0 where
 abbrev pub HasRootInside : Seen → Type 0
 HasRootInside v = HasDataBlock v v.root
 
--- A broken block is told of as itself; or (2) by the root, where that is in no group: the superblock, which has its number, breaks the rule.
-pub data IsTold (v : Seen) (im : Image) : ℕ → ℕ → Type 0 where
-  itself : (rule b : ℕ) → Breaks im rule b → IsTold v im rule b
-  by_root : ¬ (HasRootInside v) → Breaks im 2 (superblock_place im.size) → IsTold v im 2 v.root
+-- Block x has the number of a block of the directory in block a, beside its dinode, that is beyond the device: so x breaks the rule on numbers.
+pub record IsAstray (im : Image) (a x : ℕ) : Type 0 where
+  pub directory : HasDirectory im a
+  pub block : ℕ
+  pub owner : Owner
+  pub claimed : Claims im x block owner
+  pub within : IsWithin a owner
+  pub beyond : im.count ≤ block
+
+-- so has some block of a directory on the path, or at its end
+pub record HasAstray (v : Seen) (im : Image) (wants : List Want) (names : Path) : Type 0 where
+  pub front : Path
+  pub back : Path
+  pub split : names ≡ front ++ back
+  pub directory : ℕ
+  pub leads : path.LeadsTo v wants front directory
+  pub block : ℕ
+  pub astray : IsAstray im directory block
+
+-- What is told as damage on this path. A broken block is told as itself. But a hashed directory is told as lacking `.` or `..` (10) where that isn't
+-- found by its hash: it has none; or the records, the pointers or the depth of a leaf of it are wrong (14), or its table is too deep (13). And where
+-- a block of a directory on the path is beyond the device, any block may be told: the one that has its number breaks rule 2.
+pub data IsTold (v : Seen) (im : Image) (wants : List Want) (names : Path) : ℕ → ℕ → Type 0 where
+  itself : (rule b : ℕ) → Breaks im rule b → IsTold v im wants names rule b
+  misplaced : (a x : ℕ) → HasLeaf im a x → Breaks im 14 x → IsTold v im wants names 10 a
+  too_deep : (a : ℕ) → Breaks im 13 a → IsTold v im wants names 10 a
+  astray : (rule b : ℕ) → HasAstray v im wants names → IsTold v im wants names rule b
+
+-- The same of a call; and (2) the root is told, where that is in no group: the superblock, which has its number, breaks the rule.
+pub data IsToldOf (v : Seen) (im : Image) (call : Call) : ℕ → ℕ → Type 0 where
+  on_path : (rule b : ℕ) → IsTold v im (wanted call) (path_of call false) rule b → IsToldOf v im call rule b
+  by_root : ¬ (HasRootInside v) → Breaks im 2 (superblock_place im.size) → IsToldOf v im call 2 v.root
 
 -- ---- laws
 
@@ -66,42 +95,35 @@ StandingAreRead = (v : Seen) (im : Image) (o : Owners) (l : Layout) (t : Tree) �
 abbrev pub MountedAreRead : Type 0
 MountedAreRead = (v : Seen) (im : Image) (m : MountedValue) → IsImage im → IsMounted im m → IsOfMounted v im m → IsReadFrom v im × HasWholeGroups v im
 
--- the inode to which a path leads is one of the image
+-- the inode to which a path leads is one of the image, but where a block of a directory on it is beyond the device
 abbrev pub InodesAreThere : Type 0
-InodesAreThere = (v : Seen) (im : Image) (wants : List Want) (names : Path) (a : ℕ) → IsReadFrom v im → path.LeadsTo v wants names a → HasInode im a
+InodesAreThere = (v : Seen) (im : Image) (wants : List Want) (names : Path) (a : ℕ) → IsReadFrom v im → IsImage im → path.LeadsTo v wants names a → HasInode im a ⊎ HasAstray v im wants names
 
 -- damage on a path
 abbrev pub PathsTell : Type 0
-PathsTell = (v : Seen) (im : Image) (wants : List Want) (names : Path) (rule b : ℕ) → IsReadFrom v im → path.IsDamage v wants names rule b → Breaks im rule b
+PathsTell = (v : Seen) (im : Image) (wants : List Want) (names : Path) (rule b : ℕ) → IsReadFrom v im → IsImage im → path.IsDamage v wants names rule b → IsTold v im wants names rule b
 
 -- damage that a change of a file's content meets
 abbrev pub WritesTell : Type 0
-WritesTell = (v : Seen) (im : Image) (call : Call) (rule b : ℕ) → IsReadFrom v im → HasWholeGroups v im → writing.IsDamage v call rule b → IsTold v im rule b
+WritesTell = (v : Seen) (im : Image) (call : Call) (rule b : ℕ) → IsReadFrom v im → HasWholeGroups v im → writing.IsDamage v call rule b → IsToldOf v im call rule b
 
--- and where the root is in a group, as itself
+-- and where the root is in a group, without that exception
 abbrev pub WritesTellExactly : Type 0
-WritesTellExactly = (v : Seen) (im : Image) (call : Call) (rule b : ℕ) → IsReadFrom v im → HasWholeGroups v im → HasRootInside v → writing.IsDamage v call rule b → Breaks im rule b
+WritesTellExactly = (v : Seen) (im : Image) (call : Call) (rule b : ℕ) → IsReadFrom v im → HasWholeGroups v im → HasRootInside v → writing.IsDamage v call rule b → IsTold v im (wanted call) (path_of call false) rule b
 
 -- damage that the removal of a name meets
 abbrev pub RemovalsTell : Type 0
-RemovalsTell = (v : Seen) (im : Image) (call : Call) (rule b : ℕ) → IsReadFrom v im → HasWholeGroups v im → removing.IsDamage v call rule b → IsTold v im rule b
+RemovalsTell = (v : Seen) (im : Image) (call : Call) (rule b : ℕ) → IsReadFrom v im → HasWholeGroups v im → removing.IsDamage v call rule b → IsToldOf v im call rule b
 
 abbrev pub RemovalsTellExactly : Type 0
-RemovalsTellExactly = (v : Seen) (im : Image) (call : Call) (rule b : ℕ) → IsReadFrom v im → HasWholeGroups v im → HasRootInside v → removing.IsDamage v call rule b → Breaks im rule b
+RemovalsTellExactly = (v : Seen) (im : Image) (call : Call) (rule b : ℕ) → IsReadFrom v im → HasWholeGroups v im → HasRootInside v → removing.IsDamage v call rule b → IsTold v im (wanted call) (path_of call false) rule b
 
 -- damage that making a name meets, the same
 abbrev pub MakingsTell : Type 0
-MakingsTell = (v : Seen) (im : Image) (call : Call) (rule b : ℕ) → IsReadFrom v im → HasWholeGroups v im → making.IsDamage v call rule b → IsTold v im rule b
+MakingsTell = (v : Seen) (im : Image) (call : Call) (rule b : ℕ) → IsReadFrom v im → HasWholeGroups v im → making.IsDamage v call rule b → IsToldOf v im call rule b
 
 abbrev pub MakingsTellExactly : Type 0
-MakingsTellExactly = (v : Seen) (im : Image) (call : Call) (rule b : ℕ) → IsReadFrom v im → HasWholeGroups v im → HasRootInside v → making.IsDamage v call rule b → Breaks im rule b
-
--- damage that any call meets of those that `file_calls` answers
-abbrev pub CallsTell : Type 0
-CallsTell = (v : Seen) (im : Image) (call : Call) (rule b : ℕ) → IsReadFrom v im → HasWholeGroups v im → calls.IsDamage v call rule b → IsTold v im rule b
-
-abbrev pub CallsTellExactly : Type 0
-CallsTellExactly = (v : Seen) (im : Image) (call : Call) (rule b : ℕ) → IsReadFrom v im → HasWholeGroups v im → HasRootInside v → calls.IsDamage v call rule b → Breaks im rule b
+MakingsTellExactly = (v : Seen) (im : Image) (call : Call) (rule b : ℕ) → IsReadFrom v im → HasWholeGroups v im → HasRootInside v → making.IsDamage v call rule b → IsTold v im (wanted call) (path_of call false) rule b
 
 -- the block in which the number of one that is needed stands: the superblock has that of the root, which is asked for by itself
 abbrev pub source_of : ℕ → Missing → ℕ
@@ -112,7 +134,3 @@ pub record IsBrokenSource (v : Seen) (im : Image) (b : ℕ) : Type 0 where
   pub breaks : Breaks im 2 b
   pub there : (b ≡ superblock_place im.size) ⊎ HasBlock v b
 
--- a number that any such call needs, and that leads out of the device
-abbrev pub NeedsTell : Type 0
-NeedsTell = (v : Seen) (im : Image) (call : Call) (m : Missing) → IsReadFrom v im → HasWholeGroups v im → calls.IsNeededFor v call m → im.count ≤ m.block
-    → IsBrokenSource v im (source_of im.size m)
