@@ -28,7 +28,7 @@ use Rattle.making_calls.specs.Making as making
 use Rattle.path_walks.specs.Walks as path
 use Rattle.removing_calls.specs.Removing as removing
 use Rattle.writing_calls.specs.Writing as writing
-use Rattle.damage_laws.specs.Telling.{IsReadFrom, HasRootInside, HasWholeGroups, HasAstray, IsTold, itself, misplaced, too_deep, astray, IsToldOf, on_path, by_root, WritesTell, WritesTellExactly, RemovalsTell, RemovalsTellExactly, MakingsTell, MakingsTellExactly}
+use Rattle.damage_laws.specs.Telling.{IsReadFrom, HasRootInside, HasWholeGroups, HasAstray, IsTold, itself, astray, IsToldOf, on_path, by_root, WritesTell, WritesTellExactly, RemovalsTell, RemovalsTellExactly, MakingsTell, MakingsTellExactly}
 use Rattle.damage_laws.proofs.Claimed.{shown, root_claimed, led_there, outside, astray_at, further}
 use Rattle.damage_laws.proofs.Owned.{dinode_state, from_parent, shared_told}
 use Rattle.damage_laws.proofs.Paths.{broken_inode, paths_tell, wrong_at}
@@ -42,8 +42,6 @@ led_inside v wants path a (by_name front dir b name leads is names inside held) 
 -- what is told below a path is told of a longer one
 longer : (v : Seen) (im : Image) (read : IsReadFrom v im) (is_image : IsImage im) (wants : List Want) (front back path : Path) → path ≡ front ++ back → (rule b : ℕ) → IsTold v im wants front rule b → IsTold v im wants path rule b
 longer v im read is_image wants front back path split _ _ (itself rule b breaks) = itself rule b breaks
-longer v im read is_image wants front back path split _ _ (misplaced a x held breaks) = misplaced a x held breaks
-longer v im read is_image wants front back path split _ _ (too_deep a breaks) = too_deep a breaks
 longer v im read is_image wants front back path split _ _ (astray rule b out) = astray rule b (further v im read is_image wants front back path split out)
 
 -- a rule that is broken, but where a block of a directory on the path is beyond the device
