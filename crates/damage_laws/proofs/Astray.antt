@@ -83,12 +83,12 @@ module _ (im : Image) (is : IsImage im) (a : ℕ) where
     beyond = out;
   }
 
-  pub whole_or : HasDirectory im a → is_hashed_in (every im a) ≡ true → ((at : ℕ) → AreWholeBefore (every im a) at) ⊎ ((x : ℕ) × IsAstray im a x)
-  whole_or has hashed = elim (seek (λ i. is_beyond im.count (block_at (every im a) i)) (content_count (every im a))) [
+  pub whole_or_out : ((at : ℕ) → AreWholeBefore (every im a) at) ⊎ ((from k level first b : ℕ) × Leads (every im a) from k level first b × (im.count ≤ b))
+  whole_or_out = elim (seek (λ i. is_beyond im.count (block_at (every im a) i)) (content_count (every im a))) [
     | inl found ↦
         let out = beyond_at (block_at (every im a) found.0) found.2 in
         let led = content_led (every im a) (size_some im.size is.block_size) found.0 out.0 out.1 in
-        inr (led.0, led_beyond has hashed led.0 led.1 led.2 led.3 out.0 led.4 out.2)
+        inr (led.0, led.1, led.2, led.3, out.0, led.4, out.2)
     | inr none ↦ inl (λ at i b low counted here. is.whole b (inside i b (none i counted) here))
   ]
     where
@@ -104,3 +104,9 @@ module _ (im : Image) (is : IsImage im) (a : ℕ) where
         | inl low ↦ low
         | inr out ↦ absurd (true≢false (sym (cond-false (nat_lt b im.count) false true (le-ltb b im.count out)) ∙ ap (is_beyond im.count) (sym here) ∙ none))
       ]
+
+  pub whole_or : HasDirectory im a → is_hashed_in (every im a) ≡ true → ((at : ℕ) → AreWholeBefore (every im a) at) ⊎ ((x : ℕ) × IsAstray im a x)
+  whole_or has hashed = elim whole_or_out [
+    | inl whole ↦ inl whole
+    | inr out ↦ inr (out.0, led_beyond has hashed out.0 out.1 out.2 out.3 out.4 out.5 out.6)
+  ]

@@ -7,3 +7,4 @@ pub mod Paths
 pub mod Calls
 pub mod Standing
 pub mod Mounted
+pub mod Needed
