@@ -4,6 +4,7 @@ use Rattle.draft_changes.specs.Shown.{AgreesWith}
 use Rattle.call_locks.specs.declared.want.Want.{Want}
 use Rattle.call_locks.specs.Wants.{wanted}
 use Rattle.call_locks.specs.WantLaws.{path_of}
+use Rattle.file_calls.specs.Calls as calls
 use Rattle.file_tree.specs.declared.call.Call.{Call}
 use Rattle.file_tree.specs.Tree.{Tree}
 use Rattle.gfs2_layout.specs.Device.{superblock_place}
@@ -124,6 +125,13 @@ MakingsTell = (v : Seen) (im : Image) (call : Call) (rule b : ℕ) → IsReadFro
 abbrev pub MakingsTellExactly : Type 0
 MakingsTellExactly = (v : Seen) (im : Image) (call : Call) (rule b : ℕ) → IsReadFrom v im → HasWholeGroups v im → HasRootInside v → making.IsDamage v call rule b → IsTold v im (wanted call) (path_of call false) rule b
 
+-- damage that any call meets of those that `file_calls` answers
+abbrev pub CallsTell : Type 0
+CallsTell = (v : Seen) (im : Image) (call : Call) (rule b : ℕ) → IsReadFrom v im → HasWholeGroups v im → calls.IsDamage v call rule b → IsToldOf v im call rule b
+
+abbrev pub CallsTellExactly : Type 0
+CallsTellExactly = (v : Seen) (im : Image) (call : Call) (rule b : ℕ) → IsReadFrom v im → HasWholeGroups v im → HasRootInside v → calls.IsDamage v call rule b → IsTold v im (wanted call) (path_of call false) rule b
+
 -- the block in which the number of one that is needed stands: the superblock has that of the root, which is asked for by itself
 abbrev pub source_of : ℕ → Missing → ℕ
 source_of size m = if m.from == m.block then superblock_place size else m.from
@@ -133,3 +141,7 @@ pub record IsBrokenSource (v : Seen) (im : Image) (b : ℕ) : Type 0 where
   pub breaks : Breaks im 2 b
   pub there : (b ≡ superblock_place im.size) ⊎ HasBlock v b
 
+-- a number that any such call needs, and that leads out of the device; but where a block of a hashed directory on the path is beyond it
+abbrev pub NeedsTell : Type 0
+NeedsTell = (v : Seen) (im : Image) (call : Call) (m : Missing) → IsReadFrom v im → HasWholeGroups v im → calls.IsNeededFor v call m → im.count ≤ m.block
+    → IsBrokenSource v im (source_of im.size m) ⊎ HasAstray v im (wanted call) (path_of call false)

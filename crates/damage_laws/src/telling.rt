@@ -14,7 +14,7 @@ pub fn views_may_be_read_from_mounted_images()
 {}
 
 /// A law: what is told of a view as damage on a path breaks that rule in every image that the view may have been read from, right or
-/// wrong. The inode to which the path leads is one of that image.
+/// wrong, and the inode to which the path leads is one of that image; but where a block of a hashed directory on the path is beyond the device.
 pub fn paths_tell_broken_blocks()
     ensures there { InodesAreThere }
     ensures broken { PathsTell }
@@ -39,7 +39,7 @@ pub fn makings_tell_broken_blocks()
     ensures exact { MakingsTellExactly }
 {}
 
-/// A law: so does what each call tells that is built, with no other exception.
+/// A law: so does what each call tells that is built, with no other exceptions.
 pub fn calls_tell_broken_blocks()
     ensures broken { CallsTell }
     ensures exact { CallsTellExactly }

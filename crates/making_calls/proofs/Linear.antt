@@ -1,29 +1,23 @@
 -- A linear directory to which the walk came: what is read of it, and what a look in it tells.
-use Rattle.std.proofs.Common.{◌≡◌, ℕ, true, false, List, Some, refl, sym, subst}
+use Rattle.std.proofs.Common.{◌≡◌, ℕ, List, Some, refl, sym, subst}
 use Rattle.std.specs.Option.{option_map}
 use Rattle.file_tree.specs.Tree.{Tree}
 use Rattle.gfs2_layout.specs.Holding.{Holding}
-use Rattle.gfs2_layout.specs.Inode.{dinode_in, has_hash_flag, records_of}
+use Rattle.gfs2_layout.specs.Inode.{records_of}
 use Rattle.gfs2_layout.specs.Records.{record_named}
-use Rattle.gfs2_layout.specs.Structures.{is_directory}
-use Rattle.gfs2_layout.specs.declared.dinode.Dinode.{Dinode}
 use Rattle.glock_names.specs.Views.{Seen}
 use Rattle.glock_names.specs.declared.steps.Entry.{Entry}
-use Rattle.dinode_tree.specs.Shown.{IsShown}
 use Rattle.linear_dirs.specs.Broken as directory
 use Rattle.linear_dirs.specs.Shown.{entry_of}
 use Rattle.directories.specs.Shown.{HasName, Says}
 use Rattle.directories.specs.Shown as dirs
-use Rattle.directories.proofs.Forms.{linear_here}
 use Rattle.image_model.specs.Flat.{Path}
 use Rattle.image_model.specs.Image.{Image}
 use Rattle.image_model.specs.Owners.{Owners, holding}
 use Rattle.image_model.specs.Stands.{Layout}
 use Rattle.image_changes.specs.Does.{IsOf}
 use Rattle.image_changes.specs.Instances.{IsAt}
-use Rattle.path_walks.specs.Walks.{IsWrongAt}
 use Rattle.path_walks.proofs.Images.{unbroken_directory}
-use Rattle.path_walks.proofs.Steps.{directory_so}
 use Rattle.directories.specs.Shown.{IsLinearDirectory}
 
 -- a name that was found in it
