@@ -1,27 +1,29 @@
 -- What a call of the run tells as damage is so of the image as it then is.
-use Rattle.std.proofs.Common.{◌≡◌, ◌⊎◌, inl, inr, ℕ, ◌<◌, List, sym, subst}
+use Rattle.std.proofs.Common.{◌≡◌, ◌⊎◌, inl, inr, ℕ, ◌<◌, false, List, sym, subst}
 use Rattle.std.specs.Prelude.{Contains}
+use Rattle.call_locks.specs.Wants.{wanted}
+use Rattle.call_locks.specs.WantLaws.{path_of}
 use Rattle.file_tree.specs.declared.call.Call.{Call}
 use Rattle.gfs2_layout.specs.Device.{superblock_place}
 use Rattle.glock_names.specs.Views.{HasBlock}
 use Rattle.glock_names.specs.declared.views.Group.{Group}
 use Rattle.resource_groups.specs.Shown.{IsDataOf}
 use Rattle.image_model.specs.Image.{Image, IsImage, image_of}
-use Rattle.image_model.specs.Rules.{IsBrokenBlock}
 use Rattle.image_mount.specs.Mounted.{MountedValue, IsMounted}
 use Rattle.shared_disk.specs.Disk.{DiskState}
 use Rattle.lone_view.specs.Seeing.{Lone, seen_alone}
 use Rattle.lone_node.specs.Answering.{IsDamagedFor, IsDamagedOn, as_shown, leads_out, source_of}
-use Rattle.damage_laws.specs.Telling.{CallsTellExactly, NeedsTell, MountedAreRead, HasRootInside, HasWholeGroups, IsOfMounted, IsReadFrom}
+use Rattle.damage_laws.specs.Telling.{CallsTellExactly, IsTold, NeedsTell, MountedAreRead, HasRootInside, HasWholeGroups, IsOfMounted, IsReadFrom}
+use Rattle.damage_laws.specs.Telling as telling
 use Rattle.cluster_program.specs.Mounting.{OfImage}
-use Rattle.cluster_program.specs.Runs.{as_mounted}
+use Rattle.cluster_program.specs.Runs.{IsToldBroken, as_mounted, beyond, itself}
 
 -- the root stays in its group, as the view grows
 inside_yet : (n v : Lone) → v.root ≡ n.root → v.groups ≡ n.groups → HasRootInside (seen_alone n) → HasRootInside (seen_alone v)
 inside_yet n v root groups inside = (inside.0, subst (λ (gs : List Group). Contains gs inside.0) (sym groups) inside.1, subst (IsDataOf inside.0) (sym root) inside.2)
 
 pub told : (calls : CallsTellExactly) (needs : NeedsTell) (read : MountedAreRead) (given left : DiskState) (m : MountedValue) (call : Call) (b rule : ℕ) → OfImage left IsImage
-    → HasRootInside (seen_alone (as_mounted given m)) → IsDamagedOn left (as_mounted given m) call b rule → OfImage left (λ im. IsMounted im m → IsBrokenBlock im rule b)
+    → HasRootInside (seen_alone (as_mounted given m)) → IsDamagedOn left (as_mounted given m) call b rule → OfImage left (λ im. IsMounted im m → IsToldBroken im rule b)
 told calls needs read given left m call b rule image inside damaged tells mounted = by_view b rule damaged.damaged
   where
     of_mounted : IsOfMounted (seen_alone damaged.view) (image_of left) m
@@ -35,11 +37,14 @@ told calls needs read given left m call b rule image inside damaged tells mounte
     there x (inl is) = subst (λ y. y < left.count) (sym is) mounted.found.groups.list.master.format.super.inside
     there x (inr has) = damaged.later.on.inside x has.0 has.1
 
-    by_view : (b rule : ℕ) → IsDamagedFor left (seen_alone damaged.view) call b rule → IsBrokenBlock (image_of left) rule b
-    by_view _ _ (as_shown b rule has damage) = record {
-      breaks = calls (seen_alone damaged.view) (image_of left) call rule b from.0 from.1 (inside_yet (as_mounted given m) damaged.view damaged.later.same.root damaged.later.same.groups inside) damage;
-      there = inl (there b (inr has));
-    }
-    by_view _ _ (leads_out m needed out) =
-        let source = needs (seen_alone damaged.view) (image_of left) call m from.0 from.1 needed out in
-        record { breaks = source.breaks; there = inl (there (source_of left.size m) source.there) }
+    shown : (rule b : ℕ) → HasBlock (seen_alone damaged.view) b → IsTold (seen_alone damaged.view) (image_of left) (wanted call) (path_of call false) rule b → IsToldBroken (image_of left) rule b
+    shown _ _ has (telling.itself rule b breaks) = itself (record { breaks = breaks; there = inl (there b (inr has)) })
+    shown _ _ has (telling.astray rule b out) = beyond out.directory out.block out.astray
+
+    by_view : (b rule : ℕ) → IsDamagedFor left (seen_alone damaged.view) call b rule → IsToldBroken (image_of left) rule b
+    by_view _ _ (as_shown b rule has damage) =
+        shown rule b has (calls (seen_alone damaged.view) (image_of left) call rule b from.0 from.1 (inside_yet (as_mounted given m) damaged.view damaged.later.same.root damaged.later.same.groups inside) damage)
+    by_view _ _ (leads_out m needed out) = elim (needs (seen_alone damaged.view) (image_of left) call m from.0 from.1 needed out) [
+      | inl source ↦ itself (record { breaks = source.breaks; there = inl (there (source_of left.size m) source.there) })
+      | inr astray ↦ beyond astray.directory astray.block astray.astray
+    ]

@@ -14,7 +14,7 @@ use Rattle.run_rules.specs.Follows.{history_of}
 use Rattle.run_rules.specs.History.{HoldsHistory, NoneStopped, AllAnswered}
 use Rattle.shared_disk.specs.Disk.{DiskState, IsIdle}
 use Rattle.lone_view.specs.Seeing.{Lone, seen_alone}
-use Rattle.damage_laws.specs.Telling.{HasRootInside}
+use Rattle.damage_laws.specs.Telling.{HasRootInside, IsAstray}
 use Rattle.lone_node.specs.Answering.{IsDamagedOn, IsHashedOn, IsSameDisk, IsUnbuiltOn}
 use Rattle.lone_node.specs.Course.{IsCourse, moment}
 use Rattle.lone_node.specs.Run.{EndsAt, EndsAtCall, HasChangedNothing, IsFailedOn, IsRunOf, IsUnbuiltBehind, IsWholeRun}
@@ -40,6 +40,12 @@ AtPlace given s items place P = EndsAt place P s.clients s.lines items (IsImageO
 abbrev pub first_line : ScriptValue → ℕ
 first_line s = 2 + length s.clients + length s.armed
 
+-- What a call tells as damage: a block that breaks this rule. But where a hashed directory has a block that is beyond the device, that is broken, and what
+-- is told may be another block.
+pub data IsToldBroken (im : Image) (rule block : ℕ) : Type 0 where
+  itself : IsBrokenBlock im rule block → IsToldBroken im rule block
+  beyond : (a x : ℕ) → IsAstray im a x → IsToldBroken im rule block
+
 -- How a run of what was mounted ends, if anything was: each line is answered and the node has unmounted; the image was not mounted, before the first item; or, in a call
 -- behind the lines above it: the disk failed as its blocks were read or written; a directory is met that is a hashed one, which
 -- isn't read yet; the call isn't built: where the image stands for a tree, that would take it, and a name has to be made; or a block is met that
@@ -55,7 +61,7 @@ pub data RunEnds (given left : Inputs) (s : ScriptValue) (time : ℕ) (items : L
   CallUnbuilt : (m : MountedValue) (place : ℕ) → IsMountedFor given.disk m → AtPlace given s items place (λ call. IsUnbuiltOn left.disk (as_mounted given.disk m) call)
       → AtPlace given s items place (IsUnbuiltBehind s.clients items (IsImageOf given.disk)) → RunEnds given left s time items (Some m) (status.NotBuilt (part.Script (first_line s + place)))
   CallDamaged : (m : MountedValue) (block rule : ℕ) → IsMountedFor given.disk m → OfImage given.disk NeverStands → AtCall given s items (λ call. IsDamagedOn left.disk (as_mounted given.disk m) call block rule)
-      → OfImage left.disk (λ im. IsMounted im m → IsBrokenBlock im rule block) → RunEnds given left s time items (Some m) (status.Damaged block rule)
+      → OfImage left.disk (λ im. IsMounted im m → IsToldBroken im rule block) → RunEnds given left s time items (Some m) (status.Damaged block rule)
   NoRoom : (what : Option MountedValue) → RunEnds given left s time items what status.NoMemory
 
 -- This was mounted, its root is in one of its groups, and the items are the course of a run from what was given to what is left: each of its calls is a step, at this time.

@@ -1,11 +1,11 @@
--- A directory whose blocks are all on the device is whole; or a block of it is beyond.
+-- A hashed directory whose blocks are all on the device is whole; or a block of it is beyond.
 use Rattle.std.proofs.Common.{◌≡◌, ◌≢◌, ℕ, zero, suc, ◌+◌, ◌-◌, ◌*◌, ◌/◌, ◌%◌, ◌<◌, ◌≤◌, ◌⊎◌, inl, inr, Bool, true, false, true≢false, length, Option, None, Some, refl, sym, ap, ◌∙◌, subst, arith}
 use Rattle.std.proofs.lemmas.Bool.{cases_eq, cases_lt, cond-true, cond-false, eq-eqb, ne_eqb, lt-ltb, le-ltb}
 use Rattle.std.proofs.Math.Nat.{mod-lt, div-lt_iff_lt-mul}
 use Rattle.std.specs.Prelude.{nat_lt, if◌then◌else◌}
 use Rattle.gfs2_layout.specs.Device.{IsBlockSize}
 use Rattle.gfs2_layout.specs.Holding.{Holding}
-use Rattle.gfs2_layout.specs.Inode.{Leads, from_dinode, from_block, height_in, header_length, fan, span, pointer, descend, content_block, content_count}
+use Rattle.gfs2_layout.specs.Inode.{Leads, is_hashed_in, from_dinode, from_block, height_in, header_length, fan, span, pointer, descend, content_block, content_count}
 use Rattle.gfs2_layout.specs.Structures.{dinode_length}
 use Rattle.dinode_tree.specs.Reading.{AreWholeBefore, block_at, reach, target}
 use Rattle.dinode_tree.proofs.Pointers.{leads_somewhere, descend_one, descend_top, descend_zero}
@@ -72,9 +72,10 @@ is_beyond count None = false
 is_beyond count (Some b) = if nat_lt b count then false else true
 
 module _ (im : Image) (is : IsImage im) (a : ℕ) where
-  pub led_beyond : HasDirectory im a → (from k level first b : ℕ) → Leads (every im a) from k level first b → im.count ≤ b → IsAstray im a from
-  led_beyond has from k level first b leads out = record {
+  pub led_beyond : HasDirectory im a → is_hashed_in (every im a) ≡ true → (from k level first b : ℕ) → Leads (every im a) from k level first b → im.count ≤ b → IsAstray im a from
+  led_beyond has hashed from k level first b leads out = record {
     directory = has;
+    hashed = hashed;
     block = b;
     owner = Below a from k level first;
     claimed = below has.inode.1.by a has.inode.0 from k level first b has.inode.1.claimed has.inode.1.dinode leads;
@@ -104,8 +105,8 @@ module _ (im : Image) (is : IsImage im) (a : ℕ) where
         | inr out ↦ absurd (true≢false (sym (cond-false (nat_lt b im.count) false true (le-ltb b im.count out)) ∙ ap (is_beyond im.count) (sym here) ∙ none))
       ]
 
-  pub whole_or : HasDirectory im a → ((at : ℕ) → AreWholeBefore (every im a) at) ⊎ ((x : ℕ) × IsAstray im a x)
-  whole_or has = elim whole_or_out [
+  pub whole_or : HasDirectory im a → is_hashed_in (every im a) ≡ true → ((at : ℕ) → AreWholeBefore (every im a) at) ⊎ ((x : ℕ) × IsAstray im a x)
+  whole_or has hashed = elim whole_or_out [
     | inl whole ↦ inl whole
-    | inr out ↦ inr (out.0, led_beyond has out.0 out.1 out.2 out.3 out.4 out.5 out.6)
+    | inr out ↦ inr (out.0, led_beyond has hashed out.0 out.1 out.2 out.3 out.4 out.5 out.6)
   ]

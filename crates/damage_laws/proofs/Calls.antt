@@ -28,7 +28,7 @@ use Rattle.making_calls.specs.Making as making
 use Rattle.path_walks.specs.Walks as path
 use Rattle.removing_calls.specs.Removing as removing
 use Rattle.writing_calls.specs.Writing as writing
-use Rattle.damage_laws.specs.Telling.{IsReadFrom, HasRootInside, HasWholeGroups, HasAstray, IsTold, itself, misplaced, too_deep, astray, IsToldOf, on_path, by_root, WritesTell, WritesTellExactly, RemovalsTell, RemovalsTellExactly, MakingsTell, MakingsTellExactly}
+use Rattle.damage_laws.specs.Telling.{IsReadFrom, HasRootInside, HasWholeGroups, HasAstray, IsTold, itself, astray, IsToldOf, on_path, by_root, WritesTell, WritesTellExactly, RemovalsTell, RemovalsTellExactly, MakingsTell, MakingsTellExactly, CallsTell, CallsTellExactly}
 use Rattle.damage_laws.proofs.Claimed.{shown, root_claimed, led_there, outside, astray_at, further}
 use Rattle.damage_laws.proofs.Owned.{dinode_state, from_parent, shared_told}
 use Rattle.damage_laws.proofs.Paths.{broken_inode, paths_tell, wrong_at}
@@ -42,8 +42,6 @@ led_inside v wants path a (by_name front dir b name leads is names inside held) 
 -- what is told below a path is told of a longer one
 longer : (v : Seen) (im : Image) (read : IsReadFrom v im) (is_image : IsImage im) (wants : List Want) (front back path : Path) → path ≡ front ++ back → (rule b : ℕ) → IsTold v im wants front rule b → IsTold v im wants path rule b
 longer v im read is_image wants front back path split _ _ (itself rule b breaks) = itself rule b breaks
-longer v im read is_image wants front back path split _ _ (misplaced a x held breaks) = misplaced a x held breaks
-longer v im read is_image wants front back path split _ _ (too_deep a breaks) = too_deep a breaks
 longer v im read is_image wants front back path split _ _ (astray rule b out) = astray rule b (further v im read is_image wants front back path split out)
 
 -- a rule that is broken, but where a block of a directory on the path is beyond the device
@@ -170,3 +168,20 @@ makings_tell v im call rule b read whole told = makings_told v im call read whol
 
 pub makings_tell_exactly : MakingsTellExactly
 makings_tell_exactly v im call rule b read whole inside told = inside_told v im call inside rule b (makings_told v im call read whole rule b told)
+
+pub calls_tell : CallsTell
+calls_tell v im (calls.Create p) rule b read whole told = makings_tell v im (calls.Create p) rule b read whole told
+calls_tell v im (calls.Mkdir p) rule b read whole told = makings_tell v im (calls.Mkdir p) rule b read whole told
+calls_tell v im (calls.Unlink p) rule b read whole told = removals_tell v im (calls.Unlink p) rule b read whole told
+calls_tell v im (calls.Rmdir p) rule b read whole told = removals_tell v im (calls.Rmdir p) rule b read whole told
+calls_tell v im (calls.Read p at n) rule b read whole told = path_told v im (calls.Read p at n) rule b read whole.image told
+calls_tell v im (calls.Dread p at n) rule b read whole told = path_told v im (calls.Dread p at n) rule b read whole.image told
+calls_tell v im (calls.Write p at bytes) rule b read whole told = writes_tell v im (calls.Write p at bytes) rule b read whole told
+calls_tell v im (calls.Truncate p n) rule b read whole told = writes_tell v im (calls.Truncate p n) rule b read whole told
+calls_tell v im (calls.Stat p) rule b read whole told = path_told v im (calls.Stat p) rule b read whole.image told
+calls_tell v im (calls.List p) rule b read whole told = path_told v im (calls.List p) rule b read whole.image told
+calls_tell v im (calls.Rename p q) rule b read whole told = path_told v im (calls.Rename p q) rule b read whole.image told
+calls_tell v im calls.Sync rule b read whole told = path_told v im calls.Sync rule b read whole.image told
+
+pub calls_tell_exactly : CallsTellExactly
+calls_tell_exactly v im call rule b read whole inside told = inside_told v im call inside rule b (calls_tell v im call rule b read whole told)

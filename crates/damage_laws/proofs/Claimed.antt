@@ -1,6 +1,6 @@
 -- What a view shows is the image's: inodes, names, pointers and groups.
 use Rattle.std.proofs.Common.{◌≡◌, ℕ, ◌+◌, ◌⊎◌, inl, inr, List, [], ◌∷◌, ◌++◌, length, Option, None, Some, true, false, refl, sym, ap, ◌∙◌, subst}
-use Rattle.std.proofs.lemmas.Bool.{cond-false}
+use Rattle.std.proofs.lemmas.Bool.{cases_Bool, cond-false, true≢false}
 use Rattle.std.proofs.lemmas.List.{append-nil, append_assoc}
 use Rattle.std.specs.Prelude.{Contains}
 use Rattle.std.specs.Option.{option_map}
@@ -109,11 +109,14 @@ module _ (v : Seen) (im : Image) (read : IsReadFrom v im) (is_image : IsImage im
   pub is_directory : (a : ℕ) → HasInode im a → IsDirectoryAt v a → HasDirectory im a
   is_directory a has directory = record { inode = has; dir = directory (every im a) (shown a) }
 
-  -- so is a directory, whose blocks of content are whole; or one of its blocks is beyond the device
+  -- so is a directory, of which the table's blocks are whole; or one of its blocks is beyond the device
   pub directory_or : (a : ℕ) → HasDirectory im a → dirs.IsShown v a (every im a) ⊎ ((x : ℕ) × IsAstray im a x)
-  directory_or a has = elim (whole_or im is_image a has) [
-    | inl whole ↦ inl (record { inode = shown a; leaves = λ hashed i place x chain some. refl; whole = whole })
-    | inr astray ↦ inr astray
+  directory_or a has = elim (cases_Bool (is_hashed_in (every im a))) [
+    | inr linear ↦ inl (record { inode = shown a; leaves = λ hashed i place x chain some. refl; whole = λ hashed. absurd (true≢false (sym hashed ∙ linear)) })
+    | inl hashed ↦ elim (whole_or im is_image a has hashed) [
+      | inl whole ↦ inl (record { inode = shown a; leaves = λ is i place x chain some. refl; whole = λ is. whole })
+      | inr astray ↦ inr astray
+    ]
   ]
 
   module _ (wants : List Want) where

@@ -54,7 +54,7 @@ module _ (im : Image) (a : ℕ) (has : HasDirectory im a) (hashed : is_hashed_in
   Found = ((m : ℕ → Bool) × AreMarked m) ⊎ ((x : ℕ) × IsAstray im a x)
 
   out : (by x hash place : ℕ) → Claims im by x (Chained a hash place) → im.count ≤ x → IsAstray im a by
-  out by x hash place claimed beyond = record { directory = has; block = x; owner = Chained a hash place; claimed = claimed; within = refl; beyond = beyond }
+  out by x hash place claimed beyond = record { directory = has; hashed = hashed; block = x; owner = Chained a hash place; claimed = claimed; within = refl; beyond = beyond }
 
   closed : (m : ℕ → Bool) → IsMarking m → ((x : ℕ) → m x ≡ true → next x ≢ 0 → m (next x) ≡ true) → (by x hash place : ℕ) → Claims im by x (Chained a hash place) → m x ≡ true
   closed m is on _ _ _ _ (first_leaf by d o i claimed dinode plain low) = is.heads i low

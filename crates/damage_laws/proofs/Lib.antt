@@ -3,8 +3,6 @@ pub mod Astray
 pub mod Claimed
 pub mod Owned
 pub mod Leaves
-pub mod Marked
-pub mod Dots
 pub mod Paths
 pub mod Calls
 pub mod Standing

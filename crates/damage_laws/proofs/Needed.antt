@@ -1,8 +1,11 @@
 -- A block that is needed lies out of the device: its number stands in a block that is wrong.
 use Rattle.std.proofs.Common.{◌≡◌, ◌≢◌, ℕ, suc, ◌+◌, ◌*◌, ◌≤◌, ◌<◌, ◌⊎◌, inl, inr, true, List, [], ◌∷◌, ◌++◌, length, replicate, Option, None, Some, refl, sym, ap, ◌∙◌, subst, arith}
-use Rattle.std.proofs.lemmas.Bool.{cases_eq, cond-true, cond-false, eq-eqb, ne_eqb}
-use Rattle.std.proofs.lemmas.List.{length-replicate}
-use Rattle.std.specs.Prelude.{false, codes, ◌==◌, if◌then◌else◌}
+use Rattle.std.proofs.lemmas.Bool.{cases_Bool, cases_eq, cases_lt, cond-true, cond-false, eq-eqb, ne_eqb, true≢false}
+use Rattle.std.proofs.lemmas.List.{get_or-drop, get_or-take, get_or_past, length-replicate, length-take}
+use Rattle.std.specs.Int.{from_be_bytes, w32}
+use Rattle.growth_laws.proofs.Bytes.{zero_byte}
+use Rattle.directories.proofs.Forms.{linear_here}
+use Rattle.std.specs.Prelude.{false, codes, ◌==◌, ◌&&◌, ◌/◌, ◌%◌, take, drop, get_or, if◌then◌else◌}
 use Rattle.call_locks.specs.declared.want.Want.{Want}
 use Rattle.call_locks.specs.Wants.{wanted}
 use Rattle.call_locks.specs.WantLaws.{path_of}
@@ -13,11 +16,11 @@ use Rattle.dinode_tree.specs.Walking.{missing_dinode}
 use Rattle.directories.specs.Shown as dirs
 use Rattle.file_tree.specs.declared.call.Call.{Call}
 use Rattle.file_tree.specs.declared.call.Call.TheVariants as calls
-use Rattle.gfs2_layout.specs.Bytes.{u64_at}
+use Rattle.gfs2_layout.specs.Bytes.{number_at, u32_at, u64_at}
 use Rattle.gfs2_layout.specs.Device.{superblock_place}
 use Rattle.gfs2_layout.specs.Holding.{Holding}
-use Rattle.gfs2_layout.specs.Inode.{Leads, from_dinode, from_block, header_length, height_in, dinode_in, span}
-use Rattle.gfs2_layout.specs.Structures.{dinode_length, dinode_of}
+use Rattle.gfs2_layout.specs.Inode.{Leads, from_dinode, from_block, has_hash_flag, header_length, height_in, dinode_in, is_hashed_in, span}
+use Rattle.gfs2_layout.specs.Structures.{dinode_length, dinode_of, is_directory}
 use Rattle.glock_names.specs.Views.{Seen, HasBlock}
 use Rattle.glock_names.specs.declared.steps.Missing.{Missing}
 use Rattle.growth_laws.proofs.Numbers.{zeros_are_no_number}
@@ -35,7 +38,7 @@ use Rattle.removing_calls.specs.Removing as removing
 use Rattle.writing_calls.specs.Writing as writing
 use Rattle.file_changes.specs.Drafting.{IsNeededAt, of_any, of_group, of_inode}
 use Rattle.growth_drafts.specs.Taken.{IsCutAt, IsLookedAt}
-use Rattle.damage_laws.specs.Telling.{IsReadFrom, HasWholeGroups, HasAstray, IsAstray, IsBrokenSource, source_of}
+use Rattle.damage_laws.specs.Telling.{IsReadFrom, HasWholeGroups, HasAstray, IsAstray, IsBrokenSource, NeedsTell, source_of}
 use Rattle.damage_laws.proofs.Astray.{led_beyond, whole_or_out}
 use Rattle.damage_laws.proofs.Claimed.{shown, root_claimed, is_directory, directory_or, led_there, astray_at, further}
 use Rattle.damage_laws.proofs.Calls.{led_inside}
@@ -94,6 +97,32 @@ still_led im a x _ _ _ _ _ (from_block y j level start c i leads low some) = eli
       subst (Leads (every im a) c i level (start + i * span im.size level)) (sym p) before
 ]
 
+-- a dinode of zeros isn't that of a hashed directory, nor is one that stays that of a linear one
+zero32 : (xs : List ℕ) → ((i : ℕ) → get_or xs i 0 ≡ 0) → from_be_bytes w32 xs ≡ 0
+zero32 xs none = rw (none 0, none 1, none 2, none 3) refl
+
+zeros32 : (i n : ℕ) → u32_at i (replicate n 0) ≡ 0
+unfolding number_at
+zeros32 i n = zero32 (take 4 (drop i (replicate n 0))) each
+  where
+    each : (m : ℕ) → get_or (take 4 (drop i (replicate n 0))) m 0 ≡ 0
+    each m = elim (cases_lt m 4) [
+      | inl low ↦ get_or-take 4 (drop i (replicate n 0)) m 0 low ∙ get_or-drop i (replicate n 0) m 0 ∙ zero_byte n (i + m)
+      | inr far ↦ get_or_past (take 4 (drop i (replicate n 0))) m 0 (omega (arith, far, length-take 4 (drop i (replicate {A = ℕ} n 0))))
+    ]
+
+no_flag : (n : ℕ) → n ≡ 0 → (n / 2 % 2 == 1) ≡ false
+no_flag n e = ap (λ m. m / 2 % 2 == 1) e
+
+linear_zeroed : (im : Image) (a x : ℕ) → is_hashed_in (every im a) ≡ false → is_hashed_in (every (zeroed im x) a) ≡ false
+unfolding dinode_in
+linear_zeroed im a x linear = elim (cases_eq a x) [
+  | inl e ↦
+      let d : dinode_of (replicate im.size 0) ≡ dinode_of ((zeroed im x).at a) = ap dinode_of (sym (zeros_at im x a e)) in
+      linear_here (every (zeroed im x) a) (dinode_of (replicate im.size 0)) d (no_flag (u32_at 128 (replicate im.size 0)) (zeros32 128 im.size))
+  | inr other ↦ ap (λ bytes. is_directory (dinode_of bytes) && has_hash_flag (dinode_of bytes)) (same_at im x a other) ∙ linear
+]
+
 -- what is needed is the dinode, or a pointer leads to it
 abbrev IsWay : Holding → Missing → Type 0
 IsWay h m = ((m.block ≡ h.own) × (m.from ≡ h.own)) ⊎ ((k level first : ℕ) × Leads h m.from k level first m.block)
@@ -115,9 +144,12 @@ module _ (v : Seen) (im : Image) (read : IsReadFrom v im) (whole : HasWholeGroup
 
   -- so it does a directory, or one of its blocks is beyond the device
   directory_zeroed : (a x : ℕ) → v.block_at x ≡ None → HasDirectory im a → dirs.IsShown v a (every (zeroed im x) a) ⊎ ((y : ℕ) × IsAstray im a y)
-  directory_zeroed a x absent has = elim (whole_or_out (zeroed im x) (zeroed_is im x whole.image) a) [
-    | inl all ↦ inl (record { inode = shown_zeroed a x absent; leaves = λ is i place y chain some. refl; whole = all })
-    | inr out ↦ inr (out.0, led_beyond im whole.image a has out.0 out.1 out.2 out.3 out.4 (still_led im a x out.0 out.1 out.2 out.3 out.4 out.5) out.6)
+  directory_zeroed a x absent has = elim (cases_Bool (is_hashed_in (every im a))) [
+    | inr linear ↦ inl (record { inode = shown_zeroed a x absent; leaves = λ is i place y chain some. refl; whole = λ is. absurd (true≢false (sym is ∙ linear_zeroed im a x linear)) })
+    | inl hashed ↦ elim (whole_or_out (zeroed im x) (zeroed_is im x whole.image) a) [
+      | inl all ↦ inl (record { inode = shown_zeroed a x absent; leaves = λ is i place y chain some. refl; whole = λ is. all })
+      | inr out ↦ inr (out.0, led_beyond im whole.image a has hashed out.0 out.1 out.2 out.3 out.4 (still_led im a x out.0 out.1 out.2 out.3 out.4 out.5) out.6)
+    ]
   ]
 
   at_superblock : (m : Missing) → m.from ≡ m.block → Breaks im 2 (superblock_place im.size) → IsBrokenSource v im (source_of im.size m)
@@ -195,7 +227,7 @@ module _ (v : Seen) (im : Image) (read : IsReadFrom v im) (whole : HasWholeGroup
   -- a leaf that is needed is in a group, and so on the device
   hashed_way : (h : Holding) (W : ℕ → Type 0) (m : Missing) → im.count ≤ m.block → hashed.IsNeededFor v h W m → IsWay h m
   hashed_way h W m out (hashed.IsNeededFor.of_table i wanted needs) = way_of h _ 0 m needs.way
-  hashed_way h W m out (hashed.IsNeededFor.a_leaf i wanted leads lock plain absent) = ?
+  hashed_way h W m out (hashed.IsNeededFor.a_leaf i wanted leads inside lock plain absent) = absurd (omega (arith, out, whole.data_blocks m.block inside))
 
   own_way : (h : Holding) (m : Missing) → m ≡ missing_dinode h.own → IsWay h m
   own_way h m is = inl (ap (λ (x : Missing). x.block) is, ap (λ (x : Missing). x.from) is)
@@ -245,3 +277,22 @@ module _ (v : Seen) (im : Image) (read : IsReadFrom v im) (whole : HasWholeGroup
   writing_out call m (writing.of_freed a size time freed fates changes cuts draft held needs) out = file_out (wanted call) (path_of call false) a (λ h i. ⊥) freed m changes.at.leads needs out
   writing_out call m (writing.of_room a at new need changes puts has needed) out = absurd (omega (arith, out, whole.headers needed.group m.block needed.has needed.missing.own))
 
+pub needs_tell : NeedsTell
+needs_tell v im (calls.Create p) m read whole needs out = making_out v im read whole (calls.Create p) m needs out
+needs_tell v im (calls.Mkdir p) m read whole needs out = making_out v im read whole (calls.Mkdir p) m needs out
+needs_tell v im (calls.Unlink p) m read whole needs out = removal_out v im read whole (calls.Unlink p) m needs out
+needs_tell v im (calls.Rmdir p) m read whole needs out = removal_out v im read whole (calls.Rmdir p) m needs out
+needs_tell v im (calls.Read p at n) m read whole (reading.on_path unread) out = unread_out v im read whole (wanted (calls.Read p at n)) (path_of (calls.Read p at n) false) m unread out
+needs_tell v im (calls.Read p at n) m read whole (reading.at_end a leads asked) out = needed_out v im read whole (wanted (calls.Read p at n)) (path_of (calls.Read p at n) false) a m leads (λ h. IsInRange h at n) 0 (λ h shown. (asked h shown).1) out
+needs_tell v im (calls.Dread p at n) m read whole (reading.on_path unread) out = unread_out v im read whole (wanted (calls.Dread p at n)) (path_of (calls.Dread p at n) false) m unread out
+needs_tell v im (calls.Dread p at n) m read whole (reading.at_end a leads asked) out = needed_out v im read whole (wanted (calls.Dread p at n)) (path_of (calls.Dread p at n) false) a m leads (λ h. IsInRange h at n) 0 (λ h shown. (asked h shown).1) out
+needs_tell v im (calls.Write p at bytes) m read whole needs out = writing_out v im read whole (calls.Write p at bytes) m needs out
+needs_tell v im (calls.Truncate p n) m read whole needs out = writing_out v im read whole (calls.Truncate p n) m needs out
+needs_tell v im (calls.Stat p) m read whole (reading.on_path unread) out = unread_out v im read whole (wanted (calls.Stat p)) (path_of (calls.Stat p) false) m unread out
+needs_tell v im (calls.Stat p) m read whole (reading.at_end a leads asked) out = absurd asked
+needs_tell v im (calls.List p) m read whole (reading.on_path unread) out = unread_out v im read whole (wanted (calls.List p)) (path_of (calls.List p) false) m unread out
+needs_tell v im (calls.List p) m read whole (reading.at_end a leads asked) out = directory_out v im read whole (wanted (calls.List p)) (path_of (calls.List p) false) a m leads asked.0 asked.1.1 (λ h seen. all_way v im read whole h m out (asked.1.0 h seen)) out
+needs_tell v im (calls.Rename p q) m read whole (reading.on_path unread) out = unread_out v im read whole (wanted (calls.Rename p q)) (path_of (calls.Rename p q) false) m unread out
+needs_tell v im (calls.Rename p q) m read whole (reading.at_end a leads asked) out = absurd asked
+needs_tell v im calls.Sync m read whole (reading.on_path unread) out = unread_out v im read whole (wanted calls.Sync) (path_of calls.Sync false) m unread out
+needs_tell v im calls.Sync m read whole (reading.at_end a leads asked) out = absurd asked

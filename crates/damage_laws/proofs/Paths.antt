@@ -31,13 +31,11 @@ use Rattle.image_model.proofs.Members.{IsIn, is_in}
 use Rattle.image_model.proofs.Reach.{Leading}
 use Rattle.image_reader.proofs.Directories.{leaf_is_hashed, not_both}
 use Rattle.path_walks.specs.Walks as path
-use Rattle.path_walks.specs.Walks.{IsDirectoryAt, IsHeldAt, IsNext, IsWrongAt, LeadsTo, in_inode, in_directory, too_few, on_path, leads_out}
+use Rattle.path_walks.specs.Walks.{IsDirectoryAt, IsHeldAt, IsLinearAt, IsNext, IsWrongAt, LeadsTo, in_inode, in_directory, too_few, on_path, leads_out}
 use Rattle.path_walks.proofs.Images.{none_named}
-use Rattle.damage_laws.specs.Telling.{InodesAreThere, PathsTell, HasAstray, IsAstray, IsReadFrom, IsTold, itself, misplaced, too_deep, astray}
+use Rattle.damage_laws.specs.Telling.{InodesAreThere, PathsTell, HasAstray, IsAstray, IsReadFrom, IsTold, itself, astray}
 use Rattle.damage_laws.proofs.Claimed.{shown, is_directory, directory_or, astray_at, further, named_there, led_there, next_there, next_led, outside, chain_claims, leaf_claims, has_leaf, record_is, name_claims, IsNamedBy}
-use Rattle.damage_laws.proofs.Dots.{IsMisplaced, leaf, table, absent_or}
-use Rattle.damage_laws.proofs.Leaves.{AreMarked, marked, marked_or, all_records, has_records, record_of_leaf}
-use Rattle.damage_laws.proofs.Marked.{dinode_marked, hashed_marked, leaf_marked, records_marked, shown_marked}
+use Rattle.damage_laws.proofs.Leaves.{AreMarked, marked_or, all_records, has_records, record_of_leaf}
 
 -- ---- an inode
 
@@ -56,17 +54,6 @@ module _ (im : Image) (a : ℕ) (has : HasInode im a) where
   broken_inode rule b (inode.too_large_for_dinode flat large) = rules.too_large_for_dinode a has flat large
   broken_inode rule b (inode.too_large_for_height level height large) = rules.too_large_for_height a level has height large
   broken_inode rule b (inode.past_end x k level first c leads past) = rules.past_end a x k level first c has leads past
-
--- no rule of an inode counts
-no_count : (h : Holding) (rule b : ℕ) → rule ≡ 12 → inode.IsBroken h rule b → ⊥
-no_count h _ _ e (inode.no_header x kind format needs lacks) = omega (arith, e)
-no_count h _ _ e (inode.other_address other) = omega (arith, e)
-no_count h _ _ e (inode.no_number none) = omega (arith, e)
-no_count h _ _ e (inode.no_mode no_dir no_file) = omega (arith, e)
-no_count h _ _ e (inode.too_high high) = omega (arith, e)
-no_count h _ _ e (inode.too_large_for_dinode flat large) = omega (arith, e)
-no_count h _ _ e (inode.too_large_for_height level height large) = omega (arith, e)
-no_count h _ _ e (inode.past_end x k level first c leads past) = omega (arith, e)
 
 -- ---- a linear directory
 
@@ -132,101 +119,39 @@ module _ (v : Seen) (im : Image) (read : IsReadFrom v im) (is_image : IsImage im
     links_none : (dinode_in (every im a)).nlink ≡ 0 → Breaks im 12 a
     links_none none = rules.directory_links a (all_records im a m) listed (λ e. absurd (omega (arith, e, none)))
 
-    -- with its leaves marked, its records are counted
-    marked_told : (rule b : ℕ) → rule ≡ 12 → b ≡ a → leaves.IsBroken (marked im m a) rule b → Breaks im 12 a
-    marked_told _ _ is at (leaves.of_inode rule b broken) = absurd (no_count (marked im m a) rule b is broken)
-    marked_told _ _ is at (leaves.no_header i from x leads some lacks) = absurd (omega (arith, is))
-    marked_told _ _ is at (leaves.unfilled i from x leads some bad) = absurd (omega (arith, is))
-    marked_told _ _ is at (leaves.no_name i from x r leads some there plain bad) = absurd (omega (arith, is))
-    marked_told _ _ is at (leaves.no_entries i from x r leads some there none) =
-        counts_none x r (leaf_marked im m a has.inode hashed i from x leads) there (sym (ap (λ d. d.entries) (dinode_marked im m a)) ∙ none)
-    marked_told _ _ is at (leaves.no_links none) = links_none (sym (ap (λ d. d.nlink) (dinode_marked im m a)) ∙ none)
-    marked_told _ _ is at (leaves.wrong_entries other) =
-        rules.entry_count a (all_records im a m) listed (λ e. other (ap (λ d. d.entries) (dinode_marked im m a) ∙ e ∙ ap length (sym (records_marked im m a hashed))))
-    marked_told _ _ is at (leaves.wrong_links other) =
-        rules.directory_links a (all_records im a m) listed (λ e. other (ap (λ d. d.nlink) (dinode_marked im m a) ∙ e ∙ ap (λ rs. 2 + directory_count rs) (sym (records_marked im m a hashed))))
-    marked_told _ _ is at (leaves.table_too_small small) = absurd (omega (arith, is))
-    marked_told _ _ is at (leaves.table_too_large large) = absurd (omega (arith, is))
-    marked_told _ _ is at (leaves.table_size other) = absurd (omega (arith, is))
-    marked_told _ _ is at (leaves.no_leaf i low none) = absurd (omega (arith, is))
-    marked_told _ _ is at (leaves.records_format i from x leads some other) = absurd (omega (arith, is))
-    marked_told _ _ is at (leaves.too_deep i from x leads some deep) = absurd (omega (arith, is))
-    marked_told _ _ is at (leaves.leaf_entries i from x leads some other) = absurd (omega (arith, is))
-    marked_told _ _ is at (leaves.comes_again i place later x first second before) = absurd (omega (arith, is))
-
-    wrong_marked : (rule b : ℕ) → rule ≡ 12 → b ≡ a → dirs.IsBroken v (marked im m a) rule b → Breaks im 12 a
-    wrong_marked rule b is at told = by told
-      where
-        in_it : (rule b : ℕ) → rule ≡ 12 → b ≡ a → leaves.IsWrongIn v (marked im m a) rule b → Breaks im 12 a
-        in_it _ _ e f (leaves.breaks rule b broken) = marked_told rule b e f broken
-        in_it _ _ e f (leaves.outside i from x leads out) = absurd (omega (arith, e))
-        in_it _ _ e f (leaves.stray i from x r leads some there plain out) = absurd (omega (arith, e))
-
-        by : dirs.IsBroken v (marked im m a) rule b → Breaks im 12 a
-        by (dirs.of_inode broken) = absurd (no_count (marked im m a) rule b is broken)
-        by (dirs.in_linear dir plain broken) = absurd (not_both (is_hashed_in (every im a)) hashed (sym (hashed_marked im m a) ∙ plain))
-        by (dirs.in_hashed flag wrong) = in_it rule b is at wrong
-
-  module _ (m : ℕ → Bool) (are : AreMarked im a has hashed m) where
-    broken_hashed : (rule b : ℕ) → (rule ≡ 12 → b ≡ a → Breaks im 12 a) → leaves.IsBroken (every im a) rule b → Breaks im rule b
-    broken_hashed _ _ count (leaves.of_inode rule b broken) = broken_inode im a has.inode rule b broken
-    broken_hashed _ _ count (leaves.no_header i from x leads some lacks) = rules.no_header x 6 600 (rules.of_leaf a x (has_leaf im a has.inode hashed i from x leads)) lacks
-    broken_hashed _ _ count (leaves.unfilled i from x leads some bad) = rules.unfilled a x (leaf_area (every im a) x) (of_leaf x (has_leaf im a has.inode hashed i from x leads)) bad
-    broken_hashed _ _ count (leaves.no_name i from x r leads some there plain bad) =
+    broken_hashed : (rule b : ℕ) → leaves.IsBroken (every im a) rule b → Breaks im rule b
+    broken_hashed _ _ (leaves.of_inode rule b broken) = broken_inode im a has.inode rule b broken
+    broken_hashed _ _ (leaves.no_header i from x leads some lacks) = rules.no_header x 6 600 (rules.of_leaf a x (has_leaf im a has.inode hashed i from x leads)) lacks
+    broken_hashed _ _ (leaves.unfilled i from x leads some bad) = rules.unfilled a x (leaf_area (every im a) x) (of_leaf x (has_leaf im a has.inode hashed i from x leads)) bad
+    broken_hashed _ _ (leaves.no_name i from x r leads some there plain bad) =
         rules.no_name a x r (leaf_area (every im a) x, of_leaf x (has_leaf im a has.inode hashed i from x leads), there) plain bad
-    broken_hashed _ _ count (leaves.no_entries i from x r leads some there none) = counts_none m are x r (has_leaf im a has.inode hashed i from x leads) there none
-    broken_hashed _ _ count (leaves.no_links none) = links_none m are none
-    broken_hashed _ _ count (leaves.wrong_entries other) = count refl refl
-    broken_hashed _ _ count (leaves.wrong_links other) = count refl refl
-    broken_hashed _ _ count (leaves.table_too_small small) = rules.table_too_small a (has.inode, hashed) small
-    broken_hashed _ _ count (leaves.table_too_large large) = rules.table_too_large a (has.inode, hashed) large
-    broken_hashed _ _ count (leaves.table_size other) = rules.table_size a (has.inode, hashed) other
-    broken_hashed _ _ count (leaves.no_leaf i low none) = rules.no_leaf a i (has.inode, hashed) low none
-    broken_hashed _ _ count (leaves.records_format i from x leads some other) = rules.records_format a x (has_leaf im a has.inode hashed i from x leads) other
-    broken_hashed _ _ count (leaves.too_deep i from x leads some deep) = rules.leaf_too_deep a x (has_leaf im a has.inode hashed i from x leads) deep
-    broken_hashed _ _ count (leaves.leaf_entries i from x leads some other) = rules.leaf_entries a x (has_leaf im a has.inode hashed i from x leads) other
-    broken_hashed _ _ count (leaves.comes_again i place later x first second before) =
+    broken_hashed _ _ (leaves.no_entries i from x r leads some there none) = counts_none x r (has_leaf im a has.inode hashed i from x leads) there none
+    broken_hashed _ _ (leaves.no_links none) = links_none none
+    broken_hashed _ _ (leaves.table_too_small small) = rules.table_too_small a (has.inode, hashed) small
+    broken_hashed _ _ (leaves.table_too_large large) = rules.table_too_large a (has.inode, hashed) large
+    broken_hashed _ _ (leaves.table_size other) = rules.table_size a (has.inode, hashed) other
+    broken_hashed _ _ (leaves.no_leaf i low none) = rules.no_leaf a i (has.inode, hashed) low none
+    broken_hashed _ _ (leaves.records_format i from x leads some other) = rules.records_format a x (has_leaf im a has.inode hashed i from x leads) other
+    broken_hashed _ _ (leaves.too_deep i from x leads some deep) = rules.leaf_too_deep a x (has_leaf im a has.inode hashed i from x leads) deep
+    broken_hashed _ _ (leaves.leaf_entries i from x leads some other) = rules.leaf_entries a x (has_leaf im a has.inode hashed i from x leads) other
+    broken_hashed _ _ (leaves.comes_again i place later x first second before) =
         let one = chain_claims im a has.inode hashed i place x first in
         let other = chain_claims im a has.inode hashed i later x second in
         rules.comes_again a (first_hash (every im a) i) x one.0 other.0 place later one.1 other.1 before
 
-    wrong_hashed : (rule b : ℕ) → (rule ≡ 12 → b ≡ a → Breaks im 12 a) → leaves.IsWrongIn v (every im a) rule b → Breaks im rule b
-    wrong_hashed _ _ count (leaves.breaks rule b broken) = broken_hashed rule b count broken
-    wrong_hashed _ _ count (leaves.outside i from x leads out) =
+    wrong_hashed : (rule b : ℕ) → leaves.IsWrongIn v (every im a) rule b → Breaks im rule b
+    wrong_hashed _ _ (leaves.breaks rule b broken) = broken_hashed rule b broken
+    wrong_hashed _ _ (leaves.outside i from x leads out) =
         let c = leaf_claims im a has.inode hashed i from x leads in
         rules.beyond_groups from x (Chained a c.0 c.1) c.2 (outside v im read is_image x out)
-    wrong_hashed _ _ count (leaves.stray i from x r leads some there plain out) =
+    wrong_hashed _ _ (leaves.stray i from x r leads some there plain out) =
         let c = leaf_claims im a has.inode hashed i from x leads in
         rules.beyond_groups x r.address (Named a r.name) (image.in_leaf from x a c.0 c.1 r c.2 there plain) (outside v im read is_image r.address out)
 
-    wrong_every : (rule b : ℕ) → (rule ≡ 12 → b ≡ a → Breaks im 12 a) → dirs.IsBroken v (every im a) rule b → Breaks im rule b
-    wrong_every rule b count (dirs.of_inode broken) = broken_inode im a has.inode rule b broken
-    wrong_every rule b count (dirs.in_linear dir plain broken) = absurd (not_both (is_hashed_in (every im a)) hashed plain)
-    wrong_every rule b count (dirs.in_hashed flag wrong) = wrong_hashed rule b count wrong
-
-    -- a name that it says it has not
-    nowhere_of : (i : ℕ) (name : List ℕ) (named : Option Record) → named ≡ None → IsFirstNamed (every im a) i name named → (place : ℕ) → IsNamedLater (every im a) i name place
-    nowhere_of i name _ none (in_leaf place x r chain found later) = absurd (none_some (sym none))
-    nowhere_of i name _ none (nowhere nothing) = nothing
-
-    absent_hashed : (name : List ℕ) (found : Option Entry) → None ≡ found → dirs.Says (every im a) name found → ((x : ℕ) (r : Record) → HasRecordIn im a x r → r.name ≢ name) ⊎ IsMisplaced im a
-    absent_hashed name _ none (dirs.in_linear plain) = absurd (not_both (is_hashed_in (every im a)) hashed plain)
-    absent_hashed name _ none (dirs.in_hashed found flag small by) =
-        absent_or im is_image a has hashed m are name small (nowhere_of (index_for (every im a) name) name by.named (no_entry by.named (none ∙ by.leads)) by.first)
-
-    -- a name that it says it has
-    found_of : (i : ℕ) (name : List ℕ) (named : Option Record) (r : Record) → named ≡ Some r → IsFirstNamed (every im a) i name named → (q : Record) × IsIn q (all_records im a m) × (q.name ≡ name)
-    found_of i name _ r is (nowhere nothing) = absurd (none_some is)
-    found_of i name _ r is (in_leaf place x q chain found later) =
-        let led = record_is (records_in (leaf_area (every im a) x)) name q found in
-        let c = chain_claims im a has.inode hashed i place x chain in
-        (led.entry, record_of_leaf im a m has hashed are x led.entry (c.0, first_hash (every im a) i, place, c.1) led.there, led.named)
-
-    there_hashed : (name : List ℕ) (found : Option Entry) (e : Entry) → Some e ≡ found → dirs.Says (every im a) name found → (q : Record) × IsIn q (all_records im a m) × (q.name ≡ name)
-    there_hashed name _ e some (dirs.in_linear plain) = absurd (not_both (is_hashed_in (every im a)) hashed plain)
-    there_hashed name _ e some (dirs.in_hashed found flag small by) =
-        let r = some_entry by.named e (some ∙ by.leads) in
-        found_of (index_for (every im a) name) name by.named r.0 r.1 by.first
+    wrong_every : (rule b : ℕ) → dirs.IsBroken v (every im a) rule b → Breaks im rule b
+    wrong_every rule b (dirs.of_inode broken) = broken_inode im a has.inode rule b broken
+    wrong_every rule b (dirs.in_linear dir plain broken) = absurd (not_both (is_hashed_in (every im a)) hashed plain)
+    wrong_every rule b (dirs.in_hashed flag wrong) = wrong_hashed rule b wrong
 
 -- ---- a directory of any form
 
@@ -261,9 +186,7 @@ module _ (v : Seen) (im : Image) (read : IsReadFrom v im) (is_image : IsImage im
       | inr linear ↦ itself rule b (plain_told linear (wrong (every im a) seen))
       | inl hashed ↦ elim (marked_or im a has hashed) [
         | inr out ↦ astray rule b (up out)
-        | inl leaves ↦ itself rule b (wrong_every v im read is_image a has hashed leaves.0 leaves.1 rule b
-            (λ is at. wrong_marked v im read is_image a has hashed leaves.0 leaves.1 rule b is at (wrong (marked im leaves.0 a) (shown_marked im leaves.0 a v (shown v im read is_image a) seen)))
-            (wrong (every im a) seen))
+        | inl leaves ↦ itself rule b (wrong_every v im read is_image a has hashed leaves.0 leaves.1 rule b (wrong (every im a) seen))
       ]
     ]
   ]
@@ -273,41 +196,21 @@ module _ (v : Seen) (im : Image) (read : IsReadFrom v im) (is_image : IsImage im
       plain_told linear (dirs.in_linear dir plain broken) = broken_directory im a has plain rule b broken
       plain_told linear (dirs.in_hashed flag wrong) = absurd (not_both (is_hashed_in (every im a)) flag linear)
 
-  -- `.` or `..` isn't found
-  wrong_dots : (name : List ℕ) → (((x : ℕ) (r : Record) → HasRecordIn im a x r → r.name ≢ name) → Breaks im 10 a) → ((h : Holding) → dirs.IsShown v a h → dirs.Says h name None) → Told 10 a
-  wrong_dots name breaks none = elim (directory_or v im read is_image a has) [
+  -- a linear one in which `.` or `..` isn't found
+  wrong_dots : (name : List ℕ) → (((x : ℕ) (r : Record) → HasRecordIn im a x r → r.name ≢ name) → Breaks im 10 a) → IsLinearAt v a → ((h : Holding) → dirs.IsShown v a h → dirs.Says h name None) → Told 10 a
+  wrong_dots name breaks linear none = elim (directory_or v im read is_image a has) [
     | inr out ↦ astray 10 a (up out)
-    | inl seen ↦ elim (cases_Bool (is_hashed_in (every im a))) [
-      | inr linear ↦ itself 10 a (breaks (absent_linear im a has linear name None refl (none (every im a) seen)))
-      | inl hashed ↦ elim (marked_or im a has hashed) [
-        | inr out ↦ astray 10 a (up out)
-        | inl leaves ↦ elim (absent_hashed v im read is_image a has hashed leaves.0 leaves.1 name None refl (none (every im a) seen)) [
-          | inl absent ↦ itself 10 a (breaks absent)
-          | inr wrong ↦ by_leaf wrong
-        ]
-      ]
-    ]
+    | inl seen ↦ itself 10 a (breaks (absent_linear im a has (linear (every im a) seen) name None refl (none (every im a) seen)))
   ]
-    where
-      by_leaf : IsMisplaced im a → Told 10 a
-      by_leaf (leaf x held broken) = misplaced a x held broken
-      by_leaf (table broken) = too_deep a broken
 
-  wrong_few : (own above : Entry) → ((h : Holding) → dirs.IsShown v a h → dirs.Says h (codes ".") (Some own) × dirs.Says h (codes "..") (Some above)) → (dinode_in (every im a)).entries < 2 → Told 12 a
-  wrong_few own above says few = elim (directory_or v im read is_image a has) [
+  -- or that has both, and counts fewer records
+  wrong_few : (own above : Entry) → IsLinearAt v a → ((h : Holding) → dirs.IsShown v a h → dirs.Says h (codes ".") (Some own) × dirs.Says h (codes "..") (Some above)) → (dinode_in (every im a)).entries < 2 → Told 12 a
+  wrong_few own above linear says few = elim (directory_or v im read is_image a has) [
     | inr out ↦ astray 12 a (up out)
-    | inl seen ↦ elim (cases_Bool (is_hashed_in (every im a))) [
-      | inr linear ↦
-          let s = says (every im a) seen in
-          itself 12 a (few_records (records_of (every im a)) (records im a has linear) (there_linear im a linear (codes ".") (Some own) own refl s.0) (there_linear im a linear (codes "..") (Some above) above refl s.1) few)
-      | inl hashed ↦ elim (marked_or im a has hashed) [
-        | inr out ↦ astray 12 a (up out)
-        | inl leaves ↦
-            let s = says (every im a) seen in
-            itself 12 a (few_records (all_records im a leaves.0) (has_records im a leaves.0 has hashed leaves.1)
-            (there_hashed v im read is_image a has hashed leaves.0 leaves.1 (codes ".") (Some own) own refl s.0) (there_hashed v im read is_image a has hashed leaves.0 leaves.1 (codes "..") (Some above) above refl s.1) few)
-      ]
-    ]
+    | inl seen ↦
+        let plain = linear (every im a) seen in
+        let s = says (every im a) seen in
+        itself 12 a (few_records (records_of (every im a)) (records im a has plain) (there_linear im a plain (codes ".") (Some own) own refl s.0) (there_linear im a plain (codes "..") (Some above) above refl s.1) few)
   ]
 
 -- ---- an inode that is wrong as the view shows it
@@ -316,14 +219,14 @@ pub wrong_at : (v : Seen) (im : Image) (read : IsReadFrom v im) (is_image : IsIm
     → (rule b : ℕ) → IsWrongAt v a rule b → IsTold v im wants names rule b
 wrong_at v im read is_image wants names a up has _ _ (in_inode rule b broken) = itself rule b (broken_inode im a has rule b (broken (every im a) (shown v im read is_image a)))
 wrong_at v im read is_image wants names a up has _ _ (in_directory rule b dir wrong) = wrong_directory v im read is_image wants names a up (is_directory v im read is_image a has dir) rule b wrong
-wrong_at v im read is_image wants names a up has _ _ (path.no_dot dir none) =
+wrong_at v im read is_image wants names a up has _ _ (path.no_dot dir linear none) =
     let there = is_directory v im read is_image a has dir in
-    wrong_dots v im read is_image wants names a up there (codes ".") (λ absent. rules.no_dot a there absent) none
-wrong_at v im read is_image wants names a up has _ _ (path.no_dots dir none) =
+    wrong_dots v im read is_image wants names a up there (codes ".") (λ absent. rules.no_dot a there absent) linear none
+wrong_at v im read is_image wants names a up has _ _ (path.no_dots dir linear none) =
     let there = is_directory v im read is_image a has dir in
-    wrong_dots v im read is_image wants names a up there (codes "..") (λ absent. rules.no_dots a there absent) none
-wrong_at v im read is_image wants names a up has _ _ (too_few own above dir says few) =
-    wrong_few v im read is_image wants names a up (is_directory v im read is_image a has dir) own above says (few (every im a) (shown v im read is_image a))
+    wrong_dots v im read is_image wants names a up there (codes "..") (λ absent. rules.no_dots a there absent) linear none
+wrong_at v im read is_image wants names a up has _ _ (too_few own above dir linear says few) =
+    wrong_few v im read is_image wants names a up (is_directory v im read is_image a has dir) own above linear says (few (every im a) (shown v im read is_image a))
 
 -- ---- on a path
 

@@ -1,19 +1,21 @@
 -- What a call tells of a view as damage, in each image that the view may have been read from.
-use Rattle.std.specs.Prelude.{ℕ, ◌≡◌, ◌⊎◌, ◌↔◌, ◌==◌, ◌<◌, ◌≤◌, false, if◌then◌else◌, List, ◌++◌}
+use Rattle.std.specs.Prelude.{ℕ, ◌≡◌, ◌⊎◌, ◌↔◌, ◌==◌, ◌<◌, ◌≤◌, false, true, if◌then◌else◌, List, ◌++◌}
 use Rattle.draft_changes.specs.Shown.{AgreesWith}
 use Rattle.call_locks.specs.declared.want.Want.{Want}
 use Rattle.call_locks.specs.Wants.{wanted}
 use Rattle.call_locks.specs.WantLaws.{path_of}
+use Rattle.file_calls.specs.Calls as calls
 use Rattle.file_tree.specs.declared.call.Call.{Call}
 use Rattle.file_tree.specs.Tree.{Tree}
 use Rattle.gfs2_layout.specs.Device.{superblock_place}
+use Rattle.gfs2_layout.specs.Inode.{is_hashed_in}
 use Rattle.gfs2_layout.specs.declared.rindex.Rindex.{Rindex}
 use Rattle.glock_names.specs.Views.{Seen, HasBlock, HasGroup, group_of_entry}
 use Rattle.glock_names.specs.declared.steps.Missing.{Missing}
 use Rattle.glock_names.specs.declared.views.Group.{Group}
 use Rattle.image_changes.specs.Does.{IsOf}
 use Rattle.image_model.specs.Claims as image
-use Rattle.image_model.specs.Claims.{Claims, HasInode, HasDirectory, HasLeaf}
+use Rattle.image_model.specs.Claims.{Claims, every, HasInode, HasDirectory}
 use Rattle.image_model.specs.Flat.{Path}
 use Rattle.image_model.specs.Image.{Image, IsImage, superblock_in}
 use Rattle.image_model.specs.Owners.{Owner, Owners, IsWithin}
@@ -52,16 +54,17 @@ pub record IsOfMounted (v : Seen) (im : Image) (m : MountedValue) : Type 0 where
 abbrev pub HasRootInside : Seen → Type 0
 HasRootInside v = HasDataBlock v v.root
 
--- Block x has the number of a block of the directory in block a, beside its dinode, that is beyond the device: so x breaks the rule on numbers.
+-- Block x has the number of a block of the hashed directory in block a, beside its dinode, that is beyond the device: so x breaks the rule on numbers.
 pub record IsAstray (im : Image) (a x : ℕ) : Type 0 where
   pub directory : HasDirectory im a
+  pub hashed : is_hashed_in (every im a) ≡ true
   pub block : ℕ
   pub owner : Owner
   pub claimed : Claims im x block owner
   pub within : IsWithin a owner
   pub beyond : im.count ≤ block
 
--- so has some block of a directory on the path, or at its end
+-- so has some block of a hashed directory on the path, or at its end
 pub record HasAstray (v : Seen) (im : Image) (wants : List Want) (names : Path) : Type 0 where
   pub front : Path
   pub back : Path
@@ -71,13 +74,10 @@ pub record HasAstray (v : Seen) (im : Image) (wants : List Want) (names : Path) 
   pub block : ℕ
   pub astray : IsAstray im directory block
 
--- What is told as damage on this path. A broken block is told as itself. But a hashed directory is told as lacking `.` or `..` (10) where that isn't
--- found by its hash: it has none; or the records, the pointers or the depth of a leaf of it are wrong (14), or its table is too deep (13). And where
--- a block of a directory on the path is beyond the device, any block may be told: the one that has its number breaks rule 2.
+-- What is told as damage on this path. A broken block is told as itself. But where a block of a hashed directory on the path is beyond the device, any
+-- block may be told: the one that has its number breaks rule 2.
 pub data IsTold (v : Seen) (im : Image) (wants : List Want) (names : Path) : ℕ → ℕ → Type 0 where
   itself : (rule b : ℕ) → Breaks im rule b → IsTold v im wants names rule b
-  misplaced : (a x : ℕ) → HasLeaf im a x → Breaks im 14 x → IsTold v im wants names 10 a
-  too_deep : (a : ℕ) → Breaks im 13 a → IsTold v im wants names 10 a
   astray : (rule b : ℕ) → HasAstray v im wants names → IsTold v im wants names rule b
 
 -- The same of a call; and (2) the root is told, where that is in no group: the superblock, which has its number, breaks the rule.
@@ -125,6 +125,13 @@ MakingsTell = (v : Seen) (im : Image) (call : Call) (rule b : ℕ) → IsReadFro
 abbrev pub MakingsTellExactly : Type 0
 MakingsTellExactly = (v : Seen) (im : Image) (call : Call) (rule b : ℕ) → IsReadFrom v im → HasWholeGroups v im → HasRootInside v → making.IsDamage v call rule b → IsTold v im (wanted call) (path_of call false) rule b
 
+-- damage that any call meets of those that `file_calls` answers
+abbrev pub CallsTell : Type 0
+CallsTell = (v : Seen) (im : Image) (call : Call) (rule b : ℕ) → IsReadFrom v im → HasWholeGroups v im → calls.IsDamage v call rule b → IsToldOf v im call rule b
+
+abbrev pub CallsTellExactly : Type 0
+CallsTellExactly = (v : Seen) (im : Image) (call : Call) (rule b : ℕ) → IsReadFrom v im → HasWholeGroups v im → HasRootInside v → calls.IsDamage v call rule b → IsTold v im (wanted call) (path_of call false) rule b
+
 -- the block in which the number of one that is needed stands: the superblock has that of the root, which is asked for by itself
 abbrev pub source_of : ℕ → Missing → ℕ
 source_of size m = if m.from == m.block then superblock_place size else m.from
@@ -134,3 +141,7 @@ pub record IsBrokenSource (v : Seen) (im : Image) (b : ℕ) : Type 0 where
   pub breaks : Breaks im 2 b
   pub there : (b ≡ superblock_place im.size) ⊎ HasBlock v b
 
+-- a number that any such call needs, and that leads out of the device; but where a block of a hashed directory on the path is beyond it
+abbrev pub NeedsTell : Type 0
+NeedsTell = (v : Seen) (im : Image) (call : Call) (m : Missing) → IsReadFrom v im → HasWholeGroups v im → calls.IsNeededFor v call m → im.count ≤ m.block
+    → IsBrokenSource v im (source_of im.size m) ⊎ HasAstray v im (wanted call) (path_of call false)

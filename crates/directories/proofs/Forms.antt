@@ -1,5 +1,5 @@
 -- The forms of a directory, by what its dinode says.
-use Rattle.std.proofs.Common.{◌≡◌, ◌&&◌, ℕ, Bool, true, false, true≢false, arith, List, Option, None, Some, Result, Ok, Err, sym, ap, ◌∙◌, subst, refl}
+use Rattle.std.proofs.Common.{◌≡◌, ◌&&◌, ℕ, Bool, true, false, true≢false, List, Option, None, Some, Result, Ok, Err, sym, ap, ◌∙◌, subst, refl}
 use Rattle.std.specs.Option.{option_map}
 use Rattle.gfs2_layout.specs.Holding.{Holding}
 use Rattle.gfs2_layout.specs.Inode.{dinode_in, has_hash_flag, is_directory_in, is_hashed_in, records_of}
@@ -20,7 +20,7 @@ use Rattle.glock_names.specs.declared.steps.Step.TheVariants.{Is, NeedBlock}
 use Rattle.dinode_tree.specs.Shown as inode
 use Rattle.linear_dirs.specs.Shown.{IsLinearIn, entry_of}
 use Rattle.hash_dirs.specs.Shown as hashed
-use Rattle.directories.specs.Shown.{IsBroken, IsDirectoryIn, IsShown, Says, in_linear}
+use Rattle.directories.specs.Shown.{IsDirectoryIn, IsShown, Says, in_linear}
 
 -- as a hashed one
 pub leaves_shown : (v : Seen) (a : ℕ) (h : Holding) → IsShown v a h → is_hashed_in h ≡ true → hashed.IsShown v a h
@@ -81,7 +81,7 @@ pub some_directory : (v : Seen) (a : ℕ) → IsView v → (h : Holding) × IsSh
 some_directory v a view = (as_seen v a, record {
   inode = all_is_shown v (as_seen v a) refl (λ b. refl) (λ b bytes there is. ap (bytes_or_zeros v.size) is);
   leaves = λ hashed i place x chain some. refl;
-  whole = λ at i b low counted is. each b (v.block_at b) refl;
+  whole = λ hashed at i b low counted is. each b (v.block_at b) refl;
 })
   where
     each : (b : ℕ) (o : Option (List ℕ)) → v.block_at b ≡ o → length (bytes_or_zeros v.size o) ≡ v.size

@@ -1,11 +1,11 @@
 -- What a sound directory says is what its records say, and nothing of it is broken.
-use Rattle.std.proofs.Common.{◌≡◌, ◌≢◌, ◌⊎◌, inl, inr, true≢false, ℕ, suc, ◌+◌, ◌<◌, ◌≤◌, true, false, List, [], ◌∷◌, length, Option, None, Some, refl, sym, ap, ◌∙◌, subst, arith}
+use Rattle.std.proofs.Common.{◌≡◌, ◌⊎◌, inl, inr, true≢false, ℕ, ◌+◌, ◌<◌, true, false, List, [], ◌∷◌, length, Option, Some, refl, sym, ap, ◌∙◌, subst, arith}
 use Rattle.std.specs.Prelude.{Contains, IsSome}
 use Rattle.std.specs.Option.{option_map}
 use Rattle.file_tree.specs.Names.{IsName}
 use Rattle.gfs2_layout.specs.Exchanges.{directory_count}
 use Rattle.gfs2_layout.specs.Holding.{Holding, InChain, part_at}
-use Rattle.gfs2_layout.specs.Inode.{IsLeaf, dinode_in, entry, first_hash, is_directory_in, is_hashed_in, leaf_area, leaf_in, leaves_of, records_of}
+use Rattle.gfs2_layout.specs.Inode.{IsLeaf, dinode_in, first_hash, is_directory_in, is_hashed_in, leaf_area, leaves_of, records_of}
 use Rattle.gfs2_layout.specs.Records.{Record, is_dots, record_named, records_in}
 use Rattle.image_model.proofs.Held.{none_some}
 use Rattle.image_model.proofs.Members.{IsIn, contained, in_flat_map, is_in}
@@ -63,8 +63,6 @@ module _ (h : Holding) (sound : IsSound h) (hashed : is_hashed_in h ≡ true) wh
     hashed_unbroken rule b (leaves.no_name i from x r leads some there low other) = other (down r (contained r (records_of h) (record_of_leaf i from x r leads there)) low)
     hashed_unbroken rule b (leaves.no_entries i from x r leads some there none) = some_record r (records_of h) (record_of_leaf i from x r leads there) (sym entries ∙ none)
     hashed_unbroken rule b (leaves.no_links none) = omega (arith, links, none)
-    hashed_unbroken rule b (leaves.wrong_entries other) = other entries
-    hashed_unbroken rule b (leaves.wrong_links other) = other links
     hashed_unbroken rule b (leaves.table_too_small small) = let least = (rules h sound hashed).least in omega (arith, small, least)
     hashed_unbroken rule b (leaves.table_too_large large) = let greatest = (rules h sound hashed).greatest in omega (arith, large, greatest)
     hashed_unbroken rule b (leaves.table_size other) = other (rules h sound hashed).size

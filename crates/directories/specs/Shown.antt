@@ -26,12 +26,12 @@ use Rattle.hash_dirs.specs.Shown as hashed
 abbrev pub IsDirectoryIn : Seen → ℕ → Type 0
 IsDirectoryIn v dir = (bytes : List ℕ) → v.block_at dir ≡ Some bytes → is_directory (dinode_of bytes) ≡ true
 
--- The holding may be that of the inode with its dinode in block a, as far as the view tells: it has each block to which a pointer of it leads, and of a
--- hashed directory each leaf of its chains; and its blocks of content are whole ones.
+-- The holding may be that of the inode with its dinode in block a, as far as the view tells: it has each block to which a pointer of it leads; and of a
+-- hashed directory it has each leaf of the chains, and the blocks of its table are whole ones.
 pub record IsShown (v : Seen) (a : ℕ) (h : Holding) : Type 0 where
   pub inode : inode.IsShown v a h
   pub leaves : is_hashed_in h ≡ true → (i place x : ℕ) → hashed.IsInChain h i place x → x ≢ 0 → IsSome (h.cell x)
-  pub whole : (at : ℕ) → AreWholeBefore h at
+  pub whole : is_hashed_in h ≡ true → (at : ℕ) → AreWholeBefore h at
 
 -- a directory that isn't hashed
 pub record IsLinearDirectory (h : Holding) : Type 0 where

@@ -26,6 +26,7 @@ use Rattle.file_tree.specs.Tree.{Tree}
 use Rattle.file_tree.specs.declared.reply.Reply.{Reply}
 use Rattle.making_calls.specs.Making as making
 use Rattle.path_walks.specs.Holds.{Hold, holds_in, IsUnder}
+use Rattle.path_walks.proofs.Asked.{unread_absent}
 use Rattle.removing_calls.specs.Removing.{IsRemoving, holds_for}
 use Rattle.removing_calls.specs.Removing as removing
 use Rattle.file_changes.specs.Drafting.{IsNeededAt, of_any, of_group, of_inode}
@@ -37,10 +38,10 @@ ShowsEach v = (a : ℕ) → (h : Holding) × IsShown v a h
 
 -- a block without which a call that reads isn't answered is one that the view hasn't
 pub needed_absent : (v : Seen) (c : Call) (m : Missing) → ShowsEach v → IsNeededFor v c m → v.block_at m.block ≡ None
-needed_absent v c m shows (on_path unread) = unread.absent
+needed_absent v c m shows (on_path unread) = unread_absent v (wanted c) (path_of c false) m unread
 needed_absent v (call.Read p at count) m shows (at_end a leads asked) = let s = shows a in (asked s.0 s.1).1.absent
 needed_absent v (call.Dread p at count) m shows (at_end a leads asked) = let s = shows a in (asked s.0 s.1).1.absent
-needed_absent v (call.List p) m shows (at_end a leads asked) = absurd asked
+needed_absent v (call.List p) m shows (at_end a leads asked) = asked.1.1
 needed_absent v (call.Stat p) m shows (at_end a leads asked) = absurd asked
 needed_absent v (call.Create p) m shows (at_end a leads asked) = absurd asked
 needed_absent v (call.Mkdir p) m shows (at_end a leads asked) = absurd asked
@@ -156,7 +157,7 @@ module _ (im : Image) (o : Owners) (l : Layout) (t : Tree) (node : ℕ) where
 -- ---- a call that removes a name
 
 pub removing_absent : (v : Seen) (c : Call) (m : Missing) → ShowsEach v → removing.IsNeededFor v c m → v.block_at m.block ≡ None
-removing_absent v c m shows (removing.on_path unread) = unread.absent
+removing_absent v c m shows (removing.on_path unread) = unread_absent v (wanted c) (path_of c false) m unread
 removing_absent v c m shows (removing.of_inode a taken needed) = let s = shows a in (needed s.0 s.1).absent
 removing_absent v c m shows (removing.of_group a blocks taken all held needed) = needed.2.3.block.absent
 
@@ -184,7 +185,7 @@ asked_absent v a wanted blocks m shows (of_any asks) = let s = shows a in (asks 
 asked_absent v a wanted blocks m shows (of_group asks) = asks.2.3.block.absent
 
 pub writing_absent : (v : Seen) (c : Call) (m : Missing) → ShowsEach v → writing.IsNeededFor v c m → v.block_at m.block ≡ None
-writing_absent v c m shows (writing.on_path unread) = unread.absent
+writing_absent v c m shows (writing.on_path unread) = unread_absent v (wanted c) (path_of c false) m unread
 writing_absent v c m shows (writing.of_write a at new changes puts asks) = asked_absent v a (λ h. IsLookedAt h at (at + length new)) [] m shows asks
 writing_absent v c m shows (writing.of_taken node a at new need room changes puts needs is_room asks) = asked_absent v a (λ h. IsLookedAt h at (at + length new)) room m shows asks
 writing_absent v c m shows (writing.of_cut a size changes cuts asks) = asked_absent v a (λ h. IsCutAt h size) [] m shows asks

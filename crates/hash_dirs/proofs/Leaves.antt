@@ -52,7 +52,7 @@ damage_of h NoMemory broken = broken
 -- what is needed for one pointer is needed for all
 pub needed_within : (v : Seen) (h : Holding) (i : ℕ) (wanted : ℕ → Type 0) (m : Missing) → wanted i → IsNeededFor v h (λ k. k ≡ i) m → IsNeededFor v h wanted m
 needed_within v h i wanted m is (of_table k same needed) = of_table k (subst wanted (sym same) is) needed
-needed_within v h i wanted m is (a_leaf k same leads lock plain absent) = a_leaf k (subst wanted (sym same) is) leads lock plain absent
+needed_within v h i wanted m is (a_leaf k same leads inside lock plain absent) = a_leaf k (subst wanted (sym same) is) leads inside lock plain absent
 
 -- a pointer that the table gave for an index
 pub head_of : (h : Holding) (index i : ℕ) (p : Pointer) → index ≡ i → index < table_count h → (p.leaf ≡ entry h index) × (p.from ≡ entry_block h index) → IsHead h i p

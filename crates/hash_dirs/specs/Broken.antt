@@ -1,12 +1,11 @@
 -- What breaks which rule in a hashed directory.
-use Rattle.std.specs.Prelude.{ℕ, ◌≡◌, ◌≢◌, ◌+◌, ◌*◌, ◌/◌, ◌<◌, ◌≤◌, false, Contains, length}
+use Rattle.std.specs.Prelude.{ℕ, ◌≡◌, ◌≢◌, ◌*◌, ◌/◌, ◌<◌, false, Contains, length}
 use Rattle.file_tree.specs.Names.{IsName}
 use Rattle.gfs2_layout.specs.Area.{IsArea}
 use Rattle.gfs2_layout.specs.Bytes.{u32_at}
-use Rattle.gfs2_layout.specs.Exchanges.{directory_count}
 use Rattle.gfs2_layout.specs.Headers.{HasHeader}
 use Rattle.gfs2_layout.specs.Holding.{Holding, bytes_at}
-use Rattle.gfs2_layout.specs.Inode.{depth_in, dinode_in, entry, entry_block, leaf_area, leaf_in, records_of, table_count}
+use Rattle.gfs2_layout.specs.Inode.{depth_in, dinode_in, entry, entry_block, leaf_area, leaf_in, table_count}
 use Rattle.gfs2_layout.specs.Records.{Record, is_dots, records_in}
 use Rattle.glock_names.specs.Views.{Seen}
 use Rattle.resource_groups.specs.Putting.{HasDataBlock}
@@ -21,11 +20,9 @@ pub data IsBroken (h : Holding) : ℕ → ℕ → Type 0 where
   -- 9: records don't fill a leaf, or a name isn't one
   unfilled : (i from x : ℕ) → LeadsToLeaf h i from x → x ≢ 0 → ¬ (IsArea (leaf_area h x)) → IsBroken h 9 x
   no_name : (i from x : ℕ) (r : Record) → LeadsToLeaf h i from x → x ≢ 0 → Contains (records_in (leaf_area h x)) r → is_dots r.name ≡ false → ¬ (IsName r.name) → IsBroken h 9 x
-  -- 12: the dinode counts other records, or other links, than there are
+  -- 12: the dinode counts no records where a leaf has one, or no links
   no_entries : (i from x : ℕ) (r : Record) → LeadsToLeaf h i from x → x ≢ 0 → Contains (records_in (leaf_area h x)) r → (dinode_in h).entries ≡ 0 → IsBroken h 12 h.own
   no_links : (dinode_in h).nlink ≡ 0 → IsBroken h 12 h.own
-  wrong_entries : (dinode_in h).entries ≢ length (records_of h) → IsBroken h 12 h.own
-  wrong_links : (dinode_in h).nlink ≢ 2 + directory_count (records_of h) → IsBroken h 12 h.own
   -- 13: the table's depth is below the first or above the greatest, or the size isn't that of the table
   table_too_small : table_count h < h.size / 16 → IsBroken h 13 h.own
   table_too_large : 8 * h.size < table_count h → IsBroken h 13 h.own

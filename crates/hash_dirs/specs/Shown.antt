@@ -8,6 +8,7 @@ use Rattle.gfs2_layout.specs.Inode.{IsInode, depth_in, entry, entry_block, leaf_
 use Rattle.glock_names.specs.Views.{Seen}
 use Rattle.glock_names.specs.declared.steps.Missing.{Missing}
 use Rattle.dinode_tree.specs.Reading.{IsNeeded, inode_lock}
+use Rattle.resource_groups.specs.Putting.{HasDataBlock}
 pub use Rattle.pointer_tables.specs.Directories.{IsInChain, IsPlaced, IsShown}
 
 -- A directory with blocks of one of the four sizes that is an inode sound in itself, its blocks in their places, no two of its records with one name. So is every hashed
@@ -31,7 +32,8 @@ pub data LeadsToLeaf (h : Holding) (i : ℕ) : ℕ → ℕ → Type 0 where
 
 -- ---- what is asked for
 
--- The view hasn't this block, without which the chain of one of these pointers isn't gone along: one on the way to the pointer, or a leaf.
+-- The view hasn't this block, without which the chain of one of these pointers isn't gone along: one on the way to the pointer, or a leaf, which is a
+-- data block of a group.
 pub data IsNeededFor (v : Seen) (h : Holding) (wanted : ℕ → Type 0) (m : Missing) : Type 0 where
   of_table : (i : ℕ) → wanted i → IsNeeded v h (λ k. k ≡ 8 * i / unit h) 0 m → IsNeededFor v h wanted m
-  a_leaf : (i : ℕ) → wanted i → LeadsToLeaf h i m.from m.block → m.lock ≡ inode_lock h.own → m.plain ≡ false → v.block_at m.block ≡ None → IsNeededFor v h wanted m
+  a_leaf : (i : ℕ) → wanted i → LeadsToLeaf h i m.from m.block → HasDataBlock v m.block → m.lock ≡ inode_lock h.own → m.plain ≡ false → v.block_at m.block ≡ None → IsNeededFor v h wanted m

@@ -9,7 +9,13 @@ use std::collections::BTreeMap;
 use std::test::Fail;
 use tree_tables::TreeTable;
 
-static NO_GROUPS: [Group; 0] = [];
+// One group, which has the directory, its leaves and the files.
+static GROUPS: [Group; 1] = [Group {
+    addr: 130,
+    length: 1,
+    first: 131,
+    count: 100,
+}];
 
 // The blocks that are there.
 #[derive(Drop)]
@@ -18,7 +24,7 @@ struct Shelf {
 }
 
 impl View for Shelf {
-    ghost use Rattle.std.specs.Prelude.{None, Some, [], length, ◌==◌, if◌then◌else◌, option_and_then};
+    ghost use Rattle.std.specs.Prelude.{None, Some, [], ◌∷◌, length, ◌==◌, if◌then◌else◌, option_and_then};
     ghost use Rattle.std.specs.BTreeMap.{get};
     ghost use Rattle.std.specs.Ordering.{nat_cmp};
     ghost use Rattle.glock_names.specs.declared.State.TheVariants.{Ex};
@@ -26,7 +32,7 @@ impl View for Shelf {
     ghost seen = { λ v. record {
       size = 512;
       root = 2;
-      groups = [];
+      groups = record { addr = 130; length = 1; first = 131; count = 100 } ∷ [];
       state_of = λ lock. Ex;
       block_at = λ b. option_and_then (λ bytes. if length bytes.items == 512 then Some bytes.items else None) (get nat_cmp v.blocks b);
     } };
@@ -43,7 +49,7 @@ impl View for Shelf {
     }
 
     fn groups(&self) -> &[Group] {
-        &NO_GROUPS
+        &GROUPS
     }
 
     fn root(&self) -> u64 {
@@ -59,74 +65,74 @@ impl View for Shelf {
 type Part = (u64, usize, &'static [u8]);
 
 const DIRECTORY: [Part; 32] = [
-    (60, 0, b"\x01\x16\x19\x70\x00\x00\x00\x04"),
-    (60, 16, b"\x00\x00\x01\x90"),
+    (160, 0, b"\x01\x16\x19\x70\x00\x00\x00\x04"),
+    (160, 16, b"\x00\x00\x01\x90"),
     (
-        60,
+        160,
         24,
-        b"\x00\x00\x00\x00\x00\x00\x00\x08\x00\x00\x00\x00\x00\x00\x00\x3c",
+        b"\x00\x00\x00\x00\x00\x00\x00\x08\x00\x00\x00\x00\x00\x00\x00\xa0",
     ),
-    (60, 40, b"\x00\x00\x41\xed"),
-    (60, 52, b"\x00\x00\x00\x02"),
-    (60, 56, b"\x00\x00\x00\x00\x00\x00\x01\x00"),
-    (60, 128, b"\x00\x00\x00\x02"),
-    (60, 146, b"\x00\x05\x00\x00\x00\x05"),
-    (61, 0, b"\x01\x16\x19\x70\x00\x00\x00\x06"),
-    (61, 16, b"\x00\x00\x02\x58"),
+    (160, 40, b"\x00\x00\x41\xed"),
+    (160, 52, b"\x00\x00\x00\x02"),
+    (160, 56, b"\x00\x00\x00\x00\x00\x00\x01\x00"),
+    (160, 128, b"\x00\x00\x00\x02"),
+    (160, 146, b"\x00\x05\x00\x00\x00\x05"),
+    (161, 0, b"\x01\x16\x19\x70\x00\x00\x00\x06"),
+    (161, 16, b"\x00\x00\x02\x58"),
     (
-        61,
+        161,
         24,
         b"\x00\x01\x00\x02\x00\x00\x04\xb0\x00\x00\x00\x00\x00\x00\x00\x00",
     ),
-    (62, 0, b"\x01\x16\x19\x70\x00\x00\x00\x06"),
-    (62, 16, b"\x00\x00\x02\x58"),
+    (162, 0, b"\x01\x16\x19\x70\x00\x00\x00\x06"),
+    (162, 16, b"\x00\x00\x02\x58"),
     (
-        62,
+        162,
         24,
-        b"\x00\x01\x00\x02\x00\x00\x04\xb0\x00\x00\x00\x00\x00\x00\x00\x3f",
+        b"\x00\x01\x00\x02\x00\x00\x04\xb0\x00\x00\x00\x00\x00\x00\x00\xa3",
     ),
-    (63, 0, b"\x01\x16\x19\x70\x00\x00\x00\x06"),
-    (63, 16, b"\x00\x00\x02\x58"),
+    (163, 0, b"\x01\x16\x19\x70\x00\x00\x00\x06"),
+    (163, 16, b"\x00\x00\x02\x58"),
     (
-        63,
+        163,
         24,
         b"\x00\x01\x00\x01\x00\x00\x04\xb0\x00\x00\x00\x00\x00\x00\x00\x00",
     ),
     (
-        61,
+        161,
         104,
-        b"\x00\x00\x00\x00\x00\x00\x00\x08\x00\x00\x00\x00\x00\x00\x00\x3c",
+        b"\x00\x00\x00\x00\x00\x00\x00\x08\x00\x00\x00\x00\x00\x00\x00\xa0",
     ),
-    (61, 120, b"\x0e\xd4\xe2\x42\x00\x30\x00\x01\x00\x04"),
-    (61, 144, b"."),
+    (161, 120, b"\x0e\xd4\xe2\x42\x00\x30\x00\x01\x00\x04"),
+    (161, 144, b"."),
     (
-        61,
+        161,
         152,
-        b"\x00\x00\x00\x00\x00\x00\x00\x15\x00\x00\x00\x00\x00\x00\x00\x51",
+        b"\x00\x00\x00\x00\x00\x00\x00\x15\x00\x00\x00\x00\x00\x00\x00\xb5",
     ),
-    (61, 168, b"\x1a\x3c\x7b\x13\x01\x68\x00\x04\x00\x08"),
-    (61, 192, b"zeta"),
+    (161, 168, b"\x1a\x3c\x7b\x13\x01\x68\x00\x04\x00\x08"),
+    (161, 192, b"zeta"),
     (
-        62,
+        162,
         104,
         b"\x00\x00\x00\x00\x00\x00\x00\x02\x00\x00\x00\x00\x00\x00\x00\x02",
     ),
-    (62, 120, b"\x96\x08\x16\x1c\x00\x30\x00\x02\x00\x04"),
-    (62, 144, b".."),
+    (162, 120, b"\x96\x08\x16\x1c\x00\x30\x00\x02\x00\x04"),
+    (162, 144, b".."),
     (
-        62,
+        162,
         152,
-        b"\x00\x00\x00\x00\x00\x00\x00\x16\x00\x00\x00\x00\x00\x00\x00\x52",
+        b"\x00\x00\x00\x00\x00\x00\x00\x16\x00\x00\x00\x00\x00\x00\x00\xb6",
     ),
-    (62, 168, b"\xd0\xe0\x39\x6a\x01\x68\x00\x05\x00\x08"),
-    (62, 192, b"alpha"),
+    (162, 168, b"\xd0\xe0\x39\x6a\x01\x68\x00\x05\x00\x08"),
+    (162, 192, b"alpha"),
     (
-        63,
+        163,
         104,
-        b"\x00\x00\x00\x00\x00\x00\x00\x17\x00\x00\x00\x00\x00\x00\x00\x53",
+        b"\x00\x00\x00\x00\x00\x00\x00\x17\x00\x00\x00\x00\x00\x00\x00\xb7",
     ),
-    (63, 120, b"\x8f\x91\x04\x63\x01\x98\x00\x04\x00\x08"),
-    (63, 144, b"beta"),
+    (163, 120, b"\x8f\x91\x04\x63\x01\x98\x00\x04\x00\x08"),
+    (163, 144, b"beta"),
 ];
 
 // Lays a part over its block, which is made of zeros where it isn't there.
@@ -153,17 +159,17 @@ fn directory(alloc: Global) -> Result<Shelf, AllocError> {
     }
     for index in 0..32 {
         let leaf: &[u8] = if index < 16 {
-            b"\x00\x00\x00\x00\x00\x00\x00\x3d"
+            b"\x00\x00\x00\x00\x00\x00\x00\xa1"
         } else {
-            b"\x00\x00\x00\x00\x00\x00\x00\x3e"
+            b"\x00\x00\x00\x00\x00\x00\x00\xa2"
         };
-        lay(&mut shelf, alloc, (60, 232 + 8 * index, leaf))?;
+        lay(&mut shelf, alloc, (160, 232 + 8 * index, leaf))?;
     }
     Ok(shelf)
 }
 
 const TABLE: TreeTable = TreeTable {
-    directory: 60,
+    directory: 160,
     depth: 5,
 };
 
@@ -178,43 +184,43 @@ fn file(number: u64, addr: u64) -> Option<Entry> {
 #[test]
 fn names_lead_by_their_chains(rt: HostRuntime) -> Result<(), Fail> {
     let shelf = directory(rt.alloc())?;
-    assert_eq!(rt; TreeTable::of(&shelf, 60), Ok(Step::Is(TABLE)));
+    assert_eq!(rt; TreeTable::of(&shelf, 160), Ok(Step::Is(TABLE)));
     assert_eq!(rt;
-        look(&shelf, 60, b"zeta", &TABLE),
-        Ok(Step::Is(file(21, 81)))
+        look(&shelf, 160, b"zeta", &TABLE),
+        Ok(Step::Is(file(21, 181)))
     );
     assert_eq!(rt;
-        look(&shelf, 60, b"alpha", &TABLE),
-        Ok(Step::Is(file(22, 82)))
+        look(&shelf, 160, b"alpha", &TABLE),
+        Ok(Step::Is(file(22, 182)))
     );
     assert_eq!(rt;
-        look(&shelf, 60, b"beta", &TABLE),
-        Ok(Step::Is(file(23, 83)))
+        look(&shelf, 160, b"beta", &TABLE),
+        Ok(Step::Is(file(23, 183)))
     );
-    assert_eq!(rt; look(&shelf, 60, b"gamma", &TABLE), Ok(Step::Is(None)));
+    assert_eq!(rt; look(&shelf, 160, b"gamma", &TABLE), Ok(Step::Is(None)));
     Ok(())
 }
 
 #[test]
 fn a_leaf_that_is_missing_is_named(rt: HostRuntime) -> Result<(), Fail> {
     let mut shelf = directory(rt.alloc())?;
-    shelf.blocks.remove(&63);
+    shelf.blocks.remove(&163);
     let missing = Missing {
         lock: LockName {
             kind: 2,
-            number: 60,
+            number: 160,
         },
-        block: 63,
+        block: 163,
         plain: false,
-        from: 62,
+        from: 162,
     };
     assert_eq!(rt;
-        look(&shelf, 60, b"beta", &TABLE),
+        look(&shelf, 160, b"beta", &TABLE),
         Ok(Step::NeedBlock(missing))
     );
     assert_eq!(rt;
-        look(&shelf, 60, b"alpha", &TABLE),
-        Ok(Step::Is(file(22, 82)))
+        look(&shelf, 160, b"alpha", &TABLE),
+        Ok(Step::Is(file(22, 182)))
     );
     Ok(())
 }
@@ -237,14 +243,14 @@ fn gives(answer: Result<Step<Vec<Name>>, CallFault>, want: &[&[u8]]) -> bool {
 fn names_are_listed_and_taken(rt: HostRuntime) -> Result<(), Fail> {
     let a = rt.alloc();
     let shelf = directory(a)?;
-    assert!(rt; gives(names(a, &shelf, 60, &TABLE), &[b"zeta", b"alpha", b"beta"]));
+    assert!(rt; gives(names(a, &shelf, 160, &TABLE), &[b"zeta", b"alpha", b"beta"]));
     let mut draft = Draft::new(a, &shelf);
-    assert_eq!(rt; remove(&mut draft, 60, b"beta", &TABLE), Ok(Step::Is(true)));
+    assert_eq!(rt; remove(&mut draft, 160, b"beta", &TABLE), Ok(Step::Is(true)));
     assert_eq!(rt;
-        remove(&mut draft, 60, b"beta", &TABLE),
+        remove(&mut draft, 160, b"beta", &TABLE),
         Ok(Step::Is(false))
     );
-    assert_eq!(rt; look(&draft, 60, b"beta", &TABLE), Ok(Step::Is(None)));
-    assert!(rt; gives(names(a, &draft, 60, &TABLE), &[b"zeta", b"alpha"]));
+    assert_eq!(rt; look(&draft, 160, b"beta", &TABLE), Ok(Step::Is(None)));
+    assert!(rt; gives(names(a, &draft, 160, &TABLE), &[b"zeta", b"alpha"]));
     Ok(())
 }

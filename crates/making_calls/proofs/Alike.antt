@@ -20,7 +20,7 @@ use Rattle.linear_dirs.proofs.Looked.{bytes_of, dinode_there}
 use Rattle.linear_dirs.proofs.Over.{as_seen}
 use Rattle.linear_dirs.proofs.Rewritten.{over_there}
 use Rattle.new_inodes.specs.Touched.{IsTouched, with_times}
-use Rattle.making_calls.specs.Making.{IsLinearDirectory}
+use Rattle.directories.specs.Shown.{IsLinearDirectory}
 
 -- its dinode says the same but for its times, and the same bytes follow it
 pub record IsAlike (h h' : Holding) : Type 0 where

@@ -1,47 +1,30 @@
 -- A linear directory to which the walk came: what is read of it, and what a look in it tells.
-use Rattle.std.proofs.Common.{◌≡◌, ℕ, true, false, List, Some, refl, sym, subst}
+use Rattle.std.proofs.Common.{◌≡◌, ℕ, List, Some, refl, sym, subst}
 use Rattle.std.specs.Option.{option_map}
 use Rattle.file_tree.specs.Tree.{Tree}
 use Rattle.gfs2_layout.specs.Holding.{Holding}
-use Rattle.gfs2_layout.specs.Inode.{dinode_in, has_hash_flag, records_of}
+use Rattle.gfs2_layout.specs.Inode.{records_of}
 use Rattle.gfs2_layout.specs.Records.{record_named}
-use Rattle.gfs2_layout.specs.Structures.{is_directory}
-use Rattle.gfs2_layout.specs.declared.dinode.Dinode.{Dinode}
 use Rattle.glock_names.specs.Views.{Seen}
 use Rattle.glock_names.specs.declared.steps.Entry.{Entry}
-use Rattle.dinode_tree.specs.Shown.{IsShown}
 use Rattle.linear_dirs.specs.Broken as directory
 use Rattle.linear_dirs.specs.Shown.{entry_of}
 use Rattle.directories.specs.Shown.{HasName, Says}
 use Rattle.directories.specs.Shown as dirs
-use Rattle.directories.proofs.Forms.{linear_here}
 use Rattle.image_model.specs.Flat.{Path}
 use Rattle.image_model.specs.Image.{Image}
 use Rattle.image_model.specs.Owners.{Owners, holding}
 use Rattle.image_model.specs.Stands.{Layout}
 use Rattle.image_changes.specs.Does.{IsOf}
 use Rattle.image_changes.specs.Instances.{IsAt}
-use Rattle.path_walks.specs.Walks.{IsWrongAt}
 use Rattle.path_walks.proofs.Images.{unbroken_directory}
-use Rattle.path_walks.proofs.Steps.{directory_so}
-use Rattle.making_calls.specs.Making.{IsLinearDirectory}
-
--- the directory that was read
-pub linear_all : (v : Seen) (a : ℕ) (d : Dinode) → ((h : Holding) → IsShown v a h → d ≡ dinode_in h) → is_directory d ≡ true → has_hash_flag d ≡ false
-    → (h : Holding) → IsShown v a h → IsLinearDirectory h
-linear_all v a d dinode dir plain h shown = record { directory = directory_so h d (dinode h shown) dir; linear = linear_here h d (dinode h shown) plain }
+use Rattle.directories.specs.Shown.{IsLinearDirectory}
 
 -- a name that was found in it
 pub name_found : (h : Holding) (name : List ℕ) (e : Entry) → IsLinearDirectory h → Some e ≡ option_map entry_of (record_named (records_of h) name) → HasName h name e.addr
 name_found h name e is found = record { entry = e; says = subst (Says h name) (sym found) (Says.in_linear is.linear); address = refl }
 
--- what is broken in it is wrong there
-pub wrong_linear : (v : Seen) (a : ℕ) → ((h : Holding) → IsShown v a h → IsLinearDirectory h) → (rule b : ℕ) → ((h : Holding) → IsShown v a h → directory.IsBroken h rule b) → IsWrongAt v a rule b
-wrong_linear v a linear rule b broken =
-    IsWrongAt.in_directory rule b (λ h shown. (linear h shown).directory)
-    (λ h shown. let is = linear h shown.inode in dirs.IsBroken.in_linear is.directory is.linear (broken h shown.inode))
-
--- and in an image that the view may be of nothing is
+-- in an image that the view may be of nothing of it is broken
 pub linear_unbroken : (v : Seen) (im : Image) (o : Owners) (l : Layout) (t : Tree) → IsOf v im o l t → (path : Path) (a : ℕ) → IsAt im o l path a → IsLinearDirectory (holding im o a)
     → (rule b : ℕ) → directory.IsBroken (holding im o a) rule b → ⊥
 linear_unbroken v im o l t of path a at is rule b broken =

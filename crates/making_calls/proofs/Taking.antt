@@ -24,12 +24,10 @@ use Rattle.glock_names.specs.declared.steps.Missing.{Missing}
 use Rattle.glock_names.specs.declared.views.Group.{Group}
 use Rattle.call_locks.specs.Wants.{wanted}
 use Rattle.call_locks.specs.WantLaws.{path_of}
-use Rattle.call_locks.specs.declared.want.Want.{Want}
 use Rattle.dinode_tree.specs.Shown.{IsShown}
 use Rattle.dinode_tree.specs.Reading.{inode_lock}
 use Rattle.resource_groups.specs.Putting.{HasDataBlock}
 use Rattle.resource_groups.specs.Shown.{IsDataOf, IsMissing, group_lock, said}
-use Rattle.image_model.specs.Flat.{Path}
 use Rattle.image_model.specs.Groups.{IsListed}
 use Rattle.image_model.specs.Groups as owned
 use Rattle.image_model.specs.Image.{Image}
@@ -44,8 +42,9 @@ use Rattle.draft_changes.proofs.Added.{adding_makes}
 use Rattle.draft_changes.proofs.Views.{groups_are_listed}
 use Rattle.path_walks.specs.Holds as locks
 use Rattle.path_walks.specs.Holds.{Hold, AreHeld, IsAskedFor, IsFirstLack, hold_for, hold_of, holds, hold_of_group}
-use Rattle.path_walks.specs.Walks.{LeadsTo, IsLastOf, IsUnread}
+use Rattle.path_walks.specs.Walks.{LeadsTo, IsLastOf}
 use Rattle.path_walks.specs.declared.walk.Place.{Place}
+use Rattle.path_walks.proofs.Asked.{unread_absent}
 use Rattle.path_walks.proofs.Images.{is_inode, is_shown}
 use Rattle.path_walks.proofs.Leads.{no_end}
 use Rattle.path_walks.proofs.Lists.{parent_of_next}
@@ -67,7 +66,8 @@ use Rattle.making_calls.specs.declared.blocks.Room.{Room}
 use Rattle.making_calls.specs.declared.blocks.NewRoom.{NewRoom}
 use Rattle.making_calls.specs.declared.blocks.NewRoom.TheVariants as taken
 use Rattle.making_calls.proofs.Chain.{apart}
-use Rattle.making_calls.proofs.Linear.{linear_unbroken, wrong_linear}
+use Rattle.making_calls.proofs.Linear.{linear_unbroken}
+use Rattle.path_walks.proofs.Steps.{wrong_linear}
 use Rattle.making_calls.proofs.Rooms.{IsHeldRoom, dinode_inside, new_are, own_of}
 use Rattle.making_calls.proofs.Trees.{changes, takes, taken_list}
 use Rattle.making_calls.proofs.Under.{change_at, directory_listed, each_lock}
@@ -76,10 +76,6 @@ use Rattle.path_walks.proofs.Wants.{exclusive}
 use Rattle.path_walks.proofs.Longer.{asked_behind, lack_behind}
 
 -- a block that is needed isn't there
-unread_absent : (v : Seen) (wants : List Want) (whole : Path) (m : Missing) → IsUnread v wants whole m → v.block_at m.block ≡ None
-unread_absent v wants whole m (IsUnread.a_dinode depth next held absent is) = absent
-unread_absent v wants whole m (IsUnread.in_directory front back dir name on leads there directory needed absent) = absent
-
 pub needed_absent : (v : Seen) (c : Call) (m : Missing) → IsNeededFor v c m → v.block_at m.block ≡ None
 needed_absent v c m (damage.on_path unread) = unread_absent v (wanted c) (directory_path c) m unread
 needed_absent v c m (damage.of_group gets needed) = needed.missing.absent

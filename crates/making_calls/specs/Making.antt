@@ -37,6 +37,7 @@ use Rattle.image_changes.specs.Instances.{IsAt, dinode_at}
 use Rattle.path_walks.specs.Answers.{Refuses}
 use Rattle.path_walks.specs.Holds.{Hold, AreHeld, IsAskedFor, IsFirstLack, holds, holds_in, hold_of_group}
 use Rattle.path_walks.specs.declared.walk.Place.{Place}
+use Rattle.directories.specs.Shown.{IsLinearDirectory}
 use Rattle.path_walks.specs.Walks.{LeadsTo, Names, IsAbsent, IsLacked, IsOnTheWay, IsPlaceOf, IsSeenAt, IsUnread, IsWrongAt}
 use Rattle.path_walks.specs.Walks as path
 use Rattle.room_search.specs.Blocks.{states_by, free_for, free_in_all, group_of_node}
@@ -106,12 +107,7 @@ pub record IsTooFew (v : Seen) (im : Image) (o : Owners) (l : Layout) (t : Tree)
 
 -- ---- as far as the view shows
 
--- an inode that is a directory, and not a hashed one
-pub record IsLinearDirectory (h : Holding) : Type 0 where
-  pub directory : is_directory_in h ≡ true
-  pub linear : is_hashed_in h ≡ false
-
--- such a directory that hasn't the name
+-- a linear directory that hasn't the name
 pub record LacksName (h : Holding) (name : List ℕ) : Type 0 where
   pub linear : IsLinearDirectory h
   pub absent : child_named (records_of h) name ≡ None

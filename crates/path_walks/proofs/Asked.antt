@@ -8,6 +8,7 @@ use Rattle.hash_dirs.specs.Shown as leaves
 use Rattle.directories.specs.Shown as dirs
 use Rattle.directories.proofs.Sound.{leaf_part}
 use Rattle.gfs2_layout.specs.Structures.{is_regular}
+use Rattle.call_locks.specs.declared.want.Want.{Want}
 use Rattle.glock_names.specs.Views.{Seen}
 use Rattle.glock_names.specs.declared.steps.Missing.{Missing}
 use Rattle.dinode_tree.specs.Reading.{IsNeeded, IsOnWay, the_dinode, led_to}
@@ -22,6 +23,7 @@ use Rattle.image_changes.specs.Does.{IsOf, is_content_of}
 use Rattle.image_changes.specs.Instances.{IsAt}
 use Rattle.image_changes.proofs.Drafting.{own_locks}
 use Rattle.path_walks.specs.Holds.{Hold, AreHeld, EndsWith, IsAskedFor, hold_of}
+use Rattle.path_walks.specs.Walks.{IsUnread}
 use Rattle.path_walks.proofs.Images.{is_inode, is_sound, lock_of_inode, dinode_used, dinode_plain, sound_directory}
 use Rattle.path_walks.proofs.Steps.{differs}
 
@@ -78,7 +80,7 @@ module _ (v : Seen) (im : Image) (o : Owners) (l : Layout) (t : Tree) (of : IsOf
   -- so is a leaf of a directory
   leaf_asked : IsAmong v list a → is_directory_in (holding im o a) ≡ true → is_hashed_in (holding im o a) ≡ true → (want : ℕ → Type 0) (m : Missing) → leaves.IsNeededFor v (holding im o a) want m → IsAskedFor v im o l list m
   leaf_asked among dir hashed want m (leaves.IsNeededFor.of_table i wanted needs) = asked_among among _ 0 m needs
-  leaf_asked among dir hashed want m (leaves.IsNeededFor.a_leaf i wanted leads lock plain absent) =
+  leaf_asked among dir hashed want m (leaves.IsNeededFor.a_leaf i wanted leads inside lock plain absent) =
       let part = leaf_part (holding im o a) (sound_directory v im o l t of path a at dir) hashed i m.from m.block leads in
       let row = chained_owner im o a m.block (first_hash (holding im o a) i) part.0 part.1 in
       asked_at among m absent lock (ap (cover l m.block) row ∙ own_lock) (ap is_free row) (plain ∙ sym (ap (is_content_of im o) row))
@@ -94,3 +96,8 @@ module _ (v : Seen) (im : Image) (o : Owners) (l : Layout) (t : Tree) (of : IsOf
   pub names_asked : IsAmong v list a → is_directory_in (holding im o a) ≡ true → (m : Missing) → dirs.IsNeededForAll v (holding im o a) m → IsAskedFor v im o l list m
   names_asked among dir m (dirs.IsNeededForAll.the_dinode is absent) = own_asked among m is absent
   names_asked among dir m (dirs.IsNeededForAll.in_hashed hashed needs) = leaf_asked among dir hashed _ m needs
+
+-- a block without which a walk doesn't go on isn't there
+pub unread_absent : (v : Seen) (wants : List Want) (path : Path) (m : Missing) → IsUnread v wants path m → v.block_at m.block ≡ None
+unread_absent v wants path m (IsUnread.a_dinode depth next held absent is) = absent
+unread_absent v wants path m (IsUnread.in_directory front back dir name on leads there directory needed absent) = absent

@@ -30,7 +30,6 @@ use Rattle.image_model.specs.Owners.{Owner, Owners, Super, InGroup, Free, Nobody
 use Rattle.image_model.specs.Stands.{Layout, flat_of}
 use Rattle.image_model.proofs.Held.{itself_own, none_some, some_same}
 use Rattle.path_walks.specs.Walks.{IsWrongAt}
-use Rattle.gfs2_layout.specs.Inode.{dinode_in}
 use Rattle.draft_changes.proofs.Rows.{cell_its, its_used}
 use Rattle.draft_changes.proofs.Views.{none_has_the_first}
 use Rattle.glock_names.specs.declared.steps.Entry.{Entry}
@@ -247,7 +246,7 @@ module _ (v : Seen) (im : Image) (o : Owners) (l : Layout) (t : Tree) (of : IsOf
   shown_inode path a at = record {
     inode = is_shown path a at;
     leaves = λ hashed i place x chain some. cell_some ((holding im o a).cell x) _ (in_chain (holding im o a) (sound_directory path a at (and_left (is_directory_in (holding im o a)) _ hashed)) hashed i place x chain);
-    whole = λ from. sound_is_whole (holding im o a) from of.stands.laid.image.block_size (is_sound path a at);
+    whole = λ hashed from. sound_is_whole (holding im o a) from of.stands.laid.image.block_size (is_sound path a at);
   }
 
   pub shown_directory : (path : Path) (a : ℕ) → IsAt im o l path a → is_directory_in (holding im o a) ≡ true → dirs.IsShown v a (holding im o a)
@@ -292,13 +291,13 @@ module _ (v : Seen) (im : Image) (o : Owners) (l : Layout) (t : Tree) (of : IsOf
   nothing_wrong path a rule b at (IsWrongAt.in_directory r c is broken) =
       let dir = is (holding im o a) (is_shown path a at) in
       unbroken_directory path a r c at dir (broken (holding im o a) (shown_directory path a at dir))
-  nothing_wrong path a rule b at (IsWrongAt.no_dot is none) =
+  nothing_wrong path a rule b at (IsWrongAt.no_dot is linear none) =
       let dir = is (holding im o a) (is_shown path a at) in
       has_dot path a at dir (none (holding im o a) (shown_directory path a at dir))
-  nothing_wrong path a rule b at (IsWrongAt.no_dots is none) =
+  nothing_wrong path a rule b at (IsWrongAt.no_dots is linear none) =
       let dir = is (holding im o a) (is_shown path a at) in
       has_dots path a at dir (none (holding im o a) (shown_directory path a at dir))
-  nothing_wrong path a rule b at (IsWrongAt.too_few own up is has few) =
+  nothing_wrong path a rule b at (IsWrongAt.too_few own up is linear has few) =
       let dir = is (holding im o a) (is_shown path a at) in
       let says = has (holding im o a) (shown_directory path a at dir) in
       let counted = (of.stands.laid.directories a (is_inode path a at) dir).entries in

@@ -1,10 +1,9 @@
 -- A step of a walk, as far as the view tells.
-use Rattle.std.proofs.Common.{◌≡◌, ◌==◌, ◌&&◌, inl, inr, ℕ, Bool, true, false, List, Option, None, Some, Result, Ok, Err, true≢false, refl, sym, ap, subst, ◌∙◌}
+use Rattle.std.proofs.Common.{◌≡◌, ◌==◌, inl, inr, ℕ, true, false, List, Option, None, Some, Result, Ok, Err, true≢false, sym, ap, subst, ◌∙◌}
 use Rattle.std.proofs.lemmas.Bool.{eqb-true, cases_Bool}
-use Rattle.std.specs.Prelude.{option_map, is_some, IfSome, IfNone, IsErrAnd}
+use Rattle.std.specs.Prelude.{is_some, IfSome, IfNone, IsErrAnd}
 use Rattle.gfs2_layout.specs.Holding.{Holding}
-use Rattle.gfs2_layout.specs.Inode.{dinode_in, is_directory_in, is_hashed_in, has_hash_flag}
-use Rattle.gfs2_layout.specs.Records.{Record, child_named, record_named}
+use Rattle.gfs2_layout.specs.Inode.{dinode_in, has_hash_flag, is_directory_in}
 use Rattle.gfs2_layout.specs.Structures.{dinode_of, is_directory}
 use Rattle.gfs2_layout.specs.declared.dinode.Dinode.{Dinode}
 use Rattle.glock_names.specs.Steps.{OnlyDamaged, IsDamage}
@@ -14,11 +13,14 @@ use Rattle.resource_groups.specs.Shown.{IsDataOf}
 use Rattle.resource_groups.specs.Putting.{HasDataBlock}
 use Rattle.glock_names.specs.declared.steps.CallFault.{CallFault}
 use Rattle.glock_names.specs.declared.steps.CallFault.TheVariants.{Damaged, NoMemory}
-use Rattle.glock_names.specs.declared.steps.Entry.{Entry}
 use Rattle.dinode_tree.specs.Shown.{IsShown}
 use Rattle.dinode_tree.proofs.Sound.{some_is_shown}
-use Rattle.directories.specs.Shown.{IsDirectoryIn}
-use Rattle.path_walks.specs.Walks.{IsDirectoryAt}
+use Rattle.directories.specs.Shown.{IsDirectoryIn, IsLinearDirectory}
+use Rattle.directories.specs.Shown as dirs
+use Rattle.directories.proofs.Forms.{linear_here}
+use Rattle.linear_dirs.specs.Broken as linear
+use Rattle.linear_dirs.specs.Shown.{IsLinearIn}
+use Rattle.path_walks.specs.Walks.{IsDirectoryAt, IsWrongAt}
 
 -- the dinode that was read is that of the block which the view has
 pub read_here : (v : Seen) (a : ℕ) (d : Dinode) (bytes : List ℕ) → ((h : Holding) → IsShown v a h → d ≡ dinode_in h) → v.block_at a ≡ Some bytes → d ≡ dinode_of bytes
@@ -90,3 +92,21 @@ directory_all v a d dinode dir h shown = directory_so h d (dinode h shown) dir
 pub inside_so : (v : Seen) (b : ℕ) (x : Option Group) → is_some x ≡ true → IfSome x (HasGroup v) → IfSome x (λ g. IsDataOf g b) → HasDataBlock v b
 inside_so v b None some group own = absurd (true≢false (sym some))
 inside_so v b (Some g) some group own = (g, group, own)
+
+-- ---- linear directories
+
+-- the directory whose dinode was read, and says that it is linear
+pub linear_all : (v : Seen) (a : ℕ) (d : Dinode) → ((h : Holding) → IsShown v a h → d ≡ dinode_in h) → is_directory d ≡ true → has_hash_flag d ≡ false
+    → (h : Holding) → IsShown v a h → IsLinearDirectory h
+linear_all v a d dinode dir plain h shown = record { directory = directory_so h d (dinode h shown) dir; linear = linear_here h d (dinode h shown) plain }
+
+pub linear_block : (v : Seen) (a : ℕ) (d : Dinode) → ((h : Holding) → IsShown v a h → d ≡ dinode_in h) → is_directory d ≡ true → has_hash_flag d ≡ false → IsLinearIn v a
+linear_block v a d dinode directory plain bytes there =
+    let e = read_here v a d bytes dinode there in
+    (ap is_directory (sym e) ∙ directory, ap has_hash_flag (sym e) ∙ plain)
+
+-- what is broken in it is wrong there
+pub wrong_linear : (v : Seen) (a : ℕ) → ((h : Holding) → IsShown v a h → IsLinearDirectory h) → (rule b : ℕ) → ((h : Holding) → IsShown v a h → linear.IsBroken h rule b) → IsWrongAt v a rule b
+wrong_linear v a is rule b broken =
+    IsWrongAt.in_directory rule b (λ h shown. (is h shown).directory)
+    (λ h shown. let it = is h shown.inode in dirs.IsBroken.in_linear it.directory it.linear (broken h shown.inode))

@@ -1,5 +1,5 @@
 -- Where a walk along a path ends: as far as a view shows, and in an image that the view may be of.
-use Rattle.std.specs.Prelude.{ℕ, ◌≡◌, ◌⊎◌, ◌+◌, ◌<◌, ◌++◌, true, false, List, [], ◌∷◌, codes, length, take, slice_get, None, Some}
+use Rattle.std.specs.Prelude.{ℕ, ◌≡◌, ◌⊎◌, ◌+◌, ◌<◌, ◌++◌, true, false, List, [], ◌∷◌, codes, length, slice_get, None, Some}
 use Rattle.file_tree.specs.Tree.{Tree}
 use Rattle.file_tree.specs.Names.{IsName, parent_of}
 use Rattle.file_tree.specs.Apply.{Refused}
@@ -142,13 +142,13 @@ IsWalked v im o l t path wants (walk.NeedBlock m) = IsAskedFor v im o l (holds_i
 -- ---- damage
 
 -- The inode with its dinode in block a is wrong, as far as the view shows it: it breaks a rule, that of a directory's form where it is one; or (10) a
--- directory hasn't `.` or `..`; or (12) its dinode counts fewer records than these two, which it has.
+-- linear directory hasn't `.` or `..`; or (12) its dinode counts fewer records than these two, which it has.
 pub data IsWrongAt (v : Seen) (a : ℕ) : ℕ → ℕ → Type 0 where
   in_inode : (rule b : ℕ) → ((h : Holding) → IsShown v a h → inode.IsBroken h rule b) → IsWrongAt v a rule b
   in_directory : (rule b : ℕ) → IsDirectoryAt v a → ((h : Holding) → dirs.IsShown v a h → dirs.IsBroken v h rule b) → IsWrongAt v a rule b
-  no_dot : IsDirectoryAt v a → ((h : Holding) → dirs.IsShown v a h → Says h (codes ".") None) → IsWrongAt v a 10 a
-  no_dots : IsDirectoryAt v a → ((h : Holding) → dirs.IsShown v a h → Says h (codes "..") None) → IsWrongAt v a 10 a
-  too_few : (own up : Entry) → IsDirectoryAt v a → ((h : Holding) → dirs.IsShown v a h → Says h (codes ".") (Some own) × Says h (codes "..") (Some up))
+  no_dot : IsDirectoryAt v a → IsLinearAt v a → ((h : Holding) → dirs.IsShown v a h → Says h (codes ".") None) → IsWrongAt v a 10 a
+  no_dots : IsDirectoryAt v a → IsLinearAt v a → ((h : Holding) → dirs.IsShown v a h → Says h (codes "..") None) → IsWrongAt v a 10 a
+  too_few : (own up : Entry) → IsDirectoryAt v a → IsLinearAt v a → ((h : Holding) → dirs.IsShown v a h → Says h (codes ".") (Some own) × Says h (codes "..") (Some up))
       → ((h : Holding) → IsShown v a h → (dinode_in h).entries < 2) → IsWrongAt v a 12 a
 
 -- As far as the view shows, the block breaks this rule: in an inode on the path; or (2) it is a linear directory in which a name on the path leads

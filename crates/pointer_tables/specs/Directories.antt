@@ -1,7 +1,8 @@
--- A hashed directory as a view shows it, and where its blocks lie.
-use Rattle.std.specs.Prelude.{ℕ, ◌≡◌, ◌≢◌, ◌+◌, ◌<◌, true, IsSome, None, Some}
-use Rattle.gfs2_layout.specs.Holding.{Holding, Itself, part_at}
-use Rattle.gfs2_layout.specs.Inode.{entry, is_hashed_in, leaf_in, table_count}
+-- A hashed directory as a view shows it, and the inode that it is, its leaves aside.
+use Rattle.std.specs.Prelude.{ℕ, ◌≡◌, ◌≢◌, ◌+◌, ◌<◌, true, length, IsSome, None, Some}
+use Rattle.gfs2_layout.specs.Headers.{HasHeader}
+use Rattle.gfs2_layout.specs.Holding.{Holding, Part, Itself, bytes_at, part_at}
+use Rattle.gfs2_layout.specs.Inode.{Fits, HasTree, block_count, dinode_in, entry, is_hashed_in, leaf_in, table_count}
 use Rattle.glock_names.specs.Views.{Seen}
 use Rattle.dinode_tree.specs.Shown as inode
 
@@ -21,7 +22,17 @@ pub record IsShown (v : Seen) (a : ℕ) (h : Holding) : Type 0 where
   pub hashed : is_hashed_in h ≡ true
   pub leaves : (i place x : ℕ) → IsInChain h i place x → x ≢ 0 → IsSome (h.cell x)
 
--- ---- its blocks
+-- ---- an inode, its leaves aside
+
+-- The rules of an inode but those of its leaves: its dinode's, and those of the blocks below the dinode.
+pub record IsTreeSound (h : Holding) : Type 0 where
+  pub whole : (b : ℕ) (p : Part) → part_at h b ≡ Some p → length (bytes_at h b) ≡ h.size
+  pub header : HasHeader 4 400 (bytes_at h h.own)
+  pub address : (dinode_in h).num.address ≡ h.own
+  pub number : (dinode_in h).num.number ≢ 0
+  pub fits : Fits h
+  pub tree : HasTree h
+  pub blocks : (dinode_in h).blocks ≡ block_count h
 
 -- Where its blocks lie: block 0 is none of them, each is one of the image, and its dinode's is its dinode alone.
 pub record IsPlaced (h : Holding) : Type 0 where

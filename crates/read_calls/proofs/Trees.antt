@@ -1,6 +1,5 @@
 -- What the tree answers where a walk along the call's path ended.
-use Rattle.std.proofs.Common.{◌≡◌, ◌⊎◌, inl, inr, ◌+◌, ℕ, true, false, List, [], length, Result, Ok, Err, IfOk, refl, sym, ap, ◌∙◌, arith}
-use Rattle.std.proofs.lemmas.List.Sorted.{IsPermutation-refl}
+use Rattle.std.proofs.Common.{◌≡◌, ◌+◌, ℕ, true, false, List, [], length, Result, Ok, Err, IfOk, refl, sym, ap, ◌∙◌, arith}
 use Rattle.file_tree.specs.Tree.{Tree, file, dir, count_in}
 use Rattle.file_tree.specs.Apply.{Walked, Found, Refused, apply, walk, read_reply, stat_reply, list_reply}
 use Rattle.file_tree.specs.declared.call.Call.{Call}
@@ -9,8 +8,7 @@ use Rattle.file_tree.specs.declared.reply.Kind.TheVariants.{File, Dir}
 use Rattle.file_tree.specs.declared.reply.Reply.{Reply}
 use Rattle.file_tree.specs.declared.reply.Reply.TheVariants as reply
 use Rattle.gfs2_layout.specs.Holding.{Holding}
-use Rattle.gfs2_layout.specs.Inode.{dinode_in, is_directory_in, content_of, records_of}
-use Rattle.gfs2_layout.specs.Records.{names_of}
+use Rattle.gfs2_layout.specs.Inode.{dinode_in, is_directory_in, content_of}
 use Rattle.glock_names.specs.Views.{Seen}
 use Rattle.call_locks.specs.Wants.{wanted}
 use Rattle.call_locks.specs.WantLaws.{path_of}
@@ -28,18 +26,14 @@ use Rattle.image_changes.specs.Walks.{ListsNames}
 use Rattle.image_changes.proofs.DirectoryNames.{directories_list}
 use Rattle.image_changes.proofs.Nodes.{file_thing}
 use Rattle.image_changes.proofs.Walks.{walks_find}
-use Rattle.path_walks.specs.Holds.{Hold, AreHeld, EndsWith, IsAskedFor, holds_in}
-use Rattle.std.specs.Prelude.{codes}
+use Rattle.path_walks.specs.Holds.{Hold, AreHeld, EndsWith, holds_in}
 use Rattle.path_walks.specs.Walks.{IsWrongAt, IsDamage, on_path, LeadsTo, at_root, by_name, the_root, the_child}
 use Rattle.call_locks.specs.declared.want.Want.{Want}
-use Rattle.dinode_tree.specs.Shown.{IsShown}
 use Rattle.path_walks.proofs.Images.{is_inode, is_shown, is_sound, shown_directory, shown_inode, sound_directory}
-use Rattle.directories.specs.Shown as dirs
-use Rattle.glock_names.specs.declared.steps.Missing.{Missing}
-use Rattle.read_calls.specs.Reading.{IsReading, IsRangeOf, IsStatOf, IsListOf, IsAnswerOf, IsFoundBy, IsFound, IsAsked, IsAskedCount, IsAskedRecords, IsAnswered, IsNeededFor, IsShownFor, IsToldOf}
+use Rattle.read_calls.specs.Reading.{IsReading, IsRangeOf, IsStatOf, IsListOf, IsAnswerOf, IsFoundBy, IsFound, IsAsked, IsAskedCount, IsAskedRecords, IsAnswered, IsHashedFor, IsNeededFor, IsShownFor, IsToldOf}
 use Rattle.read_calls.specs.declared.answers.Read.{Read}
 use Rattle.read_calls.specs.declared.answers.Read.TheVariants as read
-use Rattle.path_walks.proofs.Asked.{asked, at_end, name_asked, names_asked}
+use Rattle.path_walks.proofs.Asked.{asked, at_end, names_asked}
 
 -- a walk that is refused
 pub refused : (c : Call) (t : Tree) (r : Reply) → IsReading c → walk t (path_of c false) ≡ Refused r → (apply c t).reply ≡ r
@@ -88,6 +82,7 @@ module _ (v : Seen) (im : Image) (o : Owners) (l : Layout) (t : Tree) (of : IsOf
   range_found list ends held from count (read.Reply reply.IsDir) is = (ap (λ w. read_reply w from count) (listed is).walks, held)
   range_found list ends held from count (read.Reply (reply.Bytes bytes)) is = (ap (λ w. read_reply w from count) (file_there is.0) ∙ ap reply.Bytes (sym (is.2 (whole_before from))), held)
   range_found list ends held from count (read.NeedBlock m) is = asked v im o l t of path a at list ends held (IsInRange (holding im o a) from count) 0 m is.1
+  range_found list ends held from count (read.Hashed b) is = absurd is
   range_found list ends held from count (read.NeedLock lock state) is = absurd is
   range_found list ends held from count (read.Reply reply.Ok) is = absurd is
   range_found list ends held from count (read.Reply (reply.Stat kind size)) is = absurd is
@@ -100,21 +95,14 @@ module _ (v : Seen) (im : Image) (o : Owners) (l : Layout) (t : Tree) (of : IsOf
   range_found list ends held from count (read.Reply reply.TooBig) is = absurd is
   range_found list ends held from count (read.Reply reply.NoSpace) is = absurd is
 
-  name_needed : (list : List Hold) → EndsWith list a → AreHeld v list → is_directory_in (holding im o a) ≡ true → (name : List ℕ) (m : Missing) → ((h : Holding) → dirs.IsShown v a h → dirs.IsNeededFor v h name m) → IsAskedFor v im o l list m
-  name_needed list ends held is name m needs =
-      name_asked v im o l t of path a at list (at_end v list a ends held) is name m (needs (holding im o a) (shown_directory v im o l t of path a at is))
-
   stat_found : (list : List Hold) → EndsWith list a → AreHeld v list → (r : Read) → IsStatOf (holding im o a) r → IsAskedCount v a r → IsFoundBy v im o l (stat_reply (walk t path)) list r
   stat_found list ends held (read.Reply (reply.Stat File size)) is asks = (ap stat_reply (file_there is.0) ∙ ap (reply.Stat File) (file_size ∙ sym is.1), held)
   stat_found list ends held (read.Reply (reply.Stat Dir count)) is asks =
       let names = listed is.0 in
       let counted : count_in names.entries ≡ count = omega (arith, names.counted, is.1) in
       (ap stat_reply names.walks ∙ ap (reply.Stat Dir) counted, held)
-  stat_found list ends held (read.NeedBlock m) is asks = by asks.3
-    where
-      by : ((h : Holding) → dirs.IsShown v a h → dirs.IsNeededFor v h (codes ".") m) ⊎ ((h : Holding) → dirs.IsShown v a h → dirs.IsNeededFor v h (codes "..") m) → IsAskedFor v im o l list m
-      by (inl dot) = name_needed list ends held is.0 (codes ".") m dot
-      by (inr dots) = name_needed list ends held is.0 (codes "..") m dots
+  stat_found list ends held (read.Hashed b) is asks = tt
+  stat_found list ends held (read.NeedBlock m) is asks = absurd is
   stat_found list ends held (read.NeedLock lock state) is asks = absurd is
   stat_found list ends held (read.Reply reply.IsDir) is asks = absurd is
   stat_found list ends held (read.Reply (reply.Bytes bytes)) is asks = absurd is
@@ -136,6 +124,7 @@ module _ (v : Seen) (im : Image) (o : Owners) (l : Layout) (t : Tree) (of : IsOf
       (ap list_reply all.walks ∙ ap reply.Names (sym (is.1.2 ∙ all.names is.1.0 listed_are)), held)
   list_found list ends held (read.NeedBlock m) is asks =
       names_asked v im o l t of path a at list (at_end v list a ends held) is m (asks.1 (holding im o a) (shown_directory v im o l t of path a at is))
+  list_found list ends held (read.Hashed b) is asks = absurd is
   list_found list ends held (read.NeedLock lock state) is asks = absurd is
   list_found list ends held (read.Reply reply.IsDir) is asks = absurd is
   list_found list ends held (read.Reply (reply.Bytes bytes)) is asks = absurd is
@@ -184,6 +173,7 @@ pub told_at : (v : Seen) (c : Call) (a : ℕ) → LeadsTo v (wanted c) (path_of 
     → ((h : Holding) → IsShownFor v a c h → IsAnswerOf v h c r) → IsToldOf v c r
 told_at v c a leads (read.Reply r) asked answers = IsAnswered.at_end a r leads answers
 told_at v c a leads (read.NeedBlock m) asked answers = IsNeededFor.at_end a leads asked
+told_at v c a leads (read.Hashed b) asked answers = IsHashedFor.at_end a leads asked
 told_at v (call.Read p from count) a leads (read.NeedLock lock state) asked answers = absurd asked
 told_at v (call.List p) a leads (read.NeedLock lock state) asked answers = absurd asked
 told_at v (call.Stat p) a leads (read.NeedLock lock state) asked answers = absurd asked

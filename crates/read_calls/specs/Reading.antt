@@ -1,12 +1,12 @@
 -- The calls that read.
-use Rattle.std.specs.Prelude.{ℕ, ◌≡◌, ◌⊎◌, ◌+◌, ◌-◌, ◌<◌, min, ⊤, true, false, List, [], codes, length, None}
+use Rattle.std.specs.Prelude.{ℕ, ◌≡◌, ◌+◌, ◌-◌, ◌<◌, min, ⊤, true, false, List, [], length, None}
 use Rattle.file_tree.specs.declared.call.Call.{Call}
 use Rattle.file_tree.specs.declared.call.Call.TheVariants.{Read, Dread, Stat, List as ListNames}
 use Rattle.file_tree.specs.declared.reply.Kind.TheVariants.{File, Dir}
 use Rattle.file_tree.specs.declared.reply.Reply.{Reply}
 use Rattle.file_tree.specs.declared.reply.Reply.TheVariants as reply
 use Rattle.gfs2_layout.specs.Holding.{Holding}
-use Rattle.gfs2_layout.specs.Inode.{dinode_in, is_directory_in}
+use Rattle.gfs2_layout.specs.Inode.{dinode_in, is_directory_in, is_hashed_in}
 use Rattle.glock_names.specs.Views.{Seen}
 use Rattle.file_tree.specs.Tree.{Tree, all_put}
 use Rattle.file_tree.specs.Apply.{apply}
@@ -43,11 +43,12 @@ IsRangeOf v h at count (found.Reply (reply.Bytes bytes)) = (is_directory_in h �
 IsRangeOf v h at count (found.NeedBlock m) = (is_directory_in h ≡ false) × IsNeeded v h (IsInRange h at count) 0 m
 IsRangeOf v h at count _ = ⊥
 
--- a file's size, or how many names a directory has: its dinode counts two records more
+-- A file's size, or how many names a directory has: its dinode counts two records more. Of a hashed one that counts fewer than two it isn't told:
+-- all its leaves would have to be gone over.
 abbrev pub IsStatOf : Holding → Found → Type 0
 IsStatOf h (found.Reply (reply.Stat File size)) = (is_directory_in h ≡ false) × (size ≡ (dinode_in h).size)
 IsStatOf h (found.Reply (reply.Stat Dir count)) = (is_directory_in h ≡ true) × (2 + count ≡ (dinode_in h).entries)
-IsStatOf h (found.NeedBlock m) = (is_directory_in h ≡ true) × ((dinode_in h).entries < 2)
+IsStatOf h (found.Hashed a) = (a ≡ h.own) × (is_hashed_in h ≡ true) × ((dinode_in h).entries < 2)
 IsStatOf h _ = ⊥
 
 -- a directory's names, in byte order
@@ -83,11 +84,10 @@ IsAskedRecords v a (found.Reply r) = ⊤
 IsAskedRecords v a (found.NeedBlock m) = IsDirectoryAt v a × ((h : Holding) → dirs.IsShown v a h → dirs.IsNeededForAll v h m) × (v.block_at m.block ≡ None)
 IsAskedRecords v a _ = ⊥
 
--- a block of a directory that counts fewer records than `.` and `..`, without which it isn't told whether it has these
+-- the records of a hashed directory that counts fewer than its two dots
 abbrev pub IsAskedCount : Seen → ℕ → Found → Type 0
 IsAskedCount v a (found.Reply r) = ⊤
-IsAskedCount v a (found.NeedBlock m) = IsDirectoryAt v a × ((h : Holding) → IsShown v a h → (dinode_in h).entries < 2) × (v.block_at m.block ≡ None)
-    × (((h : Holding) → dirs.IsShown v a h → dirs.IsNeededFor v h (codes ".") m) ⊎ ((h : Holding) → dirs.IsShown v a h → dirs.IsNeededFor v h (codes "..") m))
+IsAskedCount v a (found.Hashed b) = (b ≡ a) × ((h : Holding) → IsShown v a h → (is_hashed_in h ≡ true) × ((dinode_in h).entries < 2))
 IsAskedCount v a _ = ⊥
 
 abbrev pub IsAsked : Seen → ℕ → Call → Found → Type 0
@@ -116,9 +116,14 @@ pub data IsNeededFor (v : Seen) (call : Call) (m : Missing) : Type 0 where
   on_path : IsUnread v (wanted call) (path_of call false) m → IsNeededFor v call m
   at_end : (a : ℕ) → LeadsTo v (wanted call) (path_of call false) a → IsAsked v a call (found.NeedBlock m) → IsNeededFor v call m
 
+-- a hashed directory of which it isn't told how many names it has
+pub data IsHashedFor (v : Seen) (call : Call) (b : ℕ) : Type 0 where
+  at_end : (a : ℕ) → LeadsTo v (wanted call) (path_of call false) a → IsAsked v a call (found.Hashed b) → IsHashedFor v call b
+
 abbrev pub IsToldOf : Seen → Call → Found → Type 0
 IsToldOf v call (found.Reply r) = IsAnswered v call r
 IsToldOf v call (found.NeedBlock m) = IsNeededFor v call m
+IsToldOf v call (found.Hashed b) = IsHashedFor v call b
 IsToldOf v call (found.NeedLock lock state) = IsLacked v (wanted call) (path_of call false) lock state
 
 -- ---- in an image that the view may be of
@@ -128,6 +133,7 @@ IsToldOf v call (found.NeedLock lock state) = IsLacked v (wanted call) (path_of 
 abbrev pub IsFoundBy : Seen → Image → Owners → Layout → Reply → List Hold → Found → Type 0
 IsFoundBy v im o l answer list (found.Reply r) = (answer ≡ r) × AreHeld v list
 IsFoundBy v im o l answer list (found.NeedBlock m) = IsAskedFor v im o l list m
+IsFoundBy v im o l answer list (found.Hashed a) = ⊤
 IsFoundBy v im o l answer list (found.NeedLock lock state) = IsFirstLack v list lock state
 
 abbrev pub IsFound : Seen → Image → Owners → Layout → Tree → Call → Found → Type 0

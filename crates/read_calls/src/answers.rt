@@ -7,12 +7,13 @@ ghost use Rattle.glock_names.specs.Steps.{IfDamaged};
 ghost use Rattle.glock_names.specs.Views.{HasBlock, IsOfView};
 ghost use Rattle.dinode_tree.specs.Shown.{IsShown};
 ghost use Rattle.read_calls.specs.Reading.{IsReading, IsRangeOf, IsStatOf, IsListOf, IsAnswerOf, IsAskedRange, IsAskedRecords, IsAskedCount, IsAsked, IsShownFor, IsSpaceless};
-ghost use Rattle.directories.specs.Shown.{IsDirectoryIn};
+ghost use Rattle.directories.specs.Shown.{IsLinearDirectory};
 ghost use Rattle.directories.specs.Shown as dirs;
-ghost use Rattle.path_walks.specs.Walks.{IsDirectoryAt, IsWrongAt};
+ghost use Rattle.linear_dirs.specs.Shown.{IsLinearIn};
+ghost use Rattle.path_walks.specs.Walks.{IsWrongAt};
 
 use dinode_tree::read_range;
-use directories::{look, names};
+use directories::names;
 use file_tree::{Call, Content, Kind, Name, NameList, Reply};
 use glock_names::{CallFault, LockName, Missing, State, Step, View};
 use no_memory::NoMemory;
@@ -26,6 +27,8 @@ pub(crate) enum Read {
     Reply(Reply),
     /// This block isn't in the view.
     NeedBlock(Missing),
+    /// This directory is hashed.
+    Hashed(u64),
     /// This lock isn't held so strongly.
     NeedLock { lock: LockName, state: State },
 }
@@ -66,41 +69,30 @@ fn read_file<V: View>(
     }
 }
 
-// What is wrong with a directory whose dinode counts fewer records than `.` and `..`: one of these is missing in it, or it has more records than
-// are counted.
-fn look_for_dots<V: View>(view: &V, dir: u64) -> Result<Read, CallFault>
+// The rule that a linear directory breaks whose dinode counts fewer records than `.` and `..`: one of these is missing in it, or it has more
+// records than are counted.
+fn rule_of_few<V: View>(view: &V, dir: u64) -> Result<u16, CallFault>
     requires there { HasBlock (V.seen view.now) dir }
-    requires plain { IsDirectoryIn (V.seen view.now) dir }
-    requires directory { IsDirectoryAt (V.seen view.now) dir }
+    requires plain { IsLinearIn (V.seen view.now) dir }
+    requires linear { (h : Holding) → IsShown (V.seen view.now) dir h → IsLinearDirectory h }
     requires few { (h : Holding) → IsShown (V.seen view.now) dir h → (dinode_in h).entries < 2 }
-    ensures read { (h : Holding) → IsShown (V.seen view.now) dir h → IfOk result (IsStatOf h) }
-    ensures asked { IfOk result (IsAskedCount (V.seen view.now) dir) }
-    ensures spaceless { IfOk result IsSpaceless }
+    ensures rule { IfOk result (λ rule. IsWrongAt (V.seen view.now) dir rule dir) }
     ensures damaged { IfDamaged result (IsWrongAt (V.seen view.now) dir) }
     ensures kept { IfDamaged result (IsOfView (V.seen view.now)) }
 {
-    let dot = match look(view, dir, b".".as_slice())? {
-        Step::Is(found) => found,
-        Step::NeedBlock(missing) => return Ok(Read::NeedBlock(missing)),
+    let Step::Is(dot) = linear_dirs::look(view, dir, b".".as_slice())? else {
+        unreachable!()
     };
     if dot.is_none() {
-        return Err(damaged(dir, 10));
+        return Ok(10);
     }
-    let dots = match look(view, dir, b"..".as_slice())? {
-        Step::Is(found) => found,
-        Step::NeedBlock(missing) => return Ok(Read::NeedBlock(missing)),
+    let Step::Is(dots) = linear_dirs::look(view, dir, b"..".as_slice())? else {
+        unreachable!()
     };
     if dots.is_none() {
-        return Err(damaged(dir, 10));
+        return Ok(10);
     }
-    Err(damaged(dir, 12))
-}
-
-// The fault of a block that breaks a rule.
-fn damaged(block: u64, rule: u16) -> CallFault
-    ensures { result ≡ CallFault.Damaged block rule }
-{
-    CallFault::Damaged { block, rule }
+    Ok(12)
 }
 
 // A file's size, or how many names a directory has: `.` and `..` are counted in its dinode too.
@@ -119,7 +111,14 @@ fn stat<V: View>(view: &V, place: &Place) -> Result<Read, CallFault>
     if let Some(count) = place.dinode.entries.checked_sub(2) {
         return Ok(Read::Reply(Reply::Stat(Kind::Dir, u64::from(count))));
     }
-    look_for_dots(view, place.inode)
+    if place.dinode.flags / 2 % 2 == 1 {
+        return Ok(Read::Hashed(place.inode));
+    }
+    let rule = rule_of_few(view, place.inode)?;
+    Err(CallFault::Damaged {
+        block: place.inode,
+        rule,
+    })
 }
 
 // Lists the names of a directory.

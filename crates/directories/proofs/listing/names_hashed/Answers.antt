@@ -9,7 +9,7 @@ use Rattle.directories.proofs.listing.names_hashed.Goals as goal
 pub returns-clause-needed : goal.returns-clause-needed
 returns-clause-needed g c h shown is =
     let v = g.V.View.seen c.args.view.now in
-    let table = answer_at _ _ _ c.in-Is.is (c.in_ok-table.ensures.table h shown.inode is shown.whole) in
+    let table = answer_at _ _ _ c.in-Is.is (c.in_ok-table.ensures.table h shown.inode is (shown.whole is)) in
     needed_so c.names.result _ (directory.IsNeededForAll v h) (λ m needs. directory.IsNeededForAll.in_hashed is needs) (c.names.ensures.needed h (leaves_shown v c.args.dir h shown is) table)
 
 pub returns-in_err-table-clause-damaged : goal.returns-in_err-table-clause-damaged

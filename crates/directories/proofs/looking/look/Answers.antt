@@ -1,6 +1,6 @@
-use Rattle.std.proofs.Common.{◌≡◌, sym, ap, ◌∙◌, subst}
+use Rattle.std.proofs.Common.{sym, ◌∙◌}
 use Rattle.glock_names.specs.Steps.{IsDamage}
-use Rattle.glock_names.proofs.StepLaws.{answer_at, answer_so, needed_at, needed_so}
+use Rattle.glock_names.proofs.StepLaws.{answer_at}
 use Rattle.dinode_tree.proofs.Sound.{some_is_shown}
 use Rattle.linear_dirs.specs.Broken as linear
 use Rattle.linear_dirs.proofs.Looked.{handed}

@@ -1,4 +1,4 @@
-use Rattle.std.proofs.Common.{refl, sym, ap, ◌∙◌, subst, arith}
+use Rattle.std.proofs.Common.{refl, sym, ap, ◌∙◌, subst}
 use Rattle.std.specs.Prelude.{not}
 use Rattle.glock_names.specs.Steps.{IsDamage}
 use Rattle.glock_names.specs.Views.{IsOfView}
@@ -31,7 +31,9 @@ returns-clause-inside g c =
 
 pub returns-in_default-clause-needed : goal.returns-in_default-clause-needed
 returns-in_default-clause-needed g c h i shown leads =
-    a_leaf i refl leads (c.lock_of.ensures ∙ ap inode_lock (sym shown.inode.own)) refl c.in_default.ensures.none
+    a_leaf i refl leads
+    (group_inside (g.V.View.seen c.args.view.now) c.args.link.now.leaf c.group_of.result (c.is_none.ensures ∙ ap not c.if-is_none.false) c.group_of.ensures.group c.group_of.ensures.own)
+    (c.lock_of.ensures ∙ ap inode_lock (sym shown.inode.own)) refl c.in_default.ensures.none
 
 pub returns-in_err-leaf-clause-damaged : goal.returns-in_err-leaf-clause-damaged
 returns-in_err-leaf-clause-damaged g c h i shown leads depth =

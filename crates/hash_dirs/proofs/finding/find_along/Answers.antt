@@ -6,7 +6,7 @@ use Rattle.glock_names.specs.Views.{IsOfView}
 use Rattle.glock_names.proofs.StepLaws.{answer_at, needed_at}
 use Rattle.linear_dirs.specs.Shown.{entry_of}
 use Rattle.linear_dirs.proofs.Looked.{handed}
-use Rattle.hash_dirs.specs.Broken.{IsBroken, IsWrongIn}
+use Rattle.hash_dirs.specs.Broken.{IsWrongIn}
 use Rattle.hash_dirs.specs.Walking.{OfEach, IsLeafOf}
 use Rattle.hash_dirs.specs.declared.finding.Spot.{Spot}
 use Rattle.hash_dirs.proofs.Along.{begins, goes_on, comes_again_to, nameless, still_nameless, found_here, found_nowhere, none_named}

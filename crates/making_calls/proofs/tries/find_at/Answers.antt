@@ -23,7 +23,8 @@ use Rattle.path_walks.proofs.Steps.{differs, directory_all, fault_all}
 use Rattle.making_calls.specs.Making.{IsDamage, IsRefused, directory_path, name_in}
 use Rattle.making_calls.specs.Making as damage
 use Rattle.making_calls.proofs.Alike.{hashed_so, linear_in}
-use Rattle.making_calls.proofs.Linear.{linear_all, linear_unbroken, name_found, wrong_linear}
+use Rattle.making_calls.proofs.Linear.{linear_unbroken, name_found}
+use Rattle.path_walks.proofs.Steps.{linear_all, wrong_linear}
 use Rattle.making_calls.proofs.Trees.{file_refuses, plain_list, there_refuses}
 use Rattle.making_calls.proofs.tries.find_at.Goals as goal
 use Rattle.path_walks.proofs.Faults.{told_on, only_so}

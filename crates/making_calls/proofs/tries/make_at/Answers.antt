@@ -24,7 +24,8 @@ use Rattle.making_calls.specs.Making as damage
 use Rattle.making_calls.specs.Searches.{IsTaken}
 use Rattle.making_calls.specs.declared.blocks.NewRoom.TheVariants as taken
 use Rattle.making_calls.proofs.Alike.{linear_in}
-use Rattle.making_calls.proofs.Linear.{linear_unbroken, wrong_linear}
+use Rattle.making_calls.proofs.Linear.{linear_unbroken}
+use Rattle.path_walks.proofs.Steps.{wrong_linear}
 use Rattle.path_walks.specs.Holds.{IsFirstLack}
 use Rattle.making_calls.proofs.Rooms.{all_locks, block_way, few_way, own_of, room_held}
 use Rattle.making_calls.proofs.Taking.{addition_does, all_held, block_lacks, directory_apart, directory_sound, free_damage, group_lacks, inside_so, lock_lacks, made, own_name, placed, reply_ok, stamped, to_get, too_few, under, wrong_damage}

@@ -1,0 +1,5 @@
+use Rattle.damage_laws.proofs.Needed.{needs_tell}
+use Rattle.damage_laws.proofs.telling.needs_out_of_the_device_tell_broken_blocks.Goals as goal
+
+pub returns : goal.returns
+returns c = needs_tell
