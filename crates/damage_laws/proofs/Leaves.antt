@@ -66,11 +66,14 @@ module _ (im : Image) (a : ℕ) (has : HasDirectory im a) (hashed : is_hashed_in
     | inl found ↦
         let o = opened (m found.0) (next found.0 == 0) (m (next found.0)) found.2 in
         step found.0 o.0 (λ e. true≢false (sym (eq-eqb (next found.0) 0 e) ∙ o.1)) o.2
-    | inr none ↦ inl (m, record {
+    | inr none ↦ inl (
+      m,
+      record {
         only = is.only;
         below = is.below;
         all = λ x leaf. closed m is (λ y marked more. not_open (m y) (next y == 0) (m (next y)) (none y (is.below y marked)) marked (ne_eqb (next y) 0 more)) leaf.0 x leaf.1 leaf.2 leaf.3;
-      })
+      },
+    )
   ]
     where
       step : (x : ℕ) → m x ≡ true → next x ≢ 0 → m (next x) ≡ false → Found
@@ -80,10 +83,10 @@ module _ (im : Image) (a : ℕ) (has : HasDirectory im a) (hashed : is_hashed_in
           elim (cases_lt (next x) im.count) [
             | inr beyond ↦ inr (x, out x (next x) leaf.1 (leaf.2 + 1) claimed beyond)
             | inl low ↦ again (with_mark m (next x)) (record {
-                only = λ y on. elim (mark_before m (next x) y on) [ inl e ↦ subst (HasLeaf im a) (sym e) (x, leaf.1, leaf.2 + 1, claimed) | inr old ↦ is.only y old ];
-                below = λ y on. elim (mark_before m (next x) y on) [ inl e ↦ subst (λ z. z < im.count) (sym e) low | inr old ↦ is.below y old ];
-                heads = λ i small. mark_stays m (next x) (entry (every im a) i) (is.heads i small);
-              }) (bare_fewer m (next x) im.count low bare_next)
+              only = λ y on. elim (mark_before m (next x) y on) [ inl e ↦ subst (HasLeaf im a) (sym e) (x, leaf.1, leaf.2 + 1, claimed) | inr old ↦ is.only y old ];
+              below = λ y on. elim (mark_before m (next x) y on) [ inl e ↦ subst (λ z. z < im.count) (sym e) low | inr old ↦ is.below y old ];
+              heads = λ i small. mark_stays m (next x) (entry (every im a) i) (is.heads i small);
+            }) (bare_fewer m (next x) im.count low bare_next)
           ]
 
   grow : (fuel : ℕ) (m : ℕ → Bool) → IsMarking m → bare m im.count ≤ fuel → Found
@@ -124,10 +127,10 @@ module _ (im : Image) (a : ℕ) (has : HasDirectory im a) (hashed : is_hashed_in
       | inr beyond ↦ inr (entry_block (every im a) found.0, out (entry_block (every im a) found.0) (entry (every im a) found.0) (first_hash (every im a) found.0) 0 (first_claims found.0 found.1) beyond)
     ]
     | inr none ↦ grow (bare (λ x. is_head x (table_count (every im a))) im.count) (λ x. is_head x (table_count (every im a))) (record {
-        only = λ x on. let f = head_of x (table_count (every im a)) on in subst (HasLeaf im a) (sym f.2) (entry_block (every im a) f.0, first_hash (every im a) f.0, 0, first_claims f.0 f.1);
-        below = λ x on. let f = head_of x (table_count (every im a)) on in subst (λ z. z < im.count) (sym f.2) (inside f.0 (none f.0 f.1));
-        heads = λ i low. is_head_of (entry (every im a) i) (table_count (every im a)) i low refl;
-      }) (omega arith)
+      only = λ x on. let f = head_of x (table_count (every im a)) on in subst (HasLeaf im a) (sym f.2) (entry_block (every im a) f.0, first_hash (every im a) f.0, 0, first_claims f.0 f.1);
+      below = λ x on. let f = head_of x (table_count (every im a)) on in subst (λ z. z < im.count) (sym f.2) (inside f.0 (none f.0 f.1));
+      heads = λ i low. is_head_of (entry (every im a) i) (table_count (every im a)) i low refl;
+    }) (omega arith)
   ]
     where
       inside : (i : ℕ) → (if nat_lt (entry (every im a) i) im.count then false else true) ≡ false → entry (every im a) i < im.count

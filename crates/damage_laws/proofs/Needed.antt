@@ -63,10 +63,13 @@ same_at : (im : Image) (x b : ℕ) → b ≢ x → (zeroed im x).at b ≡ im.at 
 same_at im x b other = cond-false _ _ _ (ne_eqb b x other)
 
 zeroed_is : (im : Image) (x : ℕ) → IsImage im → IsImage (zeroed im x)
-zeroed_is im x is = record { block_size = is.block_size; whole = λ b low. elim (cases_eq b x) [
-  | inl e ↦ ap length (zeros_at im x b e) ∙ length-replicate im.size 0
-  | inr other ↦ ap length (same_at im x b other) ∙ is.whole b low
-] }
+zeroed_is im x is = record {
+  block_size = is.block_size;
+  whole = λ b low. elim (cases_eq b x) [
+    | inl e ↦ ap length (zeros_at im x b e) ∙ length-replicate im.size 0
+    | inr other ↦ ap length (same_at im x b other) ∙ is.whole b low
+  ];
+}
 
 -- no number stands there
 no_number : (im : Image) (x b at : ℕ) → b ≡ x → u64_at at ((zeroed im x).at b) ≡ 0

@@ -94,11 +94,11 @@ module _ (v : Seen) (im : Image) (read : IsReadFrom v im) (is_image : IsImage im
         | inl same ↦ elim (other_owner front dir name leads) [ inl other ↦ inl (subst (λ x. HasOtherOwner im x name) same other) | inr astray ↦ inr (up astray) ]
         | inr apart ↦ elim (named_there v im read is_image wants front dir b last leads is names) [
           | inl named ↦ inl (record {
-              by = named.by;
-              owner = Named dir last;
-              claims = named.claims;
-              other = λ e. apart (same_directory dir b last name e);
-            })
+            by = named.by;
+            owner = Named dir last;
+            claims = named.claims;
+            other = λ e. apart (same_directory dir b last name e);
+          })
           | inr astray ↦ inr (up astray)
         ]
       ]

@@ -78,11 +78,14 @@ abbrev as_seen : Seen → ℕ → Holding
 as_seen v a = record { size = v.size; count = 0; own = a; cell = λ b. Some (record { part = Itself; bytes = bytes_or_zeros v.size (v.block_at b) }) }
 
 pub some_directory : (v : Seen) (a : ℕ) → IsView v → (h : Holding) × IsShown v a h
-some_directory v a view = (as_seen v a, record {
-  inode = all_is_shown v (as_seen v a) refl (λ b. refl) (λ b bytes there is. ap (bytes_or_zeros v.size) is);
-  leaves = λ hashed i place x chain some. refl;
-  whole = λ hashed at i b low counted is. each b (v.block_at b) refl;
-})
+some_directory v a view = (
+  as_seen v a,
+  record {
+    inode = all_is_shown v (as_seen v a) refl (λ b. refl) (λ b bytes there is. ap (bytes_or_zeros v.size) is);
+    leaves = λ hashed i place x chain some. refl;
+    whole = λ hashed at i b low counted is. each b (v.block_at b) refl;
+  },
+)
   where
     each : (b : ℕ) (o : Option (List ℕ)) → v.block_at b ≡ o → length (bytes_or_zeros v.size o) ≡ v.size
     each b None is = length-replicate v.size 0

@@ -51,7 +51,7 @@ module _ (h : Holding) (sound : IsSound h) (hashed : is_hashed_in h ≡ true) wh
       subst (IsIn r) (sym (records_are h hashed)) (in_flat_map (λ y. records_in (leaf_area h y)) x r (leaves_of h) (in_leaves h sound hashed x (first_hash h i) p.0 p.1) (is_in r (records_in (leaf_area h x)) there))
 
   module _ (down : (r : Record) → Contains (records_of h) r → is_dots r.name ≡ false → IsName r.name)
-    (entries : (dinode_in h).entries ≡ length (records_of h)) (links : (dinode_in h).nlink ≡ 2 + directory_count (records_of h)) where
+      (entries : (dinode_in h).entries ≡ length (records_of h)) (links : (dinode_in h).nlink ≡ 2 + directory_count (records_of h)) where
     some_record : (r : Record) (records : List Record) → IsIn r records → length records ≡ 0 → ⊥
     some_record r [] at none = at
     some_record r (x ∷ xs) at none = omega (arith, none)
@@ -77,8 +77,8 @@ module _ (h : Holding) (sound : IsSound h) (hashed : is_hashed_in h ≡ true) wh
 -- ---- nothing is broken
 
 module _ (v : Seen) (h : Holding) (sound : IsSound h) (is : is_directory_in h ≡ true) (inside : (x : ℕ) → IsSome (h.cell x) → HasDataBlock v x)
-  (below : (r : Record) → Contains (records_of h) r → is_dots r.name ≡ false → HasDataBlock v r.address)
-  (down : (r : Record) → Contains (records_of h) r → is_dots r.name ≡ false → IsName r.name) (entries : (dinode_in h).entries ≡ length (records_of h)) (links : (dinode_in h).nlink ≡ 2 + directory_count (records_of h)) where
+    (below : (r : Record) → Contains (records_of h) r → is_dots r.name ≡ false → HasDataBlock v r.address)
+    (down : (r : Record) → Contains (records_of h) r → is_dots r.name ≡ false → IsName r.name) (entries : (dinode_in h).entries ≡ length (records_of h)) (links : (dinode_in h).nlink ≡ 2 + directory_count (records_of h)) where
   linear_unbroken : is_hashed_in h ≡ false → (rule b : ℕ) → linear.IsBroken h rule b → ⊥
   linear_unbroken plain rule b (linear.of_inode r c broken) = sound_breaks_nothing h r c sound.inode broken
   linear_unbroken plain rule b (linear.not_stuffed high) = high (sound.inode.linear is plain).stuffed

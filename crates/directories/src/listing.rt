@@ -14,11 +14,7 @@ use std::alloc::Global;
 use tree_tables::TreeTable;
 
 // The same of a hashed directory.
-fn names_hashed<V: View>(
-    alloc: Global,
-    view: &V,
-    dir: u64,
-) -> Result<Step<Vec<Name>>, CallFault>
+fn names_hashed<V: View>(alloc: Global, view: &V, dir: u64) -> Result<Step<Vec<Name>>, CallFault>
     ensures found { (h : Holding) → IsShown (V.seen view.now) dir h → is_hashed_in h ≡ true → IfIs result (λ names. AreNames h names.items) }
     ensures needed { (h : Holding) → IsShown (V.seen view.now) dir h → is_hashed_in h ≡ true → IfNeedBlock result (IsNeededForAll (V.seen view.now) h) }
     ensures absent { IfNeedBlock result (λ missing. (V.seen view.now).block_at missing.block ≡ None) }

@@ -25,11 +25,7 @@ pub(crate) fn is_hashed(dinode: &Dinode) -> bool
 }
 
 // The same of a hashed directory.
-fn look_hashed<V: View>(
-    view: &V,
-    dir: u64,
-    name: &[u8],
-) -> Result<Step<Option<Entry>>, CallFault>
+fn look_hashed<V: View>(view: &V, dir: u64, name: &[u8]) -> Result<Step<Option<Entry>>, CallFault>
     ensures found { (h : Holding) → IsShown (V.seen view.now) dir h → is_hashed_in h ≡ true → IfIs result (Says h name.now) }
     ensures inside { has_dots name.now ≡ false → IfIs result (λ found. IfSome found (λ entry. HasDataBlock (V.seen view.now) entry.addr)) }
     ensures sound { (h : Holding) → IsShown (V.seen view.now) dir h → is_hashed_in h ≡ true → IsSound h → IfIs result (λ found. found ≡ option_map entry_of (record_named (records_of h) name.now)) }

@@ -245,7 +245,10 @@ fn names_are_listed_and_taken(rt: HostRuntime) -> Result<(), Fail> {
     let shelf = directory(a)?;
     assert!(rt; gives(names(a, &shelf, 160, &TABLE), &[b"zeta", b"alpha", b"beta"]));
     let mut draft = Draft::new(a, &shelf);
-    assert_eq!(rt; remove(&mut draft, 160, b"beta", &TABLE), Ok(Step::Is(true)));
+    assert_eq!(rt;
+        remove(&mut draft, 160, b"beta", &TABLE),
+        Ok(Step::Is(true))
+    );
     assert_eq!(rt;
         remove(&mut draft, 160, b"beta", &TABLE),
         Ok(Step::Is(false))

@@ -268,7 +268,7 @@ module _ (v : Seen) (names : Path) (wants : List Want) (order : AreInOrder wants
         let r = before.images im o l t of in
         let dir = stepped.directory (holding im o p.inode) (shown_at im o l t of) in
         let none = child_is_there v im o l t of (take i names) p.inode name r.at is_name dir
-            ∙ says_none v im o l t of (take i names) p.inode name r.at dir (stepped.absent (holding im o p.inode) (shown_directory v im o l t of (take i names) p.inode r.at dir)) in
+        ∙ says_none v im o l t of (take i names) p.inode name r.at dir (stepped.absent (holding im o p.inode) (shown_directory v im o l t of (take i names) p.inode r.at dir)) in
         ((refused im o l t of none).0 dir, list_ends im o l t of i p.inode name named r.at none r.held)
     ends_at w walk.NotDir at stepped other im o l t of =
         let r = before.images im o l t of in

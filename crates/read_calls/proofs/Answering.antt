@@ -7,4 +7,3 @@ use Rattle.gfs2_layout.specs.declared.dinode.Dinode.{Dinode}
 
 pub file_so : (h : Holding) (d : Dinode) → d ≡ dinode_in h → is_directory d ≡ false → is_directory_in h ≡ false
 file_so h d is file = ap is_directory (sym is) ∙ file
-

@@ -59,7 +59,7 @@ module _ {V : Type 0} (seen : V → Seen) (view : V) (c : Call) (removing : IsRe
       let names = above_names (seen view) (wanted c) (path_of c false) p name is.shows there last in
       let dir = names.directory (holding im o p.above) shown_p in
       let r = record_of_child (record_named (records_at im o p.above) name) p.inode
-          (says_child (seen view) im o l t of last.0 p.above name p.inode at_p dir (names.child (holding im o p.above) (shown_directory (seen view) im o l t of last.0 p.above at_p dir))) in
+      (says_child (seen view) im o l t of last.0 p.above name p.inode at_p dir (names.child (holding im o p.above) (shown_directory (seen view) im o l t of last.0 p.above at_p dir))) in
       let takes = aim_takes (seen view) im o l t of c name p.inode last place.at (taken (holding im o p.inode) shown_a) in
       record {
         at = at_p;

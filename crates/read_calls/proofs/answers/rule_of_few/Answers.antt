@@ -28,13 +28,13 @@ pub returns-then-is_none-clause-rule : goal.returns-then-is_none-clause-rule
 returns-then-is_none-clause-rule g c =
     IsWrongAt.no_dot (λ h shown. (c.requires.linear h shown).directory) (λ h shown. (c.requires.linear h shown.inode).linear)
     (λ h shown. says_of h c.as_slice.result.now (codes ".") c.in-Is.dot _ (c.requires.linear h shown.inode).linear c.as_slice.ensures (none_found c.in-Is.dot (c.is_none.ensures ∙ ap not c.if-is_none.true))
-        (answer_at _ _ _ c.in-Is.is (c.in_ok-dot.ensures.found h shown.inode)))
+    (answer_at _ _ _ c.in-Is.is (c.in_ok-dot.ensures.found h shown.inode)))
 
 pub returns-then-is_none-2-clause-rule : goal.returns-then-is_none-2-clause-rule
 returns-then-is_none-2-clause-rule g c =
     IsWrongAt.no_dots (λ h shown. (c.requires.linear h shown).directory) (λ h shown. (c.requires.linear h shown.inode).linear)
     (λ h shown. says_of h c.as_slice-2.result.now (codes "..") c.in-Is-2.dots _ (c.requires.linear h shown.inode).linear c.as_slice-2.ensures (none_found c.in-Is-2.dots (c.is_none-2.ensures ∙ ap not c.if-is_none-2.true))
-        (answer_at _ _ _ c.in-Is-2.is (c.in_ok-dots.ensures.found h shown.inode)))
+    (answer_at _ _ _ c.in-Is-2.is (c.in_ok-dots.ensures.found h shown.inode)))
 
 pub returns-clause-rule : goal.returns-clause-rule
 returns-clause-rule g c =
