@@ -41,7 +41,7 @@ pub needed_absent : (v : Seen) (c : Call) (m : Missing) → ShowsEach v → IsNe
 needed_absent v c m shows (on_path unread) = unread_absent v (wanted c) (path_of c false) m unread
 needed_absent v (call.Read p at count) m shows (at_end a leads asked) = let s = shows a in (asked s.0 s.1).1.absent
 needed_absent v (call.Dread p at count) m shows (at_end a leads asked) = let s = shows a in (asked s.0 s.1).1.absent
-needed_absent v (call.List p) m shows (at_end a leads asked) = asked.1.1
+needed_absent v (call.List p) m shows (at_end a leads asked) = asked.2
 needed_absent v (call.Stat p) m shows (at_end a leads asked) = absurd asked
 needed_absent v (call.Create p) m shows (at_end a leads asked) = absurd asked
 needed_absent v (call.Mkdir p) m shows (at_end a leads asked) = absurd asked
