@@ -3,7 +3,7 @@ use Rattle.std.proofs.Common.{◌≡◌, ◌≢◌, ℕ, suc, ◌+◌, ◌*◌, 
 use Rattle.std.proofs.lemmas.Bool.{cases_Bool, cases_eq, cases_lt, cond-true, cond-false, eq-eqb, ne_eqb, true≢false}
 use Rattle.std.proofs.lemmas.List.{get_or-drop, get_or-take, get_or_past, length-replicate, length-take}
 use Rattle.std.specs.Int.{from_be_bytes, w32}
-use Rattle.growth_laws.proofs.Bytes.{zero_byte}
+use Rattle.growth_laws.proofs.Bytes.{byte, zero_byte}
 use Rattle.directories.proofs.Forms.{linear_here}
 use Rattle.std.specs.Prelude.{false, codes, ◌==◌, ◌&&◌, ◌/◌, ◌%◌, take, drop, get_or, if◌then◌else◌}
 use Rattle.call_locks.specs.declared.want.Want.{Want}
@@ -20,7 +20,7 @@ use Rattle.gfs2_layout.specs.Bytes.{number_at, u32_at, u64_at}
 use Rattle.gfs2_layout.specs.Device.{superblock_place}
 use Rattle.gfs2_layout.specs.Holding.{Holding}
 use Rattle.gfs2_layout.specs.Inode.{Leads, from_dinode, from_block, has_hash_flag, header_length, height_in, dinode_in, is_hashed_in, span}
-use Rattle.gfs2_layout.specs.Structures.{dinode_length, dinode_of, is_directory}
+use Rattle.gfs2_layout.specs.Structures.{dinode_length, dinode_of, is_directory as says_directory}
 use Rattle.glock_names.specs.Views.{Seen, HasBlock}
 use Rattle.glock_names.specs.declared.steps.Missing.{Missing}
 use Rattle.growth_laws.proofs.Numbers.{zeros_are_no_number}
@@ -108,7 +108,7 @@ zeros32 : (i n : ℕ) → u32_at i (replicate n 0) ≡ 0
 unfolding number_at
 zeros32 i n = zero32 (take 4 (drop i (replicate n 0))) each
   where
-    each : (m : ℕ) → get_or (take 4 (drop i (replicate n 0))) m 0 ≡ 0
+    each : (m : ℕ) → byte (take 4 (drop i (replicate n 0))) m ≡ 0
     each m = elim (cases_lt m 4) [
       | inl low ↦ get_or-take 4 (drop i (replicate n 0)) m 0 low ∙ get_or-drop i (replicate n 0) m 0 ∙ zero_byte n (i + m)
       | inr far ↦ get_or_past (take 4 (drop i (replicate n 0))) m 0 (omega (arith, far, length-take 4 (drop i (replicate {A = ℕ} n 0))))
@@ -123,7 +123,7 @@ linear_zeroed im a x linear = elim (cases_eq a x) [
   | inl e ↦
       let d : dinode_of (replicate im.size 0) ≡ dinode_of ((zeroed im x).at a) = ap dinode_of (sym (zeros_at im x a e)) in
       linear_here (every (zeroed im x) a) (dinode_of (replicate im.size 0)) d (no_flag (u32_at 128 (replicate im.size 0)) (zeros32 128 im.size))
-  | inr other ↦ ap (λ bytes. is_directory (dinode_of bytes) && has_hash_flag (dinode_of bytes)) (same_at im x a other) ∙ linear
+  | inr other ↦ ap (λ bytes. says_directory (dinode_of bytes) && has_hash_flag (dinode_of bytes)) (same_at im x a other) ∙ linear
 ]
 
 -- what is needed is the dinode, or a pointer leads to it

@@ -1,5 +1,4 @@
 use Rattle.std.proofs.Common.{◌∙◌, ◌++◌, ◌∷◌, [], length, sym, ap, arith}
-use Rattle.std.proofs.lemmas.List.{length-append}
 use Rattle.gfs2_layout.specs.Area.{slot_at}
 use Rattle.gfs2_layout.specs.Structures.{is_in_use}
 use Rattle.linear_dirs.specs.Reading.{told_in}

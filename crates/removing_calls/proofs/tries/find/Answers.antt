@@ -6,7 +6,7 @@ use Rattle.call_locks.specs.WantLaws.{path_of}
 use Rattle.path_walks.specs.Holds.{holds_in}
 use Rattle.path_walks.specs.Walks.{IsTold, IsWalked}
 use Rattle.path_walks.specs.Walks as path
-use Rattle.removing_calls.specs.Removing.{IsDamage, IsHashedFor, IsLackedFor, IsNeededFor, not_dir, not_found, of_root}
+use Rattle.removing_calls.specs.Removing.{IsDamage, IsLackedFor, IsNeededFor, not_dir, not_found, of_root}
 use Rattle.removing_calls.proofs.Walked.{is_root, last_is, many, ordered, refused_so}
 use Rattle.removing_calls.proofs.tries.find.Goals as goal
 use Rattle.path_walks.proofs.Faults.{told_on, only_so}
