@@ -3,6 +3,8 @@
 
 mod pointer;
 mod table;
+mod table_mut;
 
 pub use pointer::Pointer;
 pub use table::PointerTable;
+pub use table_mut::PointerTableMut;
