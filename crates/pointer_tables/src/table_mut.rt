@@ -25,6 +25,7 @@ pub trait PointerTableMut: PointerTable {
     /// pointers. After want of memory the draft may be half done.
     fn set<V: View>(
         &mut self,
+        alloc: Global,
         draft: &mut Draft<'_, V>,
         from: u32,
         count: u32,

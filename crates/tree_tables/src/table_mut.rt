@@ -10,6 +10,7 @@ impl PointerTableMut for TreeTable {
     // A body without its work, while the contract is written.
     fn set<V: View>(
         &mut self,
+        _alloc: Global,
         _draft: &mut Draft<'_, V>,
         _from: u32,
         _count: u32,
