@@ -16,6 +16,10 @@ use Rattle.growth_laws.specs.Files.{with_cells}
 use Rattle.growth_laws.proofs.Fills.{some_by_part}
 use Rattle.pointer_tables.specs.Directories.{IsPlaced, IsTreeSound}
 
+-- the blocks of content that its pointers reach stand where they stood
+abbrev pub KeepsContentBlocks : Holding → Holding → Type 0
+KeepsContentBlocks h g = (level : ℕ) → height_in h ≡ suc level → (i : ℕ) → i < fan h.size dinode_length * span h.size level → content_block g i ≡ content_block h i
+
 -- Its blocks have their parts and lengths, its dinode says the same, the blocks with pointers stay, and those of content have their headers.
 pub record KeepsWays (h : Holding) (cell : ℕ → Option Cell) : Type 0 where
   pub parts : (x : ℕ) → part_at (with_cells h cell) x ≡ part_at h x

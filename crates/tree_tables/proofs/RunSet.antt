@@ -16,6 +16,7 @@ use Rattle.image_model.proofs.Rows.{and_left}
 use Rattle.dinode_tree.specs.Reading.{inode_lock}
 use Rattle.dinode_tree.proofs.Sound.{is_there, size_large}
 use Rattle.hash_dirs.proofs.Cuts.{seen_apart, there_still}
+use Rattle.linear_dirs.specs.Shown.{holding_over}
 use Rattle.linear_dirs.proofs.Rewritten.{over_there, seen_at}
 use Rattle.pointer_tables.specs.Directories.{IsPlaced, IsTreeSound}
 use Rattle.pointer_tables.specs.Tables.{DraftsDirectory, is_within}
@@ -26,8 +27,12 @@ use Rattle.tree_tables.specs.declared.tree_table.TreeTable.{TreeTable}
 use Rattle.tree_tables.proofs.ContentParts.{IsContentPart, content_part, whole_by_parts}
 use Rattle.tree_tables.proofs.Entered.{entry_set_in_table, entry_set_stuffed}
 use Rattle.tree_tables.proofs.Entries.{within}
-use Rattle.tree_tables.proofs.Kept.{KeepsWays, placed_after, sound_after}
+use Rattle.tree_tables.proofs.Kept.{KeepsContentBlocks, KeepsWays, content_block_after, placed_after, sound_after}
 use Rattle.tree_tables.proofs.OneRun.{IsBlockSet, bytes_here, bytes_other, cells, g, keeps_stuffed, keeps_table, leaves_stay, table_after}
+
+-- so many pointers are set in the draft, and the blocks that have them stand where they stood
+abbrev pub IsSetKept : {V : Type 0} → (V → Seen) → Drafted V → Drafted V → TreeTable → Holding → ℕ → ℕ → ℕ → Type 0
+IsSetKept seen old new t h from count leaf = IsSetIn seen old new t h from count leaf × KeepsContentBlocks h (holding_over (seen_in seen new) h)
 
 module _ {V : Type 0} (seen : V → Seen) (before after : Drafted V) (t : TreeTable) (h : Holding) (run : Run) (index most leaf : ℕ) (old new : List ℕ)
     (table : IsTableOf t (seen_in seen before) h) (sound : IsTreeSound h) (placed : IsPlaced h) (block_size : IsBlockSize h.size)
@@ -77,8 +82,8 @@ module _ {V : Type 0} (seen : V → Seen) (before after : Drafted V) (t : TreeTa
     }
 
     all_set : KeepsWays h k → ((hash place : ℕ) → part_at h run.block ≡ Some (InChain hash place) → ⊥)
-        → ((i : ℕ) → 8 * i + 8 ≤ (dinode_in h).size → entry h' i ≡ (if is_within index run.count i then leaf else entry h i)) → IsSetIn seen before after t h index run.count leaf
-    all_set keeps no_leaf entries = (
+        → ((i : ℕ) → 8 * i + 8 ≤ (dinode_in h).size → entry h' i ≡ (if is_within index run.count i then leaf else entry h i)) → IsSetKept seen before after t h index run.count leaf
+    all_set keeps no_leaf entries = ((
       table_after (seen_in seen before) (seen_in seen after) t.directory h run.block old new run.start run.count leaf table.shown step there sound t refl table large keeps,
       record {
         sound = λ s. sound_after h k keeps s;
@@ -88,7 +93,7 @@ module _ {V : Type 0} (seen : V → Seen) (before after : Drafted V) (t : TreeTa
         stays = leaves_stay (seen_in seen before) (seen_in seen after) t.directory h run.block old new run.start run.count leaf table.shown step there sound no_leaf;
       },
       drafted,
-    )
+    ), content_block_after h k keeps sound.tree large)
 
   itself_no_leaf : {hash place : ℕ} → Some Itself ≡ Some (InChain hash place) → ⊥
   itself_no_leaf e = cc
@@ -96,7 +101,7 @@ module _ {V : Type 0} (seen : V → Seen) (before after : Drafted V) (t : TreeTa
   pointed_no_leaf : {from j level first hash place : ℕ} → Some (Pointed from j level first) ≡ Some (InChain hash place) → ⊥
   pointed_no_leaf e = cc
 
-  set_stuffed : IsBehindDinode h index run → IsSetIn seen before after t h index run.count leaf
+  set_stuffed : IsBehindDinode h index run → IsSetKept seen before after t h index run.count leaf
   set_stuffed behind =
       let there : IsSome (h.cell run.block) = subst (λ x. IsSome (h.cell x)) (sym behind.block) table.shown.dinode in
       let far : 232 ≤ run.start = omega (arith, behind.start) in
@@ -104,7 +109,7 @@ module _ {V : Type 0} (seen : V → Seen) (before after : Drafted V) (t : TreeTa
       all_set there keeps (λ hash place at. itself_no_leaf (sym placed.own ∙ ap (part_at h) (sym behind.block) ∙ at))
       (λ i low. entry_set_stuffed (seen_in seen before) (seen_in seen after) t.directory h run.block old new run.start run.count leaf table.shown step there keeps index i low behind.block behind.stuffed behind.start)
 
-  set_in_table : 8 * index + 8 ≤ (dinode_in h).size → 1 ≤ run.count → IsInTable h index run → IsSetIn seen before after t h index run.count leaf
+  set_in_table : 8 * index + 8 ≤ (dinode_in h).size → 1 ≤ run.count → IsInTable h index run → IsSetKept seen before after t h index run.count leaf
   set_in_table low counts inside =
       let near : 8 * index / unit h < fan h.size dinode_length * span h.size inside.level
       = omega (arith, within h inside.level block_size directory inside.high sound.fits (whole_by_parts h sound large) index low, sound.fits.under inside.level inside.high) in
@@ -117,7 +122,7 @@ module _ {V : Type 0} (seen : V → Seen) (before after : Drafted V) (t : TreeTa
       (λ i less. entry_set_in_table (seen_in seen before) (seen_in seen after) t.directory h run.block old new run.start run.count leaf table.shown step there keeps index i less
       inside.level inside.high block_size large directory sound inside.there inside.block inside.start inside.within counts low)
 
-  pub run_is_set : index + most ≤ 2 ^ t.depth → IsRun h index most run → IsSetIn seen before after t h index run.count leaf
+  pub run_is_set : index + most ≤ 2 ^ t.depth → IsRun h index most run → IsSetKept seen before after t h index run.count leaf
   run_is_set few is =
       let low : 8 * index + 8 ≤ (dinode_in h).size = omega (arith, table.size, few, is.some, is.few) in
       elim is.place [

@@ -1,15 +1,16 @@
 // Where neighbouring pointers of a table stand.
-ghost use Rattle.std.specs.Prelude.{ℕ, List, ◌≡◌, ◌+◌, ◌-◌, ◌*◌, ◌/◌, ◌%◌, ◌^◌, ◌<◌, ◌≤◌, false, None, Some, IfOk};
+ghost use Rattle.std.specs.Prelude.{ℕ, List, ◌≡◌, ◌+◌, ◌-◌, ◌*◌, ◌/◌, ◌%◌, ◌^◌, ◌<◌, ◌≤◌, false, None, Some, Contains, IfOk};
 ghost use Rattle.gfs2_layout.specs.Device.{IsBlockSize};
 ghost use Rattle.gfs2_layout.specs.Headers.{HasHeader};
 ghost use Rattle.gfs2_layout.specs.Holding.{Holding};
-ghost use Rattle.gfs2_layout.specs.Inode.{header_length};
+ghost use Rattle.gfs2_layout.specs.Inode.{header_length, unit};
 ghost use Rattle.gfs2_layout.specs.Structures.{dinode_length};
-ghost use Rattle.glock_names.specs.Steps.{IfIs, IfNeedBlock, OnlyDamaged};
-ghost use Rattle.glock_names.specs.Views.{HasBlock};
-ghost use Rattle.dinode_tree.specs.Reading.{inode_lock};
+ghost use Rattle.glock_names.specs.Steps.{IfDamaged, IfIs, IfNeedBlock, OnlyDamaged};
+ghost use Rattle.glock_names.specs.Views.{HasBlock, IsOfView};
+ghost use Rattle.dinode_tree.specs.Reading.{IsNeeded, inode_lock};
+ghost use Rattle.pointer_tables.specs.Directories.{IsOfPointers, IsTableBroken};
 ghost use Rattle.tree_tables.specs.Pointers.{IsTableOf};
-ghost use Rattle.tree_tables.specs.Setting.{IsRun};
+ghost use Rattle.tree_tables.specs.Setting.{AreRuns, IsRun, IsSeenRun, counted};
 
 use crate::TreeTable;
 use crate::tree_table::{IN_TABLE, damaged};
@@ -17,6 +18,7 @@ use dinode_tree::{Located, all_blocks_are_shown, locate, read_dinode};
 use gfs2_layout::{DINODE_LENGTH, has_header};
 use glock_names::{CallFault, Missing, Step, View, block_of};
 use linear_dirs::lock_of;
+use std::alloc::Global;
 
 /// Neighbouring pointers of a table that stand in one block: from which byte of it on, and how many.
 #[derive(Clone, Copy)]
@@ -88,7 +90,7 @@ fn table_run<V: View>(
 
 /// The pointers of a table from an index on that stand in one block, and at most so many. It asks for blocks of the inode on the way there.
 /// It costs a look at each of them, and no memory.
-pub(crate) fn find_run<V: View>(
+fn find_run<V: View>(
     view: &V,
     table: TreeTable,
     index: usize,
@@ -99,10 +101,11 @@ pub(crate) fn find_run<V: View>(
     ensures found { (h : Holding) → IsTableOf table (V.seen view.now) h → IfIs result (IsRun h index most) }
     ensures some { IfIs result (λ run. 1 ≤ run.count) }
     ensures most { IfIs result (λ run. run.count ≤ most) }
-    ensures fits { IfIs result (λ run. run.start + 8 * run.count ≤ (V.seen view.now).size) }
-    ensures size { IfIs result (λ run. IsBlockSize (V.seen view.now).size) }
-    ensures there { IfIs result (λ run. HasBlock (V.seen view.now) run.block) }
+    ensures seen { IfIs result (IsSeenRun (V.seen view.now)) }
+    ensures needed { (h : Holding) → IsTableOf table (V.seen view.now) h → IfNeedBlock result (IsNeeded (V.seen view.now) h (λ k. k ≡ 8 * index / unit h) 0) }
     ensures absent { IfNeedBlock result (λ missing. (V.seen view.now).block_at missing.block ≡ None) }
+    ensures damaged { (h : Holding) → IsTableOf table (V.seen view.now) h → OnlyDamaged result (IsTableBroken h) }
+    ensures kept { OnlyDamaged result (IsOfView (V.seen view.now)) }
 {
     all_blocks_are_shown();
     let dinode = match read_dinode(view, table.directory)? {
@@ -127,4 +130,36 @@ pub(crate) fn find_run<V: View>(
         Step::Is(None) => Err(damaged(table.directory, 14)),
         Step::NeedBlock(missing) => Ok(Step::NeedBlock(missing)),
     }
+}
+
+/// So many neighbouring pointers of a table from an index on, run by run. A pointer in a hole of the table is damage. It asks for blocks of
+/// the inode on the way to them. It costs a walk to each block that has some of them, and memory for what it tells.
+pub(crate) fn find_runs<V: View>(
+    alloc: Global,
+    view: &V,
+    table: TreeTable,
+    from: usize,
+    count: usize,
+) -> Result<Step<Vec<Run>>, CallFault>
+    requires few { from + count ≤ 2 ^ table.depth }
+    ensures found { (h : Holding) → IsTableOf table (V.seen view.now) h → IfIs result (λ runs. AreRuns h from runs.items) }
+    ensures all { IfIs result (λ runs. counted runs.items ≡ count) }
+    ensures seen { IfIs result (λ runs. (run : Run) → Contains runs.items run → IsSeenRun (V.seen view.now) run) }
+    ensures needed { (h : Holding) → IsTableOf table (V.seen view.now) h → IfNeedBlock result (IsNeeded (V.seen view.now) h (IsOfPointers h from count) 0) }
+    ensures absent { IfNeedBlock result (λ missing. (V.seen view.now).block_at missing.block ≡ None) }
+    ensures damaged { (h : Holding) → IsTableOf table (V.seen view.now) h → IfDamaged result (IsTableBroken h) }
+    ensures kept { IfDamaged result (IsOfView (V.seen view.now)) }
+{
+    let mut runs = Vec::new(alloc);
+    let mut done = 0;
+    while done < count {
+        match find_run(view, table, from + done, count - done)? {
+            Step::Is(run) => {
+                done += run.count;
+                runs.push(run)?;
+            }
+            Step::NeedBlock(missing) => return Ok(Step::NeedBlock(missing)),
+        }
+    }
+    Ok(Step::Is(runs))
 }

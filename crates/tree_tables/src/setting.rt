@@ -1,73 +1,41 @@
 // Neighbouring pointers of a table that are set in a draft.
-ghost use Rattle.std.specs.Prelude.{ℕ, ◌≡◌, ◌+◌, ◌^◌, ◌≤◌, None};
+ghost use Rattle.std.specs.Prelude.{ℕ, ◌≡◌, ◌+◌, ◌^◌, ◌≤◌, Contains, OnOk};
 ghost use Rattle.drafts.specs.Fates.{seen_in};
 ghost use Rattle.gfs2_layout.specs.Holding.{Holding};
-ghost use Rattle.glock_names.specs.Steps.{IfIs, IfNeedBlock};
-ghost use Rattle.glock_names.specs.Views.{HasBlock};
 ghost use Rattle.pointer_tables.specs.Directories.{IsPlaced, IsTreeSound};
 ghost use Rattle.tree_tables.specs.Pointers.{IsTableOf};
-ghost use Rattle.tree_tables.specs.Setting.{IsSetIn};
+ghost use Rattle.tree_tables.specs.Setting.{AreRuns, IsSeenRun, IsSetIn, PutsRuns, counted};
 
 use crate::TreeTable;
-use crate::finding::find_run;
+use crate::finding::Run;
 use crate::putting::put_pointers;
 use drafts::Draft;
-use glock_names::{CallFault, Step, View};
+use glock_names::View;
+use no_memory::NoMemory;
 
-// Makes those of so many neighbouring pointers lead to a leaf that stand in one block with the first of them, and tells how many they are.
-fn set_run<V: View>(
+/// Makes the pointers of a table's runs lead to a leaf. Of each directory that the draft showed with this table, and that has these runs one
+/// behind another, it then shows the directory with these pointers set and all else as it was. It costs two copies of each run's block.
+pub(crate) fn set_runs<V: View>(
     draft: &mut Draft<'_, V>,
     table: TreeTable,
-    index: usize,
-    most: usize,
+    runs: &[Run],
     leaf: u64,
-) -> Result<Step<usize>, CallFault>
-    requires some { 1 ≤ most }
-    requires few { index + most ≤ 2 ^ table.depth }
-    ensures set { (h : Holding) → IsTableOf table (seen_in V.seen draft.old) h → IsTreeSound h → IsPlaced h → IfIs result (λ count. IsSetIn V.seen draft.old draft.new table h index count leaf) }
-    ensures some { IfIs result (λ count. 1 ≤ count) }
-    ensures most { IfIs result (λ count. count ≤ most) }
-    ensures stays { (b : ℕ) → HasBlock (seen_in V.seen draft.old) b → IfIs result (λ count. HasBlock (seen_in V.seen draft.new) b) }
+) -> Result<(), NoMemory>
+    requires seen { (run : Run) → Contains runs.now run → IsSeenRun (seen_in V.seen draft.old) run }
+    ensures set { (h : Holding) (from : ℕ) → IsTableOf table (seen_in V.seen draft.old) h → IsTreeSound h → IsPlaced h → AreRuns h from runs.now → from + counted runs.now ≤ 2 ^ table.depth
+        → OnOk result (IsSetIn V.seen draft.old draft.new table h from (counted runs.now) leaf) }
+    ensures parts { PutsRuns draft.old.fates draft.new.fates runs.now }
     ensures view { draft.new.view ≡ draft.old.view }
-    ensures absent { IfNeedBlock result (λ missing. (seen_in V.seen draft.new).block_at missing.block ≡ None) }
 {
-    let run = match find_run(&*draft, table, index, most)? {
-        Step::Is(run) => run,
-        Step::NeedBlock(missing) => return Ok(Step::NeedBlock(missing)),
-    };
-    put_pointers(
-        draft,
-        table.directory,
-        run.block,
-        run.start,
-        run.count,
-        leaf,
-    )?;
-    Ok(Step::Is(run.count))
-}
-
-/// Makes so many neighbouring pointers of a table from an index on lead to a leaf, run by run. Of each directory that the draft showed with
-/// this table it then shows the directory with these pointers set and all else as it was. It puts those of its blocks that have some of
-/// them, under its lock, and no other block. A pointer in a hole of the table is damage. It costs a walk to each of these blocks, and two
-/// copies of each.
-pub fn set_pointers<V: View>(
-    draft: &mut Draft<'_, V>,
-    table: TreeTable,
-    from: usize,
-    count: usize,
-    leaf: u64,
-) -> Result<Step<()>, CallFault>
-    requires few { from + count ≤ 2 ^ table.depth }
-    ensures set { (h : Holding) → IsTableOf table (seen_in V.seen draft.old) h → IsTreeSound h → IsPlaced h → IfIs result (λ done. IsSetIn V.seen draft.old draft.new table h from count leaf) }
-    ensures view { draft.new.view ≡ draft.old.view }
-    ensures absent { IfNeedBlock result (λ missing. (seen_in V.seen draft.new).block_at missing.block ≡ None) }
-{
-    let mut done = 0;
-    while done < count {
-        match set_run(draft, table, from + done, count - done, leaf)? {
-            Step::Is(set) => done += set,
-            Step::NeedBlock(missing) => return Ok(Step::NeedBlock(missing)),
-        }
+    for run in runs {
+        put_pointers(
+            draft,
+            table.directory,
+            run.block,
+            run.start,
+            run.count,
+            leaf,
+        )?;
     }
-    Ok(Step::Is(()))
+    Ok(())
 }
