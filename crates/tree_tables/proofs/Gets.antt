@@ -64,7 +64,7 @@ one_less n some = elim (cases_eq n 0) [
 
 -- ---- which block has the pointer
 
-some_block : (h : Holding) (i b : ℕ) → block_at h i ≡ Some b → (content_block h i ≡ b) × (b ≢ 0)
+pub some_block : (h : Holding) (i b : ℕ) → block_at h i ≡ Some b → (content_block h i ≡ b) × (b ≢ 0)
 some_block h i b is = by (nat_lt i (reach h.size (height_in h))) (content_block h i) is
   where
     targets : (p : ℕ) → target p ≡ Some b → (p ≡ b) × (b ≢ 0)

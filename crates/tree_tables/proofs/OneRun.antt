@@ -138,6 +138,7 @@ module _ (v w : Seen) (a : ℕ) (h : Holding) (b : ℕ) (old new : List ℕ) (st
           };
           hashed = ap (λ (d : Dinode). is_directory d && has_hash_flag d) keeps.dinode ∙ table.hashed;
           depth = table.depth ∙ sym (ap (λ (d : Dinode). d.depth) keeps.dinode);
+          least = table.least;
           size = ap (λ (d : Dinode). d.size) keeps.dinode ∙ table.size;
           whole = λ at. whole_by_parts g tree large at;
         }

@@ -1,11 +1,24 @@
 -- Runs of pointers that are set one behind another.
-use Rattle.std.proofs.Common.{◌≡◌, ◌⊎◌, ℕ, zero, suc, ◌+◌, ◌-◌, ◌*◌, ◌/◌, ◌%◌, ◌^◌, ◌<◌, ◌≤◌, inl, inr, false, List, [], ◌∷◌, ◌++◌, length, get_or, take, Some, refl, sym, ap, ap₂, ◌∙◌, subst, arith}
-use Rattle.std.specs.Prelude.{IsSome, if◌then◌else◌}
-use Rattle.std.proofs.lemmas.Bool.{cases_lt, cond-true, cond-false}
+use Rattle.std.proofs.Common.{◌≡◌, ◌≢◌, ◌⊎◌, ℕ, zero, suc, ◌+◌, ◌-◌, ◌*◌, ◌/◌, ◌%◌, ◌^◌, ◌<◌, ◌≤◌, inl, inr, false, List, [], ◌∷◌, ◌++◌, length, get_or, take, Some, refl, sym, ap, ap₂, ◌∙◌, subst, arith, lit<}
+use Rattle.std.specs.Prelude.{◌==◌, Contains, IsSome, if◌then◌else◌}
+use Rattle.std.specs.Cmp.{nat_cmp_total}
+use Rattle.std.specs.FinMap.{FinMap, get, insert, nat_cmp-IsAntisymmetric}
+use Rattle.std.specs.Ordering.{nat_cmp}
+use Rattle.std.proofs.lemmas.List.{get_or_default}
+use Rattle.std.proofs.lemmas.List.Elements.{Contains-append_cases, Contains-append_right}
+use Rattle.finite_maps.proofs.Keys.{inserted_apart}
+use Rattle.drafts.specs.declared.fate.Fate.{Fate}
+use Rattle.gfs2_layout.specs.Device.{IsBlockSize}
+use Rattle.image_model.proofs.Rows.{and_left}
+use Rattle.dinode_tree.proofs.Sound.{size_large}
+use Rattle.pointer_tables.specs.Directories.{HasPointerOf, IsPlaced, IsTreeSound}
+use Rattle.tree_tables.proofs.ContentParts.{whole_by_parts}
+use Rattle.tree_tables.proofs.Entries.{within}
+use Rattle.std.proofs.lemmas.Bool.{cases_eq, cases_lt, cond-true, cond-false, eq-eqb, ne_eqb}
 use Rattle.drafts.specs.Fates.{Drafted, seen_in}
 use Rattle.drafts.specs.declared.fate.Fate.TheVariants.{Put}
 use Rattle.gfs2_layout.specs.Holding.{Holding, cell_part}
-use Rattle.gfs2_layout.specs.Inode.{content_block, entry, fan, header_length, height_in, span, table_count, unit}
+use Rattle.gfs2_layout.specs.Inode.{content_block, dinode_in, entry, entry_block, fan, has_hash_flag, header_length, height_in, is_directory_in, span, table_count, unit}
 use Rattle.gfs2_layout.specs.Structures.{dinode_length, is_directory}
 use Rattle.gfs2_layout.specs.declared.dinode.Dinode.{Dinode}
 use Rattle.glock_names.specs.Views.{Seen, HasBlock}
@@ -16,13 +29,13 @@ use Rattle.linear_dirs.proofs.Over.{over_over}
 use Rattle.linear_dirs.proofs.Rewritten.{over_there}
 use Rattle.pointer_tables.specs.Tables.{DraftsDirectory, HasPointersSet, is_within}
 use Rattle.tree_tables.specs.Pointers.{IsTableOf}
-use Rattle.tree_tables.specs.Setting.{AreRuns, IsRun, IsSetIn, counted}
+use Rattle.tree_tables.specs.Setting.{AreRuns, HasNumbersSet, IsRun, IsSeenRun, IsSetIn, PutsRuns, counted}
 use Rattle.tree_tables.specs.declared.finding.Run.{Run}
 use Rattle.tree_tables.specs.declared.tree_table.TreeTable.{TreeTable}
 use Rattle.tree_tables.proofs.Entered.{choose, is_before, is_behind, is_in}
 use Rattle.tree_tables.proofs.Kept.{KeepsContentBlocks}
 use Rattle.tree_tables.proofs.OneRun.{over_same}
-use Rattle.tree_tables.proofs.RunSet.{IsSetKept}
+use Rattle.tree_tables.proofs.RunSet.{IsSetKept, run_is_set, seen_still}
 
 -- ---- nothing is set yet
 
@@ -174,4 +187,107 @@ run_at h index (r ∷ rs) (suc j) run are low at =
 pub counted_take : (runs : List Run) (j : ℕ) (run : Run) → j < length runs → get_or runs j run ≡ run → counted (take (j + 1) runs) ≡ counted (take j runs) + run.count
 counted_take [] j run low at = absurd (omega (arith, low))
 counted_take (r ∷ rs) zero run low at = let e : r.count ≡ run.count = ap (λ (s : Run). s.count) at in omega (arith, e)
-counted_take (r ∷ rs) (suc j) run low at = let e = counted_take rs j run (omega (arith, low)) at in omega (arith, e)
+counted_take (r ∷ rs) (suc j) run low at =
+    let e = counted_take rs j run (omega (arith, low)) at in
+    let next : suc j + 1 ≡ suc (j + 1) = omega arith in
+    ap (λ n. counted (take n (r ∷ rs))) next ∙ grouped r.count (counted (take j rs)) run.count (counted (take (j + 1) rs)) e
+  where
+    grouped : (a b c d : ℕ) → d ≡ b + c → a + d ≡ a + b + c
+    grouped a b c d is = omega (arith, is)
+
+pub counted_most : (runs : List Run) (j : ℕ) → counted (take j runs) ≤ counted runs
+counted_most [] zero = omega arith
+counted_most [] (suc j) = omega arith
+counted_most (r ∷ rs) zero = omega arith
+counted_most (r ∷ rs) (suc j) = let e = counted_most rs j in omega (arith, e)
+
+pub item_is : (runs : List Run) (n : ℕ) (e : Run) → n < length runs → get_or runs n (get_or runs n e) ≡ get_or runs n e
+item_is runs n e low = get_or_default runs n (get_or runs n e) e low
+
+pub item_in : (runs : List Run) (n : ℕ) (e : Run) → n < length runs → Contains runs (get_or runs n e)
+item_in runs n e low = (n, low, item_is runs n e low)
+
+pub item_of : (runs : List Run) (run : Run) → Contains (runs ++ run ∷ []) run
+item_of runs run = Contains-append_right runs (run ∷ []) run (0, lit< tt, refl)
+
+pub none_in : (run : Run) → Contains [] run → ⊥
+none_in run has = absurd (omega (arith, has.1))
+
+-- what holds of each run and of one more
+pub each_more : (P : Run → Type 0) (runs : List Run) (run : Run) → ((r : Run) → Contains runs r → P r) → P run → (r : Run) → Contains (runs ++ run ∷ []) r → P r
+each_more P runs run each here r has = elim (Contains-append_cases runs (run ∷ []) r has) [
+  | inl before ↦ each r before
+  | inr last ↦ subst P (only last) here
+]
+  where
+    only : Contains (run ∷ []) r → run ≡ r
+    only (zero, low, is) = is
+    only (suc n, low, is) = absurd (omega (arith, low))
+
+-- a run of so many at most is one of as many as it has
+pub own_run : (h : Holding) (index most : ℕ) (run : Run) → IsRun h index most run → IsRun h index run.count run
+own_run h index most run is = record { some = is.some; few = omega arith; fits = is.fits; place = is.place }
+
+pub seen_fits : (v w : Seen) (run : Run) → IsSeenRun v run → w.size ≡ v.size → run.start + 8 * run.count ≤ w.size
+seen_fits v w run seen same = omega (arith, seen.fits, same)
+
+pub same_view : {V : Type 0} (mid new : Drafted V) (fates : FinMap nat_cmp Fate) → new ≡ record mid { fates = fates } → new.view ≡ mid.view
+same_view {V} mid new fates put = ap (λ (d : Drafted V). d.view) put
+
+-- ---- one run more is set
+
+module _ {V : Type 0} (seen : V → Seen) (old mid new : Drafted V) (t : TreeTable) (runs : List Run) (n : ℕ) (e : Run) (leaf : ℕ) (bytes bytes' : List ℕ) (low : n < length runs)
+    (has : IsSeenRun (seen_in seen old) (get_or runs n e)) (at : (seen_in seen mid).block_at (get_or runs n e).block ≡ Some bytes)
+    (set : HasNumbersSet bytes bytes' (get_or runs n e).start (get_or runs n e).count leaf)
+    (put : new ≡ record mid { fates = insert mid.fates (get_or runs n e).block (Put (inode_lock t.directory) false bytes') }) where
+  abbrev run : Run
+  run = get_or runs n e
+
+  next_count : counted (take (n + 1) runs) ≡ counted (take n runs) + run.count
+  next_count = counted_take runs n run low (item_is runs n e low)
+
+  pub run_more : (h : Holding) (from : ℕ) → IsTableOf t (seen_in seen old) h → IsTreeSound h → IsPlaced h → AreRuns h from runs → from + counted runs ≤ 2 ^ t.depth
+      → IsSetKept seen old mid t h from (counted (take n runs)) leaf → IsSetKept seen old new t h from (counted (take (n + 1) runs)) leaf
+  run_more h from table sound placed are few one =
+      let k : ℕ = counted (take n runs) in
+      let is = run_at h from runs n run are low (item_is runs n e low) in
+      let size_h : IsBlockSize h.size = subst IsBlockSize (sym table.shown.size) has.size in
+      let most : from + k + run.count ≤ 2 ^ t.depth = omega (arith, few, counted_most runs (n + 1), next_count) in
+      let inside : 8 * (from + k) + 8 ≤ (dinode_in h).size = omega (arith, table.size, most, is.some) in
+      let near : (level : ℕ) → height_in h ≡ suc level → 8 * (from + k) / unit h < fan h.size dinode_length * span h.size level
+      = λ level high. omega (arith, within h level size_h (and_left (is_directory_in h) (has_hash_flag (dinode_in h)) table.hashed) high sound.fits (whole_by_parts h sound (size_large h.size size_h)) (from + k) inside, sound.fits.under level high) in
+      let is' = run_after h (holding_over (seen_in seen mid) h) from k leaf (from + k) run.count run refl refl one.0.1 one.1 near is in
+      let next = run_is_set seen mid new t (holding_over (seen_in seen mid) h) run (from + k) run.count leaf bytes bytes' one.0.0 (one.0.1.sound sound) (one.0.1.placed placed) size_h at set put most is' in
+      subst (λ m. IsSetKept seen old new t h from m leaf) (sym next_count) (runs_join seen old mid new t h from k run.count leaf one next (λ b there. seen_still seen mid new run.block t.directory bytes' put b there))
+
+  pub parts_more : PutsRuns old.fates mid.fates runs → PutsRuns old.fates new.fates runs
+  parts_more parts b = elim (cases_eq b run.block) [
+    | inl is ↦ inr (run, item_in runs n e low, is)
+    | inr other ↦
+        let same : get new.fates b ≡ get mid.fates b = ap (λ (d : Drafted V). get d.fates b) put ∙ inserted_apart nat_cmp_total nat_cmp-IsAntisymmetric mid.fates run.block (Put (inode_lock t.directory) false bytes') b other in
+        elim (parts b) [ inl before ↦ inl (same ∙ before) | inr one ↦ inr one ]
+  ]
+
+-- ---- where the blocks of runs are
+
+-- the block of a run has its first pointer
+pub run_block : (h : Holding) (index most : ℕ) (run : Run) → IsRun h index most run → run.block ≡ entry_block h index
+run_block h index most run is = elim is.place [
+  | inl behind ↦ behind.block ∙ sym (cond-true (height_in h == 0) h.own _ (eq-eqb (height_in h) 0 behind.stuffed))
+  | inr inside ↦
+      let b : ℕ = content_block h (8 * index / unit h) in
+      let some : b ≢ 0 = λ z. inside.there (sym inside.block ∙ z) in
+      let high : height_in h ≢ 0 = λ z. absurd (omega (arith, z, inside.high)) in
+      sym (cond-false (height_in h == 0) h.own _ (ne_eqb (height_in h) 0 high) ∙ cond-false (b == 0) h.own b (ne_eqb b 0 some) ∙ inside.block)
+]
+
+-- nothing becomes of any block but those that have these pointers
+pub runs_have_pointers : (h : Holding) (from : ℕ) (old new : FinMap nat_cmp Fate) (runs : List Run) → AreRuns h from runs → PutsRuns old new runs → (b : ℕ) → (get new b ≡ get old b) ⊎ HasPointerOf h from (counted runs) b
+runs_have_pointers h from old new runs are parts b = elim (parts b) [
+  | inl same ↦ inl same
+  | inr one ↦
+      let n : ℕ = one.1.0 in
+      let is = run_at h from runs n one.0 are one.1.1 one.1.2 in
+      let more = counted_take runs n one.0 one.1.1 one.1.2 in
+      inr (from + counted (take n runs), record { low = omega arith; high = omega (arith, counted_most runs (n + 1), more, is.some) }, one.2 ∙ run_block h _ _ one.0 is)
+]

@@ -24,7 +24,7 @@ pub(crate) fn set_runs<V: View>(
     requires seen { (run : Run) → Contains runs.now run → IsSeenRun (seen_in V.seen draft.old) run }
     ensures set { (h : Holding) (from : ℕ) → IsTableOf table (seen_in V.seen draft.old) h → IsTreeSound h → IsPlaced h → AreRuns h from runs.now → from + counted runs.now ≤ 2 ^ table.depth
         → OnOk result (IsSetIn V.seen draft.old draft.new table h from (counted runs.now) leaf) }
-    ensures parts { PutsRuns draft.old.fates draft.new.fates runs.now }
+    ensures parts { OnOk result (PutsRuns draft.old.fates draft.new.fates runs.now) }
     ensures view { draft.new.view ≡ draft.old.view }
 {
     for run in runs {
