@@ -15,6 +15,7 @@ use Rattle.gfs2_layout.specs.declared.dinode.Dinode.{Dinode}
 use Rattle.growth_laws.specs.Files.{with_cells}
 use Rattle.growth_laws.proofs.Fills.{some_by_part}
 use Rattle.pointer_tables.specs.Directories.{IsPlaced, IsTreeSound}
+use Rattle.table_files.proofs.Alike.{LeadAlike, content_block_alike, tree_alike}
 
 -- the blocks of content that its pointers reach stand where they stood
 abbrev pub KeepsContentBlocks : Holding → Holding → Type 0
@@ -52,38 +53,18 @@ module _ (h : Holding) (cell : ℕ → Option Cell) (keeps : KeepsWays h cell) w
   part_before : (x : ℕ) (p : Part) → part_at g x ≡ Some p → part_at h x ≡ Some p
   part_before x p at = sym (keeps.parts x) ∙ at
 
-  own_pointer : (level : ℕ) → height_in h ≡ suc level → (k : ℕ) → pointer g dinode_length h.own k ≡ pointer h dinode_length h.own k
-  own_pointer level high k = ap (u64_at (dinode_length + 8 * k)) (keeps.own level high)
-
-  block_pointer : (x b k level first : ℕ) → part_at h x ≡ Some (Pointed b k (suc level) first) → (j : ℕ) → pointer g header_length x j ≡ pointer h header_length x j
-  block_pointer x b k level first at j = ap (u64_at (header_length + 8 * j)) (keeps.indirect x b k level first at)
-
-  child_after : (b k level first c : ℕ) → IsChild h b k level first c → IsChild g b k level first c
-  child_after b k level first c child = record { part = keeps.parts c ∙ child.part; within = subst (λ n. first < n) (sym count_after) child.within }
-
-  pointed_after : (x b k level first : ℕ) → IsPointed h x b k level first → IsPointed g x b k level first
-  pointed_after x b k level first (by_dinode at high low to begins) =
-      by_dinode at (height_after ∙ high) low (ap (λ z. pointer g dinode_length z k) at ∙ own_pointer level high k ∙ ap (λ z. pointer h dinode_length z k) (sym at) ∙ to) begins
-  pointed_after x b k level first (by_block above j start part low to begins) =
-      by_block above j start (keeps.parts b ∙ part) low (block_pointer b above j level start part k ∙ to) begins
+  alike : LeadAlike h cell
+  alike = record {
+    height = height_after;
+    count = λ level high. count_after;
+    own = λ level k high. ap (u64_at (dinode_length + 8 * k)) (keeps.own level high);
+    parts = λ x b k level first at. keeps.parts x ∙ at;
+    only = λ x b k level first at. part_before x _ at;
+    indirect = keeps.indirect;
+  }
 
   pub tree_after : HasTree h → HasTree g
-  tree_after tree = record {
-    top = λ level high k low some.
-        let high' = sym height_after ∙ high in
-        let to = own_pointer level high' k in
-        subst (IsChild g h.own k level (k * span h.size level)) (sym to) (child_after h.own k level (k * span h.size level) (pointer h dinode_length h.own k) (tree.top level high' k low (λ e. some (to ∙ e))));
-    inner = λ x b k level first at j low some.
-        let part = part_before x _ at in
-        let to = block_pointer x b k level first part j in
-        subst (IsChild g x j level (first + j * span h.size level)) (sym to) (child_after x j level (first + j * span h.size level) (pointer h header_length x j) (tree.inner x b k level first part j low (λ e. some (to ∙ e))));
-    pointed = λ x b k level first at. pointed_after x b k level first (tree.pointed x b k level first (part_before x _ at));
-    below = λ x b k level first at. subst (λ n. level < n) (sym height_after) (tree.below x b k level first (part_before x _ at));
-    indirect = λ x b k level first at.
-        let part = part_before x _ at in
-        subst (HasHeader 5 500) (sym (keeps.indirect x b k level first part)) (tree.indirect x b k level first part);
-    table = λ x b k first directory at. let part = part_before x _ at in keeps.table x b k first part (tree.table x b k first (sym directory_after ∙ directory) part);
-  }
+  tree_after tree = tree_alike h cell alike tree (λ x b k first directory part. keeps.table x b k first part (tree.table x b k first (sym directory_after ∙ directory) part))
 
   pub blocks_after : block_count g ≡ block_count h
   unfolding block_count
@@ -107,58 +88,9 @@ module _ (h : Holding) (cell : ℕ → Option Cell) (keeps : KeepsWays h cell) w
     blocks = ap (λ (d : Dinode). d.blocks) keeps.dinode ∙ sound.blocks ∙ sym blocks_after;
   }
 
-  -- ---- the blocks of content
-
-  -- nothing, or a block of the inode that stands so many levels above content
-  abbrev pub IsAbove : ℕ → ℕ → Type 0
-  IsAbove level c = (c ≡ 0) ⊎ ((b k first : ℕ) × (part_at h c ≡ Some (Pointed b k level first)))
-
-  -- the block of content below a block is the same
-  abbrev LeadsAlike : ℕ → ℕ → ℕ → Type 0
-  LeadsAlike level c i = descend g level c i ≡ descend h level c i
-
-  above_by : (level x : ℕ) → (x ≢ 0 → (b k first : ℕ) × (part_at h x ≡ Some (Pointed b k level first))) → IsAbove level x
-  above_by level x child = elim (cases_eq x 0) [ inl e ↦ inl e | inr d ↦ inr (child d) ]
-
-  nowhere : (level c i : ℕ) → c ≡ 0 → LeadsAlike (suc level) c i
-  nowhere level c i none =
-      let here : descend h (suc level) c i ≡ 0 = cond-true (c == 0) 0 _ (eq-eqb c 0 none) in
-      let there : descend g (suc level) c i ≡ 0 = cond-true (c == 0) 0 _ (eq-eqb c 0 none) in
-      there ∙ sym here
-
-  descend_after : HasTree h → 512 ≤ h.size → (level c i : ℕ) → i < span h.size level → IsAbove level c → LeadsAlike level c i
-  descend_after tree large zero c i low way = refl
-  descend_after tree large (suc level) c i low (inl none) = nowhere level c i none
-  descend_after tree large (suc level) c i low (inr at) = elim (cases_eq c 0) [
-    | inl none ↦ nowhere level c i none
-    | inr some ↦
-        let pos : 0 < span h.size level = span_some h.size level large in
-        let q : ℕ = i / span h.size level in
-        let r : ℕ = i % span h.size level in
-        let to : pointer g header_length c q ≡ pointer h header_length c q = block_pointer c at.0 at.1 level at.2 at.3 q in
-        let child = tree.inner c at.0 at.1 level at.2 at.3 q (div_below i (span h.size level) (fan h.size header_length) pos low) in
-        let next = descend_after tree large level (pointer h header_length c q) r (mod-lt i pos)
-        (above_by level (pointer h header_length c q) (λ led. (c, q, at.2 + q * span h.size level, (child led).part))) in
-        let here : descend h (suc level) c i ≡ descend h level (pointer h header_length c q) r = cond-false (c == 0) 0 _ (ne_eqb c 0 some) in
-        let there : descend g (suc level) c i ≡ descend g level (pointer g header_length c q) r = cond-false (c == 0) 0 _ (ne_eqb c 0 some) in
-        there ∙ ap (λ p. descend g level p r) to ∙ next ∙ sym here
-  ]
-
   pub content_block_after : HasTree h → 512 ≤ h.size → (level : ℕ) → height_in h ≡ suc level → (i : ℕ) → i < fan h.size dinode_length * span h.size level
       → content_block g i ≡ content_block h i
-  unfolding content_block
-  content_block_after tree large level high i low =
-      let pos : 0 < span h.size level = span_some h.size level large in
-      let q : ℕ = i / span h.size level in
-      let r : ℕ = i % span h.size level in
-      let less : height_in h - 1 ≡ level = omega (arith, high) in
-      let less' : height_in g - 1 ≡ level = omega (arith, high, height_after) in
-      let child = tree.top level high q (div_below i (span h.size level) (fan h.size dinode_length) pos low) in
-      let next = descend_after tree large level (pointer h dinode_length h.own q) r (mod-lt i pos)
-      (above_by level (pointer h dinode_length h.own q) (λ led. (h.own, q, q * span h.size level, (child led).part))) in
-      let here : content_block h i ≡ descend h level (pointer h dinode_length h.own q) r = ap (λ l. descend h l (pointer h dinode_length h.own (i / span h.size l)) (i % span h.size l)) less in
-      let there : content_block g i ≡ descend g level (pointer g dinode_length h.own q) r = ap (λ l. descend g l (pointer g dinode_length h.own (i / span h.size l)) (i % span h.size l)) less' in
-      there ∙ ap (λ p. descend g level p r) (own_pointer level high q) ∙ next ∙ sym here
+  content_block_after = content_block_alike h cell alike
 
 -- a block has its part, whatever its bytes are
 pub placed_after : (h : Holding) (cell : ℕ → Option Cell) → KeepsWays h cell → IsPlaced h → IsPlaced (with_cells h cell)

@@ -19,7 +19,7 @@ use Rattle.pointer_tables.specs.Tables.{LeavesStay}
 use Rattle.tree_tables.specs.Pointers.{IsTableOf}
 use Rattle.tree_tables.specs.Setting.{HasNumbersSet}
 use Rattle.tree_tables.specs.declared.tree_table.TreeTable.{TreeTable}
-use Rattle.tree_tables.proofs.ContentParts.{whole_by_parts}
+use Rattle.table_files.proofs.ContentParts.{whole_by_parts}
 use Rattle.tree_tables.proofs.Fronts.{dinode_stays, header_stays}
 use Rattle.tree_tables.proofs.Kept.{KeepsWays, sound_after}
 

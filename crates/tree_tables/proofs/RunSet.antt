@@ -24,9 +24,9 @@ use Rattle.tree_tables.specs.Pointers.{IsTableOf}
 use Rattle.tree_tables.specs.Setting.{HasNumbersSet, IsBehindDinode, IsInTable, IsRun, IsSetIn}
 use Rattle.tree_tables.specs.declared.finding.Run.{Run}
 use Rattle.tree_tables.specs.declared.tree_table.TreeTable.{TreeTable}
-use Rattle.tree_tables.proofs.ContentParts.{IsContentPart, content_part, whole_by_parts}
+use Rattle.table_files.proofs.ContentParts.{IsContentPart, content_part, whole_by_parts}
 use Rattle.tree_tables.proofs.Entered.{entry_set_in_table, entry_set_stuffed}
-use Rattle.tree_tables.proofs.Entries.{within}
+use Rattle.table_files.proofs.Entries.{within}
 use Rattle.tree_tables.proofs.Kept.{KeepsContentBlocks, KeepsWays, content_block_after, placed_after, sound_after}
 use Rattle.tree_tables.proofs.OneRun.{IsBlockSet, bytes_here, bytes_other, cells, g, keeps_stuffed, keeps_table, leaves_stay, table_after}
 

@@ -12,8 +12,8 @@ use Rattle.gfs2_layout.specs.Device.{IsBlockSize}
 use Rattle.image_model.proofs.Rows.{and_left}
 use Rattle.dinode_tree.proofs.Sound.{size_large}
 use Rattle.pointer_tables.specs.Directories.{HasPointerOf, IsPlaced, IsTreeSound}
-use Rattle.tree_tables.proofs.ContentParts.{whole_by_parts}
-use Rattle.tree_tables.proofs.Entries.{within}
+use Rattle.table_files.proofs.ContentParts.{whole_by_parts}
+use Rattle.table_files.proofs.Entries.{within}
 use Rattle.std.proofs.lemmas.Bool.{cases_eq, cases_lt, cond-true, cond-false, eq-eqb, ne_eqb}
 use Rattle.drafts.specs.Fates.{Drafted, seen_in}
 use Rattle.drafts.specs.declared.fate.Fate.TheVariants.{Put}

@@ -1,17 +1,30 @@
 -- The parts of the blocks of content of an inode whose blocks stand in a tree.
-use Rattle.std.proofs.Common.{◌≡◌, ◌≢◌, ℕ, zero, suc, ◌+◌, ◌*◌, ◌/◌, ◌%◌, ◌<◌, ◌≤◌, inl, inr, length, Some, sym, ap, subst, ◌∙◌, refl, arith}
-use Rattle.std.proofs.lemmas.Bool.{cases_eq}
+use Rattle.std.proofs.Common.{◌≡◌, ◌≢◌, ℕ, zero, suc, Bool, true, false, None, ◌+◌, ◌*◌, ◌/◌, ◌%◌, ◌<◌, ◌≤◌, inl, inr, length, Some, sym, ap, subst, ◌∙◌, refl, arith}
+use Rattle.std.specs.Prelude.{◌==◌, nat_lt, if◌then◌else◌}
+use Rattle.std.proofs.lemmas.Bool.{cases_eq, cond-true, cond-false, eq-eqb, ne_eqb}
 use Rattle.std.proofs.lemmas.Nat.{div-add-mod'}
 use Rattle.std.proofs.Math.Nat.{mod-lt, div-lt_iff_lt-mul}
 use Rattle.gfs2_layout.specs.Holding.{Holding, Pointed, part_at, bytes_at}
 use Rattle.gfs2_layout.specs.Inode.{HasTree, content_block, descend, fan, header_length, height_in, pointer, span}
 use Rattle.gfs2_layout.specs.Structures.{dinode_length}
-use Rattle.image_model.proofs.Held.{none_some}
-use Rattle.dinode_tree.specs.Reading.{AreWholeBefore, reach}
+use Rattle.image_model.proofs.Held.{none_some, some_same}
+use Rattle.dinode_tree.specs.Reading.{AreWholeBefore, block_at, reach, target}
 use Rattle.dinode_tree.proofs.Pointers.{descend_zero, descend_one, descend_top, none_past}
 use Rattle.dinode_tree.proofs.Spans.{span_some}
 use Rattle.pointer_tables.specs.Directories.{IsTreeSound}
-use Rattle.tree_tables.proofs.Gets.{some_block}
+
+pub some_block : (h : Holding) (i b : ℕ) → block_at h i ≡ Some b → (content_block h i ≡ b) × (b ≢ 0)
+some_block h i b is = by (nat_lt i (reach h.size (height_in h))) (content_block h i) is
+  where
+    targets : (p : ℕ) → target p ≡ Some b → (p ≡ b) × (b ≢ 0)
+    targets p e = elim (cases_eq p 0) [
+      | inl zero_is ↦ absurd (none_some (sym (cond-true (p == 0) None (Some p) (eq-eqb p 0 zero_is)) ∙ e))
+      | inr some ↦ let same : p ≡ b = some_same (sym (cond-false (p == 0) None (Some p) (ne_eqb p 0 some)) ∙ e) in (same, λ z. some (same ∙ z))
+    ]
+
+    by : (t : Bool) (p : ℕ) → (if t then target p else None) ≡ Some b → (p ≡ b) × (b ≢ 0)
+    by true p e = targets p e
+    by false p e = absurd (none_some e)
 
 -- the block's part says that it is the block of content with this index
 abbrev pub IsContentPart : Holding → ℕ → ℕ → Type 0
