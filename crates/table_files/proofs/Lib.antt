@@ -3,3 +3,4 @@ pub mod ContentParts
 pub mod Alike
 pub mod Pieces
 pub mod Filled
+pub mod TableFiles
