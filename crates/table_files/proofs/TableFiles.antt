@@ -6,7 +6,7 @@ use Rattle.std.proofs.Math.Nat.{mul-div_cancel, mul-le-mul_right}
 use Rattle.gfs2_layout.specs.Device.{IsBlockSize}
 use Rattle.gfs2_layout.specs.Headers.{HasHeader}
 use Rattle.gfs2_layout.specs.Holding.{Cell, Holding, Part, Itself, Pointed, InChain, cell_bytes, cell_part, part_at, bytes_at}
-use Rattle.gfs2_layout.specs.Inode.{Fits, block_count, content_block, content_count, dinode_in, entry, fan, header_length, height_in, is_directory_in, is_leaf_part, pieces, span, table_count, unit}
+use Rattle.gfs2_layout.specs.Inode.{Fits, block_count, content_block, content_count, content_of, dinode_in, entry, fan, header_length, height_in, is_directory_in, is_leaf_part, pieces, span, table_count, unit}
 use Rattle.gfs2_layout.specs.Structures.{dinode_length, dinode_of, is_regular}
 use Rattle.gfs2_layout.specs.declared.dinode.Dinode.{Dinode}
 use Rattle.glock_names.specs.Views.{Seen}
@@ -20,7 +20,10 @@ use Rattle.growth_laws.proofs.Numbers.{numbers_behind_are_the_same}
 use Rattle.growth_laws.proofs.Parts.{not_itself}
 use Rattle.growth_drafts.specs.Taken.{AreFreeFor, IsCounted}
 use Rattle.growth_drafts.proofs.Shown.{files_are_shown}
+use Rattle.file_fills.specs.Headers.{HaveSamePads}
+use Rattle.file_fills.proofs.Headers.{put_over}
 use Rattle.file_growth.specs.Written.{CanWrite}
+use Rattle.file_growth.proofs.Writes.{long_content}
 use Rattle.pointer_tables.specs.Directories.{EachPointerLeads, IsPlaced, IsTreeSound}
 use Rattle.pointer_tables.specs.Tables.{CanDouble, IsTableFile, doubling_need, table_blocks, table_height, tree_blocks, without_leaf}
 use Rattle.table_files.specs.Files.{SaysInstead, file_cells, file_dinode, own_cell}
@@ -214,6 +217,10 @@ module _ (h : Holding) (t : IsTable h) (blocks : ℕ) (bytes : List ℕ) (is : S
       never : {A : Type 0} → is_directory_in file_of ≡ true → is_directory_in file_of ≡ false → A
       never is_one is_none = let both : true ≡ false = sym is_one ∙ is_none in absurd (cc)
 
+  -- its content is as long as its dinode says
+  pub content_same : length (content_of file_of) ≡ (dinode_in file_of).size
+  content_same = long_content file_of is_file
+
   -- it has no hole
   pub full : (i : ℕ) → i < content_count file_of → content_block file_of i ≢ 0
   full i low = by (height_in h) refl
@@ -252,6 +259,12 @@ module _ (h : Holding) (t : IsTable h) (blocks : ℕ) (bytes : List ℕ) (is : S
     blocks_same : blocks ≡ block_count file_of
     blocks_same = counts ∙ sym block_count_file
 
+    own_large : dinode_length ≤ length (bytes_at h h.own)
+    own_large = omega (arith, t.sound.whole h.own Itself t.placed.own, large h t)
+
+    same_pads : HaveSamePads (bytes_at h h.own) bytes
+    same_pads = put_over (file_dinode h blocks) (bytes_at h h.own) (bytes_at h h.own) bytes own_large refl is.put
+
     pub counted_file : IsCounted file_of
     counted_file = record { file = is_file; blocks = ap (λ (d : Dinode). d.blocks) dinode_file ∙ blocks_same }
 
@@ -264,7 +277,7 @@ module _ (h : Holding) (t : IsTable h) (blocks : ℕ) (bytes : List ℕ) (is : S
       others = cell_other;
       dinode = dinode_file ∙ ap (file_dinode h) blocks_same;
       pointers = λ high. ap (drop dinode_length) own_bytes ∙ is.behind;
-      pads = λ d behind. is.pads d behind ∙ ap (λ (xs : List ℕ). dinode_over d xs behind) (sym own_bytes);
+      pads = λ d behind. same_pads d behind ∙ ap (λ (xs : List ℕ). dinode_over d xs behind) (sym own_bytes);
     }
 
     abbrev twice : ℕ

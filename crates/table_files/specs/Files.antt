@@ -6,9 +6,9 @@ use Rattle.gfs2_layout.specs.Headers.{HasHeader}
 use Rattle.gfs2_layout.specs.Holding.{Cell, Holding, Itself, bytes_at, part_at}
 use Rattle.gfs2_layout.specs.Inode.{content_block, content_count, dinode_in, entry, header_length, height_in, is_leaf_part, pieces, table_count}
 use Rattle.gfs2_layout.specs.Structures.{dinode_length, dinode_of}
+use Rattle.gfs2_layout.specs.Writing.{dinode_put}
 use Rattle.gfs2_layout.specs.declared.dinode.Dinode.{Dinode}
 use Rattle.growth_laws.specs.Files.{with_cells}
-use Rattle.file_fills.specs.Headers.{HaveSamePads}
 use Rattle.pointer_tables.specs.Tables.{table_header, without_leaf}
 
 -- ---- the file that a directory's table is
@@ -30,13 +30,22 @@ own_cell bytes = Some (record { part = Itself; bytes = bytes })
 abbrev pub file_cells : Holding → List ℕ → ℕ → Option Cell
 file_cells h bytes b = if b == h.own then own_cell bytes else without_leaf (h.cell b)
 
--- Bytes of a dinode's block that say a dinode; behind it, and in pads and reserved bytes, they are the inode's own.
+-- bytes of the inode's dinode's block with another dinode over its own
 pub record SaysInstead (h : Holding) (d : Dinode) (bytes : List ℕ) : Type 0 where
+  pub put : bytes ≡ dinode_put d (bytes_at h h.own)
   pub said : dinode_of bytes ≡ d
   pub header : HasHeader 4 400 bytes
   pub whole : length bytes ≡ h.size
   pub behind : drop dinode_length bytes ≡ drop dinode_length (bytes_at h h.own)
-  pub pads : HaveSamePads (bytes_at h h.own) bytes
+
+-- the dinode of a directory whose table has grown to this height in blocks of which so many are new
+abbrev pub doubled_dinode : Holding → ℕ → ℕ → Dinode
+doubled_dinode h height more = record (dinode_in h) {
+  depth = (dinode_in h).depth + 1;
+  size = 2 * (dinode_in h).size;
+  height = height;
+  blocks = (dinode_in h).blocks + more;
+}
 
 -- ---- a directory made of a file again
 
