@@ -2,10 +2,10 @@
 ghost use Rattle.std.specs.Prelude.{ℕ, Bool, ◌≡◌, ◌≢◌, ◌⊎◌, ◌+◌, ◌*◌, ◌^◌, ◌<◌, ◌≤◌, true, false, if◌then◌else◌, None, OnErr};
 ghost use Rattle.std.specs.FinMap.{get as fate_of};
 ghost use Rattle.gfs2_layout.specs.Holding.{Holding};
-ghost use Rattle.gfs2_layout.specs.Inode.{table_count};
 ghost use Rattle.drafts.specs.Fates.{seen_in};
 ghost use Rattle.glock_names.specs.Steps.{IfDamaged, IfIs, IfNeedBlock};
 ghost use Rattle.glock_names.specs.Views.{IsOfView};
+ghost use Rattle.dinode_tree.specs.Below.{AnyIndex};
 ghost use Rattle.dinode_tree.specs.Reading.{IsNeeded};
 ghost use Rattle.linear_dirs.specs.Shown.{holding_over};
 ghost use Rattle.pointer_tables.specs.Directories.{EachPointerLeads, HasPointerOf, IsOfPointers, IsPlaced, IsTableBroken, IsTreeSound};
@@ -49,9 +49,8 @@ pub trait PointerTableMut: PointerTable {
 
     /// Doubles the table: each pointer becomes two neighbouring ones, and the depth is one more. What it needs more of blocks for that it
     /// takes from the front of `room`, as many as `doubling_need` says. The answer is whether that was done: `false` where the room isn't
-    /// enough or the draft isn't that of a sound directory, and then nothing is changed. The whole table is written. It asks for blocks of
-    /// the inode on the way to where its pointers stand, or will stand. After want of memory the draft may be half done; the room and the
-    /// table are as they were.
+    /// enough or the draft isn't that of a sound directory, and then nothing is changed. The whole table is written. It asks for the
+    /// dinode's block and those below it. After want of memory the draft may be half done; the room and the table are as they were.
     fn double<V: View>(
         &mut self,
         alloc: Global,
@@ -64,7 +63,7 @@ pub trait PointerTableMut: PointerTable {
             → IfIs result (λ done. (done ≡ true) × ((g : Holding) × Self.shows self.new (seen_in V.seen draft.new) g × TakesDoubled draft.old.fates draft.new.fates room.old.items room.new.items h g)) }
         ensures undone { IfIs result (λ done. done ≡ false → (draft.new ≡ draft.old) × (room.new.items ≡ room.old.items) × (self.new ≡ self.old)) }
         ensures view { draft.new.view ≡ draft.old.view }
-        ensures needed { (h : Holding) → Self.shows self.old (seen_in V.seen draft.old) h → IfNeedBlock result (IsNeeded (seen_in V.seen draft.old) h (IsOfPointers h 0 (2 * table_count h)) 0) }
+        ensures needed { (h : Holding) → Self.shows self.old (seen_in V.seen draft.old) h → IfNeedBlock result (IsNeeded (seen_in V.seen draft.old) h AnyIndex 0) }
         ensures absent { IfNeedBlock result (λ missing. (seen_in V.seen draft.old).block_at missing.block ≡ None) }
         ensures waits { IfNeedBlock result (λ missing. (draft.new ≡ draft.old) × (room.new.items ≡ room.old.items) × (self.new ≡ self.old)) }
         ensures damaged { (h : Holding) → Self.shows self.old (seen_in V.seen draft.old) h → IfDamaged result (IsTableBroken h) }

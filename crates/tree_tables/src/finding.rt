@@ -90,7 +90,7 @@ fn table_run<V: View>(
 
 /// The pointers of a table from an index on that stand in one block, and at most so many. It asks for blocks of the inode on the way there.
 /// It costs a look at each of them, and no memory.
-fn find_run<V: View>(
+pub(crate) fn find_run<V: View>(
     view: &V,
     table: TreeTable,
     index: usize,
