@@ -68,7 +68,7 @@ module _ (h : Holding) (t : IsTable h) (blocks : ℕ) (bytes : List ℕ) (is : S
   unit_some : 0 < h.size - 24
   unit_some = omega (arith, big)
 
-  file_k : IsFile k
+  pub file_k : IsFile k
   file_k = written.sound.file
 
   many_is : pieces (length pointers) (h.size - 24) ≡ many
@@ -99,7 +99,7 @@ module _ (h : Holding) (t : IsTable h) (blocks : ℕ) (bytes : List ℕ) (is : S
   size_k : (dinode_in k).size ≡ many * h.size
   size_k = ap (λ (d : Dinode). d.size) written.dinode ∙ omega (arith, raw_long, size_more h t blocks bytes is counts)
 
-  height_k : height_in k ≡ table_height h.size (height_in h) (2 * table_count h)
+  pub height_k : height_in k ≡ table_height h.size (height_in h) (2 * table_count h)
   height_k =
       let end : size_with f (0 + length raw) ≡ many * h.size = omega (arith, raw_long, size_more h t blocks bytes is counts) in
       ap (λ (d : Dinode). d.height) written.dinode ∙ ap (height_for f) end ∙ height_for_file h t blocks bytes is counts
@@ -197,7 +197,7 @@ module _ (h : Holding) (t : IsTable h) (blocks : ℕ) (bytes : List ℕ) (is : S
     abbrev g : Holding
     g = with_cells h (directory_cells h k own)
 
-    cell_own_g : cells h.own ≡ own_cell own
+    pub cell_own_g : cells h.own ≡ own_cell own
     cell_own_g = cond-true (h.own == h.own) (own_cell own) (if is_leaf_part (part_at h h.own) then h.cell h.own else kc h.own) (eq-eqb h.own h.own refl)
 
     own_no_leaf : is_leaf_part (part_at h h.own) ≡ false
@@ -209,10 +209,10 @@ module _ (h : Holding) (t : IsTable h) (blocks : ℕ) (bytes : List ℕ) (is : S
     leaf_apart : (b : ℕ) → is_leaf_part (part_at h b) ≡ true → b ≢ h.own
     leaf_apart b leaf same = truth (is_leaf_part (part_at h b)) leaf (ap (λ x. is_leaf_part (part_at h x)) same ∙ own_no_leaf)
 
-    cell_leaf : (b : ℕ) → is_leaf_part (part_at h b) ≡ true → cells b ≡ h.cell b
+    pub cell_leaf : (b : ℕ) → is_leaf_part (part_at h b) ≡ true → cells b ≡ h.cell b
     cell_leaf b leaf = cond-false (b == h.own) (own_cell own) (if is_leaf_part (part_at h b) then h.cell b else kc b) (ne_eqb b h.own (leaf_apart b leaf)) ∙ cond-true (is_leaf_part (part_at h b)) (h.cell b) (kc b) leaf
 
-    cell_k : (b : ℕ) → b ≢ h.own → is_leaf_part (part_at h b) ≡ false → cells b ≡ kc b
+    pub cell_k : (b : ℕ) → b ≢ h.own → is_leaf_part (part_at h b) ≡ false → cells b ≡ kc b
     cell_k b other fails = cond-false (b == h.own) (own_cell own) (if is_leaf_part (part_at h b) then h.cell b else kc b) (ne_eqb b h.own other) ∙ cond-false (is_leaf_part (part_at h b)) (h.cell b) (kc b) fails
 
     none_some' : {A : Type 0} (c : Option Cell) → c ≡ None → IsSome c → A
@@ -229,7 +229,7 @@ module _ (h : Holding) (t : IsTable h) (blocks : ℕ) (bytes : List ℕ) (is : S
     leaf_some : (b : ℕ) → is_leaf_part (part_at h b) ≡ true → h.cell b ≡ None → ⊥
     leaf_some b leaf none = truth (is_leaf_part (part_at h b)) leaf (ap (λ (c : Option Cell). is_leaf_part (cell_part c)) none)
 
-    leaf_gone : (b : ℕ) → is_leaf_part (part_at h b) ≡ true → kc b ≡ None
+    pub leaf_gone : (b : ℕ) → is_leaf_part (part_at h b) ≡ true → kc b ≡ None
     leaf_gone b leaf = none_of (kc b) (λ there. elim ((written.blocks.blocks b).0 there) [
       | inl had ↦ none_some' (file_cells h bytes b) (cell_other h t blocks bytes is b (leaf_apart b leaf) ∙ leaf_without (h.cell b) leaf) had
       | inr has ↦ leaf_some b leaf (free b has).0
@@ -242,7 +242,7 @@ module _ (h : Holding) (t : IsTable h) (blocks : ℕ) (bytes : List ℕ) (is : S
       | inr fails ↦ cell_k x (λ same. not_itself b n level first (sym file_k.own ∙ ap (part_at k) (sym same) ∙ part)) fails
     ]
 
-    own_part_g : part_at g h.own ≡ Some Itself
+    pub own_part_g : part_at g h.own ≡ Some Itself
     own_part_g = ap cell_part cell_own_g
 
     itself_leaf : {A : Type 0} (hash place : ℕ) → Some Itself ≡ Some (InChain hash place) → A
@@ -261,14 +261,14 @@ module _ (h : Holding) (t : IsTable h) (blocks : ℕ) (bytes : List ℕ) (is : S
       | inr fails ↦ let same = cell_k x other fails in inr (same, ap cell_part (sym same) ∙ part)
     ]
 
-    bytes_own_g : bytes_at g h.own ≡ own
+    pub bytes_own_g : bytes_at g h.own ≡ own
     bytes_own_g = ap cell_bytes cell_own_g
 
-    dinode_g : dinode_in g ≡ doubled_dinode h (height_in k) (length taken)
+    pub dinode_g : dinode_in g ≡ doubled_dinode h (height_in k) (length taken)
     unfolding dinode_in
     dinode_g = ap dinode_of bytes_own_g ∙ says.said
 
-    height_g : height_in g ≡ height_in k
+    pub height_g : height_in g ≡ height_in k
     height_g = ap (λ (d : Dinode). d.height) dinode_g
 
     directory_g : is_directory_in g ≡ true

@@ -7,3 +7,7 @@ pub mod OneRun
 pub mod Entered
 pub mod RunSet
 pub mod Runs
+pub mod Lists
+pub mod Below
+pub mod Doubles
+pub mod Grown

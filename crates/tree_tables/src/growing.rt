@@ -22,6 +22,7 @@ use file_fills::height_for;
 use file_growth::write_range;
 use gfs2_layout::Dinode;
 use glock_names::{CallFault, Step, View};
+use growth_laws::files_are_inodes;
 use no_memory::NoMemory;
 use pointer_tables::{doubling_need, table_blocks, tree_blocks};
 use std::alloc::Global;
@@ -85,10 +86,10 @@ fn write_table<V: View>(
 ) -> Result<bool, NoMemory>
     requires { length bytes.now ≤ file_limit }
     ensures view { draft.new.view ≡ draft.old.view }
-    ensures there { IfOk result (λ done. HasBlock (seen_in V.seen draft.old) directory) }
     ensures written { (h : Holding) → IsShown (seen_in V.seen draft.old) directory h → CanWrite h 0 (length bytes.now) room.old.items → ((b : ℕ) → IsBelow h b → HasBlock (seen_in V.seen draft.old) b) → HasBlock (seen_in V.seen draft.old) directory
         → IfOk result (λ done. (done ≡ true) × HasWritten (seen_in V.seen draft.new) draft.old.fates draft.new.fates room.old.items room.new.items h 0 bytes.now) }
 {
+    files_are_inodes();
     match write_range(alloc, draft, directory, 0, bytes, room) {
         Ok(Step::Is(done)) => Ok(done),
         Ok(Step::NeedBlock(_)) => Ok(false),

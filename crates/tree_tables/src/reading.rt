@@ -12,7 +12,7 @@ ghost use Rattle.dinode_tree.specs.Reading.{IsNeeded, inode_lock};
 ghost use Rattle.dinode_tree.specs.declared.below.PointedBlock.{PointedBlock};
 ghost use Rattle.dinode_tree.specs.Shown.{IsShown};
 ghost use Rattle.file_tree.specs.Apply.{file_limit};
-ghost use Rattle.pointer_tables.specs.Directories.{IsTableBroken};
+ghost use Rattle.pointer_tables.specs.Directories.{IsTableBroken, IsTreeSound};
 ghost use Rattle.table_files.specs.Files.{AreHeadersOf};
 ghost use Rattle.tree_tables.specs.Pointers.{IsTableOf};
 ghost use Rattle.tree_tables.specs.Doubling.{IsDoubledTable};
@@ -20,7 +20,7 @@ ghost use Rattle.tree_tables.specs.Doubling.{IsDoubledTable};
 use crate::TreeTable;
 use crate::doubling::{each_twice, table_bytes};
 use crate::finding::find_run;
-use crate::tree_table::IN_TABLE;
+use crate::tree_table::{IN_TABLE, pointers_of};
 use dinode_tree::{PointedBlock, all_blocks_are_shown, blocks_below, read_range};
 use glock_names::{CallFault, Missing, Step, View, block_of};
 use linear_dirs::lock_of;
@@ -33,14 +33,14 @@ fn first_missing<V: View>(view: &V, directory: u64, blocks: &[PointedBlock]) -> 
     ensures missing { IfSome result (λ missing. (p : PointedBlock) × Contains blocks.now p × (missing ≡ record { lock = inode_lock directory; block = p.block; plain = false; from = p.from }) × ((V.seen view.now).block_at p.block ≡ None)) }
 {
     for pointed in blocks {
-        if block_of(view, pointed.block).is_none() {
+        let Some(_bytes) = block_of(view, pointed.block) else {
             return Some(Missing {
                 lock: lock_of(directory),
                 block: pointed.block,
                 plain: false,
                 from: pointed.from,
             });
-        }
+        };
     }
     None
 }
@@ -54,6 +54,7 @@ fn see_below<V: View>(alloc: Global, view: &V, directory: u64) -> Result<Step<()
     ensures kept { IfDamaged result (IsOfView (V.seen view.now)) }
 {
     all_blocks_are_shown();
+    let _size = view.block_size();
     let blocks = match blocks_below(alloc, view, directory)? {
         Step::Is(blocks) => blocks,
         Step::NeedBlock(missing) => return Ok(Step::NeedBlock(missing)),
@@ -75,7 +76,7 @@ fn read_headers<V: View>(
     requires few { (j : ℕ) → j < count → j * words < 2 ^ table.depth }
     requires words { (V.seen view.now).size - 24 ≡ 8 * words }
     ensures long { IfIs result (λ headers. length headers.items ≡ count * 24) }
-    ensures each { (h : Holding) → IsTableOf table (V.seen view.now) h → height_in h ≢ 0 → IfIs result (λ headers. (j : ℕ) → j < count → slice (j * 24) 24 headers.items ≡ take 24 (bytes_at h (content_block h j))) }
+    ensures each { (h : Holding) → IsTableOf table (V.seen view.now) h → IsTreeSound h → height_in h ≢ 0 → IfIs result (λ headers. (j : ℕ) → j < count → slice (j * 24) 24 headers.items ≡ take 24 (bytes_at h (content_block h j))) }
     ensures needed { (h : Holding) → IsTableOf table (V.seen view.now) h → IfNeedBlock result (IsNeeded (V.seen view.now) h AnyIndex 0) }
     ensures absent { IfNeedBlock result (λ missing. (V.seen view.now).block_at missing.block ≡ None) }
     ensures damaged { (h : Holding) → IsTableOf table (V.seen view.now) h → IfDamaged result (IsTableBroken h) }
@@ -90,7 +91,7 @@ fn read_headers<V: View>(
         let Some(bytes) = block_of(view, run.block) else {
             unreachable!()
         };
-        headers.extend_from_slice(&bytes[..IN_TABLE])?;
+        headers.extend_from_slice(&bytes[0..IN_TABLE])?;
     }
     Ok(Step::Is(headers))
 }
@@ -103,7 +104,7 @@ fn headers_of<V: View>(
     height: u16,
 ) -> Result<Step<Vec<u8>>, CallFault>
     ensures whole { IfIs result (λ headers. length headers.items % 24 ≡ 0) }
-    ensures are { (h : Holding) → IsTableOf table (V.seen view.now) h → height ≡ height_in h → IfIs result (λ headers. AreHeadersOf h headers.items) }
+    ensures are { (h : Holding) → IsTableOf table (V.seen view.now) h → IsTreeSound h → height ≡ height_in h → IfIs result (λ headers. AreHeadersOf h headers.items) }
     ensures needed { (h : Holding) → IsTableOf table (V.seen view.now) h → IfNeedBlock result (IsNeeded (V.seen view.now) h AnyIndex 0) }
     ensures absent { IfNeedBlock result (λ missing. (V.seen view.now).block_at missing.block ≡ None) }
     ensures damaged { (h : Holding) → IsTableOf table (V.seen view.now) h → IfDamaged result (IsTableBroken h) }
@@ -113,7 +114,7 @@ fn headers_of<V: View>(
         return Ok(Step::Is(Vec::new(alloc)));
     }
     let size = view.block_size() as usize;
-    let count = table_blocks(size, 1 << table.depth);
+    let count = table_blocks(size, pointers_of(table.depth));
     read_headers(alloc, view, table, (size - IN_TABLE) / 8, count as usize)
 }
 
@@ -127,7 +128,7 @@ pub(crate) fn doubled_table<V: View>(
     height: u16,
 ) -> Result<Step<Vec<u8>>, CallFault>
     requires { table.depth < 15 }
-    ensures doubled { (h : Holding) → IsTableOf table (V.seen view.now) h → height ≡ height_in h → IfIs result (λ bytes. IsDoubledTable h bytes.items) }
+    ensures doubled { (h : Holding) → IsTableOf table (V.seen view.now) h → IsTreeSound h → height ≡ height_in h → IfIs result (λ bytes. IsDoubledTable h bytes.items) }
     ensures short { IfIs result (λ bytes. length bytes.items ≤ file_limit) }
     ensures seen { (h : Holding) → IsTableOf table (V.seen view.now) h → IfIs result (λ bytes. (b : ℕ) → IsBelow h b → HasBlock (V.seen view.now) b) }
     ensures needed { (h : Holding) → IsTableOf table (V.seen view.now) h → IfNeedBlock result (IsNeeded (V.seen view.now) h AnyIndex 0) }
@@ -140,7 +141,8 @@ pub(crate) fn doubled_table<V: View>(
         Step::Is(()) => {}
         Step::NeedBlock(missing) => return Ok(Step::NeedBlock(missing)),
     }
-    let content = match read_range(alloc, view, table.directory, 0, 8 << table.depth)? {
+    let long = 8 * pointers_of(table.depth);
+    let content = match read_range(alloc, view, table.directory, 0, long as u32)? {
         Step::Is(content) => content,
         Step::NeedBlock(missing) => return Ok(Step::NeedBlock(missing)),
     };

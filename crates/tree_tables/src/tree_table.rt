@@ -169,9 +169,10 @@ pub(crate) fn damaged(block: u64, rule: u16) -> CallFault
 }
 
 // How many pointers a table of this depth has.
-fn pointers_of(depth: u16) -> u64
+pub(crate) fn pointers_of(depth: u16) -> u64
     requires { depth ≤ 15 }
-    ensures { result ≡ 2 ^ depth }
+    ensures value { result ≡ 2 ^ depth }
+    ensures most { result ≤ 2 ^ 15 }
 {
     1 << depth
 }
