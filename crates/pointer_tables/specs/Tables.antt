@@ -79,6 +79,8 @@ pub record CanDouble (h : Holding) (room : List ℕ) : Type 0 where
 
 -- The table is twice as long: each pointer has become two neighbouring ones. The dinode says so, and how many blocks more there are.
 pub record IsDoubled (h g : Holding) (taken : List ℕ) : Type 0 where
+  pub own : g.own ≡ h.own
+  pub size : g.size ≡ h.size
   pub sound : IsTreeSound g
   pub placed : IsPlaced g
   pub dinode : dinode_in g ≡ record (dinode_in h) {
@@ -146,7 +148,7 @@ pub record TakesDoubled (old new : FinMap nat_cmp Fate) (room left : List ℕ) (
   pub needed : length taken ≡ doubling_need_of h
   pub front : room ≡ taken ++ left
   pub drafted : DraftsDirectory old new h g
-  pub pads : KeepsPads (bytes_at h h.own) (bytes_at g h.own)
+  pub pads : KeepsPads (bytes_at h h.own) (bytes_at g g.own)
   pub headers : KeepsTableHeaders h g taken
   pub clear : IsClearBehind g
   pub grown : GrowsAsFile h g taken

@@ -1,6 +1,6 @@
 -- What the file's write has made of it is a directory again, with its leaves, whose table is twice as long.
 use Rattle.std.proofs.Common.{◌≡◌, ◌≢◌, ◌↔◌, ◌⊎◌, ℕ, zero, suc, ◌+◌, ◌-◌, ◌*◌, ◌/◌, ◌%◌, ◌^◌, ◌<◌, ◌≤◌, max, inl, inr, Bool, true, false, List, [], ◌++◌, length, take, drop, Option, None, Some, refl, sym, ap, ap₂, ◌∙◌, subst, arith, take-append-drop}
-use Rattle.std.specs.Prelude.{◌==◌, ◌&&◌, Contains, IsSome, is_some, count_by, flat_map, nat_lt, replicate, if◌then◌else◌}
+use Rattle.std.specs.Prelude.{◌==◌, ◌&&◌, ◌||◌, Contains, IsSome, is_some, count_by, flat_map, nat_lt, replicate, if◌then◌else◌}
 use Rattle.std.specs.FinMap.{FinMap, get}
 use Rattle.std.specs.List.{range_with_len}
 use Rattle.std.specs.Ordering.{nat_cmp}
@@ -38,7 +38,7 @@ use Rattle.table_files.specs.Files.{AreDoubledPointers, AreHeadersOf, SaysInstea
 use Rattle.table_files.proofs.Alike.{LeadAlike, content_block_alike, tree_alike}
 use Rattle.table_files.proofs.ContentParts.{content_part, whole_by_parts}
 use Rattle.table_files.proofs.Entries.{entry_in_block, fits_block, within}
-use Rattle.table_files.proofs.Pieces.{count_both, piece_begins, begins_piece, whole_pieces}
+use Rattle.table_files.proofs.Pieces.{count_both, count_most, piece_begins, begins_piece, whole_pieces}
 use Rattle.table_files.proofs.TableBytes.{all_over, block_clear, block_has_header, block_header, block_long, block_pointer, front_header, header_front, new_header, same_piece, table_long, zeros_no_header}
 use Rattle.table_files.proofs.TableFiles.{IsTable, block_count_file, cell_back, cell_other, cell_own, cell_pointed, content_same, count_high, count_is, count_more, counted_file, dinode_file, file_of, full, height_file, height_for_file, inside_file, is_file, large, leads_alike, leaf_without, needed_file, no_hole, own_bytes, own_part, size_more, stays_leafless, table_file, unit_is}
 
@@ -185,6 +185,79 @@ module _ (h : Holding) (t : IsTable h) (blocks : ℕ) (bytes : List ℕ) (is : S
       let index : found.0 ≡ first = omega (arith, found.1) in
       (subst (λ m. first < m) count_k (part_within k file_k x b n 0 first part), content_is_level_zero k first ∙ ap (block_on k 0) (sym index) ∙ found.3)
 
+  -- ---- leaves, and blocks of the file
+
+  own_no_leaf : is_leaf_part (part_at h h.own) ≡ false
+  own_no_leaf = ap is_leaf_part t.placed.own
+
+  truth : {A : Type 0} (b : Bool) → b ≡ true → b ≡ false → A
+  truth b holds fails = let both : true ≡ false = sym holds ∙ fails in absurd (cc)
+
+  leaf_apart : (b : ℕ) → is_leaf_part (part_at h b) ≡ true → b ≢ h.own
+  leaf_apart b leaf same = truth (is_leaf_part (part_at h b)) leaf (ap (λ x. is_leaf_part (part_at h x)) same ∙ own_no_leaf)
+
+  none_some' : {A : Type 0} (c : Option Cell) → c ≡ None → IsSome c → A
+  none_some' None e there = let never : false ≡ true = there in absurd (cc)
+  none_some' (Some c) e there = let never : Some c ≡ None = e in absurd (cc)
+
+  none_of : (c : Option Cell) → (IsSome c → ⊥) → c ≡ None
+  none_of None never = refl
+  none_of (Some c) never = absurd (never refl)
+
+  no_part : {A : Type 0} (p : Part) → ◌≡◌ {A = Option Part} None (Some p) → A
+  no_part p e = absurd (cc)
+
+  leaf_some : (b : ℕ) → is_leaf_part (part_at h b) ≡ true → h.cell b ≡ None → ⊥
+  leaf_some b leaf none = truth (is_leaf_part (part_at h b)) leaf (ap (λ (c : Option Cell). is_leaf_part (cell_part c)) none)
+
+  pub leaf_gone : (b : ℕ) → is_leaf_part (part_at h b) ≡ true → kc b ≡ None
+  leaf_gone b leaf = none_of (kc b) (λ there. elim ((written.blocks.blocks b).0 there) [
+    | inl had ↦ none_some' (file_cells h bytes b) (cell_other h t blocks bytes is b (leaf_apart b leaf) ∙ leaf_without (h.cell b) leaf) had
+    | inr has ↦ leaf_some b leaf (free b has).0
+  ])
+
+  itself_some : (c : Option Cell) → cell_part c ≡ Some Itself → IsSome c
+  itself_some None e = no_part Itself e
+  itself_some (Some c) e = refl
+
+  one_was : (b : ℕ) → one_if (is_some (h.cell b)) ≡ one_if (is_some (file_cells h bytes b)) + one_if (is_leaf_part (part_at h b))
+  one_was b = elim (cases_eq b h.own) [
+    | inl same ↦
+        let here : one_if (is_some (h.cell b)) ≡ 1 = ap (λ x. one_if (is_some (h.cell x))) same ∙ ap one_if (itself_some (h.cell h.own) t.placed.own) in
+        let there : one_if (is_some (file_cells h bytes b)) ≡ 1 = ap (λ x. one_if (is_some (file_cells h bytes x))) same ∙ ap (λ c. one_if (is_some c)) (cell_own h t blocks bytes is) in
+        let none : one_if (is_leaf_part (part_at h b)) ≡ 0 = ap (λ x. one_if (is_leaf_part (part_at h x))) same ∙ ap one_if own_no_leaf in
+        omega (arith, here, there, none)
+    | inr other ↦
+        let there : one_if (is_some (file_cells h bytes b)) ≡ one_if (is_some (without_leaf (h.cell b))) = ap (λ c. one_if (is_some c)) (cell_other h t blocks bytes is b other) in
+        omega (arith, there, split (h.cell b))
+  ]
+    where
+      split : (c : Option Cell) → one_if (is_some c) ≡ one_if (is_some (without_leaf c)) + one_if (is_leaf_part (cell_part c))
+      split None = refl
+      split (Some c) = by (is_leaf_part (Some c.part)) refl
+        where
+          by : (q : Bool) → is_leaf_part (Some c.part) ≡ q → 1 ≡ one_if (is_some (if is_leaf_part (Some c.part) then None else Some c)) + one_if (is_leaf_part (Some c.part))
+          by true e = sym (ap₂ (λ (c' : Option Cell) q. one_if (is_some c') + one_if q) (cond-true (is_leaf_part (Some c.part)) None (Some c) e) e)
+          by false e = sym (ap₂ (λ (c' : Option Cell) q. one_if (is_some c') + one_if q) (cond-false (is_leaf_part (Some c.part)) None (Some c) e) e)
+
+  -- all blocks that the directory has then are of the image
+  pub blocks_fit : block_count h + length taken ≤ h.count
+  unfolding block_count
+  blocks_fit =
+      let after = count_both (λ b. is_some (kc b)) (λ b. is_leaf_part (part_at h b)) (λ b. is_some (kc b) || is_leaf_part (part_at h b)) 0 h.count either in
+      let before = count_both (λ b. is_some (file_cells h bytes b)) (λ b. is_leaf_part (part_at h b)) (λ b. is_some (h.cell b)) 0 h.count one_was in
+      let most = count_most (λ b. is_some (kc b) || is_leaf_part (part_at h b)) 0 h.count in
+      omega (arith, after, before, most, blocks_k)
+    where
+      none_one : (c : Option Cell) (q : Bool) → (q ≡ true → IsSome c → ⊥) → one_if (is_some c || q) ≡ one_if (is_some c) + one_if q
+      none_one None true apart = refl
+      none_one None false apart = refl
+      none_one (Some c) true apart = absurd (apart refl refl)
+      none_one (Some c) false apart = refl
+
+      either : (b : ℕ) → one_if (is_some (kc b) || is_leaf_part (part_at h b)) ≡ one_if (is_some (kc b)) + one_if (is_leaf_part (part_at h b))
+      either b = none_one (kc b) (is_leaf_part (part_at h b)) (λ leaf there. none_some' (kc b) (leaf_gone b leaf) there)
+
   -- ---- the directory afterwards
 
   module _ (own : List ℕ) (says : SaysInstead k (doubled_dinode h (height_in k) (length taken)) own) where
@@ -200,40 +273,11 @@ module _ (h : Holding) (t : IsTable h) (blocks : ℕ) (bytes : List ℕ) (is : S
     pub cell_own_g : cells h.own ≡ own_cell own
     cell_own_g = cond-true (h.own == h.own) (own_cell own) (if is_leaf_part (part_at h h.own) then h.cell h.own else kc h.own) (eq-eqb h.own h.own refl)
 
-    own_no_leaf : is_leaf_part (part_at h h.own) ≡ false
-    own_no_leaf = ap is_leaf_part t.placed.own
-
-    truth : {A : Type 0} (b : Bool) → b ≡ true → b ≡ false → A
-    truth b holds fails = let both : true ≡ false = sym holds ∙ fails in absurd (cc)
-
-    leaf_apart : (b : ℕ) → is_leaf_part (part_at h b) ≡ true → b ≢ h.own
-    leaf_apart b leaf same = truth (is_leaf_part (part_at h b)) leaf (ap (λ x. is_leaf_part (part_at h x)) same ∙ own_no_leaf)
-
     pub cell_leaf : (b : ℕ) → is_leaf_part (part_at h b) ≡ true → cells b ≡ h.cell b
     cell_leaf b leaf = cond-false (b == h.own) (own_cell own) (if is_leaf_part (part_at h b) then h.cell b else kc b) (ne_eqb b h.own (leaf_apart b leaf)) ∙ cond-true (is_leaf_part (part_at h b)) (h.cell b) (kc b) leaf
 
     pub cell_k : (b : ℕ) → b ≢ h.own → is_leaf_part (part_at h b) ≡ false → cells b ≡ kc b
     cell_k b other fails = cond-false (b == h.own) (own_cell own) (if is_leaf_part (part_at h b) then h.cell b else kc b) (ne_eqb b h.own other) ∙ cond-false (is_leaf_part (part_at h b)) (h.cell b) (kc b) fails
-
-    none_some' : {A : Type 0} (c : Option Cell) → c ≡ None → IsSome c → A
-    none_some' None e there = let never : false ≡ true = there in absurd (cc)
-    none_some' (Some c) e there = let never : Some c ≡ None = e in absurd (cc)
-
-    none_of : (c : Option Cell) → (IsSome c → ⊥) → c ≡ None
-    none_of None never = refl
-    none_of (Some c) never = absurd (never refl)
-
-    no_part : {A : Type 0} (p : Part) → ◌≡◌ {A = Option Part} None (Some p) → A
-    no_part p e = absurd (cc)
-
-    leaf_some : (b : ℕ) → is_leaf_part (part_at h b) ≡ true → h.cell b ≡ None → ⊥
-    leaf_some b leaf none = truth (is_leaf_part (part_at h b)) leaf (ap (λ (c : Option Cell). is_leaf_part (cell_part c)) none)
-
-    pub leaf_gone : (b : ℕ) → is_leaf_part (part_at h b) ≡ true → kc b ≡ None
-    leaf_gone b leaf = none_of (kc b) (λ there. elim ((written.blocks.blocks b).0 there) [
-      | inl had ↦ none_some' (file_cells h bytes b) (cell_other h t blocks bytes is b (leaf_apart b leaf) ∙ leaf_without (h.cell b) leaf) had
-      | inr has ↦ leaf_some b leaf (free b has).0
-    ])
 
     -- a pointed block of the file is one of the directory
     pointed_cell : (x b n level first : ℕ) → part_at k x ≡ Some (Pointed b n level first) → cells x ≡ kc x
@@ -317,10 +361,6 @@ module _ (h : Holding) (t : IsTable h) (blocks : ℕ) (bytes : List ℕ) (is : S
 
     -- ---- how many blocks it has
 
-    itself_some : (c : Option Cell) → cell_part c ≡ Some Itself → IsSome c
-    itself_some None e = no_part Itself e
-    itself_some (Some c) e = refl
-
     -- a block of either is a leaf, or one of the file
     one_more : (b : ℕ) → one_if (is_some (cells b)) ≡ one_if (is_some (kc b)) + one_if (is_leaf_part (part_at h b))
     one_more b = elim (cases_Bool (is_leaf_part (part_at h b))) [
@@ -345,26 +385,6 @@ module _ (h : Holding) (t : IsTable h) (blocks : ℕ) (bytes : List ℕ) (is : S
         some_leaf : (c : Option Cell) → is_leaf_part (cell_part c) ≡ true → is_some c ≡ true
         some_leaf None leaf = truth false leaf refl
         some_leaf (Some c) leaf = refl
-
-    one_was : (b : ℕ) → one_if (is_some (h.cell b)) ≡ one_if (is_some (file_cells h bytes b)) + one_if (is_leaf_part (part_at h b))
-    one_was b = elim (cases_eq b h.own) [
-      | inl same ↦
-          let here : one_if (is_some (h.cell b)) ≡ 1 = ap (λ x. one_if (is_some (h.cell x))) same ∙ ap one_if (itself_some (h.cell h.own) t.placed.own) in
-          let there : one_if (is_some (file_cells h bytes b)) ≡ 1 = ap (λ x. one_if (is_some (file_cells h bytes x))) same ∙ ap (λ c. one_if (is_some c)) (cell_own h t blocks bytes is) in
-          let none : one_if (is_leaf_part (part_at h b)) ≡ 0 = ap (λ x. one_if (is_leaf_part (part_at h x))) same ∙ ap one_if own_no_leaf in
-          omega (arith, here, there, none)
-      | inr other ↦
-          let there : one_if (is_some (file_cells h bytes b)) ≡ one_if (is_some (without_leaf (h.cell b))) = ap (λ c. one_if (is_some c)) (cell_other h t blocks bytes is b other) in
-          omega (arith, there, split (h.cell b))
-    ]
-      where
-        split : (c : Option Cell) → one_if (is_some c) ≡ one_if (is_some (without_leaf c)) + one_if (is_leaf_part (cell_part c))
-        split None = refl
-        split (Some c) = by (is_leaf_part (Some c.part)) refl
-          where
-            by : (q : Bool) → is_leaf_part (Some c.part) ≡ q → 1 ≡ one_if (is_some (if is_leaf_part (Some c.part) then None else Some c)) + one_if (is_leaf_part (Some c.part))
-            by true e = sym (ap₂ (λ (c' : Option Cell) q. one_if (is_some c') + one_if q) (cond-true (is_leaf_part (Some c.part)) None (Some c) e) e)
-            by false e = sym (ap₂ (λ (c' : Option Cell) q. one_if (is_some c') + one_if q) (cond-false (is_leaf_part (Some c.part)) None (Some c) e) e)
 
     block_count_g : block_count g ≡ block_count h + length taken
     unfolding block_count
@@ -508,6 +528,8 @@ module _ (h : Holding) (t : IsTable h) (blocks : ℕ) (bytes : List ℕ) (is : S
 
     pub is_doubled : IsDoubled h g taken
     is_doubled = record {
+      own = refl;
+      size = refl;
       sound = sound_g;
       placed = placed_g;
       dinode = dinode_g ∙ ap (λ n. doubled_dinode h n (length taken)) (sym height_g);

@@ -76,6 +76,15 @@ more_pieces n m each some less = elim (cases_lt (pieces m each) (pieces n each))
 
 -- ---- counts
 
+-- no more pass than there are
+pub count_most : (p : ℕ → Bool) (a n : ℕ) → count_by p (range_with_len a n) ≤ n
+count_most p a zero = omega arith
+count_most p a (suc n) = let rest = count_most p (a + 1) n in let one = at_most (p a) in omega (arith, step_of p a n, rest, one)
+  where
+    at_most : (b : Bool) → one_if b ≤ 1
+    at_most true = omega arith
+    at_most false = omega arith
+
 -- a test that passes what one of two passes that don't pass the same
 pub count_both : (p q r : ℕ → Bool) (a n : ℕ) → ((x : ℕ) → one_if (r x) ≡ one_if (p x) + one_if (q x)) → count_by r (range_with_len a n) ≡ count_by p (range_with_len a n) + count_by q (range_with_len a n)
 count_both p q r a zero is = refl

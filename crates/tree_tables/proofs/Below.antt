@@ -6,7 +6,7 @@ use Rattle.gfs2_layout.specs.Device.{IsBlockSize}
 use Rattle.gfs2_layout.specs.Holding.{Holding, Pointed, bytes_at, part_at}
 use Rattle.gfs2_layout.specs.Inode.{HasTree, IsPointed, Leads, by_block, by_dinode, content_block, dinode_in, fan, from_block, from_dinode, has_hash_flag, header_length, height_in, is_directory_in, is_hashed_in, pointer, span, unit}
 use Rattle.gfs2_layout.specs.Structures.{dinode_length, is_regular}
-use Rattle.glock_names.specs.Steps.{TellsOf}
+use Rattle.glock_names.specs.Steps.{IsDamage, TellsOf}
 use Rattle.glock_names.specs.Views.{Seen, HasBlock}
 use Rattle.glock_names.specs.declared.steps.CallFault.{CallFault}
 use Rattle.glock_names.specs.declared.steps.CallFault.TheVariants.{Damaged, NoMemory}
@@ -36,6 +36,10 @@ hashed_no_file h hashed = directory_no_file h (hashed_directory h hashed)
 pub table_tells : (h : Holding) (fault : CallFault) → TellsOf (inode_rules.IsBroken h) fault → TellsOf (IsTableBroken h) fault
 table_tells h (Damaged block rule) broken = of_inode rule block broken
 table_tells h NoMemory broken = broken
+
+pub damage_tells : (P : ℕ → ℕ → Type 0) (fault : CallFault) → IsDamage P fault → TellsOf P fault
+damage_tells P (Damaged block rule) is = is
+damage_tells P NoMemory is = tt
 
 -- ---- blocks that are asked for
 

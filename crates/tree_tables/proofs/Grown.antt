@@ -1,5 +1,5 @@
 -- A draft in which a directory's table was written as a file, and the directory that its blocks make.
-use Rattle.std.proofs.Common.{◌≡◌, ◌≢◌, ◌⊎◌, ℕ, zero, suc, ◌+◌, ◌-◌, ◌*◌, ◌/◌, ◌^◌, ◌<◌, ◌≤◌, inl, inr, Bool, true, false, List, [], ◌∷◌, ◌++◌, length, take, drop, get_or, Option, None, Some, Ok, refl, sym, ap, ap₂, ◌∙◌, subst, arith}
+use Rattle.std.proofs.Common.{◌≡◌, ◌≢◌, ◌⊎◌, ℕ, zero, suc, ◌+◌, ◌-◌, ◌*◌, ◌/◌, ◌%◌, ◌^◌, ◌<◌, ◌≤◌, inl, inr, Bool, true, false, List, [], ◌∷◌, ◌++◌, length, take, drop, get_or, Option, None, Some, Ok, refl, sym, ap, ap₂, ◌∙◌, subst, arith}
 use Rattle.std.specs.Prelude.{◌==◌, ◌&&◌, Contains, IsSome, count_by, if◌then◌else◌}
 use Rattle.std.specs.Cmp.{nat_cmp_total}
 use Rattle.std.specs.FinMap.{FinMap, empty, entries, get, get-empty, insert, nat_cmp-IsAntisymmetric}
@@ -15,7 +15,7 @@ use Rattle.drafts.specs.declared.fate.Fate.TheVariants.{Put, Freed}
 use Rattle.gfs2_layout.specs.Device.{IsBlockSize}
 use Rattle.gfs2_layout.specs.Headers.{HasHeader}
 use Rattle.gfs2_layout.specs.Holding.{Cell, Holding, Part, Itself, Pointed, cell_bytes, cell_part, part_at, bytes_at}
-use Rattle.gfs2_layout.specs.Inode.{block_count, content_count, dinode_in, has_hash_flag, height_in, is_directory_in, is_hashed_in, is_leaf_part, table_count}
+use Rattle.gfs2_layout.specs.Inode.{block_count, content_count, dinode_in, has_hash_flag, height_in, is_directory_in, is_hashed_in, is_leaf_part, pieces, table_count}
 use Rattle.gfs2_layout.specs.Structures.{dinode_length, dinode_of, dinode_read, header_fault, is_directory}
 use Rattle.gfs2_layout.specs.Writing.{dinode_put}
 use Rattle.gfs2_layout.specs.declared.dinode.Dinode.{Dinode}
@@ -34,9 +34,10 @@ use Rattle.growth_drafts.specs.Taken.{AreFreeFor, DraftsFile, IsLeft, IsPutFor}
 use Rattle.file_growth.specs.Written.{CanWrite, HasWritten, IsWritten}
 use Rattle.pointer_tables.specs.Directories.{IsPlaced, IsTreeSound}
 use Rattle.pointer_tables.specs.Tables.{CanDouble, doubling_need, table_blocks, table_height, tree_blocks, without_leaf}
-use Rattle.table_files.specs.Files.{SaysInstead, directory_cells, doubled_dinode, file_cells, file_dinode, own_cell, table_bytes}
-use Rattle.table_files.proofs.Back.{bytes_own_g, cell_k, cell_leaf, cell_own_g, clear_g, dinode_g, directory_of, file_k, grows, has_taken, headers_kept, height_k, is_doubled, leaf_gone, pads_kept, raw_long}
-use Rattle.table_files.proofs.TableFiles.{IsTable, can_write, cell_back, cell_other, count_is, file_of, is_file, needed_file, own_bytes, own_part, shown_file}
+use Rattle.table_files.specs.Files.{AreDoubledPointers, AreHeadersOf, SaysInstead, directory_cells, doubled_dinode, file_cells, file_dinode, own_cell, table_bytes}
+use Rattle.table_files.proofs.Back.{blocks_fit, bytes_own_g, cell_k, cell_leaf, cell_own_g, clear_g, dinode_g, directory_of, file_k, grows, has_taken, headers_kept, height_k, is_doubled, leaf_gone, pads_kept}
+use Rattle.table_files.proofs.TableBytes.{table_long}
+use Rattle.table_files.proofs.TableFiles.{IsTable, can_write, cell_back, cell_other, count_is, file_of, is_file, large, needed_file, own_bytes, own_part, shown_file}
 use Rattle.tree_tables.specs.Doubling.{AreDoubledBlocks, IsDoubledTable}
 use Rattle.tree_tables.specs.Pointers.{IsTableOf}
 use Rattle.tree_tables.specs.declared.tree_table.TreeTable.{TreeTable}
@@ -55,19 +56,6 @@ says_instead h d d' old bytes was same put read behind whole =
       whole = whole;
       behind = behind ∙ ap (drop dinode_length) (sym was);
     }
-
--- a directory has no more blocks than the image
-count_most : (p : ℕ → Bool) (a n : ℕ) → count_by p (range_with_len a n) ≤ n
-count_most p a zero = omega arith
-count_most p a (suc n) = let rest = count_most p (a + 1) n in let one = at_most (p a) in omega (arith, step_of p a n, rest, one)
-  where
-    at_most : (b : Bool) → one_if b ≤ 1
-    at_most true = omega arith
-    at_most false = omega arith
-
-pub blocks_most : (h : Holding) → block_count h ≤ h.count
-unfolding block_count
-blocks_most h = count_most _ 0 h.count
 
 -- the table of a directory that can be doubled
 pub table_is : (t : TreeTable) (v : Seen) (h : Holding) (room : List ℕ) → IsTableOf t v h → IsBlockSize v.size → CanDouble h room → IsTable h
@@ -115,6 +103,17 @@ doubled_is_said h table d size depth height more same size_is depth_is height_is
     ∙ ap (λ n. record (dinode_in h) { depth = (dinode_in h).depth + 1; size = 2 * n; height = table_height h.size (height_in h) (2 * table_count h); blocks = (dinode_in h).blocks + doubling_need h.size (height_in h) (table_count h) }) (sym table.size)
     ∙ ap (λ n. record (dinode_in h) { depth = (dinode_in h).depth + 1; size = 2 * (dinode_in h).size; height = n; blocks = (dinode_in h).blocks + doubling_need h.size (height_in h) (table_count h) }) (sym height_is)
     ∙ ap (λ n. doubled_dinode h height n) (sym more_is)
+
+-- the blocks of the doubled table, one behind another
+pub raw_size : (h : Holding) → IsTable h → (headers pointers : List ℕ) → AreHeadersOf h headers → AreDoubledPointers h pointers → length (table_bytes h.size headers pointers) ≡ table_blocks h.size (2 * table_count h) * h.size
+raw_size h table headers pointers heads twice = table_long h.size (large h table) headers pointers (whole (height_in h) refl) ∙ ap (λ n. pieces n (h.size - 24) * h.size) twice.long
+  where
+    times : (n : ℕ) → n * 24 % 24 ≡ 0
+    times n = omega arith
+
+    whole : (n : ℕ) → height_in h ≡ n → length headers % 24 ≡ 0
+    whole zero none = ap (λ (xs : List ℕ). length xs % 24) (heads.none none)
+    whole (suc level) high = ap (λ n. n % 24) (heads.long level high) ∙ times (content_count h)
 
 -- ---- drafts with one block more
 
@@ -168,11 +167,15 @@ module _ (h : Holding) (table : IsTable h) (bytes : List ℕ) (is : SaysInstead 
 
   pub taken_is : length written.taken ≡ doubling_need h.size (height_in h) (table_count h)
   taken_is =
-      let long : length raw ≡ table_blocks h.size (2 * table_count h) * h.size = ap length raw_is ∙ raw_long h table (file_blocks h) bytes is refl doubled.headers doubled.pointers doubled.heads doubled.twice kc written.taken written_k free_taken in
+      let long : length raw ≡ table_blocks h.size (2 * table_count h) * h.size = ap length raw_is ∙ raw_size h table doubled.headers doubled.pointers doubled.heads doubled.twice in
       written.as_many ∙ ap (needed f 0) long ∙ needed_file h table (file_blocks h) bytes is refl
 
   pub height_is : height_in (with_cells h kc) ≡ table_height h.size (height_in h) (2 * table_count h)
   height_is = height_k h table (file_blocks h) bytes is refl doubled.headers doubled.pointers doubled.heads doubled.twice kc written.taken written_k free_taken
+
+  -- the blocks that it has and those that it takes are all of the image
+  pub block_sum : block_count h + length written.taken ≤ h.count
+  block_sum = blocks_fit h table (file_blocks h) bytes is refl doubled.headers doubled.pointers doubled.heads doubled.twice kc written.taken written_k free_taken
 
   module _ (own : List ℕ) (says : SaysInstead (with_cells h kc) (doubled_dinode h (height_in (with_cells h kc)) (length written.taken)) own) (f3 : FinMap nat_cmp Fate)
       (here : get f3 h.own ≡ Some (Put (inode_lock h.own) false own)) (other_fates : (b : ℕ) → b ≢ h.own → get f3 b ≡ get f2 b) (ws : List Written) (finished : ws ≡ blocks_in (entries f3)) where
@@ -186,7 +189,7 @@ module _ (h : Holding) (table : IsTable h) (bytes : List ℕ) (is : SaysInstead 
     cells_leaf = cell_leaf h table (file_blocks h) bytes is refl doubled.headers doubled.pointers doubled.heads doubled.twice kc written.taken written_k free_taken own says
 
     gone : (b : ℕ) → is_leaf_part (part_at h b) ≡ true → kc b ≡ None
-    gone = leaf_gone h table (file_blocks h) bytes is refl doubled.headers doubled.pointers doubled.heads doubled.twice kc written.taken written_k free_taken own says
+    gone = leaf_gone h table (file_blocks h) bytes is refl doubled.headers doubled.pointers doubled.heads doubled.twice kc written.taken written_k free_taken
 
     bytes_g : bytes_at g h.own ≡ own
     bytes_g = bytes_own_g h table (file_blocks h) bytes is refl doubled.headers doubled.pointers doubled.heads doubled.twice kc written.taken written_k free_taken own says
@@ -223,8 +226,6 @@ module _ (h : Holding) (table : IsTable h) (bytes : List ℕ) (is : SaysInstead 
     are_doubled = record {
       g = g;
       taken = written.taken;
-      own = refl;
-      size = refl;
       hashed = ap (λ (d : Dinode). is_directory d && has_hash_flag d) dinode_is ∙ hashed;
       doubled = is_doubled h table (file_blocks h) bytes is refl doubled.headers doubled.pointers doubled.heads doubled.twice kc written.taken written_k free_taken own says;
       has = has_taken h table (file_blocks h) bytes is refl doubled.headers doubled.pointers doubled.heads doubled.twice kc written.taken written_k free_taken own says;

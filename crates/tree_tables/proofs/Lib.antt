@@ -11,3 +11,5 @@ pub mod Lists
 pub mod Below
 pub mod Doubles
 pub mod Grown
+pub mod Whole
+pub mod Committed

@@ -31,8 +31,6 @@ pub record IsDoubledTable (h : Holding) (bytes : List ℕ) : Type 0 where
 pub record AreDoubledBlocks (h : Holding) (room left : List ℕ) (ws : List Written) : Type 0 where
   pub g : Holding
   pub taken : List ℕ
-  pub own : g.own ≡ h.own
-  pub size : g.size ≡ h.size
   pub hashed : is_hashed_in g ≡ true
   pub doubled : IsDoubled h g taken
   pub has : HasTaken h g taken

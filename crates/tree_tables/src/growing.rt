@@ -118,11 +118,20 @@ pub(crate) fn doubled_blocks<V: View>(
 {
     let size = view.block_size() as usize;
     let mut draft = Draft::new(alloc, view);
-    put_dinode(&mut draft, table.directory, &file_of(dinode, size, table.depth))?;
-    if !write_table(alloc, &mut draft, table.directory, bytes, room)? {
+    let file = file_of(dinode, size, table.depth);
+    let as_file = put_dinode(&mut draft, table.directory, &file)?;
+    if !as_file {
         return Ok(None);
     }
-    put_dinode(&mut draft, table.directory, &doubled_of(dinode, size, table.depth))?;
+    let written = write_table(alloc, &mut draft, table.directory, bytes, room)?;
+    if !written {
+        return Ok(None);
+    }
+    let doubled = doubled_of(dinode, size, table.depth);
+    let as_directory = put_dinode(&mut draft, table.directory, &doubled)?;
+    if !as_directory {
+        return Ok(None);
+    }
     let change = draft.finish()?;
     if !are_whole(&change.blocks, size) {
         return Ok(None);

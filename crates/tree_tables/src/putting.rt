@@ -1,5 +1,5 @@
 // What is put into a draft: pointers of one block, a dinode, and blocks that were put into another draft.
-ghost use Rattle.std.specs.Prelude.{ℕ, List, ◌≡◌, ◌↔◌, ◌+◌, ◌*◌, ◌≤◌, false, Some, Contains, IsTrue, Ok, OnOk, OnErr, length, drop};
+ghost use Rattle.std.specs.Prelude.{ℕ, List, ◌≡◌, ◌↔◌, ◌+◌, ◌*◌, ◌≤◌, false, true, Some, Contains, IfOk, IsTrue, Ok, OnOk, OnErr, length, drop};
 ghost use Rattle.std.specs.FinMap.{insert as with_fate};
 ghost use Rattle.drafts.specs.declared.fate.Fate.TheVariants.{Put};
 ghost use Rattle.drafts.specs.Fates.{seen_in};
@@ -41,25 +41,26 @@ pub(crate) fn put_pointers<V: View>(
     draft.put(lock_of(directory), block, false, &bytes)
 }
 
-/// Puts a dinode into its block, which the draft sees. It costs two copies of the block.
+/// Puts a dinode into its block; false where the draft doesn't see that. It costs two copies of the block.
 pub(crate) fn put_dinode<V: View>(
     draft: &mut Draft<'_, V>,
     inode: u64,
     dinode: &Dinode,
-) -> Result<(), NoMemory>
-    requires there { HasBlock (seen_in V.seen draft.old) inode }
-    requires room { dinode_length ≤ (V.seen draft.old.view).size }
+) -> Result<bool, NoMemory>
+    requires { dinode_length ≤ (V.seen draft.old.view).size }
     ensures put { (bytes : List ℕ) → (seen_in V.seen draft.old).block_at inode ≡ Some bytes
-        → OnOk result (draft.new ≡ record draft.old { fates = with_fate draft.old.fates inode (Put (inode_lock inode) false (dinode_put dinode.now bytes)) }) }
-    ensures read { (bytes : List ℕ) → (seen_in V.seen draft.old).block_at inode ≡ Some bytes → OnOk result (dinode_read (dinode_put dinode.now bytes) ≡ Ok dinode.now) }
-    ensures behind { (bytes : List ℕ) → (seen_in V.seen draft.old).block_at inode ≡ Some bytes → OnOk result (drop dinode_length (dinode_put dinode.now bytes) ≡ drop dinode_length bytes) }
-    ensures whole { (bytes : List ℕ) → (seen_in V.seen draft.old).block_at inode ≡ Some bytes → OnOk result (length (dinode_put dinode.now bytes) ≡ (V.seen draft.old.view).size) }
+        → IfOk result (λ done. (done ≡ true) × (draft.new ≡ record draft.old { fates = with_fate draft.old.fates inode (Put (inode_lock inode) false (dinode_put dinode.now bytes)) })) }
+    ensures read { (bytes : List ℕ) → (seen_in V.seen draft.old).block_at inode ≡ Some bytes → IfOk result (λ done. dinode_read (dinode_put dinode.now bytes) ≡ Ok dinode.now) }
+    ensures behind { (bytes : List ℕ) → (seen_in V.seen draft.old).block_at inode ≡ Some bytes → IfOk result (λ done. drop dinode_length (dinode_put dinode.now bytes) ≡ drop dinode_length bytes) }
+    ensures whole { (bytes : List ℕ) → (seen_in V.seen draft.old).block_at inode ≡ Some bytes → IfOk result (λ done. length (dinode_put dinode.now bytes) ≡ (V.seen draft.old.view).size) }
+    ensures view { draft.new.view ≡ draft.old.view }
 {
     let Some(mut bytes) = draft.copy(inode)? else {
-        unreachable!()
+        return Ok(false);
     };
     dinode.write(&mut bytes);
-    draft.put(lock_of(inode), inode, false, &bytes)
+    draft.put(lock_of(inode), inode, false, &bytes)?;
+    Ok(true)
 }
 
 /// Whether each of these blocks has so many bytes.

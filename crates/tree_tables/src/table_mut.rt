@@ -35,6 +35,7 @@ impl PointerTableMut for TreeTable {
         draft: &mut Draft<'_, V>,
         room: &mut VecDeque<u64>,
     ) -> Result<Step<bool>, CallFault> {
+        let _size = draft.block_size();
         let dinode = match read_dinode(&*draft, self.directory)? {
             Step::Is(dinode) => dinode,
             Step::NeedBlock(missing) => return Ok(Step::NeedBlock(missing)),
