@@ -38,5 +38,5 @@ returns-clause-doubled g c = λ h table can.
     let made = c.in_ok-blocks.ensures.doubled h table dinode (subst (IsDoubledTable h) (sym c.deref.ensures.value) doubled) below (subst (CanDouble h) (sym same) can) in
     let all = subst (λ xs. AreDoubledBlocks h xs c.doubled_blocks.new.room.items c.in-Some.blocks.items) same (some_at _ _ _ c.in-Some.is made) in
     let put = c.in_ok-put_blocks.ensures.put ∙ ap (λ xs. record c.args.draft.now { fates = with_blocks (inode_lock c.args.self.now.directory) xs c.args.draft.now.fates }) c.deref-2.ensures.value in
-    let size = c.block_size.ensures.view.block_size in
+    let size = c.block_size-size.ensures.view.block_size in
     (refl, (all.g, table_after h _ _ _ all g.V.View.seen c.args.draft.now c.put_blocks.new.draft c.args.self.now table size put _ refl refl, takes_doubled h _ _ _ all g.V.View.seen c.args.draft.now c.put_blocks.new.draft c.args.self.now table size put))
