@@ -40,7 +40,8 @@ use Rattle.table_files.proofs.ContentParts.{content_part, whole_by_parts}
 use Rattle.table_files.proofs.Entries.{entry_in_block, fits_block, within}
 use Rattle.table_files.proofs.Pieces.{count_both, count_most, piece_begins, begins_piece, whole_pieces}
 use Rattle.table_files.proofs.TableBytes.{all_over, block_clear, block_has_header, block_header, block_long, block_pointer, front_header, header_front, new_header, same_piece, table_long, zeros_no_header}
-use Rattle.table_files.proofs.TableFiles.{IsTable, block_count_file, cell_back, cell_other, cell_own, cell_pointed, content_same, count_high, count_is, count_more, counted_file, dinode_file, file_of, full, height_file, height_for_file, inside_file, is_file, large, leads_alike, leaf_without, needed_file, no_hole, own_bytes, own_part, size_more, stays_leafless, table_file, unit_is}
+use Rattle.table_files.specs.Laws.{IsTable}
+use Rattle.table_files.proofs.TableFiles.{block_count_file, cell_back, cell_other, cell_own, cell_pointed, content_same, count_high, count_is, count_more, counted_file, dinode_file, file_of, full, height_file, height_for_file, inside_file, is_file, large, leads_alike, leaf_without, needed_file, no_hole, own_bytes, own_part, size_more, stays_leafless, table_file, unit_is}
 
 module _ (h : Holding) (t : IsTable h) (blocks : ℕ) (bytes : List ℕ) (is : SaysInstead h (file_dinode h blocks) bytes)
     (counts : blocks ≡ 1 + tree_blocks h.size (height_in h) (table_blocks h.size (table_count h)))

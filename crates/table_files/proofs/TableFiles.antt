@@ -27,6 +27,7 @@ use Rattle.file_growth.proofs.Writes.{long_content}
 use Rattle.pointer_tables.specs.Directories.{EachPointerLeads, IsPlaced, IsTreeSound}
 use Rattle.pointer_tables.specs.Tables.{CanDouble, IsTableFile, doubling_need, table_blocks, table_height, tree_blocks, without_leaf}
 use Rattle.table_files.specs.Files.{SaysInstead, file_cells, file_dinode, own_cell}
+use Rattle.table_files.specs.Laws.{IsTable}
 use Rattle.table_files.proofs.Alike.{LeadAlike, content_block_alike, tree_alike}
 use Rattle.table_files.proofs.ContentParts.{whole_by_parts}
 use Rattle.table_files.proofs.Entries.{entry_in_hole}
@@ -69,15 +70,6 @@ whole_words size (inl e) = subst (λ s. s - 24 ≡ 8 * ((s - 24) / 8)) (sym e) r
 whole_words size (inr (inl e)) = subst (λ s. s - 24 ≡ 8 * ((s - 24) / 8)) (sym e) refl
 whole_words size (inr (inr (inl e))) = subst (λ s. s - 24 ≡ 8 * ((s - 24) / 8)) (sym e) refl
 whole_words size (inr (inr (inr e))) = subst (λ s. s - 24 ≡ 8 * ((s - 24) / 8)) (sym e) refl
-
--- A directory whose size is that of its table.
-pub record IsTable (h : Holding) : Type 0 where
-  pub block_size : IsBlockSize h.size
-  pub directory : is_directory_in h ≡ true
-  pub size : (dinode_in h).size ≡ 8 * table_count h
-  pub sound : IsTreeSound h
-  pub placed : IsPlaced h
-  pub leads : EachPointerLeads h
 
 module _ (h : Holding) (t : IsTable h) where
   pub large : 512 ≤ h.size

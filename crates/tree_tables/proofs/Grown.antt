@@ -37,7 +37,8 @@ use Rattle.pointer_tables.specs.Tables.{CanDouble, doubling_need, table_blocks, 
 use Rattle.table_files.specs.Files.{AreDoubledPointers, AreHeadersOf, SaysInstead, directory_cells, doubled_dinode, file_cells, file_dinode, own_cell, table_bytes}
 use Rattle.table_files.proofs.Back.{blocks_fit, bytes_own_g, cell_k, cell_leaf, cell_own_g, clear_g, dinode_g, directory_of, file_k, grows, has_taken, headers_kept, height_k, is_doubled, leaf_gone, pads_kept}
 use Rattle.table_files.proofs.TableBytes.{table_long}
-use Rattle.table_files.proofs.TableFiles.{IsTable, can_write, cell_back, cell_other, count_is, file_of, is_file, large, needed_file, own_bytes, own_part, shown_file}
+use Rattle.table_files.specs.Laws.{IsTable}
+use Rattle.table_files.proofs.TableFiles.{can_write, cell_back, cell_other, count_is, file_of, is_file, large, needed_file, own_bytes, own_part, shown_file}
 use Rattle.tree_tables.specs.Doubling.{AreDoubledBlocks, IsDoubledTable}
 use Rattle.tree_tables.specs.Pointers.{IsTableOf}
 use Rattle.tree_tables.specs.declared.tree_table.TreeTable.{TreeTable}

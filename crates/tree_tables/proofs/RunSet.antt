@@ -83,17 +83,20 @@ module _ {V : Type 0} (seen : V → Seen) (before after : Drafted V) (t : TreeTa
 
     all_set : KeepsWays h k → ((hash place : ℕ) → part_at h run.block ≡ Some (InChain hash place) → ⊥)
         → ((i : ℕ) → 8 * i + 8 ≤ (dinode_in h).size → entry h' i ≡ (if is_within index run.count i then leaf else entry h i)) → IsSetKept seen before after t h index run.count leaf
-    all_set keeps no_leaf entries = ((
-      table_after (seen_in seen before) (seen_in seen after) t.directory h run.block old new run.start run.count leaf table.shown step there sound t refl table large keeps,
-      record {
-        sound = λ s. sound_after h k keeps s;
-        placed = λ p. placed_after h k keeps p;
-        dinode = keeps.dinode;
-        entries = λ i low. entries i (omega (arith, table.size, ap (λ n. 2 ^ n) table.depth, low));
-        stays = leaves_stay (seen_in seen before) (seen_in seen after) t.directory h run.block old new run.start run.count leaf table.shown step there sound no_leaf;
-      },
-      drafted,
-    ), content_block_after h k keeps sound.tree large)
+    all_set keeps no_leaf entries = (
+      (
+        table_after (seen_in seen before) (seen_in seen after) t.directory h run.block old new run.start run.count leaf table.shown step there sound t refl table large keeps,
+        record {
+          sound = λ s. sound_after h k keeps s;
+          placed = λ p. placed_after h k keeps p;
+          dinode = keeps.dinode;
+          entries = λ i low. entries i (omega (arith, table.size, ap (λ n. 2 ^ n) table.depth, low));
+          stays = leaves_stay (seen_in seen before) (seen_in seen after) t.directory h run.block old new run.start run.count leaf table.shown step there sound no_leaf;
+        },
+        drafted,
+      ),
+      content_block_after h k keeps sound.tree large,
+    )
 
   itself_no_leaf : {hash place : ℕ} → Some Itself ≡ Some (InChain hash place) → ⊥
   itself_no_leaf e = cc

@@ -44,17 +44,20 @@ shown_alone v a h shown = λ t. record h { cell = λ b. over_same (v.block_at b)
 
 pub none_set_in : {V : Type 0} (seen : V → Seen) (old : Drafted V) (t : TreeTable) (h : Holding) (from leaf : ℕ) → IsTableOf t (seen_in seen old) h → IsSetKept seen old old t h from 0 leaf
 none_set_in {V} seen old t h from leaf table =
-    subst (λ x. (IsTableOf t (seen_in seen old) x × HasPointersSet h x from 0 leaf × DraftsDirectory old.fates old.fates h x) × KeepsContentBlocks h x) (sym (shown_alone (seen_in seen old) t.directory h table.shown)) ((
-      table,
-      record {
-        sound = λ s. s;
-        placed = λ p. p;
-        dinode = refl;
-        entries = λ i low. choose from 0 i leaf (entry h i) (entry h i) (λ more less. absurd (omega (arith, more, less))) (λ apart. refl);
-        stays = record { leaves = λ x hash place at. refl; parts = λ x hash place at. at };
-      },
-      record { own = λ b some. inl (refl, refl); others = λ b none. refl },
-    ), λ level high i low. refl)
+    subst (λ x. (IsTableOf t (seen_in seen old) x × HasPointersSet h x from 0 leaf × DraftsDirectory old.fates old.fates h x) × KeepsContentBlocks h x) (sym (shown_alone (seen_in seen old) t.directory h table.shown)) (
+      (
+        table,
+        record {
+          sound = λ s. s;
+          placed = λ p. p;
+          dinode = refl;
+          entries = λ i low. choose from 0 i leaf (entry h i) (entry h i) (λ more less. absurd (omega (arith, more, less))) (λ apart. refl);
+          stays = record { leaves = λ x hash place at. refl; parts = λ x hash place at. at };
+        },
+        record { own = λ b some. inl (refl, refl); others = λ b none. refl },
+      ),
+      λ level high i low. refl,
+    )
 
 -- ---- one run more
 

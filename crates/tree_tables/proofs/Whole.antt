@@ -23,7 +23,8 @@ use Rattle.growth_drafts.specs.Taken.{IsLeft, IsPutFor}
 use Rattle.file_growth.specs.Written.{CanWrite, HasWritten}
 use Rattle.pointer_tables.specs.Tables.{CanDouble, doubling_need, table_blocks, table_height}
 use Rattle.table_files.specs.Files.{SaysInstead, doubled_dinode, file_cells, file_dinode, table_bytes}
-use Rattle.table_files.proofs.TableFiles.{IsTable, can_write, cell_own, file_of, shown_file}
+use Rattle.table_files.specs.Laws.{IsTable}
+use Rattle.table_files.proofs.TableFiles.{can_write, cell_own, file_of, shown_file}
 use Rattle.tree_tables.specs.Doubling.{AreDoubledBlocks, IsDoubledTable}
 use Rattle.tree_tables.specs.Pointers.{IsTableOf}
 use Rattle.tree_tables.specs.declared.tree_table.TreeTable.{TreeTable}

@@ -42,7 +42,11 @@ fn file_of(dinode: &Dinode, size: usize, depth: u16) -> Dinode
     } }
 {
     let count = table_blocks(size, 1 << depth);
-    let long = if dinode.height == 0 { 0 } else { count * size as u64 };
+    let long = if dinode.height == 0 {
+        0
+    } else {
+        count * size as u64
+    };
     Dinode {
         mode: 33188,
         nlink: 1,
