@@ -4,8 +4,9 @@ use drafts::Draft;
 use file_tree::Name;
 use glock_names::{CallFault, Entry, Group, LockName, Missing, State, Step, View};
 use hash_dirs::{look, names, remove};
+use pointer_tables::{Pointer, PointerTable, PointerTableMut};
 use std::alloc::{AllocError, Global};
-use std::collections::BTreeMap;
+use std::collections::{BTreeMap, VecDeque};
 use std::test::Fail;
 use tree_tables::TreeTable;
 
@@ -68,7 +69,11 @@ const DIRECTORY: [Part; 32] = [
     ),
     (60, 40, b"\x00\x00\x41\xed"),
     (60, 52, b"\x00\x00\x00\x02"),
-    (60, 56, b"\x00\x00\x00\x00\x00\x00\x01\x00"),
+    (
+        60,
+        56,
+        b"\x00\x00\x00\x00\x00\x00\x01\x00\x00\x00\x00\x00\x00\x00\x00\x04",
+    ),
     (60, 128, b"\x00\x00\x00\x02"),
     (60, 146, b"\x00\x05\x00\x00\x00\x05"),
     (61, 0, b"\x01\x16\x19\x70\x00\x00\x00\x06"),
@@ -246,5 +251,41 @@ fn names_are_listed_and_taken(rt: HostRuntime) -> Result<(), Fail> {
     );
     assert_eq!(rt; look(&draft, 60, b"beta", &TABLE), Ok(Step::Is(None)));
     assert!(rt; gives(names(a, &draft, 60, &TABLE), &[b"zeta", b"alpha"]));
+    Ok(())
+}
+
+// Where a pointer leads, and the block in which it stands.
+fn pointer(leaf: u64, from: u64) -> Result<Step<Pointer>, CallFault> {
+    Ok(Step::Is(Pointer { leaf, from }))
+}
+
+#[test]
+fn a_table_is_doubled(rt: HostRuntime) -> Result<(), Fail> {
+    let a = rt.alloc();
+    let shelf = directory(a)?;
+    let mut draft = Draft::new(a, &shelf);
+    let mut room = VecDeque::new(a);
+    room.push_back(70)?;
+    room.push_back(71)?;
+    let mut table = TABLE;
+    let done = table.double(a, &mut draft, &mut room);
+    assert_eq!(rt; done, Ok(Step::Is(true)));
+    assert_eq!(rt; table.depth, 6);
+    assert_eq!(rt; table.get(&draft, 32), pointer(62, 70));
+    assert_eq!(rt; table.get(&draft, 63), pointer(62, 71));
+    Ok(())
+}
+
+#[test]
+fn pointers_are_set(rt: HostRuntime) -> Result<(), Fail> {
+    let a = rt.alloc();
+    let shelf = directory(a)?;
+    let mut draft = Draft::new(a, &shelf);
+    let mut table = TABLE;
+    let done = table.set(a, &mut draft, 8, 8, 62);
+    assert_eq!(rt; done, Ok(Step::Is(())));
+    assert_eq!(rt; table.depth, 5);
+    assert_eq!(rt; table.get(&draft, 7), pointer(61, 60));
+    assert_eq!(rt; table.get(&draft, 8), pointer(62, 60));
     Ok(())
 }
