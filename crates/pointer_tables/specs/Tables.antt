@@ -4,8 +4,8 @@ use Rattle.std.specs.FinMap.{FinMap, get}
 use Rattle.std.specs.Ordering.{nat_cmp}
 use Rattle.drafts.specs.declared.fate.Fate.{Fate}
 use Rattle.drafts.specs.declared.fate.Fate.TheVariants.{Put}
-use Rattle.gfs2_layout.specs.Holding.{Cell, Holding, InChain, Pointed, part_at, bytes_at}
-use Rattle.gfs2_layout.specs.Inode.{block_count, content_block, content_count, dinode_in, entry, header_length, height_in, is_leaf_part, pieces, span, table_count, unit}
+use Rattle.gfs2_layout.specs.Holding.{Cell, Holding, InChain, part_at, bytes_at}
+use Rattle.gfs2_layout.specs.Inode.{block_count, content_count, dinode_in, entry, header_length, height_in, is_leaf_part, pieces, span, table_count, unit}
 use Rattle.gfs2_layout.specs.Structures.{dinode_length}
 use Rattle.gfs2_layout.specs.Writing.{header_put}
 use Rattle.dinode_tree.specs.Pads.{KeepsPads}

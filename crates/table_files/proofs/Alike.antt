@@ -8,7 +8,7 @@ use Rattle.dinode_tree.proofs.Spans.{span_some}
 use Rattle.gfs2_layout.specs.Bytes.{u64_at}
 use Rattle.gfs2_layout.specs.Headers.{HasHeader}
 use Rattle.gfs2_layout.specs.Holding.{Holding, Cell, Pointed, part_at, bytes_at}
-use Rattle.gfs2_layout.specs.Inode.{HasTree, IsChild, IsPointed, by_dinode, by_block, dinode_in, height_in, is_directory_in, header_length, fan, span, pointer, descend, content_block, content_count}
+use Rattle.gfs2_layout.specs.Inode.{HasTree, IsChild, IsPointed, by_dinode, by_block, height_in, is_directory_in, header_length, fan, span, pointer, descend, content_block, content_count}
 use Rattle.gfs2_layout.specs.Structures.{dinode_length}
 use Rattle.growth_laws.specs.Files.{with_cells}
 

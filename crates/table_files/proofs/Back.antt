@@ -1,47 +1,44 @@
 -- What the file's write has made of it is a directory again, with its leaves, whose table is twice as long.
-use Rattle.std.proofs.Common.{◌≡◌, ◌≢◌, ◌↔◌, ◌⊎◌, ℕ, zero, suc, ◌+◌, ◌-◌, ◌*◌, ◌/◌, ◌%◌, ◌^◌, ◌<◌, ◌≤◌, max, inl, inr, Bool, true, false, List, [], ◌++◌, length, take, drop, Option, None, Some, refl, sym, ap, ap₂, ◌∙◌, subst, arith, take-append-drop}
-use Rattle.std.specs.Prelude.{◌==◌, ◌&&◌, ◌||◌, Contains, IsSome, is_some, count_by, flat_map, nat_lt, replicate, if◌then◌else◌}
-use Rattle.std.specs.FinMap.{FinMap, get}
+use Rattle.std.proofs.Common.{◌≡◌, ◌≢◌, ◌⊎◌, ℕ, zero, suc, ◌+◌, ◌-◌, ◌*◌, ◌/◌, ◌%◌, ◌^◌, ◌<◌, ◌≤◌, inl, inr, Bool, true, false, List, ◌++◌, length, take, drop, Option, None, Some, refl, sym, ap, ap₂, ◌∙◌, subst, arith, take-append-drop}
+use Rattle.std.specs.Prelude.{◌==◌, ◌||◌, Contains, IsSome, is_some, flat_map, nat_lt, replicate, if◌then◌else◌}
 use Rattle.std.specs.List.{range_with_len}
-use Rattle.std.specs.Ordering.{nat_cmp}
 use Rattle.std.proofs.lemmas.Bool.{cases_Bool, cases_eq, cases_lt, cond-true, cond-false, eq-eqb, ne_eqb, lt-ltb, le-ltb}
-use Rattle.std.proofs.lemmas.List.{take_all, length-take, length-drop}
+use Rattle.std.proofs.lemmas.List.{take_all, length-take}
 use Rattle.std.proofs.lemmas.Nat.{div-add-mod'}
 use Rattle.std.proofs.Math.Nat.{mul-le-mul_right}
-use Rattle.drafts.specs.declared.fate.Fate.{Fate}
 use Rattle.gfs2_layout.specs.Bytes.{slice, u64_at}
 use Rattle.gfs2_layout.specs.Headers.{HasHeader}
 use Rattle.gfs2_layout.specs.Holding.{Cell, Holding, Part, Itself, Pointed, InChain, cell_bytes, cell_part, part_at, bytes_at}
-use Rattle.gfs2_layout.specs.Inode.{Fits, HasTree, block_count, carried, content_block, content_count, content_of, dinode_in, entry, fan, has_hash_flag, header_length, height_in, is_directory_in, is_hashed_in, is_leaf_part, pieces, span, table_count, unit}
+use Rattle.gfs2_layout.specs.Inode.{Fits, HasTree, block_count, carried, content_block, content_count, content_of, dinode_in, entry, fan, header_length, height_in, is_directory_in, is_leaf_part, pieces, span, table_count, unit}
 use Rattle.gfs2_layout.specs.Structures.{dinode_length, dinode_of, is_directory}
 use Rattle.gfs2_layout.specs.Writing.{dinode_put}
 use Rattle.gfs2_layout.specs.declared.dinode.Dinode.{Dinode}
 use Rattle.dinode_tree.specs.Pads.{KeepsPads, dinode_over}
 use Rattle.dinode_tree.proofs.Pads.{keeps_by}
 use Rattle.growth_laws.specs.Files.{IsFile, IsPlaced as StandsAt, block_on, with_cells}
-use Rattle.growth_laws.specs.Need.{height_for, needed}
+use Rattle.growth_laws.specs.Need.{height_for}
 use Rattle.growth_laws.proofs.Bytes.{pieces_length}
-use Rattle.growth_laws.proofs.Contents.{carried_block, carried_hole, carried_length, content_part as part_of_content, content_in_blocks, content_length, whole_unit}
-use Rattle.growth_laws.proofs.Counting.{count_same, one_if}
+use Rattle.growth_laws.proofs.Contents.{carried_block, carried_hole, carried_length, content_part as part_of_content, content_in_blocks, whole_unit}
+use Rattle.growth_laws.proofs.Counting.{one_if}
 use Rattle.growth_laws.proofs.Numbers.{numbers_behind_are_the_same}
-use Rattle.growth_laws.proofs.Parts.{not_itself, some_part}
-use Rattle.growth_laws.proofs.Places.{cancelled, content_is_level_zero, place_of_part}
+use Rattle.growth_laws.proofs.Parts.{not_itself}
+use Rattle.growth_laws.proofs.Places.{content_is_level_zero, place_of_part}
 use Rattle.growth_laws.proofs.Trees.{part_within}
-use Rattle.growth_drafts.specs.Taken.{AreFreeFor, DraftsFile, HasTaken, IsCounted, IsLeft, IsPutFor}
+use Rattle.growth_drafts.specs.Taken.{HasTaken}
 use Rattle.file_fills.specs.Headers.{HaveSamePads}
 use Rattle.file_fills.proofs.Headers.{put_over}
 use Rattle.file_heights.specs.Sized.{dinode_as}
 use Rattle.file_growth.specs.Written.{IsWritten, size_with}
 use Rattle.pointer_tables.specs.Directories.{IsPlaced, IsTreeSound}
-use Rattle.pointer_tables.specs.Tables.{GrowsAsFile, IsClearBehind, IsDoubled, IsTableFile, KeepsTableHeaders, LeavesStay, doubling_need, table_blocks, table_header, table_height, tree_blocks, without_leaf}
+use Rattle.pointer_tables.specs.Tables.{GrowsAsFile, IsClearBehind, IsDoubled, IsTableFile, KeepsTableHeaders, LeavesStay, table_blocks, table_header, table_height, tree_blocks, without_leaf}
 use Rattle.table_files.specs.Files.{AreDoubledPointers, AreHeadersOf, SaysInstead, directory_cells, doubled_dinode, file_cells, file_dinode, header_at, own_cell, table_block, table_bytes}
 use Rattle.table_files.proofs.Alike.{LeadAlike, content_block_alike, tree_alike}
 use Rattle.table_files.proofs.ContentParts.{content_part, whole_by_parts}
 use Rattle.table_files.proofs.Entries.{entry_in_block, fits_block, within}
-use Rattle.table_files.proofs.Pieces.{count_both, count_most, piece_begins, begins_piece, whole_pieces}
-use Rattle.table_files.proofs.TableBytes.{all_over, block_clear, block_has_header, block_header, block_long, block_pointer, front_header, header_front, new_header, same_piece, table_long, zeros_no_header}
+use Rattle.table_files.proofs.Pieces.{count_both, count_most, begins_piece, whole_pieces}
+use Rattle.table_files.proofs.TableBytes.{all_over, block_clear, block_has_header, block_header, block_long, block_pointer, front_header, new_header, same_piece, table_long, zeros_no_header}
 use Rattle.table_files.specs.Laws.{IsTable}
-use Rattle.table_files.proofs.TableFiles.{block_count_file, cell_back, cell_other, cell_own, cell_pointed, content_same, count_high, count_is, count_more, counted_file, dinode_file, file_of, full, height_file, height_for_file, inside_file, is_file, large, leads_alike, leaf_without, needed_file, no_hole, own_bytes, own_part, size_more, stays_leafless, table_file, unit_is}
+use Rattle.table_files.proofs.TableFiles.{cell_other, cell_own, content_same, count_high, counted_file, dinode_file, file_of, full, height_file, height_for_file, inside_file, is_file, large, leads_alike, leaf_without, no_hole, size_more, table_file}
 
 module _ (h : Holding) (t : IsTable h) (blocks : ℕ) (bytes : List ℕ) (is : SaysInstead h (file_dinode h blocks) bytes)
     (counts : blocks ≡ 1 + tree_blocks h.size (height_in h) (table_blocks h.size (table_count h)))

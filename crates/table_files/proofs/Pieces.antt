@@ -1,11 +1,11 @@
 -- How many pieces it takes, and counts of numbers that pass a test.
-use Rattle.std.proofs.Common.{◌≡◌, ◌≢◌, ◌↔◌, ◌⊎◌, ℕ, zero, suc, ◌+◌, ◌-◌, ◌*◌, ◌/◌, ◌<◌, ◌≤◌, inl, inr, Bool, true, false, not, refl, sym, ap, ◌∙◌, subst, arith}
+use Rattle.std.proofs.Common.{◌≡◌, ◌≢◌, ℕ, zero, suc, ◌+◌, ◌-◌, ◌*◌, ◌/◌, ◌<◌, ◌≤◌, inl, inr, Bool, true, false, not, refl, sym, ap, ◌∙◌, subst, arith}
 use Rattle.std.specs.Prelude.{◌==◌, ◌&&◌, count_by}
 use Rattle.std.specs.List.{range_with_len}
 use Rattle.std.proofs.lemmas.Bool.{cases_Bool, cases_eq, cases_lt, eq-eqb, ne_eqb}
 use Rattle.std.proofs.Math.Nat.{div-lt_iff_lt-mul, mul-le-mul_right, one-le-mul}
 use Rattle.gfs2_layout.specs.Inode.{pieces}
-use Rattle.growth_laws.proofs.Counting.{count_more, count_same, one_if, step_of}
+use Rattle.growth_laws.proofs.Counting.{count_more, one_if, step_of}
 use Rattle.file_fills.proofs.Counted.{count_none}
 
 -- ---- pieces

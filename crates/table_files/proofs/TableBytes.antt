@@ -1,14 +1,12 @@
 -- The bytes of table blocks: their headers, their pointers, and what stands behind these.
-use Rattle.std.proofs.Common.{◌≡◌, ◌≢◌, ℕ, zero, suc, ◌+◌, ◌-◌, ◌*◌, ◌/◌, ◌%◌, ◌<◌, ◌≤◌, min, inl, inr, Bool, true, false, List, ◌++◌, length, take, drop, get_or, refl, sym, ap, ap₂, ◌∙◌, subst, arith}
-use Rattle.std.specs.Prelude.{replicate, flat_map, nat_lt, if◌then◌else◌}
-use Rattle.std.specs.Int.{Width, w16, w32, w64, byte_len, from_be_bytes}
+use Rattle.std.proofs.Common.{◌≡◌, ℕ, ◌+◌, ◌-◌, ◌*◌, ◌%◌, ◌<◌, ◌≤◌, inl, inr, List, ◌++◌, length, take, drop, get_or, refl, sym, ap, ap₂, ◌∙◌, arith}
+use Rattle.std.specs.Prelude.{replicate, flat_map, nat_lt}
+use Rattle.std.specs.Int.{Width, w32, byte_len, from_be_bytes}
 use Rattle.std.specs.List.{range_with_len}
-use Rattle.std.proofs.lemmas.Bool.{cases_Bool, cases_lt, cond-true, cond-false, lt-ltb, le-ltb}
+use Rattle.std.proofs.lemmas.Bool.{cases_lt, cond-true, cond-false, lt-ltb, le-ltb}
 use Rattle.std.proofs.lemmas.List.{append_assoc, drop-append-le, take-append-le, drop_at, get_or-take, get_or-drop, get_or_past, length-append, length-drop, length-take, length-replicate, take_all}
-use Rattle.std.proofs.lemmas.Nat.{div-add-mod'}
 use Rattle.gfs2_layout.specs.Bytes.{number_at, slice, u32_at, u64_at, with_number}
 use Rattle.gfs2_layout.specs.Fields.{with_fields}
-use Rattle.gfs2_layout.specs.Device.{IsBlockSize}
 use Rattle.gfs2_layout.specs.Headers.{HasHeader}
 use Rattle.gfs2_layout.specs.Inode.{header_length, pieces}
 use Rattle.dinode_tree.proofs.Ranges.{range_of_piece}

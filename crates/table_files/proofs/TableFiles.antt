@@ -1,12 +1,12 @@
 -- A directory without its leaves is a file of whole blocks without holes.
-use Rattle.std.proofs.Common.{◌≡◌, ◌≢◌, ◌⊎◌, ℕ, zero, suc, ◌+◌, ◌-◌, ◌*◌, ◌/◌, ◌%◌, ◌^◌, ◌<◌, ◌≤◌, inl, inr, Bool, true, false, List, length, drop, Option, None, Some, refl, sym, ap, ap₂, ◌∙◌, subst, arith}
+use Rattle.std.proofs.Common.{◌≡◌, ◌≢◌, ℕ, zero, suc, ◌+◌, ◌-◌, ◌*◌, ◌/◌, ◌^◌, ◌<◌, ◌≤◌, inl, inr, Bool, true, false, List, length, drop, Option, None, Some, refl, sym, ap, ap₂, ◌∙◌, subst, arith}
 use Rattle.std.specs.Prelude.{◌==◌, IsSome, if◌then◌else◌}
 use Rattle.std.proofs.lemmas.Bool.{cases_eq, cond-true, cond-false, eq-eqb, ne_eqb}
 use Rattle.std.proofs.Math.Nat.{mul-div_cancel, mul-le-mul_right}
 use Rattle.gfs2_layout.specs.Device.{IsBlockSize}
 use Rattle.gfs2_layout.specs.Headers.{HasHeader}
 use Rattle.gfs2_layout.specs.Holding.{Cell, Holding, Part, Itself, Pointed, InChain, cell_bytes, cell_part, part_at, bytes_at}
-use Rattle.gfs2_layout.specs.Inode.{Fits, block_count, content_block, content_count, content_of, dinode_in, entry, fan, header_length, height_in, is_directory_in, is_leaf_part, pieces, span, table_count, unit}
+use Rattle.gfs2_layout.specs.Inode.{Fits, block_count, content_block, content_count, content_of, dinode_in, fan, header_length, height_in, is_directory_in, is_leaf_part, pieces, span, table_count, unit}
 use Rattle.gfs2_layout.specs.Structures.{dinode_length, dinode_of, is_regular}
 use Rattle.gfs2_layout.specs.declared.dinode.Dinode.{Dinode}
 use Rattle.glock_names.specs.Views.{Seen}
@@ -24,7 +24,6 @@ use Rattle.file_fills.specs.Headers.{HaveSamePads}
 use Rattle.file_fills.proofs.Headers.{put_over}
 use Rattle.file_growth.specs.Written.{CanWrite}
 use Rattle.file_growth.proofs.Writes.{long_content}
-use Rattle.pointer_tables.specs.Directories.{EachPointerLeads, IsPlaced, IsTreeSound}
 use Rattle.pointer_tables.specs.Tables.{CanDouble, IsTableFile, doubling_need, table_blocks, table_height, tree_blocks, without_leaf}
 use Rattle.table_files.specs.Files.{SaysInstead, file_cells, file_dinode, own_cell}
 use Rattle.table_files.specs.Laws.{IsTable}
