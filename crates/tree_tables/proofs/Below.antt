@@ -1,10 +1,10 @@
 -- What is read of a directory before its table is doubled, and what isn't missing then.
-use Rattle.std.proofs.Common.{◌≡◌, ◌≢◌, ℕ, zero, suc, ◌+◌, ◌-◌, ◌*◌, ◌/◌, ◌%◌, ◌^◌, ◌<◌, ◌≤◌, inl, inr, Bool, true, false, List, length, Option, None, Some, refl, sym, ap, ◌∙◌, subst, arith}
-use Rattle.std.specs.Prelude.{◌==◌, ◌&&◌, IsSome, Contains}
+use Rattle.std.proofs.Common.{◌≡◌, ◌≢◌, ℕ, zero, suc, ◌+◌, ◌-◌, ◌*◌, ◌/◌, ◌^◌, ◌<◌, ◌≤◌, inl, inr, Bool, true, false, List, Option, None, Some, refl, sym, ap, ◌∙◌, subst, arith}
+use Rattle.std.specs.Prelude.{◌==◌, ◌&&◌}
 use Rattle.std.proofs.Math.Nat.{mul-div_cancel}
 use Rattle.gfs2_layout.specs.Device.{IsBlockSize}
 use Rattle.gfs2_layout.specs.Holding.{Holding, Pointed, bytes_at, part_at}
-use Rattle.gfs2_layout.specs.Inode.{HasTree, IsPointed, Leads, by_block, by_dinode, content_block, dinode_in, fan, from_block, from_dinode, has_hash_flag, header_length, height_in, is_directory_in, is_hashed_in, pointer, span, unit}
+use Rattle.gfs2_layout.specs.Inode.{HasTree, IsPointed, Leads, by_block, by_dinode, content_block, dinode_in, from_block, from_dinode, has_hash_flag, height_in, is_directory_in, is_hashed_in, pointer, unit}
 use Rattle.gfs2_layout.specs.Structures.{dinode_length, is_regular}
 use Rattle.glock_names.specs.Steps.{IsDamage, TellsOf}
 use Rattle.glock_names.specs.Views.{Seen, HasBlock}

@@ -1,10 +1,10 @@
 -- Blocks of one draft that are put into another.
-use Rattle.std.proofs.Common.{◌≡◌, ◌≢◌, ◌⊎◌, ℕ, zero, suc, ◌+◌, ◌*◌, ◌/◌, ◌^◌, ◌<◌, ◌≤◌, inl, inr, Bool, true, false, cond, T, List, [], ◌∷◌, length, get_or, Option, None, Some, refl, sym, ap, ap₂, ◌∙◌, subst, arith}
+use Rattle.std.proofs.Common.{◌≡◌, ◌≢◌, ◌⊎◌, ℕ, zero, suc, ◌+◌, ◌*◌, ◌/◌, ◌^◌, ◌<◌, inl, inr, Bool, true, false, cond, T, List, [], ◌∷◌, length, Option, None, Some, refl, sym, ap, ap₂, ◌∙◌, subst, arith}
 use Rattle.std.specs.Prelude.{◌&&◌, Contains, IsSome, IsSomeAnd}
 use Rattle.std.specs.Cmp.{nat_cmp_total, ranks}
 use Rattle.std.specs.FinMap.{FinMap, entries, entries_sorted, find, get, get-entries, insert, is_sorted, nat_cmp-IsAntisymmetric}
 use Rattle.std.specs.FinMap.Entries.{below_all}
-use Rattle.std.specs.Ordering.{eq_by_cmp, is_lt, nat_cmp, MatchOrdering}
+use Rattle.std.specs.Ordering.{is_lt, nat_cmp, MatchOrdering}
 use Rattle.std.specs.declared.cmp.Ordering.{Ordering}
 use Rattle.std.specs.declared.cmp.Ordering.TheVariants.{Less, Equal, Greater}
 use Rattle.std.proofs.lemmas.Bool.{cases_eq}
@@ -14,15 +14,15 @@ use Rattle.drafts.specs.declared.change.Written.{Written}
 use Rattle.drafts.specs.declared.fate.Fate.{Fate}
 use Rattle.drafts.specs.declared.fate.Fate.TheVariants.{Put, Freed}
 use Rattle.gfs2_layout.specs.Device.{IsBlockSize}
-use Rattle.gfs2_layout.specs.Holding.{Cell, Holding, Itself, Part, cell_part, part_at, bytes_at}
-use Rattle.gfs2_layout.specs.Inode.{dinode_in, is_hashed_in, table_count}
+use Rattle.gfs2_layout.specs.Holding.{Cell, Holding, Itself, Part, cell_part, bytes_at}
+use Rattle.gfs2_layout.specs.Inode.{dinode_in}
 use Rattle.gfs2_layout.specs.declared.dinode.Dinode.{Dinode}
 use Rattle.glock_names.specs.Views.{Seen}
 use Rattle.glock_names.specs.declared.LockName.{LockName}
 use Rattle.dinode_tree.specs.Reading.{inode_lock}
 use Rattle.dinode_tree.specs.Shown as inode
 use Rattle.dinode_tree.proofs.Sound.{is_there, part_of_led, size_large}
-use Rattle.pointer_tables.specs.Tables.{CanDouble, DraftsDirectory, TakesDoubled}
+use Rattle.pointer_tables.specs.Tables.{DraftsDirectory, TakesDoubled}
 use Rattle.table_files.proofs.ContentParts.{whole_by_parts}
 use Rattle.tree_tables.specs.Doubling.{AreDoubledBlocks, with_blocks}
 use Rattle.tree_tables.specs.Pointers.{IsTableOf}

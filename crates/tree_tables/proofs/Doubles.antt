@@ -1,7 +1,5 @@
 -- The bytes of a table that is twice as long, as they are read and put together.
-use Rattle.std.proofs.Common.{◌≡◌, ℕ, zero, suc, ◌+◌, ◌-◌, ◌*◌, ◌/◌, ◌^◌, ◌<◌, ◌≤◌, min, List, length, take, drop, refl, sym, ap, ◌∙◌, subst, arith}
-use Rattle.std.proofs.Math.Nat.{one-le-mul}
-use Rattle.file_tree.specs.Apply.{file_limit}
+use Rattle.std.proofs.Common.{◌≡◌, ℕ, zero, suc, ◌+◌, ◌-◌, ◌*◌, ◌/◌, ◌^◌, ◌<◌, ◌≤◌, min, List, length, take, drop, refl, ap, ◌∙◌, arith}
 use Rattle.gfs2_layout.specs.Bytes.{u64_at}
 use Rattle.gfs2_layout.specs.Holding.{Holding}
 use Rattle.gfs2_layout.specs.Inode.{content_of, dinode_in, entry, pieces, table_count}

@@ -1,6 +1,6 @@
 -- The pointer that was read, of a directory and of the view alone.
-use Rattle.std.proofs.Common.{◌≡◌, ◌≢◌, ℕ, suc, ◌+◌, ◌-◌, ◌*◌, ◌/◌, ◌%◌, ◌^◌, ◌<◌, ◌≤◌, inl, inr, Bool, true, false, List, None, Some, Result, Ok, Err, refl, sym, ap, ◌∙◌, subst, arith}
-use Rattle.std.specs.Prelude.{◌==◌, IsSome, nat_lt, option_map, if◌then◌else◌}
+use Rattle.std.proofs.Common.{◌≡◌, ◌≢◌, ℕ, suc, ◌+◌, ◌-◌, ◌*◌, ◌/◌, ◌%◌, ◌^◌, ◌<◌, ◌≤◌, inl, inr, true, false, List, None, Some, Result, Ok, Err, refl, sym, ap, ◌∙◌, subst, arith}
+use Rattle.std.specs.Prelude.{◌==◌, IsSome, nat_lt, option_map}
 use Rattle.std.proofs.lemmas.Bool.{cases_Bool, cases_eq, cond-true, cond-false, eq-eqb, ne_eqb, eqb-true, lt-ltb}
 use Rattle.gfs2_layout.specs.Bytes.{u64_at}
 use Rattle.gfs2_layout.specs.Device.{IsBlockSize}
@@ -8,7 +8,7 @@ use Rattle.gfs2_layout.specs.Headers.{HasHeader}
 use Rattle.gfs2_layout.specs.Holding.{Holding, bytes_at}
 use Rattle.gfs2_layout.specs.Inode.{Fits, Leads, content_block, dinode_in, entry, entry_block, header_length, height_in, is_directory_in, has_hash_flag, unit}
 use Rattle.gfs2_layout.specs.Structures.{dinode_length, file_type, is_regular}
-use Rattle.image_model.proofs.Held.{none_some, some_same}
+use Rattle.image_model.proofs.Held.{none_some}
 use Rattle.image_model.proofs.Rows.{and_left}
 use Rattle.glock_names.specs.Steps.{IfIs, IfNeedBlock, IsDamage, OnlyDamaged}
 use Rattle.glock_names.specs.Views.{Seen, HasBlock}

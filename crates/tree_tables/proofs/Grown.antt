@@ -1,21 +1,19 @@
 -- A draft in which a directory's table was written as a file, and the directory that its blocks make.
-use Rattle.std.proofs.Common.{◌≡◌, ◌≢◌, ◌⊎◌, ℕ, zero, suc, ◌+◌, ◌-◌, ◌*◌, ◌/◌, ◌%◌, ◌^◌, ◌<◌, ◌≤◌, inl, inr, Bool, true, false, List, [], ◌∷◌, ◌++◌, length, take, drop, get_or, Option, None, Some, Ok, refl, sym, ap, ap₂, ◌∙◌, subst, arith}
-use Rattle.std.specs.Prelude.{◌==◌, ◌&&◌, Contains, IsSome, count_by, if◌then◌else◌}
+use Rattle.std.proofs.Common.{◌≡◌, ◌≢◌, ℕ, zero, suc, ◌+◌, ◌-◌, ◌*◌, ◌%◌, ◌^◌, ◌<◌, ◌≤◌, inl, inr, Bool, true, false, List, [], length, drop, Option, None, Some, Ok, refl, sym, ap, ap₂, ◌∙◌, subst, arith}
+use Rattle.std.specs.Prelude.{◌==◌, ◌&&◌, Contains, IsSome, if◌then◌else◌}
 use Rattle.std.specs.Cmp.{nat_cmp_total}
-use Rattle.std.specs.FinMap.{FinMap, empty, entries, get, get-empty, insert, nat_cmp-IsAntisymmetric}
-use Rattle.std.specs.List.{range_with_len}
+use Rattle.std.specs.FinMap.{FinMap, entries, get, insert, nat_cmp-IsAntisymmetric}
 use Rattle.std.specs.Ordering.{nat_cmp}
 use Rattle.std.proofs.lemmas.Bool.{cases_Bool, cases_eq}
 use Rattle.std.proofs.lemmas.List.Elements.{Contains-append_left}
 use Rattle.finite_maps.proofs.Keys.{inserted_at, inserted_apart}
-use Rattle.drafts.specs.Fates.{Drafted, block_with, blocks_in, seen_in, seen_with}
+use Rattle.drafts.specs.Fates.{Drafted, block_with, blocks_in, seen_in}
 use Rattle.drafts.specs.declared.change.Written.{Written}
 use Rattle.drafts.specs.declared.fate.Fate.{Fate}
-use Rattle.drafts.specs.declared.fate.Fate.TheVariants.{Put, Freed}
+use Rattle.drafts.specs.declared.fate.Fate.TheVariants.{Put}
 use Rattle.gfs2_layout.specs.Device.{IsBlockSize}
-use Rattle.gfs2_layout.specs.Headers.{HasHeader}
-use Rattle.gfs2_layout.specs.Holding.{Cell, Holding, Part, Itself, Pointed, cell_bytes, cell_part, part_at, bytes_at}
-use Rattle.gfs2_layout.specs.Inode.{block_count, content_count, dinode_in, has_hash_flag, height_in, is_directory_in, is_hashed_in, is_leaf_part, pieces, table_count}
+use Rattle.gfs2_layout.specs.Holding.{Cell, Holding, Pointed, cell_bytes, part_at, bytes_at}
+use Rattle.gfs2_layout.specs.Inode.{block_count, content_count, dinode_in, has_hash_flag, height_in, is_hashed_in, is_leaf_part, pieces, table_count}
 use Rattle.gfs2_layout.specs.Structures.{dinode_length, dinode_of, dinode_read, header_fault, is_directory}
 use Rattle.gfs2_layout.specs.Writing.{dinode_put}
 use Rattle.gfs2_layout.specs.declared.dinode.Dinode.{Dinode}
@@ -24,21 +22,18 @@ use Rattle.glock_names.specs.Views.{Seen, HasBlock}
 use Rattle.glock_names.specs.declared.LockName.{LockName}
 use Rattle.dinode_tree.specs.Below.{IsBelow}
 use Rattle.dinode_tree.specs.Reading.{inode_lock}
-use Rattle.dinode_tree.specs.Shown as inode
 use Rattle.dinode_tree.proofs.Sound.{part_of_led}
 use Rattle.growth_laws.specs.Files.{with_cells}
 use Rattle.growth_laws.specs.Need.{needed}
-use Rattle.growth_laws.proofs.Counting.{one_if, step_of}
 use Rattle.growth_laws.proofs.Parts.{not_itself}
-use Rattle.growth_drafts.specs.Taken.{AreFreeFor, DraftsFile, IsLeft, IsPutFor}
-use Rattle.file_growth.specs.Written.{CanWrite, HasWritten, IsWritten}
-use Rattle.pointer_tables.specs.Directories.{IsPlaced, IsTreeSound}
+use Rattle.growth_drafts.specs.Taken.{DraftsFile}
+use Rattle.file_growth.specs.Written.{HasWritten, IsWritten}
 use Rattle.pointer_tables.specs.Tables.{CanDouble, doubling_need, table_blocks, table_height, tree_blocks, without_leaf}
-use Rattle.table_files.specs.Files.{AreDoubledPointers, AreHeadersOf, SaysInstead, directory_cells, doubled_dinode, file_cells, file_dinode, own_cell, table_bytes}
-use Rattle.table_files.proofs.Back.{blocks_fit, bytes_own_g, cell_k, cell_leaf, cell_own_g, clear_g, dinode_g, directory_of, file_k, grows, has_taken, headers_kept, height_k, is_doubled, leaf_gone, pads_kept}
+use Rattle.table_files.specs.Files.{AreDoubledPointers, AreHeadersOf, SaysInstead, doubled_dinode, file_cells, file_dinode, own_cell, table_bytes}
+use Rattle.table_files.proofs.Back.{blocks_fit, bytes_own_g, cell_k, cell_leaf, cell_own_g, clear_g, dinode_g, directory_of, grows, has_taken, headers_kept, height_k, is_doubled, leaf_gone, pads_kept}
 use Rattle.table_files.proofs.TableBytes.{table_long}
 use Rattle.table_files.specs.Laws.{IsTable}
-use Rattle.table_files.proofs.TableFiles.{can_write, cell_back, cell_other, count_is, file_of, is_file, large, needed_file, own_bytes, own_part, shown_file}
+use Rattle.table_files.proofs.TableFiles.{cell_back, cell_other, count_is, file_of, is_file, large, needed_file, own_part}
 use Rattle.tree_tables.specs.Doubling.{AreDoubledBlocks, IsDoubledTable}
 use Rattle.tree_tables.specs.Pointers.{IsTableOf}
 use Rattle.tree_tables.specs.declared.tree_table.TreeTable.{TreeTable}

@@ -1,15 +1,13 @@
 -- The draft in which a table is doubled, step by step.
-use Rattle.std.proofs.Common.{◌≡◌, ◌≢◌, ◌⊎◌, ℕ, suc, ◌+◌, ◌-◌, ◌*◌, ◌/◌, ◌^◌, ◌<◌, ◌≤◌, inl, inr, Bool, true, false, List, [], ◌∷◌, ◌++◌, length, get_or, drop, Option, None, Some, Ok, refl, sym, ap, ap₂, ◌∙◌, subst, arith}
-use Rattle.std.specs.Prelude.{Contains, IsSome}
-use Rattle.std.specs.FinMap.{FinMap, empty, entries, entries_sorted, get, get-empty, insert}
+use Rattle.std.proofs.Common.{◌≡◌, ◌≢◌, ◌⊎◌, ℕ, ◌+◌, ◌*◌, ◌^◌, ◌<◌, inl, inr, false, List, length, drop, None, Some, Ok, refl, sym, ap, ap₂, ◌∙◌, subst, arith}
+use Rattle.std.specs.Prelude.{IsSome}
+use Rattle.std.specs.FinMap.{empty, entries, get, get-empty, insert}
 use Rattle.std.specs.Ordering.{nat_cmp}
-use Rattle.std.proofs.lemmas.Bool.{cases_eq}
 use Rattle.drafts.specs.Fates.{Drafted, block_with, blocks_in, seen_in}
 use Rattle.drafts.specs.declared.change.Written.{Written}
-use Rattle.drafts.specs.declared.fate.Fate.{Fate}
 use Rattle.drafts.specs.declared.fate.Fate.TheVariants.{Put}
 use Rattle.gfs2_layout.specs.Device.{IsBlockSize}
-use Rattle.gfs2_layout.specs.Holding.{Cell, Holding, bytes_at}
+use Rattle.gfs2_layout.specs.Holding.{Holding, bytes_at}
 use Rattle.gfs2_layout.specs.Inode.{block_count, dinode_in, height_in, table_count}
 use Rattle.gfs2_layout.specs.Structures.{dinode_length, dinode_read}
 use Rattle.gfs2_layout.specs.Writing.{dinode_put}
@@ -22,7 +20,7 @@ use Rattle.growth_laws.specs.Files.{with_cells}
 use Rattle.growth_drafts.specs.Taken.{IsLeft, IsPutFor}
 use Rattle.file_growth.specs.Written.{CanWrite, HasWritten}
 use Rattle.pointer_tables.specs.Tables.{CanDouble, doubling_need, table_blocks, table_height}
-use Rattle.table_files.specs.Files.{SaysInstead, doubled_dinode, file_cells, file_dinode, table_bytes}
+use Rattle.table_files.specs.Files.{SaysInstead, doubled_dinode, file_dinode}
 use Rattle.table_files.specs.Laws.{IsTable}
 use Rattle.table_files.proofs.TableFiles.{can_write, cell_own, file_of, shown_file}
 use Rattle.tree_tables.specs.Doubling.{AreDoubledBlocks, IsDoubledTable}

@@ -1,4 +1,4 @@
-use Rattle.std.proofs.Common.{ℕ, suc, ◌≡◌, ◌≢◌, ◌+◌, ◌-◌, ◌*◌, ◌/◌, ◌%◌, ◌^◌, ◌<◌, ◌≤◌, Option, None, Some, length, sym, ap, ◌∙◌, subst, arith}
+use Rattle.std.proofs.Common.{ℕ, suc, ◌≡◌, ◌-◌, ◌*◌, ◌/◌, ◌^◌, ◌<◌, Option, None, sym, ap, ◌∙◌, subst, arith}
 use Rattle.std.specs.Option.{option_map}
 use Rattle.std.specs.Prelude.{IfSome}
 use Rattle.gfs2_layout.specs.Inode.{Fits, Leads, depth_in, height_in, unit}
@@ -11,7 +11,7 @@ use Rattle.dinode_tree.specs.Broken as broken
 use Rattle.linear_dirs.proofs.Looked.{handed}
 use Rattle.pointer_tables.specs.Directories.{IsTableBroken, leads_nowhere, of_inode}
 use Rattle.tree_tables.specs.Pointers.{seen_as}
-use Rattle.tree_tables.proofs.Gets.{block_needed, needed_with, broken_so, bytes_led, found_hole, no_table_header, one_less, by_two, seen_shown, unit_carries}
+use Rattle.tree_tables.proofs.Gets.{block_needed, needed_with, broken_so, bytes_led, found_hole, no_table_header, one_less, seen_shown, unit_carries}
 use Rattle.tree_tables.proofs.Told.{table_damage, table_told}
 use Rattle.tree_tables.proofs.finding.find_run.Goals as goal
 

@@ -1,6 +1,5 @@
-use Rattle.std.proofs.Common.{◌≡◌, ◌≤◌, ap, sym, ◌∙◌, subst, arith}
+use Rattle.std.proofs.Common.{ap, sym, ◌∙◌, subst, arith}
 use Rattle.std.specs.Prelude.{Contains}
-use Rattle.drafts.specs.declared.change.Written.{Written}
 use Rattle.tree_tables.proofs.Committed.{contradict, whole_blocks}
 use Rattle.tree_tables.proofs.Whole.{below_1, can_1, doubled_at_last, file_now, fresh_seen, shown_1, there_1, there_2}
 use Rattle.tree_tables.proofs.growing.doubled_blocks.Goals as goal

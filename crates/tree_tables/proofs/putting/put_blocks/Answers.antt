@@ -1,4 +1,4 @@
-use Rattle.std.proofs.Common.{◌+◌, arith}
+use Rattle.std.proofs.Common.{arith}
 use Rattle.dinode_tree.specs.Reading.{inode_lock}
 use Rattle.tree_tables.proofs.Lists.{put_one}
 use Rattle.tree_tables.proofs.putting.put_blocks.Goals as goal

@@ -1,4 +1,4 @@
-use Rattle.std.proofs.Common.{◌≡◌, ◌-◌, ◌≤◌, length, take, ap, sym, ◌∙◌, subst, arith}
+use Rattle.std.proofs.Common.{◌≤◌, length, take, ap, sym, arith}
 use Rattle.gfs2_layout.specs.Holding.{bytes_at}
 use Rattle.gfs2_layout.specs.Inode.{content_block}
 use Rattle.glock_names.proofs.StepLaws.{answer_at, needed_at}

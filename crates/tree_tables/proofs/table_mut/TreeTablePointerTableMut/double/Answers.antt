@@ -1,13 +1,12 @@
-use Rattle.std.proofs.Common.{◌≡◌, None, Some, Option, refl, sym, ap, ◌∙◌, subst}
+use Rattle.std.proofs.Common.{◌≡◌, refl, sym, ap, ◌∙◌, subst}
 use Rattle.std.specs.List.{each_same}
-use Rattle.drafts.specs.Fates.{seen_in}
 use Rattle.dinode_tree.specs.Broken.{IsBroken}
 use Rattle.dinode_tree.specs.Reading.{inode_lock}
 use Rattle.glock_names.specs.Steps.{TellsOf}
 use Rattle.glock_names.proofs.StepLaws.{answer_at, needed_at}
 use Rattle.linear_dirs.proofs.Looked.{handed}
 use Rattle.pointer_tables.specs.Directories.{IsTableBroken}
-use Rattle.pointer_tables.specs.Tables.{CanDouble, TakesDoubled}
+use Rattle.pointer_tables.specs.Tables.{CanDouble}
 use Rattle.tree_tables.specs.Doubling.{AreDoubledBlocks, IsDoubledTable, with_blocks}
 use Rattle.tree_tables.proofs.Below.{damage_tells, table_tells}
 use Rattle.tree_tables.proofs.Committed.{none_and, some_at, table_after, takes_doubled}
