@@ -1,7 +1,7 @@
 -- What becomes of the records of an area that move, or that are halved.
 use Rattle.std.specs.Prelude.{ℕ, ◌≡◌, ◌^◌, ◌<◌, ◌≤◌, not, List, length, filter}
 use Rattle.gfs2_layout.specs.Area.{IsArea, slots_of}
-use Rattle.gfs2_layout.specs.Records.{Record, IsRecordArea, records_in}
+use Rattle.gfs2_layout.specs.Records.{IsRecordArea, records_in}
 use Rattle.leaf_areas.specs.Moving.{in_use, packed}
 use Rattle.leaf_areas.specs.Splitting.{is_lower_name, lower_half, upper_half}
 

@@ -1,3 +1,4 @@
 pub mod Moving
 pub mod Splitting
+pub mod Parts
 pub mod Laws

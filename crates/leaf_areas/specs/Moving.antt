@@ -1,5 +1,5 @@
 -- Records that move from one area to another.
-use Rattle.std.specs.Prelude.{ℕ, ◌+◌, ◌-◌, min, List, [], ◌∷◌, ◌++◌, length, replicate, filter}
+use Rattle.std.specs.Prelude.{ℕ, ◌-◌, min, List, [], ◌∷◌, ◌++◌, length, replicate, filter}
 use Rattle.gfs2_layout.specs.Area.{Slot, name_of}
 use Rattle.gfs2_layout.specs.Putting.{least_length}
 use Rattle.gfs2_layout.specs.Structures.{is_in_use}

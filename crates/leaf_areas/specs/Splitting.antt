@@ -1,5 +1,5 @@
 -- The two halves of a leaf that is split: which records go, and what stays.
-use Rattle.std.specs.Prelude.{ℕ, ◌-◌, ◌/◌, ◌%◌, ◌^◌, ◌==◌, ◌&&◌, Bool, if◌then◌else◌, List, [], ◌∷◌, ◌++◌, filter}
+use Rattle.std.specs.Prelude.{ℕ, ◌-◌, ◌/◌, ◌%◌, ◌^◌, ◌==◌, ◌&&◌, not, Bool, if◌then◌else◌, List, [], ◌∷◌, ◌++◌, filter}
 use Rattle.crc_words.specs.Remainder.{crc32_of}
 use Rattle.gfs2_layout.specs.Area.{Slot, name_of}
 use Rattle.gfs2_layout.specs.Cutting.{without}
@@ -17,6 +17,10 @@ is_lower_name depth name = bit_at depth (crc32_of name) == 0
 -- so does a record in use by its name
 abbrev pub is_lower : ℕ → Slot → Bool
 is_lower depth s = is_in_use s.head && is_lower_name depth (name_of s)
+
+-- a record in use of the upper half stays
+abbrev pub is_upper : ℕ → Slot → Bool
+is_upper depth s = is_in_use s.head && not (is_lower_name depth (name_of s))
 
 -- the lower half goes into a new leaf, whose area has so many bytes
 abbrev pub lower_half : ℕ → ℕ → List Slot → List Slot

@@ -3,6 +3,7 @@
 
 mod laws;
 mod moving;
+mod parts;
 mod splitting;
 
 pub use laws::{halves_have_the_records, moved_records_stay};
