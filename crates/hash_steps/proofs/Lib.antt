@@ -1,2 +1,4 @@
 pub mod Joins
 pub mod Sound
+pub mod Leaves
+pub mod Put

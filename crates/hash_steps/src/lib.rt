@@ -3,6 +3,8 @@
 
 ghost use Rattle.hash_steps.specs.Laws.{AddedLeavesStay, ConversionsStay, DoublingsStay, ExchangesJoin, PutsGetRecord, SplitsStay};
 
+use gfs2_layout::areas_exchange_records;
+
 /// A law: after a leaf is split the directory is sound, and has the records that it had.
 pub fn splits_stay()
     ensures { SplitsStay }
@@ -26,7 +28,9 @@ pub fn conversions_stay()
 /// A law: after a record is put into a leaf of its chain the directory is sound, and has that record more.
 pub fn puts_get_a_record()
     ensures { PutsGetRecord }
-{}
+{
+    areas_exchange_records();
+}
 
 /// A law: what goes in one step and what comes in the next went and came in both together.
 pub fn exchanges_join()
