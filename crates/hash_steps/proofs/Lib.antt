@@ -2,3 +2,4 @@ pub mod Joins
 pub mod Sound
 pub mod Leaves
 pub mod Put
+pub mod Contents
