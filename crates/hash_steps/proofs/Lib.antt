@@ -3,3 +3,4 @@ pub mod Sound
 pub mod Leaves
 pub mod Put
 pub mod Contents
+pub mod Halves
