@@ -4,3 +4,4 @@ pub mod Leaves
 pub mod Put
 pub mod Contents
 pub mod Halves
+pub mod Split
