@@ -1,7 +1,7 @@
 -- What goes and what comes, in one step after another.
 use Rattle.std.proofs.Common.{◌≡◌, ℕ, ◌+◌, ◌∙◌, List, [], ◌++◌, arith}
 use Rattle.std.specs.List.Sorted.{IsPermutation}
-use Rattle.std.proofs.lemmas.List.Sorted.{IsPermutation-append_right, IsPermutation-refl, IsPermutation-sym, IsPermutation-trans}
+use Rattle.std.proofs.lemmas.List.Sorted.{IsPermutation-append_comm, IsPermutation-append_right, IsPermutation-refl, IsPermutation-sym, IsPermutation-trans}
 use Rattle.gfs2_layout.specs.Exchanges.{IsCounted, IsExchanged}
 use Rattle.gfs2_layout.specs.Holding.{Holding}
 use Rattle.gfs2_layout.specs.Records.{Record}
@@ -33,3 +33,11 @@ joined h m g gone come one two = record {
   records = exchanged_after _ _ _ gone come one.records two.records;
   counted = counted_after _ _ _ gone come one.counted two.counted;
 }
+
+-- where some records moved from the rest of them to other ones, all are those that they were
+pub moved_over : (old rest new moved : List Record) → IsExchanged old rest moved [] → IsPermutation new (rest ++ moved) → IsPermutation old new
+moved_over old rest new moved is new_is =
+    let back = IsPermutation-sym rest is.rest is.after in
+    let old_is = IsPermutation-trans old (moved ++ is.rest) (moved ++ rest) is.before (IsPermutation-append_right moved is.rest rest back) in
+    IsPermutation-trans old (moved ++ rest) new old_is
+    (IsPermutation-trans (moved ++ rest) (rest ++ moved) new (IsPermutation-append_comm moved rest) (IsPermutation-sym new (rest ++ moved) new_is))

@@ -1,12 +1,13 @@
 -- Leaves that stay, leaves that are put, and the hashes of what a chain has.
-use Rattle.std.proofs.Common.{◌≡◌, ◌≢◌, ℕ, ◌+◌, ◌-◌, ◌*◌, ◌/◌, ◌^◌, ◌<◌, ◌≤◌, true, List, length, drop, Option, None, Some, sym, ap, ◌∙◌, subst, arith}
+use Rattle.std.proofs.Common.{◌≡◌, ◌≢◌, ℕ, ◌+◌, ◌-◌, ◌*◌, ◌/◌, ◌^◌, ◌<◌, ◌≤◌, true, List, length, drop, Option, None, Some, refl, sym, ap, ◌∙◌, subst, arith}
 use Rattle.std.specs.Prelude.{Contains, ◌==◌}
+use Rattle.std.proofs.lemmas.Bool.{true≢false}
 use Rattle.crc_words.specs.Remainder.{crc32_of}
 use Rattle.gfs2_layout.specs.Area.{Slot}
 use Rattle.gfs2_layout.specs.Bytes.{u32_at}
 use Rattle.gfs2_layout.specs.Headers.{HasHeader}
 use Rattle.gfs2_layout.specs.Holding.{Holding, Part, Itself, Pointed, InChain, part_at, bytes_at}
-use Rattle.gfs2_layout.specs.Inode.{IsHashed, IsLeaf, depth_in, entry, first_hash, index_bits, is_hashed_in, leaf_area, leaf_in, leaf_length, table_count, top_bits}
+use Rattle.gfs2_layout.specs.Inode.{IsHashed, IsLeaf, depth_in, entry, first_hash, index_bits, is_hashed_in, is_leaf_part, leaf_area, leaf_in, leaf_length, table_count, top_bits}
 use Rattle.gfs2_layout.specs.Records.{IsRecordArea, Record, records_in}
 use Rattle.gfs2_layout.specs.Structures.{leaf_of}
 use Rattle.gfs2_layout.specs.declared.leaf.Leaf.{Leaf}
@@ -35,6 +36,12 @@ itself_or_pointed b k level first e = cc
 
 pub pointed_or_chained : (b k level first hash place : ℕ) → Some (Pointed b k level first) ≡ Some (InChain hash place) → ⊥
 pointed_or_chained b k level first hash place e = cc
+
+pub in_a_chain : (o : Option Part) → is_leaf_part o ≡ true → (hash place : ℕ) × (o ≡ Some (InChain hash place))
+in_a_chain None e = absurd (true≢false (sym e))
+in_a_chain (Some Itself) e = absurd (true≢false (sym e))
+in_a_chain (Some (Pointed b k level first)) e = absurd (true≢false (sym e))
+in_a_chain (Some (InChain hash place)) e = (hash, place, refl)
 
 -- ---- leaves
 

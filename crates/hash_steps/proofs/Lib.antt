@@ -5,3 +5,4 @@ pub mod Put
 pub mod Contents
 pub mod Halves
 pub mod Split
+pub mod Parted

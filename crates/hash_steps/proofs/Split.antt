@@ -32,13 +32,13 @@ use Rattle.hash_steps.proofs.Leaves.{itself_or_chained, leaf_is, leaf_kept, none
 use Rattle.hash_steps.proofs.Sound.{directory_of, large_of}
 
 module _ (h g : Holding) (i b : ℕ) (sound : IsSound h) (hashed : is_hashed_in h ≡ true) (low : i < table_count h) (one_leaf : HasOneLeaf h i) (shallow : leaf_depth h i < depth_in h) (split : IsSplit h g i b) where
-  was : IsHashed h
+  pub was : IsHashed h
   was = rules h sound hashed
 
   table_low : depth_in h ≤ 15
   table_low = deep h sound hashed
 
-  depth_low : leaf_depth h i ≤ 15
+  pub depth_low : leaf_depth h i ≤ 15
   depth_low = let a : depth_in h ≤ 15 = table_low in let b : leaf_depth h i < depth_in h = shallow in omega (arith, a, b)
 
   -- the top bits of an index's hashes: as many as a leaf of either half is deep, and as many as the old leaf was
@@ -48,10 +48,10 @@ module _ (h g : Holding) (i b : ℕ) (sound : IsSound h) (hashed : is_hashed_in 
   abbrev pub bits : ℕ
   bits = i / 2 ^ (depth_in h - leaf_depth h i)
 
-  part_old : part_at h (entry h i) ≡ Some (InChain (first_hash h i) 0)
+  pub part_old : part_at h (entry h i) ≡ Some (InChain (first_hash h i) 0)
   part_old = was.leads i low
 
-  new_apart : (x : ℕ) (p : Part) → part_at h x ≡ Some p → x ≢ b
+  pub new_apart : (x : ℕ) (p : Part) → part_at h x ≡ Some p → x ≢ b
   new_apart x p part is = none_there p (sym (ap cell_part split.new) ∙ ap (part_at h) (sym is) ∙ part)
 
   old_apart : entry h i ≢ b
@@ -98,13 +98,13 @@ module _ (h g : Holding) (i b : ℕ) (sound : IsSound h) (hashed : is_hashed_in 
       ends : (from run whole over all j : ℕ) → j < from + run → whole ≡ run * 2 → over ≡ from + whole → over ≤ all → j < all
       ends from run whole over all j a c d e = omega arith
 
-  deep_same : depth_in g ≡ depth_in h
+  pub deep_same : depth_in g ≡ depth_in h
   deep_same = ap (λ (d : Dinode). d.depth) split.counts.dinode
 
-  tables_same : table_count g ≡ table_count h
+  pub tables_same : table_count g ≡ table_count h
   tables_same = ap (λ n. 2 ^ n) deep_same
 
-  before : (j : ℕ) → j < table_count g → j < table_count h
+  pub before : (j : ℕ) → j < table_count g → j < table_count h
   before j lowj = subst (λ n. j < n) tables_same lowj
 
   -- ---- the leaves of each half, and the others
@@ -140,12 +140,12 @@ module _ (h g : Holding) (i b : ℕ) (sound : IsSound h) (hashed : is_hashed_in 
   bits_by j k n is = λ t. k / 2 ^ (deep_same t - is t)
 
   -- a pointer of the lower half, of the upper half, or of another leaf
-  data Leading (j : ℕ) : Type 0 where
+  pub data Leading (j : ℕ) : Type 0 where
     lower : half j ≡ 2 * bits → entry g j ≡ b → Leading j
     upper : half j ≡ 2 * bits + 1 → entry h j ≡ entry h i → entry g j ≡ entry h i → Leading j
     elsewhere : half j / 2 ≢ bits → entry h j ≢ entry h i → entry g j ≡ entry h j → Leading j
 
-  leading : (j : ℕ) → j < table_count h → Leading j
+  pub leading : (j : ℕ) → j < table_count h → Leading j
   leading j lowj = elim (which_half (half j) bits) [
     | inl is ↦ lower is (lower_entry j lowj is)
     | inr rest ↦ elim rest [
@@ -177,13 +177,13 @@ module _ (h g : Holding) (i b : ℕ) (sound : IsSound h) (hashed : is_hashed_in 
   kept_first : (j : ℕ) → j < table_count h → entry h j ≢ entry h i → entry g j ≡ entry h j → first_hash g j ≡ first_hash h j
   kept_first j lowj other at = first_by j (leaf_in h (entry h j)).depth (depth_kept j lowj other at)
 
-  leads : (j : ℕ) → j < table_count h → Leading j → part_at g (entry g j) ≡ Some (InChain (first_hash g j) 0)
+  pub leads : (j : ℕ) → j < table_count h → Leading j → part_at g (entry g j) ≡ Some (InChain (first_hash g j) 0)
   leads j lowj (lower is at) = ap (part_at g) at ∙ split.new_part ∙ ap (λ n. Some (InChain n 0)) (sym (lower_first j is at))
   leads j lowj (upper is same at) = ap (part_at g) at ∙ split.old_part ∙ ap (λ n. Some (InChain n 0)) (sym (upper_first j is at))
   leads j lowj (elsewhere other apart at) =
       ap (part_at g) at ∙ split.parts (entry h j) (new_apart (entry h j) (InChain (first_hash h j) 0) (was.leads j lowj)) apart ∙ was.leads j lowj ∙ ap (λ n. Some (InChain n 0)) (sym (kept_first j lowj apart at))
 
-  runs : (j k : ℕ) → j < table_count h → k < table_count h → Leading j → index_bits g (leaf_in g (entry g j)).depth k ≡ index_bits g (leaf_in g (entry g j)).depth j → entry g k ≡ entry g j
+  pub runs : (j k : ℕ) → j < table_count h → k < table_count h → Leading j → index_bits g (leaf_in g (entry g j)).depth k ≡ index_bits g (leaf_in g (entry g j)).depth j → entry g k ≡ entry g j
   runs j k lowj lowk (lower is at) same =
       let depth : (leaf_in g (entry g j)).depth ≡ leaf_depth h i + 1 = ap (λ y. (leaf_in g y).depth) at ∙ new_depth in
       lower_entry k lowk (sym (bits_by j k (leaf_depth h i + 1) depth) ∙ same ∙ bits_by j j (leaf_depth h i + 1) depth ∙ is) ∙ sym at
@@ -208,7 +208,7 @@ module _ (h g : Holding) (i b : ℕ) (sound : IsSound h) (hashed : is_hashed_in 
 
   -- ---- chains
 
-  part_before : (x hash place : ℕ) → x ≢ b → x ≢ entry h i → part_at g x ≡ Some (InChain hash place) → part_at h x ≡ Some (InChain hash place)
+  pub part_before : (x hash place : ℕ) → x ≢ b → x ≢ entry h i → part_at g x ≡ Some (InChain hash place) → part_at h x ≡ Some (InChain hash place)
   part_before x hash place a o part = sym (split.parts x a o) ∙ part
 
   later_apart : (x hash place : ℕ) → part_at h x ≡ Some (InChain hash (suc place)) → x ≢ entry h i
@@ -217,7 +217,7 @@ module _ (h g : Holding) (i b : ℕ) (sound : IsSound h) (hashed : is_hashed_in 
       zero_later : suc place ≡ 0 → ⊥
       zero_later e = omega arith
 
-  next : (x hash place : ℕ) → part_at g x ≡ Some (InChain hash place) → (leaf_in g x).next ≢ 0 → IsNextLeaf g hash place x (leaf_in g x).next
+  pub next : (x hash place : ℕ) → part_at g x ≡ Some (InChain hash place) → (leaf_in g x).next ≢ 0 → IsNextLeaf g hash place x (leaf_in g x).next
   next x hash place part some = elim (cases_eq x b) [
     | inl is ↦ absurd (some (ap (λ y. (leaf_in g y).next) is ∙ new_next))
     | inr apart ↦ elim (cases_eq x (entry h i)) [
@@ -259,7 +259,7 @@ module _ (h g : Holding) (i b : ℕ) (sound : IsSound h) (hashed : is_hashed_in 
       over : (a r b c d e : ℕ) → 0 < r → b ≡ a + r → b ≤ c → d ≡ c → d ≤ e → a < e
       over a r b c d e p q s t u = omega arith
 
-  headed : (x hash : ℕ) → part_at g x ≡ Some (InChain hash 0) → HeadedAt x
+  pub headed : (x hash : ℕ) → part_at g x ≡ Some (InChain hash 0) → HeadedAt x
   headed x hash part = elim (cases_eq x b) [
     | inl is ↦
         let small = head_low (2 * bits) (omega arith) in
@@ -285,7 +285,7 @@ module _ (h g : Holding) (i b : ℕ) (sound : IsSound h) (hashed : is_hashed_in 
       even : (n q : ℕ) → n ≡ 2 * q → n / 2 ≡ q
       even n q e = omega arith
 
-  chained : (x hash place : ℕ) → part_at g x ≡ Some (InChain hash (suc place)) → (y : ℕ) × (part_at g y ≡ Some (InChain hash place)) × ((leaf_in g y).next ≡ x)
+  pub chained : (x hash place : ℕ) → part_at g x ≡ Some (InChain hash (suc place)) → (y : ℕ) × (part_at g y ≡ Some (InChain hash place)) × ((leaf_in g y).next ≡ x)
   chained x hash place part = elim (cases_eq x b) [
     | inl is ↦ absurd (zero_later (same_hash hash (first_hash h i) (suc place) 0 (sym part ∙ ap (part_at g) is ∙ split.new_part)).1)
     | inr apart ↦ elim (cases_eq x (entry h i)) [
