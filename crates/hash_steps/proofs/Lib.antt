@@ -6,3 +6,4 @@ pub mod Contents
 pub mod Halves
 pub mod Split
 pub mod Parted
+pub mod Doubled

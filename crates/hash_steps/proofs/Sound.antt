@@ -46,6 +46,17 @@ inode_of g tree hashed has =
       blocks = tree.blocks;
     }
 
+pub tree_of : (h : Holding) → IsInode h → IsTreeSound h
+tree_of h inode = record {
+  whole = inode.whole;
+  header = inode.header;
+  address = inode.address;
+  number = inode.number;
+  fits = inode.fits;
+  tree = inode.tree;
+  blocks = inode.blocks;
+}
+
 pub count_moved : (test : Record → Bool) (xs ys : List Record) → IsPermutation xs ys → count_by test ys ≡ count_by test xs
 count_moved test xs ys same = sum_by-IsPermutation (λ r. cond (test r) 1 0) xs ys same
 
