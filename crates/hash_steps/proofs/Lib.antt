@@ -7,3 +7,4 @@ pub mod Halves
 pub mod Split
 pub mod Parted
 pub mod Doubled
+pub mod Lengthened
