@@ -8,3 +8,4 @@ pub mod Split
 pub mod Parted
 pub mod Doubled
 pub mod Lengthened
+pub mod Converted
