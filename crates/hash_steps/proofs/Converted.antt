@@ -29,8 +29,9 @@ use Rattle.hash_dirs.proofs.Named.{records_are}
 use Rattle.hash_dirs.proofs.Permuted.{filter_none, one_more}
 use Rattle.hash_steps.specs.Laws.{Stays}
 use Rattle.hash_steps.specs.Steps.{IsConverted}
-use Rattle.hash_steps.proofs.Leaves.{in_a_chain, leaf_is}
-use Rattle.hash_steps.proofs.Sound.{stays, untabled}
+use Rattle.hash_steps.proofs.Leaves.{in_a_chain, leaf_is, no_later}
+use Rattle.hash_steps.proofs.Records.{one_leaf_more, told_at}
+use Rattle.hash_steps.proofs.Sound.{short_of, stays, untabled}
 
 -- ---- the names in an area of bytes are bytes
 
@@ -89,11 +90,8 @@ module _ (h g : Holding) (b : ℕ) (sound : IsSound h) (directory : is_directory
   new_length : length (leaf_area g b) ≡ h.size - leaf_length
   new_length = length-drop leaf_length (bytes_at g b) ∙ ap (λ n. n - leaf_length) (converted.same.tree.whole b (InChain 0 0) converted.new_part ∙ converted.same.size)
 
-  short : (n : ℕ) → IsBlockSize n → n - 104 < 2 ^ 16
-  short n is = omega arith
-
   moved : IsRecordArea (leaf_area g b) × (records_in (leaf_area g b) ≡ records_in (linear_area h))
-  moved = law (linear_area h) (leaf_area g b) was.area (omega (arith, old_length, new_length)) (subst (λ n. n < 2 ^ 16) (sym new_length) (short h.size sound.block_size))
+  moved = law (linear_area h) (leaf_area g b) was.area (omega (arith, old_length, new_length)) (subst (λ n. n < 2 ^ 16) (sym new_length) (short_of h.size sound.block_size))
       (converted.leaf.slots_are ∙ ap (λ n. packed n (in_use (slots_of (linear_area h)))) (sym new_length)) converted.leaf.filled
 
   names : AllByRecursion (λ r. AreBytes r.name) (records_in (leaf_area g b))
@@ -133,9 +131,6 @@ module _ (h g : Holding) (b : ℕ) (sound : IsSound h) (directory : is_directory
     chained = λ x hash place part. absurd (no_later place (first_part x hash (suc place) part).1);
     leaves = λ x hash place part. subst₂ (IsLeaf g) (sym (first_part x hash place part).0) (sym (only x hash place part)) leaf_well;
   }
-    where
-      no_later : (place : ℕ) → suc place ≡ 0 → ⊥
-      no_later place e = omega arith
 
   -- ---- all records
 
@@ -147,13 +142,8 @@ module _ (h g : Holding) (b : ℕ) (sound : IsSound h) (directory : is_directory
 
   all_records : IsPermutation (records_of g) (records_of h)
   all_records =
-      subst₂ IsPermutation (ap (λ n. flat_map (λ y. records_in (leaf_area g y)) (filter (λ y. is_leaf_part (part_at g y)) (range_with_len 0 n))) (sym converted.same.count) ∙ sym (records_are g converted.hashed))
-      (ap (λ ys. flat_map (λ y. records_in (leaf_area g y)) ys ++ records_in (leaf_area g b)) (filter_none (λ y. is_leaf_part (part_at h y)) (range_with_len 0 h.count) no_leaf) ∙ moved.1 ∙ sym (linear_records h linear))
-      (one_more (λ y. records_in (leaf_area g y)) (λ y. is_leaf_part (part_at h y)) (λ y. is_leaf_part (part_at g y)) b (no_leaf b) (ap is_leaf_part converted.new_part)
-      (λ y apart. ap is_leaf_part (converted.parts y apart)) 0 h.count (omega arith) (let under : b < h.count = new_inside in omega (arith, under)))
-    where
-      new_inside : b < h.count
-      new_inside = subst (λ n. b < n) converted.same.count (converted.same.placed.inside b (cell_some (g.cell b) (InChain 0 0) converted.new_part))
+      subst (IsPermutation (records_of g)) (ap (λ ys. flat_map (told_at g) ys ++ told_at g b) (filter_none (λ y. is_leaf_part (part_at h y)) (range_with_len 0 h.count) no_leaf) ∙ moved.1 ∙ sym (linear_records h linear))
+      (one_leaf_more h g b 0 0 converted.same.count converted.same.placed converted.hashed converted.new converted.new_part (λ y apart. ap is_leaf_part (converted.parts y apart)))
 
   pub converted_stays : Stays h g
   converted_stays = stays h g sound converted.same.size converted.same.tree converted.same.placed converted.hashed has directory (ap untabled converted.dinode) (IsPermutation-sym (records_of g) (records_of h) all_records)

@@ -39,6 +39,15 @@ first_bits table depth q low = ap (λ n. q * n) (half_run table depth low) ∙ t
 pub which_half : (n q : ℕ) → (n ≡ 2 * q) ⊎ ((n ≡ 2 * q + 1) ⊎ (n / 2 ≢ q))
 which_half n q = grind arith
 
+pub half_of_even : (n q : ℕ) → n ≡ 2 * q → n / 2 ≡ q
+half_of_even n q e = omega arith
+
+pub half_of_odd : (n q : ℕ) → n ≡ 2 * q + 1 → n / 2 ≡ q
+half_of_odd n q e = omega arith
+
+pub odd_apart : (n q : ℕ) → n ≡ 2 * q + 1 → n ≢ 2 * q
+odd_apart n q e f = omega arith
+
 pub within_run : (from run j bits : ℕ) → 0 < run → from ≡ bits * run → j / run ≡ bits → is_within from run j ≡ true
 within_run from run j bits some begins is =
     let back : j / run * run ≤ j = div-mul-le_self j run in

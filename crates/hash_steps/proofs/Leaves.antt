@@ -1,12 +1,12 @@
 -- Leaves that stay, leaves that are put, and the hashes of what a chain has.
-use Rattle.std.proofs.Common.{◌≡◌, ◌≢◌, ℕ, ◌+◌, ◌-◌, ◌*◌, ◌/◌, ◌^◌, ◌<◌, ◌≤◌, true, List, length, drop, Option, None, Some, refl, sym, ap, ◌∙◌, subst, arith}
-use Rattle.std.specs.Prelude.{Contains, ◌==◌}
+use Rattle.std.proofs.Common.{◌≡◌, ◌≢◌, ℕ, suc, ◌+◌, ◌-◌, ◌*◌, ◌/◌, ◌^◌, ◌<◌, ◌≤◌, true, List, length, drop, Option, None, Some, refl, sym, ap, ◌∙◌, subst, arith}
+use Rattle.std.specs.Prelude.{Contains}
 use Rattle.std.proofs.lemmas.Bool.{true≢false}
 use Rattle.crc_words.specs.Remainder.{crc32_of}
 use Rattle.gfs2_layout.specs.Area.{Slot}
 use Rattle.gfs2_layout.specs.Bytes.{u32_at}
 use Rattle.gfs2_layout.specs.Headers.{HasHeader}
-use Rattle.gfs2_layout.specs.Holding.{Holding, Part, Itself, Pointed, InChain, part_at, bytes_at}
+use Rattle.gfs2_layout.specs.Holding.{Holding, Part, Itself, Pointed, InChain, cell_part, part_at, bytes_at}
 use Rattle.gfs2_layout.specs.Inode.{IsHashed, IsLeaf, depth_in, entry, first_hash, index_bits, is_hashed_in, is_leaf_part, leaf_area, leaf_in, leaf_length, table_count, top_bits}
 use Rattle.gfs2_layout.specs.Records.{IsRecordArea, Record, records_in}
 use Rattle.gfs2_layout.specs.Structures.{leaf_of}
@@ -25,7 +25,7 @@ as_cells h g size count own = λ t. record { size = sym size t; count = sym coun
 
 -- ---- parts
 
-pub none_there : (p : Part) → ◌≡◌ {A = Option Part} None (Some p) → ⊥
+none_there : (p : Part) → ◌≡◌ {A = Option Part} None (Some p) → ⊥
 none_there p e = cc
 
 pub itself_or_chained : (hash place : ℕ) → Some Itself ≡ Some (InChain hash place) → ⊥
@@ -42,6 +42,10 @@ in_a_chain None e = absurd (true≢false (sym e))
 in_a_chain (Some Itself) e = absurd (true≢false (sym e))
 in_a_chain (Some (Pointed b k level first)) e = absurd (true≢false (sym e))
 in_a_chain (Some (InChain hash place)) e = (hash, place, refl)
+
+-- a block of the inode is none that it hadn't
+pub apart_from_new : (h : Holding) (b x : ℕ) (p : Part) → h.cell b ≡ None → part_at h x ≡ Some p → x ≢ b
+apart_from_new h b x p new part is = none_there p (sym (ap cell_part new) ∙ ap (part_at h) (sym is) ∙ part)
 
 -- ---- leaves
 
@@ -72,6 +76,10 @@ module _ (g : Holding) (x : ℕ) (over : List ℕ) (head : Leaf) (slots : List S
       }
 
 -- ---- chains
+
+-- a leaf behind another is not a first one
+pub no_later : (place : ℕ) → suc place ≡ 0 → ⊥
+no_later place e = omega arith
 
 pub chain_low : (h : Holding) (i place x : ℕ) → IsInChain h i place x → i < table_count h
 chain_low h i _ _ (chain_head low) = low

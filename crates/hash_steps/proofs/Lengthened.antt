@@ -24,7 +24,8 @@ use Rattle.hash_dirs.proofs.Permuted.{one_more}
 use Rattle.hash_steps.specs.Laws.{Stays}
 use Rattle.hash_steps.specs.Steps.{IsLengthened}
 use Rattle.hash_steps.proofs.Contents.{KeepsContent, content_same}
-use Rattle.hash_steps.proofs.Leaves.{as_cells, itself_or_chained, itself_or_pointed, leaf_is, leaf_kept, none_there, pointed_or_chained}
+use Rattle.hash_steps.proofs.Leaves.{apart_from_new, as_cells, itself_or_chained, itself_or_pointed, leaf_is, leaf_kept, pointed_or_chained}
+use Rattle.hash_steps.proofs.Records.{one_leaf_more, told_at}
 use Rattle.hash_steps.proofs.Sound.{directory_of, large_of, stays, untabled}
 
 -- ---- an area without records
@@ -50,7 +51,7 @@ module _ (h g : Holding) (i b : ℕ) (sound : IsSound h) (hashed : is_hashed_in 
   new_part = longer.new_part (first_hash h i) longer.at_place part_last
 
   new_apart : (x : ℕ) (p : Part) → part_at h x ≡ Some p → x ≢ b
-  new_apart x p part is = none_there p (sym (ap cell_part longer.new) ∙ ap (part_at h) (sym is) ∙ part)
+  new_apart x p part = apart_from_new h b x p longer.new part
 
   part_after : (x : ℕ) (p : Part) → part_at h x ≡ Some p → part_at g x ≡ Some p
   part_after x p part = longer.parts x (new_apart x p part) ∙ part
@@ -221,23 +222,18 @@ module _ (h g : Holding) (i b : ℕ) (sound : IsSound h) (hashed : is_hashed_in 
 
   -- ---- the records
 
-  records_kept : flat_map (λ y. records_in (leaf_area g y)) (leaves_of h) ≡ records_of h
-  records_kept = flat_map_same (λ y. records_in (leaf_area g y)) (λ y. records_in (leaf_area h y)) (leaves_of h) (λ y is.
+  records_kept : flat_map (told_at g) (leaves_of h) ≡ records_of h
+  records_kept = flat_map_same (told_at g) (told_at h) (leaves_of h) (λ y is.
       let at = of_leaves h sound hashed y is in
       elim (cases_eq y longer.last) [
-        | inl here ↦ ap (λ z. records_in (leaf_area g z)) here ∙ ap records_in longer.area ∙ ap (λ z. records_in (leaf_area h z)) (sym here)
+        | inl here ↦ ap (told_at g) here ∙ ap records_in longer.area ∙ ap (told_at h) (sym here)
         | inr other ↦ ap (λ bytes. records_in (drop leaf_length bytes)) (leaf_bytes y at.0 at.1 at.2 other)
       ]) ∙ sym (records_are h hashed)
 
   all_records : IsPermutation (records_of g) (records_of h)
   all_records =
-      subst₂ IsPermutation (ap (λ n. flat_map (λ y. records_in (leaf_area g y)) (filter (λ y. is_leaf_part (part_at g y)) (range_with_len 0 n))) (sym longer.same.count) ∙ sym (records_are g still_hashed))
-      (ap (λ rs. flat_map (λ y. records_in (leaf_area g y)) (leaves_of h) ++ rs) empty ∙ append-nil (flat_map (λ y. records_in (leaf_area g y)) (leaves_of h)) ∙ records_kept)
-      (one_more (λ y. records_in (leaf_area g y)) (λ y. is_leaf_part (part_at h y)) (λ y. is_leaf_part (part_at g y)) b (ap (λ c. is_leaf_part (cell_part c)) longer.new) (ap is_leaf_part new_part)
-      (λ y apart. ap is_leaf_part (longer.parts y apart)) 0 h.count (omega arith) (let under : b < h.count = new_inside in omega (arith, under)))
-    where
-      new_inside : b < h.count
-      new_inside = subst (λ n. b < n) longer.same.count (longer.same.placed.inside b (cell_some (g.cell b) (InChain (first_hash h i) (longer.at_place + 1)) new_part))
+      subst (IsPermutation (records_of g)) (ap (λ rs. flat_map (told_at g) (leaves_of h) ++ rs) empty ∙ append-nil (flat_map (told_at g) (leaves_of h)) ∙ records_kept)
+      (one_leaf_more h g b (first_hash h i) (longer.at_place + 1) longer.same.count longer.same.placed still_hashed longer.new new_part (λ y apart. ap is_leaf_part (longer.parts y apart)))
 
   pub lengthened_stays : Stays h g
   lengthened_stays = stays h g sound longer.same.size longer.same.tree longer.same.placed still_hashed has (directory_of h hashed) (ap untabled longer.counts.dinode)

@@ -1,11 +1,11 @@
 pub mod Joins
 pub mod Sound
 pub mod Leaves
-pub mod Put
+pub mod Records
 pub mod Contents
 pub mod Halves
+pub mod Put
 pub mod Split
-pub mod Parted
-pub mod Doubled
 pub mod Lengthened
+pub mod Doubled
 pub mod Converted

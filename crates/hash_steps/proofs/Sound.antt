@@ -1,5 +1,5 @@
 -- A hashed directory with a sound tree whose leaves keep their rules, and which has the records of one that was sound, is sound.
-use Rattle.std.proofs.Common.{◌≡◌, ◌≢◌, ℕ, ◌+◌, ◌<◌, ◌≤◌, inl, true, false, Bool, List, [], ◌∷◌, ◌++◌, sym, ap, ◌∙◌, subst, cond, arith}
+use Rattle.std.proofs.Common.{◌≡◌, ◌≢◌, ℕ, ◌+◌, ◌-◌, ◌^◌, ◌<◌, ◌≤◌, inl, true, false, Bool, List, [], ◌∷◌, ◌++◌, sym, ap, ◌∙◌, subst, cond, arith}
 use Rattle.std.specs.Prelude.{count_by}
 use Rattle.std.specs.List.Sorted.{IsPermutation}
 use Rattle.std.specs.Str.{bytes_eq}
@@ -27,6 +27,10 @@ directory_of g hashed = and_left (is_directory_in g) (has_hash_flag (dinode_in g
 
 pub large_of : (n : ℕ) → IsBlockSize n → 512 ≤ n
 large_of n is = omega arith
+
+-- a leaf's area is shorter than a record's length can tell
+pub short_of : (n : ℕ) → IsBlockSize n → n - 104 < 2 ^ 16
+short_of n is = omega arith
 
 pub inode_of : (g : Holding) → IsTreeSound g → is_hashed_in g ≡ true → IsHashed g → IsInode g
 inode_of g tree hashed has =

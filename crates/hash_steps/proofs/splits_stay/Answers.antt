@@ -1,4 +1,4 @@
-use Rattle.hash_steps.proofs.Parted.{split_stays}
+use Rattle.hash_steps.proofs.Split.{split_stays}
 use Rattle.hash_steps.proofs.splits_stay.Goals as goal
 
 pub returns : goal.returns
