@@ -1,0 +1,11 @@
+pub mod Joins
+pub mod Sound
+pub mod Leaves
+pub mod Records
+pub mod Contents
+pub mod Halves
+pub mod Put
+pub mod Split
+pub mod Lengthened
+pub mod Doubled
+pub mod Converted

@@ -1,6 +1,7 @@
 -- What becomes of a hashed directory, step by step: a leaf is split, a leaf is added behind a chain, a record is put into a leaf; and a linear directory
 -- becomes a hashed one.
 use Rattle.std.specs.Prelude.{ℕ, ◌≡◌, ◌≢◌, ◌⊎◌, ◌+◌, ◌-◌, ◌*◌, ◌/◌, ◌<◌, ◌≤◌, true, false, if◌then◌else◌, List, [], ◌∷◌, length, drop, filter, not, ◌&&◌, Some, None}
+use Rattle.std.specs.List.{All}
 use Rattle.gfs2_layout.specs.Area.{Slot, slots_of}
 use Rattle.gfs2_layout.specs.Exchanges.{IsCounted}
 use Rattle.gfs2_layout.specs.Holding.{Holding, Part, InChain, bytes_at, part_at}
@@ -94,13 +95,15 @@ pub record IsPutInLeaf (h g : Holding) (name : List ℕ) (e : Entry) : Type 0 wh
 abbrev pub first_count : ℕ → ℕ
 first_count size = size / 16
 
--- Block b is a leaf of depth 0 with all records of the linear directory, in order; the table of the first size, behind the dinode, leads to it.
+-- Block b is a leaf of depth 0 with all records of the linear directory, in order; the table of the first size, behind the dinode, leads to it. What
+-- the leaf has are bytes: so the hash of each name in it has 32 bits, and belongs to the one leaf that there is.
 pub record IsConverted (h g : Holding) (b : ℕ) : Type 0 where
   pub same : IsSame h g
   pub new : h.cell b ≡ None
   pub new_part : part_at g b ≡ Some (InChain 0 0)
   pub parts : (x : ℕ) → x ≢ b → part_at g x ≡ part_at h x
   pub leaf : IsLeafPut g b (blank h) (record { depth = 0; entries = length (in_use (slots_of (linear_area h))); next = 0 }) (packed (h.size - leaf_length) (in_use (slots_of (linear_area h))))
+  pub bytes : All (λ byte. byte < 256) (bytes_at g b)
   pub hashed : is_hashed_in g ≡ true
   pub count : table_count g ≡ first_count h.size
   pub entries : (i : ℕ) → i < table_count g → entry g i ≡ b
