@@ -24,7 +24,8 @@ use Rattle.linear_dirs.proofs.Looked.{bytes_of}
 use Rattle.pointer_tables.specs.declared.pointer.Pointer.{Pointer}
 use Rattle.tree_tables.specs.Pointers.{IsTableOf, block_of, bytes_or_none, carries, or_zero, pointer_at, pointer_in, seen_as, table_block}
 use Rattle.tree_tables.specs.declared.tree_table.TreeTable.{TreeTable}
-use Rattle.tree_tables.proofs.Entries.{entry_in_block, entry_in_hole, entry_stuffed, within}
+use Rattle.table_files.proofs.ContentParts.{some_block}
+use Rattle.table_files.proofs.Entries.{entry_in_block, entry_in_hole, entry_stuffed, within}
 
 -- what is known of a block where there is an answer
 pub where_there : {A : Type 0} (v : Seen) (b : ℕ) (result : Result (Step A) CallFault) (F : List ℕ → A → Type 0) (Q : A → Type 0) → IfIs result (λ a. HasBlock v b)
@@ -63,19 +64,6 @@ one_less n some = elim (cases_eq n 0) [
 ]
 
 -- ---- which block has the pointer
-
-some_block : (h : Holding) (i b : ℕ) → block_at h i ≡ Some b → (content_block h i ≡ b) × (b ≢ 0)
-some_block h i b is = by (nat_lt i (reach h.size (height_in h))) (content_block h i) is
-  where
-    targets : (p : ℕ) → target p ≡ Some b → (p ≡ b) × (b ≢ 0)
-    targets p e = elim (cases_eq p 0) [
-      | inl zero_is ↦ absurd (none_some (sym (cond-true (p == 0) None (Some p) (eq-eqb p 0 zero_is)) ∙ e))
-      | inr some ↦ let same : p ≡ b = some_same (sym (cond-false (p == 0) None (Some p) (ne_eqb p 0 some)) ∙ e) in (same, λ z. some (same ∙ z))
-    ]
-
-    by : (t : Bool) (p : ℕ) → (if t then target p else None) ≡ Some b → (p ≡ b) × (b ≢ 0)
-    by true p e = targets p e
-    by false p e = absurd (none_some e)
 
 no_block : (h : Holding) (i : ℕ) → i < reach h.size (height_in h) → block_at h i ≡ None → content_block h i ≡ 0
 no_block h i low is = elim (cases_eq (content_block h i) 0) [

@@ -1,7 +1,11 @@
 //! The table of a hashed directory as it is kept in the directory's own blocks.
 #![tactic(auto)]
 
+mod finding;
 mod numbers;
+mod putting;
+mod setting;
+mod table_mut;
 mod tree_table;
 
 pub use tree_table::TreeTable;

@@ -1,0 +1,5 @@
+pub mod Entries
+pub mod ContentParts
+pub mod Alike
+pub mod Pieces
+pub mod Filled

@@ -1,0 +1,2 @@
+//! The table of a hashed directory as a file that grows: laws, and nothing else.
+#![tactic(auto)]
