@@ -12,7 +12,7 @@ use Rattle.gfs2_layout.specs.Structures.{answer, or_else, header_fault, records_
 use Rattle.gfs2_layout.specs.declared.fault.LayoutFault.{LayoutFault}
 use Rattle.gfs2_layout.specs.declared.leaf.Leaf.{Leaf}
 use Rattle.gfs2_layout.proofs.HeaderLaws.{answer_ok}
-use Rattle.glock_names.specs.Steps.{IfIs, IsDamage}
+use Rattle.glock_names.specs.Steps.{IfIs, IsDamage, TellsOf}
 use Rattle.glock_names.specs.declared.steps.Step.{Step}
 use Rattle.glock_names.specs.declared.steps.Step.TheVariants.{Is}
 use Rattle.glock_names.proofs.StepLaws.{answer_at}
@@ -23,7 +23,7 @@ use Rattle.glock_names.specs.Views.{Seen, HasBlock, IsOfView}
 use Rattle.dinode_tree.specs.Shown.{IsAtBlock}
 use Rattle.dinode_tree.specs.Broken as inode
 use Rattle.pointer_tables.specs.declared.pointer.Pointer.{Pointer}
-use Rattle.hash_dirs.specs.Broken.{IsBroken, no_header, records_format, too_deep, unfilled, no_leaf, of_inode}
+use Rattle.hash_dirs.specs.Broken.{IsBroken, IsWrongIn, breaks, no_header, records_format, too_deep, unfilled, no_leaf, of_inode}
 use Rattle.hash_dirs.specs.Shown.{IsNeededFor, IsShown, LeadsToLeaf, a_leaf, by_pointer, by_leaf, index_for, of_table}
 use Rattle.dinode_tree.specs.Reading.{inode_lock, the_dinode}
 use Rattle.dinode_tree.specs.Walking.{missing_dinode}
@@ -37,6 +37,14 @@ pub told : (h : Holding) (fault : CallFault) (b rule : ℕ) → fault ≡ Damage
 told h fault b rule is broken = subst (IsDamage (IsBroken h)) (sym is) broken
 
 -- what breaks a rule of inodes breaks one of hashed directories
+pub wrong_of : (v : Seen) (h : Holding) (fault : CallFault) → IsDamage (IsBroken h) fault → IsDamage (IsWrongIn v h) fault
+wrong_of v h (Damaged b rule) damage = breaks rule b damage
+wrong_of v h NoMemory damage = damage
+
+pub wrong_tells : (v : Seen) (h : Holding) (fault : CallFault) → TellsOf (IsBroken h) fault → TellsOf (IsWrongIn v h) fault
+wrong_tells v h (Damaged b rule) tells = breaks rule b tells
+wrong_tells v h NoMemory tells = tt
+
 pub damage_of : (h : Holding) (fault : CallFault) → IsDamage (inode.IsBroken h) fault → IsDamage (IsBroken h) fault
 damage_of h (Damaged block rule) broken = of_inode rule block broken
 damage_of h NoMemory broken = broken

@@ -1,3 +1,4 @@
+pub mod Groups
 pub mod Returning
 pub mod Leaves
 pub mod Indexes

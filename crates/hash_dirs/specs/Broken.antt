@@ -8,6 +8,8 @@ use Rattle.gfs2_layout.specs.Headers.{HasHeader}
 use Rattle.gfs2_layout.specs.Holding.{Holding, bytes_at}
 use Rattle.gfs2_layout.specs.Inode.{depth_in, dinode_in, entry, entry_block, leaf_area, leaf_in, records_of, table_count}
 use Rattle.gfs2_layout.specs.Records.{Record, is_dots, records_in}
+use Rattle.glock_names.specs.Views.{Seen}
+use Rattle.resource_groups.specs.Putting.{HasDataBlock}
 use Rattle.dinode_tree.specs.Broken as inode
 use Rattle.hash_dirs.specs.Shown.{IsInChain, LeadsToLeaf}
 
@@ -16,8 +18,6 @@ pub data IsBroken (h : Holding) : ℕ → ℕ → Type 0 where
   of_inode : (rule b : ℕ) → inode.IsBroken h rule b → IsBroken h rule b
   -- 1: a leaf lacks its header
   no_header : (i from x : ℕ) → LeadsToLeaf h i from x → x ≢ 0 → ¬ (HasHeader 6 600 (bytes_at h x)) → IsBroken h 1 x
-  -- 2: a block has the number of a leaf that is outside the device
-  beyond_device : (i from x : ℕ) → LeadsToLeaf h i from x → h.count ≤ x → IsBroken h 2 from
   -- 9: records don't fill a leaf, or a name isn't one
   unfilled : (i from x : ℕ) → LeadsToLeaf h i from x → x ≢ 0 → ¬ (IsArea (leaf_area h x)) → IsBroken h 9 x
   no_name : (i from x : ℕ) (r : Record) → LeadsToLeaf h i from x → x ≢ 0 → Contains (records_in (leaf_area h x)) r → is_dots r.name ≡ false → ¬ (IsName r.name) → IsBroken h 9 x
@@ -37,3 +37,8 @@ pub data IsBroken (h : Holding) : ℕ → ℕ → Type 0 where
   leaf_entries : (i from x : ℕ) → LeadsToLeaf h i from x → x ≢ 0 → (leaf_in h x).entries ≢ length (records_in (leaf_area h x)) → IsBroken h 14 x
   -- 15: a chain of leaves returns to itself
   comes_again : (i place later x : ℕ) → IsInChain h i place x → IsInChain h i later x → place < later → IsBroken h 15 x
+
+-- The block breaks this rule, as the view shows the directory; or (2) it has the number of a leaf that is no data block of a group.
+pub data IsWrongIn (v : Seen) (h : Holding) : ℕ → ℕ → Type 0 where
+  breaks : (rule b : ℕ) → IsBroken h rule b → IsWrongIn v h rule b
+  outside : (i from x : ℕ) → LeadsToLeaf h i from x → ¬ (HasDataBlock v x) → IsWrongIn v h 2 from

@@ -8,6 +8,7 @@ use Rattle.gfs2_layout.specs.Records.{record_of}
 use Rattle.gfs2_layout.specs.Structures.{is_in_use, leaf_of}
 use Rattle.glock_names.specs.Views.{Seen}
 use Rattle.glock_names.specs.declared.steps.Entry.{Entry}
+use Rattle.resource_groups.specs.Putting.{HasDataBlock}
 use Rattle.linear_dirs.specs.Shown.{entry_of}
 use Rattle.hash_dirs.specs.Finding.{IsNamedLater}
 use Rattle.hash_dirs.specs.Shown.{IsInChain}
@@ -26,6 +27,7 @@ pub record IsSpotOf (area name : List ℕ) (s : Spot) : Type 0 where
 -- the same of a leaf, as the view has its block
 pub record IsSpotIn (v : Seen) (name : List ℕ) (f : Found) : Type 0 where
   pub small : IsSmall f.block
+  pub inside : HasDataBlock v f.block
   pub bytes : List ℕ
   pub there : v.block_at f.block ≡ Some bytes
   pub head : f.head ≡ leaf_of bytes

@@ -1,6 +1,5 @@
 // Leaves of a chain, as a view has them.
 ghost use Rattle.std.specs.Prelude.{ℕ, ◌≡◌, ◌≢◌, ◌≤◌, None, IfOk, length, drop};
-ghost use Rattle.profile_limits.specs.Limits.{most_blocks};
 ghost use Rattle.gfs2_layout.specs.Holding.{Holding, bytes_at};
 ghost use Rattle.gfs2_layout.specs.Inode.{depth_in, leaf_length};
 ghost use Rattle.gfs2_layout.specs.Structures.{leaf_of};
@@ -9,13 +8,14 @@ ghost use Rattle.glock_names.specs.Views.{HasBlock, IsOfView};
 ghost use Rattle.dinode_tree.specs.Shown.{IsAtBlock};
 ghost use Rattle.hash_dirs.specs.Shown.{IsNeededFor, IsShown, LeadsToLeaf};
 ghost use Rattle.hash_dirs.specs.Walking.{IsAreaOfBlock, IsLeafIn, IsLeafOf, IsSmall};
-ghost use Rattle.hash_dirs.specs.Broken.{IsBroken};
+ghost use Rattle.resource_groups.specs.Putting.{HasDataBlock};
+ghost use Rattle.hash_dirs.specs.Broken.{IsBroken, IsWrongIn};
 
 use gfs2_layout::{Leaf, has_header, is_area};
 use glock_names::{CallFault, Missing, Step, View, block_of};
 use linear_dirs::lock_of;
 use pointer_tables::Pointer;
-use profile_limits::MOST_BLOCKS;
+use resource_groups::group_of;
 
 /// Where the records of a leaf begin.
 pub(crate) const IN_LEAF: usize = 104;
@@ -62,7 +62,7 @@ fn read_leaf(bytes: &[u8], block: u64, depth: u16) -> Result<LeafAt<'_>, CallFau
 }
 
 /// The leaf to which a pointer or the leaf before it leads, of a directory whose table is so deep. It looks that there is one, and
-/// inside a device; at its header, the format of its records and its depth; and that the records fill it, in this order.
+/// a data block of a group; at its header, the format of its records and its depth; and that the records fill it, in this order.
 pub(crate) fn leaf_at<'a, V: View>(
     view: &'a V,
     dir: u64,
@@ -75,17 +75,19 @@ pub(crate) fn leaf_at<'a, V: View>(
     ensures seen { IfIs result (IsLeafIn (V.seen view.now) link.now.leaf) }
     ensures low { IfIs result (λ leaf. leaf.head.depth ≤ depth) }
     ensures small { IfIs result (λ leaf. IsSmall link.now.leaf) }
+    ensures inside { IfIs result (λ leaf. HasDataBlock (V.seen view.now) link.now.leaf) }
     ensures there { IfIs result (λ leaf. HasBlock (V.seen view.now) link.now.leaf) }
     ensures needed { (h : Holding) (i : ℕ) → IsShown (V.seen view.now) dir h → LeadsToLeaf h i link.now.from link.now.leaf → IfNeedBlock result (IsNeededFor (V.seen view.now) h (λ k. k ≡ i)) }
     ensures absent { IfNeedBlock result (λ missing. (V.seen view.now).block_at missing.block ≡ None) }
-    ensures damaged { (h : Holding) (i : ℕ) → IsShown (V.seen view.now) dir h → LeadsToLeaf h i link.now.from link.now.leaf → depth ≡ depth_in h → h.count ≤ most_blocks
-        → OnlyDamaged result (IsBroken h) }
+    ensures damaged { (h : Holding) (i : ℕ) → IsShown (V.seen view.now) dir h → LeadsToLeaf h i link.now.from link.now.leaf → depth ≡ depth_in h
+        → OnlyDamaged result (IsWrongIn (V.seen view.now) h) }
     ensures kept { OnlyDamaged result (IsOfView (V.seen view.now)) }
 {
+    let _size = view.block_size();
     if link.leaf == 0 {
         return Err(damaged(link.from, 14));
     }
-    if link.leaf >= MOST_BLOCKS {
+    if group_of(view, link.leaf).is_none() {
         return Err(damaged(link.from, 2));
     }
     let Some(bytes) = block_of(view, link.leaf) else {

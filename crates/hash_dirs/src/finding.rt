@@ -1,7 +1,6 @@
 // The first record of a name, leaf by leaf along a chain.
 ghost use Rattle.std.specs.Prelude.{ℕ, ◌≡◌, ◌^◌, ◌<◌, ◌≤◌, None, IfSome};
 ghost use Rattle.std.specs.Option.{option_map};
-ghost use Rattle.profile_limits.specs.Limits.{most_blocks};
 ghost use Rattle.gfs2_layout.specs.Holding.{Holding};
 ghost use Rattle.gfs2_layout.specs.Inode.{depth_in, top_bits};
 ghost use Rattle.gfs2_layout.specs.Records.{record_named, records_in};
@@ -12,7 +11,7 @@ ghost use Rattle.hash_dirs.specs.Shown.{IsNeededFor};
 ghost use Rattle.hash_dirs.specs.Finding.{IsFoundAlong};
 ghost use Rattle.hash_dirs.specs.Walking.{IsAreaOfBlock, OfEach};
 ghost use Rattle.hash_dirs.specs.Spots.{IsInPlace, IsSpotIn, IsSpotOf, entry_at};
-ghost use Rattle.hash_dirs.specs.Broken.{IsBroken};
+ghost use Rattle.hash_dirs.specs.Broken.{IsWrongIn};
 
 use crate::chains::{damaged, leaf_at};
 use gfs2_layout::{Dirent, Leaf, find_record, records_are_found_by_name};
@@ -76,7 +75,7 @@ pub(crate) fn find_along<V: View>(
     ensures spot { IfIs result (λ found. IfSome found (IsSpotIn (V.seen view.now) name.now)) }
     ensures needed { OfEach (V.seen view.now) dir head.now (λ h i. IfNeedBlock result (IsNeededFor (V.seen view.now) h (λ k. k ≡ i))) }
     ensures absent { IfNeedBlock result (λ missing. (V.seen view.now).block_at missing.block ≡ None) }
-    ensures damaged { OfEach (V.seen view.now) dir head.now (λ h i. depth ≡ depth_in h → h.count ≤ most_blocks → OnlyDamaged result (IsBroken h)) }
+    ensures damaged { OfEach (V.seen view.now) dir head.now (λ h i. depth ≡ depth_in h → OnlyDamaged result (IsWrongIn (V.seen view.now) h)) }
     ensures kept { OnlyDamaged result (IsOfView (V.seen view.now)) }
 {
     let mut link = *head;

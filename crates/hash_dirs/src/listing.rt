@@ -1,7 +1,6 @@
 // The names of a hashed directory.
 ghost use Rattle.std.specs.Prelude.{ℕ, ◌≡◌, ◌≢◌, ◌+◌, ◌-◌, ◌*◌, ◌/◌, ◌^◌, ◌<◌, ◌≤◌, ◌++◌, true, None, [], ◌∷◌, Contains, OnOk};
 ghost use Rattle.std.specs.List.Sorted.{IsPermutation};
-ghost use Rattle.profile_limits.specs.Limits.{most_blocks};
 ghost use Rattle.gfs2_layout.specs.Area.{IsArea, Slot, IsShown as IsRecord};
 ghost use Rattle.gfs2_layout.specs.Holding.{Holding};
 ghost use Rattle.gfs2_layout.specs.Inode.{depth_in, leaf_area, records_of, table_count};
@@ -13,7 +12,7 @@ ghost use Rattle.dinode_tree.specs.Shown.{IsAtBlock};
 ghost use Rattle.linear_dirs.specs.Reading.{told_in};
 ghost use Rattle.hash_dirs.specs.Shown.{IsNeededFor, IsShown, IsSound, LeadsToLeaf};
 ghost use Rattle.hash_dirs.specs.Walking.{IsChainListed, OfEach};
-ghost use Rattle.hash_dirs.specs.Broken.{IsBroken};
+ghost use Rattle.hash_dirs.specs.Broken.{IsBroken, IsWrongIn};
 
 use crate::chains::{damaged, leaf_at};
 use file_tree::{Name, is_dots, is_name};
@@ -75,7 +74,7 @@ fn add_chain<V: View>(
     ensures low { IfIs result (λ deep. deep ≤ depth) }
     ensures needed { OfEach (V.seen view.now) dir head.now (λ h i. IfNeedBlock result (IsNeededFor (V.seen view.now) h (λ k. k ≡ i))) }
     ensures absent { IfNeedBlock result (λ missing. (V.seen view.now).block_at missing.block ≡ None) }
-    ensures damaged { OfEach (V.seen view.now) dir head.now (λ h i. depth ≡ depth_in h → h.count ≤ most_blocks → IfDamaged result (IsBroken h)) }
+    ensures damaged { OfEach (V.seen view.now) dir head.now (λ h i. depth ≡ depth_in h → IfDamaged result (IsWrongIn (V.seen view.now) h)) }
     ensures kept { IfDamaged result (IsOfView (V.seen view.now)) }
 {
     let mut link = *head;
@@ -131,7 +130,7 @@ pub fn names<V: View, T: PointerTable>(
         → IfIs result (λ names. IsPermutation names.items (names_of (records_of h))) }
     ensures needed { (h : Holding) → IsShown (V.seen view.now) dir h → T.shows table.now (V.seen view.now) h → IfNeedBlock result (IsNeededFor (V.seen view.now) h (λ i. i < table_count h)) }
     ensures absent { IfNeedBlock result (λ missing. (V.seen view.now).block_at missing.block ≡ None) }
-    ensures damaged { (h : Holding) → IsShown (V.seen view.now) dir h → T.shows table.now (V.seen view.now) h → h.count ≤ most_blocks → IfDamaged result (IsBroken h) }
+    ensures damaged { (h : Holding) → IsShown (V.seen view.now) dir h → T.shows table.now (V.seen view.now) h → IfDamaged result (IsWrongIn (V.seen view.now) h) }
     ensures kept { IfDamaged result (IsOfView (V.seen view.now)) }
 {
     let depth = table.depth();

@@ -1,7 +1,6 @@
 // Where a name of a hashed directory leads.
 ghost use Rattle.std.specs.Prelude.{◌≡◌, ◌≤◌, None};
 ghost use Rattle.std.specs.Option.{option_map};
-ghost use Rattle.profile_limits.specs.Limits.{most_blocks};
 ghost use Rattle.gfs2_layout.specs.Holding.{Holding};
 ghost use Rattle.gfs2_layout.specs.Inode.{records_of};
 ghost use Rattle.gfs2_layout.specs.Records.{record_named};
@@ -10,7 +9,7 @@ ghost use Rattle.glock_names.specs.Views.{IsOfView};
 ghost use Rattle.linear_dirs.specs.Shown.{entry_of};
 ghost use Rattle.hash_dirs.specs.Shown.{IsNeededFor, IsShown, IsSound, index_for};
 ghost use Rattle.hash_dirs.specs.Finding.{IsFoundBy};
-ghost use Rattle.hash_dirs.specs.Broken.{IsBroken};
+ghost use Rattle.hash_dirs.specs.Broken.{IsWrongIn};
 
 use crate::finding::{find_along, index_of};
 use crate::laws::chains_tell_names;
@@ -20,7 +19,7 @@ use pointer_tables::PointerTable;
 
 /// Where a name of the hashed directory with its dinode in this block leads, by its table; None where it has no such name. `.` and
 /// `..` are names here. It looks at the pointer for the name's hash, and along the leaves of that chain up to the first that has the
-/// name: that there is one and that it is inside a device, at its header, the format of its records and its depth, and that its records
+/// name: that there is one and that it is a data block of a group, at its header, the format of its records and its depth, and that its records
 /// fill it, in this order; and that the chain doesn't return to itself. It costs what the table takes for a pointer, and a step for each
 /// record up to the one that it finds. No memory.
 pub fn look<V: View, T: PointerTable>(
@@ -34,7 +33,7 @@ pub fn look<V: View, T: PointerTable>(
     ensures chain { (h : Holding) → IsShown (V.seen view.now) dir h → T.shows table.now (V.seen view.now) h → IfIs result (IsFoundBy h name.now) }
     ensures needed { (h : Holding) → IsShown (V.seen view.now) dir h → T.shows table.now (V.seen view.now) h → IfNeedBlock result (IsNeededFor (V.seen view.now) h (λ i. i ≡ index_for h name.now)) }
     ensures absent { IfNeedBlock result (λ missing. (V.seen view.now).block_at missing.block ≡ None) }
-    ensures damaged { (h : Holding) → IsShown (V.seen view.now) dir h → T.shows table.now (V.seen view.now) h → h.count ≤ most_blocks → OnlyDamaged result (IsBroken h) }
+    ensures damaged { (h : Holding) → IsShown (V.seen view.now) dir h → T.shows table.now (V.seen view.now) h → OnlyDamaged result (IsWrongIn (V.seen view.now) h) }
     ensures kept { OnlyDamaged result (IsOfView (V.seen view.now)) }
 {
     chains_tell_names();

@@ -3,7 +3,6 @@ ghost use Rattle.std.specs.Prelude.{ℕ, List, ◌≡◌, ◌≢◌, ◌⊎◌, 
 ghost use Rattle.std.specs.FinMap.{insert as with_fate};
 ghost use Rattle.drafts.specs.declared.fate.Fate.TheVariants.{Put};
 ghost use Rattle.drafts.specs.Fates.{seen_in};
-ghost use Rattle.profile_limits.specs.Limits.{most_blocks};
 ghost use Rattle.gfs2_layout.specs.Area.{IsArea, IsRecordAt};
 ghost use Rattle.gfs2_layout.specs.Exchanges.{directory_count};
 ghost use Rattle.gfs2_layout.specs.Holding.{Holding, bytes_at};
@@ -22,7 +21,8 @@ ghost use Rattle.linear_dirs.specs.Shown.{holding_over};
 ghost use Rattle.hash_dirs.specs.Shown.{IsNeededFor, IsShown, IsSound, index_for};
 ghost use Rattle.hash_dirs.specs.Exchanging.{IsCountedLess, IsCutFrom, IsCutPut, IsLeafCut};
 ghost use Rattle.hash_dirs.specs.Spots.{IsSpotIn};
-ghost use Rattle.hash_dirs.specs.Broken.{IsBroken};
+ghost use Rattle.resource_groups.specs.Putting.{HasDataBlock};
+ghost use Rattle.hash_dirs.specs.Broken.{IsWrongIn};
 
 use crate::chains::{IN_LEAF, damaged};
 use crate::finding::{Found, find_along, index_of};
@@ -163,7 +163,7 @@ pub fn remove<V: View, T: PointerTable>(
         → IfIs result (λ done. done ≡ true → IsCutFrom h (holding_over (seen_in V.seen draft.new) h) name.now) }
     ensures laid { (h : Holding) → IsShown (seen_in V.seen draft.old) dir h → T.shows table.now (seen_in V.seen draft.old) h → IsSound h
         → IfIs result (λ done. done ≡ true → KeepsPads (bytes_at h h.own) (bytes_at (holding_over (seen_in V.seen draft.new) h) h.own)) }
-    ensures two { IfIs result (λ done. done ≡ true → (leaf : ℕ) × (new_leaf dinode : List ℕ) × HasBlock (seen_in V.seen draft.old) leaf
+    ensures two { IfIs result (λ done. done ≡ true → (leaf : ℕ) × (new_leaf dinode : List ℕ) × HasBlock (seen_in V.seen draft.old) leaf × HasDataBlock (seen_in V.seen draft.old) leaf
         × (draft.new ≡ record draft.old { fates = with_fate (with_fate draft.old.fates leaf (Put (inode_lock dir) false new_leaf)) dir (Put (inode_lock dir) false dinode) })) }
     ensures still { (h : Holding) → IsShown (seen_in V.seen draft.old) dir h → T.shows table.now (seen_in V.seen draft.old) h → IsSound h
         → IfIs result (λ done. done ≡ true → IsShown (seen_in V.seen draft.new) dir (holding_over (seen_in V.seen draft.new) h) × T.shows table.now (seen_in V.seen draft.new) (holding_over (seen_in V.seen draft.new) h) × IsSound (holding_over (seen_in V.seen draft.new) h)) }
@@ -171,7 +171,7 @@ pub fn remove<V: View, T: PointerTable>(
         → IfNeedBlock result (IsNeededFor (seen_in V.seen draft.old) h (λ i. i ≡ index_for h name.now)) }
     ensures absent { IfNeedBlock result (λ missing. (seen_in V.seen draft.old).block_at missing.block ≡ None) }
     ensures waits { IfNeedBlock result (λ missing. draft.new ≡ draft.old) }
-    ensures damaged { (h : Holding) → IsShown (seen_in V.seen draft.old) dir h → T.shows table.now (seen_in V.seen draft.old) h → h.count ≤ most_blocks → IfDamaged result (IsBroken h) }
+    ensures damaged { (h : Holding) → IsShown (seen_in V.seen draft.old) dir h → T.shows table.now (seen_in V.seen draft.old) h → IfDamaged result (IsWrongIn (seen_in V.seen draft.old) h) }
     ensures kept { IfDamaged result (IsOfView (seen_in V.seen draft.old)) }
     ensures stays { IfDamaged result (λ rule block. draft.new ≡ draft.old) }
 {

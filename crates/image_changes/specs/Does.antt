@@ -4,6 +4,7 @@ use Rattle.std.specs.Prelude.{ℕ, zero, ◌≡◌, ◌⊎◌, ◌<◌, ◌≤�
 use Rattle.std.specs.List.{AllByRecursion, list_any}
 use Rattle.std.specs.List.Sorted.{IsStrictlySortedBy}
 use Rattle.std.specs.Ordering.{nat_cmp}
+use Rattle.profile_limits.specs.Limits.{most_blocks}
 use Rattle.file_tree.specs.Tree.{Tree}
 use Rattle.file_tree.specs.Apply.{apply}
 use Rattle.file_tree.specs.declared.call.Call.{Call}
@@ -76,8 +77,9 @@ AreInside v change = AllByRecursion (IsInside v) change.blocks.items
 
 -- ---- an image that a view may be of
 
--- it has the view's block size, root and groups, agrees with each block that the view has, and stands for the tree
+-- it has no more blocks than a device may have, the view's block size, root and groups, agrees with each block that the view has, and stands for the tree
 pub record IsOf (v : Seen) (im : Image) (o : Owners) (l : Layout) (t : Tree) : Type 0 where
+  pub few : im.count ≤ most_blocks
   pub size : im.size ≡ v.size
   pub root : l.root ≡ v.root
   pub groups : map group_of_entry l.groups ≡ v.groups

@@ -31,3 +31,8 @@ damaged_so P Q so (Err f) told = tells_so P Q so f told
 pub only_so : (P Q : ℕ → ℕ → Type 0) → ((rule b : ℕ) → P rule b → Q rule b) → (f : CallFault) → IsDamage P f → TellsOf Q f
 only_so P Q so (Damaged b rule) told = so rule b told
 only_so P Q so NoMemory told = tt
+
+-- damage of all directories that a view shows
+pub tells_each : (S : Holding → Type 0) (P : Holding → ℕ → ℕ → Type 0) (f : CallFault) → ((h : Holding) → S h → TellsOf (P h) f) → TellsOf (λ rule b. (h : Holding) → S h → P h rule b) f
+tells_each S P NoMemory tells = tt
+tells_each S P (Damaged b rule) tells = tells

@@ -1,5 +1,5 @@
 -- Inodes on a path, in an image that the view may be of.
-use Rattle.std.proofs.Common.{◌≡◌, inl, inr, ℕ, true, false, true≢false, List, [], ◌∷◌, map, Option, None, Some, refl, sym, ap, subst, ◌∙◌}
+use Rattle.std.proofs.Common.{◌≡◌, ◌≢◌, ◌<◌, ◌≤◌, length, inl, inr, arith, ℕ, true, false, true≢false, List, [], ◌∷◌, map, Option, None, Some, refl, sym, ap, subst, ◌∙◌}
 use Rattle.std.proofs.lemmas.Bool.{cases_Bool, cond-true, cond-false, eq-eqb}
 use Rattle.std.proofs.lemmas.Option.{slice_get-map, slice_get_within, get_or_from_slice_get}
 use Rattle.std.proofs.lemmas.Slice.Eq.{bytes_eq-Decides}
@@ -8,22 +8,35 @@ use Rattle.std.specs.Str.{bytes_eq}
 use Rattle.file_tree.specs.Names.{IsName}
 use Rattle.file_tree.specs.Tree.{Tree}
 use Rattle.gfs2_layout.specs.Holding.{Part, Itself, Cell, cell_bytes, cell_part, part_at}
-use Rattle.gfs2_layout.specs.Inode.{IsInode, is_directory_in, is_hashed_in, records_of}
+use Rattle.gfs2_layout.specs.Inode.{IsInode, is_directory_in, records_of}
 use Rattle.gfs2_layout.specs.Records.{Record, child_named, record_named}
 use Rattle.gfs2_layout.specs.declared.rindex.Rindex.{Rindex}
 use Rattle.glock_names.specs.Views.{Seen, group_of_entry}
 use Rattle.dinode_tree.specs.Broken as inode
 use Rattle.dinode_tree.specs.Shown.{IsShown, IsAsSeen}
 use Rattle.dinode_tree.proofs.Sound.{sound_is_shown, sound_breaks_nothing}
-use Rattle.linear_dirs.specs.Broken as directory
+use Rattle.dinode_tree.proofs.Sound.{sound_is_whole}
+use Rattle.hash_dirs.specs.Shown.{IsSound}
+use Rattle.hash_dirs.proofs.Chained.{cell_some, in_chain}
+use Rattle.directories.specs.Shown.{HasName, Says}
+use Rattle.directories.specs.Shown as dirs
+use Rattle.directories.proofs.Sound.{says_sound}
+use Rattle.directories.proofs.Sound as sound
 use Rattle.resource_groups.specs.Putting.{HasDataBlock}
 use Rattle.image_model.specs.Flat.{Path, Node, no_node}
 use Rattle.image_model.specs.Image.{Image}
 use Rattle.image_model.specs.Nodes.{node_of}
 use Rattle.image_model.specs.Owners.{Owner, Owners, Super, InGroup, Free, Nobody, Root, Master, Named, Below, Chained, part_in, cell_of, cell_in, is_dinode, IsUsed, holding}
 use Rattle.image_model.specs.Stands.{Layout, flat_of}
-use Rattle.image_model.proofs.Held.{none_some}
+use Rattle.image_model.proofs.Held.{itself_own, none_some, some_same}
+use Rattle.path_walks.specs.Walks.{IsWrongAt}
+use Rattle.gfs2_layout.specs.Inode.{dinode_in}
+use Rattle.draft_changes.proofs.Rows.{cell_its, its_used}
+use Rattle.draft_changes.proofs.Views.{none_has_the_first}
+use Rattle.glock_names.specs.declared.steps.Entry.{Entry}
+use Rattle.linear_dirs.specs.Shown.{entry_of}
 use Rattle.image_model.proofs.Members.{IsIn, is_in}
+use Rattle.image_model.proofs.Rows.{and_left}
 use Rattle.image_changes.specs.Changes.{inode_of, lock_in, cover, is_free}
 use Rattle.image_changes.specs.Does.{IsOf, is_content_of}
 use Rattle.image_changes.specs.Instances.{IsAt}
@@ -100,6 +113,62 @@ none_named (x ∷ xs) name none r (inr at) same = elim (cases_Bool (bytes_eq nam
   | inr away ↦ none_named xs name (sym (cond-false _ (Some x) (record_named xs name) away) ∙ none) r at same
 ]
 
+-- where a name leads by its record
+pub child_is : (records : List Record) (name : List ℕ) (e : Entry) → Some e ≡ option_map entry_of (record_named records name) → child_named records name ≡ Some e.addr
+child_is records name e is = each (record_named records name) is
+  where
+    each : (r : Option Record) → Some e ≡ option_map entry_of r → option_map (λ (x : Record). x.address) r ≡ Some e.addr
+    each None is = absurd (none_some (sym is))
+    each (Some r) is = ap (option_map (λ (x : Entry). x.addr)) (sym is)
+
+pub no_record : (records : List Record) (name : List ℕ) → ◌≡◌ {A = Option Entry} None (option_map entry_of (record_named records name)) → record_named records name ≡ None
+no_record records name is = each (record_named records name) is
+  where
+    each : (r : Option Record) → ◌≡◌ {A = Option Entry} None (option_map entry_of r) → r ≡ None
+    each None is = refl
+    each (Some r) is = absurd (none_some is)
+
+pub no_child : (records : List Record) (name : List ℕ) → ◌≡◌ {A = Option Entry} None (option_map entry_of (record_named records name)) → child_named records name ≡ None
+no_child records name is = ap (option_map (λ (x : Record). x.address)) (no_record records name is)
+
+-- a record that is found is there, and has the name
+found_there : (records : List Record) (name : List ℕ) (r : Record) → record_named records name ≡ Some r → IsIn r records × (r.name ≡ name)
+found_there [] name r e = absurd (none_some e)
+found_there (x ∷ xs) name r e = elim (cases_Bool (bytes_eq name x.name)) [
+  | inl here ↦
+      let same : x ≡ r = some_same (sym (cond-true _ (Some x) (record_named xs name) here) ∙ e) in
+      (inl (sym same), ap (λ (q : Record). q.name) (sym same) ∙ sym ((bytes_eq-Decides name x.name).0 here))
+  | inr away ↦
+      let later = found_there xs name r (sym (cond-false _ (Some x) (record_named xs name) away) ∙ e) in
+      (inr later.0, later.1)
+]
+
+two_long : (xs : List Record) (r s : Record) → IsIn r xs → IsIn s xs → r ≢ s → 2 ≤ length xs
+two_long [] r s first second other = elim first [ ]
+two_long (x ∷ []) r s (inl e) (inl f) other = absurd (other (e ∙ sym f))
+two_long (x ∷ []) r s (inl e) (inr at) other = elim at [ ]
+two_long (x ∷ []) r s (inr at) second other = elim at [ ]
+two_long (x ∷ y ∷ xs) r s first second other = omega arith
+
+-- `.` and `..` lead by two records
+some_record : (records : List Record) (name : List ℕ) (e : Entry) → Some e ≡ option_map entry_of (record_named records name) → (r : Record) × (record_named records name ≡ Some r)
+some_record records name e is = each (record_named records name) is
+  where
+    each : (x : Option Record) → Some e ≡ option_map entry_of x → (r : Record) × (x ≡ Some r)
+    each None is = absurd (none_some (sym is))
+    each (Some r) is = (r, refl)
+
+two_records : (records : List Record) (own up : Entry) → Some own ≡ option_map entry_of (record_named records (codes ".")) → Some up ≡ option_map entry_of (record_named records (codes "..")) → 2 ≤ length records
+two_records records own up first second =
+    let r = some_record records (codes ".") own first in
+    let s = some_record records (codes "..") up second in
+    let dot = found_there records (codes ".") r.0 r.1 in
+    let dots = found_there records (codes "..") s.0 s.1 in
+    two_long records r.0 s.0 dot.0 dots.0 (λ same. differ (sym dot.1 ∙ ap (λ (q : Record). q.name) same ∙ dots.1))
+  where
+    differ : codes "." ≡ codes ".." → ⊥
+    differ e = cc
+
 -- a listed group is one of the view's
 has_group : (gs : List Rindex) (i : ℕ) (g : Rindex) → slice_get gs i ≡ Some g → Contains (map group_of_entry gs) (group_of_entry g)
 has_group gs i g at =
@@ -152,27 +221,81 @@ module _ (v : Seen) (im : Image) (o : Owners) (l : Layout) (t : Tree) (of : IsOf
   lock_of_inode path a at =
       dinode_cover l a (o a) (is_inode path a at) ∙ ap (lock_in l) (dinode_inode a (o a) (is_inode path a at)) ∙ own_locks im o l a of.stands.laid (inl (path, at))
 
-  -- a directory has `.` and `..`
-  pub has_dot : (path : Path) (a : ℕ) → IsAt im o l path a → is_directory_in (holding im o a) ≡ true → record_named (records_of (holding im o a)) (codes ".") ≡ None → ⊥
-  has_dot path a at dir none =
-      let is = of.stands.laid.directories a (is_inode path a at) dir in
-      none_named (records_of (holding im o a)) (codes ".") none is.dot.entry (is_in is.dot.entry (records_of (holding im o a)) is.dot.there) is.dot.named
+  -- each block of an inode is one of the image's
+  pub own_counted : (a b : ℕ) → IsSome ((holding im o a).cell b) → b < im.count
+  own_counted a b some =
+      let placed = of.stands.laid.zoned.placed b (its_used b a (o b) (cell_its im o a b some)).0 in
+      omega (arith, placed.2.high, (of.stands.laid.fit.each placed.0 placed.1).inside)
 
-  pub has_dots : (path : Path) (a : ℕ) → IsAt im o l path a → is_directory_in (holding im o a) ≡ true → record_named (records_of (holding im o a)) (codes "..") ≡ None → ⊥
-  has_dots path a at dir none =
+  -- a directory, of whatever form, is sound, and the view shows it
+  pub sound_directory : (path : Path) (a : ℕ) → IsAt im o l path a → is_directory_in (holding im o a) ≡ true → IsSound (holding im o a)
+  sound_directory path a at dir = record {
+    block_size = of.stands.laid.image.block_size;
+    inode = is_sound path a at;
+    placed = record { own = its_own a (is_inode path a at); only = itself_own im o a; nobody = none_has_the_first im o l a of.stands.laid; inside = own_counted a };
+    once = (of.stands.laid.directories a (is_inode path a at) dir).once;
+  }
+
+  pub shown_inode : (path : Path) (a : ℕ) → IsAt im o l path a → dirs.IsShown v a (holding im o a)
+  shown_inode path a at = record {
+    inode = is_shown path a at;
+    leaves = λ hashed i place x chain some. cell_some ((holding im o a).cell x) _ (in_chain (holding im o a) (sound_directory path a at (and_left (is_directory_in (holding im o a)) _ hashed)) hashed i place x chain);
+    whole = λ from. sound_is_whole (holding im o a) from of.stands.laid.image.block_size (is_sound path a at);
+    few = of.few;
+  }
+
+  pub shown_directory : (path : Path) (a : ℕ) → IsAt im o l path a → is_directory_in (holding im o a) ≡ true → dirs.IsShown v a (holding im o a)
+  shown_directory path a at dir = shown_inode path a at
+
+  -- what it says is what its records say
+  pub says_records : (path : Path) (a : ℕ) (name : List ℕ) (found : Option Entry) → IsAt im o l path a → is_directory_in (holding im o a) ≡ true → Says (holding im o a) name found
+      → found ≡ option_map entry_of (record_named (records_of (holding im o a)) name)
+  says_records path a name found at dir says = says_sound (holding im o a) name found (sound_directory path a at dir) says
+
+  pub says_child : (path : Path) (a : ℕ) (name : List ℕ) (b : ℕ) → IsAt im o l path a → is_directory_in (holding im o a) ≡ true → HasName (holding im o a) name b
+      → child_named (records_of (holding im o a)) name ≡ Some b
+  says_child path a name b at dir has = child_is (records_of (holding im o a)) name has.entry (says_records path a name (Some has.entry) at dir has.says) ∙ ap Some has.address
+
+  pub says_none : (path : Path) (a : ℕ) (name : List ℕ) → IsAt im o l path a → is_directory_in (holding im o a) ≡ true → Says (holding im o a) name None
+      → child_named (records_of (holding im o a)) name ≡ None
+  says_none path a name at dir says = no_child (records_of (holding im o a)) name (says_records path a name None at dir says)
+
+  -- it has `.` and `..`
+  pub has_dot : (path : Path) (a : ℕ) → IsAt im o l path a → is_directory_in (holding im o a) ≡ true → Says (holding im o a) (codes ".") None → ⊥
+  has_dot path a at dir says =
       let is = of.stands.laid.directories a (is_inode path a at) dir in
-      none_named (records_of (holding im o a)) (codes "..") none is.dots.entry (is_in is.dots.entry (records_of (holding im o a)) is.dots.there) is.dots.named
+      none_named (records_of (holding im o a)) (codes ".") (no_record (records_of (holding im o a)) (codes ".") (says_records path a (codes ".") None at dir says)) is.dot.entry (is_in is.dot.entry (records_of (holding im o a)) is.dot.there) is.dot.named
+
+  pub has_dots : (path : Path) (a : ℕ) → IsAt im o l path a → is_directory_in (holding im o a) ≡ true → Says (holding im o a) (codes "..") None → ⊥
+  has_dots path a at dir says =
+      let is = of.stands.laid.directories a (is_inode path a at) dir in
+      none_named (records_of (holding im o a)) (codes "..") (no_record (records_of (holding im o a)) (codes "..") (says_records path a (codes "..") None at dir says)) is.dots.entry (is_in is.dots.entry (records_of (holding im o a)) is.dots.there) is.dots.named
 
   -- nothing is broken
   pub unbroken : (path : Path) (a rule b : ℕ) → IsAt im o l path a → inode.IsBroken (holding im o a) rule b → ⊥
   unbroken path a rule b at = sound_breaks_nothing (holding im o a) rule b (is_sound path a at)
 
-  pub unbroken_directory : (path : Path) (a rule b : ℕ) → IsAt im o l path a → is_directory_in (holding im o a) ≡ true → is_hashed_in (holding im o a) ≡ false
-      → directory.IsBroken (holding im o a) rule b → ⊥
-  unbroken_directory path a rule b at dir plain (directory.of_inode r c broken) = unbroken path a r c at broken
-  unbroken_directory path a rule b at dir plain (directory.not_stuffed high) = high ((is_sound path a at).linear dir plain).stuffed
-  unbroken_directory path a rule b at dir plain (directory.not_filled other) = other ((is_sound path a at).linear dir plain).size
-  unbroken_directory path a rule b at dir plain (directory.no_area other) = other ((is_sound path a at).linear dir plain).area.fills
-  unbroken_directory path a rule b at dir plain (directory.no_name r has low other) = other ((of.stands.laid.directories a (is_inode path a at) dir).down r has low).name
-  unbroken_directory path a rule b at dir plain (directory.wrong_entries other) = other (of.stands.laid.directories a (is_inode path a at) dir).entries
-  unbroken_directory path a rule b at dir plain (directory.wrong_links other) = other (of.stands.laid.directories a (is_inode path a at) dir).links
+  pub unbroken_directory : (path : Path) (a rule b : ℕ) → IsAt im o l path a → is_directory_in (holding im o a) ≡ true → dirs.IsBroken (holding im o a) rule b → ⊥
+  unbroken_directory path a rule b at dir broken =
+      let is = of.stands.laid.directories a (is_inode path a at) dir in
+      sound.unbroken (holding im o a) (sound_directory path a at dir) dir (λ r has low. (is.down r has low).name) is.entries is.links rule b broken
+
+  -- so nothing of an inode on a path is wrong
+  pub nothing_wrong : (path : Path) (a rule b : ℕ) → IsAt im o l path a → IsWrongAt v a rule b → ⊥
+  nothing_wrong path a rule b at (IsWrongAt.in_inode r c broken) = unbroken path a r c at (broken (holding im o a) (is_shown path a at))
+  nothing_wrong path a rule b at (IsWrongAt.in_directory r c is broken) =
+      let dir = is (holding im o a) (is_shown path a at) in
+      unbroken_directory path a r c at dir (broken (holding im o a) (shown_directory path a at dir))
+  nothing_wrong path a rule b at (IsWrongAt.no_dot is none) =
+      let dir = is (holding im o a) (is_shown path a at) in
+      has_dot path a at dir (none (holding im o a) (shown_directory path a at dir))
+  nothing_wrong path a rule b at (IsWrongAt.no_dots is none) =
+      let dir = is (holding im o a) (is_shown path a at) in
+      has_dots path a at dir (none (holding im o a) (shown_directory path a at dir))
+  nothing_wrong path a rule b at (IsWrongAt.too_few own up is has few) =
+      let dir = is (holding im o a) (is_shown path a at) in
+      let says = has (holding im o a) (shown_directory path a at dir) in
+      let counted = (of.stands.laid.directories a (is_inode path a at) dir).entries in
+      let long = two_records (records_of (holding im o a)) own up (says_records path a (codes ".") (Some own) at dir says.0) (says_records path a (codes "..") (Some up) at dir says.1) in
+      let low = few (holding im o a) (is_shown path a at) in
+      omega (arith, counted, long, low)

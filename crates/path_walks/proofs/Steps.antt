@@ -17,8 +17,8 @@ use Rattle.glock_names.specs.declared.steps.CallFault.TheVariants.{Damaged, NoMe
 use Rattle.glock_names.specs.declared.steps.Entry.{Entry}
 use Rattle.dinode_tree.specs.Shown.{IsShown}
 use Rattle.dinode_tree.proofs.Sound.{some_is_shown}
-use Rattle.linear_dirs.specs.Shown.{IsLinearIn, entry_of}
-use Rattle.path_walks.specs.Walks.{IsLinearDirectory}
+use Rattle.directories.specs.Shown.{IsDirectoryIn}
+use Rattle.path_walks.specs.Walks.{IsDirectoryAt}
 
 -- the dinode that was read is that of the block which the view has
 pub read_here : (v : Seen) (a : ℕ) (d : Dinode) (bytes : List ℕ) → ((h : Holding) → IsShown v a h → d ≡ dinode_in h) → v.block_at a ≡ Some bytes → d ≡ dinode_of bytes
@@ -27,10 +27,8 @@ read_here v a d bytes dinode there =
     let s = some_is_shown v a in
     dinode s.0 s.1.0 ∙ ap dinode_of (s.1.0.same s.0.own bytes s.1.0.dinode (ap v.block_at s.1.0.own ∙ there))
 
-pub linear_here : (v : Seen) (a : ℕ) (d : Dinode) → ((h : Holding) → IsShown v a h → d ≡ dinode_in h) → is_directory d ≡ true → has_hash_flag d ≡ false → IsLinearIn v a
-linear_here v a d dinode directory plain bytes there =
-    let e = read_here v a d bytes dinode there in
-    (ap is_directory (sym e) ∙ directory, ap has_hash_flag (sym e) ∙ plain)
+pub directory_here : (v : Seen) (a : ℕ) (d : Dinode) → ((h : Holding) → IsShown v a h → d ≡ dinode_in h) → is_directory d ≡ true → IsDirectoryIn v a
+directory_here v a d dinode directory bytes there = ap is_directory (sym (read_here v a d bytes dinode there)) ∙ directory
 
 -- what the walk read of the dinode, of an inode that is so shown
 pub differs : (n m : ℕ) → (n ≡ m → ⊥) → (n == m) ≡ false
@@ -41,34 +39,6 @@ differs n m other = elim (cases_Bool (n == m)) [
 
 pub directory_so : (h : Holding) (d : Dinode) → d ≡ dinode_in h → is_directory d ≡ true → is_directory_in h ≡ true
 directory_so h d is directory = ap is_directory (sym is) ∙ directory
-
-pub plain_so : (h : Holding) (d : Dinode) → d ≡ dinode_in h → has_hash_flag d ≡ false → is_hashed_in h ≡ false
-plain_so h d is plain = no (is_directory (dinode_in h)) (has_hash_flag (dinode_in h)) (ap has_hash_flag (sym is) ∙ plain)
-  where
-    no : (a b : Bool) → b ≡ false → (a && b) ≡ false
-    no true b e = e
-    no false b e = refl
-
--- the record of a name, and where it leads
-pub child_is : (records : List Record) (name : List ℕ) (e : Entry) → Some e ≡ option_map entry_of (record_named records name) → child_named records name ≡ Some e.addr
-child_is records name e is = each (record_named records name) is
-  where
-    each : (r : Option Record) → Some e ≡ option_map entry_of r → option_map (λ (x : Record). x.address) r ≡ Some e.addr
-    each None is = absurd (no is)
-      where
-        no : Some e ≡ None → ⊥
-        no q = cc
-    each (Some r) is = ap (option_map (λ (x : Entry). x.addr)) (sym is)
-
-pub no_child : (records : List Record) (name : List ℕ) → ◌≡◌ {A = Option Entry} None (option_map entry_of (record_named records name)) → child_named records name ≡ None
-no_child records name is = each (record_named records name) is
-  where
-    each : (r : Option Record) → ◌≡◌ {A = Option Entry} None (option_map entry_of r) → option_map (λ (x : Record). x.address) r ≡ None
-    each None is = refl
-    each (Some r) is = absurd (no is)
-      where
-        no : ◌≡◌ {A = Option Entry} None (Some (entry_of r)) → ⊥
-        no q = cc
 
 -- a fault that is handed on
 pub handed : {B : Type 0} (Q : ℕ → ℕ → Type 0) (r : Result B CallFault) (f : CallFault) → IsErrAnd r (λ g. g ≡ f) → IsDamage Q f → OnlyDamaged r Q
@@ -90,6 +60,12 @@ pub fault_all : (v : Seen) (a : ℕ) (P : Holding → ℕ → ℕ → Type 0) (f
 fault_all v a P NoMemory damage = let s = some_is_shown v a in absurd (damage s.0 s.1.0)
 fault_all v a P (Damaged b rule) damage = damage
 
+-- the same of directories; that there is no other fault, what else is told says
+pub fault_of_all : (S : Holding → Type 0) (P : Holding → ℕ → ℕ → Type 0) (Q : ℕ → ℕ → Type 0) (f : CallFault) → IsDamage Q f → ((h : Holding) → S h → IsDamage (P h) f)
+    → IsDamage (λ rule b. (h : Holding) → S h → P h rule b) f
+fault_of_all S P Q NoMemory only damage = absurd only
+fault_of_all S P Q (Damaged b rule) only damage = damage
+
 pub damage_all : {A : Type 0} (v : Seen) (a : ℕ) (P : Holding → ℕ → ℕ → Type 0) (r : Result A CallFault) → ((h : Holding) → IsShown v a h → OnlyDamaged r (P h))
     → OnlyDamaged r (λ rule b. (h : Holding) → IsShown v a h → P h rule b)
 damage_all v a P (Ok answer) damage = tt
@@ -107,10 +83,9 @@ pub none_so : {X : Type 0} (P : Type 0) (x : Option X) → is_some x ≡ false �
 none_so P None none so = so
 none_so P (Some x) none so = absurd (true≢false none)
 
--- the directory that was read, and the name that was looked up in it
-pub linear_all : (v : Seen) (a : ℕ) (d : Dinode) → ((h : Holding) → IsShown v a h → d ≡ dinode_in h) → is_directory d ≡ true → has_hash_flag d ≡ false
-    → (h : Holding) → IsShown v a h → IsLinearDirectory h
-linear_all v a d dinode dir plain h shown = record { directory = directory_so h d (dinode h shown) dir; linear = plain_so h d (dinode h shown) plain }
+-- the directory that was read
+pub directory_all : (v : Seen) (a : ℕ) (d : Dinode) → ((h : Holding) → IsShown v a h → d ≡ dinode_in h) → is_directory d ≡ true → IsDirectoryAt v a
+directory_all v a d dinode dir h shown = directory_so h d (dinode h shown) dir
 
 pub inside_so : (v : Seen) (b : ℕ) (x : Option Group) → is_some x ≡ true → IfSome x (HasGroup v) → IfSome x (λ g. IsDataOf g b) → HasDataBlock v b
 inside_so v b None some group own = absurd (true≢false (sym some))

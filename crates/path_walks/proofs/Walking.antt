@@ -1,5 +1,5 @@
 -- A walk, name by name.
-use Rattle.std.proofs.Common.{◌≡◌, ℕ, suc, ◌+◌, ◌<◌, true, false, List, [], ◌∷◌, ◌++◌, length, take, drop, slice_get, None, Some, get_or, refl, sym, ap, ap₂, subst, subst₂, ◌∙◌, arith}
+use Rattle.std.proofs.Common.{◌≡◌, inl, inr, ℕ, suc, ◌+◌, ◌<◌, true, false, List, [], ◌∷◌, ◌++◌, length, take, drop, slice_get, None, Some, get_or, refl, sym, ap, ap₂, subst, subst₂, ◌∙◌, arith}
 use Rattle.std.proofs.lemmas.List.Elements.{All-nil, All-push}
 use Rattle.std.proofs.lemmas.List.{append_assoc, take-append-drop, take_all, drop_all}
 use Rattle.std.proofs.Math.Seq.{take-length}
@@ -8,7 +8,7 @@ use Rattle.file_tree.specs.Tree.{Tree}
 use Rattle.file_tree.specs.Names.{IsName, parent_of}
 use Rattle.file_tree.specs.Apply as tree
 use Rattle.gfs2_layout.specs.Holding.{Holding}
-use Rattle.gfs2_layout.specs.Inode.{dinode_in, is_directory_in, is_hashed_in}
+use Rattle.gfs2_layout.specs.Inode.{dinode_in, is_directory_in}
 use Rattle.glock_names.specs.Views.{Seen, HasBlock}
 use Rattle.glock_names.specs.declared.State.{State}
 use Rattle.glock_names.specs.declared.State.TheVariants.{Un}
@@ -26,11 +26,12 @@ use Rattle.image_changes.specs.Does.{IsOf}
 use Rattle.image_changes.specs.Instances.{IsAt}
 use Rattle.image_changes.proofs.Walks.{walks_end}
 use Rattle.path_walks.specs.Holds.{Hold, AreHeld, IsAskedFor, hold_for, hold_of, holds, holds_in, holds_on}
-use Rattle.path_walks.specs.Walks.{AreInOrder, Names, IsHeldAt, LeadsTo, at_root, by_name, IsNext, the_root, the_child, IsSeenAt, IsTold, IsWalked, in_inode, in_directory, IsDamage, on_path, leads_out, IsReadAt, IsVisited, GoesOn, IsStepped, IsDamageAhead, in_this, past_groups, in_child}
+use Rattle.path_walks.specs.Walks.{AreInOrder, Names, IsHeldAt, LeadsTo, at_root, by_name, IsNeededIn, IsNext, the_root, the_child, IsSeenAt, IsTold, IsUnread, IsWalked, IsWrongAt, IsDamage, on_path, leads_out, IsReadAt, IsVisited, GoesOn, IsStepped, IsDamageAhead, in_this, past_groups, in_child}
 use Rattle.path_walks.specs.declared.walk.Place.{Place}
 use Rattle.path_walks.specs.declared.walk.Walk.{Walk}
 use Rattle.path_walks.specs.declared.walk.Walk.TheVariants as walk
-use Rattle.path_walks.proofs.Images.{is_inode, is_shown, child_is_there, no_child_of_file, lock_of_inode, dinode_used, dinode_plain, unbroken, unbroken_directory, child_in_group}
+use Rattle.path_walks.proofs.Images.{is_inode, is_shown, child_is_there, no_child_of_file, lock_of_inode, dinode_used, dinode_plain, unbroken, unbroken_directory, child_in_group, says_child, says_none, shown_directory}
+use Rattle.path_walks.proofs.Asked.{IsAmong, name_asked}
 use Rattle.resource_groups.specs.Putting.{HasDataBlock}
 use Rattle.image_model.proofs.Held.{some_same}
 use Rattle.std.proofs.lemmas.Option.{slice_get_within}
@@ -89,11 +90,16 @@ module _ (v : Seen) (names : Path) (wants : List Want) (order : AreInOrder wants
     no_lock_at : (k : ℕ) (w : Want) → slice_get wants k ≡ Some w → follow fl l.root (take k names) ≡ None → hold_for (follow fl l.root (take w.depth names)) w.state ≡ []
     no_lock_at k w at none = ap (λ x. hold_for x w.state) (ap (λ d. follow fl l.root (take d names)) (order k w at) ∙ none)
 
+    upto_is : (k : ℕ) (w : Want) (a : ℕ) → slice_get wants k ≡ Some w → IsAt im o l (take k names) a
+        → holds_on fl l.root names (take (suc k) wants) ≡ holds_on fl l.root names (take k wants) ++ hold_of a w.state ∷ []
+    upto_is k w a at here =
+        with_next (λ (x : Want). hold_for (follow fl l.root (take x.depth names)) x.state) wants k w at ∙ ap (λ b. holds_on fl l.root names (take k wants) ++ b) (lock_at k w a at here)
+
     -- one lock more
     more_held : (k : ℕ) (w : Want) (a : ℕ) → slice_get wants k ≡ Some w → IsAt im o l (take k names) a → AreHeld v (holds_on fl l.root names (take k wants))
         → holds v (hold_of a w.state) ≡ true → AreHeld v (holds_on fl l.root names (take (suc k) wants))
     more_held k w a at here held now =
-        subst (AreHeld v) (sym (with_next (λ (x : Want). hold_for (follow fl l.root (take x.depth names)) x.state) wants k w at ∙ ap (λ b. holds_on fl l.root names (take k wants) ++ b) (lock_at k w a at here)))
+        subst (AreHeld v) (sym (upto_is k w a at here))
         (All-push (λ h. holds v h ≡ true) (holds_on fl l.root names (take k wants)) (hold_of a w.state) held now)
 
     -- the list at one of its inodes
@@ -116,7 +122,6 @@ module _ (v : Seen) (names : Path) (wants : List Want) (order : AreInOrder wants
     stops k w a above at here held (walk.At p) visited other = absurd (other p refl)
     stops k w a above at here held walk.NotFound visited other = absurd visited
     stops k w a above at here held walk.NotDir visited other = absurd visited
-    stops k w a above at here held (walk.Hashed b) visited other = absurd visited
     stops k w a above at here held (walk.NeedLock lock state) visited other = record {
       front = holds_on fl l.root names (take k wants);
       back = holds_on fl l.root names (drop (suc k) wants);
@@ -194,9 +199,10 @@ module _ (v : Seen) (names : Path) (wants : List Want) (order : AreInOrder wants
     child_at : (im : Image) (o : Owners) (l : Layout) (t : Tree) (of : IsOf v im o l t) (child : ℕ) → Names v p.inode name child → IsAt im o l (take (suc i) names) child
     child_at im o l t of child leads =
         let r = before.images im o l t of in
-        let shown = shown_at im o l t of in
+        let dir = leads.directory (holding im o p.inode) (shown_at im o l t of) in
         onward (flat_of im o) l.root p.inode names i name named r.at
-        ∙ child_is_there v im o l t of (take i names) p.inode name r.at is_name (leads.linear (holding im o p.inode) shown).directory ∙ leads.child (holding im o p.inode) shown
+        ∙ child_is_there v im o l t of (take i names) p.inode name r.at is_name dir
+        ∙ says_child v im o l t of (take i names) p.inode name child r.at dir (leads.child (holding im o p.inode) (shown_directory v im o l t of (take i names) p.inode r.at dir))
 
     next : (child : ℕ) → Names v p.inode name child → HasDataBlock v child → IsNext v wants names (suc i) child
     next child leads inside =
@@ -234,37 +240,46 @@ module _ (v : Seen) (names : Path) (wants : List Want) (order : AreInOrder wants
         let whole = ap (tree.walk t) front in
         ((λ dir. whole ∙ e.0 dir), (λ file. whole ∙ e.1 file))
 
+    -- a block that the directory needs to tell where the name leads is asked for under its lock
+    among_at : (im : Image) (o : Owners) (l : Layout) (t : Tree) (of : IsOf v im o l t) → i < length wants → IsAmong v (holds_in im o l names wants) p.inode
+    among_at im o l t of low =
+        let r = before.images im o l t of in
+        let w = some_at wants i low in
+        record {
+          state = w.0.state;
+          front = holds_on (flat_of im o) l.root names (take i wants);
+          back = holds_on (flat_of im o) l.root names (drop (suc i) wants);
+          split = list_at im o l t of i w.0 p.inode w.1 r.at;
+          held = subst (AreHeld v) (upto_is im o l t of i w.0 p.inode w.1 r.at) r.held;
+        }
+
+    asked_here : (im : Image) (o : Owners) (l : Layout) (t : Tree) (of : IsOf v im o l t) → i < length wants → (m : Missing) → IsNeededIn v p.inode name m → IsAskedFor v im o l (holds_in im o l names wants) m
+    asked_here im o l t of low m needs =
+        let r = before.images im o l t of in
+        let dir = needs.directory (holding im o p.inode) (shown_at im o l t of) in
+        name_asked v im o l t of (take i names) p.inode r.at (holds_in im o l names wants) (among_at im o l t of low) dir name m
+        (needs.needed (holding im o p.inode) (shown_directory v im o l t of (take i names) p.inode r.at dir))
+
     -- the walk ends here
     ends_at : (w : Want) (e : Walk) → slice_get wants (suc i) ≡ Some w → IsStepped v p.inode name w.state e → ((q : Place) → e ≡ walk.At q → ⊥)
         → (im : Image) (o : Owners) (l : Layout) (t : Tree) → IsOf v im o l t → IsWalked v im o l t names wants e
     ends_at w (walk.At q) at stepped other im o l t of = absurd (other q refl)
     ends_at w walk.NotFound at stepped other im o l t of =
         let r = before.images im o l t of in
-        let shown = shown_at im o l t of in
-        let dir = (stepped.linear (holding im o p.inode) shown).directory in
-        let none = child_is_there v im o l t of (take i names) p.inode name r.at is_name dir ∙ stepped.absent (holding im o p.inode) shown in
+        let dir = stepped.directory (holding im o p.inode) (shown_at im o l t of) in
+        let none = child_is_there v im o l t of (take i names) p.inode name r.at is_name dir
+            ∙ says_none v im o l t of (take i names) p.inode name r.at dir (stepped.absent (holding im o p.inode) (shown_directory v im o l t of (take i names) p.inode r.at dir)) in
         ((refused im o l t of none).0 dir, list_ends im o l t of i p.inode name named r.at none r.held)
     ends_at w walk.NotDir at stepped other im o l t of =
         let r = before.images im o l t of in
         let file = stepped (holding im o p.inode) (shown_at im o l t of) in
         let none = no_child_of_file v im o l t of (take i names) p.inode name r.at file in
         ((refused im o l t of none).1 file, list_ends im o l t of i p.inode name named r.at none r.held)
-    ends_at w (walk.Hashed b) at stepped other im o l t of =
-        let r = before.images im o l t of in
-        let so : suc i ≡ length (take i names) + 1 = omega (arith, long) in
-        record {
-          front = take i names;
-          back = drop (suc i) names;
-          next = name;
-          on_path = front;
-          at = r.at ∙ ap Some (sym stepped.0);
-          hashed = ap (λ a. is_hashed_in (holding im o a)) stepped.0 ∙ stepped.1 (holding im o p.inode) (shown_at im o l t of);
-          held = subst (λ n. AreHeld v (holds_in im o l names (take n wants))) so r.held;
-        }
     ends_at w (walk.NeedLock lock state) at stepped other im o l t of =
         stops im o l t of (suc i) w stepped.child p.inode at (child_at im o l t of stepped.child stepped.names) (before.images im o l t of).held (walk.NeedLock lock state) stepped.visited other
-    ends_at w (walk.NeedBlock m) at stepped other im o l t of =
-        stops im o l t of (suc i) w stepped.child p.inode at (child_at im o l t of stepped.child stepped.names) (before.images im o l t of).held (walk.NeedBlock m) stepped.visited other
+    ends_at w (walk.NeedBlock m) at (inl needs) other im o l t of = asked_here im o l t of (omega (arith, slice_get_within wants (suc i) w at)) m needs
+    ends_at w (walk.NeedBlock m) at (inr goes) other im o l t of =
+        stops im o l t of (suc i) w goes.child p.inode at (child_at im o l t of goes.child goes.names) (before.images im o l t of).held (walk.NeedBlock m) goes.visited other
 
     pub ends : (state : State) (e : Walk) → IsWantedAt wants (suc i) state → IsStepped v p.inode name state e → ((q : Place) → e ≡ walk.At q → ⊥)
         → (im : Image) (o : Owners) (l : Layout) (t : Tree) → IsOf v im o l t → IsWalked v im o l t names wants e
@@ -281,20 +296,11 @@ module _ (v : Seen) (names : Path) (wants : List Want) (order : AreInOrder wants
       on_path = front;
       leads = before.leads;
       there = before.there;
-      linear = stepped.linear;
+      directory = stepped.directory;
       absent = stepped.absent;
     }
     tells state walk.NotDir wanted stepped other =
         (p.inode, record { front = take i names; back = drop (suc i) names; name = name; on_path = front; leads = before.leads; there = before.there; so = stepped })
-    tells state (walk.Hashed b) wanted stepped other = record {
-      front = take i names;
-      back = drop (suc i) names;
-      name = name;
-      on_path = front;
-      leads = subst (LeadsTo v wants (take i names)) (sym stepped.0) before.leads;
-      there = subst (HasBlock v) (sym stepped.0) before.there;
-      so = λ h shown. stepped.1 h (subst (λ a. IsShown v a h) stepped.0 shown);
-    }
     tells state (walk.NeedLock lock s) wanted stepped other = record {
       depth = suc i;
       inode = stepped.child;
@@ -304,36 +310,34 @@ module _ (v : Seen) (names : Path) (wants : List Want) (order : AreInOrder wants
       is = stepped.visited.0 ∙ ap (hold_of stepped.child) (sym wanted.is);
       lacks = ap (λ x. holds v (hold_of stepped.child x)) wanted.is ∙ stepped.visited.1;
     }
-    tells state (walk.NeedBlock m) wanted stepped other =
-        let same : m.block ≡ stepped.child = ap (λ (x : Missing). x.block) stepped.visited.0 in
-        record {
-          depth = suc i;
-          next = subst (IsNext v wants names (suc i)) (sym same) (next stepped.child stepped.names stepped.inside);
-          held = subst (IsHeldAt v wants (suc i)) (sym same) (held_at v wants (suc i) stepped.child state wanted stepped.visited.2);
-          absent = ap v.block_at same ∙ stepped.visited.1;
-          is = stepped.visited.0 ∙ ap missing_dinode (sym same);
-        }
+    tells state (walk.NeedBlock m) wanted (inl needs) other =
+        IsUnread.in_directory (take i names) (drop (suc i) names) p.inode name front before.leads before.there needs.directory needs.needed needs.absent
+    tells state (walk.NeedBlock m) wanted (inr goes) other =
+        let same : m.block ≡ goes.child = ap (λ (x : Missing). x.block) goes.visited.0 in
+        IsUnread.a_dinode (suc i) (subst (IsNext v wants names (suc i)) (sym same) (next goes.child goes.names goes.inside))
+        (subst (IsHeldAt v wants (suc i)) (sym same) (held_at v wants (suc i) goes.child state wanted goes.visited.2)) (ap v.block_at same ∙ goes.visited.1) (goes.visited.0 ∙ ap missing_dinode (sym same))
 
     -- damage that is met is damage on the path
     pub damages : (state : State) → IsWantedAt wants (suc i) state → (rule b : ℕ) → IsDamageAhead v p.inode name state rule b → IsDamage v wants names rule b
-    damages state wanted rule b (in_this r c broken) =
+    damages state wanted rule b (in_this r c is broken) =
         let n = came (take i names) p.inode before.leads (drop i names) (sym (take-append-drop i names)) in
-        on_path n.0 p.inode r c n.1 n.2 (λ h shown. in_directory r c (broken h shown).0 (broken h shown).1)
+        on_path n.0 p.inode r c n.1 n.2 (IsWrongAt.in_directory r c is broken)
     damages state wanted rule b (past_groups c leads outside) = leads_out (take i names) (drop (suc i) names) p.inode c name front before.leads is_name leads outside
     damages state wanted rule b (in_child c r x leads inside held broken) =
-        on_path (suc i) c r x (next c leads inside) (held_at v wants (suc i) c state wanted held) (λ h shown. in_inode r x (broken h shown))
+        on_path (suc i) c r x (next c leads inside) (held_at v wants (suc i) c state wanted held) (IsWrongAt.in_inode r x broken)
 
     -- in an image that stands none is met
     pub no_damage : (im : Image) (o : Owners) (l : Layout) (t : Tree) (of : IsOf v im o l t) (state : State) (rule b : ℕ) → IsDamageAhead v p.inode name state rule b → ⊥
-    no_damage im o l t of state rule b (in_this r c broken) =
+    no_damage im o l t of state rule b (in_this r c is broken) =
         let r' = before.images im o l t of in
-        let so = broken (holding im o p.inode) (shown_at im o l t of) in
-        unbroken_directory v im o l t of (take i names) p.inode r c r'.at so.0.directory so.0.linear so.1
+        let dir = is (holding im o p.inode) (shown_at im o l t of) in
+        unbroken_directory v im o l t of (take i names) p.inode r c r'.at dir (broken (holding im o p.inode) (shown_directory v im o l t of (take i names) p.inode r'.at dir))
     no_damage im o l t of state rule b (past_groups c leads outside) =
         let r = before.images im o l t of in
-        let shown = shown_at im o l t of in
+        let dir = leads.directory (holding im o p.inode) (shown_at im o l t of) in
         outside (child_in_group v im o l t of p.inode c name
-        (child_is_there v im o l t of (take i names) p.inode name r.at is_name (leads.linear (holding im o p.inode) shown).directory ∙ leads.child (holding im o p.inode) shown))
+        (child_is_there v im o l t of (take i names) p.inode name r.at is_name dir
+        ∙ says_child v im o l t of (take i names) p.inode name c r.at dir (leads.child (holding im o p.inode) (shown_directory v im o l t of (take i names) p.inode r.at dir))))
     no_damage im o l t of state rule b (in_child c r x leads inside held broken) =
         let at = child_at im o l t of c leads in
         unbroken v im o l t of (take (suc i) names) c r x at (broken (holding im o c) (is_shown v im o l t of (take (suc i) names) c at))
@@ -378,7 +382,6 @@ module _ (v : Seen) (names : Path) (wants : List Want) (order : AreInOrder wants
   root_tells state root (walk.At p) wanted is visited other = absurd (other p refl)
   root_tells state root walk.NotFound wanted is visited other = absurd visited
   root_tells state root walk.NotDir wanted is visited other = absurd visited
-  root_tells state root (walk.Hashed b) wanted is visited other = absurd visited
   root_tells state root (walk.NeedLock lock s) wanted is visited other = record {
     depth = 0;
     inode = v.root;
@@ -390,19 +393,14 @@ module _ (v : Seen) (names : Path) (wants : List Want) (order : AreInOrder wants
   }
   root_tells state root (walk.NeedBlock m) wanted is visited other =
       let same : m.block ≡ v.root = ap (λ (x : Missing). x.block) visited.0 ∙ is in
-      record {
-        depth = 0;
-        next = subst (IsNext v wants names 0) (sym same) the_root;
-        held = held_at v wants 0 m.block state wanted (ap (λ a. holds v (hold_of a state)) (same ∙ sym is) ∙ visited.2);
-        absent = ap v.block_at (same ∙ sym is) ∙ visited.1;
-        is = visited.0 ∙ ap missing_dinode (is ∙ sym same);
-      }
+      IsUnread.a_dinode 0 (subst (IsNext v wants names 0) (sym same) the_root) (held_at v wants 0 m.block state wanted (ap (λ a. holds v (hold_of a state)) (same ∙ sym is) ∙ visited.2))
+      (ap v.block_at (same ∙ sym is) ∙ visited.1) (visited.0 ∙ ap missing_dinode (is ∙ sym same))
 
   pub root_damages : (state : State) (root : ℕ) → IsWantedAt wants 0 state → root ≡ v.root → (rule b : ℕ)
       → ((h : Holding) → IsShown v root h → inode.IsBroken h rule b) × (holds v (hold_of root state) ≡ true) → IsDamage v wants names rule b
   root_damages state root wanted is rule b both =
       on_path 0 v.root rule b the_root (held_at v wants 0 v.root state wanted (ap (λ a. holds v (hold_of a state)) (sym is) ∙ both.1))
-      (λ h shown. in_inode rule b (both.0 h (subst (λ a. IsShown v a h) (sym is) shown)))
+      (IsWrongAt.in_inode rule b (λ h shown. both.0 h (subst (λ a. IsShown v a h) (sym is) shown)))
 
 -- a visit of the root meets no damage
 pub root_sound : (v : Seen) (im : Image) (o : Owners) (l : Layout) (t : Tree) → IsOf v im o l t → (root : ℕ) → root ≡ v.root → (rule b : ℕ)

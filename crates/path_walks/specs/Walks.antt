@@ -1,22 +1,23 @@
 -- Where a walk along a path ends: as far as a view shows, and in an image that the view may be of.
-use Rattle.std.specs.Prelude.{ℕ, ◌≡◌, ◌+◌, ◌++◌, true, false, List, [], ◌∷◌, codes, length, take, slice_get, None, Some}
+use Rattle.std.specs.Prelude.{ℕ, ◌≡◌, ◌⊎◌, ◌+◌, ◌<◌, ◌++◌, true, false, List, [], ◌∷◌, codes, length, take, slice_get, None, Some}
 use Rattle.file_tree.specs.Tree.{Tree}
 use Rattle.file_tree.specs.Names.{IsName, parent_of}
 use Rattle.file_tree.specs.Apply.{Refused}
 use Rattle.file_tree.specs.Apply as tree
 use Rattle.file_tree.specs.declared.reply.Reply.TheVariants.{NotFound, NotDir}
 use Rattle.gfs2_layout.specs.Holding.{Holding}
-use Rattle.gfs2_layout.specs.Inode.{dinode_in, is_directory_in, is_hashed_in, records_of}
-use Rattle.gfs2_layout.specs.Records.{child_named, record_named}
+use Rattle.gfs2_layout.specs.Inode.{dinode_in, is_directory_in}
 use Rattle.glock_names.specs.Views.{Seen, HasBlock}
 use Rattle.glock_names.specs.declared.LockName.{LockName}
 use Rattle.glock_names.specs.declared.State.{State}
+use Rattle.glock_names.specs.declared.steps.Entry.{Entry}
 use Rattle.glock_names.specs.declared.steps.Missing.{Missing}
 use Rattle.call_locks.specs.declared.want.Want.{Want}
 use Rattle.dinode_tree.specs.Broken as inode
 use Rattle.dinode_tree.specs.Shown.{IsShown}
 use Rattle.dinode_tree.specs.Walking.{missing_dinode}
-use Rattle.linear_dirs.specs.Broken as directory
+use Rattle.directories.specs.Shown.{HasName, Says}
+use Rattle.directories.specs.Shown as dirs
 use Rattle.resource_groups.specs.Putting.{HasDataBlock}
 use Rattle.image_model.specs.Flat.{Path}
 use Rattle.image_model.specs.Image.{Image}
@@ -38,16 +39,15 @@ IsLastOf path name = (front : Path) × (path ≡ front ++ name ∷ [])
 
 -- ---- as far as a view shows
 
--- an inode that is a directory, and not a hashed one
-pub record IsLinearDirectory (h : Holding) : Type 0 where
-  pub directory : is_directory_in h ≡ true
-  pub linear : is_hashed_in h ≡ false
+-- the view shows the inode in this block as a directory
+abbrev pub IsDirectoryAt : Seen → ℕ → Type 0
+IsDirectoryAt v a = (h : Holding) → IsShown v a h → is_directory_in h ≡ true
 
--- the view has this linear directory, in which the name leads to block b
+-- the view has this directory, in which the name leads to block b
 pub record Names (v : Seen) (dir : ℕ) (name : List ℕ) (b : ℕ) : Type 0 where
   pub there : HasBlock v dir
-  pub linear : (h : Holding) → IsShown v dir h → IsLinearDirectory h
-  pub child : (h : Holding) → IsShown v dir h → child_named (records_of h) name ≡ Some b
+  pub directory : IsDirectoryAt v dir
+  pub child : (h : Holding) → dirs.IsShown v dir h → HasName h name b
 
 -- the lock of the inode in a block is held as the want at this depth has it
 abbrev pub IsHeldAt : Seen → List Want → ℕ → ℕ → Type 0
@@ -75,13 +75,12 @@ pub record IsLacked (v : Seen) (wants : List Want) (path : Path) (lock : LockNam
   pub is : record { lock = lock; state = state } ≡ hold_of inode want.state
   pub lacks : holds v (hold_of inode want.state) ≡ false
 
--- this is that inode's dinode, whose lock is held, and the view hasn't it
-pub record IsUnread (v : Seen) (wants : List Want) (path : Path) (m : Missing) : Type 0 where
-  pub depth : ℕ
-  pub next : IsNext v wants path depth m.block
-  pub held : IsHeldAt v wants depth m.block
-  pub absent : v.block_at m.block ≡ None
-  pub is : m ≡ missing_dinode m.block
+-- The view hasn't this block: the dinode of that inode, whose lock is held; or one without which it isn't told where the next name leads, of a hashed
+-- directory to which the path leads.
+pub data IsUnread (v : Seen) (wants : List Want) (path : Path) (m : Missing) : Type 0 where
+  a_dinode : (depth : ℕ) → IsNext v wants path depth m.block → IsHeldAt v wants depth m.block → v.block_at m.block ≡ None → m ≡ missing_dinode m.block → IsUnread v wants path m
+  in_directory : (front back : Path) (dir : ℕ) (name : List ℕ) → path ≡ front ++ name ∷ back → LeadsTo v wants front dir → HasBlock v dir → IsDirectoryAt v dir
+      → ((h : Holding) → dirs.IsShown v dir h → dirs.IsNeededFor v h name m) → v.block_at m.block ≡ None → IsUnread v wants path m
 
 -- a directory on the path has no such name
 pub record IsAbsent (v : Seen) (wants : List Want) (path : Path) : Type 0 where
@@ -92,8 +91,8 @@ pub record IsAbsent (v : Seen) (wants : List Want) (path : Path) : Type 0 where
   pub on_path : path ≡ front ++ name ∷ back
   pub leads : LeadsTo v wants front dir
   pub there : HasBlock v dir
-  pub linear : (h : Holding) → IsShown v dir h → IsLinearDirectory h
-  pub absent : (h : Holding) → IsShown v dir h → child_named (records_of h) name ≡ None
+  pub directory : IsDirectoryAt v dir
+  pub absent : (h : Holding) → dirs.IsShown v dir h → Says h name None
 
 -- an inode on the path of which a further name is asked is so, as the view shows it
 pub record IsOnTheWay (v : Seen) (wants : List Want) (path : Path) (a : ℕ) (P : Holding → Type 0) : Type 0 where
@@ -116,7 +115,6 @@ abbrev pub IsTold : Seen → List Want → Path → Walk → Type 0
 IsTold v wants path (walk.At p) = IsSeenAt v wants path p
 IsTold v wants path walk.NotFound = IsAbsent v wants path
 IsTold v wants path walk.NotDir = (a : ℕ) × IsOnTheWay v wants path a (λ h. is_directory_in h ≡ false)
-IsTold v wants path (walk.Hashed a) = IsOnTheWay v wants path a (λ h. is_hashed_in h ≡ true)
 IsTold v wants path (walk.NeedLock lock state) = IsLacked v wants path lock state
 IsTold v wants path (walk.NeedBlock m) = IsUnread v wants path m
 
@@ -129,38 +127,30 @@ pub record IsPlaceOf (v : Seen) (im : Image) (o : Owners) (l : Layout) (path : P
   pub dinode : p.dinode ≡ dinode_in (holding im o p.inode)
   pub there : HasBlock v p.inode
 
--- an inode on the path of which a further name is asked is a hashed directory, which isn't read yet; each lock up to it is held
-pub record IsHashedOn (v : Seen) (im : Image) (o : Owners) (l : Layout) (path : Path) (wants : List Want) (a : ℕ) : Type 0 where
-  pub front : Path
-  pub back : Path
-  pub next : List ℕ
-  pub on_path : path ≡ front ++ next ∷ back
-  pub at : IsAt im o l front a
-  pub hashed : is_hashed_in (holding im o a) ≡ true
-  pub held : AreHeld v (holds_in im o l path (take (length front + 1) wants))
-
 -- where a walk along the path ends, each lock being taken as it is wanted
 abbrev pub IsWalked : Seen → Image → Owners → Layout → Tree → Path → List Want → Walk → Type 0
 IsWalked v im o l t path wants (walk.At p) = IsPlaceOf v im o l path p × EndsWith (holds_in im o l path wants) p.inode × AreHeld v (holds_in im o l path wants)
 IsWalked v im o l t path wants walk.NotFound = (tree.walk t path ≡ Refused NotFound) × AreHeld v (holds_in im o l path wants)
 IsWalked v im o l t path wants walk.NotDir = (tree.walk t path ≡ Refused NotDir) × AreHeld v (holds_in im o l path wants)
-IsWalked v im o l t path wants (walk.Hashed a) = IsHashedOn v im o l path wants a
 IsWalked v im o l t path wants (walk.NeedLock lock state) = IsFirstLack v (holds_in im o l path wants) lock state
 IsWalked v im o l t path wants (walk.NeedBlock m) = IsAskedFor v im o l (holds_in im o l path wants) m
 
 -- ---- damage
 
--- the inode breaks a rule; that of a linear directory where it is one, and (10) so where `.` or `..` is missing in it
-pub data IsWrong (h : Holding) : ℕ → ℕ → Type 0 where
-  in_inode : (rule b : ℕ) → inode.IsBroken h rule b → IsWrong h rule b
-  in_directory : (rule b : ℕ) → IsLinearDirectory h → directory.IsBroken h rule b → IsWrong h rule b
-  no_dot : IsLinearDirectory h → record_named (records_of h) (codes ".") ≡ None → IsWrong h 10 h.own
-  no_dots : IsLinearDirectory h → record_named (records_of h) (codes "..") ≡ None → IsWrong h 10 h.own
+-- The inode with its dinode in block a is wrong, as far as the view shows it: it breaks a rule, that of a directory's form where it is one; or (10) a
+-- directory hasn't `.` or `..`; or (12) its dinode counts fewer records than these two, which it has.
+pub data IsWrongAt (v : Seen) (a : ℕ) : ℕ → ℕ → Type 0 where
+  in_inode : (rule b : ℕ) → ((h : Holding) → IsShown v a h → inode.IsBroken h rule b) → IsWrongAt v a rule b
+  in_directory : (rule b : ℕ) → IsDirectoryAt v a → ((h : Holding) → dirs.IsShown v a h → dirs.IsBroken h rule b) → IsWrongAt v a rule b
+  no_dot : IsDirectoryAt v a → ((h : Holding) → dirs.IsShown v a h → Says h (codes ".") None) → IsWrongAt v a 10 a
+  no_dots : IsDirectoryAt v a → ((h : Holding) → dirs.IsShown v a h → Says h (codes "..") None) → IsWrongAt v a 10 a
+  too_few : (own up : Entry) → IsDirectoryAt v a → ((h : Holding) → dirs.IsShown v a h → Says h (codes ".") (Some own) × Says h (codes "..") (Some up))
+      → ((h : Holding) → IsShown v a h → (dinode_in h).entries < 2) → IsWrongAt v a 12 a
 
 -- As far as the view shows, the block breaks this rule: in an inode on the path; or (2) a name on the path leads to a block that is none of
 -- the groups' data blocks.
 pub data IsDamage (v : Seen) (wants : List Want) (path : Path) : ℕ → ℕ → Type 0 where
-  on_path : (depth a rule b : ℕ) → IsNext v wants path depth a → IsHeldAt v wants depth a → ((h : Holding) → IsShown v a h → IsWrong h rule b) → IsDamage v wants path rule b
+  on_path : (depth a rule b : ℕ) → IsNext v wants path depth a → IsHeldAt v wants depth a → IsWrongAt v a rule b → IsDamage v wants path rule b
   leads_out : (front back : Path) (dir b : ℕ) (name : List ℕ) → path ≡ front ++ name ∷ back → LeadsTo v wants front dir → IsName name → Names v dir name b → ¬ (HasDataBlock v b)
       → IsDamage v wants path 2 dir
 
@@ -190,19 +180,25 @@ pub record GoesOn (v : Seen) (dir : ℕ) (name : List ℕ) (state : State) (w : 
 
 -- the directory hasn't the name
 pub record LacksName (v : Seen) (dir : ℕ) (name : List ℕ) : Type 0 where
-  pub linear : (h : Holding) → IsShown v dir h → IsLinearDirectory h
-  pub absent : (h : Holding) → IsShown v dir h → child_named (records_of h) name ≡ None
+  pub directory : IsDirectoryAt v dir
+  pub absent : (h : Holding) → dirs.IsShown v dir h → Says h name None
+
+-- a block without which it isn't told where the directory's name leads
+pub record IsNeededIn (v : Seen) (dir : ℕ) (name : List ℕ) (m : Missing) : Type 0 where
+  pub directory : IsDirectoryAt v dir
+  pub needed : (h : Holding) → dirs.IsShown v dir h → dirs.IsNeededFor v h name m
+  pub absent : v.block_at m.block ≡ None
 
 -- from this inode the walk goes on by the next name, or ends there
 abbrev pub IsStepped : Seen → ℕ → List ℕ → State → Walk → Type 0
 IsStepped v a name state walk.NotDir = (h : Holding) → IsShown v a h → is_directory_in h ≡ false
 IsStepped v a name state walk.NotFound = LacksName v a name
-IsStepped v a name state (walk.Hashed b) = (b ≡ a) × ((h : Holding) → IsShown v a h → is_hashed_in h ≡ true)
+IsStepped v a name state (walk.NeedBlock m) = IsNeededIn v a name m ⊎ GoesOn v a name state (walk.NeedBlock m)
 IsStepped v a name state w = GoesOn v a name state w
 
 -- by the next name of this directory the walk comes to damage: there, or in the inode to which it leads
 pub data IsDamageAhead (v : Seen) (dir : ℕ) (name : List ℕ) (state : State) : ℕ → ℕ → Type 0 where
-  in_this : (rule b : ℕ) → ((h : Holding) → IsShown v dir h → IsLinearDirectory h × directory.IsBroken h rule b) → IsDamageAhead v dir name state rule b
+  in_this : (rule b : ℕ) → IsDirectoryAt v dir → ((h : Holding) → dirs.IsShown v dir h → dirs.IsBroken h rule b) → IsDamageAhead v dir name state rule b
   past_groups : (b : ℕ) → Names v dir name b → ¬ (HasDataBlock v b) → IsDamageAhead v dir name state 2 dir
   in_child : (b rule c : ℕ) → Names v dir name b → HasDataBlock v b → holds v (hold_of b state) ≡ true → ((h : Holding) → IsShown v b h → inode.IsBroken h rule c)
       → IsDamageAhead v dir name state rule c

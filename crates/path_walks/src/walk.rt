@@ -18,10 +18,10 @@ ghost use Rattle.path_walks.specs.Walks.{AreInOrder, IsTold, IsDamage, IsDamageA
 
 use call_locks::Want;
 use dinode_tree::read_dinode;
+use directories::look;
 use file_tree::Name;
 use gfs2_layout::Dinode;
 use glock_names::{CallFault, LockName, Missing, State, Step, View, is_at_most};
-use linear_dirs::look;
 use resource_groups::group_of;
 
 /// The inode at the end of a path: the block of its dinode, that of the directory above it (the root's is its own), and
@@ -42,8 +42,6 @@ pub enum Walk {
     NotFound,
     /// The next name is asked of a file.
     NotDir,
-    /// This directory on the way is hashed, which isn't read yet.
-    Hashed(u64),
     /// The next inode's lock isn't held so strongly.
     NeedLock { lock: LockName, state: State },
     /// This block isn't in the view.
@@ -95,13 +93,10 @@ fn step<V: View>(view: &V, place: &Place, name: &Name, state: State) -> Result<W
     if !place.dinode.is_directory() {
         return Ok(Walk::NotDir);
     }
-    if place.dinode.flags / 2 % 2 == 1 {
-        return Ok(Walk::Hashed(place.inode));
-    }
     let entry = match look(view, place.inode, bytes)? {
         Step::Is(Some(entry)) => entry,
         Step::Is(None) => return Ok(Walk::NotFound),
-        Step::NeedBlock(_) => unreachable!(),
+        Step::NeedBlock(missing) => return Ok(Walk::NeedBlock(missing)),
     };
     if group_of(view, entry.addr).is_none() {
         return Err(CallFault::Damaged {

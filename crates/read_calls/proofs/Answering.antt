@@ -13,8 +13,3 @@ use Rattle.dinode_tree.specs.Shown.{IsShown}
 pub file_so : (h : Holding) (d : Dinode) → d ≡ dinode_in h → is_directory d ≡ false → is_directory_in h ≡ false
 file_so h d is file = ap is_directory (sym is) ∙ file
 
-pub wrong_all : {A : Type 0} (v : Seen) (a : ℕ) (P : Holding → ℕ → ℕ → Type 0) (r : Result A CallFault) → ((h : Holding) → IsShown v a h → IfDamaged r (P h))
-    → IfDamaged r (λ rule b. (h : Holding) → IsShown v a h → P h rule b)
-wrong_all v a P (Ok answer) damage = tt
-wrong_all v a P (Err NoMemory) damage = tt
-wrong_all v a P (Err (Damaged b rule)) damage = damage

@@ -1,4 +1,4 @@
+pub mod Dots
 pub mod Answering
-pub mod Few
 pub mod Lists
 pub mod Trees

@@ -1,5 +1,5 @@
 -- What the tree answers where a walk along the call's path ended.
-use Rattle.std.proofs.Common.{◌≡◌, ◌+◌, ℕ, true, false, List, [], length, Result, Ok, Err, IfOk, refl, sym, ap, ◌∙◌, arith}
+use Rattle.std.proofs.Common.{◌≡◌, ◌⊎◌, inl, inr, ◌+◌, ℕ, true, false, List, [], length, Result, Ok, Err, IfOk, refl, sym, ap, ◌∙◌, arith}
 use Rattle.std.proofs.lemmas.List.Sorted.{IsPermutation-refl}
 use Rattle.file_tree.specs.Tree.{Tree, file, dir, count_in}
 use Rattle.file_tree.specs.Apply.{Walked, Found, Refused, apply, walk, read_reply, stat_reply, list_reply}
@@ -28,15 +28,18 @@ use Rattle.image_changes.specs.Walks.{ListsNames}
 use Rattle.image_changes.proofs.DirectoryNames.{directories_list}
 use Rattle.image_changes.proofs.Nodes.{file_thing}
 use Rattle.image_changes.proofs.Walks.{walks_find}
-use Rattle.path_walks.specs.Holds.{Hold, AreHeld, EndsWith, holds_in}
-use Rattle.path_walks.specs.Walks.{IsWrong, in_inode, in_directory, no_dot, no_dots, IsDamage, on_path, LeadsTo, at_root, by_name, the_root, the_child}
+use Rattle.path_walks.specs.Holds.{Hold, AreHeld, EndsWith, IsAskedFor, holds_in}
+use Rattle.std.specs.Prelude.{codes}
+use Rattle.path_walks.specs.Walks.{IsWrongAt, IsDamage, on_path, LeadsTo, at_root, by_name, the_root, the_child}
 use Rattle.call_locks.specs.declared.want.Want.{Want}
 use Rattle.dinode_tree.specs.Shown.{IsShown}
-use Rattle.path_walks.proofs.Images.{has_dot, has_dots, is_inode, is_sound, unbroken, unbroken_directory}
-use Rattle.read_calls.specs.Reading.{IsReading, IsRangeOf, IsStatOf, IsListOf, IsAnswerOf, IsFoundBy, IsFound, IsAsked, IsAnswered, IsNeededFor, IsHashedFor, IsToldOf}
+use Rattle.path_walks.proofs.Images.{is_inode, is_shown, is_sound, shown_directory, shown_inode, sound_directory}
+use Rattle.directories.specs.Shown as dirs
+use Rattle.glock_names.specs.declared.steps.Missing.{Missing}
+use Rattle.read_calls.specs.Reading.{IsReading, IsRangeOf, IsStatOf, IsListOf, IsAnswerOf, IsFoundBy, IsFound, IsAsked, IsAskedCount, IsAskedRecords, IsAnswered, IsNeededFor, IsShownFor, IsToldOf}
 use Rattle.read_calls.specs.declared.answers.Read.{Read}
 use Rattle.read_calls.specs.declared.answers.Read.TheVariants as read
-use Rattle.path_walks.proofs.Asked.{asked}
+use Rattle.path_walks.proofs.Asked.{asked, at_end, name_asked, names_asked}
 
 -- a walk that is refused
 pub refused : (c : Call) (t : Tree) (r : Reply) → IsReading c → walk t (path_of c false) ≡ Refused r → (apply c t).reply ≡ r
@@ -85,7 +88,6 @@ module _ (v : Seen) (im : Image) (o : Owners) (l : Layout) (t : Tree) (of : IsOf
   range_found list ends held from count (read.Reply reply.IsDir) is = (ap (λ w. read_reply w from count) (listed is).walks, held)
   range_found list ends held from count (read.Reply (reply.Bytes bytes)) is = (ap (λ w. read_reply w from count) (file_there is.0) ∙ ap reply.Bytes (sym (is.2 (whole_before from))), held)
   range_found list ends held from count (read.NeedBlock m) is = asked v im o l t of path a at list ends held (IsInRange (holding im o a) from count) 0 m is.1
-  range_found list ends held from count (read.Hashed b) is = absurd is
   range_found list ends held from count (read.NeedLock lock state) is = absurd is
   range_found list ends held from count (read.Reply reply.Ok) is = absurd is
   range_found list ends held from count (read.Reply (reply.Stat kind size)) is = absurd is
@@ -98,86 +100,90 @@ module _ (v : Seen) (im : Image) (o : Owners) (l : Layout) (t : Tree) (of : IsOf
   range_found list ends held from count (read.Reply reply.TooBig) is = absurd is
   range_found list ends held from count (read.Reply reply.NoSpace) is = absurd is
 
-  stat_found : (list : List Hold) → AreHeld v list → (r : Read) → IsStatOf (holding im o a) r → IsFoundBy v im o l (stat_reply (walk t path)) list r
-  stat_found list held (read.Reply (reply.Stat File size)) is = (ap stat_reply (file_there is.0) ∙ ap (reply.Stat File) (file_size ∙ sym is.1), held)
-  stat_found list held (read.Reply (reply.Stat Dir count)) is =
+  name_needed : (list : List Hold) → EndsWith list a → AreHeld v list → is_directory_in (holding im o a) ≡ true → (name : List ℕ) (m : Missing) → ((h : Holding) → dirs.IsShown v a h → dirs.IsNeededFor v h name m) → IsAskedFor v im o l list m
+  name_needed list ends held is name m needs =
+      name_asked v im o l t of path a at list (at_end v list a ends held) is name m (needs (holding im o a) (shown_directory v im o l t of path a at is))
+
+  stat_found : (list : List Hold) → EndsWith list a → AreHeld v list → (r : Read) → IsStatOf (holding im o a) r → IsAskedCount v a r → IsFoundBy v im o l (stat_reply (walk t path)) list r
+  stat_found list ends held (read.Reply (reply.Stat File size)) is asks = (ap stat_reply (file_there is.0) ∙ ap (reply.Stat File) (file_size ∙ sym is.1), held)
+  stat_found list ends held (read.Reply (reply.Stat Dir count)) is asks =
       let names = listed is.0 in
       let counted : count_in names.entries ≡ count = omega (arith, names.counted, is.1) in
       (ap stat_reply names.walks ∙ ap (reply.Stat Dir) counted, held)
-  stat_found list held (read.Hashed b) is = tt
-  stat_found list held (read.NeedBlock m) is = absurd is
-  stat_found list held (read.NeedLock lock state) is = absurd is
-  stat_found list held (read.Reply reply.IsDir) is = absurd is
-  stat_found list held (read.Reply (reply.Bytes bytes)) is = absurd is
-  stat_found list held (read.Reply reply.Ok) is = absurd is
-  stat_found list held (read.Reply (reply.Names names)) is = absurd is
-  stat_found list held (read.Reply reply.NotFound) is = absurd is
-  stat_found list held (read.Reply reply.NotDir) is = absurd is
-  stat_found list held (read.Reply reply.Exists) is = absurd is
-  stat_found list held (read.Reply reply.NotEmpty) is = absurd is
-  stat_found list held (read.Reply reply.Inside) is = absurd is
-  stat_found list held (read.Reply reply.TooBig) is = absurd is
-  stat_found list held (read.Reply reply.NoSpace) is = absurd is
+  stat_found list ends held (read.NeedBlock m) is asks = by asks.3
+    where
+      by : ((h : Holding) → dirs.IsShown v a h → dirs.IsNeededFor v h (codes ".") m) ⊎ ((h : Holding) → dirs.IsShown v a h → dirs.IsNeededFor v h (codes "..") m) → IsAskedFor v im o l list m
+      by (inl dot) = name_needed list ends held is.0 (codes ".") m dot
+      by (inr dots) = name_needed list ends held is.0 (codes "..") m dots
+  stat_found list ends held (read.NeedLock lock state) is asks = absurd is
+  stat_found list ends held (read.Reply reply.IsDir) is asks = absurd is
+  stat_found list ends held (read.Reply (reply.Bytes bytes)) is asks = absurd is
+  stat_found list ends held (read.Reply reply.Ok) is asks = absurd is
+  stat_found list ends held (read.Reply (reply.Names names)) is asks = absurd is
+  stat_found list ends held (read.Reply reply.NotFound) is asks = absurd is
+  stat_found list ends held (read.Reply reply.NotDir) is asks = absurd is
+  stat_found list ends held (read.Reply reply.Exists) is asks = absurd is
+  stat_found list ends held (read.Reply reply.NotEmpty) is asks = absurd is
+  stat_found list ends held (read.Reply reply.Inside) is asks = absurd is
+  stat_found list ends held (read.Reply reply.TooBig) is asks = absurd is
+  stat_found list ends held (read.Reply reply.NoSpace) is asks = absurd is
 
-  list_found : (list : List Hold) → AreHeld v list → (r : Read) → IsListOf (holding im o a) r → IsFoundBy v im o l (list_reply (walk t path)) list r
-  list_found list held (read.Reply reply.NotDir) is = (ap list_reply (file_there is), held)
-  list_found list held (read.Reply (reply.Names names)) is =
+  list_found : (list : List Hold) → EndsWith list a → AreHeld v list → (r : Read) → IsListOf (holding im o a) r → IsAskedRecords v a r → IsFoundBy v im o l (list_reply (walk t path)) list r
+  list_found list ends held (read.Reply reply.NotDir) is asks = (ap list_reply (file_there is), held)
+  list_found list ends held (read.Reply (reply.Names names)) is asks =
       let all = listed is.0 in
-      (ap list_reply all.walks ∙ ap reply.Names (sym (is.1 ∙ all.names (names_of (records_of (holding im o a))) (IsPermutation-refl (names_of (records_of (holding im o a)))))), held)
-  list_found list held (read.Hashed b) is = tt
-  list_found list held (read.NeedBlock m) is = absurd is
-  list_found list held (read.NeedLock lock state) is = absurd is
-  list_found list held (read.Reply reply.IsDir) is = absurd is
-  list_found list held (read.Reply (reply.Bytes bytes)) is = absurd is
-  list_found list held (read.Reply reply.Ok) is = absurd is
-  list_found list held (read.Reply (reply.Stat kind size)) is = absurd is
-  list_found list held (read.Reply reply.NotFound) is = absurd is
-  list_found list held (read.Reply reply.Exists) is = absurd is
-  list_found list held (read.Reply reply.NotEmpty) is = absurd is
-  list_found list held (read.Reply reply.Inside) is = absurd is
-  list_found list held (read.Reply reply.TooBig) is = absurd is
-  list_found list held (read.Reply reply.NoSpace) is = absurd is
+      let listed_are = is.1.1.in_sound (sound_directory v im o l t of path a at is.0) in
+      (ap list_reply all.walks ∙ ap reply.Names (sym (is.1.2 ∙ all.names is.1.0 listed_are)), held)
+  list_found list ends held (read.NeedBlock m) is asks =
+      names_asked v im o l t of path a at list (at_end v list a ends held) is m (asks.1 (holding im o a) (shown_directory v im o l t of path a at is))
+  list_found list ends held (read.NeedLock lock state) is asks = absurd is
+  list_found list ends held (read.Reply reply.IsDir) is asks = absurd is
+  list_found list ends held (read.Reply (reply.Bytes bytes)) is asks = absurd is
+  list_found list ends held (read.Reply reply.Ok) is asks = absurd is
+  list_found list ends held (read.Reply (reply.Stat kind size)) is asks = absurd is
+  list_found list ends held (read.Reply reply.NotFound) is asks = absurd is
+  list_found list ends held (read.Reply reply.Exists) is asks = absurd is
+  list_found list ends held (read.Reply reply.NotEmpty) is asks = absurd is
+  list_found list ends held (read.Reply reply.Inside) is asks = absurd is
+  list_found list ends held (read.Reply reply.TooBig) is asks = absurd is
+  list_found list ends held (read.Reply reply.NoSpace) is asks = absurd is
 
 -- the answer at the path's end is what is found
 pub answer_found : (v : Seen) (im : Image) (o : Owners) (l : Layout) (t : Tree) → IsOf v im o l t → (c : Call) (a : ℕ) → IsAt im o l (path_of c false) a
-    → EndsWith (holds_in im o l (path_of c false) (wanted c)) a → AreHeld v (holds_in im o l (path_of c false) (wanted c)) → (r : Read) → IsAnswerOf v (holding im o a) c r → IsFound v im o l t c r
-answer_found v im o l t of (call.Read p from count) a at ends held r is = range_found v im o l t of p a at (holds_in im o l p (wanted (call.Read p from count))) ends held from count r is
-answer_found v im o l t of (call.Dread p from count) a at ends held r is = range_found v im o l t of p a at (holds_in im o l p (wanted (call.Dread p from count))) ends held from count r is
-answer_found v im o l t of (call.List p) a at ends held r is = list_found v im o l t of p a at (holds_in im o l p (wanted (call.List p))) held r is
-answer_found v im o l t of (call.Stat p) a at ends held r is = stat_found v im o l t of p a at (holds_in im o l p (wanted (call.Stat p))) held r is
-answer_found v im o l t of (call.Create p) a at ends held r is = absurd is
-answer_found v im o l t of (call.Mkdir p) a at ends held r is = absurd is
-answer_found v im o l t of (call.Unlink p) a at ends held r is = absurd is
-answer_found v im o l t of (call.Rmdir p) a at ends held r is = absurd is
-answer_found v im o l t of (call.Write p from new) a at ends held r is = absurd is
-answer_found v im o l t of (call.Truncate p size) a at ends held r is = absurd is
-answer_found v im o l t of (call.Rename p q) a at ends held r is = absurd is
-answer_found v im o l t of call.Sync a at ends held r is = absurd is
+    → EndsWith (holds_in im o l (path_of c false) (wanted c)) a → AreHeld v (holds_in im o l (path_of c false) (wanted c)) → (r : Read) → IsAnswerOf v (holding im o a) c r → IsAsked v a c r → IsFound v im o l t c r
+answer_found v im o l t of (call.Read p from count) a at ends held r is asks = range_found v im o l t of p a at (holds_in im o l p (wanted (call.Read p from count))) ends held from count r is
+answer_found v im o l t of (call.Dread p from count) a at ends held r is asks = range_found v im o l t of p a at (holds_in im o l p (wanted (call.Dread p from count))) ends held from count r is
+answer_found v im o l t of (call.List p) a at ends held r is asks = list_found v im o l t of p a at (holds_in im o l p (wanted (call.List p))) ends held r is asks
+answer_found v im o l t of (call.Stat p) a at ends held r is asks = stat_found v im o l t of p a at (holds_in im o l p (wanted (call.Stat p))) ends held r is asks
+answer_found v im o l t of (call.Create p) a at ends held r is asks = absurd is
+answer_found v im o l t of (call.Mkdir p) a at ends held r is asks = absurd is
+answer_found v im o l t of (call.Unlink p) a at ends held r is asks = absurd is
+answer_found v im o l t of (call.Rmdir p) a at ends held r is asks = absurd is
+answer_found v im o l t of (call.Write p from new) a at ends held r is asks = absurd is
+answer_found v im o l t of (call.Truncate p size) a at ends held r is asks = absurd is
+answer_found v im o l t of (call.Rename p q) a at ends held r is asks = absurd is
+answer_found v im o l t of call.Sync a at ends held r is asks = absurd is
 
 -- what follows of an answer
 pub ok_so : {A E : Type 0} (P Q : A → Type 0) → ((x : A) → P x → Q x) → (r : Result A E) → IfOk r P → IfOk r Q
 ok_so P Q so (Ok x) holds = so x holds
 ok_so P Q so (Err f) holds = tt
 
--- nothing of an inode on a path is wrong
-pub nothing_wrong : (v : Seen) (im : Image) (o : Owners) (l : Layout) (t : Tree) → IsOf v im o l t → (path : Path) (a : ℕ) → IsAt im o l path a → (rule b : ℕ) → IsWrong (holding im o a) rule b → ⊥
-nothing_wrong v im o l t of path a at rule b (in_inode r c broken) = unbroken v im o l t of path a r c at broken
-nothing_wrong v im o l t of path a at rule b (in_directory r c is broken) = unbroken_directory v im o l t of path a r c at is.directory is.linear broken
-nothing_wrong v im o l t of path a at rule b (no_dot is none) = has_dot v im o l t of path a at is.directory none
-nothing_wrong v im o l t of path a at rule b (no_dots is none) = has_dots v im o l t of path a at is.directory none
+pub ok_both : {A E : Type 0} (P Q R : A → Type 0) → ((x : A) → P x → Q x → R x) → (r : Result A E) → IfOk r P → IfOk r Q → IfOk r R
+ok_both P Q R so (Ok x) p q = so x p q
+ok_both P Q R so (Err f) p q = tt
 
 -- what is wrong with an inode to which the path leads is damage on it
-pub wrong_damage : (v : Seen) (wants : List Want) (path : Path) (a : ℕ) → LeadsTo v wants path a → (rule b : ℕ) → ((h : Holding) → IsShown v a h → IsWrong h rule b) → IsDamage v wants path rule b
+pub wrong_damage : (v : Seen) (wants : List Want) (path : Path) (a : ℕ) → LeadsTo v wants path a → (rule b : ℕ) → IsWrongAt v a rule b → IsDamage v wants path rule b
 wrong_damage v wants [] a (at_root held) rule b wrong = on_path 0 a rule b the_root held wrong
 wrong_damage v wants path a (by_name front above b' name leads is_name named inside held) rule b wrong =
     on_path (length front + 1) a rule b (the_child front [] above a name refl leads is_name named inside) held wrong
 
 -- what the inode at the path's end answers is told of the view
 pub told_at : (v : Seen) (c : Call) (a : ℕ) → LeadsTo v (wanted c) (path_of c false) a → (r : Read) → IsAsked v a c r
-    → ((h : Holding) → IsShown v a h → IsAnswerOf v h c r) → IsToldOf v c r
+    → ((h : Holding) → IsShownFor v a c h → IsAnswerOf v h c r) → IsToldOf v c r
 told_at v c a leads (read.Reply r) asked answers = IsAnswered.at_end a r leads answers
 told_at v c a leads (read.NeedBlock m) asked answers = IsNeededFor.at_end a leads asked
-told_at v c a leads (read.Hashed b) asked answers = IsHashedFor.at_end a leads asked
 told_at v (call.Read p from count) a leads (read.NeedLock lock state) asked answers = absurd asked
 told_at v (call.List p) a leads (read.NeedLock lock state) asked answers = absurd asked
 told_at v (call.Stat p) a leads (read.NeedLock lock state) asked answers = absurd asked
@@ -192,6 +198,21 @@ told_at v (call.Rename p q) a leads (read.NeedLock lock state) asked answers = a
 told_at v call.Sync a leads (read.NeedLock lock state) asked answers = absurd asked
 
 pub all_told : (v : Seen) (c : Call) (a : ℕ) {E : Type 0} (r : Result Read E) → LeadsTo v (wanted c) (path_of c false) a → IfOk r (IsAsked v a c)
-    → ((h : Holding) → IsShown v a h → IfOk r (IsAnswerOf v h c)) → IfOk r (IsToldOf v c)
+    → ((h : Holding) → IsShownFor v a c h → IfOk r (IsAnswerOf v h c)) → IfOk r (IsToldOf v c)
 all_told v c a (Ok x) leads asked answers = told_at v c a leads x asked answers
 all_told v c a (Err f) leads asked answers = tt
+
+-- the inode of an image is shown for each call
+pub image_shown : (v : Seen) (im : Image) (o : Owners) (l : Layout) (t : Tree) → IsOf v im o l t → (path : Path) (a : ℕ) → IsAt im o l path a → (c : Call) → IsShownFor v a c (holding im o a)
+image_shown v im o l t of path a at (call.List p) = shown_inode v im o l t of path a at
+image_shown v im o l t of path a at (call.Read p from count) = is_shown v im o l t of path a at
+image_shown v im o l t of path a at (call.Dread p from count) = is_shown v im o l t of path a at
+image_shown v im o l t of path a at (call.Stat p) = is_shown v im o l t of path a at
+image_shown v im o l t of path a at (call.Create p) = is_shown v im o l t of path a at
+image_shown v im o l t of path a at (call.Mkdir p) = is_shown v im o l t of path a at
+image_shown v im o l t of path a at (call.Unlink p) = is_shown v im o l t of path a at
+image_shown v im o l t of path a at (call.Rmdir p) = is_shown v im o l t of path a at
+image_shown v im o l t of path a at (call.Write p from new) = is_shown v im o l t of path a at
+image_shown v im o l t of path a at (call.Truncate p size) = is_shown v im o l t of path a at
+image_shown v im o l t of path a at (call.Rename p q) = is_shown v im o l t of path a at
+image_shown v im o l t of path a at call.Sync = is_shown v im o l t of path a at

@@ -1,13 +1,12 @@
 -- The calls that read.
-use Rattle.std.specs.Prelude.{ℕ, ◌≡◌, ◌+◌, ◌-◌, ◌<◌, min, ⊤, true, false, List, [], length}
+use Rattle.std.specs.Prelude.{ℕ, ◌≡◌, ◌⊎◌, ◌+◌, ◌-◌, ◌<◌, min, ⊤, true, false, List, [], codes, length, None}
 use Rattle.file_tree.specs.declared.call.Call.{Call}
 use Rattle.file_tree.specs.declared.call.Call.TheVariants.{Read, Dread, Stat, List as ListNames}
 use Rattle.file_tree.specs.declared.reply.Kind.TheVariants.{File, Dir}
 use Rattle.file_tree.specs.declared.reply.Reply.{Reply}
 use Rattle.file_tree.specs.declared.reply.Reply.TheVariants as reply
 use Rattle.gfs2_layout.specs.Holding.{Holding}
-use Rattle.gfs2_layout.specs.Inode.{dinode_in, is_directory_in, is_hashed_in, records_of}
-use Rattle.gfs2_layout.specs.Records.{names_of}
+use Rattle.gfs2_layout.specs.Inode.{dinode_in, is_directory_in}
 use Rattle.glock_names.specs.Views.{Seen}
 use Rattle.file_tree.specs.Tree.{Tree, all_put}
 use Rattle.file_tree.specs.Apply.{apply}
@@ -18,7 +17,8 @@ use Rattle.image_model.specs.Owners.{Owners}
 use Rattle.image_model.specs.Stands.{Layout}
 use Rattle.path_walks.specs.Answers.{HasSpace}
 use Rattle.path_walks.specs.Holds.{Hold, AreHeld, IsAskedFor, IsFirstLack, holds_in}
-use Rattle.path_walks.specs.Walks.{LeadsTo, IsLacked, IsUnread, IsAbsent, IsOnTheWay}
+use Rattle.directories.specs.Shown as dirs
+use Rattle.path_walks.specs.Walks.{LeadsTo, IsDirectoryAt, IsLacked, IsUnread, IsAbsent, IsOnTheWay}
 use Rattle.dinode_tree.specs.Shown.{IsShown}
 use Rattle.glock_names.specs.declared.steps.Missing.{Missing}
 use Rattle.dinode_tree.specs.Reading.{AreWholeBefore, content_range, IsInRange, IsNeeded}
@@ -43,19 +43,18 @@ IsRangeOf v h at count (found.Reply (reply.Bytes bytes)) = (is_directory_in h �
 IsRangeOf v h at count (found.NeedBlock m) = (is_directory_in h ≡ false) × IsNeeded v h (IsInRange h at count) 0 m
 IsRangeOf v h at count _ = ⊥
 
--- A file's size, or how many names a directory has: its dinode counts two records more. Of a hashed one that counts fewer than two it isn't told:
--- its records would have to be read.
+-- a file's size, or how many names a directory has: its dinode counts two records more
 abbrev pub IsStatOf : Holding → Found → Type 0
 IsStatOf h (found.Reply (reply.Stat File size)) = (is_directory_in h ≡ false) × (size ≡ (dinode_in h).size)
 IsStatOf h (found.Reply (reply.Stat Dir count)) = (is_directory_in h ≡ true) × (2 + count ≡ (dinode_in h).entries)
-IsStatOf h (found.Hashed a) = (a ≡ h.own) × (is_hashed_in h ≡ true) × ((dinode_in h).entries < 2)
+IsStatOf h (found.NeedBlock m) = (is_directory_in h ≡ true) × ((dinode_in h).entries < 2)
 IsStatOf h _ = ⊥
 
--- a directory's names in byte order
+-- a directory's names, in byte order
 abbrev pub IsListOf : Holding → Found → Type 0
 IsListOf h (found.Reply reply.NotDir) = is_directory_in h ≡ false
-IsListOf h (found.Reply (reply.Names names)) = (is_directory_in h ≡ true) × (names ≡ all_put [] (names_of (records_of h)))
-IsListOf h (found.Hashed a) = (a ≡ h.own) × (is_hashed_in h ≡ true)
+IsListOf h (found.Reply (reply.Names names)) = (is_directory_in h ≡ true) × ((all : List (List ℕ)) × dirs.AreNames h all × (names ≡ all_put [] all))
+IsListOf h (found.NeedBlock m) = is_directory_in h ≡ true
 IsListOf h _ = ⊥
 
 abbrev pub IsAnswerOf : Seen → Holding → Call → Found → Type 0
@@ -65,6 +64,11 @@ IsAnswerOf v h (Stat path) f = IsStatOf h f
 IsAnswerOf v h (ListNames path) f = IsListOf h f
 IsAnswerOf v h _ f = ⊥
 
+-- the holding may be that of the inode, as far as the view tells: of a directory whose names are listed, with its leaves
+abbrev pub IsShownFor : Seen → ℕ → Call → Holding → Type 0
+IsShownFor v a (ListNames path) h = dirs.IsShown v a h
+IsShownFor v a call h = IsShown v a h
+
 -- ---- what is asked of an inode
 
 -- a block of the range that is read
@@ -73,16 +77,17 @@ IsAskedRange v a at count (found.Reply r) = ⊤
 IsAskedRange v a at count (found.NeedBlock m) = (h : Holding) → IsShown v a h → (is_directory_in h ≡ false) × IsNeeded v h (IsInRange h at count) 0 m
 IsAskedRange v a at count _ = ⊥
 
--- the records of a hashed directory
+-- a block of a directory whose records are read
 abbrev pub IsAskedRecords : Seen → ℕ → Found → Type 0
 IsAskedRecords v a (found.Reply r) = ⊤
-IsAskedRecords v a (found.Hashed b) = (b ≡ a) × ((h : Holding) → IsShown v a h → is_hashed_in h ≡ true)
+IsAskedRecords v a (found.NeedBlock m) = IsDirectoryAt v a × ((h : Holding) → dirs.IsShown v a h → dirs.IsNeededForAll v h m) × (v.block_at m.block ≡ None)
 IsAskedRecords v a _ = ⊥
 
--- those of a hashed directory that counts fewer than its two dots
+-- a block of a directory that counts fewer records than `.` and `..`, without which it isn't told whether it has these
 abbrev pub IsAskedCount : Seen → ℕ → Found → Type 0
 IsAskedCount v a (found.Reply r) = ⊤
-IsAskedCount v a (found.Hashed b) = (b ≡ a) × ((h : Holding) → IsShown v a h → (is_hashed_in h ≡ true) × ((dinode_in h).entries < 2))
+IsAskedCount v a (found.NeedBlock m) = IsDirectoryAt v a × ((h : Holding) → IsShown v a h → (dinode_in h).entries < 2) × (v.block_at m.block ≡ None)
+    × (((h : Holding) → dirs.IsShown v a h → dirs.IsNeededFor v h (codes ".") m) ⊎ ((h : Holding) → dirs.IsShown v a h → dirs.IsNeededFor v h (codes "..") m))
 IsAskedCount v a _ = ⊥
 
 abbrev pub IsAsked : Seen → ℕ → Call → Found → Type 0
@@ -104,22 +109,16 @@ pub data IsAnswered (v : Seen) (call : Call) : Reply → Type 0 where
   not_found : IsAbsent v (wanted call) (path_of call false) → IsAnswered v call reply.NotFound
   not_dir : (a : ℕ) → IsOnTheWay v (wanted call) (path_of call false) a (λ h. is_directory_in h ≡ false) → IsAnswered v call reply.NotDir
   at_end : (a : ℕ) (r : Reply) → LeadsTo v (wanted call) (path_of call false) a
-      → ((h : Holding) → IsShown v a h → IsAnswerOf v h call (found.Reply r)) → IsAnswered v call r
+      → ((h : Holding) → IsShownFor v a call h → IsAnswerOf v h call (found.Reply r)) → IsAnswered v call r
 
--- a block without which the call can't be answered: the dinode of the next inode on its path, or one of the range that it reads
+-- a block without which the call can't be answered: one on its path, or one of the inode at its end that it reads
 pub data IsNeededFor (v : Seen) (call : Call) (m : Missing) : Type 0 where
   on_path : IsUnread v (wanted call) (path_of call false) m → IsNeededFor v call m
   at_end : (a : ℕ) → LeadsTo v (wanted call) (path_of call false) a → IsAsked v a call (found.NeedBlock m) → IsNeededFor v call m
 
--- a hashed directory without which the call can't be answered: one on its path, or the one whose records it has to read
-pub data IsHashedFor (v : Seen) (call : Call) (b : ℕ) : Type 0 where
-  on_path : IsOnTheWay v (wanted call) (path_of call false) b (λ h. is_hashed_in h ≡ true) → IsHashedFor v call b
-  at_end : (a : ℕ) → LeadsTo v (wanted call) (path_of call false) a → IsAsked v a call (found.Hashed b) → IsHashedFor v call b
-
 abbrev pub IsToldOf : Seen → Call → Found → Type 0
 IsToldOf v call (found.Reply r) = IsAnswered v call r
 IsToldOf v call (found.NeedBlock m) = IsNeededFor v call m
-IsToldOf v call (found.Hashed b) = IsHashedFor v call b
 IsToldOf v call (found.NeedLock lock state) = IsLacked v (wanted call) (path_of call false) lock state
 
 -- ---- in an image that the view may be of
@@ -129,7 +128,6 @@ IsToldOf v call (found.NeedLock lock state) = IsLacked v (wanted call) (path_of 
 abbrev pub IsFoundBy : Seen → Image → Owners → Layout → Reply → List Hold → Found → Type 0
 IsFoundBy v im o l answer list (found.Reply r) = (answer ≡ r) × AreHeld v list
 IsFoundBy v im o l answer list (found.NeedBlock m) = IsAskedFor v im o l list m
-IsFoundBy v im o l answer list (found.Hashed a) = ⊤
 IsFoundBy v im o l answer list (found.NeedLock lock state) = IsFirstLack v list lock state
 
 abbrev pub IsFound : Seen → Image → Owners → Layout → Tree → Call → Found → Type 0

@@ -6,14 +6,15 @@ ghost use Rattle.gfs2_layout.specs.Inode.{dinode_in};
 ghost use Rattle.glock_names.specs.Steps.{IfDamaged};
 ghost use Rattle.glock_names.specs.Views.{HasBlock, IsOfView};
 ghost use Rattle.dinode_tree.specs.Shown.{IsShown};
-ghost use Rattle.read_calls.specs.Reading.{IsReading, IsRangeOf, IsStatOf, IsListOf, IsAnswerOf, IsAskedRange, IsAskedRecords, IsAskedCount, IsAsked, IsSpaceless};
-ghost use Rattle.linear_dirs.specs.Shown.{IsLinearIn};
-ghost use Rattle.path_walks.specs.Walks.{IsLinearDirectory, IsWrong};
+ghost use Rattle.read_calls.specs.Reading.{IsReading, IsRangeOf, IsStatOf, IsListOf, IsAnswerOf, IsAskedRange, IsAskedRecords, IsAskedCount, IsAsked, IsShownFor, IsSpaceless};
+ghost use Rattle.directories.specs.Shown.{IsDirectoryIn};
+ghost use Rattle.directories.specs.Shown as dirs;
+ghost use Rattle.path_walks.specs.Walks.{IsDirectoryAt, IsWrongAt};
 
 use dinode_tree::read_range;
+use directories::{look, names};
 use file_tree::{Call, Content, Kind, Name, NameList, Reply};
 use glock_names::{CallFault, LockName, Missing, State, Step, View};
-use linear_dirs::{look, names};
 use no_memory::NoMemory;
 use path_walks::Place;
 use std::alloc::Global;
@@ -25,8 +26,6 @@ pub(crate) enum Read {
     Reply(Reply),
     /// This block isn't in the view.
     NeedBlock(Missing),
-    /// This directory is hashed.
-    Hashed(u64),
     /// This lock isn't held so strongly.
     NeedLock { lock: LockName, state: State },
 }
@@ -55,7 +54,7 @@ fn read_file<V: View>(
     ensures read { (h : Holding) → IsShown (V.seen view.now) place.now.inode h → IfOk result (IsRangeOf (V.seen view.now) h at count) }
     ensures asked { IfOk result (IsAskedRange (V.seen view.now) place.now.inode at count) }
     ensures spaceless { IfOk result IsSpaceless }
-    ensures damaged { (h : Holding) → IsShown (V.seen view.now) place.now.inode h → IfDamaged result (IsWrong h) }
+    ensures damaged { IfDamaged result (IsWrongAt (V.seen view.now) place.now.inode) }
     ensures kept { IfDamaged result (IsOfView (V.seen view.now)) }
 {
     if place.dinode.is_directory() {
@@ -67,30 +66,41 @@ fn read_file<V: View>(
     }
 }
 
-// The rule that a linear directory breaks whose dinode counts fewer records than `.` and `..`: one of these is missing in it, or it has more
-// records than are counted.
-fn rule_of_few<V: View>(view: &V, dir: u64) -> Result<u16, CallFault>
+// What is wrong with a directory whose dinode counts fewer records than `.` and `..`: one of these is missing in it, or it has more records than
+// are counted.
+fn look_for_dots<V: View>(view: &V, dir: u64) -> Result<Read, CallFault>
     requires there { HasBlock (V.seen view.now) dir }
-    requires plain { IsLinearIn (V.seen view.now) dir }
-    requires linear { (h : Holding) → IsShown (V.seen view.now) dir h → IsLinearDirectory h }
+    requires plain { IsDirectoryIn (V.seen view.now) dir }
+    requires directory { IsDirectoryAt (V.seen view.now) dir }
     requires few { (h : Holding) → IsShown (V.seen view.now) dir h → (dinode_in h).entries < 2 }
-    ensures rule { (h : Holding) → IsShown (V.seen view.now) dir h → IfOk result (λ rule. IsWrong h rule dir) }
-    ensures damaged { (h : Holding) → IsShown (V.seen view.now) dir h → IfDamaged result (IsWrong h) }
+    ensures read { (h : Holding) → IsShown (V.seen view.now) dir h → IfOk result (IsStatOf h) }
+    ensures asked { IfOk result (IsAskedCount (V.seen view.now) dir) }
+    ensures spaceless { IfOk result IsSpaceless }
+    ensures damaged { IfDamaged result (IsWrongAt (V.seen view.now) dir) }
     ensures kept { IfDamaged result (IsOfView (V.seen view.now)) }
 {
-    let Step::Is(dot) = look(view, dir, b".".as_slice())? else {
-        unreachable!()
+    let dot = match look(view, dir, b".".as_slice())? {
+        Step::Is(found) => found,
+        Step::NeedBlock(missing) => return Ok(Read::NeedBlock(missing)),
     };
     if dot.is_none() {
-        return Ok(10);
+        return Err(damaged(dir, 10));
     }
-    let Step::Is(dots) = look(view, dir, b"..".as_slice())? else {
-        unreachable!()
+    let dots = match look(view, dir, b"..".as_slice())? {
+        Step::Is(found) => found,
+        Step::NeedBlock(missing) => return Ok(Read::NeedBlock(missing)),
     };
     if dots.is_none() {
-        return Ok(10);
+        return Err(damaged(dir, 10));
     }
-    Ok(12)
+    Err(damaged(dir, 12))
+}
+
+// The fault of a block that breaks a rule.
+fn damaged(block: u64, rule: u16) -> CallFault
+    ensures { result ≡ CallFault.Damaged block rule }
+{
+    CallFault::Damaged { block, rule }
 }
 
 // A file's size, or how many names a directory has: `.` and `..` are counted in its dinode too.
@@ -100,7 +110,7 @@ fn stat<V: View>(view: &V, place: &Place) -> Result<Read, CallFault>
     ensures read { (h : Holding) → IsShown (V.seen view.now) place.now.inode h → IfOk result (IsStatOf h) }
     ensures asked { IfOk result (IsAskedCount (V.seen view.now) place.now.inode) }
     ensures spaceless { IfOk result IsSpaceless }
-    ensures damaged { (h : Holding) → IsShown (V.seen view.now) place.now.inode h → IfDamaged result (IsWrong h) }
+    ensures damaged { IfDamaged result (IsWrongAt (V.seen view.now) place.now.inode) }
     ensures kept { IfDamaged result (IsOfView (V.seen view.now)) }
 {
     if !place.dinode.is_directory() {
@@ -109,35 +119,25 @@ fn stat<V: View>(view: &V, place: &Place) -> Result<Read, CallFault>
     if let Some(count) = place.dinode.entries.checked_sub(2) {
         return Ok(Read::Reply(Reply::Stat(Kind::Dir, u64::from(count))));
     }
-    if place.dinode.flags / 2 % 2 == 1 {
-        return Ok(Read::Hashed(place.inode));
-    }
-    let rule = rule_of_few(view, place.inode)?;
-    Err(CallFault::Damaged {
-        block: place.inode,
-        rule,
-    })
+    look_for_dots(view, place.inode)
 }
 
 // Lists the names of a directory.
 fn list<V: View>(alloc: Global, view: &V, place: &Place) -> Result<Read, CallFault>
     requires there { HasBlock (V.seen view.now) place.now.inode }
     requires dinode { (h : Holding) → IsShown (V.seen view.now) place.now.inode h → place.now.dinode ≡ dinode_in h }
-    ensures read { (h : Holding) → IsShown (V.seen view.now) place.now.inode h → IfOk result (IsListOf h) }
+    ensures read { (h : Holding) → dirs.IsShown (V.seen view.now) place.now.inode h → IfOk result (IsListOf h) }
     ensures asked { IfOk result (IsAskedRecords (V.seen view.now) place.now.inode) }
     ensures spaceless { IfOk result IsSpaceless }
-    ensures damaged { (h : Holding) → IsShown (V.seen view.now) place.now.inode h → IfDamaged result (IsWrong h) }
+    ensures damaged { IfDamaged result (IsWrongAt (V.seen view.now) place.now.inode) }
     ensures kept { IfDamaged result (IsOfView (V.seen view.now)) }
 {
     if !place.dinode.is_directory() {
         return Ok(Read::Reply(Reply::NotDir));
     }
-    if place.dinode.flags / 2 % 2 == 1 {
-        return Ok(Read::Hashed(place.inode));
-    }
     match names(alloc, view, place.inode)? {
         Step::Is(names) => Ok(Read::Reply(Reply::Names(in_order(alloc, names)?))),
-        Step::NeedBlock(_) => unreachable!(),
+        Step::NeedBlock(missing) => Ok(Read::NeedBlock(missing)),
     }
 }
 
@@ -151,10 +151,10 @@ pub(crate) fn answer_at<V: View>(
     requires reading { IsReading call.now }
     requires there { HasBlock (V.seen view.now) place.now.inode }
     requires dinode { (h : Holding) → IsShown (V.seen view.now) place.now.inode h → place.now.dinode ≡ dinode_in h }
-    ensures read { (h : Holding) → IsShown (V.seen view.now) place.now.inode h → IfOk result (IsAnswerOf (V.seen view.now) h call.now) }
+    ensures read { (h : Holding) → IsShownFor (V.seen view.now) place.now.inode call.now h → IfOk result (IsAnswerOf (V.seen view.now) h call.now) }
     ensures asked { IfOk result (IsAsked (V.seen view.now) place.now.inode call.now) }
     ensures spaceless { IfOk result IsSpaceless }
-    ensures damaged { (h : Holding) → IsShown (V.seen view.now) place.now.inode h → IfDamaged result (IsWrong h) }
+    ensures damaged { IfDamaged result (IsWrongAt (V.seen view.now) place.now.inode) }
     ensures kept { IfDamaged result (IsOfView (V.seen view.now)) }
 {
     match call {

@@ -6,11 +6,11 @@ use Rattle.glock_names.specs.Views.{IsOfView}
 use Rattle.glock_names.proofs.StepLaws.{answer_at, needed_at}
 use Rattle.linear_dirs.specs.Shown.{entry_of}
 use Rattle.linear_dirs.proofs.Looked.{handed}
-use Rattle.hash_dirs.specs.Broken.{IsBroken}
+use Rattle.hash_dirs.specs.Broken.{IsBroken, IsWrongIn}
 use Rattle.hash_dirs.specs.Walking.{OfEach, IsLeafOf}
 use Rattle.hash_dirs.specs.declared.finding.Spot.{Spot}
 use Rattle.hash_dirs.proofs.Along.{begins, goes_on, comes_again_to, nameless, still_nameless, found_here, found_nowhere, none_named}
-use Rattle.hash_dirs.proofs.Leaves.{told}
+use Rattle.hash_dirs.proofs.Leaves.{wrong_of, told}
 use Rattle.hash_dirs.proofs.finding.find_along.Goals as goal
 
 pub loop-place-init : goal.loop-place-init
@@ -23,8 +23,8 @@ pub leaf_at-requires : goal.leaf_at-requires
 leaf_at-requires g c = record { from = c.loop-place.invariant.along.from }
 
 pub returns-in_err-leaf-clause-damaged : goal.returns-in_err-leaf-clause-damaged
-returns-in_err-leaf-clause-damaged g c h i shown is depth few =
-    handed c.from_residual.result _ (IsDamage (IsBroken h)) c.from_residual.ensures.1 (c.in_err-leaf.ensures.damaged h i shown (c.loop-place.invariant.along.at h i shown is).leads depth few)
+returns-in_err-leaf-clause-damaged g c h i shown is depth =
+    handed c.from_residual.result _ (IsDamage (IsWrongIn (g.V.View.seen c.args.view.now) h)) c.from_residual.ensures.1 (c.in_err-leaf.ensures.damaged h i shown (c.loop-place.invariant.along.at h i shown is).leads depth)
 
 pub returns-in-NeedBlock-clause-needed : goal.returns-in-NeedBlock-clause-needed
 returns-in-NeedBlock-clause-needed g c h i shown is = needed_at _ _ _ c.in-NeedBlock.is (c.in_ok-leaf.ensures.needed h i shown (c.loop-place.invariant.along.at h i shown is).leads)
@@ -55,9 +55,9 @@ loop-place-preserved g c =
     }
 
 pub returns-clause-damaged : goal.returns-clause-damaged
-returns-clause-damaged g c h i shown is depth few =
-    told h c.damaged.result c.loop-place.link.from 15 c.damaged.ensures
-    (comes_again_to (g.V.View.seen c.args.view.now) c.args.dir c.args.head.now c.loop-place._place c.loop-place.link (omega arith) c.loop-place.invariant.along h i shown is)
+returns-clause-damaged g c h i shown is depth =
+    wrong_of (g.V.View.seen c.args.view.now) h c.damaged.result (told h c.damaged.result c.loop-place.link.from 15 c.damaged.ensures
+    (comes_again_to (g.V.View.seen c.args.view.now) c.args.dir c.args.head.now c.loop-place._place c.loop-place.link (omega arith) c.loop-place.invariant.along h i shown is))
 
 pub returns-clause-kept : goal.returns-clause-kept
 returns-clause-kept g c = subst (IsDamage (IsOfView (g.V.View.seen c.args.view.now))) (sym c.damaged.ensures) c.loop-place.invariant.along.from

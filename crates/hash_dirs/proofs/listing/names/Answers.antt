@@ -3,10 +3,10 @@ use Rattle.gfs2_layout.specs.Inode.{depth_in, table_count}
 use Rattle.glock_names.specs.Steps.{TellsOf}
 use Rattle.glock_names.proofs.StepLaws.{answer_at, needed_at}
 use Rattle.linear_dirs.proofs.Looked.{handed}
-use Rattle.hash_dirs.specs.Broken.{IsBroken}
+use Rattle.hash_dirs.specs.Broken.{IsWrongIn}
 use Rattle.hash_dirs.specs.Shown.{of_table}
 use Rattle.hash_dirs.specs.Walking.{IsListed}
-use Rattle.hash_dirs.proofs.Leaves.{damage_of, head_of, needed_within}
+use Rattle.hash_dirs.proofs.Leaves.{wrong_tells, damage_of, head_of, needed_within}
 use Rattle.hash_dirs.proofs.Listed.{tells}
 use Rattle.hash_dirs.proofs.Passed.{listed_all, listed_next, listed_none}
 use Rattle.hash_dirs.proofs.listing.names.Goals as goal
@@ -18,8 +18,8 @@ loop-index-init g c = record {
 }
 
 pub returns-in_err-head-clause-damaged : goal.returns-in_err-head-clause-damaged
-returns-in_err-head-clause-damaged g c h shown shows few =
-    handed c.from_residual.result _ (TellsOf (IsBroken h)) c.from_residual.ensures.1 (tells h c.in_err-head.field-0.0 (damage_of h c.in_err-head.field-0.0 (c.in_err-head.ensures.damaged h shows)))
+returns-in_err-head-clause-damaged g c h shown shows =
+    handed c.from_residual.result _ (TellsOf (IsWrongIn (g.V.View.seen c.args.view.now) h)) c.from_residual.ensures.1 (wrong_tells (g.V.View.seen c.args.view.now) h c.in_err-head.field-0.0 (tells h c.in_err-head.field-0.0 (damage_of h c.in_err-head.field-0.0 (c.in_err-head.ensures.damaged h shows))))
 
 pub returns-in-NeedBlock-clause-needed : goal.returns-in-NeedBlock-clause-needed
 returns-in-NeedBlock-clause-needed g c h shown shows =

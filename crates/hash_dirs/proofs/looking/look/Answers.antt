@@ -3,14 +3,14 @@ use Rattle.gfs2_layout.specs.Inode.{depth_in, top_bits}
 use Rattle.glock_names.specs.Steps.{IsDamage}
 use Rattle.glock_names.proofs.StepLaws.{answer_at, needed_at}
 use Rattle.linear_dirs.proofs.Looked.{handed}
-use Rattle.hash_dirs.specs.Broken.{IsBroken}
+use Rattle.hash_dirs.specs.Broken.{IsWrongIn}
 use Rattle.hash_dirs.specs.Shown.{index_for, of_table}
-use Rattle.hash_dirs.proofs.Leaves.{damage_of, head_of}
+use Rattle.hash_dirs.proofs.Leaves.{damage_of, head_of, wrong_of}
 use Rattle.hash_dirs.proofs.looking.look.Goals as goal
 
 pub returns-in_err-head-clause-damaged : goal.returns-in_err-head-clause-damaged
-returns-in_err-head-clause-damaged g c h shown shows few =
-    handed c.from_residual.result _ (IsDamage (IsBroken h)) c.from_residual.ensures.1 (damage_of h c.in_err-head.field-0.0 (c.in_err-head.ensures.damaged h shows))
+returns-in_err-head-clause-damaged g c h shown shows =
+    handed c.from_residual.result _ (IsDamage (IsWrongIn (g.V.View.seen c.args.view.now) h)) c.from_residual.ensures.1 (wrong_of (g.V.View.seen c.args.view.now) h c.in_err-head.field-0.0 (damage_of h c.in_err-head.field-0.0 (c.in_err-head.ensures.damaged h shows)))
 
 pub returns-in-NeedBlock-clause-needed : goal.returns-in-NeedBlock-clause-needed
 returns-in-NeedBlock-clause-needed g c h shown shows =

@@ -9,11 +9,11 @@ use Rattle.drafts.specs.Fates.{seen_in}
 use Rattle.linear_dirs.specs.Exchanges.{HasExchanged}
 use Rattle.linear_dirs.specs.Shown.{holding_over}
 use Rattle.linear_dirs.proofs.Looked.{handed}
-use Rattle.hash_dirs.specs.Broken.{IsBroken}
+use Rattle.hash_dirs.specs.Broken.{IsWrongIn}
 use Rattle.hash_dirs.specs.Shown.{IsShown, index_for, of_table}
 use Rattle.hash_dirs.specs.Spots.{IsInPlace, IsSpotIn}
 use Rattle.hash_dirs.proofs.Few.{few_kept, too_few}
-use Rattle.hash_dirs.proofs.Leaves.{damage_of, dinode_needed, found_at, head_at, index_is}
+use Rattle.hash_dirs.proofs.Leaves.{wrong_tells, damage_of, dinode_needed, found_at, head_at, index_is}
 use Rattle.hash_dirs.proofs.Listed.{tells}
 use Rattle.hash_dirs.proofs.Removed.{depth_kept, first_named_is, has_exchanged, sound_directory, still_shown, cut_from, pads_kept}
 use Rattle.hash_dirs.proofs.removing.remove.Goals as goal
@@ -22,8 +22,8 @@ same : (r q : Record) → Some r ≡ Some q → r ≡ q
 same r q e = cc
 
 pub returns-in_err-head-clause-damaged : goal.returns-in_err-head-clause-damaged
-returns-in_err-head-clause-damaged g c h shown shows few =
-    handed c.from_residual.result _ (TellsOf (IsBroken h)) c.from_residual.ensures.1 (tells h c.in_err-head.field-0.0 (damage_of h c.in_err-head.field-0.0 (c.in_err-head.ensures.damaged h shows)))
+returns-in_err-head-clause-damaged g c h shown shows =
+    handed c.from_residual.result _ (TellsOf (IsWrongIn (seen_in g.V.View.seen c.args.draft.now) h)) c.from_residual.ensures.1 (wrong_tells (seen_in g.V.View.seen c.args.draft.now) h c.in_err-head.field-0.0 (tells h c.in_err-head.field-0.0 (damage_of h c.in_err-head.field-0.0 (c.in_err-head.ensures.damaged h shows))))
 
 pub returns-in-NeedBlock-clause-needed : goal.returns-in-NeedBlock-clause-needed
 returns-in-NeedBlock-clause-needed g c h shown shows =
@@ -37,8 +37,8 @@ returns-in-NeedBlock-2-clause-needed g c h shown shows =
     needed_at _ _ _ c.in-NeedBlock-2.is (c.in_ok-found.ensures.needed h (index_for h c.args.name.now) shown head)
 
 pub returns-in_err-dinode-clause-damaged : goal.returns-in_err-dinode-clause-damaged
-returns-in_err-dinode-clause-damaged g c h shown shows few =
-    handed c.from_residual-in_err-dinode.result _ (TellsOf (IsBroken h)) c.from_residual-in_err-dinode.ensures.1 (tells h c.in_err-dinode.field-0.0 (damage_of h c.in_err-dinode.field-0.0 (c.in_err-dinode.ensures.damaged h shown.inode)))
+returns-in_err-dinode-clause-damaged g c h shown shows =
+    handed c.from_residual-in_err-dinode.result _ (TellsOf (IsWrongIn (seen_in g.V.View.seen c.args.draft.now) h)) c.from_residual-in_err-dinode.ensures.1 (wrong_tells (seen_in g.V.View.seen c.args.draft.now) h c.in_err-dinode.field-0.0 (tells h c.in_err-dinode.field-0.0 (damage_of h c.in_err-dinode.field-0.0 (c.in_err-dinode.ensures.damaged h shown.inode))))
 
 pub returns-in-NeedBlock-3-clause-needed : goal.returns-in-NeedBlock-3-clause-needed
 returns-in-NeedBlock-3-clause-needed g c h shown shows =
@@ -46,15 +46,16 @@ returns-in-NeedBlock-3-clause-needed g c h shown shows =
     (needed_at _ _ _ c.in-NeedBlock-3.is c.in_ok-dinode.ensures.needed) (needed_at _ _ _ c.in-NeedBlock-3.is c.in_ok-dinode.ensures.absent)
 
 pub returns-in_err-cut_and_count-clause-damaged : goal.returns-in_err-cut_and_count-clause-damaged
-returns-in_err-cut_and_count-clause-damaged g c h shown shows few =
+returns-in_err-cut_and_count-clause-damaged g c h shown shows =
     let v = seen_in g.V.View.seen c.args.draft.now in
     let deep = c.depth-depth.ensures.value ∙ g.met.T.PointerTable.deep_in c.args.table.now v h shows in
     let head = head_at h c.args.name.now c.depth-depth.result c.crc32.result c.index_of.result c.in-Is.head c.index_of.ensures.value deep c.crc32.ensures c.index_of.ensures.low (answer_at _ _ _ c.in-Is.is (c.in_ok-head.ensures.found h shows)) in
     let spot = found_at c.in_ok-found.field-0 c.in-Is-Some.field-0 c.in-Is-Some.found (IsSpotIn v c.args.name.now) c.in-Is-Some.is c.in-Is-Some.field-0-is c.in_ok-found.ensures.spot in
     let place = found_at c.in_ok-found.field-0 c.in-Is-Some.field-0 c.in-Is-Some.found (IsInPlace h (index_for h c.args.name.now) c.args.name.now) c.in-Is-Some.is c.in-Is-Some.field-0-is (c.in_ok-found.ensures.place h (index_for h c.args.name.now) shown head) in
     let dinode = answer_at _ _ _ c.in-Is-2.is (c.in_ok-dinode.ensures.found h shown.inode) in
-    handed c.from_residual-in_err-cut_and_count.result _ (TellsOf (IsBroken h)) c.from_residual-in_err-cut_and_count.ensures.1
-    (too_few v h c.args.dir (index_for h c.args.name.now) c.args.name.now c.in-Is-Some.found c.in-Is-2.dinode shown spot place dinode c.records_are_found_by_name.ensures.first c.in_err-cut_and_count.field-0.0 c.in_err-cut_and_count.ensures.few)
+    handed c.from_residual-in_err-cut_and_count.result _ (TellsOf (IsWrongIn (seen_in g.V.View.seen c.args.draft.now) h)) c.from_residual-in_err-cut_and_count.ensures.1
+    (wrong_tells v h c.in_err-cut_and_count.field-0.0
+    (too_few v h c.args.dir (index_for h c.args.name.now) c.args.name.now c.in-Is-Some.found c.in-Is-2.dinode shown spot place dinode c.records_are_found_by_name.ensures.first c.in_err-cut_and_count.field-0.0 c.in_err-cut_and_count.ensures.few))
 
 pub returns-clause-removed : goal.returns-clause-removed
 returns-clause-removed g c h r shown shows sound named =

@@ -1,0 +1,10 @@
+//! A directory, whatever its form: a map from names to entries.
+#![tactic(auto)]
+
+mod laws;
+mod listing;
+mod looking;
+
+pub use laws::{directories_say_their_records, sound_directories_break_nothing};
+pub use listing::names;
+pub use looking::look;
