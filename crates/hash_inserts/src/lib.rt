@@ -1,2 +1,12 @@
 //! Names that come into hashed directories.
 #![tactic(auto)]
+
+mod converting;
+mod inserting;
+mod needing;
+mod splitting;
+
+pub use converting::to_hashed;
+pub use inserting::insert;
+pub use needing::{need_first, need_insert};
+pub use splitting::split;

@@ -1,0 +1,47 @@
+// A leaf of a hashed directory that is split in a draft.
+ghost use Rattle.std.specs.Prelude.{◌≡◌, ◌<◌, ◌≤◌, true, None, length};
+ghost use Rattle.drafts.specs.Fates.{seen_in};
+ghost use Rattle.gfs2_layout.specs.Holding.{Holding};
+ghost use Rattle.gfs2_layout.specs.Inode.{depth_in, table_count};
+ghost use Rattle.glock_names.specs.Steps.{IfIs, IfNeedBlock, IfDamaged};
+ghost use Rattle.glock_names.specs.Views.{IsOfView};
+ghost use Rattle.growth_drafts.specs.Taken.{AreFreeFor};
+ghost use Rattle.hash_dirs.specs.Broken.{IsWrongIn};
+ghost use Rattle.hash_dirs.specs.Shown.{IsNeededFor, IsShown, IsSound};
+ghost use Rattle.hash_steps.specs.Leaves.{HasOneLeaf, leaf_depth};
+ghost use Rattle.hash_inserts.specs.Inserting.{Splits};
+
+use drafts::Draft;
+use glock_names::{CallFault, Step, View};
+use pointer_tables::PointerTableMut;
+use std::alloc::Global;
+use std::collections::VecDeque;
+
+/// Splits the one leaf of the chain of a pointer of the hashed directory with its dinode in this block, where that leaf is less deep than the
+/// table: a new leaf, the block at the front of `room`, takes the lower half of its pointers and of its records. The answer is whether that
+/// was done: `false` where there is no such pointer, its chain has several leaves or one as deep as the table, the room is empty, or the
+/// directory isn't sound; then the draft may be half done, and is to be dropped. It looks at what `look` looks at, and at every block of
+/// the table, before it changes anything.
+pub fn split<V: View, T: PointerTableMut>(
+    alloc: Global,
+    draft: &mut Draft<'_, V>,
+    dir: u64,
+    table: &mut T,
+    index: u32,
+    room: &mut VecDeque<u64>,
+) -> Result<Step<bool>, CallFault>
+    ensures put { (h : Holding) → IsShown (seen_in V.seen draft.old) dir h → T.shows table.old (seen_in V.seen draft.old) h → IsSound h → index < table_count h
+        → HasOneLeaf h index → leaf_depth h index < depth_in h → AreFreeFor h room.old.items → 1 ≤ length room.old.items
+        → IfIs result (λ done. (done ≡ true) × ((g : Holding) × IsShown (seen_in V.seen draft.new) dir g × T.shows table.new (seen_in V.seen draft.new) g
+        × Splits draft.old.fates draft.new.fates room.old.items room.new.items index h g)) }
+    ensures needed { (h : Holding) → IsShown (seen_in V.seen draft.old) dir h → T.shows table.old (seen_in V.seen draft.old) h
+        → IfNeedBlock result (IsNeededFor (seen_in V.seen draft.old) h (λ i. i < table_count h)) }
+    ensures absent { IfNeedBlock result (λ missing. (seen_in V.seen draft.old).block_at missing.block ≡ None) }
+    ensures waits { IfNeedBlock result (λ missing. (draft.new ≡ draft.old) × (room.new.items ≡ room.old.items) × (table.new ≡ table.old)) }
+    ensures damaged { (h : Holding) → IsShown (seen_in V.seen draft.old) dir h → T.shows table.old (seen_in V.seen draft.old) h → IfDamaged result (IsWrongIn (seen_in V.seen draft.old) h) }
+    ensures kept { IfDamaged result (IsOfView (seen_in V.seen draft.old)) }
+    ensures stays { IfDamaged result (λ rule block. (draft.new ≡ draft.old) × (room.new.items ≡ room.old.items) × (table.new ≡ table.old)) }
+    ensures view { draft.new.view ≡ draft.old.view }
+{
+    Err(CallFault::NoMemory)
+}
