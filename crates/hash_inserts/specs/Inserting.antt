@@ -1,24 +1,24 @@
 -- How a name comes into a hashed directory.
-use Rattle.std.specs.Prelude.{ℕ, ◌≡◌, ◌≢◌, ◌⊎◌, ◌*◌, ◌/◌, ◌<◌, ◌≤◌, true, List, [], ◌∷◌, ◌++◌, length, Contains, Some}
+use Rattle.std.specs.Prelude.{ℕ, ◌≡◌, ◌≢◌, ◌⊎◌, ◌*◌, ◌<◌, ◌≤◌, true, List, [], ◌∷◌, ◌++◌, length, Contains, Some}
 use Rattle.std.specs.FinMap.{FinMap, get}
 use Rattle.std.specs.Ordering.{nat_cmp}
 use Rattle.drafts.specs.declared.fate.Fate.{Fate}
 use Rattle.gfs2_layout.specs.Area.{slots_of}
 use Rattle.gfs2_layout.specs.Holding.{Holding, Pointed, part_at}
-use Rattle.gfs2_layout.specs.Inode.{depth_in, leaf_area, table_count, unit}
+use Rattle.gfs2_layout.specs.Inode.{depth_in, leaf_area, table_count}
 use Rattle.glock_names.specs.Views.{Seen}
 use Rattle.glock_names.specs.declared.steps.Entry.{Entry}
 use Rattle.glock_names.specs.declared.steps.Missing.{Missing}
+use Rattle.dinode_tree.specs.Below.{AnyIndex}
 use Rattle.dinode_tree.specs.Reading.{IsNeeded}
 use Rattle.growth_drafts.specs.Taken.{HasTaken}
 use Rattle.linear_dirs.specs.Exchanges.{HasExchanged}
 use Rattle.linear_dirs.specs.Shown.{record_for}
-use Rattle.pointer_tables.specs.Tables.{DraftsDirectory, IsDoubled, is_within}
+use Rattle.pointer_tables.specs.Tables.{DraftsDirectory, IsDoubled}
 use Rattle.hash_dirs.specs.Shown.{IsInChain, IsNeededFor, IsSound, index_for}
 use Rattle.hash_steps.specs.Laws.{Stays}
-use Rattle.hash_steps.specs.Leaves.{HasOneLeaf, IsFull, IsFullBefore, first_of, has_room_for, leaf_depth, run_of}
+use Rattle.hash_steps.specs.Leaves.{HasOneLeaf, IsFull, IsFullBefore, has_room_for, leaf_depth}
 use Rattle.hash_steps.specs.Steps.{IsConverted, IsLengthened, IsPutInLeaf, IsSplit}
-use Rattle.hash_inserts.specs.Needing.{DoublesTable}
 
 -- no leaf of the name's chain has room for it
 abbrev pub HasNoRoom : Holding → List ℕ → Type 0
@@ -94,9 +94,12 @@ pub record Converts (old new : FinMap nat_cmp Fate) (room left : List ℕ) (h g 
 -- ---- what is asked for
 
 -- The view hasn't this block, without which it isn't told how the name comes in: one of the name's chain, or on the way to it; and where its one leaf has
--- no room, one on the way to a pointer to that leaf, or, where the table is doubled, any of the table.
+-- no room, any block of the table, or on the way to it.
 pub data IsNeededToInsert (v : Seen) (h : Holding) (name : List ℕ) (m : Missing) : Type 0 where
   of_chain : IsNeededFor v h (λ i. i ≡ index_for h name) m → IsNeededToInsert v h name m
-  of_run : (i : ℕ) → HasNoRoom h name → HasOneLeafFor h name → is_within (first_of h (index_for h name)) (run_of h (depth_for h name)) i ≡ true
-      → IsNeeded v h (λ k. k ≡ 8 * i / unit h) 0 m → IsNeededToInsert v h name m
-  of_table : (i : ℕ) → DoublesTable h name → i < table_count h → IsNeeded v h (λ k. k ≡ 8 * i / unit h) 0 m → IsNeededToInsert v h name m
+  of_table : HasNoRoom h name → HasOneLeafFor h name → IsNeeded v h AnyIndex 0 m → IsNeededToInsert v h name m
+
+-- The view hasn't this block, without which the leaf of a pointer isn't split: the leaf, or one of the table, or on the way to these.
+pub data IsNeededToSplit (v : Seen) (h : Holding) (index : ℕ) (m : Missing) : Type 0 where
+  of_leaf : IsNeededFor v h (λ i. i ≡ index) m → IsNeededToSplit v h index m
+  of_pointers : IsNeeded v h AnyIndex 0 m → IsNeededToSplit v h index m

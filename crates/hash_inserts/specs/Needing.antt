@@ -40,7 +40,7 @@ split_for hash slots c = record c {
 
 -- after the table is doubled
 abbrev pub doubled : Chain → Chain
-doubled c = record c { table = c.table + 1; height = table_height c.size c.height (2 * 2 ^ c.table) (10 - c.height) }
+doubled c = record c { table = c.table + 1; height = table_height c.size c.height (2 * 2 ^ c.table) }
 
 -- `Needs len hash c n`: a name of this length and hash takes so many blocks. Of three rules the first that fits is followed, until a leaf has room.
 pub data Needs (len hash : ℕ) : Chain → ℕ → Type 0 where
@@ -52,11 +52,6 @@ pub data Needs (len hash : ℕ) : Chain → ℕ → Type 0 where
       → Needs len hash (doubled c) n → Needs len hash c (n + doubling_need c.size c.height (2 ^ c.table))
   -- in every other case a leaf is added behind the chain
   a_leaf : (c : Chain) → is_full len c → (2 ≤ length c.leaves) ⊎ (c.table ≤ c.depth × (can_double c → ⊥)) → Needs len hash c 1
-
--- the name doubles the table, now or after splits
-pub data Doubles (len hash : ℕ) : Chain → Type 0 where
-  now : (c : Chain) (slots : List Slot) → is_full len c → c.leaves ≡ slots ∷ [] → c.table ≤ c.depth → can_double c → Doubles len hash c
-  later : (c : Chain) (slots : List Slot) → is_full len c → c.leaves ≡ slots ∷ [] → c.depth < c.table → Doubles len hash (split_for hash slots c) → Doubles len hash c
 
 -- ---- the chain of a name
 
@@ -77,10 +72,6 @@ pub record TakesBlocks (h : Holding) (name : List ℕ) (n : ℕ) : Type 0 where
   pub chain : Chain
   pub is : IsChainOf h name chain
   pub needs : Needs (length name) (crc32_of name) chain n
-
--- a name that isn't there doubles the table
-abbrev pub DoublesTable : Holding → List ℕ → Type 0
-DoublesTable h name = (c : Chain) × IsChainOf h name c × Doubles (length name) (crc32_of name) c
 
 -- ---- a linear directory
 

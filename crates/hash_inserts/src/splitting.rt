@@ -7,9 +7,9 @@ ghost use Rattle.glock_names.specs.Steps.{IfIs, IfNeedBlock, IfDamaged};
 ghost use Rattle.glock_names.specs.Views.{IsOfView};
 ghost use Rattle.growth_drafts.specs.Taken.{AreFreeFor};
 ghost use Rattle.hash_dirs.specs.Broken.{IsWrongIn};
-ghost use Rattle.hash_dirs.specs.Shown.{IsNeededFor, IsShown, IsSound};
+ghost use Rattle.hash_dirs.specs.Shown.{IsShown, IsSound};
 ghost use Rattle.hash_steps.specs.Leaves.{HasOneLeaf, leaf_depth};
-ghost use Rattle.hash_inserts.specs.Inserting.{Splits};
+ghost use Rattle.hash_inserts.specs.Inserting.{IsNeededToSplit, Splits};
 
 use drafts::Draft;
 use glock_names::{CallFault, Step, View};
@@ -35,7 +35,7 @@ pub fn split<V: View, T: PointerTableMut>(
         → IfIs result (λ done. (done ≡ true) × ((g : Holding) × IsShown (seen_in V.seen draft.new) dir g × T.shows table.new (seen_in V.seen draft.new) g
         × Splits draft.old.fates draft.new.fates room.old.items room.new.items index h g)) }
     ensures needed { (h : Holding) → IsShown (seen_in V.seen draft.old) dir h → T.shows table.old (seen_in V.seen draft.old) h
-        → IfNeedBlock result (IsNeededFor (seen_in V.seen draft.old) h (λ i. i < table_count h)) }
+        → IfNeedBlock result (IsNeededToSplit (seen_in V.seen draft.old) h index) }
     ensures absent { IfNeedBlock result (λ missing. (seen_in V.seen draft.old).block_at missing.block ≡ None) }
     ensures waits { IfNeedBlock result (λ missing. (draft.new ≡ draft.old) × (room.new.items ≡ room.old.items) × (table.new ≡ table.old)) }
     ensures damaged { (h : Holding) → IsShown (seen_in V.seen draft.old) dir h → T.shows table.old (seen_in V.seen draft.old) h → IfDamaged result (IsWrongIn (seen_in V.seen draft.old) h) }
