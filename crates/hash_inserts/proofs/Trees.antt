@@ -5,13 +5,15 @@ use Rattle.gfs2_layout.specs.Bytes.{u64_at}
 use Rattle.gfs2_layout.specs.Headers.{HasHeader}
 use Rattle.gfs2_layout.specs.Holding.{Holding, Cell, Part, Itself, Pointed, InChain, cell_part, part_at, bytes_at}
 use Rattle.gfs2_layout.specs.Inode.{Fits, HasTree, IsChild, IsPointed, by_dinode, by_block, block_count, content_count, content_of, depth_in, dinode_in, entry, fan, has_hash_flag, header_length, height_in, is_directory_in, is_hashed_in, pieces, pointer, span, table_count, unit}
-use Rattle.gfs2_layout.specs.Structures.{dinode_length, is_directory}
+use Rattle.gfs2_layout.specs.Structures.{dinode_length, dinode_of, is_directory}
 use Rattle.gfs2_layout.specs.declared.dinode.Dinode.{Dinode}
 use Rattle.growth_laws.specs.Files.{with_cells}
 use Rattle.growth_laws.proofs.Numbers.{numbers_behind_are_the_same}
 use Rattle.pointer_tables.specs.Directories.{IsPlaced, IsTreeSound}
 use Rattle.hash_dirs.proofs.Chained.{cell_some}
 use Rattle.hash_steps.proofs.Contents.{KeepsContent, content_same}
+use Rattle.hash_inserts.proofs.Blocks.{with_block, bytes_here, bytes_apart, part_here, part_apart, some_before}
+use Rattle.std.proofs.lemmas.Bool.{cases_eq}
 
 -- the part that a block has in the tree; a leaf has none
 abbrev pub in_tree : Option Part → Option Part
@@ -150,3 +152,79 @@ module _ (h : Holding) (cell : ℕ → Option Cell) (keeps : KeepsTree h cell) w
 
   pub entry_same : IsTreeSound h → 512 ≤ h.size → (i : ℕ) → entry g i ≡ entry h i
   entry_same sound large i = ap (u64_at (8 * i)) (content_same h cell keeps_content sound.tree large sound.fits)
+
+-- ---- block by block
+
+-- what is put keeps the tree, and then what is put in that
+pub keeps_then : (h : Holding) (first second : ℕ → Option Cell) → KeepsTree h first → KeepsTree (with_cells h first) second → KeepsTree h second
+keeps_then h first second one two = record {
+  parts = λ x. two.parts x ∙ one.parts x;
+  dinode = two.dinode ∙ one.dinode;
+  behind = two.behind ∙ one.behind;
+  pointed = λ x b k level at part. two.pointed x b k level at (part_after h first one x b k level at part) ∙ one.pointed x b k level at part;
+}
+
+-- a leaf that is put
+pub leaf_keeps : (h : Holding) (y : ℕ) (part : Part) (bytes : List ℕ) → in_tree (part_at h y) ≡ None → in_tree (Some part) ≡ None → y ≢ h.own → KeepsTree h (with_block h y part bytes).cell
+unfolding dinode_in
+leaf_keeps h y part bytes was is apart = record {
+  parts = λ x. elim (cases_eq x y) [
+    | inl here ↦ ap (λ z. in_tree (part_at (with_block h y part bytes) z)) here ∙ ap in_tree (part_here h y part bytes) ∙ is ∙ sym was ∙ ap (λ z. in_tree (part_at h z)) (sym here)
+    | inr other ↦ ap in_tree (part_apart h y part bytes x other)
+  ];
+  dinode = ap (λ xs. countless (dinode_of xs)) own;
+  behind = ap (drop dinode_length) own;
+  pointed = λ x b k level first at. bytes_apart h y part bytes x (λ here. no_pointed b k level first (sym was ∙ ap (λ z. in_tree (part_at h z)) (sym here) ∙ ap in_tree at));
+}
+  where
+    own : bytes_at (with_block h y part bytes) h.own ≡ bytes_at h h.own
+    own = bytes_apart h y part bytes h.own (λ e. apart (sym e))
+
+    no_pointed : (b k level first : ℕ) → ◌≡◌ {A = Option Part} None (Some (Pointed b k level first)) → ⊥
+    no_pointed b k level first e = cc
+
+-- the dinode that is put, with other counts
+pub dinode_keeps : (h : Holding) (bytes : List ℕ) → part_at h h.own ≡ Some Itself → countless (dinode_of bytes) ≡ countless (dinode_in h) → drop dinode_length bytes ≡ drop dinode_length (bytes_at h h.own)
+    → KeepsTree h (with_block h h.own Itself bytes).cell
+unfolding dinode_in
+dinode_keeps h bytes own same behind = record {
+  parts = λ x. elim (cases_eq x h.own) [
+    | inl here ↦ ap (λ z. in_tree (part_at (with_block h h.own Itself bytes) z)) here ∙ ap in_tree (part_here h h.own Itself bytes ∙ sym own) ∙ ap (λ z. in_tree (part_at h z)) (sym here)
+    | inr other ↦ ap in_tree (part_apart h h.own Itself bytes x other)
+  ];
+  dinode = ap (λ xs. countless (dinode_of xs)) (bytes_here h h.own Itself bytes) ∙ same;
+  behind = ap (drop dinode_length) (bytes_here h h.own Itself bytes) ∙ behind;
+  pointed = λ x b k level first at. bytes_apart h h.own Itself bytes x (λ here. apart b k level first (sym own ∙ ap (part_at h) (sym here) ∙ at));
+}
+  where
+    apart : (b k level first : ℕ) → Some Itself ≡ Some (Pointed b k level first) → ⊥
+    apart b k level first e = cc
+
+-- ---- the rules of each block for itself
+
+pub record IsWhole (h : Holding) : Type 0 where
+  pub whole : (x : ℕ) (p : Part) → part_at h x ≡ Some p → length (bytes_at h x) ≡ h.size
+  pub header : HasHeader 4 400 (bytes_at h h.own)
+  pub nobody : part_at h 0 ≡ None
+  pub inside : (x : ℕ) → IsSome (h.cell x) → x < h.count
+
+pub whole_of : (h : Holding) → IsTreeSound h → IsPlaced h → IsWhole h
+whole_of h sound placed = record { whole = sound.whole; header = sound.header; nobody = placed.nobody; inside = placed.inside }
+
+-- one more is put
+pub whole_with : (h : Holding) (y : ℕ) (part : Part) (bytes : List ℕ) → IsWhole h → length bytes ≡ h.size → y ≢ 0 → y < h.count → (y ≡ h.own → HasHeader 4 400 bytes) → IsWhole (with_block h y part bytes)
+whole_with h y part bytes was long some inside header = record {
+  whole = λ x p at. elim (cases_eq x y) [
+    | inl here ↦ ap (λ z. length (bytes_at (with_block h y part bytes) z)) here ∙ ap length (bytes_here h y part bytes) ∙ long
+    | inr other ↦ ap length (bytes_apart h y part bytes x other) ∙ was.whole x p (sym (part_apart h y part bytes x other) ∙ at)
+  ];
+  header = elim (cases_eq h.own y) [
+    | inl here ↦ subst (HasHeader 4 400) (sym (ap (bytes_at (with_block h y part bytes)) here ∙ bytes_here h y part bytes)) (header (sym here))
+    | inr other ↦ subst (HasHeader 4 400) (sym (bytes_apart h y part bytes h.own other)) was.header
+  ];
+  nobody = part_apart h y part bytes 0 (λ e. some (sym e)) ∙ was.nobody;
+  inside = λ x there. elim (some_before h y part bytes x there) [ inl here ↦ subst (λ z. z < h.count) (sym here) inside | inr before ↦ was.inside x before ];
+}
+
+pub rules_of : (h : Holding) (cell : ℕ → Option Cell) → IsWhole (with_cells h cell) → (dinode_in (with_cells h cell)).blocks ≡ block_count (with_cells h cell) → KeepsRules h cell
+rules_of h cell whole blocks = record { header = whole.header; whole = whole.whole; blocks = blocks; nobody = whole.nobody; inside = whole.inside }

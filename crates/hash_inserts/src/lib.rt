@@ -5,6 +5,7 @@ mod converting;
 mod inserting;
 mod needing;
 mod splitting;
+mod writing;
 
 pub use converting::to_hashed;
 pub use inserting::insert;
