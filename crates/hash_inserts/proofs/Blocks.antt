@@ -16,11 +16,7 @@ use Rattle.glock_names.specs.declared.LockName.{LockName}
 use Rattle.dinode_tree.specs.Reading.{inode_lock}
 use Rattle.dinode_tree.specs.Shown.{IsAsSeen}
 use Rattle.growth_laws.proofs.Counting.{count_more, count_same}
-use Rattle.pointer_tables.specs.Tables.{DraftsDirectory}
-
--- the inode with this block, of this part and with these bytes
-abbrev pub with_block : Holding → ℕ → Part → List ℕ → Holding
-with_block h y part bytes = record h { cell = λ z. if z == y then Some (record { part = part; bytes = bytes }) else h.cell z }
+use Rattle.hash_inserts.specs.Drafting.{Puts, with_block}
 
 module _ (h : Holding) (y : ℕ) (part : Part) (bytes : List ℕ) where
   abbrev g : Holding
@@ -80,14 +76,6 @@ module _ (fates : FinMap nat_cmp Fate) (y : ℕ) (fate : Fate) where
 
   pub fate_apart : (z : ℕ) → z ≢ y → get (insert fates y fate) z ≡ get fates z
   fate_apart z other = inserted_apart nat_cmp_total nat_cmp-IsAntisymmetric fates y fate z other
-
--- From one inode to another a draft puts blocks, under its lock; and what it sees of the one it sees of the other.
-pub record Puts (v : Seen) (old new : FinMap nat_cmp Fate) (h g : Holding) : Type 0 where
-  pub own : g.own ≡ h.own
-  pub drafted : DraftsDirectory old new h g
-  pub seen : IsAsSeen (seen_with v old) h → IsAsSeen (seen_with v new) g
-  pub there : (b : ℕ) → HasBlock (seen_with v old) b → HasBlock (seen_with v new) b
-  pub keeps : (b : ℕ) → IsSome (h.cell b) → IsSome (g.cell b)
 
 module _ (v : Seen) (fates : FinMap nat_cmp Fate) (h : Holding) (y : ℕ) (part : Part) (bytes : List ℕ) where
   abbrev fate : Fate

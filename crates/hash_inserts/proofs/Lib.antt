@@ -1,3 +1,4 @@
 mod Blocks
 mod Trees
 mod LeafBytes
+mod Settled

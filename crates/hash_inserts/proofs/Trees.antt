@@ -12,7 +12,8 @@ use Rattle.growth_laws.proofs.Numbers.{numbers_behind_are_the_same}
 use Rattle.pointer_tables.specs.Directories.{IsPlaced, IsTreeSound}
 use Rattle.hash_dirs.proofs.Chained.{cell_some}
 use Rattle.hash_steps.proofs.Contents.{KeepsContent, content_same}
-use Rattle.hash_inserts.proofs.Blocks.{with_block, bytes_here, bytes_apart, part_here, part_apart, some_before}
+use Rattle.hash_inserts.specs.Drafting.{with_block}
+use Rattle.hash_inserts.proofs.Blocks.{bytes_here, bytes_apart, part_here, part_apart, some_before}
 use Rattle.std.proofs.lemmas.Bool.{cases_eq}
 
 -- the part that a block has in the tree; a leaf has none

@@ -1,3 +1,4 @@
 pub mod Needing
 pub mod Inserting
 pub mod Writing
+pub mod Drafting

@@ -2,6 +2,7 @@
 #![tactic(auto)]
 
 mod converting;
+mod drafting;
 mod inserting;
 mod needing;
 mod splitting;

@@ -1,0 +1,31 @@
+-- What a draft makes of a directory, step by step.
+use Rattle.std.specs.Prelude.{ℕ, ◌≡◌, ◌⊎◌, ◌↔◌, ◌==◌, if◌then◌else◌, List, Option, Some, IsSome}
+use Rattle.std.specs.FinMap.{FinMap, get}
+use Rattle.std.specs.Ordering.{nat_cmp}
+use Rattle.drafts.specs.Fates.{seen_with}
+use Rattle.drafts.specs.declared.fate.Fate.{Fate}
+use Rattle.gfs2_layout.specs.Holding.{Cell, Holding, Part}
+use Rattle.glock_names.specs.Views.{Seen, HasBlock}
+use Rattle.glock_names.specs.declared.steps.Entry.{Entry}
+use Rattle.dinode_tree.specs.Shown.{IsAsSeen}
+use Rattle.pointer_tables.specs.Tables.{DraftsDirectory}
+use Rattle.hash_steps.specs.Steps.{IsPutInLeaf}
+
+-- the inode with this block, of this part and with these bytes
+abbrev pub with_block : Holding → ℕ → Part → List ℕ → Holding
+with_block h y part bytes = record h { cell = λ z. if z == y then Some (record { part = part; bytes = bytes }) else h.cell z }
+
+-- From one inode to another a draft puts blocks, under its lock; and what it sees of the one it sees of the other.
+pub record Puts (v : Seen) (old new : FinMap nat_cmp Fate) (h g : Holding) : Type 0 where
+  pub own : g.own ≡ h.own
+  pub drafted : DraftsDirectory old new h g
+  pub seen : IsAsSeen (seen_with v old) h → IsAsSeen (seen_with v new) g
+  pub there : (b : ℕ) → HasBlock (seen_with v old) b → HasBlock (seen_with v new) b
+  pub keeps : (b : ℕ) → IsSome (h.cell b) → IsSome (g.cell b)
+
+-- The record of a name is put into this leaf of its chain, and nothing is done to any block but the leaf and the dinode's.
+pub record PutsInLeaf (v : Seen) (old new : FinMap nat_cmp Fate) (h g : Holding) (name : List ℕ) (e : Entry) (leaf : ℕ) : Type 0 where
+  pub puts : Puts v old new h g
+  pub put : IsPutInLeaf h g name e
+  pub only : (b : ℕ) → (get new b ≡ get old b) ⊎ ((b ≡ h.own) ⊎ (b ≡ leaf))
+  pub blocks : (b : ℕ) → IsSome (g.cell b) ↔ IsSome (h.cell b)
