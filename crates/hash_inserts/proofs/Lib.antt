@@ -1,4 +1,7 @@
 mod Blocks
-mod Trees
+mod Blockwise
 mod LeafBytes
+mod Put
+mod Results
 mod Settled
+mod Trees

@@ -19,7 +19,7 @@ use Rattle.hash_inserts.proofs.Trees.{IsWhole, KeepsTree, countless, dinode_keep
 module _ (h : Holding) (cell : ℕ → Option Cell) (new : List ℕ) (records links more : ℕ) (tree : IsTreeSound h) (placed : IsPlaced h) (keeps : KeepsTree h cell) (whole : IsWhole (with_cells h cell))
     (same : bytes_at (with_cells h cell) h.own ≡ bytes_at h h.own) (counts : block_count (with_cells h cell) ≡ block_count h + more)
     (written : IsDinodeWritten (bytes_at h h.own) new (counting (dinode_in h) records links more)) where
-  abbrev m : Holding
+  abbrev pub m : Holding
   m = with_cells h cell
 
   abbrev pub settled : Holding

@@ -1,11 +1,11 @@
 -- How a name comes into a hashed directory.
-use Rattle.std.specs.Prelude.{ℕ, ◌≡◌, ◌≢◌, ◌⊎◌, ◌*◌, ◌<◌, ◌≤◌, true, List, [], ◌∷◌, ◌++◌, length, Contains, Some}
+use Rattle.std.specs.Prelude.{ℕ, ◌≡◌, ◌≢◌, ◌⊎◌, ◌+◌, ◌*◌, ◌^◌, ◌<◌, ◌≤◌, true, List, [], ◌∷◌, ◌++◌, length, Contains, Some}
 use Rattle.std.specs.FinMap.{FinMap, get}
 use Rattle.std.specs.Ordering.{nat_cmp}
 use Rattle.drafts.specs.declared.fate.Fate.{Fate}
 use Rattle.gfs2_layout.specs.Area.{slots_of}
 use Rattle.gfs2_layout.specs.Holding.{Holding, Pointed, part_at}
-use Rattle.gfs2_layout.specs.Inode.{depth_in, leaf_area, table_count}
+use Rattle.gfs2_layout.specs.Inode.{depth_in, dinode_in, leaf_area, table_count}
 use Rattle.glock_names.specs.Views.{Seen}
 use Rattle.glock_names.specs.declared.steps.Entry.{Entry}
 use Rattle.glock_names.specs.declared.steps.Missing.{Missing}
@@ -103,3 +103,8 @@ pub data IsNeededToInsert (v : Seen) (h : Holding) (name : List ℕ) (m : Missin
 pub data IsNeededToSplit (v : Seen) (h : Holding) (index : ℕ) (m : Missing) : Type 0 where
   of_leaf : IsNeededFor v h (λ i. i ≡ index) m → IsNeededToSplit v h index m
   of_pointers : IsNeeded v h AnyIndex 0 m → IsNeededToSplit v h index m
+
+-- the dinode's counts of records and of links have numbers above them
+pub record CanCountOne (h : Holding) : Type 0 where
+  pub records : (dinode_in h).entries + 1 < 2 ^ 32
+  pub links : (dinode_in h).nlink + 1 < 2 ^ 32

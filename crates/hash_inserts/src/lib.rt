@@ -5,6 +5,7 @@ mod converting;
 mod drafting;
 mod inserting;
 mod needing;
+mod records;
 mod splitting;
 mod writing;
 
