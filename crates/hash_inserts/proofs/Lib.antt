@@ -5,3 +5,4 @@ mod Put
 mod Results
 mod Settled
 mod Trees
+mod TwoLeaves
