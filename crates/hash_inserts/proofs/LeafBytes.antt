@@ -1,15 +1,15 @@
 -- A leaf's head that is written over old bytes, and records behind it.
-use Rattle.std.proofs.Common.{◌≡◌, ℕ, ◌+◌, ◌-◌, ◌≤◌, inl, inr, List, [], ◌∷◌, ◌++◌, length, take, drop, Option, None, Some, Result, Ok, refl, sym, ap, ◌∙◌, subst, append_assoc, arith}
+use Rattle.std.proofs.Common.{◌≡◌, ℕ, ◌+◌, ◌-◌, ◌≤◌, inl, inr, Bool, true, false, cond, List, [], ◌∷◌, ◌++◌, length, take, drop, Option, None, Some, Result, Ok, refl, sym, ap, ◌∙◌, subst, append_assoc, arith}
 use Rattle.std.proofs.lemmas.List.{drop-append-le, length-take-le, take-append-drop, take-append-le, take_at}
 use Rattle.std.specs.Int.{byte_len, to_be_bytes}
 use borrow.Rule.Slice.PartMut.{put_mid, take_put}
-use Rattle.gfs2_layout.specs.Area.{Slot, IsArea, slots_of}
+use Rattle.gfs2_layout.specs.Area.{Slot, IsArea, name_of, slots_of}
 use Rattle.gfs2_layout.specs.Bytes.{u32_at, put_at, with_number}
 use Rattle.gfs2_layout.specs.Fields.{Field, end_of, value_of, width_of, with_field, with_fields}
 use Rattle.gfs2_layout.specs.Headers.{HasHeader}
 use Rattle.gfs2_layout.specs.Holding.{Holding, bytes_at}
 use Rattle.gfs2_layout.specs.Inode.{leaf_in, leaf_area, leaf_length}
-use Rattle.gfs2_layout.specs.Structures.{header_fault, leaf_of, leaf_read, or_else, records_fault}
+use Rattle.gfs2_layout.specs.Structures.{header_fault, is_in_use, leaf_of, leaf_read, or_else, records_fault}
 use Rattle.gfs2_layout.specs.Writing.{leaf_fields, leaf_put}
 use Rattle.gfs2_layout.specs.Putting.{put_slot}
 use Rattle.gfs2_layout.specs.declared.dirent.Dirent.{Dirent}
@@ -21,8 +21,11 @@ use Rattle.gfs2_layout.proofs.HeaderLaws.{answer_ok, header_from}
 use Rattle.gfs2_layout.proofs.InPlace.{length-with}
 use Rattle.image_model.proofs.Held.{none_some}
 use Rattle.std.proofs.lemmas.Bool.{cases_Bool, cond-false, eqb-true}
-use Rattle.std.specs.Prelude.{◌==◌}
+use Rattle.std.specs.Prelude.{◌==◌, ◌&&◌, not, filter, count_by}
+use Rattle.std.proofs.lemmas.List.Sums.{length-filter, sum_by-cons}
 use Rattle.hash_steps.specs.Leaves.{IsLeafPut}
+use Rattle.leaf_areas.specs.Moving.{in_use}
+use Rattle.leaf_areas.specs.Splitting.{is_lower, is_lower_name}
 use Rattle.linear_dirs.proofs.Looked.{rest_put}
 use Rattle.hash_inserts.specs.Writing.{CanTake, IsLeafFilled, IsLeafWritten}
 
@@ -101,6 +104,39 @@ leaf_put_of g x over new head slots is written =
       filled = subst (λ (b : List ℕ). IsArea (drop leaf_length b)) (sym is) written.filled;
     }
 
+-- ---- records that stand behind a head that was written
+
+pub written_by : (old area new : List ℕ) (head : Leaf) → leaf_length ≤ length old → length (put_mid leaf_length (length old - leaf_length) old area) ≡ length old
+    → new ≡ leaf_put head (put_mid leaf_length (length old - leaf_length) old area) → leaf_read new ≡ Ok head → drop leaf_length new ≡ drop leaf_length (put_mid leaf_length (length old - leaf_length) old area) → IsArea area
+    → IsLeafWritten old new head (slots_of area)
+written_by old area new head large long is read behind filled =
+    let rest : drop leaf_length new ≡ area = behind ∙ rest_put leaf_length old area large in
+    record {
+      front = front_anew head old area new large long is;
+      read = read;
+      records = ap slots_of rest;
+      filled = subst IsArea (sym rest) filled;
+      long = ap length is ∙ put_long head (put_mid leaf_length (length old - leaf_length) old area) (omega (arith, large, long)) ∙ long;
+    }
+
+-- ---- which records of a leaf stay
+
+count_parts : {X : Type 0} (used low : X → Bool) (xs : List X) → count_by (λ s. used s && low s) xs + count_by (λ s. used s && not (used s && low s)) xs ≡ count_by used xs
+count_parts used low [] = refl
+count_parts used low (x ∷ xs) =
+    omega (arith, sum_by-cons (λ s. cond (used s && low s) 1 0) x xs, sum_by-cons (λ s. cond (used s && not (used s && low s)) 1 0) x xs, sum_by-cons (λ s. cond (used s) 1 0) x xs, count_parts used low xs, one (used x) (low x))
+  where
+    one : (u t : Bool) → cond (u && t) 1 0 + cond (u && not (u && t)) 1 0 ≡ cond u 1 0
+    one true true = refl
+    one true false = refl
+    one false t = refl
+
+pub upper_many : (depth lower upper : ℕ) (slots : List Slot) → lower ≡ length (filter (is_lower depth) slots) → lower + upper ≡ length (in_use slots)
+    → upper ≡ length (filter (λ s. is_in_use s.head && not (is_lower depth s)) slots)
+upper_many depth lower upper slots low all =
+    omega (arith, low, all, length-filter (is_lower depth) slots, length-filter (λ (s : Slot). is_in_use s.head && not (is_lower depth s)) slots, length-filter (λ (s : Slot). is_in_use s.head) slots,
+    count_parts (λ (s : Slot). is_in_use s.head) (λ s. is_lower_name depth (name_of s)) slots)
+
 -- ---- a record that was put into a leaf's block
 
 module _ (old area new : List ℕ) (leaf : Leaf) (entries : ℕ) (entry : Dirent) (name : List ℕ) (can : CanTake old (length name)) (head : leaf_read old ≡ Ok leaf) (counted : entries ≡ leaf.entries + 1)
@@ -116,18 +152,9 @@ module _ (old area new : List ℕ) (leaf : Leaf) (entries : ℕ) (entry : Dirent
   more : record leaf { entries = entries } ≡ record (leaf_of old) { entries = (leaf_of old).entries + 1 }
   more = ap (λ n. record leaf { entries = n }) counted ∙ ap (λ (l : Leaf). record l { entries = l.entries + 1 }) head_is
 
-  rest : drop leaf_length new ≡ area
-  rest = behind ∙ rest_put leaf_length old area can.block.long
-
   pub filled_by : IsLeafFilled old new entry name
   filled_by = record {
     slots = slots_of area;
     put = put;
-    written = record {
-      front = front_anew (record leaf { entries = entries }) old area new can.block.long long is ∙ ap (λ l. take leaf_length (leaf_put l old)) more;
-      read = read ∙ ap Ok more;
-      records = ap slots_of rest;
-      filled = subst IsArea (sym rest) filled;
-      long = ap length is ∙ put_long (record leaf { entries = entries }) (put_mid leaf_length (length old - leaf_length) old area) (omega (arith, can.block.long, long)) ∙ long;
-    };
+    written = subst (λ l. IsLeafWritten old new l (slots_of area)) more (written_by old area new (record leaf { entries = entries }) can.block.long long is read behind filled);
   }

@@ -1,13 +1,14 @@
 -- The bytes of blocks that an insertion writes: of leaves, and of the dinode.
-use Rattle.std.specs.Prelude.{ℕ, ◌≡◌, ◌+◌, ◌^◌, ◌<◌, ◌≤◌, true, List, length, take, drop, Ok, Some}
+use Rattle.std.specs.Prelude.{ℕ, ◌≡◌, ◌+◌, ◌-◌, ◌^◌, ◌<◌, ◌≤◌, ◌&&◌, not, true, List, length, take, drop, replicate, filter, Ok, Some}
 use Rattle.gfs2_layout.specs.Area.{Slot, IsArea, slots_of}
 use Rattle.gfs2_layout.specs.Inode.{leaf_length}
 use Rattle.gfs2_layout.specs.Putting.{put_slot}
-use Rattle.gfs2_layout.specs.Structures.{dinode_length, dinode_of, dinode_read, leaf_of, leaf_read}
+use Rattle.gfs2_layout.specs.Structures.{dinode_length, dinode_of, dinode_read, is_in_use, leaf_of, leaf_read}
 use Rattle.gfs2_layout.specs.Writing.{dinode_put, leaf_put}
 use Rattle.gfs2_layout.specs.declared.dinode.Dinode.{Dinode}
 use Rattle.gfs2_layout.specs.declared.dirent.Dirent.{Dirent}
 use Rattle.gfs2_layout.specs.declared.leaf.Leaf.{Leaf}
+use Rattle.leaf_areas.specs.Splitting.{is_lower, lower_half, upper_half}
 use Rattle.hash_steps.specs.Leaves.{has_room_for}
 
 -- A leaf's block: this head, written over what the first of these bytes were, and behind it these records.
@@ -53,3 +54,17 @@ pub record IsDinodeWritten (old new : List ℕ) (d : Dinode) : Type 0 where
   pub read : dinode_read new ≡ Ok d
   pub behind : drop dinode_length new ≡ drop dinode_length old
   pub long : length new ≡ length old
+
+-- a leaf's block that is split, by its depth: the two blocks afterwards, of which the new one is written over zeros
+pub record IsHalved (old upper lower : List ℕ) (depth : ℕ) : Type 0 where
+  pub low : IsLeafWritten (replicate (length old) 0) lower
+      (record { depth = depth + 1; entries = length (filter (is_lower depth) (slots_of (drop leaf_length old))); next = 0 })
+      (lower_half (length old - leaf_length) depth (slots_of (drop leaf_length old)))
+  pub high : IsLeafWritten old upper
+      (record { depth = depth + 1; entries = length (filter (λ s. is_in_use s.head && not (is_lower depth s)) (slots_of (drop leaf_length old))); next = 0 })
+      (upper_half depth (slots_of (drop leaf_length old)))
+
+-- a leaf's block that leads on to another leaf
+pub record IsLinked (old new : List ℕ) (next : ℕ) : Type 0 where
+  pub written : IsLeafWritten old new (record (leaf_of old) { next = next }) (slots_of (drop leaf_length old))
+  pub area : drop leaf_length new ≡ drop leaf_length old
