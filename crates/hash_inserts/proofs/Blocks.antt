@@ -6,7 +6,7 @@ use Rattle.std.specs.Ordering.{nat_cmp}
 use Rattle.std.specs.Cmp.{nat_cmp_total}
 use Rattle.std.proofs.lemmas.Bool.{cases_eq, cond-true, cond-false, eq-eqb, ne_eqb}
 use Rattle.finite_maps.proofs.Keys.{inserted_at, inserted_apart}
-use Rattle.drafts.specs.Fates.{block_with, seen_with}
+use Rattle.drafts.specs.Fates.{Drafted, block_with, seen_in, seen_with}
 use Rattle.drafts.specs.declared.fate.Fate.{Fate}
 use Rattle.drafts.specs.declared.fate.Fate.TheVariants.{Put}
 use Rattle.gfs2_layout.specs.Holding.{Holding, Cell, Part, cell_bytes, cell_part, part_at, bytes_at}
@@ -140,3 +140,20 @@ puts_then v old mid new h m g first second = record {
   there = λ b has. second.there b (first.there b has);
   keeps = λ b some. second.keeps b (first.keeps b some);
 }
+
+-- ---- in a draft
+
+-- what is seen of a block is still seen where another one is put
+pub sees_still : {V : Type 0} (seen : V → Seen) (d d' : Drafted V) (b c : ℕ) (lock : LockName) (bytes xs : List ℕ) → d' ≡ record d { fates = insert d.fates b (Put lock false bytes) } → c ≢ b
+    → (seen_in seen d).block_at c ≡ Some xs → (seen_in seen d').block_at c ≡ Some xs
+sees_still {V} seen d d' b c lock bytes xs is other there =
+    ap (λ (x : Drafted V). (seen_in seen x).block_at c) is ∙ ap (λ f. block_with f ((seen d.view).block_at c)) (fate_apart d.fates b (Put lock false bytes) c other) ∙ there
+
+-- a new leaf, a changed one and the dinode, one after another
+pub three_fates : {V : Type 0} (old two now : Drafted V) (own dir b x : ℕ) (new changed dinode : List ℕ) → own ≡ dir
+    → two ≡ record old { fates = insert (insert old.fates b (Put (inode_lock dir) false new)) x (Put (inode_lock dir) false changed) }
+    → now ≡ record two { fates = insert two.fates dir (Put (inode_lock dir) false dinode) }
+    → insert (insert (insert old.fates b (Put (inode_lock own) false new)) x (Put (inode_lock own) false changed)) own (Put (inode_lock own) false dinode) ≡ now.fates
+three_fates {V} old two now own dir b x new changed dinode is first second =
+    ap (λ o. insert (insert (insert old.fates b (Put (inode_lock o) false new)) x (Put (inode_lock o) false changed)) o (Put (inode_lock o) false dinode)) is
+    ∙ sym (ap (λ (d : Drafted V). d.fates) second ∙ ap (λ (d : Drafted V). insert d.fates dir (Put (inode_lock dir) false dinode)) first)

@@ -1,5 +1,5 @@
 -- What the blocks of a sound directory are to those that write them.
-use Rattle.std.proofs.Common.{◌≡◌, ◌≢◌, ℕ, zero, suc, ◌+◌, ◌^◌, ◌<◌, ◌≤◌, List, length, drop, Option, None, Some, Ok, refl, sym, ap, ◌∙◌, subst, true, length-drop, arith}
+use Rattle.std.proofs.Common.{◌≡◌, ◌≢◌, ℕ, zero, suc, ◌+◌, ◌^◌, ◌<◌, ◌≤◌, List, [], length, drop, Option, None, Some, Ok, refl, sym, ap, ◌∙◌, subst, true, length-drop, arith}
 use Rattle.std.specs.Prelude.{filter, IsSome, is_some}
 use Rattle.std.specs.List.{range_with_len}
 use Rattle.std.proofs.lemmas.Bool.Decides.{nat_tests}
@@ -9,7 +9,7 @@ use Rattle.std.proofs.lemmas.List.Sums.{count_by-le-length, length-filter}
 use Rattle.gfs2_layout.specs.Area.{Slot, slots_of, slots_within}
 use Rattle.gfs2_layout.specs.Device.{IsBlockSize}
 use Rattle.gfs2_layout.specs.Headers.{HasHeader}
-use Rattle.gfs2_layout.specs.Holding.{Holding, Itself, InChain, part_at, bytes_at}
+use Rattle.gfs2_layout.specs.Holding.{Holding, Cell, Itself, InChain, part_at, bytes_at}
 use Rattle.gfs2_layout.specs.Inode.{IsLeaf, block_count, dinode_in, is_hashed_in, leaf_area, leaf_in, leaf_length}
 use Rattle.gfs2_layout.specs.Records.{record_of, records_in}
 use Rattle.gfs2_layout.specs.Structures.{answer, dinode_length, dinode_of, dinode_read, header_fault, is_in_use, leaf_of}
@@ -22,6 +22,8 @@ use Rattle.hash_dirs.proofs.Leaves.{read_well}
 use Rattle.hash_steps.specs.Leaves.{has_room_for}
 use Rattle.pointer_tables.specs.Directories.{IsTreeSound, IsPlaced}
 use Rattle.hash_inserts.specs.Inserting.{CanCountOne}
+use Rattle.hash_inserts.specs.Drafting.{with_block}
+use Rattle.hash_inserts.proofs.Blocks.{counts_more}
 use Rattle.hash_inserts.specs.Writing.{CanCount, CanTake, IsLeafBlock}
 
 -- ---- there are few records in an area, and few blocks
@@ -91,13 +93,33 @@ module _ (h : Holding) (large : IsBlockSize h.size) (tree : IsTreeSound h) (plac
   unfolding dinode_in
   dinode_own = refl
 
-  pub can_count : (records links blocks : ℕ) → (dinode_in h).entries + records < 2 ^ 32 → (dinode_in h).nlink + links < 2 ^ 32 → (dinode_in h).blocks + blocks < 2 ^ 64 → CanCount (bytes_at h h.own) records links blocks
+  pub can_count : (records links blocks : ℕ) → (1 ≤ records → (dinode_in h).entries + records < 2 ^ 32) → (1 ≤ links → (dinode_in h).nlink + links < 2 ^ 32) → (1 ≤ blocks → (dinode_in h).blocks + blocks < 2 ^ 64) → CanCount (bytes_at h h.own) records links blocks
   can_count records links blocks a b c = record {
     read = own_read;
-    records_fit = subst (λ (d : Dinode). d.entries + records < 2 ^ 32) dinode_own a;
-    links_fit = subst (λ (d : Dinode). d.nlink + links < 2 ^ 32) dinode_own b;
-    blocks_fit = subst (λ (d : Dinode). d.blocks + blocks < 2 ^ 64) dinode_own c;
+    records_fit = subst (λ (d : Dinode). 1 ≤ records → d.entries + records < 2 ^ 32) dinode_own a;
+    links_fit = subst (λ (d : Dinode). 1 ≤ links → d.nlink + links < 2 ^ 32) dinode_own b;
+    blocks_fit = subst (λ (d : Dinode). 1 ≤ blocks → d.blocks + blocks < 2 ^ 64) dinode_own c;
   }
+
+  -- a block more can be counted
+  pub can_grow : (b : ℕ) → h.cell b ≡ None → b < h.count → h.count < 2 ^ 64 → CanCount (bytes_at h h.own) 0 0 1
+  can_grow b new inside few = can_count 0 0 1 (λ some. absurd (none some)) (λ some. absurd (none some))
+      (λ _. omega (arith, tree.blocks, counts_more h b Itself [] new inside, few_blocks (with_block h b Itself []), few))
+    where
+      none : 1 ≤ 0 → ⊥
+      none some = omega arith
 
   pub few_counted : (dinode_in h).blocks ≤ h.count
   few_counted = omega (arith, tree.blocks, few_blocks h)
+
+-- ---- blocks that a directory hasn't, and those that it has
+
+pub free_apart : (h : Holding) (b x : ℕ) → h.cell b ≡ None → IsSome (h.cell x) → x ≢ b
+free_apart h b x new some is = no (h.cell b) new (subst (λ y. IsSome (h.cell y)) is some)
+  where
+    no : (c : Option Cell) → c ≡ None → IsSome c → ⊥
+    no None e s = cc
+    no (Some c) e s = cc
+
+pub same_some : (x y : ℕ) → Some x ≡ Some y → x ≡ y
+same_some x y e = cc

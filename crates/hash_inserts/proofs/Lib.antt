@@ -1,6 +1,7 @@
 mod Blocks
 mod Blockwise
 mod LeafBytes
+mod Lengthened
 mod Put
 mod Results
 mod Settled

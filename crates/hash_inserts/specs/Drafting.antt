@@ -1,5 +1,5 @@
 -- What a draft makes of a directory, step by step.
-use Rattle.std.specs.Prelude.{ℕ, ◌≡◌, ◌⊎◌, ◌↔◌, ◌==◌, if◌then◌else◌, List, Option, Some, IsSome}
+use Rattle.std.specs.Prelude.{ℕ, ◌≡◌, ◌≢◌, ◌⊎◌, ◌↔◌, ◌<◌, ◌==◌, if◌then◌else◌, List, [], ◌∷◌, Option, None, Some, IsSome}
 use Rattle.std.specs.FinMap.{FinMap, get}
 use Rattle.std.specs.Ordering.{nat_cmp}
 use Rattle.drafts.specs.Fates.{seen_with}
@@ -8,8 +8,10 @@ use Rattle.gfs2_layout.specs.Holding.{Cell, Holding, Part}
 use Rattle.glock_names.specs.Views.{Seen, HasBlock}
 use Rattle.glock_names.specs.declared.steps.Entry.{Entry}
 use Rattle.dinode_tree.specs.Shown.{IsAsSeen}
+use Rattle.growth_drafts.specs.Taken.{HasTaken}
 use Rattle.pointer_tables.specs.Tables.{DraftsDirectory}
-use Rattle.hash_steps.specs.Steps.{IsPutInLeaf}
+use Rattle.hash_steps.specs.Steps.{IsLengthened, IsPutInLeaf, IsSplit}
+use Rattle.hash_inserts.specs.Inserting.{IsSplitAt}
 
 -- the inode with this block, of this part and with these bytes
 abbrev pub with_block : Holding → ℕ → Part → List ℕ → Holding
@@ -29,3 +31,23 @@ pub record PutsInLeaf (v : Seen) (old new : FinMap nat_cmp Fate) (h g : Holding)
   pub put : IsPutInLeaf h g name e
   pub only : (b : ℕ) → (get new b ≡ get old b) ⊎ ((b ≡ h.own) ⊎ (b ≡ leaf))
   pub blocks : (b : ℕ) → IsSome (g.cell b) ↔ IsSome (h.cell b)
+
+-- a block that the directory may take
+pub record IsFree (h : Holding) (b : ℕ) : Type 0 where
+  pub some : b ≢ 0
+  pub inside : b < h.count
+  pub new : h.cell b ≡ None
+
+-- A leaf is added behind the chain of pointer i, and nothing is done to any block but the leaf before it, the new one and the dinode's.
+pub record Lengthens (v : Seen) (old new : FinMap nat_cmp Fate) (h g : Holding) (i b : ℕ) : Type 0 where
+  pub puts : Puts v old new h g
+  pub is : IsLengthened h g i b
+  pub only : (y : ℕ) → (get new y ≡ get old y) ⊎ ((y ≡ h.own) ⊎ ((y ≡ is.last) ⊎ (y ≡ b)))
+  pub has : HasTaken h g (b ∷ [])
+
+-- The leaf of pointer i is split.
+pub record SplitsLeaf (v : Seen) (old new : FinMap nat_cmp Fate) (h g : Holding) (i b : ℕ) : Type 0 where
+  pub puts : Puts v old new h g
+  pub is : IsSplit h g i b
+  pub only : (y : ℕ) → (get new y ≡ get old y) ⊎ IsSplitAt h i b y
+  pub has : HasTaken h g (b ∷ [])

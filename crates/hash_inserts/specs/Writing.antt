@@ -41,9 +41,9 @@ pub record IsLeafFilled (old new : List ℕ) (entry : Dirent) (name : List ℕ) 
 -- a dinode's block that can count so many more records, links and blocks
 pub record CanCount (bytes : List ℕ) (records links blocks : ℕ) : Type 0 where
   pub read : dinode_read bytes ≡ Ok (dinode_of bytes)
-  pub records_fit : (dinode_of bytes).entries + records < 2 ^ 32
-  pub links_fit : (dinode_of bytes).nlink + links < 2 ^ 32
-  pub blocks_fit : (dinode_of bytes).blocks + blocks < 2 ^ 64
+  pub records_fit : 1 ≤ records → (dinode_of bytes).entries + records < 2 ^ 32
+  pub links_fit : 1 ≤ links → (dinode_of bytes).nlink + links < 2 ^ 32
+  pub blocks_fit : 1 ≤ blocks → (dinode_of bytes).blocks + blocks < 2 ^ 64
 
 -- the dinode counts so many more
 abbrev pub counting : Dinode → ℕ → ℕ → ℕ → Dinode

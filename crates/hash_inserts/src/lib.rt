@@ -4,6 +4,7 @@
 mod converting;
 mod drafting;
 mod inserting;
+mod lengthening;
 mod needing;
 mod records;
 mod splitting;

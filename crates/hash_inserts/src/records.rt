@@ -1,5 +1,5 @@
 // A record put into a leaf of a hashed directory in a draft.
-ghost use Rattle.std.specs.Prelude.{ℕ, ◌≡◌, ◌≢◌, ◌^◌, ◌<◌, ◌≤◌, [], ◌∷◌, true, IfOk, length};
+ghost use Rattle.std.specs.Prelude.{ℕ, ◌≡◌, ◌≢◌, ◌≤◌, [], ◌∷◌, true, IfOk, length};
 ghost use Rattle.drafts.specs.Fates.{seen_in};
 ghost use Rattle.gfs2_layout.specs.Area.{slots_of};
 ghost use Rattle.gfs2_layout.specs.Exchanges.{directory_count};
@@ -40,7 +40,7 @@ pub(crate) fn put_in_leaf<V: View>(
     requires short { length name.now ≤ 255 }
     requires number { entry.number ≢ 0 }
     requires address { entry.addr ≢ 0 }
-    ensures put { (h : Holding) (place : ℕ) → IsShown (seen_in V.seen draft.old) dir h → IsSound h → CanCountOne h → h.count < 2 ^ 64 → IsInChain h (index_for h name.now) place leaf → IsFullBefore h (index_for h name.now) (length name.now) place
+    ensures put { (h : Holding) (place : ℕ) → IsShown (seen_in V.seen draft.old) dir h → IsSound h → CanCountOne h → IsInChain h (index_for h name.now) place leaf → IsFullBefore h (index_for h name.now) (length name.now) place
         → has_room_for (length name.now) (slots_of (leaf_area h leaf)) ≡ true → HasBlock (seen_in V.seen draft.old) leaf → HasBlock (seen_in V.seen draft.old) dir
         → IfOk result (λ done. (done ≡ true) × ((g : Holding) × PutsInLeaf (V.seen draft.old.view) draft.old.fates draft.new.fates h g name.now entry leaf)) }
     ensures view { draft.new.view ≡ draft.old.view }

@@ -1,4 +1,4 @@
-use Rattle.std.proofs.Common.{◌≡◌, ◌∙◌, ◌+◌, ◌^◌, ◌<◌, ℕ, List, Some, length, refl, sym, ap, subst, false, arith}
+use Rattle.std.proofs.Common.{◌≡◌, ◌∙◌, ◌+◌, ◌^◌, ◌<◌, ◌≤◌, ℕ, List, Some, length, refl, sym, ap, subst, false, arith}
 use Rattle.std.proofs.lemmas.Bool.{true≢false}
 use Rattle.std.specs.FinMap.{insert}
 use Rattle.drafts.specs.Fates.{Drafted, seen_in}
@@ -16,13 +16,13 @@ use Rattle.hash_steps.proofs.Leaves.{itself_or_chained}
 use Rattle.hash_steps.proofs.Sound.{tree_of}
 use Rattle.hash_inserts.specs.Drafting.{PutsInLeaf}
 use Rattle.hash_inserts.specs.Writing.{CanCount, CanTake, IsDinodeWritten, IsLeafFilled, counting}
-use Rattle.hash_inserts.proofs.Blockwise.{can_count, can_take, dinode_own, few_counted}
+use Rattle.hash_inserts.proofs.Blockwise.{can_count, can_take, dinode_own}
 use Rattle.hash_inserts.proofs.Put.{in_draft}
 use Rattle.hash_inserts.proofs.Results.{ok_map}
 use Rattle.hash_inserts.proofs.records.put_in_leaf.Goals as goal
 
 pub returns-then-not-branch-clause-put : goal.returns-then-not-branch-clause-put
-returns-then-not-branch-clause-put g c h place shown sound few count chain full room has own =
+returns-then-not-branch-clause-put g c h place shown sound few chain full room has own =
     let x = c.args.leaf in
     let part = in_chain h sound shown.hashed (index_for h c.args.name.now) place x chain in
     let at = shown.inode.same x has.0 (cell_some (h.cell x) _ part) has.1 in
@@ -30,7 +30,7 @@ returns-then-not-branch-clause-put g c h place shown sound few count chain full 
     absurd (true≢false (sym (c.in_ok-fill_in.ensures.put has.0 has.1 can).0 ∙ c.if-not-branch.true))
 
 pub returns-clause-put : goal.returns-clause-put
-returns-clause-put g c h place shown sound few count chain full room has own =
+returns-clause-put g c h place shown sound few chain full room has own =
     let x = c.args.leaf in
     let seen = g.V.View.seen in
     let old = c.args.draft.now in
@@ -45,7 +45,7 @@ returns-clause-put g c h place shown sound few count chain full room has own =
     let there = ap (λ d. (seen_in seen d).block_at c.args.dir) done.1.2 ∙ seen_apart (seen old.view) old.fates x c.args.dir (inode_lock c.args.dir) done.1.0 apart ∙ own.1 in
     let tree = tree_of h sound.inode in
     let links = c.links_of.result in
-    let counts = can_count h sound.block_size tree sound.placed 1 links 0 few.records (let l = few.links in let m = c.links_of.ensures.most in omega (arith, l, m)) (let n = few_counted h sound.block_size tree sound.placed in omega (arith, n, count)) in
+    let counts = can_count h sound.block_size tree sound.placed 1 links 0 (λ _. few.records) (λ _. let l = few.links in let m = c.links_of.ensures.most in omega (arith, l, m)) (λ some. absurd (let no : 1 ≤ 0 = some in omega (arith, no))) in
     ok_map c.count_in.result _ _ (λ answer counted. (
       counted.0,
       in_draft seen old mid c.count_in.new.draft c.args.dir h c.args.name.now c.args.entry place x links done.1.0 counted.1.0 shown sound chain full filled done.1.2

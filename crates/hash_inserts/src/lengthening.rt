@@ -1,0 +1,38 @@
+// A leaf added behind a chain of a hashed directory in a draft.
+ghost use Rattle.std.specs.Prelude.{ℕ, ◌≡◌, ◌^◌, ◌<◌, true, IfOk};
+ghost use Rattle.drafts.specs.Fates.{seen_in};
+ghost use Rattle.gfs2_layout.specs.Holding.{Holding};
+ghost use Rattle.gfs2_layout.specs.Inode.{leaf_in};
+ghost use Rattle.glock_names.specs.Views.{HasBlock};
+ghost use Rattle.hash_dirs.specs.Shown.{IsInChain, IsShown, IsSound};
+ghost use Rattle.hash_inserts.specs.Drafting.{IsFree, Lengthens};
+
+use crate::drafting::{count_in, depth_in, link_in, put_empty};
+use drafts::Draft;
+use glock_names::View;
+use no_memory::NoMemory;
+use std::alloc::Global;
+
+/// Adds a leaf without records behind the last one of a chain, and counts its block in the dinode; and tells whether that was done.
+pub(crate) fn lengthen<V: View>(
+    alloc: Global,
+    draft: &mut Draft<'_, V>,
+    dir: u64,
+    last: u64,
+    leaf: u64,
+) -> Result<bool, NoMemory>
+    ensures put { (h : Holding) (i place : ℕ) → IsShown (seen_in V.seen draft.old) dir h → IsSound h → h.count < 2 ^ 64 → IsInChain h i place last → (leaf_in h last).next ≡ 0
+        → HasBlock (seen_in V.seen draft.old) last → HasBlock (seen_in V.seen draft.old) dir → IsFree h leaf
+        → IfOk result (λ done. (done ≡ true) × ((g : Holding) × Lengthens (V.seen draft.old.view) draft.old.fates draft.new.fates h g i leaf)) }
+    ensures view { draft.new.view ≡ draft.old.view }
+{
+    let _size = draft.block_size();
+    let Some(depth) = depth_in(&*draft, last) else {
+        return Ok(false);
+    };
+    put_empty(alloc, draft, dir, leaf, depth)?;
+    if !link_in(draft, dir, last, leaf)? {
+        return Ok(false);
+    }
+    count_in(draft, dir, 0, 0, 1)
+}
