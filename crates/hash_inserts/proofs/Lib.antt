@@ -2,8 +2,11 @@ mod Blocks
 mod Blockwise
 mod LeafBytes
 mod Lengthened
+mod Parted
 mod Put
 mod Results
+mod Seen
 mod Settled
+mod Showing
 mod Trees
 mod TwoLeaves

@@ -7,9 +7,12 @@ use Rattle.drafts.specs.declared.fate.Fate.{Fate}
 use Rattle.gfs2_layout.specs.Holding.{Cell, Holding, Part}
 use Rattle.glock_names.specs.Views.{Seen, HasBlock}
 use Rattle.glock_names.specs.declared.steps.Entry.{Entry}
+use Rattle.dinode_tree.specs.Below.{IsBelow}
 use Rattle.dinode_tree.specs.Shown.{IsAsSeen}
 use Rattle.growth_drafts.specs.Taken.{HasTaken}
-use Rattle.pointer_tables.specs.Tables.{DraftsDirectory}
+use Rattle.linear_dirs.specs.Shown.{holding_over}
+use Rattle.pointer_tables.specs.Directories.{HasPointerOf}
+use Rattle.pointer_tables.specs.Tables.{DraftsDirectory, HasPointersSet}
 use Rattle.hash_steps.specs.Steps.{IsLengthened, IsPutInLeaf, IsSplit}
 use Rattle.hash_inserts.specs.Inserting.{IsSplitAt}
 
@@ -51,3 +54,14 @@ pub record SplitsLeaf (v : Seen) (old new : FinMap nat_cmp Fate) (h g : Holding)
   pub is : IsSplit h g i b
   pub only : (y : ℕ) → (get new y ≡ get old y) ⊎ IsSplitAt h i b y
   pub has : HasTaken h g (b ∷ [])
+
+-- the view has each block of the directory's tree
+pub record SeesTree (v : Seen) (h : Holding) : Type 0 where
+  pub own : HasBlock v h.own
+  pub below : (b : ℕ) → IsBelow h b → HasBlock v b
+
+-- So many neighbouring pointers lead to this leaf in the draft, and it is that directory's else as it was.
+pub record SetsPointers (v : Seen) (old new : FinMap nat_cmp Fate) (h : Holding) (from count leaf : ℕ) : Type 0 where
+  pub set : HasPointersSet h (holding_over (seen_with v new) h) from count leaf
+  pub drafted : DraftsDirectory old new h (holding_over (seen_with v new) h)
+  pub only : (b : ℕ) → (get new b ≡ get old b) ⊎ HasPointerOf h from count b

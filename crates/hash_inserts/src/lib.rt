@@ -6,6 +6,7 @@ mod drafting;
 mod inserting;
 mod lengthening;
 mod needing;
+mod pointers;
 mod records;
 mod splitting;
 mod writing;

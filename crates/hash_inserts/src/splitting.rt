@@ -1,21 +1,62 @@
 // A leaf of a hashed directory that is split in a draft.
-ghost use Rattle.std.specs.Prelude.{◌≡◌, ◌<◌, ◌≤◌, true, None, length};
+ghost use Rattle.std.specs.Prelude.{◌≡◌, ◌^◌, ◌<◌, ◌≤◌, true, None, IfOk, length};
 ghost use Rattle.drafts.specs.Fates.{seen_in};
 ghost use Rattle.gfs2_layout.specs.Holding.{Holding};
-ghost use Rattle.gfs2_layout.specs.Inode.{depth_in, table_count};
+ghost use Rattle.gfs2_layout.specs.Inode.{depth_in, entry, table_count};
 ghost use Rattle.glock_names.specs.Steps.{IfIs, IfNeedBlock, IfDamaged};
-ghost use Rattle.glock_names.specs.Views.{IsOfView};
+ghost use Rattle.glock_names.specs.Views.{HasBlock, IsOfView};
 ghost use Rattle.growth_drafts.specs.Taken.{AreFreeFor};
 ghost use Rattle.hash_dirs.specs.Broken.{IsWrongIn};
 ghost use Rattle.hash_dirs.specs.Shown.{IsShown, IsSound};
 ghost use Rattle.hash_steps.specs.Leaves.{HasOneLeaf, leaf_depth};
+ghost use Rattle.hash_steps.specs.Laws.{Stays};
+ghost use Rattle.hash_inserts.specs.Drafting.{IsFree, SeesTree, SplitsLeaf};
 ghost use Rattle.hash_inserts.specs.Inserting.{IsNeededToSplit, Splits};
 
+use crate::drafting::{count_in, halve_in};
+use crate::pointers::{lower_half_of, set_pointers};
+use dinode_tree::sound_inodes_are_shown;
 use drafts::Draft;
 use glock_names::{CallFault, Step, View};
+use hash_steps::splits_stay;
+use no_memory::NoMemory;
 use pointer_tables::PointerTableMut;
 use std::alloc::Global;
 use std::collections::VecDeque;
+
+// Splits a leaf of this depth, which is the one of the chain of a pointer and less deep than the table; and tells whether that was done: of a
+// sound directory of which the draft has every block of the table, it is.
+pub(crate) fn split_leaf<V: View, T: PointerTableMut>(
+    alloc: Global,
+    draft: &mut Draft<'_, V>,
+    dir: u64,
+    table: &mut T,
+    index: u32,
+    leaf: u64,
+    depth: u16,
+    lower: u64,
+) -> Result<bool, NoMemory>
+    ensures put { (h : Holding) → IsShown (seen_in V.seen draft.old) dir h → T.shows table.old (seen_in V.seen draft.old) h → IsSound h → h.count < 2 ^ 64 → index < table_count h → leaf ≡ entry h index
+        → HasOneLeaf h index → depth ≡ leaf_depth h index → leaf_depth h index < depth_in h → SeesTree (seen_in V.seen draft.old) h → HasBlock (seen_in V.seen draft.old) leaf → IsFree h lower
+        → IfOk result (λ done. (done ≡ true) × ((g : Holding) × SplitsLeaf (V.seen draft.old.view) draft.old.fates draft.new.fates h g index lower × IsShown (seen_in V.seen draft.new) dir g
+        × T.shows table.new (seen_in V.seen draft.new) g × Stays h g)) }
+    ensures view { draft.new.view ≡ draft.old.view }
+{
+    splits_stay();
+    sound_inodes_are_shown();
+    let deep = table.depth();
+    if deep <= depth || index >= 1 << deep {
+        return Ok(false);
+    }
+    let half = lower_half_of(index, deep, depth);
+    if !set_pointers(alloc, draft, table, half.from, half.count, lower)? {
+        return Ok(false);
+    }
+    if !halve_in(alloc, draft, dir, leaf, lower)? {
+        return Ok(false);
+    }
+    count_in(draft, dir, 0, 0, 1)
+}
 
 /// Splits the one leaf of the chain of a pointer of the hashed directory with its dinode in this block, where that leaf is less deep than the
 /// table: a new leaf, the block at the front of `room`, takes the lower half of its pointers and of its records. The answer is whether that
