@@ -3,6 +3,7 @@ mod Blockwise
 mod LeafBytes
 mod Lengthened
 mod Parted
+mod PartedDrafts
 mod Put
 mod Results
 mod Seen

@@ -1,6 +1,6 @@
 -- A directory after a leaf of it was split.
 use Rattle.std.proofs.Common.{◌≡◌, ◌≢◌, ◌⊎◌, ℕ, ◌+◌, ◌-◌, ◌*◌, ◌/◌, ◌^◌, ◌<◌, ◌≤◌, inl, inr, true, false, List, [], ◌∷◌, ◌++◌, length, take, drop, replicate, Option, None, Some, refl, sym, ap, ap₂, ◌∙◌, subst, arith}
-use Rattle.std.specs.Prelude.{Contains, IsSome, if◌then◌else◌, option_map}
+use Rattle.std.specs.Prelude.{Contains, IsSome, filter, if◌then◌else◌, option_map}
 use Rattle.std.specs.FinMap.{FinMap, get, insert}
 use Rattle.std.specs.Ordering.{nat_cmp}
 use Rattle.std.proofs.lemmas.Bool.{cases_eq}
@@ -13,7 +13,8 @@ use Rattle.gfs2_layout.specs.Holding.{Holding, Cell, Part, InChain, Itself, part
 use Rattle.gfs2_layout.specs.Inode.{depth_in, dinode_in, entry, entry_block, first_hash, has_hash_flag, is_directory_in, is_hashed_in, leaf_area, leaf_in, leaf_length, table_count}
 use Rattle.gfs2_layout.specs.Structures.{dinode_length, dinode_of}
 use Rattle.gfs2_layout.specs.Writing.{dinode_put}
-use Rattle.leaf_areas.specs.Splitting.{lower_half}
+use Rattle.leaf_areas.specs.Splitting.{is_lower, lower_half}
+use Rattle.gfs2_layout.specs.declared.leaf.Leaf.{Leaf}
 use Rattle.gfs2_layout.specs.declared.dinode.Dinode.{Dinode}
 use Rattle.glock_names.specs.Views.{Seen, HasBlock}
 use Rattle.image_model.proofs.Rows.{and_left}
@@ -63,10 +64,10 @@ module _ (v : Seen) (fates set_fates : FinMap nat_cmp Fate) (h : Holding) (i b f
   part_x : part_at h (entry h i) ≡ Some (InChain (first_hash h i) 0)
   part_x = (rules h sound hashed).leads i small
 
-  some_x : IsSome (h.cell (entry h i))
+  pub some_x : IsSome (h.cell (entry h i))
   some_x = cell_some (h.cell (entry h i)) (InChain (first_hash h i) 0) part_x
 
-  cell_x : m.cell (entry h i) ≡ h.cell (entry h i)
+  pub cell_x : m.cell (entry h i) ≡ h.cell (entry h i)
   cell_x = set.set.stays.leaves (entry h i) (first_hash h i) 0 part_x
 
   abbrev pub part_b : Part
@@ -91,10 +92,10 @@ module _ (v : Seen) (fates set_fates : FinMap nat_cmp Fate) (h : Holding) (i b f
     long' = halved.high.long ∙ long_x;
   }
 
-  tree_m : IsTreeSound m
+  pub tree_m : IsTreeSound m
   tree_m = set.set.sound (tree_of h sound.inode)
 
-  placed_m : IsPlaced m
+  pub placed_m : IsPlaced m
   placed_m = set.set.placed sound.placed
 
   abbrev pub after : Holding
@@ -108,6 +109,9 @@ module _ (v : Seen) (fates set_fates : FinMap nat_cmp Fate) (h : Holding) (i b f
 
   old_at : bytes_at after (entry h i) ≡ high
   old_at = changed_bytes m b (entry h i) part_b part_old low high dinode tree_m placed_m are written
+
+  abbrev lower_head : Leaf
+  lower_head = record { depth = leaf_depth h i + 1; entries = length (filter (is_lower (leaf_depth h i)) (slots_of (leaf_area h (entry h i)))); next = 0 }
 
   pub split : IsSplit h after i b
   split = record {
@@ -126,7 +130,7 @@ module _ (v : Seen) (fates set_fates : FinMap nat_cmp Fate) (h : Holding) (i b f
     new_part = new_part m b (entry h i) part_b part_old low high dinode tree_m placed_m are written;
     old_part = changed_part m b (entry h i) part_b part_old low high dinode tree_m placed_m are written;
     parts = λ y c d. other_parts m b (entry h i) part_b part_old low high dinode tree_m placed_m are written y c d ∙ parts_stay (seen_with v set_fates) h y;
-    new_leaf = leaf_put_of after b (blank h) low _ _ new_at (subst (λ n. IsLeafWritten (replicate n 0) low _ (lower_half (n - leaf_length) (leaf_depth h i) (slots_of (leaf_area h (entry h i))))) long_x halved.low);
+    new_leaf = leaf_put_of after b (blank h) low _ _ new_at (subst (λ n. IsLeafWritten (replicate n 0) low lower_head (lower_half (n - leaf_length) (leaf_depth h i) (slots_of (leaf_area h (entry h i))))) long_x halved.low);
     old_leaf = leaf_put_of after (entry h i) (bytes_at h (entry h i)) high _ _ old_at halved.high;
     entries = λ j low_j. entry_grown m b (entry h i) part_b part_old low high dinode tree_m placed_m are written large j ∙ set.set.entries j low_j
         ∙ ap₂ (λ f n. if is_within f n j then b else entry h j) from_is count_is;

@@ -21,7 +21,7 @@ use Rattle.linear_dirs.proofs.Rewritten.{over_there}
 use Rattle.pointer_tables.specs.Directories.{EachPointerLeads, HasPointerOf, IsTableBroken, of_inode, leads_nowhere}
 use Rattle.pointer_tables.specs.Tables.{DraftsDirectory, is_within}
 use Rattle.hash_dirs.specs.Shown.{IsSound}
-use Rattle.hash_dirs.proofs.Chained.{rules, some_block}
+use Rattle.hash_dirs.proofs.Chained.{cell_some, rules, some_block}
 use Rattle.hash_inserts.specs.Drafting.{Puts, SeesTree, SetsPointers}
 
 -- nothing of the tree is needed
@@ -88,3 +88,16 @@ module _ (v : Seen) (old new : FinMap nat_cmp Fate) (h : Holding) (from count le
     where
       tested : (from run j : ℕ) → from ≤ j → j < from + run → is_within from run j ≡ true
       tested from run j low high = grind (arith, nat_tests)
+
+-- ---- the leaf of a pointer, and the dinode
+
+pub leaf_there : (h : Holding) (i : ℕ) → IsSound h → is_hashed_in h ≡ true → i < table_count h → IsSome (h.cell (entry h i))
+leaf_there h i sound hashed low = cell_some (h.cell (entry h i)) (InChain (first_hash h i) 0) ((rules h sound hashed).leads i low)
+
+-- pointers that are set leave the leaf of each as it was
+pub set_cell : (v : Seen) (old new : FinMap nat_cmp Fate) (h : Holding) (i leaf from count : ℕ) → IsSound h → is_hashed_in h ≡ true → i < table_count h → SetsPointers v old new h from count leaf
+    → (holding_over (seen_with v new) h).cell (entry h i) ≡ h.cell (entry h i)
+set_cell v old new h i leaf from count sound hashed low set = set.set.stays.leaves (entry h i) (first_hash h i) 0 ((rules h sound hashed).leads i low)
+
+pub own_there : (v : Seen) (new : FinMap nat_cmp Fate) (h : Holding) → IsSome (h.cell h.own) → IsSome ((holding_over (seen_with v new) h).cell h.own)
+own_there v new h some = over_there ((seen_with v new).block_at h.own) (h.cell h.own) ∙ some
