@@ -2,6 +2,7 @@ mod Blocks
 mod Blockwise
 mod LeafBytes
 mod Lengthened
+mod Looks
 mod Parted
 mod PartedDrafts
 mod Put

@@ -5,6 +5,7 @@ mod converting;
 mod drafting;
 mod inserting;
 mod lengthening;
+mod looking;
 mod needing;
 mod pointers;
 mod records;

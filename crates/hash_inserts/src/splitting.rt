@@ -14,8 +14,10 @@ ghost use Rattle.hash_inserts.specs.Drafting.{IsFree, SeesTree, SplitsLeaf};
 ghost use Rattle.hash_inserts.specs.Inserting.{IsNeededToSplit, Splits};
 
 use crate::drafting::{count_in, halve_in};
+use crate::looking::see_table;
 use crate::pointers::{lower_half_of, set_pointers};
 use dinode_tree::sound_inodes_are_shown;
+use hash_dirs::leaf_at;
 use drafts::Draft;
 use glock_names::{CallFault, Step, View};
 use hash_steps::splits_stay;
@@ -72,7 +74,7 @@ pub fn split<V: View, T: PointerTableMut>(
     room: &mut VecDeque<u64>,
 ) -> Result<Step<bool>, CallFault>
     ensures put { (h : Holding) → IsShown (seen_in V.seen draft.old) dir h → T.shows table.old (seen_in V.seen draft.old) h → IsSound h → index < table_count h
-        → HasOneLeaf h index → leaf_depth h index < depth_in h → AreFreeFor h room.old.items → 1 ≤ length room.old.items
+        → HasOneLeaf h index → leaf_depth h index < depth_in h → AreFreeFor h room.old.items → 1 ≤ length room.old.items → h.count < 2 ^ 64
         → IfIs result (λ done. (done ≡ true) × ((g : Holding) × IsShown (seen_in V.seen draft.new) dir g × T.shows table.new (seen_in V.seen draft.new) g
         × Splits draft.old.fates draft.new.fates room.old.items room.new.items index h g)) }
     ensures needed { (h : Holding) → IsShown (seen_in V.seen draft.old) dir h → T.shows table.old (seen_in V.seen draft.old) h
@@ -84,5 +86,29 @@ pub fn split<V: View, T: PointerTableMut>(
     ensures stays { IfDamaged result (λ rule block. (draft.new ≡ draft.old) × (room.new.items ≡ room.old.items) × (table.new ≡ table.old)) }
     ensures view { draft.new.view ≡ draft.old.view }
 {
-    Err(CallFault::NoMemory)
+    let depth = table.depth();
+    if index >= 1 << depth {
+        return Ok(Step::Is(false));
+    }
+    let head = match table.get(&*draft, index)? {
+        Step::Is(head) => head,
+        Step::NeedBlock(missing) => return Ok(Step::NeedBlock(missing)),
+    };
+    let leaf = match leaf_at(&*draft, dir, depth, &head)? {
+        Step::Is(leaf) => leaf.head,
+        Step::NeedBlock(missing) => return Ok(Step::NeedBlock(missing)),
+    };
+    if let Step::NeedBlock(missing) = see_table(alloc, &*draft, dir)? {
+        return Ok(Step::NeedBlock(missing));
+    }
+    if leaf.next != 0 || leaf.depth >= depth {
+        return Ok(Step::Is(false));
+    }
+    let Some(lower) = room.pop_front() else {
+        return Ok(Step::Is(false));
+    };
+    let done = split_leaf(
+        alloc, draft, dir, table, index, head.leaf, leaf.depth, lower,
+    )?;
+    Ok(Step::Is(done))
 }
