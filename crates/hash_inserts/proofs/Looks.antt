@@ -1,6 +1,6 @@
 -- What is told of the blocks of a table.
 use Rattle.std.proofs.Common.{◌≡◌, ℕ, ◌+◌, ◌<◌, ◌≤◌, Bool, true, false, None, refl, sym, ap, ◌∙◌, subst, arith}
-use Rattle.std.specs.Prelude.{◌==◌, ◌&&◌}
+use Rattle.std.specs.Prelude.{◌==◌, ◌&&◌, Contains, List, ◌∷◌}
 use Rattle.std.proofs.lemmas.Bool.{true≢false}
 use Rattle.std.proofs.lemmas.Bool.Decides.{nat_tests}
 use Rattle.gfs2_layout.specs.Holding.{Holding}
@@ -20,6 +20,8 @@ use Rattle.dinode_tree.specs.declared.below.PointedBlock.{PointedBlock}
 use Rattle.dinode_tree.proofs.Spans.{span_some}
 use Rattle.hash_dirs.specs.Broken.{IsBroken, of_inode}
 use Rattle.hash_dirs.specs.Shown.{IsShown}
+use Rattle.growth_drafts.specs.Taken.{AreFreeFor}
+use Rattle.hash_inserts.specs.Drafting.{IsFree}
 use Rattle.hash_inserts.proofs.Blockwise.{size_bounds}
 
 pub damage_tells : (h : Holding) (fault : CallFault) → IsDamage (inode.IsBroken h) fault → TellsOf (IsBroken h) fault
@@ -66,3 +68,19 @@ way_to v dir h m p shown view lock is absent led =
 
 pub absent_of : (v : Seen) (h : Holding) (wanted : ℕ → Type 0) (least : ℕ) (m : Missing) → IsNeeded v h wanted least m → v.block_at m.block ≡ None
 absent_of v h wanted least m needed = needed.absent
+
+pub only_tells : (P : ℕ → ℕ → Type 0) (fault : CallFault) → IsDamage P fault → TellsOf P fault
+only_tells P (Damaged block rule) damage = damage
+only_tells P NoMemory damage = tt
+
+-- ---- the block at the front of the room
+
+pub free_front : (h : Holding) (b : ℕ) (room left : List ℕ) → room ≡ b ∷ left → AreFreeFor h room → IsFree h b
+free_front h b room left front free = record {
+  some = λ is. free.some (subst (Contains room) is there);
+  inside = free.inside b there;
+  new = free.new b there;
+}
+  where
+    there : Contains room b
+    there = subst (λ xs. Contains xs b) (sym front) (0, omega arith, refl)
