@@ -1,6 +1,7 @@
 mod Blocks
 mod Blockwise
 mod LeafBytes
+mod Doubling
 mod Lengthened
 mod Looks
 mod Parted

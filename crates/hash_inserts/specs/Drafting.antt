@@ -12,7 +12,7 @@ use Rattle.dinode_tree.specs.Shown.{IsAsSeen}
 use Rattle.growth_drafts.specs.Taken.{HasTaken}
 use Rattle.linear_dirs.specs.Shown.{holding_over}
 use Rattle.pointer_tables.specs.Directories.{HasPointerOf}
-use Rattle.pointer_tables.specs.Tables.{DraftsDirectory, HasPointersSet}
+use Rattle.pointer_tables.specs.Tables.{DraftsDirectory, HasPointersSet, TakesDoubled}
 use Rattle.hash_steps.specs.Steps.{IsLengthened, IsPutInLeaf, IsSplit}
 use Rattle.hash_inserts.specs.Inserting.{IsSplitAt}
 
@@ -65,3 +65,8 @@ pub record SetsPointers (v : Seen) (old new : FinMap nat_cmp Fate) (h : Holding)
   pub set : HasPointersSet h (holding_over (seen_with v new) h) from count leaf
   pub drafted : DraftsDirectory old new h (holding_over (seen_with v new) h)
   pub only : (b : ℕ) → (get new b ≡ get old b) ⊎ HasPointerOf h from count b
+
+-- The table is doubled in the draft.
+pub record DoublesTable (v : Seen) (old new : FinMap nat_cmp Fate) (room left : List ℕ) (h g : Holding) : Type 0 where
+  pub puts : Puts v old new h g
+  pub takes : TakesDoubled old new room left h g
