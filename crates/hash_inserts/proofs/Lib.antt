@@ -1,5 +1,6 @@
 mod Blocks
 mod Blockwise
+mod Chosen
 mod LeafBytes
 mod Doubling
 mod Lengthened

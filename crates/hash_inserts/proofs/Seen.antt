@@ -7,10 +7,11 @@ use Rattle.std.specs.Ordering.{nat_cmp}
 use Rattle.drafts.specs.Fates.{block_with, seen_with}
 use Rattle.drafts.specs.declared.fate.Fate.{Fate}
 use Rattle.drafts.specs.declared.fate.Fate.TheVariants.{Put}
-use Rattle.gfs2_layout.specs.Holding.{Holding, Cell, InChain, cell_bytes, part_at, bytes_at}
+use Rattle.gfs2_layout.specs.Holding.{Holding, Cell, InChain, Pointed, cell_bytes, part_at, bytes_at}
 use Rattle.gfs2_layout.specs.Inode.{IsInode, entry, entry_block, first_hash, is_hashed_in, table_count}
 use Rattle.glock_names.specs.Views.{Seen, HasBlock}
 use Rattle.glock_names.specs.declared.steps.Missing.{Missing}
+use Rattle.dinode_tree.specs.Below.{IsBelow}
 use Rattle.dinode_tree.specs.Broken as inode_rules
 use Rattle.dinode_tree.specs.Reading.{IsNeeded, IsOnWay, the_dinode, led_to}
 use Rattle.dinode_tree.specs.Shown.{IsAsSeen}
@@ -101,3 +102,21 @@ set_cell v old new h i leaf from count sound hashed low set = set.set.stays.leav
 
 pub own_there : (v : Seen) (new : FinMap nat_cmp Fate) (h : Holding) → IsSome (h.cell h.own) → IsSome ((holding_over (seen_with v new) h).cell h.own)
 own_there v new h some = over_there ((seen_with v new).block_at h.own) (h.cell h.own) ∙ some
+
+-- ---- every block of the table is still there
+
+-- pointers lead to the blocks whose parts tell so, as `dinode_tree` has it
+abbrev pub PointersAreParts : Type 0
+PointersAreParts = (h : Holding) (b : ℕ) → IsInode h → IsBelow h b → (from k level first : ℕ) × (part_at h b ≡ Some (Pointed from k level first))
+
+abbrev pub PartsAreLed : Type 0
+PartsAreLed = (h : Holding) (b from k level first : ℕ) → IsInode h → part_at h 0 ≡ None → part_at h b ≡ Some (Pointed from k level first) → IsBelow h b
+
+pub sees_on : PointersAreParts → PartsAreLed → (v : Seen) (old new : FinMap nat_cmp Fate) (h g : Holding) → IsInode h → part_at h 0 ≡ None → IsInode g → Puts v old new h g
+    → ((b from k level first : ℕ) → part_at g b ≡ Some (Pointed from k level first) → part_at h b ≡ Some (Pointed from k level first)) → SeesTree (seen_with v old) h → SeesTree (seen_with v new) g
+sees_on parts led v old new h g inode nobody inode' puts same sees = record {
+  own = subst (HasBlock (seen_with v new)) (sym puts.own) (puts.there h.own sees.own);
+  below = λ b below.
+      let at = parts g b inode' below in
+      puts.there b (sees.below b (led h b at.0 at.1 at.2 at.3 inode nobody (same b at.0 at.1 at.2 at.3 at.4)));
+}

@@ -1,18 +1,12 @@
 //! Names that come into hashed directories.
 #![tactic(auto)]
 
-mod converting;
 mod drafting;
-mod inserting;
 mod lengthening;
 mod looking;
-mod needing;
 mod pointers;
 mod records;
 mod splitting;
 mod writing;
 
-pub use converting::to_hashed;
-pub use inserting::insert;
-pub use needing::{need_first, need_insert};
 pub use splitting::split;
