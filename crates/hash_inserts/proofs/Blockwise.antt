@@ -1,5 +1,5 @@
 -- What the blocks of a sound directory are to those that write them.
-use Rattle.std.proofs.Common.{◌≡◌, ◌≢◌, ℕ, zero, suc, ◌+◌, ◌^◌, ◌<◌, ◌≤◌, List, [], length, drop, Option, None, Some, Ok, refl, sym, ap, ◌∙◌, subst, true, length-drop, arith}
+use Rattle.std.proofs.Common.{◌≡◌, ◌≢◌, ℕ, zero, suc, ◌+◌, ◌^◌, ◌<◌, ◌≤◌, List, [], length, drop, Option, None, Some, Ok, refl, ap, subst, true, length-drop, arith}
 use Rattle.std.specs.Prelude.{filter, IsSome, is_some}
 use Rattle.std.specs.List.{range_with_len}
 use Rattle.std.proofs.lemmas.Bool.Decides.{nat_tests}
@@ -10,7 +10,7 @@ use Rattle.gfs2_layout.specs.Area.{Slot, slots_of, slots_within}
 use Rattle.gfs2_layout.specs.Device.{IsBlockSize}
 use Rattle.gfs2_layout.specs.Headers.{HasHeader}
 use Rattle.gfs2_layout.specs.Holding.{Holding, Cell, Itself, InChain, part_at, bytes_at}
-use Rattle.gfs2_layout.specs.Inode.{IsLeaf, block_count, dinode_in, is_hashed_in, leaf_area, leaf_in, leaf_length}
+use Rattle.gfs2_layout.specs.Inode.{IsLeaf, block_count, dinode_in, is_hashed_in, leaf_area, leaf_length}
 use Rattle.gfs2_layout.specs.Records.{record_of, records_in}
 use Rattle.gfs2_layout.specs.Structures.{answer, dinode_length, dinode_of, dinode_read, header_fault, is_in_use, leaf_of}
 use Rattle.gfs2_layout.specs.declared.dinode.Dinode.{Dinode}
@@ -21,7 +21,6 @@ use Rattle.hash_dirs.proofs.Chained.{rules}
 use Rattle.hash_dirs.proofs.Leaves.{read_well}
 use Rattle.hash_steps.specs.Leaves.{has_room_for}
 use Rattle.pointer_tables.specs.Directories.{IsTreeSound, IsPlaced}
-use Rattle.hash_inserts.specs.Inserting.{CanCountOne}
 use Rattle.hash_inserts.specs.Drafting.{with_block}
 use Rattle.hash_inserts.proofs.Blocks.{counts_more}
 use Rattle.hash_inserts.specs.Writing.{CanCount, CanTake, IsLeafBlock}

@@ -5,8 +5,8 @@ use Rattle.std.specs.List.{list_any}
 use Rattle.std.proofs.lemmas.Bool.{cases_Bool, cond-false, cond-true, eqb-true, true≢false}
 use Rattle.crc_words.specs.Remainder.{crc32_of}
 use Rattle.gfs2_layout.specs.Area.{Slot, slots_of}
-use Rattle.gfs2_layout.specs.Holding.{Holding, bytes_at}
-use Rattle.gfs2_layout.specs.Inode.{depth_in, dinode_in, entry, is_hashed_in, leaf_area, leaf_in, leaf_length, table_count, top_bits}
+use Rattle.gfs2_layout.specs.Holding.{Holding}
+use Rattle.gfs2_layout.specs.Inode.{depth_in, entry, is_hashed_in, leaf_area, leaf_in, leaf_length, table_count, top_bits}
 use Rattle.gfs2_layout.specs.declared.dinode.Dinode.{Dinode}
 use Rattle.gfs2_layout.specs.declared.leaf.Leaf.{Leaf}
 use Rattle.leaf_areas.specs.Splitting.{bit_at, lower_half, upper_half}
@@ -17,7 +17,7 @@ use Rattle.hash_dirs.proofs.Indexes.{bits_of_bits, some_pow}
 use Rattle.hash_steps.specs.Leaves.{HasOneLeaf, first_of, has_room_for, leaf_depth, run_of}
 use Rattle.hash_steps.specs.Steps.{IsSplit}
 use Rattle.hash_steps.proofs.Halves.{first_bits, lower_bits, odd_apart, outside_run, upper_bits, within_run}
-use Rattle.hash_inserts.specs.Needing.{AreLeavesFrom, Chain, IsChainOf, Needs, TakesBlocks, a_doubling, a_leaf, a_split, nothing, one_more, split_for, the_last}
+use Rattle.hash_inserts.specs.Needing.{AreLeavesFrom, Chain, Needs, TakesBlocks, a_doubling, a_leaf, a_split, nothing, one_more, split_for, the_last}
 
 -- after a split the name's index is the same, and its pointer leads to one of the two leaves
 module _ (h g : Holding) (name : List ℕ) (b : ℕ) (sound : IsSound h) (hashed : is_hashed_in h ≡ true) (small : crc32_of name < 2 ^ 32) (less : leaf_depth h (index_for h name) < depth_in h) (split : IsSplit h g (index_for h name) b) where

@@ -1,25 +1,23 @@
 -- A directory after its table was doubled in a draft.
-use Rattle.std.proofs.Common.{◌≡◌, ◌⊎◌, ℕ, ◌*◌, ◌^◌, ◌<◌, ◌≤◌, inl, inr, true, false, List, [], length, Option, None, Some, refl, sym, ap, ◌∙◌, subst, arith}
-use Rattle.std.specs.Prelude.{Contains, IsSome, is_some}
-use Rattle.std.specs.FinMap.{FinMap, get}
+use Rattle.std.proofs.Common.{◌≡◌, ◌⊎◌, ℕ, ◌*◌, ◌^◌, ◌<◌, ◌≤◌, inl, inr, true, List, [], length, Option, None, Some, refl, sym, ap, ◌∙◌, subst, arith}
+use Rattle.std.specs.Prelude.{IsSome}
+use Rattle.std.specs.FinMap.{FinMap}
 use Rattle.std.specs.Ordering.{nat_cmp}
 use Rattle.drafts.specs.Fates.{Drafted, block_with, seen_in, seen_with}
 use Rattle.drafts.specs.declared.fate.Fate.{Fate}
-use Rattle.drafts.specs.declared.fate.Fate.TheVariants.{Put}
 use Rattle.gfs2_layout.specs.Holding.{Holding, Cell, InChain, cell_bytes, cell_part, Part, part_at, bytes_at}
 use Rattle.gfs2_layout.specs.Inode.{depth_in, entry, first_hash, is_hashed_in, table_count}
 use Rattle.gfs2_layout.specs.declared.dinode.Dinode.{Dinode}
 use Rattle.glock_names.specs.Views.{Seen, HasBlock}
-use Rattle.dinode_tree.specs.Reading.{inode_lock}
 use Rattle.dinode_tree.specs.Shown.{IsAsSeen}
-use Rattle.growth_drafts.specs.Taken.{AreFreeFor, HasTaken}
-use Rattle.pointer_tables.specs.Tables.{CanDouble, DraftsDirectory, TakesDoubled, doubling_need_of}
+use Rattle.growth_drafts.specs.Taken.{AreFreeFor}
+use Rattle.pointer_tables.specs.Tables.{CanDouble, TakesDoubled, doubling_need_of}
 use Rattle.hash_dirs.specs.Shown.{IsShown, IsSound}
 use Rattle.hash_dirs.proofs.Chained.{rules}
 use Rattle.hash_dirs.proofs.Indexes.{some_pow}
 use Rattle.hash_steps.specs.Laws.{DoublingsStay, Stays}
 use Rattle.hash_steps.proofs.Sound.{tree_of}
-use Rattle.hash_inserts.specs.Drafting.{DoublesTable, Puts}
+use Rattle.hash_inserts.specs.Drafting.{DoublesTable}
 use Rattle.hash_inserts.proofs.Blockwise.{size_bounds}
 use Rattle.hash_inserts.proofs.Seen.{pointers_lead}
 use Rattle.hash_inserts.proofs.Showing.{SoundAreShown, shown_of}

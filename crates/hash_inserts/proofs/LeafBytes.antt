@@ -8,7 +8,7 @@ use Rattle.gfs2_layout.specs.Bytes.{u32_at, put_at, with_number}
 use Rattle.gfs2_layout.specs.Fields.{Field, end_of, value_of, width_of, with_field, with_fields}
 use Rattle.gfs2_layout.specs.Headers.{HasHeader}
 use Rattle.gfs2_layout.specs.Holding.{Holding, bytes_at}
-use Rattle.gfs2_layout.specs.Inode.{leaf_in, leaf_area, leaf_length}
+use Rattle.gfs2_layout.specs.Inode.{leaf_length}
 use Rattle.gfs2_layout.specs.Structures.{header_fault, is_in_use, leaf_of, leaf_read, or_else, records_fault}
 use Rattle.gfs2_layout.specs.Writing.{leaf_fields, leaf_put}
 use Rattle.gfs2_layout.specs.Putting.{put_slot}
@@ -134,8 +134,15 @@ count_parts used low (x ∷ xs) =
 pub upper_many : (depth lower upper : ℕ) (slots : List Slot) → lower ≡ length (filter (is_lower depth) slots) → lower + upper ≡ length (in_use slots)
     → upper ≡ length (filter (λ s. is_in_use s.head && not (is_lower depth s)) slots)
 upper_many depth lower upper slots low all =
-    omega (arith, low, all, length-filter (is_lower depth) slots, length-filter (λ (s : Slot). is_in_use s.head && not (is_lower depth s)) slots, length-filter (λ (s : Slot). is_in_use s.head) slots,
-    count_parts (λ (s : Slot). is_in_use s.head) (λ s. is_lower_name depth (name_of s)) slots)
+    omega (
+      arith,
+      low,
+      all,
+      length-filter (is_lower depth) slots,
+      length-filter (λ (s : Slot). is_in_use s.head && not (is_lower depth s)) slots,
+      length-filter (λ (s : Slot). is_in_use s.head) slots,
+      count_parts (λ (s : Slot). is_in_use s.head) (λ s. is_lower_name depth (name_of s)) slots,
+    )
 
 -- ---- a record that was put into a leaf's block
 

@@ -1,24 +1,20 @@
 -- A directory after a leaf was added behind a chain of it.
-use Rattle.std.proofs.Common.{◌≡◌, ◌≢◌, ◌⊎◌, ℕ, ◌+◌, ◌-◌, ◌<◌, ◌≤◌, inl, inr, true, List, [], ◌∷◌, length, drop, replicate, Option, None, Some, refl, sym, ap, ap₂, ◌∙◌, subst, false, arith}
-use Rattle.std.specs.Prelude.{IsSome, is_some}
-use Rattle.std.specs.FinMap.{FinMap, get, insert}
+use Rattle.std.proofs.Common.{◌≡◌, ◌≢◌, ℕ, ◌+◌, ◌-◌, inl, inr, true, List, [], ◌∷◌, drop, replicate, Some, refl, sym, ap, ap₂, ◌∙◌, arith}
+use Rattle.std.specs.FinMap.{FinMap}
 use Rattle.std.specs.Ordering.{nat_cmp}
 use Rattle.std.proofs.lemmas.Bool.{cases_eq}
 use Rattle.std.proofs.lemmas.List.{length-replicate}
-use Rattle.drafts.specs.Fates.{Drafted, seen_in}
 use Rattle.drafts.specs.declared.fate.Fate.{Fate}
-use Rattle.drafts.specs.declared.fate.Fate.TheVariants.{Put}
 use Rattle.gfs2_layout.specs.Area.{slots_of}
 use Rattle.gfs2_layout.specs.Holding.{Holding, Part, InChain, part_at, bytes_at}
 use Rattle.gfs2_layout.specs.Inode.{dinode_in, first_hash, is_hashed_in, leaf_area, leaf_in, leaf_length}
 use Rattle.gfs2_layout.specs.declared.dinode.Dinode.{Dinode}
 use Rattle.glock_names.specs.Views.{Seen}
-use Rattle.dinode_tree.specs.Reading.{inode_lock}
 use Rattle.leaf_areas.specs.Moving.{unused}
-use Rattle.hash_dirs.specs.Shown.{IsInChain, IsShown, IsSound}
+use Rattle.hash_dirs.specs.Shown.{IsInChain, IsSound}
 use Rattle.hash_dirs.proofs.Chained.{cell_some, in_chain, same_hash}
 use Rattle.hash_steps.specs.Leaves.{blank}
-use Rattle.hash_steps.specs.Steps.{CountsOneMore, IsLengthened}
+use Rattle.hash_steps.specs.Steps.{IsLengthened}
 use Rattle.hash_steps.proofs.Sound.{tree_of}
 use Rattle.hash_inserts.specs.Drafting.{IsFree, Lengthens}
 use Rattle.hash_inserts.specs.Writing.{IsDinodeWritten, IsLeafWritten, IsLinked, counting}

@@ -1,47 +1,43 @@
 -- A directory after a leaf of it was split.
-use Rattle.std.proofs.Common.{◌≡◌, ◌≢◌, ◌⊎◌, ℕ, ◌+◌, ◌-◌, ◌*◌, ◌/◌, ◌^◌, ◌<◌, ◌≤◌, inl, inr, true, false, List, [], ◌∷◌, ◌++◌, length, take, drop, replicate, Option, None, Some, refl, sym, ap, ap₂, ◌∙◌, subst, arith}
-use Rattle.std.specs.Prelude.{Contains, IsSome, filter, if◌then◌else◌, option_map}
-use Rattle.std.specs.FinMap.{FinMap, get, insert}
+use Rattle.std.proofs.Common.{◌≡◌, ◌⊎◌, ℕ, ◌+◌, ◌-◌, ◌*◌, ◌<◌, ◌≤◌, inl, inr, true, List, [], ◌∷◌, ◌++◌, length, take, drop, replicate, Some, refl, sym, ap, ap₂, ◌∙◌, subst, arith}
+use Rattle.std.specs.Prelude.{IsSome, filter, if◌then◌else◌, option_map}
+use Rattle.std.specs.FinMap.{FinMap, get}
 use Rattle.std.specs.Ordering.{nat_cmp}
-use Rattle.std.proofs.lemmas.Bool.{cases_eq}
 use Rattle.std.proofs.lemmas.List.{length-replicate}
-use Rattle.drafts.specs.Fates.{Drafted, seen_in, seen_with}
+use Rattle.drafts.specs.Fates.{seen_with}
 use Rattle.drafts.specs.declared.fate.Fate.{Fate}
-use Rattle.drafts.specs.declared.fate.Fate.TheVariants.{Put}
 use Rattle.gfs2_layout.specs.Area.{slots_of}
-use Rattle.gfs2_layout.specs.Holding.{Holding, Cell, Part, InChain, Itself, part_at, bytes_at}
-use Rattle.gfs2_layout.specs.Inode.{depth_in, dinode_in, entry, entry_block, first_hash, has_hash_flag, is_directory_in, is_hashed_in, leaf_area, leaf_in, leaf_length, table_count}
+use Rattle.gfs2_layout.specs.Holding.{Holding, Part, InChain, part_at, bytes_at}
+use Rattle.gfs2_layout.specs.Inode.{depth_in, dinode_in, entry, first_hash, has_hash_flag, is_directory_in, is_hashed_in, leaf_area, leaf_length, table_count}
 use Rattle.gfs2_layout.specs.Structures.{dinode_length, dinode_of}
 use Rattle.gfs2_layout.specs.Writing.{dinode_put}
 use Rattle.leaf_areas.specs.Splitting.{is_lower, lower_half}
 use Rattle.gfs2_layout.specs.declared.leaf.Leaf.{Leaf}
 use Rattle.gfs2_layout.specs.declared.dinode.Dinode.{Dinode}
-use Rattle.glock_names.specs.Views.{Seen, HasBlock}
+use Rattle.glock_names.specs.Views.{Seen}
 use Rattle.image_model.proofs.Rows.{and_left}
 use Rattle.dinode_tree.specs.Pads.{KeepsPads, dinode_over}
-use Rattle.dinode_tree.specs.Reading.{inode_lock}
 use Rattle.dinode_tree.specs.Shown.{IsAsSeen}
 use Rattle.linear_dirs.specs.Shown.{bytes_over, holding_over}
 use Rattle.linear_dirs.proofs.Over.{parts_stay}
 use Rattle.linear_dirs.proofs.Rewritten.{over_there}
 use Rattle.growth_drafts.specs.Taken.{HasTaken}
-use Rattle.growth_drafts.proofs.Rooms.{only_in}
 use Rattle.pointer_tables.specs.Directories.{HasPointerOf, IsTreeSound, IsPlaced, chain_head}
 use Rattle.pointer_tables.specs.Tables.{is_within}
 use Rattle.hash_dirs.specs.Shown.{IsInChain, IsSound}
-use Rattle.hash_dirs.proofs.Chained.{cell_some, in_chain, rules}
+use Rattle.hash_dirs.proofs.Chained.{cell_some, rules}
 use Rattle.hash_steps.specs.Leaves.{HasOneLeaf, blank, first_of, leaf_depth, middle_hash, run_of}
 use Rattle.hash_steps.specs.Steps.{IsSplit}
-use Rattle.hash_steps.proofs.Contents.{IsTableBlock, table_block}
+use Rattle.hash_steps.proofs.Contents.{table_block}
 use Rattle.hash_steps.proofs.Sound.{tree_of}
-use Rattle.hash_inserts.specs.Drafting.{IsFree, Puts, SetsPointers, SplitsLeaf}
+use Rattle.hash_inserts.specs.Drafting.{IsFree, SetsPointers, SplitsLeaf}
 use Rattle.hash_inserts.specs.Inserting.{IsSplitAt, its_dinode, the_leaf, the_new_one, of_table}
 use Rattle.hash_inserts.specs.Writing.{IsDinodeWritten, IsHalved, IsLeafWritten, counting}
 use Rattle.hash_inserts.proofs.Blocks.{puts_then}
 use Rattle.hash_inserts.proofs.Blockwise.{size_bounds}
 use Rattle.hash_inserts.proofs.LeafBytes.{leaf_put_of}
 use Rattle.hash_inserts.proofs.Lengthened.{one_block}
-use Rattle.hash_inserts.proofs.Seen.{bytes_set, middle, puts_set}
+use Rattle.hash_inserts.proofs.Seen.{bytes_set, puts_set}
 use Rattle.hash_inserts.proofs.Trees.{depth_same, in_tree}
 use Rattle.hash_inserts.proofs.TwoLeaves.{AreLeaves, changed_bytes, changed_part, dinode_grown, entry_grown, grown, grown_fates, has_taken, keeps_grown, new_bytes, new_part, only_grown, other_bytes, other_parts, pads_grown, placed_grown, puts_grown, sound_grown}
 

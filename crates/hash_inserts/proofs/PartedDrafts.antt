@@ -1,26 +1,24 @@
 -- A leaf that is split in a draft, step by step.
-use Rattle.std.proofs.Common.{◌≡◌, ◌≢◌, ℕ, ◌+◌, ◌<◌, ◌≤◌, ◌^◌, List, false, true, Some, refl, sym, ap, ◌∙◌, subst, arith}
+use Rattle.std.proofs.Common.{◌≡◌, ℕ, ◌+◌, ◌<◌, ◌≤◌, List, false, Some, refl, sym, ap, ◌∙◌, subst}
 use Rattle.std.specs.Prelude.{IsSome}
 use Rattle.std.specs.FinMap.{insert}
 use Rattle.drafts.specs.Fates.{Drafted, seen_in, seen_with}
 use Rattle.drafts.specs.declared.fate.Fate.TheVariants.{Put}
-use Rattle.gfs2_layout.specs.Holding.{Holding, Itself, InChain, cell_bytes, part_at, bytes_at}
-use Rattle.gfs2_layout.specs.Inode.{IsInode, depth_in, dinode_in, entry, leaf_in, table_count}
+use Rattle.gfs2_layout.specs.Holding.{Holding, cell_bytes, bytes_at}
+use Rattle.gfs2_layout.specs.Inode.{IsInode, depth_in, dinode_in, entry, table_count}
 use Rattle.gfs2_layout.specs.Structures.{dinode_of, leaf_of}
-use Rattle.glock_names.specs.Views.{Seen, HasBlock}
+use Rattle.glock_names.specs.Views.{Seen}
 use Rattle.dinode_tree.specs.Reading.{inode_lock}
 use Rattle.dinode_tree.specs.Shown.{IsAsSeen}
 use Rattle.linear_dirs.specs.Shown.{holding_over}
 use Rattle.linear_dirs.proofs.Over.{as_seen}
 use Rattle.hash_dirs.specs.Shown.{IsShown, IsSound}
-use Rattle.hash_dirs.proofs.Chained.{cell_some}
 use Rattle.gfs2_layout.specs.Device.{IsBlockSize}
 use Rattle.hash_steps.specs.Laws.{SplitsStay, Stays}
 use Rattle.hash_steps.specs.Leaves.{HasOneLeaf, first_of, leaf_depth, run_of}
 use Rattle.hash_inserts.specs.Drafting.{IsFree, SetsPointers, SplitsLeaf}
 use Rattle.hash_inserts.specs.Writing.{IsDinodeWritten, IsHalved, counting}
 use Rattle.hash_inserts.proofs.Blocks.{three_fates}
-use Rattle.hash_inserts.proofs.Blockwise.{dinode_own}
 use Rattle.hash_inserts.proofs.Parted.{after, depth_kept, split_in}
 use Rattle.hash_inserts.proofs.Showing.{SoundAreShown, shown_of}
 use Rattle.hash_inserts.proofs.Seen.{leaf_there, own_there, set_cell}

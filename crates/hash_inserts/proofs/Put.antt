@@ -1,16 +1,15 @@
 -- A directory after a record was put into a leaf of it, and counted.
-use Rattle.std.proofs.Common.{◌≡◌, ◌≢◌, ◌⊎◌, ℕ, ◌+◌, ◌<◌, inl, inr, true, List, [], ◌∷◌, length, drop, Option, None, Some, refl, sym, ap, ◌∙◌, subst, false, arith}
-use Rattle.std.specs.Prelude.{IsSome, is_some, ◌↔◌}
+use Rattle.std.proofs.Common.{◌≡◌, ◌≢◌, ℕ, ◌+◌, inl, inr, true, List, [], ◌∷◌, length, Some, refl, sym, ap, ◌∙◌, subst, false, arith}
+use Rattle.std.specs.Prelude.{IsSome}
 use Rattle.std.proofs.lemmas.Bool.{cases_eq}
-use Rattle.std.specs.FinMap.{FinMap, get, insert}
+use Rattle.std.specs.FinMap.{FinMap, insert}
 use Rattle.std.specs.Ordering.{nat_cmp}
 use Rattle.drafts.specs.Fates.{Drafted, seen_in}
 use Rattle.drafts.specs.declared.fate.Fate.{Fate}
 use Rattle.drafts.specs.declared.fate.Fate.TheVariants.{Put}
-use Rattle.gfs2_layout.specs.Area.{slots_of}
 use Rattle.gfs2_layout.specs.Exchanges.{directory_count}
-use Rattle.gfs2_layout.specs.Holding.{Holding, Cell, Part, Itself, InChain, part_at, bytes_at}
-use Rattle.gfs2_layout.specs.Inode.{block_count, dinode_in, first_hash, is_hashed_in, leaf_area}
+use Rattle.gfs2_layout.specs.Holding.{Holding, Part, Itself, InChain, part_at, bytes_at}
+use Rattle.gfs2_layout.specs.Inode.{block_count, dinode_in, first_hash, is_hashed_in}
 use Rattle.gfs2_layout.specs.declared.dinode.Dinode.{Dinode}
 use Rattle.glock_names.specs.Views.{Seen}
 use Rattle.glock_names.specs.declared.steps.Entry.{Entry}

@@ -1,5 +1,5 @@
 -- A directory after leaves came or changed, and then its dinode was put with other counts.
-use Rattle.std.proofs.Common.{◌≡◌, ◌≢◌, ℕ, ◌+◌, ◌<◌, List, length, drop, Some, None, refl, sym, ap, ◌∙◌, subst, arith, Option}
+use Rattle.std.proofs.Common.{◌≡◌, ◌≢◌, ℕ, ◌+◌, List, drop, Some, None, sym, ap, ◌∙◌, subst, arith, Option}
 use Rattle.std.specs.Prelude.{IsSome}
 use Rattle.gfs2_layout.specs.Holding.{Holding, Cell, Part, Itself, part_at, bytes_at}
 use Rattle.gfs2_layout.specs.Inode.{block_count, dinode_in}

@@ -1,16 +1,15 @@
 -- Leaves come to a directory and change: its tree is what it was.
-use Rattle.std.proofs.Common.{◌≡◌, ◌≢◌, ◌⊎◌, ℕ, suc, ◌+◌, ◌-◌, ◌*◌, ◌/◌, ◌<◌, ◌≤◌, inl, inr, true, List, length, drop, Option, None, Some, refl, sym, ap, ap₂, ◌∙◌, subst, arith}
+use Rattle.std.proofs.Common.{◌≡◌, ◌≢◌, ℕ, suc, ◌+◌, ◌-◌, ◌*◌, ◌<◌, ◌≤◌, inl, inr, List, length, drop, Option, None, Some, sym, ap, ap₂, ◌∙◌, subst, arith}
 use Rattle.std.specs.Prelude.{IsSome, ◌&&◌, if◌then◌else◌}
 use Rattle.gfs2_layout.specs.Bytes.{u64_at}
 use Rattle.gfs2_layout.specs.Headers.{HasHeader}
-use Rattle.gfs2_layout.specs.Holding.{Holding, Cell, Part, Itself, Pointed, InChain, cell_part, part_at, bytes_at}
-use Rattle.gfs2_layout.specs.Inode.{Fits, HasTree, IsChild, IsPointed, by_dinode, by_block, block_count, content_count, content_of, depth_in, dinode_in, entry, fan, has_hash_flag, header_length, height_in, is_directory_in, is_hashed_in, pieces, pointer, span, table_count, unit}
+use Rattle.gfs2_layout.specs.Holding.{Holding, Cell, Part, Itself, Pointed, InChain, part_at, bytes_at}
+use Rattle.gfs2_layout.specs.Inode.{Fits, HasTree, IsChild, IsPointed, by_dinode, by_block, block_count, content_count, depth_in, dinode_in, entry, fan, has_hash_flag, header_length, height_in, is_directory_in, is_hashed_in, pieces, pointer, span, unit}
 use Rattle.gfs2_layout.specs.Structures.{dinode_length, dinode_of, is_directory}
 use Rattle.gfs2_layout.specs.declared.dinode.Dinode.{Dinode}
 use Rattle.growth_laws.specs.Files.{with_cells}
 use Rattle.growth_laws.proofs.Numbers.{numbers_behind_are_the_same}
 use Rattle.pointer_tables.specs.Directories.{IsPlaced, IsTreeSound}
-use Rattle.hash_dirs.proofs.Chained.{cell_some}
 use Rattle.hash_steps.proofs.Contents.{KeepsContent, content_same}
 use Rattle.hash_inserts.specs.Drafting.{with_block}
 use Rattle.hash_inserts.proofs.Blocks.{bytes_here, bytes_apart, part_here, part_apart, some_before}

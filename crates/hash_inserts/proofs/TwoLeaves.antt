@@ -1,6 +1,6 @@
 -- A new leaf comes to a directory, another one changes, and the dinode counts a block more.
 use Rattle.std.proofs.Common.{◌≡◌, ◌≢◌, ◌⊎◌, ℕ, ◌+◌, ◌<◌, ◌≤◌, inl, inr, List, [], ◌∷◌, length, drop, Option, None, Some, refl, sym, ap, ◌∙◌, subst, false, arith}
-use Rattle.std.specs.Prelude.{Contains, IsSome, is_some}
+use Rattle.std.specs.Prelude.{Contains, IsSome}
 use Rattle.std.proofs.lemmas.Bool.{cases_eq}
 use Rattle.std.specs.FinMap.{FinMap, get, insert}
 use Rattle.std.specs.Ordering.{nat_cmp}
@@ -9,7 +9,7 @@ use Rattle.drafts.specs.declared.fate.Fate.TheVariants.{Put}
 use Rattle.gfs2_layout.specs.Holding.{Holding, Cell, Part, Itself, cell_part, part_at, bytes_at}
 use Rattle.gfs2_layout.specs.Inode.{block_count, dinode_in, entry}
 use Rattle.gfs2_layout.specs.Structures.{dinode_length}
-use Rattle.glock_names.specs.Views.{Seen, HasBlock}
+use Rattle.glock_names.specs.Views.{Seen}
 use Rattle.dinode_tree.specs.Pads.{KeepsPads}
 use Rattle.dinode_tree.specs.Reading.{inode_lock}
 use Rattle.growth_drafts.specs.Taken.{HasTaken}
@@ -18,7 +18,7 @@ use Rattle.pointer_tables.specs.Directories.{IsPlaced, IsTreeSound}
 use Rattle.hash_dirs.proofs.Chained.{cell_some}
 use Rattle.hash_inserts.specs.Drafting.{Puts, with_block}
 use Rattle.hash_inserts.specs.Writing.{IsDinodeWritten, counting}
-use Rattle.hash_inserts.proofs.Blocks.{bytes_apart, bytes_here, cell_apart, counts_more, counts_same, fate_apart, one_put, part_apart, part_here, puts_then, some_before, some_here, some_still}
+use Rattle.hash_inserts.proofs.Blocks.{bytes_apart, bytes_here, counts_more, counts_same, fate_apart, one_put, part_apart, part_here, puts_then, some_before, some_here, some_still}
 use Rattle.hash_inserts.proofs.Settled.{behind_now, dinode_now, keeps_now, pads_now, placed_now, sound_now}
 use Rattle.hash_inserts.proofs.Trees.{IsWhole, KeepsTree, entry_same, in_tree, keeps_then, leaf_keeps, whole_of, whole_with}
 

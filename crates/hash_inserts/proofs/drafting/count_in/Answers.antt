@@ -1,10 +1,9 @@
-use Rattle.std.proofs.Common.{rules, ◌≡◌, ◌∙◌, List, ℕ, Some, true, false, length, drop, refl, sym, ap, ap₂, subst}
+use Rattle.std.proofs.Common.{◌≡◌, ◌∙◌, List, ℕ, Some, false, length, drop, refl, sym, ap, ap₂, subst}
 use Rattle.std.proofs.lemmas.List.{take_at}
 use Rattle.std.specs.FinMap.{insert as with_fate}
 use Rattle.std.specs.Option.{option_map}
 use Rattle.drafts.specs.declared.fate.Fate.TheVariants.{Put}
 use Rattle.gfs2_layout.specs.Structures.{dinode_of}
-use Rattle.dinode_tree.specs.Reading.{inode_lock}
 use Rattle.hash_inserts.specs.Writing.{CanCount, IsDinodeWritten, counting}
 use Rattle.hash_inserts.proofs.drafting.count_in.Goals as goal
 

@@ -1,4 +1,4 @@
-use Rattle.std.specs.Prelude.{ℕ, Contains, ◌<◌, take}
+use Rattle.std.specs.Prelude.{Contains, take}
 use Rattle.glock_names.specs.Views.{HasBlock}
 use Rattle.dinode_tree.specs.declared.below.PointedBlock.{PointedBlock}
 use Rattle.hash_inserts.proofs.looking.first_missing.Given as goal

@@ -1,9 +1,8 @@
-use Rattle.std.proofs.Common.{◌≡◌, ◌∙◌, ℕ, refl, sym, ap, subst}
+use Rattle.std.proofs.Common.{refl, sym, subst}
 use Rattle.std.specs.Prelude.{Contains}
 use Rattle.glock_names.specs.Steps.{TellsOf}
 use Rattle.glock_names.specs.Views.{HasBlock}
 use Rattle.glock_names.proofs.StepLaws.{answer_at, needed_at}
-use Rattle.dinode_tree.specs.Reading.{inode_lock}
 use Rattle.linear_dirs.proofs.Looked.{handed}
 use Rattle.hash_dirs.specs.Broken.{IsBroken}
 use Rattle.hash_inserts.proofs.Looks.{absent_of, damage_tells, lower, tells_inode, way_to}

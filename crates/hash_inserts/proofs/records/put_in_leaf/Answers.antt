@@ -1,20 +1,16 @@
-use Rattle.std.proofs.Common.{◌≡◌, ◌∙◌, ◌+◌, ◌^◌, ◌<◌, ◌≤◌, ℕ, List, Some, length, refl, sym, ap, subst, false, arith}
+use Rattle.std.proofs.Common.{◌≡◌, ◌∙◌, ◌≤◌, length, refl, sym, ap, subst, arith}
 use Rattle.std.proofs.lemmas.Bool.{true≢false}
-use Rattle.std.specs.FinMap.{insert}
-use Rattle.drafts.specs.Fates.{Drafted, seen_in}
-use Rattle.drafts.specs.declared.fate.Fate.TheVariants.{Put}
-use Rattle.gfs2_layout.specs.Holding.{Holding, InChain, bytes_at, part_at}
+use Rattle.drafts.specs.Fates.{seen_in}
+use Rattle.gfs2_layout.specs.Holding.{bytes_at, part_at}
 use Rattle.gfs2_layout.specs.Inode.{dinode_in, first_hash}
 use Rattle.gfs2_layout.specs.Structures.{dinode_of}
 use Rattle.dinode_tree.specs.Reading.{inode_lock}
 use Rattle.linear_dirs.specs.Shown.{head_for, record_for}
-use Rattle.linear_dirs.proofs.Exchanged.{entry_for}
 use Rattle.hash_dirs.specs.Shown.{index_for}
 use Rattle.hash_dirs.proofs.Chained.{cell_some, in_chain}
 use Rattle.hash_dirs.proofs.Cuts.{seen_apart}
 use Rattle.hash_steps.proofs.Leaves.{itself_or_chained}
 use Rattle.hash_steps.proofs.Sound.{tree_of}
-use Rattle.hash_inserts.specs.Drafting.{PutsInLeaf}
 use Rattle.hash_inserts.specs.Writing.{CanCount, CanTake, IsDinodeWritten, IsLeafFilled, counting}
 use Rattle.hash_inserts.proofs.Blockwise.{can_count, can_take, dinode_own}
 use Rattle.hash_inserts.proofs.Put.{in_draft}

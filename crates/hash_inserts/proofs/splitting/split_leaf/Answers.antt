@@ -1,18 +1,16 @@
-use Rattle.std.proofs.Common.{◌≡◌, ◌≢◌, ◌∙◌, ◌+◌, ◌-◌, ◌*◌, ◌/◌, ◌^◌, ◌<◌, ◌≤◌, ℕ, List, Some, None, length, refl, sym, ap, ap₂, subst, false, true, arith}
+use Rattle.std.proofs.Common.{◌≡◌, ◌≢◌, ◌∙◌, ◌+◌, ◌-◌, ◌*◌, ◌/◌, ◌^◌, ◌≤◌, refl, sym, ap, ap₂, subst, false, arith}
 use Rattle.std.specs.Prelude.{IsSome, option_map}
 use Rattle.std.proofs.lemmas.Bool.{true≢false}
 use Rattle.std.specs.FinMap.{insert}
-use Rattle.drafts.specs.Fates.{Drafted, seen_in, seen_with}
+use Rattle.drafts.specs.Fates.{seen_in, seen_with}
 use Rattle.drafts.specs.declared.fate.Fate.TheVariants.{Put}
-use Rattle.gfs2_layout.specs.Holding.{Holding, Itself, InChain, cell_bytes, bytes_at, part_at}
-use Rattle.gfs2_layout.specs.Inode.{depth_in, dinode_in, entry, first_hash, leaf_in, table_count}
-use Rattle.gfs2_layout.specs.Structures.{dinode_of, leaf_of}
-use Rattle.glock_names.specs.Views.{Seen, HasBlock}
+use Rattle.gfs2_layout.specs.Holding.{cell_bytes, bytes_at, part_at}
+use Rattle.gfs2_layout.specs.Inode.{entry, first_hash}
+use Rattle.gfs2_layout.specs.Structures.{leaf_of}
+use Rattle.glock_names.specs.Views.{HasBlock}
 use Rattle.dinode_tree.specs.Reading.{inode_lock}
-use Rattle.dinode_tree.specs.Shown.{IsAsSeen}
 use Rattle.linear_dirs.specs.Shown.{bytes_over, holding_over}
 use Rattle.linear_dirs.proofs.Over.{as_seen}
-use Rattle.hash_dirs.specs.Shown.{IsShown}
 use Rattle.hash_dirs.proofs.Chained.{deep, rules}
 use Rattle.hash_steps.proofs.Leaves.{itself_or_chained}
 use Rattle.hash_steps.proofs.Sound.{tree_of}

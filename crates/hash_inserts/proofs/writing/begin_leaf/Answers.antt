@@ -1,5 +1,5 @@
 use borrow.Rule.Slice.PartMut.{same_len_mid}
-use Rattle.std.proofs.Common.{◌∙◌, ◌-◌, ◌≤◌, [], ◌∷◌, length, drop, ap, subst, length-drop, arith}
+use Rattle.std.proofs.Common.{◌∙◌, ◌-◌, [], ◌∷◌, length, ap, subst, length-drop, arith}
 use Rattle.gfs2_layout.specs.Inode.{leaf_length}
 use Rattle.leaf_areas.specs.Moving.{unused}
 use Rattle.linear_dirs.proofs.Looked.{rest_is}

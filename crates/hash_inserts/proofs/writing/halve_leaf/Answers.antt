@@ -1,10 +1,9 @@
 use borrow.Rule.Slice.PartMut.{same_len_mid}
 use Rattle.std.proofs.lemmas.List.{length-replicate}
-use Rattle.std.proofs.Common.{◌∙◌, ◌+◌, ◌-◌, ◌≤◌, ℕ, List, length, drop, ap, sym, subst, length-drop, arith}
-use Rattle.std.specs.Prelude.{filter, not, ◌&&◌, replicate}
-use Rattle.gfs2_layout.specs.Area.{Slot, IsArea, slots_of}
+use Rattle.std.proofs.Common.{◌∙◌, ◌+◌, ◌-◌, ℕ, List, length, drop, ap, sym, subst, length-drop, arith}
+use Rattle.std.specs.Prelude.{filter, replicate}
+use Rattle.gfs2_layout.specs.Area.{IsArea, slots_of}
 use Rattle.gfs2_layout.specs.Inode.{leaf_length}
-use Rattle.gfs2_layout.specs.Structures.{is_in_use}
 use Rattle.gfs2_layout.specs.declared.leaf.Leaf.{Leaf}
 use Rattle.leaf_areas.specs.Moving.{in_use}
 use Rattle.leaf_areas.specs.Splitting.{is_lower, lower_half, upper_half}
