@@ -14,3 +14,4 @@ mod Settled
 mod Showing
 mod Trees
 mod TwoLeaves
+mod Walks

@@ -2,3 +2,4 @@ pub mod Needing
 pub mod Inserting
 pub mod Writing
 pub mod Drafting
+pub mod Walking

@@ -7,6 +7,7 @@ mod looking;
 mod pointers;
 mod records;
 mod splitting;
+mod walking;
 mod writing;
 
 pub use splitting::split;
