@@ -4,6 +4,7 @@ mod Chosen
 mod LeafBytes
 mod Doubling
 mod Lengthened
+mod Longer
 mod Looks
 mod Parted
 mod PartedDrafts

@@ -5,6 +5,7 @@ use Rattle.std.specs.Ordering.{nat_cmp}
 use Rattle.drafts.specs.Fates.{seen_with}
 use Rattle.drafts.specs.declared.fate.Fate.{Fate}
 use Rattle.gfs2_layout.specs.Holding.{Holding, Part}
+use Rattle.gfs2_layout.specs.Inode.{entry}
 use Rattle.glock_names.specs.Views.{Seen, HasBlock}
 use Rattle.glock_names.specs.declared.steps.Entry.{Entry}
 use Rattle.dinode_tree.specs.Below.{IsBelow}
@@ -46,6 +47,7 @@ pub record Lengthens (v : Seen) (old new : FinMap nat_cmp Fate) (h g : Holding) 
   pub puts : Puts v old new h g
   pub is : IsLengthened h g i b
   pub only : (y : ℕ) → (get new y ≡ get old y) ⊎ ((y ≡ h.own) ⊎ ((y ≡ is.last) ⊎ (y ≡ b)))
+  pub entries : (j : ℕ) → entry g j ≡ entry h j
   pub has : HasTaken h g (b ∷ [])
 
 -- The leaf of pointer i is split.
