@@ -21,7 +21,7 @@ use Rattle.hash_inserts.specs.Writing.{IsDinodeWritten, IsLeafWritten, IsLinked,
 use Rattle.hash_inserts.proofs.Blockwise.{size_bounds}
 use Rattle.hash_inserts.proofs.LeafBytes.{leaf_put_of}
 use Rattle.hash_inserts.proofs.Trees.{in_tree}
-use Rattle.hash_inserts.proofs.TwoLeaves.{AreLeaves, behind_grown, changed_bytes, changed_part, dinode_grown, entry_grown, grown, grown_fates, has_taken, new_bytes, new_part, only_grown, other_bytes, other_parts, pads_grown, placed_grown, puts_grown, sound_grown}
+use Rattle.hash_inserts.proofs.TwoLeaves.{AreLeaves, behind_grown, changed_bytes, changed_part, dinode_grown, entry_grown, grown, grown_fates, has_taken, new_bytes, new_part, only_grown, other_bytes, other_parts, pads_grown, placed_grown, puts_grown, sees_new, sound_grown}
 
 -- the dinode counts a block more
 pub one_block : (d : Dinode) → counting d 0 0 1 ≡ record d { blocks = d.blocks + 1 }
@@ -106,5 +106,6 @@ module _ (h : Holding) (i place x b : ℕ) (new changed dinode : List ℕ) (soun
     is = lengthened;
     only = only_grown h b x part_b part_last new changed dinode (tree_of h sound.inode) sound.placed are written fates;
     entries = entry_grown h b x part_b part_last new changed dinode (tree_of h sound.inode) sound.placed are written (size_bounds h.size sound.block_size).0;
+    there = sees_new h b x part_b part_last new changed dinode (tree_of h sound.inode) sound.placed are written v fates;
     has = has_taken h b x part_b part_last new changed dinode (tree_of h sound.inode) sound.placed are written;
   }

@@ -1,6 +1,8 @@
 -- The chain to which a leaf was added: it goes on to that leaf, and no leaf before it got room.
 use Rattle.std.proofs.Common.{◌≡◌, ◌≢◌, ◌⊎◌, ℕ, ◌+◌, ◌-◌, ◌^◌, ◌<◌, ◌≤◌, inl, inr, true, false, List, [], ◌∷◌, drop, None, Some, refl, sym, ap, ◌∙◌, subst, arith}
-use Rattle.std.specs.Prelude.{IsSome}
+use Rattle.std.specs.Prelude.{IsSome, ◌||◌, ◌*◌, ◌/◌, nat_le}
+use Rattle.std.proofs.lemmas.Bool.Decides.{nat_tests}
+use Rattle.leaf_areas.specs.Moving.{unused}
 use Rattle.std.proofs.lemmas.Bool.{cases_eq}
 use Rattle.crc_words.specs.Remainder.{crc32_of}
 use Rattle.gfs2_layout.specs.Area.{slots_of}
@@ -57,3 +59,13 @@ module _ (h g : Holding) (i b : ℕ) (sound : IsSound h) (hashed : is_hashed_in 
       let had : IsInChain h i earlier y = there_before h i is.at_place is.last is.chain earlier (omega (arith, before)) in
       let same : x ≡ y = chain_one g i earlier x y chain (chain_still earlier y had) in
       ap (λ z. has_room_for len (slots_of (leaf_area g z))) same ∙ ap (λ a. has_room_for len (slots_of a)) (area_same earlier y had) ∙ full earlier y had
+
+-- an area without records has room for any name
+pub unused_room : (len size : ℕ) → len ≤ 255 → 512 ≤ size → has_room_for len (unused (size - leaf_length) ∷ []) ≡ true
+unused_room len size short large = ap (λ t. t || false) (by (size - leaf_length) (omega (arith, large)))
+  where
+    by : (n : ℕ) → 408 ≤ n → nat_le (0 + (40 + len + 7) / 8 * 8) n ≡ true
+    by n some = fits ((40 + len + 7) / 8 * 8) n (omega (arith, short, some))
+      where
+        fits : (a n : ℕ) → a ≤ n → nat_le (0 + a) n ≡ true
+        fits a n low = grind (arith, nat_tests)

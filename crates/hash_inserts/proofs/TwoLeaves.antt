@@ -4,12 +4,13 @@ use Rattle.std.specs.Prelude.{Contains, IsSome}
 use Rattle.std.proofs.lemmas.Bool.{cases_eq}
 use Rattle.std.specs.FinMap.{FinMap, get, insert}
 use Rattle.std.specs.Ordering.{nat_cmp}
+use Rattle.drafts.specs.Fates.{block_with, seen_with}
 use Rattle.drafts.specs.declared.fate.Fate.{Fate}
 use Rattle.drafts.specs.declared.fate.Fate.TheVariants.{Put}
 use Rattle.gfs2_layout.specs.Holding.{Holding, Cell, Part, Itself, cell_part, part_at, bytes_at}
 use Rattle.gfs2_layout.specs.Inode.{block_count, dinode_in, entry}
 use Rattle.gfs2_layout.specs.Structures.{dinode_length}
-use Rattle.glock_names.specs.Views.{Seen}
+use Rattle.glock_names.specs.Views.{Seen, HasBlock}
 use Rattle.dinode_tree.specs.Pads.{KeepsPads}
 use Rattle.dinode_tree.specs.Reading.{inode_lock}
 use Rattle.growth_drafts.specs.Taken.{HasTaken}
@@ -18,7 +19,7 @@ use Rattle.pointer_tables.specs.Directories.{IsPlaced, IsTreeSound}
 use Rattle.hash_dirs.proofs.Chained.{cell_some}
 use Rattle.hash_inserts.specs.Drafting.{Puts, with_block}
 use Rattle.hash_inserts.specs.Writing.{IsDinodeWritten, counting}
-use Rattle.hash_inserts.proofs.Blocks.{bytes_apart, bytes_here, counts_more, counts_same, fate_apart, one_put, part_apart, part_here, puts_then, some_before, some_here, some_still}
+use Rattle.hash_inserts.proofs.Blocks.{bytes_apart, bytes_here, counts_more, counts_same, fate_apart, fate_here, one_put, part_apart, part_here, puts_then, some_before, some_here, some_still}
 use Rattle.hash_inserts.proofs.Settled.{behind_now, dinode_now, keeps_now, pads_now, placed_now, sound_now}
 use Rattle.hash_inserts.proofs.Trees.{IsWhole, KeepsTree, entry_same, in_tree, keeps_then, leaf_keeps, whole_of, whole_with}
 
@@ -189,3 +190,7 @@ module _ (h : Holding) (b x : ℕ) (part part' : Part) (new changed dinode : Lis
       ]
     ]
   ]
+
+  pub sees_new : (v : Seen) (fates : FinMap nat_cmp Fate) → HasBlock (seen_with v (grown_fates fates)) b
+  sees_new v fates = (new, ap (λ f. block_with f (v.block_at b)) (fate_apart (second_fates fates) h.own (Put (inode_lock h.own) false dinode) b (λ e. own_apart (sym e))
+      ∙ fate_apart (first_fates fates) x (Put (inode_lock h.own) false changed) b (λ e. x_apart (sym e)) ∙ fate_here fates b (Put (inode_lock h.own) false new)))

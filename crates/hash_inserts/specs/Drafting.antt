@@ -14,6 +14,8 @@ use Rattle.growth_drafts.specs.Taken.{HasTaken}
 use Rattle.linear_dirs.specs.Shown.{holding_over}
 use Rattle.pointer_tables.specs.Directories.{HasPointerOf}
 use Rattle.pointer_tables.specs.Tables.{DraftsDirectory, HasPointersSet, TakesDoubled}
+use Rattle.hash_dirs.specs.Shown.{index_for}
+use Rattle.hash_steps.specs.Laws.{Stays}
 use Rattle.hash_steps.specs.Steps.{IsLengthened, IsPutInLeaf, IsSplit}
 use Rattle.hash_inserts.specs.Inserting.{IsSplitAt}
 
@@ -48,6 +50,7 @@ pub record Lengthens (v : Seen) (old new : FinMap nat_cmp Fate) (h g : Holding) 
   pub is : IsLengthened h g i b
   pub only : (y : ℕ) → (get new y ≡ get old y) ⊎ ((y ≡ h.own) ⊎ ((y ≡ is.last) ⊎ (y ≡ b)))
   pub entries : (j : ℕ) → entry g j ≡ entry h j
+  pub there : HasBlock (seen_with v new) b
   pub has : HasTaken h g (b ∷ [])
 
 -- The leaf of pointer i is split.
@@ -72,3 +75,11 @@ pub record SetsPointers (v : Seen) (old new : FinMap nat_cmp Fate) (h : Holding)
 pub record DoublesTable (v : Seen) (old new : FinMap nat_cmp Fate) (room left : List ℕ) (h g : Holding) : Type 0 where
   pub puts : Puts v old new h g
   pub takes : TakesDoubled old new room left h g
+
+-- A leaf is added behind the name's chain, and its record put into that.
+pub record PutsBehind (v : Seen) (old new : FinMap nat_cmp Fate) (h g : Holding) (name : List ℕ) (e : Entry) (leaf : ℕ) : Type 0 where
+  pub between : FinMap nat_cmp Fate
+  pub longer : Holding
+  pub lengthens : Lengthens v old between h longer (index_for h name) leaf
+  pub stays : Stays h longer
+  pub puts : PutsInLeaf v between new longer g name e leaf
