@@ -1,19 +1,18 @@
 -- The chain to which a leaf was added: it goes on to that leaf, and no leaf before it got room.
-use Rattle.std.proofs.Common.{◌≡◌, ◌≢◌, ◌⊎◌, ℕ, ◌+◌, ◌-◌, ◌^◌, ◌<◌, ◌≤◌, inl, inr, true, false, List, [], ◌∷◌, drop, None, Some, refl, sym, ap, ◌∙◌, subst, arith}
-use Rattle.std.specs.Prelude.{IsSome, ◌||◌, ◌*◌, ◌/◌, nat_le}
+use Rattle.std.proofs.Common.{◌≡◌, ◌≢◌, ℕ, ◌+◌, ◌-◌, ◌^◌, ◌<◌, ◌≤◌, inl, inr, true, false, [], ◌∷◌, drop, sym, ap, ◌∙◌, subst, arith}
+use Rattle.std.specs.Prelude.{◌||◌, ◌*◌, ◌/◌, nat_le}
 use Rattle.std.proofs.lemmas.Bool.Decides.{nat_tests}
 use Rattle.leaf_areas.specs.Moving.{unused}
 use Rattle.std.proofs.lemmas.Bool.{cases_eq}
-use Rattle.crc_words.specs.Remainder.{crc32_of}
 use Rattle.gfs2_layout.specs.Area.{slots_of}
-use Rattle.gfs2_layout.specs.Holding.{Holding, InChain, Itself, part_at, bytes_at}
-use Rattle.gfs2_layout.specs.Inode.{depth_in, entry, first_hash, is_hashed_in, leaf_area, leaf_in, leaf_length, table_count}
+use Rattle.gfs2_layout.specs.Holding.{Holding, InChain, part_at}
+use Rattle.gfs2_layout.specs.Inode.{entry, first_hash, is_hashed_in, leaf_area, leaf_in, leaf_length, table_count}
 use Rattle.gfs2_layout.specs.Structures.{leaf_of}
 use Rattle.gfs2_layout.specs.declared.dinode.Dinode.{Dinode}
 use Rattle.gfs2_layout.specs.declared.leaf.Leaf.{Leaf}
 use Rattle.pointer_tables.specs.Directories.{IsInChain, chain_head, chain_next}
 use Rattle.hash_dirs.specs.Shown.{IsSound}
-use Rattle.hash_dirs.proofs.Along.{chain_is, chain_one, there_before}
+use Rattle.hash_dirs.proofs.Along.{chain_one, there_before}
 use Rattle.hash_dirs.specs.Walking.{leaf_on}
 use Rattle.hash_dirs.proofs.Chained.{cell_some, in_chain}
 use Rattle.hash_steps.specs.Leaves.{IsFullBefore, has_room_for}

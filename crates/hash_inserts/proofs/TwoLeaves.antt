@@ -192,5 +192,8 @@ module _ (h : Holding) (b x : ℕ) (part part' : Part) (new changed dinode : Lis
   ]
 
   pub sees_new : (v : Seen) (fates : FinMap nat_cmp Fate) → HasBlock (seen_with v (grown_fates fates)) b
-  sees_new v fates = (new, ap (λ f. block_with f (v.block_at b)) (fate_apart (second_fates fates) h.own (Put (inode_lock h.own) false dinode) b (λ e. own_apart (sym e))
-      ∙ fate_apart (first_fates fates) x (Put (inode_lock h.own) false changed) b (λ e. x_apart (sym e)) ∙ fate_here fates b (Put (inode_lock h.own) false new)))
+  sees_new v fates = (
+    new,
+    ap (λ f. block_with f (v.block_at b)) (fate_apart (second_fates fates) h.own (Put (inode_lock h.own) false dinode) b (λ e. own_apart (sym e))
+        ∙ fate_apart (first_fates fates) x (Put (inode_lock h.own) false changed) b (λ e. x_apart (sym e)) ∙ fate_here fates b (Put (inode_lock h.own) false new)),
+  )

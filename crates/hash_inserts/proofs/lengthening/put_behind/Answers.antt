@@ -1,4 +1,4 @@
-use Rattle.std.proofs.Common.{◌≡◌, ◌∙◌, ◌+◌, ◌^◌, ◌<◌, ℕ, length, refl, sym, ap, subst}
+use Rattle.std.proofs.Common.{◌≡◌, ◌∙◌, ◌+◌, ◌^◌, ◌<◌, ℕ, length, sym, ap, subst}
 use Rattle.crc_words.specs.Remainder.{crc32_of}
 use Rattle.drafts.specs.Fates.{seen_in, seen_with}
 use Rattle.gfs2_layout.specs.Inode.{top_bits}
@@ -33,7 +33,7 @@ returns-clause-put g c h place shown sound few count chain ends full has own fre
     let view1 = c.in_ok-lengthen.ensures.view in
     let seen1 : seen_in seen mid ≡ seen_with (seen old.view) mid.fates = ap (λ y. seen_with (seen y) mid.fates) view1 in
     let shown_m = shown_of c.sound_inodes_are_shown.ensures (seen_in seen mid) m dir stays.sound stays.hashed (l.is.same.own ∙ shown.inode.own) (l.is.same.size ∙ shown.inode.size ∙ sym (ap (λ y. (seen y).size) view1))
-        (subst (λ s. IsAsSeen s m) (sym seen1) (l.puts.seen shown.inode.same)) in
+    (subst (λ s. IsAsSeen s m) (sym seen1) (l.puts.seen shown.inode.same)) in
     let index : index_for m name ≡ i = ap (λ (d : Dinode). top_bits d.depth (crc32_of name)) l.is.counts.dinode in
     let at : ℕ = l.is.at_place + 1 in
     let chain_m = subst (λ k. IsInChain m k at b) (sym index) (chain_on h m i b sound shown.hashed free.some l.is l.entries) in

@@ -1,4 +1,4 @@
-use Rattle.std.proofs.Common.{◌≡◌, ◌≤◌, length}
+use Rattle.std.proofs.Common.{◌≡◌, length}
 use Rattle.gfs2_layout.specs.Area.{IsArea, slots_of}
 use Rattle.hash_steps.specs.Leaves.{has_room_for}
 use Rattle.hash_inserts.proofs.walking.area_has_room.Given as goal

@@ -1,8 +1,6 @@
-use Rattle.std.proofs.Common.{◌≡◌, ◌∙◌, ◌+◌, ◌<◌, ℕ, refl, sym, ap, subst, arith}
+use Rattle.std.proofs.Common.{◌∙◌, ◌+◌, ◌<◌, refl, sym, ap, subst, arith}
 use Rattle.gfs2_layout.specs.Area.{slots_of}
 use Rattle.gfs2_layout.specs.declared.leaf.Leaf.{Leaf}
-use Rattle.glock_names.specs.Steps.{IsDamage}
-use Rattle.glock_names.specs.Views.{IsOfView}
 use Rattle.glock_names.proofs.StepLaws.{answer_at, needed_at}
 use Rattle.hash_dirs.specs.Walking.{IsLeafOf, OfEach}
 use Rattle.hash_dirs.proofs.Along.{begins, comes_again_to, goes_on}
