@@ -3,8 +3,8 @@ use Rattle.image_model.specs.Journals.{journal_name}
 use Rattle.image_mount.specs.System.{AreAmong, LacksName}
 use Rattle.image_mount.proofs.Causes.{lacks}
 use Rattle.image_mount.proofs.Numbered.{wrong_journals, lacks_journal, journals_among, at_some, at_none}
-use Rattle.image_mount.proofs.system.check_journals.Goals as goal
-use Rattle.image_mount.proofs.system.check_journals.Goals.{then-count-eq0-via-then-count-eq0, then-count-eq0-via-else-count-eq0+then-count-gt8, then-count-eq0-via-else-count-eq0+else-count-gt8+then-not-are_journal_names}
+use Rattle.image_mount.proofs.jindex.check_journals.Goals as goal
+use Rattle.image_mount.proofs.jindex.check_journals.Goals.{then-count-eq0-via-then-count-eq0, then-count-eq0-via-else-count-eq0+then-count-gt8, then-count-eq0-via-else-count-eq0+else-count-gt8+then-not-are_journal_names}
 
 pub returns-then-count-eq0-clause-refused : goal.returns-then-count-eq0-clause-refused
 returns-then-count-eq0-clause-refused c im l groups has =

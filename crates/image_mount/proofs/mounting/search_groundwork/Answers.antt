@@ -5,7 +5,7 @@ use Rattle.image_mount.proofs.Marks.{go_refused}
 use Rattle.image_mount.proofs.Stops.{refused}
 use Rattle.image_mount.proofs.Working.{read_now}
 use Rattle.shared_disk.proofs.ReadLaws.{reads_on}
-use Rattle.image_mount.proofs.mounting.search_files.Goals as goal
+use Rattle.image_mount.proofs.mounting.search_groundwork.Goals as goal
 
 pub loop-system-preserved : goal.loop-system-preserved
 loop-system-preserved g c =

@@ -6,7 +6,7 @@ use Rattle.image_mount.specs.Rings.{IsSearched}
 use Rattle.image_mount.specs.Searching.{IsWorking}
 use Rattle.image_mount.specs.Marked.{IsGrown}
 use Rattle.shared_disk.specs.Disk.{ReadsOnly}
-use Rattle.image_mount.proofs.master.walk_leaves.Given as goal
+use Rattle.image_mount.proofs.walking.walk_leaves.Given as goal
 
 abbrev pub invariant-loop-link : goal.invariant-loop-link
 invariant-loop-link g l = record {

@@ -5,7 +5,7 @@ use Rattle.image_mount.specs.Searching.{IsWorking}
 use Rattle.image_mount.specs.System.{IsMasterOf, IsNamedBy}
 use Rattle.image_mount.specs.Marked.{IsGrown}
 use Rattle.shared_disk.specs.Disk.{ReadsOnly}
-use Rattle.image_mount.proofs.mounting.search_files.Given as goal
+use Rattle.image_mount.proofs.mounting.search_groundwork.Given as goal
 
 abbrev pub invariant-loop-system : goal.invariant-loop-system
 invariant-loop-system g l = record {

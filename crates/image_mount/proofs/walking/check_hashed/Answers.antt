@@ -3,7 +3,7 @@ use Rattle.image_model.specs.Owners.{Master}
 use Rattle.image_mount.proofs.Masters.{master_claim}
 use Rattle.image_mount.proofs.Records.{dot_astray, dot_missing, dots_astray, dots_missing}
 use Rattle.image_mount.proofs.Stops.{refused}
-use Rattle.image_mount.proofs.master.check_hashed.Goals as goal
+use Rattle.image_mount.proofs.walking.check_hashed.Goals as goal
 
 pub returns-in_err-check_dot-clause-refused : goal.returns-in_err-check_dot-clause-refused
 returns-in_err-check_dot-clause-refused c im is all counted =

@@ -14,7 +14,7 @@ use Rattle.image_mount.proofs.Numbered.{journals_of}
 use Rattle.image_mount.proofs.Records.{has_records}
 use Rattle.image_mount.proofs.Stops.{passed, stopped}
 use Rattle.image_mount.proofs.SystemFiles.{directory_in, file_of_journals, hashed_jindex, not_directory}
-use Rattle.image_mount.proofs.system.list_journals.Goals as goal
+use Rattle.image_mount.proofs.jindex.list_linear.Goals as goal
 
 pub returns-in_err-check_record-clause-stops : goal.returns-in_err-check_record-clause-stops
 returns-in_err-check_record-clause-stops c im l read groups at same low named =

@@ -5,7 +5,7 @@ use Rattle.image_mount.proofs.Marks.{go_refused}
 use Rattle.image_mount.proofs.Stops.{refused}
 use Rattle.image_mount.proofs.Working.{read_now}
 use Rattle.shared_disk.proofs.ReadLaws.{reads_on}
-use Rattle.image_mount.proofs.master.search_pointers.Goals as goal
+use Rattle.image_mount.proofs.walking.search_pointers.Goals as goal
 
 pub loop-pointers-preserved : goal.loop-pointers-preserved
 loop-pointers-preserved g c =

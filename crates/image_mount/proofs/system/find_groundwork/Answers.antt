@@ -6,7 +6,7 @@ use Rattle.image_mount.proofs.Looks.{either_sized}
 use Rattle.image_mount.proofs.Sound.{either_sound}
 use Rattle.image_mount.proofs.Stops.{passed}
 use Rattle.image_mount.proofs.Systems.{list_link, groups_found, same_master, system_of}
-use Rattle.image_mount.proofs.system.find_system.Goals as goal
+use Rattle.image_mount.proofs.system.find_groundwork.Goals as goal
 
 pub returns-in_err-files-clause-stops : goal.returns-in_err-files-clause-stops
 returns-in_err-files-clause-stops c im read count is plain = passed im _ _ c.from_residual.ensures.1 (c.in_err-files.ensures.stops im read is.inode (λ hashed. (plain hashed).plain))

@@ -1,7 +1,7 @@
 use Rattle.std.proofs.Common.{refl, arith}
 use Rattle.image_mount.proofs.Numbered.{named_more, named_all, other_name}
-use Rattle.image_mount.proofs.system.are_journal_names.Goals as goal
-use Rattle.image_mount.proofs.system.are_journal_names.Goals.{else-leads_on-via-then-leads_on+else-not-is_journal_name, else-leads_on-via-else-leads_on}
+use Rattle.image_mount.proofs.jindex.are_journal_names.Goals as goal
+use Rattle.image_mount.proofs.jindex.are_journal_names.Goals.{else-leads_on-via-then-leads_on+else-not-is_journal_name, else-leads_on-via-else-leads_on}
 
 pub returns-then-not-is_journal_name : goal.returns-then-not-is_journal_name
 returns-then-not-is_journal_name c = (

@@ -7,7 +7,7 @@ use Rattle.image_mount.specs.Rings.{IsSearched}
 use Rattle.image_mount.specs.Searching.{IsWorking}
 use Rattle.image_mount.specs.Marked.{IsGrown}
 use Rattle.shared_disk.specs.Disk.{ReadsOnly}
-use Rattle.image_mount.proofs.master.search_pointers.Given as goal
+use Rattle.image_mount.proofs.walking.search_pointers.Given as goal
 
 abbrev pub invariant-loop-pointers : goal.invariant-loop-pointers
 invariant-loop-pointers g l = record {

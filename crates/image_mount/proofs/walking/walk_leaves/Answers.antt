@@ -12,7 +12,7 @@ use Rattle.image_mount.proofs.Numbered.{at_some}
 use Rattle.image_mount.proofs.Stops.{refused}
 use Rattle.image_mount.proofs.Working.{read_now, read_same, refilled}
 use Rattle.shared_disk.proofs.ReadLaws.{reads_none, reads_on}
-use Rattle.image_mount.proofs.master.walk_leaves.Goals as goal
+use Rattle.image_mount.proofs.walking.walk_leaves.Goals as goal
 
 pub loop-link-init : goal.loop-link-init
 loop-link-init g c = record {
