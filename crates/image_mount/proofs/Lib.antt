@@ -30,6 +30,7 @@ pub mod Looks
 pub mod ViewGroups
 pub mod Marked
 pub mod Sound
+pub mod Sifts
 pub mod SoundLeaves
 pub mod KeptWays
 pub mod Layouts

@@ -200,18 +200,17 @@ pub record IsPointed (im : Image) (table : HashTable) (i : ℕ) (bytes : List �
   pub inside : u64_at (8 * i) table.bytes.items < im.count
   pub is : im.at (u64_at (8 * i) table.bytes.items) ≡ bytes
 
--- each record that comes before those of this leaf is a system file's, or leads nowhere on
-pub record IsFirstTold (im : Image) (at : LeafAt) : Type 0 where
-  pub format : HasFormat im
-  pub hashed : IsHashedAt im (master_of im)
-  pub leaf : IsLeafIn im (master_of im) at
-  pub before : (j earlier y : ℕ) → ComesBefore j earlier at.pointer at.place → IsInChain (every im (master_of im)) j earlier y → first_other (leaf_records (every im (master_of im)) y) ≡ None
+-- the leaf is one of the master directory, and each record that comes before its own is a system file's, or leads nowhere on
+pub record IsFirstTold (im : Image) (a : ℕ) (at : LeafAt) : Type 0 where
+  pub master : a ≡ master_of im
+  pub hashed : IsHashedAt im a
+  pub before : (j earlier y : ℕ) → ComesBefore j earlier at.pointer at.place → IsInChain (every im a) j earlier y → first_other (leaf_records (every im a) y) ≡ None
 
 -- the leaf is one of the directory; and where that is the master directory, none before it has a record that isn't a system file's
 pub record IsTold (im : Image) (names : Names) (a : ℕ) (at : LeafAt) : Type 0 where
   pub format : HasFormat im
   pub leaf : IsLeafIn im a at
-  pub first : names ≡ Files → IsFirstTold im at
+  pub first : names ≡ Files → IsFirstTold im a at
 
 -- the leaf comes next in a walk over its directory, which is the master directory where names of system files are looked for
 pub record IsNextLeaf (im : Image) (walk : LeafWalk) (at : LeafAt) : Type 0 where

@@ -1,4 +1,4 @@
-ghost use Rattle.std.specs.Prelude.{ℕ, ◌≡◌, ◌≢◌, ◌+◌, ◌<◌, ◌≤◌, ◌↔◌, ◌++◌, [], ◌∷◌, List, Contains, length, map, None, Some, IsTrue, OnOk, IfOk, IfErr};
+ghost use Rattle.std.specs.Prelude.{ℕ, ◌≡◌, ◌≢◌, ◌+◌, ◌<◌, ◌≤◌, ◌↔◌, ◌++◌, [], ◌∷◌, List, Contains, length, map, take, slice_get, None, Some, IsTrue, OnOk, IfOk, IfErr};
 ghost use Rattle.std.specs.List.{All};
 ghost use Rattle.gfs2_layout.specs.Device.{superblock_place};
 ghost use Rattle.gfs2_layout.specs.Inode.{Fits};
@@ -248,6 +248,31 @@ fn find_ring<D: SharedDisk>(
     Ok(Ring { dinode, blocks })
 }
 
+// That this block of a journal's dinode is none of another system file's, nor that of a journal before it.
+fn check_dinode(system: &System, rings: &[Ring], addr: u64) -> Result<(), MountFault>
+    ensures own { OnOk result (IsOwn system.now addr) }
+    ensures new { OnOk result (¬ (Contains (map (λ (ring : Ring). ring.dinode) rings.now) addr)) }
+    ensures refused { (im : Image) (j : ℕ) (journal : LinkValue) → IsSystemOf im system.now → AreRings im (take j system.now.journals.items) rings.now → slice_get system.now.journals.items j ≡ Some journal → journal.entry.addr ≡ addr
+        → IfErr result (RefusesRightly im) }
+    ensures steady { IfErr result IsSteady }
+    ensures risen { (f g : ℕ → ℕ) → IfErr result (HasRisen f g) }
+    ensures within { (count : ℕ) → IfErr result (LiesWithin count) }
+{
+    if addr == system.superblock.master.address {
+        return Err(damaged(addr, 3));
+    }
+    if addr == system.rindex {
+        return Err(damaged(addr, 3));
+    }
+    if addr == system.jindex {
+        return Err(damaged(addr, 3));
+    }
+    if has_dinode(rings, addr) {
+        return Err(damaged(addr, 3));
+    }
+    Ok(())
+}
+
 /// Where the journals lie, each in turn.
 pub(crate) fn find_rings<D: SharedDisk>(
     alloc: Global,
@@ -272,13 +297,7 @@ pub(crate) fn find_rings<D: SharedDisk>(
 {
     let mut rings = Vec::new(alloc);
     for journal in &system.journals {
-        let addr = journal.entry.addr;
-        if addr == system.superblock.master.address {
-            return Err(damaged(addr, 3));
-        }
-        if addr == system.rindex || addr == system.jindex || has_dinode(&rings, addr) {
-            return Err(damaged(addr, 3));
-        }
+        check_dinode(system, &rings, journal.entry.addr)?;
         let ring = find_ring(alloc, disk, table, system, journal)?;
         rings.push(ring)?;
     }

@@ -52,11 +52,11 @@ fn search_groundwork<D: SharedDisk>(
     names: &[Named<'_>],
 ) -> Result<Groundwork, MountFault>
     requires work { IsWorking (D.state disk.old) table.old }
-    ensures rindex { IfOk result (λ ground. IsKept table.new ground.rindex) }
-    ensures jindex { IfOk result (λ ground. IsKept table.new ground.jindex.block) }
+    ensures rindex { IfOk result (λ g. IsKept table.new g.rindex) }
+    ensures jindex { IfOk result (λ g. IsKept table.new g.jindex.block) }
     ensures work { OnOk result (IsWorking (D.state disk.new) table.new) }
     ensures grown { OnOk result (IsGrown table.old table.new) }
-    ensures found { IfOk result (λ ground. IsTrue (D.state disk.old).tells → IsMasterOf (image_of (D.state disk.old)) master.now → IsNamedBy (image_of (D.state disk.old)) master.now names.now → IsGroundOf (image_of (D.state disk.old)) ground) }
+    ensures found { IfOk result (λ g. IsTrue (D.state disk.old).tells → IsMasterOf (image_of (D.state disk.old)) master.now → IsNamedBy (image_of (D.state disk.old)) master.now names.now → IsGroundOf (image_of (D.state disk.old)) g) }
     ensures searched { OnOk result (IsTrue (D.state disk.old).tells → IsMasterOf (image_of (D.state disk.old)) master.now → IsNamedBy (image_of (D.state disk.old)) master.now names.now → IsSearched (image_of (D.state disk.old)) [] 0 0 table.old → IsSearched (image_of (D.state disk.old)) [] 0 0 table.new) }
     ensures refused { IsTrue (D.state disk.old).tells → IsMasterOf (image_of (D.state disk.old)) master.now → IsNamedBy (image_of (D.state disk.old)) master.now names.now → IsSearched (image_of (D.state disk.old)) [] 0 0 table.old → IfErr result (RefusesRightly (image_of (D.state disk.old))) }
     ensures risen { IfErr result (HasRisen (D.faults disk.old) (D.faults disk.new)) }

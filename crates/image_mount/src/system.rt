@@ -121,8 +121,8 @@ pub(crate) fn find_groundwork(
     names: &[Named<'_>],
 ) -> Result<Groundwork, Stop>
     ensures found { (im : Image) → IsRead im table.now → count ≡ im.count → IsMasterOf im master.now → IsNamedBy im master.now names.now → IfOk result (IsGroundOf im) }
-    ensures rindex { IfOk result (λ ground. IsKept table.now ground.rindex) }
-    ensures jindex { IfOk result (λ ground. IsKept table.now ground.jindex.block) }
+    ensures rindex { IfOk result (λ g. IsKept table.now g.rindex) }
+    ensures jindex { IfOk result (λ g. IsKept table.now g.jindex.block) }
     ensures stops { (im : Image) → IsRead im table.now → count ≡ im.count → IsMasterOf im master.now → IsNamedBy im master.now names.now → IfErr result (StopsRightly im) }
     ensures lacks { IfErr result (LacksBlock table.now) }
 {

@@ -1,7 +1,4 @@
-use Rattle.std.proofs.Common.{refl}
-use Rattle.image_model.specs.Owners.{Master}
-use Rattle.image_mount.proofs.Masters.{master_claim}
-use Rattle.image_mount.proofs.Records.{dot_astray, dot_missing, dots_astray, dots_missing}
+use Rattle.image_mount.proofs.Records.{dot_astray, dot_missing, dots_astray, dots_missing, inode_of}
 use Rattle.image_mount.proofs.Stops.{refused}
 use Rattle.image_mount.proofs.walking.check_hashed.Goals as goal
 
@@ -15,4 +12,7 @@ returns-in_err-check_dot-2-clause-refused c im is all counted =
     let inode = c.args.inode.now in
     refused im _ _ c.from_residual-in_err-check_dot-2.ensures.1
     (c.in_err-check_dot-2.ensures.refused im is.format is.inside (dots_missing im inode.block c.args.records.now all)
-    (dots_astray im inode.block c.args.records.now all inode.block Master (record { by = inode.from; claimed = master_claim im inode is; dinode = refl }) refl))
+    (dots_astray im inode.block c.args.records.now all c.args.parent is.owner (inode_of im inode c.args.parent is) is.above))
+
+pub returns-clause-refused : goal.returns-clause-refused
+returns-clause-refused c im is all counted = c.check_counts.ensures.refused im is.format is.inside is.dinode counted

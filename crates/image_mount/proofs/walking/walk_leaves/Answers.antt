@@ -74,7 +74,7 @@ loop-link-preserved-in-Continue-branch-5 g c =
           let same = read_same (g.D.SharedDisk.state c.args.disk.now) _ c.in-Ok-Some.link.number c.read_leaf.new.into inv.reads.same tells c.in_ok-read_leaf-in-Ok-Some.ensures.bytes in
           let full = sym (refilled c.read_leaf.new.into c.loop-link.bytes.items c.loop-link.bytes.len c.loop-link.bytes.ok.0 (c.read_leaf.auto.into ∙ ap length c.deref_mut.ensures.value)) in
           let leaf = at.ensures.found im c.args.inode.now of (walked_at im c.args.inode.now c.args.pointers.now c.loop-link.walk of walk) (same ∙ full ∙ sym c.deref.ensures.value) low in
-          entered.walked im (next_leaf_in im c.args.inode.now c.args.pointers.now c.loop-link.walk at.at of walk leaf at.ensures.next) of.master.block (ap im.at at.ensures.block ∙ same ∙ full ∙ sym c.deref-in-Ok-Some.ensures.value);
+          entered.walked im (next_leaf_in im c.args.inode.now c.args.pointers.now c.loop-link.walk at.at of walk leaf at.ensures.next) of.file.block (ap im.at at.ensures.block ∙ same ∙ full ∙ sym c.deref-in-Ok-Some.ensures.value);
       searched = λ tells of known.
           let im : Image = image_of (g.D.SharedDisk.state c.args.disk.now) in
           let walk = inv.walked tells of in
@@ -93,7 +93,7 @@ returns-in_err-enter-in-Ok-Some-clause-refused g c tells of known =
     let full = sym (refilled c.read_leaf.new.into c.loop-link.bytes.items c.loop-link.bytes.len c.loop-link.bytes.ok.0 (c.read_leaf.auto.into ∙ ap length c.deref_mut.ensures.value)) in
     let leaf = at.ensures.found im c.args.inode.now of (walked_at im c.args.inode.now c.args.pointers.now c.loop-link.walk of walk) (same ∙ full ∙ sym c.deref.ensures.value) low in
     refused im _ _ c.from_residual-in_err-enter-in-Ok-Some.ensures.1
-    (c.in_err-enter-in-Ok-Some.ensures.refused im (next_leaf_in im c.args.inode.now c.args.pointers.now c.loop-link.walk at.at of walk leaf at.ensures.next) of.master.block
+    (c.in_err-enter-in-Ok-Some.ensures.refused im (next_leaf_in im c.args.inode.now c.args.pointers.now c.loop-link.walk at.at of walk leaf at.ensures.next) of.file.block
     (ap im.at at.ensures.block ∙ same ∙ full ∙ sym c.deref-in-Ok-Some.ensures.value))
 
 pub loop-link-preserved : goal.loop-link-preserved
