@@ -12,7 +12,7 @@ use Rattle.gfs2_layout.specs.Holding.{Holding}
 use Rattle.gfs2_layout.specs.Inode.{entry, first_hash, index_bits, is_hashed_in, leaf_in, leaf_area, table_count}
 use Rattle.gfs2_layout.specs.Records.{Record, records_in, is_dots}
 use Rattle.gfs2_layout.specs.declared.leaf.Leaf.{Leaf}
-use Rattle.image_model.specs.Claims.{every, Claims, HasArea, HasDirectory, master_of, behind_dinode, of_leaf}
+use Rattle.image_model.specs.Claims.{every, Claims, HasArea, HasDirectory, HasLeaf, master_of, behind_dinode, of_leaf}
 use Rattle.image_model.specs.Image.{Image, image_of}
 use Rattle.image_reader.specs.Leaves.{HasClaim, AreChained, leaf_records}
 use Rattle.image_model.specs.Owners.{Owner, Chained}
@@ -450,15 +450,19 @@ module _ (im : Image) (walk : LeafWalk) (at : LeafAt) (of : IsNextLeaf im walk a
 
 -- ---- the end of a walk
 
+-- what was come to is a leaf of the directory
+pub leaf_of_walk : (im : Image) (a : ℕ) (walk : LeafWalk) (w : IsWalked im a walk) (x : ℕ) → Contains w.leaves.leaves x → HasLeaf im a x
+leaf_of_walk im a walk w x there =
+    let c = w.leaves.only x there in
+    let from = claim_of im walk.owners.entries.items x (Chained a c.0 c.1) w.claims c.2 in
+    (from.0, c.0, c.1, from.1)
+
 -- the records of all leaves that were come to are those of the directory
 pub leaves_have : (im : Image) (a : ℕ) (walk : LeafWalk) → IsHashedAt im a → HasDirectory im a → (w : IsWalked im a walk) → AreAllLeaves im a walk → HasRecords im a (flat_map (leaf_records (every im a)) w.leaves.leaves)
 leaves_have im a walk hashed directory w all = from_leaves w.leaves.leaves directory hashed.1 (record {
   rise = w.leaves.rise;
   all = λ x leaf. w.leaves.all x leaf.1 leaf.2 (all leaf.0 x leaf.1 leaf.2 leaf.3);
-  only = λ x there.
-      let c = w.leaves.only x there in
-      let from = claim_of im walk.owners.entries.items x (Chained a c.0 c.1) w.claims c.2 in
-      (from.0, c.0, c.1, from.1);
+  only = leaf_of_walk im a walk w;
 })
 
 pub counted_in : (im : Image) (a : ℕ) (walk : LeafWalk) → IsHashedAt im a → HasDirectory im a → IsWalked im a walk → AreAllLeaves im a walk → walk.others ≡ 0 → AreCountedIn im a (map said walk.records.items)
@@ -496,7 +500,7 @@ plain_records im a walk hashed directory w all files = record {
       where
         from : (x : ℕ) (area : List ℕ) → HasArea im a x area → Contains (records_in area) r → (hash place : ℕ) × HasClaim walk.owners.entries.items x (Chained a hash place) → is_other r ≡ false
         from _ _ (behind_dinode dir linear) there leaf = absurd (not_both (is_hashed_in (every im a)) hashed.1 linear)
-        from _ _ (of_leaf x in_leaf) there leaf =
+        from _ _ (of_leaf x claimed) there leaf =
             let rs = leaf_records (every im a) x in
             none_by_name is_other rs there.0 r (w.plain files x leaf.0 leaf.1 leaf.2) (contains_at rs r there)
 

@@ -18,6 +18,7 @@ pub mod SystemFiles
 pub mod Systems
 pub mod Marks
 pub mod Heads
+pub mod Jindexes
 pub mod JournalNames
 pub mod Accepts
 pub mod Places

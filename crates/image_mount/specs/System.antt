@@ -10,7 +10,7 @@ use Rattle.image_model.specs.Journals.{journal_name}
 use Rattle.image_model.specs.Profile.{HasPlainMaster}
 use Rattle.image_model.specs.Rules.{HasRecordIn, HasRecords}
 use Rattle.image_model.specs.Stands.{Layout}
-use Rattle.image_mount.specs.Found.{is_other, AreJournalNames, HasGroups, HasNames}
+use Rattle.image_mount.specs.Found.{is_other, name_count, AreJournalNames, HasGroups, HasNames}
 use Rattle.image_mount.specs.Groups.{IsNamedIn}
 use Rattle.image_mount.specs.Kept.{Kept}
 use Rattle.image_mount.specs.Leaves.{IsMasterIn}
@@ -98,6 +98,14 @@ LacksName items name = (i : ℕ) (n : Item) → slice_get items i ≡ Some n →
 -- those that lead on have the names of so many journals
 abbrev pub AreNamesOf : List Record → ℕ → Type 0
 AreNamesOf records n = (r : Record) → Contains records r → is_dots r.name ≡ false → (j : ℕ) × (j < n) × (r.name ≡ journal_name j)
+
+-- these are the records of the directory, in another order
+pub record AreRecordsAnew (im : Image) (a : ℕ) (records : List Record) : Type 0 where
+  pub all : List Record
+  pub has : HasRecords im a all
+  pub count : name_count all ≡ name_count records
+  pub there : (r : Record) → Contains all r → Contains records r
+  pub other : (r : Record) → Contains records r → Contains all r
 
 -- these are the journals' among the records: one to eight, and they have no others beside
 pub record AreJournalsAmong (items : List Item) (journals : List Link) : Type 0 where

@@ -1,7 +1,6 @@
 ghost use Rattle.std.specs.Prelude.{ℕ, ◌≡◌, ◌≢◌, ◌<◌, ◌≤◌, ◌↔◌, [], true, false, length, map, IsTrue, IfOk, OnOk, IfErr, IfSome, IfNone};
 ghost use Rattle.image_model.specs.Image.{Image, image_of};
 ghost use Rattle.image_model.specs.Journals.{journal_name as name_of_journal};
-ghost use Rattle.image_model.specs.Rules.{HasRecords};
 ghost use Rattle.image_model.specs.Stands.{Layout};
 ghost use Rattle.image_mount.specs.Found.{HasGroups};
 ghost use Rattle.image_mount.specs.Listing.{said, is_hashed_by};
@@ -10,7 +9,7 @@ ghost use Rattle.image_mount.specs.Refusals.{HasRisen, LiesWithin, RefusesRightl
 ghost use Rattle.image_mount.specs.Rings.{IsSearched};
 ghost use Rattle.image_mount.specs.declared.fault.MountFault.TheVariants as fault_of;
 ghost use Rattle.image_mount.specs.Searching.{IsRead, IsSteady, IsWorking, StopsRightly, LacksBlock};
-ghost use Rattle.image_mount.specs.System.{AreAmong, LacksName, AreNamesOf, AreJournalsAmong, AreJournalsOf, IsJindexIn};
+ghost use Rattle.image_mount.specs.System.{AreAmong, LacksName, AreNamesOf, AreJournalsAmong, AreJournalsOf, AreRecordsAnew, IsJindexIn};
 ghost use Rattle.profile_limits.specs.Limits.{most_blocks};
 ghost use Rattle.shared_disk.specs.Disk.{ReadsOnly};
 
@@ -88,7 +87,7 @@ fn journals_in(
 // The records of the journals, which are one to eight, and beside which there are no names.
 fn check_journals(alloc: Global, records: &[Named<'_>]) -> Result<Vec<Link>, MountFault>
     ensures found { IfOk result (λ journals. AreJournalsAmong records.now journals.items) }
-    ensures refused { (im : Image) (l : Layout) → HasGroups im l → HasRecords im l.jindex (map said records.now) → IfErr result (RefusesRightly im) }
+    ensures refused { (im : Image) (l : Layout) → HasGroups im l → AreRecordsAnew im l.jindex (map said records.now) → IfErr result (RefusesRightly im) }
     ensures steady { IfErr result IsSteady }
 {
     let count = count_names(records);

@@ -166,6 +166,7 @@ fn leaf_of_pointer(pointers: &HashTable, i: u64, bytes: &[u8]) -> Result<LeafAt,
 // That a leaf's records are as many as its head says.
 fn check_entries(records: &[Named<'_>], at: &LeafAt) -> Result<(), MountFault>
     ensures counted { OnOk result (length records.now ≡ at.now.head.entries) }
+    ensures few { OnOk result (length records.now < 65536) }
     ensures refused { (im : Image) (a : ℕ) → HasFormat im → IsLeafIn im a at.now → map said records.now ≡ records_in (drop 104 (im.at at.now.block)) → IfErr result (RefusesRightly im) }
     ensures steady { IfErr result IsSteady }
 {
@@ -200,6 +201,7 @@ fn leaf_records<'a>(
     ensures found { IfOk result (λ records. map said records.items ≡ records_in (drop 104 bytes.now)) }
     ensures here { IfOk result (λ records. All (λ n. n.block ≡ at.now.block) records.items) }
     ensures distinct { IfOk result (λ records. AreDistinct (map said records.items)) }
+    ensures few { IfOk result (λ records. length records.items < 65536) }
     ensures sound { OnOk result (IsSoundArea (drop 104 bytes.now)) }
     ensures leaf { (im : Image) (a : ℕ) → IsLeafIn im a at.now → im.at at.now.block ≡ bytes.now → OnOk result (IsLeaf (every im a) at.now.hash at.now.block) }
     ensures refused { (im : Image) (a : ℕ) → HasFormat im → IsLeafIn im a at.now → im.at at.now.block ≡ bytes.now → IfErr result (RefusesRightly im) }

@@ -1,4 +1,6 @@
 use Rattle.std.proofs.Common.{◌≡◌, ◌<◌, ℕ, length, true, arith, refl}
+use Rattle.std.specs.Prelude.{map}
+use Rattle.image_mount.specs.Listing.{said}
 use Rattle.image_model.specs.Journals.{journal_name}
 use Rattle.image_mount.specs.System.{AreAmong, LacksName}
 use Rattle.image_mount.proofs.Causes.{lacks}
@@ -8,7 +10,7 @@ use Rattle.image_mount.proofs.jindex.check_journals.Goals.{then-count-eq0-via-th
 
 pub returns-then-count-eq0-clause-refused : goal.returns-then-count-eq0-clause-refused
 returns-then-count-eq0-clause-refused c im l groups has =
-    wrong_journals im l c.args.records.now _ _ groups has c.outside-other.ensures c.count_names-count.ensures
+    wrong_journals im l (map said c.args.records.now) _ _ groups has c.outside-other.ensures c.count_names-count.ensures
     (λ all. elim c.then-count-eq0.branch [
       | then-count-eq0-via-then-count-eq0 w ↦ absurd (omega (arith, all.0, w.if-count-eq0.true))
       | then-count-eq0-via-else-count-eq0+then-count-gt8 w ↦ absurd (omega (arith, all.1, w.if-count-gt8.true))
@@ -25,6 +27,6 @@ returns-in-Some-clause-found c =
 
 pub returns-in-None-clause-refused : goal.returns-in-None-clause-refused
 returns-in-None-clause-refused c im l groups has =
-    wrong_journals im l c.args.records.now _ _ groups has c.outside-other.ensures c.count_names-count.ensures
+    wrong_journals im l (map said c.args.records.now) _ _ groups has c.outside-other.ensures c.count_names-count.ensures
     (λ all. lacks_journal c.args.records.now c.count_names-count.result c.count_names-count.result refl
     (at_none c.in_ok-journals.field-0 ((j : ℕ) × (j < c.count_names-count.result) × LacksName c.args.records.now (journal_name j)) c.in-None.is c.in_ok-journals.ensures.none) all.2)

@@ -7,9 +7,9 @@ use Rattle.image_mount.proofs.Working.{read_now}
 use Rattle.shared_disk.proofs.ReadLaws.{reads_on}
 use Rattle.image_mount.proofs.mounting.search_groundwork.Goals as goal
 
-pub loop-system-preserved : goal.loop-system-preserved
-loop-system-preserved g c =
-    let inv = c.loop-system.invariant in
+pub loop-ground-preserved : goal.loop-ground-preserved
+loop-ground-preserved g c =
+    let inv = c.loop-ground.invariant in
     let next = c.in_ok-go_on-in-Err.ensures in
     record {
       work = next.work;
@@ -21,9 +21,9 @@ loop-system-preserved g c =
 
 pub returns-in_err-go_on-in-Err-clause-refused : goal.returns-in_err-go_on-in-Err-clause-refused
 returns-in_err-go_on-in-Err-clause-refused g c tells is named known =
-    let inv = c.loop-system.invariant in
+    let inv = c.loop-ground.invariant in
     refused (image_of (g.D.SharedDisk.state c.args.disk.now)) _ _ c.from_residual.ensures.1
     (go_refused _ _ _ _ _ [] 0 0 inv.reads.same c.in_err-go_on-in-Err.ensures.refused tells (c.in-Err.ensures.stops (image_of (g.D.SharedDisk.state c.args.disk.now)) (read_now _ _ _ inv.reads.same tells inv.work) c.blocks-count.ensures.value is named) (inv.searched tells is named known))
 
 pub returns-in-Ok-clause-found : goal.returns-in-Ok-clause-found
-returns-in-Ok-clause-found g c tells is named = c.in-Ok.ensures.found _ (read_now _ _ _ c.loop-system.invariant.reads.same tells c.loop-system.invariant.work) c.blocks-count.ensures.value is named
+returns-in-Ok-clause-found g c tells is named = c.in-Ok.ensures.found _ (read_now _ _ _ c.loop-ground.invariant.reads.same tells c.loop-ground.invariant.work) c.blocks-count.ensures.value is named

@@ -7,13 +7,13 @@ use Rattle.image_mount.specs.Marked.{IsGrown}
 use Rattle.shared_disk.specs.Disk.{ReadsOnly}
 use Rattle.image_mount.proofs.mounting.search_groundwork.Given as goal
 
-abbrev pub invariant-loop-system : goal.invariant-loop-system
-invariant-loop-system g l = record {
+abbrev pub invariant-loop-ground : goal.invariant-loop-ground
+invariant-loop-ground g l = record {
   work : IsWorking (g.D.SharedDisk.state l.disk) l.table;
   grown : IsGrown l.initial.table l.table;
   searched : IsTrue (g.D.SharedDisk.state l.initial.disk).tells → IsMasterOf (image_of (g.D.SharedDisk.state l.initial.disk)) l.master → IsNamedBy (image_of (g.D.SharedDisk.state l.initial.disk)) l.master l.names → IsSearched (image_of (g.D.SharedDisk.state l.initial.disk)) [] 0 0 l.initial.table → IsSearched (image_of (g.D.SharedDisk.state l.initial.disk)) [] 0 0 l.table;
   reads : ReadsOnly (g.D.SharedDisk.state l.initial.disk) (g.D.SharedDisk.state l.disk) (g.D.SharedDisk.list l.initial.disk) (g.D.SharedDisk.list l.disk) (g.D.SharedDisk.faults l.initial.disk) (g.D.SharedDisk.faults l.disk);
 }
 
-abbrev pub decreases-loop-system : goal.decreases-loop-system
-decreases-loop-system g l = l.table.left
+abbrev pub decreases-loop-ground : goal.decreases-loop-ground
+decreases-loop-ground g l = l.table.left

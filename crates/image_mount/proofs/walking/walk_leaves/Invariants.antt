@@ -1,7 +1,6 @@
 use Rattle.std.proofs.Common.{◌≡◌, ◌≤◌, ◌+◌, ◌^◌, [], IsTrue, length, vec_len}
-use Rattle.image_model.specs.Claims.{master_of}
 use Rattle.image_model.specs.Image.{image_of}
-use Rattle.image_mount.specs.Leaves.{IsTableOf, IsWalked, steps_left}
+use Rattle.image_mount.specs.Leaves.{IsTableOf, IsWalked, LooksFor, steps_left}
 use Rattle.image_mount.specs.Rings.{IsSearched}
 use Rattle.image_mount.specs.Searching.{IsWorking}
 use Rattle.image_mount.specs.Marked.{IsGrown}
@@ -15,8 +14,10 @@ invariant-loop-link g l = record {
   count : vec_len l.walk.owners.entries ≡ (g.D.SharedDisk.state l.initial.disk).count;
   size : length l.bytes.items ≡ (g.D.SharedDisk.state l.initial.disk).size;
   within : l.walk.index ≤ 2 ^ l.pointers.depth;
-  walked : IsTrue (g.D.SharedDisk.state l.initial.disk).tells → IsTableOf (image_of (g.D.SharedDisk.state l.initial.disk)) l.inode l.pointers → IsWalked (image_of (g.D.SharedDisk.state l.initial.disk)) (master_of (image_of (g.D.SharedDisk.state l.initial.disk))) l.walk;
-  searched : IsTrue (g.D.SharedDisk.state l.initial.disk).tells → IsTableOf (image_of (g.D.SharedDisk.state l.initial.disk)) l.inode l.pointers → IsSearched (image_of (g.D.SharedDisk.state l.initial.disk)) [] 0 0 l.initial.table → IsSearched (image_of (g.D.SharedDisk.state l.initial.disk)) [] 0 0 l.table;
+  walked : IsTrue (g.D.SharedDisk.state l.initial.disk).tells → IsTableOf (image_of (g.D.SharedDisk.state l.initial.disk)) l.inode l.pointers → LooksFor (image_of (g.D.SharedDisk.state l.initial.disk)) l.inode.block l.fn.names → IsWalked (image_of (g.D.SharedDisk.state l.initial.disk)) l.inode.block l.walk;
+  directory : l.walk.directory ≡ l.inode.block;
+  names : l.walk.names ≡ l.fn.names;
+  searched : IsTrue (g.D.SharedDisk.state l.initial.disk).tells → IsTableOf (image_of (g.D.SharedDisk.state l.initial.disk)) l.inode l.pointers → LooksFor (image_of (g.D.SharedDisk.state l.initial.disk)) l.inode.block l.fn.names → IsSearched (image_of (g.D.SharedDisk.state l.initial.disk)) [] 0 0 l.initial.table → IsSearched (image_of (g.D.SharedDisk.state l.initial.disk)) [] 0 0 l.table;
   reads : ReadsOnly (g.D.SharedDisk.state l.initial.disk) (g.D.SharedDisk.state l.disk) (g.D.SharedDisk.list l.initial.disk) (g.D.SharedDisk.list l.disk) (g.D.SharedDisk.faults l.initial.disk) (g.D.SharedDisk.faults l.disk);
 }
 
