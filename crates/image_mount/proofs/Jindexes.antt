@@ -2,6 +2,7 @@
 use Rattle.std.proofs.Common.{◌≡◌, ℕ, ◌+◌, ◌<◌, ◌≤◌, true, false, List, length, refl, sym, ap, subst, ◌∙◌, arith}
 use Rattle.std.specs.Prelude.{map, flat_map, Contains, slice_get, Some}
 use Rattle.std.proofs.lemmas.Bool.{both_ways}
+use Rattle.dinode_tree.specs.Reading.{IsRightDinode}
 use Rattle.gfs2_layout.specs.Inode.{is_hashed_in, leaf_area}
 use Rattle.gfs2_layout.specs.Records.{Record, records_in}
 use Rattle.image_model.specs.Claims.{every, HasArea, behind_dinode, of_leaf}
@@ -12,8 +13,9 @@ use Rattle.image_model.proofs.Members.{contained, from_flat_map, in_flat_map, is
 use Rattle.image_model.proofs.Rising.{rising, same_rising}
 use Rattle.image_reader.specs.Leaves.{leaf_records}
 use Rattle.image_mount.specs.Found.{HasGroups, name_count, AreJournalNames}
-use Rattle.image_mount.specs.Leaves.{IsGoneOver}
+use Rattle.image_mount.specs.Leaves.{IsGoneOver, LooksFor}
 use Rattle.image_mount.specs.Listing.{said, AreAllRecords, AreCountedIn, AreRecordsOf}
+use Rattle.image_mount.specs.Looks.{IsLookedAt, IsTableSized}
 use Rattle.image_mount.specs.Refusals.{RefusesRightly}
 use Rattle.image_mount.specs.Refusals as outside
 use Rattle.image_mount.specs.System.{AreRecordsAnew}
@@ -21,7 +23,7 @@ use Rattle.image_mount.specs.declared.fault.MountFault.{MountFault}
 use Rattle.image_mount.specs.declared.fault.MountFault.TheVariants as fault
 use Rattle.image_mount.specs.declared.field.Field.TheVariants as field
 use Rattle.image_mount.specs.declared.leaf.LeafWalk.{LeafWalk}
-use Rattle.image_mount.specs.declared.leaf.Names.TheVariants.{Journals}
+use Rattle.image_mount.specs.declared.leaf.Names.TheVariants.{Files, Journals}
 use Rattle.image_mount.specs.declared.listing.Named.{Named}
 use Rattle.image_mount.specs.Sifting.{IsBeside}
 use Rattle.image_mount.proofs.Causes.{told_outside}
@@ -33,6 +35,15 @@ use Rattle.image_mount.proofs.Records.{has_records}
 -- those that were read behind a dinode
 pub linear_anew : (im : Image) (a : ℕ) (items : List Named) → AreRecordsOf im a (map said items) → AreRecordsAnew im a (map said items)
 linear_anew im a items are = record { all = map said items; has = has_records im a items are; count = refl; there = λ r has. has; other = λ r has. has }
+
+pub looks_for_journals : (im : Image) (a : ℕ) → LooksFor im a Journals
+looks_for_journals im a files = let no : Journals ≡ Files = files in cc
+
+pub hashed_looked : (im : Image) (a : ℕ) → IsRightDinode (every im a) → is_hashed_in (every im a) ≡ true → IsTableSized im a → IsLookedAt im a
+hashed_looked im a right hashed sized = record {
+  dinode = right;
+  sized = record { linear = λ directory linear. absurd (both_ways (is_hashed_in (every im a)) linear hashed); hashed = λ yes. sized };
+}
 
 module _ (im : Image) (a : ℕ) (walk : LeafWalk) (over : IsGoneOver im a walk) where
   rows : List Record

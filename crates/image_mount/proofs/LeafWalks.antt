@@ -39,6 +39,8 @@ use Rattle.image_mount.specs.Listing.{said, standing, AreAllRecords, AreCountedI
 use Rattle.image_mount.specs.Looks.{HasSoundLeaves, IsInRun, LeadsToLeaf}
 use Rattle.image_mount.specs.Refusals.{IsOutside, RefusesRightly, of_image}
 use Rattle.image_mount.specs.Refusals as outside
+use Rattle.image_mount.specs.Kept.{Kept}
+use Rattle.image_mount.specs.Rings.{IsSearched}
 use Rattle.image_mount.specs.System.{ArePlainRecords}
 use Rattle.image_mount.specs.declared.fault.MountFault.{MountFault}
 use Rattle.image_mount.specs.declared.fault.MountFault.TheVariants as fault
@@ -554,6 +556,12 @@ pub walked_by : (old now : DiskState) → now ≡ old → (inode : Inode) (table
     → IsTrue old.tells → IsTableOf (image_of old) inode table → LooksFor (image_of old) inode.block names → IsWalked (image_of old) inode.block walk
 walked_by old now same inode table walk names more =
     subst (λ (s : DiskState). IsTrue s.tells → IsTableOf (image_of s) inode table → LooksFor (image_of s) inode.block names → IsWalked (image_of s) inode.block walk) same more
+
+pub walk_told : (old now : DiskState) → now ≡ old → (inode : Inode) (table : HashTable) (names : Names) (k : Kept) (P : Image → Type 0)
+    → (IsTrue now.tells → IsTableOf (image_of now) inode table → LooksFor (image_of now) inode.block names → IsSearched (image_of now) [] 0 0 k → P (image_of now))
+    → IsTrue old.tells → IsTableOf (image_of old) inode table → LooksFor (image_of old) inode.block names → IsSearched (image_of old) [] 0 0 k → P (image_of old)
+walk_told old now same inode table names k P more =
+    subst (λ (s : DiskState). IsTrue s.tells → IsTableOf (image_of s) inode table → LooksFor (image_of s) inode.block names → IsSearched (image_of s) [] 0 0 k → P (image_of s)) same more
 
 module _ (im : Image) (inode : Inode) (table : HashTable) (walk : LeafWalk) (of : IsTableOf im inode table) (w : IsWalked im inode.block walk) (ended : HasEnded walk (2 ^ table.depth)) where
   pub came_all : AreAllLeaves im inode.block walk

@@ -23,10 +23,11 @@ use Rattle.image_mount.specs.Searching.{IsWorking}
 use Rattle.image_mount.specs.Leaves.{IsMasterIn}
 use Rattle.image_mount.specs.Looks.{IsTrueEntry}
 use Rattle.image_mount.specs.Marked.{IsGrown, IsKept}
-use Rattle.image_mount.specs.System.{HasDinodes, IsMasterOf, IsNamedBy, IsSystemOf, layout_of}
+use Rattle.image_mount.specs.System.{HasDinodes, IsJindexIn, IsMasterOf, IsNamedBy, IsSystemOf, layout_of}
 use Rattle.image_mount.specs.Kept.{Kept, bytes_of}
 use Rattle.image_mount.specs.declared.fault.MountFault.{MountFault}
 use Rattle.image_mount.specs.declared.fault.MountFault.TheVariants as fault
+use Rattle.image_mount.specs.declared.inodes.Inode.{Inode}
 use Rattle.image_mount.specs.declared.journals.Ring.{Ring}
 use Rattle.image_mount.specs.declared.listing.Named.{Named as Item}
 use Rattle.image_mount.specs.declared.master.Master.{Master as MasterValue}
@@ -86,18 +87,26 @@ module _ (old now : DiskState) (same : now ≡ old) where
       → IsTrue old.tells → IsMasterOf (image_of old) at → IsNamedBy (image_of old) at names → P (image_of old)
   files_told at names P more = subst (λ (s : DiskState). IsTrue s.tells → IsMasterOf (image_of s) at → IsNamedBy (image_of s) at names → P (image_of s)) same more
 
+  pub files_refused : (at : MasterValue) (names : List Item) (k : Kept) (f : MountFault)
+      → (IsTrue now.tells → IsMasterOf (image_of now) at → IsNamedBy (image_of now) at names → IsSearched (image_of now) [] 0 0 k → RefusesRightly (image_of now) f)
+      → IsTrue old.tells → IsMasterOf (image_of old) at → IsNamedBy (image_of old) at names → IsSearched (image_of old) [] 0 0 k → RefusesRightly (image_of old) f
+  files_refused at names k f more =
+      subst (λ (s : DiskState). IsTrue s.tells → IsMasterOf (image_of s) at → IsNamedBy (image_of s) at names → IsSearched (image_of s) [] 0 0 k → RefusesRightly (image_of s) f) same more
+
+  pub jindex_told : (master : ℕ) (inode : Inode) (P : Image → Type 0) → (IsTrue now.tells → IsJindexIn (image_of now) master inode → P (image_of now)) → IsTrue old.tells → IsJindexIn (image_of old) master inode → P (image_of old)
+  jindex_told master inode P more = subst (λ (s : DiskState). IsTrue s.tells → IsJindexIn (image_of s) master inode → P (image_of s)) same more
+
+  pub jindex_searched : (master : ℕ) (inode : Inode) (k : Kept) (P : Image → Type 0) → (IsTrue now.tells → IsJindexIn (image_of now) master inode → IsSearched (image_of now) [] 0 0 k → P (image_of now))
+      → IsTrue old.tells → IsJindexIn (image_of old) master inode → IsSearched (image_of old) [] 0 0 k → P (image_of old)
+  jindex_searched master inode k P more = subst (λ (s : DiskState). IsTrue s.tells → IsJindexIn (image_of s) master inode → IsSearched (image_of s) [] 0 0 k → P (image_of s)) same more
+
   pub files_searched : (at : MasterValue) (names : List Item) (k new : Kept)
       → (IsTrue now.tells → IsMasterOf (image_of now) at → IsNamedBy (image_of now) at names → IsSearched (image_of now) [] 0 0 k → IsSearched (image_of now) [] 0 0 new)
       → IsTrue old.tells → IsMasterOf (image_of old) at → IsNamedBy (image_of old) at names → IsSearched (image_of old) [] 0 0 k → IsSearched (image_of old) [] 0 0 new
   files_searched at names k new more =
       subst (λ (s : DiskState). IsTrue s.tells → IsMasterOf (image_of s) at → IsNamedBy (image_of s) at names → IsSearched (image_of s) [] 0 0 k → IsSearched (image_of s) [] 0 0 new) same more
 
--- the dinodes that were kept stay, and those of the files are
-pub dinodes_of : (im : Image) (a b : Kept) (W V : Type 0) (r : Result System MountFault) → OnOk r (IsGrown a b) → IfOk r (λ s. IsKept b s.rindex) → IfOk r (λ s. IsKept b s.jindex) → (W → V → IsKept a (master_of im))
-    → IfOk r (λ s. W → V → HasDinodes im b s)
-dinodes_of im a b W V (Ok s) grown rindex jindex known = λ w v. record { master = grown.stays (master_of im) (known w v); rindex = rindex; jindex = jindex }
-dinodes_of im a b W V (Err f) grown rindex jindex known = tt
-
+-- the dinodes that were kept stay
 pub stay_kept : (im : Image) (a b : Kept) (s : System) → IsGrown a b → HasDinodes im a s → HasDinodes im b s
 stay_kept im a b s grown has = record { master = grown.stays (master_of im) has.master; rindex = grown.stays s.rindex has.rindex; jindex = grown.stays s.jindex has.jindex }
 

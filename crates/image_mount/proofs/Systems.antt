@@ -1,5 +1,5 @@
 -- The system files that were found, as a layout of the image.
-use Rattle.std.proofs.Common.{◌≡◌, ◌<◌, ℕ, true, List, [], length, Vec, Global, refl, sym, ap, subst, arith}
+use Rattle.std.proofs.Common.{◌≡◌, ◌<◌, ℕ, true, List, [], length, Vec, Global, refl, sym, ap, subst, ◌∙◌, arith}
 use Rattle.std.specs.Prelude.{codes, map}
 use Rattle.std.proofs.lemmas.List.{length-map}
 use Rattle.gfs2_layout.specs.declared.rindex.Rindex.{Rindex}

@@ -171,7 +171,8 @@ fn search_hashed<D: SharedDisk>(
         return Err(outside(Field::Journals, count_names(&walk.records) + walk.others));
     }
     check_hashed(inode, master, &walk.records)?;
-    check_journals(alloc, &walk.records)
+    let journals = check_journals(alloc, &walk.records)?;
+    Ok(journals)
 }
 
 /// The journals by their records in the directory of journals, whose dinode is kept; where that is a hashed one its leaves are

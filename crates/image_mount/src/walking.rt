@@ -115,7 +115,8 @@ pub(crate) fn search_leaves<D: SharedDisk>(
     ensures reads { ReadsOnly (D.state disk.old) (D.state disk.new) (D.list disk.old) (D.list disk.new) (D.faults disk.old) (D.faults disk.new) }
 {
     let pointers = search_pointers(alloc, disk, table, inode)?;
-    walk_leaves(alloc, disk, table, inode, &pointers, names)
+    let walk = walk_leaves(alloc, disk, table, inode, &pointers, names)?;
+    Ok(walk)
 }
 
 /// That the records that were found in all leaves are those of a directory below the one with its dinode in block `parent`.

@@ -29,7 +29,7 @@ returns-clause-found c im read is =
     let directory = is.of.directory in
     let are = c.in_ok-records.ensures.found im read directory in
     let among = subst (λ xs. AreJournalsAmong xs c.in_ok-journals.journals.items) c.deref.ensures.value c.in_ok-journals.ensures.found in
-    let linear : is_hashed_in (every im a) ≡ false = hashed_as im a c.args.inode.now.dinode false directory.dinode c.requires in
+    let linear : is_hashed_in (every im a) ≡ false = hashed_as im a c.args.inode.now.dinode false directory.dinode c.requires.linear in
     journals_of im a items c.in_ok-journals.journals.items (record { dinode = is.of.right; sized = c.in_ok-records.ensures.sized im read directory }) (subst (IsSoundDirectory im a) is.of.master_is (c.in_ok-records.ensures.sound im read directory))
     (λ hashed. absurd (both_ways (is_hashed_in (every im a)) linear hashed)) (all_records im a items directory.inside are c.in_ok-records.ensures.here) c.in_ok-records.ensures.distinct
     (linear_names im a items c.in_ok-journals.journals.items are among) among
