@@ -22,9 +22,6 @@ returns-in_err-walk-clause-refused g c tells is known =
     refused im _ _ c.from_residual.ensures.1
     (c.in_err-walk.ensures.refused tells (jindex_directory_of im c.args.master inode is.of) (hashed_as im inode.block _ true is.of.directory.dinode c.requires.hashed) (looks_for_journals im inode.block) known)
 
-pub overflow_add : goal.overflow_add
-overflow_add g c = omega (arith, c.in_ok-walk.ensures.few, c.count_names.ensures.most, c.deref.type_inv)
-
 pub returns-then-walk-gt0-clause-refused : goal.returns-then-walk-gt0-clause-refused
 returns-then-walk-gt0-clause-refused g c tells is known =
     let im = (image_of (g.D.SharedDisk.state c.args.disk.now)) in
