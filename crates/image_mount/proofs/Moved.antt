@@ -93,12 +93,12 @@ module _ (old now : DiskState) (same : now ≡ old) where
   files_refused at names k f more =
       subst (λ (s : DiskState). IsTrue s.tells → IsMasterOf (image_of s) at → IsNamedBy (image_of s) at names → IsSearched (image_of s) [] 0 0 k → RefusesRightly (image_of s) f) same more
 
-  pub jindex_told : (master : ℕ) (inode : Inode) (P : Image → Type 0) → (IsTrue now.tells → IsJindexIn (image_of now) master inode → P (image_of now)) → IsTrue old.tells → IsJindexIn (image_of old) master inode → P (image_of old)
-  jindex_told master inode P more = subst (λ (s : DiskState). IsTrue s.tells → IsJindexIn (image_of s) master inode → P (image_of s)) same more
+  pub jindex_told : (parent : ℕ) (inode : Inode) (P : Image → Type 0) → (IsTrue now.tells → IsJindexIn (image_of now) parent inode → P (image_of now)) → IsTrue old.tells → IsJindexIn (image_of old) parent inode → P (image_of old)
+  jindex_told parent inode P more = subst (λ (s : DiskState). IsTrue s.tells → IsJindexIn (image_of s) parent inode → P (image_of s)) same more
 
-  pub jindex_searched : (master : ℕ) (inode : Inode) (k : Kept) (P : Image → Type 0) → (IsTrue now.tells → IsJindexIn (image_of now) master inode → IsSearched (image_of now) [] 0 0 k → P (image_of now))
-      → IsTrue old.tells → IsJindexIn (image_of old) master inode → IsSearched (image_of old) [] 0 0 k → P (image_of old)
-  jindex_searched master inode k P more = subst (λ (s : DiskState). IsTrue s.tells → IsJindexIn (image_of s) master inode → IsSearched (image_of s) [] 0 0 k → P (image_of s)) same more
+  pub jindex_searched : (parent : ℕ) (inode : Inode) (k : Kept) (P : Image → Type 0) → (IsTrue now.tells → IsJindexIn (image_of now) parent inode → IsSearched (image_of now) [] 0 0 k → P (image_of now))
+      → IsTrue old.tells → IsJindexIn (image_of old) parent inode → IsSearched (image_of old) [] 0 0 k → P (image_of old)
+  jindex_searched parent inode k P more = subst (λ (s : DiskState). IsTrue s.tells → IsJindexIn (image_of s) parent inode → IsSearched (image_of s) [] 0 0 k → P (image_of s)) same more
 
   pub files_searched : (at : MasterValue) (names : List Item) (k new : Kept)
       → (IsTrue now.tells → IsMasterOf (image_of now) at → IsNamedBy (image_of now) at names → IsSearched (image_of now) [] 0 0 k → IsSearched (image_of now) [] 0 0 new)
@@ -276,6 +276,10 @@ rings_with P old new ring before here is = subst (All (λ (r : Ring). All P r.bl
 pub ring_of_turn : (im : Image) (rings : List Ring) (k : ℕ) (ring : Ring) → k < length rings → ring ≡ get_or rings k ring → All (λ (r : Ring). IsRingOf im r.dinode r.blocks.items) rings
     → IsRingOf im ring.dinode ring.blocks.items
 ring_of_turn im rings k ring low is all = subst (λ (r : Ring). IsRingOf im r.dinode r.blocks.items) (sym is) (all k ring low)
+
+-- no journal before has this dinode
+pub not_before : (now rings : List Ring) (addr : ℕ) → now ≡ rings → ¬ (Contains (map (λ (r : Ring). r.dinode) now) addr) → ¬ (Contains (map (λ (r : Ring). r.dinode) rings) addr)
+not_before now rings addr same new = subst (λ rs. ¬ (Contains (map (λ (r : Ring). r.dinode) rs) addr)) same new
 
 -- the record of a journal that was looked for, of a disk that holds what it held
 pub entry_true : (old now : DiskState) (entry : Entry) → now ≡ old → (IsTrue now.tells → IsTrueEntry (image_of now) entry) → IsTrue old.tells → IsTrueEntry (image_of old) entry

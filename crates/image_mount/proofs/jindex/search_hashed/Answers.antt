@@ -28,7 +28,7 @@ returns-then-walk-gt0-clause-refused g c tells is known =
     let inode = c.args.inode.now in
     let over = c.in_ok-walk.ensures.found tells (jindex_directory_of im c.args.master inode is.of) (hashed_as im inode.block _ true is.of.directory.dinode c.requires.hashed) (looks_for_journals im inode.block) in
     beside_told im inode.block c.in_ok-walk.walk over is.layout _ _ c.in_ok-walk.ensures.names is.groups is.layout_is c.if-walk-gt0.true
-    (ap (λ n. n + c.in_ok-walk.walk.others) (c.count_names.ensures.value ∙ ap (λ xs. name_count (map said xs)) c.deref.ensures.value)) c.outside.ensures
+    (ap (λ n. n + c.in_ok-walk.walk.others) (c.count_names.ensures ∙ ap (λ xs. name_count (map said xs)) c.deref.ensures.value)) c.outside.ensures
 
 pub returns-in_err-check_hashed-clause-refused : goal.returns-in_err-check_hashed-clause-refused
 returns-in_err-check_hashed-clause-refused g c tells is known =
@@ -38,8 +38,8 @@ returns-in_err-check_hashed-clause-refused g c tells is known =
     let over = c.in_ok-walk.ensures.found tells (jindex_directory_of im c.args.master inode is.of) (hashed_as im inode.block _ true is.of.directory.dinode c.requires.hashed) (looks_for_journals im inode.block) in
     let none : walk.others ≡ 0 = omega (arith, c.if-walk-gt0.false) in
     refused im _ _ c.from_residual-in_err-check_hashed.ensures.1
-    (c.in_err-check_hashed.ensures.refused im is.of.directory (subst (AreAllRecords im inode.block) (sym c.deref.ensures.value) (walk_all im inode.block walk over none))
-    (subst (λ xs. AreCountedIn im inode.block (map said xs)) (sym c.deref.ensures.value) (walk_counted im inode.block walk over none)))
+    (c.in_err-check_hashed.ensures.refused im is.of.directory (subst (AreAllRecords im inode.block) (sym c.deref-2.ensures.value) (walk_all im inode.block walk over none))
+    (subst (λ xs. AreCountedIn im inode.block (map said xs)) (sym c.deref-2.ensures.value) (walk_counted im inode.block walk over none)))
 
 pub returns-in_err-journals-clause-refused : goal.returns-in_err-journals-clause-refused
 returns-in_err-journals-clause-refused g c tells is known =
@@ -50,7 +50,7 @@ returns-in_err-journals-clause-refused g c tells is known =
     let none : walk.others ≡ 0 = omega (arith, c.if-walk-gt0.false) in
     refused im _ _ c.from_residual-in_err-journals.ensures.1
     (c.in_err-journals.ensures.refused im is.layout is.groups
-    (subst (λ xs. AreRecordsAnew im is.layout.jindex (map said xs)) (sym c.deref-2.ensures.value) (subst (λ a. AreRecordsAnew im a (map said walk.records.items)) (sym is.layout_is) (hashed_anew im inode.block walk over none))))
+    (subst (λ xs. AreRecordsAnew im is.layout.jindex (map said xs)) (sym c.deref-3.ensures.value) (subst (λ a. AreRecordsAnew im a (map said walk.records.items)) (sym is.layout_is) (hashed_anew im inode.block walk over none))))
 
 pub returns-clause-found : goal.returns-clause-found
 returns-clause-found g c tells is =
@@ -61,8 +61,8 @@ returns-clause-found g c tells is =
     let over = c.in_ok-walk.ensures.found tells (jindex_directory_of im c.args.master inode is.of) hashed (looks_for_journals im inode.block) in
     let none : walk.others ≡ 0 = omega (arith, c.if-walk-gt0.false) in
     let all = walk_all im inode.block walk over none in
-    let sound = hashed_sound im inode c.args.master walk is.of.directory.dinode over.hashed over.walked over.all none all (walk_counted im inode.block walk over none) (subst (AreRowsOf inode c.args.master) c.deref.ensures.value c.in_ok-check_hashed.ensures.rows) in
-    let among = subst (λ xs. AreJournalsAmong xs c.in_ok-journals.journals.items) c.deref-2.ensures.value c.in_ok-journals.ensures.found in
+    let sound = hashed_sound im inode c.args.master walk is.of.directory.dinode over.hashed over.walked over.all none all (walk_counted im inode.block walk over none) (subst (AreRowsOf inode c.args.master) c.deref-2.ensures.value c.in_ok-check_hashed.ensures.rows) in
+    let among = subst (λ xs. AreJournalsAmong xs c.in_ok-journals.journals.items) c.deref-3.ensures.value c.in_ok-journals.ensures.found in
     journals_of im inode.block walk.records.items c.in_ok-journals.journals.items (hashed_looked im inode.block is.of.right hashed over.sized) (subst (IsSoundDirectory im inode.block) is.of.master_is sound) (λ yes. over.leaves) all over.walked.distinct
     (hashed_names im inode.block walk over (length c.in_ok-journals.journals.items) none among.named) among
 

@@ -1,5 +1,5 @@
 use Rattle.std.proofs.Common.{refl, sym, ◌<◌, subst}
-use Rattle.std.specs.Prelude.{map, take, Contains}
+use Rattle.std.specs.Prelude.{map, take}
 use Rattle.image_model.specs.Image.{Image, image_of}
 use Rattle.image_mount.specs.Looks.{IsInGroups}
 use Rattle.image_mount.specs.Marked.{IsKept}
@@ -8,7 +8,7 @@ use Rattle.image_mount.specs.Rings.{AreRings, IsSearched}
 use Rattle.image_mount.specs.declared.journals.Ring.{Ring}
 use Rattle.image_mount.proofs.KeptWays.{ring_ways_told, rings_ways}
 use Rattle.image_mount.proofs.Marked.{grown_on, marked_ring, rings_kept}
-use Rattle.image_mount.proofs.Moved.{at_item, next_in, ring_told, ring_found, ring_searched, rings_more, rings_own, rings_with, inside_now, dinodes_more, entry_true}
+use Rattle.image_mount.proofs.Moved.{at_item, next_in, not_before, ring_told, ring_found, ring_searched, rings_more, rings_own, rings_with, inside_now, dinodes_more, entry_true}
 use Rattle.image_mount.proofs.Stops.{refused}
 use Rattle.image_mount.proofs.journals.find_rings.Goals as goal
 use Rattle.shared_disk.proofs.ReadLaws.{reads_on}
@@ -31,7 +31,7 @@ returns-in_err-ring-clause-refused g c tells looked known =
     let done = map (λ (r : Ring). r.dinode) c.loop-journal.rings.items in
     let at = at_item c.deref-journal-items.result.now system.journals.items k _ c.deref-journal-items.ensures.value c.loop-journal-test.true in
     let own = c.in_ok-check_dinode.ensures in
-    let next = next_in im system k _ c.loop-journal.rings.items done looked (inv.found tells looked known) at own.own (subst (λ rs. ¬ (Contains (map (λ (r : Ring). r.dinode) rs) _)) c.deref.ensures.value own.new) in
+    let next = next_in im system k _ c.loop-journal.rings.items done looked (inv.found tells looked known) at own.own (not_before c.deref.result.now c.loop-journal.rings.items _ c.deref.ensures.value own.new) in
     refused im _ _ c.from_residual-in_err-ring.ensures.1
     (ring_told _ _ inv.reads.same done system _ c.loop-journal.table (λ (i : Image). RefusesRightly i c.in_err-ring.field-0.0) (c.in_err-ring.ensures.refused done) tells next (inv.searched tells looked known))
 
@@ -60,13 +60,13 @@ loop-journal-preserved g c =
       found = λ tells looked known.
           let at = at_item c.deref-journal-items.result.now system.journals.items k _ c.deref-journal-items.ensures.value c.loop-journal-test.true in
           let own = c.in_ok-check_dinode.ensures in
-    let next = next_in im system k _ c.loop-journal.rings.items done looked (inv.found tells looked known) at own.own (subst (λ rs. ¬ (Contains (map (λ (r : Ring). r.dinode) rs) _)) c.deref.ensures.value own.new) in
+    let next = next_in im system k _ c.loop-journal.rings.items done looked (inv.found tells looked known) at own.own (not_before c.deref.result.now c.loop-journal.rings.items _ c.deref.ensures.value own.new) in
           let of = ring_found _ _ inv.reads.same done system _ c.loop-journal.table ring.blocks.items (read.found done) tells next (inv.searched tells looked known) in
           rings_more im system.journals.items k _ rings _ ring (inv.found tells looked known) at read.dinode of (entry_true _ _ _ inv.reads.same read.repeats tells) items;
       searched = λ tells looked known.
           let at = at_item c.deref-journal-items.result.now system.journals.items k _ c.deref-journal-items.ensures.value c.loop-journal-test.true in
           let own = c.in_ok-check_dinode.ensures in
-    let next = next_in im system k _ c.loop-journal.rings.items done looked (inv.found tells looked known) at own.own (subst (λ rs. ¬ (Contains (map (λ (r : Ring). r.dinode) rs) _)) c.deref.ensures.value own.new) in
+    let next = next_in im system k _ c.loop-journal.rings.items done looked (inv.found tells looked known) at own.own (not_before c.deref.result.now c.loop-journal.rings.items _ c.deref.ensures.value own.new) in
           subst (λ ds. IsSearched im ds 0 0 c.find_ring.new.table) (dinodes_more rings _ ring _ items read.dinode)
           (ring_searched _ _ inv.reads.same done system _ c.loop-journal.table c.find_ring.new.table (read.searched done) tells next (inv.searched tells looked known));
       reads = reads_on inv.reads read.reads;
