@@ -1,5 +1,5 @@
 -- What mounting tells in the end.
-use Rattle.std.proofs.Common.{refl, ◌≢◌, ◌≡◌, ℕ, ◌^◌, ◌<◌, ◌≤◌, List, [], length, Some, IsTrue, sym, ap, subst, ◌∙◌}
+use Rattle.std.proofs.Common.{refl, ◌≡◌, ℕ, ◌^◌, ◌<◌, ◌≤◌, List, [], length, Some, IsTrue, sym, ap, subst, ◌∙◌}
 use Rattle.std.specs.Prelude.{map, slice_get, Result, IfErr, IsErrAnd}
 use Rattle.std.specs.List.{All}
 use Rattle.std.proofs.lemmas.List.{length-map}

@@ -1,6 +1,6 @@
 -- The records of the directory of journals, linear or hashed.
-use Rattle.std.proofs.Common.{◌≡◌, ℕ, ◌+◌, ◌<◌, ◌≤◌, true, false, List, length, refl, sym, ap, subst, ◌∙◌, arith}
-use Rattle.std.specs.Prelude.{map, flat_map, Contains, slice_get, Some}
+use Rattle.std.proofs.Common.{◌≡◌, ℕ, ◌+◌, ◌<◌, true, List, refl, sym, ap, subst, ◌∙◌, arith}
+use Rattle.std.specs.Prelude.{map, flat_map, Contains, Some}
 use Rattle.std.proofs.lemmas.Bool.{both_ways}
 use Rattle.dinode_tree.specs.Reading.{IsRightDinode}
 use Rattle.gfs2_layout.specs.Inode.{is_hashed_in, leaf_area}

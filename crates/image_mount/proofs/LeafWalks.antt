@@ -12,7 +12,7 @@ use Rattle.gfs2_layout.specs.Holding.{Holding}
 use Rattle.gfs2_layout.specs.Inode.{entry, first_hash, index_bits, is_hashed_in, leaf_in, leaf_area, table_count}
 use Rattle.gfs2_layout.specs.Records.{Record, records_in, is_dots}
 use Rattle.gfs2_layout.specs.declared.leaf.Leaf.{Leaf}
-use Rattle.image_model.specs.Claims.{every, Claims, HasArea, HasDirectory, HasLeaf, master_of, behind_dinode, of_leaf}
+use Rattle.image_model.specs.Claims.{every, Claims, HasArea, HasDirectory, HasLeaf, behind_dinode, of_leaf}
 use Rattle.image_model.specs.Image.{Image, image_of}
 use Rattle.image_reader.specs.Leaves.{HasClaim, AreChained, leaf_records}
 use Rattle.image_model.specs.Owners.{Owner, Chained}
@@ -51,7 +51,7 @@ use Rattle.image_mount.specs.declared.leaf.LeafWalk.{LeafWalk}
 use Rattle.image_mount.specs.declared.leaf.Names.{Names}
 use Rattle.image_mount.specs.declared.leaf.Names.TheVariants.{Files}
 use Rattle.image_mount.specs.declared.listing.Named.{Named}
-use Rattle.image_mount.proofs.Adding.{kept_at, new_at, none_found, said_added, which_at}
+use Rattle.image_mount.proofs.Adding.{kept_at, new_at, said_added, which_at}
 use Rattle.image_mount.proofs.Causes.{told_outside}
 use Rattle.image_mount.proofs.Masters.{file_has, table_hashed}
 use Rattle.image_mount.proofs.Names.{at_contains, contains_at, from_mapped, mapped_at, mapped_some, none_found as none_by_name}

@@ -1,6 +1,6 @@
 -- What a call over a disk tells, in the words of what the disk held before.
-use Rattle.std.proofs.Common.{◌≡◌, ◌≢◌, ◌↔◌, inl, inr, Bool, false, ℕ, zero, suc, ◌+◌, ◌<◌, List, [], ◌∷◌, ◌++◌, length, take, get_or, Some, IsTrue, refl, sym, ap, subst, ◌∙◌, arith}
-use Rattle.std.specs.Prelude.{codes, map, Contains, slice_get, Result, Ok, Err, IfOk, OnOk}
+use Rattle.std.proofs.Common.{◌≡◌, inl, inr, ℕ, zero, suc, ◌+◌, ◌<◌, List, [], ◌∷◌, ◌++◌, length, take, get_or, Some, IsTrue, sym, ap, subst, ◌∙◌, arith}
+use Rattle.std.specs.Prelude.{codes, map, Contains, slice_get}
 use Rattle.std.specs.List.{All}
 use Rattle.std.proofs.lemmas.Option.{slice_get-get_or, slice_get_within, get_or_from_slice_get}
 use Rattle.std.proofs.lemmas.List.{map-append}
@@ -22,7 +22,7 @@ use Rattle.image_mount.specs.Rings.{IsSearched, IsJournalIn, IsNext, HasPlaces, 
 use Rattle.image_mount.specs.Searching.{IsWorking}
 use Rattle.image_mount.specs.Leaves.{IsMasterIn}
 use Rattle.image_mount.specs.Looks.{IsTrueEntry}
-use Rattle.image_mount.specs.Marked.{IsGrown, IsKept}
+use Rattle.image_mount.specs.Marked.{IsGrown}
 use Rattle.image_mount.specs.System.{HasDinodes, IsJindexIn, IsMasterOf, IsNamedBy, IsSystemOf, layout_of}
 use Rattle.image_mount.specs.Kept.{Kept, bytes_of}
 use Rattle.image_mount.specs.declared.fault.MountFault.{MountFault}
@@ -32,7 +32,7 @@ use Rattle.image_mount.specs.declared.journals.Ring.{Ring}
 use Rattle.image_mount.specs.declared.listing.Named.{Named as Item}
 use Rattle.image_mount.specs.declared.master.Master.{Master as MasterValue}
 use Rattle.image_mount.specs.declared.system.System.{System}
-use Rattle.image_mount.proofs.Causes.{told, lacks}
+use Rattle.image_mount.proofs.Causes.{told}
 use Rattle.image_model.proofs.JournalNames.{one_number}
 use Rattle.image_mount.proofs.Names.{all_at, contains_at, mapped_at, from_mapped, taken_at}
 

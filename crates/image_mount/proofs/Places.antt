@@ -18,7 +18,7 @@ use Rattle.gfs2_layout.specs.Holding.{Holding}
 use Rattle.gfs2_layout.specs.declared.dinode.Dinode.{Dinode}
 use Rattle.glock_names.specs.Views.{Seen}
 use Rattle.glock_names.specs.declared.steps.Missing.{Missing}
-use Rattle.image_model.specs.Claims.{every, Claims, below, HasInode, HasJournal, IsJindex}
+use Rattle.image_model.specs.Claims.{every, Claims, below, HasInode, HasJournal}
 use Rattle.image_model.specs.Image.{Image}
 use Rattle.image_model.specs.Journals.{journal_name}
 use Rattle.image_model.specs.Owners.{Below, Named}

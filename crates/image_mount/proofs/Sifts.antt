@@ -1,6 +1,6 @@
 -- The records of a leaf that have names which are looked for, and those that have others.
-use Rattle.std.proofs.Common.{◌≡◌, ◌≢◌, inl, inr, ℕ, zero, suc, cond, ◌+◌, ◌||◌, ◌&&◌, ◌<◌, ◌≤◌, Bool, true, false, List, [], ◌∷◌, ◌++◌, length, take, get_or, Option, None, Some, refl, sym, ap, subst, ◌∙◌, arith}
-use Rattle.std.specs.Prelude.{codes, map, not, Contains, slice_get, IfSome, IfNone}
+use Rattle.std.proofs.Common.{◌≡◌, ◌≢◌, inl, inr, ℕ, zero, suc, cond, ◌+◌, ◌||◌, ◌&&◌, ◌<◌, ◌≤◌, true, false, List, [], ◌∷◌, ◌++◌, length, take, get_or, Option, None, Some, refl, sym, ap, subst, ◌∙◌, arith}
+use Rattle.std.specs.Prelude.{codes, map, not, slice_get, IfNone}
 use Rattle.std.specs.List.{All}
 use Rattle.std.specs.Str.{bytes_eq}
 use Rattle.std.proofs.lemmas.Bool.{cases_lt, true≢false}
@@ -8,15 +8,15 @@ use Rattle.std.proofs.lemmas.List.{map-append, take_more, take_all}
 use Rattle.std.proofs.lemmas.List.Sums.{sum_by-cons}
 use Rattle.std.proofs.lemmas.Option.{slice_get-get_or, slice_get_within, get_or_from_slice_get}
 use Rattle.std.proofs.lemmas.Slice.Eq.{bytes_eq-Decides}
-use Rattle.gfs2_layout.specs.Records.{Record, records_in, is_dots}
+use Rattle.gfs2_layout.specs.Records.{Record, is_dots}
 use Rattle.image_model.specs.Journals.{journal_name}
 use Rattle.image_model.proofs.Counts.{count_append}
 use Rattle.image_model.proofs.JournalNames.{digit_name}
-use Rattle.image_mount.specs.Found.{first_other, is_other, is_system_name, name_count}
-use Rattle.image_mount.specs.Listing.{said, standing, AreDistinct}
+use Rattle.image_mount.specs.Found.{first_other, is_other, name_count}
+use Rattle.image_mount.specs.Listing.{said, standing}
 use Rattle.image_mount.specs.Sifting.{AreAdded, AreSifted, IsBeside, IsForeign}
 use Rattle.image_mount.specs.declared.leaf.Names.{Names}
-use Rattle.image_mount.specs.declared.leaf.Names.TheVariants.{Files, Journals}
+use Rattle.image_mount.specs.declared.leaf.Names.TheVariants.{Files}
 use Rattle.image_mount.specs.declared.listing.Named.{Named}
 use Rattle.image_mount.proofs.Adding.{distinct_more, get_either, leaf_standing, said_of}
 use Rattle.image_mount.proofs.Names.{at_contains, contains_at, from_mapped, mapped_at, none_found}

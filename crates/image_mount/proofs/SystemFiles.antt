@@ -12,11 +12,11 @@ use Rattle.gfs2_layout.specs.Structures.{is_directory}
 use Rattle.gfs2_layout.specs.declared.dinode.Dinode.{Dinode}
 use Rattle.image_model.specs.Claims.{every, Claims, master, LeadsTo, master_of}
 use Rattle.image_model.specs.Image.{Image}
-use Rattle.image_model.specs.Owners.{Owner, Master, Named, is_dinode, parent_of}
+use Rattle.image_model.specs.Owners.{Owner, Master, is_dinode, parent_of}
 use Rattle.image_model.specs.Rules.{Breaks, HasRecordIn, no_rindex, no_jindex}
 use Rattle.image_mount.specs.Found.{HasFormat, IsFirstOther, behind_dinode, first_other, is_other, is_system_name}
 use Rattle.image_mount.specs.Leaves.{IsMasterIn}
-use Rattle.image_mount.specs.Listing.{said, is_hashed_by, link_of, AreAllRecords, AreRecordsOf, IsDirectoryIn}
+use Rattle.image_mount.specs.Listing.{said, link_of, AreAllRecords, AreRecordsOf, IsDirectoryIn}
 use Rattle.image_mount.specs.Groups.{IsNamedIn}
 use Rattle.image_mount.specs.Refusals.{RefusesRightly, IsOutside}
 use Rattle.image_mount.specs.Refusals as outside

@@ -1,5 +1,5 @@
 -- The records of a leaf that have names which are looked for, and those that have others.
-use Rattle.std.specs.Prelude.{ℕ, ◌≡◌, ◌≢◌, ◌+◌, ◌<◌, ◌≤◌, ◌++◌, false, List, Contains, length, map, take, slice_get, Some}
+use Rattle.std.specs.Prelude.{ℕ, ◌≡◌, ◌≢◌, ◌+◌, ◌<◌, ◌≤◌, ◌++◌, false, List, Contains, map, take, slice_get, Some}
 use Rattle.profile_limits.specs.Limits.{most_journals}
 use Rattle.gfs2_layout.specs.Records.{Record, is_dots}
 use Rattle.image_model.specs.Journals.{journal_name}

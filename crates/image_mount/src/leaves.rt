@@ -370,12 +370,7 @@ impl LeafWalk {
     }
 
     /// Comes to a leaf, which has these bytes: claims it for the directory and, where that is new, adds its records.
-    pub fn enter(
-        &mut self,
-        alloc: Global,
-        bytes: &[u8],
-        at: &LeafAt,
-    ) -> Result<(), MountFault>
+    pub fn enter(&mut self, alloc: Global, bytes: &[u8], at: &LeafAt) -> Result<(), MountFault>
         requires inside { at.now.block < vec_len self.old.owners.entries }
         requires count { vec_len self.old.owners.entries ≤ 2 ^ 32 }
         requires whole { 104 ≤ length bytes.now }

@@ -17,7 +17,6 @@ mod listing;
 mod master;
 mod mounted;
 mod mounting;
-
 mod sifting;
 mod stop;
 mod system;

@@ -111,11 +111,7 @@ fn known_name(names: Names, name: &[u8]) -> Option<&'static [u8]>
 }
 
 /// Parts the records of a leaf by their names. What it keeps costs memory for ten names at most, if none comes twice.
-pub(crate) fn sift(
-    alloc: Global,
-    names: Names,
-    records: &[Named<'_>],
-) -> Result<Sifted, MountFault>
+pub(crate) fn sift(alloc: Global, names: Names, records: &[Named<'_>]) -> Result<Sifted, MountFault>
     ensures sifted { IfOk result (λ sifted. AreSifted names records.now (length records.now) sifted.records.items sifted.others) }
     ensures memory { IfErr result (λ reason. reason ≡ fault.NoMemory) }
     ensures steady { IfErr result IsSteady }

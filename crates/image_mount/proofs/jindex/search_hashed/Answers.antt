@@ -1,7 +1,5 @@
-use Rattle.std.proofs.Common.{◌≡◌, ◌+◌, ◌<◌, ◌≤◌, ℕ, true, length, sym, ap, subst, ◌∙◌, arith}
+use Rattle.std.proofs.Common.{◌≡◌, ◌+◌, true, length, sym, ap, subst, ◌∙◌, arith}
 use Rattle.std.specs.Prelude.{map}
-use Rattle.gfs2_layout.specs.Inode.{is_hashed_in}
-use Rattle.image_model.specs.Claims.{every}
 use Rattle.image_model.specs.Image.{image_of}
 use Rattle.image_mount.specs.Found.{name_count}
 use Rattle.image_mount.specs.Listing.{said, AreAllRecords, AreCountedIn, AreRowsOf}

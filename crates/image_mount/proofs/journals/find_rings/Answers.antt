@@ -60,13 +60,13 @@ loop-journal-preserved g c =
       found = λ tells looked known.
           let at = at_item c.deref-journal-items.result.now system.journals.items k _ c.deref-journal-items.ensures.value c.loop-journal-test.true in
           let own = c.in_ok-check_dinode.ensures in
-    let next = next_in im system k _ c.loop-journal.rings.items done looked (inv.found tells looked known) at own.own (not_before c.deref.result.now c.loop-journal.rings.items _ c.deref.ensures.value own.new) in
+          let next = next_in im system k _ c.loop-journal.rings.items done looked (inv.found tells looked known) at own.own (not_before c.deref.result.now c.loop-journal.rings.items _ c.deref.ensures.value own.new) in
           let of = ring_found _ _ inv.reads.same done system _ c.loop-journal.table ring.blocks.items (read.found done) tells next (inv.searched tells looked known) in
           rings_more im system.journals.items k _ rings _ ring (inv.found tells looked known) at read.dinode of (entry_true _ _ _ inv.reads.same read.repeats tells) items;
       searched = λ tells looked known.
           let at = at_item c.deref-journal-items.result.now system.journals.items k _ c.deref-journal-items.ensures.value c.loop-journal-test.true in
           let own = c.in_ok-check_dinode.ensures in
-    let next = next_in im system k _ c.loop-journal.rings.items done looked (inv.found tells looked known) at own.own (not_before c.deref.result.now c.loop-journal.rings.items _ c.deref.ensures.value own.new) in
+          let next = next_in im system k _ c.loop-journal.rings.items done looked (inv.found tells looked known) at own.own (not_before c.deref.result.now c.loop-journal.rings.items _ c.deref.ensures.value own.new) in
           subst (λ ds. IsSearched im ds 0 0 c.find_ring.new.table) (dinodes_more rings _ ring _ items read.dinode)
           (ring_searched _ _ inv.reads.same done system _ c.loop-journal.table c.find_ring.new.table (read.searched done) tells next (inv.searched tells looked known));
       reads = reads_on inv.reads read.reads;

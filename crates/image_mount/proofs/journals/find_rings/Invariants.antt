@@ -1,4 +1,4 @@
-use Rattle.std.proofs.Common.{◌≢◌, ◌<◌, [], take, IsTrue}
+use Rattle.std.proofs.Common.{◌<◌, [], take, IsTrue}
 use Rattle.std.specs.Prelude.{map}
 use Rattle.std.specs.List.{All}
 use Rattle.image_model.specs.Image.{image_of}

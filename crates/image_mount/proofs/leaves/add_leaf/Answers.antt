@@ -1,7 +1,7 @@
-use Rattle.std.proofs.Common.{◌≡◌, ◌++◌, ◌+◌, ◌<◌, None, length, sym, ap, subst, ◌∙◌, arith}
+use Rattle.std.proofs.Common.{◌++◌, length, sym, ap, subst, ◌∙◌, arith}
 use Rattle.std.specs.Prelude.{drop, map}
 use Rattle.std.specs.List.{All}
-use Rattle.gfs2_layout.specs.Records.{Record, records_in}
+use Rattle.gfs2_layout.specs.Records.{records_in}
 use Rattle.image_model.specs.Rules.{HasRecordIn}
 use Rattle.image_mount.specs.Found.{first_other}
 use Rattle.image_mount.specs.Listing.{said, standing, AreDistinct}

@@ -1,4 +1,3 @@
-use Rattle.std.proofs.Common.{refl, sym}
 use Rattle.image_mount.proofs.LeafWalks.{other_told}
 use Rattle.image_mount.proofs.leaves.check_files.Goals as goal
 

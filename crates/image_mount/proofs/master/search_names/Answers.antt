@@ -1,7 +1,5 @@
 use Rattle.std.proofs.Common.{◌≡◌, true, sym, subst, ◌∙◌, arith}
 use Rattle.std.specs.Prelude.{map}
-use Rattle.gfs2_layout.specs.Inode.{is_hashed_in}
-use Rattle.image_model.specs.Claims.{every}
 use Rattle.image_model.specs.Image.{image_of}
 use Rattle.image_mount.specs.Listing.{said, is_hashed_by, AreAllRecords, AreCountedIn, AreRowsOf}
 use Rattle.image_mount.proofs.Causes.{hashed_as}

@@ -1,5 +1,5 @@
 use Rattle.std.proofs.Common.{◌+◌, Global, Vec, get_or, sym, ap, subst, ◌∙◌, arith}
-use Rattle.image_mount.specs.Sifting.{AreSifted, IsBeside}
+use Rattle.image_mount.specs.Sifting.{AreSifted}
 use Rattle.image_mount.specs.declared.listing.Named.{Named}
 use Rattle.image_mount.proofs.Adding.{no_record, same_standing}
 use Rattle.image_mount.proofs.Sifts.{sifted_all, sifted_kept, sifted_other, sifted_start}

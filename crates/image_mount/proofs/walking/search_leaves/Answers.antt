@@ -1,4 +1,4 @@
-use Rattle.std.proofs.Common.{◌≤◌, ◌*◌, ◌+◌, vec_len, ap, arith, ◌∙◌}
+use Rattle.std.proofs.Common.{ap, arith}
 use Rattle.image_model.specs.Image.{image_of}
 use Rattle.shared_disk.specs.Disk.{DiskState}
 use Rattle.image_mount.proofs.LeafWalks.{gone_over, walk_told, walked_by}
