@@ -4,7 +4,9 @@
 mod laws;
 mod listing;
 mod looking;
+mod removing;
 
 pub use laws::{directories_say_their_records, sound_directories_break_nothing};
 pub use listing::names;
 pub use looking::look;
+pub use removing::remove;

@@ -12,8 +12,8 @@ use Rattle.linear_dirs.specs.Shown.{entry_of}
 use Rattle.pointer_tables.specs.Directories.{IsInChain, chain_head, chain_next}
 use Rattle.pointer_tables.specs.declared.pointer.Pointer.{Pointer}
 use Rattle.hash_dirs.specs.Broken.{IsBroken, comes_again}
-use Rattle.hash_dirs.specs.Finding.{IsFoundAlong, IsNamedLater, in_leaf, nowhere, named_in}
-use Rattle.hash_dirs.specs.Shown.{LeadsToLeaf, by_pointer, by_leaf}
+use Rattle.hash_dirs.specs.Finding.{IsFirstNamed, IsFoundAlong, IsLeafOfName, IsNamedLater, in_leaf, in_none, nowhere, named_in}
+use Rattle.hash_dirs.specs.Shown.{LeadsToLeaf, by_pointer, by_leaf, index_for}
 use Rattle.hash_dirs.specs.Walking.{IsAlong, IsLeafOf, IsNameless, IsSmall, OfEach, leaf_on}
 use Rattle.hash_dirs.specs.declared.chains.LeafAt.{LeafAt}
 use Rattle.hash_dirs.proofs.Returning.{repeats}
@@ -105,6 +105,14 @@ module _ (h : Holding) (i : ℕ) where
 pub none_named : (o : Option Record) → option_map entry_of o ≡ None → o ≡ None
 none_named None e = refl
 none_named (Some r) e = absurd (none_some (sym e))
+
+-- where the chain of a name's index tells that it leads nowhere, no leaf has it
+pub nowhere_named : (h : Holding) (name : List ℕ) → IsFoundAlong h (index_for h name) name None → IsLeafOfName h name None
+nowhere_named h name so = by so.named so.first (none_named so.named (sym so.leads))
+  where
+    by : (o : Option Record) → IsFirstNamed h (index_for h name) name o → o ≡ None → IsLeafOfName h name None
+    by _ (in_leaf place x r chain is later) e = absurd (none_some (sym e))
+    by _ (nowhere later) e = in_none later
 
 -- ---- the link of a walk
 

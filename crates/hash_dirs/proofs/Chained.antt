@@ -24,7 +24,7 @@ cell_some None p e = absurd (no e)
     no e = cc
 cell_some (Some c) p e = refl
 
-leaf_part : (o : Option Part) → is_leaf_part o ≡ true → (hash place : ℕ) × (o ≡ Some (InChain hash place))
+pub leaf_part : (o : Option Part) → is_leaf_part o ≡ true → (hash place : ℕ) × (o ≡ Some (InChain hash place))
 leaf_part None e = absurd (no e)
   where
     no : false ≡ true → ⊥

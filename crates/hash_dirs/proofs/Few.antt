@@ -34,7 +34,7 @@ module _ (v : Seen) (h : Holding) (dir i : ℕ) (name : List ℕ) (f : Found) (d
   bytes : bytes_at h f.block ≡ spot.bytes
   bytes = bytes_there v dir h i led.0 f.block spot.bytes shown led.1 spot.small.0 spot.there
 
-  is_there : record_named (records_in (leaf_area h f.block)) name ≡ Some (record_of (slot_from f.spot.at (drop leaf_length spot.bytes)))
+  pub is_there : record_named (records_in (leaf_area h f.block)) name ≡ Some (record_of (slot_from f.spot.at (drop leaf_length spot.bytes)))
   is_there = ap (λ b. record_named (records_in (drop leaf_length b)) name) bytes ∙ sym (firsts (drop leaf_length spot.bytes) name) ∙ ap (option_map record_of) spot.spot.first
 
   has : Contains (records_in (leaf_area h f.block)) (record_of (slot_from f.spot.at (drop leaf_length spot.bytes)))

@@ -14,3 +14,6 @@ pub mod Regrouped
 pub mod Cuts
 pub mod Removed
 pub mod Few
+pub mod Gathered
+pub mod InAll
+pub mod Counted

@@ -369,22 +369,25 @@ module _ {V : Type 0} (seen : V → Seen) (old new : Drafted V) (dir : ℕ) (nam
 
   -- ---- byte by byte
 
-  pub cut_from : IsCutFrom h after name
-  cut_from = record {
-    leaf = f.block;
-    at_place = place.place;
-    chain = place.chain;
-    none_before = place.later;
-    place = f.spot.at;
-    at = subst (λ a. IsRecordAt a f.spot.at) (sym area_x) spot.spot.at;
-    no_first = subst (λ a. first_named name (slots_of (take f.spot.at a)) ≡ None) (sym area_x) spot.spot.none_before;
-    first = subst (λ a. first_named name (slots_of a) ≡ Some (slot_from f.spot.at a)) (sym area_x) spot.spot.first;
-    slots = ap slots_of area_now ∙ cut.slots ∙ ap (slots_without f.spot.at) (sym area_x);
-    head = leaf_now;
-    dinode = dinode_kept;
-    parts = parts;
-    others = after_other;
-  }
+  pub cut_from : (cut : IsCutFrom h after name) × (cut.leaf ≡ f.block)
+  cut_from = (
+    record {
+      leaf = f.block;
+      at_place = place.place;
+      chain = place.chain;
+      none_before = place.later;
+      place = f.spot.at;
+      at = subst (λ a. IsRecordAt a f.spot.at) (sym area_x) spot.spot.at;
+      no_first = subst (λ a. first_named name (slots_of (take f.spot.at a)) ≡ None) (sym area_x) spot.spot.none_before;
+      first = subst (λ a. first_named name (slots_of a) ≡ Some (slot_from f.spot.at a)) (sym area_x) spot.spot.first;
+      slots = ap slots_of area_now ∙ cut.slots ∙ ap (slots_without f.spot.at) (sym area_x);
+      head = leaf_now;
+      dinode = dinode_kept;
+      parts = parts;
+      others = after_other;
+    },
+    refl,
+  )
 
   pub pads_kept : KeepsPads (bytes_at h h.own) (bytes_at after h.own)
   pads_kept = subst₂ KeepsPads (sym bytes_own) (sym after_own) (put_keeps d' before put.block (put.counted before there not_dir) read_dinode.1 (put.behind before there not_dir))

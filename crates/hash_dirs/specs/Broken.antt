@@ -1,5 +1,5 @@
 -- What breaks which rule in a hashed directory.
-use Rattle.std.specs.Prelude.{ℕ, ◌≡◌, ◌≢◌, ◌*◌, ◌/◌, ◌<◌, false, Contains, length}
+use Rattle.std.specs.Prelude.{ℕ, ◌≡◌, ◌≢◌, ◌*◌, ◌/◌, ◌<◌, false, Contains, List, length}
 use Rattle.file_tree.specs.Names.{IsName}
 use Rattle.gfs2_layout.specs.Area.{IsArea}
 use Rattle.gfs2_layout.specs.Bytes.{u32_at}
@@ -10,6 +10,7 @@ use Rattle.gfs2_layout.specs.Records.{Record, is_dots, records_in}
 use Rattle.glock_names.specs.Views.{Seen}
 use Rattle.resource_groups.specs.Putting.{HasDataBlock}
 use Rattle.dinode_tree.specs.Broken as inode
+use Rattle.hash_dirs.specs.Leaves.{AreLeaves, records_among}
 use Rattle.hash_dirs.specs.Shown.{IsInChain, LeadsToLeaf}
 
 -- `IsBroken h rule b`: block b breaks this rule
@@ -20,8 +21,9 @@ pub data IsBroken (h : Holding) : ℕ → ℕ → Type 0 where
   -- 9: records don't fill a leaf, or a name isn't one
   unfilled : (i from x : ℕ) → LeadsToLeaf h i from x → x ≢ 0 → ¬ (IsArea (leaf_area h x)) → IsBroken h 9 x
   no_name : (i from x : ℕ) (r : Record) → LeadsToLeaf h i from x → x ≢ 0 → Contains (records_in (leaf_area h x)) r → is_dots r.name ≡ false → ¬ (IsName r.name) → IsBroken h 9 x
-  -- 12: the dinode counts no records where a leaf has one, or no links
+  -- 12: the dinode counts no records where a leaf has one, or others than the leaves have; or no links
   no_entries : (i from x : ℕ) (r : Record) → LeadsToLeaf h i from x → x ≢ 0 → Contains (records_in (leaf_area h x)) r → (dinode_in h).entries ≡ 0 → IsBroken h 12 h.own
+  wrong_entries : (leaves : List ℕ) → AreLeaves h leaves → (dinode_in h).entries ≢ length (records_among h leaves) → IsBroken h 12 h.own
   no_links : (dinode_in h).nlink ≡ 0 → IsBroken h 12 h.own
   -- 13: the table's depth is below the first or above the greatest, or the size isn't that of the table
   table_too_small : table_count h < h.size / 16 → IsBroken h 13 h.own

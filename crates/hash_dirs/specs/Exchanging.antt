@@ -10,7 +10,8 @@ use Rattle.gfs2_layout.specs.Inode.{dinode_in, leaf_area, leaf_in, leaf_length}
 use Rattle.gfs2_layout.specs.Structures.{dinode_length, dinode_read, leaf_of, leaf_read}
 use Rattle.gfs2_layout.specs.Writing.{dinode_put}
 use Rattle.gfs2_layout.specs.declared.dinode.Dinode.{Dinode}
-use Rattle.glock_names.specs.Views.{Seen}
+use Rattle.glock_names.specs.Views.{Seen, HasBlock}
+use Rattle.resource_groups.specs.Putting.{HasDataBlock}
 use Rattle.dinode_tree.specs.Reading.{inode_lock}
 use Rattle.hash_dirs.specs.declared.finding.Found.{Found}
 use Rattle.gfs2_layout.specs.Exchanges.{directory_count}
@@ -43,6 +44,17 @@ pub record IsCutPut {V : Type 0} (seen : V → Seen) (old new : Drafted V) (dir 
   pub behind : (bytes : List ℕ) → (seen_in seen old).block_at dir ≡ Some bytes → f.block ≢ dir → drop dinode_length block ≡ drop dinode_length bytes
   pub long : length block ≡ (seen old.view).size
   pub leaf_long : length leaf ≡ (seen old.view).size
+
+-- Where the name's record stood in this leaf, the draft puts that leaf, a data block of a group which it sees, and the directory's dinode, and no other
+-- block; the dinode is one, its header with it.
+pub record ArePut {V : Type 0} (seen : V → Seen) (old new : Drafted V) (dir leaf : ℕ) : Type 0 where
+  pub there : HasBlock (seen_in seen old) leaf
+  pub inside : HasDataBlock (seen_in seen old) leaf
+  pub new_leaf : List ℕ
+  pub block : List ℕ
+  pub put : new ≡ record old { fates = insert (insert old.fates leaf (Put (inode_lock dir) false new_leaf)) dir (Put (inode_lock dir) false block) }
+  pub dinode : Dinode
+  pub read : dinode_read block ≡ Ok dinode
 
 -- The first record of the name is cut from its leaf, which counts one record less; the dinode says, apart from its counts, what it said; and
 -- no other block changes.

@@ -22,6 +22,11 @@ pub data IsFirstNamed (h : Holding) (i : ℕ) (name : List ℕ) : Option Record 
   in_leaf : (place x : ℕ) (r : Record) → IsInChain h i place x → named_in h name x ≡ Some r → IsNamedLater h i name place → IsFirstNamed h i name (Some r)
   nowhere : ((place : ℕ) → IsNamedLater h i name place) → IsFirstNamed h i name None
 
+-- the leaf that has the name's first record, in the chain of the name's own index
+pub data IsLeafOfName (h : Holding) (name : List ℕ) : Option ℕ → Type 0 where
+  in_this : (place x : ℕ) (r : Record) → IsInChain h (index_for h name) place x → named_in h name x ≡ Some r → IsNamedLater h (index_for h name) name place → IsLeafOfName h name (Some x)
+  in_none : ((place : ℕ) → IsNamedLater h (index_for h name) name place) → IsLeafOfName h name None
+
 -- where that record leads
 pub record IsFoundAlong (h : Holding) (i : ℕ) (name : List ℕ) (found : Option Entry) : Type 0 where
   pub named : Option Record

@@ -4,3 +4,4 @@ pub mod Finding
 pub mod Exchanging
 pub mod Walking
 pub mod Spots
+pub mod Leaves

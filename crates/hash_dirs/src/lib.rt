@@ -3,12 +3,14 @@
 
 mod chains;
 mod finding;
+mod gathering;
 mod laws;
 mod listing;
 mod looking;
 mod removing;
 
-pub use laws::chains_tell_names;
+pub use gathering::{all_leaves, count_records, have_records};
+pub use laws::{chains_tell_names, leaves_have_records};
 pub use listing::names;
 pub use looking::look;
 pub use removing::remove;

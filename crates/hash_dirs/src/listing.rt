@@ -96,8 +96,8 @@ fn add_chain<V: View>(
     Err(damaged(link.from, 15))
 }
 
-// How many pointers a table of this depth has.
-fn pointers_in(depth: u16) -> u32
+/// How many pointers a table of this depth has.
+pub(crate) fn pointers_in(depth: u16) -> u32
     requires { depth ≤ 15 }
     ensures { result ≡ 2 ^ depth }
 {

@@ -1,5 +1,5 @@
 // A name taken from a hashed directory in a draft.
-ghost use Rattle.std.specs.Prelude.{ℕ, List, ◌≡◌, ◌≢◌, ◌⊎◌, ◌<◌, ◌≤◌, [], ◌∷◌, true, false, length, drop, Ok, None, Some, OnOk, OnErr, IfSome, IfNone};
+ghost use Rattle.std.specs.Prelude.{ℕ, List, ◌≡◌, ◌≢◌, ◌⊎◌, ◌<◌, ◌≤◌, [], ◌∷◌, false, length, drop, Ok, None, Some, OnOk, OnErr, IfSome, IfNone, IsSome};
 ghost use Rattle.std.specs.FinMap.{insert as with_fate};
 ghost use Rattle.drafts.specs.declared.fate.Fate.TheVariants.{Put};
 ghost use Rattle.drafts.specs.Fates.{seen_in};
@@ -19,9 +19,9 @@ ghost use Rattle.linear_dirs.specs.Exchanges.{HasExchanged};
 ghost use Rattle.linear_dirs.specs.Reading.{IsFewer};
 ghost use Rattle.linear_dirs.specs.Shown.{holding_over};
 ghost use Rattle.hash_dirs.specs.Shown.{IsNeededFor, IsShown, IsSound, index_for};
-ghost use Rattle.hash_dirs.specs.Exchanging.{IsCountedLess, IsCutFrom, IsCutPut, IsLeafCut};
+ghost use Rattle.hash_dirs.specs.Exchanging.{ArePut, IsCountedLess, IsCutFrom, IsCutPut, IsLeafCut};
+ghost use Rattle.hash_dirs.specs.Finding.{IsLeafOfName};
 ghost use Rattle.hash_dirs.specs.Spots.{IsSpotIn};
-ghost use Rattle.resource_groups.specs.Putting.{HasDataBlock};
 ghost use Rattle.hash_dirs.specs.Broken.{IsWrongIn};
 
 use crate::chains::{IN_LEAF, damaged};
@@ -145,7 +145,7 @@ fn cut_and_count<V: View>(
 }
 
 /// Takes a name from the hashed directory with its dinode in this block, by its table: the first record of it in its chain is cut, and
-/// the leaf and the dinode count it no more; a leaf that gets empty stays. It answers false, and changes nothing, where the name isn't
+/// the leaf and the dinode count it no more; a leaf that gets empty stays. It answers the leaf; none, and changes nothing, where the name isn't
 /// there. It looks at what `look` looks at, and at the dinode, and that the counts have a number below them. It costs what `look` costs,
 /// and two copies of two blocks.
 pub fn remove<V: View, T: PointerTable>(
@@ -153,20 +153,20 @@ pub fn remove<V: View, T: PointerTable>(
     dir: u64,
     name: &[u8],
     table: &T,
-) -> Result<Step<bool>, CallFault>
+) -> Result<Step<Option<u64>>, CallFault>
+    ensures found { (h : Holding) → IsShown (seen_in V.seen draft.old) dir h → T.shows table.now (seen_in V.seen draft.old) h → IfIs result (IsLeafOfName h name.now) }
     ensures removed { (h : Holding) (r : Record) → IsShown (seen_in V.seen draft.old) dir h → T.shows table.now (seen_in V.seen draft.old) h → IsSound h → record_named (records_of h) name.now ≡ Some r
-        → IfIs result (λ done. (done ≡ true) × HasExchanged h (holding_over (seen_in V.seen draft.new) h) (r ∷ []) []) }
+        → IfIs result (λ leaf. IsSome leaf × HasExchanged h (holding_over (seen_in V.seen draft.new) h) (r ∷ []) []) }
     ensures nothing { (h : Holding) → IsShown (seen_in V.seen draft.old) dir h → T.shows table.now (seen_in V.seen draft.old) h → IsSound h → record_named (records_of h) name.now ≡ None
-        → IfIs result (λ done. done ≡ false) }
-    ensures unchanged { IfIs result (λ done. done ≡ false → draft.new ≡ draft.old) }
+        → IfIs result (λ leaf. leaf ≡ None) }
+    ensures unchanged { IfIs result (λ leaf. leaf ≡ None → draft.new ≡ draft.old) }
     ensures slots { (h : Holding) → IsShown (seen_in V.seen draft.old) dir h → T.shows table.now (seen_in V.seen draft.old) h → IsSound h
-        → IfIs result (λ done. done ≡ true → IsCutFrom h (holding_over (seen_in V.seen draft.new) h) name.now) }
+        → IfIs result (λ leaf. IfSome leaf (λ x. (cut : IsCutFrom h (holding_over (seen_in V.seen draft.new) h) name.now) × (cut.leaf ≡ x))) }
     ensures laid { (h : Holding) → IsShown (seen_in V.seen draft.old) dir h → T.shows table.now (seen_in V.seen draft.old) h → IsSound h
-        → IfIs result (λ done. done ≡ true → KeepsPads (bytes_at h h.own) (bytes_at (holding_over (seen_in V.seen draft.new) h) h.own)) }
-    ensures two { IfIs result (λ done. done ≡ true → (leaf : ℕ) × (new_leaf dinode : List ℕ) × HasBlock (seen_in V.seen draft.old) leaf × HasDataBlock (seen_in V.seen draft.old) leaf
-        × (draft.new ≡ record draft.old { fates = with_fate (with_fate draft.old.fates leaf (Put (inode_lock dir) false new_leaf)) dir (Put (inode_lock dir) false dinode) })) }
+        → IfIs result (λ leaf. IsSome leaf → KeepsPads (bytes_at h h.own) (bytes_at (holding_over (seen_in V.seen draft.new) h) h.own)) }
+    ensures two { IfIs result (λ leaf. IfSome leaf (ArePut V.seen draft.old draft.new dir)) }
     ensures still { (h : Holding) → IsShown (seen_in V.seen draft.old) dir h → T.shows table.now (seen_in V.seen draft.old) h → IsSound h
-        → IfIs result (λ done. done ≡ true → IsShown (seen_in V.seen draft.new) dir (holding_over (seen_in V.seen draft.new) h) × T.shows table.now (seen_in V.seen draft.new) (holding_over (seen_in V.seen draft.new) h) × IsSound (holding_over (seen_in V.seen draft.new) h)) }
+        → IfIs result (λ leaf. IsSome leaf → IsShown (seen_in V.seen draft.new) dir (holding_over (seen_in V.seen draft.new) h) × T.shows table.now (seen_in V.seen draft.new) (holding_over (seen_in V.seen draft.new) h) × IsSound (holding_over (seen_in V.seen draft.new) h)) }
     ensures needed { (h : Holding) → IsShown (seen_in V.seen draft.old) dir h → T.shows table.now (seen_in V.seen draft.old) h
         → IfNeedBlock result (IsNeededFor (seen_in V.seen draft.old) h (λ i. i ≡ index_for h name.now)) }
     ensures absent { IfNeedBlock result (λ missing. (seen_in V.seen draft.old).block_at missing.block ≡ None) }
@@ -187,7 +187,7 @@ pub fn remove<V: View, T: PointerTable>(
     };
     let found = match find_along(&*draft, dir, depth, &head, name)? {
         Step::Is(Some(found)) => found,
-        Step::Is(None) => return Ok(Step::Is(false)),
+        Step::Is(None) => return Ok(Step::Is(None)),
         Step::NeedBlock(missing) => return Ok(Step::NeedBlock(missing)),
     };
     let dinode = match read_dinode(&*draft, dir)? {
@@ -195,5 +195,5 @@ pub fn remove<V: View, T: PointerTable>(
         Step::NeedBlock(missing) => return Ok(Step::NeedBlock(missing)),
     };
     cut_and_count(draft, dir, name, &found, &dinode)?;
-    Ok(Step::Is(true))
+    Ok(Step::Is(Some(found.block)))
 }

@@ -10,9 +10,11 @@ use Rattle.linear_dirs.specs.Exchanges.{HasExchanged}
 use Rattle.linear_dirs.specs.Shown.{holding_over}
 use Rattle.linear_dirs.proofs.Looked.{handed}
 use Rattle.hash_dirs.specs.Broken.{IsWrongIn}
+use Rattle.hash_dirs.specs.Finding.{IsFoundAlong, in_this}
 use Rattle.hash_dirs.specs.Shown.{IsShown, index_for, of_table}
-use Rattle.hash_dirs.specs.Spots.{IsInPlace, IsSpotIn}
-use Rattle.hash_dirs.proofs.Few.{few_kept, too_few}
+use Rattle.hash_dirs.specs.Spots.{IsInPlace, IsSpotIn, entry_at}
+use Rattle.hash_dirs.proofs.Along.{nowhere_named}
+use Rattle.hash_dirs.proofs.Few.{few_kept, is_there, too_few}
 use Rattle.hash_dirs.proofs.Leaves.{wrong_tells, damage_of, dinode_needed, found_at, head_at, index_is}
 use Rattle.hash_dirs.proofs.Listed.{tells}
 use Rattle.hash_dirs.proofs.Removed.{depth_kept, first_named_is, has_exchanged, sound_directory, still_shown, cut_from, pads_kept}
@@ -87,7 +89,7 @@ returns-clause-nothing g c h shown shows sound none =
     absurd (none_some (sym none ∙ sym (c.chains_tell_names.ensures h c.args.name.now _ sound shown.hashed small first)))
 
 pub returns-clause-slots : goal.returns-clause-slots
-returns-clause-slots g c h shown shows sound done =
+returns-clause-slots g c h shown shows sound =
     let v = seen_in g.V.View.seen c.args.draft.now in
     let deep = c.depth-depth.ensures.value ∙ g.met.T.PointerTable.deep_in c.args.table.now v h shows in
     let head = head_at h c.args.name.now c.depth-depth.result c.crc32.result c.index_of.result c.in-Is.head c.index_of.ensures.value deep c.crc32.ensures c.index_of.ensures.low (answer_at _ _ _ c.in-Is.is (c.in_ok-head.ensures.found h shows)) in
@@ -135,3 +137,28 @@ returns-in_err-cut_and_count-clause-kept g c =
     let spot = found_at c.in_ok-found.field-0 c.in-Is-Some.field-0 c.in-Is-Some.found (IsSpotIn v c.args.name.now) c.in-Is-Some.is c.in-Is-Some.field-0-is c.in_ok-found.ensures.spot in
     handed c.from_residual-in_err-cut_and_count.result _ (TellsOf (IsOfView v)) c.from_residual-in_err-cut_and_count.ensures.1
     (few_kept v c.args.dir c.in-Is-Some.found c.in-Is-2.dinode c.in_err-cut_and_count.field-0.0 (spot.bytes, spot.there) (answer_at _ _ _ c.in-Is-2.is c.in_ok-dinode.ensures.there) c.in_err-cut_and_count.ensures.few)
+
+pub returns-clause-found : goal.returns-clause-found
+returns-clause-found g c h shown shows =
+    let v = seen_in g.V.View.seen c.args.draft.now in
+    let deep = c.depth-depth.ensures.value ∙ g.met.T.PointerTable.deep_in c.args.table.now v h shows in
+    let head = head_at h c.args.name.now c.depth-depth.result c.crc32.result c.index_of.result c.in-Is.head c.index_of.ensures.value deep c.crc32.ensures c.index_of.ensures.low (answer_at _ _ _ c.in-Is.is (c.in_ok-head.ensures.found h shows)) in
+    let spot = found_at c.in_ok-found.field-0 c.in-Is-Some.field-0 c.in-Is-Some.found (IsSpotIn v c.args.name.now) c.in-Is-Some.is c.in-Is-Some.field-0-is c.in_ok-found.ensures.spot in
+    let place = found_at c.in_ok-found.field-0 c.in-Is-Some.field-0 c.in-Is-Some.found (IsInPlace h (index_for h c.args.name.now) c.args.name.now) c.in-Is-Some.is c.in-Is-Some.field-0-is (c.in_ok-found.ensures.place h (index_for h c.args.name.now) shown head) in
+    let dinode = answer_at _ _ _ c.in-Is-2.is (c.in_ok-dinode.ensures.found h shown.inode) in
+    in_this place.place c.in-Is-Some.found.block _ place.chain (is_there v h c.args.dir (index_for h c.args.name.now) c.args.name.now c.in-Is-Some.found c.in-Is-2.dinode shown spot place dinode c.records_are_found_by_name.ensures.first) place.later
+
+pub returns-clause-two : goal.returns-clause-two
+returns-clause-two g c =
+    let v = seen_in g.V.View.seen c.args.draft.now in
+    let spot = found_at c.in_ok-found.field-0 c.in-Is-Some.field-0 c.in-Is-Some.found (IsSpotIn v c.args.name.now) c.in-Is-Some.is c.in-Is-Some.field-0-is c.in_ok-found.ensures.spot in
+    let cut = c.in_ok-cut_and_count.ensures.cut in
+    record { there = (spot.bytes, spot.there); inside = spot.inside; new_leaf = cut.2.leaf; block = cut.2.block; put = cut.2.put; dinode = cut.0; read = cut.2.read }
+
+pub returns-in-Is-None-clause-found : goal.returns-in-Is-None-clause-found
+returns-in-Is-None-clause-found g c h shown shows =
+    let v = seen_in g.V.View.seen c.args.draft.now in
+    let deep = c.depth-depth.ensures.value ∙ g.met.T.PointerTable.deep_in c.args.table.now v h shows in
+    let head = head_at h c.args.name.now c.depth-depth.result c.crc32.result c.index_of.result c.in-Is.head c.index_of.ensures.value deep c.crc32.ensures c.index_of.ensures.low (answer_at _ _ _ c.in-Is.is (c.in_ok-head.ensures.found h shows)) in
+    nowhere_named h c.args.name.now (subst (λ o. IsFoundAlong h (index_for h c.args.name.now) c.args.name.now (entry_at o)) c.in-Is-None.field-0-is
+    (answer_at c.in_ok-found.field-0 c.in-Is-None.field-0 (λ o. IsFoundAlong h (index_for h c.args.name.now) c.args.name.now (entry_at o)) c.in-Is-None.is (c.in_ok-found.ensures.found h (index_for h c.args.name.now) shown head)))
