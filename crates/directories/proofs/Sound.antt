@@ -1,5 +1,6 @@
 -- What a sound directory says is what its records say, and nothing of it is broken.
 use Rattle.std.proofs.Common.{◌≡◌, ◌⊎◌, inl, inr, true≢false, ℕ, ◌+◌, ◌<◌, true, false, List, [], ◌∷◌, length, Option, Some, refl, sym, ap, ◌∙◌, subst, arith}
+use Rattle.std.proofs.lemmas.List.Sorted.{length_permutation}
 use Rattle.std.specs.Prelude.{Contains, IsSome}
 use Rattle.std.specs.Option.{option_map}
 use Rattle.file_tree.specs.Names.{IsName}
@@ -17,10 +18,12 @@ use Rattle.pointer_tables.specs.Directories.{IsInChain, chain_head, chain_next}
 use Rattle.hash_dirs.specs.Broken as leaves
 use Rattle.hash_dirs.specs.Finding.{IsFirstNamed, IsNamedLater, in_leaf, named_in, nowhere}
 use Rattle.hash_dirs.specs.Shown.{IsSound, LeadsToLeaf, by_leaf, by_pointer, index_for}
+use Rattle.hash_dirs.specs.Leaves.{records_among}
 use Rattle.hash_dirs.proofs.Along.{chain_one}
 use Rattle.glock_names.specs.Views.{Seen}
 use Rattle.resource_groups.specs.Putting.{HasDataBlock}
 use Rattle.hash_dirs.proofs.Chained.{cell_some, in_chain, in_leaves, rules, same_hash}
+use Rattle.hash_dirs.proofs.InAll.{all_records}
 use Rattle.hash_dirs.proofs.Named.{records_are, tells}
 use Rattle.directories.specs.Shown.{HasName, IsBroken, Says}
 use Rattle.directories.specs.Shown as directory
@@ -62,6 +65,7 @@ module _ (h : Holding) (sound : IsSound h) (hashed : is_hashed_in h ≡ true) wh
     hashed_unbroken rule b (leaves.unfilled i from x leads some other) = other (is_leaf i from x leads).area.fills
     hashed_unbroken rule b (leaves.no_name i from x r leads some there low other) = other (down r (contained r (records_of h) (record_of_leaf i from x r leads there)) low)
     hashed_unbroken rule b (leaves.no_entries i from x r leads some there none) = some_record r (records_of h) (record_of_leaf i from x r leads there) (sym entries ∙ none)
+    hashed_unbroken rule b (leaves.wrong_entries leaves are other) = other (entries ∙ length_permutation (records_among h leaves) (records_of h) (all_records h leaves sound hashed are))
     hashed_unbroken rule b (leaves.no_links none) = omega (arith, links, none)
     hashed_unbroken rule b (leaves.table_too_small small) = let least = (rules h sound hashed).least in omega (arith, small, least)
     hashed_unbroken rule b (leaves.table_too_large large) = let greatest = (rules h sound hashed).greatest in omega (arith, large, greatest)

@@ -32,6 +32,7 @@ fn remove_hashed<V: View>(
     ensures kept { IfDamaged result (IsOfView (seen_in V.seen draft.old)) }
     ensures stays { IfDamaged result (λ rule block. draft.new ≡ draft.old) }
 {
+    let _size = draft.block_size();
     let table = match TreeTable::of(&*draft, dir)? {
         Step::Is(table) => table,
         Step::NeedBlock(missing) => return Ok(Step::NeedBlock(missing)),
@@ -62,6 +63,7 @@ pub fn remove<V: View>(
     ensures kept { IfDamaged result (IsOfView (seen_in V.seen draft.old)) }
     ensures stays { IfDamaged result (λ rule block. draft.new ≡ draft.old) }
 {
+    let _size = draft.block_size();
     let dinode = match read_dinode(&*draft, dir)? {
         Step::Is(dinode) => dinode,
         Step::NeedBlock(missing) => return Ok(Step::NeedBlock(missing)),
