@@ -1,5 +1,5 @@
 -- A dinode that was put with other times.
-use Rattle.std.proofs.Common.{◌≡◌, ℕ, ◌≤◌, false, List, length, drop, None, Some, Ok, sym, ap, ◌∙◌, subst}
+use Rattle.std.proofs.Common.{◌≡◌, ℕ, ◌≤◌, false, List, length, drop, None, Some, Result, Ok, Err, OnOk, sym, ap, ◌∙◌, subst}
 use Rattle.std.specs.FinMap.{insert}
 use Rattle.drafts.specs.Fates.{Drafted, seen_in}
 use Rattle.drafts.specs.declared.fate.Fate.TheVariants.{Put}
@@ -9,6 +9,7 @@ use Rattle.gfs2_layout.specs.Inode.{Head, dinode_in, has_hash_flag}
 use Rattle.gfs2_layout.specs.Structures.{header_fault, dinode_of, dinode_read, dinode_length, is_directory}
 use Rattle.gfs2_layout.specs.Writing.{dinode_put}
 use Rattle.gfs2_layout.specs.declared.dinode.Dinode.{Dinode}
+use Rattle.gfs2_layout.specs.declared.fault.LayoutFault.{LayoutFault}
 use Rattle.gfs2_layout.proofs.HeaderLaws.{answer_ok, header_from}
 use Rattle.glock_names.specs.Views.{Seen}
 use Rattle.dinode_tree.specs.Reading.{inode_lock}
@@ -71,7 +72,7 @@ pub dinode_before : (v : Seen) (inode : ℕ) (h : Holding) (d : Dinode) (before 
 unfolding dinode_in
 dinode_before v inode h d before shown there is = is ∙ ap dinode_of (bytes_of v h inode before shown there)
 
-some_same : {A : Type 0} (x y : A) → Some x ≡ Some y → x ≡ y
+pub some_same : {A : Type 0} (x y : A) → Some x ≡ Some y → x ≡ y
 some_same x y e = cc
 
 pub linear_still : {V : Type 0} (seen : V → Seen) (old new : Drafted V) (inode time : ℕ) (d : Dinode) (before now : List ℕ) → IsLinearIn (seen_in seen old) inode → (seen_in seen old).block_at inode ≡ Some before
@@ -81,3 +82,29 @@ linear_still {V} seen old new inode time d before now linear there d_is put read
     let same : bytes ≡ now = some_same bytes now (sym at ∙ ap (λ (x : Drafted V). (seen_in seen x).block_at inode) put ∙ seen_at (seen old.view) old.fates inode (inode_lock inode) now) in
     let is : dinode_of bytes ≡ with_times d time = ap dinode_of same ∙ (answer_ok (header_fault dinode_length 4 400 now) (dinode_of now) (with_times d time) read).1 in
     (ap is_directory is ∙ ap is_directory d_is ∙ was.0, ap has_hash_flag is ∙ ap has_hash_flag d_is ∙ was.1)
+
+-- a dinode that was read of a block is what the block says
+pub read_is_of : (before : List ℕ) (d : Dinode) (r : Result Dinode LayoutFault) → r ≡ dinode_read before → r ≡ Ok d → d ≡ dinode_of before
+read_is_of before d r is read = sym (answer_ok (header_fault dinode_length 4 400 before) (dinode_of before) d (sym is ∙ read)).1
+
+pub of_block : (v : Seen) (inode : ℕ) (h : Holding) (before : List ℕ) → IsShown v inode h → v.block_at inode ≡ Some before → dinode_of before ≡ dinode_in h
+unfolding dinode_in
+of_block v inode h before shown there = ap dinode_of (sym (bytes_of v h inode before shown there))
+
+-- where a dinode with a time was put, the inode is touched
+pub stamped_so : {V A E : Type 0} (seen : V → Seen) (old new : Drafted V) (inode time : ℕ) (h : Holding) (before : List ℕ) (d : Dinode) (result : Result A E) → IsShown (seen_in seen old) inode h
+    → (seen_in seen old).block_at inode ≡ Some before → 512 ≤ (seen old.view).size → d ≡ dinode_in h
+    → OnOk result (new ≡ record old { fates = insert old.fates inode (Put (inode_lock inode) false (dinode_put (with_times d time) before)) })
+    → OnOk result (dinode_read (dinode_put (with_times d time) before) ≡ Ok (with_times d time)) → OnOk result (drop dinode_length (dinode_put (with_times d time) before) ≡ drop dinode_length before)
+    → OnOk result (length (dinode_put (with_times d time) before) ≡ (seen old.view).size) → OnOk result (IsTouched h (holding_over (seen_in seen new) h) time)
+stamped_so seen old new inode time h before d (Ok done) shown there large is put read behind long = is_touched seen old new inode time h before (dinode_put (with_times d time) before) (record {
+  shown = shown;
+  there = there;
+  large = large;
+  put = put;
+  written = ap (λ x. dinode_put (with_times x time) before) is;
+  read = read ∙ ap (λ x. Ok (with_times x time)) is;
+  behind = behind;
+  long = long;
+})
+stamped_so seen old new inode time h before d (Err fault) shown there large is put read behind long = tt

@@ -2,7 +2,9 @@
 #![tactic(auto)]
 
 mod making;
+mod stamping;
 mod touching;
 
 pub use making::{put_directory, put_file};
+pub use stamping::stamp;
 pub use touching::touch;

@@ -22,8 +22,8 @@ use glock_names::{CallFault, Step, View};
 use linear_dirs::lock_of;
 use no_memory::NoMemory;
 
-// Puts a dinode into its block, which the draft sees.
-fn put_dinode<V: View>(
+/// Puts a dinode into its block, which the draft sees.
+pub(crate) fn put_dinode<V: View>(
     draft: &mut Draft<'_, V>,
     inode: u64,
     dinode: &Dinode,

@@ -4,7 +4,6 @@ pub mod Trees
 pub mod Doing
 pub mod Above
 pub mod Found
-pub mod Touching
 pub mod Drafted
 pub mod Wanted
 pub mod Taking

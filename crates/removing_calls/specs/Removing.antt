@@ -35,11 +35,14 @@ use Rattle.image_changes.specs.Instances.{IsAt}
 use Rattle.path_walks.specs.Answers.{Refuses}
 use Rattle.path_walks.specs.Holds.{Hold, AreHeld, EndsWith, IsAskedFor, IsFirstLack, holds_in}
 use Rattle.directories.specs.Shown.{IsLinearDirectory}
-use Rattle.path_walks.specs.Walks.{LeadsTo, IsAbsent, IsLacked, IsLastOf, IsOnTheWay, IsPlaceOf, IsUnread}
+use Rattle.directories.specs.Shown as dirs
+use Rattle.directories.specs.Taking.{HasRecordOf}
+use Rattle.hash_dirs.specs.Leaves.{AreLeaves, IsLeaf, records_among}
+use Rattle.path_walks.specs.Walks.{IsDirectoryAt, LeadsTo, IsAbsent, IsLacked, IsLastOf, IsOnTheWay, IsPlaceOf, IsUnread}
 use Rattle.path_walks.specs.Walks as path
 use Rattle.path_walks.specs.declared.walk.Place.{Place}
 use Rattle.group_locks.specs.Groups.{GroupsAreHeld, IsFirstGroupLack, holds_of_groups, is_block_of}
-use Rattle.removing_calls.specs.Drafting.{HasTimes, IsRemoval, LosesRecord}
+use Rattle.removing_calls.specs.Drafting.{HasTimes, IsRemoval, LosesInLeaf, LosesRecord}
 use Rattle.removing_calls.specs.declared.aims.Aim.{Aim}
 use Rattle.removing_calls.specs.declared.aims.Aim.TheVariants as aim
 use Rattle.removing_calls.specs.declared.finds.Found.{Found}
@@ -63,16 +66,22 @@ IsFileAim h a = ⊥
 abbrev pub CountsItsRecords : Holding → Type 0
 CountsItsRecords h = (dinode_in h).entries ≡ length (records_of h)
 
+-- and so the dinode of a hashed one does those of its leaves
+pub record CountsItsLeaves (h : Holding) : Type 0 where
+  pub leaves : List ℕ
+  pub are : AreLeaves h leaves
+  pub entries : (dinode_in h).entries ≡ length (records_among h leaves)
+
 -- it is a linear directory, and breaks a rule of these
 abbrev pub BreaksAsLinear : Holding → ℕ → ℕ → Type 0
 BreaksAsLinear h rule b = IsLinearDirectory h × directory.IsBroken h rule b
 
--- `rmdir` a directory whose dinode counts `.` and `..` alone; what is made of a linear one rests on its records too
+-- `rmdir` a directory whose dinode counts `.` and `..` alone; what is made of a linear one rests on its records too, and so is a hashed one held to its
+-- count before it goes
 abbrev pub IsDirectoryAim : Holding → Aim → Type 0
 IsDirectoryAim h (aim.Refused reply.NotDir) = is_directory_in h ≡ false
 IsDirectoryAim h (aim.Refused reply.NotEmpty) = (is_directory_in h ≡ true) × ((dinode_in h).entries ≢ 2) × (is_hashed_in h ≡ false → CountsItsRecords h)
-IsDirectoryAim h (aim.Hashed b) = (b ≡ h.own) × (is_hashed_in h ≡ true) × ((dinode_in h).entries ≡ 2)
-IsDirectoryAim h aim.Taken = (is_directory_in h ≡ true) × (is_hashed_in h ≡ false) × ((dinode_in h).entries ≡ 2) × CountsItsRecords h
+IsDirectoryAim h aim.Taken = (is_directory_in h ≡ true) × ((dinode_in h).entries ≡ 2) × (is_hashed_in h ≡ false → CountsItsRecords h)
 IsDirectoryAim h a = ⊥
 
 abbrev pub IsAimOf : Call → Holding → Aim → Type 0
@@ -80,13 +89,19 @@ IsAimOf (Unlink path) h a = IsFileAim h a
 IsAimOf (Rmdir path) h a = IsDirectoryAim h a
 IsAimOf call h a = ⊥
 
--- the blocks that go with it: its dinode, and those to which its pointers lead
+-- the blocks that go with it: its dinode, those to which its pointers lead, and the leaves of a hashed directory
 abbrev pub Goes : Holding → ℕ → Type 0
-Goes h b = (b ≡ h.own) ⊎ IsBelow h b
+Goes h b = (b ≡ h.own) ⊎ (IsBelow h b ⊎ ((is_hashed_in h ≡ true) × IsLeaf h b))
 
--- as the view shows the inode with its dinode in block a, it breaks a rule; or (2) a pointer of it, in this block, leads to one that is no
--- data block of a group
+-- a block of the inode with its dinode in block a is needed: on the way to the blocks below it, or of a hashed directory to its leaves
+pub data IsNeededOf (v : Seen) (a : ℕ) (m : Missing) : Type 0 where
+  in_tree : ((h : Holding) → IsShown v a h → IsNeeded v h AnyIndex 1 m) → IsNeededOf v a m
+  in_leaves : ((h : Holding) → dirs.IsShown v a h → (is_hashed_in h ≡ true) × dirs.IsNeededForAll v h m) → v.block_at m.block ≡ None → IsNeededOf v a m
+
+-- as the view shows the inode with its dinode in block a, it breaks a rule, of a hashed directory where it is one; or (2) a pointer of it, in this block, leads
+-- to one that is no data block of a group
 pub data IsWrongBelow (v : Seen) (a : ℕ) : ℕ → ℕ → Type 0 where
+  of_leaves : (rule b : ℕ) → IsDirectoryAt v a → ((h : Holding) → dirs.IsShown v a h → dirs.IsBroken v h rule b) → IsWrongBelow v a rule b
   in_inode : (rule b : ℕ) → ((h : Holding) → IsShown v a h → inode.IsBroken h rule b) → IsWrongBelow v a rule b
   stray : (from b : ℕ) → ((h : Holding) → IsShown v a h → IsLedFrom h from b) → ¬ (HasDataBlock v b) → IsWrongBelow v a 2 from
 
@@ -113,7 +128,7 @@ pub record IsTakenAt (v : Seen) (call : Call) (a : ℕ) : Type 0 where
 
 -- these are the blocks that go with the inode
 abbrev pub AreAllOf : Seen → ℕ → List ℕ → Type 0
-AreAllOf v a blocks = (h : Holding) → IsShown v a h → (b : ℕ) → Contains blocks b ↔ Goes h b
+AreAllOf v a blocks = (h : Holding) → dirs.IsShown v a h → (b : ℕ) → Contains blocks b ↔ Goes h b
 
 -- the call is refused so: its path has no name; a name on it isn't there, or is asked of a file; or the inode at its end isn't to go
 pub data IsRefused (v : Seen) (call : Call) : Reply → Type 0 where
@@ -122,7 +137,8 @@ pub data IsRefused (v : Seen) (call : Call) : Reply → Type 0 where
   not_dir : (a : ℕ) → IsOnTheWay v (wanted call) (path_of call false) a (λ h. is_directory_in h ≡ false) → IsRefused v call reply.NotDir
   at_end : (a : ℕ) (r : Reply) → LeadsTo v (wanted call) (path_of call false) a → HasBlock v a → ((h : Holding) → IsShown v a h → IsAimOf call h (aim.Refused r)) → IsRefused v call r
 
--- The name went, and the inode with all its blocks, data blocks of groups whose locks are held: this is the change of it, with this time.
+-- The name went, and the inode with all its blocks, data blocks of groups whose locks are held: this is the change of it, with this time. A hashed directory
+-- that goes has the records that its dinode counts.
 pub record IsRemovedBy {V : Type 0} (seen : V → Seen) (view : V) (call : Call) (time : ℕ) (change : Change) : Type 0 where
   pub inode : ℕ
   pub directory : ℕ
@@ -133,6 +149,7 @@ pub record IsRemovedBy {V : Type 0} (seen : V → Seen) (view : V) (call : Call)
   pub inside : HasDataBlock (seen view) directory
   pub last : IsLastOf (path_of call false) name
   pub all : AreAllOf (seen view) inode blocks
+  pub counted : (h : Holding) → dirs.IsShown (seen view) inode h → is_hashed_in h ≡ true → CountsItsLeaves h
   pub goes : (b : ℕ) → Contains blocks b → HasDataBlock (seen view) b
   pub held : GroupsAreHeld (seen view) blocks
   pub is : IsRemoval seen view directory name time blocks change
@@ -147,33 +164,30 @@ pub data IsLackedFor (v : Seen) (call : Call) (lock : LockName) : State → Type
   on_path : (state : State) → IsLacked v (wanted call) (path_of call false) lock state → IsLackedFor v call lock state
   of_group : (a : ℕ) (blocks : List ℕ) → IsTakenAt v call a → AreAllOf v a blocks → IsFirstGroupLack v blocks lock → IsLackedFor v call lock Ex
 
--- a block without which the call isn't answered: one on its path, an indirect block of the one that is to go, or
--- one of a group that has some of its blocks, the locks of all such groups being held
+-- a block without which the call isn't answered: one on its path, or without which the name isn't found that is taken away; an indirect block of the inode
+-- that is to go, or a leaf of it; or one of a group that has some of its blocks, the locks of all such groups being held
 pub data IsNeededFor (v : Seen) (call : Call) (m : Missing) : Type 0 where
   on_path : IsUnread v (wanted call) (path_of call false) m → IsNeededFor v call m
-  of_inode : (a : ℕ) → IsTakenAt v call a → ((h : Holding) → IsShown v a h → IsNeeded v h AnyIndex 1 m) → IsNeededFor v call m
+  of_inode : (a : ℕ) → IsTakenAt v call a → IsNeededOf v a m → IsNeededFor v call m
   of_group : (a : ℕ) (blocks : List ℕ) → IsTakenAt v call a → AreAllOf v a blocks → GroupsAreHeld v blocks → freeing.IsNeededFor v blocks m → IsNeededFor v call m
-
--- a hashed directory without which the call isn't answered: the one from which it takes a name; or the one that it would remove, which isn't the root
-pub data IsHashedFor (v : Seen) (call : Call) (b : ℕ) : Type 0 where
-  above_name : (a : ℕ) → IsTakenAt v call a → LeadsTo v (wanted call) (parent_of (path_of call false)) b → HasBlock v b → ((h : Holding) → IsShown v b h → is_hashed_in h ≡ true) → IsHashedFor v call b
-  at_end : path_of call false ≢ [] → LeadsTo v (wanted call) (path_of call false) b → HasBlock v b → ((h : Holding) → IsShown v b h → IsAimOf call h (aim.Hashed b)) → IsHashedFor v call b
 
 abbrev pub IsToldOf : {V : Type 0} → (V → Seen) → V → Call → ℕ → Found → Type 0
 IsToldOf seen view call time (found.Refused r) = IsRefused (seen view) call r
 IsToldOf seen view call time (found.Removed change) = IsRemovedBy seen view call time change
 IsToldOf seen view call time (found.NeedBlock m) = IsNeededFor (seen view) call m
-IsToldOf seen view call time (found.Hashed b) = IsHashedFor (seen view) call b
 IsToldOf seen view call time (found.NeedLock lock state) = IsLackedFor (seen view) call lock state
 
--- The block breaks this rule: on the path, with the inode at its end (so of a linear directory that counts other records than it has); or (2) a pointer in it of the inode that is to go leads to a block that is no data block of a group,
--- or it is the directory above, which is none; or (3) it is the directory above, and one of the blocks that would go with the inode; or in a group
--- that has some of the inode's blocks, the locks of all such groups being held.
+-- The block breaks this rule: on the path, with the inode at its end (so of a directory that counts other records than it has); or (2) a pointer in it of
+-- the inode that is to go leads to a block that is no data block of a group, or it is the directory above, which is none; or (3) it is the directory above, or
+-- has the name's record there, and is one of the blocks that would go with the inode; or in a group that has some of the inode's blocks, the locks of all such
+-- groups being held.
 pub data IsDamage (v : Seen) (call : Call) : ℕ → ℕ → Type 0 where
   on_path : (rule b : ℕ) → path.IsDamage v (wanted call) (path_of call false) rule b → IsDamage v call rule b
   stray : (a from b : ℕ) → IsTakenAt v call a → ((h : Holding) → IsShown v a h → IsLedFrom h from b) → ¬ (HasDataBlock v b) → IsDamage v call 2 from
   above : (a : ℕ) → LeadsTo v (wanted call) (parent_of (path_of call false)) a → ¬ (HasDataBlock v a) → IsDamage v call 2 a
-  shared : (a b : ℕ) → IsTakenAt v call a → LeadsTo v (wanted call) (parent_of (path_of call false)) b → ((h : Holding) → IsShown v a h → Goes h b) → IsDamage v call 3 b
+  shared : (a b : ℕ) → IsTakenAt v call a → LeadsTo v (wanted call) (parent_of (path_of call false)) b → ((h : Holding) → dirs.IsShown v a h → Goes h b) → IsDamage v call 3 b
+  shared_leaf : (a dir b : ℕ) (name : List ℕ) → IsTakenAt v call a → LeadsTo v (wanted call) (parent_of (path_of call false)) dir → IsLastOf (path_of call false) name
+      → ((h : Holding) → dirs.IsShown v dir h → HasRecordOf h name b) → ((h : Holding) → dirs.IsShown v a h → Goes h b) → IsDamage v call 3 b
   in_group : (a rule b : ℕ) (blocks : List ℕ) → IsTakenAt v call a → AreAllOf v a blocks → GroupsAreHeld v blocks → freeing.BreaksSome v blocks rule b → IsDamage v call rule b
 
 -- ---- in an image that the view may be of
@@ -196,20 +210,20 @@ IsFoundBy v im o l answer list (found.Refused r) = (answer ≡ r) × AreHeld v l
 IsFoundBy v im o l answer list (found.Removed change) = (answer ≡ reply.Ok) × AreHeld v list
 IsFoundBy v im o l answer list (found.NeedBlock m) = IsAskedFor v im o l list m
 IsFoundBy v im o l answer list (found.NeedLock lock state) = IsFirstLack v list lock state
-IsFoundBy v im o l answer list (found.Hashed b) = ⊤
 
 abbrev pub IsFound : Seen → Image → Owners → Layout → Tree → Call → Found → Type 0
 IsFound v im o l t call f = IsFoundBy v im o l (apply call t).reply (holds_for im o l t call) f
 
--- In the image with the change the dinode of the directory above the name has this time, and its block lacks the name's record, and has changed no
--- further.
+-- In the image with the change the dinode of the directory above the name has this time, and the directory lacks the name's record, and has changed no
+-- further: a linear one byte by byte, a hashed one in the leaf of the name and in its dinode.
 pub record IsStamped (im : Image) (o : Owners) (l : Layout) (call : Call) (time : ℕ) (change : Change) : Type 0 where
   pub directory : ℕ
   pub at : IsAt im o l (parent_of (path_of call false)) directory
   pub times : HasTimes (dinode_of ((with_change im change).at directory)) time
   pub name : List ℕ
   pub last : IsLastOf (path_of call false) name
-  pub loses : LosesRecord (im.at directory) ((with_change im change).at directory) name time
+  pub in_linear : is_hashed_in (holding im o directory) ≡ false → LosesRecord (im.at directory) ((with_change im change).at directory) name time
+  pub in_hashed : is_hashed_in (holding im o directory) ≡ true → LosesInLeaf (holding im o directory) (holding (with_change im change) o directory) name time
 
 -- what a refusal is not: `ok`, or that too few blocks are free
 abbrev pub IsRefusal : Found → Type 0

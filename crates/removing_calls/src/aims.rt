@@ -1,7 +1,7 @@
 // What a call that removes a name does with the inode at its path's end.
 ghost use Rattle.std.specs.Prelude.{◌≡◌, true, IfOk};
 ghost use Rattle.gfs2_layout.specs.Holding.{Holding};
-ghost use Rattle.gfs2_layout.specs.Inode.{dinode_in, is_hashed_in};
+ghost use Rattle.gfs2_layout.specs.Inode.{dinode_in, has_hash_flag};
 ghost use Rattle.glock_names.specs.Steps.{IfDamaged};
 ghost use Rattle.glock_names.specs.Views.{HasBlock, IsOfView};
 ghost use Rattle.dinode_tree.specs.Shown.{IsShown};
@@ -9,6 +9,7 @@ ghost use Rattle.removing_calls.specs.Removing.{BreaksAsLinear, IsAimOf, IsDirec
 
 use crate::counting::check_count;
 use file_tree::{Call, Reply};
+use gfs2_layout::Dinode;
 use glock_names::{CallFault, View};
 use path_walks::Place;
 
@@ -17,10 +18,15 @@ use path_walks::Place;
 pub(crate) enum Aim {
     /// It stays, and the call is answered so.
     Refused(Reply),
-    /// It stays for now: this directory, which is to go, is hashed.
-    Hashed(u64),
     /// It goes.
     Taken,
+}
+
+/// Whether a directory's dinode says that it is a hashed one.
+pub(crate) fn is_hashed(dinode: &Dinode) -> bool
+    ensures { result ≡ has_hash_flag dinode.now }
+{
+    dinode.flags / 2 % 2 == 1
 }
 
 // Of an inode that is to be a file.
@@ -34,19 +40,8 @@ fn file_aim(place: &Place) -> Aim
     }
 }
 
-// Of a hashed directory, whose leaves aren't read yet: its dinode's count is believed.
-fn hashed_aim(place: &Place) -> Aim
-    ensures { (h : Holding) → h.own ≡ place.now.inode → place.now.dinode ≡ dinode_in h → is_hashed_in h ≡ true → IsDirectoryAim h result }
-{
-    if place.dinode.entries == 2 {
-        Aim::Hashed(place.inode)
-    } else {
-        Aim::Refused(Reply::NotEmpty)
-    }
-}
-
 // Of an inode that is to be a directory without names: `.` and `..` are counted in its dinode, and a linear directory's count is held against
-// its records.
+// its records; a hashed one's is held against its leaves when these are gathered.
 fn directory_aim<V: View>(view: &V, place: &Place) -> Result<Aim, CallFault>
     requires there { HasBlock (V.seen view.now) place.now.inode }
     requires dinode { (h : Holding) → IsShown (V.seen view.now) place.now.inode h → place.now.dinode ≡ dinode_in h }
@@ -57,10 +52,9 @@ fn directory_aim<V: View>(view: &V, place: &Place) -> Result<Aim, CallFault>
     if !place.dinode.is_directory() {
         return Ok(Aim::Refused(Reply::NotDir));
     }
-    if place.dinode.flags / 2 % 2 == 1 {
-        return Ok(hashed_aim(place));
+    if !is_hashed(&place.dinode) {
+        check_count(view, place.inode, place.dinode.entries)?;
     }
-    check_count(view, place.inode, place.dinode.entries)?;
     if place.dinode.entries != 2 {
         return Ok(Aim::Refused(Reply::NotEmpty));
     }

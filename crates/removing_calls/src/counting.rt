@@ -1,33 +1,16 @@
 // Whether a linear directory's dinode counts the records that stand behind it.
-ghost use Rattle.std.specs.Prelude.{◌≡◌, OnOk, length};
-ghost use Rattle.gfs2_layout.specs.Area.{IsArea};
+ghost use Rattle.std.specs.Prelude.{◌≡◌, OnOk};
 ghost use Rattle.gfs2_layout.specs.Holding.{Holding};
 ghost use Rattle.gfs2_layout.specs.Inode.{dinode_in};
-ghost use Rattle.gfs2_layout.specs.Records.{records_in};
 ghost use Rattle.glock_names.specs.Steps.{IfDamaged};
 ghost use Rattle.glock_names.specs.Views.{HasBlock, IsOfView};
 ghost use Rattle.dinode_tree.specs.Shown.{IsShown};
 ghost use Rattle.directories.specs.Shown.{IsLinearDirectory};
 ghost use Rattle.removing_calls.specs.Removing.{BreaksAsLinear, CountsItsRecords};
 
-use gfs2_layout::{DINODE_LENGTH, is_area, next_record};
+use gfs2_layout::{DINODE_LENGTH, is_area};
 use glock_names::{CallFault, View, block_of};
-
-// How many records of an area are in use.
-fn count_records(area: &[u8]) -> usize
-    requires { IsArea area.now }
-    ensures { result ≡ length (records_in area.now) }
-{
-    let mut count = 0;
-    let mut rest = area;
-    while let Some((record, behind)) = next_record(rest) {
-        if record.head.is_in_use() {
-            count += 1;
-        }
-        rest = behind;
-    }
-    count
-}
+use hash_dirs::count_records;
 
 /// Holds the count in a linear directory's dinode, which the view has, against the records behind it: where these are none, or others than it
 /// counts, the directory is damaged. It goes over the records twice.

@@ -1,22 +1,20 @@
 // The draft of a removal.
-ghost use Rattle.std.specs.Prelude.{ℕ, ◌≡◌, Contains, OnOk};
+ghost use Rattle.std.specs.Prelude.{ℕ, ◌≡◌, None, Contains};
 ghost use Rattle.std.specs.FinMap.{empty};
 ghost use Rattle.gfs2_layout.specs.Holding.{Holding};
 ghost use Rattle.glock_names.specs.Steps.{IfIs, IfNeedBlock, IfDamaged};
-ghost use Rattle.glock_names.specs.Views.{HasBlock, IsOfView, IsView};
-ghost use Rattle.dinode_tree.specs.Shown.{IsShown};
-ghost use Rattle.linear_dirs.specs.Broken.{IsBroken};
-ghost use Rattle.linear_dirs.specs.Shown.{IsLinearIn, HasNameIn};
+ghost use Rattle.glock_names.specs.Views.{IsOfView, IsView};
+ghost use Rattle.directories.specs.Shown as dirs;
+ghost use Rattle.directories.specs.Taking.{HasNameIn};
 ghost use Rattle.drafts.specs.Fates.{seen_in};
 ghost use Rattle.resource_groups.specs.Putting.{HasDataBlock};
 ghost use Rattle.resource_groups.specs.Freeing.{IsNeededFor, BreaksSome};
-ghost use Rattle.removing_calls.specs.Drafting.{IsFreedAndDone, IsNameTaken, IsRemoval, IsWrongIn};
+ghost use Rattle.removing_calls.specs.Drafting.{IsFreedAndDone, IsNameTaken, IsNeededIn, IsRemoval, IsWrongIn};
 
-use dinode_tree::read_dinode;
+use directories::remove;
 use drafts::{Change, Draft};
 use glock_names::{CallFault, Step, View};
-use linear_dirs::remove;
-use new_inodes::touch;
+use new_inodes::stamp;
 use resource_groups::free_blocks;
 use std::alloc::Global;
 
@@ -27,40 +25,30 @@ fn is_a_view<V: View>(view: &V)
     let _size = view.block_size();
 }
 
-// Touches a linear directory, which the view has, in a new draft, and then takes a name from it that it has. Its content is to be
-// the rest of its dinode's block, which is looked at first: so what is damaged with the touched directory was so before.
+// Takes a name that it has from a directory in a new draft, and then puts the time into its dinode. It answers the block that had the name's record.
 fn take_name<V: View>(
     draft: &mut Draft<'_, V>,
     dir: u64,
     name: &[u8],
     time: u64,
-) -> Result<(), CallFault>
+) -> Result<Step<u64>, CallFault>
     requires new { draft.old.fates ≡ empty }
-    requires there { HasBlock (V.seen draft.old.view) dir }
-    requires linear { IsLinearIn (V.seen draft.old.view) dir }
+    requires directory { dirs.IsDirectoryIn (V.seen draft.old.view) dir }
     requires named { HasNameIn (V.seen draft.old.view) dir name.now }
-    ensures taken { OnOk result (IsNameTaken (V.seen draft.old.view) dir name.now time draft.new.fates) }
-    ensures view { OnOk result (draft.new.view ≡ draft.old.view) }
-    ensures damaged { (h : Holding) → IsShown (V.seen draft.old.view) dir h → IfDamaged result (IsBroken h) }
+    ensures taken { IfIs result (λ leaf. IsNameTaken (V.seen draft.old.view) dir name.now time leaf draft.new.fates) }
+    ensures view { IfIs result (λ leaf. draft.new.view ≡ draft.old.view) }
+    ensures needed { (h : Holding) → dirs.IsShown (V.seen draft.old.view) dir h → IfNeedBlock result (dirs.IsNeededFor (V.seen draft.old.view) h name.now) }
+    ensures absent { IfNeedBlock result (λ missing. (V.seen draft.old.view).block_at missing.block ≡ None) }
+    ensures damaged { (h : Holding) → dirs.IsShown (V.seen draft.old.view) dir h → IfDamaged result (dirs.IsBroken (V.seen draft.old.view) h) }
     ensures kept { IfDamaged result (IsOfView (V.seen draft.old.view)) }
 {
     is_a_view(&*draft);
-    let Step::Is(dinode) = read_dinode(&*draft, dir)? else {
-        unreachable!()
+    let leaf = match remove(draft, dir, name)? {
+        Step::Is(leaf) => leaf,
+        Step::NeedBlock(missing) => return Ok(Step::NeedBlock(missing)),
     };
-    if dinode.height != 0 {
-        return Err(CallFault::Damaged {
-            block: dir,
-            rule: 8,
-        });
-    }
-    let Step::Is(()) = touch(draft, dir, time)? else {
-        unreachable!()
-    };
-    let Step::Is(()) = remove(draft, dir, name)? else {
-        unreachable!()
-    };
-    Ok(())
+    stamp(draft, dir, time)?;
+    Ok(Step::Is(leaf))
 }
 
 // Frees blocks in a draft, and ends it.
@@ -81,8 +69,9 @@ fn free_and_finish<V: View>(
     Ok(Step::Is(draft.finish()?))
 }
 
-/// What a draft changes in which a linear directory, which the view has, gets a time, a name of it goes, and blocks are freed, each of
-/// them a data block of a group, as the directory's own is, which isn't among them. It costs what `touch`, `remove` and `free_blocks` cost.
+/// What a draft changes in which a name of a directory goes, the directory gets a time, and blocks are freed, each of them a data block of a
+/// group, as the directory's own is, which isn't among them. It looks that the block with the name's record isn't either. It costs what `remove` and
+/// `free_blocks` cost, and two copies of the dinode's block.
 pub(crate) fn removal<V: View>(
     alloc: Global,
     view: &V,
@@ -91,19 +80,27 @@ pub(crate) fn removal<V: View>(
     blocks: &[u64],
     time: u64,
 ) -> Result<Step<Change>, CallFault>
-    requires there { HasBlock (V.seen view.now) dir }
-    requires linear { IsLinearIn (V.seen view.now) dir }
+    requires directory { dirs.IsDirectoryIn (V.seen view.now) dir }
     requires named { HasNameIn (V.seen view.now) dir name.now }
     requires inside { HasDataBlock (V.seen view.now) dir }
     requires blocks { (b : ℕ) → Contains blocks.now b → HasDataBlock (V.seen view.now) b }
     requires apart { ¬ (Contains blocks.now dir) }
     ensures removal { IfIs result (IsRemoval V.seen view.now dir name.now time blocks.now) }
-    ensures needed { IfNeedBlock result (IsNeededFor (V.seen view.now) blocks.now) }
-    ensures damaged { IfDamaged result (IsWrongIn (V.seen view.now) dir blocks.now) }
+    ensures needed { IfNeedBlock result (IsNeededIn (V.seen view.now) dir name.now blocks.now) }
+    ensures damaged { IfDamaged result (IsWrongIn (V.seen view.now) dir name.now blocks.now) }
     ensures kept { IfDamaged result (IsOfView (V.seen view.now)) }
 {
     is_a_view(view);
     let mut draft = Draft::new(alloc, view);
-    take_name(&mut draft, dir, name, time)?;
+    let leaf = match take_name(&mut draft, dir, name, time)? {
+        Step::Is(leaf) => leaf,
+        Step::NeedBlock(missing) => return Ok(Step::NeedBlock(missing)),
+    };
+    if blocks.contains(&leaf) {
+        return Err(CallFault::Damaged {
+            block: leaf,
+            rule: 3,
+        });
+    }
     free_and_finish(draft, blocks)
 }

@@ -12,8 +12,6 @@ pub(crate) enum Found {
     Removed(Change),
     /// This block isn't in the view.
     NeedBlock(Missing),
-    /// This directory is hashed.
-    Hashed(u64),
     /// This lock isn't held so strongly.
     NeedLock { lock: LockName, state: State },
 }

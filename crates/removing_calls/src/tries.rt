@@ -7,10 +7,7 @@ ghost use Rattle.file_tree.specs.declared.reply.Reply.TheVariants.{Ok as OkReply
 ghost use Rattle.gfs2_layout.specs.Holding.{Holding};
 ghost use Rattle.dinode_tree.specs.Shown.{IsShown};
 ghost use Rattle.glock_names.specs.Steps.{IfDamaged};
-ghost use Rattle.gfs2_layout.specs.Inode.{is_hashed_in};
-ghost use Rattle.glock_names.specs.Views.{HasBlock, IsOfView, IsView};
-ghost use Rattle.dinode_tree.specs.Broken.{IsBroken};
-ghost use Rattle.directories.specs.Shown.{IsLinearDirectory};
+ghost use Rattle.glock_names.specs.Views.{IsOfView, IsView};
 ghost use Rattle.call_locks.specs.WantLaws.{path_of};
 ghost use Rattle.call_locks.specs.Wants.{wanted};
 ghost use Rattle.image_model.specs.Image.{Image};
@@ -19,8 +16,8 @@ ghost use Rattle.image_model.specs.Stands.{Layout};
 ghost use Rattle.image_changes.specs.Does.{IsOf, Does, AreInside};
 ghost use Rattle.path_walks.specs.Answers.{IfDone, IfNeedLock, IfNeedBlock, IfNoSpace, IfHashed, IfNotBuilt, HasSpace};
 ghost use Rattle.path_walks.specs.Holds.{AreHeld, IsAskedFor, IsFirstLack, IsUnder};
-ghost use Rattle.path_walks.specs.Walks.{IsDirectoryAt, IsSeenAt, IsLastOf};
-ghost use Rattle.removing_calls.specs.Removing.{IfRemoved, IsAimOf, IsAnswered, IsDamage, IsFound, IsHashedFor, IsLackedFor, IsNeededFor, IsPlaceIn, IsReachedIn, IsRefusal, IsRemoving, IsStamped, IsToldOf, holds_for};
+ghost use Rattle.path_walks.specs.Walks.{IsSeenAt, IsLastOf};
+ghost use Rattle.removing_calls.specs.Removing.{IfRemoved, IsAimOf, IsAnswered, IsDamage, IsFound, IsLackedFor, IsNeededFor, IsPlaceIn, IsReachedIn, IsRefusal, IsRemoving, IsStamped, IsToldOf, holds_for};
 ghost use Rattle.removing_calls.specs.declared.aims.Aim.TheVariants as aim;
 
 use crate::aims::{Aim, aim_at};
@@ -28,7 +25,6 @@ use crate::blocks::blocks_of;
 use crate::drafting::removal;
 use crate::finds::Found;
 use call_locks::wants;
-use dinode_tree::read_dinode;
 use drafts::{Attempt, Stamp};
 use file_tree::{Call, Path, Reply};
 use glock_names::{CallFault, State, Step, View};
@@ -71,21 +67,6 @@ fn is_a_view<V: View>(view: &V)
     let _size = view.block_size();
 }
 
-// Whether the directory above an inode is a hashed one, from which no name is taken yet.
-fn is_hashed_above<V: View>(view: &V, place: &Place) -> Result<bool, CallFault>
-    requires there { HasBlock (V.seen view.now) place.now.above }
-    requires directory { IsDirectoryAt (V.seen view.now) place.now.above }
-    ensures hashed { IfOk result (λ hashed. hashed ≡ true → (h : Holding) → IsShown (V.seen view.now) place.now.above h → is_hashed_in h ≡ true) }
-    ensures linear { IfOk result (λ hashed. hashed ≡ false → (h : Holding) → IsShown (V.seen view.now) place.now.above h → IsLinearDirectory h) }
-    ensures damaged { (h : Holding) → IsShown (V.seen view.now) place.now.above h → IfDamaged result (IsBroken h) }
-    ensures kept { IfDamaged result (IsOfView (V.seen view.now)) }
-{
-    let Step::Is(dinode) = read_dinode(view, place.above)? else {
-        unreachable!()
-    };
-    Ok(dinode.flags / 2 % 2 == 1)
-}
-
 // Removes the inode at a place, whose last name this is: its blocks are found, the locks of their groups looked at, and then all is
 // drafted.
 fn remove_at<V: View>(
@@ -101,7 +82,6 @@ fn remove_at<V: View>(
     requires seen { IsSeenAt (V.seen view.now) (wanted call.now) (path_of call.now false) place.now }
     requires places { (im : Image) (o : Owners) (l : Layout) (t : Tree) → IsOf (V.seen view.now) im o l t → IsPlaceIn im o l call.now place.now }
     requires aim { (h : Holding) → IsShown (V.seen view.now) place.now.inode h → IsAimOf call.now h aim.Taken }
-    requires linear { (h : Holding) → IsShown (V.seen view.now) place.now.above h → IsLinearDirectory h }
     ensures found { (im : Image) (o : Owners) (l : Layout) (t : Tree) → IsOf (V.seen view.now) im o l t → IsReachedIn (V.seen view.now) im o l call.now place.now
         → IfOk result (IsFound (V.seen view.now) im o l t call.now) }
     ensures done { IfOk result (IfRemoved (Does (V.seen view.now) call.now OkReply)) }
@@ -121,7 +101,7 @@ fn remove_at<V: View>(
             rule: 2,
         });
     }
-    let blocks = match blocks_of(alloc, view, place.inode)? {
+    let blocks = match blocks_of(alloc, view, place.inode, &place.dinode)? {
         Step::Is(blocks) => blocks,
         Step::NeedBlock(missing) => return Ok(Found::NeedBlock(missing)),
     };
@@ -171,13 +151,7 @@ fn find_at<V: View>(
     is_a_view(view);
     match aim_at(view, call, place)? {
         Aim::Refused(reply) => Ok(Found::Refused(reply)),
-        Aim::Hashed(block) => Ok(Found::Hashed(block)),
-        Aim::Taken => {
-            if is_hashed_above(view, place)? {
-                return Ok(Found::Hashed(place.above));
-            }
-            remove_at(alloc, view, call, place, name, time)
-        }
+        Aim::Taken => remove_at(alloc, view, call, place, name, time),
     }
 }
 
@@ -210,9 +184,9 @@ fn find<V: View>(alloc: Global, view: &V, call: &Call, time: u64) -> Result<Foun
 }
 
 /// Tries a call that removes a name, over a view: its answer with what it changes, or the first lock that isn't held or block that
-/// isn't there. The directory gets the stamp's time. Beside the path's locks it takes those of the groups of the inode's blocks, before any
-/// of these is read. It costs a walk along the path, two passes over the directory's records, two over those of a linear directory that
-/// is to go, a step for each pointer of the inode, and for each of its blocks two copies of each of two blocks of its group.
+/// isn't there. The directory, of whatever form, gets the stamp's time. Beside the path's locks it takes those of the groups of the inode's blocks, before any
+/// of these is read. It costs a walk along the path, and what looking up the name and taking it cost, two passes over the records of a linear directory that
+/// is to go, what the leaves of a hashed one cost, a step for each pointer of the inode, and for each of its blocks two copies of each of two blocks of its group.
 pub fn attempt<V: View>(
     alloc: Global,
     view: &V,
@@ -232,7 +206,7 @@ pub fn attempt<V: View>(
     ensures inside { IfDone result (λ reply change. is_ok reply ≡ true → AreInside (V.seen view.now) change) }
     ensures lacked { IfNeedLock result (IsLackedFor (V.seen view.now) call.now) }
     ensures needed { IfNeedBlock result (IsNeededFor (V.seen view.now) call.now) }
-    ensures hashed { IfHashed result (IsHashedFor (V.seen view.now) call.now) }
+    ensures hashed { IfHashed result ⊥ }
     ensures built { IfNotBuilt result ⊥ }
     ensures sound { (im : Image) (o : Owners) (l : Layout) (t : Tree) → IsOf (V.seen view.now) im o l t → IfDamaged result (λ rule block. ⊥) }
     ensures damaged { IfDamaged result (IsDamage (V.seen view.now) call.now) }
@@ -248,7 +222,6 @@ pub fn attempt<V: View>(
             change,
         },
         Found::NeedBlock(missing) => Attempt::NeedBlock(missing),
-        Found::Hashed(block) => Attempt::Hashed { block },
         Found::NeedLock { lock, state } => Attempt::NeedLock { lock, state },
     })
 }
