@@ -1,26 +1,22 @@
 -- The directory above the inode at a path's end, as the view has it.
-use Rattle.std.proofs.Common.{◌≡◌, ◌&&◌, ℕ, Bool, true, false, true≢false, List, [], ◌∷◌, ◌++◌, drop, Option, None, Some, refl, sym, ap, ◌∙◌, subst}
-use Rattle.std.proofs.lemmas.Bool.{cond-false}
+use Rattle.std.proofs.Common.{◌≡◌, ℕ, true, List, [], ◌∷◌, ◌++◌, Option, None, Some, refl, sym, ap, ◌∙◌, subst}
 use Rattle.std.specs.Prelude.{option_map}
 use Rattle.file_tree.specs.Names.{IsName, parent_of}
 use Rattle.gfs2_layout.specs.Holding.{Holding}
-use Rattle.gfs2_layout.specs.Inode.{dinode_in, is_directory_in, is_hashed_in, has_hash_flag, linear_area, records_of}
-use Rattle.gfs2_layout.specs.Records.{Record, record_named, records_in}
-use Rattle.gfs2_layout.specs.Structures.{dinode_of, dinode_length, is_directory}
+use Rattle.gfs2_layout.specs.Inode.{is_directory_in}
+use Rattle.gfs2_layout.specs.Records.{Record}
+use Rattle.gfs2_layout.specs.Structures.{is_directory}
 use Rattle.glock_names.specs.Views.{Seen, IsView}
 use Rattle.call_locks.specs.declared.want.Want.{Want}
 use Rattle.dinode_tree.specs.Shown.{IsShown}
 use Rattle.dinode_tree.proofs.Sound.{some_is_shown}
-use Rattle.linear_dirs.specs.Shown.{IsLinearIn, HasNameIn, entry_of}
-use Rattle.linear_dirs.proofs.Looked.{bytes_of, dinode_there}
+use Rattle.linear_dirs.proofs.Looked.{dinode_there}
 use Rattle.resource_groups.specs.Putting.{HasDataBlock}
 use Rattle.image_model.specs.Flat.{Path}
 use Rattle.image_model.proofs.Held.{none_some}
 use Rattle.image_changes.proofs.FlatPaths.{last_name}
-use Rattle.directories.specs.Shown.{IsLinearDirectory, Says}
-use Rattle.directories.proofs.Forms.{some_directory}
-use Rattle.directories.proofs.Sound.{says_once}
-use Rattle.glock_names.specs.declared.steps.Entry.{Entry}
+use Rattle.directories.specs.Shown.{IsDirectoryIn}
+use Rattle.directories.specs.Taking.{HasNameIn}
 use Rattle.path_walks.specs.Walks.{LeadsTo, at_root, by_name, Names, IsSeenAt, IsLastOf}
 use Rattle.path_walks.specs.declared.walk.Place.{Place}
 use Rattle.path_walks.proofs.Leads.{leads_once}
@@ -61,38 +57,16 @@ above_names v wants path p name view seen last =
 pub inode_inside : (v : Seen) (wants : List Want) (path : Path) (p : Place) (name : List ℕ) → IsSeenAt v wants path p → IsLastOf path name → HasDataBlock v p.inode
 inode_inside v wants path p name seen last = (last_step v wants path p.inode seen.leads last.0 name last.1).inside
 
--- ---- the directory, in the block that the view has
-
-no_flag : (a b : Bool) → a ≡ true → (a && b) ≡ false → b ≡ false
-no_flag true b is e = e
-no_flag false b is e = absurd (true≢false (sym is))
-
-pub linear_in : (v : Seen) (dir : ℕ) → ((h : Holding) → IsShown v dir h → IsLinearDirectory h) → IsLinearIn v dir
-linear_in v dir linear bytes there =
-    let s = some_is_shown v dir in
-    let is = linear s.0 s.1.0 in
-    let same : dinode_in s.0 ≡ dinode_of bytes = dinode_there v s.0 dir bytes s.1.0 there in
-    (ap is_directory (sym same) ∙ is.directory, ap has_hash_flag (sym same) ∙ no_flag (is_directory_in s.0) (has_hash_flag (dinode_in s.0)) is.directory is.linear)
-
--- the records of a linear directory
-linear_records : (h : Holding) → is_hashed_in h ≡ false → records_of h ≡ records_in (linear_area h)
-unfolding records_of
-linear_records h plain = cond-false _ _ _ plain
-
-record_of_entry : (x : Option Record) (e : Entry) → Some e ≡ option_map entry_of x → (r : Record) × (x ≡ Some r)
-record_of_entry None e is = absurd (none_some (sym is))
-record_of_entry (Some r) e is = (r, refl)
-
+-- the record that leads to a child
 pub record_of_child : (x : Option Record) (b : ℕ) → option_map (λ (r : Record). r.address) x ≡ Some b → (r : Record) × (x ≡ Some r)
 record_of_child None b e = absurd (none_some e)
 record_of_child (Some r) b e = (r, refl)
 
-pub named_in : (v : Seen) (dir b : ℕ) (name : List ℕ) → IsView v → ((h : Holding) → IsShown v dir h → IsLinearDirectory h) → Names v dir name b → HasNameIn v dir name
-named_in v dir b name view linear names bytes there =
-    let s = some_directory v dir view in
-    let plain = (linear s.0 s.1.inode).linear in
-    let has = names.child s.0 s.1 in
-    let found = says_once s.0 name _ _ has.says (Says.in_linear plain) in
-    let r = record_of_entry (record_named (records_of s.0) name) has.entry found in
-    let same : records_of s.0 ≡ records_in (drop dinode_length bytes) = linear_records s.0 plain ∙ ap (λ x. records_in (drop dinode_length x)) (bytes_of v s.0 dir bytes s.1.inode there) in
-    (r.0, ap (λ records. record_named records name) (sym same) ∙ r.1)
+-- the directory, in the block that the view has
+pub directory_block : (v : Seen) (dir : ℕ) → ((h : Holding) → IsShown v dir h → is_directory_in h ≡ true) → IsDirectoryIn v dir
+directory_block v dir is bytes there =
+    let s = some_is_shown v dir in
+    ap is_directory (sym (dinode_there v s.0 dir bytes s.1.0 there)) ∙ is s.0 s.1.0
+
+pub names_it : (v : Seen) (dir b : ℕ) (name : List ℕ) → Names v dir name b → HasNameIn v dir name
+names_it v dir b name names h shown = let has = names.child h shown in (has.entry, has.says)

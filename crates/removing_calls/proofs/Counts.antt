@@ -15,17 +15,6 @@ use Rattle.linear_dirs.proofs.Looked.{bytes_of, rest_is}
 use Rattle.directories.specs.Shown.{IsLinearDirectory}
 use Rattle.removing_calls.specs.Removing.{BreaksAsLinear, CountsItsRecords}
 
--- a record counts where it is in use
-pub one_told : (s : Slot) (front : List Record) (n : ℕ) → is_in_use s.head ≡ true → n ≡ length front → n + 1 ≡ length (front ++ told_in (s ∷ []))
-one_told s front n used is =
-    let told : told_in (s ∷ []) ≡ record_of s ∷ [] = rw used refl in
-    ap (λ m. m + 1) is ∙ sym (ap (λ rs. length (front ++ rs)) told ∙ length-append front (record_of s ∷ []))
-
-pub none_told : (s : Slot) (front : List Record) (n : ℕ) → is_in_use s.head ≡ false → n ≡ length front → n ≡ length (front ++ told_in (s ∷ []))
-none_told s front n free is =
-    let told : told_in (s ∷ []) ≡ [] = rw free refl in
-    is ∙ sym (ap (λ rs. length (front ++ rs)) told ∙ ap length (append-nil front))
-
 -- the records of a directory that isn't hashed
 pub records_are : (h : Holding) → IsLinearDirectory h → records_of h ≡ records_in (linear_area h)
 unfolding records_of

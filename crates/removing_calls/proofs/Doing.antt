@@ -2,8 +2,7 @@
 use Rattle.std.proofs.Common.{◌≡◌, ◌⊎◌, ◌↔◌, inl, inr, ℕ, ◌+◌, Bool, true, false, true≢false, List, [], ◌∷◌, None, Some, refl, sym, ap, ◌∙◌, subst, arith}
 use Rattle.std.proofs.lemmas.Bool.{cases_Bool, cases_eq, cases_lt}
 use Rattle.std.specs.Prelude.{Contains, is_some}
-use Rattle.std.specs.Ordering.{nat_cmp}
-use Rattle.std.specs.FinMap.{FinMap, get, empty, get-empty}
+use Rattle.std.specs.FinMap.{get}
 use Rattle.file_tree.specs.Apply.{apply, remove_at}
 use Rattle.file_tree.specs.Tree.{Tree}
 use Rattle.file_tree.specs.declared.call.Call.{Call}
@@ -11,9 +10,7 @@ use Rattle.file_tree.specs.declared.reply.Reply.TheVariants.{Ok}
 use Rattle.cluster_history.specs.Changes.{Changes}
 use Rattle.drafts.specs.Fates.{block_with}
 use Rattle.drafts.specs.declared.change.Change.{Change}
-use Rattle.drafts.specs.declared.fate.Fate.{Fate}
 use Rattle.drafts.specs.declared.fate.Fate.TheVariants.{Put, Freed}
-use Rattle.gfs2_layout.specs.Inode.{is_hashed_in}
 use Rattle.gfs2_layout.specs.Records.{Record, record_named}
 use Rattle.glock_names.specs.Views.{Seen, HasGroup}
 use Rattle.glock_names.specs.declared.LockName.{LockName}
@@ -34,13 +31,12 @@ use Rattle.image_changes.specs.Flats.{in_directory}
 use Rattle.image_changes.specs.Instances.{IsAt, IsChildless, among, records_at}
 use Rattle.image_changes.proofs.Drafting.{drafts_do}
 use Rattle.image_changes.proofs.Nodes.{among_in, in_among}
-use Rattle.draft_changes.proofs.Removed.{removing_makes}
+use Rattle.directory_changes.proofs.Shrunk.{shrinking_makes}
 use Rattle.path_walks.specs.Holds.{holds, hold_of_group}
 use Rattle.removing_calls.specs.Drafting.{IsRemoval}
 use Rattle.group_locks.specs.Groups.{GroupsAreHeld}
 use Rattle.removing_calls.specs.Removing.{Goes}
 use Rattle.removing_calls.proofs.Imaged.{removes}
-use Rattle.removing_calls.proofs.Lists.{put_at, put_apart}
 use Rattle.path_walks.proofs.Wants.{exclusive}
 
 in_header_or_not : (g : Group) (b : ℕ) → IsHeaderOf g b ⊎ ¬ (IsHeaderOf g b)
@@ -64,30 +60,36 @@ header_among (k ∷ gs) b = elim (in_header_or_not k b) [
 ]
 
 module _ {V : Type 0} (seen : V → Seen) (view : V) (p : ℕ) (name : List ℕ) (blocks : List ℕ) {time : ℕ} (change : Change) (is : IsRemoval seen view p name time blocks change) where
-  -- what becomes of a block before is the directory's put, under its lock
+  -- what becomes of a block before is put, under the directory's lock: its dinode's, or the one that had the record
   pub second_lock : (b : ℕ) (lock : LockName) (plain : Bool) (bytes : List ℕ) → get is.fates b ≡ Some (Put lock plain bytes) → lock ≡ record { kind = 2; number = p }
   second_lock b lock plain bytes e = elim (cases_eq b p) [
-    | inl same ↦ put_lock lock _ plain false bytes _ (sym e ∙ ap (get is.fates) same ∙ ap (λ (m : FinMap nat_cmp Fate). get m p) is.taken.takes.put ∙ put_at is.taken.first p _)
-    | inr other ↦ absurd (none_some (sym (ap (λ (m : FinMap nat_cmp Fate). get m b) is.taken.takes.put ∙ put_apart is.taken.first p b _ other
-        ∙ ap (λ (m : FinMap nat_cmp Fate). get m b) is.taken.touches.put ∙ put_apart empty p b _ other ∙ get-empty nat_cmp b) ∙ e))
+    | inl same ↦ put_lock lock _ plain false bytes _ (sym e ∙ ap (get is.fates) same ∙ is.taken.put)
+    | inr other ↦ elim (cases_eq b is.leaf) [
+      | inl same ↦ put_lock lock _ plain false bytes _ (sym e ∙ ap (get is.fates) same ∙ is.taken.leaf_put.1)
+      | inr away ↦ absurd (none_some (sym (is.taken.others b other away) ∙ e))
+    ]
   ]
     where
       put_lock : (x y : LockName) (c d : Bool) (m n : List ℕ) → Some (Put x c m) ≡ Some (Put y d n) → x ≡ y
       put_lock x y c d m n e = cc
 
-  pub second_place : (b : ℕ) (lock : LockName) (plain : Bool) (bytes : List ℕ) → get is.fates b ≡ Some (Put lock plain bytes) → b ≡ p
+  pub second_place : (b : ℕ) (lock : LockName) (plain : Bool) (bytes : List ℕ) → get is.fates b ≡ Some (Put lock plain bytes) → (b ≡ p) ⊎ (b ≡ is.leaf)
   second_place b lock plain bytes e = elim (cases_eq b p) [
-    | inl same ↦ same
-    | inr other ↦ absurd (none_some (sym (ap (λ (m : FinMap nat_cmp Fate). get m b) is.taken.takes.put ∙ put_apart is.taken.first p b _ other
-        ∙ ap (λ (m : FinMap nat_cmp Fate). get m b) is.taken.touches.put ∙ put_apart empty p b _ other ∙ get-empty nat_cmp b) ∙ e))
+    | inl same ↦ inl same
+    | inr other ↦ elim (cases_eq b is.leaf) [
+      | inl same ↦ inr same
+      | inr away ↦ absurd (none_some (sym (is.taken.others b other away) ∙ e))
+    ]
   ]
 
   -- and none was freed before
   pub second_stays : (b : ℕ) → is_gone (get is.fates b) ≡ false
   second_stays b = elim (cases_eq b p) [
-    | inl same ↦ ap is_gone (ap (get is.fates) same ∙ ap (λ (m : FinMap nat_cmp Fate). get m p) is.taken.takes.put ∙ put_at is.taken.first p _)
-    | inr other ↦ ap is_gone (ap (λ (m : FinMap nat_cmp Fate). get m b) is.taken.takes.put ∙ put_apart is.taken.first p b _ other
-        ∙ ap (λ (m : FinMap nat_cmp Fate). get m b) is.taken.touches.put ∙ put_apart empty p b _ other ∙ get-empty nat_cmp b)
+    | inl same ↦ ap is_gone (ap (get is.fates) same ∙ is.taken.put)
+    | inr other ↦ elim (cases_eq b is.leaf) [
+      | inl same ↦ ap is_gone (ap (get is.fates) same ∙ is.taken.leaf_put.1)
+      | inr away ↦ ap is_gone (is.taken.others b other away)
+    ]
   ]
 
 module _ {V : Type 0} (seen : V → Seen) (view : V) (p : ℕ) (name : List ℕ) (blocks : List ℕ) {time : ℕ} (change : Change) (is : IsRemoval seen view p name time blocks change)
@@ -130,7 +132,6 @@ module _ {V : Type 0} (seen : V → Seen) (view : V) (p : ℕ) (name : List ℕ)
     pub record_is : Record
     pub named : record_named (records_at im o p) name ≡ Some record_is
     pub childless : IsChildless im o a
-    pub plain : is_hashed_in (holding im o a) ≡ false
     pub goes : (b : ℕ) → Contains blocks b ↔ Goes (holding im o a) b
     pub applies : apply call t ≡ record { reply = Ok; tree = remove_at (in_directory front name) t }
 
@@ -141,5 +142,5 @@ module _ {V : Type 0} (seen : V → Seen) (view : V) (p : ℕ) (name : List ℕ)
       let put = is.freed.frees.counts inside.0 inside.1 (a, has, inside.2) in
       drafts_do (seen view) call Ok is.freed.fates change is.freed.finished changing inside.0.addr (ap (λ f. is_some (block_with f None)) put.1) (λ im o l t of. all_held)
       (λ im o l t of. let r = images im o l t of in
-      removing_makes (seen view) call is.freed.fates im o l t front p name a of r.at r.at_a
-      (removes seen view im o l t of front p name a r.at r.at_a r.record_is r.named r.childless r.plain blocks r.goes change is) held r.applies)
+      shrinking_makes (seen view) call is.freed.fates im o l t front p name a of r.at r.at_a
+      (removes seen view im o l t of front p name a r.at r.at_a r.record_is r.named r.childless blocks r.goes change is) held r.applies)

@@ -4,29 +4,19 @@ use Rattle.std.proofs.lemmas.Bool.{cases_Bool, cases_eq, cond-true, cond-false}
 use Rattle.std.proofs.lemmas.List.{length-append}
 use Rattle.std.specs.Prelude.{Contains, IsSome, if◌then◌else◌, unwrap_or}
 use Rattle.std.specs.Ordering.{nat_cmp}
-use Rattle.std.specs.FinMap.{FinMap, get, empty, insert, get-empty}
+use Rattle.std.specs.FinMap.{FinMap, get}
 use Rattle.file_tree.specs.Tree.{Tree}
 use Rattle.drafts.specs.Fates.{AreWhole, block_with, seen_with}
 use Rattle.drafts.specs.declared.change.Change.{Change}
 use Rattle.drafts.specs.declared.fate.Fate.{Fate}
 use Rattle.drafts.specs.declared.fate.Fate.TheVariants.{Put}
-use Rattle.gfs2_layout.specs.Exchanges.{IsExchanged}
-use Rattle.gfs2_layout.specs.Holding.{Holding, Itself, Part, part_at}
-use Rattle.gfs2_layout.specs.Inode.{IsInode, is_hashed_in, records_of}
+use Rattle.gfs2_layout.specs.Holding.{Itself, Part, part_at}
+use Rattle.gfs2_layout.specs.Inode.{IsInode}
 use Rattle.gfs2_layout.specs.Records.{Record, record_named}
 use Rattle.gfs2_layout.specs.States.{AreStatesPut, places_in}
-use Rattle.gfs2_layout.specs.declared.dinode.Dinode.{Dinode}
 use Rattle.gfs2_layout.specs.declared.rindex.Rindex.{Rindex}
-use Rattle.glock_names.specs.Views.{Seen, HasBlock, HasGroup, group_of_entry}
-use Rattle.glock_names.specs.declared.LockName.{LockName}
-use Rattle.dinode_tree.proofs.Sound.{parts_of_led, led_of_part}
-use Rattle.dinode_tree.specs.Reading.{inode_lock}
-use Rattle.dinode_tree.specs.Shown.{IsShown}
-use Rattle.dinode_tree.proofs.Sound.{sound_is_shown}
+use Rattle.glock_names.specs.Views.{Seen, HasGroup, group_of_entry}
 use Rattle.linear_dirs.specs.Exchanges.{HasExchanged}
-use Rattle.linear_dirs.specs.Shown.{holding_over}
-use Rattle.linear_dirs.proofs.Over.{parts_stay, over_over, as_seen}
-use Rattle.new_inodes.specs.Touched.{IsTouched}
 use Rattle.resource_groups.specs.Freeing.{HasSome}
 use Rattle.resource_groups.specs.Shown as group
 use Rattle.resource_groups.specs.Putting.{overlaid}
@@ -51,42 +41,24 @@ use Rattle.image_changes.proofs.Nodes.{among_in, in_among}
 use Rattle.image_changes.proofs.States.{map_same, blocks_are_freed}
 use Rattle.draft_changes.specs.Groups.{PutsGroup, IsPutUnder}
 use Rattle.draft_changes.specs.Removing as removing
-use Rattle.draft_changes.specs.Removing.{RemovesName, states_without}
-use Rattle.draft_changes.proofs.Rows.{cell_its, part_its}
-use Rattle.draft_changes.proofs.Views.{shows_inodes, shows_blocks, groups_are_listed, have_these_blocks, none_has_the_first}
-use Rattle.path_walks.proofs.Images.{is_inode, is_shown}
+use Rattle.draft_changes.specs.Removing.{states_without}
+use Rattle.draft_changes.proofs.Rows.{cell_its, its_cell, part_its}
+use Rattle.draft_changes.proofs.Views.{shows_inodes, shows_blocks, groups_are_listed}
+use Rattle.path_walks.proofs.Images.{is_inode, shown_inode}
+use Rattle.directory_changes.specs.Growing.{IsPutOrLeft}
+use Rattle.directory_changes.specs.Shrinking.{ShrinksByName}
 use Rattle.removing_calls.specs.Drafting.{IsRemoval}
 use Rattle.removing_calls.specs.Removing.{Goes}
-use Rattle.removing_calls.proofs.Lists.{named_so, put_at, put_apart}
-
--- what the draft before sees, a draft with one more block put sees
-put_sees : (v : Seen) (fates : FinMap nat_cmp Fate) (d : ℕ) (lock : LockName) (bytes : List ℕ) (b : ℕ) → HasBlock (seen_with v fates) b → HasBlock (seen_with v (insert fates d (Put lock false bytes))) b
-put_sees v fates d lock bytes b has = elim (cases_eq b d) [
-  | inl same ↦ (bytes, subst (λ c. (seen_with v (insert fates d (Put lock false bytes))).block_at c ≡ Some bytes) (sym same) (ap (λ f. block_with f (v.block_at d)) (put_at fates d (Put lock false bytes))))
-  | inr other ↦ (has.0, ap (λ f. block_with f (v.block_at b)) (put_apart fates d b (Put lock false bytes) other) ∙ has.1)
-]
-
--- a directory that was touched and then lacks a record, lacks it
-both : (h h1 h2 : Holding) (time : ℕ) (r : Record) → part_at h h.own ≡ Some Itself → IsInode h → IsTouched h h1 time → HasExchanged h1 h2 (r ∷ []) [] → HasExchanged h h2 (r ∷ []) []
-both h h1 h2 time r own sound touched gone = record {
-  sound = λ is. gone.sound (touched.sound own is);
-  head = gone.head ∙ touched.head;
-  records = subst (λ records. IsExchanged records (records_of h2) (r ∷ []) []) (touched.records own) gone.records;
-  counted = record {
-    entries = gone.counted.entries ∙ ap (λ (d : Dinode). d.entries + 0) touched.dinode;
-    links = gone.counted.links ∙ ap (λ (d : Dinode). d.nlink + 0) touched.dinode;
-  };
-}
+use Rattle.removing_calls.proofs.Found.{own_blocks, record_its, sound_hashed}
+use Rattle.removing_calls.proofs.Lists.{named_so}
+use Rattle.removing_calls.proofs.Taken.{lacks_record}
 
 module _ {V : Type 0} (seen : V → Seen) (view : V) (im : Image) (o : Owners) (l : Layout) (t : Tree) (of : IsOf (seen view) im o l t) (front : Path) (p : ℕ) (name : List ℕ) (a : ℕ)
     (at : IsAt im o l front p) (at_a : IsAt im o l (in_directory front name) a) (r : Record) (named : record_named (records_at im o p) name ≡ Some r)
-    (childless : IsChildless im o a) (plain : is_hashed_in (holding im o a) ≡ false) (blocks : List ℕ) (goes : (b : ℕ) → Contains blocks b ↔ Goes (holding im o a) b)
+    (childless : IsChildless im o a) (blocks : List ℕ) (goes : (b : ℕ) → Contains blocks b ↔ Goes (holding im o a) b)
     {time : ℕ} (change : Change) (is : IsRemoval seen view p name time blocks change) where
   abbrev v : Seen
   v = seen view
-
-  abbrev first : FinMap nat_cmp Fate
-  first = is.taken.first
 
   abbrev second : FinMap nat_cmp Fate
   second = is.fates
@@ -100,22 +72,13 @@ module _ {V : Type 0} (seen : V → Seen) (view : V) (im : Image) (o : Owners) (
   so_p : is_dinode (o p) ≡ true
   so_p = is_inode v im o l t of front p at
 
-  sound_a : IsInode (holding im o a)
-  sound_a = of.stands.laid.inodes a so_a
-
   sound_p : IsInode (holding im o p)
   sound_p = of.stands.laid.inodes p so_p
 
   -- ---- the inode's blocks
 
   own : (b : ℕ) → Contains blocks b ↔ IsSome ((holding im o a).cell b)
-  own b = let these = have_these_blocks im o l a b of.stands.laid so_a plain in (
-    (λ c. these.1 (elim ((goes b).0 c) [ inl e ↦ inl e | inr below ↦ inr (parts_of_led (holding im o a) b sound_a below) ])),
-    (λ some. (goes b).1 (elim (these.0 some) [
-      | inl e ↦ inl e
-      | inr q ↦ inr (led_of_part (holding im o a) b q.0 q.1 q.2 q.3 sound_a (none_has_the_first im o l a of.stands.laid) q.4)
-    ])),
-  )
+  own = own_blocks v im o l t of (in_directory front name) a at_a blocks goes
 
   its : (b : ℕ) → Contains blocks b → inode_of b (o b) ≡ Some a
   its b c = cell_its im o a b ((own b).0 c)
@@ -159,44 +122,36 @@ module _ {V : Type 0} (seen : V → Seen) (view : V) (im : Image) (o : Owners) (
       let f = (groups_are_listed v im o l t k of).0 has in
       away f.0 f.1 (some_so f.0 (subst (λ x. HasSome x blocks) f.2 some)) (header_so f.0 b (subst (λ x. group.IsHeaderOf x b) f.2 head)))
 
-  stays_at : (b : ℕ) → inode_of b (o b) ≡ Some p → get fates b ≡ get second b
+  pub stays_at : (b : ℕ) → inode_of b (o b) ≡ Some p → get fates b ≡ get second b
   stays_at b e = rest_stays b (not_these b e) (λ g listed some. not_header b e g listed)
 
-  -- what was put before is the directory's block alone
-  second_there : get second p ≡ Some (Put (record { kind = 2; number = p }) false is.taken.takes.bytes)
-  second_there = ap (λ (m : FinMap nat_cmp Fate). get m p) is.taken.takes.put ∙ put_at first p _
+  -- what was put before are blocks of the directory
+  leaf_its : inode_of is.leaf (o is.leaf) ≡ Some p
+  leaf_its = record_its v im o l t of front p is.leaf name at (is.taken.taken.from (holding im o p) (shown_inode v im o l t of front p at))
 
-  second_none : (b : ℕ) → b ≢ p → get second b ≡ None
-  second_none b other =
-      ap (λ (m : FinMap nat_cmp Fate). get m b) is.taken.takes.put ∙ put_apart first p b _ other
-      ∙ ap (λ (m : FinMap nat_cmp Fate). get m b) is.taken.touches.put ∙ put_apart empty p b _ other ∙ get-empty nat_cmp b
+  second_none : (b : ℕ) → ¬ (inode_of b (o b) ≡ Some p) → get second b ≡ None
+  second_none b other = is.taken.others b (λ e. other (subst (λ c. inode_of c (o c) ≡ Some p) (sym e) p_its)) (λ e. other (subst (λ c. inode_of c (o c) ≡ Some p) (sym e) leaf_its))
 
-  pub parent_put : get fates p ≡ Some (Put (record { kind = 2; number = p }) false is.taken.takes.bytes)
-  parent_put = stays_at p p_its ∙ second_there
+  pub parent_put : get fates p ≡ Some (Put (record { kind = 2; number = p }) false is.taken.bytes)
+  parent_put = stays_at p p_its ∙ is.taken.put
+
+  puts : (b : ℕ) → IsSome ((holding im o p).cell b) → IsPutOrLeft fates (holding im o p) p b
+  puts b some = elim (cases_eq b p) [
+    | inl same ↦ inl (is.taken.bytes, ap (get fates) same ∙ parent_put)
+    | inr other ↦ elim (cases_eq b is.leaf) [
+      | inl same ↦ inl (is.taken.leaf_put.0, ap (get fates) same ∙ stays_at is.leaf leaf_its ∙ is.taken.leaf_put.1)
+      | inr away ↦ inr (some, stays_at b (cell_its im o p b some) ∙ is.taken.others b other away)
+    ]
+  ]
 
   -- ---- the directory
 
   own_p : part_at (holding im o p) p ≡ Some Itself
   own_p = own_part im o p so_p
 
-  touched : IsTouched (holding im o p) (holding_over (seen_with v first) (holding im o p)) time
-  touched = is.taken.touches.touched (holding im o p) (is_shown v im o l t of front p at)
-
-  shown_first : IsShown (seen_with v first) p (holding_over (seen_with v first) (holding im o p))
-  shown_first = sound_is_shown (seen_with v first) (holding_over (seen_with v first) (holding im o p)) (touched.sound own_p sound_p)
-      (parts_stay (seen_with v first) (holding im o p) p ∙ own_p) of.size (as_seen (seen_with v first) (holding im o p))
-
-  sees : (b : ℕ) → HasBlock (seen_with v first) b → HasBlock (seen_with v second) b
-  sees b has = subst (λ m. HasBlock (seen_with v m) b) (sym is.taken.takes.put) (put_sees v first p (inode_lock p) is.taken.takes.bytes b has)
-
-  over_second : holding_over (seen_with v second) (holding_over (seen_with v first) (holding im o p)) ≡ holding (with_draft im second) o p
-  over_second = over_over (seen_with v first) (seen_with v second) (holding im o p) sees ∙ shows_inodes v second im o p of.agrees
-
   lacks : HasExchanged (holding im o p) (holding (with_draft im second) o p) (r ∷ []) []
-  lacks =
-      let gone = is.taken.takes.removed (holding_over (seen_with v first) (holding im o p)) r shown_first (ap (λ records. record_named records name) (touched.records own_p) ∙ named) in
-      both (holding im o p) (holding_over (seen_with v first) (holding im o p)) (holding (with_draft im second) o p) time r own_p sound_p touched
-      (subst (λ h. HasExchanged (holding_over (seen_with v first) (holding im o p)) h (r ∷ []) []) over_second gone)
+  lacks = subst (λ h. HasExchanged (holding im o p) h (r ∷ []) []) (shows_inodes v second im o p of.agrees)
+      (lacks_record v p name time is.leaf second is.taken (holding im o p) r (shown_inode v im o l t of front p at) sound_p own_p (sound_hashed v im o l t of front p at) named)
 
   same_cell : (b : ℕ) → cell_in (with_draft im second) o p b ≡ cell_in (with_draft im fates) o p b
   unfolding cell_in
@@ -213,7 +168,7 @@ module _ {V : Type 0} (seen : V → Seen) (view : V) (im : Image) (o : Owners) (
 
   -- no header or bitmap block of a group was put before
   header_none : (g : Rindex) → IsListed l.groups g → (b : ℕ) → IsHeaderOf g b → get second b ≡ None
-  header_none g listed b h = second_none b (λ e. not_header b (subst (λ c. inode_of c (o c) ≡ Some p) (sym e) p_its) g listed h)
+  header_none g listed b h = second_none b (λ its. not_header b its g listed h)
 
   group_shown : (g : Rindex) → IsListed l.groups g → group.IsShown (seen_with v second) (group_of_entry g) im.at
   group_shown g listed = record {
@@ -263,7 +218,7 @@ module _ {V : Type 0} (seen : V → Seen) (view : V) (im : Image) (o : Owners) (
 
   -- ---- the name is removed
 
-  pub removes : RemovesName im o l fates p name a
+  pub removes : ShrinksByName im o l fates p name a
   removes = record {
     whole = subst (λ size. AreWhole size fates) (sym of.size) is.freed.whole;
     childless = childless;
@@ -273,8 +228,7 @@ module _ {V : Type 0} (seen : V → Seen) (view : V) (im : Image) (o : Owners) (
     states = states;
     entry = r;
     named = named_so (records_at im o p) name r named;
-    parent_bytes = is.taken.takes.bytes;
-    parent_put = parent_put;
     exchanged = exchanged;
-    others = λ b other away none. rest_stays b away none ∙ second_none b other;
+    puts = puts;
+    others = λ b other away none. rest_stays b away none ∙ second_none b (λ its. other (its_cell im o p b its));
   }

@@ -4,7 +4,6 @@ use Rattle.cluster_history.specs.Changes.{is_ok}
 use Rattle.file_tree.specs.Apply.{apply}
 use Rattle.file_tree.specs.Tree.{Tree}
 use Rattle.file_tree.specs.declared.call.Call.{Call}
-use Rattle.file_tree.specs.declared.call.Call.TheVariants as call
 use Rattle.file_tree.specs.declared.reply.Reply.{Reply}
 use Rattle.gfs2_layout.specs.Holding.{Holding}
 use Rattle.glock_names.specs.Views.{Seen}
@@ -21,24 +20,10 @@ use Rattle.path_walks.specs.Holds.{AreHeld}
 use Rattle.path_walks.specs.Walks.{IsSeenAt, IsLastOf}
 use Rattle.path_walks.specs.declared.walk.Place.{Place}
 use Rattle.path_walks.proofs.Images.{is_shown}
-use Rattle.removing_calls.specs.Removing.{IsAimOf, IsRefused, IsHashedFor, IsReachedIn, at_end, holds_for}
+use Rattle.removing_calls.specs.Removing.{IsAimOf, IsRefused, IsReachedIn, holds_for}
 use Rattle.removing_calls.specs.declared.aims.Aim.{Aim}
 use Rattle.removing_calls.specs.declared.aims.Aim.TheVariants as aim
 use Rattle.removing_calls.proofs.Trees.{aim_not_ok, aim_refuses, plain_list}
-
-hashed_of : (c : Call) (h : Holding) (b : ℕ) → IsAimOf c h (aim.Hashed b) → b ≡ h.own
-hashed_of (call.Rmdir p) h b is = is.0
-hashed_of (call.Unlink p) h b is = absurd is
-hashed_of (call.Create p) h b is = absurd is
-hashed_of (call.Mkdir p) h b is = absurd is
-hashed_of (call.Read p from count) h b is = absurd is
-hashed_of (call.Dread p from count) h b is = absurd is
-hashed_of (call.Write p from new) h b is = absurd is
-hashed_of (call.Truncate p size) h b is = absurd is
-hashed_of (call.Stat p) h b is = absurd is
-hashed_of (call.List p) h b is = absurd is
-hashed_of (call.Rename p q) h b is = absurd is
-hashed_of call.Sync h b is = absurd is
 
 module _ (v : Seen) (c : Call) (p : Place) (there : IsSeenAt v (wanted c) (path_of c false) p) (made : Aim) (aims : (h : Holding) → IsShown v p.inode h → IsAimOf c h made) where
   pub is_refused : (r : Reply) → made ≡ aim.Refused r → (is_ok r ≡ false) × HasSpace r
@@ -46,12 +31,6 @@ module _ (v : Seen) (c : Call) (p : Place) (there : IsSeenAt v (wanted c) (path_
 
   pub told_refused : (r : Reply) → made ≡ aim.Refused r → IsRefused v c r
   told_refused r is = IsRefused.at_end p.inode r there.leads there.there (λ h shown. subst (IsAimOf c h) is (aims h shown))
-
-  pub is_hashed : (b : ℕ) → path_of c false ≢ [] → made ≡ aim.Hashed b → IsHashedFor v c b
-  is_hashed b below is =
-      let s = some_is_shown v p.inode in
-      let same : b ≡ p.inode = hashed_of c s.0 b (subst (IsAimOf c s.0) is (aims s.0 s.1.0)) ∙ s.1.0.own in
-      subst (IsHashedFor v c) (sym same) (at_end below there.leads there.there (λ h shown. subst (λ x. IsAimOf c h (aim.Hashed x)) same (subst (IsAimOf c h) is (aims h shown))))
 
   module _ (name : List ℕ) (last : IsLastOf (path_of c false) name) (im : Image) (o : Owners) (l : Layout) (t : Tree) (of : IsOf v im o l t) (reached : IsReachedIn v im o l c p) (r : Reply) (is : made ≡ aim.Refused r) where
     pub refuses : (apply c t).reply ≡ r

@@ -1,5 +1,5 @@
 -- What the tree answers a call that removes a name, by the inode at its path's end.
-use Rattle.std.proofs.Common.{◌≡◌, ◌≢◌, ◌&&◌, ℕ, Bool, true, false, true≢false, List, [], ◌∷◌, ◌++◌, refl, sym, ap, ◌∙◌, arith}
+use Rattle.std.proofs.Common.{◌≡◌, ◌≢◌, ℕ, true, false, true≢false, List, [], ◌∷◌, ◌++◌, refl, sym, ap, ◌∙◌, arith}
 use Rattle.std.proofs.lemmas.List.{append-nil}
 use Rattle.std.specs.Prelude.{if◌then◌else◌}
 use Rattle.cluster_history.specs.Changes.{is_ok, Changes}
@@ -10,7 +10,7 @@ use Rattle.file_tree.specs.declared.call.Call.TheVariants as call
 use Rattle.file_tree.specs.declared.reply.Reply.{Reply}
 use Rattle.file_tree.specs.declared.reply.Reply.TheVariants as reply
 use Rattle.gfs2_layout.specs.Holding.{Holding}
-use Rattle.gfs2_layout.specs.Inode.{dinode_in, is_directory_in, is_hashed_in, content_of}
+use Rattle.gfs2_layout.specs.Inode.{dinode_in, is_directory_in, content_of}
 use Rattle.glock_names.specs.Views.{Seen}
 use Rattle.call_locks.specs.Wants.{wanted}
 use Rattle.call_locks.specs.WantLaws.{path_of}
@@ -220,22 +220,15 @@ module _ (v : Seen) (im : Image) (o : Owners) (l : Layout) (t : Tree) (of : IsOf
   pub record IsTakenBy (c : Call) (a : ℕ) : Type 0 where
     pub applies : apply c t ≡ removed (path_of c false) t
     pub childless : IsChildless im o a
-    pub plain : is_hashed_in (holding im o a) ≡ false
-
-  no_directory : (a b : Bool) → a ≡ false → (a && b) ≡ false
-  no_directory true b e = absurd (true≢false e)
-  no_directory false b e = refl
 
   pub aim_takes : (c : Call) (name : List ℕ) (a : ℕ) → IsLastOf (path_of c false) name → IsAt im o l (path_of c false) a → IsAimOf c (holding im o a) aim.Taken → IsTakenBy c a
   aim_takes (call.Unlink p) name a last at is = record {
     applies = file_taken v im o l t of p a at name last is;
     childless = λ directory. absurd (true≢false (sym directory ∙ is));
-    plain = no_directory (is_directory_in (holding im o a)) _ is;
   }
   aim_takes (call.Rmdir p) name a last at is = record {
-    applies = directory_taken v im o l t of p a at name last is.0 is.2;
-    childless = λ directory. is.2;
-    plain = is.1;
+    applies = directory_taken v im o l t of p a at name last is.0 is.1;
+    childless = λ directory. is.1;
   }
   aim_takes (call.Create p) name a last at is = absurd is
   aim_takes (call.Mkdir p) name a last at is = absurd is

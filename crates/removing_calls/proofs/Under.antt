@@ -9,7 +9,6 @@ use Rattle.file_tree.specs.declared.call.Call.{Call}
 use Rattle.file_tree.specs.Tree.{Tree}
 use Rattle.drafts.specs.declared.change.Change.{Change}
 use Rattle.drafts.specs.declared.fate.Fate.TheVariants.{Put, Freed}
-use Rattle.gfs2_layout.specs.Inode.{is_hashed_in}
 use Rattle.gfs2_layout.specs.declared.rindex.Rindex.{Rindex}
 use Rattle.glock_names.specs.Views.{Seen, HasGroup, group_of_entry}
 use Rattle.glock_names.specs.declared.LockName.{LockName}
@@ -23,7 +22,7 @@ use Rattle.resource_groups.specs.Putting.{HasDataBlock}
 use Rattle.resource_groups.specs.Shown.{IsHeaderOf, group_lock}
 use Rattle.image_model.specs.Flat.{Path, Flat, follow}
 use Rattle.image_model.specs.Image.{Image}
-use Rattle.image_model.specs.Owners.{Owners, is_dinode, holding}
+use Rattle.image_model.specs.Owners.{Owners, holding}
 use Rattle.image_model.specs.Stands.{Layout, flat_of}
 use Rattle.image_model.proofs.Counts.{at_in}
 use Rattle.image_model.proofs.Held.{some_same}
@@ -93,8 +92,8 @@ place_low (y ∷ ys) (suc i) x e = omega (arith, place_low ys i x e)
 put_lock : (x y : LockName) (c d : Bool) (m n : List ℕ) → Some (Put x c m) ≡ Some (Put y d n) → x ≡ y
 put_lock x y c d m n e = cc
 
-module _ {V : Type 0} (seen : V → Seen) (view : V) (im : Image) (o : Owners) (l : Layout) (t : Tree) (of : IsOf (seen view) im o l t) (p : ℕ) (name : List ℕ) (a : ℕ) (so : is_dinode (o a) ≡ true)
-    (plain : is_hashed_in (holding im o a) ≡ false) (blocks : List ℕ) (goes : (b : ℕ) → Contains blocks b ↔ Goes (holding im o a) b) {time : ℕ} (change : Change)
+module _ {V : Type 0} (seen : V → Seen) (view : V) (im : Image) (o : Owners) (l : Layout) (t : Tree) (of : IsOf (seen view) im o l t) (p : ℕ) (name : List ℕ) (path : Path) (a : ℕ) (at : IsAt im o l path a)
+    (blocks : List ℕ) (goes : (b : ℕ) → Contains blocks b ↔ Goes (holding im o a) b) {time : ℕ} (change : Change)
     (is : IsRemoval seen view p name time blocks change) where
   -- each is the directory's, or that of a group that has some of the inode's blocks
   abbrev IsOne : LockName → Type 0
@@ -121,7 +120,7 @@ module _ {V : Type 0} (seen : V → Seen) (view : V) (im : Image) (o : Owners) (
           elim (cases_Bool (has_some (is_block_of (holding im o a)) f.0)) [
             | inl some ↦ inr (f.0, at_in f.0 l.groups f.1.0 f.1.1, some, put_lock lock (group_lock g) content false bytes put.0 (sym e ∙ put.1) ∙ ap group_lock f.2)
             | inr lacks ↦ inl (second_lock seen view p name blocks change is b lock content bytes (sym (is.freed.rest.groups g b has
-                (λ some. true≢false (sym (so_has (is_block_of (holding im o a)) blocks (own_blocks (seen view) im o l t of a so plain blocks goes) f.0 (subst (λ k. HasSome k blocks) f.2 some)) ∙ lacks)) head) ∙ e))
+                (λ some. true≢false (sym (so_has (is_block_of (holding im o a)) blocks (own_blocks (seen view) im o l t of path a at blocks goes) f.0 (subst (λ k. HasSome k blocks) f.2 some)) ∙ lacks)) head) ∙ e))
           ]
 
   -- what is freed is the inode's
@@ -146,7 +145,7 @@ module _ {V : Type 0} (seen : V → Seen) (view : V) (im : Image) (o : Owners) (
         let w = there_at change.blocks.items i.0 (omega (arith, i.1, d.form.locks)) in
         contained (record { lock = lock; state = Ex }) (list ++ more) (listed lock (which w.0.block lock w.0.plain w.0.bytes (d.told i.0 w.0 lock w.1 i.2)));
     freed = λ b x gone its.
-        let mine = goes_its (seen view) im o l t of a b so ((goes b).0 (freed_its b (sym (d.gone b) ∙ gone))) in
+        let mine = goes_its (seen view) im o l t of path a b at ((goes b).0 (freed_its b (sym (d.gone b) ∙ gone))) in
         contained (hold_of x Ex) (list ++ more) (in_left (hold_of x Ex) list more (subst (λ y. IsIn (hold_of y Ex) list) (some_same (sym mine ∙ its)) own));
   }
     where
@@ -176,13 +175,18 @@ module _ {V : Type 0} (seen : V → Seen) (view : V) (p : ℕ) (name : List ℕ)
       | inl freed ↦ absurd (differ (some_same (sym e ∙ is.freed.frees.freed b (contained b blocks (among_in blocks b freed)))))
       | inr other ↦
           let before = sym (is.freed.rest.others b (λ c. true≢false (sym (in_among blocks b (is_in b blocks c)) ∙ other)) (λ g has some head. none g (is_in g (seen view).groups has) head)) ∙ e in
-          let here : b ≡ p = second_place seen view p name blocks change is b lock content bytes before in
-          subst (LiesInGroup (seen view)) (sym here) (data_lies (seen view) p is.shows inside)
+          elim (second_place seen view p name blocks change is b lock content bytes before) [
+            | inl here ↦ subst (LiesInGroup (seen view)) (sym here) (data_lies (seen view) p is.shows inside)
+            | inr here ↦ subst (LiesInGroup (seen view)) (sym here) (data_lies (seen view) is.leaf is.shows leaf_inside)
+          ]
     ]
   ]
     where
       differ : Put lock content bytes ≡ Freed → ⊥
       differ e = cc
+
+      leaf_inside : HasDataBlock (seen view) is.leaf
+      leaf_inside = elim is.taken.inside [ inl e ↦ subst (HasDataBlock (seen view)) (sym e) inside | inr there ↦ there ]
 
   pub writes_inside : AreInside (seen view) change
   writes_inside = stay_inside (seen view) is.freed.fates change is.freed.finished is.freed.whole put_inside

@@ -1,7 +1,7 @@
 // What a call that removes a name does with the inode at its path's end.
 ghost use Rattle.std.specs.Prelude.{◌≡◌, true, IfOk};
 ghost use Rattle.gfs2_layout.specs.Holding.{Holding};
-ghost use Rattle.gfs2_layout.specs.Inode.{dinode_in, has_hash_flag};
+ghost use Rattle.gfs2_layout.specs.Inode.{dinode_in, has_hash_flag, is_hashed_in};
 ghost use Rattle.glock_names.specs.Steps.{IfDamaged};
 ghost use Rattle.glock_names.specs.Views.{HasBlock, IsOfView};
 ghost use Rattle.dinode_tree.specs.Shown.{IsShown};
@@ -22,11 +22,21 @@ pub(crate) enum Aim {
     Taken,
 }
 
-/// Whether a directory's dinode says that it is a hashed one.
-pub(crate) fn is_hashed(dinode: &Dinode) -> bool
+// Whether a directory's dinode says that it is a hashed one.
+fn is_hashed(dinode: &Dinode) -> bool
     ensures { result ≡ has_hash_flag dinode.now }
 {
     dinode.flags / 2 % 2 == 1
+}
+
+/// Whether an inode's dinode says that it is a hashed directory.
+pub(crate) fn is_hashed_directory(dinode: &Dinode) -> bool
+    ensures { (h : Holding) → dinode.now ≡ dinode_in h → result ≡ is_hashed_in h }
+{
+    if !dinode.is_directory() {
+        return false;
+    }
+    is_hashed(dinode)
 }
 
 // Of an inode that is to be a file.

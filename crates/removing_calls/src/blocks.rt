@@ -12,7 +12,7 @@ ghost use Rattle.resource_groups.specs.Putting.{HasDataBlock};
 ghost use Rattle.directories.specs.Shown as dirs;
 ghost use Rattle.removing_calls.specs.Removing.{AreAllOf, CountsItsLeaves, IsNeededOf, IsWrongBelow};
 
-use crate::aims::is_hashed;
+use crate::aims::is_hashed_directory;
 use dinode_tree::{PointedBlock, blocks_below};
 use directories::counted_leaves;
 use gfs2_layout::Dinode;
@@ -87,7 +87,7 @@ pub(crate) fn blocks_of<V: View>(
         Step::Is(blocks) => blocks,
         Step::NeedBlock(missing) => return Ok(Step::NeedBlock(missing)),
     };
-    if !dinode.is_directory() || !is_hashed(dinode) {
+    if !is_hashed_directory(dinode) {
         return Ok(Step::Is(blocks));
     }
     let leaves = match counted_leaves(alloc, view, inode)? {

@@ -206,7 +206,7 @@ pub fn attempt<V: View>(
     ensures inside { IfDone result (λ reply change. is_ok reply ≡ true → AreInside (V.seen view.now) change) }
     ensures lacked { IfNeedLock result (IsLackedFor (V.seen view.now) call.now) }
     ensures needed { IfNeedBlock result (IsNeededFor (V.seen view.now) call.now) }
-    ensures hashed { IfHashed result ⊥ }
+    ensures hashed { IfHashed result (λ block. ⊥) }
     ensures built { IfNotBuilt result ⊥ }
     ensures sound { (im : Image) (o : Owners) (l : Layout) (t : Tree) → IsOf (V.seen view.now) im o l t → IfDamaged result (λ rule block. ⊥) }
     ensures damaged { IfDamaged result (IsDamage (V.seen view.now) call.now) }

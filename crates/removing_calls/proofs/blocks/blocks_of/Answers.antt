@@ -1,40 +1,44 @@
-use Rattle.std.proofs.Common.{[], ◌∷◌, ◌++◌, ap, ◌∙◌, subst}
+use Rattle.std.proofs.Common.{◌≡◌, ◌++◌, List, ℕ, sym, ap, ◌∙◌, subst}
 use Rattle.std.specs.Prelude.{Contains}
+use Rattle.gfs2_layout.specs.Holding.{Holding}
 use Rattle.glock_names.proofs.StepLaws.{answer_at, needed_at}
-use Rattle.dinode_tree.specs.Broken as inode
-use Rattle.dinode_tree.specs.declared.below.PointedBlock.{PointedBlock}
-use Rattle.resource_groups.specs.Putting.{HasDataBlock}
-use Rattle.removing_calls.specs.Removing.{IsWrongBelow, in_inode, stray}
-use Rattle.removing_calls.proofs.Going.{goes_all, inside_all, numbers}
+use Rattle.glock_names.specs.Steps.{TellsOf}
+use Rattle.directories.specs.Shown as dirs
+use Rattle.directories.proofs.Forms.{some_directory}
+use Rattle.dinode_tree.proofs.Sound.{some_is_shown}
+use Rattle.hash_dirs.specs.Leaves.{AreLeaves}
+use Rattle.removing_calls.specs.Removing.{IsNeededOf, IsWrongBelow}
+use Rattle.removing_calls.specs.Removing as damage
+use Rattle.removing_calls.proofs.Going.{directory_of_hashed, goes_hashed, goes_plain}
 use Rattle.removing_calls.proofs.blocks.blocks_of.Goals as goal
-use Rattle.path_walks.proofs.Faults.{told_on, tells_so, tells_all}
-
-pub returns-in_err-below-clause-damaged : goal.returns-in_err-below-clause-damaged
-returns-in_err-below-clause-damaged g c =
-    let v = g.V.View.seen c.args.view.now in
-    told_on (IsWrongBelow v c.args.inode) c.from_residual.result _ c.from_residual.ensures.1
-    (tells_so _ (IsWrongBelow v c.args.inode) in_inode c.in_err-below.field-0.0 (tells_all v c.args.inode inode.IsBroken c.in_err-below.field-0.0 c.in_err-below.ensures.damaged))
+use Rattle.path_walks.proofs.Faults.{told_on, tells_so, tells_each}
 
 pub returns-in-NeedBlock-clause-needed : goal.returns-in-NeedBlock-clause-needed
-returns-in-NeedBlock-clause-needed g c h shown = needed_at _ _ _ c.in-NeedBlock.is (c.in_ok-below.ensures.needed h shown)
+returns-in-NeedBlock-clause-needed g c = damage.IsNeededOf.in_tree (λ h shown. needed_at _ _ _ c.in-NeedBlock.is (c.in_ok-blocks.ensures.needed h shown))
 
-pub returns-in-Some-clause-damaged : goal.returns-in-Some-clause-damaged
-returns-in-Some-clause-damaged g c =
-    let there : Contains c.in-Is.below.items c.in-Some.stray = subst (λ ps. Contains ps c.in-Some.stray) c.deref.ensures.value c.in-Some.ensures.some.0 in
-    stray c.in-Some.stray.from c.in-Some.stray.block (λ h shown. answer_at _ _ _ c.in-Is.is (c.in_ok-below.ensures.led h shown) c.in-Some.stray there) c.in-Some.ensures.some.1
+pub returns-then-not-is_hashed_directory-clause-all : goal.returns-then-not-is_hashed_directory-clause-all
+returns-then-not-is_hashed_directory-clause-all g c h shown =
+    goes_plain h c.in-Is.blocks.items (sym (c.is_hashed_directory.ensures h (c.requires.dinode h shown.inode)) ∙ c.if-not-is_hashed_directory.true) (answer_at _ _ _ c.in-Is.is (c.in_ok-blocks.ensures.all h shown.inode))
 
-pub returns-in-Some-clause-kept : goal.returns-in-Some-clause-kept
-returns-in-Some-clause-kept g c =
-    let there : Contains c.in-Is.below.items c.in-Some.stray = subst (λ ps. Contains ps c.in-Some.stray) c.deref.ensures.value c.in-Some.ensures.some.0 in
-    answer_at _ _ _ c.in-Is.is c.in_ok-below.ensures.there c.in-Some.stray there
+pub counted_leaves-requires : goal.counted_leaves-requires
+counted_leaves-requires g c h shown = sym (c.is_hashed_directory.ensures h (c.requires.dinode h shown.inode)) ∙ c.if-not-is_hashed_directory.false
+
+pub returns-in_err-leaves-clause-damaged : goal.returns-in_err-leaves-clause-damaged
+returns-in_err-leaves-clause-damaged g c =
+    let v = g.V.View.seen c.args.view.now in
+    told_on (IsWrongBelow v c.args.inode) c.from_residual-in_err-leaves.result _ c.from_residual-in_err-leaves.ensures.1
+    (tells_so (λ rule b. (h : Holding) → dirs.IsShown v c.args.inode h → dirs.IsBroken v h rule b) (IsWrongBelow v c.args.inode)
+    (λ rule b broken. damage.IsWrongBelow.of_leaves rule b (λ h shown. directory_of_hashed h (sym (c.is_hashed_directory.ensures h (c.requires.dinode h shown)) ∙ c.if-not-is_hashed_directory.false)) broken) c.in_err-leaves.field-0.0
+    (tells_each (dirs.IsShown v c.args.inode) (dirs.IsBroken v) c.in_err-leaves.field-0.0 c.in_err-leaves.ensures.damaged))
+
+pub returns-in-NeedBlock-2-clause-needed : goal.returns-in-NeedBlock-2-clause-needed
+returns-in-NeedBlock-2-clause-needed g c =
+    damage.IsNeededOf.in_leaves
+    (λ h shown. (sym (c.is_hashed_directory.ensures h (c.requires.dinode h shown.inode)) ∙ c.if-not-is_hashed_directory.false, needed_at _ _ _ c.in-NeedBlock-2.is (c.in_ok-leaves.ensures.needed h shown)))
+    (needed_at _ _ _ c.in-NeedBlock-2.is c.in_ok-leaves.ensures.absent)
 
 pub returns-clause-all : goal.returns-clause-all
 returns-clause-all g c h shown =
-    goes_all h c.args.inode c.in-Is.below.items c.push.new.self.items shown.own (answer_at _ _ _ c.in-Is.is (c.in_ok-below.ensures.led h shown)) (answer_at _ _ _ c.in-Is.is (c.in_ok-below.ensures.all h shown))
-    (c.in_ok-push.ensures.items ∙ ap (λ ns. ns ++ c.args.inode ∷ []) (c.in_ok-blocks.ensures ∙ ap numbers c.deref-2.ensures.value))
-
-pub returns-clause-inside : goal.returns-clause-inside
-returns-clause-inside g c =
-    inside_all (g.V.View.seen c.args.view.now) c.args.inode c.in-Is.below.items c.push.new.self.items c.requires.inside
-    (subst (λ ps. (p : PointedBlock) → Contains ps p → HasDataBlock (g.V.View.seen c.args.view.now) p.block) c.deref.ensures.value c.in_default.ensures.none)
-    (c.in_ok-push.ensures.items ∙ ap (λ ns. ns ++ c.args.inode ∷ []) (c.in_ok-blocks.ensures ∙ ap numbers c.deref-2.ensures.value))
+    let grown : c.extend_from_slice.new.self.items ≡ c.in-Is.blocks.items ++ c.in-Is-2.leaves.items = c.in_ok-extend_from_slice.ensures.items ∙ ap (λ xs. c.in-Is.blocks.items ++ xs) c.deref.ensures.value in
+    goes_hashed h c.in-Is.blocks.items c.in-Is-2.leaves.items c.extend_from_slice.new.self.items (sym (c.is_hashed_directory.ensures h (c.requires.dinode h shown.inode)) ∙ c.if-not-is_hashed_directory.false)
+    (answer_at _ _ _ c.in-Is.is (c.in_ok-blocks.ensures.all h shown.inode)) (answer_at _ _ _ c.in-Is-2.is (c.in_ok-leaves.ensures.found h shown)) grown

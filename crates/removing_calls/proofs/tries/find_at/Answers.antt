@@ -1,12 +1,9 @@
-use Rattle.std.proofs.Common.{sym, ◌∙◌, subst}
 use Rattle.dinode_tree.specs.Shown.{IsShown}
 use Rattle.gfs2_layout.specs.Holding.{Holding}
 use Rattle.path_walks.proofs.Faults.{told_on, tells_so, tells_all}
-use Rattle.path_walks.proofs.Leads.{no_end}
-use Rattle.dinode_tree.specs.Broken as inode
-use Rattle.removing_calls.specs.Removing.{BreaksAsLinear, IsAimOf, IsDamage, IsHashedFor}
-use Rattle.removing_calls.proofs.Made.{told_refused, is_refused, is_hashed, refuses, refused_held}
-use Rattle.removing_calls.proofs.Placed.{above_damage, above_directory, above_there, above_unbroken, below_root, inode_damage, inode_unbroken}
+use Rattle.removing_calls.specs.Removing.{BreaksAsLinear, IsDamage}
+use Rattle.removing_calls.proofs.Made.{told_refused, is_refused, refuses, refused_held}
+use Rattle.removing_calls.proofs.Placed.{inode_damage, inode_unbroken}
 use Rattle.removing_calls.proofs.tries.find_at.Goals as goal
 
 pub returns-in_err-reply-clause-sound : goal.returns-in_err-reply-clause-sound
@@ -35,38 +32,5 @@ returns-in-Refused-clause-found g c im o l t of reached =
 pub returns-in-Refused-clause-refusal : goal.returns-in-Refused-clause-refusal
 returns-in-Refused-clause-refusal g c = is_refused (g.V.View.seen c.args.view.now) c.args.call.now c.args.place.now c.requires.seen c.in_ok-reply.field-0 c.in_ok-reply.ensures.aim c.in-Refused.reply c.in-Refused.is
 
-pub returns-in-Hashed-clause-told : goal.returns-in-Hashed-clause-told
-returns-in-Hashed-clause-told g c =
-    is_hashed (g.V.View.seen c.args.view.now) c.args.call.now c.args.place.now c.requires.seen c.in_ok-reply.field-0 c.in_ok-reply.ensures.aim c.in-Hashed.block (λ root. no_end c.requires.last.0 c.args.name.now (sym root ∙ c.requires.last.1)) c.in-Hashed.is
-
 pub returns-in-Refused-clause-told : goal.returns-in-Refused-clause-told
 returns-in-Refused-clause-told g c = told_refused (g.V.View.seen c.args.view.now) c.args.call.now c.args.place.now c.requires.seen c.in_ok-reply.field-0 c.in_ok-reply.ensures.aim c.in-Refused.reply c.in-Refused.is
-
-pub is_hashed_above-requires-clause-there : goal.is_hashed_above-requires-clause-there
-is_hashed_above-requires-clause-there g c = above_there (g.V.View.seen c.args.view.now) c.args.call.now c.args.place.now c.args.name.now c.requires.last c.requires.seen c.is_a_view.ensures
-
-pub is_hashed_above-requires-clause-directory : goal.is_hashed_above-requires-clause-directory
-is_hashed_above-requires-clause-directory g c = above_directory (g.V.View.seen c.args.view.now) c.args.call.now c.args.place.now c.args.name.now c.requires.last c.requires.seen c.is_a_view.ensures
-
-pub returns-in_err-is_hashed_above-in-Taken-clause-sound : goal.returns-in_err-is_hashed_above-in-Taken-clause-sound
-returns-in_err-is_hashed_above-in-Taken-clause-sound g c im o l t of reached =
-    let v = g.V.View.seen c.args.view.now in
-    told_on (λ rule b. ⊥) _ _ c.from_residual-in_err-is_hashed_above-in-Taken.ensures.1
-    (tells_so (λ rule b. (h : Holding) → IsShown v c.args.place.now.above h → inode.IsBroken h rule b) (λ rule b. ⊥)
-    (above_unbroken v c.args.call.now c.args.place.now c.args.name.now c.requires.last c.requires.seen im o l t of reached) c.in_err-is_hashed_above-in-Taken.field-0.0
-    (tells_all v c.args.place.now.above inode.IsBroken c.in_err-is_hashed_above-in-Taken.field-0.0 c.in_err-is_hashed_above-in-Taken.ensures.damaged))
-
-pub returns-in_err-is_hashed_above-in-Taken-clause-damaged : goal.returns-in_err-is_hashed_above-in-Taken-clause-damaged
-returns-in_err-is_hashed_above-in-Taken-clause-damaged g c =
-    let v = g.V.View.seen c.args.view.now in
-    told_on (IsDamage v c.args.call.now) _ _ c.from_residual-in_err-is_hashed_above-in-Taken.ensures.1
-    (tells_so (λ rule b. (h : Holding) → IsShown v c.args.place.now.above h → inode.IsBroken h rule b) (IsDamage v c.args.call.now)
-    (above_damage v c.args.call.now c.args.place.now c.args.name.now c.requires.last c.requires.seen) c.in_err-is_hashed_above-in-Taken.field-0.0
-    (tells_all v c.args.place.now.above inode.IsBroken c.in_err-is_hashed_above-in-Taken.field-0.0 c.in_err-is_hashed_above-in-Taken.ensures.damaged))
-
-pub returns-then-branch-clause-told : goal.returns-then-branch-clause-told
-returns-then-branch-clause-told g c =
-    let v = g.V.View.seen c.args.view.now in
-    IsHashedFor.above_name c.args.place.now.inode
-    (record { below = below_root (g.V.View.seen c.args.view.now) c.args.call.now c.args.place.now c.args.name.now c.requires.last c.requires.seen; leads = c.requires.seen.leads; there = c.requires.seen.there; aim = λ h shown. subst (IsAimOf c.args.call.now h) c.in-Taken.is (c.in_ok-reply.ensures.aim h shown) })
-    c.requires.seen.above (above_there (g.V.View.seen c.args.view.now) c.args.call.now c.args.place.now c.args.name.now c.requires.last c.requires.seen c.is_a_view.ensures) (c.in_ok-is_hashed_above-in-Taken.ensures.hashed c.if-branch.true)

@@ -2,13 +2,12 @@ use Rattle.std.proofs.Common.{ℕ, not, List, sym, ap, ◌∙◌, subst}
 use Rattle.std.specs.Prelude.{Contains}
 use Rattle.gfs2_layout.proofs.StatePuts.{has_any}
 use Rattle.glock_names.specs.Steps.{TellsOf}
-use Rattle.resource_groups.specs.Freeing as freeing
 use Rattle.glock_names.proofs.StepLaws.{answer_at, needed_at}
 use Rattle.path_walks.proofs.Steps.{inside_so, none_so}
-use Rattle.removing_calls.specs.Drafting.{IsWrongIn, IsRemoval}
+use Rattle.removing_calls.specs.Drafting.{IsNeededIn, IsWrongIn, IsRemoval}
 use Rattle.group_locks.specs.Groups.{GroupsAreHeld, IsFirstGroupLack}
-use Rattle.removing_calls.specs.Removing.{IsDamage, IsLackedFor, IsNeededFor, IsWrongBelow, above}
-use Rattle.removing_calls.proofs.Placed.{above_there, above_linear, above_named, above_inside, below_damage, below_root, inode_inside, nothing_below, inode_needed, own_among, removal_damage, taken_ok, list_held, group_lacks, group_needed, nothing_wrong, above_apart, shared_damage}
+use Rattle.removing_calls.specs.Removing.{AreAllOf, IsDamage, IsLackedFor, IsNeededOf, IsWrongBelow, above}
+use Rattle.removing_calls.proofs.Placed.{above_there, above_block, above_named, above_inside, below_damage, below_root, inode_inside, nothing_below, inode_needed, inode_needs, own_among, removal_damage, removal_needed, removal_needs, taken_ok, list_held, group_lacks, nothing_wrong, above_apart, shared_damage}
 use Rattle.removing_calls.proofs.Under.{writes_inside}
 use Rattle.removing_calls.proofs.Taking.{does, stamped, under}
 use Rattle.removing_calls.proofs.tries.remove_at.Goals as goal
@@ -27,7 +26,11 @@ pub returns-then-is_none-clause-kept : goal.returns-then-is_none-clause-kept
 returns-then-is_none-clause-kept g c = above_there (g.V.View.seen c.args.view.now) c.args.call.now c.args.place.now c.args.name.now c.requires.last c.requires.seen c.is_a_view.ensures
 
 pub blocks_of-requires : goal.blocks_of-requires
-blocks_of-requires g c = record { inside = inode_inside (g.V.View.seen c.args.view.now) c.args.call.now c.args.place.now c.args.name.now c.requires.last c.requires.seen }
+blocks_of-requires g c = record {
+  inside = inode_inside (g.V.View.seen c.args.view.now) c.args.call.now c.args.place.now c.args.name.now c.requires.last c.requires.seen;
+  there = c.requires.seen.there;
+  dinode = c.requires.seen.dinode;
+}
 
 pub returns-in_err-blocks-clause-sound : goal.returns-in_err-blocks-clause-sound
 returns-in_err-blocks-clause-sound g c im o l t of reached =
@@ -44,18 +47,18 @@ returns-in_err-blocks-clause-damaged g c =
 pub returns-in-NeedBlock-clause-found : goal.returns-in-NeedBlock-clause-found
 returns-in-NeedBlock-clause-found g c im o l t of reached =
     inode_needed (g.V.View.seen c.args.view.now) c.args.call.now c.args.place.now c.args.name.now c.requires.last c.requires.seen im o l t of reached c.in-NeedBlock.missing
-    (λ h shown. needed_at _ _ _ c.in-NeedBlock.is (c.in_ok-blocks.ensures.needed h shown))
+    (needed_at _ _ (IsNeededOf (g.V.View.seen c.args.view.now) c.args.place.now.inode) c.in-NeedBlock.is c.in_ok-blocks.ensures.needed)
 
 pub returns-then-contains-clause-sound : goal.returns-then-contains-clause-sound
 returns-then-contains-clause-sound g c im o l t of reached =
     let v = g.V.View.seen c.args.view.now in
-    absurd (above_apart v c.args.call.now c.args.place.now c.args.name.now c.requires.last c.requires.seen c.in-Is.blocks.items (λ h shown. answer_at _ _ _ c.in-Is.is (c.in_ok-blocks.ensures.all h shown)) c.requires.aim
+    absurd (above_apart v c.args.call.now c.args.place.now c.args.name.now c.requires.last c.requires.seen c.in-Is.blocks.items (answer_at _ _ (λ blocks. AreAllOf (g.V.View.seen c.args.view.now) c.args.place.now.inode blocks.items) c.in-Is.is c.in_ok-blocks.ensures.all) c.requires.aim
     im o l t of reached (subst (λ (xs : List ℕ). Contains xs c.args.place.now.above) c.deref.ensures.value (has_any c.deref.result.now c.args.place.now.above (sym c.contains.ensures.value ∙ c.if-contains.true))))
 
 pub returns-then-contains-clause-damaged : goal.returns-then-contains-clause-damaged
 returns-then-contains-clause-damaged g c =
     let v = g.V.View.seen c.args.view.now in
-    shared_damage v c.args.call.now c.args.place.now c.args.name.now c.requires.last c.requires.seen c.in-Is.blocks.items (λ h shown. answer_at _ _ _ c.in-Is.is (c.in_ok-blocks.ensures.all h shown)) c.requires.aim
+    shared_damage v c.args.call.now c.args.place.now c.args.name.now c.requires.last c.requires.seen c.in-Is.blocks.items (answer_at _ _ (λ blocks. AreAllOf (g.V.View.seen c.args.view.now) c.args.place.now.inode blocks.items) c.in-Is.is c.in_ok-blocks.ensures.all) c.requires.aim
     (subst (λ (xs : List ℕ). Contains xs c.args.place.now.above) c.deref.ensures.value (has_any c.deref.result.now c.args.place.now.above (sym c.contains.ensures.value ∙ c.if-contains.true)))
 
 pub returns-then-contains-clause-kept : goal.returns-then-contains-clause-kept
@@ -64,42 +67,39 @@ returns-then-contains-clause-kept g c = above_there (g.V.View.seen c.args.view.n
 pub returns-in-Some-clause-found : goal.returns-in-Some-clause-found
 returns-in-Some-clause-found g c im o l t of reached =
     let v = g.V.View.seen c.args.view.now in
-    group_lacks v c.args.call.now c.args.place.now c.args.name.now c.requires.last c.requires.seen c.in-Is.blocks.items (λ h shown. answer_at _ _ _ c.in-Is.is (c.in_ok-blocks.ensures.all h shown))
+    group_lacks v c.args.call.now c.args.place.now c.args.name.now c.requires.last c.requires.seen c.in-Is.blocks.items (answer_at _ _ (λ blocks. AreAllOf (g.V.View.seen c.args.view.now) c.args.place.now.inode blocks.items) c.in-Is.is c.in_ok-blocks.ensures.all)
     c.requires.aim im o l t of reached c.in-Some.lock (subst (λ (xs : List ℕ). IsFirstGroupLack v xs c.in-Some.lock) c.deref-2.ensures.value c.in-Some.ensures.some)
 
-pub removal-requires-clause-there : goal.removal-requires-clause-there
-removal-requires-clause-there g c = above_there (g.V.View.seen c.args.view.now) c.args.call.now c.args.place.now c.args.name.now c.requires.last c.requires.seen c.is_a_view.ensures
-
-pub removal-requires-clause-linear : goal.removal-requires-clause-linear
-removal-requires-clause-linear g c = above_linear (g.V.View.seen c.args.view.now) c.args.call.now c.args.place.now c.args.name.now c.requires.last c.requires.seen c.requires.linear
+pub removal-requires-clause-directory : goal.removal-requires-clause-directory
+removal-requires-clause-directory g c = above_block (g.V.View.seen c.args.view.now) c.args.call.now c.args.place.now c.args.name.now c.requires.last c.requires.seen c.is_a_view.ensures
 
 pub removal-requires-clause-named : goal.removal-requires-clause-named
-removal-requires-clause-named g c = above_named (g.V.View.seen c.args.view.now) c.args.call.now c.args.place.now c.args.name.now c.requires.last c.requires.seen c.is_a_view.ensures c.requires.linear
+removal-requires-clause-named g c = above_named (g.V.View.seen c.args.view.now) c.args.call.now c.args.place.now c.args.name.now c.requires.last c.requires.seen c.is_a_view.ensures
 
 pub returns-in_err-change-clause-sound : goal.returns-in_err-change-clause-sound
 returns-in_err-change-clause-sound g c im o l t of reached =
     let v = g.V.View.seen c.args.view.now in
-    told_on (λ rule b. ⊥) c.from_residual-in_err-change.result _ c.from_residual-in_err-change.ensures.1 (tells_so (IsWrongIn v c.args.place.now.above c.in-Is.blocks.items) (λ rule b. ⊥)
-    (nothing_wrong v c.args.call.now c.args.place.now c.args.name.now c.requires.last c.requires.seen c.in-Is.blocks.items (λ h shown. answer_at _ _ _ c.in-Is.is (c.in_ok-blocks.ensures.all h shown))
-    c.requires.aim im o l t of reached c.requires.linear) c.in_err-change.field-0.0
-    (subst (λ (xs : List ℕ). TellsOf (IsWrongIn v c.args.place.now.above xs) c.in_err-change.field-0.0) c.deref-3.ensures.value c.in_err-change.ensures.damaged))
+    told_on (λ rule b. ⊥) c.from_residual-in_err-change.result _ c.from_residual-in_err-change.ensures.1 (tells_so (IsWrongIn v c.args.place.now.above c.args.name.now c.in-Is.blocks.items) (λ rule b. ⊥)
+    (nothing_wrong v c.args.call.now c.args.place.now c.args.name.now c.requires.last c.requires.seen c.in-Is.blocks.items (answer_at _ _ (λ blocks. AreAllOf (g.V.View.seen c.args.view.now) c.args.place.now.inode blocks.items) c.in-Is.is c.in_ok-blocks.ensures.all)
+    c.requires.aim im o l t of reached c.is_a_view.ensures) c.in_err-change.field-0.0
+    (subst (λ (xs : List ℕ). TellsOf (IsWrongIn v c.args.place.now.above c.args.name.now xs) c.in_err-change.field-0.0) c.deref-3.ensures.value c.in_err-change.ensures.damaged))
 
 pub returns-in_err-change-clause-damaged : goal.returns-in_err-change-clause-damaged
 returns-in_err-change-clause-damaged g c =
     let v = g.V.View.seen c.args.view.now in
-    told_on (IsDamage v c.args.call.now) c.from_residual-in_err-change.result _ c.from_residual-in_err-change.ensures.1 (tells_so (IsWrongIn v c.args.place.now.above c.in-Is.blocks.items) (IsDamage v c.args.call.now)
-    (removal_damage v c.args.call.now c.args.place.now c.args.name.now c.requires.last c.requires.seen c.in-Is.blocks.items (λ h shown. answer_at _ _ _ c.in-Is.is (c.in_ok-blocks.ensures.all h shown)) c.requires.linear c.requires.aim
+    told_on (IsDamage v c.args.call.now) c.from_residual-in_err-change.result _ c.from_residual-in_err-change.ensures.1 (tells_so (IsWrongIn v c.args.place.now.above c.args.name.now c.in-Is.blocks.items) (IsDamage v c.args.call.now)
+    (removal_damage v c.args.call.now c.args.place.now c.args.name.now c.requires.last c.requires.seen c.in-Is.blocks.items (answer_at _ _ (λ blocks. AreAllOf (g.V.View.seen c.args.view.now) c.args.place.now.inode blocks.items) c.in-Is.is c.in_ok-blocks.ensures.all) c.is_a_view.ensures c.requires.aim
     (subst (λ (xs : List ℕ). GroupsAreHeld v xs) c.deref-2.ensures.value c.in_default.ensures.none))
     c.in_err-change.field-0.0
-    (subst (λ (xs : List ℕ). TellsOf (IsWrongIn v c.args.place.now.above xs) c.in_err-change.field-0.0) c.deref-3.ensures.value c.in_err-change.ensures.damaged))
+    (subst (λ (xs : List ℕ). TellsOf (IsWrongIn v c.args.place.now.above c.args.name.now xs) c.in_err-change.field-0.0) c.deref-3.ensures.value c.in_err-change.ensures.damaged))
 
 pub returns-in-Is-2-clause-found : goal.returns-in-Is-2-clause-found
 returns-in-Is-2-clause-found g c im o l t of reached =
     let v = g.V.View.seen c.args.view.now in
     let groups = subst (λ (xs : List ℕ). GroupsAreHeld v xs) c.deref-2.ensures.value c.in_default.ensures.none in (
-      taken_ok v c.args.call.now c.args.place.now c.args.name.now c.requires.last c.requires.seen c.in-Is.blocks.items (λ h shown. answer_at _ _ _ c.in-Is.is (c.in_ok-blocks.ensures.all h shown)) c.requires.aim
+      taken_ok v c.args.call.now c.args.place.now c.args.name.now c.requires.last c.requires.seen c.in-Is.blocks.items (answer_at _ _ (λ blocks. AreAllOf (g.V.View.seen c.args.view.now) c.args.place.now.inode blocks.items) c.in-Is.is c.in_ok-blocks.ensures.all) c.requires.aim
           im o l t of reached,
-      list_held v c.args.call.now c.args.place.now c.args.name.now c.requires.last c.requires.seen c.in-Is.blocks.items (λ h shown. answer_at _ _ _ c.in-Is.is (c.in_ok-blocks.ensures.all h shown)) c.requires.aim
+      list_held v c.args.call.now c.args.place.now c.args.name.now c.requires.last c.requires.seen c.in-Is.blocks.items (answer_at _ _ (λ blocks. AreAllOf (g.V.View.seen c.args.view.now) c.args.place.now.inode blocks.items) c.in-Is.is c.in_ok-blocks.ensures.all) c.requires.aim
           im o l t of reached groups,
     )
 
@@ -110,28 +110,28 @@ returns-in-Is-2-clause-done g c =
     let is = subst (λ (xs : List ℕ). IsRemoval g.V.View.seen c.args.view.now c.args.place.now.above c.args.name.now c.args.time xs c.in-Is-2.change) c.deref-3.ensures.value
     (answer_at _ _ (IsRemoval g.V.View.seen c.args.view.now c.args.place.now.above c.args.name.now c.args.time c.deref-3.result.now) c.in-Is-2.is c.in_ok-change.ensures.removal) in
     does g.V.View.seen c.args.view.now c.args.call.now c.requires.removing c.args.place.now c.args.name.now c.requires.last c.requires.seen c.in-Is.blocks.items groups
-    (λ h shown. answer_at _ _ _ c.in-Is.is (c.in_ok-blocks.ensures.all h shown)) c.requires.aim c.in-Is-2.change is c.requires.places
-    (own_among v c.args.call.now c.args.place.now c.args.name.now c.requires.last c.requires.seen c.in-Is.blocks.items (λ h shown. answer_at _ _ _ c.in-Is.is (c.in_ok-blocks.ensures.all h shown)))
+    (answer_at _ _ (λ blocks. AreAllOf (g.V.View.seen c.args.view.now) c.args.place.now.inode blocks.items) c.in-Is.is c.in_ok-blocks.ensures.all) c.requires.aim c.in-Is-2.change is c.requires.places
+    (own_among v c.args.call.now c.args.place.now c.args.name.now c.requires.last c.requires.seen c.in-Is.blocks.items (answer_at _ _ (λ blocks. AreAllOf (g.V.View.seen c.args.view.now) c.args.place.now.inode blocks.items) c.in-Is.is c.in_ok-blocks.ensures.all) c.is_a_view.ensures)
 
 pub returns-clause-found : goal.returns-clause-found
 returns-clause-found g c im o l t of reached =
     let v = g.V.View.seen c.args.view.now in
     let groups = subst (λ (xs : List ℕ). GroupsAreHeld v xs) c.deref-2.ensures.value c.in_default.ensures.none in
-    let needed = subst (λ (xs : List ℕ). freeing.IsNeededFor v xs c.in-NeedBlock-2.missing) c.deref-3.ensures.value
-    (needed_at _ _ (freeing.IsNeededFor v c.deref-3.result.now) c.in-NeedBlock-2.is c.in_ok-change.ensures.needed) in
-    group_needed v c.args.call.now c.args.place.now c.args.name.now c.requires.last c.requires.seen c.in-Is.blocks.items (λ h shown. answer_at _ _ _ c.in-Is.is (c.in_ok-blocks.ensures.all h shown)) c.requires.aim
-    im o l t of reached groups c.in-NeedBlock-2.missing needed
+    let needed = subst (λ (xs : List ℕ). IsNeededIn v c.args.place.now.above c.args.name.now xs c.in-NeedBlock-2.missing) c.deref-3.ensures.value
+    (needed_at _ _ (IsNeededIn v c.args.place.now.above c.args.name.now c.deref-3.result.now) c.in-NeedBlock-2.is c.in_ok-change.ensures.needed) in
+    removal_needed v c.args.call.now c.args.place.now c.args.name.now c.requires.last c.requires.seen c.in-Is.blocks.items (answer_at _ _ (λ blocks. AreAllOf v c.args.place.now.inode blocks.items) c.in-Is.is c.in_ok-blocks.ensures.all) c.requires.aim
+    im o l t of reached c.requires.removing c.is_a_view.ensures groups c.in-NeedBlock-2.missing needed
 
 pub returns-in-NeedBlock-clause-told : goal.returns-in-NeedBlock-clause-told
 returns-in-NeedBlock-clause-told g c =
-    IsNeededFor.of_inode c.args.place.now.inode (record { below = below_root (g.V.View.seen c.args.view.now) c.args.call.now c.args.place.now c.args.name.now c.requires.last c.requires.seen; leads = c.requires.seen.leads; there = c.requires.seen.there; aim = c.requires.aim })
-    (λ h shown. needed_at _ _ _ c.in-NeedBlock.is (c.in_ok-blocks.ensures.needed h shown))
+    inode_needs (g.V.View.seen c.args.view.now) c.args.call.now c.args.place.now c.args.name.now c.requires.last c.requires.seen c.requires.aim c.in-NeedBlock.missing
+    (needed_at _ _ (IsNeededOf (g.V.View.seen c.args.view.now) c.args.place.now.inode) c.in-NeedBlock.is c.in_ok-blocks.ensures.needed)
 
 pub returns-in-Some-clause-told : goal.returns-in-Some-clause-told
 returns-in-Some-clause-told g c =
     let v = g.V.View.seen c.args.view.now in
     IsLackedFor.of_group c.args.place.now.inode c.in-Is.blocks.items (record { below = below_root (g.V.View.seen c.args.view.now) c.args.call.now c.args.place.now c.args.name.now c.requires.last c.requires.seen; leads = c.requires.seen.leads; there = c.requires.seen.there; aim = c.requires.aim })
-    (λ h shown. answer_at _ _ _ c.in-Is.is (c.in_ok-blocks.ensures.all h shown)) (subst (λ (xs : List ℕ). IsFirstGroupLack v xs c.in-Some.lock) c.deref-2.ensures.value c.in-Some.ensures.some)
+    (answer_at _ _ (λ blocks. AreAllOf (g.V.View.seen c.args.view.now) c.args.place.now.inode blocks.items) c.in-Is.is c.in_ok-blocks.ensures.all) (subst (λ (xs : List ℕ). IsFirstGroupLack v xs c.in-Some.lock) c.deref-2.ensures.value c.in-Some.ensures.some)
 
 pub returns-in-Is-2-clause-told : goal.returns-in-Is-2-clause-told
 returns-in-Is-2-clause-told g c =
@@ -147,7 +147,8 @@ returns-in-Is-2-clause-told g c =
       above = c.requires.seen.above;
       inside = inside_so v c.args.place.now.above c.group_of.result (c.is_none.ensures ∙ ap not c.if-is_none.false) c.group_of.ensures.group c.group_of.ensures.own;
       last = c.requires.last;
-      all = λ h shown. answer_at _ _ _ c.in-Is.is (c.in_ok-blocks.ensures.all h shown);
+      all = answer_at _ _ (λ blocks. AreAllOf v c.args.place.now.inode blocks.items) c.in-Is.is c.in_ok-blocks.ensures.all;
+      counted = λ h shown hashed. answer_at _ _ _ c.in-Is.is (c.in_ok-blocks.ensures.counted h shown hashed);
       goes = answer_at _ _ _ c.in-Is.is c.in_ok-blocks.ensures.inside;
       held = subst (λ (xs : List ℕ). GroupsAreHeld v xs) c.deref-2.ensures.value c.in_default.ensures.none;
       is = is;
@@ -157,10 +158,10 @@ pub returns-clause-told : goal.returns-clause-told
 returns-clause-told g c =
     let v = g.V.View.seen c.args.view.now in
     let groups = subst (λ (xs : List ℕ). GroupsAreHeld v xs) c.deref-2.ensures.value c.in_default.ensures.none in
-    let needed = subst (λ (xs : List ℕ). freeing.IsNeededFor v xs c.in-NeedBlock-2.missing) c.deref-3.ensures.value
-    (needed_at _ _ (freeing.IsNeededFor v c.deref-3.result.now) c.in-NeedBlock-2.is c.in_ok-change.ensures.needed) in
-    IsNeededFor.of_group c.args.place.now.inode c.in-Is.blocks.items (record { below = below_root (g.V.View.seen c.args.view.now) c.args.call.now c.args.place.now c.args.name.now c.requires.last c.requires.seen; leads = c.requires.seen.leads; there = c.requires.seen.there; aim = c.requires.aim })
-    (λ h shown. answer_at _ _ _ c.in-Is.is (c.in_ok-blocks.ensures.all h shown)) groups needed
+    let needed = subst (λ (xs : List ℕ). IsNeededIn v c.args.place.now.above c.args.name.now xs c.in-NeedBlock-2.missing) c.deref-3.ensures.value
+    (needed_at _ _ (IsNeededIn v c.args.place.now.above c.args.name.now c.deref-3.result.now) c.in-NeedBlock-2.is c.in_ok-change.ensures.needed) in
+    removal_needs v c.args.call.now c.args.place.now c.args.name.now c.requires.last c.requires.seen c.requires.aim c.is_a_view.ensures c.in-Is.blocks.items
+    (answer_at _ _ (λ blocks. AreAllOf v c.args.place.now.inode blocks.items) c.in-Is.is c.in_ok-blocks.ensures.all) groups c.in-NeedBlock-2.missing needed
 
 pub returns-in-Is-2-clause-stamped : goal.returns-in-Is-2-clause-stamped
 returns-in-Is-2-clause-stamped g c =
@@ -169,7 +170,7 @@ returns-in-Is-2-clause-stamped g c =
     let is = subst (λ (xs : List ℕ). IsRemoval g.V.View.seen c.args.view.now c.args.place.now.above c.args.name.now c.args.time xs c.in-Is-2.change) c.deref-3.ensures.value
     (answer_at _ _ (IsRemoval g.V.View.seen c.args.view.now c.args.place.now.above c.args.name.now c.args.time c.deref-3.result.now) c.in-Is-2.is c.in_ok-change.ensures.removal) in
     stamped g.V.View.seen c.args.view.now c.args.call.now c.requires.removing c.args.place.now c.args.name.now c.requires.last c.requires.seen c.in-Is.blocks.items groups
-    (λ h shown. answer_at _ _ _ c.in-Is.is (c.in_ok-blocks.ensures.all h shown)) c.requires.aim c.in-Is-2.change is c.requires.places
+    (answer_at _ _ (λ blocks. AreAllOf (g.V.View.seen c.args.view.now) c.args.place.now.inode blocks.items) c.in-Is.is c.in_ok-blocks.ensures.all) c.requires.aim c.in-Is-2.change is c.requires.places
 
 pub returns-in-Is-2-clause-under : goal.returns-in-Is-2-clause-under
 returns-in-Is-2-clause-under g c =
@@ -178,7 +179,7 @@ returns-in-Is-2-clause-under g c =
     let is = subst (λ (xs : List ℕ). IsRemoval g.V.View.seen c.args.view.now c.args.place.now.above c.args.name.now c.args.time xs c.in-Is-2.change) c.deref-3.ensures.value
     (answer_at _ _ (IsRemoval g.V.View.seen c.args.view.now c.args.place.now.above c.args.name.now c.args.time c.deref-3.result.now) c.in-Is-2.is c.in_ok-change.ensures.removal) in
     under g.V.View.seen c.args.view.now c.args.call.now c.requires.removing c.args.place.now c.args.name.now c.requires.last c.requires.seen c.in-Is.blocks.items groups
-    (λ h shown. answer_at _ _ _ c.in-Is.is (c.in_ok-blocks.ensures.all h shown)) c.requires.aim c.in-Is-2.change is c.requires.places
+    (answer_at _ _ (λ blocks. AreAllOf (g.V.View.seen c.args.view.now) c.args.place.now.inode blocks.items) c.in-Is.is c.in_ok-blocks.ensures.all) c.requires.aim c.in-Is-2.change is c.requires.places
 
 pub returns-in-Is-2-clause-inside : goal.returns-in-Is-2-clause-inside
 returns-in-Is-2-clause-inside g c =
