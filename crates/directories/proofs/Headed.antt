@@ -1,5 +1,5 @@
 -- A dinode that is written over bytes has its header there, whatever it says.
-use Rattle.std.proofs.Common.{◌≡◌, ◌+◌, ◌*◌, ◌^◌, ◌<◌, ◌≤◌, ℕ, true, List, ◌∷◌, length, Ok, refl, ap, ◌∙◌, arith}
+use Rattle.std.proofs.Common.{◌≡◌, ◌≤◌, ℕ, true, List, ◌∷◌, length, Ok, refl, ap, ◌∙◌, arith}
 use Rattle.std.specs.Int.{byte_len}
 use Rattle.gfs2_layout.specs.Bytes.{number_at}
 use Rattle.gfs2_layout.specs.Fields.{Field, HasItsWidth, end_of, value_of, width_of, with_field, with_fields}

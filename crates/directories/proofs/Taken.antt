@@ -1,5 +1,5 @@
 -- A directory from which a name was taken, whatever its form.
-use Rattle.std.proofs.Common.{◌≡◌, ◌≢◌, ◌+◌, ◌≤◌, ◌<◌, ℕ, true, false, true≢false, inl, inr, List, [], ◌∷◌, ◌++◌, length, take, drop, Option, None, Some, Result, Ok, refl, sym, ap, ◌∙◌, subst, subst₂, arith}
+use Rattle.std.proofs.Common.{◌≡◌, ◌≢◌, ◌+◌, ◌≤◌, ℕ, true, false, true≢false, inl, inr, List, [], ◌∷◌, ◌++◌, length, take, drop, Option, None, Some, Ok, refl, sym, ap, ◌∙◌, subst, subst₂, arith}
 use Rattle.std.proofs.lemmas.Bool.{cases_eq, cond-false}
 use Rattle.std.proofs.lemmas.List.{length-append, length-take-le}
 use Rattle.std.specs.Prelude.{IsSome}
@@ -8,18 +8,15 @@ use Rattle.std.specs.Cmp.{nat_cmp_total}
 use Rattle.std.specs.FinMap.{FinMap, get, insert, nat_cmp-IsAntisymmetric}
 use Rattle.std.specs.Ordering.{nat_cmp}
 use Rattle.finite_maps.proofs.Keys.{inserted_at, inserted_apart}
-use Rattle.drafts.specs.Fates.{Drafted, block_with, seen_in}
+use Rattle.drafts.specs.Fates.{Drafted, seen_in}
 use Rattle.drafts.specs.declared.fate.Fate.{Fate}
 use Rattle.drafts.specs.declared.fate.Fate.TheVariants.{Put}
 use Rattle.gfs2_layout.specs.Holding.{Holding, bytes_at}
 use Rattle.gfs2_layout.specs.Inode.{dinode_in, is_hashed_in, linear_area, records_of}
 use Rattle.gfs2_layout.specs.Records.{Record, record_named, records_in}
 use Rattle.gfs2_layout.specs.Structures.{dinode_length, dinode_of, dinode_read}
-use Rattle.glock_names.specs.Steps.{IfIs}
 use Rattle.glock_names.specs.Views.{Seen, HasBlock, IsView}
-use Rattle.glock_names.specs.declared.steps.CallFault.{CallFault}
 use Rattle.glock_names.specs.declared.steps.Entry.{Entry}
-use Rattle.glock_names.specs.declared.steps.Step.{Step}
 use Rattle.image_model.proofs.Held.{none_some}
 use Rattle.dinode_tree.specs.Pads.{KeepsPads, dinode_over}
 use Rattle.dinode_tree.specs.Reading.{inode_lock}

@@ -1,9 +1,9 @@
 -- A directory of any form as a view shows it, and what it says of a name.
-use Rattle.std.specs.Prelude.{ℕ, ◌≡◌, ◌≢◌, ◌^◌, ◌<◌, true, false, List, Option, None, Some, IsSome}
+use Rattle.std.specs.Prelude.{ℕ, ◌≡◌, ◌≢◌, ◌^◌, ◌<◌, true, false, List, Option, None, Some, IsSome, length}
 use Rattle.std.specs.Option.{option_map}
 use Rattle.crc_words.specs.Remainder.{crc32_of}
 use Rattle.gfs2_layout.specs.Holding.{Holding}
-use Rattle.gfs2_layout.specs.Inode.{is_directory_in, is_hashed_in, records_of, table_count}
+use Rattle.gfs2_layout.specs.Inode.{dinode_in, is_directory_in, is_hashed_in, records_of, table_count}
 use Rattle.gfs2_layout.specs.Records.{names_of, record_named}
 use Rattle.std.specs.List.Sorted.{IsPermutation}
 use Rattle.gfs2_layout.specs.Structures.{dinode_of, is_directory}
@@ -18,6 +18,7 @@ use Rattle.linear_dirs.specs.Broken as linear
 use Rattle.linear_dirs.specs.Shown.{entry_of}
 use Rattle.hash_dirs.specs.Broken as leaves
 use Rattle.hash_dirs.specs.Finding.{IsFoundBy}
+use Rattle.hash_dirs.specs.Leaves.{AreLeaves, records_among}
 use Rattle.hash_dirs.specs.Shown as hashed
 
 -- ---- what a view shows
@@ -55,6 +56,12 @@ pub record HasName (h : Holding) (name : List ℕ) (b : ℕ) : Type 0 where
 pub record AreNames (h : Holding) (names : List (List ℕ)) : Type 0 where
   pub in_linear : is_hashed_in h ≡ false → names ≡ names_of (records_of h)
   pub in_sound : hashed.IsSound h → IsPermutation names (names_of (records_of h))
+
+-- the dinode of a hashed directory counts the records of all its leaves
+pub record CountsItsLeaves (h : Holding) : Type 0 where
+  pub leaves : List ℕ
+  pub are : AreLeaves h leaves
+  pub entries : (dinode_in h).entries ≡ length (records_among h leaves)
 
 -- ---- what is asked for
 

@@ -1,12 +1,12 @@
 // The leaves of a hashed directory.
-ghost use Rattle.std.specs.Prelude.{ℕ, ◌≡◌, Contains, None, length, true};
+ghost use Rattle.std.specs.Prelude.{ℕ, ◌≡◌, Contains, None, true};
 ghost use Rattle.gfs2_layout.specs.Holding.{Holding};
-ghost use Rattle.gfs2_layout.specs.Inode.{dinode_in, is_hashed_in};
+ghost use Rattle.gfs2_layout.specs.Inode.{is_hashed_in};
 ghost use Rattle.glock_names.specs.Steps.{IfIs, IfNeedBlock, IfDamaged};
 ghost use Rattle.glock_names.specs.Views.{IsOfView};
 ghost use Rattle.resource_groups.specs.Putting.{HasDataBlock};
-ghost use Rattle.hash_dirs.specs.Leaves.{AreLeaves, records_among};
-ghost use Rattle.directories.specs.Shown.{IsBroken, IsNeededForAll, IsShown};
+ghost use Rattle.hash_dirs.specs.Leaves.{AreLeaves};
+ghost use Rattle.directories.specs.Shown.{CountsItsLeaves, IsBroken, IsNeededForAll, IsShown};
 
 use dinode_tree::read_dinode;
 use glock_names::{CallFault, Step, View};
@@ -23,7 +23,7 @@ pub fn counted_leaves<V: View>(
 ) -> Result<Step<Vec<u64>>, CallFault>
     requires { (h : Holding) → IsShown (V.seen view.now) dir h → is_hashed_in h ≡ true }
     ensures found { (h : Holding) → IsShown (V.seen view.now) dir h → IfIs result (λ leaves. AreLeaves h leaves.items) }
-    ensures counted { (h : Holding) → IsShown (V.seen view.now) dir h → IfIs result (λ leaves. (dinode_in h).entries ≡ length (records_among h leaves.items)) }
+    ensures counted { (h : Holding) → IsShown (V.seen view.now) dir h → IfIs result (λ leaves. CountsItsLeaves h) }
     ensures inside { IfIs result (λ leaves. (x : ℕ) → Contains leaves.items x → HasDataBlock (V.seen view.now) x) }
     ensures needed { (h : Holding) → IsShown (V.seen view.now) dir h → IfNeedBlock result (IsNeededForAll (V.seen view.now) h) }
     ensures absent { IfNeedBlock result (λ missing. (V.seen view.now).block_at missing.block ≡ None) }

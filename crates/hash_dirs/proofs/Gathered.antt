@@ -1,5 +1,5 @@
 -- The leaves of all chains, each once.
-use Rattle.std.proofs.Common.{◌≡◌, ◌≢◌, ℕ, zero, suc, ◌+◌, ◌<◌, ◌≤◌, ◌⊎◌, inl, inr, Bool, false, List, [], ◌∷◌, ◌++◌, Option, Some, refl, sym, ap, ◌∙◌, subst, arith}
+use Rattle.std.proofs.Common.{◌≡◌, ◌≢◌, ℕ, ◌+◌, ◌<◌, ◌≤◌, ◌⊎◌, inl, inr, Bool, false, List, [], ◌∷◌, ◌++◌, Option, Some, refl, sym, ap, ◌∙◌, subst, arith}
 use Rattle.std.specs.Prelude.{Contains, ◌==◌}
 use Rattle.std.specs.List.{list_any}
 use Rattle.std.proofs.lemmas.Bool.{true≢false}
@@ -18,7 +18,7 @@ use Rattle.pointer_tables.specs.Directories.{IsInChain, chain_head, chain_next}
 use Rattle.pointer_tables.specs.declared.pointer.Pointer.{Pointer}
 use Rattle.hash_dirs.specs.Broken.{IsBroken, comes_again}
 use Rattle.hash_dirs.specs.Leaves.{AreLeaves, AreLeavesBefore, AreNew, AreNewIn, IsGathered, IsLeaf, IsRead}
-use Rattle.hash_dirs.specs.Walking.{IsAreaOfBlock, IsHead, IsLeafIn, IsLeafOf, IsSmall, OfEach}
+use Rattle.hash_dirs.specs.Walking.{IsAreaOfBlock, IsLeafIn, IsLeafOf, IsSmall, OfEach}
 use Rattle.hash_dirs.specs.declared.chains.LeafAt.{LeafAt}
 use Rattle.hash_dirs.proofs.Along.{begins, goes_on}
 

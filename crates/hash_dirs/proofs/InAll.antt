@@ -8,7 +8,7 @@ use Rattle.std.specs.List.{list_any, range_with_len}
 use Rattle.std.specs.List.Sorted.{IsPermutation}
 use Rattle.growth_drafts.specs.Taken.{IsDistinct}
 use Rattle.gfs2_layout.specs.Holding.{Holding, InChain, part_at}
-use Rattle.gfs2_layout.specs.Inode.{first_hash, is_hashed_in, is_leaf_part, leaf_area, leaves_of, records_of}
+use Rattle.gfs2_layout.specs.Inode.{first_hash, is_hashed_in, is_leaf_part, leaf_area, records_of}
 use Rattle.gfs2_layout.specs.Records.{records_in}
 use Rattle.gfs2_layout.proofs.StatePuts.{any_has, has_any}
 use Rattle.image_model.proofs.Members.{contained, is_in}

@@ -3,7 +3,7 @@
 use drafts::Draft;
 use file_tree::Name;
 use glock_names::{CallFault, Entry, Group, LockName, Missing, State, Step, View};
-use hash_dirs::{look, names, remove};
+use hash_dirs::{all_leaves, look, names, remove};
 use std::alloc::{AllocError, Global};
 use std::collections::BTreeMap;
 use std::test::Fail;
@@ -239,19 +239,28 @@ fn gives(answer: Result<Step<Vec<Name>>, CallFault>, want: &[&[u8]]) -> bool {
     }
 }
 
+// Whether these leaves were found, in this order.
+fn finds(answer: Result<Step<Vec<u64>>, CallFault>, want: &[u64]) -> bool {
+    match answer {
+        Ok(Step::Is(found)) => found.as_slice() == want,
+        _ => false,
+    }
+}
+
 #[test]
 fn names_are_listed_and_taken(rt: HostRuntime) -> Result<(), Fail> {
     let a = rt.alloc();
     let shelf = directory(a)?;
     assert!(rt; gives(names(a, &shelf, 160, &TABLE), &[b"zeta", b"alpha", b"beta"]));
+    assert!(rt; finds(all_leaves(a, &shelf, 160, &TABLE), &[161, 162, 163]));
     let mut draft = Draft::new(a, &shelf);
     assert_eq!(rt;
         remove(&mut draft, 160, b"beta", &TABLE),
-        Ok(Step::Is(true))
+        Ok(Step::Is(Some(163)))
     );
     assert_eq!(rt;
         remove(&mut draft, 160, b"beta", &TABLE),
-        Ok(Step::Is(false))
+        Ok(Step::Is(None))
     );
     assert_eq!(rt; look(&draft, 160, b"beta", &TABLE), Ok(Step::Is(None)));
     assert!(rt; gives(names(a, &draft, 160, &TABLE), &[b"zeta", b"alpha"]));

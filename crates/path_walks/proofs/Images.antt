@@ -149,6 +149,9 @@ two_long (x ∷ []) r s (inl e) (inr at) other = elim at [ ]
 two_long (x ∷ []) r s (inr at) second other = elim at [ ]
 two_long (x ∷ y ∷ xs) r s first second other = omega arith
 
+dots_differ : codes "." ≢ codes ".."
+dots_differ e = cc
+
 -- `.` and `..` lead by two records
 some_record : (records : List Record) (name : List ℕ) (e : Entry) → Some e ≡ option_map entry_of (record_named records name) → (r : Record) × (record_named records name ≡ Some r)
 some_record records name e is = each (record_named records name) is
@@ -163,11 +166,7 @@ two_records records own up first second =
     let s = some_record records (codes "..") up second in
     let dot = found_there records (codes ".") r.0 r.1 in
     let dots = found_there records (codes "..") s.0 s.1 in
-    two_long records r.0 s.0 dot.0 dots.0 (λ same. differ (sym dot.1 ∙ ap (λ (q : Record). q.name) same ∙ dots.1))
-  where
-    differ : codes "." ≡ codes ".." → ⊥
-    differ e = cc
-
+    two_long records r.0 s.0 dot.0 dots.0 (λ same. dots_differ (sym dot.1 ∙ ap (λ (q : Record). q.name) same ∙ dots.1))
 -- a listed group is one of the view's
 has_group : (gs : List Rindex) (i : ℕ) (g : Rindex) → slice_get gs i ≡ Some g → Contains (map group_of_entry gs) (group_of_entry g)
 has_group gs i g at =
@@ -304,3 +303,10 @@ module _ (v : Seen) (im : Image) (o : Owners) (l : Layout) (t : Tree) (of : IsOf
       let long = two_records (records_of (holding im o a)) own up (says_records path a (codes ".") (Some own) at dir says.0) (says_records path a (codes "..") (Some up) at dir says.1) in
       let low = few (holding im o a) (is_shown path a at) in
       omega (arith, counted, long, low)
+  nothing_wrong path a rule b at (IsWrongAt.few_in_leaves is few) =
+      let dir = is (holding im o a) (is_shown path a at) in
+      let of_a = of.stands.laid.directories a (is_inode path a at) dir in
+      let low = (few (holding im o a) (shown_directory path a at dir)).2 in
+      let long = two_long (records_of (holding im o a)) of_a.dot.entry of_a.dots.entry (is_in of_a.dot.entry (records_of (holding im o a)) of_a.dot.there) (is_in of_a.dots.entry (records_of (holding im o a)) of_a.dots.there)
+      (λ same. dots_differ (sym of_a.dot.named ∙ ap (λ (q : Record). q.name) same ∙ of_a.dots.named)) in
+      omega (arith, of_a.entries, long, low)

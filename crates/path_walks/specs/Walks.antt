@@ -16,7 +16,7 @@ use Rattle.call_locks.specs.declared.want.Want.{Want}
 use Rattle.dinode_tree.specs.Broken as inode
 use Rattle.dinode_tree.specs.Shown.{IsShown}
 use Rattle.dinode_tree.specs.Walking.{missing_dinode}
-use Rattle.directories.specs.Shown.{HasName, Says}
+use Rattle.directories.specs.Shown.{CountsItsLeaves, HasName, Says}
 use Rattle.directories.specs.Shown as dirs
 use Rattle.resource_groups.specs.Putting.{HasDataBlock}
 use Rattle.image_model.specs.Flat.{Path}
@@ -142,7 +142,8 @@ IsWalked v im o l t path wants (walk.NeedBlock m) = IsAskedFor v im o l (holds_i
 -- ---- damage
 
 -- The inode with its dinode in block a is wrong, as far as the view shows it: it breaks a rule, that of a directory's form where it is one; or (10) a
--- linear directory hasn't `.` or `..`; or (12) its dinode counts fewer records than these two, which it has.
+-- linear directory hasn't `.` or `..`; or (12) its dinode counts fewer records than these two, which it has; or (10) all leaves of a hashed directory have fewer
+-- records, as its dinode counts them, so that it lacks one of the two.
 pub data IsWrongAt (v : Seen) (a : ℕ) : ℕ → ℕ → Type 0 where
   in_inode : (rule b : ℕ) → ((h : Holding) → IsShown v a h → inode.IsBroken h rule b) → IsWrongAt v a rule b
   in_directory : (rule b : ℕ) → IsDirectoryAt v a → ((h : Holding) → dirs.IsShown v a h → dirs.IsBroken v h rule b) → IsWrongAt v a rule b
@@ -150,6 +151,7 @@ pub data IsWrongAt (v : Seen) (a : ℕ) : ℕ → ℕ → Type 0 where
   no_dots : IsDirectoryAt v a → IsLinearAt v a → ((h : Holding) → dirs.IsShown v a h → Says h (codes "..") None) → IsWrongAt v a 10 a
   too_few : (own up : Entry) → IsDirectoryAt v a → IsLinearAt v a → ((h : Holding) → dirs.IsShown v a h → Says h (codes ".") (Some own) × Says h (codes "..") (Some up))
       → ((h : Holding) → IsShown v a h → (dinode_in h).entries < 2) → IsWrongAt v a 12 a
+  few_in_leaves : IsDirectoryAt v a → ((h : Holding) → dirs.IsShown v a h → (is_hashed_in h ≡ true) × CountsItsLeaves h × ((dinode_in h).entries < 2)) → IsWrongAt v a 10 a
 
 -- As far as the view shows, the block breaks this rule: in an inode on the path; or (2) it is a linear directory in which a name on the path leads
 -- to a block that is none of the groups' data blocks.

@@ -30,10 +30,11 @@ use Rattle.path_walks.specs.Holds.{Hold, AreHeld, EndsWith, holds_in}
 use Rattle.path_walks.specs.Walks.{IsWrongAt, IsDamage, on_path, LeadsTo, at_root, by_name, the_root, the_child}
 use Rattle.call_locks.specs.declared.want.Want.{Want}
 use Rattle.path_walks.proofs.Images.{is_inode, is_shown, is_sound, shown_directory, shown_inode, sound_directory}
-use Rattle.read_calls.specs.Reading.{IsReading, IsRangeOf, IsStatOf, IsListOf, IsAnswerOf, IsFoundBy, IsFound, IsAsked, IsAskedCount, IsAskedRecords, IsAnswered, IsHashedFor, IsNeededFor, IsShownFor, IsToldOf}
+use Rattle.read_calls.specs.Reading.{IsReading, IsRangeOf, IsStatOf, IsListOf, IsAnswerOf, IsFoundBy, IsFound, IsAsked, IsAskedCount, IsAskedRecords, IsAnswered, IsNeededFor, IsShownFor, IsToldOf}
 use Rattle.read_calls.specs.declared.answers.Read.{Read}
 use Rattle.read_calls.specs.declared.answers.Read.TheVariants as read
 use Rattle.path_walks.proofs.Asked.{asked, at_end, names_asked}
+use Rattle.image_model.proofs.Rows.{and_left}
 
 -- a walk that is refused
 pub refused : (c : Call) (t : Tree) (r : Reply) → IsReading c → walk t (path_of c false) ≡ Refused r → (apply c t).reply ≡ r
@@ -82,7 +83,6 @@ module _ (v : Seen) (im : Image) (o : Owners) (l : Layout) (t : Tree) (of : IsOf
   range_found list ends held from count (read.Reply reply.IsDir) is = (ap (λ w. read_reply w from count) (listed is).walks, held)
   range_found list ends held from count (read.Reply (reply.Bytes bytes)) is = (ap (λ w. read_reply w from count) (file_there is.0) ∙ ap reply.Bytes (sym (is.2 (whole_before from))), held)
   range_found list ends held from count (read.NeedBlock m) is = asked v im o l t of path a at list ends held (IsInRange (holding im o a) from count) 0 m is.1
-  range_found list ends held from count (read.Hashed b) is = absurd is
   range_found list ends held from count (read.NeedLock lock state) is = absurd is
   range_found list ends held from count (read.Reply reply.Ok) is = absurd is
   range_found list ends held from count (read.Reply (reply.Stat kind size)) is = absurd is
@@ -101,8 +101,8 @@ module _ (v : Seen) (im : Image) (o : Owners) (l : Layout) (t : Tree) (of : IsOf
       let names = listed is.0 in
       let counted : count_in names.entries ≡ count = omega (arith, names.counted, is.1) in
       (ap stat_reply names.walks ∙ ap (reply.Stat Dir) counted, held)
-  stat_found list ends held (read.Hashed b) is asks = tt
-  stat_found list ends held (read.NeedBlock m) is asks = absurd is
+  stat_found list ends held (read.NeedBlock m) is asks =
+      names_asked v im o l t of path a at list (at_end v list a ends held) (and_left (is_directory_in (holding im o a)) _ is.0) m (asks.0 (holding im o a) (shown_inode v im o l t of path a at)).2
   stat_found list ends held (read.NeedLock lock state) is asks = absurd is
   stat_found list ends held (read.Reply reply.IsDir) is asks = absurd is
   stat_found list ends held (read.Reply (reply.Bytes bytes)) is asks = absurd is
@@ -124,7 +124,6 @@ module _ (v : Seen) (im : Image) (o : Owners) (l : Layout) (t : Tree) (of : IsOf
       (ap list_reply all.walks ∙ ap reply.Names (sym (is.1.2 ∙ all.names is.1.0 listed_are)), held)
   list_found list ends held (read.NeedBlock m) is asks =
       names_asked v im o l t of path a at list (at_end v list a ends held) is m (asks.1 (holding im o a) (shown_directory v im o l t of path a at is))
-  list_found list ends held (read.Hashed b) is asks = absurd is
   list_found list ends held (read.NeedLock lock state) is asks = absurd is
   list_found list ends held (read.Reply reply.IsDir) is asks = absurd is
   list_found list ends held (read.Reply (reply.Bytes bytes)) is asks = absurd is
@@ -173,7 +172,6 @@ pub told_at : (v : Seen) (c : Call) (a : ℕ) → LeadsTo v (wanted c) (path_of 
     → ((h : Holding) → IsShownFor v a c h → IsAnswerOf v h c r) → IsToldOf v c r
 told_at v c a leads (read.Reply r) asked answers = IsAnswered.at_end a r leads answers
 told_at v c a leads (read.NeedBlock m) asked answers = IsNeededFor.at_end a leads asked
-told_at v c a leads (read.Hashed b) asked answers = IsHashedFor.at_end a leads asked
 told_at v (call.Read p from count) a leads (read.NeedLock lock state) asked answers = absurd asked
 told_at v (call.List p) a leads (read.NeedLock lock state) asked answers = absurd asked
 told_at v (call.Stat p) a leads (read.NeedLock lock state) asked answers = absurd asked

@@ -43,12 +43,12 @@ IsRangeOf v h at count (found.Reply (reply.Bytes bytes)) = (is_directory_in h �
 IsRangeOf v h at count (found.NeedBlock m) = (is_directory_in h ≡ false) × IsNeeded v h (IsInRange h at count) 0 m
 IsRangeOf v h at count _ = ⊥
 
--- A file's size, or how many names a directory has: its dinode counts two records more. Of a hashed one that counts fewer than two it isn't told:
--- all its leaves would have to be gone over.
+-- A file's size, or how many names a directory has: its dinode counts two records more. Of a hashed one that counts fewer than two the leaves are gone over,
+-- to tell what is wrong.
 abbrev pub IsStatOf : Holding → Found → Type 0
 IsStatOf h (found.Reply (reply.Stat File size)) = (is_directory_in h ≡ false) × (size ≡ (dinode_in h).size)
 IsStatOf h (found.Reply (reply.Stat Dir count)) = (is_directory_in h ≡ true) × (2 + count ≡ (dinode_in h).entries)
-IsStatOf h (found.Hashed a) = (a ≡ h.own) × (is_hashed_in h ≡ true) × ((dinode_in h).entries < 2)
+IsStatOf h (found.NeedBlock m) = (is_hashed_in h ≡ true) × ((dinode_in h).entries < 2)
 IsStatOf h _ = ⊥
 
 -- a directory's names, in byte order
@@ -84,10 +84,10 @@ IsAskedRecords v a (found.Reply r) = ⊤
 IsAskedRecords v a (found.NeedBlock m) = IsDirectoryAt v a × ((h : Holding) → dirs.IsShown v a h → dirs.IsNeededForAll v h m) × (v.block_at m.block ≡ None)
 IsAskedRecords v a _ = ⊥
 
--- the records of a hashed directory that counts fewer than its two dots
+-- a block of a hashed directory that counts fewer records than its two dots
 abbrev pub IsAskedCount : Seen → ℕ → Found → Type 0
 IsAskedCount v a (found.Reply r) = ⊤
-IsAskedCount v a (found.Hashed b) = (b ≡ a) × ((h : Holding) → IsShown v a h → (is_hashed_in h ≡ true) × ((dinode_in h).entries < 2))
+IsAskedCount v a (found.NeedBlock m) = ((h : Holding) → dirs.IsShown v a h → (is_hashed_in h ≡ true) × ((dinode_in h).entries < 2) × dirs.IsNeededForAll v h m) × (v.block_at m.block ≡ None)
 IsAskedCount v a _ = ⊥
 
 abbrev pub IsAsked : Seen → ℕ → Call → Found → Type 0
@@ -116,14 +116,9 @@ pub data IsNeededFor (v : Seen) (call : Call) (m : Missing) : Type 0 where
   on_path : IsUnread v (wanted call) (path_of call false) m → IsNeededFor v call m
   at_end : (a : ℕ) → LeadsTo v (wanted call) (path_of call false) a → IsAsked v a call (found.NeedBlock m) → IsNeededFor v call m
 
--- a hashed directory of which it isn't told how many names it has
-pub data IsHashedFor (v : Seen) (call : Call) (b : ℕ) : Type 0 where
-  at_end : (a : ℕ) → LeadsTo v (wanted call) (path_of call false) a → IsAsked v a call (found.Hashed b) → IsHashedFor v call b
-
 abbrev pub IsToldOf : Seen → Call → Found → Type 0
 IsToldOf v call (found.Reply r) = IsAnswered v call r
 IsToldOf v call (found.NeedBlock m) = IsNeededFor v call m
-IsToldOf v call (found.Hashed b) = IsHashedFor v call b
 IsToldOf v call (found.NeedLock lock state) = IsLacked v (wanted call) (path_of call false) lock state
 
 -- ---- in an image that the view may be of
@@ -133,7 +128,6 @@ IsToldOf v call (found.NeedLock lock state) = IsLacked v (wanted call) (path_of 
 abbrev pub IsFoundBy : Seen → Image → Owners → Layout → Reply → List Hold → Found → Type 0
 IsFoundBy v im o l answer list (found.Reply r) = (answer ≡ r) × AreHeld v list
 IsFoundBy v im o l answer list (found.NeedBlock m) = IsAskedFor v im o l list m
-IsFoundBy v im o l answer list (found.Hashed a) = ⊤
 IsFoundBy v im o l answer list (found.NeedLock lock state) = IsFirstLack v list lock state
 
 abbrev pub IsFound : Seen → Image → Owners → Layout → Tree → Call → Found → Type 0

@@ -1,8 +1,8 @@
 // What a call that reads answers of the inode at its path's end.
-ghost use Rattle.std.specs.Prelude.{ℕ, ◌≡◌, ◌<◌, [], List, IfOk, OnOk};
+ghost use Rattle.std.specs.Prelude.{ℕ, ◌≡◌, ◌<◌, [], List, IfOk, OnOk, true};
 ghost use Rattle.file_tree.specs.Tree.{all_put};
 ghost use Rattle.gfs2_layout.specs.Holding.{Holding};
-ghost use Rattle.gfs2_layout.specs.Inode.{dinode_in};
+ghost use Rattle.gfs2_layout.specs.Inode.{dinode_in, is_hashed_in};
 ghost use Rattle.glock_names.specs.Steps.{IfDamaged};
 ghost use Rattle.glock_names.specs.Views.{HasBlock, IsOfView};
 ghost use Rattle.dinode_tree.specs.Shown.{IsShown};
@@ -13,7 +13,7 @@ ghost use Rattle.linear_dirs.specs.Shown.{IsLinearIn};
 ghost use Rattle.path_walks.specs.Walks.{IsWrongAt};
 
 use dinode_tree::read_range;
-use directories::names;
+use directories::{counted_leaves, names};
 use file_tree::{Call, Content, Kind, Name, NameList, Reply};
 use glock_names::{CallFault, LockName, Missing, State, Step, View};
 use no_memory::NoMemory;
@@ -27,8 +27,6 @@ pub(crate) enum Read {
     Reply(Reply),
     /// This block isn't in the view.
     NeedBlock(Missing),
-    /// This directory is hashed.
-    Hashed(u64),
     /// This lock isn't held so strongly.
     NeedLock { lock: LockName, state: State },
 }
@@ -95,8 +93,29 @@ fn rule_of_few<V: View>(view: &V, dir: u64) -> Result<u16, CallFault>
     Ok(12)
 }
 
+// What is wrong with a hashed directory whose dinode counts fewer records than `.` and `..`: its leaves have others than are counted, or one of the two
+// is missing in them; or a block that is needed to tell.
+fn few_in_leaves<V: View>(alloc: Global, view: &V, dir: u64) -> Result<Read, CallFault>
+    requires there { HasBlock (V.seen view.now) dir }
+    requires hashed { (h : Holding) → IsShown (V.seen view.now) dir h → is_hashed_in h ≡ true }
+    requires few { (h : Holding) → IsShown (V.seen view.now) dir h → (dinode_in h).entries < 2 }
+    ensures read { (h : Holding) → IsShown (V.seen view.now) dir h → IfOk result (IsStatOf h) }
+    ensures asked { IfOk result (IsAskedCount (V.seen view.now) dir) }
+    ensures spaceless { IfOk result IsSpaceless }
+    ensures damaged { IfDamaged result (IsWrongAt (V.seen view.now) dir) }
+    ensures kept { IfDamaged result (IsOfView (V.seen view.now)) }
+{
+    match counted_leaves(alloc, view, dir)? {
+        Step::Is(_leaves) => Err(CallFault::Damaged {
+            block: dir,
+            rule: 10,
+        }),
+        Step::NeedBlock(missing) => Ok(Read::NeedBlock(missing)),
+    }
+}
+
 // A file's size, or how many names a directory has: `.` and `..` are counted in its dinode too.
-fn stat<V: View>(view: &V, place: &Place) -> Result<Read, CallFault>
+fn stat<V: View>(alloc: Global, view: &V, place: &Place) -> Result<Read, CallFault>
     requires there { HasBlock (V.seen view.now) place.now.inode }
     requires dinode { (h : Holding) → IsShown (V.seen view.now) place.now.inode h → place.now.dinode ≡ dinode_in h }
     ensures read { (h : Holding) → IsShown (V.seen view.now) place.now.inode h → IfOk result (IsStatOf h) }
@@ -112,7 +131,7 @@ fn stat<V: View>(view: &V, place: &Place) -> Result<Read, CallFault>
         return Ok(Read::Reply(Reply::Stat(Kind::Dir, u64::from(count))));
     }
     if place.dinode.flags / 2 % 2 == 1 {
-        return Ok(Read::Hashed(place.inode));
+        return few_in_leaves(alloc, view, place.inode);
     }
     let rule = rule_of_few(view, place.inode)?;
     Err(CallFault::Damaged {
@@ -160,7 +179,7 @@ pub(crate) fn answer_at<V: View>(
         Call::Read(_, at, count) | Call::Dread(_, at, count) => {
             read_file(alloc, view, place, *at, *count)
         }
-        Call::Stat(_) => stat(view, place),
+        Call::Stat(_) => stat(alloc, view, place),
         Call::List(_) => list(alloc, view, place),
         _ => unreachable!(),
     }

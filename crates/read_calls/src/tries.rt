@@ -12,7 +12,7 @@ ghost use Rattle.image_changes.specs.Does.{IsOf, Does};
 ghost use Rattle.path_walks.specs.Answers.{IfDone, IfNeedLock, IfNeedBlock, IfNoSpace, IfHashed, IfNotBuilt, HasSpace};
 ghost use Rattle.path_walks.specs.Holds.{AreHeld, IsAskedFor, IsFirstLack, holds_in};
 ghost use Rattle.path_walks.specs.Walks.{IsDamage, IsLacked};
-ghost use Rattle.read_calls.specs.Reading.{IsAnswered, IsFound, IsHashedFor, IsNeededFor, IsReading, IsSpaceless, IsToldOf};
+ghost use Rattle.read_calls.specs.Reading.{IsAnswered, IsFound, IsNeededFor, IsReading, IsSpaceless, IsToldOf};
 
 use crate::answers::{Read, answer_at};
 use call_locks::wants;
@@ -74,7 +74,7 @@ pub fn attempt<V: View>(
     ensures answered { IfDone result (λ reply change. IsAnswered (V.seen view.now) call.now reply) }
     ensures lacked { IfNeedLock result (IsLacked (V.seen view.now) (wanted call.now) (path_of call.now false)) }
     ensures needed { IfNeedBlock result (IsNeededFor (V.seen view.now) call.now) }
-    ensures hashed { IfHashed result (IsHashedFor (V.seen view.now) call.now) }
+    ensures hashed { IfHashed result (λ block. ⊥) }
     ensures built { IfNotBuilt result ⊥ }
     ensures sound { (im : Image) (o : Owners) (l : Layout) (t : Tree) → IsOf (V.seen view.now) im o l t → IfDamaged result (λ rule block. ⊥) }
     ensures damaged { IfDamaged result (IsDamage (V.seen view.now) (wanted call.now) (path_of call.now false)) }
@@ -86,7 +86,6 @@ pub fn attempt<V: View>(
             change: nothing(alloc),
         },
         Read::NeedBlock(missing) => Attempt::NeedBlock(missing),
-        Read::Hashed(block) => Attempt::Hashed { block },
         Read::NeedLock { lock, state } => Attempt::NeedLock { lock, state },
     })
 }

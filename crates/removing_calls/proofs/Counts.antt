@@ -1,16 +1,14 @@
 -- How many records a linear directory has.
-use Rattle.std.proofs.Common.{◌≡◌, ◌≢◌, ℕ, ◌+◌, ◌-◌, true, false, List, [], ◌∷◌, ◌++◌, length, drop, Some, refl, sym, ap, ◌∙◌, subst}
-use Rattle.std.proofs.lemmas.List.{length-append, append-nil}
+use Rattle.std.proofs.Common.{◌≡◌, ◌≢◌, ℕ, ◌-◌, List, length, drop, Some, refl, sym, ap, ◌∙◌, subst}
 use Rattle.std.specs.Prelude.{take}
-use Rattle.gfs2_layout.specs.Area.{Slot, IsArea}
+use Rattle.gfs2_layout.specs.Area.{IsArea}
 use Rattle.gfs2_layout.specs.Holding.{Holding}
 use Rattle.gfs2_layout.specs.Inode.{dinode_in, records_of, linear_area}
-use Rattle.gfs2_layout.specs.Records.{Record, record_of, records_in}
-use Rattle.gfs2_layout.specs.Structures.{dinode_length, is_in_use}
+use Rattle.gfs2_layout.specs.Records.{records_in}
+use Rattle.gfs2_layout.specs.Structures.{dinode_length}
 use Rattle.glock_names.specs.Views.{Seen}
 use Rattle.dinode_tree.specs.Shown.{IsShown}
 use Rattle.linear_dirs.specs.Broken.{no_area, wrong_entries}
-use Rattle.linear_dirs.specs.Reading.{told_in}
 use Rattle.linear_dirs.proofs.Looked.{bytes_of, rest_is}
 use Rattle.directories.specs.Shown.{IsLinearDirectory}
 use Rattle.removing_calls.specs.Removing.{BreaksAsLinear, CountsItsRecords}

@@ -1,7 +1,7 @@
 -- A directory from which a name is taken in a new draft, and which gets a time then.
 use Rattle.std.proofs.Common.{◌≡◌, ◌≢◌, ◌⊎◌, inl, inr, ◌≤◌, ℕ, true, false, true≢false, List, [], ◌∷◌, length, take, drop, Option, None, Some, Ok, refl, sym, ap, ◌∙◌, subst, subst₂, arith}
 use Rattle.std.proofs.lemmas.Bool.{cases_eq, cond-false}
-use Rattle.std.specs.Prelude.{Contains, IsSome, option_map}
+use Rattle.std.specs.Prelude.{Contains, option_map}
 use Rattle.std.specs.FinMap.{FinMap, get, empty, insert, get-empty}
 use Rattle.std.specs.Ordering.{nat_cmp}
 use Rattle.drafts.specs.Fates.{AreWhole, Drafted, block_with, seen_in, seen_with}
@@ -12,7 +12,7 @@ use Rattle.gfs2_layout.specs.Area.{IsArea, IsRecordAt, first_named, slots_of}
 use Rattle.gfs2_layout.specs.Cutting.{slot_from, slots_without}
 use Rattle.gfs2_layout.specs.Exchanges.{IsCounted, IsExchanged}
 use Rattle.gfs2_layout.specs.Holding.{Holding, InChain, Itself, bytes_at, cell_bytes, part_at}
-use Rattle.gfs2_layout.specs.Inode.{IsInode, dinode_in, first_hash, is_hashed_in, leaf_area, leaf_in, leaf_length, linear_area, records_of}
+use Rattle.gfs2_layout.specs.Inode.{IsInode, dinode_in, is_hashed_in, leaf_length, linear_area, records_of}
 use Rattle.gfs2_layout.specs.Records.{Record, record_named, records_in}
 use Rattle.gfs2_layout.specs.Structures.{dinode_length, dinode_of, dinode_read, header_fault, leaf_of}
 use Rattle.gfs2_layout.specs.Writing.{dinode_put}
@@ -45,7 +45,7 @@ use Rattle.resource_groups.specs.Freeing as freeing
 use Rattle.resource_groups.specs.Putting.{HasDataBlock}
 use Rattle.resource_groups.proofs.Apart.{no_header_data}
 use Rattle.image_changes.specs.Drafted.{IsFinished}
-use Rattle.removing_calls.specs.Drafting.{HasTimes, LosesInLeaf, LosesRecord, IsNameTaken, IsFreedAndDone, IsRemoval}
+use Rattle.removing_calls.specs.Drafting.{LosesInLeaf, LosesRecord, IsNameTaken, IsFreedAndDone, IsRemoval}
 use Rattle.removing_calls.proofs.Drafted.{needed_before, put_sees, seen_before, breaks_before}
 use Rattle.removing_calls.proofs.Lists.{put_apart, put_at}
 

@@ -1,5 +1,5 @@
 -- A removal at the place to which the walk came, where the call takes the inode.
-use Rattle.std.proofs.Common.{◌≡◌, ◌↔◌, ℕ, false, List, ap, ◌∙◌, subst, subst₂, sym, None}
+use Rattle.std.proofs.Common.{◌≡◌, ℕ, false, List, ap, ◌∙◌, subst, subst₂, sym, None}
 use Rattle.std.specs.Prelude.{Contains, unwrap_or}
 use Rattle.cluster_history.specs.Changes.{is_ok}
 use Rattle.file_tree.specs.Apply.{remove_at, Answer}

@@ -34,10 +34,10 @@ use Rattle.image_changes.specs.Does.{with_change}
 use Rattle.image_changes.specs.Instances.{IsAt}
 use Rattle.path_walks.specs.Answers.{Refuses}
 use Rattle.path_walks.specs.Holds.{Hold, AreHeld, EndsWith, IsAskedFor, IsFirstLack, holds_in}
-use Rattle.directories.specs.Shown.{IsLinearDirectory}
+use Rattle.directories.specs.Shown.{CountsItsLeaves, IsLinearDirectory}
 use Rattle.directories.specs.Shown as dirs
 use Rattle.directories.specs.Taking.{HasRecordOf}
-use Rattle.hash_dirs.specs.Leaves.{AreLeaves, IsLeaf, records_among}
+use Rattle.hash_dirs.specs.Leaves.{IsLeaf}
 use Rattle.path_walks.specs.Walks.{IsDirectoryAt, LeadsTo, IsAbsent, IsLacked, IsLastOf, IsOnTheWay, IsPlaceOf, IsUnread}
 use Rattle.path_walks.specs.Walks as path
 use Rattle.path_walks.specs.declared.walk.Place.{Place}
@@ -65,12 +65,6 @@ IsFileAim h a = ⊥
 -- the dinode counts the records that the directory has
 abbrev pub CountsItsRecords : Holding → Type 0
 CountsItsRecords h = (dinode_in h).entries ≡ length (records_of h)
-
--- and so the dinode of a hashed one does those of its leaves
-pub record CountsItsLeaves (h : Holding) : Type 0 where
-  pub leaves : List ℕ
-  pub are : AreLeaves h leaves
-  pub entries : (dinode_in h).entries ≡ length (records_among h leaves)
 
 -- it is a linear directory, and breaks a rule of these
 abbrev pub BreaksAsLinear : Holding → ℕ → ℕ → Type 0

@@ -9,8 +9,9 @@ ghost use Rattle.dinode_tree.specs.Reading.{IsNeeded};
 ghost use Rattle.dinode_tree.specs.Shown.{IsShown};
 ghost use Rattle.dinode_tree.specs.declared.below.PointedBlock.{PointedBlock};
 ghost use Rattle.resource_groups.specs.Putting.{HasDataBlock};
+ghost use Rattle.directories.specs.Shown.{CountsItsLeaves};
 ghost use Rattle.directories.specs.Shown as dirs;
-ghost use Rattle.removing_calls.specs.Removing.{AreAllOf, CountsItsLeaves, IsNeededOf, IsWrongBelow};
+ghost use Rattle.removing_calls.specs.Removing.{AreAllOf, IsNeededOf, IsWrongBelow};
 
 use crate::aims::is_hashed_directory;
 use dinode_tree::{PointedBlock, blocks_below};

@@ -48,8 +48,12 @@ returns-clause-counted g c h shown =
     let table = answer_at _ _ _ c.in-Is-2.is (c.in_ok-table.ensures.table h shown.inode is (shown.whole is)) in
     let all = subst (AreLeaves h) (sym c.deref.ensures.value) (answer_at _ _ _ c.in-Is-3.is (c.in_ok-leaves.ensures.found h (leaves_shown v c.args.dir h shown is) table)) in
     let found = answer_at _ _ _ c.in-Is.is (c.in_ok-dinode.ensures.found h shown.inode) in
-    counts_right h c.deref.result.now c.in-Is-3.leaves.items c.in-Is.dinode.entries c.deref.ensures.value (ap (λ (d : Dinode). d.entries) found)
-    (equal c.in-Is.dinode.entries _ (sym (c.have_records.ensures h (leaves_shown v c.args.dir h shown is) (λ x has. (all.each x).0 has)) ∙ c.if-not-have_records.false))
+    record {
+      leaves = c.in-Is-3.leaves.items;
+      are = subst (AreLeaves h) c.deref.ensures.value all;
+      entries = counts_right h c.deref.result.now c.in-Is-3.leaves.items c.in-Is.dinode.entries c.deref.ensures.value (ap (λ (d : Dinode). d.entries) found)
+          (equal c.in-Is.dinode.entries _ (sym (c.have_records.ensures h (leaves_shown v c.args.dir h shown is) (λ x has. (all.each x).0 has)) ∙ c.if-not-have_records.false));
+    }
 
 pub returns-clause-inside : goal.returns-clause-inside
 returns-clause-inside g c x has = (answer_at _ _ (λ leaves. (x : ℕ) → Contains leaves.items x → IsRead (g.V.View.seen c.args.view.now) x) c.in-Is-3.is c.in_ok-leaves.ensures.read x has).inside

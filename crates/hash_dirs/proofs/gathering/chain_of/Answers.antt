@@ -1,14 +1,13 @@
-use Rattle.std.proofs.Common.{◌≡◌, ℕ, ◌+◌, List, sym, ap, ◌∙◌, subst, refl, arith}
+use Rattle.std.proofs.Common.{ℕ, ◌+◌, List, sym, ap, ◌∙◌, subst, refl, arith}
 use Rattle.std.specs.Prelude.{Contains, ◌==◌}
 use Rattle.std.specs.List.{list_any}
 use Rattle.gfs2_layout.proofs.StatePuts.{has_any}
 use Rattle.glock_names.proofs.StepLaws.{answer_at, needed_at}
 use Rattle.glock_names.specs.Steps.{TellsOf}
-use Rattle.glock_names.specs.Views.{IsOfView}
 use Rattle.linear_dirs.proofs.Looked.{handed}
 use Rattle.hash_dirs.specs.Broken.{IsWrongIn}
 use Rattle.hash_dirs.specs.Leaves.{AreNew, AreNewIn, IsGathered, IsRead}
-use Rattle.hash_dirs.specs.Walking.{IsAreaOfBlock, IsLeafIn, IsLeafOf, OfEach}
+use Rattle.hash_dirs.specs.Walking.{IsLeafIn, IsLeafOf, OfEach}
 use Rattle.hash_dirs.proofs.Along.{comes_again_to}
 use Rattle.hash_dirs.proofs.Gathered.{gather_begins, gather_more, lacks_it, known_ends, last_ends, leaf_read, new_still, read_still, round_again, tells_there}
 use Rattle.hash_dirs.proofs.Leaves.{wrong_tells}

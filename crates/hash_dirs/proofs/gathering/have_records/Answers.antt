@@ -1,4 +1,3 @@
-use Rattle.std.proofs.Common.{sym, subst}
 use Rattle.hash_dirs.proofs.Counted.{all_counted, counted_on, none_counted, there_is, too_many}
 use Rattle.hash_dirs.proofs.gathering.have_records.Goals as goal
 

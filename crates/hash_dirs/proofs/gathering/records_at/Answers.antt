@@ -1,4 +1,4 @@
-use Rattle.std.proofs.Common.{List, length, drop, Some, sym, ap, ◌∙◌, subst}
+use Rattle.std.proofs.Common.{length, drop, sym, ap, ◌∙◌, subst}
 use Rattle.gfs2_layout.specs.Area.{IsArea}
 use Rattle.gfs2_layout.specs.Inode.{leaf_length}
 use Rattle.gfs2_layout.specs.Records.{records_in}

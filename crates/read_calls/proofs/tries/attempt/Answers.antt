@@ -4,7 +4,7 @@ use Rattle.image_changes.proofs.Doing.{nothing_does}
 use Rattle.path_walks.specs.Answers.{IfDone, HasSpace}
 use Rattle.read_calls.specs.Reading.{IsFound, IsSpaceless}
 use Rattle.read_calls.proofs.Lists.{no_change}
-use Rattle.read_calls.proofs.tries.attempt.Goals.{in-Reply, in-NeedBlock, in-Hashed, in-NeedLock}
+use Rattle.read_calls.proofs.tries.attempt.Goals.{in-Reply, in-NeedBlock, in-NeedLock}
 use Rattle.read_calls.proofs.tries.attempt.Goals as goal
 
 pub returns-clause-done : goal.returns-clause-done
@@ -16,7 +16,6 @@ returns-clause-done g c =
           (no_change c.args.call.now w.in-Reply.reply c.requires.reading)
           (λ im o l t of. (subst (IsFound v im o l t c.args.call.now) w.in-Reply.is (c.in_ok-reply.ensures.found im o l t of)).0))
       | in-NeedBlock w ↦ subst (λ a. IfDone (Ok a) (Does v c.args.call.now)) (sym w.result-is) tt
-      | in-Hashed w ↦ subst (λ a. IfDone (Ok a) (Does v c.args.call.now)) (sym w.result-is) tt
       | in-NeedLock w ↦ subst (λ a. IfDone (Ok a) (Does v c.args.call.now)) (sym w.result-is) tt
     ]
 
@@ -25,6 +24,5 @@ returns-clause-spaceless g c =
     elim c.match-branch-2.branch [
       | in-Reply w ↦ subst (λ a. IfDone (Ok a) (λ reply change. HasSpace reply)) (sym w.result-is) (subst IsSpaceless w.in-Reply.is c.in_ok-reply.ensures.spaceless)
       | in-NeedBlock w ↦ subst (λ a. IfDone (Ok a) (λ reply change. HasSpace reply)) (sym w.result-is) tt
-      | in-Hashed w ↦ subst (λ a. IfDone (Ok a) (λ reply change. HasSpace reply)) (sym w.result-is) tt
       | in-NeedLock w ↦ subst (λ a. IfDone (Ok a) (λ reply change. HasSpace reply)) (sym w.result-is) tt
     ]

@@ -1,12 +1,7 @@
-use Rattle.std.proofs.Common.{◌≡◌, ◌++◌, List, ℕ, sym, ap, ◌∙◌, subst}
-use Rattle.std.specs.Prelude.{Contains}
+use Rattle.std.proofs.Common.{◌≡◌, ◌++◌, sym, ap, ◌∙◌}
 use Rattle.gfs2_layout.specs.Holding.{Holding}
 use Rattle.glock_names.proofs.StepLaws.{answer_at, needed_at}
-use Rattle.glock_names.specs.Steps.{TellsOf}
 use Rattle.directories.specs.Shown as dirs
-use Rattle.directories.proofs.Forms.{some_directory}
-use Rattle.dinode_tree.proofs.Sound.{some_is_shown}
-use Rattle.hash_dirs.specs.Leaves.{AreLeaves}
 use Rattle.removing_calls.specs.Removing.{IsNeededOf, IsWrongBelow}
 use Rattle.removing_calls.specs.Removing as damage
 use Rattle.removing_calls.proofs.Going.{directory_of_hashed, goes_hashed, goes_plain}

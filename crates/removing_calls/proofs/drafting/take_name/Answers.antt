@@ -1,12 +1,12 @@
 use Rattle.std.proofs.Common.{refl, sym, subst}
 use Rattle.glock_names.proofs.StepLaws.{answer_at, needed_at}
 use Rattle.glock_names.specs.Steps.{TellsOf}
-use Rattle.glock_names.specs.Views.{HasBlock, IsOfView, IsView}
+use Rattle.glock_names.specs.Views.{IsOfView, IsView}
 use Rattle.directories.specs.Shown as dirs
 use Rattle.directories.specs.Taking.{HasNameIn}
 use Rattle.removing_calls.proofs.Taken.{headed, last_view, name_taken, needed_absent, seen_old, sees_put}
 use Rattle.removing_calls.proofs.drafting.take_name.Goals as goal
-use Rattle.path_walks.proofs.Faults.{told_on, tells_so}
+use Rattle.path_walks.proofs.Faults.{told_on}
 
 pub remove-requires-clause-directory : goal.remove-requires-clause-directory
 remove-requires-clause-directory g c = subst (λ w. dirs.IsDirectoryIn w c.args.dir) (sym (seen_old g.V.View.seen c.args.draft.now c.requires.new)) c.requires.directory
