@@ -167,6 +167,7 @@ two_records records own up first second =
     let dot = found_there records (codes ".") r.0 r.1 in
     let dots = found_there records (codes "..") s.0 s.1 in
     two_long records r.0 s.0 dot.0 dots.0 (λ same. dots_differ (sym dot.1 ∙ ap (λ (q : Record). q.name) same ∙ dots.1))
+
 -- a listed group is one of the view's
 has_group : (gs : List Rindex) (i : ℕ) (g : Rindex) → slice_get gs i ≡ Some g → Contains (map group_of_entry gs) (group_of_entry g)
 has_group gs i g at =
