@@ -30,7 +30,7 @@ use Rattle.removing_calls.specs.Removing as removing
 use Rattle.writing_calls.specs.Writing as writing
 use Rattle.damage_laws.specs.Telling.{IsReadFrom, HasRootInside, HasWholeGroups, HasAstray, IsTold, itself, astray, IsToldOf, on_path, by_root, WritesTell, WritesTellExactly, RemovalsTell, RemovalsTellExactly, MakingsTell, MakingsTellExactly, CallsTell, CallsTellExactly}
 use Rattle.damage_laws.proofs.Claimed.{shown, root_claimed, led_there, outside, astray_at, further}
-use Rattle.damage_laws.proofs.Owned.{dinode_state, from_parent, shared_told}
+use Rattle.damage_laws.proofs.Owned.{dinode_state, from_parent, record_told, shared_told}
 use Rattle.damage_laws.proofs.Paths.{broken_inode, paths_tell, wrong_at}
 
 -- ---- an inode in no group to which a path leads is the root
@@ -122,7 +122,9 @@ removals_tell v im call rule b read whole (removing.stray a from x taken led out
     on_path 2 from (told_or v im (wanted call) (path_of call false) 2 from (stray_told v im read whole.image (wanted call) (path_of call false) a from x taken.leads (led (every im a) (shown v im read whole.image a)) out))
 removals_tell v im call rule b read whole (removing.above a leads out) = root_told v im read call (parent_of (path_of call false)) a whole.image leads out
 removals_tell v im call rule b read whole (removing.shared a dir taken leads goes) =
-    on_path 3 dir (told_or v im (wanted call) (path_of call false) 3 dir (shared_told v im read whole.image (wanted call) (path_of call false) a dir taken.below taken.leads leads (goes (every im a) (shown v im read whole.image a))))
+    on_path 3 dir (told_or v im (wanted call) (path_of call false) 3 dir (shared_told v im read whole.image (wanted call) (path_of call false) a dir taken.below taken.leads leads goes))
+removals_tell v im call rule b read whole (removing.shared_leaf a dir x name apart taken leads last held goes) =
+    on_path 3 x (told_or v im (wanted call) (path_of call false) 3 x (record_told v im read whole.image (wanted call) (path_of call false) a dir x name apart taken.below taken.leads leads held goes))
 removals_tell v im call rule b read whole (removing.in_group a r x blocks taken all held breaks) = on_path r x (itself r x (group_told v im read whole breaks.0 breaks.1 r x breaks.3))
 
 pub removals_tell_exactly : RemovalsTellExactly

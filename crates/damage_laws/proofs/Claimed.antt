@@ -26,6 +26,7 @@ use Rattle.image_model.specs.Image.{Image, IsImage}
 use Rattle.image_model.specs.Owners.{Root, Named, Chained}
 use Rattle.image_model.specs.Rules.{IsOutside}
 use Rattle.image_model.proofs.Held.{none_some}
+use Rattle.image_model.proofs.Rows.{and_left}
 use Rattle.image_model.proofs.Reach.{Leading, leading}
 use Rattle.path_walks.specs.Walks.{Names, IsDirectoryAt, IsHeldAt, LeadsTo, at_root, by_name, IsNext, the_root, the_child}
 use Rattle.path_walks.proofs.Images.{child_is}
@@ -117,6 +118,13 @@ module _ (v : Seen) (im : Image) (read : IsReadFrom v im) (is_image : IsImage im
       | inl whole ↦ inl (record { inode = shown a; leaves = λ is i place x chain some. refl; whole = λ is. whole })
       | inr astray ↦ inr astray
     ]
+  ]
+
+  -- and any inode is shown so
+  pub inode_or : (a : ℕ) → HasInode im a → dirs.IsShown v a (every im a) ⊎ ((x : ℕ) × IsAstray im a x)
+  inode_or a has = elim (cases_Bool (is_directory_in (every im a))) [
+    | inl dir ↦ directory_or a (record { inode = has; dir = dir })
+    | inr file ↦ inl (record { inode = shown a; leaves = λ hashed i place x chain some. refl; whole = λ hashed. absurd (true≢false (sym (and_left (is_directory_in (every im a)) _ hashed) ∙ file)) })
   ]
 
   module _ (wants : List Want) where

@@ -146,7 +146,7 @@ abbrev pub marked : Image → (ℕ → Bool) → ℕ → Holding
 marked im m a = record { size = im.size; count = im.count; own = a; cell = λ b. Some (record { part = if m b then InChain 0 0 else Itself; bytes = im.at b }) }
 
 module _ (im : Image) (a : ℕ) (m : ℕ → Bool) where
-  marked_leaf : (x : ℕ) → is_leaf_part (part_at (marked im m a) x) ≡ m x
+  pub marked_leaf : (x : ℕ) → is_leaf_part (part_at (marked im m a) x) ≡ m x
   marked_leaf x = by (m x)
     where
       by : (b : Bool) → is_leaf_part (Some (if b then InChain 0 0 else Itself)) ≡ b

@@ -3,6 +3,7 @@ pub mod Astray
 pub mod Claimed
 pub mod Owned
 pub mod Leaves
+pub mod Gone
 pub mod Paths
 pub mod Calls
 pub mod Standing

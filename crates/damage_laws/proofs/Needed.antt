@@ -253,7 +253,9 @@ module _ (v : Seen) (im : Image) (read : IsReadFrom v im) (whole : HasWholeGroup
 
   removal_out : (call : Call) (m : Missing) → removing.IsNeededFor v call m → im.count ≤ m.block → Source (wanted call) (path_of call false) m
   removal_out call m (removing.on_path unread) out = unread_out (wanted call) (path_of call false) m unread out
-  removal_out call m (removing.of_inode a taken needs) out = needed_out (wanted call) (path_of call false) a m taken.leads (λ h. AnyIndex) 1 needs out
+  removal_out call m (removing.of_inode a taken (removing.IsNeededOf.in_tree needs)) out = needed_out (wanted call) (path_of call false) a m taken.leads (λ h. AnyIndex) 1 needs out
+  removal_out call m (removing.of_inode a taken (removing.IsNeededOf.in_leaves directory needs absent)) out =
+      directory_out (wanted call) (path_of call false) a m taken.leads directory absent (λ h seen. all_way h m out (needs h seen)) out
   removal_out call m (removing.of_group a blocks taken all held needs) out =
       absurd (omega (arith, out, whole.headers needs.0 m.block needs.1 needs.2.3.block.own))
 
@@ -292,7 +294,7 @@ needs_tell v im (calls.Dread p at n) m read whole (reading.at_end a leads asked)
 needs_tell v im (calls.Write p at bytes) m read whole needs out = writing_out v im read whole (calls.Write p at bytes) m needs out
 needs_tell v im (calls.Truncate p n) m read whole needs out = writing_out v im read whole (calls.Truncate p n) m needs out
 needs_tell v im (calls.Stat p) m read whole (reading.on_path unread) out = unread_out v im read whole (wanted (calls.Stat p)) (path_of (calls.Stat p) false) m unread out
-needs_tell v im (calls.Stat p) m read whole (reading.at_end a leads asked) out = absurd asked
+needs_tell v im (calls.Stat p) m read whole (reading.at_end a leads asked) out = directory_out v im read whole (wanted (calls.Stat p)) (path_of (calls.Stat p) false) a m leads asked.0 asked.2 (λ h seen. all_way v im read whole h m out (asked.1 h seen).2) out
 needs_tell v im (calls.List p) m read whole (reading.on_path unread) out = unread_out v im read whole (wanted (calls.List p)) (path_of (calls.List p) false) m unread out
 needs_tell v im (calls.List p) m read whole (reading.at_end a leads asked) out = directory_out v im read whole (wanted (calls.List p)) (path_of (calls.List p) false) a m leads asked.0 asked.2 (λ h seen. all_way v im read whole h m out (asked.1 h seen)) out
 needs_tell v im (calls.Rename p q) m read whole (reading.on_path unread) out = unread_out v im read whole (wanted (calls.Rename p q)) (path_of (calls.Rename p q) false) m unread out

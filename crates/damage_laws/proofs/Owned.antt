@@ -1,5 +1,5 @@
 -- A block with two owners: the directory above an inode that is to go, where it is one of the blocks that go with it.
-use Rattle.std.proofs.Common.{◌≡◌, ◌≢◌, ◌⊎◌, inl, inr, ℕ, true, false, true≢false, List, [], ◌∷◌, ◌++◌, Some, refl, sym, ap, ◌∙◌, subst}
+use Rattle.std.proofs.Common.{◌≡◌, ◌≢◌, ◌⊎◌, inl, inr, ℕ, true, false, true≢false, List, [], ◌∷◌, ◌++◌, Option, Some, refl, sym, ap, ◌∙◌, subst}
 use Rattle.std.proofs.lemmas.Bool.{cases_eq}
 use Rattle.call_locks.specs.declared.want.Want.{Want}
 use Rattle.directories.proofs.Sound.{says_once}
@@ -15,13 +15,20 @@ use Rattle.image_model.specs.Groups.{state_of}
 use Rattle.image_model.specs.Image.{Image, IsImage}
 use Rattle.image_model.specs.Owners.{Owner, Super, InGroup, Free, Nobody, Root, Master, Named, Below, Chained, is_dinode}
 use Rattle.image_model.specs.Rules.{Breaks, two_owners}
-use Rattle.image_model.proofs.Held.{some_same}
+use Rattle.image_model.proofs.Held.{none_some, some_same}
 use Rattle.path_walks.specs.Walks.{LeadsTo, Names, at_root, by_name}
 use Rattle.path_walks.proofs.Leads.{no_end}
 use Rattle.path_walks.proofs.Lists.{parent_of_next}
 use Rattle.removing_calls.specs.Removing.{Goes}
+use Rattle.directories.specs.Taking.{HasRecordOf}
+use Rattle.directories.specs.Taking as taking
+use Rattle.hash_dirs.specs.Finding.{IsLeafOfName, in_none, in_this}
+use Rattle.hash_dirs.specs.Shown.{index_for}
+use Rattle.pointer_tables.specs.Directories.{IsInChain}
+use Rattle.gfs2_layout.specs.Holding.{Holding}
+use Rattle.gfs2_layout.specs.Inode.{first_hash, is_hashed_in}
 use Rattle.damage_laws.specs.Telling.{IsReadFrom, HasAstray}
-use Rattle.damage_laws.proofs.Claimed.{root_claimed, is_directory, directory_or, astray_at, further, named_there, led_there}
+use Rattle.damage_laws.proofs.Claimed.{chain_claims, root_claimed, inode_or, is_directory, directory_or, astray_at, further, named_there, led_there}
 
 -- the bits of a dinode's block
 pub dinode_state : (o : Owner) → is_dinode o ≡ true → state_of o ≡ 3
@@ -119,14 +126,78 @@ module _ (v : Seen) (im : Image) (read : IsReadFrom v im) (is_image : IsImage im
         ]
       ]
 
-  pub shared_told : (path : Path) (a dir : ℕ) → path ≢ [] → LeadsTo v wants path a → LeadsTo v wants (parent_of path) dir → Goes (every im a) dir → Breaks im 3 dir ⊎ IsAhead path
-  shared_told path a dir some leads above (inl own) = named_twice path dir (subst (LeadsTo v wants path) (sym own) leads) some above
-  shared_told path a dir some leads above (inr led) = elim (led_there v im read is_image wants path a leads) [
+  -- a path that leads to an inode, and what the view shows of it in the image
+  shown_at : (path : Path) (a : ℕ) → LeadsTo v wants path a → (HasInode im a × dirs.IsShown v a (every im a)) ⊎ IsAhead path
+  shown_at path a leads = elim (led_there v im read is_image wants path a leads) [
     | inr astray ↦ inr astray
-    | inl has ↦ elim (led_there v im read is_image wants (parent_of path) dir above) [
-      | inr astray ↦ let f = from_parent path in inr (further v im read is_image wants (parent_of path) f.0 path f.1 astray)
-      | inl top ↦ inl (two_owners dir led.0 top.1.by (Below a led.0 led.1 led.2 led.3) top.0
-          (below has.1.by a has.0 led.0 led.1 led.2 led.3 dir has.1.claimed has.1.dinode led.4) top.1.claimed
-          (λ e. true≢false (sym top.1.dinode ∙ ap is_dinode (sym e))))
+    | inl has ↦ elim (inode_or v im read is_image a has) [
+      | inr far ↦ inr (astray_at v im read is_image wants path a leads far)
+      | inl seen ↦ inl (has, seen)
     ]
   ]
+
+  from_above : (path : Path) → HasAstray v im wants (parent_of path) → IsAhead path
+  from_above path astray = let f = from_parent path in further v im read is_image wants (parent_of path) f.0 path f.1 astray
+
+  -- the directory above is one of the inode's blocks
+  goes_told : (path : Path) (a dir : ℕ) → path ≢ [] → LeadsTo v wants path a → LeadsTo v wants (parent_of path) dir → HasInode im a → HasInode im dir → Goes (every im a) dir → Breaks im 3 dir ⊎ IsAhead path
+  goes_told path a dir some leads above has top (inl own) = named_twice path dir (subst (LeadsTo v wants path) (sym own) leads) some above
+  goes_told path a dir some leads above has top (inr (inl led)) =
+      inl (two_owners dir led.0 top.1.by (Below a led.0 led.1 led.2 led.3) top.0
+      (below has.1.by a has.0 led.0 led.1 led.2 led.3 dir has.1.claimed has.1.dinode led.4) top.1.claimed
+      (λ e. true≢false (sym top.1.dinode ∙ ap is_dinode (sym e))))
+  goes_told path a dir some leads above has top (inr (inr leaf)) =
+      let c = chain_claims im a has leaf.0 leaf.1.0 leaf.1.1 dir leaf.1.2 in
+      inl (two_owners dir c.0 top.1.by (Chained a (first_hash (every im a) leaf.1.0) leaf.1.1) top.0 c.1 top.1.claimed (λ e. true≢false (sym top.1.dinode ∙ ap is_dinode (sym e))))
+
+  pub shared_told : (path : Path) (a dir : ℕ) → path ≢ [] → LeadsTo v wants path a → LeadsTo v wants (parent_of path) dir → ((h : Holding) → dirs.IsShown v a h → Goes h dir) → Breaks im 3 dir ⊎ IsAhead path
+  shared_told path a dir some leads above goes = elim (shown_at path a leads) [
+    | inr astray ↦ inr astray
+    | inl here ↦ elim (led_there v im read is_image wants (parent_of path) dir above) [
+      | inr astray ↦ inr (from_above path astray)
+      | inl top ↦ goes_told path a dir some leads above here.0 top (goes (every im a) here.1)
+    ]
+  ]
+
+  -- a leaf of the directory above is one of the inode's blocks, which is another one
+  leaf_told : (a dir i place x : ℕ) → a ≢ dir → HasInode im a → HasInode im dir → is_hashed_in (every im dir) ≡ true → IsInChain (every im dir) i place x → Goes (every im a) x → Breaks im 3 x
+  leaf_told a dir i place x apart has top hashed chain goes = by goes
+    where
+      first : (by : ℕ) × Claims im by x (Chained dir (first_hash (every im dir) i) place)
+      first = chain_claims im dir top hashed i place x chain
+
+      other_kind : (hash n b k level begin : ℕ) → Chained dir hash n ≡ Below a b k level begin → ⊥
+      other_kind hash n b k level begin e = cc
+
+      other_directory : (hash n hash' n' : ℕ) → Chained dir hash n ≡ Chained a hash' n' → dir ≡ a
+      other_directory hash n hash' n' e = cc
+
+      by : Goes (every im a) x → Breaks im 3 x
+      by (inl own) = two_owners x first.0 has.1.by (Chained dir (first_hash (every im dir) i) place) has.0 first.1 (subst (λ b. Claims im has.1.by b has.0) (sym own) has.1.claimed)
+          (λ e. true≢false (sym has.1.dinode ∙ ap is_dinode (sym e)))
+      by (inr (inl led)) = two_owners x first.0 led.0 (Chained dir (first_hash (every im dir) i) place) (Below a led.0 led.1 led.2 led.3) first.1
+          (below has.1.by a has.0 led.0 led.1 led.2 led.3 x has.1.claimed has.1.dinode led.4) (other_kind (first_hash (every im dir) i) place led.0 led.1 led.2 led.3)
+      by (inr (inr leaf)) =
+          let c = chain_claims im a has leaf.0 leaf.1.0 leaf.1.1 x leaf.1.2 in
+          two_owners x first.0 c.0 (Chained dir (first_hash (every im dir) i) place) (Chained a (first_hash (every im a) leaf.1.0) leaf.1.1) first.1 c.1
+          (λ e. apart (sym (other_directory (first_hash (every im dir) i) place (first_hash (every im a) leaf.1.0) leaf.1.1 e)))
+
+  -- the block that has a name's record in the directory above is one of the inode's blocks
+  pub record_told : (path : Path) (a dir b : ℕ) (name : List ℕ) → a ≢ dir → path ≢ [] → LeadsTo v wants path a → LeadsTo v wants (parent_of path) dir
+      → ((h : Holding) → dirs.IsShown v dir h → HasRecordOf h name b) → ((h : Holding) → dirs.IsShown v a h → Goes h b) → Breaks im 3 b ⊎ IsAhead path
+  record_told path a dir b name apart some leads above held goes = elim (shown_at path a leads) [
+    | inr astray ↦ inr astray
+    | inl here ↦ elim (shown_at (parent_of path) dir above) [
+      | inr astray ↦ inr (from_above path astray)
+      | inl top ↦ by b (held (every im dir) top.1) (goes (every im a) here.1) here.0 top.0
+    ]
+  ]
+    where
+      in_leaf : (b : ℕ) (found : Option ℕ) → IsLeafOfName (every im dir) name found → found ≡ Some b → is_hashed_in (every im dir) ≡ true → Goes (every im a) b → HasInode im a → HasInode im dir → Breaks im 3 b
+      in_leaf b _ (in_this place x r chain is later) e hashed goes has top =
+          leaf_told a dir (index_for (every im dir) name) place b apart has top hashed (subst (IsInChain (every im dir) (index_for (every im dir) name) place) (some_same e) chain) goes
+      in_leaf b _ (in_none later) e hashed goes has top = absurd (none_some e)
+
+      by : (b : ℕ) → HasRecordOf (every im dir) name b → Goes (every im a) b → HasInode im a → HasInode im dir → Breaks im 3 b ⊎ IsAhead path
+      by _ (taking.HasRecordOf.in_linear plain) goes has top = goes_told path a dir some leads above has top goes
+      by b (taking.HasRecordOf.in_hashed x hashed leaf) goes has top = inl (in_leaf x (Some x) leaf refl hashed goes has top)

@@ -36,6 +36,7 @@ use Rattle.path_walks.proofs.Images.{none_named}
 use Rattle.damage_laws.specs.Telling.{InodesAreThere, PathsTell, HasAstray, IsAstray, IsReadFrom, IsTold, itself, astray}
 use Rattle.damage_laws.proofs.Claimed.{shown, is_directory, directory_or, astray_at, further, named_there, led_there, next_there, next_led, outside, chain_claims, leaf_claims, has_leaf, record_is, name_claims, IsNamedBy}
 use Rattle.damage_laws.proofs.Leaves.{AreMarked, marked_or, all_records, has_records, record_of_leaf}
+use Rattle.damage_laws.proofs.Gone.{as_many, lacks_dot}
 
 -- ---- an inode
 
@@ -126,6 +127,7 @@ module _ (v : Seen) (im : Image) (read : IsReadFrom v im) (is_image : IsImage im
     broken_hashed _ _ (leaves.no_name i from x r leads some there plain bad) =
         rules.no_name a x r (leaf_area (every im a) x, of_leaf x (has_leaf im a has.inode hashed i from x leads), there) plain bad
     broken_hashed _ _ (leaves.no_entries i from x r leads some there none) = counts_none x r (has_leaf im a has.inode hashed i from x leads) there none
+    broken_hashed _ _ (leaves.wrong_entries list found other) = rules.entry_count a (all_records im a m) listed (λ e. other (e ∙ as_many im a has hashed list found m are))
     broken_hashed _ _ (leaves.no_links none) = links_none none
     broken_hashed _ _ (leaves.table_too_small small) = rules.table_too_small a (has.inode, hashed) small
     broken_hashed _ _ (leaves.table_too_large large) = rules.table_too_large a (has.inode, hashed) large
@@ -227,6 +229,12 @@ wrong_at v im read is_image wants names a up has _ _ (path.no_dots dir linear no
     wrong_dots v im read is_image wants names a up there (codes "..") (λ absent. rules.no_dots a there absent) linear none
 wrong_at v im read is_image wants names a up has _ _ (too_few own above dir linear says few) =
     wrong_few v im read is_image wants names a up (is_directory v im read is_image a has dir) own above linear says (few (every im a) (shown v im read is_image a))
+wrong_at v im read is_image wants names a up has _ _ (path.few_in_leaves dir few) =
+    let there = is_directory v im read is_image a has dir in
+    elim (directory_or v im read is_image a there) [
+      | inr out ↦ astray 10 a (up out)
+      | inl seen ↦ let f = few (every im a) seen in itself 10 a (lacks_dot im a there f.0 f.1.leaves f.1.are (omega (arith, f.1.entries, f.2)))
+    ]
 
 -- ---- on a path
 

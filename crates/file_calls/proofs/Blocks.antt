@@ -42,7 +42,7 @@ needed_absent v c m shows (on_path unread) = unread_absent v (wanted c) (path_of
 needed_absent v (call.Read p at count) m shows (at_end a leads asked) = let s = shows a in (asked s.0 s.1).1.absent
 needed_absent v (call.Dread p at count) m shows (at_end a leads asked) = let s = shows a in (asked s.0 s.1).1.absent
 needed_absent v (call.List p) m shows (at_end a leads asked) = asked.2
-needed_absent v (call.Stat p) m shows (at_end a leads asked) = absurd asked
+needed_absent v (call.Stat p) m shows (at_end a leads asked) = asked.2
 needed_absent v (call.Create p) m shows (at_end a leads asked) = absurd asked
 needed_absent v (call.Mkdir p) m shows (at_end a leads asked) = absurd asked
 needed_absent v (call.Unlink p) m shows (at_end a leads asked) = absurd asked
@@ -158,7 +158,8 @@ module _ (im : Image) (o : Owners) (l : Layout) (t : Tree) (node : ℕ) where
 
 pub removing_absent : (v : Seen) (c : Call) (m : Missing) → ShowsEach v → removing.IsNeededFor v c m → v.block_at m.block ≡ None
 removing_absent v c m shows (removing.on_path unread) = unread_absent v (wanted c) (path_of c false) m unread
-removing_absent v c m shows (removing.of_inode a taken needed) = let s = shows a in (needed s.0 s.1).absent
+removing_absent v c m shows (removing.of_inode a taken (removing.IsNeededOf.in_tree needed)) = let s = shows a in (needed s.0 s.1).absent
+removing_absent v c m shows (removing.of_inode a taken (removing.IsNeededOf.in_leaves is needed absent)) = absent
 removing_absent v c m shows (removing.of_group a blocks taken all held needed) = needed.2.3.block.absent
 
 -- one that wasn't answered Ok changed nothing

@@ -93,16 +93,11 @@ IsDamage v (calls.Unlink path) rule b = removing.IsDamage v (calls.Unlink path) 
 IsDamage v (calls.Rmdir path) rule b = removing.IsDamage v (calls.Rmdir path) rule b
 IsDamage v call rule b = path.IsDamage v (wanted call) (path_of call false) rule b
 
--- The dinode in this block is that of a hashed directory, and the call isn't answered: it would make a name there, or take one away; or `stat` would have
--- to go over its leaves, since it counts fewer records than `.` and `..`.
+-- The dinode in this block is that of a hashed directory, and the call isn't answered: it would make a name there.
 abbrev pub IsHashed : Seen → Call → ℕ → Type 0
 IsHashed v (calls.Create path) b = making.IsHashedFor v (calls.Create path) b
 IsHashed v (calls.Mkdir path) b = making.IsHashedFor v (calls.Mkdir path) b
-IsHashed v (calls.Unlink path) b = removing.IsHashedFor v (calls.Unlink path) b
-IsHashed v (calls.Rmdir path) b = removing.IsHashedFor v (calls.Rmdir path) b
-IsHashed v (calls.Write path at new) b = ⊥
-IsHashed v (calls.Truncate path size) b = ⊥
-IsHashed v call b = reading.IsHashedFor v call b
+IsHashed v call b = ⊥
 
 -- what the call has to do isn't built yet: to put a name into a linear directory that has no room for it; or it would change a file that isn't
 -- sound in itself, which none is in an image that stands for a tree

@@ -102,7 +102,7 @@ module _ (v : Seen) (im : Image) (o : Owners) (l : Layout) (t : Tree) (of : IsOf
       let counted : count_in names.entries ≡ count = omega (arith, names.counted, is.1) in
       (ap stat_reply names.walks ∙ ap (reply.Stat Dir) counted, held)
   stat_found list ends held (read.NeedBlock m) is asks =
-      names_asked v im o l t of path a at list (at_end v list a ends held) (and_left (is_directory_in (holding im o a)) _ is.0) m (asks.0 (holding im o a) (shown_inode v im o l t of path a at)).2
+      names_asked v im o l t of path a at list (at_end v list a ends held) (and_left (is_directory_in (holding im o a)) _ is.0) m (asks.1 (holding im o a) (shown_inode v im o l t of path a at)).2
   stat_found list ends held (read.NeedLock lock state) is asks = absurd is
   stat_found list ends held (read.Reply reply.IsDir) is asks = absurd is
   stat_found list ends held (read.Reply (reply.Bytes bytes)) is asks = absurd is

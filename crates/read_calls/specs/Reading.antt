@@ -87,7 +87,7 @@ IsAskedRecords v a _ = ⊥
 -- a block of a hashed directory that counts fewer records than its two dots
 abbrev pub IsAskedCount : Seen → ℕ → Found → Type 0
 IsAskedCount v a (found.Reply r) = ⊤
-IsAskedCount v a (found.NeedBlock m) = ((h : Holding) → dirs.IsShown v a h → (is_hashed_in h ≡ true) × ((dinode_in h).entries < 2) × dirs.IsNeededForAll v h m) × (v.block_at m.block ≡ None)
+IsAskedCount v a (found.NeedBlock m) = IsDirectoryAt v a × ((h : Holding) → dirs.IsShown v a h → (is_hashed_in h ≡ true) × ((dinode_in h).entries < 2) × dirs.IsNeededForAll v h m) × (v.block_at m.block ≡ None)
 IsAskedCount v a _ = ⊥
 
 abbrev pub IsAsked : Seen → ℕ → Call → Found → Type 0

@@ -46,7 +46,6 @@ use Rattle.removing_calls.specs.Removing as damage
 use Rattle.removing_calls.specs.declared.aims.Aim.TheVariants as aim
 use Rattle.removing_calls.proofs.Above.{above_names, directory_block, names_it}
 use Rattle.removing_calls.proofs.Found.{goes_its, record_its, taken_list, its_inside, none_broken, none_wrong_below, all_held, first_unheld, group_asked}
-use Rattle.removing_calls.proofs.Going.{directory_of_hashed}
 use Rattle.removing_calls.proofs.Under.{directory_listed}
 use Rattle.removing_calls.proofs.Trees.{IsTakenBy, aim_takes}
 use Rattle.path_walks.proofs.Asked.{IsAmong, asked, at_end, name_asked, names_asked}
@@ -136,11 +135,11 @@ module _ (v : Seen) (c : Call) (p : Place) (name : List ℕ) (last : IsLastOf (p
         asked_before v im o l (holds_in im o l (path_of c false) (wanted c)) _ m
         (asked v im o l t of (path_of c false) p.inode reached.place.at (holds_in im o l (path_of c false) (wanted c)) reached.ends reached.held AnyIndex 1 m
         (needed (holding im o p.inode) (is_shown v im o l t of (path_of c false) p.inode reached.place.at)))
-    inode_needed m (damage.IsNeededOf.in_leaves needed absent) =
-        let is = needed (holding im o p.inode) (shown_inode v im o l t of (path_of c false) p.inode reached.place.at) in
+    inode_needed m (damage.IsNeededOf.in_leaves is needed absent) =
+        let shown = shown_inode v im o l t of (path_of c false) p.inode reached.place.at in
         asked_before v im o l (holds_in im o l (path_of c false) (wanted c)) _ m
         (names_asked v im o l t of (path_of c false) p.inode reached.place.at (holds_in im o l (path_of c false) (wanted c)) (at_end v (holds_in im o l (path_of c false) (wanted c)) p.inode reached.ends reached.held)
-        (directory_of_hashed (holding im o p.inode) is.0) m is.1)
+        (is (holding im o p.inode) shown.inode) m (needed (holding im o p.inode) shown))
 
     -- the front of the path, and the name
     whole : path_of c false ≡ parent_of (path_of c false) ++ name ∷ []
@@ -170,13 +169,13 @@ module _ (v : Seen) (c : Call) (p : Place) (name : List ℕ) (last : IsLastOf (p
     pub own_among : IsView v → Contains blocks p.inode
     own_among view = let s = some_directory v p.inode view in (goes s.0 s.1 p.inode).1 (inl (sym s.1.inode.own))
 
-    pub removal_damage : IsView v → ((h : Holding) → IsShown v p.inode h → IsAimOf c h aim.Taken) → GroupsAreHeld v blocks → (rule b : ℕ) → IsWrongIn v p.above name blocks rule b → IsDamage v c rule b
-    removal_damage view taken groups rule b (drafting.IsWrongIn.in_directory r d broken) =
+    pub removal_damage : IsView v → ¬ (Contains blocks p.above) → ((h : Holding) → IsShown v p.inode h → IsAimOf c h aim.Taken) → GroupsAreHeld v blocks → (rule b : ℕ) → IsWrongIn v p.above name blocks rule b → IsDamage v c rule b
+    removal_damage view apart taken groups rule b (drafting.IsWrongIn.in_directory r d broken) =
         damage.on_path r d (wrong_on_way v (wanted c) (parent_of (path_of c false)) p.above there.above (path_of c false) (name ∷ []) (last.1 ∙ ap (λ q. q ++ name ∷ []) (sym (ap parent_of last.1 ∙ parent_of_next last.0 name))) r d
         (IsWrongAt.in_directory r d (above_directory view) broken))
-    removal_damage view taken groups rule b (drafting.IsWrongIn.in_group r d breaks) = damage.in_group p.inode r d blocks (taken_at taken) goes groups breaks
-    removal_damage view taken groups rule b (drafting.IsWrongIn.shared d of has) =
-        damage.shared_leaf p.inode p.above d name (taken_at taken) there.above last of (λ h shown. (goes h shown d).0 has)
+    removal_damage view apart taken groups rule b (drafting.IsWrongIn.in_group r d breaks) = damage.in_group p.inode r d blocks (taken_at taken) goes groups breaks
+    removal_damage view apart taken groups rule b (drafting.IsWrongIn.shared d of has) =
+        damage.shared_leaf p.inode p.above d name (λ e. apart (subst (Contains blocks) e (own_among view))) (taken_at taken) there.above last of (λ h shown. (goes h shown d).0 has)
 
     pub shared_damage : ((h : Holding) → IsShown v p.inode h → IsAimOf c h aim.Taken) → Contains blocks p.above → IsDamage v c 3 p.above
     shared_damage taken has = damage.shared p.inode p.above (taken_at taken) there.above (λ h shown. (goes h shown p.above).0 has)

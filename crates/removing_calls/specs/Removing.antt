@@ -90,7 +90,7 @@ Goes h b = (b ≡ h.own) ⊎ (IsBelow h b ⊎ ((is_hashed_in h ≡ true) × IsLe
 -- a block of the inode with its dinode in block a is needed: on the way to the blocks below it, or of a hashed directory to its leaves
 pub data IsNeededOf (v : Seen) (a : ℕ) (m : Missing) : Type 0 where
   in_tree : ((h : Holding) → IsShown v a h → IsNeeded v h AnyIndex 1 m) → IsNeededOf v a m
-  in_leaves : ((h : Holding) → dirs.IsShown v a h → (is_hashed_in h ≡ true) × dirs.IsNeededForAll v h m) → v.block_at m.block ≡ None → IsNeededOf v a m
+  in_leaves : IsDirectoryAt v a → ((h : Holding) → dirs.IsShown v a h → dirs.IsNeededForAll v h m) → v.block_at m.block ≡ None → IsNeededOf v a m
 
 -- as the view shows the inode with its dinode in block a, it breaks a rule, of a hashed directory where it is one; or (2) a pointer of it, in this block, leads
 -- to one that is no data block of a group
@@ -180,7 +180,7 @@ pub data IsDamage (v : Seen) (call : Call) : ℕ → ℕ → Type 0 where
   stray : (a from b : ℕ) → IsTakenAt v call a → ((h : Holding) → IsShown v a h → IsLedFrom h from b) → ¬ (HasDataBlock v b) → IsDamage v call 2 from
   above : (a : ℕ) → LeadsTo v (wanted call) (parent_of (path_of call false)) a → ¬ (HasDataBlock v a) → IsDamage v call 2 a
   shared : (a b : ℕ) → IsTakenAt v call a → LeadsTo v (wanted call) (parent_of (path_of call false)) b → ((h : Holding) → dirs.IsShown v a h → Goes h b) → IsDamage v call 3 b
-  shared_leaf : (a dir b : ℕ) (name : List ℕ) → IsTakenAt v call a → LeadsTo v (wanted call) (parent_of (path_of call false)) dir → IsLastOf (path_of call false) name
+  shared_leaf : (a dir b : ℕ) (name : List ℕ) → a ≢ dir → IsTakenAt v call a → LeadsTo v (wanted call) (parent_of (path_of call false)) dir → IsLastOf (path_of call false) name
       → ((h : Holding) → dirs.IsShown v dir h → HasRecordOf h name b) → ((h : Holding) → dirs.IsShown v a h → Goes h b) → IsDamage v call 3 b
   in_group : (a rule b : ℕ) (blocks : List ℕ) → IsTakenAt v call a → AreAllOf v a blocks → GroupsAreHeld v blocks → freeing.BreaksSome v blocks rule b → IsDamage v call rule b
 

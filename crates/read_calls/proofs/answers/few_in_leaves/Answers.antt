@@ -23,6 +23,7 @@ returns-in-Is-clause-damaged g c =
 
 pub returns-in-NeedBlock-clause-asked : goal.returns-in-NeedBlock-clause-asked
 returns-in-NeedBlock-clause-asked g c = (
+  λ h shown. directory_of_hashed h (c.requires.hashed h shown),
   λ h shown. (c.requires.hashed h shown.inode, c.requires.few h shown.inode, needed_at _ _ (dirs.IsNeededForAll (g.V.View.seen c.args.view.now) h) c.in-NeedBlock.is (c.in_ok-_leaves.ensures.needed h shown)),
   needed_at _ _ _ c.in-NeedBlock.is c.in_ok-_leaves.ensures.absent,
 )

@@ -29,7 +29,8 @@ returns-in_err-leaves-clause-damaged g c =
 pub returns-in-NeedBlock-2-clause-needed : goal.returns-in-NeedBlock-2-clause-needed
 returns-in-NeedBlock-2-clause-needed g c =
     damage.IsNeededOf.in_leaves
-    (λ h shown. (sym (c.is_hashed_directory.ensures h (c.requires.dinode h shown.inode)) ∙ c.if-not-is_hashed_directory.false, needed_at _ _ _ c.in-NeedBlock-2.is (c.in_ok-leaves.ensures.needed h shown)))
+    (λ h shown. directory_of_hashed h (sym (c.is_hashed_directory.ensures h (c.requires.dinode h shown)) ∙ c.if-not-is_hashed_directory.false))
+    (λ h shown. needed_at _ _ _ c.in-NeedBlock-2.is (c.in_ok-leaves.ensures.needed h shown))
     (needed_at _ _ _ c.in-NeedBlock-2.is c.in_ok-leaves.ensures.absent)
 
 pub returns-clause-all : goal.returns-clause-all

@@ -1,6 +1,8 @@
 use Rattle.std.proofs.Common.{ℕ, not, List, sym, ap, ◌∙◌, subst}
-use Rattle.std.specs.Prelude.{Contains}
+use Rattle.std.specs.Prelude.{Contains, ◌==◌}
 use Rattle.gfs2_layout.proofs.StatePuts.{has_any}
+use Rattle.hash_dirs.proofs.Gathered.{lacks_it}
+use Rattle.std.specs.List.{list_any}
 use Rattle.glock_names.specs.Steps.{TellsOf}
 use Rattle.glock_names.proofs.StepLaws.{answer_at, needed_at}
 use Rattle.path_walks.proofs.Steps.{inside_so, none_so}
@@ -88,7 +90,8 @@ pub returns-in_err-change-clause-damaged : goal.returns-in_err-change-clause-dam
 returns-in_err-change-clause-damaged g c =
     let v = g.V.View.seen c.args.view.now in
     told_on (IsDamage v c.args.call.now) c.from_residual-in_err-change.result _ c.from_residual-in_err-change.ensures.1 (tells_so (IsWrongIn v c.args.place.now.above c.args.name.now c.in-Is.blocks.items) (IsDamage v c.args.call.now)
-    (removal_damage v c.args.call.now c.args.place.now c.args.name.now c.requires.last c.requires.seen c.in-Is.blocks.items (answer_at _ _ (λ blocks. AreAllOf (g.V.View.seen c.args.view.now) c.args.place.now.inode blocks.items) c.in-Is.is c.in_ok-blocks.ensures.all) c.is_a_view.ensures c.requires.aim
+    (removal_damage v c.args.call.now c.args.place.now c.args.name.now c.requires.last c.requires.seen c.in-Is.blocks.items (answer_at _ _ (λ blocks. AreAllOf (g.V.View.seen c.args.view.now) c.args.place.now.inode blocks.items) c.in-Is.is c.in_ok-blocks.ensures.all) c.is_a_view.ensures
+    (lacks_it c.in-Is.blocks.items c.args.place.now.above c.contains.result (c.contains.ensures.value ∙ ap (λ xs. list_any (λ y. y == c.args.place.now.above) xs) c.deref.ensures.value) c.if-contains.false) c.requires.aim
     (subst (λ (xs : List ℕ). GroupsAreHeld v xs) c.deref-2.ensures.value c.in_default.ensures.none))
     c.in_err-change.field-0.0
     (subst (λ (xs : List ℕ). TellsOf (IsWrongIn v c.args.place.now.above c.args.name.now xs) c.in_err-change.field-0.0) c.deref-3.ensures.value c.in_err-change.ensures.damaged))
