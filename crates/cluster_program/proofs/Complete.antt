@@ -14,7 +14,7 @@ use Rattle.cluster_program.specs.declared.status.Status.TheVariants as status
 use Rattle.cluster_program.specs.declared.status.Which.{Which}
 use Rattle.cluster_program.specs.World.{Inputs, Outputs}
 use Rattle.cluster_program.specs.Course.{Course, RefusesWords, MakesImage, NoScript, Makes, IsTooLarge, IsTooSmall, LacksMemory, HasFailed, HasMade, plan_for, RunsScript, LacksScript, SourceFailed, Refused, RefusedEarly, NotBuiltYet, NoRoom, Shows, HasShown, ShowsNone, TreeFailed, TreeDamaged, NothingHeld, ShowsImage}
-use Rattle.cluster_program.specs.Mounting.{IsMountable, MountEnds, DiskFails, LiesOutside, IsDamaged, IsDirty, IsHashed, LacksRoom}
+use Rattle.cluster_program.specs.Mounting.{IsMountable, MountEnds, DiskFails, LiesOutside, IsDamaged, IsDirty, LacksRoom}
 use Rattle.cluster_program.specs.Runs as runs
 use Rattle.cluster_program.specs.Runs.{RunEnds, IsDone, NotMounted, CallFailed, CallHashed, CallUnbuilt, CallDamaged}
 use Rattle.cluster_program.specs.declared.status.Part.TheVariants as part
@@ -70,7 +70,6 @@ module _ (words : List (List ℕ)) (given left : Inputs) (sinks sinks_now : Outp
   of_mount may own (IsDirty block dirty) =
       let it = dirty may.is.tells in
       let both : true ≡ false = sym (may.clean it.0 it.1 it.2.place it.2.journal it.2.there) ∙ it.2.dirty in cc
-  of_mount may own (IsHashed block hashed) = absurd (may.linear block (hashed may.is.tells).0 (hashed may.is.tells).1)
   of_mount may own LacksRoom = inr refl
 
   of_show : IsMountable given.disk → (lines : List ℕ) (own : Status) → Shows given.disk given.disk_faults left.disk_faults lines own → IsWhole own

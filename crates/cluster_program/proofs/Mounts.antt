@@ -22,7 +22,7 @@ use Rattle.lone_view.specs.Seeing.{seen_alone}
 use Rattle.lone_node.specs.Standing.{IsOn}
 use Rattle.damage_laws.specs.Telling.{HasRootInside, IsOfMounted, MountedAreRead}
 use Rattle.cluster_program.specs.Early.{status_of_mount}
-use Rattle.cluster_program.specs.Mounting.{OfImage, IsMountedFor, MountEnds, DiskFails, LiesOutside, IsDamaged, IsDirty, IsHashed, LacksRoom}
+use Rattle.cluster_program.specs.Mounting.{OfImage, IsMountedFor, MountEnds, DiskFails, LiesOutside, IsDamaged, IsDirty, LacksRoom}
 use Rattle.cluster_program.specs.Report.{IsSinkFault}
 use Rattle.cluster_program.specs.declared.status.Status.{Status}
 use Rattle.cluster_program.specs.Runs.{as_mounted}
@@ -34,7 +34,6 @@ mount_end d first now (fault.NotProfile what value) law right excused risen with
 mount_end d first now (fault.Damaged block rule) law right excused risen within =
     IsDamaged block rule right (λ tells tree stands. law (image_of d) tree stands rule block (right tells).0.breaks)
 mount_end d first now (fault.DeviceFault block x y) law right excused risen within = DiskFails block x y risen within right
-mount_end d first now (fault.NotBuilt block) law right excused risen within = IsHashed block right
 mount_end d first now fault.NoMemory law right excused risen within = LacksRoom
 
 -- ---- what the node has of the image as it begins
@@ -101,7 +100,6 @@ mount_never_done disk first now own (DiskFails block x y up inside reached) is =
 mount_never_done disk first now own (LiesOutside what value outside never) is = cc
 mount_never_done disk first now own (IsDamaged block rule breaks never) is = cc
 mount_never_done disk first now own (IsDirty block dirty) is = cc
-mount_never_done disk first now own (IsHashed block hashed) is = cc
 mount_never_done disk first now own LacksRoom is = cc
 
 pub no_mount_fault : (d : DiskState) (first now : ℕ → ℕ) (own : Status) → MountEnds d first now own → IsSinkFault own → ⊥
@@ -109,5 +107,4 @@ no_mount_fault d first now own (DiskFails block x y up inside reached) never = n
 no_mount_fault d first now own (LiesOutside what value outside none) never = never
 no_mount_fault d first now own (IsDamaged block rule breaks none) never = never
 no_mount_fault d first now own (IsDirty block dirty) never = never
-no_mount_fault d first now own (IsHashed block hashed) never = never
 no_mount_fault d first now own LacksRoom never = never

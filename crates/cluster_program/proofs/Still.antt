@@ -4,20 +4,16 @@ use Rattle.std.specs.Prelude.{codes}
 use Rattle.profile_limits.specs.Limits.{least_journal_blocks, most_blocks, most_journal_blocks}
 use Rattle.file_tree.specs.Tree.{Tree}
 use Rattle.gfs2_layout.specs.Device.{superblock_place}
-use Rattle.gfs2_layout.specs.Inode.{is_hashed_in}
 use Rattle.gfs2_layout.specs.Structures.{superblock_of}
 use Rattle.gfs2_layout.specs.declared.superblock.SuperBlock.{SuperBlock}
-use Rattle.image_model.specs.Claims.{every, HasInode, IsJindex, LeadsTo}
+use Rattle.image_model.specs.Claims.{every, LeadsTo}
 use Rattle.image_model.specs.Flat.{Path, Node, follow}
 use Rattle.image_model.specs.Image.{Image, image_of, superblock_in}
 use Rattle.image_model.specs.Journals.{journal_name}
-use Rattle.image_model.specs.Owners.{Owners, is_dinode}
+use Rattle.image_model.specs.Owners.{Owners}
 use Rattle.image_model.specs.Profile.{IsInProfile}
-use Rattle.image_model.specs.Rules.{IsHashedAt}
 use Rattle.image_model.specs.Stands.{Layout, IsLaid, flat_of}
-use Rattle.image_model.proofs.Facts.{child_leads, has_jindex, jindex_is, leads_child_of, leads_row}
-use Rattle.image_model.proofs.Reach.{inode_claim}
-use Rattle.image_model.proofs.Rows.{hashed_is}
+use Rattle.image_model.proofs.Facts.{child_leads, leads_child_of}
 use Rattle.image_changes.specs.Changes.{SystemStays}
 use Rattle.image_changes.proofs.Layouts.{one_layout}
 use Rattle.image_changes.proofs.System.{system_flat}
@@ -60,34 +56,12 @@ module _ (im im' : Image) (o o' : Owners) (l : Layout) (laid : IsLaid im o l) (l
     sequence = λ j d head at is. was.sequence j d head at (sym (head_kept im im' o o' l laid laid' stay j d at) ∙ is);
   }
 
-  jindex_dinode : (z : Image) (p : Owners) → IsLaid z p l → is_dinode (p l.jindex) ≡ true
-  jindex_dinode z p is = ap is_dinode (leads_row z p l is l.master (codes "jindex") l.jindex (child_leads z p l is l.master (codes "jindex") l.jindex is.system.jindex))
-
-  jindex_there : HasInode im l.jindex
-  jindex_there =
-      let dinode = jindex_dinode im o laid in
-      let claim = inode_claim im o l laid l.jindex dinode in
-      (o l.jindex, record { by = claim.0; claimed = claim.1; dinode = dinode })
-
-  was_hashed : is_hashed_in (every im' l.jindex) ≡ true → is_hashed_in (every im l.jindex) ≡ true
-  was_hashed hashed =
-      sym (hashed_is im o l laid l.jindex (jindex_dinode im o laid))
-      ∙ ap is_hashed_in (sym (stay.inodes (codes "jindex" ∷ []) l.jindex jindex_found).1)
-      ∙ hashed_is im' o' l laid' l.jindex (jindex_dinode im' o' laid')
-      ∙ hashed
-
-  -- a directory of journals that wasn't hashed isn't
-  pub linear_stays : ((a : ℕ) → IsJindex im a → IsHashedAt im a → ⊥) → (a : ℕ) → IsJindex im' a → IsHashedAt im' a → ⊥
-  linear_stays none a is hashed =
-      none l.jindex (has_jindex im o l laid) (jindex_there, was_hashed (subst (λ (d : ℕ). is_hashed_in (every im' d) ≡ true) (jindex_is im' o' l laid' a is) hashed.1))
-
 -- where a disk stood for a tree and was mounted, and stands now for one by the same layout, it can be mounted if it could
 pub mountable_still : (d d' : DiskState) (n : Lone) (t t' : Tree) (m : MountedValue) → IsMountedFor d m → (at : StandsFor d n t) → LeavesStanding d d' n t t' at → IsMountable d → IsMountable d'
 mountable_still d d' n t t' m for at left may = record {
   tree = t';
   is = record { tells = left.now.tells; stands = record { owners = left.now.owners; layout = left.now.layout; laid = left.now.stands.laid; reads = left.now.stands.reads } };
   profile = record { owners = left.now.owners; layout = at.layout; laid = laid; profile = profile_stays (image_of d) (image_of d') at.owners left.now.owners at.layout at.stands.laid laid left.system profile };
-  linear = linear_stays (image_of d) (image_of d') at.owners left.now.owners at.layout at.stands.laid laid left.system may.linear;
   clean = clean_again (image_of d) (image_of d') at.owners left.now.owners at.layout at.stands.laid laid left.system m (for.mounted at.tells) for.clean;
 }
   where

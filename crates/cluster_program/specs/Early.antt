@@ -33,7 +33,6 @@ abbrev pub status_of_mount : MountFault → Status
 status_of_mount (fault.NotProfile field value) = status.NotProfile field value
 status_of_mount (fault.Damaged block rule) = status.Damaged block rule
 status_of_mount (fault.DeviceFault block before after) = status.DeviceFault 0 (Some block) before after
-status_of_mount (fault.NotBuilt block) = status.NotBuilt (part.Block block)
 status_of_mount fault.NoMemory = status.NoMemory
 
 -- of the reading of a text

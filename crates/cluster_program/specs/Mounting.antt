@@ -2,9 +2,8 @@
 use Rattle.std.specs.Prelude.{ℕ, ◌≡◌, ◌<◌, Bool, false, true, IsTrue, List, Option, None, Some, slice_get}
 use Rattle.fault_counts.specs.Causes.{WentUp}
 use Rattle.file_tree.specs.Tree.{Tree}
-use Rattle.image_model.specs.Claims.{every, IsJindex}
+use Rattle.image_model.specs.Claims.{every}
 use Rattle.image_model.specs.Image.{Image, image_of}
-use Rattle.image_model.specs.Rules.{IsHashedAt}
 use Rattle.image_model.specs.Stands.{Stands}
 use Rattle.image_mount.specs.Mounted.{Journal, MountedValue, IsMounted, IsOfProfile}
 use Rattle.image_mount.specs.Refusals.{IsOutside, IsReached, RefusesRightly}
@@ -62,12 +61,11 @@ pub record IsMountedFor (disk : DiskState) (m : MountedValue) : Type 0 where
   pub mounted : OfImage disk (λ im. IsMounted im m)
   pub clean : IsLeftClean m
 
--- The image on the disk stands for a tree and is one of the profile, the directory of journals isn't hashed, and each journal was left clean.
+-- The image on the disk stands for a tree and is one of the profile, and each journal was left clean.
 pub record IsMountable (disk : DiskState) : Type 0 where
   pub tree : Tree
   pub is : IsImageOf disk tree
   pub profile : IsOfProfile (image_of disk)
-  pub linear : (a : ℕ) → IsJindex (image_of disk) a → IsHashedAt (image_of disk) a → ⊥
   pub clean : AreClean (image_of disk)
 
 -- ---- the heads of journals in an image, by the blocks of their dinodes
@@ -81,8 +79,8 @@ is_clean_in im journal = is_clean_head (head_in (ring_of (every im journal.dinod
 
 -- Why an image isn't mounted: the disk failed at a block of it, one that is reached where it tells its blocks; a field is outside the profile; a block of the device
 -- breaks a rule, or it is too short for a superblock, and behind the superblock that is told only where the formats are those of
--- the profile; and what is not built: the replay of a journal, and, with such formats, a hashed directory of journals. A root that is
--- none of the groups' data blocks is looked for last: its number stands in the superblock.
+-- the profile; and what is not built: the replay of a journal. A root that is none of the groups' data blocks is looked for last: its
+-- number stands in the superblock.
 pub data MountEnds (disk : DiskState) (faults faults_now : ℕ → ℕ) : Status → Type 0 where
   DiskFails : (block x y : ℕ) → WentUp (faults 0) (faults_now 0) x y → block < disk.count → OfImage disk (λ im. IsReached im block) → MountEnds disk faults faults_now (status.DeviceFault 0 (Some block) x y)
   LiesOutside : (what : Field) (value : ℕ) → OfImage disk (λ im. IsOutside im what value) → OfImage disk (λ im. IsOfProfile im → ⊥)
@@ -90,5 +88,4 @@ pub data MountEnds (disk : DiskState) (faults faults_now : ℕ → ℕ) : Status
   IsDamaged : (block rule : ℕ) → OfImage disk (λ im. RefusesRightly im (fault.Damaged block rule)) → OfImage disk NeverStands
       → MountEnds disk faults faults_now (status.Damaged block rule)
   IsDirty : (block : ℕ) → OfImage disk (λ im. HasDirtyJournal im block) → MountEnds disk faults faults_now (status.NotBuilt (part.Block block))
-  IsHashed : (block : ℕ) → OfImage disk (λ im. RefusesRightly im (fault.NotBuilt block)) → MountEnds disk faults faults_now (status.NotBuilt (part.Block block))
   LacksRoom : MountEnds disk faults faults_now status.NoMemory

@@ -25,7 +25,6 @@ pub(crate) fn not_mounted(fault: MountFault) -> Status
             before,
             after,
         },
-        MountFault::NotBuilt { block } => not_built(block),
         MountFault::NoMemory => Status::NoMemory,
     }
 }

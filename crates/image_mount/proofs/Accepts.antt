@@ -178,5 +178,4 @@ pub excused : (im : Image) (f : MountFault) → RefusesRightly im f → IsOfProf
 excused im (fault.NotProfile what value) right of = none_outside im of.owners of.layout of.laid of.profile what value right
 excused im (fault.Damaged block rule) right of = laid_breaks_nothing im of.owners of.layout of.laid rule block right.0.breaks
 excused im (fault.DeviceFault block before after) right of = tt
-excused im (fault.NotBuilt block) right of = tt
 excused im fault.NoMemory right of = tt

@@ -56,7 +56,7 @@ module _ (old new : List Named) (ys : List (Record × ℕ)) (added : map standin
   ]
 
 -- what they say, without their blocks
-said_of : (xs : List Named) → map (λ (p : Record × ℕ). p.0) (map standing xs) ≡ map said xs
+pub said_of : (xs : List Named) → map (λ (p : Record × ℕ). p.0) (map standing xs) ≡ map said xs
 said_of xs = map-map (λ (p : Record × ℕ). p.0) standing xs
 
 records_of : (b : ℕ) (rs : List Record) → map (λ (p : Record × ℕ). p.0) (map (λ r. (r, b)) rs) ≡ rs

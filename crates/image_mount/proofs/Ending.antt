@@ -1,5 +1,5 @@
 -- What mounting tells in the end.
-use Rattle.std.proofs.Common.{refl, ◌≢◌, ◌≡◌, ℕ, ◌^◌, ◌<◌, ◌≤◌, List, [], length, Some, IsTrue, sym, ap, subst, ◌∙◌}
+use Rattle.std.proofs.Common.{refl, ◌≡◌, ℕ, ◌^◌, ◌<◌, ◌≤◌, List, [], length, Some, IsTrue, sym, ap, subst, ◌∙◌}
 use Rattle.std.specs.Prelude.{map, slice_get, Result, IfErr, IsErrAnd}
 use Rattle.std.specs.List.{All}
 use Rattle.std.proofs.lemmas.List.{length-map}
@@ -7,7 +7,7 @@ use Rattle.std.proofs.lemmas.Option.{slice_get_within, get_or_from_slice_get}
 use Rattle.glock_names.specs.Views.{group_of_entry}
 use Rattle.gfs2_layout.specs.declared.log_header.LogHeader.{LogHeader}
 use Rattle.gfs2_layout.specs.declared.superblock.SuperBlock.{SuperBlock}
-use Rattle.glock_names.specs.declared.steps.Entry.{Entry}
+use Rattle.image_mount.specs.declared.listing.Link.{Link}
 use Rattle.gfs2_layout.specs.Inode.{content_block}
 use Rattle.gfs2_layout.specs.Journal.{ring_of}
 use Rattle.image_model.specs.Claims.{every}
@@ -19,7 +19,7 @@ use Rattle.image_mount.specs.Looks.{HasTrueRecord, IsInGroups, IsPlaceOf, IsSoun
 use Rattle.image_mount.specs.Marked.{IsKept, IsKeptWay, times_in}
 use Rattle.image_mount.specs.Mounted.{Journal, MountedValue, IsMounted, IsOfProfile, IsJournalOf}
 use Rattle.image_mount.specs.Refusals.{RefusesRightly, IsExcused}
-use Rattle.image_mount.specs.Rings.{AreKeptWays, IsSearched, AreRings, AreJournals, IsLowJournal, IsRingOf, all_places}
+use Rattle.image_mount.specs.Rings.{AreKeptWays, IsSearched, AreRings, AreJournals, IsLowJournal, IsOwn, IsRingOf, all_places}
 use Rattle.image_mount.specs.System.{HasDinodes, IsSystemOf, layout_of}
 use Rattle.image_mount.specs.Kept.{Kept}
 use Rattle.shared_disk.specs.Disk.{DiskState}
@@ -47,7 +47,7 @@ same_some x y e = cc
 -- what was found is what is mounted
 pub mounted : (im : Image) (system : System) (rings : List Ring) (journals : List Journal) (m : MountedValue) → IsSystemOf im system → AreRings im system.journals.items rings → AreJournals im rings journals
     → All (λ (r : Ring). All (IsInGroups system.groups.items) r.blocks.items) rings → ((b : ℕ) → times_in (all_places rings) b ≤ 1)
-    → All (λ (r : Ring). (r.dinode ≢ system.superblock.master.address) × (r.dinode ≢ system.rindex)) rings
+    → All (λ (r : Ring). IsOwn system r.dinode) rings
     → (k : Kept) → HasDinodes im k system → All (λ (r : Ring). IsKept k r.dinode) rings
     → All (λ (r : Ring). AreKeptWays im k r.dinode r.blocks.items) rings
     → ((j p b : ℕ) (r : Ring) → slice_get rings j ≡ Some r → slice_get r.blocks.items p ≡ Some b → ¬ (IsKept k b))
@@ -68,7 +68,7 @@ mounted im system rings journals m looked are found placed once own k dinodes_ke
       there = looked.names.there;
       others = λ name d way.
           let other = looked.journals.others name d way in
-          (other.0, subst (IsJournalAt l other.0) other.1.2 (mapped_at (λ (e : Entry). e.addr) system.journals.items other.0 other.1.0 other.1.1), other.1.3);
+          (other.0, subst (IsJournalAt l other.0) other.1.2 (mapped_at (λ (e : Link). e.entry.addr) system.journals.items other.0 other.1.0 other.1.1), other.1.3);
     };
     journal = λ j d at.
         let ring = ring_at j d at in
@@ -85,10 +85,10 @@ mounted im system rings journals m looked are found placed once own k dinodes_ke
     rindex_record = looked.rindex_record;
     jindex_record = looked.jindex_record;
     journal_records = λ j d at.
-        let entry = from_mapped (λ (e : Entry). e.addr) system.journals.items j d at in
+        let entry = from_mapped (λ (e : Link). e.entry.addr) system.journals.items j d at in
         let low = slice_get_within system.journals.items j entry.0 entry.1 in
-        let is_true = subst (IsTrueEntry im) (get_or_from_slice_get system.journals.items j entry.0 entry.0 entry.1) (are.entries j entry.0 low) in
-        subst (HasTrueRecord im system.jindex (journal_name j)) entry.2 (true_record im system.jindex system.jindex (journal_name j) entry.0 (looked.journals.each j entry.0 entry.1) is_true);
+        let is_true = subst (λ (e : Link). IsTrueEntry im e.entry) (get_or_from_slice_get system.journals.items j entry.0 entry.0 entry.1) (are.entries j entry.0 low) in
+        subst (HasTrueRecord im system.jindex (journal_name j)) entry.2 (true_record im system.jindex entry.0.from (journal_name j) entry.0.entry (looked.journals.each j entry.0 entry.1) is_true);
     master = looked.master_looked;
     rindex = looked.rindex_looked;
     jindex = looked.journals.looked;
@@ -97,10 +97,12 @@ mounted im system rings journals m looked are found placed once own k dinodes_ke
     list = looked.rindex_headed;
     master_records = looked.master_sound;
     master_leaves = looked.master_leaves;
+    jindex_leaves = looked.journals.leaves;
     jindex_records = subst (IsSoundDirectory im system.jindex) (sym (ap (λ (s : SuperBlock). s.master.address) looked.superblock)) looked.journals.sound;
     own = λ j d at.
         let ring = from_mapped (λ (r : Ring). r.dinode) rings j d (ap (λ ds. slice_get ds j) are.dinodes ∙ at) in
-        subst (λ x. (x ≢ system.superblock.master.address) × (x ≢ system.rindex)) ring.2 (all_at (λ (r : Ring). (r.dinode ≢ system.superblock.master.address) × (r.dinode ≢ system.rindex)) rings j ring.0 own ring.1);
+        let is = subst (IsOwn system) ring.2 (all_at (λ (r : Ring). IsOwn system r.dinode) rings j ring.0 own ring.1) in
+        (is.master, is.rindex, is.jindex);
     places = λ j p b place.
         let here = place_at j p b place in
         all_at (IsInGroups system.groups.items) here.0.blocks.items p b (all_at (λ (r : Ring). All (IsInGroups system.groups.items) r.blocks.items) rings j here.0 placed here.1) here.2;

@@ -71,7 +71,6 @@ pub device_told : (im : Image) (f : MountFault) (b : ℕ) → FailsAt b f → Is
 device_told im (fault.NotProfile what value) b fails reached = absurd fails
 device_told im (fault.Damaged block rule) b fails reached = absurd fails
 device_told im (fault.DeviceFault block before after) b fails reached = subst (IsReached im) (sym fails) reached
-device_told im (fault.NotBuilt block) b fails reached = absurd fails
 device_told im fault.NoMemory b fails reached = absurd fails
 
 -- ---- the header at one place

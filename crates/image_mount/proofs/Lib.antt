@@ -18,6 +18,7 @@ pub mod SystemFiles
 pub mod Systems
 pub mod Marks
 pub mod Heads
+pub mod Jindexes
 pub mod JournalNames
 pub mod Accepts
 pub mod Places
@@ -30,6 +31,7 @@ pub mod Looks
 pub mod ViewGroups
 pub mod Marked
 pub mod Sound
+pub mod Sifts
 pub mod SoundLeaves
 pub mod KeptWays
 pub mod Layouts

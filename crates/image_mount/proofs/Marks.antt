@@ -9,7 +9,6 @@ use Rattle.dinode_tree.specs.declared.locating.Located.{Located}
 use Rattle.gfs2_layout.specs.Device.{superblock_place}
 use Rattle.gfs2_layout.specs.Inode.{content_of}
 use Rattle.gfs2_layout.specs.declared.rindex.Rindex.{Rindex}
-use Rattle.glock_names.specs.declared.steps.Entry.{Entry}
 use Rattle.image_model.specs.Claims.{every, Claims, below}
 use Rattle.image_model.specs.Groups.{groups_in, IsDataOf}
 use Rattle.shared_disk.specs.Disk.{DiskState}
@@ -24,6 +23,7 @@ use Rattle.image_mount.specs.Rings.{IsPlace, IsSearched, IsNext, IsPlaceAt}
 use Rattle.image_mount.specs.Searching.{IsWanted, StopsRightly}
 use Rattle.image_mount.specs.System.{IsSystemOf}
 use Rattle.image_mount.specs.Kept.{Kept, bytes_of}
+use Rattle.image_mount.specs.declared.listing.Link.{Link}
 use Rattle.image_mount.specs.declared.fault.MountFault.{MountFault}
 use Rattle.image_mount.specs.declared.fault.MountFault.TheVariants as fault
 use Rattle.image_mount.specs.declared.stop.Stop.{Stop}
@@ -162,49 +162,49 @@ marked_more im done d n m old new b is entries leaves low place known = record {
 
 -- ---- a place of the next journal
 
-module _ (im : Image) (done : List ℕ) (system : System) (journal : Entry) (next : IsNext im done system journal) where
+module _ (im : Image) (done : List ℕ) (system : System) (journal : Link) (next : IsNext im done system journal) where
   format : HasFormat im
   format = next.named.names.groups.list.master.format
 
-  pub place_claim : (place : ℕ) (located : Located) (at : IsPlaceAt im journal.addr place located) → Claims im located.from located.block (Below journal.addr located.from at.leads.0 0 place)
+  pub place_claim : (place : ℕ) (located : Located) (at : IsPlaceAt im journal.entry.addr place located) → Claims im located.from located.block (Below journal.entry.addr located.from at.leads.0 0 place)
   place_claim place located at =
-      below system.jindex journal.addr (Named system.jindex (journal_name next.named.index)) located.from at.leads.0 0 place located.block next.named.named.claimed refl at.leads.1
+      below journal.from journal.entry.addr (Named next.named.layout.jindex (journal_name next.named.index)) located.from at.leads.0 0 place located.block next.named.named.claimed refl at.leads.1
 
-  pub place_beyond : (f : MountFault) (place : ℕ) (located : Located) → f ≡ fault.Damaged located.from 2 → IsPlaceAt im journal.addr place located → im.count ≤ located.block → RefusesRightly im f
+  pub place_beyond : (f : MountFault) (place : ℕ) (located : Located) → f ≡ fault.Damaged located.from 2 → IsPlaceAt im journal.entry.addr place located → im.count ≤ located.block → RefusesRightly im f
   place_beyond f place located is at high =
-      told im f located.from 2 is format at.inside (beyond_device located.from located.block (Below journal.addr located.from at.leads.0 0 place) (place_claim place located at) high)
+      told im f located.from 2 is format at.inside (beyond_device located.from located.block (Below journal.entry.addr located.from at.leads.0 0 place) (place_claim place located at) high)
 
-  pub place_outside : (f : MountFault) (place : ℕ) (located : Located) → f ≡ fault.Damaged located.from 2 → IsPlaceAt im journal.addr place located → IsOutside im located.block → RefusesRightly im f
+  pub place_outside : (f : MountFault) (place : ℕ) (located : Located) → f ≡ fault.Damaged located.from 2 → IsPlaceAt im journal.entry.addr place located → IsOutside im located.block → RefusesRightly im f
   place_outside f place located is at out =
-      told im f located.from 2 is format at.inside (beyond_groups located.from located.block (Below journal.addr located.from at.leads.0 0 place) (place_claim place located at) out)
+      told im f located.from 2 is format at.inside (beyond_groups located.from located.block (Below journal.entry.addr located.from at.leads.0 0 place) (place_claim place located at) out)
 
   one_place : (a b k i d c j p : ℕ) → Below a b k 0 i ≡ Below d c j 0 p → (a ≡ d) × (i ≡ p)
   one_place a b k i d c j p e = (cc, cc)
 
-  pub place_again : (f : MountFault) (place : ℕ) (located : Located) → f ≡ fault.Damaged located.block 3 → located.block < im.count → IsPlaceAt im journal.addr place located → IsPlace im done journal.addr place located.block
+  pub place_again : (f : MountFault) (place : ℕ) (located : Located) → f ≡ fault.Damaged located.block 3 → located.block < im.count → IsPlaceAt im journal.entry.addr place located → IsPlace im done journal.entry.addr place located.block
       → RefusesRightly im f
   place_again f place located is inside at old =
       told im f located.block 3 is format inside
-      (two_owners located.block old.by located.from (Below old.inode old.by old.pointer 0 old.index) (Below journal.addr located.from at.leads.0 0 place) old.claimed (place_claim place located at)
-      (λ e. let same = one_place old.inode old.by old.pointer old.index journal.addr located.from at.leads.0 place e in elim old.of [
+      (two_owners located.block old.by located.from (Below old.inode old.by old.pointer 0 old.index) (Below journal.entry.addr located.from at.leads.0 0 place) old.claimed (place_claim place located at)
+      (λ e. let same = one_place old.inode old.by old.pointer old.index journal.entry.addr located.from at.leads.0 place e in elim old.of [
         | inl before ↦ next.new (subst (Contains done) same.0 before)
         | inr here ↦ absurd (omega (arith, same.1, here.1))
       ]))
 
-  pub place_kept : (f : MountFault) (place : ℕ) (located : Located) (by : ℕ) → f ≡ fault.Damaged located.block 3 → located.block < im.count → IsPlaceAt im journal.addr place located → IsWanted im located.block by
+  pub place_kept : (f : MountFault) (place : ℕ) (located : Located) (by : ℕ) → f ≡ fault.Damaged located.block 3 → located.block < im.count → IsPlaceAt im journal.entry.addr place located → IsWanted im located.block by
       → located.block ≢ superblock_place im.size → RefusesRightly im f
   place_kept f place located by is inside at wanted apart = elim wanted [
     | inl super ↦ absurd (apart super)
     | inr from ↦
         told im f located.block 3 is format inside
-        (two_owners located.block by located.from from.1.0 (Below journal.addr located.from at.leads.0 0 place) from.1.1 (place_claim place located at)
-        (λ e. next.plain (from.1.2 journal.addr located.from at.leads.0 place e)))
+        (two_owners located.block by located.from from.1.0 (Below journal.entry.addr located.from at.leads.0 0 place) from.1.1 (place_claim place located at)
+        (λ e. next.plain (from.1.2 journal.entry.addr located.from at.leads.0 place e)))
   ]
 
-  pub is_place : (place : ℕ) (located : Located) → IsPlaceAt im journal.addr place located → located.block ≢ superblock_place im.size → IsPlace im done journal.addr (place + 1) located.block
+  pub is_place : (place : ℕ) (located : Located) → IsPlaceAt im journal.entry.addr place located → located.block ≢ superblock_place im.size → IsPlace im done journal.entry.addr (place + 1) located.block
   is_place place located at apart = record {
     apart = apart;
-    inode = journal.addr;
+    inode = journal.entry.addr;
     by = located.from;
     pointer = at.leads.0;
     index = place;

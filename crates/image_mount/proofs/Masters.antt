@@ -1,4 +1,4 @@
--- The master directory as an inode, and the pointers of its table where it is a hashed one.
+-- A directory of the system as an inode, and the pointers of its table where it is a hashed one.
 use Rattle.std.proofs.Common.{◌≡◌, ◌≢◌, inl, inr, ℕ, zero, suc, cond, ◌+◌, ◌-◌, ◌*◌, ◌/◌, ◌%◌, ◌^◌, ◌<◌, ◌≤◌, ◌==◌, true, None, Some, refl, sym, ap, subst, ◌∙◌, arith}
 use Rattle.std.specs.Prelude.{nat_lt}
 use Rattle.std.proofs.lemmas.Bool.{cases_Bool, cond-true, cond-false, eq-eqb, ne_eqb}
@@ -9,7 +9,7 @@ use Rattle.dinode_tree.specs.Reading.{IsRightDinode, reach, block_at}
 use Rattle.gfs2_layout.specs.Bytes.{u64_at}
 use Rattle.gfs2_layout.specs.Holding.{Holding}
 use Rattle.gfs2_layout.specs.Inode.{dinode_in, depth_in, is_directory_in, is_hashed_in, height_in, unit, content_block, content_count, content_of, pieces, table_count, entry, entry_block, index_bits, first_hash, leaf_in}
-use Rattle.gfs2_layout.specs.Structures.{leaf_of}
+use Rattle.gfs2_layout.specs.Structures.{is_directory, leaf_of}
 use Rattle.gfs2_layout.specs.declared.dinode.Dinode.{Dinode}
 use Rattle.gfs2_layout.specs.declared.leaf.Leaf.{Leaf}
 use Rattle.image_model.specs.Claims.{every, Claims, HasInode, HasDirectory, first_leaf}
@@ -20,10 +20,11 @@ use Rattle.image_reader.specs.declared.hash_table.HashTable.{HashTable}
 use Rattle.image_reader.proofs.Chains.{same_bits, run_some}
 use Rattle.image_reader.proofs.Pieces.{pieces_cover}
 use Rattle.image_mount.specs.Found.{IsInChain, chain_head}
-use Rattle.image_mount.specs.Leaves.{IsMasterIn, IsTableOf, IsLeafHead, IsLeafIn}
+use Rattle.image_mount.specs.Leaves.{IsMasterIn, IsSystemDirectory, IsTableOf, IsLeafHead, IsLeafIn}
 use Rattle.image_mount.specs.Looks.{HasHeadedContent, IsInRun, IsTableSized, LeadsToLeaf}
 use Rattle.image_mount.specs.Refusals.{RefusesRightly}
 use Rattle.image_mount.specs.Searching.{IsSystemFile}
+use Rattle.image_mount.specs.System.{IsJindexOf}
 use Rattle.image_mount.specs.declared.fault.MountFault.{MountFault}
 use Rattle.image_mount.specs.declared.fault.MountFault.TheVariants as fault
 use Rattle.image_mount.specs.declared.inodes.Inode.{Inode}
@@ -32,29 +33,52 @@ use Rattle.image_mount.proofs.Causes.{told}
 use Rattle.image_mount.proofs.Places.{found_block, hole_block}
 use Rattle.image_mount.proofs.SystemFiles.{is_master}
 
-module _ (im : Image) (inode : Inode) (is : IsMasterIn im inode) where
-  pub master_claim : Claims im inode.from inode.block Master
-  master_claim = is_master im inode.from inode.block is.from is.block
+-- the master directory is one of the system's
+pub master_directory_of : (im : Image) (inode : Inode) → IsMasterIn im inode → IsSystemDirectory im inode
+master_directory_of im inode is = record {
+  format = is.format;
+  owner = Master;
+  claimed = is_master im inode.from inode.block is.from is.block;
+  is_inode = refl;
+  read = inr (inl is.block);
+  from_inside = subst (λ n. n < im.count) (sym is.from) is.format.super.inside;
+  dinode = is.dinode;
+  right = is.right;
+  inside = is.inside;
+  directory = is.directory;
+}
 
-  -- its number stands in the superblock
-  pub from_inside : inode.from < im.count
-  from_inside = subst (λ n. n < im.count) (sym is.from) is.format.super.inside
+-- so is that of journals
+pub jindex_directory_of : (im : Image) (master : ℕ) (inode : Inode) → IsJindexOf im master inode → IsSystemDirectory im inode
+jindex_directory_of im master inode is = record {
+  format = is.directory.format;
+  owner = is.directory.owner;
+  claimed = is.directory.claimed;
+  is_inode = is.directory.is_inode;
+  read = inr (inr is.is);
+  from_inside = is.directory.from_inside;
+  dinode = is.directory.dinode;
+  right = is.right;
+  inside = is.directory.inside;
+  directory = sym (ap is_directory is.directory.dinode) ∙ is.directory.directory;
+}
 
-  pub master_inode : HasInode im inode.block
-  master_inode = (Master, record { by = inode.from; claimed = master_claim; dinode = refl })
+module _ (im : Image) (inode : Inode) (is : IsSystemDirectory im inode) where
+  pub file_inode : HasInode im inode.block
+  file_inode = (is.owner, record { by = inode.from; claimed = is.claimed; dinode = is.is_inode })
 
-  pub master_has : HasDirectory im inode.block
-  master_has = record { inode = master_inode; dir = is.directory }
-
-  pub master_read : IsSystemFile im inode.block
-  master_read = inr is.block
+  pub file_has : HasDirectory im inode.block
+  file_has = record { inode = file_inode; dir = is.directory }
 
 -- the dinode that is kept is read once more
-pub kept_master : (im : Image) (inode kept : Inode) → IsMasterIn im inode → kept.block ≡ inode.block → kept.from ≡ inode.from → kept.dinode ≡ dinode_in (every im inode.block) → IsMasterIn im kept
-kept_master im inode kept is block from dinode = record {
+pub kept_file : (im : Image) (inode kept : Inode) → IsSystemDirectory im inode → kept.block ≡ inode.block → kept.from ≡ inode.from → kept.dinode ≡ dinode_in (every im inode.block) → IsSystemDirectory im kept
+kept_file im inode kept is block from dinode = record {
   format = is.format;
-  block = block ∙ is.block;
-  from = from ∙ is.from;
+  owner = is.owner;
+  claimed = subst (λ a. Claims im kept.from a is.owner) (sym block) (subst (λ b. Claims im b inode.block is.owner) (sym from) is.claimed);
+  is_inode = is.is_inode;
+  read = subst (IsSystemFile im) (sym block) is.read;
+  from_inside = subst (λ n. n < im.count) (sym from) is.from_inside;
   dinode = dinode ∙ ap (λ a. dinode_in (every im a)) (sym block);
   right = subst (λ a. IsRightDinode (every im a)) (sym block) is.right;
   inside = subst (λ a. a < im.count) (sym block) is.inside;
@@ -69,10 +93,10 @@ table_short depth low =
     let p : 2 ^ depth ≤ 2 ^ 15 = pow_mono {i = depth} {j = 15} low in
     omega (arith, p)
 
-pub table_is : (im : Image) (inode kept : Inode) (table : HashTable) → IsMasterIn im inode → kept.block ≡ inode.block → is_hashed_in (every im inode.block) ≡ true → IsMasterIn im kept → table.depth ≡ kept.dinode.depth
+pub table_is : (im : Image) (inode kept : Inode) (table : HashTable) → IsSystemDirectory im inode → kept.block ≡ inode.block → is_hashed_in (every im inode.block) ≡ true → IsSystemDirectory im kept → table.depth ≡ kept.dinode.depth
     → (dinode_in (every im kept.block)).size ≡ 8 * 2 ^ table.depth → table.bytes.items ≡ content_of (every im kept.block) → IsTableSized im kept.block → HasHeadedContent im kept.block → IsTableOf im inode table
 table_is im inode kept table is block hashed again depth size content sized headed = record {
-  master = is;
+  file = is;
   hashed = hashed;
   depth = depth ∙ ap (λ (d : Dinode). d.depth) again.dinode ∙ ap (λ a. depth_in (every im a)) block;
   content = content ∙ ap (λ a. content_of (every im a)) block;
@@ -92,7 +116,7 @@ bits_within i j run some same =
 
 module _ (im : Image) (inode : Inode) (table : HashTable) (of : IsTableOf im inode table) where
   pub table_hashed : IsHashedAt im inode.block
-  table_hashed = (master_inode im inode of.master, of.hashed)
+  table_hashed = (file_inode im inode of.file, of.hashed)
 
   pub entry_is : (j : ℕ) → u64_at (8 * j) table.bytes.items ≡ entry (every im inode.block) j
   entry_is j = ap (u64_at (8 * j)) of.content
@@ -103,13 +127,13 @@ module _ (im : Image) (inode : Inode) (table : HashTable) (of : IsTableOf im ino
   pub no_leaf_told : (i by number : ℕ) (f : MountFault) → i < 2 ^ table.depth → by ≡ entry_block (every im inode.block) i → number ≡ u64_at (8 * i) table.bytes.items → number ≡ 0 → by < im.count → f ≡ fault.Damaged by 14
       → RefusesRightly im f
   no_leaf_told i by number f low by_is number_is none inside is =
-      told im f (entry_block (every im inode.block) i) 14 (is ∙ ap (λ n. fault.Damaged n 14) by_is) of.master.format (subst (λ n. n < im.count) by_is inside)
+      told im f (entry_block (every im inode.block) i) 14 (is ∙ ap (λ n. fault.Damaged n 14) by_is) of.file.format (subst (λ n. n < im.count) by_is inside)
       (no_leaf inode.block i table_hashed (in_table i low) (sym (entry_is i) ∙ sym number_is ∙ none))
 
   pub first_claim : (i by number : ℕ) → i < 2 ^ table.depth → by ≡ entry_block (every im inode.block) i → number ≡ u64_at (8 * i) table.bytes.items
       → Claims im by number (Chained inode.block (first_hash (every im inode.block) i) 0)
   first_claim i by number low by_is number_is =
-      let plain = first_leaf inode.from inode.block Master i (master_claim im inode of.master) refl of.hashed (in_table i low) in
+      let plain = first_leaf inode.from inode.block of.file.owner i of.file.claimed of.file.is_inode of.hashed (in_table i low) in
       let at : number ≡ entry (every im inode.block) i = number_is ∙ entry_is i in
       subst (λ n. Claims im by n (Chained inode.block (first_hash (every im inode.block) i) 0)) (sym at)
       (subst (λ n. Claims im n (entry (every im inode.block) i) (Chained inode.block (first_hash (every im inode.block) i) 0)) (sym by_is) plain)
@@ -131,7 +155,7 @@ module _ (im : Image) (inode : Inode) (table : HashTable) (of : IsTableOf im ino
         let bits = same_bits i j run (run_some run (table.depth - head.depth) run_is) start end in
         let here : run ≡ 2 ^ (depth_in h - (leaf_in h (entry h i)).depth) = run_is ∙ (λ k. 2 ^ (of.depth k - depth_of i at_pointer k)) in
         let same : index_bits h (leaf_in h (entry h i)).depth j ≡ index_bits h (leaf_in h (entry h i)).depth i = subst (λ r. j / r ≡ i / r) here bits in
-        told im f (entry h i) 14 (is ∙ ap (λ n. fault.Damaged n 14) at_pointer) of.master.format (subst (λ n. n < im.count) at_pointer inside)
+        told im f (entry h i) 14 (is ∙ ap (λ n. fault.Damaged n 14) at_pointer) of.file.format (subst (λ n. n < im.count) at_pointer inside)
         (pointer_missing inode.block i j table_hashed (in_table i low) (in_table j below) same (λ e. other (entry_is j ∙ e ∙ sym at_pointer)))
 
     -- the leaf of a pointer, where its whole run leads to it
@@ -183,14 +207,14 @@ not_hole h i b at none = elim (cases_Bool (nat_lt i (reach h.size (height_in h))
 
 module _ (im : Image) (inode : Inode) (table : HashTable) (of : IsTableOf im inode table) (i : ℕ) (low : i < 2 ^ table.depth) where
   height_is : inode.dinode.height ≡ height_in (every im inode.block)
-  height_is = ap (λ (d : Dinode). d.height) of.master.dinode
+  height_is = ap (λ (d : Dinode). d.height) of.file.dinode
 
   pub stuffed_block : inode.dinode.height ≡ 0 → inode.block ≡ entry_block (every im inode.block) i
   stuffed_block none = sym (cond-true _ _ _ (eq-eqb (height_in (every im inode.block)) 0 (sym height_is ∙ none)))
 
   module _ (size : ℕ) (same : size ≡ im.size) (large : 512 ≤ size) where
     unit_is : size - 24 ≡ unit (every im inode.block)
-    unit_is = ap (λ n. n - 24) same ∙ sym (cond-true _ _ _ of.master.directory)
+    unit_is = ap (λ n. n - 24) same ∙ sym (cond-true _ _ _ of.file.directory)
 
     index_same : 8 * i / (size - 24) ≡ 8 * i / unit (every im inode.block)
     index_same = ap (λ n. 8 * i / n) unit_is
@@ -208,7 +232,7 @@ module _ (im : Image) (inode : Inode) (table : HashTable) (of : IsTableOf im ino
       where
         each : (n : ℕ) → height_in (every im inode.block) ≡ n → 8 * i / (size - 24) < reach im.size n
         each zero is = absurd (some (height_is ∙ is))
-        each (suc level) is = omega (arith, index_within, of.master.right.fits.under level is)
+        each (suc level) is = omega (arith, index_within, of.file.right.fits.under level is)
 
     -- the block of the table with this index, or none
     pub block_there : (b : ℕ) → inode.dinode.height ≢ 0 → Some b ≡ block_at (every im inode.block) (8 * i / (size - 24)) → b ≡ entry_block (every im inode.block) i

@@ -1,6 +1,6 @@
 -- What a call over a disk tells, in the words of what the disk held before.
-use Rattle.std.proofs.Common.{◌≡◌, ◌≢◌, ◌↔◌, inl, inr, Bool, false, ℕ, zero, suc, ◌+◌, ◌<◌, List, [], ◌∷◌, ◌++◌, length, take, get_or, Some, IsTrue, refl, sym, ap, subst, ◌∙◌, arith}
-use Rattle.std.specs.Prelude.{codes, map, Contains, slice_get, Result, Ok, Err, IfOk, OnOk}
+use Rattle.std.proofs.Common.{◌≡◌, inl, inr, ℕ, zero, suc, ◌+◌, ◌<◌, List, [], ◌∷◌, ◌++◌, length, take, get_or, Some, IsTrue, sym, ap, subst, ◌∙◌, arith}
+use Rattle.std.specs.Prelude.{codes, map, Contains, slice_get}
 use Rattle.std.specs.List.{All}
 use Rattle.std.proofs.lemmas.Option.{slice_get-get_or, slice_get_within, get_or_from_slice_get}
 use Rattle.std.proofs.lemmas.List.{map-append}
@@ -9,6 +9,7 @@ use Rattle.dinode_tree.specs.declared.locating.Located.{Located}
 use Rattle.gfs2_layout.specs.Device.{superblock_place}
 use Rattle.gfs2_layout.specs.declared.superblock.SuperBlock.{SuperBlock}
 use Rattle.glock_names.specs.declared.steps.Entry.{Entry}
+use Rattle.image_mount.specs.declared.listing.Link.{Link}
 use Rattle.image_model.specs.Claims.{Claims, master, master_of}
 use Rattle.image_model.specs.Image.{Image, image_of}
 use Rattle.image_model.specs.Journals.{journal_name}
@@ -17,60 +18,61 @@ use Rattle.image_model.specs.Rules.{two_owners}
 use Rattle.image_model.specs.Stands.{IsJournalAt}
 use Rattle.shared_disk.specs.Disk.{DiskState}
 use Rattle.image_mount.specs.Refusals.{IsJournalSized, RefusesRightly}
-use Rattle.image_mount.specs.Rings.{IsSearched, IsJournalIn, IsNext, HasPlaces, IsPlaceAt, AreBlocksOf, IsRingOf, AreRings}
+use Rattle.image_mount.specs.Rings.{IsSearched, IsJournalIn, IsNext, HasPlaces, IsPlaceAt, AreBlocksOf, IsOwn, IsRingOf, AreRings}
 use Rattle.image_mount.specs.Searching.{IsWorking}
 use Rattle.image_mount.specs.Leaves.{IsMasterIn}
 use Rattle.image_mount.specs.Looks.{IsTrueEntry}
-use Rattle.image_mount.specs.Marked.{IsGrown, IsKept}
-use Rattle.image_mount.specs.System.{HasDinodes, IsMasterOf, IsNamedBy, IsSystemOf, layout_of}
+use Rattle.image_mount.specs.Marked.{IsGrown}
+use Rattle.image_mount.specs.System.{HasDinodes, IsJindexIn, IsMasterOf, IsNamedBy, IsSystemOf, layout_of}
 use Rattle.image_mount.specs.Kept.{Kept, bytes_of}
 use Rattle.image_mount.specs.declared.fault.MountFault.{MountFault}
 use Rattle.image_mount.specs.declared.fault.MountFault.TheVariants as fault
+use Rattle.image_mount.specs.declared.inodes.Inode.{Inode}
 use Rattle.image_mount.specs.declared.journals.Ring.{Ring}
 use Rattle.image_mount.specs.declared.listing.Named.{Named as Item}
 use Rattle.image_mount.specs.declared.master.Master.{Master as MasterValue}
 use Rattle.image_mount.specs.declared.system.System.{System}
-use Rattle.image_mount.proofs.Causes.{told, lacks}
+use Rattle.image_mount.proofs.Causes.{told}
 use Rattle.image_model.proofs.JournalNames.{one_number}
 use Rattle.image_mount.proofs.Names.{all_at, contains_at, mapped_at, from_mapped, taken_at}
 
 module _ (old now : DiskState) (same : now ≡ old) where
-  pub place_refused : (jindex : ℕ) (journal : Entry) (places place : ℕ) (k : Kept) (f : MountFault) (done : List ℕ) (d n : ℕ)
-      → (IsTrue now.tells → IsJournalIn (image_of now) jindex journal → HasPlaces (image_of now) journal.addr places → place < places → IsSearched (image_of now) done d n k → RefusesRightly (image_of now) f)
-      → IsTrue old.tells → IsJournalIn (image_of old) jindex journal → HasPlaces (image_of old) journal.addr places → place < places → IsSearched (image_of old) done d n k → RefusesRightly (image_of old) f
-  place_refused jindex journal places place k f done d n more =
-      subst (λ (s : DiskState). IsTrue s.tells → IsJournalIn (image_of s) jindex journal → HasPlaces (image_of s) journal.addr places → place < places → IsSearched (image_of s) done d n k → RefusesRightly (image_of s) f) same more
+  pub place_refused : (journal : Link) (places place : ℕ) (k : Kept) (f : MountFault) (done : List ℕ) (d n : ℕ)
+      → (IsTrue now.tells → IsJournalIn (image_of now) journal → HasPlaces (image_of now) journal.entry.addr places → place < places → IsSearched (image_of now) done d n k → RefusesRightly (image_of now) f)
+      → IsTrue old.tells → IsJournalIn (image_of old) journal → HasPlaces (image_of old) journal.entry.addr places → place < places → IsSearched (image_of old) done d n k → RefusesRightly (image_of old) f
+  place_refused journal places place k f done d n more =
+      subst (λ (s : DiskState). IsTrue s.tells → IsJournalIn (image_of s) journal → HasPlaces (image_of s) journal.entry.addr places → place < places → IsSearched (image_of s) done d n k → RefusesRightly (image_of s) f) same more
 
-  pub place_searched : (jindex : ℕ) (journal : Entry) (places place : ℕ) (k new : Kept) (done : List ℕ) (d n : ℕ)
-      → (IsTrue now.tells → IsJournalIn (image_of now) jindex journal → HasPlaces (image_of now) journal.addr places → place < places → IsSearched (image_of now) done d n k → IsSearched (image_of now) done d n new)
-      → IsTrue old.tells → IsJournalIn (image_of old) jindex journal → HasPlaces (image_of old) journal.addr places → place < places → IsSearched (image_of old) done d n k → IsSearched (image_of old) done d n new
-  place_searched jindex journal places place k new done d n more =
-      subst (λ (s : DiskState). IsTrue s.tells → IsJournalIn (image_of s) jindex journal → HasPlaces (image_of s) journal.addr places → place < places → IsSearched (image_of s) done d n k → IsSearched (image_of s) done d n new) same more
+  pub place_searched : (journal : Link) (places place : ℕ) (k new : Kept) (done : List ℕ) (d n : ℕ)
+      → (IsTrue now.tells → IsJournalIn (image_of now) journal → HasPlaces (image_of now) journal.entry.addr places → place < places → IsSearched (image_of now) done d n k → IsSearched (image_of now) done d n new)
+      → IsTrue old.tells → IsJournalIn (image_of old) journal → HasPlaces (image_of old) journal.entry.addr places → place < places → IsSearched (image_of old) done d n k → IsSearched (image_of old) done d n new
+  place_searched journal places place k new done d n more =
+      subst (λ (s : DiskState). IsTrue s.tells → IsJournalIn (image_of s) journal → HasPlaces (image_of s) journal.entry.addr places → place < places → IsSearched (image_of s) done d n k → IsSearched (image_of s) done d n new) same more
 
   pub place_at : (d place : ℕ) (located : Located) → (IsTrue now.tells → IsPlaceAt (image_of now) d place located) → IsTrue old.tells → IsPlaceAt (image_of old) d place located
   place_at d place located more = subst (λ (s : DiskState). IsTrue s.tells → IsPlaceAt (image_of s) d place located) same more
 
-  pub blocks_told : (done : List ℕ) (system : System) (journal : Entry) (places : ℕ) (k : Kept) (P : Image → Type 0)
-      → (IsTrue now.tells → IsNext (image_of now) done system journal → HasPlaces (image_of now) journal.addr places → IsSearched (image_of now) done journal.addr 0 k → P (image_of now))
-      → IsTrue old.tells → IsNext (image_of old) done system journal → HasPlaces (image_of old) journal.addr places → IsSearched (image_of old) done journal.addr 0 k → P (image_of old)
+  pub blocks_told : (done : List ℕ) (system : System) (journal : Link) (places : ℕ) (k : Kept) (P : Image → Type 0)
+      → (IsTrue now.tells → IsNext (image_of now) done system journal → HasPlaces (image_of now) journal.entry.addr places → IsSearched (image_of now) done journal.entry.addr 0 k → P (image_of now))
+      → IsTrue old.tells → IsNext (image_of old) done system journal → HasPlaces (image_of old) journal.entry.addr places → IsSearched (image_of old) done journal.entry.addr 0 k → P (image_of old)
   blocks_told done system journal places k P more =
-      subst (λ (s : DiskState). IsTrue s.tells → IsNext (image_of s) done system journal → HasPlaces (image_of s) journal.addr places → IsSearched (image_of s) done journal.addr 0 k → P (image_of s)) same more
+      subst (λ (s : DiskState). IsTrue s.tells → IsNext (image_of s) done system journal → HasPlaces (image_of s) journal.entry.addr places → IsSearched (image_of s) done journal.entry.addr 0 k → P (image_of s)) same more
 
-  pub ring_told : (done : List ℕ) (system : System) (journal : Entry) (k : Kept) (P : Image → Type 0)
+  pub ring_told : (done : List ℕ) (system : System) (journal : Link) (k : Kept) (P : Image → Type 0)
       → (IsTrue now.tells → IsNext (image_of now) done system journal → IsSearched (image_of now) done 0 0 k → P (image_of now))
       → IsTrue old.tells → IsNext (image_of old) done system journal → IsSearched (image_of old) done 0 0 k → P (image_of old)
   ring_told done system journal k P more =
       subst (λ (s : DiskState). IsTrue s.tells → IsNext (image_of s) done system journal → IsSearched (image_of s) done 0 0 k → P (image_of s)) same more
 
-  pub ring_found : (done : List ℕ) (system : System) (journal : Entry) (k : Kept) (blocks : List ℕ)
-      → (IsTrue now.tells → IsNext (image_of now) done system journal → IsSearched (image_of now) done 0 0 k → IsRingOf (image_of now) journal.addr blocks)
-      → IsTrue old.tells → IsNext (image_of old) done system journal → IsSearched (image_of old) done 0 0 k → IsRingOf (image_of old) journal.addr blocks
-  ring_found done system journal k blocks more = ring_told done system journal k (λ i. IsRingOf i journal.addr blocks) more
+  pub ring_found : (done : List ℕ) (system : System) (journal : Link) (k : Kept) (blocks : List ℕ)
+      → (IsTrue now.tells → IsNext (image_of now) done system journal → IsSearched (image_of now) done 0 0 k → IsRingOf (image_of now) journal.entry.addr blocks)
+      → IsTrue old.tells → IsNext (image_of old) done system journal → IsSearched (image_of old) done 0 0 k → IsRingOf (image_of old) journal.entry.addr blocks
+  ring_found done system journal k blocks more = ring_told done system journal k (λ i. IsRingOf i journal.entry.addr blocks) more
 
-  pub ring_searched : (done : List ℕ) (system : System) (journal : Entry) (k new : Kept)
-      → (IsTrue now.tells → IsNext (image_of now) done system journal → IsSearched (image_of now) done 0 0 k → IsSearched (image_of now) (done ++ journal.addr ∷ []) 0 0 new)
-      → IsTrue old.tells → IsNext (image_of old) done system journal → IsSearched (image_of old) done 0 0 k → IsSearched (image_of old) (done ++ journal.addr ∷ []) 0 0 new
-  ring_searched done system journal k new more = ring_told done system journal k (λ i. IsSearched i (done ++ journal.addr ∷ []) 0 0 new) more
+  pub ring_searched : (done : List ℕ) (system : System) (journal : Link) (k new : Kept)
+      → (IsTrue now.tells → IsNext (image_of now) done system journal → IsSearched (image_of now) done 0 0 k → IsSearched (image_of now) (done ++ journal.entry.addr ∷ []) 0 0 new)
+      → IsTrue old.tells → IsNext (image_of old) done system journal → IsSearched (image_of old) done 0 0 k → IsSearched (image_of old) (done ++ journal.entry.addr ∷ []) 0 0 new
+  ring_searched done system journal k new more = ring_told done system journal k (λ i. IsSearched i (done ++ journal.entry.addr ∷ []) 0 0 new) more
 
   pub names_known : (at : MasterValue) (names : List Item) → (IsTrue now.tells → IsMasterIn (image_of now) at.inode → IsNamedBy (image_of now) at names) → IsTrue old.tells → IsMasterOf (image_of old) at
       → IsNamedBy (image_of old) at names
@@ -85,18 +87,26 @@ module _ (old now : DiskState) (same : now ≡ old) where
       → IsTrue old.tells → IsMasterOf (image_of old) at → IsNamedBy (image_of old) at names → P (image_of old)
   files_told at names P more = subst (λ (s : DiskState). IsTrue s.tells → IsMasterOf (image_of s) at → IsNamedBy (image_of s) at names → P (image_of s)) same more
 
+  pub files_refused : (at : MasterValue) (names : List Item) (k : Kept) (f : MountFault)
+      → (IsTrue now.tells → IsMasterOf (image_of now) at → IsNamedBy (image_of now) at names → IsSearched (image_of now) [] 0 0 k → RefusesRightly (image_of now) f)
+      → IsTrue old.tells → IsMasterOf (image_of old) at → IsNamedBy (image_of old) at names → IsSearched (image_of old) [] 0 0 k → RefusesRightly (image_of old) f
+  files_refused at names k f more =
+      subst (λ (s : DiskState). IsTrue s.tells → IsMasterOf (image_of s) at → IsNamedBy (image_of s) at names → IsSearched (image_of s) [] 0 0 k → RefusesRightly (image_of s) f) same more
+
+  pub jindex_told : (parent : ℕ) (inode : Inode) (P : Image → Type 0) → (IsTrue now.tells → IsJindexIn (image_of now) parent inode → P (image_of now)) → IsTrue old.tells → IsJindexIn (image_of old) parent inode → P (image_of old)
+  jindex_told parent inode P more = subst (λ (s : DiskState). IsTrue s.tells → IsJindexIn (image_of s) parent inode → P (image_of s)) same more
+
+  pub jindex_searched : (parent : ℕ) (inode : Inode) (k : Kept) (P : Image → Type 0) → (IsTrue now.tells → IsJindexIn (image_of now) parent inode → IsSearched (image_of now) [] 0 0 k → P (image_of now))
+      → IsTrue old.tells → IsJindexIn (image_of old) parent inode → IsSearched (image_of old) [] 0 0 k → P (image_of old)
+  jindex_searched parent inode k P more = subst (λ (s : DiskState). IsTrue s.tells → IsJindexIn (image_of s) parent inode → IsSearched (image_of s) [] 0 0 k → P (image_of s)) same more
+
   pub files_searched : (at : MasterValue) (names : List Item) (k new : Kept)
       → (IsTrue now.tells → IsMasterOf (image_of now) at → IsNamedBy (image_of now) at names → IsSearched (image_of now) [] 0 0 k → IsSearched (image_of now) [] 0 0 new)
       → IsTrue old.tells → IsMasterOf (image_of old) at → IsNamedBy (image_of old) at names → IsSearched (image_of old) [] 0 0 k → IsSearched (image_of old) [] 0 0 new
   files_searched at names k new more =
       subst (λ (s : DiskState). IsTrue s.tells → IsMasterOf (image_of s) at → IsNamedBy (image_of s) at names → IsSearched (image_of s) [] 0 0 k → IsSearched (image_of s) [] 0 0 new) same more
 
--- the dinodes that were kept stay, and those of the files are
-pub dinodes_of : (im : Image) (a b : Kept) (W V : Type 0) (r : Result System MountFault) → OnOk r (IsGrown a b) → IfOk r (λ s. IsKept b s.rindex) → IfOk r (λ s. IsKept b s.jindex) → (W → V → IsKept a (master_of im))
-    → IfOk r (λ s. W → V → HasDinodes im b s)
-dinodes_of im a b W V (Ok s) grown rindex jindex known = λ w v. record { master = grown.stays (master_of im) (known w v); rindex = rindex; jindex = jindex }
-dinodes_of im a b W V (Err f) grown rindex jindex known = tt
-
+-- the dinodes that were kept stay
 pub stay_kept : (im : Image) (a b : Kept) (s : System) → IsGrown a b → HasDinodes im a s → HasDinodes im b s
 stay_kept im a b s grown has = record { master = grown.stays (master_of im) has.master; rindex = grown.stays s.rindex has.rindex; jindex = grown.stays s.jindex has.jindex }
 
@@ -125,30 +135,32 @@ ring_sized im rings i d all at =
 -- so are those before the next
 sized_before : (im : Image) (system : System) (j i d : ℕ) (rings : List Ring) → AreRings im (take j system.journals.items) rings → i < j → IsJournalAt (layout_of system) i d → IsJournalSized im d
 sized_before im system j i d rings are low at =
-    let entry = from_mapped (λ (e : Entry). e.addr) system.journals.items i d at in
+    let entry = from_mapped (λ (e : Link). e.entry.addr) system.journals.items i d at in
     ring_sized im rings i d are.each
-    (ap (λ ds. slice_get ds i) are.dinodes ∙ mapped_at (λ (e : Entry). e.addr) (take j system.journals.items) i entry.0 (taken_at system.journals.items j i entry.0 low entry.1) ∙ ap Some entry.2)
+    (ap (λ ds. slice_get ds i) are.dinodes ∙ mapped_at (λ (e : Link). e.entry.addr) (take j system.journals.items) i entry.0 (taken_at system.journals.items j i entry.0 low entry.1) ∙ ap Some entry.2)
 
-pub journal_in : (im : Image) (system : System) (j : ℕ) (entry : Entry) (rings : List Ring) → IsSystemOf im system → AreRings im (take j system.journals.items) rings → slice_get system.journals.items j ≡ Some entry
-    → IsJournalIn im system.jindex entry
+pub journal_in : (im : Image) (system : System) (j : ℕ) (entry : Link) (rings : List Ring) → IsSystemOf im system → AreRings im (take j system.journals.items) rings → slice_get system.journals.items j ≡ Some entry
+    → IsJournalIn im entry
 journal_in im system j entry rings looked are at = record {
   layout = layout_of system;
   names = looked.names;
-  jindex_is = refl;
   index = j;
   before = λ i d low there. sized_before im system j i d rings are low there;
-  at = mapped_at (λ (e : Entry). e.addr) system.journals.items j entry at;
+  at = mapped_at (λ (e : Link). e.entry.addr) system.journals.items j entry at;
   named = looked.journals.each j entry at;
 }
 
-pub next_in : (im : Image) (system : System) (j : ℕ) (entry : Entry) (rings : List Ring) (done : List ℕ) → IsSystemOf im system → AreRings im (take j system.journals.items) rings → slice_get system.journals.items j ≡ Some entry → entry.addr ≢ system.superblock.master.address → entry.addr ≢ system.rindex
-    → ¬ (Contains done entry.addr) → IsNext im done system entry
-next_in im system j entry rings done looked are at apart other new = record {
+pub next_in : (im : Image) (system : System) (j : ℕ) (entry : Link) (rings : List Ring) (done : List ℕ) → IsSystemOf im system → AreRings im (take j system.journals.items) rings → slice_get system.journals.items j ≡ Some entry → IsOwn system entry.entry.addr
+    → ¬ (Contains done entry.entry.addr) → IsNext im done system entry
+next_in im system j entry rings done looked are at own new = record {
   looked = looked;
   named = journal_in im system j entry rings looked are at;
   plain = λ file. elim file [
-    | inl list ↦ other (looked.one_rindex entry.addr list)
-    | inr same ↦ apart (same ∙ sym (ap (λ (s : SuperBlock). s.master.address) looked.superblock))
+    | inl list ↦ own.rindex (looked.one_rindex entry.entry.addr list)
+    | inr more ↦ elim more [
+      | inl same ↦ own.master (same ∙ sym (ap (λ (s : SuperBlock). s.master.address) looked.superblock))
+      | inr journals ↦ own.jindex (looked.one_jindex entry.entry.addr journals)
+    ]
   ];
   new = new;
 }
@@ -156,25 +168,34 @@ next_in im system j entry rings done looked are at apart other new = record {
 same_name : (a b : ℕ) (x y : List ℕ) → Named a x ≡ Named b y → x ≡ y
 same_name a b x y e = cc
 
-pub twice_master : (im : Image) (system : System) (j : ℕ) (entry : Entry) (f : MountFault) → IsSystemOf im system → slice_get system.journals.items j ≡ Some entry
-    → entry.addr ≡ system.superblock.master.address → f ≡ fault.Damaged entry.addr 3 → RefusesRightly im f
+pub twice_master : (im : Image) (system : System) (j : ℕ) (entry : Link) (f : MountFault) → IsSystemOf im system → slice_get system.journals.items j ≡ Some entry
+    → entry.entry.addr ≡ system.superblock.master.address → f ≡ fault.Damaged entry.entry.addr 3 → RefusesRightly im f
 twice_master im system j entry f looked at same is =
-    let there : entry.addr ≡ master_of im = same ∙ ap (λ (s : SuperBlock). s.master.address) looked.superblock in
+    let there : entry.entry.addr ≡ master_of im = same ∙ ap (λ (s : SuperBlock). s.master.address) looked.superblock in
     let claim = subst (λ b. Claims im (superblock_place im.size) b Master) (sym there) master in
-    told im f entry.addr 3 is looked.names.groups.list.master.format (subst (λ n. n < im.count) (sym same) looked.master_inside)
-    (two_owners entry.addr system.jindex (superblock_place im.size) (Named system.jindex (journal_name j)) Master (looked.journals.each j entry at).claimed claim (λ e. no_name e))
+    told im f entry.entry.addr 3 is looked.names.groups.list.master.format (subst (λ n. n < im.count) (sym same) looked.master_inside)
+    (two_owners entry.entry.addr entry.from (superblock_place im.size) (Named system.jindex (journal_name j)) Master (looked.journals.each j entry at).claimed claim (λ e. no_name e))
   where
     no_name : Named system.jindex (journal_name j) ≡ Master → ⊥
     no_name e = cc
 
-pub twice_list : (im : Image) (system : System) (j : ℕ) (entry : Entry) (f : MountFault) → IsSystemOf im system → slice_get system.journals.items j ≡ Some entry → entry.addr ≡ system.rindex
-    → f ≡ fault.Damaged entry.addr 3 → RefusesRightly im f
+pub twice_list : (im : Image) (system : System) (j : ℕ) (entry : Link) (f : MountFault) → IsSystemOf im system → slice_get system.journals.items j ≡ Some entry → entry.entry.addr ≡ system.rindex
+    → f ≡ fault.Damaged entry.entry.addr 3 → RefusesRightly im f
 twice_list im system j entry f looked at same is =
     let list = looked.names.groups.list.master.rindex in
     let claim = subst (λ b. Claims im list.0 b (Named (master_of im) (codes "rindex"))) (sym same) list.1 in
-    told im f entry.addr 3 is looked.names.groups.list.master.format (subst (λ n. n < im.count) (sym same) looked.rindex_inside)
-    (two_owners entry.addr system.jindex list.0 (Named system.jindex (journal_name j)) (Named (master_of im) (codes "rindex")) (looked.journals.each j entry at).claimed claim
+    told im f entry.entry.addr 3 is looked.names.groups.list.master.format (subst (λ n. n < im.count) (sym same) looked.rindex_inside)
+    (two_owners entry.entry.addr entry.from list.0 (Named system.jindex (journal_name j)) (Named (master_of im) (codes "rindex")) (looked.journals.each j entry at).claimed claim
     (λ e. absurd (omega (arith, ap (λ name. get_or name 0 0) (same_name system.jindex (master_of im) (journal_name j) (codes "rindex") e)))))
+
+pub twice_jindex : (im : Image) (system : System) (j : ℕ) (entry : Link) (f : MountFault) → IsSystemOf im system → slice_get system.journals.items j ≡ Some entry → entry.entry.addr ≡ system.jindex
+    → f ≡ fault.Damaged entry.entry.addr 3 → RefusesRightly im f
+twice_jindex im system j entry f looked at same is =
+    let file = looked.names.groups.list.master.jindex in
+    let claim = subst (λ b. Claims im file.0 b (Named (master_of im) (codes "jindex"))) (sym same) file.1 in
+    told im f entry.entry.addr 3 is looked.names.groups.list.master.format (subst (λ n. n < im.count) (sym same) looked.jindex_inside)
+    (two_owners entry.entry.addr entry.from file.0 (Named system.jindex (journal_name j)) (Named (master_of im) (codes "jindex")) (looked.journals.each j entry at).claimed claim
+    (λ e. absurd (omega (arith, ap (λ name. get_or name 1 0) (same_name system.jindex (master_of im) (journal_name j) (codes "jindex") e)))))
 
 got_taken : {X : Type 0} (xs : List X) (n i : ℕ) (x : X) → slice_get (take n xs) i ≡ Some x → (i < n) × (slice_get xs i ≡ Some x)
 got_taken [] zero i x at = cc
@@ -183,29 +204,29 @@ got_taken (y ∷ xs) zero i x at = cc
 got_taken (y ∷ xs) (suc n) zero x at = (omega arith, at)
 got_taken (y ∷ xs) (suc n) (suc i) x at = let more = got_taken xs n i x at in (omega (arith, more.0), more.1)
 
-pub twice_journal : (im : Image) (system : System) (j : ℕ) (entry : Entry) (rings : List Ring) (f : MountFault) → IsSystemOf im system → slice_get system.journals.items j ≡ Some entry
-    → AreRings im (take j system.journals.items) rings → Contains (map (λ (r : Ring). r.dinode) rings) entry.addr → f ≡ fault.Damaged entry.addr 3 → RefusesRightly im f
+pub twice_journal : (im : Image) (system : System) (j : ℕ) (entry : Link) (rings : List Ring) (f : MountFault) → IsSystemOf im system → slice_get system.journals.items j ≡ Some entry
+    → AreRings im (take j system.journals.items) rings → Contains (map (λ (r : Ring). r.dinode) rings) entry.entry.addr → f ≡ fault.Damaged entry.entry.addr 3 → RefusesRightly im f
 twice_journal im system j entry rings f looked at are there is =
-    let there' = subst (λ xs. Contains xs entry.addr) are.dinodes there in
-    let other = from_mapped (λ (e : Entry). e.addr) (take j system.journals.items) there'.0 entry.addr (contains_at _ entry.addr there') in
+    let there' = subst (λ xs. Contains xs entry.entry.addr) are.dinodes there in
+    let other = from_mapped (λ (e : Link). e.entry.addr) (take j system.journals.items) there'.0 entry.entry.addr (contains_at _ entry.entry.addr there') in
     let i = there'.0 in
     let early = got_taken system.journals.items j i other.0 other.1 in
-    let claim = subst (λ b. Claims im system.jindex b (Named system.jindex (journal_name i))) other.2 (looked.journals.each i other.0 early.1).claimed in
+    let claim = subst (λ b. Claims im other.0.from b (Named system.jindex (journal_name i))) other.2 (looked.journals.each i other.0 early.1).claimed in
     let few = looked.journals.few in
     let low = within system.journals.items j entry at in
-    told im f entry.addr 3 is looked.names.groups.list.master.format dinode_inside
-    (two_owners entry.addr system.jindex system.jindex (Named system.jindex (journal_name j)) (Named system.jindex (journal_name i)) (looked.journals.each j entry at).claimed claim
+    told im f entry.entry.addr 3 is looked.names.groups.list.master.format dinode_inside
+    (two_owners entry.entry.addr entry.from other.0.from (Named system.jindex (journal_name j)) (Named system.jindex (journal_name i)) (looked.journals.each j entry at).claimed claim
     (λ e. absurd (omega (arith, early.0, one_number j i (omega (arith, few, low)) (omega (arith, few, low, early.0)) (same_name system.jindex system.jindex (journal_name j) (journal_name i) e)))))
   where
-    dinode_inside : entry.addr < im.count
-    dinode_inside = ring_inside (from_mapped (λ (r : Ring). r.dinode) rings there.0 entry.addr (contains_at _ entry.addr there))
+    dinode_inside : entry.entry.addr < im.count
+    dinode_inside = ring_inside (from_mapped (λ (r : Ring). r.dinode) rings there.0 entry.entry.addr (contains_at _ entry.entry.addr there))
       where
-        ring_inside : (r : Ring) × (slice_get rings there.0 ≡ Some r) × (r.dinode ≡ entry.addr) → entry.addr < im.count
+        ring_inside : (r : Ring) × (slice_get rings there.0 ≡ Some r) × (r.dinode ≡ entry.entry.addr) → entry.entry.addr < im.count
         ring_inside one =
             let is_ring = subst (λ (r : Ring). IsRingOf im r.dinode r.blocks.items) (get_or_from_slice_get rings there.0 one.0 one.0 one.1) (are.each there.0 one.0 (slice_get_within rings there.0 one.0 one.1)) in
             subst (λ n. n < im.count) one.2 is_ring.places.inside
 
-    within : (xs : List Entry) (k : ℕ) (x : Entry) → slice_get xs k ≡ Some x → k < length xs
+    within : (xs : List Link) (k : ℕ) (x : Link) → slice_get xs k ≡ Some x → k < length xs
     within [] k x e = cc
     within (y ∷ xs) zero x e = omega arith
     within (y ∷ xs) (suc k) x e = omega (arith, within xs k x e)
@@ -221,13 +242,13 @@ take_more xs j x at = let e : j + 1 ≡ suc j = omega arith in ap (λ n. take n 
         some_same a b e = cc
     all (y ∷ xs) (suc j) x at = ap (λ zs. y ∷ zs) (all xs j x at)
 
-pub rings_more : (im : Image) (journals : List Entry) (j : ℕ) (entry : Entry) (old new : List Ring) (ring : Ring) → AreRings im (take j journals) old → slice_get journals j ≡ Some entry → ring.dinode ≡ entry.addr
-    → IsRingOf im entry.addr ring.blocks.items → IsTrueEntry im entry → new ≡ old ++ ring ∷ [] → AreRings im (take (j + 1) journals) new
+pub rings_more : (im : Image) (journals : List Link) (j : ℕ) (entry : Link) (old new : List Ring) (ring : Ring) → AreRings im (take j journals) old → slice_get journals j ≡ Some entry → ring.dinode ≡ entry.entry.addr
+    → IsRingOf im entry.entry.addr ring.blocks.items → IsTrueEntry im entry.entry → new ≡ old ++ ring ∷ [] → AreRings im (take (j + 1) journals) new
 rings_more im journals j entry old new ring are at dinode of true_of is = record {
-  entries = subst (All (IsTrueEntry im)) (sym (take_more journals j entry at)) (All-push (IsTrueEntry im) (take j journals) entry are.entries true_of);
+  entries = subst (All (λ (e : Link). IsTrueEntry im e.entry)) (sym (take_more journals j entry at)) (All-push (λ (e : Link). IsTrueEntry im e.entry) (take j journals) entry are.entries true_of);
   dinodes = ap (map (λ (r : Ring). r.dinode)) is ∙ map-append (λ (r : Ring). r.dinode) old (ring ∷ []) ∙ ap (λ xs. xs ++ ring.dinode ∷ []) are.dinodes
-      ∙ ap (λ d. map (λ (e : Entry). e.addr) (take j journals) ++ d ∷ []) dinode ∙ sym (map-append (λ (e : Entry). e.addr) (take j journals) (entry ∷ []))
-      ∙ ap (map (λ (e : Entry). e.addr)) (sym (take_more journals j entry at));
+      ∙ ap (λ d. map (λ (e : Link). e.entry.addr) (take j journals) ++ d ∷ []) dinode ∙ sym (map-append (λ (e : Link). e.entry.addr) (take j journals) (entry ∷ []))
+      ∙ ap (map (λ (e : Link). e.entry.addr)) (sym (take_more journals j entry at));
   each = subst (All (λ (r : Ring). IsRingOf im r.dinode r.blocks.items)) (sym is)
       (All-push (λ (r : Ring). IsRingOf im r.dinode r.blocks.items) old ring are.each (subst (λ d. IsRingOf im d ring.blocks.items) (sym dinode) of));
 }
@@ -243,11 +264,10 @@ pub inside_now : (old now : DiskState) (blocks : List ℕ) → now ≡ old → A
 inside_now old now blocks same = subst (λ (s : DiskState). All (λ b. b < s.count) blocks) same
 
 -- no journal is another of the files, with one more
-pub rings_own : (m r : ℕ) (old new : List Ring) (ring : Ring) (addr : ℕ) → All (λ (x : Ring). (x.dinode ≢ m) × (x.dinode ≢ r)) old → ring.dinode ≡ addr → addr ≢ m → addr ≢ r → new ≡ old ++ ring ∷ []
-    → All (λ (x : Ring). (x.dinode ≢ m) × (x.dinode ≢ r)) new
-rings_own m r old new ring addr before dinode apart other is =
-    subst (All (λ (x : Ring). (x.dinode ≢ m) × (x.dinode ≢ r))) (sym is)
-    (All-push (λ (x : Ring). (x.dinode ≢ m) × (x.dinode ≢ r)) old ring before ((λ e. apart (sym dinode ∙ e)), (λ e. other (sym dinode ∙ e))))
+pub rings_own : (system : System) (old new : List Ring) (ring : Ring) (addr : ℕ) → All (λ (x : Ring). IsOwn system x.dinode) old → ring.dinode ≡ addr → IsOwn system addr → new ≡ old ++ ring ∷ []
+    → All (λ (x : Ring). IsOwn system x.dinode) new
+rings_own system old new ring addr before dinode own is =
+    subst (All (λ (x : Ring). IsOwn system x.dinode)) (sym is) (All-push (λ (x : Ring). IsOwn system x.dinode) old ring before (subst (IsOwn system) (sym dinode) own))
 
 -- what holds of the places of each journal, with one more
 pub rings_with : (P : ℕ → Type 0) (old new : List Ring) (ring : Ring) → All (λ (r : Ring). All P r.blocks.items) old → All P ring.blocks.items → new ≡ old ++ ring ∷ [] → All (λ (r : Ring). All P r.blocks.items) new
@@ -257,12 +277,9 @@ pub ring_of_turn : (im : Image) (rings : List Ring) (k : ℕ) (ring : Ring) → 
     → IsRingOf im ring.dinode ring.blocks.items
 ring_of_turn im rings k ring low is all = subst (λ (r : Ring). IsRingOf im r.dinode r.blocks.items) (sym is) (all k ring low)
 
--- the journal after those whose rings were found
-pub next_after : (im : Image) (system : System) (j : ℕ) (entry : Entry) (rings now : List Ring) (b : Bool) → IsSystemOf im system → AreRings im (take j system.journals.items) rings → slice_get system.journals.items j ≡ Some entry → entry.addr ≢ system.superblock.master.address
-    → entry.addr ≢ system.rindex → IsTrue b ↔ Contains (map (λ (r : Ring). r.dinode) now) entry.addr → b ≡ false → now ≡ rings → IsNext im (map (λ (r : Ring). r.dinode) rings) system entry
-next_after im system j entry rings now b looked are at apart other test failed same =
-    next_in im system j entry rings (map (λ (r : Ring). r.dinode) rings) looked are at apart other
-    (λ there. lacks b test failed (subst (λ rs. Contains (map (λ (r : Ring). r.dinode) rs) entry.addr) (sym same) there))
+-- no journal before has this dinode
+pub not_before : (now rings : List Ring) (addr : ℕ) → now ≡ rings → ¬ (Contains (map (λ (r : Ring). r.dinode) now) addr) → ¬ (Contains (map (λ (r : Ring). r.dinode) rings) addr)
+not_before now rings addr same new = subst (λ rs. ¬ (Contains (map (λ (r : Ring). r.dinode) rs) addr)) same new
 
 -- the record of a journal that was looked for, of a disk that holds what it held
 pub entry_true : (old now : DiskState) (entry : Entry) → now ≡ old → (IsTrue now.tells → IsTrueEntry (image_of now) entry) → IsTrue old.tells → IsTrueEntry (image_of old) entry

@@ -1,31 +1,32 @@
 -- The journals among the records of their directory.
 use Rattle.std.proofs.Common.{◌≡◌, ◌≢◌, inl, inr, ℕ, ◌+◌, ◌<◌, ◌≤◌, Bool, true, false, List, length, get_or, Option, None, Some, sym, ap, subst, ◌∙◌, arith}
 use Rattle.std.specs.Prelude.{map, not, Contains, slice_get, IfSome, IfNone}
-use Rattle.std.specs.List.{All}
 use Rattle.std.proofs.lemmas.Bool.{cases_eq}
 use Rattle.std.proofs.lemmas.Option.{slice_get-get_or, slice_get_within, get_or_from_slice_get}
+use Rattle.gfs2_layout.specs.Inode.{is_hashed_in}
 use Rattle.gfs2_layout.specs.Records.{Record, is_dots}
-use Rattle.glock_names.specs.declared.steps.Entry.{Entry}
-use Rattle.image_model.specs.Claims.{LeadsTo, master_of}
+use Rattle.image_model.specs.Claims.{every, LeadsTo, master_of}
 use Rattle.image_model.specs.Image.{Image}
 use Rattle.image_model.specs.Journals.{journal_name}
 use Rattle.image_model.specs.Rules.{HasRecords}
 use Rattle.image_model.specs.Stands.{Layout}
 use Rattle.image_mount.specs.Groups.{IsNamedIn}
-use Rattle.image_mount.specs.Looks.{IsLookedAt, IsSoundDirectory}
+use Rattle.image_mount.specs.Looks.{HasSoundLeaves, IsLookedAt, IsSoundDirectory}
 use Rattle.image_mount.specs.Found.{HasGroups, name_count, AreJournalNames}
-use Rattle.image_mount.specs.Listing.{said, AreRecordsOf, AreDistinct}
+use Rattle.image_mount.specs.Listing.{said, AreAllRecords, AreRecordsOf, AreDistinct}
 use Rattle.image_mount.specs.Refusals.{RefusesRightly}
 use Rattle.image_mount.specs.Refusals as outside
-use Rattle.image_mount.specs.System.{AreAmong, LacksName, AreNamesOf, AreJournalsAmong, AreJournalsOf}
+use Rattle.image_mount.specs.System.{AreAmong, IsAmong, LacksName, AreNamesOf, AreJournalsAmong, AreJournalsOf, AreRecordsAnew}
 use Rattle.image_mount.specs.declared.fault.MountFault.{MountFault}
 use Rattle.image_mount.specs.declared.fault.MountFault.TheVariants as fault
 use Rattle.image_mount.specs.declared.field.Field.TheVariants as field
+use Rattle.image_mount.specs.Sifting.{IsBeside}
+use Rattle.image_mount.specs.declared.leaf.Names.TheVariants.{Journals}
+use Rattle.image_mount.specs.declared.listing.Link.{Link}
 use Rattle.image_mount.specs.declared.listing.Named.{Named as Item}
 use Rattle.image_mount.proofs.Causes.{told_outside}
 use Rattle.image_mount.proofs.JournalNames.{name_leads}
-use Rattle.image_mount.proofs.Names.{at_contains, contains_at, mapped_at, from_mapped, records_same, named_in, led_by}
-use Rattle.image_mount.proofs.Records.{all_records}
+use Rattle.image_mount.proofs.Names.{at_contains, contains_at, mapped_at, from_mapped, records_same, named_in, led_among}
 
 -- the first so many of these that lead on have the names of so many journals
 abbrev pub AreNamedTo : List Item → ℕ → ℕ → Type 0
@@ -54,12 +55,17 @@ other_name items n d count low leads none names =
     let got = names (said x) (at_contains (map said items) n (said x) (mapped_at said items n x (slice_get-get_or items n d low))) leads in
     none got.0 got.1 got.2
 
-pub wrong_journals : (im : Image) (l : Layout) (items : List Item) (f : MountFault) (count : ℕ) → HasGroups im l → HasRecords im l.jindex (map said items) → f ≡ fault.NotProfile field.Journals count
-    → count ≡ name_count (map said items) → ((1 ≤ count) × (count ≤ 8) × AreJournalNames (map said items) count → ⊥) → RefusesRightly im f
-wrong_journals im l items f count groups has is counted wrong =
-    told_outside im f field.Journals (name_count (map said items)) (is ∙ ap (fault.NotProfile field.Journals) counted)
-    (outside.journals l (map said items) groups has
-    (λ all. wrong (omega (arith, all.0, counted), omega (arith, all.1, counted), subst (AreJournalNames (map said items)) (sym counted) all.2)))
+-- the names are told by the count of the records and by each of them
+pub names_anew : (xs ys : List Record) (n : ℕ) → name_count ys ≡ name_count xs → ((r : Record) → Contains ys r → Contains xs r) → ((r : Record) → Contains xs r → Contains ys r) → AreJournalNames xs n → AreJournalNames ys n
+names_anew xs ys n count there other names = (count ∙ names.0, λ j low. let r = names.1 j low in (r.0, other r.0 r.1, r.2), λ r has leads. names.2 r (there r has) leads)
+
+pub wrong_journals : (im : Image) (l : Layout) (records : List Record) (f : MountFault) (count : ℕ) → HasGroups im l → AreRecordsAnew im l.jindex records → f ≡ fault.NotProfile field.Journals count
+    → count ≡ name_count records → ((1 ≤ count) × (count ≤ 8) × AreJournalNames records count → ⊥) → RefusesRightly im f
+wrong_journals im l records f count groups are is counted wrong =
+    let same : count ≡ name_count are.all = counted ∙ sym are.count in
+    told_outside im f field.Journals (name_count are.all) (is ∙ ap (fault.NotProfile field.Journals) same)
+    (outside.journals l are.all groups are.has
+    (λ all. wrong (omega (arith, all.0, same), omega (arith, all.1, same), subst (AreJournalNames records) (sym same) (names_anew are.all records (name_count are.all) (sym are.count) are.other are.there all.2))))
 
 pub lacks_journal : (items : List Item) (n count : ℕ) → n ≡ count → (j : ℕ) × (j < n) × LacksName items (journal_name j) → AreJournalNames (map said items) count → ⊥
 lacks_journal items n count same lacks names =
@@ -67,7 +73,14 @@ lacks_journal items n count same lacks names =
     let item = from_mapped said items at.1.0 at.0 (contains_at (map said items) at.0 at.1) in
     lacks.2 at.1.0 item.0 item.1 (ap (λ (x : Record). x.name) item.2 ∙ at.2)
 
-pub journals_among : (items : List Item) (journals : List Entry) (n count : ℕ) → n ≡ count → count ≡ name_count (map said items) → 1 ≤ count → count ≤ 8 → length journals ≡ n → AreAmong items journals
+no_link : Link
+no_link = record { entry = record { number = 0; addr = 0; kind = 0 }; from = 0 }
+
+-- where there are records with other names, they aren't those of journals alone
+pub beside_journals : (records : List Record) (n : ℕ) (r : Record) → n ≤ 8 → Contains records r → IsBeside Journals r.name → AreJournalNames records n → ⊥
+beside_journals records n r few there beside names = let got = names.2 r there beside.0 in beside.1 got.0 (omega (arith, got.1, few)) got.2
+
+pub journals_among : (items : List Item) (journals : List Link) (n count : ℕ) → n ≡ count → count ≡ name_count (map said items) → 1 ≤ count → count ≤ 8 → length journals ≡ n → AreAmong items journals
     → AreNamesOf (map said items) n → AreJournalsAmong items journals
 journals_among items journals n count same counted some few length_is among names = record {
   some = omega (arith, some, same, length_is);
@@ -75,44 +88,43 @@ journals_among items journals n count same counted some few length_is among name
   named = (
     sym counted ∙ sym same ∙ sym length_is,
     λ j low.
-        let there = among j (get_or journals j no_entry) (slice_get-get_or journals j no_entry low) in
+        let there = among j (get_or journals j no_link) (slice_get-get_or journals j no_link low) in
         (said there.item, at_contains (map said items) there.index (said there.item) (mapped_at said items there.index there.item there.there), there.named),
     λ r there leads. let got = names r there leads in (got.0, omega (arith, got.1, length_is), got.2),
   );
   each = among;
 }
-  where
-    no_entry : Entry
-    no_entry = record { number = 0; addr = 0; kind = 0 }
 
-pub journals_of : (im : Image) (a : ℕ) (items : List Item) (journals : List Entry) → a < im.count → IsLookedAt im a → IsSoundDirectory im a (master_of im) → AreRecordsOf im a (map said items) → All (λ n. n.block ≡ a) items → AreDistinct (map said items)
-    → AreJournalsAmong items journals → AreJournalsOf im a journals
-journals_of im a items journals inside looked sound are here distinct among = record {
+pub journals_of : (im : Image) (a : ℕ) (items : List Item) (journals : List Link) → IsLookedAt im a → IsSoundDirectory im a (master_of im) → (is_hashed_in (every im a) ≡ true → HasSoundLeaves im a) → AreAllRecords im a items → AreDistinct (map said items)
+    → ((records : List Record) → HasRecords im a records → AreJournalNames records (length journals)) → AreJournalsAmong items journals → AreJournalsOf im a journals
+journals_of im a items journals looked sound leaves are distinct all among = record {
   looked = looked;
   sound = sound;
+  leaves = leaves;
   some = among.some;
   few = among.few;
-  named = λ records has. subst (λ rs. AreJournalNames rs (length journals)) (sym (records_same im a records (map said items) are has)) among.named;
-  each = λ j entry at. named j entry at;
+  named = all;
+  each = named;
   others = λ name d way.
-      let led = led_by im a name d are.linear way in
-      let there = subst (λ rs. Contains rs led.entry) (sym are.all) led.there in
-      let got = among.named.2 led.entry there led.leads in
-      let entry = get_or journals got.0 no_entry in
-      let at = slice_get-get_or journals got.0 no_entry got.1 in
-      let named = named got.0 entry at in
-      let name_is : name ≡ journal_name got.0 = sym led.named ∙ got.2 in
-      (got.0, (entry, at, sym (named.only d (subst (λ n. LeadsTo im a n d) name_is way)), name_is));
+      let led = led_among im a items name d are way in
+      let row = said led.among.item in
+      let there = at_contains (map said items) led.among.index row (mapped_at said items led.among.index led.among.item led.among.there) in
+      let got = among.named.2 row there (ap is_dots led.among.named ∙ led.leads) in
+      let link = get_or journals got.0 no_link in
+      let at = slice_get-get_or journals got.0 no_link got.1 in
+      let name_is : name ≡ journal_name got.0 = sym led.among.named ∙ got.2 in
+      (got.0, (link, at, sym ((named got.0 link at).only d (subst (λ n. LeadsTo im a n d) name_is way)), name_is));
 }
   where
-    no_entry : Entry
-    no_entry = record { number = 0; addr = 0; kind = 0 }
+    named : (j : ℕ) (link : Link) → slice_get journals j ≡ Some link → IsNamedIn im a link.from (journal_name j) link.entry
+    named j link at =
+        let there = among.each j link at in
+        let entry : IsAmong items (journal_name j) link.entry = record { index = there.index; item = there.item; there = there.there; named = there.named; entry_is = ap (λ (l : Link). l.entry) there.link_is } in
+        subst (λ x. IsNamedIn im a x (journal_name j) link.entry) (ap (λ (l : Link). l.from) there.link_is) (named_in im a items (journal_name j) link.entry are distinct (name_leads j) entry)
 
-    named : (j : ℕ) (entry : Entry) → slice_get journals j ≡ Some entry → IsNamedIn im a a (journal_name j) entry
-    named j entry at =
-        let there = among.each j entry at in
-        let block : there.item.block ≡ a = ap (λ (n : Item). n.block) (sym (get_or_from_slice_get items there.index there.item there.item there.there)) ∙ here there.index there.item (slice_get_within items there.index there.item there.there) in
-        subst (λ x. IsNamedIn im a x (journal_name j) entry) block (named_in im a items (journal_name j) entry (all_records im a items inside are here) distinct (name_leads j) there)
+-- the names of a linear one
+pub linear_names : (im : Image) (a : ℕ) (items : List Item) (journals : List Link) → AreRecordsOf im a (map said items) → AreJournalsAmong items journals → (records : List Record) → HasRecords im a records → AreJournalNames records (length journals)
+linear_names im a items journals are among records has = subst (λ rs. AreJournalNames rs (length journals)) (sym (records_same im a records (map said items) are has)) among.named
 
 -- ---- what is said of an option, where it is known which one it is
 

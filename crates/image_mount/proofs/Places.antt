@@ -17,9 +17,8 @@ use Rattle.gfs2_layout.specs.Journal.{ring_of}
 use Rattle.gfs2_layout.specs.Holding.{Holding}
 use Rattle.gfs2_layout.specs.declared.dinode.Dinode.{Dinode}
 use Rattle.glock_names.specs.Views.{Seen}
-use Rattle.glock_names.specs.declared.steps.Entry.{Entry}
 use Rattle.glock_names.specs.declared.steps.Missing.{Missing}
-use Rattle.image_model.specs.Claims.{every, Claims, below, HasInode, HasJournal, IsJindex}
+use Rattle.image_model.specs.Claims.{every, Claims, below, HasInode, HasJournal}
 use Rattle.image_model.specs.Image.{Image}
 use Rattle.image_model.specs.Journals.{journal_name}
 use Rattle.image_model.specs.Owners.{Below, Named}
@@ -30,6 +29,7 @@ use Rattle.image_mount.specs.Refusals.{RefusesRightly, IsReached}
 use Rattle.image_mount.specs.Refusals as outside
 use Rattle.image_mount.specs.Rings.{IsJournalIn, HasPlaces, IsPlaceAt, AreBlocksOf}
 use Rattle.image_mount.specs.Searching.{IsWanted}
+use Rattle.image_mount.specs.declared.listing.Link.{Link}
 use Rattle.image_mount.specs.declared.fault.MountFault.{MountFault}
 use Rattle.image_mount.specs.declared.fault.MountFault.TheVariants as fault
 use Rattle.image_mount.specs.declared.field.Field.TheVariants as field
@@ -92,57 +92,57 @@ within_reach im d places place has low = each (height_in (every im d)) refl
 
 -- ---- a journal by its record
 
-pub journal_of : (im : Image) (jindex : ℕ) (journal : Entry) (of : IsJournalIn im jindex journal) → HasJournal im of.index journal.addr
-journal_of im jindex journal of = (jindex, subst (IsJindex im) of.jindex_is of.names.groups.list.master.jindex, (jindex, of.named.claimed))
+pub journal_of : (im : Image) (journal : Link) (of : IsJournalIn im journal) → HasJournal im of.index journal.entry.addr
+journal_of im journal of = (of.layout.jindex, of.names.groups.list.master.jindex, (journal.from, of.named.claimed))
 
-pub journal_format : (im : Image) (jindex : ℕ) (journal : Entry) → IsJournalIn im jindex journal → HasFormat im
-journal_format im jindex journal of = of.names.groups.list.master.format
+pub journal_format : (im : Image) (journal : Link) → IsJournalIn im journal → HasFormat im
+journal_format im journal of = of.names.groups.list.master.format
 
-pub journal_inode : (im : Image) (jindex : ℕ) (journal : Entry) → IsJournalIn im jindex journal → HasInode im journal.addr
-journal_inode im jindex journal of = (Named jindex (journal_name of.index), record { by = jindex; claimed = of.named.claimed; dinode = refl })
+pub journal_inode : (im : Image) (journal : Link) → IsJournalIn im journal → HasInode im journal.entry.addr
+journal_inode im journal of = (Named of.layout.jindex (journal_name of.index), record { by = journal.from; claimed = of.named.claimed; dinode = refl })
 
-pub wrong_part : (im : Image) (jindex : ℕ) (journal : Entry) (f : MountFault) (d size : ℕ) (dinode : Dinode) → IsJournalIn im jindex journal → f ≡ fault.Damaged d 8 → d ≡ journal.addr → d < im.count
-    → dinode ≡ dinode_in (every im journal.addr) → size ≡ im.size → dinode.size % size ≢ 0 → RefusesRightly im f
-wrong_part im jindex journal f d size dinode of is at inside read sized part =
-    told im f journal.addr 8 (is ∙ ap (λ b. fault.Damaged b 8) at) (journal_format im jindex journal of) (subst (λ n. n < im.count) at inside)
-    (journal_part of.index journal.addr (journal_of im jindex journal of) (λ e. part (ap (λ (x : Dinode). x.size % size) read ∙ ap (λ n. (dinode_in (every im journal.addr)).size % n) sized ∙ e)))
+pub wrong_part : (im : Image) (journal : Link) (f : MountFault) (d size : ℕ) (dinode : Dinode) → IsJournalIn im journal → f ≡ fault.Damaged d 8 → d ≡ journal.entry.addr → d < im.count
+    → dinode ≡ dinode_in (every im journal.entry.addr) → size ≡ im.size → dinode.size % size ≢ 0 → RefusesRightly im f
+wrong_part im journal f d size dinode of is at inside read sized part =
+    told im f journal.entry.addr 8 (is ∙ ap (λ b. fault.Damaged b 8) at) (journal_format im journal of) (subst (λ n. n < im.count) at inside)
+    (journal_part of.index journal.entry.addr (journal_of im journal of) (λ e. part (ap (λ (x : Dinode). x.size % size) read ∙ ap (λ n. (dinode_in (every im journal.entry.addr)).size % n) sized ∙ e)))
 
-pub wrong_places : (im : Image) (jindex : ℕ) (journal : Entry) (f : MountFault) (places : ℕ) → IsJournalIn im jindex journal → f ≡ fault.NotProfile field.Journal places
-    → places ≡ (ring_of (every im journal.addr)).places → ((512 ≤ places) × (places ≤ 65536) → ⊥) → RefusesRightly im f
-wrong_places im jindex journal f places of is count wrong =
-    told_outside im f field.Journal (ring_of (every im journal.addr)).places (is ∙ ap (fault.NotProfile field.Journal) count)
-    (outside.journal of.layout of.index journal.addr of.names of.before of.at (λ both. wrong (omega (arith, both.0, count), omega (arith, both.1, count))))
+pub wrong_places : (im : Image) (journal : Link) (f : MountFault) (places : ℕ) → IsJournalIn im journal → f ≡ fault.NotProfile field.Journal places
+    → places ≡ (ring_of (every im journal.entry.addr)).places → ((512 ≤ places) × (places ≤ 65536) → ⊥) → RefusesRightly im f
+wrong_places im journal f places of is count wrong =
+    told_outside im f field.Journal (ring_of (every im journal.entry.addr)).places (is ∙ ap (fault.NotProfile field.Journal) count)
+    (outside.journal of.layout of.index journal.entry.addr of.names of.before of.at (λ both. wrong (omega (arith, both.0, count), omega (arith, both.1, count))))
 
-pub wrong_hole : (im : Image) (jindex : ℕ) (journal : Entry) (f : MountFault) (places place : ℕ) → IsJournalIn im jindex journal → f ≡ fault.Damaged journal.addr 8 → HasPlaces im journal.addr places
-    → place < places → None ≡ block_at (every im journal.addr) place → RefusesRightly im f
-wrong_hole im jindex journal f places place of is has low hole =
-    told im f journal.addr 8 is (journal_format im jindex journal of) has.inside
-    (journal_hole of.index journal.addr place (journal_of im jindex journal of) (omega (arith, low, has.count)) (hole_block (every im journal.addr) place hole (within_reach im journal.addr places place has low)))
+pub wrong_hole : (im : Image) (journal : Link) (f : MountFault) (places place : ℕ) → IsJournalIn im journal → f ≡ fault.Damaged journal.entry.addr 8 → HasPlaces im journal.entry.addr places
+    → place < places → None ≡ block_at (every im journal.entry.addr) place → RefusesRightly im f
+wrong_hole im journal f places place of is has low hole =
+    told im f journal.entry.addr 8 is (journal_format im journal of) has.inside
+    (journal_hole of.index journal.entry.addr place (journal_of im journal of) (omega (arith, low, has.count)) (hole_block (every im journal.entry.addr) place hole (within_reach im journal.entry.addr places place has low)))
 
 -- ---- blocks that are wanted on the way to a place
 
-pub journal_wanted : (im : Image) (jindex : ℕ) (journal : Entry) → IsJournalIn im jindex journal → IsWanted im journal.addr jindex
-journal_wanted im jindex journal of =
-    inr (journal_format im jindex journal of, (Named jindex (journal_name of.index), of.named.claimed, dinode_leads im (Named jindex (journal_name of.index)) refl, of.named.inside))
+pub journal_wanted : (im : Image) (journal : Link) → IsJournalIn im journal → IsWanted im journal.entry.addr journal.from
+journal_wanted im journal of =
+    inr (journal_format im journal of, (Named of.layout.jindex (journal_name of.index), of.named.claimed, dinode_leads im (Named of.layout.jindex (journal_name of.index)) refl, of.named.inside))
 
-pub above_wanted : (im : Image) (jindex : ℕ) (journal : Entry) (v : Seen) (place : ℕ) (m : Missing) → IsJournalIn im jindex journal → IsNeeded v (every im journal.addr) (λ i. i ≡ place) 1 m
-    → m.from < im.count → m.block ≢ journal.addr → IsWanted im m.block m.from
-above_wanted im jindex journal v place m of needed inside other = each needed.way
+pub above_wanted : (im : Image) (journal : Link) (v : Seen) (place : ℕ) (m : Missing) → IsJournalIn im journal → IsNeeded v (every im journal.entry.addr) (λ i. i ≡ place) 1 m
+    → m.from < im.count → m.block ≢ journal.entry.addr → IsWanted im m.block m.from
+above_wanted im journal v place m of needed inside other = each needed.way
   where
-    at : (k level first : ℕ) → 1 ≤ level → Leads (every im journal.addr) m.from k level first m.block → IsWanted im m.block m.from
+    at : (k level first : ℕ) → 1 ≤ level → Leads (every im journal.entry.addr) m.from k level first m.block → IsWanted im m.block m.from
     at k zero first least leads = absurd (omega arith)
     at k (suc level) first least leads =
         inr (
-          journal_format im jindex journal of,
+          journal_format im journal of,
           (
-            Below journal.addr m.from k (suc level) first,
-            below jindex journal.addr (Named jindex (journal_name of.index)) m.from k (suc level) first m.block of.named.claimed refl leads,
-            above_leads im journal.addr m.from k level first,
+            Below journal.entry.addr m.from k (suc level) first,
+            below journal.from journal.entry.addr (Named of.layout.jindex (journal_name of.index)) m.from k (suc level) first m.block of.named.claimed refl leads,
+            above_leads im journal.entry.addr m.from k level first,
             inside,
           ),
         )
 
-    each : IsOnWay (every im journal.addr) (λ i. i ≡ place) 1 m → IsWanted im m.block m.from
+    each : IsOnWay (every im journal.entry.addr) (λ i. i ≡ place) 1 m → IsWanted im m.block m.from
     each (the_dinode own from plain) = absurd (other own)
     each (led_to i k level first wanted least leads begins ends plain) = at k level first least leads
 

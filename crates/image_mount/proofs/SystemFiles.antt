@@ -12,11 +12,11 @@ use Rattle.gfs2_layout.specs.Structures.{is_directory}
 use Rattle.gfs2_layout.specs.declared.dinode.Dinode.{Dinode}
 use Rattle.image_model.specs.Claims.{every, Claims, master, LeadsTo, master_of}
 use Rattle.image_model.specs.Image.{Image}
-use Rattle.image_model.specs.Owners.{Owner, Master, Named, is_dinode, parent_of}
+use Rattle.image_model.specs.Owners.{Owner, Master, is_dinode, parent_of}
 use Rattle.image_model.specs.Rules.{Breaks, HasRecordIn, no_rindex, no_jindex}
 use Rattle.image_mount.specs.Found.{HasFormat, IsFirstOther, behind_dinode, first_other, is_other, is_system_name}
 use Rattle.image_mount.specs.Leaves.{IsMasterIn}
-use Rattle.image_mount.specs.Listing.{said, is_hashed_by, link_of, AreAllRecords, AreRecordsOf, IsDirectoryIn}
+use Rattle.image_mount.specs.Listing.{said, link_of, AreAllRecords, AreRecordsOf, IsDirectoryIn}
 use Rattle.image_mount.specs.Groups.{IsNamedIn}
 use Rattle.image_mount.specs.Refusals.{RefusesRightly, IsOutside}
 use Rattle.image_mount.specs.Refusals as outside
@@ -143,13 +143,3 @@ link_in im at items name item link same are plain named there is =
 pub file_of_journals : (im : Image) (at : ℕ) (link : Link) → at ≡ master_of im → IsLinkOf im (codes "jindex") link → is_directory_in (every im link.entry.addr) ≡ false → Breaks im 16 at
 file_of_journals im at link same named file =
     subst (Breaks im 16) (sym same) (no_jindex (λ d is dir. both_ways (is_directory_in (every im d)) (ap (λ a. is_directory_in (every im a)) (named.only d is) ∙ file) dir))
-
--- the directory of journals is a hashed one
-pub hashed_jindex : (im : Image) (inode : Inode) (link : Link) → HasFormat im → IsLinkOf im (codes "jindex") link → inode.block ≡ link.entry.addr → inode.dinode ≡ dinode_in (every im inode.block)
-    → is_hashed_by inode.dinode ≡ true → RefusesRightly im (fault.NotBuilt inode.block)
-hashed_jindex im inode link format named at read hashed =
-    let claim = subst (λ a. Claims im link.from a (Named (master_of im) (codes "jindex"))) (sym at) named.claimed in (
-      (link.from, claim),
-      ((Named (master_of im) (codes "jindex"), record { by = link.from; claimed = claim; dinode = refl }), ap is_hashed_by (sym read) ∙ hashed),
-      format,
-    )

@@ -1,10 +1,9 @@
 -- The system files that were found, as a layout of the image.
-use Rattle.std.proofs.Common.{◌≡◌, ◌<◌, ℕ, true, List, [], length, Vec, Global, refl, sym, ap, subst, arith}
+use Rattle.std.proofs.Common.{◌≡◌, ◌<◌, ℕ, true, List, [], length, Vec, Global, refl, sym, ap, subst, ◌∙◌, arith}
 use Rattle.std.specs.Prelude.{codes, map}
 use Rattle.std.proofs.lemmas.List.{length-map}
 use Rattle.gfs2_layout.specs.declared.rindex.Rindex.{Rindex}
 use Rattle.gfs2_layout.specs.declared.superblock.SuperBlock.{SuperBlock}
-use Rattle.glock_names.specs.declared.steps.Entry.{Entry}
 use Rattle.gfs2_layout.specs.Inode.{is_hashed_in}
 use Rattle.image_model.specs.Claims.{every, Claims, LeadsTo, master_of}
 use Rattle.image_model.specs.Image.{Image, superblock_in}
@@ -14,7 +13,10 @@ use Rattle.image_model.specs.Rules.{HasRecordIn}
 use Rattle.image_model.specs.Stands.{Layout}
 use Rattle.image_mount.specs.Found.{HasFormat, HasMaster, HasGroups, AreJournalNames}
 use Rattle.image_mount.specs.Groups.{IsListLink, AreGroups}
-use Rattle.image_mount.specs.System.{AreFilesOf, AreJournalsOf, IsSystemOf}
+use Rattle.image_mount.specs.System.{layout_with, AreFilesOf, AreJournalsOf, IsGroundOf, IsJindexOf, IsSystemOf}
+use Rattle.image_mount.specs.declared.inodes.Inode.{Inode}
+use Rattle.image_mount.specs.declared.listing.Link.{Link}
+use Rattle.image_mount.specs.declared.system.Groundwork.{Groundwork}
 use Rattle.image_mount.specs.declared.system.SystemFiles.{SystemFiles}
 use Rattle.image_mount.specs.Looks.{HasSoundLeaves, HasTrueRecord, IsLookedAt, IsSoundDirectory, IsTrueEntry}
 use Rattle.image_mount.proofs.Looks.{true_record}
@@ -49,32 +51,62 @@ module _ (im : Image) (sb : SuperBlock) (files : SystemFiles) (format : HasForma
     short = are.short;
   }
 
-  pub system_of : (groups : Vec Rindex Global) (journals : Vec Entry Global) → sb.master.address < im.count → IsLookedAt im sb.master.address → IsSoundDirectory im sb.master.address sb.master.address → (is_hashed_in (every im sb.master.address) ≡ true → HasSoundLeaves im sb.master.address) → IsTrueEntry im files.rindex.entry → IsTrueEntry im files.jindex.entry → AreGroups im files.rindex.entry.addr groups.items → AreJournalsOf im files.jindex.entry.addr journals.items
-      → IsSystemOf im (record { superblock = sb; rindex = files.rindex.entry.addr; groups = groups; jindex = files.jindex.entry.addr; journals = journals })
-  system_of groups journals inside looked sound leaves rindex jindex are names =
-      let addresses = map (λ (e : Entry). e.addr) journals.items in
-      let count : length addresses ≡ length journals.items = length-map journals.items (λ (e : Entry). e.addr) in
-      record {
-        superblock = read;
-        names = record {
-          groups = groups_found groups.items addresses are;
-          some = omega (arith, count, names.some);
-          few = omega (arith, count, names.few);
-          named = λ records has. subst (AreJournalNames records) (sym count) (names.named records has);
-          there = λ j d at.
-              let entry = from_mapped (λ (e : Entry). e.addr) journals.items j d at in
-              (files.jindex.entry.addr, subst (λ b. Claims im files.jindex.entry.addr b (Named files.jindex.entry.addr (journal_name j))) entry.2 (names.each j entry.0 entry.1).claimed);
-        };
-        master = λ name d way. of.others name d (subst (λ a. LeadsTo im a name d) same_master way);
-        one_rindex = λ d is. of.rindex.only d is;
-        rindex_record = subst (λ a. HasTrueRecord im a (codes "rindex") files.rindex.entry.addr) (sym same_master) (true_record im (master_of im) files.rindex.from (codes "rindex") files.rindex.entry of.rindex rindex);
-        jindex_record = subst (λ a. HasTrueRecord im a (codes "jindex") files.jindex.entry.addr) (sym same_master) (true_record im (master_of im) files.jindex.from (codes "jindex") files.jindex.entry of.jindex jindex);
-        master_looked = looked;
-        master_sound = sound;
-        master_leaves = leaves;
-        rindex_looked = are.looked;
-        rindex_headed = are.headed;
-        master_inside = inside;
-        rindex_inside = are.inside;
-        journals = names;
-      }
+  pub ground_of : (groups : Vec Rindex Global) (jindex : Inode) → jindex.block ≡ files.jindex.entry.addr → IsJindexOf im sb.master.address jindex → sb.master.address < im.count → IsLookedAt im sb.master.address
+      → IsSoundDirectory im sb.master.address sb.master.address → (is_hashed_in (every im sb.master.address) ≡ true → HasSoundLeaves im sb.master.address) → IsTrueEntry im files.rindex.entry → IsTrueEntry im files.jindex.entry
+      → AreGroups im files.rindex.entry.addr groups.items → IsGroundOf im (record { superblock = sb; rindex = files.rindex.entry.addr; groups = groups; jindex = jindex })
+  ground_of groups jindex at is inside looked sound leaves rindex true_entry are = record {
+    superblock = read;
+    groups = has_groups;
+    master = λ name d way. of.others name d (subst (λ a. LeadsTo im a name d) same_master way);
+    one_rindex = λ d led. of.rindex.only d led;
+    one_jindex = λ d led. of.jindex.only d led ∙ sym at;
+    rindex_record = subst (λ a. HasTrueRecord im a (codes "rindex") files.rindex.entry.addr) (sym same_master) (true_record im (master_of im) files.rindex.from (codes "rindex") files.rindex.entry of.rindex rindex);
+    jindex_record = subst (HasTrueRecord im sb.master.address (codes "jindex")) (sym at)
+        (subst (λ a. HasTrueRecord im a (codes "jindex") files.jindex.entry.addr) (sym same_master) (true_record im (master_of im) files.jindex.from (codes "jindex") files.jindex.entry of.jindex true_entry));
+    master_looked = looked;
+    master_sound = sound;
+    master_leaves = leaves;
+    rindex_looked = are.looked;
+    rindex_headed = are.headed;
+    master_inside = inside;
+    rindex_inside = are.inside;
+    jindex = record { of = is; layout = layout_with (record { superblock = sb; rindex = files.rindex.entry.addr; groups = groups; jindex = jindex }) []; groups = has_groups []; layout_is = refl };
+  }
+    where
+      has_groups : (journals : List ℕ) → HasGroups im (layout_with (record { superblock = sb; rindex = files.rindex.entry.addr; groups = groups; jindex = jindex }) journals)
+      has_groups journals =
+          subst (λ d. HasGroups im (record { root = sb.root.address; master = sb.master.address; rindex = files.rindex.entry.addr; jindex = d; groups = groups.items; journals = journals })) (sym at)
+          (groups_found groups.items journals are)
+
+-- with the journals they are all of it
+pub system_of : (im : Image) (g : Groundwork) (journals : Vec Link Global) → IsGroundOf im g → AreJournalsOf im g.jindex.block journals.items
+    → IsSystemOf im (record { superblock = g.superblock; rindex = g.rindex; groups = g.groups; jindex = g.jindex.block; journals = journals })
+system_of im g journals is names =
+    let addresses = map (λ (e : Link). e.entry.addr) journals.items in
+    let count : length addresses ≡ length journals.items = length-map journals.items (λ (e : Link). e.entry.addr) in
+    record {
+      superblock = is.superblock;
+      names = record {
+        groups = is.groups addresses;
+        some = omega (arith, count, names.some);
+        few = omega (arith, count, names.few);
+        named = λ records has. subst (AreJournalNames records) (sym count) (names.named records has);
+        there = λ j d at.
+            let link = from_mapped (λ (e : Link). e.entry.addr) journals.items j d at in
+            (link.0.from, subst (λ b. Claims im link.0.from b (Named g.jindex.block (journal_name j))) link.2 (names.each j link.0 link.1).claimed);
+      };
+      master = is.master;
+      one_rindex = is.one_rindex;
+      one_jindex = is.one_jindex;
+      rindex_record = is.rindex_record;
+      jindex_record = is.jindex_record;
+      master_looked = is.master_looked;
+      master_sound = is.master_sound;
+      master_leaves = is.master_leaves;
+      rindex_looked = is.rindex_looked;
+      rindex_headed = is.rindex_headed;
+      master_inside = is.master_inside;
+      rindex_inside = is.rindex_inside;
+      jindex_inside = is.jindex.of.directory.inside;
+      journals = names;
+    }

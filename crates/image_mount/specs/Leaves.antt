@@ -1,5 +1,5 @@
 -- The walk over the leaves of a hashed directory, as the code has it.
-use Rattle.std.specs.Prelude.{ℕ, ◌≡◌, ◌≢◌, ◌⊎◌, ◌+◌, ◌-◌, ◌*◌, ◌^◌, ◌<◌, ◌≤◌, true, false, List, length, map, flat_map, Contains, Option, None, Some, IfSome, slice_get}
+use Rattle.std.specs.Prelude.{ℕ, ◌≡◌, ◌≢◌, ◌⊎◌, ◌+◌, ◌-◌, ◌*◌, ◌^◌, ◌<◌, ◌≤◌, true, List, length, map, flat_map, Contains, Option, None, Some, IfSome, slice_get}
 use Rattle.std.specs.List.Sorted.{IsStrictlyIncreasing}
 use Rattle.crc_words.specs.Remainder.{crc32_of}
 use Rattle.gfs2_layout.specs.Bytes.{u32_at, u64_at}
@@ -10,21 +10,25 @@ use Rattle.gfs2_layout.specs.Holding.{Holding}
 use Rattle.dinode_tree.specs.Reading.{IsRightDinode}
 use Rattle.gfs2_layout.specs.Inode.{dinode_in, is_directory_in, is_hashed_in, content_of, depth_in, table_count, entry, first_hash, leaf_in, leaf_area, top_bits, IsLeaf}
 use Rattle.gfs2_layout.specs.Records.{Record}
-use Rattle.image_model.specs.Claims.{every, Claims, master_of}
+use Rattle.image_model.specs.Claims.{every, Claims, HasDirectory, master_of}
 use Rattle.image_model.specs.Image.{Image}
 use Rattle.image_reader.specs.Leaves.{HasClaim, AreChained, leaf_records}
-use Rattle.image_model.specs.Owners.{Chained}
+use Rattle.image_model.specs.Owners.{Owner, Chained, is_dinode}
 use Rattle.image_reader.specs.Owning.{AreClaims}
 use Rattle.image_model.specs.Rules.{HasRecordIn, IsHashedAt}
 use Rattle.image_reader.specs.declared.hash_table.HashTable.{HashTable}
 use Rattle.image_reader.specs.declared.owners.Claim.{Claim}
-use Rattle.image_mount.specs.Found.{HasFormat, IsInChain, ComesBefore, is_other, first_other}
+use Rattle.image_mount.specs.Found.{HasFormat, IsInChain, ComesBefore, first_other, name_count}
 use Rattle.image_mount.specs.Listing.{said, AreDistinct}
-use Rattle.image_mount.specs.Looks.{HasHeadedContent, IsInRun, IsSoundArea, IsTableSized, LeadsToLeaf}
+use Rattle.image_mount.specs.Looks.{HasHeadedContent, HasSoundLeaves, IsInRun, IsSoundArea, IsTableSized, LeadsToLeaf}
+use Rattle.image_mount.specs.Searching.{IsSystemFile}
+use Rattle.image_mount.specs.Sifting.{IsBeside}
 use Rattle.image_mount.specs.declared.inodes.Inode.{Inode}
 use Rattle.image_mount.specs.declared.leaf.LeafAt.{LeafAt}
 use Rattle.image_mount.specs.declared.leaf.LeafLink.{LeafLink}
 use Rattle.image_mount.specs.declared.leaf.LeafWalk.{LeafWalk}
+use Rattle.image_mount.specs.declared.leaf.Names.{Names}
+use Rattle.image_mount.specs.declared.leaf.Names.TheVariants.{Files}
 use Rattle.image_mount.specs.declared.listing.Named.{Named}
 
 -- the inode is the master directory's, and keeps the rules of its dinode
@@ -37,9 +41,22 @@ pub record IsMasterIn (im : Image) (inode : Inode) : Type 0 where
   pub inside : inode.block < im.count
   pub directory : is_directory_in (every im inode.block) ≡ true
 
--- the master directory is a hashed one, and this is its table
+-- the inode is that of a directory of the system, and keeps the rules of its dinode
+pub record IsSystemDirectory (im : Image) (inode : Inode) : Type 0 where
+  pub format : HasFormat im
+  pub owner : Owner
+  pub claimed : Claims im inode.from inode.block owner
+  pub is_inode : is_dinode owner ≡ true
+  pub read : IsSystemFile im inode.block
+  pub from_inside : inode.from < im.count
+  pub dinode : inode.dinode ≡ dinode_in (every im inode.block)
+  pub right : IsRightDinode (every im inode.block)
+  pub inside : inode.block < im.count
+  pub directory : is_directory_in (every im inode.block) ≡ true
+
+-- the directory is a hashed one, and this is its table
 pub record IsTableOf (im : Image) (inode : Inode) (table : HashTable) : Type 0 where
-  pub master : IsMasterIn im inode
+  pub file : IsSystemDirectory im inode
   pub hashed : is_hashed_in (every im inode.block) ≡ true
   pub depth : table.depth ≡ depth_in (every im inode.block)
   pub content : table.bytes.items ≡ content_of (every im inode.block)
@@ -88,25 +105,36 @@ abbrev pub block_of : Option LeafAt → Option ℕ
 block_of None = None
 block_of (Some at) = Some at.block
 
--- each record of the leaf is among these
+-- each record of the leaf is among these, with its block
 abbrev pub IsListed : Image → ℕ → ℕ → List Named → Type 0
 IsListed im a x records = (r : Record) → Contains (leaf_records (every im a) x) r → (k : ℕ) × ((n : Named) × (slice_get records k ≡ Some n) × (said n ≡ r) × (n.block ≡ x))
 
--- the leaves that are claimed are these, in rising order, and they have as many records, and directories among them
-pub record AreLeavesOf (im : Image) (a : ℕ) (entries : List (Option Claim)) (records : List Record) : Type 0 where
+-- The leaves that are claimed are these, in rising order. They have as many names, with those that have others than were looked for;
+-- and where there are none of these, as many records, and directories among them.
+pub record AreLeavesOf (im : Image) (a : ℕ) (entries : List (Option Claim)) (records : List Record) (others : ℕ) : Type 0 where
   pub leaves : List ℕ
   pub rise : IsStrictlyIncreasing leaves
   pub only : (x : ℕ) → Contains leaves x → (hash place : ℕ) × HasClaim entries x (Chained a hash place)
   pub all : (x hash place : ℕ) → HasClaim entries x (Chained a hash place) → Contains leaves x
-  pub count : length (flat_map (leaf_records (every im a)) leaves) ≡ length records
-  pub directories : directory_count (flat_map (leaf_records (every im a)) leaves) ≡ directory_count records
+  pub names : name_count (flat_map (leaf_records (every im a)) leaves) ≡ name_count records + others
+  pub count : others ≡ 0 → length (flat_map (leaf_records (every im a)) leaves) ≡ length records
+  pub directories : others ≡ 0 → directory_count (flat_map (leaf_records (every im a)) leaves) ≡ directory_count records
 
 -- a record that was found stands in a leaf that is claimed
 pub record IsFoundIn (im : Image) (a : ℕ) (entries : List (Option Claim)) (n : Named) : Type 0 where
   pub stands : HasRecordIn im a n.block (said n)
   pub inside : n.block < im.count
   pub leaf : (hash place : ℕ) × HasClaim entries n.block (Chained a hash place)
-  pub plain : is_other (said n) ≡ false
+
+-- a leaf that is claimed has a record with another name than are looked for
+pub record HasBeside (im : Image) (a : ℕ) (names : Names) (entries : List (Option Claim)) : Type 0 where
+  pub block : ℕ
+  pub hash : ℕ
+  pub place : ℕ
+  pub claimed : HasClaim entries block (Chained a hash place)
+  pub row : Record
+  pub there : Contains (leaf_records (every im a) block) row
+  pub beside : IsBeside names row.name
 
 -- the leaf is open: it is claimed, and its next isn't looked for yet
 pub record IsOpen (im : Image) (a : ℕ) (walk : LeafWalk) (at : LeafAt) : Type 0 where
@@ -126,13 +154,17 @@ pub record IsWalked (im : Image) (a : ℕ) (walk : LeafWalk) : Type 0 where
   pub chained : AreChained (every im a) walk.owners.entries.items (block_of walk.tail)
   pub opened : IfSome walk.tail (IsOpen im a walk)
   pub passed : (j place y : ℕ) → IsPassed walk.tail walk.index j place → IsInChain (every im a) j place y → HasClaim walk.owners.entries.items y (Chained a (first_hash (every im a) j) place)
-  pub listed : (x hash place : ℕ) → HasClaim walk.owners.entries.items x (Chained a hash place) → IsListed im a x walk.records.items
+  pub listed : walk.others ≡ 0 → (x hash place : ℕ) → HasClaim walk.owners.entries.items x (Chained a hash place) → IsListed im a x walk.records.items
   pub found : (k : ℕ) (n : Named) → slice_get walk.records.items k ≡ Some n → IsFoundIn im a walk.owners.entries.items n
   pub sound : (x hash place : ℕ) → HasClaim walk.owners.entries.items x (Chained a hash place) → IsSoundLeaf im a hash x
   pub pointed : (j : ℕ) → j < walk.index → LeadsToLeaf (every im a) j
   pub deep : AreDeep (every im a) walk.owners.entries.items (block_of walk.tail)
   pub distinct : AreDistinct (map said walk.records.items)
-  pub leaves : AreLeavesOf im a walk.owners.entries.items (map said walk.records.items)
+  pub leaves : AreLeavesOf im a walk.owners.entries.items (map said walk.records.items) walk.others
+  pub beside : 0 < walk.others → HasBeside im a walk.names walk.owners.entries.items
+  -- in the master directory none is let past
+  pub plain : walk.names ≡ Files → (x hash place : ℕ) → HasClaim walk.owners.entries.items x (Chained a hash place) → first_other (leaf_records (every im a) x) ≡ None
+  pub files : walk.names ≡ Files → walk.others ≡ 0
 
 -- no leaf is open that has a next
 abbrev pub IsClosed : Option LeafAt → Type 0
@@ -168,20 +200,43 @@ pub record IsPointed (im : Image) (table : HashTable) (i : ℕ) (bytes : List �
   pub inside : u64_at (8 * i) table.bytes.items < im.count
   pub is : im.at (u64_at (8 * i) table.bytes.items) ≡ bytes
 
--- each record that comes before those of this leaf is a system file's, or leads nowhere on
-pub record IsFirstTold (im : Image) (at : LeafAt) : Type 0 where
-  pub format : HasFormat im
-  pub hashed : IsHashedAt im (master_of im)
-  pub leaf : IsLeafIn im (master_of im) at
-  pub before : (j earlier y : ℕ) → ComesBefore j earlier at.pointer at.place → IsInChain (every im (master_of im)) j earlier y → first_other (leaf_records (every im (master_of im)) y) ≡ None
+-- the leaf is one of the master directory, and each record that comes before its own is a system file's, or leads nowhere on
+pub record IsFirstTold (im : Image) (a : ℕ) (at : LeafAt) : Type 0 where
+  pub master : a ≡ master_of im
+  pub hashed : IsHashedAt im a
+  pub before : (j earlier y : ℕ) → ComesBefore j earlier at.pointer at.place → IsInChain (every im a) j earlier y → first_other (leaf_records (every im a) y) ≡ None
 
--- the leaf comes next in a walk over the master directory
+-- the leaf is one of the directory; and where that is the master directory, none before it has a record that isn't a system file's
+pub record IsTold (im : Image) (names : Names) (a : ℕ) (at : LeafAt) : Type 0 where
+  pub format : HasFormat im
+  pub leaf : IsLeafIn im a at
+  pub first : names ≡ Files → IsFirstTold im a at
+
+-- the leaf comes next in a walk over its directory, which is the master directory where names of system files are looked for
 pub record IsNextLeaf (im : Image) (walk : LeafWalk) (at : LeafAt) : Type 0 where
   pub format : HasFormat im
-  pub hashed : IsHashedAt im (master_of im)
-  pub leaf : IsLeafIn im (master_of im) at
+  pub hashed : IsHashedAt im walk.directory
+  pub leaf : IsLeafIn im walk.directory at
   pub next : ComesNext walk at
-  pub walked : IsWalked im (master_of im) walk
+  pub walked : IsWalked im walk.directory walk
+  pub master : walk.names ≡ Files → walk.directory ≡ master_of im
+
+-- in the master directory names of system files are looked for, and nowhere else
+abbrev pub LooksFor : Image → ℕ → Names → Type 0
+LooksFor im a names = names ≡ Files → a ≡ master_of im
+
+-- each leaf of the directory was come to
+abbrev pub AreAllLeaves : Image → ℕ → LeafWalk → Type 0
+AreAllLeaves im a walk = (by x hash place : ℕ) → Claims im by x (Chained a hash place) → HasClaim walk.owners.entries.items x (Chained a hash place)
+
+-- every leaf of the directory, which is a hashed one, was come to
+pub record IsGoneOver (im : Image) (a : ℕ) (walk : LeafWalk) : Type 0 where
+  pub hashed : IsHashedAt im a
+  pub directory : HasDirectory im a
+  pub walked : IsWalked im a walk
+  pub all : AreAllLeaves im a walk
+  pub sized : IsTableSized im a
+  pub leaves : HasSoundLeaves im a
 
 -- the walk is at its end
 abbrev pub HasEnded : LeafWalk → ℕ → Type 0

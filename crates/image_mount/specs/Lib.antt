@@ -3,6 +3,7 @@ pub mod Refusals
 pub mod Mounted
 pub mod Kept
 pub mod Searching
+pub mod Sifting
 pub mod Listing
 pub mod Leaves
 pub mod Groups

@@ -167,10 +167,11 @@ pub record IsLookedOver (im : Image) (l : Layout) : Type 0 where
   -- the records of the two directories are right
   pub master_records : IsSoundDirectory im l.master l.master
   pub jindex_records : IsSoundDirectory im l.jindex l.master
-  -- so are the table and the leaves of a master directory that is a hashed one
+  -- so are the table and the leaves of each of them that is a hashed one
   pub master_leaves : is_hashed_in (every im l.master) ≡ true → HasSoundLeaves im l.master
-  -- no journal is the master directory or the list of groups
-  pub own : (j d : ℕ) → IsJournalAt l j d → (d ≢ l.master) × (d ≢ l.rindex)
+  pub jindex_leaves : is_hashed_in (every im l.jindex) ≡ true → HasSoundLeaves im l.jindex
+  -- no journal is the master directory, the list of groups or the directory of journals
+  pub own : (j d : ℕ) → IsJournalAt l j d → (d ≢ l.master) × (d ≢ l.rindex) × (d ≢ l.jindex)
   -- each place of a journal has a data block of a group, and no block is at two places
   pub places : (j p b : ℕ) → IsPlaceOf im l j p b → IsInGroups l.groups b
   pub apart : (j i p q b : ℕ) → IsPlaceOf im l j p b → IsPlaceOf im l i q b → (j ≡ i) × (p ≡ q)

@@ -7,12 +7,12 @@ use Rattle.gfs2_layout.specs.Inode.{dinode_in}
 use Rattle.gfs2_layout.specs.Journal.{ring_of, head_in}
 use Rattle.gfs2_layout.specs.Records.{Record}
 use Rattle.gfs2_layout.specs.declared.log_header.LogHeader.{LogHeader}
-use Rattle.image_model.specs.Claims.{every, Claims, IsJindex, master_of}
+use Rattle.image_model.specs.Claims.{every, Claims, master_of}
 use Rattle.image_model.specs.Groups.{entry_length, GroupsFit}
 use Rattle.image_model.specs.Image.{Image, superblock_in}
 use Rattle.image_model.specs.Owners.{Owner}
 use Rattle.image_model.specs.Profile.{group_length}
-use Rattle.image_model.specs.Rules.{IsBrokenBlock, HasRecords, IsHashedAt}
+use Rattle.image_model.specs.Rules.{IsBrokenBlock, HasRecords}
 use Rattle.image_model.specs.Stands.{Layout, IsJournalAt}
 use Rattle.image_mount.specs.Found.{HasSuper, HasFormat, IsFirstOther, HasList, HasMaster, HasGroups, name_count, AreJournalNames, HasNames}
 use Rattle.image_reader.specs.declared.image.ImageFault.{ImageFault}
@@ -73,7 +73,6 @@ abbrev pub RefusesRightly : Image → MountFault → Type 0
 RefusesRightly im (fault.NotProfile what value) = IsOutside im what value
 RefusesRightly im (fault.Damaged block rule) = IsBrokenBlock im rule block × (((rule ≡ 1) × (block ≡ superblock_place im.size)) ⊎ HasFormat im)
 RefusesRightly im (fault.DeviceFault block before after) = IsReached im block
-RefusesRightly im (fault.NotBuilt block) = IsJindex im block × IsHashedAt im block × HasFormat im
 RefusesRightly im fault.NoMemory = ⊤
 
 -- what breaks a rule of an image, as mounting tells it
@@ -91,9 +90,8 @@ abbrev pub LiesWithin : ℕ → MountFault → Type 0
 LiesWithin count (fault.DeviceFault block x y) = block < count
 LiesWithin count _ = ⊤
 
--- the disk failed, there was no memory, or a directory of journals is not read yet
+-- the disk failed, or there was no memory
 abbrev pub IsExcused : MountFault → Type 0
 IsExcused (fault.DeviceFault block before after) = ⊤
-IsExcused (fault.NotBuilt block) = ⊤
 IsExcused fault.NoMemory = ⊤
 IsExcused _ = ⊥

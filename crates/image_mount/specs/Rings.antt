@@ -9,7 +9,6 @@ use Rattle.gfs2_layout.specs.Inode.{Leads, dinode_in, content_block}
 use Rattle.gfs2_layout.specs.Journal.{ring_of, head_in}
 use Rattle.gfs2_layout.specs.Journal.{Ring as JournalRing}
 use Rattle.gfs2_layout.specs.declared.log_header.LogHeader.{LogHeader}
-use Rattle.glock_names.specs.declared.steps.Entry.{Entry}
 use Rattle.image_model.specs.Claims.{every, Claims}
 use Rattle.image_model.specs.Image.{Image}
 use Rattle.image_model.specs.Journals.{journal_name}
@@ -25,6 +24,7 @@ use Rattle.image_mount.specs.System.{IsSystemOf}
 use Rattle.image_mount.specs.Kept.{Kept, seen_of}
 use Rattle.image_mount.specs.Marked.{IsKeptWay}
 use Rattle.image_mount.specs.declared.journals.Ring.{Ring}
+use Rattle.image_mount.specs.declared.listing.Link.{Link}
 use Rattle.image_mount.specs.declared.system.System.{System}
 
 -- each block that is kept was wanted
@@ -52,22 +52,21 @@ pub record IsSearched (im : Image) (done : List ℕ) (d n : ℕ) (k : Kept) : Ty
   pub leaves : AreWantedLeaves im k
   pub marked : (b : ℕ) → slice_get k.places b ≡ Some true → IsPlace im done d n b
 
--- a journal by its record in the directory of journals, whose dinode is in this block; those before it are as large as they may be
-pub record IsJournalIn (im : Image) (jindex : ℕ) (journal : Entry) : Type 0 where
+-- a journal by its record in the directory of journals; those before it are as large as they may be
+pub record IsJournalIn (im : Image) (journal : Link) : Type 0 where
   pub layout : Layout
   pub names : HasNames im layout
-  pub jindex_is : layout.jindex ≡ jindex
   pub index : ℕ
   pub before : (i d : ℕ) → i < index → IsJournalAt layout i d → IsJournalSized im d
-  pub at : IsJournalAt layout index journal.addr
-  pub named : IsNamedIn im jindex jindex (journal_name index) journal
+  pub at : IsJournalAt layout index journal.entry.addr
+  pub named : IsNamedIn im layout.jindex journal.from (journal_name index) journal.entry
 
 -- a journal that is looked for next, after those whose dinodes are in these blocks
-pub record IsNext (im : Image) (done : List ℕ) (system : System) (journal : Entry) : Type 0 where
+pub record IsNext (im : Image) (done : List ℕ) (system : System) (journal : Link) : Type 0 where
   pub looked : IsSystemOf im system
-  pub named : IsJournalIn im system.jindex journal
-  pub plain : ¬ (IsSystemFile im journal.addr)
-  pub new : ¬ (Contains done journal.addr)
+  pub named : IsJournalIn im journal
+  pub plain : ¬ (IsSystemFile im journal.entry.addr)
+  pub new : ¬ (Contains done journal.entry.addr)
 
 -- the journal with its dinode in block d has so many places
 pub record HasPlaces (im : Image) (d places : ℕ) : Type 0 where
@@ -92,16 +91,22 @@ pub record AreBlocksOf (im : Image) (d n : ℕ) (blocks : List ℕ) : Type 0 whe
   pub reached : All (IsReached im) blocks
   pub headed : (p : ℕ) → p < n → IsHeadedWay (every im d) p
 
+-- the block is none with the dinode of the master directory, of the list of groups or of the directory of journals
+pub record IsOwn (system : System) (dinode : ℕ) : Type 0 where
+  pub master : dinode ≢ system.superblock.master.address
+  pub rindex : dinode ≢ system.rindex
+  pub jindex : dinode ≢ system.jindex
+
 -- the blocks at all places of the journal with its dinode in block d
 pub record IsRingOf (im : Image) (d : ℕ) (blocks : List ℕ) : Type 0 where
   pub places : HasPlaces im d (ring_of (every im d)).places
   pub are : AreBlocksOf im d (ring_of (every im d)).places blocks
 
 -- each of these journals has its ring, and its record is true of its dinode
-pub record AreRings (im : Image) (journals : List Entry) (rings : List Ring) : Type 0 where
-  pub dinodes : map (λ (ring : Ring). ring.dinode) rings ≡ map (λ (e : Entry). e.addr) journals
+pub record AreRings (im : Image) (journals : List Link) (rings : List Ring) : Type 0 where
+  pub dinodes : map (λ (ring : Ring). ring.dinode) rings ≡ map (λ (e : Link). e.entry.addr) journals
   pub each : All (λ (ring : Ring). IsRingOf im ring.dinode ring.blocks.items) rings
-  pub entries : All (IsTrueEntry im) journals
+  pub entries : All (λ (e : Link). IsTrueEntry im e.entry) journals
 
 -- what leads to each of these places of the journal with its dinode in block d is kept
 abbrev pub AreKeptWays : Image → Kept → ℕ → List ℕ → Type 0

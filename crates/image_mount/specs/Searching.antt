@@ -3,7 +3,7 @@ use Rattle.std.specs.Prelude.{ℕ, ◌≡◌, ◌<◌, ◌⊎◌, ⊤, IsTrue, L
 use Rattle.gfs2_layout.specs.Device.{superblock_place}
 use Rattle.glock_names.specs.declared.steps.CallFault.{CallFault}
 use Rattle.glock_names.specs.declared.steps.CallFault.TheVariants as call
-use Rattle.image_model.specs.Claims.{Claims, IsRindex, master_of}
+use Rattle.image_model.specs.Claims.{Claims, IsJindex, IsRindex, master_of}
 use Rattle.image_model.specs.Image.{Image}
 use Rattle.image_model.specs.Owners.{Owner, Below}
 use Rattle.shared_disk.specs.Disk.{DiskState, IsIdle}
@@ -26,15 +26,15 @@ pub record IsRead (im : Image) (k : Kept) : Type 0 where
   pub count : length k.entries ≡ im.count
   pub same : (b : ℕ) (bytes : List ℕ) → (seen_of k).block_at b ≡ Some bytes → im.at b ≡ bytes
 
--- the inode in block d is the list of groups or the master directory, whose content is read block by block
+-- the inode in block d is the list of groups, the master directory or the directory of journals, whose content is read block by block
 abbrev pub IsSystemFile : Image → ℕ → Type 0
-IsSystemFile im d = IsRindex im d ⊎ (d ≡ master_of im)
+IsSystemFile im d = IsRindex im d ⊎ ((d ≡ master_of im) ⊎ IsJindex im d)
 
 -- a block of content that is this owner's is one of such a file
 abbrev pub IsLeading : Image → Owner → Type 0
 IsLeading im o = (d b k first : ℕ) → o ≡ Below d b k 0 first → IsSystemFile im d
 
--- the superblock is to be read, or a block that is claimed by its number in block `from` of the device: of content that of the list of groups and the master directory alone
+-- the superblock is to be read, or a block that is claimed by its number in block `from` of the device: of content that of those three files alone
 abbrev pub IsWanted : Image → ℕ → ℕ → Type 0
 IsWanted im block from = (block ≡ superblock_place im.size) ⊎ (HasFormat im × ((o : Owner) × Claims im from block o × IsLeading im o × (from < im.count)))
 

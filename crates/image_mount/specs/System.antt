@@ -1,24 +1,27 @@
 -- What the system files say, as the code has it.
-use Rattle.std.specs.Prelude.{ℕ, ◌≡◌, ◌≢◌, ◌⊎◌, ◌<◌, ◌≤◌, true, false, List, Contains, codes, length, map, slice_get, Some}
+use Rattle.std.specs.Prelude.{ℕ, ◌≡◌, ◌≢◌, ◌⊎◌, ◌<◌, ◌≤◌, true, false, List, [], Contains, codes, length, map, slice_get, Some}
 use Rattle.glock_names.specs.declared.steps.Entry.{Entry}
+use Rattle.dinode_tree.specs.Reading.{IsRightDinode}
 use Rattle.gfs2_layout.specs.Inode.{is_hashed_in}
 use Rattle.gfs2_layout.specs.Records.{Record, is_dots}
-use Rattle.image_model.specs.Claims.{every, LeadsTo, IsRindex, master_of}
+use Rattle.image_model.specs.Claims.{every, LeadsTo, IsJindex, IsRindex, master_of}
 use Rattle.image_model.specs.Image.{Image, superblock_in}
 use Rattle.image_model.specs.Journals.{journal_name}
 use Rattle.image_model.specs.Profile.{HasPlainMaster}
 use Rattle.image_model.specs.Rules.{HasRecordIn, HasRecords}
 use Rattle.image_model.specs.Stands.{Layout}
-use Rattle.image_mount.specs.Found.{is_other, AreJournalNames, HasNames}
+use Rattle.image_mount.specs.Found.{is_other, name_count, AreJournalNames, HasGroups, HasNames}
 use Rattle.image_mount.specs.Groups.{IsNamedIn}
 use Rattle.image_mount.specs.Kept.{Kept}
 use Rattle.image_mount.specs.Leaves.{IsMasterIn}
 use Rattle.image_mount.specs.Looks.{HasHeadedContent, HasSoundLeaves, HasTrueRecord, IsLookedAt, IsSoundDirectory, IsTableSized}
 use Rattle.image_mount.specs.Marked.{IsKept}
-use Rattle.image_mount.specs.Listing.{said, AreAllRecords, AreDistinct}
+use Rattle.image_mount.specs.Listing.{said, link_of, AreAllRecords, AreDistinct, IsDirectoryIn}
 use Rattle.image_mount.specs.declared.master.Master.{Master}
+use Rattle.image_mount.specs.declared.inodes.Inode.{Inode}
 use Rattle.image_mount.specs.declared.listing.Link.{Link}
 use Rattle.image_mount.specs.declared.listing.Named.{Named as Item}
+use Rattle.image_mount.specs.declared.system.Groundwork.{Groundwork}
 use Rattle.image_mount.specs.declared.system.System.{System}
 use Rattle.image_mount.specs.declared.system.SystemFiles.{SystemFiles}
 
@@ -48,6 +51,20 @@ pub record AreHashedNames (im : Image) (a : ℕ) (names : List Item) : Type 0 wh
 abbrev pub IsNamedBy : Image → Master → List Item → Type 0
 IsNamedBy im master names = is_hashed_in (every im master.inode.block) ≡ true → AreHashedNames im master.inode.block names
 
+-- the inode of the directory of journals, below the master directory
+pub record IsJindexOf (im : Image) (master : ℕ) (inode : Inode) : Type 0 where
+  pub directory : IsDirectoryIn im inode master
+  pub master_is : master ≡ master_of im
+  pub right : IsRightDinode (every im inode.block)
+  pub is : IsJindex im inode.block
+
+-- it is looked at once the groups are known
+pub record IsJindexIn (im : Image) (master : ℕ) (inode : Inode) : Type 0 where
+  pub of : IsJindexOf im master inode
+  pub layout : Layout
+  pub groups : HasGroups im layout
+  pub layout_is : layout.jindex ≡ inode.block
+
 -- the files that the master directory names, and it names no others
 pub record AreFilesOf (im : Image) (files : SystemFiles) : Type 0 where
   pub rindex : IsLinkOf im (codes "rindex") files.rindex
@@ -63,8 +80,16 @@ pub record IsAmong (items : List Item) (name : List ℕ) (entry : Entry) : Type 
   pub named : item.name.now ≡ name
   pub entry_is : item.entry ≡ entry
 
-abbrev pub AreAmong : List Item → List Entry → Type 0
-AreAmong items journals = (j : ℕ) (entry : Entry) → slice_get journals j ≡ Some entry → IsAmong items (journal_name j) entry
+-- one of these has this name, and what it says is this
+pub record IsLinkAmong (items : List Item) (name : List ℕ) (link : Link) : Type 0 where
+  pub index : ℕ
+  pub item : Item
+  pub there : slice_get items index ≡ Some item
+  pub named : item.name.now ≡ name
+  pub link_is : link_of item ≡ link
+
+abbrev pub AreAmong : List Item → List Link → Type 0
+AreAmong items journals = (j : ℕ) (link : Link) → slice_get journals j ≡ Some link → IsLinkAmong items (journal_name j) link
 
 -- none of these has the name
 abbrev pub LacksName : List Item → List ℕ → Type 0
@@ -74,22 +99,60 @@ LacksName items name = (i : ℕ) (n : Item) → slice_get items i ≡ Some n →
 abbrev pub AreNamesOf : List Record → ℕ → Type 0
 AreNamesOf records n = (r : Record) → Contains records r → is_dots r.name ≡ false → (j : ℕ) × (j < n) × (r.name ≡ journal_name j)
 
+-- these are the records of the directory, in another order
+pub record AreRecordsAnew (im : Image) (a : ℕ) (records : List Record) : Type 0 where
+  pub all : List Record
+  pub has : HasRecords im a all
+  pub count : name_count all ≡ name_count records
+  pub there : (r : Record) → Contains all r → Contains records r
+  pub other : (r : Record) → Contains records r → Contains all r
+
 -- these are the journals' among the records: one to eight, and they have no others beside
-pub record AreJournalsAmong (items : List Item) (journals : List Entry) : Type 0 where
+pub record AreJournalsAmong (items : List Item) (journals : List Link) : Type 0 where
   pub some : 1 ≤ length journals
   pub few : length journals ≤ 8
   pub named : AreJournalNames (map said items) (length journals)
   pub each : AreAmong items journals
 
 -- these are the journals that the directory in block a names
-pub record AreJournalsOf (im : Image) (a : ℕ) (journals : List Entry) : Type 0 where
+pub record AreJournalsOf (im : Image) (a : ℕ) (journals : List Link) : Type 0 where
   pub looked : IsLookedAt im a
   pub sound : IsSoundDirectory im a (master_of im)
   pub some : 1 ≤ length journals
   pub few : length journals ≤ 8
   pub named : (records : List Record) → HasRecords im a records → AreJournalNames records (length journals)
-  pub each : (j : ℕ) (entry : Entry) → slice_get journals j ≡ Some entry → IsNamedIn im a a (journal_name j) entry
-  pub others : (name : List ℕ) (d : ℕ) → LeadsTo im a name d → (j : ℕ) × ((entry : Entry) × (slice_get journals j ≡ Some entry) × (entry.addr ≡ d) × (name ≡ journal_name j))
+  pub each : (j : ℕ) (link : Link) → slice_get journals j ≡ Some link → IsNamedIn im a link.from (journal_name j) link.entry
+  pub others : (name : List ℕ) (d : ℕ) → LeadsTo im a name d → (j : ℕ) × ((link : Link) × (slice_get journals j ≡ Some link) × (link.entry.addr ≡ d) × (name ≡ journal_name j))
+  pub leaves : is_hashed_in (every im a) ≡ true → HasSoundLeaves im a
+
+-- where the system files lie, but for the journals
+abbrev pub layout_with : Groundwork → List ℕ → Layout
+layout_with g journals = record {
+  root = g.superblock.root.address;
+  master = g.superblock.master.address;
+  rindex = g.rindex;
+  jindex = g.jindex.block;
+  groups = g.groups.items;
+  journals = journals;
+}
+
+-- the system files were looked at, as far as the directory of journals
+pub record IsGroundOf (im : Image) (g : Groundwork) : Type 0 where
+  pub superblock : g.superblock ≡ superblock_in im
+  pub groups : (journals : List ℕ) → HasGroups im (layout_with g journals)
+  pub master : HasPlainMaster im (layout_with g [])
+  pub one_rindex : (d : ℕ) → IsRindex im d → d ≡ g.rindex
+  pub one_jindex : (d : ℕ) → IsJindex im d → d ≡ g.jindex.block
+  pub rindex_record : HasTrueRecord im g.superblock.master.address (codes "rindex") g.rindex
+  pub jindex_record : HasTrueRecord im g.superblock.master.address (codes "jindex") g.jindex.block
+  pub master_looked : IsLookedAt im g.superblock.master.address
+  pub master_sound : IsSoundDirectory im g.superblock.master.address g.superblock.master.address
+  pub master_leaves : is_hashed_in (every im g.superblock.master.address) ≡ true → HasSoundLeaves im g.superblock.master.address
+  pub rindex_looked : IsLookedAt im g.rindex
+  pub rindex_headed : HasHeadedContent im g.rindex
+  pub master_inside : g.superblock.master.address < im.count
+  pub rindex_inside : g.rindex < im.count
+  pub jindex : IsJindexIn im g.superblock.master.address g.jindex
 
 -- where the system files lie
 abbrev pub layout_of : System → Layout
@@ -99,7 +162,7 @@ layout_of s = record {
   rindex = s.rindex;
   jindex = s.jindex;
   groups = s.groups.items;
-  journals = map (λ (e : Entry). e.addr) s.journals.items;
+  journals = map (λ (e : Link). e.entry.addr) s.journals.items;
 }
 
 -- the dinodes of the master directory, of the list of groups and of the directory of journals are kept
@@ -114,6 +177,7 @@ pub record IsSystemOf (im : Image) (s : System) : Type 0 where
   pub names : HasNames im (layout_of s)
   pub master : HasPlainMaster im (layout_of s)
   pub one_rindex : (d : ℕ) → IsRindex im d → d ≡ s.rindex
+  pub one_jindex : (d : ℕ) → IsJindex im d → d ≡ s.jindex
   pub rindex_record : HasTrueRecord im s.superblock.master.address (codes "rindex") s.rindex
   pub jindex_record : HasTrueRecord im s.superblock.master.address (codes "jindex") s.jindex
   pub master_looked : IsLookedAt im s.superblock.master.address
@@ -123,4 +187,5 @@ pub record IsSystemOf (im : Image) (s : System) : Type 0 where
   pub rindex_headed : HasHeadedContent im s.rindex
   pub master_inside : s.superblock.master.address < im.count
   pub rindex_inside : s.rindex < im.count
+  pub jindex_inside : s.jindex < im.count
   pub journals : AreJournalsOf im s.jindex s.journals.items

@@ -12,8 +12,6 @@ pub enum MountFault {
     Damaged { block: u64, rule: u16 },
     /// The disk failed at this block, and its count for the run's own calls rose so.
     DeviceFault { block: u64, before: u64, after: u64 },
-    /// The directory of journals, whose dinode is in this block, is a hashed one, which is not read yet.
-    NotBuilt { block: u64 },
     NoMemory,
 }
 

@@ -1,11 +1,11 @@
-ghost use Rattle.std.specs.Prelude.{ℕ, ◌≡◌, ◌≢◌, ◌+◌, ◌<◌, ◌≤◌, ◌↔◌, ◌++◌, [], ◌∷◌, List, Contains, length, map, None, Some, IsTrue, OnOk, IfOk, IfErr};
+ghost use Rattle.std.specs.Prelude.{ℕ, ◌≡◌, ◌≢◌, ◌+◌, ◌<◌, ◌≤◌, ◌↔◌, ◌++◌, [], ◌∷◌, List, Contains, length, map, take, slice_get, None, Some, IsTrue, OnOk, IfOk, IfErr};
 ghost use Rattle.std.specs.List.{All};
 ghost use Rattle.gfs2_layout.specs.Device.{superblock_place};
 ghost use Rattle.gfs2_layout.specs.Inode.{Fits};
 ghost use Rattle.gfs2_layout.specs.Journal.{accepted as accepted_at, better as better_of, head_in};
 ghost use Rattle.shared_disk.specs.Disk.{IsIdle};
 ghost use Rattle.shared_disk.specs.Disk.{ReadsOnly};
-ghost use Rattle.glock_names.specs.declared.steps.Entry.{Entry as EntryValue};
+ghost use Rattle.image_mount.specs.declared.listing.Link.{Link as LinkValue};
 ghost use Rattle.image_model.specs.Claims.{every};
 ghost use Rattle.image_model.specs.Image.{Image, image_of};
 ghost use Rattle.image_model.specs.Stands.{Layout, IsJournalAt};
@@ -14,7 +14,7 @@ ghost use Rattle.image_mount.specs.Kept.{seen_of};
 ghost use Rattle.image_mount.specs.Looks.{IsInGroups, IsTrueEntry};
 ghost use Rattle.image_mount.specs.Marked.{AreMarked, IsGrown, IsKept, IsKeptWay, marks_of};
 ghost use Rattle.image_mount.specs.Refusals.{HasLowHead, HasRisen, IsJournalSized, IsReached, LiesWithin, RefusesRightly};
-ghost use Rattle.image_mount.specs.Rings.{AreKeptWays, IsSearched, IsJournalIn, IsNext, HasPlaces, IsPlaceAt, AreBlocksOf, IsRingOf, AreRings, AreJournals, IsHeadOf, all_places, ring_at};
+ghost use Rattle.image_mount.specs.Rings.{AreKeptWays, IsSearched, IsJournalIn, IsNext, HasPlaces, IsPlaceAt, AreBlocksOf, IsRingOf, AreRings, AreJournals, IsHeadOf, IsOwn, all_places, ring_at};
 ghost use Rattle.image_mount.specs.Searching.{IsRead, IsSteady, IsWorking, LacksBlock, StopsRightly};
 ghost use Rattle.image_mount.specs.System.{IsSystemOf};
 
@@ -24,12 +24,13 @@ use crate::field::Field;
 use crate::groups::is_data;
 use crate::inodes::Inode;
 use crate::kept_blocks::KeptBlocks;
+use crate::listing::Link;
 use crate::mounted::JournalMap;
 use crate::stop::{Stop, damaged, outside, reads};
 use crate::system::System;
 use dinode_tree::{Located, locate};
 use gfs2_layout::LogHeader;
-use glock_names::{Entry, Step, View};
+use glock_names::{Step, View};
 use profile_limits::{LEAST_JOURNAL_BLOCKS, MOST_JOURNAL_BLOCKS};
 use shared_disk::SharedDisk;
 use std::alloc::Global;
@@ -46,15 +47,15 @@ pub(crate) struct Ring {
 }
 
 // How many places a journal has, which is a file of whole blocks.
-fn place_count(table: &KeptBlocks, jindex: u64, journal: &Entry) -> Result<u64, Stop>
-    ensures found { (im : Image) → IsRead im table.now → IfOk result (HasPlaces im journal.now.addr) }
-    ensures repeats { (im : Image) → IsRead im table.now → OnOk result (IsTrueEntry im journal.now) }
-    ensures there { OnOk result (IsKept table.now journal.now.addr) }
-    ensures stops { (im : Image) → IsRead im table.now → IsJournalIn im jindex journal.now → IfErr result (StopsRightly im) }
+fn place_count(table: &KeptBlocks, journal: &Link) -> Result<u64, Stop>
+    ensures found { (im : Image) → IsRead im table.now → IfOk result (HasPlaces im journal.now.entry.addr) }
+    ensures repeats { (im : Image) → IsRead im table.now → OnOk result (IsTrueEntry im journal.now.entry) }
+    ensures there { OnOk result (IsKept table.now journal.now.entry.addr) }
+    ensures stops { (im : Image) → IsRead im table.now → IsJournalIn im journal.now → IfErr result (StopsRightly im) }
     ensures lacks { IfErr result (LacksBlock table.now) }
 {
-    let inode = Inode::read(table, jindex, journal.addr)?;
-    inode.check_record(journal)?;
+    let inode = Inode::read(table, journal.from, journal.entry.addr)?;
+    inode.check_record(&journal.entry)?;
     let size = table.block_size();
     if inode.dinode.is_directory() {
         inode.check_directory(size)?;
@@ -73,26 +74,25 @@ fn count_places<D: SharedDisk>(
     alloc: Global,
     disk: &mut D,
     table: &mut KeptBlocks,
-    jindex: u64,
-    journal: &Entry,
+    journal: &Link,
 ) -> Result<u64, MountFault>
     requires work { IsWorking (D.state disk.old) table.old }
-    ensures there { OnOk result (IsKept table.new journal.now.addr) }
+    ensures there { OnOk result (IsKept table.new journal.now.entry.addr) }
     ensures work { OnOk result (IsWorking (D.state disk.new) table.new) }
     ensures grown { OnOk result (IsGrown table.old table.new) }
     ensures places { table.new.places ≡ table.old.places }
-    ensures found { IfOk result (λ places. IsTrue (D.state disk.old).tells → HasPlaces (image_of (D.state disk.old)) journal.now.addr places) }
-    ensures repeats { OnOk result (IsTrue (D.state disk.old).tells → IsTrueEntry (image_of (D.state disk.old)) journal.now) }
-    ensures searched { OnOk result ((done : List ℕ) (d n : ℕ) → IsTrue (D.state disk.old).tells → IsJournalIn (image_of (D.state disk.old)) jindex journal.now → IsSearched (image_of (D.state disk.old)) done d n table.old
+    ensures found { IfOk result (λ places. IsTrue (D.state disk.old).tells → HasPlaces (image_of (D.state disk.old)) journal.now.entry.addr places) }
+    ensures repeats { OnOk result (IsTrue (D.state disk.old).tells → IsTrueEntry (image_of (D.state disk.old)) journal.now.entry) }
+    ensures searched { OnOk result ((done : List ℕ) (d n : ℕ) → IsTrue (D.state disk.old).tells → IsJournalIn (image_of (D.state disk.old)) journal.now → IsSearched (image_of (D.state disk.old)) done d n table.old
         → IsSearched (image_of (D.state disk.old)) done d n table.new) }
-    ensures refused { (done : List ℕ) (d n : ℕ) → IsTrue (D.state disk.old).tells → IsJournalIn (image_of (D.state disk.old)) jindex journal.now → IsSearched (image_of (D.state disk.old)) done d n table.old
+    ensures refused { (done : List ℕ) (d n : ℕ) → IsTrue (D.state disk.old).tells → IsJournalIn (image_of (D.state disk.old)) journal.now → IsSearched (image_of (D.state disk.old)) done d n table.old
         → IfErr result (RefusesRightly (image_of (D.state disk.old))) }
     ensures risen { IfErr result (HasRisen (D.faults disk.old) (D.faults disk.new)) }
     ensures within { IfErr result (LiesWithin (D.state disk.old).count) }
     ensures reads { ReadsOnly (D.state disk.old) (D.state disk.new) (D.list disk.old) (D.list disk.new) (D.faults disk.old) (D.faults disk.new) }
 {
     loop {
-        match place_count(table, jindex, journal) {
+        match place_count(table, journal) {
             Ok(places) => return Ok(places),
             Err(stop) => go_on(alloc, disk, table, stop)?,
         }
@@ -100,18 +100,18 @@ fn count_places<D: SharedDisk>(
 }
 
 // The block at a place of a journal, which has no hole.
-fn block_at(table: &KeptBlocks, jindex: u64, journal: &Entry, place: u64) -> Result<Located, Stop>
-    ensures found { (im : Image) → IsRead im table.now → IfOk result (IsPlaceAt im journal.now.addr place) }
-    ensures ways { (im : Image) → IsRead im table.now → IsKept table.now journal.now.addr → OnOk result (IsKeptWay table.now (every im journal.now.addr) place) }
-    ensures stops { (im : Image) (places : ℕ) → IsRead im table.now → IsJournalIn im jindex journal.now → HasPlaces im journal.now.addr places → place < places → IfErr result (StopsRightly im) }
+fn block_at(table: &KeptBlocks, journal: &Link, place: u64) -> Result<Located, Stop>
+    ensures found { (im : Image) → IsRead im table.now → IfOk result (IsPlaceAt im journal.now.entry.addr place) }
+    ensures ways { (im : Image) → IsRead im table.now → IsKept table.now journal.now.entry.addr → OnOk result (IsKeptWay table.now (every im journal.now.entry.addr) place) }
+    ensures stops { (im : Image) (places : ℕ) → IsRead im table.now → IsJournalIn im journal.now → HasPlaces im journal.now.entry.addr places → place < places → IfErr result (StopsRightly im) }
     ensures lacks { IfErr result (LacksBlock table.now) }
 {
-    match locate(table, journal.addr, place)? {
+    match locate(table, journal.entry.addr, place)? {
         Step::Is(Some(located)) => Ok(located),
-        Step::Is(None) => Err(Stop::Refused(damaged(journal.addr, 8))),
-        Step::NeedBlock(missing) if missing.block == journal.addr => Err(Stop::Reads {
-            block: journal.addr,
-            from: jindex,
+        Step::Is(None) => Err(Stop::Refused(damaged(journal.entry.addr, 8))),
+        Step::NeedBlock(missing) if missing.block == journal.entry.addr => Err(Stop::Reads {
+            block: journal.entry.addr,
+            from: journal.from,
         }),
         Step::NeedBlock(missing) => Err(reads(&missing)),
     }
@@ -121,26 +121,25 @@ fn find_block<D: SharedDisk>(
     alloc: Global,
     disk: &mut D,
     table: &mut KeptBlocks,
-    jindex: u64,
-    journal: &Entry,
+    journal: &Link,
     place: u64,
 ) -> Result<Located, MountFault>
     requires work { IsWorking (D.state disk.old) table.old }
     ensures work { OnOk result (IsWorking (D.state disk.new) table.new) }
     ensures grown { OnOk result (IsGrown table.old table.new) }
-    ensures ways { OnOk result (IsTrue (D.state disk.old).tells → IsKept table.old journal.now.addr → IsKeptWay table.new (every (image_of (D.state disk.old)) journal.now.addr) place) }
+    ensures ways { OnOk result (IsTrue (D.state disk.old).tells → IsKept table.old journal.now.entry.addr → IsKeptWay table.new (every (image_of (D.state disk.old)) journal.now.entry.addr) place) }
     ensures places { table.new.places ≡ table.old.places }
-    ensures found { IfOk result (λ located. IsTrue (D.state disk.old).tells → IsPlaceAt (image_of (D.state disk.old)) journal.now.addr place located) }
-    ensures searched { OnOk result ((done : List ℕ) (d n places : ℕ) → IsTrue (D.state disk.old).tells → IsJournalIn (image_of (D.state disk.old)) jindex journal.now → HasPlaces (image_of (D.state disk.old)) journal.now.addr places → place < places
+    ensures found { IfOk result (λ located. IsTrue (D.state disk.old).tells → IsPlaceAt (image_of (D.state disk.old)) journal.now.entry.addr place located) }
+    ensures searched { OnOk result ((done : List ℕ) (d n places : ℕ) → IsTrue (D.state disk.old).tells → IsJournalIn (image_of (D.state disk.old)) journal.now → HasPlaces (image_of (D.state disk.old)) journal.now.entry.addr places → place < places
         → IsSearched (image_of (D.state disk.old)) done d n table.old → IsSearched (image_of (D.state disk.old)) done d n table.new) }
-    ensures refused { (done : List ℕ) (d n places : ℕ) → IsTrue (D.state disk.old).tells → IsJournalIn (image_of (D.state disk.old)) jindex journal.now → HasPlaces (image_of (D.state disk.old)) journal.now.addr places → place < places
+    ensures refused { (done : List ℕ) (d n places : ℕ) → IsTrue (D.state disk.old).tells → IsJournalIn (image_of (D.state disk.old)) journal.now → HasPlaces (image_of (D.state disk.old)) journal.now.entry.addr places → place < places
         → IsSearched (image_of (D.state disk.old)) done d n table.old → IfErr result (RefusesRightly (image_of (D.state disk.old))) }
     ensures risen { IfErr result (HasRisen (D.faults disk.old) (D.faults disk.new)) }
     ensures within { IfErr result (LiesWithin (D.state disk.old).count) }
     ensures reads { ReadsOnly (D.state disk.old) (D.state disk.new) (D.list disk.old) (D.list disk.new) (D.faults disk.old) (D.faults disk.new) }
 {
     loop {
-        match block_at(table, jindex, journal, place) {
+        match block_at(table, journal, place) {
             Ok(located) => return Ok(located),
             Err(stop) => go_on(alloc, disk, table, stop)?,
         }
@@ -154,8 +153,8 @@ fn check_place(table: &KeptBlocks, system: &System, located: &Located) -> Result
     ensures unmarked { OnOk result (marks_of table.now located.now.block ≡ 0) }
     ensures free { OnOk result ((seen_of table.now).block_at located.now.block ≡ None) }
     ensures apart { OnOk result ((im : Image) → IsSystemOf im system.now → located.now.block ≢ superblock_place im.size) }
-    ensures refused { (im : Image) (done : List ℕ) (journal : EntryValue) (place : ℕ) → IsRead im table.now → IsNext im done system.now journal → IsSearched im done journal.addr place table.now
-        → IsPlaceAt im journal.addr place located.now → IfErr result (RefusesRightly im) }
+    ensures refused { (im : Image) (done : List ℕ) (journal : LinkValue) (place : ℕ) → IsRead im table.now → IsNext im done system.now journal → IsSearched im done journal.entry.addr place table.now
+        → IsPlaceAt im journal.entry.addr place located.now → IfErr result (RefusesRightly im) }
     ensures steady { IfErr result IsSteady }
 {
     if located.block >= table.count() || !is_data(&system.groups, located.block) {
@@ -173,19 +172,19 @@ fn find_blocks<D: SharedDisk>(
     disk: &mut D,
     table: &mut KeptBlocks,
     system: &System,
-    journal: &Entry,
+    journal: &Link,
     places: u64,
 ) -> Result<Vec<u64>, MountFault>
     requires work { IsWorking (D.state disk.old) table.old }
     ensures work { OnOk result (IsWorking (D.state disk.new) table.new) }
     ensures grown { OnOk result (IsGrown table.old table.new) }
-    ensures ways { OnOk result (IsTrue (D.state disk.old).tells → IsKept table.old journal.now.addr → (p : ℕ) → p < places → IsKeptWay table.new (every (image_of (D.state disk.old)) journal.now.addr) p) }
-    ensures found { IfOk result (λ blocks. (done : List ℕ) → IsTrue (D.state disk.old).tells → IsNext (image_of (D.state disk.old)) done system.now journal.now → HasPlaces (image_of (D.state disk.old)) journal.now.addr places
-        → IsSearched (image_of (D.state disk.old)) done journal.now.addr 0 table.old → AreBlocksOf (image_of (D.state disk.old)) journal.now.addr places blocks.items) }
-    ensures searched { OnOk result ((done : List ℕ) → IsTrue (D.state disk.old).tells → IsNext (image_of (D.state disk.old)) done system.now journal.now → HasPlaces (image_of (D.state disk.old)) journal.now.addr places
-        → IsSearched (image_of (D.state disk.old)) done journal.now.addr 0 table.old → IsSearched (image_of (D.state disk.old)) done journal.now.addr places table.new) }
-    ensures refused { (done : List ℕ) → IsTrue (D.state disk.old).tells → IsNext (image_of (D.state disk.old)) done system.now journal.now → HasPlaces (image_of (D.state disk.old)) journal.now.addr places
-        → IsSearched (image_of (D.state disk.old)) done journal.now.addr 0 table.old → IfErr result (RefusesRightly (image_of (D.state disk.old))) }
+    ensures ways { OnOk result (IsTrue (D.state disk.old).tells → IsKept table.old journal.now.entry.addr → (p : ℕ) → p < places → IsKeptWay table.new (every (image_of (D.state disk.old)) journal.now.entry.addr) p) }
+    ensures found { IfOk result (λ blocks. (done : List ℕ) → IsTrue (D.state disk.old).tells → IsNext (image_of (D.state disk.old)) done system.now journal.now → HasPlaces (image_of (D.state disk.old)) journal.now.entry.addr places
+        → IsSearched (image_of (D.state disk.old)) done journal.now.entry.addr 0 table.old → AreBlocksOf (image_of (D.state disk.old)) journal.now.entry.addr places blocks.items) }
+    ensures searched { OnOk result ((done : List ℕ) → IsTrue (D.state disk.old).tells → IsNext (image_of (D.state disk.old)) done system.now journal.now → HasPlaces (image_of (D.state disk.old)) journal.now.entry.addr places
+        → IsSearched (image_of (D.state disk.old)) done journal.now.entry.addr 0 table.old → IsSearched (image_of (D.state disk.old)) done journal.now.entry.addr places table.new) }
+    ensures refused { (done : List ℕ) → IsTrue (D.state disk.old).tells → IsNext (image_of (D.state disk.old)) done system.now journal.now → HasPlaces (image_of (D.state disk.old)) journal.now.entry.addr places
+        → IsSearched (image_of (D.state disk.old)) done journal.now.entry.addr 0 table.old → IfErr result (RefusesRightly (image_of (D.state disk.old))) }
     ensures inside { IfOk result (λ blocks. All (λ b. b < (D.state disk.old).count) blocks.items) }
     ensures placed { IfOk result (λ blocks. All (IsInGroups system.now.groups.items) blocks.items) }
     ensures marked { IfOk result (λ blocks. AreMarked table.old table.new blocks.items) }
@@ -196,7 +195,7 @@ fn find_blocks<D: SharedDisk>(
 {
     let mut blocks = Vec::with_capacity(alloc, places as usize)?;
     for place in 0..places {
-        let located = find_block(alloc, disk, table, system.jindex, journal, place)?;
+        let located = find_block(alloc, disk, table, journal, place)?;
         check_place(table, system, &located)?;
         table.mark(located.block);
         blocks.push(located.block)?;
@@ -222,19 +221,19 @@ fn find_ring<D: SharedDisk>(
     disk: &mut D,
     table: &mut KeptBlocks,
     system: &System,
-    journal: &Entry,
+    journal: &Link,
 ) -> Result<Ring, MountFault>
     requires work { IsWorking (D.state disk.old) table.old }
-    ensures there { OnOk result (IsKept table.new journal.now.addr) }
+    ensures there { OnOk result (IsKept table.new journal.now.entry.addr) }
     ensures work { OnOk result (IsWorking (D.state disk.new) table.new) }
     ensures grown { OnOk result (IsGrown table.old table.new) }
-    ensures ways { IfOk result (λ ring. IsTrue (D.state disk.old).tells → AreKeptWays (image_of (D.state disk.old)) table.new journal.now.addr ring.blocks.items) }
-    ensures dinode { IfOk result (λ ring. ring.dinode ≡ journal.now.addr) }
-    ensures repeats { OnOk result (IsTrue (D.state disk.old).tells → IsTrueEntry (image_of (D.state disk.old)) journal.now) }
+    ensures ways { IfOk result (λ ring. IsTrue (D.state disk.old).tells → AreKeptWays (image_of (D.state disk.old)) table.new journal.now.entry.addr ring.blocks.items) }
+    ensures dinode { IfOk result (λ ring. ring.dinode ≡ journal.now.entry.addr) }
+    ensures repeats { OnOk result (IsTrue (D.state disk.old).tells → IsTrueEntry (image_of (D.state disk.old)) journal.now.entry) }
     ensures found { IfOk result (λ ring. (done : List ℕ) → IsTrue (D.state disk.old).tells → IsNext (image_of (D.state disk.old)) done system.now journal.now → IsSearched (image_of (D.state disk.old)) done 0 0 table.old
-        → IsRingOf (image_of (D.state disk.old)) journal.now.addr ring.blocks.items) }
+        → IsRingOf (image_of (D.state disk.old)) journal.now.entry.addr ring.blocks.items) }
     ensures searched { OnOk result ((done : List ℕ) → IsTrue (D.state disk.old).tells → IsNext (image_of (D.state disk.old)) done system.now journal.now → IsSearched (image_of (D.state disk.old)) done 0 0 table.old
-        → IsSearched (image_of (D.state disk.old)) (done ++ journal.now.addr ∷ []) 0 0 table.new) }
+        → IsSearched (image_of (D.state disk.old)) (done ++ journal.now.entry.addr ∷ []) 0 0 table.new) }
     ensures refused { (done : List ℕ) → IsTrue (D.state disk.old).tells → IsNext (image_of (D.state disk.old)) done system.now journal.now → IsSearched (image_of (D.state disk.old)) done 0 0 table.old → IfErr result (RefusesRightly (image_of (D.state disk.old))) }
     ensures inside { IfOk result (λ ring. All (λ b. b < (D.state disk.old).count) ring.blocks.items) }
     ensures placed { IfOk result (λ ring. All (IsInGroups system.now.groups.items) ring.blocks.items) }
@@ -243,10 +242,35 @@ fn find_ring<D: SharedDisk>(
     ensures within { IfErr result (LiesWithin (D.state disk.old).count) }
     ensures reads { ReadsOnly (D.state disk.old) (D.state disk.new) (D.list disk.old) (D.list disk.new) (D.faults disk.old) (D.faults disk.new) }
 {
-    let dinode = journal.addr;
-    let places = count_places(alloc, disk, table, system.jindex, journal)?;
+    let dinode = journal.entry.addr;
+    let places = count_places(alloc, disk, table, journal)?;
     let blocks = find_blocks(alloc, disk, table, system, journal, places)?;
     Ok(Ring { dinode, blocks })
+}
+
+// That this block of a journal's dinode is none of another system file's, nor that of a journal before it.
+fn check_dinode(system: &System, rings: &[Ring], addr: u64) -> Result<(), MountFault>
+    ensures own { OnOk result (IsOwn system.now addr) }
+    ensures new { OnOk result (¬ (Contains (map (λ (ring : Ring). ring.dinode) rings.now) addr)) }
+    ensures refused { (im : Image) (j : ℕ) (journal : LinkValue) → IsSystemOf im system.now → AreRings im (take j system.now.journals.items) rings.now → slice_get system.now.journals.items j ≡ Some journal → journal.entry.addr ≡ addr
+        → IfErr result (RefusesRightly im) }
+    ensures steady { IfErr result IsSteady }
+    ensures risen { (f g : ℕ → ℕ) → IfErr result (HasRisen f g) }
+    ensures within { (count : ℕ) → IfErr result (LiesWithin count) }
+{
+    if addr == system.superblock.master.address {
+        return Err(damaged(addr, 3));
+    }
+    if addr == system.rindex {
+        return Err(damaged(addr, 3));
+    }
+    if addr == system.jindex {
+        return Err(damaged(addr, 3));
+    }
+    if has_dinode(rings, addr) {
+        return Err(damaged(addr, 3));
+    }
+    Ok(())
 }
 
 /// Where the journals lie, each in turn.
@@ -265,7 +289,7 @@ pub(crate) fn find_rings<D: SharedDisk>(
     ensures refused { IsTrue (D.state disk.old).tells → IsSystemOf (image_of (D.state disk.old)) system.now → IsSearched (image_of (D.state disk.old)) [] 0 0 table.old → IfErr result (RefusesRightly (image_of (D.state disk.old))) }
     ensures inside { IfOk result (λ rings. All (λ (ring : Ring). All (λ b. b < (D.state disk.old).count) ring.blocks.items) rings.items) }
     ensures placed { IfOk result (λ rings. All (λ (ring : Ring). All (IsInGroups system.now.groups.items) ring.blocks.items) rings.items) }
-    ensures own { IfOk result (λ rings. All (λ (ring : Ring). (ring.dinode ≢ system.now.superblock.master.address) × (ring.dinode ≢ system.now.rindex)) rings.items) }
+    ensures own { IfOk result (λ rings. All (λ (ring : Ring). IsOwn system.now ring.dinode) rings.items) }
     ensures marked { IfOk result (λ rings. AreMarked table.old table.new (all_places rings.items)) }
     ensures risen { IfErr result (HasRisen (D.faults disk.old) (D.faults disk.new)) }
     ensures within { IfErr result (LiesWithin (D.state disk.old).count) }
@@ -273,12 +297,7 @@ pub(crate) fn find_rings<D: SharedDisk>(
 {
     let mut rings = Vec::new(alloc);
     for journal in &system.journals {
-        if journal.addr == system.superblock.master.address {
-            return Err(damaged(journal.addr, 3));
-        }
-        if journal.addr == system.rindex || has_dinode(&rings, journal.addr) {
-            return Err(damaged(journal.addr, 3));
-        }
+        check_dinode(system, &rings, journal.entry.addr)?;
         let ring = find_ring(alloc, disk, table, system, journal)?;
         rings.push(ring)?;
     }

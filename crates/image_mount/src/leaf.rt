@@ -1,4 +1,4 @@
-ghost use Rattle.std.specs.Prelude.{◌≡◌, ◌+◌, ◌≤◌, IfSome, vec_len};
+ghost use Rattle.std.specs.Prelude.{◌≡◌, ◌+◌, ◌*◌, ◌≤◌, IfSome, vec_len};
 ghost use Rattle.std.proofs.Props.{props};
 
 use crate::listing::Named;
@@ -28,14 +28,26 @@ pub(crate) struct LeafLink {
     pub tail: Option<LeafAt>,
 }
 
-/// A walk over the leaves of the master directory, which is a hashed one: what claims each block, as far as it came; the
-/// records that it found; the next pointer of the table; and the leaf whose next it hasn't looked for.
+/// Which names are looked for in a directory beside `.` and `..`: `jindex` and `rindex`, or those of journals.
+#[derive(Clone, Copy, Debug, PartialEq, Eq)]
+pub(crate) enum Names {
+    Files,
+    Journals,
+}
+
+/// A walk over the leaves of a directory of the system, which is a hashed one: the block of its dinode; which names are
+/// looked for; what claims each block, as far as it came; the records of these names that it found, and how many records have
+/// others; the next pointer of the table; and the leaf whose next it hasn't looked for.
 #[derive(Drop)]
 pub(crate) struct LeafWalk {
+    pub directory: u64,
+    pub names: Names,
     pub owners: Owners<'static>,
     pub records: Vec<Named<'static>>,
+    pub others: u64,
     pub index: u64,
     pub tail: Option<LeafAt>,
     ghost behind: { IfSome tail (λ at. at.behind ≡ index) } by { Prim.hlevel props },
     ghost short: { IfSome tail (λ at. at.place + owners.free ≤ vec_len owners.entries) } by { Prim.hlevel props },
+    ghost many: { others + 65536 * owners.free ≤ 65536 * vec_len owners.entries },
 }

@@ -9,20 +9,23 @@ ghost use Rattle.image_model.specs.Image.{Image};
 ghost use Rattle.image_model.specs.Rules.{HasRecordIn};
 ghost use Rattle.gfs2_layout.specs.Records.{Record};
 ghost use Rattle.image_mount.specs.Found.{HasFormat, is_other, first_other as first_other_in};
-ghost use Rattle.image_mount.specs.Leaves.{HasHashOf, IsMasterIn, IsTableOf, IsLeafHead, IsLeafIn, IsLinkOf, IsPointed, IsFirstTold, IsNextLeaf, IsWalked, ComesNext, HasEnded, steps_left};
+ghost use Rattle.image_mount.specs.Leaves.{HasHashOf, IsSystemDirectory, IsTableOf, IsTold, IsLeafHead, IsLeafIn, IsLinkOf, IsPointed, IsFirstTold, IsNextLeaf, IsWalked, ComesNext, HasEnded, steps_left};
 ghost use Rattle.image_mount.specs.Listing.{said, standing, AreDistinct};
 ghost use Rattle.image_mount.specs.Looks.{IsSoundArea};
 ghost use Rattle.image_mount.specs.Refusals.{RefusesRightly};
 ghost use Rattle.image_mount.specs.Searching.{IsRead, IsSteady, IsWanted, StopsRightly, LacksBlock};
+ghost use Rattle.image_mount.specs.Sifting.{AreAdded};
 ghost use Rattle.image_mount.specs.declared.inodes.Inode.{Inode as InodeValue};
+ghost use Rattle.image_mount.specs.declared.leaf.LeafAt.{LeafAt as LeafAtValue};
 
 use crate::fault::MountFault;
 use crate::field::Field;
 use crate::groups::read_whole;
 use crate::inodes::Inode;
 use crate::kept_blocks::KeptBlocks;
-use crate::leaf::{LeafAt, LeafLink, LeafWalk};
+use crate::leaf::{LeafAt, LeafLink, LeafWalk, Names};
 use crate::listing::{Named, check_names, check_twice, find, first_other, read_area};
+use crate::sifting::sift;
 use crate::stop::{Stop, damaged, outside, reads};
 use crc_words::crc32;
 use dinode_tree::locate;
@@ -34,14 +37,14 @@ use std::alloc::Global;
 // Where the records of a leaf begin.
 const IN_LEAF: usize = 104;
 
-/// The table of the master directory, which is a hashed one.
+/// The table of a directory of the system, which is a hashed one.
 pub(crate) fn read_pointers(
     alloc: Global,
     table: &KeptBlocks,
     inode: &Inode,
 ) -> Result<HashTable, Stop>
-    ensures found { (im : Image) → IsRead im table.now → IsMasterIn im inode.now → is_hashed_in (every im inode.now.block) ≡ true → IfOk result (IsTableOf im inode.now) }
-    ensures stops { (im : Image) → IsRead im table.now → IsMasterIn im inode.now → is_hashed_in (every im inode.now.block) ≡ true → IfErr result (StopsRightly im) }
+    ensures found { (im : Image) → IsRead im table.now → IsSystemDirectory im inode.now → is_hashed_in (every im inode.now.block) ≡ true → IfOk result (IsTableOf im inode.now) }
+    ensures stops { (im : Image) → IsRead im table.now → IsSystemDirectory im inode.now → is_hashed_in (every im inode.now.block) ≡ true → IfErr result (StopsRightly im) }
     ensures lacks { IfErr result (LacksBlock table.now) }
 {
     // Looked at once more, so that its size is that of what is kept.
@@ -163,6 +166,7 @@ fn leaf_of_pointer(pointers: &HashTable, i: u64, bytes: &[u8]) -> Result<LeafAt,
 // That a leaf's records are as many as its head says.
 fn check_entries(records: &[Named<'_>], at: &LeafAt) -> Result<(), MountFault>
     ensures counted { OnOk result (length records.now ≡ at.now.head.entries) }
+    ensures few { OnOk result (length records.now < 65536) }
     ensures refused { (im : Image) (a : ℕ) → HasFormat im → IsLeafIn im a at.now → map said records.now ≡ records_in (drop 104 (im.at at.now.block)) → IfErr result (RefusesRightly im) }
     ensures steady { IfErr result IsSteady }
 {
@@ -197,6 +201,7 @@ fn leaf_records<'a>(
     ensures found { IfOk result (λ records. map said records.items ≡ records_in (drop 104 bytes.now)) }
     ensures here { IfOk result (λ records. All (λ n. n.block ≡ at.now.block) records.items) }
     ensures distinct { IfOk result (λ records. AreDistinct (map said records.items)) }
+    ensures few { IfOk result (λ records. length records.items < 65536) }
     ensures sound { OnOk result (IsSoundArea (drop 104 bytes.now)) }
     ensures leaf { (im : Image) (a : ℕ) → IsLeafIn im a at.now → im.at at.now.block ≡ bytes.now → OnOk result (IsLeaf (every im a) at.now.hash at.now.block) }
     ensures refused { (im : Image) (a : ℕ) → HasFormat im → IsLeafIn im a at.now → im.at at.now.block ≡ bytes.now → IfErr result (RefusesRightly im) }
@@ -210,30 +215,27 @@ fn leaf_records<'a>(
     Ok(records)
 }
 
-// One of the four names that a master directory has.
-fn system_name(name: &[u8]) -> &'static [u8]
-    requires { (r : Record) → r.name ≡ name.now → is_other r ≡ false }
-    ensures { result.now ≡ name.now }
+// In the master directory, that the records of a leaf are those of system files.
+fn check_files(names: Names, records: &[Named<'_>]) -> Result<(), MountFault>
+    ensures plain { OnOk result (names ≡ Names.Files → first_other_in (map said records.now) ≡ None) }
+    ensures refused { (im : Image) (a : ℕ) (at : LeafAtValue) → IsTold im names a at → map said records.now ≡ records_in (drop 104 (im.at at.block)) → IfErr result (RefusesRightly im) }
+    ensures steady { IfErr result IsSteady }
 {
-    if name == b".".as_slice() {
-        return b".";
+    match names {
+        Names::Files => match first_other(records) {
+            Some(other) => Err(outside(Field::Master, other)),
+            None => Ok(()),
+        },
+        Names::Journals => Ok(()),
     }
-    if name == b"..".as_slice() {
-        return b"..";
-    }
-    if name == b"jindex".as_slice() {
-        return b"jindex";
-    }
-    b"rindex"
 }
 
 // Adds the records of a leaf to those of others. No name comes twice.
 fn add_records(
     found: &mut Vec<Named<'static>>,
-    records: &[Named<'_>],
+    records: &[Named<'static>],
     block: u64,
 ) -> Result<(), MountFault>
-    requires { All (λ n. is_other (said n) ≡ false) records.now }
     ensures added { OnOk result (map standing found.new.items ≡ map standing found.old.items ++ map standing records.now) }
     ensures distinct { AreDistinct (map said found.old.items) → OnOk result (AreDistinct (map said found.new.items)) }
     ensures refused { (im : Image) (a : ℕ) → HasFormat im → block < im.count → All (λ n. HasRecordIn im a n.block (said n) × (n.block ≢ block)) found.old.items → All (λ n. HasRecordIn im a block (said n)) records.now
@@ -244,42 +246,48 @@ fn add_records(
         if find(found, record.name).is_some() {
             return Err(damaged(block, 10));
         }
-        found.push(Named {
-            name: system_name(record.name),
-            entry: record.entry,
-            block: record.block,
-        })?;
+        found.push(*record)?;
     }
     Ok(())
 }
 
-// Adds the records of a leaf, which has these bytes, to those of others.
+// Adds the records of a leaf, which has these bytes, to those of others: those of names that are looked for. How many have others.
 fn add_leaf(
     alloc: Global,
+    names: Names,
     found: &mut Vec<Named<'static>>,
     bytes: &[u8],
     at: &LeafAt,
-) -> Result<(), MountFault>
+) -> Result<u64, MountFault>
     requires { 104 ≤ length bytes.now }
-    ensures added { OnOk result (map standing found.new.items ≡ map standing found.old.items ++ map (λ r. (r, at.now.block)) (records_in (drop 104 bytes.now))) }
-    ensures plain { OnOk result (first_other_in (records_in (drop 104 bytes.now)) ≡ None) }
+    ensures added { IfOk result (AreAdded names found.old.items found.new.items at.now.block (records_in (drop 104 bytes.now))) }
+    ensures few { IfOk result (λ others. others < 65536) }
+    ensures plain { OnOk result (names ≡ Names.Files → first_other_in (records_in (drop 104 bytes.now)) ≡ None) }
+    ensures files { IfOk result (λ others. names ≡ Names.Files → others ≡ 0) }
     ensures sound { OnOk result (IsSoundArea (drop 104 bytes.now)) }
     ensures leaf { (im : Image) (a : ℕ) → IsLeafIn im a at.now → im.at at.now.block ≡ bytes.now → OnOk result (IsLeaf (every im a) at.now.hash at.now.block) }
     ensures distinct { AreDistinct (map said found.old.items) → OnOk result (AreDistinct (map said found.new.items)) }
-    ensures refused { (im : Image) → IsFirstTold im at.now → im.at at.now.block ≡ bytes.now → All (λ n. HasRecordIn im (master_of im) n.block (said n) × (n.block ≢ at.now.block)) found.old.items → IfErr result (RefusesRightly im) }
+    ensures refused { (im : Image) (a : ℕ) → IsTold im names a at.now → im.at at.now.block ≡ bytes.now → All (λ n. HasRecordIn im a n.block (said n) × (n.block ≢ at.now.block)) found.old.items → IfErr result (RefusesRightly im) }
     ensures steady { IfErr result IsSteady }
 {
     let records = leaf_records(alloc, bytes, at)?;
-    if let Some(other) = first_other(&records) {
-        return Err(outside(Field::Master, other));
-    }
-    add_records(found, &records, at.block)
+    check_files(names, &records)?;
+    let sifted = sift(alloc, names, &records)?;
+    add_records(found, &sifted.records, at.block)?;
+    Ok(sifted.others)
 }
 
 impl LeafWalk {
-    /// Nothing is come to on a device of so many blocks.
-    pub fn new(alloc: Global, count: u64) -> Result<LeafWalk, MountFault>
+    /// Nothing is come to on a device of so many blocks, in the directory with its dinode in this block.
+    pub fn new(
+        alloc: Global,
+        count: u64,
+        directory: u64,
+        names: Names,
+    ) -> Result<LeafWalk, MountFault>
         ensures walked { (im : Image) (a : ℕ) → IfOk result (IsWalked im a) }
+        ensures directory { IfOk result (λ walk. walk.directory ≡ directory) }
+        ensures names { IfOk result (λ walk. walk.names ≡ names) }
         ensures count { IfOk result (λ walk. vec_len walk.owners.entries ≡ count) }
         ensures index { IfOk result (λ walk. walk.index ≡ 0) }
         ensures memory { IfErr result (λ fault. fault ≡ MountFault.NoMemory) }
@@ -287,8 +295,11 @@ impl LeafWalk {
     {
         let owners = Owners::new(alloc, count as usize)?;
         Ok(LeafWalk {
+            directory,
+            names,
             owners,
             records: Vec::new(alloc),
+            others: 0,
             index: 0,
             tail: None,
         })
@@ -358,28 +369,24 @@ impl LeafWalk {
         }
     }
 
-    /// Comes to a leaf, which has these bytes: claims it for the directory with its dinode in block `master` and, where that
-    /// is new, adds its records.
-    pub fn enter(
-        &mut self,
-        alloc: Global,
-        master: u64,
-        bytes: &[u8],
-        at: &LeafAt,
-    ) -> Result<(), MountFault>
+    /// Comes to a leaf, which has these bytes: claims it for the directory and, where that is new, adds its records.
+    pub fn enter(&mut self, alloc: Global, bytes: &[u8], at: &LeafAt) -> Result<(), MountFault>
         requires inside { at.now.block < vec_len self.old.owners.entries }
+        requires count { vec_len self.old.owners.entries ≤ 2 ^ 32 }
         requires whole { 104 ≤ length bytes.now }
         requires short { at.now.place + self.old.owners.free ≤ vec_len self.old.owners.entries + 1 }
         requires on { ((is_some self.old.tail ≡ true) × (at.now.behind ≡ self.old.index)) ⊎ (self.old.index < at.now.behind) }
-        ensures walked { (im : Image) → IsNextLeaf im self.old at.now → master ≡ master_of im → im.at at.now.block ≡ bytes.now → OnOk result (IsWalked im (master_of im) self.new) }
-        ensures refused { (im : Image) → IsNextLeaf im self.old at.now → master ≡ master_of im → im.at at.now.block ≡ bytes.now → IfErr result (RefusesRightly im) }
+        ensures walked { (im : Image) → IsNextLeaf im self.old at.now → im.at at.now.block ≡ bytes.now → OnOk result (IsWalked im self.old.directory self.new) }
+        ensures refused { (im : Image) → IsNextLeaf im self.old at.now → im.at at.now.block ≡ bytes.now → IfErr result (RefusesRightly im) }
+        ensures directory { self.new.directory ≡ self.old.directory }
+        ensures names { self.new.names ≡ self.old.names }
         ensures falls { (count : ℕ) → at.now.behind ≤ count → OnOk result (steps_left self.new count < steps_left self.old count) }
         ensures count { vec_len self.new.owners.entries ≡ vec_len self.old.owners.entries }
         ensures index { OnOk result (self.new.index ≡ at.now.behind) }
         ensures steady { IfErr result IsSteady }
     {
         let claim = Claim::Chained {
-            directory: master,
+            directory: self.directory,
             hash: at.hash,
             place: at.place,
         };
@@ -388,7 +395,8 @@ impl LeafWalk {
             self.index = at.behind;
             return Ok(());
         }
-        add_leaf(alloc, &mut self.records, bytes, at)?;
+        let others = add_leaf(alloc, self.names, &mut self.records, bytes, at)?;
+        self.others += others;
         self.tail = Some(*at);
         self.index = at.behind;
         Ok(())

@@ -7,6 +7,7 @@ mod field;
 mod formats;
 mod groups;
 mod inodes;
+mod jindex;
 mod journals;
 mod kept_blocks;
 mod laws;
@@ -16,8 +17,10 @@ mod listing;
 mod master;
 mod mounted;
 mod mounting;
+mod sifting;
 mod stop;
 mod system;
+mod walking;
 
 pub use fault::MountFault;
 pub use field::Field;

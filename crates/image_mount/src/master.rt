@@ -14,17 +14,16 @@ ghost use Rattle.profile_limits.specs.Limits.{most_blocks};
 ghost use Rattle.shared_disk.specs.Disk.{ReadsOnly};
 
 use crate::fault::MountFault;
-use crate::fetching::{go_on, read_leaf};
+use crate::fetching::go_on;
 use crate::formats::read_superblock;
 use crate::inodes::Inode;
 use crate::kept_blocks::KeptBlocks;
-use crate::leaf::LeafWalk;
-use crate::leaves::read_pointers;
-use crate::listing::{Named, check_counts, check_dot};
+use crate::leaf::Names;
+use crate::listing::Named;
 use crate::stop::{Stop, damaged};
+use crate::walking::{check_hashed, search_leaves};
 use gfs2_layout::{SuperBlock, superblock_block};
 use glock_names::View;
-use image_reader::HashTable;
 use shared_disk::SharedDisk;
 use std::alloc::Global;
 
@@ -75,80 +74,6 @@ pub(crate) fn search_master<D: SharedDisk>(
     }
 }
 
-// The table of the master directory, which is a hashed one; its blocks are read, each as it is wanted.
-fn search_pointers<D: SharedDisk>(
-    alloc: Global,
-    disk: &mut D,
-    table: &mut KeptBlocks,
-    inode: &Inode,
-) -> Result<HashTable, MountFault>
-    requires work { IsWorking (D.state disk.old) table.old }
-    ensures work { OnOk result (IsWorking (D.state disk.new) table.new) }
-    ensures grown { OnOk result (IsGrown table.old table.new) }
-    ensures found { IfOk result (λ pointers. IsTrue (D.state disk.old).tells → IsMasterIn (image_of (D.state disk.old)) inode.now → is_hashed_in (every (image_of (D.state disk.old)) inode.now.block) ≡ true → IsTableOf (image_of (D.state disk.old)) inode.now pointers) }
-    ensures searched { OnOk result (IsTrue (D.state disk.old).tells → IsMasterIn (image_of (D.state disk.old)) inode.now → is_hashed_in (every (image_of (D.state disk.old)) inode.now.block) ≡ true → IsSearched (image_of (D.state disk.old)) [] 0 0 table.old
-        → IsSearched (image_of (D.state disk.old)) [] 0 0 table.new) }
-    ensures refused { IsTrue (D.state disk.old).tells → IsMasterIn (image_of (D.state disk.old)) inode.now → is_hashed_in (every (image_of (D.state disk.old)) inode.now.block) ≡ true → IsSearched (image_of (D.state disk.old)) [] 0 0 table.old
-        → IfErr result (RefusesRightly (image_of (D.state disk.old))) }
-    ensures risen { IfErr result (HasRisen (D.faults disk.old) (D.faults disk.new)) }
-    ensures within { IfErr result (LiesWithin (D.state disk.old).count) }
-    ensures reads { ReadsOnly (D.state disk.old) (D.state disk.new) (D.list disk.old) (D.list disk.new) (D.faults disk.old) (D.faults disk.new) }
-{
-    loop {
-        match read_pointers(alloc, table, inode) {
-            Ok(pointers) => return Ok(pointers),
-            Err(stop) => go_on(alloc, disk, table, stop)?,
-        }
-    }
-}
-
-// Goes over the leaves to which this table leads. Each is read into one buffer, looked at and dropped.
-fn walk_leaves<D: SharedDisk>(
-    alloc: Global,
-    disk: &mut D,
-    table: &mut KeptBlocks,
-    inode: &Inode,
-    pointers: &HashTable,
-) -> Result<LeafWalk, MountFault>
-    requires work { IsWorking (D.state disk.old) table.old }
-    requires few { (D.state disk.old).count ≤ most_blocks }
-    ensures work { OnOk result (IsWorking (D.state disk.new) table.new) }
-    ensures grown { OnOk result (IsGrown table.old table.new) }
-    ensures found { IfOk result (λ walk. IsTrue (D.state disk.old).tells → IsTableOf (image_of (D.state disk.old)) inode.now pointers.now → IsWalked (image_of (D.state disk.old)) inode.now.block walk) }
-    ensures ended { IfOk result (λ walk. HasEnded walk (2 ^ pointers.now.depth)) }
-    ensures searched { OnOk result (IsTrue (D.state disk.old).tells → IsTableOf (image_of (D.state disk.old)) inode.now pointers.now → IsSearched (image_of (D.state disk.old)) [] 0 0 table.old → IsSearched (image_of (D.state disk.old)) [] 0 0 table.new) }
-    ensures refused { IsTrue (D.state disk.old).tells → IsTableOf (image_of (D.state disk.old)) inode.now pointers.now → IsSearched (image_of (D.state disk.old)) [] 0 0 table.old → IfErr result (RefusesRightly (image_of (D.state disk.old))) }
-    ensures risen { IfErr result (HasRisen (D.faults disk.old) (D.faults disk.new)) }
-    ensures within { IfErr result (LiesWithin (D.state disk.old).count) }
-    ensures reads { ReadsOnly (D.state disk.old) (D.state disk.new) (D.list disk.old) (D.list disk.new) (D.faults disk.old) (D.faults disk.new) }
-{
-    let mut walk = LeafWalk::new(alloc, disk.blocks())?;
-    let size = table.block_size() as usize;
-    let mut bytes = vec![in alloc; 0u8; size]?;
-    loop {
-        match walk.link(table, inode, pointers) {
-            Ok(Some(link)) => {
-                read_leaf(disk, table, link.number, link.by, &mut bytes)?;
-                let at = walk.leaf(pointers, &link, &bytes)?;
-                walk.enter(alloc, inode.block, &bytes, &at)?;
-            }
-            Ok(None) => return Ok(walk),
-            Err(stop) => go_on(alloc, disk, table, stop)?,
-        }
-    }
-}
-
-// That the records that were found in all leaves are those of the master directory.
-fn check_hashed(inode: &Inode, records: &[Named<'_>]) -> Result<(), MountFault>
-    ensures rows { OnOk result (AreRowsOf inode.now inode.now.block records.now) }
-    ensures refused { (im : Image) → IsMasterIn im inode.now → AreAllRecords im inode.now.block records.now → AreCountedIn im inode.now.block (map said records.now) → IfErr result (RefusesRightly im) }
-    ensures steady { IfErr result IsSteady }
-{
-    check_dot(records, inode.block, b".", inode.block)?;
-    check_dot(records, inode.block, b"..", inode.block)?;
-    check_counts(inode, records)
-}
-
 /// The records of the master directory, where it is a hashed one; its leaves are read. It looks at each leaf's head, at
 /// what its records fill, at their hashes and names, whether they are those of system files, at `.` and `..`, and at the
 /// counts of links and entries.
@@ -172,8 +97,7 @@ pub(crate) fn search_names<D: SharedDisk>(
     if !inode.is_hashed() {
         return Ok(Vec::new(alloc));
     }
-    let pointers = search_pointers(alloc, disk, table, inode)?;
-    let walk = walk_leaves(alloc, disk, table, inode, &pointers)?;
-    check_hashed(inode, &walk.records)?;
+    let walk = search_leaves(alloc, disk, table, inode, Names::Files)?;
+    check_hashed(inode, inode.block, &walk.records)?;
     Ok(walk.records)
 }

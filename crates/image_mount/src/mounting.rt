@@ -9,19 +9,20 @@ ghost use Rattle.image_mount.specs.Marked.{IsGrown, IsKept};
 ghost use Rattle.image_mount.specs.Refusals.{HasRisen, IsExcused, LiesWithin, RefusesRightly};
 ghost use Rattle.image_mount.specs.Rings.{IsSearched};
 ghost use Rattle.image_mount.specs.Searching.{IsSteady, IsWorking};
-ghost use Rattle.image_mount.specs.System.{HasDinodes, IsMasterOf, IsNamedBy, IsSystemOf};
+ghost use Rattle.image_mount.specs.System.{HasDinodes, IsGroundOf, IsMasterOf, IsNamedBy, IsSystemOf};
 ghost use Rattle.profile_limits.specs.Limits.{most_blocks};
 
 use crate::fault::MountFault;
 use crate::fetching::go_on;
 use crate::field::Field;
+use crate::jindex::search_journals;
 use crate::journals::{find_journals, find_rings};
 use crate::kept_blocks::KeptBlocks;
 use crate::listing::Named;
 use crate::master::{Master, search_master, search_names};
 use crate::mounted::Mounted;
 use crate::stop::outside;
-use crate::system::{System, find_system};
+use crate::system::{Groundwork, System, find_groundwork};
 use gfs2_layout::Rindex;
 use glock_names::Group;
 use no_memory::NoMemory;
@@ -41,20 +42,21 @@ fn check_device(count: u64) -> Result<(), MountFault>
     Ok(())
 }
 
-// What the system files say, once the master directory is known; their blocks are read, each as it is wanted.
-fn search_files<D: SharedDisk>(
+// What the system files say as far as the directory of journals, once the master directory is known; their blocks are read, each as
+// it is wanted.
+fn search_groundwork<D: SharedDisk>(
     alloc: Global,
     disk: &mut D,
     table: &mut KeptBlocks,
     master: &Master,
     names: &[Named<'_>],
-) -> Result<System, MountFault>
+) -> Result<Groundwork, MountFault>
     requires work { IsWorking (D.state disk.old) table.old }
-    ensures rindex { IfOk result (λ system. IsKept table.new system.rindex) }
-    ensures jindex { IfOk result (λ system. IsKept table.new system.jindex) }
+    ensures rindex { IfOk result (λ g. IsKept table.new g.rindex) }
+    ensures jindex { IfOk result (λ g. IsKept table.new g.jindex.block) }
     ensures work { OnOk result (IsWorking (D.state disk.new) table.new) }
     ensures grown { OnOk result (IsGrown table.old table.new) }
-    ensures found { IfOk result (λ system. IsTrue (D.state disk.old).tells → IsMasterOf (image_of (D.state disk.old)) master.now → IsNamedBy (image_of (D.state disk.old)) master.now names.now → IsSystemOf (image_of (D.state disk.old)) system) }
+    ensures found { IfOk result (λ g. IsTrue (D.state disk.old).tells → IsMasterOf (image_of (D.state disk.old)) master.now → IsNamedBy (image_of (D.state disk.old)) master.now names.now → IsGroundOf (image_of (D.state disk.old)) g) }
     ensures searched { OnOk result (IsTrue (D.state disk.old).tells → IsMasterOf (image_of (D.state disk.old)) master.now → IsNamedBy (image_of (D.state disk.old)) master.now names.now → IsSearched (image_of (D.state disk.old)) [] 0 0 table.old → IsSearched (image_of (D.state disk.old)) [] 0 0 table.new) }
     ensures refused { IsTrue (D.state disk.old).tells → IsMasterOf (image_of (D.state disk.old)) master.now → IsNamedBy (image_of (D.state disk.old)) master.now names.now → IsSearched (image_of (D.state disk.old)) [] 0 0 table.old → IfErr result (RefusesRightly (image_of (D.state disk.old))) }
     ensures risen { IfErr result (HasRisen (D.faults disk.old) (D.faults disk.new)) }
@@ -63,8 +65,8 @@ fn search_files<D: SharedDisk>(
 {
     let count = disk.blocks();
     loop {
-        match find_system(alloc, table, count, master, names) {
-            Ok(system) => return Ok(system),
+        match find_groundwork(alloc, table, count, master, names) {
+            Ok(ground) => return Ok(ground),
             Err(stop) => go_on(alloc, disk, table, stop)?,
         }
     }
@@ -90,7 +92,16 @@ fn search_system<D: SharedDisk>(
 {
     let master = search_master(alloc, disk, table)?;
     let names = search_names(alloc, disk, table, &master.inode)?;
-    search_files(alloc, disk, table, &master, &names)
+    let ground = search_groundwork(alloc, disk, table, &master, &names)?;
+    let address = ground.superblock.master.address;
+    let journals = search_journals(alloc, disk, table, &ground.jindex, address)?;
+    Ok(System {
+        superblock: ground.superblock,
+        rindex: ground.rindex,
+        groups: ground.groups,
+        jindex: ground.jindex.block,
+        journals,
+    })
 }
 
 // The groups, as the file calls see them.
@@ -113,7 +124,7 @@ fn map_groups(alloc: Global, entries: &[Rindex]) -> Result<Vec<Group>, NoMemory>
 /// the directory of journals and each journal, and looks at every field of the profile. Nothing is written, and, as rows
 /// show, no block is read twice, but a leaf to which something else leads. It costs a read for each block that the system
 /// files have, memory for those of them that lead on, but for leaves, and for an entry a block of the device, or two where
-/// the master directory is a hashed one. A look at each of its pointers and leaves comes on top then.
+/// the master directory or that of journals is a hashed one. A look at each of its pointers and leaves comes on top then.
 pub fn mount_image<D: SharedDisk>(alloc: Global, disk: &mut D) -> Result<Mounted, MountFault>
     requires idle { IsIdle (D.state disk.old) }
     requires size { IsBlockSize (D.state disk.old).size }

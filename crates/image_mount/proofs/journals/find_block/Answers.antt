@@ -32,4 +32,4 @@ returns-in-Ok-clause-found g c tells = c.in-Ok.ensures.found _ (read_now _ _ _ c
 pub returns-in-Ok-clause-ways : goal.returns-in-Ok-clause-ways
 returns-in-Ok-clause-ways g c tells kept =
     let inv = c.loop-located.invariant in
-    c.in-Ok.ensures.ways (image_of (g.D.SharedDisk.state c.args.disk.now)) (read_now _ _ _ inv.reads.same tells inv.work) (inv.grown.stays c.args.journal.now.addr kept)
+    c.in-Ok.ensures.ways (image_of (g.D.SharedDisk.state c.args.disk.now)) (read_now _ _ _ inv.reads.same tells inv.work) (inv.grown.stays c.args.journal.now.entry.addr kept)

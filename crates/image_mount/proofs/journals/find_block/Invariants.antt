@@ -11,7 +11,7 @@ invariant-loop-located g l = record {
   work : IsWorking (g.D.SharedDisk.state l.disk) l.table;
   grown : IsGrown l.initial.table l.table;
   places : l.table.places ≡ l.initial.table.places;
-  searched : (done : List ℕ) (d n places : ℕ) → IsTrue (g.D.SharedDisk.state l.initial.disk).tells → IsJournalIn (image_of (g.D.SharedDisk.state l.initial.disk)) l.jindex l.journal → HasPlaces (image_of (g.D.SharedDisk.state l.initial.disk)) l.journal.addr places → l.place < places
+  searched : (done : List ℕ) (d n places : ℕ) → IsTrue (g.D.SharedDisk.state l.initial.disk).tells → IsJournalIn (image_of (g.D.SharedDisk.state l.initial.disk)) l.journal → HasPlaces (image_of (g.D.SharedDisk.state l.initial.disk)) l.journal.entry.addr places → l.place < places
       → IsSearched (image_of (g.D.SharedDisk.state l.initial.disk)) done d n l.initial.table → IsSearched (image_of (g.D.SharedDisk.state l.initial.disk)) done d n l.table;
   reads : ReadsOnly (g.D.SharedDisk.state l.initial.disk) (g.D.SharedDisk.state l.disk) (g.D.SharedDisk.list l.initial.disk) (g.D.SharedDisk.list l.disk) (g.D.SharedDisk.faults l.initial.disk) (g.D.SharedDisk.faults l.disk);
 }

@@ -23,15 +23,15 @@ pub returns-in_err-located-clause-refused : goal.returns-in_err-located-clause-r
 returns-in_err-located-clause-refused g c done tells next has known =
     let inv = c.loop-place.invariant in
     refused (image_of (g.D.SharedDisk.state c.args.disk.now)) _ _ c.from_residual-in_err-located.ensures.1
-    (place_refused _ _ inv.reads.same c.args.system.now.jindex c.args.journal.now c.args.places c.loop-place.place c.loop-place.table c.in_err-located.field-0.0 done c.args.journal.now.addr c.loop-place.place
-    (c.in_err-located.ensures.refused done c.args.journal.now.addr c.loop-place.place c.args.places) tells next.named has c.loop-place-test.true (inv.searched done tells next has known))
+    (place_refused _ _ inv.reads.same c.args.journal.now c.args.places c.loop-place.place c.loop-place.table c.in_err-located.field-0.0 done c.args.journal.now.entry.addr c.loop-place.place
+    (c.in_err-located.ensures.refused done c.args.journal.now.entry.addr c.loop-place.place c.args.places) tells next.named has c.loop-place-test.true (inv.searched done tells next has known))
 
 pub returns-in_err-check_place-clause-refused : goal.returns-in_err-check_place-clause-refused
 returns-in_err-check_place-clause-refused g c done tells next has known =
     let inv = c.loop-place.invariant in
-    let d = c.args.journal.now.addr in
+    let d = c.args.journal.now.entry.addr in
     let found = c.in_ok-located.ensures in
-    let searched = place_searched _ _ inv.reads.same c.args.system.now.jindex c.args.journal.now c.args.places c.loop-place.place c.loop-place.table c.find_block.new.table done d c.loop-place.place
+    let searched = place_searched _ _ inv.reads.same c.args.journal.now c.args.places c.loop-place.place c.loop-place.table c.find_block.new.table done d c.loop-place.place
     (found.searched done d c.loop-place.place c.args.places) tells next.named has c.loop-place-test.true (inv.searched done tells next has known) in
     refused (image_of (g.D.SharedDisk.state c.args.disk.now)) _ _ c.from_residual-in_err-check_place.ensures.1
     (c.in_err-check_place.ensures.refused (image_of (g.D.SharedDisk.state c.args.disk.now)) done c.args.journal.now c.loop-place.place (read_now _ _ _ (found.reads.same ∙ inv.reads.same) tells found.work) next searched
@@ -41,7 +41,7 @@ pub loop-place-preserved : goal.loop-place-preserved
 loop-place-preserved g c =
     let inv = c.loop-place.invariant in
     let s = g.D.SharedDisk.state c.args.disk.now in
-    let d = c.args.journal.now.addr in
+    let d = c.args.journal.now.entry.addr in
     let found = c.in_ok-located.ensures in
     let located = c.in_ok-located.located in
     let items = c.in_ok-push.ensures.items in
@@ -65,7 +65,7 @@ loop-place-preserved g c =
           (place_claim (image_of s) done c.args.system.now c.args.journal.now next c.loop-place.place located at) items;
       searched = λ done tells next has known.
           let at = place_at _ _ inv.reads.same d c.loop-place.place located found.found tells in
-          let searched = place_searched _ _ inv.reads.same c.args.system.now.jindex c.args.journal.now c.args.places c.loop-place.place c.loop-place.table c.find_block.new.table done d c.loop-place.place
+          let searched = place_searched _ _ inv.reads.same c.args.journal.now c.args.places c.loop-place.place c.loop-place.table c.find_block.new.table done d c.loop-place.place
           (found.searched done d c.loop-place.place c.args.places) tells next.named has c.loop-place-test.true (inv.searched done tells next has known) in
           marked_more (image_of s) done d c.loop-place.place (c.loop-place.place + 1) c.find_block.new.table c.mark.new.self located.block c.mark.ensures.places c.mark.ensures.entries c.mark.ensures.leaves (omega arith)
           (is_place (image_of s) done c.args.system.now c.args.journal.now next c.loop-place.place located at (c.in_ok-check_place.ensures.apart (image_of s) next.looked)) searched;
@@ -75,12 +75,12 @@ loop-place-preserved g c =
 pub returns-clause-found : goal.returns-clause-found
 returns-clause-found g c done tells next has known =
     let all : c.loop-place.place ≡ c.args.places = omega (arith, c.loop-place-test.false, c.loop-place.auto.place-end) in
-    subst (λ n. AreBlocksOf (image_of (g.D.SharedDisk.state c.args.disk.now)) c.args.journal.now.addr n c.loop-place.blocks.items) all (c.loop-place.invariant.found done tells next has known)
+    subst (λ n. AreBlocksOf (image_of (g.D.SharedDisk.state c.args.disk.now)) c.args.journal.now.entry.addr n c.loop-place.blocks.items) all (c.loop-place.invariant.found done tells next has known)
 
 pub returns-clause-searched : goal.returns-clause-searched
 returns-clause-searched g c done tells next has known =
     let all : c.loop-place.place ≡ c.args.places = omega (arith, c.loop-place-test.false, c.loop-place.auto.place-end) in
-    subst (λ n. IsSearched (image_of (g.D.SharedDisk.state c.args.disk.now)) done c.args.journal.now.addr n c.loop-place.table) all (c.loop-place.invariant.searched done tells next has known)
+    subst (λ n. IsSearched (image_of (g.D.SharedDisk.state c.args.disk.now)) done c.args.journal.now.entry.addr n c.loop-place.table) all (c.loop-place.invariant.searched done tells next has known)
 
 pub returns-clause-ways : goal.returns-clause-ways
 returns-clause-ways g c tells kept p low =

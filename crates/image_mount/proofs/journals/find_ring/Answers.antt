@@ -17,7 +17,7 @@ returns-in_err-places-clause-refused g c done tells next known =
 pub returns-in_err-blocks-clause-refused : goal.returns-in_err-blocks-clause-refused
 returns-in_err-blocks-clause-refused g c done tells next known =
     let im = image_of (g.D.SharedDisk.state c.args.disk.now) in
-    let d = c.args.journal.now.addr in
+    let d = c.args.journal.now.entry.addr in
     let counted = c.in_ok-places.ensures in
     let begun = searched_next im done d c.count_places.new.table (counted.searched done 0 0 tells next.named known) in
     refused im _ _ c.from_residual-in_err-blocks.ensures.1
@@ -27,7 +27,7 @@ returns-in_err-blocks-clause-refused g c done tells next known =
 pub returns-clause-found : goal.returns-clause-found
 returns-clause-found g c done tells next known =
     let im = image_of (g.D.SharedDisk.state c.args.disk.now) in
-    let d = c.args.journal.now.addr in
+    let d = c.args.journal.now.entry.addr in
     let counted = c.in_ok-places.ensures in
     let begun = searched_next im done d c.count_places.new.table (counted.searched done 0 0 tells next.named known) in
     let blocks = c.in_ok-blocks.blocks.items in
@@ -38,7 +38,7 @@ returns-clause-found g c done tells next known =
 pub returns-clause-searched : goal.returns-clause-searched
 returns-clause-searched g c done tells next known =
     let im = image_of (g.D.SharedDisk.state c.args.disk.now) in
-    let d = c.args.journal.now.addr in
+    let d = c.args.journal.now.entry.addr in
     let counted = c.in_ok-places.ensures in
     let begun = searched_next im done d c.count_places.new.table (counted.searched done 0 0 tells next.named known) in
     searched_done im done d c.in_ok-places.places c.find_blocks.new.table
@@ -55,10 +55,10 @@ pub returns-clause-grown : goal.returns-clause-grown
 returns-clause-grown g c = grown_on c.args.table.now c.count_places.new.table c.find_blocks.new.table c.in_ok-places.ensures.grown c.in_ok-blocks.ensures.grown
 
 pub returns-clause-there : goal.returns-clause-there
-returns-clause-there g c = c.in_ok-blocks.ensures.grown.stays c.args.journal.now.addr c.in_ok-places.ensures.there
+returns-clause-there g c = c.in_ok-blocks.ensures.grown.stays c.args.journal.now.entry.addr c.in_ok-places.ensures.there
 
 pub returns-clause-ways : goal.returns-clause-ways
 returns-clause-ways g c tells p low =
-    let d = c.args.journal.now.addr in
+    let d = c.args.journal.now.entry.addr in
     ways_told _ _ c.find_blocks.new.table d c.in_ok-places.places (IsKept c.count_places.new.table d) c.in_ok-places.ensures.reads.same c.in_ok-blocks.ensures.ways tells c.in_ok-places.ensures.there p
     (omega (arith, low, c.in_ok-blocks.ensures.count))

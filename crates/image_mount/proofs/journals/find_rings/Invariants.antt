@@ -1,10 +1,10 @@
-use Rattle.std.proofs.Common.{◌≢◌, ◌<◌, [], take, IsTrue}
+use Rattle.std.proofs.Common.{◌<◌, [], take, IsTrue}
 use Rattle.std.specs.Prelude.{map}
 use Rattle.std.specs.List.{All}
 use Rattle.image_model.specs.Image.{image_of}
 use Rattle.image_mount.specs.Looks.{IsInGroups}
 use Rattle.image_mount.specs.Marked.{AreMarked, IsGrown, IsKept}
-use Rattle.image_mount.specs.Rings.{AreKeptWays, IsSearched, AreRings, all_places}
+use Rattle.image_mount.specs.Rings.{IsOwn, AreKeptWays, IsSearched, AreRings, all_places}
 use Rattle.image_mount.specs.Searching.{IsWorking}
 use Rattle.image_mount.specs.System.{IsSystemOf}
 use Rattle.image_mount.specs.declared.journals.Ring.{Ring}
@@ -16,7 +16,7 @@ invariant-loop-journal g l = record {
   work : IsWorking (g.D.SharedDisk.state l.disk) l.table;
   inside : All (λ (ring : Ring). All (λ b. b < (g.D.SharedDisk.state l.initial.disk).count) ring.blocks.items) l.rings.items;
   placed : All (λ (ring : Ring). All (IsInGroups l.system.groups.items) ring.blocks.items) l.rings.items;
-  own : All (λ (ring : Ring). (ring.dinode ≢ l.system.superblock.master.address) × (ring.dinode ≢ l.system.rindex)) l.rings.items;
+  own : All (λ (ring : Ring). IsOwn l.system ring.dinode) l.rings.items;
   ways : IsTrue (g.D.SharedDisk.state l.initial.disk).tells → All (λ (ring : Ring). AreKeptWays (image_of (g.D.SharedDisk.state l.initial.disk)) l.table ring.dinode ring.blocks.items) l.rings.items;
   grown : IsGrown l.initial.table l.table;
   kept : All (λ (ring : Ring). IsKept l.table ring.dinode) l.rings.items;

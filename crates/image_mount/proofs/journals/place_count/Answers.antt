@@ -19,22 +19,22 @@ returns-in_err-check_record-clause-stops c im read of =
     let inode = c.in_ok-inode.inode in
     let dinode : inode.dinode ≡ dinode_in (every im inode.block) = c.in_ok-inode.ensures.found im read ∙ ap (λ a. dinode_in (every im a)) (sym c.in_ok-inode.ensures.block) in
     stopped im _ _ c.from_residual-in_err-check_record.ensures.1
-    (c.in_err-check_record.ensures.refused im c.args.jindex of.named.row dinode (journal_format im c.args.jindex c.args.journal.now of)
-    (subst (λ n. n < im.count) (sym c.in_ok-inode.ensures.from) of.named.inside) (subst (λ x. HasRecordIn im c.args.jindex x of.named.row) (sym c.in_ok-inode.ensures.from) of.named.there) of.named.is)
+    (c.in_err-check_record.ensures.refused im of.layout.jindex of.named.row dinode (journal_format im c.args.journal.now of)
+    (subst (λ n. n < im.count) (sym c.in_ok-inode.ensures.from) of.named.inside) (subst (λ x. HasRecordIn im of.layout.jindex x of.named.row) (sym c.in_ok-inode.ensures.from) of.named.there) of.named.is)
 
 pub returns-then-inode-from-ne0-clause-stops : goal.returns-then-inode-from-ne0-clause-stops
 returns-then-inode-from-ne0-clause-stops c im read of =
     let inode = c.in_ok-inode.inode in
-    wrong_part im c.args.jindex c.args.journal.now _ inode.block c.from.result inode.dinode of c.damaged.ensures c.in_ok-inode.ensures.block (subst (λ n. n < im.count) (sym c.in_ok-inode.ensures.block) (c.in_ok-inode.ensures.inside im read)) (c.in_ok-inode.ensures.found im read)
+    wrong_part im c.args.journal.now _ inode.block c.from.result inode.dinode of c.damaged.ensures c.in_ok-inode.ensures.block (subst (λ n. n < im.count) (sym c.in_ok-inode.ensures.block) (c.in_ok-inode.ensures.inside im read)) (c.in_ok-inode.ensures.found im read)
     (c.from.ensures ∙ c.block_size-size.ensures.value ∙ read.size) c.if-inode-from-ne0.true
 
 pub returns-then-places-lt-LEAST_PLACES-clause-stops : goal.returns-then-places-lt-LEAST_PLACES-clause-stops
 returns-then-places-lt-LEAST_PLACES-clause-stops c im read of =
     let inode = c.in_ok-inode.inode in
     let sized : c.from-2.result ≡ im.size = c.from-2.ensures ∙ c.block_size-size.ensures.value ∙ read.size in
-    let count : inode.dinode.size / c.from-2.result ≡ (ring_of (every im c.args.journal.now.addr)).places
+    let count : inode.dinode.size / c.from-2.result ≡ (ring_of (every im c.args.journal.now.entry.addr)).places
     = ap (λ n. inode.dinode.size / n) sized ∙ ap (λ (d : Dinode). d.size / im.size) (c.in_ok-inode.ensures.found im read) in
-    wrong_places im c.args.jindex c.args.journal.now _ _ of c.outside.ensures count
+    wrong_places im c.args.journal.now _ _ of c.outside.ensures count
     (λ both. elim c.then-places-lt-LEAST_PLACES.branch [
       | then-places-lt-LEAST_PLACES-via-then-places-lt-LEAST_PLACES w ↦ absurd (omega (arith, both.0, w.if-places-lt-LEAST_PLACES.true))
       | then-places-lt-LEAST_PLACES-via-else-places-lt-LEAST_PLACES+then-places-gt-MOST_PLACES w ↦ absurd (omega (arith, both.1, w.if-places-gt-MOST_PLACES.true))
@@ -46,10 +46,10 @@ returns-in_err-check_directory-clause-stops c im read of =
     let block = c.in_ok-inode.ensures.block in
     let dinode : inode.dinode ≡ dinode_in (every im inode.block) = c.in_ok-inode.ensures.found im read ∙ ap (λ a. dinode_in (every im a)) (sym block) in
     stopped im _ _ c.from_residual-in_err-check_directory.ensures.1
-    (c.in_err-check_directory.ensures.refused im dinode (c.block_size-size.ensures.value ∙ read.size) (journal_format im c.args.jindex c.args.journal.now of)
+    (c.in_err-check_directory.ensures.refused im dinode (c.block_size-size.ensures.value ∙ read.size) (journal_format im c.args.journal.now of)
     (subst (λ n. n < im.count) (sym block) (c.in_ok-inode.ensures.inside im read))
     (record {
-      inode = subst (HasInode im) (sym block) (journal_inode im c.args.jindex c.args.journal.now of);
+      inode = subst (HasInode im) (sym block) (journal_inode im c.args.journal.now of);
       dir = ap is_directory (sym dinode) ∙ sym c.is_directory.ensures ∙ c.if-is_directory.true;
     }))
 

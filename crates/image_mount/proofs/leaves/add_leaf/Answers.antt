@@ -1,47 +1,50 @@
-use Rattle.std.proofs.Common.{◌≡◌, ◌++◌, None, sym, ap, subst, ◌∙◌}
-use Rattle.std.specs.Prelude.{map}
-use Rattle.std.specs.Option.{option_map}
+use Rattle.std.proofs.Common.{◌++◌, length, sym, ap, subst, ◌∙◌, arith}
+use Rattle.std.specs.Prelude.{drop, map}
 use Rattle.std.specs.List.{All}
-use Rattle.gfs2_layout.specs.Records.{Record}
-use Rattle.image_model.specs.Claims.{master_of}
+use Rattle.gfs2_layout.specs.Records.{records_in}
 use Rattle.image_model.specs.Rules.{HasRecordIn}
 use Rattle.image_mount.specs.Found.{first_other}
 use Rattle.image_mount.specs.Listing.{said, standing, AreDistinct}
+use Rattle.image_mount.specs.Sifting.{AreSifted}
 use Rattle.image_mount.specs.declared.listing.Named.{Named}
-use Rattle.image_mount.proofs.Adding.{leaf_standing}
 use Rattle.image_mount.proofs.LeafCauses.{leaf_listed}
-use Rattle.image_mount.proofs.LeafWalks.{other_told}
-use Rattle.image_mount.proofs.Stops.{held, refused}
-use Rattle.image_mount.proofs.SystemFiles.{no_other, plain_items}
+use Rattle.image_mount.proofs.Sifts.{kept_all, none_left, sifted_added}
+use Rattle.image_mount.proofs.Stops.{refused}
 use Rattle.image_mount.proofs.leaves.add_leaf.Goals as goal
-use Rattle.std.proofs.lemmas.Option.{slice_get-get_or}
 
 pub returns-in_err-records-clause-refused : goal.returns-in_err-records-clause-refused
-returns-in_err-records-clause-refused c im told same others = refused im _ _ c.from_residual.ensures.1 (c.in_err-records.ensures.refused im (master_of im) told.format told.leaf same)
+returns-in_err-records-clause-refused c im a told same others = refused im _ _ c.from_residual.ensures.1 (c.in_err-records.ensures.refused im a told.format told.leaf same)
 
-pub returns-in-Some-clause-refused : goal.returns-in-Some-clause-refused
-returns-in-Some-clause-refused c im told same others =
-    let found = c.first_other.ensures ∙ ap (λ xs. option_map (λ (r : Record). r.address) (first_other (map said xs))) c.deref.ensures.value in
-    other_told im c.args.at.now _ c.in-Some.other c.args.bytes.now c.in_ok-records.records.items c.first_other.result told same c.in_ok-records.ensures.found c.outside.ensures found c.in-Some.is
+pub returns-in_err-check_files-clause-refused : goal.returns-in_err-check_files-clause-refused
+returns-in_err-check_files-clause-refused c im a told same others =
+    refused im _ _ c.from_residual-in_err-check_files.ensures.1
+    (c.in_err-check_files.ensures.refused im a c.args.at.now told (ap (map said) c.deref.ensures.value ∙ c.in_ok-records.ensures.found ∙ ap (λ b. records_in (drop 104 b)) (sym same)))
 
-pub add_records-requires : goal.add_records-requires
-add_records-requires c k d low =
-    let found = c.first_other.ensures ∙ ap (λ xs. option_map (λ (r : Record). r.address) (first_other (map said xs))) (c.deref.ensures.value ∙ sym c.deref-2.ensures.value) in
-    let none : c.first_other.result ≡ None = c.in_default.is in
-    plain_items c.deref-2.result.now (no_other c.deref-2.result.now c.first_other.result found none) k _ (slice_get-get_or c.deref-2.result.now k d low)
+pub returns-in_err-add_records-clause-refused : goal.returns-in_err-add_records-clause-refused
+returns-in_err-add_records-clause-refused c im a told same others =
+    let items = c.in_ok-records.records.items in
+    let sifted = subst (λ xs. AreSifted c.args.names xs (length xs) c.in_ok-sifted.sifted.records.items c.in_ok-sifted.sifted.others) c.deref-2.ensures.value c.in_ok-sifted.ensures.sifted in
+    let listed = leaf_listed im a c.args.at.now c.args.bytes.now items told.leaf same c.in_ok-records.ensures.found in
+    refused im _ _ c.from_residual-in_err-add_records.ensures.1
+    (c.in_err-add_records.ensures.refused im a told.format told.leaf.inside others
+    (subst (All (λ (n : Named). HasRecordIn im a c.args.at.now.block (said n))) (sym c.deref-3.ensures.value)
+    (kept_all (HasRecordIn im a c.args.at.now.block) c.args.names items c.in_ok-sifted.sifted.records.items c.in_ok-sifted.sifted.others sifted listed))
+    (subst (λ xs. AreDistinct (map said xs)) (sym c.deref-3.ensures.value) (sifted.distinct c.in_ok-records.ensures.distinct)))
 
 pub returns-clause-added : goal.returns-clause-added
 returns-clause-added c =
-    held c.add_records.result _ _ c.add_records.ensures.added (λ added.
-    added ∙ ap (λ ys. map standing c.args.found.now.items ++ ys)
-    (ap (map standing) c.deref-2.ensures.value ∙ leaf_standing c.args.at.now.block c.in_ok-records.records.items _ c.in_ok-records.ensures.found c.in_ok-records.ensures.here))
+    let items = c.in_ok-records.records.items in
+    let sifted = subst (λ xs. AreSifted c.args.names xs (length xs) c.in_ok-sifted.sifted.records.items c.in_ok-sifted.sifted.others) c.deref-2.ensures.value c.in_ok-sifted.ensures.sifted in
+    sifted_added c.args.names c.args.found.now.items _ items c.in_ok-sifted.sifted.records.items c.args.at.now.block c.in_ok-sifted.sifted.others _ sifted c.in_ok-records.ensures.found c.in_ok-records.ensures.here
+    (c.in_ok-add_records.ensures.added ∙ ap (λ xs. map standing c.args.found.now.items ++ map standing xs) c.deref-3.ensures.value)
 
-pub returns-clause-refused : goal.returns-clause-refused
-returns-clause-refused c im told same others =
-    c.add_records.ensures.refused im (master_of im) told.format told.leaf.inside others
-    (subst (All (λ (n : Named). HasRecordIn im (master_of im) c.args.at.now.block (said n))) (sym c.deref-2.ensures.value)
-    (leaf_listed im (master_of im) c.args.at.now c.args.bytes.now c.in_ok-records.records.items told.leaf same c.in_ok-records.ensures.found))
-    (subst (λ xs. AreDistinct (map said xs)) (sym c.deref-2.ensures.value) c.in_ok-records.ensures.distinct)
+pub returns-clause-few : goal.returns-clause-few
+returns-clause-few c = omega (arith, c.in_ok-sifted.ensures.sifted.few, ap length c.deref-2.ensures.value, c.in_ok-records.ensures.few)
 
-pub returns-clause-leaf : goal.returns-clause-leaf
-returns-clause-leaf c im a is same = held c.add_records.result _ _ c.add_records.ensures.added (λ added. c.in_ok-records.ensures.leaf im a is same)
+pub returns-clause-plain : goal.returns-clause-plain
+returns-clause-plain c files = ap first_other (sym c.in_ok-records.ensures.found ∙ ap (map said) (sym c.deref.ensures.value)) ∙ c.in_ok-check_files.ensures.plain files
+
+pub returns-clause-files : goal.returns-clause-files
+returns-clause-files c files =
+    none_left c.args.names c.deref-2.result.now c.in_ok-sifted.sifted.records.items c.in_ok-sifted.sifted.others c.in_ok-sifted.ensures.sifted files
+    (ap (λ xs. first_other (map said xs)) (c.deref-2.ensures.value ∙ sym c.deref.ensures.value) ∙ c.in_ok-check_files.ensures.plain files)

@@ -1,6 +1,6 @@
-use Rattle.std.proofs.Common.{◌∙◌, get_or, sym, ap, arith}
+use Rattle.std.proofs.Common.{◌∙◌, refl, sym, ap, arith}
 use Rattle.std.specs.Prelude.{slice_get}
-use Rattle.image_mount.proofs.Adding.{no_record, added_all, added_more, added_start, apart_from, distinct_more, found_some, none_there, same_standing, twice_found}
+use Rattle.image_mount.proofs.Adding.{added_all, added_more, added_start, apart_from, distinct_more, found_some, none_there, twice_found}
 use Rattle.image_mount.proofs.leaves.add_records.Goals as goal
 
 pub loop-record-init : goal.loop-record-init
@@ -15,10 +15,10 @@ returns-then-is_some-clause-refused c im a format low before here distinct =
 pub loop-record-preserved : goal.loop-record-preserved
 loop-record-preserved c = record {
   added = added_more c.args.found.now.items c.args.records.now c.loop-record.found.items c.push.new.self.items c.loop-record.record-index _ _ c.loop-record.invariant.added (omega (arith, c.loop-record-test.true)) c.in_ok-push.ensures.items
-      (same_standing (get_or c.args.records.now c.loop-record.record-index no_record) c.system_name.result.now c.system_name.ensures);
+      refl;
   low = omega (arith, c.loop-record-test.true);
   distinct = λ d. distinct_more c.loop-record.found.items c.push.new.self.items _ (c.loop-record.invariant.distinct d) c.in_ok-push.ensures.items
-      (apart_from c.loop-record.found.items c.deref.result.now _ _ c.deref.ensures.value c.system_name.ensures (none_there c.find.result (sym c.is_some.ensures ∙ c.if-is_some.false) c.find.ensures.none));
+      (apart_from c.loop-record.found.items c.deref.result.now _ _ c.deref.ensures.value refl (none_there c.find.result (sym c.is_some.ensures ∙ c.if-is_some.false) c.find.ensures.none));
 }
 
 pub returns-clause-added : goal.returns-clause-added

@@ -1,4 +1,4 @@
-use Rattle.std.proofs.Common.{◌≡◌, ℕ, ◌-◌, ◌*◌, ◌/◌, Some, None, refl, ap, ◌∙◌, arith}
+use Rattle.std.proofs.Common.{◌≡◌, ℕ, ◌-◌, ◌*◌, ◌/◌, Some, None, ap, ◌∙◌, arith}
 use Rattle.std.specs.Prelude.{IfSome}
 use Rattle.std.specs.Option.{option_map}
 use Rattle.dinode_tree.specs.Reading.{block_at}
@@ -6,9 +6,8 @@ use Rattle.dinode_tree.specs.declared.locating.Located.{Located}
 use Rattle.gfs2_layout.specs.Inode.{Leads}
 use Rattle.glock_names.specs.declared.steps.Step.TheVariants.{Is}
 use Rattle.image_model.specs.Claims.{every}
-use Rattle.image_model.specs.Owners.{Master}
 use Rattle.image_mount.specs.Kept.{seen_of}
-use Rattle.image_mount.proofs.Masters.{block_there, from_inside, hole_there, master_claim, master_inode, master_read, stuffed_block}
+use Rattle.image_mount.proofs.Masters.{block_there, file_inode, hole_there, stuffed_block}
 use Rattle.image_mount.proofs.Shown.{shown, damage_told, kept_on, leads_kept}
 use Rattle.image_mount.proofs.Steps.{answer_at, needed_at, seen_in, shown_by, lacks_needed}
 use Rattle.image_mount.proofs.Stops.{passed, stopped}
@@ -18,13 +17,13 @@ use Rattle.image_mount.proofs.leaves.entry_block.Goals as goal
 pub returns-in_err-get-clause-stops : goal.returns-in_err-get-clause-stops
 returns-in_err-get-clause-stops c im read of =
     let inode = c.args.inode.now in
-    passed im _ _ c.from_residual.ensures.1 (wanted im inode.block inode.from Master _ c.in_err-get.ensures.stops (master_claim im inode of.master) refl of.master.format (from_inside im inode of.master))
+    passed im _ _ c.from_residual.ensures.1 (wanted im inode.block inode.from of.file.owner _ c.in_err-get.ensures.stops of.file.claimed of.file.is_inode of.file.format of.file.from_inside)
 
 pub returns-in_err-located-clause-stops : goal.returns-in_err-located-clause-stops
 returns-in_err-located-clause-stops c im read of =
     let inode = c.args.inode.now in
     stopped im _ _ c.from_residual-in_err-located.ensures.1
-    (damage_told im c.args.table.now inode.block c.in_err-located.field-0.0 (master_inode im inode of.master) of.master.format read
+    (damage_told im c.args.table.now inode.block c.in_err-located.field-0.0 (file_inode im inode of.file) of.file.format read
     (c.in_err-located.ensures.damaged (every im inode.block) (shown im c.args.table.now inode.block read)) c.in_err-located.ensures.kept)
 
 pub returns-in_err-get-in-Is-Some-clause-stops : goal.returns-in_err-get-in-Is-Some-clause-stops
@@ -38,7 +37,7 @@ returns-in_err-get-in-Is-Some-clause-stops c im read of =
     let leads = answer_at c.in_ok-located.field-0 (Some located) (λ o. IfSome o (λ (l : Located). (k : ℕ) × Leads (every im a) l.from k 0 index l.block)) is (c.in_ok-located.ensures.leads (every im a) (shown im c.args.table.now a read)) in
     let seen = answer_at c.in_ok-located.field-0 (Some located) (λ o. IfSome o (λ (l : Located). (k : ℕ) × Leads (seen_in v a) l.from k 0 index l.block)) is (c.in_ok-located.ensures.leads (seen_in v a) (shown_by v a)) in
     passed im _ _ c.from_residual-in_err-get-in-Is-Some.ensures.1
-    (content_wanted im inode.from a located.from leads.0 index located.block Master _ c.in_err-get-in-Is-Some.ensures.stops (master_claim im inode of.master) refl of.master.format (master_read im inode of.master) leads.1
+    (content_wanted im inode.from a located.from leads.0 index located.block of.file.owner _ c.in_err-get-in-Is-Some.ensures.stops of.file.claimed of.file.is_inode of.file.format of.file.read leads.1
     (kept_on im c.args.table.now located.from read (leads_kept c.args.table.now a located.from seen.0 0 index located.block seen.1)))
 
 pub returns-then-inode-eq0-clause-found : goal.returns-then-inode-eq0-clause-found
@@ -67,7 +66,7 @@ pub returns-in-NeedBlock-clause-stops : goal.returns-in-NeedBlock-clause-stops
 returns-in-NeedBlock-clause-stops c im read of =
     let inode = c.args.inode.now in
     let v = seen_of c.args.table.now in
-    wanted_below im c.args.table.now inode.from inode.block Master _ _ _ 1 c.in-NeedBlock.missing _ c.reads.ensures (master_claim im inode of.master) refl of.master.format (master_read im inode of.master)
+    wanted_below im c.args.table.now inode.from inode.block of.file.owner _ _ _ 1 c.in-NeedBlock.missing _ c.reads.ensures of.file.claimed of.file.is_inode of.file.format of.file.read
     c.in_ok-get.ensures.bytes
     (needed_at c.in_ok-located.field-0 c.in-NeedBlock.missing _ c.in-NeedBlock.is (c.in_ok-located.ensures.needed (every im inode.block) (shown im c.args.table.now inode.block read)))
     (needed_at c.in_ok-located.field-0 c.in-NeedBlock.missing _ c.in-NeedBlock.is (c.in_ok-located.ensures.needed (seen_in v inode.block) (shown_by v inode.block))) read

@@ -13,7 +13,7 @@ returns-in_err-head-clause-refused c im inode of at =
     let i = c.args.i in
     let number = c.pointer-number.ensures in
     refused im _ _ c.from_residual.ensures.1
-    (c.in_err-head.ensures.refused im a (ap im.at number ∙ at.is) of.master.format (subst (λ n. n < im.count) (sym number) at.inside) of.depth
+    (c.in_err-head.ensures.refused im a (ap im.at number ∙ at.is) of.file.format (subst (λ n. n < im.count) (sym number) at.inside) of.depth
     (entry_block (every im a) i, first_hash (every im a) i, 0, first_claim im inode c.args.pointers.now of i (entry_block (every im a) i) c.pointer-number.result c.requires.low refl number))
 
 pub leads_to-requires : goal.leads_to-requires

@@ -1,4 +1,4 @@
-use Rattle.std.proofs.Common.{drop, length, sym, ap, subst, ◌∙◌}
+use Rattle.std.proofs.Common.{arith, drop, length, sym, ap, subst, ◌∙◌}
 use Rattle.std.specs.Prelude.{map}
 use Rattle.std.specs.List.{All}
 use Rattle.gfs2_layout.specs.Records.{records_in, IsRecordArea}
@@ -55,3 +55,6 @@ returns-clause-leaf c im a is same =
     let taken = taken_leaf c.args.bytes.now in
     leaf_sound im a c.args.at.now c.args.bytes.now items is same (c.in_ok-records.ensures.found ∙ ap records_in taken) (subst IsRecordArea taken c.in_ok-records.ensures.filled)
     (ap length (sym c.deref-3.ensures.value) ∙ c.in_ok-check_entries.ensures.counted) (subst (All (HasHashOf c.args.at.now)) c.deref-4.ensures.value c.in_ok-check_hashes.ensures.hashed)
+
+pub returns-clause-few : goal.returns-clause-few
+returns-clause-few c = omega (arith, c.in_ok-check_entries.ensures.few, ap length c.deref-3.ensures.value)

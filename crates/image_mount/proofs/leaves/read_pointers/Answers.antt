@@ -1,35 +1,34 @@
-use Rattle.std.proofs.Common.{◌≡◌, ◌*◌, ◌^◌, refl, sym, ap, ◌∙◌}
+use Rattle.std.proofs.Common.{◌≡◌, ◌*◌, ◌^◌, sym, ap, ◌∙◌}
 use Rattle.gfs2_layout.specs.Inode.{dinode_in, is_hashed_in}
 use Rattle.gfs2_layout.specs.declared.dinode.Dinode.{Dinode}
 use Rattle.image_model.specs.Claims.{every}
-use Rattle.image_model.specs.Owners.{Master}
 use Rattle.image_mount.proofs.Looks.{table_sized}
-use Rattle.image_mount.proofs.Masters.{from_inside, table_short, kept_master, master_claim, master_inode, master_read, table_is}
+use Rattle.image_mount.proofs.Masters.{file_inode, kept_file, table_is, table_short}
 use Rattle.image_mount.proofs.Stops.{passed, stopped}
 use Rattle.image_mount.proofs.leaves.read_pointers.Goals as goal
 
 pub returns-in_err-kept-clause-stops : goal.returns-in_err-kept-clause-stops
-returns-in_err-kept-clause-stops c im read is hashed = passed im _ _ c.from_residual.ensures.1 (c.in_err-kept.ensures.stops im Master read (master_claim im c.args.inode.now is) refl is.format (from_inside im c.args.inode.now is))
+returns-in_err-kept-clause-stops c im read is hashed = passed im _ _ c.from_residual.ensures.1 (c.in_err-kept.ensures.stops im is.owner read is.claimed is.is_inode is.format is.from_inside)
 
 pub returns-in_err-depth-clause-stops : goal.returns-in_err-depth-clause-stops
 returns-in_err-depth-clause-stops c im read is hashed =
-    let kept = kept_master im c.args.inode.now c.in_ok-kept.kept is c.in_ok-kept.ensures.block c.in_ok-kept.ensures.from (c.in_ok-kept.ensures.found im read) in
+    let kept = kept_file im c.args.inode.now c.in_ok-kept.kept is c.in_ok-kept.ensures.block c.in_ok-kept.ensures.from (c.in_ok-kept.ensures.found im read) in
     stopped im _ _ c.from_residual-in_err-depth.ensures.1
     (c.in_err-depth.ensures.refused im kept.dinode (c.block_size.ensures.value ∙ read.size) kept.format kept.inside
-    (master_inode im c.in_ok-kept.kept kept, ap (λ a. is_hashed_in (every im a)) c.in_ok-kept.ensures.block ∙ hashed))
+    (file_inode im c.in_ok-kept.kept kept, ap (λ a. is_hashed_in (every im a)) c.in_ok-kept.ensures.block ∙ hashed))
 
 pub returns-in_err-bytes-clause-stops : goal.returns-in_err-bytes-clause-stops
 returns-in_err-bytes-clause-stops c im read is hashed =
-    let kept = kept_master im c.args.inode.now c.in_ok-kept.kept is c.in_ok-kept.ensures.block c.in_ok-kept.ensures.from (c.in_ok-kept.ensures.found im read) in
+    let kept = kept_file im c.args.inode.now c.in_ok-kept.kept is c.in_ok-kept.ensures.block c.in_ok-kept.ensures.from (c.in_ok-kept.ensures.found im read) in
     passed im _ _ c.from_residual-in_err-bytes.ensures.1
-    (c.in_err-bytes.ensures.stops im Master read (master_claim im c.in_ok-kept.kept kept) refl kept.format (from_inside im c.in_ok-kept.kept kept) (master_read im c.in_ok-kept.kept kept))
+    (c.in_err-bytes.ensures.stops im kept.owner read kept.claimed kept.is_inode kept.format kept.from_inside kept.read)
 
 pub invariant_of-result : goal.invariant_of-result
 invariant_of-result c = record { deep = c.in_ok-depth.ensures.deep; whole = c.in_ok-bytes.ensures.whole c.in_ok-kept.ensures.kept (c.in_ok-depth.ensures.bytes ∙ sym (table_short c.in_ok-depth.depth c.in_ok-depth.ensures.deep)) ∙ table_short c.in_ok-depth.depth c.in_ok-depth.ensures.deep }
 
 pub returns-clause-found : goal.returns-clause-found
 returns-clause-found c im read is hashed =
-    let kept = kept_master im c.args.inode.now c.in_ok-kept.kept is c.in_ok-kept.ensures.block c.in_ok-kept.ensures.from (c.in_ok-kept.ensures.found im read) in
+    let kept = kept_file im c.args.inode.now c.in_ok-kept.kept is c.in_ok-kept.ensures.block c.in_ok-kept.ensures.from (c.in_ok-kept.ensures.found im read) in
     let size : (dinode_in (every im c.in_ok-kept.kept.block)).size ≡ 8 * 2 ^ c.in_ok-depth.depth = ap (λ (d : Dinode). d.size) (sym kept.dinode) ∙ c.in_ok-depth.ensures.bytes in
     table_is im c.args.inode.now c.in_ok-kept.kept _ is c.in_ok-kept.ensures.block hashed kept (c.in_ok-depth.ensures.depth) size (c.in_ok-bytes.ensures.found im read (size ∙ sym (table_short c.in_ok-depth.depth c.in_ok-depth.ensures.deep)))
     (table_sized im c.in_ok-kept.kept.block c.block_size.result c.in_ok-depth.depth c.in_ok-kept.kept.dinode kept.dinode (c.block_size.ensures.value ∙ read.size) c.in_ok-depth.ensures.depth c.in_ok-depth.ensures.bytes

@@ -1,0 +1,131 @@
+use Rattle.std.proofs.Common.{◌<◌, [], length, sym, ap, subst, arith, ◌∙◌}
+use Rattle.image_model.specs.Image.{Image, image_of}
+use Rattle.shared_disk.specs.Disk.{DiskState}
+use Rattle.image_mount.specs.Leaves.{IsWalked}
+use Rattle.image_mount.specs.Searching.{IsWanted}
+use Rattle.image_mount.specs.declared.leaf.LeafLink.{LeafLink}
+use Rattle.image_mount.proofs.LeafWalks.{next_leaf_in}
+use Rattle.image_model.proofs.Lengths.{size_large}
+use Rattle.image_mount.proofs.Marked.{grown_none, grown_on}
+use Rattle.image_mount.proofs.Marks.{go_refused, leaf_refused}
+use Rattle.image_mount.proofs.Numbered.{at_some}
+use Rattle.image_mount.proofs.Stops.{refused}
+use Rattle.image_mount.proofs.Working.{read_now, read_same, refilled}
+use Rattle.shared_disk.proofs.ReadLaws.{reads_none, reads_on}
+use Rattle.image_mount.proofs.walking.walk_leaves.Goals as goal
+
+pub loop-link-init : goal.loop-link-init
+loop-link-init g c = record {
+  work = c.requires.work;
+  grown = grown_none c.args.table.now;
+  count = c.in_ok-walk.ensures.count ∙ c.blocks-2.ensures.value;
+  size = omega (arith, c.in_ok-bytes.bytes.ok.0, c.in_ok-bytes.ensures.len, c.block_size-size.ensures.value, c.requires.work.size);
+  within = omega (arith, c.in_ok-walk.ensures.index);
+  walked = λ tells of for. c.in_ok-walk.ensures.walked (image_of (g.D.SharedDisk.state c.args.disk.now)) c.args.inode.now.block;
+  directory = c.in_ok-walk.ensures.directory;
+  names = c.in_ok-walk.ensures.names;
+  searched = λ tells of for known. known;
+  reads = reads_none;
+}
+
+pub returns-in_err-read_leaf-in-Ok-Some-clause-refused : goal.returns-in_err-read_leaf-in-Ok-Some-clause-refused
+returns-in_err-read_leaf-in-Ok-Some-clause-refused g c tells of for known =
+    let im : Image = image_of (g.D.SharedDisk.state c.args.disk.now) in
+    let inv = c.loop-link.invariant in
+    let walk = inv.walked tells of for in
+    let wanted = at_some c.in-Ok-Some.field-0 c.in-Ok-Some.link (λ (l : LeafLink). IsWanted im l.number l.by) c.in-Ok-Some.field-0-is (c.in-Ok-Some.ensures.wanted im (read_now _ _ _ inv.reads.same tells inv.work) of walk) in
+    refused im _ _ c.from_residual-in_err-read_leaf-in-Ok-Some.ensures.1
+    (leaf_refused _ _ c.in-Ok-Some.link.number c.in-Ok-Some.link.by c.loop-link.table c.in_err-read_leaf-in-Ok-Some.field-0.0 inv.reads.same c.in_err-read_leaf-in-Ok-Some.ensures.refused tells wanted (inv.searched tells of for known))
+
+pub leaf-requires-clause-whole : goal.leaf-requires-clause-whole
+leaf-requires-clause-whole g c =
+    let inv = c.loop-link.invariant in
+    omega (arith, ap length c.deref.ensures.value, ap length (refilled c.read_leaf.new.into c.loop-link.bytes.items c.loop-link.bytes.len c.loop-link.bytes.ok.0 (c.read_leaf.auto.into ∙ ap length c.deref_mut.ensures.value)), (c.read_leaf.auto.into ∙ ap length c.deref_mut.ensures.value), inv.size, size_large _ c.block_size-size.ensures.view.block_size, c.block_size-size.ensures.value, c.requires.work.size)
+
+pub returns-in_err-at-in-Ok-Some-clause-refused : goal.returns-in_err-at-in-Ok-Some-clause-refused
+returns-in_err-at-in-Ok-Some-clause-refused g c tells of for known =
+    let im : Image = image_of (g.D.SharedDisk.state c.args.disk.now) in
+    let inv = c.loop-link.invariant in
+    let walk = inv.walked tells of for in
+    let low : c.in-Ok-Some.link.number < im.count = omega (arith, c.in_ok-read_leaf-in-Ok-Some.ensures.inside, ap (λ (s : DiskState). s.count) inv.reads.same) in
+    let same = read_same (g.D.SharedDisk.state c.args.disk.now) _ c.in-Ok-Some.link.number c.read_leaf.new.into inv.reads.same tells c.in_ok-read_leaf-in-Ok-Some.ensures.bytes in
+    refused im _ _ c.from_residual-in_err-at-in-Ok-Some.ensures.1
+    (c.in_err-at-in-Ok-Some.ensures.refused im c.args.inode.now of walk (same ∙ sym (refilled c.read_leaf.new.into c.loop-link.bytes.items c.loop-link.bytes.len c.loop-link.bytes.ok.0 (c.read_leaf.auto.into ∙ ap length c.deref_mut.ensures.value)) ∙ sym c.deref.ensures.value) low)
+
+pub enter-requires-clause-whole : goal.enter-requires-clause-whole
+enter-requires-clause-whole g c =
+    let inv = c.loop-link.invariant in
+    omega (arith, ap length c.deref-in-Ok-Some.ensures.value, ap length (refilled c.read_leaf.new.into c.loop-link.bytes.items c.loop-link.bytes.len c.loop-link.bytes.ok.0 (c.read_leaf.auto.into ∙ ap length c.deref_mut.ensures.value)), (c.read_leaf.auto.into ∙ ap length c.deref_mut.ensures.value), inv.size, size_large _ c.block_size-size.ensures.view.block_size, c.block_size-size.ensures.value, c.requires.work.size)
+
+pub loop-link-preserved-in-Continue-branch-5 : goal.loop-link-preserved-in-Continue-branch-5
+loop-link-preserved-in-Continue-branch-5 g c =
+    let inv = c.loop-link.invariant in
+    let read = c.in_ok-read_leaf-in-Ok-Some.ensures in
+    let at = c.in_ok-at-in-Ok-Some in
+    let entered = c.in_ok-enter-in-Ok-Some.ensures in
+    record {
+      work = read.work;
+      grown = grown_on _ _ _ inv.grown read.grown;
+      count = entered.count ∙ inv.count;
+      size = ap length (refilled c.read_leaf.new.into c.loop-link.bytes.items c.loop-link.bytes.len c.loop-link.bytes.ok.0 (c.read_leaf.auto.into ∙ ap length c.deref_mut.ensures.value)) ∙ (c.read_leaf.auto.into ∙ ap length c.deref_mut.ensures.value) ∙ inv.size;
+      within = omega (arith, entered.index, at.ensures.run);
+      walked = λ tells of for.
+          let im : Image = image_of (g.D.SharedDisk.state c.args.disk.now) in
+          let walk = inv.walked tells of for in
+          let low : c.in-Ok-Some.link.number < im.count = omega (arith, c.in_ok-read_leaf-in-Ok-Some.ensures.inside, ap (λ (s : DiskState). s.count) inv.reads.same) in
+          let same = read_same (g.D.SharedDisk.state c.args.disk.now) _ c.in-Ok-Some.link.number c.read_leaf.new.into inv.reads.same tells c.in_ok-read_leaf-in-Ok-Some.ensures.bytes in
+          let full = sym (refilled c.read_leaf.new.into c.loop-link.bytes.items c.loop-link.bytes.len c.loop-link.bytes.ok.0 (c.read_leaf.auto.into ∙ ap length c.deref_mut.ensures.value)) in
+          let leaf = at.ensures.found im c.args.inode.now of walk (same ∙ full ∙ sym c.deref.ensures.value) low in
+          subst (λ a. IsWalked im a c.enter.new.self) inv.directory (entered.walked im (next_leaf_in im c.args.inode.now c.args.pointers.now c.loop-link.walk at.at of inv.directory (λ files. for (sym inv.names ∙ files)) walk leaf at.ensures.next) (ap im.at at.ensures.block ∙ same ∙ full ∙ sym c.deref-in-Ok-Some.ensures.value));
+      directory = entered.directory ∙ inv.directory;
+      names = entered.names ∙ inv.names;
+      searched = λ tells of for known.
+          let im : Image = image_of (g.D.SharedDisk.state c.args.disk.now) in
+          let walk = inv.walked tells of for in
+          read.searched im [] 0 0 (at_some c.in-Ok-Some.field-0 c.in-Ok-Some.link (λ (l : LeafLink). IsWanted im l.number l.by) c.in-Ok-Some.field-0-is (c.in-Ok-Some.ensures.wanted im (read_now _ _ _ inv.reads.same tells inv.work) of walk)) (inv.searched tells of for known);
+      reads = reads_on inv.reads read.reads;
+    }
+
+pub returns-in_err-enter-in-Ok-Some-clause-refused : goal.returns-in_err-enter-in-Ok-Some-clause-refused
+returns-in_err-enter-in-Ok-Some-clause-refused g c tells of for known =
+    let im : Image = image_of (g.D.SharedDisk.state c.args.disk.now) in
+    let inv = c.loop-link.invariant in
+    let walk = inv.walked tells of for in
+    let at = c.in_ok-at-in-Ok-Some in
+    let low : c.in-Ok-Some.link.number < im.count = omega (arith, c.in_ok-read_leaf-in-Ok-Some.ensures.inside, ap (λ (s : DiskState). s.count) inv.reads.same) in
+    let same = read_same (g.D.SharedDisk.state c.args.disk.now) _ c.in-Ok-Some.link.number c.read_leaf.new.into inv.reads.same tells c.in_ok-read_leaf-in-Ok-Some.ensures.bytes in
+    let full = sym (refilled c.read_leaf.new.into c.loop-link.bytes.items c.loop-link.bytes.len c.loop-link.bytes.ok.0 (c.read_leaf.auto.into ∙ ap length c.deref_mut.ensures.value)) in
+    let leaf = at.ensures.found im c.args.inode.now of walk (same ∙ full ∙ sym c.deref.ensures.value) low in
+    refused im _ _ c.from_residual-in_err-enter-in-Ok-Some.ensures.1
+    (c.in_err-enter-in-Ok-Some.ensures.refused im (next_leaf_in im c.args.inode.now c.args.pointers.now c.loop-link.walk at.at of inv.directory (λ files. for (sym inv.names ∙ files)) walk leaf at.ensures.next)
+    (ap im.at at.ensures.block ∙ same ∙ full ∙ sym c.deref-in-Ok-Some.ensures.value))
+
+pub loop-link-preserved : goal.loop-link-preserved
+loop-link-preserved g c =
+    let inv = c.loop-link.invariant in
+    let next = c.in_ok-go_on-in-Err.ensures in
+    record {
+      work = next.work;
+      grown = grown_on _ _ _ inv.grown next.grown;
+      count = inv.count;
+      size = inv.size;
+      within = inv.within;
+      walked = inv.walked;
+      directory = inv.directory;
+      names = inv.names;
+      searched = λ tells of for known.
+          let im : Image = image_of (g.D.SharedDisk.state c.args.disk.now) in
+          next.searched im [] 0 0
+          (c.in-Err.ensures.stops im (read_now _ _ _ inv.reads.same tells inv.work) of (inv.walked tells of for))
+          (inv.searched tells of for known);
+      reads = reads_on inv.reads next.reads;
+    }
+
+pub returns-in_err-go_on-in-Err-clause-refused : goal.returns-in_err-go_on-in-Err-clause-refused
+returns-in_err-go_on-in-Err-clause-refused g c tells of for known =
+    let im : Image = image_of (g.D.SharedDisk.state c.args.disk.now) in
+    let inv = c.loop-link.invariant in
+    refused im _ _ c.from_residual-in_err-go_on-in-Err.ensures.1
+    (go_refused _ _ _ _ _ [] 0 0 inv.reads.same c.in_err-go_on-in-Err.ensures.refused tells
+    (c.in-Err.ensures.stops im (read_now _ _ _ inv.reads.same tells inv.work) of (inv.walked tells of for))
+    (inv.searched tells of for known))
