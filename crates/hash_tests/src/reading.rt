@@ -4,8 +4,9 @@ use drafts::Draft;
 use file_tree::Name;
 use glock_names::{CallFault, Entry, Group, LockName, Missing, State, Step, View};
 use hash_dirs::{look, names, remove};
+use pointer_tables::{Pointer, PointerTable, PointerTableMut};
 use std::alloc::{AllocError, Global};
-use std::collections::BTreeMap;
+use std::collections::{BTreeMap, VecDeque};
 use std::test::Fail;
 use tree_tables::TreeTable;
 
@@ -74,7 +75,11 @@ const DIRECTORY: [Part; 32] = [
     ),
     (160, 40, b"\x00\x00\x41\xed"),
     (160, 52, b"\x00\x00\x00\x02"),
-    (160, 56, b"\x00\x00\x00\x00\x00\x00\x01\x00"),
+    (
+        160,
+        56,
+        b"\x00\x00\x00\x00\x00\x00\x01\x00\x00\x00\x00\x00\x00\x00\x00\x04",
+    ),
     (160, 128, b"\x00\x00\x00\x02"),
     (160, 146, b"\x00\x05\x00\x00\x00\x05"),
     (161, 0, b"\x01\x16\x19\x70\x00\x00\x00\x06"),
@@ -255,5 +260,41 @@ fn names_are_listed_and_taken(rt: HostRuntime) -> Result<(), Fail> {
     );
     assert_eq!(rt; look(&draft, 160, b"beta", &TABLE), Ok(Step::Is(None)));
     assert!(rt; gives(names(a, &draft, 160, &TABLE), &[b"zeta", b"alpha"]));
+    Ok(())
+}
+
+// Where a pointer leads, and the block in which it stands.
+fn pointer(leaf: u64, from: u64) -> Result<Step<Pointer>, CallFault> {
+    Ok(Step::Is(Pointer { leaf, from }))
+}
+
+#[test]
+fn a_table_is_doubled(rt: HostRuntime) -> Result<(), Fail> {
+    let a = rt.alloc();
+    let shelf = directory(a)?;
+    let mut draft = Draft::new(a, &shelf);
+    let mut room = VecDeque::new(a);
+    room.push_back(170)?;
+    room.push_back(171)?;
+    let mut table = TABLE;
+    let done = table.double(a, &mut draft, &mut room);
+    assert_eq!(rt; done, Ok(Step::Is(true)));
+    assert_eq!(rt; table.depth, 6);
+    assert_eq!(rt; table.get(&draft, 32), pointer(162, 170));
+    assert_eq!(rt; table.get(&draft, 63), pointer(162, 171));
+    Ok(())
+}
+
+#[test]
+fn pointers_are_set(rt: HostRuntime) -> Result<(), Fail> {
+    let a = rt.alloc();
+    let shelf = directory(a)?;
+    let mut draft = Draft::new(a, &shelf);
+    let mut table = TABLE;
+    let done = table.set(a, &mut draft, 8, 8, 162);
+    assert_eq!(rt; done, Ok(Step::Is(())));
+    assert_eq!(rt; table.depth, 5);
+    assert_eq!(rt; table.get(&draft, 7), pointer(161, 160));
+    assert_eq!(rt; table.get(&draft, 8), pointer(162, 160));
     Ok(())
 }

@@ -1,2 +1,4 @@
 pub mod Pointers
 pub mod Following
+pub mod Setting
+pub mod Doubling

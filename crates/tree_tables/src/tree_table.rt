@@ -21,7 +21,7 @@ use linear_dirs::lock_of;
 use pointer_tables::{Pointer, PointerTable};
 
 // Where the pointers of a table block begin.
-const IN_TABLE: usize = 24;
+pub(crate) const IN_TABLE: usize = 24;
 
 /// The table of the hashed directory with its dinode in this block, which is so deep.
 #[derive(Clone, Copy, Debug, PartialEq, Eq)]
@@ -162,16 +162,17 @@ fn table_pointer<V: View>(
 }
 
 // The fault of a block that breaks a rule.
-fn damaged(block: u64, rule: u16) -> CallFault
+pub(crate) fn damaged(block: u64, rule: u16) -> CallFault
     ensures { result ≡ CallFault.Damaged block rule }
 {
     CallFault::Damaged { block, rule }
 }
 
 // How many pointers a table of this depth has.
-fn pointers_of(depth: u16) -> u64
+pub(crate) fn pointers_of(depth: u16) -> u64
     requires { depth ≤ 15 }
-    ensures { result ≡ 2 ^ depth }
+    ensures value { result ≡ 2 ^ depth }
+    ensures most { result ≤ 2 ^ 15 }
 {
     1 << depth
 }
