@@ -8,6 +8,8 @@ mod listing;
 mod looking;
 mod removing;
 
+pub use chains::{IN_LEAF, LeafAt, damaged, leaf_at};
+pub use finding::index_of;
 pub use laws::chains_tell_names;
 pub use listing::names;
 pub use looking::look;

@@ -40,6 +40,7 @@ pub record HasPointersSet (h g : Holding) (from count leaf : ℕ) : Type 0 where
   pub sound : IsTreeSound h → IsTreeSound g
   pub placed : IsPlaced h → IsPlaced g
   pub dinode : dinode_in g ≡ dinode_in h
+  pub front : take dinode_length (bytes_at g h.own) ≡ take dinode_length (bytes_at h h.own)
   pub entries : (i : ℕ) → i < table_count h → entry g i ≡ (if is_within from count i then leaf else entry h i)
   pub stays : LeavesStay h g
 

@@ -1,5 +1,5 @@
 -- A run of pointers that is set in one block of a directory, as a view shows it: the directory is sound as before.
-use Rattle.std.proofs.Common.{◌≡◌, ◌≢◌, ℕ, suc, ◌≤◌, inl, inr, List, length, Option, Some, None, refl, sym, ap, ◌∙◌, subst, arith}
+use Rattle.std.proofs.Common.{◌≡◌, ◌≢◌, ℕ, suc, ◌≤◌, inl, inr, List, length, take, Option, Some, None, refl, sym, ap, ◌∙◌, subst, arith}
 use Rattle.std.specs.Prelude.{◌&&◌, IsSome, option_map}
 use Rattle.std.proofs.lemmas.Bool.{cases_eq}
 use Rattle.gfs2_layout.specs.Headers.{HasHeader}
@@ -73,6 +73,14 @@ module _ (v w : Seen) (a : ℕ) (h : Holding) (b : ℕ) (old new : List ℕ) (st
         let after : bytes_at g x ≡ new = ap (bytes_at g) here ∙ bytes_here in
         subst (HasHeader kind format) (sym after) (header_stays old new start count leaf step.set kind format low (subst (HasHeader kind format) before has))
     | inr other ↦ subst (HasHeader kind format) (sym (bytes_other x other)) has
+  ]
+
+  -- what stands before the pointers in the dinode's block stays
+  pub front_kept : (h.own ≡ b → 232 ≤ start) → take 232 (bytes_at g h.own) ≡ take 232 (bytes_at h h.own)
+  front_kept low = elim (cases_eq h.own b) [
+    | inl here ↦
+        ap (λ y. take 232 (bytes_at g y)) here ∙ ap (take 232) bytes_here ∙ step.set.elsewhere 0 232 (inl (low here)) ∙ ap (take 232) (sym bytes_old) ∙ ap (λ y. take 232 (bytes_at h y)) (sym here)
+    | inr other ↦ ap (take 232) (bytes_other h.own other)
   ]
 
   module _ (sound : IsTreeSound h) where

@@ -28,7 +28,7 @@ use Rattle.table_files.proofs.ContentParts.{IsContentPart, content_part, whole_b
 use Rattle.tree_tables.proofs.Entered.{entry_set_in_table, entry_set_stuffed}
 use Rattle.table_files.proofs.Entries.{within}
 use Rattle.tree_tables.proofs.Kept.{KeepsContentBlocks, KeepsWays, content_block_after, placed_after, sound_after}
-use Rattle.tree_tables.proofs.OneRun.{IsBlockSet, bytes_here, bytes_other, cells, g, keeps_stuffed, keeps_table, leaves_stay, table_after}
+use Rattle.tree_tables.proofs.OneRun.{front_kept, IsBlockSet, bytes_here, bytes_other, cells, g, keeps_stuffed, keeps_table, leaves_stay, table_after}
 
 -- so many pointers are set in the draft, and the blocks that have them stand where they stood
 abbrev pub IsSetKept : {V : Type 0} → (V → Seen) → Drafted V → Drafted V → TreeTable → Holding → ℕ → ℕ → ℕ → Type 0
@@ -81,16 +81,17 @@ module _ {V : Type 0} (seen : V → Seen) (before after : Drafted V) (t : TreeTa
       others = λ c none. fate_apart c (λ e. none (subst (λ x. IsSome (h'.cell x)) (sym e) cell_there));
     }
 
-    all_set : KeepsWays h k → ((hash place : ℕ) → part_at h run.block ≡ Some (InChain hash place) → ⊥)
+    all_set : (h.own ≡ run.block → 232 ≤ run.start) → KeepsWays h k → ((hash place : ℕ) → part_at h run.block ≡ Some (InChain hash place) → ⊥)
         → ((i : ℕ) → 8 * i + 8 ≤ (dinode_in h).size → entry h' i ≡ (if is_within index run.count i then leaf else entry h i)) → IsSetKept seen before after t h index run.count leaf
-    all_set keeps no_leaf entries = (
+    all_set low keeps no_leaf entries = (
       (
         table_after (seen_in seen before) (seen_in seen after) t.directory h run.block old new run.start run.count leaf table.shown step there sound t refl table large keeps,
         record {
           sound = λ s. sound_after h k keeps s;
           placed = λ p. placed_after h k keeps p;
           dinode = keeps.dinode;
-          entries = λ i low. entries i (omega (arith, table.size, ap (λ n. 2 ^ n) table.depth, low));
+          front = front_kept (seen_in seen before) (seen_in seen after) t.directory h run.block old new run.start run.count leaf table.shown step there low;
+          entries = λ i few. entries i (omega (arith, table.size, ap (λ n. 2 ^ n) table.depth, few));
           stays = leaves_stay (seen_in seen before) (seen_in seen after) t.directory h run.block old new run.start run.count leaf table.shown step there sound no_leaf;
         },
         drafted,
@@ -104,12 +105,15 @@ module _ {V : Type 0} (seen : V → Seen) (before after : Drafted V) (t : TreeTa
   pointed_no_leaf : {from j level first hash place : ℕ} → Some (Pointed from j level first) ≡ Some (InChain hash place) → ⊥
   pointed_no_leaf e = cc
 
+  itself_or_pointed : {from j level first : ℕ} → Some Itself ≡ Some (Pointed from j level first) → ⊥
+  itself_or_pointed e = cc
+
   set_stuffed : IsBehindDinode h index run → IsSetKept seen before after t h index run.count leaf
   set_stuffed behind =
       let there : IsSome (h.cell run.block) = subst (λ x. IsSome (h.cell x)) (sym behind.block) table.shown.dinode in
       let far : 232 ≤ run.start = omega (arith, behind.start) in
       let keeps = keeps_stuffed (seen_in seen before) (seen_in seen after) t.directory h run.block old new run.start run.count leaf table.shown step there sound behind.block behind.stuffed far in
-      all_set there keeps (λ hash place at. itself_no_leaf (sym placed.own ∙ ap (part_at h) (sym behind.block) ∙ at))
+      all_set there (λ _. far) keeps (λ hash place at. itself_no_leaf (sym placed.own ∙ ap (part_at h) (sym behind.block) ∙ at))
       (λ i low. entry_set_stuffed (seen_in seen before) (seen_in seen after) t.directory h run.block old new run.start run.count leaf table.shown step there keeps index i low behind.block behind.stuffed behind.start)
 
   set_in_table : 8 * index + 8 ≤ (dinode_in h).size → 1 ≤ run.count → IsInTable h index run → IsSetKept seen before after t h index run.count leaf
@@ -121,7 +125,7 @@ module _ {V : Type 0} (seen : V → Seen) (before after : Drafted V) (t : TreeTa
       let there : IsSome (h.cell run.block) = is_there (h.cell run.block) (Pointed part.0 part.1 0 (8 * index / unit h)) part.2 in
       let far : 24 ≤ run.start = omega (arith, inside.start) in
       let keeps = keeps_table (seen_in seen before) (seen_in seen after) t.directory h run.block old new run.start run.count leaf table.shown step there sound part.0 part.1 (8 * index / unit h) part.2 placed.own far in
-      all_set there keeps (λ hash place at. pointed_no_leaf (sym part.2 ∙ at))
+      all_set there (λ e. absurd (itself_or_pointed (sym placed.own ∙ ap (part_at h) e ∙ part.2))) keeps (λ hash place at. pointed_no_leaf (sym part.2 ∙ at))
       (λ i less. entry_set_in_table (seen_in seen before) (seen_in seen after) t.directory h run.block old new run.start run.count leaf table.shown step there keeps index i less
       inside.level inside.high block_size large directory sound inside.there inside.block inside.start inside.within counts low)
 

@@ -51,6 +51,7 @@ none_set_in {V} seen old t h from leaf table =
           sound = λ s. s;
           placed = λ p. p;
           dinode = refl;
+          front = refl;
           entries = λ i low. choose from 0 i leaf (entry h i) (entry h i) (λ more less. absurd (omega (arith, more, less))) (λ apart. refl);
           stays = record { leaves = λ x hash place at. refl; parts = λ x hash place at. at };
         },
@@ -110,6 +111,7 @@ module _ {V : Type 0} (seen : V → Seen) (old mid new : Drafted V) (t : TreeTab
     sound = λ s. next.1.sound (first.1.sound s);
     placed = λ p. next.1.placed (first.1.placed p);
     dinode = next.1.dinode ∙ first.1.dinode;
+    front = next.1.front ∙ first.1.front;
     entries = λ i low. both_set from k n i leaf (entry h i) (entry g1 i) (entry g2 i) (first.1.entries i low) (next.1.entries i (omega (arith, low, counts_same)));
     stays = record {
       leaves = λ x hash place at. let same = first.1.stays.leaves x hash place at in next.1.stays.leaves x hash place (ap cell_part same ∙ at) ∙ same;

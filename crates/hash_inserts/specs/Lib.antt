@@ -1,0 +1,5 @@
+pub mod Needing
+pub mod Inserting
+pub mod Writing
+pub mod Drafting
+pub mod Walking
