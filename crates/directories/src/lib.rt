@@ -7,4 +7,4 @@ mod looking;
 
 pub use laws::{directories_say_their_records, sound_directories_break_nothing};
 pub use listing::names;
-pub use looking::look;
+pub use looking::{is_hashed, look};

@@ -17,3 +17,4 @@ mod writing;
 pub use inserting::insert;
 pub use needing::need_insert;
 pub use splitting::split;
+pub use walking::area_has_room;

@@ -1,18 +1,21 @@
--- How many blocks a name takes is one number: what is told by rules is what is counted.
-use Rattle.std.proofs.Common.{◌≡◌, ◌≢◌, ◌⊎◌, inl, inr, ℕ, zero, suc, ◌+◌, ◌-◌, ◌*◌, ◌^◌, ◌<◌, ◌≤◌, Bool, true, false, List, [], ◌∷◌, length, map, refl, sym, ap, ap₂, ◌∙◌, subst, cond, arith}
-use Rattle.std.specs.Prelude.{◌==◌, ◌&&◌, if◌then◌else◌, nat_le, nat_lt}
+-- How many blocks a name takes is one number: what the rules of an insertion tell is what is counted.
+use Rattle.std.proofs.Common.{◌≡◌, ◌⊎◌, inl, inr, ℕ, zero, suc, ◌+◌, ◌*◌, ◌^◌, ◌<◌, ◌≤◌, Bool, true, false, List, [], ◌∷◌, length, map, refl, sym, ap, ap₂, ◌∙◌, subst, arith}
+use Rattle.std.specs.Prelude.{◌==◌, ◌&&◌, nat_lt, slice_get, unwrap_or}
 use Rattle.std.specs.List.{list_any}
-use Rattle.std.proofs.lemmas.Bool.{cond-false, cond-true}
-use Rattle.std.proofs.lemmas.Bool.Decides.{nat_tests}
+use Rattle.std.proofs.lemmas.Bool.{cond-false, cond-true, eq-eqb, le-leb, le-ltb, lt-leb, lt-ltb, ne_eqb}
+use Rattle.crc_words.specs.Remainder.{crc32_of}
 use Rattle.gfs2_layout.specs.Area.{Slot, slots_of}
-use Rattle.gfs2_layout.specs.Holding.{Holding, InChain, part_at}
-use Rattle.gfs2_layout.specs.Inode.{first_hash, is_hashed_in, leaf_area, leaf_in}
-use Rattle.hash_dirs.specs.Shown.{IsInChain, IsSound, chain_head, chain_next, index_for}
+use Rattle.gfs2_layout.specs.Device.{IsBlockSize}
+use Rattle.gfs2_layout.specs.Holding.{Holding, InChain}
+use Rattle.gfs2_layout.specs.Inode.{entry, first_hash, is_hashed_in, leaf_area, leaf_in, table_count}
+use Rattle.pointer_tables.specs.Directories.{chain_head, chain_next}
+use Rattle.pointer_tables.specs.Tables.{doubling_need}
+use Rattle.hash_dirs.specs.Shown.{IsInChain, IsSound, index_for}
 use Rattle.hash_dirs.proofs.Along.{comes_back}
-use Rattle.hash_dirs.proofs.Chained.{in_chain, inside, same_hash, some_block}
+use Rattle.hash_dirs.proofs.Chained.{deep, in_chain, index_low, inside, rules, same_hash, some_block}
 use Rattle.hash_steps.specs.Leaves.{has_room_for}
-use Rattle.hash_inserts.specs.Needing.{AreLeavesFrom, Chain, Needs, a_doubling, a_leaf, a_split, doubled, nothing, one_more, split_for, the_last}
-use Rattle.name_inserts.specs.Need.{first_leaf, has_one, is_growable, leaves_from, need_within}
+use Rattle.hash_inserts.specs.Needing.{AreLeavesFrom, Chain, Needs, TakesBlocks, a_doubling, a_leaf, a_split, doubled, nothing, one_more, split_for, the_last}
+use Rattle.name_inserts.specs.Need.{chain_of, first_leaf, has_one, is_growable, leaves_from, most_steps, need_in_hashed, need_within}
 
 -- ---- the count of a chain
 
@@ -23,8 +26,8 @@ pub record IsBounded (steps : ℕ) (c : Chain) : Type 0 where
   pub depth : c.depth ≤ c.table
   pub enough : 30 < c.depth + c.table + steps
 
-deep : (table size : ℕ) → size ≤ 4096 → table ≤ 15 → 2 * 2 ^ table ≤ 8 * size → table + 1 ≤ 15
-deep table size low le can = grind arith
+deeper : (table size : ℕ) → size ≤ 4096 → table ≤ 15 → 2 * 2 ^ table ≤ 8 * size → table + 1 ≤ 15
+deeper table size low le can = grind arith
 
 both_false : (a b : Bool) → b ≡ false → (a && b) ≡ false
 both_false true b e = e
@@ -90,7 +93,7 @@ needs_within len hash _ c (a_doubling _ slots n full one low can more) (suc s) b
     by_doubling s len hash c full (both_false (has_one c) (nat_lt c.depth c.table) (le-ltb c.depth c.table low)) (both_true (has_one c) (is_growable c) (is_one c slots one) (le-leb (2 * 2 ^ c.table) (8 * c.size) can))
     ∙ ap (λ k. k + doubling_need c.size c.height (2 ^ c.table)) (needs_within len hash n (doubled c) more s (record {
       size = b.size;
-      table = deep c.table c.size b.size b.table can;
+      table = deeper c.table c.size b.size b.table can;
       depth = omega (arith, b.depth);
       enough = omega (arith, b.enough);
     }))
@@ -144,6 +147,12 @@ module _ (h : Holding) where
 
 -- ---- of a hashed directory
 
+small_blocks : (size : ℕ) → IsBlockSize size → size ≤ 4096
+small_blocks size (inl e) = omega (arith, e)
+small_blocks size (inr (inl e)) = omega (arith, e)
+small_blocks size (inr (inr (inl e))) = omega (arith, e)
+small_blocks size (inr (inr (inr e))) = omega (arith, e)
+
 -- what an insertion takes by the rules is what is counted
 pub need_is : (h : Holding) (name : List ℕ) (n : ℕ) → IsSound h → is_hashed_in h ≡ true → crc32_of name < 2 ^ 32 → TakesBlocks h name n → n ≡ need_in_hashed h name
 need_is h name n sound hashed small takes =
@@ -163,8 +172,8 @@ need_is h name n sound hashed small takes =
 
     bounded : IsBounded most_steps (chain_of h name)
     bounded = record {
-      size = size_low;
-      table = deep_in_table;
-      depth = leaf_low;
+      size = small_blocks h.size sound.block_size;
+      table = deep h sound hashed;
+      depth = ((rules h sound hashed).leaves (entry h (index_for h name)) (first_hash h (index_for h name)) 0 ((rules h sound hashed).leads (index_for h name) low)).depth;
       enough = omega arith;
     }

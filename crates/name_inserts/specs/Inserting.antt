@@ -19,8 +19,8 @@ use Rattle.linear_dirs.specs.Shown.{head_for, record_for}
 use Rattle.pointer_tables.specs.Tables.{DraftsDirectory}
 use Rattle.hash_dirs.specs.Shown.{IsSound}
 use Rattle.hash_steps.specs.Steps.{IsConverted}
-use Rattle.hash_inserts.specs.Inserting.{IsInserted, IsInsertedAt}
-use Rattle.hash_inserts.specs.Inserting as hashed
+use Rattle.hash_inserts.specs.Inserting.{IsInserted, IsNeededToInsert, IsWrongToInsert}
+use Rattle.directories.specs.Shown.{IsBroken}
 use Rattle.name_inserts.specs.Need.{has_linear_room, name_need}
 
 -- ---- how a name comes in
@@ -55,13 +55,6 @@ pub record PutsName (old new : FinMap nat_cmp Fate) (room left : List ℕ) (name
   pub named : IsNamed name e h g taken
   pub exchanged : HasExchanged h g [] (record_for name e ∷ [])
   pub sound : IsSound g
-
--- What becomes of any block, whatever the view shows of the directory: from the front of the room some blocks are taken, and no other block than
--- these is put but its dinode's and data blocks of groups.
-pub record PutsInside (v : Seen) (old new : FinMap nat_cmp Fate) (dir : ℕ) (room left : List ℕ) : Type 0 where
-  pub taken : List ℕ
-  pub front : room ≡ taken ++ left
-  pub only : (b : ℕ) → (get new b ≡ get old b) ⊎ ((b ≡ dir) ⊎ (Contains taken b ⊎ HasDataBlock v b))
 
 -- ---- what is asked for, and damage
 
