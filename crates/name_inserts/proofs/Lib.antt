@@ -1,1 +1,3 @@
 pub mod Needed
+pub mod Forms
+pub mod Converted

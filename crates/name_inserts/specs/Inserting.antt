@@ -1,25 +1,26 @@
 -- What becomes of a directory that gets a name, whatever its form.
-use Rattle.std.specs.Prelude.{ℕ, ◌≡◌, ◌⊎◌, true, false, List, [], ◌∷◌, ◌++◌, length, Contains, None, Some, IsSome}
+use Rattle.std.specs.Prelude.{ℕ, ◌≡◌, ◌⊎◌, ◌^◌, ◌<◌, ◌≤◌, true, false, List, [], ◌∷◌, ◌++◌, length, Contains, None, Some, IsSome}
 use Rattle.std.specs.FinMap.{FinMap, get}
 use Rattle.std.specs.Ordering.{nat_cmp}
 use Rattle.drafts.specs.declared.fate.Fate.{Fate}
 use Rattle.gfs2_layout.specs.Area.{slots_of}
 use Rattle.gfs2_layout.specs.Exchanges.{IsCounted}
 use Rattle.gfs2_layout.specs.Holding.{Holding, Pointed, bytes_at, part_at}
-use Rattle.gfs2_layout.specs.Inode.{dinode_in, is_directory_in, is_hashed_in, linear_area}
+use Rattle.gfs2_layout.specs.Inode.{dinode_in, is_directory_in, is_hashed_in, linear_area, records_of}
 use Rattle.gfs2_layout.specs.Putting.{put_slot}
+use Rattle.gfs2_layout.specs.Records.{record_named}
 use Rattle.glock_names.specs.Views.{Seen}
 use Rattle.glock_names.specs.declared.steps.Entry.{Entry}
 use Rattle.glock_names.specs.declared.steps.Missing.{Missing}
 use Rattle.dinode_tree.specs.Walking.{missing_dinode}
-use Rattle.growth_drafts.specs.Taken.{HasTaken}
+use Rattle.growth_drafts.specs.Taken.{AreFreeFor, HasTaken}
 use Rattle.linear_dirs.specs.Broken as linear
 use Rattle.linear_dirs.specs.Exchanges.{HasExchanged, IsLaidOver, uncounted}
 use Rattle.linear_dirs.specs.Shown.{head_for, record_for}
 use Rattle.pointer_tables.specs.Tables.{DraftsDirectory}
 use Rattle.hash_dirs.specs.Shown.{IsSound}
 use Rattle.hash_steps.specs.Steps.{IsConverted}
-use Rattle.hash_inserts.specs.Inserting.{IsInserted, IsNeededToInsert, IsWrongToInsert}
+use Rattle.hash_inserts.specs.Inserting.{CanCountOne, IsInserted, IsNeededToInsert, IsWrongToInsert}
 use Rattle.directories.specs.Shown.{IsBroken}
 use Rattle.name_inserts.specs.Need.{has_linear_room, name_need}
 
@@ -43,6 +44,17 @@ pub data IsNamed (name : List ℕ) (e : Entry) : Holding → Holding → List �
       → IsInserted name e m g taken → IsNamed name e h g (b ∷ taken)
 
 -- ---- in a draft
+
+-- A sound directory that hasn't the name, in an image of fewer than 2^64 blocks, whose dinode can count it; and these blocks may be taken for it, and are
+-- enough.
+pub record CanGetName (h : Holding) (name room : List ℕ) : Type 0 where
+  pub sound : IsSound h
+  pub directory : is_directory_in h ≡ true
+  pub counts : CanCountOne h
+  pub few : h.count < 2 ^ 64
+  pub absent : record_named (records_of h) name ≡ None
+  pub free : AreFreeFor h room
+  pub enough : name_need h name ≤ length room
 
 -- The directory got the name: from the front of the room it took as many blocks as the name needs. The draft puts each block that the directory then
 -- has, under its lock, or leaves it, and does nothing to any other.

@@ -1,5 +1,5 @@
 -- How many blocks a name takes that comes into a directory, whatever its form.
-use Rattle.std.specs.Prelude.{ℕ, suc, zero, ◌+◌, ◌*◌, ◌^◌, ◌==◌, ◌&&◌, nat_le, nat_lt, Bool, if◌then◌else◌, List, [], ◌∷◌, length, map, slice_get, unwrap_or}
+use Rattle.std.specs.Prelude.{ℕ, suc, zero, ◌+◌, ◌-◌, ◌*◌, ◌^◌, ◌==◌, ◌&&◌, nat_le, nat_lt, Bool, if◌then◌else◌, List, [], ◌∷◌, length, map, slice_get, unwrap_or}
 use Rattle.std.specs.List.{list_any}
 use Rattle.crc_words.specs.Remainder.{crc32_of}
 use Rattle.gfs2_layout.specs.Area.{Slot, slots_of}
@@ -27,7 +27,7 @@ first_leaf c = unwrap_or (slice_get c.leaves 0) []
 
 -- How many blocks a name of this length and hash takes, in so many steps at most. Of three rules the first that fits is followed, until a leaf has
 -- room: the one leaf is split; the table is doubled; a leaf is added.
-pub need_within : ℕ → ℕ → ℕ → Chain → ℕ
+unfoldable pub need_within : ℕ → ℕ → ℕ → Chain → ℕ
 need_within zero len hash c = 0
 need_within (suc steps) len hash c =
     if list_any (has_room_for len) c.leaves then 0
@@ -40,7 +40,7 @@ abbrev pub most_steps : ℕ
 most_steps = 31
 
 -- so many leaves of a chain at most, from this one on
-pub leaves_from : ℕ → Holding → ℕ → List ℕ
+unfoldable pub leaves_from : ℕ → Holding → ℕ → List ℕ
 leaves_from zero h x = []
 leaves_from (suc more) h x = x ∷ (if (leaf_in h x).next == 0 then [] else leaves_from more h (leaf_in h x).next)
 

@@ -60,7 +60,8 @@ fn need_in_linear<V: View>(
     ensures damaged { (h : Holding) → inode.IsShown (V.seen view.now) dir h → IfDamaged result (linear.IsBroken h) }
     ensures kept { IfDamaged result (IsOfView (V.seen view.now)) }
 {
-    if has_room(view, dir, name.len() as u16)? {
+    let fits = has_room(view, dir, name.len() as u16)?;
+    if fits {
         return Ok(Step::Is(0));
     }
     need_first(alloc, view, dir, name)

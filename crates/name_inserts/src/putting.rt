@@ -16,7 +16,7 @@ ghost use Rattle.hash_dirs.specs.Shown.{IsSound};
 ghost use Rattle.hash_inserts.specs.Inserting.{CanCountOne, Inserts, StaysInside};
 ghost use Rattle.hash_inserts.specs.Needing.{TakesBlocks};
 ghost use Rattle.name_inserts.specs.Need.{has_linear_room, name_need};
-ghost use Rattle.name_inserts.specs.Inserting.{IsNeededForName, IsPutInLinear, IsWrongForName, PutsName};
+ghost use Rattle.name_inserts.specs.Inserting.{CanGetName, IsNeededForName, IsPutInLinear, IsWrongForName, PutsName};
 
 use dinode_tree::read_dinode;
 use directories::is_hashed;
@@ -40,8 +40,7 @@ fn put_in_hashed<V: View>(
     requires short { length name.now ≤ 255 }
     requires number { entry.number ≢ 0 }
     requires address { entry.addr ≢ 0 }
-    ensures put { (h : Holding) → IsShown (seen_in V.seen draft.old) dir h → is_hashed_in h ≡ true → IsSound h → CanCountOne h → h.count < 2 ^ 64 → record_named (records_of h) name.now ≡ None
-        → AreFreeFor h room.old.items → (need : ℕ) → TakesBlocks h name.now need → need ≤ length room.old.items
+    ensures put { (h : Holding) → IsShown (seen_in V.seen draft.old) dir h → is_hashed_in h ≡ true → IsSound h → CanCountOne h → h.count < 2 ^ 64 → record_named (records_of h) name.now ≡ None → AreFreeFor h room.old.items → (need : ℕ) → TakesBlocks h name.now need → need ≤ length room.old.items
         → IfIs result (λ done. (done ≡ true) × ((g : Holding) × IsShown (seen_in V.seen draft.new) dir g × Inserts draft.old.fates draft.new.fates room.old.items room.new.items need name.now entry h g)) }
     ensures inside { IfIs result (λ done. done ≡ true → StaysInside (seen_in V.seen draft.old) draft.old.fates draft.new.fates room.old.items room.new.items dir) }
     ensures needed { (h : Holding) → IsShown (seen_in V.seen draft.old) dir h → is_hashed_in h ≡ true → IfNeedBlock result (IsNeededForName (seen_in V.seen draft.old) h name.now) }
@@ -73,8 +72,7 @@ fn put_converted<V: View>(
     requires short { length name.now ≤ 255 }
     requires number { entry.number ≢ 0 }
     requires address { entry.addr ≢ 0 }
-    ensures put { (h : Holding) → inode.IsShown (seen_in V.seen draft.old) dir h → IsSound h → is_directory_in h ≡ true → is_hashed_in h ≡ false → has_linear_room h name.now ≡ false → CanCountOne h → h.count < 2 ^ 64
-        → record_named (records_of h) name.now ≡ None → AreFreeFor h room.old.items → name_need h name.now ≤ length room.old.items
+    ensures put { (h : Holding) → inode.IsShown (seen_in V.seen draft.old) dir h → is_hashed_in h ≡ false → has_linear_room h name.now ≡ false → CanGetName h name.now room.old.items
         → IfIs result (λ done. (done ≡ true) × ((g : Holding) × IsShown (seen_in V.seen draft.new) dir g × PutsName draft.old.fates draft.new.fates room.old.items room.new.items name.now entry h g)) }
     ensures inside { IfIs result (λ done. done ≡ true → StaysInside (seen_in V.seen draft.old) draft.old.fates draft.new.fates room.old.items room.new.items dir) }
     ensures needed { IfNeedBlock result (λ missing. missing ≡ missing_dinode dir) }
@@ -118,8 +116,7 @@ pub fn put_name<V: View>(
     requires short { length name.now ≤ 255 }
     requires number { entry.number ≢ 0 }
     requires address { entry.addr ≢ 0 }
-    ensures put { (h : Holding) → IsShown (seen_in V.seen draft.old) dir h → IsSound h → is_directory_in h ≡ true → CanCountOne h → h.count < 2 ^ 64 → record_named (records_of h) name.now ≡ None
-        → AreFreeFor h room.old.items → name_need h name.now ≤ length room.old.items
+    ensures put { (h : Holding) → IsShown (seen_in V.seen draft.old) dir h → CanGetName h name.now room.old.items
         → IfIs result (λ done. (done ≡ true) × ((g : Holding) × IsShown (seen_in V.seen draft.new) dir g × PutsName draft.old.fates draft.new.fates room.old.items room.new.items name.now entry h g)) }
     ensures linear { (h : Holding) → IsShown (seen_in V.seen draft.old) dir h → is_hashed_in h ≡ false → has_linear_room h name.now ≡ true
         → IfIs result (λ done. (done ≡ true) × (room.new.items ≡ room.old.items) × IsPutInLinear h (holding_over (seen_in V.seen draft.new) h) name.now entry) }
