@@ -9,7 +9,7 @@ ghost use Rattle.dinode_tree.specs.Below.{AnyIndex};
 ghost use Rattle.dinode_tree.specs.Reading.{IsNeeded};
 ghost use Rattle.linear_dirs.specs.Shown.{holding_over};
 ghost use Rattle.pointer_tables.specs.Directories.{EachPointerLeads, HasPointerOf, IsOfPointers, IsPlaced, IsTableBroken, IsTreeSound};
-ghost use Rattle.pointer_tables.specs.Tables.{CanDouble, DraftsDirectory, HasPointersSet, TakesDoubled};
+ghost use Rattle.pointer_tables.specs.Tables.{CanDouble, DraftsDirectory, HasPointersSet, TakesDoubled, TakesWithin};
 
 use crate::PointerTable;
 use drafts::Draft;
@@ -61,6 +61,7 @@ pub trait PointerTableMut: PointerTable {
         ensures deep { IfIs result (λ done. Self.deep self.new ≡ Self.deep self.old + (if done then 1 else 0)) }
         ensures doubled { (h : Holding) → Self.shows self.old (seen_in V.seen draft.old) h → CanDouble h room.old.items
             → IfIs result (λ done. (done ≡ true) × ((g : Holding) × Self.shows self.new (seen_in V.seen draft.new) g × TakesDoubled draft.old.fates draft.new.fates room.old.items room.new.items h g)) }
+        ensures parts { (h : Holding) → Self.shows self.old (seen_in V.seen draft.old) h → IfIs result (λ done. done ≡ true → TakesWithin draft.old.fates draft.new.fates room.old.items room.new.items h) }
         ensures undone { IfIs result (λ done. done ≡ false → (draft.new ≡ draft.old) × (room.new.items ≡ room.old.items) × (self.new ≡ self.old)) }
         ensures view { draft.new.view ≡ draft.old.view }
         ensures needed { (h : Holding) → Self.shows self.old (seen_in V.seen draft.old) h → IfNeedBlock result (IsNeeded (seen_in V.seen draft.old) h AnyIndex 0) }
