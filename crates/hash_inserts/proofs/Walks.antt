@@ -3,11 +3,11 @@ use Rattle.std.proofs.Common.{◌≡◌, ◌⊎◌, ℕ, ◌+◌, ◌<◌, inl, 
 use Rattle.gfs2_layout.specs.Area.{slots_of}
 use Rattle.gfs2_layout.specs.Holding.{Holding}
 use Rattle.gfs2_layout.specs.Inode.{leaf_area}
-use Rattle.glock_names.specs.Views.{Seen, HasBlock}
+use Rattle.glock_names.specs.Views.{Seen}
 use Rattle.hash_dirs.specs.Shown.{IsInChain}
 use Rattle.hash_dirs.proofs.Along.{chain_one}
 use Rattle.hash_steps.specs.Leaves.{has_room_for}
-use Rattle.hash_inserts.specs.Walking.{IsRoomBefore, SeesChainBefore, first_with}
+use Rattle.hash_inserts.specs.Walking.{IsRoomBefore, SeesChainBefore, SeesLeaf, first_with}
 
 last_or : (earlier place : ℕ) → earlier < place + 1 → (earlier < place) ⊎ (earlier ≡ place)
 last_or earlier place low = grind arith
@@ -23,8 +23,8 @@ module _ (h : Holding) (i place link : ℕ) (chain : IsInChain h i place link) w
   ]
 
   -- and that it is there
-  pub sees_more : (v : Seen) → HasBlock v link → SeesChainBefore v h i place → SeesChainBefore v h i (place + 1)
+  pub sees_more : (v : Seen) → SeesLeaf v link → SeesChainBefore v h i place → SeesChainBefore v h i (place + 1)
   sees_more v has was earlier x before there = elim (last_or earlier place before) [
     | inl low ↦ was earlier x low there
-    | inr top ↦ subst (HasBlock v) (chain_one h i place link x chain (subst (λ n. IsInChain h i n x) top there)) has
+    | inr top ↦ subst (SeesLeaf v) (chain_one h i place link x chain (subst (λ n. IsInChain h i n x) top there)) has
   ]

@@ -4,17 +4,20 @@ use Rattle.std.specs.FinMap.{FinMap, get}
 use Rattle.std.specs.Ordering.{nat_cmp}
 use Rattle.drafts.specs.declared.fate.Fate.{Fate}
 use Rattle.gfs2_layout.specs.Area.{slots_of}
-use Rattle.gfs2_layout.specs.Holding.{Holding, Pointed, part_at}
+use Rattle.gfs2_layout.specs.Holding.{Holding, Pointed, bytes_at, part_at}
 use Rattle.gfs2_layout.specs.Inode.{depth_in, dinode_in, leaf_area, table_count}
 use Rattle.glock_names.specs.Views.{Seen}
 use Rattle.glock_names.specs.declared.steps.Entry.{Entry}
 use Rattle.glock_names.specs.declared.steps.Missing.{Missing}
-use Rattle.dinode_tree.specs.Below.{AnyIndex}
+use Rattle.dinode_tree.specs.Below.{AnyIndex, IsLedFrom}
+use Rattle.dinode_tree.specs.Pads.{KeepsPads}
 use Rattle.dinode_tree.specs.Reading.{IsNeeded}
 use Rattle.growth_drafts.specs.Taken.{HasTaken}
 use Rattle.linear_dirs.specs.Exchanges.{HasExchanged}
 use Rattle.linear_dirs.specs.Shown.{record_for}
-use Rattle.pointer_tables.specs.Tables.{DraftsDirectory, IsDoubled}
+use Rattle.pointer_tables.specs.Tables.{DraftsDirectory, GrowsAsFile, IsClearBehind, IsDoubled, KeepsTableHeaders, doubling_need_of}
+use Rattle.resource_groups.specs.Putting.{HasDataBlock}
+use Rattle.hash_dirs.specs.Broken.{IsWrongIn}
 use Rattle.hash_dirs.specs.Shown.{IsInChain, IsNeededFor, IsSound, index_for}
 use Rattle.hash_steps.specs.Laws.{Stays}
 use Rattle.hash_steps.specs.Leaves.{HasOneLeaf, IsFull, IsFullBefore, has_room_for, leaf_depth}
@@ -32,6 +35,16 @@ HasOneLeafFor h name = HasOneLeaf h (index_for h name)
 abbrev pub depth_for : Holding → List ℕ → ℕ
 depth_for h name = leaf_depth h (index_for h name)
 
+-- The table is doubled, with as many blocks more as that takes. The dinode keeps its pads; each table block has its header, an old one that which it had;
+-- zeros stand behind the last pointer; and the blocks stand as those of a file that grows.
+pub record HasDoubled (h m : Holding) (more : List ℕ) : Type 0 where
+  pub doubled : IsDoubled h m more
+  pub needed : length more ≡ doubling_need_of h
+  pub pads : KeepsPads (bytes_at h h.own) (bytes_at m m.own)
+  pub headers : KeepsTableHeaders h m more
+  pub clear : IsClearBehind m
+  pub grown : GrowsAsFile h m more
+
 -- `IsInserted name e h g taken`: the directory gets the name, and takes these blocks for it, in this order. Of three rules the first that fits is
 -- followed, until a leaf has room; the directory is sound in between.
 pub data IsInserted (name : List ℕ) (e : Entry) : Holding → Holding → List ℕ → Type 0 where
@@ -39,7 +52,7 @@ pub data IsInserted (name : List ℕ) (e : Entry) : Holding → Holding → List
   after_split : (h m g : Holding) (b : ℕ) (taken : List ℕ) → HasNoRoom h name → HasOneLeafFor h name → depth_for h name < depth_in h
       → IsSplit h m (index_for h name) b → IsSound m → IsInserted name e m g taken → IsInserted name e h g (b ∷ taken)
   after_doubling : (h m g : Holding) (more taken : List ℕ) → HasNoRoom h name → HasOneLeafFor h name → depth_for h name ≡ depth_in h → 2 * table_count h ≤ 8 * h.size
-      → IsDoubled h m more → IsSound m → IsInserted name e m g taken → IsInserted name e h g (more ++ taken)
+      → HasDoubled h m more → IsSound m → IsInserted name e m g taken → IsInserted name e h g (more ++ taken)
   after_leaf : (h m g : Holding) (b : ℕ) → HasNoRoom h name → (HasOneLeafFor h name → (depth_for h name ≡ depth_in h) × (8 * h.size < 2 * table_count h))
       → IsLengthened h m (index_for h name) b → IsSound m → IsPutInLeaf m g name e → IsInserted name e h g (b ∷ [])
 
@@ -72,6 +85,18 @@ pub record Inserts (old new : FinMap nat_cmp Fate) (room left : List ℕ) (need 
   pub exchanged : HasExchanged h g [] (record_for name e ∷ [])
   pub sound : IsSound g
 
+-- A block to which an insertion may do something, whatever the directory is: its dinode's, one that is taken, or a data block of a group.
+pub data MayChange (v : Seen) (dir : ℕ) (taken : List ℕ) (b : ℕ) : Type 0 where
+  the_dinode : b ≡ dir → MayChange v dir taken b
+  a_taken_one : Contains taken b → MayChange v dir taken b
+  a_data_block : HasDataBlock v b → MayChange v dir taken b
+
+-- nothing becomes of any other block, and what is taken is the front of the room
+pub record StaysInside (v : Seen) (old new : FinMap nat_cmp Fate) (room left : List ℕ) (dir : ℕ) : Type 0 where
+  pub taken : List ℕ
+  pub front : room ≡ taken ++ left
+  pub changes : (b : ℕ) → (get new b ≡ get old b) ⊎ MayChange v dir taken b
+
 -- a block to which a split does something: the dinode's, the leaf's, the new leaf's, and those with pointers to it
 pub data IsSplitAt (h : Holding) (i taken b : ℕ) : Type 0 where
   its_dinode : b ≡ h.own → IsSplitAt h i taken b
@@ -103,6 +128,15 @@ pub data IsNeededToInsert (v : Seen) (h : Holding) (name : List ℕ) (m : Missin
 pub data IsNeededToSplit (v : Seen) (h : Holding) (index : ℕ) (m : Missing) : Type 0 where
   of_leaf : IsNeededFor v h (λ i. i ≡ index) m → IsNeededToSplit v h index m
   of_pointers : IsNeeded v h AnyIndex 0 m → IsNeededToSplit v h index m
+
+-- ---- what is told
+
+-- The block breaks this rule, as the view shows the directory; or (2) a pointer of the directory's tree stands in it that leads to no data block of a group.
+pub data IsWrongToInsert (v : Seen) (h : Holding) : ℕ → ℕ → Type 0 where
+  in_directory : (rule b : ℕ) → IsWrongIn v h rule b → IsWrongToInsert v h rule b
+  stray_pointer : (from b : ℕ) → IsLedFrom h from b → ¬ (HasDataBlock v b) → IsWrongToInsert v h 2 from
+
+-- ---- what is asked of the dinode
 
 -- the dinode's counts of records and of links have numbers above them
 pub record CanCountOne (h : Holding) : Type 0 where

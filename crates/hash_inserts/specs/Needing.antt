@@ -4,13 +4,16 @@ use Rattle.std.specs.List.{list_any}
 use Rattle.crc_words.specs.Remainder.{crc32_of}
 use Rattle.gfs2_layout.specs.Area.{Slot, slots_of}
 use Rattle.gfs2_layout.specs.Holding.{Holding}
-use Rattle.gfs2_layout.specs.Inode.{dinode_in, depth_in, entry, leaf_area, leaf_in, leaf_length, linear_area}
+use Rattle.gfs2_layout.specs.Inode.{dinode_in, depth_in, entry, entry_block, leaf_area, leaf_in, leaf_length, linear_area}
+use Rattle.glock_names.specs.Views.{Seen, HasBlock}
 use Rattle.leaf_areas.specs.Moving.{in_use, packed}
 use Rattle.leaf_areas.specs.Splitting.{bit_at, lower_half, upper_half}
 use Rattle.pointer_tables.specs.Tables.{doubling_need, table_height}
-use Rattle.hash_dirs.specs.Shown.{index_for}
+use Rattle.hash_dirs.specs.Shown.{IsInChain, index_for}
 use Rattle.hash_steps.specs.Leaves.{has_room_for, leaf_depth}
 use Rattle.hash_steps.specs.Steps.{first_count}
+use Rattle.hash_inserts.specs.Drafting.{SeesTree}
+use Rattle.hash_inserts.specs.Inserting.{HasNoRoom, HasOneLeafFor}
 
 -- What an insertion looks at: the size of a block, the height of the dinode, the depth of the table, and the leaves of the name's chain with the depth that they have.
 pub record Chain : Type 0 where
@@ -72,6 +75,13 @@ pub record TakesBlocks (h : Holding) (name : List ℕ) (n : ℕ) : Type 0 where
   pub chain : Chain
   pub is : IsChainOf h name chain
   pub needs : Needs (length name) (crc32_of name) chain n
+
+-- The view has what an insertion of the name looks at: the block with its pointer, the leaves of its chain, and where the one leaf of that has no room
+-- each block of the table.
+pub record SeesToInsert (v : Seen) (h : Holding) (name : List ℕ) : Type 0 where
+  pub pointer : HasBlock v (entry_block h (index_for h name))
+  pub leaves : (place x : ℕ) → IsInChain h (index_for h name) place x → HasBlock v x
+  pub table : HasNoRoom h name → HasOneLeafFor h name → SeesTree v h
 
 -- ---- a linear directory
 

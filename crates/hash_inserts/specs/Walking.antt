@@ -4,6 +4,7 @@ use Rattle.gfs2_layout.specs.Area.{slots_of}
 use Rattle.gfs2_layout.specs.Holding.{Holding}
 use Rattle.gfs2_layout.specs.Inode.{leaf_area, leaf_in}
 use Rattle.glock_names.specs.Views.{Seen, HasBlock}
+use Rattle.resource_groups.specs.Putting.{HasDataBlock}
 use Rattle.hash_dirs.specs.Shown.{IsInChain}
 use Rattle.hash_steps.specs.Leaves.{IsFullBefore, has_room_for}
 use Rattle.hash_inserts.specs.declared.walking.Walked.{Walked}
@@ -26,9 +27,13 @@ abbrev pub IsRoomBefore : Holding → ℕ → ℕ → ℕ → Option ℕ → Typ
 IsRoomBefore h i len place None = IsFullBefore h i len place
 IsRoomBefore h i len place (Some x) = IsFirstBefore h i len place x
 
--- the view has each leaf of the chain before this place
+-- the view has the block, which is a data block of a group
+abbrev pub SeesLeaf : Seen → ℕ → Type 0
+SeesLeaf v x = HasBlock v x × HasDataBlock v x
+
+-- so each leaf of the chain before this place
 abbrev pub SeesChainBefore : Seen → Holding → ℕ → ℕ → Type 0
-SeesChainBefore v h i place = (earlier x : ℕ) → earlier < place → IsInChain h i earlier x → HasBlock v x
+SeesChainBefore v h i place = (earlier x : ℕ) → earlier < place → IsInChain h i earlier x → SeesLeaf v x
 
 -- The chain was gone along to its last leaf.
 pub record IsWalked (v : Seen) (h : Holding) (i len : ℕ) (w : Walked) : Type 0 where

@@ -6,12 +6,11 @@ ghost use Rattle.gfs2_layout.specs.Inode.{depth_in, entry, table_count};
 ghost use Rattle.glock_names.specs.Steps.{IfIs, IfNeedBlock, IfDamaged};
 ghost use Rattle.glock_names.specs.Views.{HasBlock, IsOfView};
 ghost use Rattle.growth_drafts.specs.Taken.{AreFreeFor};
-ghost use Rattle.hash_dirs.specs.Broken.{IsWrongIn};
 ghost use Rattle.hash_dirs.specs.Shown.{IsShown, IsSound};
 ghost use Rattle.hash_steps.specs.Leaves.{HasOneLeaf, leaf_depth};
 ghost use Rattle.hash_steps.specs.Laws.{Stays};
 ghost use Rattle.hash_inserts.specs.Drafting.{IsFree, SeesTree, SplitsLeaf};
-ghost use Rattle.hash_inserts.specs.Inserting.{IsNeededToSplit, Splits};
+ghost use Rattle.hash_inserts.specs.Inserting.{IsNeededToSplit, IsWrongToInsert, Splits};
 
 use crate::drafting::{count_in, halve_in};
 use crate::looking::see_table;
@@ -81,7 +80,7 @@ pub fn split<V: View, T: PointerTableMut>(
         → IfNeedBlock result (IsNeededToSplit (seen_in V.seen draft.old) h index) }
     ensures absent { IfNeedBlock result (λ missing. (seen_in V.seen draft.old).block_at missing.block ≡ None) }
     ensures waits { IfNeedBlock result (λ missing. (draft.new ≡ draft.old) × (room.new.items ≡ room.old.items) × (table.new ≡ table.old)) }
-    ensures damaged { (h : Holding) → IsShown (seen_in V.seen draft.old) dir h → T.shows table.old (seen_in V.seen draft.old) h → IfDamaged result (IsWrongIn (seen_in V.seen draft.old) h) }
+    ensures damaged { (h : Holding) → IsShown (seen_in V.seen draft.old) dir h → T.shows table.old (seen_in V.seen draft.old) h → IfDamaged result (IsWrongToInsert (seen_in V.seen draft.old) h) }
     ensures kept { IfDamaged result (IsOfView (seen_in V.seen draft.old)) }
     ensures stays { IfDamaged result (λ rule block. (draft.new ≡ draft.old) × (room.new.items ≡ room.old.items) × (table.new ≡ table.old)) }
     ensures view { draft.new.view ≡ draft.old.view }

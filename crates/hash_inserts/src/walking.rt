@@ -39,7 +39,7 @@ fn has_room(head: &Dirent, needed: u32) -> bool
 }
 
 // Whether some record of an area has room for a name of so many bytes.
-fn area_has_room(area: &[u8], len: u16) -> bool
+pub(crate) fn area_has_room(area: &[u8], len: u16) -> bool
     requires { IsArea area.now }
     ensures { result ≡ has_room_for len (slots_of area.now) }
 {

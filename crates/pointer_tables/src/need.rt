@@ -53,7 +53,8 @@ pub fn doubling_need(size: usize, height: u16, depth: u16) -> u64
     requires large { 512 ≤ size }
     requires small { size ≤ 4096 }
     requires shallow { depth < 15 }
-    ensures { result ≡ need_of size height (2 ^ depth) }
+    ensures value { result ≡ need_of size height (2 ^ depth) }
+    ensures most { result ≤ 2 ^ 35 }
 {
     let count = 1u64 << depth;
     let old = table_blocks(size, count);
