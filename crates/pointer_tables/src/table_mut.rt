@@ -50,7 +50,8 @@ pub trait PointerTableMut: PointerTable {
     /// Doubles the table: each pointer becomes two neighbouring ones, and the depth is one more. What it needs more of blocks for that it
     /// takes from the front of `room`, as many as `doubling_need` says. The answer is whether that was done: `false` where the room isn't
     /// enough or the draft isn't that of a sound directory, and then nothing is changed. The whole table is written. It asks for the
-    /// dinode's block and those below it. After want of memory the draft may be half done; the room and the table are as they were.
+    /// dinode's block and those below it, and puts no other block but those that it takes. After want of memory the draft may be half done;
+    /// the room and the table are as they were.
     fn double<V: View>(
         &mut self,
         alloc: Global,
