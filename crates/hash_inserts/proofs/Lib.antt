@@ -24,3 +24,4 @@ mod SplitOn
 mod Needed
 mod After
 mod Past
+mod Counted
