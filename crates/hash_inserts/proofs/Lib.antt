@@ -16,3 +16,12 @@ mod Showing
 mod Trees
 mod TwoLeaves
 mod Walks
+mod DoubleOn
+mod Inserted
+mod Joined
+mod Onward
+mod SplitOn
+mod Needed
+mod After
+mod Past
+mod Counted

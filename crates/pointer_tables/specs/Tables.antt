@@ -8,11 +8,13 @@ use Rattle.gfs2_layout.specs.Holding.{Cell, Holding, InChain, part_at, bytes_at}
 use Rattle.gfs2_layout.specs.Inode.{block_count, content_count, dinode_in, entry, header_length, height_in, is_leaf_part, pieces, span, table_count, unit}
 use Rattle.gfs2_layout.specs.Structures.{dinode_length}
 use Rattle.gfs2_layout.specs.Writing.{header_put}
+use Rattle.dinode_tree.specs.Below.{IsBelow}
 use Rattle.dinode_tree.specs.Pads.{KeepsPads}
 use Rattle.dinode_tree.specs.Reading.{inode_lock}
 use Rattle.growth_laws.specs.Files.{IsPlaced as StandsAt}
 use Rattle.growth_laws.specs.Need.{raised_to}
 use Rattle.growth_drafts.specs.Taken.{AreFreeFor, HasTaken}
+use Rattle.file_fills.specs.Causes.{ChangesOnly}
 use Rattle.file_fills.specs.Headers.{HaveSamePads}
 use Rattle.file_growth.specs.Written.{IsWritten}
 use Rattle.pointer_tables.specs.Directories.{EachPointerLeads, IsPlaced, IsTreeSound}
@@ -69,14 +71,22 @@ doubling_need_of h = doubling_need h.size (height_in h) (table_count h)
 
 -- ---- a table that is doubled
 
--- a directory, in an image of fewer than 2^64 blocks, whose table can be doubled: blocks of the room may be taken for it, and are enough
+-- a directory, in an image of fewer than 2^64 blocks, whose table can be doubled: it isn't as deep as one may be, and blocks of the room may be taken for
+-- it, and are enough
 pub record CanDouble (h : Holding) (room : List ℕ) : Type 0 where
   pub few : h.count < 2 ^ 64
   pub sound : IsTreeSound h
   pub placed : IsPlaced h
   pub leads : EachPointerLeads h
+  pub greatest : 2 * table_count h ≤ 8 * h.size
   pub free : AreFreeFor h room
   pub enough : doubling_need_of h ≤ length room
+
+-- Whatever the directory is: what was taken is the front of the room, and nothing becomes of any block but the dinode's, those below it, and these.
+pub record TakesWithin (old new : FinMap nat_cmp Fate) (room left : List ℕ) (h : Holding) : Type 0 where
+  pub taken : List ℕ
+  pub front : room ≡ taken ++ left
+  pub changes : ChangesOnly old new (λ b. (b ≡ h.own) ⊎ (IsBelow h b ⊎ Contains taken b))
 
 -- The table is twice as long: each pointer has become two neighbouring ones. The dinode says so, and how many blocks more there are.
 pub record IsDoubled (h g : Holding) (taken : List ℕ) : Type 0 where

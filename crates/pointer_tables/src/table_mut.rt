@@ -9,7 +9,7 @@ ghost use Rattle.dinode_tree.specs.Below.{AnyIndex};
 ghost use Rattle.dinode_tree.specs.Reading.{IsNeeded};
 ghost use Rattle.linear_dirs.specs.Shown.{holding_over};
 ghost use Rattle.pointer_tables.specs.Directories.{EachPointerLeads, HasPointerOf, IsOfPointers, IsPlaced, IsTableBroken, IsTreeSound};
-ghost use Rattle.pointer_tables.specs.Tables.{CanDouble, DraftsDirectory, HasPointersSet, TakesDoubled};
+ghost use Rattle.pointer_tables.specs.Tables.{CanDouble, DraftsDirectory, HasPointersSet, TakesDoubled, TakesWithin};
 
 use crate::PointerTable;
 use drafts::Draft;
@@ -50,7 +50,8 @@ pub trait PointerTableMut: PointerTable {
     /// Doubles the table: each pointer becomes two neighbouring ones, and the depth is one more. What it needs more of blocks for that it
     /// takes from the front of `room`, as many as `doubling_need` says. The answer is whether that was done: `false` where the room isn't
     /// enough or the draft isn't that of a sound directory, and then nothing is changed. The whole table is written. It asks for the
-    /// dinode's block and those below it. After want of memory the draft may be half done; the room and the table are as they were.
+    /// dinode's block and those below it, and puts no other block but those that it takes. After want of memory the draft may be half done;
+    /// the room and the table are as they were.
     fn double<V: View>(
         &mut self,
         alloc: Global,
@@ -61,6 +62,7 @@ pub trait PointerTableMut: PointerTable {
         ensures deep { IfIs result (λ done. Self.deep self.new ≡ Self.deep self.old + (if done then 1 else 0)) }
         ensures doubled { (h : Holding) → Self.shows self.old (seen_in V.seen draft.old) h → CanDouble h room.old.items
             → IfIs result (λ done. (done ≡ true) × ((g : Holding) × Self.shows self.new (seen_in V.seen draft.new) g × TakesDoubled draft.old.fates draft.new.fates room.old.items room.new.items h g)) }
+        ensures parts { (h : Holding) → Self.shows self.old (seen_in V.seen draft.old) h → IfIs result (λ done. done ≡ true → TakesWithin draft.old.fates draft.new.fates room.old.items room.new.items h) }
         ensures undone { IfIs result (λ done. done ≡ false → (draft.new ≡ draft.old) × (room.new.items ≡ room.old.items) × (self.new ≡ self.old)) }
         ensures view { draft.new.view ≡ draft.old.view }
         ensures needed { (h : Holding) → Self.shows self.old (seen_in V.seen draft.old) h → IfNeedBlock result (IsNeeded (seen_in V.seen draft.old) h AnyIndex 0) }

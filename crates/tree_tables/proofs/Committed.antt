@@ -1,5 +1,5 @@
 -- Blocks of one draft that are put into another.
-use Rattle.std.proofs.Common.{◌≡◌, ◌≢◌, ◌⊎◌, ℕ, zero, suc, ◌+◌, ◌*◌, ◌/◌, ◌^◌, ◌<◌, inl, inr, Bool, true, false, cond, T, List, [], ◌∷◌, length, Option, None, Some, refl, sym, ap, ap₂, ◌∙◌, subst, arith}
+use Rattle.std.proofs.Common.{◌≡◌, ◌≢◌, ◌↔◌, ◌⊎◌, ℕ, zero, suc, ◌+◌, ◌-◌, ◌*◌, ◌/◌, ◌^◌, ◌<◌, inl, inr, Bool, true, false, cond, T, List, [], ◌∷◌, ◌++◌, length, take, drop, Option, None, Some, refl, sym, ap, ap₂, ◌∙◌, subst, arith}
 use Rattle.std.specs.Prelude.{◌&&◌, Contains, IsSome, IsSomeAnd}
 use Rattle.std.specs.Cmp.{nat_cmp_total, ranks}
 use Rattle.std.specs.FinMap.{FinMap, entries, entries_sorted, find, get, get-entries, insert, is_sorted, nat_cmp-IsAntisymmetric}
@@ -8,25 +8,30 @@ use Rattle.std.specs.Ordering.{is_lt, nat_cmp, MatchOrdering}
 use Rattle.std.specs.declared.cmp.Ordering.{Ordering}
 use Rattle.std.specs.declared.cmp.Ordering.TheVariants.{Less, Equal, Greater}
 use Rattle.std.proofs.lemmas.Bool.{cases_eq}
+use Rattle.std.proofs.lemmas.List.{drop_at, length-append, take_at}
 use Rattle.finite_maps.proofs.Keys.{inserted_at, inserted_apart, tied, untied}
 use Rattle.drafts.specs.Fates.{Drafted, block_with, blocks_in, seen_in}
 use Rattle.drafts.specs.declared.change.Written.{Written}
 use Rattle.drafts.specs.declared.fate.Fate.{Fate}
 use Rattle.drafts.specs.declared.fate.Fate.TheVariants.{Put, Freed}
 use Rattle.gfs2_layout.specs.Device.{IsBlockSize}
-use Rattle.gfs2_layout.specs.Holding.{Cell, Holding, Itself, Part, cell_part, bytes_at}
+use Rattle.gfs2_layout.specs.Holding.{Cell, Holding, InChain, Itself, Part, Pointed, cell_part, bytes_at, part_at}
 use Rattle.gfs2_layout.specs.Inode.{dinode_in}
 use Rattle.gfs2_layout.specs.declared.dinode.Dinode.{Dinode}
 use Rattle.glock_names.specs.Views.{Seen}
 use Rattle.glock_names.specs.declared.LockName.{LockName}
+use Rattle.dinode_tree.specs.Below.{IsBelow, TellsOfBlock}
 use Rattle.dinode_tree.specs.Reading.{inode_lock}
 use Rattle.dinode_tree.specs.Shown as inode
+use Rattle.dinode_tree.specs.declared.below.PointedBlock.{PointedBlock}
 use Rattle.dinode_tree.proofs.Sound.{is_there, part_of_led, size_large}
-use Rattle.pointer_tables.specs.Tables.{DraftsDirectory, TakesDoubled}
+use Rattle.pointer_tables.specs.Directories.{IsPlaced, IsTreeSound}
+use Rattle.pointer_tables.specs.Tables.{DraftsDirectory, TakesDoubled, TakesWithin}
 use Rattle.table_files.proofs.ContentParts.{whole_by_parts}
-use Rattle.tree_tables.specs.Doubling.{AreDoubledBlocks, with_blocks}
+use Rattle.tree_tables.specs.Doubling.{AreDoubledBlocks, IsOfTable, with_blocks}
 use Rattle.tree_tables.specs.Pointers.{IsTableOf}
 use Rattle.tree_tables.specs.declared.tree_table.TreeTable.{TreeTable}
+use Rattle.tree_tables.proofs.Below.{below_of_part}
 
 pub contradict : {A : Type 0} (b : Bool) → b ≡ true → b ≡ false → A
 contradict b holds fails = let both : true ≡ false = sym holds ∙ fails in absurd (cc)
@@ -92,6 +97,17 @@ put_found lock ((x, Freed) ∷ es) fates b sorted =
 pub fates_put : (lock : LockName) (there fates : FinMap nat_cmp Fate) (b : ℕ) → get (with_blocks lock (blocks_in (entries there)) fates) b ≡ over lock (get there b) (get fates b)
 fates_put lock there fates b = put_found lock (entries there) fates b (entries_sorted there) ∙ ap (λ o. over lock o (get fates b)) (sym (get-entries there b))
 
+-- a block that isn't among those that are put keeps its fate
+pub kept_or_put : (lock : LockName) (ws : List Written) (fates : FinMap nat_cmp Fate) (b : ℕ) → (get (with_blocks lock ws fates) b ≡ get fates b) ⊎ ((w : Written) × Contains ws w × (w.block ≡ b))
+kept_or_put lock [] fates b = inl refl
+kept_or_put lock (w ∷ ws) fates b = elim (kept_or_put lock ws (insert fates w.block (Put lock false w.bytes)) b) [
+  | inl kept ↦ elim (cases_eq b w.block) [
+    | inl same ↦ inr (w, (zero, omega arith, refl), sym same)
+    | inr other ↦ inl (kept ∙ inserted_apart nat_cmp_total nat_cmp-IsAntisymmetric fates w.block (Put lock false w.bytes) b other)
+  ]
+  | inr later ↦ inr (later.0, (suc later.1.0, omega (arith, later.1.1), later.1.2), later.2)
+]
+
 -- a block that is told was put
 told : (es : List (ℕ × Fate)) → T (is_sorted nat_cmp es) → (w : Written) → Contains (blocks_in es) w → (lock : LockName) × (plain : Bool) × (find nat_cmp w.block es ≡ Some (Put lock plain w.bytes))
 told [] sorted w has = absurd (omega (arith, has.1))
@@ -117,6 +133,24 @@ told ((x, Freed) ∷ es) sorted w has =
       | inl same ↦ let never : None ≡ Some g = sym (find_above x es below) ∙ ap (λ z. find nat_cmp z es) (sym same) ∙ at in absurd (cc)
       | inr other ↦ found_later x f es b other ∙ at
     ]
+
+-- where each block that was put is one of the directory's, or of the room's front, nothing becomes of any other
+pub takes_within : (h : Holding) (lock : LockName) (ws : List Written) (old new : FinMap nat_cmp Fate) (directory : ℕ) (below : List PointedBlock) (room taken left : List ℕ) → h.own ≡ directory → ((b : ℕ) → TellsOfBlock below b ↔ IsBelow h b)
+    → room ≡ taken ++ left → ((w : Written) → Contains ws w → IsOfTable directory below taken w.block) → new ≡ with_blocks lock ws old → TakesWithin old new room left h
+takes_within h lock ws old new directory below room taken left own tells front each put = record {
+  taken = taken;
+  front = front;
+  changes = λ b. elim (kept_or_put lock ws old b) [
+    | inl kept ↦ inl (ap (λ fates. get fates b) put ∙ kept)
+    | inr one ↦ inr (elim (each one.0 one.1) [
+      | inl is ↦ inl (sym one.2 ∙ is ∙ sym own)
+      | inr other ↦ elim other [
+        | inl told ↦ inr (inl (subst (IsBelow h) one.2 ((tells one.0.block).0 told)))
+        | inr took ↦ inr (inr (subst (Contains taken) one.2 took))
+      ]
+    ])
+  ];
+}
 
 -- ---- the blocks of a table that is doubled
 
@@ -149,6 +183,42 @@ module _ (h : Holding) (room left : List ℕ) (ws : List Written) (made : AreDou
               ap length same ∙ made.doubled.sound.whole w.block part.0 part.1 ∙ made.doubled.size
         ]
       ]
+
+  -- each of them is the directory's own, one below it, or one that was taken
+  pub blocks_within : IsTreeSound h → IsPlaced h → (w : Written) → Contains ws w → (w.block ≡ h.own) ⊎ (IsBelow h w.block ⊎ Contains made.taken w.block)
+  blocks_within sound placed w has =
+      let is = told (entries made.fates) (entries_sorted made.fates) w (subst (λ xs. Contains xs w) made.written has) in
+      let at : get made.fates w.block ≡ Some (Put is.0 is.1 w.bytes) = get-entries made.fates w.block ∙ is.2 in
+      elim (cell_cases (made.g.cell w.block)) [
+        | inr none ↦ no_put (Put is.0 is.1 w.bytes) (sym (made.others w.block none) ∙ at)
+        | inl there ↦ elim ((made.has.blocks w.block).0 there) [
+          | inr took ↦ inr (inr took)
+          | inl was ↦ by (some_of (h.cell w.block) was).0 (some_of (h.cell w.block) was).1 (Put is.0 is.1 w.bytes) at
+        ]
+      ]
+    where
+      by : (p : Part) → part_at h w.block ≡ Some p → (f : Fate) → get made.fates w.block ≡ Some f → (w.block ≡ h.own) ⊎ (IsBelow h w.block ⊎ Contains made.taken w.block)
+      by Itself part f at = inl (placed.only w.block part)
+      by (Pointed from k level first) part f at = inr (inl (below_of_part h sound.tree placed.nobody w.block from k level first part))
+      by (InChain hash place) part f at = no_put f (sym (made.leaves w.block hash place part) ∙ at)
+
+  -- as many are gone from the room's front as were taken
+  pub taken_is : take (length room - length left) room ≡ made.taken
+  taken_is = ap (λ xs. take (length xs - length left) xs) made.front ∙ ap (λ n. take n (made.taken ++ left)) (omega (arith, length-append made.taken left)) ∙ take_at made.taken left (length made.taken) refl
+
+  pub left_is : drop (length room - length left) room ≡ left
+  left_is = ap (λ xs. drop (length xs - length left) xs) made.front ∙ ap (λ n. drop n (made.taken ++ left)) (omega (arith, length-append made.taken left)) ∙ drop_at made.taken left (length made.taken) refl
+
+  -- so the list of those below the dinode tells of it, or it is one of the room's front
+  pub are_of : IsTreeSound h → IsPlaced h → (directory : ℕ) (below : List PointedBlock) (taken : List ℕ) → h.own ≡ directory → ((b : ℕ) → TellsOfBlock below b ↔ IsBelow h b) → taken ≡ take (length room - length left) room
+      → (w : Written) → Contains ws w → IsOfTable directory below taken w.block
+  are_of sound placed directory below taken own tells front w has = elim (blocks_within sound placed w has) [
+    | inl is ↦ inl (is ∙ own)
+    | inr other ↦ elim other [
+      | inl led ↦ inr (inl ((tells w.block).1 led))
+      | inr took ↦ inr (inr (subst (λ xs. Contains xs w.block) (sym (front ∙ taken_is)) took))
+    ]
+  ]
 
   module _ {V : Type 0} (seen : V → Seen) (old new : Drafted V) (t : TreeTable) (table : IsTableOf t (seen_in seen old) h) (block_size : IsBlockSize (seen_in seen old).size)
       (put : new ≡ record old { fates = with_blocks (inode_lock t.directory) ws old.fates }) where

@@ -12,7 +12,7 @@ use Rattle.drafts.specs.declared.change.Written.{Written}
 use Rattle.drafts.specs.declared.fate.Fate.{Fate}
 use Rattle.drafts.specs.declared.fate.Fate.TheVariants.{Put}
 use Rattle.gfs2_layout.specs.Device.{IsBlockSize}
-use Rattle.gfs2_layout.specs.Holding.{Cell, Holding, Pointed, cell_bytes, part_at, bytes_at}
+use Rattle.gfs2_layout.specs.Holding.{Cell, Holding, InChain, Itself, Pointed, cell_bytes, part_at, bytes_at}
 use Rattle.gfs2_layout.specs.Inode.{block_count, content_count, dinode_in, has_hash_flag, height_in, is_hashed_in, is_leaf_part, pieces, table_count}
 use Rattle.gfs2_layout.specs.Structures.{dinode_length, dinode_of, dinode_read, header_fault, is_directory}
 use Rattle.gfs2_layout.specs.Writing.{dinode_put}
@@ -250,10 +250,14 @@ module _ (h : Holding) (table : IsTable h) (bytes : List ℕ) (is : SaysInstead 
           | inr fails ↦ none (subst IsSome (sym (cells_k b other fails)) there)
         ])
       ];
+      leaves = λ x hash place part. nothing x (λ same. itself_no_leaf (sym can.placed.own ∙ ap (part_at h) (sym same) ∙ part)) (none_there (kc x) (gone x (ap is_leaf_part part)));
     }
       where
         own_g : g.cell h.own ≡ own_cell own
         own_g = cell_own_g h table (file_blocks h) bytes is refl doubled.headers doubled.pointers doubled.heads doubled.twice kc written.taken written_k free_taken own says
+
+        itself_no_leaf : {hash place : ℕ} → Some Itself ≡ Some (InChain hash place) → ⊥
+        itself_no_leaf e = cc
 
         own_there : (c : Option Cell) → c ≡ own_cell own → IsSome c
         own_there None e = let never : ◌≡◌ {A = Option Cell} None (own_cell own) = e in absurd (cc)

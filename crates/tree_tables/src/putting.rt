@@ -7,16 +7,19 @@ ghost use Rattle.drafts.specs.declared.change.Written.{Written};
 ghost use Rattle.gfs2_layout.specs.Structures.{dinode_length, dinode_read};
 ghost use Rattle.gfs2_layout.specs.Writing.{dinode_put};
 ghost use Rattle.glock_names.specs.Views.{HasBlock};
+ghost use Rattle.dinode_tree.specs.Below.{TellsOfBlock};
 ghost use Rattle.dinode_tree.specs.Reading.{inode_lock};
-ghost use Rattle.tree_tables.specs.Doubling.{with_blocks};
+ghost use Rattle.tree_tables.specs.Doubling.{IsOfTable, with_blocks};
 ghost use Rattle.tree_tables.specs.Setting.{HasNumbersSet};
 
 use crate::numbers::set_numbers;
+use dinode_tree::PointedBlock;
 use drafts::{Draft, Written};
 use gfs2_layout::Dinode;
 use glock_names::View;
 use linear_dirs::lock_of;
 use no_memory::NoMemory;
+use std::collections::VecDeque;
 
 /// Makes so many neighbouring pointers of a block, from a place in it on, lead to a leaf, and puts the block under its directory's lock.
 /// It costs two copies of the block.
@@ -69,6 +72,49 @@ pub(crate) fn are_whole(blocks: &[Written], size: usize) -> bool
 {
     for one in blocks {
         if one.bytes.bytes().len() != size {
+            return false;
+        }
+    }
+    true
+}
+
+// Whether the list tells of a block.
+fn is_told(below: &[PointedBlock], block: u64) -> bool
+    ensures { IsTrue result ↔ TellsOfBlock below.now block }
+{
+    for pointed in below {
+        if pointed.block == block {
+            return true;
+        }
+    }
+    false
+}
+
+// Whether a block is the directory's own, one of those below it, or one that was taken.
+fn is_of_table(block: u64, directory: u64, below: &[PointedBlock], taken: &VecDeque<u64>) -> bool
+    ensures { IsTrue result ↔ IsOfTable directory below.now taken.now.items block }
+{
+    if block == directory {
+        return true;
+    }
+    if is_told(below, block) {
+        return true;
+    }
+    taken.contains(&block)
+}
+
+/// Whether each of these blocks is the directory's own, one of those below it, or one that was taken. It costs a step for each of those
+/// for each block.
+pub(crate) fn are_of_table(
+    blocks: &[Written],
+    directory: u64,
+    below: &[PointedBlock],
+    taken: &VecDeque<u64>,
+) -> bool
+    ensures { IsTrue result ↔ ((w : Written) → Contains blocks.now w → IsOfTable directory below.now taken.now.items w.block) }
+{
+    for one in blocks {
+        if !is_of_table(one.block, directory, below, taken) {
             return false;
         }
     }

@@ -1,12 +1,12 @@
 // What is read of a table before it is doubled.
-ghost use Rattle.std.specs.Prelude.{ℕ, List, ◌≡◌, ◌≢◌, ◌+◌, ◌-◌, ◌*◌, ◌/◌, ◌%◌, ◌^◌, ◌<◌, ◌≤◌, false, None, Contains, length, take, IfNone, IfSome, Some};
+ghost use Rattle.std.specs.Prelude.{ℕ, List, ◌≡◌, ◌≢◌, ◌↔◌, ◌+◌, ◌-◌, ◌*◌, ◌/◌, ◌%◌, ◌^◌, ◌<◌, ◌≤◌, false, None, Contains, length, take, IfNone, IfSome, Some};
 ghost use Rattle.gfs2_layout.specs.Bytes.{slice};
 ghost use Rattle.gfs2_layout.specs.Holding.{Holding, bytes_at};
 ghost use Rattle.gfs2_layout.specs.Inode.{content_block, content_count, dinode_in, height_in};
 ghost use Rattle.gfs2_layout.specs.Structures.{is_regular};
 ghost use Rattle.glock_names.specs.Steps.{IfDamaged, IfIs, IfNeedBlock};
 ghost use Rattle.glock_names.specs.Views.{HasBlock, IsOfView};
-ghost use Rattle.dinode_tree.specs.Below.{AnyIndex, IsBelow};
+ghost use Rattle.dinode_tree.specs.Below.{AnyIndex, IsBelow, TellsOfBlock};
 ghost use Rattle.dinode_tree.specs.Broken as inode;
 ghost use Rattle.dinode_tree.specs.Reading.{IsNeeded, inode_lock};
 ghost use Rattle.dinode_tree.specs.declared.below.PointedBlock.{PointedBlock};
@@ -45,9 +45,14 @@ fn first_missing<V: View>(view: &V, directory: u64, blocks: &[PointedBlock]) -> 
     None
 }
 
-// Looks at every block below an inode that is no regular file.
-fn see_below<V: View>(alloc: Global, view: &V, directory: u64) -> Result<Step<()>, CallFault>
-    ensures seen { (h : Holding) → IsShown (V.seen view.now) directory h → IfIs result (λ done. (b : ℕ) → IsBelow h b → HasBlock (V.seen view.now) b) }
+/// The blocks below an inode that is no regular file, each of which it looks at.
+pub(crate) fn see_below<V: View>(
+    alloc: Global,
+    view: &V,
+    directory: u64,
+) -> Result<Step<Vec<PointedBlock>>, CallFault>
+    ensures below { (h : Holding) → IsShown (V.seen view.now) directory h → IfIs result (λ blocks. (b : ℕ) → TellsOfBlock blocks.items b ↔ IsBelow h b) }
+    ensures seen { (h : Holding) → IsShown (V.seen view.now) directory h → IfIs result (λ blocks. (b : ℕ) → IsBelow h b → HasBlock (V.seen view.now) b) }
     ensures needed { (h : Holding) → IsShown (V.seen view.now) directory h → is_regular (dinode_in h) ≡ false → IfNeedBlock result (IsNeeded (V.seen view.now) h AnyIndex 0) }
     ensures absent { IfNeedBlock result (λ missing. (V.seen view.now).block_at missing.block ≡ None) }
     ensures damaged { (h : Holding) → IsShown (V.seen view.now) directory h → IfDamaged result (inode.IsBroken h) }
@@ -61,7 +66,7 @@ fn see_below<V: View>(alloc: Global, view: &V, directory: u64) -> Result<Step<()
     };
     match first_missing(view, directory, &blocks) {
         Some(missing) => Ok(Step::NeedBlock(missing)),
-        None => Ok(Step::Is(())),
+        None => Ok(Step::Is(blocks)),
     }
 }
 
@@ -118,9 +123,8 @@ fn headers_of<V: View>(
     read_headers(alloc, view, table, (size - IN_TABLE) / 8, count as usize)
 }
 
-/// The blocks of a directory's table that is twice as long, one behind another. Before that it looks at every block below the dinode. It
-/// asks for these, and for the dinode's. It costs a walk to each table block, a list of the blocks below the dinode, and memory for the
-/// table three times.
+/// The blocks of a directory's table that is twice as long, one behind another. It asks for the dinode's block and those below it. It costs
+/// a walk to each table block, and memory for the table three times.
 pub(crate) fn doubled_table<V: View>(
     alloc: Global,
     view: &V,
@@ -130,17 +134,12 @@ pub(crate) fn doubled_table<V: View>(
     requires { table.depth < 15 }
     ensures doubled { (h : Holding) → IsTableOf table (V.seen view.now) h → IsTreeSound h → height ≡ height_in h → IfIs result (λ bytes. IsDoubledTable h bytes.items) }
     ensures short { IfIs result (λ bytes. length bytes.items ≤ file_limit) }
-    ensures seen { (h : Holding) → IsTableOf table (V.seen view.now) h → IfIs result (λ bytes. (b : ℕ) → IsBelow h b → HasBlock (V.seen view.now) b) }
     ensures needed { (h : Holding) → IsTableOf table (V.seen view.now) h → IfNeedBlock result (IsNeeded (V.seen view.now) h AnyIndex 0) }
     ensures absent { IfNeedBlock result (λ missing. (V.seen view.now).block_at missing.block ≡ None) }
     ensures damaged { (h : Holding) → IsTableOf table (V.seen view.now) h → IfDamaged result (IsTableBroken h) }
     ensures kept { IfDamaged result (IsOfView (V.seen view.now)) }
 {
     all_blocks_are_shown();
-    match see_below(alloc, view, table.directory)? {
-        Step::Is(()) => {}
-        Step::NeedBlock(missing) => return Ok(Step::NeedBlock(missing)),
-    }
     let long = 8 * pointers_of(table.depth);
     let content = match read_range(alloc, view, table.directory, 0, long as u32)? {
         Step::Is(content) => content,

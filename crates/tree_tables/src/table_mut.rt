@@ -2,8 +2,8 @@
 use crate::TreeTable;
 use crate::finding::find_runs;
 use crate::growing::doubled_blocks;
-use crate::putting::put_blocks;
-use crate::reading::doubled_table;
+use crate::putting::{are_of_table, put_blocks};
+use crate::reading::{doubled_table, see_below};
 use crate::setting::set_runs;
 use dinode_tree::read_dinode;
 use drafts::Draft;
@@ -40,6 +40,10 @@ impl PointerTableMut for TreeTable {
             Step::Is(dinode) => dinode,
             Step::NeedBlock(missing) => return Ok(Step::NeedBlock(missing)),
         };
+        let below = match see_below(alloc, &*draft, self.directory)? {
+            Step::Is(below) => below,
+            Step::NeedBlock(missing) => return Ok(Step::NeedBlock(missing)),
+        };
         let bytes = match doubled_table(alloc, &*draft, *self, dinode.height)? {
             Step::Is(bytes) => bytes,
             Step::NeedBlock(missing) => return Ok(Step::NeedBlock(missing)),
@@ -48,8 +52,13 @@ impl PointerTableMut for TreeTable {
         let Some(blocks) = doubled_blocks(alloc, &*draft, *self, &dinode, &bytes, &mut left)? else {
             return Ok(Step::Is(false));
         };
+        let mut taken = room.clone()?;
+        let rest = taken.split_off(room.len().saturating_sub(left.len()))?;
+        if !are_of_table(&blocks, self.directory, &below, &taken) {
+            return Ok(Step::Is(false));
+        }
         put_blocks(draft, self.directory, &blocks)?;
-        *room = left;
+        *room = rest;
         self.depth += 1;
         Ok(Step::Is(true))
     }
