@@ -1,3 +1,4 @@
 pub mod Needed
 pub mod Forms
 pub mod Converted
+pub mod Puts

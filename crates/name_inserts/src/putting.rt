@@ -18,6 +18,7 @@ ghost use Rattle.hash_inserts.specs.Needing.{TakesBlocks};
 ghost use Rattle.name_inserts.specs.Need.{has_linear_room, name_need};
 ghost use Rattle.name_inserts.specs.Inserting.{CanGetName, IsNeededForName, IsPutInLinear, IsWrongForName, PutsName};
 
+use crc_words::checksums_have_32_bits;
 use dinode_tree::read_dinode;
 use directories::is_hashed;
 use drafts::Draft;
@@ -83,6 +84,7 @@ fn put_converted<V: View>(
     ensures stays { IfDamaged result (λ rule block. (draft.new ≡ draft.old) × (room.new.items ≡ room.old.items)) }
     ensures view { draft.new.view ≡ draft.old.view }
 {
+    checksums_have_32_bits();
     let hashed = match to_hashed(draft, dir, room)? {
         Step::Is(hashed) => hashed,
         Step::NeedBlock(missing) => return Ok(Step::NeedBlock(missing)),
