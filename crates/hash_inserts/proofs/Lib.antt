@@ -1,11 +1,13 @@
 mod Blocks
 mod Blockwise
+mod Converted
 mod Chosen
 mod LeafBytes
 mod Doubling
 mod Lengthened
 mod Longer
 mod Looks
+mod FirstTable
 mod Parted
 mod PartedDrafts
 mod Put

@@ -3,6 +3,7 @@ pub mod Inserting
 pub mod Writing
 pub mod Drafting
 pub mod Walking
+pub mod Converting
 pub mod Counting
 pub mod Finding
 pub mod Advancing

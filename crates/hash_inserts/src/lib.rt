@@ -1,6 +1,7 @@
 //! Names that come into hashed directories.
 #![tactic(auto)]
 
+mod converting;
 mod counting;
 mod drafting;
 mod finding;
@@ -14,6 +15,7 @@ mod splitting;
 mod walking;
 mod writing;
 
+pub use converting::to_hashed;
 pub use inserting::insert;
 pub use needing::need_insert;
 pub use splitting::split;
