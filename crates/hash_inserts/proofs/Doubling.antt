@@ -11,7 +11,7 @@ use Rattle.gfs2_layout.specs.declared.dinode.Dinode.{Dinode}
 use Rattle.glock_names.specs.Views.{Seen, HasBlock}
 use Rattle.dinode_tree.specs.Shown.{IsAsSeen}
 use Rattle.growth_drafts.specs.Taken.{AreFreeFor}
-use Rattle.pointer_tables.specs.Tables.{CanDouble, TakesDoubled, doubling_need_of}
+use Rattle.pointer_tables.specs.Tables.{CanDouble, TakesDoubled, TakesWithin, doubling_need_of}
 use Rattle.hash_dirs.specs.Shown.{IsShown, IsSound}
 use Rattle.hash_dirs.proofs.Chained.{rules}
 use Rattle.hash_dirs.proofs.Indexes.{some_pow}
@@ -22,8 +22,8 @@ use Rattle.hash_inserts.proofs.Blockwise.{size_bounds}
 use Rattle.hash_inserts.proofs.Seen.{pointers_lead}
 use Rattle.hash_inserts.proofs.Showing.{SoundAreShown, shown_of}
 
-pub can_double : (h : Holding) (room : List ℕ) → IsSound h → is_hashed_in h ≡ true → h.count < 2 ^ 64 → AreFreeFor h room → doubling_need_of h ≤ length room → CanDouble h room
-can_double h room sound hashed few free enough = record { few = few; sound = tree_of h sound.inode; placed = sound.placed; leads = pointers_lead h sound hashed; free = free; enough = enough }
+pub can_double : (h : Holding) (room : List ℕ) → IsSound h → is_hashed_in h ≡ true → h.count < 2 ^ 64 → 2 * table_count h ≤ 8 * h.size → AreFreeFor h room → doubling_need_of h ≤ length room → CanDouble h room
+can_double h room sound hashed few greatest free enough = record { few = few; sound = tree_of h sound.inode; placed = sound.placed; leads = pointers_lead h sound hashed; greatest = greatest; free = free; enough = enough }
 
 some_or_none : (c : Option Cell) → IsSome c ⊎ (IsSome c → ⊥)
 some_or_none None = inr (λ e. cc)
@@ -40,7 +40,7 @@ part_of (Some c) some = (c.part, refl)
 one_bytes : (x y : List ℕ) → Some x ≡ Some y → x ≡ y
 one_bytes x y e = cc
 
-module _ (v : Seen) (old new : FinMap nat_cmp Fate) (room left : List ℕ) (h g : Holding) (large : 512 ≤ h.size) (size : g.size ≡ h.size) (own : g.own ≡ h.own) (takes : TakesDoubled old new room left h g) where
+module _ (v : Seen) (old new : FinMap nat_cmp Fate) (room left : List ℕ) (h g : Holding) (large : 512 ≤ h.size) (size : g.size ≡ h.size) (own : g.own ≡ h.own) (takes : TakesDoubled old new room left h g) (within : TakesWithin old new room left h) where
   -- a block that was taken is put, since it is a whole block
   not_left : (b : ℕ) → IsSome (g.cell b) → (IsSome (h.cell b) → ⊥) → bytes_at g b ≡ bytes_at h b → ⊥
   not_left b some none same =
@@ -69,12 +69,13 @@ module _ (v : Seen) (old new : FinMap nat_cmp Fate) (room left : List ℕ) (h g 
   doubles = record {
     puts = record { own = own; drafted = takes.drafted; seen = seen; there = there; keeps = λ b some. (takes.has.blocks b).1 (inl some) };
     takes = takes;
+    within = within;
   }
 
 -- ---- in a draft
 
 module _ {V : Type 0} (seen : V → Seen) (old now : Drafted V) (dir : ℕ) (room left : List ℕ) (h g : Holding) (shown : IsShown (seen_in seen old) dir h) (sound : IsSound h) (deep : 2 * table_count h ≤ 8 * h.size)
-    (takes : TakesDoubled old.fates now.fates room left h g) (view : now.view ≡ old.view) (law : SoundAreShown) (stay : DoublingsStay) where
+    (takes : TakesDoubled old.fates now.fates room left h g) (within : TakesWithin old.fates now.fates room left h) (view : now.view ≡ old.view) (law : SoundAreShown) (stay : DoublingsStay) where
   own_is : g.own ≡ h.own
   own_is = sym takes.doubled.sound.address ∙ ap (λ (d : Dinode). d.num.address) takes.doubled.dinode ∙ sound.inode.address
 
@@ -89,7 +90,7 @@ module _ {V : Type 0} (seen : V → Seen) (old now : Drafted V) (dir : ℕ) (roo
       ∙ sound.inode.whole (entry h 0) (InChain (first_hash h 0) 0) first
 
   doubled_puts : DoublesTable (seen old.view) old.fates now.fates room left h g
-  doubled_puts = doubles (seen old.view) old.fates now.fates room left h g (size_bounds h.size sound.block_size).0 size_is own_is takes
+  doubled_puts = doubles (seen old.view) old.fates now.fates room left h g (size_bounds h.size sound.block_size).0 size_is own_is takes within
 
   stays : Stays h g
   stays = stay h g takes.taken sound shown.hashed deep takes.doubled

@@ -18,3 +18,11 @@ mod Showing
 mod Trees
 mod TwoLeaves
 mod Walks
+mod DoubleOn
+mod Inserted
+mod Joined
+mod Onward
+mod SplitOn
+mod Needed
+mod After
+mod Past

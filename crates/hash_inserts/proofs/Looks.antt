@@ -17,19 +17,21 @@ use Rattle.dinode_tree.specs.Broken as inode
 use Rattle.dinode_tree.specs.Reading.{IsNeeded, IsOnWay, inode_lock, the_dinode, led_to}
 use Rattle.dinode_tree.specs.declared.below.PointedBlock.{PointedBlock}
 use Rattle.dinode_tree.proofs.Spans.{span_some}
-use Rattle.hash_dirs.specs.Broken.{IsBroken, of_inode}
+use Rattle.hash_dirs.specs.Broken.{IsWrongIn, breaks, of_inode}
 use Rattle.hash_dirs.specs.Shown.{IsShown}
 use Rattle.growth_drafts.specs.Taken.{AreFreeFor}
 use Rattle.hash_inserts.specs.Drafting.{IsFree}
+use Rattle.hash_inserts.specs.Inserting.{IsWrongToInsert, in_directory}
 use Rattle.hash_inserts.proofs.Blockwise.{size_bounds}
 
-pub damage_tells : (h : Holding) (fault : CallFault) → IsDamage (inode.IsBroken h) fault → TellsOf (IsBroken h) fault
-damage_tells h (Damaged block rule) broken = of_inode rule block broken
-damage_tells h NoMemory broken = tt
+-- what an inode breaks, and what a directory is wrong in, is wrong to an insertion
+pub tells_inode : (v : Seen) (h : Holding) (fault : CallFault) → TellsOf (inode.IsBroken h) fault → TellsOf (IsWrongToInsert v h) fault
+tells_inode v h (Damaged block rule) broken = in_directory rule block (breaks rule block (of_inode rule block broken))
+tells_inode v h NoMemory broken = tt
 
-pub tells_inode : (h : Holding) (fault : CallFault) → TellsOf (inode.IsBroken h) fault → TellsOf (IsBroken h) fault
-tells_inode h (Damaged block rule) broken = of_inode rule block broken
-tells_inode h NoMemory broken = tt
+pub tells_wrong : (v : Seen) (h : Holding) (fault : CallFault) → TellsOf (IsWrongIn v h) fault → TellsOf (IsWrongToInsert v h) fault
+tells_wrong v h (Damaged block rule) wrong = in_directory rule block wrong
+tells_wrong v h NoMemory wrong = tt
 
 -- what is needed above content is needed
 pub lower : (v : Seen) (h : Holding) (wanted : ℕ → Type 0) (m : Missing) → IsNeeded v h wanted 1 m → IsNeeded v h wanted 0 m

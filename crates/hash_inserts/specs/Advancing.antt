@@ -2,6 +2,7 @@
 use Rattle.std.specs.Prelude.{ℕ, ◌≡◌, ◌⊎◌, ◌+◌, ◌^◌, ◌<◌, ◌≤◌, false, List, ◌++◌, length, IsSome, None}
 use Rattle.std.specs.FinMap.{FinMap, get}
 use Rattle.std.specs.Ordering.{nat_cmp}
+use Rattle.crc_words.specs.Remainder.{crc32_of}
 use Rattle.drafts.specs.declared.fate.Fate.{Fate}
 use Rattle.gfs2_layout.specs.Area.{slots_of}
 use Rattle.gfs2_layout.specs.Holding.{Holding, part_at}
@@ -22,6 +23,7 @@ pub record CanInsert (v : Seen) (dir : ℕ) (h : Holding) (name room : List ℕ)
   pub shown : IsShown v dir h
   pub sound : IsSound h
   pub counts : CanCountOne h
+  pub small : crc32_of name < 2 ^ 32
   pub fresh : record_named (records_of h) name ≡ None
   pub few : h.count < 2 ^ 64
   pub free : AreFreeFor h room

@@ -13,7 +13,7 @@ use Rattle.dinode_tree.specs.Shown.{IsAsSeen}
 use Rattle.growth_drafts.specs.Taken.{HasTaken}
 use Rattle.linear_dirs.specs.Shown.{holding_over}
 use Rattle.pointer_tables.specs.Directories.{HasPointerOf}
-use Rattle.pointer_tables.specs.Tables.{DraftsDirectory, HasPointersSet, TakesDoubled}
+use Rattle.pointer_tables.specs.Tables.{DraftsDirectory, HasPointersSet, TakesDoubled, TakesWithin}
 use Rattle.hash_dirs.specs.Shown.{index_for}
 use Rattle.hash_steps.specs.Laws.{Stays}
 use Rattle.hash_steps.specs.Steps.{IsLengthened, IsPutInLeaf, IsSplit}
@@ -75,6 +75,7 @@ pub record SetsPointers (v : Seen) (old new : FinMap nat_cmp Fate) (h : Holding)
 pub record DoublesTable (v : Seen) (old new : FinMap nat_cmp Fate) (room left : List ℕ) (h g : Holding) : Type 0 where
   pub puts : Puts v old new h g
   pub takes : TakesDoubled old new room left h g
+  pub within : TakesWithin old new room left h
 
 -- A leaf is added behind the name's chain, and its record put into that.
 pub record PutsBehind (v : Seen) (old new : FinMap nat_cmp Fate) (h g : Holding) (name : List ℕ) (e : Entry) (leaf : ℕ) : Type 0 where

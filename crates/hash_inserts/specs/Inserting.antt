@@ -35,6 +35,10 @@ HasOneLeafFor h name = HasOneLeaf h (index_for h name)
 abbrev pub depth_for : Holding → List ℕ → ℕ
 depth_for h name = leaf_depth h (index_for h name)
 
+-- it is as deep as the table, which is as deep as one may be
+abbrev pub IsDeepest : Holding → List ℕ → Type 0
+IsDeepest h name = (depth_for h name ≡ depth_in h) × (8 * h.size < 2 * table_count h)
+
 -- The table is doubled, with as many blocks more as that takes. The dinode keeps its pads; each table block has its header, an old one that which it had;
 -- zeros stand behind the last pointer; and the blocks stand as those of a file that grows.
 pub record HasDoubled (h m : Holding) (more : List ℕ) : Type 0 where
@@ -53,7 +57,7 @@ pub data IsInserted (name : List ℕ) (e : Entry) : Holding → Holding → List
       → IsSplit h m (index_for h name) b → IsSound m → IsInserted name e m g taken → IsInserted name e h g (b ∷ taken)
   after_doubling : (h m g : Holding) (more taken : List ℕ) → HasNoRoom h name → HasOneLeafFor h name → depth_for h name ≡ depth_in h → 2 * table_count h ≤ 8 * h.size
       → HasDoubled h m more → IsSound m → IsInserted name e m g taken → IsInserted name e h g (more ++ taken)
-  after_leaf : (h m g : Holding) (b : ℕ) → HasNoRoom h name → (HasOneLeafFor h name → (depth_for h name ≡ depth_in h) × (8 * h.size < 2 * table_count h))
+  after_leaf : (h m g : Holding) (b : ℕ) → HasNoRoom h name → (HasOneLeafFor h name → IsDeepest h name)
       → IsLengthened h m (index_for h name) b → IsSound m → IsPutInLeaf m g name e → IsInserted name e h g (b ∷ [])
 
 -- ---- in a draft

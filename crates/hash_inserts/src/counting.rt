@@ -65,8 +65,8 @@ fn doubled(size: usize, one: &OneLeaf) -> OneLeaf
     }
 }
 
-// Whether a table of this depth may be doubled.
-fn may_double(size: usize, table: u16) -> bool
+/// Whether a table of this depth may be doubled.
+pub(crate) fn may_double(size: usize, table: u16) -> bool
     requires small { size ≤ 4096 }
     requires shallow { table ≤ 15 }
     ensures { IsTrue result ↔ (2 * 2 ^ table ≤ 8 * size) }

@@ -8,9 +8,10 @@ use Rattle.hash_inserts.proofs.pointers.double_table.Goals as goal
 
 pub returns-in-Ok-Is-clause-doubled : goal.returns-in-Ok-Is-clause-doubled
 returns-in-Ok-Is-clause-doubled g c h shown shows sound few deep sees free enough =
-    let done = answer_at c.in-Ok-Is.field-0 c.in-Ok-Is.done _ c.in-Ok-Is.field-0-is (c.in-Ok-Is.ensures.doubled h shows (can_double h c.args.room.now.items sound shown.hashed few free enough)) in (
+    let done = answer_at c.in-Ok-Is.field-0 c.in-Ok-Is.done _ c.in-Ok-Is.field-0-is (c.in-Ok-Is.ensures.doubled h shows (can_double h c.args.room.now.items sound shown.hashed few deep free enough)) in
+    let within = answer_at c.in-Ok-Is.field-0 c.in-Ok-Is.done _ c.in-Ok-Is.field-0-is (c.in-Ok-Is.ensures.parts h shows) done.0 in (
       done.0,
-      doubled_all g.V.View.seen c.args.draft.now c.double.new.draft c.args.dir c.args.room.now.items c.double.new.room.items h done.1.0 shown sound deep done.1.2 c.in-Ok-Is.ensures.view c.sound_inodes_are_shown.ensures c.doublings_stay.ensures
+      doubled_all g.V.View.seen c.args.draft.now c.double.new.draft c.args.dir c.args.room.now.items c.double.new.room.items h done.1.0 shown sound deep done.1.2 within c.in-Ok-Is.ensures.view c.sound_inodes_are_shown.ensures c.doublings_stay.ensures
           (g.T.PointerTable.shows c.double.new.self) done.1.1,
     )
 

@@ -2,21 +2,21 @@ use Rattle.std.proofs.Common.{◌≡◌, ◌∙◌, ◌^◌, ◌<◌, ◌∷◌,
 use Rattle.glock_names.specs.Steps.{TellsOf}
 use Rattle.glock_names.proofs.StepLaws.{answer_at, needed_at}
 use Rattle.drafts.specs.Fates.{seen_in}
+use Rattle.dinode_tree.specs.Broken as inode
 use Rattle.gfs2_layout.specs.Inode.{depth_in, entry, leaf_in}
 use Rattle.gfs2_layout.specs.declared.leaf.Leaf.{Leaf}
 use Rattle.linear_dirs.proofs.Looked.{handed}
 use Rattle.hash_dirs.specs.Broken.{IsWrongIn}
 use Rattle.hash_dirs.specs.Shown.{LeadsToLeaf, by_pointer, of_table}
-use Rattle.hash_dirs.proofs.Leaves.{wrong_tells}
-use Rattle.hash_inserts.specs.Inserting.{of_leaf, of_pointers}
-use Rattle.hash_inserts.proofs.Looks.{damage_tells, free_front, only_tells}
+use Rattle.hash_inserts.specs.Inserting.{IsWrongToInsert, of_leaf, of_pointers}
+use Rattle.hash_inserts.proofs.Looks.{free_front, only_tells, tells_inode, tells_wrong}
 use Rattle.hash_inserts.proofs.splitting.split.Goals.{then-leaf-ne0-via-then-leaf-ne0, then-leaf-ne0-via-else-leaf-ne0+then-leaf-depth}
 use Rattle.hash_inserts.proofs.splitting.split.Goals as goal
 
 pub returns-in_err-head-clause-damaged : goal.returns-in_err-head-clause-damaged
 returns-in_err-head-clause-damaged g c h shown shows =
-    handed c.from_residual.result _ (TellsOf (IsWrongIn (seen_in g.V.View.seen c.args.draft.now) h)) c.from_residual.ensures.1
-    (wrong_tells (seen_in g.V.View.seen c.args.draft.now) h c.in_err-head.field-0.0 (damage_tells h c.in_err-head.field-0.0 (c.in_err-head.ensures.damaged h shows)))
+    let v = seen_in g.V.View.seen c.args.draft.now in
+    handed c.from_residual.result _ (TellsOf (IsWrongToInsert v h)) c.from_residual.ensures.1 (tells_inode v h c.in_err-head.field-0.0 (only_tells (inode.IsBroken h) c.in_err-head.field-0.0 (c.in_err-head.ensures.damaged h shows)))
 
 pub returns-in-NeedBlock-clause-needed : goal.returns-in-NeedBlock-clause-needed
 returns-in-NeedBlock-clause-needed g c h shown shows = of_leaf (of_table c.args.index refl (needed_at _ _ _ c.in-NeedBlock.is (c.in_ok-head.ensures.needed h shows)))
@@ -28,7 +28,7 @@ returns-in_err-leaf-clause-damaged g c h shown shows =
     let low : c.args.index < 2 ^ depth_in h = subst (λ n. c.args.index < 2 ^ n) deep (omega (arith, c.if-index-depth.false)) in
     let found = answer_at _ _ _ c.in-Is.is (c.in_ok-head.ensures.found h shows) in
     let leads = subst₂ (LeadsToLeaf h c.args.index) (sym found.1) (sym found.0) (by_pointer low) in
-    handed c.from_residual-in_err-leaf.result _ (TellsOf (IsWrongIn v h)) c.from_residual-in_err-leaf.ensures.1 (only_tells (IsWrongIn v h) c.in_err-leaf.field-0.0 (c.in_err-leaf.ensures.damaged h c.args.index shown leads deep))
+    handed c.from_residual-in_err-leaf.result _ (TellsOf (IsWrongToInsert v h)) c.from_residual-in_err-leaf.ensures.1 (tells_wrong v h c.in_err-leaf.field-0.0 (only_tells (IsWrongIn v h) c.in_err-leaf.field-0.0 (c.in_err-leaf.ensures.damaged h c.args.index shown leads deep)))
 
 pub returns-in-NeedBlock-2-clause-needed : goal.returns-in-NeedBlock-2-clause-needed
 returns-in-NeedBlock-2-clause-needed g c h shown shows =
@@ -38,11 +38,6 @@ returns-in-NeedBlock-2-clause-needed g c h shown shows =
     let found = answer_at _ _ _ c.in-Is.is (c.in_ok-head.ensures.found h shows) in
     let leads = subst₂ (LeadsToLeaf h c.args.index) (sym found.1) (sym found.0) (by_pointer low) in
     of_leaf (needed_at _ _ _ c.in-NeedBlock-2.is (c.in_ok-leaf.ensures.needed h c.args.index shown leads))
-
-pub returns-in_err-missing-clause-damaged : goal.returns-in_err-missing-clause-damaged
-returns-in_err-missing-clause-damaged g c h shown shows =
-    let v = seen_in g.V.View.seen c.args.draft.now in
-    handed c.from_residual-in_err-missing.result _ (TellsOf (IsWrongIn v h)) c.from_residual-in_err-missing.ensures.1 (wrong_tells v h c.in_err-missing.field-0.0 (c.in_err-missing.ensures.damaged h shown))
 
 pub returns-in-NeedBlock-3-clause-needed : goal.returns-in-NeedBlock-3-clause-needed
 returns-in-NeedBlock-3-clause-needed g c h shown shows = of_pointers (needed_at _ _ _ c.in-NeedBlock-3.is (c.in_ok-missing.ensures.needed h shown))
