@@ -84,10 +84,11 @@ pub(crate) fn write_first(area: &[u8], bytes: &mut [u8])
     head.write(bytes);
 }
 
-// The depth of a directory's first table, in blocks of this size.
-fn first_depth(size: usize) -> u16
+/// The depth of a directory's first table, in blocks of this size.
+pub(crate) fn first_depth(size: usize) -> u16
     requires { IsBlockSize size }
-    ensures { 2 ^ result ≡ first_count size }
+    ensures count { 2 ^ result ≡ first_count size }
+    ensures most { result ≤ 8 }
 {
     match size {
         512 => 5,

@@ -5,6 +5,7 @@ mod converting;
 mod counting;
 mod drafting;
 mod finding;
+mod firsts;
 mod inserting;
 mod lengthening;
 mod looking;
@@ -16,6 +17,7 @@ mod walking;
 mod writing;
 
 pub use converting::to_hashed;
+pub use firsts::need_first;
 pub use inserting::insert;
 pub use needing::need_insert;
 pub use splitting::split;
