@@ -26,3 +26,4 @@ mod SplitOn
 mod Needed
 mod After
 mod Past
+mod Counted

@@ -1,6 +1,6 @@
 -- An insertion past a leaf that is full.
 use Rattle.std.proofs.Common.{◌≡◌, ◌≢◌, ◌⊎◌, ℕ, ◌+◌, ◌*◌, ◌^◌, ◌<◌, ◌≤◌, zero, suc, inl, inr, Bool, true, false, List, length, Option, None, Some, refl, sym, ap, ◌∙◌, subst, arith}
-use Rattle.std.specs.Prelude.{IsSome, IsSomeAnd, IfOk, Result, ◌==◌}
+use Rattle.std.specs.Prelude.{is_some, IsSome, IsSomeAnd, IfOk, Result, ◌==◌}
 use Rattle.std.proofs.lemmas.Bool.{eqb-true, true≢false}
 use Rattle.std.specs.FinMap.{FinMap}
 use Rattle.std.specs.Ordering.{nat_cmp}
@@ -34,6 +34,14 @@ some_of (Some x) P holds = (x, refl)
 
 pub some_at : {A : Type 0} (o : Option A) (x : A) (P : A → Type 0) → o ≡ Some x → IsSomeAnd o P → P x
 some_at o x P is holds = subst (λ q. IsSomeAnd q P) is holds
+
+pub some_is : (o : Option ℕ) → is_some o ≡ true → (x : ℕ) × (o ≡ Some x)
+some_is None e = absurd (true≢false (sym e))
+some_is (Some x) e = (x, refl)
+
+pub none_is : (o : Option ℕ) → is_some o ≡ false → o ≡ None
+none_is None e = refl
+none_is (Some x) e = absurd (true≢false e)
 
 module _ (v : Seen) (dir : ℕ) (h : Holding) (name room : List ℕ) (need leaf : ℕ) (can : CanInsert v dir h name room need) (at : IsAtLeaf v h name leaf) where
   pub low : index_for h name < table_count h
