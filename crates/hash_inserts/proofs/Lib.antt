@@ -1,3 +1,4 @@
+mod AfterFirst
 mod Blocks
 mod Blockwise
 mod Converted

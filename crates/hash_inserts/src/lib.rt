@@ -17,7 +17,7 @@ mod walking;
 mod writing;
 
 pub use converting::to_hashed;
-pub use firsts::need_first;
+pub use firsts::{first_needs_stay, need_first};
 pub use inserting::insert;
 pub use needing::need_insert;
 pub use splitting::split;
