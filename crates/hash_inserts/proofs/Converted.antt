@@ -1,6 +1,6 @@
 -- A linear directory after its records went into a leaf, and its first table behind its dinode.
 use Rattle.std.proofs.Common.{◌≡◌, ◌≢◌, ◌⊎◌, ℕ, zero, suc, ◌+◌, ◌-◌, ◌*◌, ◌/◌, ◌%◌, ◌^◌, ◌<◌, ◌≤◌, inl, inr, Bool, true, false, List, [], ◌∷◌, length, take, drop, replicate, Option, None, Some, refl, sym, ap, ap₂, ◌∙◌, subst, arith}
-use Rattle.std.specs.Prelude.{◌==◌, ◌&&◌, Contains, IsSome, flat_map, if◌then◌else◌}
+use Rattle.std.specs.Prelude.{◌==◌, ◌&&◌, Contains, IsSome, flat_map}
 use Rattle.std.specs.FinMap.{FinMap, get, insert}
 use Rattle.std.specs.List.{All, range_with_len}
 use Rattle.std.specs.Ordering.{nat_cmp}
@@ -13,7 +13,7 @@ use Rattle.drafts.specs.declared.fate.Fate.TheVariants.{Put}
 use Rattle.gfs2_layout.specs.Area.{slots_of}
 use Rattle.gfs2_layout.specs.Bytes.{u64_at}
 use Rattle.gfs2_layout.specs.Device.{IsBlockSize}
-use Rattle.gfs2_layout.specs.Holding.{Holding, Cell, Part, Itself, Pointed, InChain, part_at, bytes_at}
+use Rattle.gfs2_layout.specs.Holding.{Holding, Part, Itself, Pointed, InChain, part_at, bytes_at}
 use Rattle.gfs2_layout.specs.Inode.{Fits, HasTree, IsLinear, block_count, carried, content_block, content_count, content_of, dinode_in, entry, has_hash_flag, height_in, is_directory_in, is_hashed_in, leaf_length, linear_area, table_count}
 use Rattle.gfs2_layout.specs.Structures.{dinode_length, dinode_of, header_fault, is_directory}
 use Rattle.gfs2_layout.specs.declared.dinode.Dinode.{Dinode}
@@ -31,13 +31,13 @@ use Rattle.hash_dirs.specs.Shown.{IsShown, IsSound}
 use Rattle.hash_dirs.proofs.Chained.{cell_some}
 use Rattle.hash_steps.specs.Laws.{ConversionsStay}
 use Rattle.hash_steps.specs.Leaves.{IsLeafPut, blank}
-use Rattle.hash_steps.specs.Steps.{IsConverted, IsSame, first_count}
+use Rattle.hash_steps.specs.Steps.{IsConverted, first_count}
 use Rattle.hash_steps.proofs.Sound.{tree_of}
-use Rattle.hash_inserts.specs.Converting.{AreConverted, CanConvert, IsTableWritten, hashed_dinode}
+use Rattle.hash_inserts.specs.Converting.{AreConverted, CanConvert, hashed_dinode}
 use Rattle.hash_inserts.specs.Drafting.{IsFree, Puts, with_block}
 use Rattle.hash_inserts.specs.Inserting.{Converts}
 use Rattle.hash_inserts.proofs.Blocks.{bytes_apart, bytes_here, counts_more, counts_same, fate_apart, one_put, part_apart, part_here, puts_then, some_before, some_here, some_still}
-use Rattle.hash_inserts.proofs.Blockwise.{dinode_own, few_blocks, free_apart, own_read, size_bounds}
+use Rattle.hash_inserts.proofs.Blockwise.{dinode_own, few_blocks, free_apart, own_read}
 use Rattle.hash_inserts.proofs.LeafBytes.{leaf_put_of}
 use Rattle.hash_inserts.proofs.Showing.{SoundAreShown, shown_of}
 use Rattle.hash_inserts.proofs.Trees.{IsWhole, whole_of, whole_with}

@@ -1,4 +1,4 @@
-use Rattle.std.proofs.Common.{◌≡◌, ◌+◌, ◌-◌, ◌*◌, ◌≤◌, length, drop, replicate, refl, ap, ◌∙◌, subst, rules, arith}
+use Rattle.std.proofs.Common.{◌≡◌, ◌-◌, ◌*◌, length, drop, replicate, refl, ap, ◌∙◌, subst, rules, arith}
 use Rattle.hash_inserts.proofs.FirstTable.{one_pointer_more}
 use Rattle.hash_inserts.proofs.converting.write_pointers.Goals as goal
 
