@@ -21,8 +21,8 @@ mod TwoLeaves
 mod Walks
 mod DoubleOn
 mod Inserted
-mod Joined
-mod Onward
+pub mod Joined
+pub mod Onward
 mod SplitOn
 mod Needed
 mod After

@@ -38,8 +38,8 @@ fn has_room(head: &Dirent, needed: u32) -> bool
     taken + needed <= u32::from(head.rec_len)
 }
 
-// Whether some record of an area has room for a name of so many bytes.
-pub(crate) fn area_has_room(area: &[u8], len: u16) -> bool
+/// Whether some record of an area has room for a name of so many bytes. It goes over them up to that one.
+pub fn area_has_room(area: &[u8], len: u16) -> bool
     requires { IsArea area.now }
     ensures { result ≡ has_room_for len (slots_of area.now) }
 {

@@ -85,7 +85,7 @@ fn put_converted<V: View>(
     ensures view { draft.new.view ≡ draft.old.view }
 {
     checksums_have_32_bits();
-    let hashed = match to_hashed(draft, dir, room)? {
+    let hashed = match to_hashed(alloc, draft, dir, room)? {
         Step::Is(hashed) => hashed,
         Step::NeedBlock(missing) => return Ok(Step::NeedBlock(missing)),
     };

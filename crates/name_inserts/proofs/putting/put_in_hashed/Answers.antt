@@ -1,5 +1,6 @@
 use Rattle.glock_names.specs.Steps.{TellsOf}
 use Rattle.glock_names.proofs.StepLaws.{answer_at, answer_so, needed_so}
+use Rattle.std.proofs.Common.{◌≡◌, true}
 use Rattle.drafts.specs.Fates.{seen_in}
 use Rattle.gfs2_layout.specs.Holding.{Holding}
 use Rattle.dinode_tree.proofs.Sound.{sound_is_whole}
