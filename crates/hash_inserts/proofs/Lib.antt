@@ -25,3 +25,4 @@ mod Needed
 mod After
 mod Past
 mod Counted
+mod Over

@@ -6,3 +6,4 @@ pub mod Walking
 pub mod Counting
 pub mod Finding
 pub mod Advancing
+pub mod Committing
