@@ -1,11 +1,14 @@
+mod AfterFirst
 mod Blocks
 mod Blockwise
+mod Converted
 mod Chosen
 mod LeafBytes
 mod Doubling
 mod Lengthened
 mod Longer
 mod Looks
+mod FirstTable
 mod Parted
 mod PartedDrafts
 mod Put

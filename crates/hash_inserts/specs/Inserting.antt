@@ -120,6 +120,12 @@ pub record Converts (old new : FinMap nat_cmp Fate) (room left : List ℕ) (h g 
   pub converted : IsConverted h g block
   pub stays : Stays h g
 
+-- Whatever the directory is: one block was taken from the front of the room, and nothing becomes of any block but the dinode's and that one.
+pub record ConvertsWithin (old new : FinMap nat_cmp Fate) (room left : List ℕ) (h : Holding) : Type 0 where
+  pub block : ℕ
+  pub front : room ≡ block ∷ left
+  pub changes : (b : ℕ) → (get new b ≡ get old b) ⊎ ((b ≡ h.own) ⊎ (b ≡ block))
+
 -- ---- what is asked for
 
 -- The view hasn't this block, without which it isn't told how the name comes in: one of the name's chain, or on the way to it; and where its one leaf has

@@ -3,6 +3,8 @@ pub mod Inserting
 pub mod Writing
 pub mod Drafting
 pub mod Walking
+pub mod Converting
+pub mod FirstNeeds
 pub mod Counting
 pub mod Finding
 pub mod Advancing
