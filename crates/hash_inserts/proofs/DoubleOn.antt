@@ -4,7 +4,7 @@ use Rattle.std.specs.Prelude.{IsSome, Contains, ◌==◌, ◌||◌, if◌then◌
 use Rattle.std.specs.FinMap.{FinMap, get}
 use Rattle.std.specs.List.{list_any}
 use Rattle.std.specs.Ordering.{nat_cmp}
-use Rattle.std.proofs.Math.Seq.{take-append_seam}
+use Rattle.std.proofs.lemmas.List.{append_cancel_right}
 use Rattle.std.proofs.lemmas.Bool.{cases_Bool, cond-false, eqb-true, true≢false}
 use Rattle.std.proofs.lemmas.List.Elements.{Contains-append_left, Contains-append_right}
 use Rattle.crc_words.specs.Remainder.{crc32_of}
@@ -66,13 +66,6 @@ needs_doubled h name need leaf takes leaf_is one full deepest may =
     let may_c : 2 * 2 ^ c.table ≤ 8 * c.size = subst (λ n. 2 * 2 ^ n ≤ 8 * c.size) (sym is.table) (subst (λ n. 2 * table_count h ≤ 8 * n) (sym is.size) may) in
     let rest = by_rule (length name) (crc32_of name) slots c need takes.needs (one_leaf h (entry h (index_for h name)) c.leaves is.leaves one) is_full (omega (arith, is.depth, is.table, deepest)) may_c in
     (rest.0, rest.1 ∙ ap (λ n. rest.0 + n) (ap (λ n. doubling_need c.size c.height (2 ^ n)) is.table ∙ ap₂ (λ s n. doubling_need s n (table_count h)) is.size is.height), rest.2)
-
--- ---- the front of the room is one
-
-pub same_front : (xs ys left : List ℕ) → xs ++ left ≡ ys ++ left → xs ≡ ys
-same_front xs ys left e =
-    let long : length xs ≡ length ys = omega (arith, ap length e, length-append xs left, length-append ys left) in
-    sym (take-append_seam xs left) ∙ ap (take (length xs)) e ∙ ap (λ n. take n (ys ++ left)) long ∙ take-append_seam ys left
 
 module _ (v : Seen) (old new : FinMap nat_cmp Fate) (room left : List ℕ) (dir : ℕ) (name : List ℕ) (need leaf : ℕ) (h m : Holding) (can : CanInsert (seen_with v old) dir h name room need) (at : IsAtLeaf (seen_with v old) h name leaf)
     (full : IsFullLeaf h name leaf) (deepest : depth_for h name ≡ depth_in h) (may : 2 * table_count h ≤ 8 * h.size) (doubles : DoublesTable v old new room left h m) (stays : Stays h m) (parts : PointersAreParts) where
@@ -155,7 +148,7 @@ module _ (v : Seen) (old new : FinMap nat_cmp Fate) (room left : List ℕ) (dir 
   later_at x later (ins.IsInsertedAt.of_table above k level first none one is) = pointed x later above k level first is
 
   same_taken : doubles.within.taken ≡ taken
-  same_taken = same_front doubles.within.taken taken left (sym doubles.within.front ∙ doubles.takes.front)
+  same_taken = append_cancel_right doubles.within.taken taken left (sym doubles.within.front ∙ doubles.takes.front)
 
   changes : (x : ℕ) → (get new x ≡ get old x) ⊎ IsInsertedAt h name taken x
   changes x = elim (doubles.within.changes x) [

@@ -1,2 +1,2 @@
-mod Lists
+pub mod Lists
 mod Over

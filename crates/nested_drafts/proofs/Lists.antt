@@ -1,5 +1,8 @@
--- Blocks that are put one after another.
-use Rattle.std.proofs.Common.{◌≡◌, ℕ, zero, suc, ◌+◌, ◌<◌, false, List, [], ◌∷◌, ◌++◌, length, get_or, take, refl, sym, ap, ◌∙◌, arith}
+-- Lists that are gone over, and blocks that are put one after another.
+use Rattle.std.proofs.Common.{◌≡◌, ℕ, zero, suc, ◌+◌, ◌<◌, ◌≤◌, inl, inr, false, List, [], ◌∷◌, ◌++◌, length, get_or, take, refl, sym, ap, ◌∙◌, subst, arith}
+use Rattle.std.specs.Prelude.{Contains}
+use Rattle.std.proofs.lemmas.List.{take_all}
+use Rattle.std.proofs.lemmas.List.Elements.{Contains-append_cases}
 use Rattle.std.specs.FinMap.{FinMap, insert}
 use Rattle.std.specs.Ordering.{nat_cmp}
 use Rattle.drafts.specs.Fates.{Drafted}
@@ -15,6 +18,20 @@ take_more (x ∷ xs) zero e low = refl
 take_more (x ∷ xs) (suc n) e low =
     let next : suc n + 1 ≡ suc (n + 1) = omega arith in
     ap (λ m. take m (x ∷ xs)) next ∙ ap (λ ys. x ∷ ys) (take_more xs n e (omega (arith, low)))
+
+pub each_next : {X : Type 0} (xs : List X) (n : ℕ) (e : X) (P : X → Type 0) → n < length xs → ((x : X) → Contains (take n xs) x → P x) → P (get_or xs n e) → (x : X) → Contains (take (n + 1) xs) x → P x
+each_next {X} xs n e P low before here x has =
+    elim (Contains-append_cases (take n xs) (get_or xs n e ∷ []) x (subst (λ ys. Contains ys x) (take_more xs n e low) has)) [
+      | inl early ↦ before x early
+      | inr last ↦ subst P (only last) here
+    ]
+  where
+    only : Contains (get_or xs n e ∷ []) x → get_or xs n e ≡ x
+    only (zero, low', is) = is
+    only (suc m, low', is) = absurd (omega (arith, low'))
+
+pub each_all : {X : Type 0} (xs : List X) (n : ℕ) (P : X → Type 0) → length xs ≤ n → ((x : X) → Contains (take n xs) x → P x) → (x : X) → Contains xs x → P x
+each_all xs n P past each x has = each x (subst (λ ys. Contains ys x) (sym (take_all n xs past)) has)
 
 -- one block more is put
 put_last : (lock : LockName) (ws : List Written) (w : Written) (fates : FinMap nat_cmp Fate) → with_blocks lock (ws ++ w ∷ []) fates ≡ insert (with_blocks lock ws fates) w.block (Put lock false w.bytes)

@@ -1,7 +1,7 @@
 use Rattle.std.proofs.Common.{◌≡◌, ◌∙◌, ◌+◌, ◌≤◌, ℕ, None, Some, length, refl, sym, ap, subst, arith}
 use Rattle.glock_names.specs.Steps.{TellsOf}
 use Rattle.glock_names.specs.Views.{HasBlock}
-use Rattle.glock_names.proofs.StepLaws.{answer_at, needed_at}
+use Rattle.glock_names.proofs.StepLaws.{answer_at, answer_so, needed_at}
 use Rattle.linear_dirs.proofs.Looked.{handed}
 use Rattle.hash_dirs.specs.Broken.{IsWrongIn}
 use Rattle.hash_dirs.specs.Shown.{index_for}
@@ -9,7 +9,6 @@ use Rattle.hash_inserts.specs.Inserting.{IsWrongToInsert, of_chain}
 use Rattle.hash_inserts.proofs.Counted.{room_or_none, sees_with, takes_none, takes_one}
 use Rattle.hash_inserts.proofs.Looks.{only_tells, tells_wrong}
 use Rattle.hash_inserts.proofs.Past.{none_is, none_walked, one_walked, several_walked, some_is}
-use Rattle.hash_inserts.proofs.Results.{is_map}
 use Rattle.hash_inserts.proofs.needing.need_insert.Goals as goal
 
 pub returns-in_err-found-clause-damaged : goal.returns-in_err-found-clause-damaged
@@ -31,7 +30,7 @@ returns-then-is_some-clause-seen g c h shown shows =
     let v = g.V.View.seen c.args.view.now in
     let found = answer_at _ _ _ c.in-Is.is (c.in_ok-found.ensures.found h shown shows) in
     let some = some_is c.in-Is.found.chain.with_room (sym c.is_some.ensures ∙ c.if-is_some.true) in
-    sees_with v h c.args.name.now c.in-Is.found.chain found.walked found.head.low (subst (HasBlock v) found.head.from (answer_at _ _ _ c.in-Is.is c.in_ok-found.ensures.there))
+    sees_with v h c.args.name.now c.in-Is.found.chain found.walked found.head.low (subst (HasBlock v) (sym shown.inode.own) (answer_at _ _ _ c.in-Is.is c.in_ok-found.ensures.own)) (subst (HasBlock v) found.head.from (answer_at _ _ _ c.in-Is.is c.in_ok-found.ensures.there))
         (λ none one. absurd (room_or_none v h c.args.name.now c.in-Is.found.chain found.walked found.head.low some.0 some.1 none))
 
 pub returns-then-not-found-clause-need : goal.returns-then-not-found-clause-need
@@ -49,7 +48,7 @@ returns-then-not-found-clause-seen g c h shown shows =
     let name = c.args.name.now in
     let chain = c.in-Is.found.chain in
     let found = answer_at _ _ _ c.in-Is.is (c.in_ok-found.ensures.found h shown shows) in
-    sees_with v h name chain found.walked found.head.low (subst (HasBlock v) found.head.from (answer_at _ _ _ c.in-Is.is c.in_ok-found.ensures.there))
+    sees_with v h name chain found.walked found.head.low (subst (HasBlock v) (sym shown.inode.own) (answer_at _ _ _ c.in-Is.is c.in_ok-found.ensures.own)) (subst (HasBlock v) found.head.from (answer_at _ _ _ c.in-Is.is c.in_ok-found.ensures.there))
         (λ none one. absurd (several_walked v h (index_for h name) (length name) chain found.walked c.if-not-found.true found.head.low one))
 
 pub returns-clause-need : goal.returns-clause-need
@@ -66,7 +65,7 @@ returns-clause-seen g c h shown shows =
     let name = c.args.name.now in
     let chain = c.in-Is.found.chain in
     let found = answer_at _ _ _ c.in-Is.is (c.in_ok-found.ensures.found h shown shows) in
-    is_map c.need_of_one.result _ _ (λ n sees. sees_with v h name chain found.walked found.head.low (subst (HasBlock v) found.head.from (answer_at _ _ _ c.in-Is.is c.in_ok-found.ensures.there)) (λ none one. sees))
+    answer_so c.need_of_one.result _ _ (λ n sees. sees_with v h name chain found.walked found.head.low (subst (HasBlock v) (sym shown.inode.own) (answer_at _ _ _ c.in-Is.is c.in_ok-found.ensures.own)) (subst (HasBlock v) found.head.from (answer_at _ _ _ c.in-Is.is c.in_ok-found.ensures.there)) (λ none one. sees))
         (c.need_of_one.ensures.seen h shown)
 
 pub returns-clause-needed : goal.returns-clause-needed
