@@ -7,7 +7,7 @@ use Rattle.std.specs.Ordering.{nat_cmp}
 use Rattle.std.proofs.lemmas.Bool.{cases_eq, cond-true}
 use Rattle.std.proofs.lemmas.Bool.Decides.{nat_tests}
 use Rattle.std.proofs.lemmas.List.{length-drop, length-replicate, take-append-drop, length-take-le}
-use Rattle.drafts.specs.Fates.{Drafted, seen_in}
+use Rattle.drafts.specs.Fates.{Drafted, block_with, seen_in, seen_with}
 use Rattle.drafts.specs.declared.fate.Fate.{Fate}
 use Rattle.drafts.specs.declared.fate.Fate.TheVariants.{Put}
 use Rattle.gfs2_layout.specs.Area.{slots_of}
@@ -19,7 +19,7 @@ use Rattle.gfs2_layout.specs.Structures.{dinode_length, dinode_of, header_fault,
 use Rattle.gfs2_layout.specs.declared.dinode.Dinode.{Dinode}
 use Rattle.gfs2_layout.specs.declared.leaf.Leaf.{Leaf}
 use Rattle.gfs2_layout.proofs.HeaderLaws.{answer_ok, header_from}
-use Rattle.glock_names.specs.Views.{Seen}
+use Rattle.glock_names.specs.Views.{HasBlock, Seen}
 use Rattle.dinode_tree.specs.Pads.{KeepsPads}
 use Rattle.dinode_tree.specs.Reading.{inode_lock}
 use Rattle.dinode_tree.specs.Shown as inode
@@ -36,7 +36,7 @@ use Rattle.hash_steps.proofs.Sound.{tree_of}
 use Rattle.hash_inserts.specs.Converting.{AreConverted, CanConvert, hashed_dinode}
 use Rattle.hash_inserts.specs.Drafting.{IsFree, Puts, with_block}
 use Rattle.hash_inserts.specs.Inserting.{Converts}
-use Rattle.hash_inserts.proofs.Blocks.{bytes_apart, bytes_here, counts_more, counts_same, fate_apart, one_put, part_apart, part_here, puts_then, some_before, some_here, some_still}
+use Rattle.hash_inserts.proofs.Blocks.{bytes_apart, bytes_here, counts_more, counts_same, fate_apart, fate_here, one_put, part_apart, part_here, puts_then, some_before, some_here, some_still}
 use Rattle.hash_inserts.proofs.Blockwise.{dinode_own, few_blocks, free_apart, own_read}
 use Rattle.hash_inserts.proofs.LeafBytes.{leaf_put_of}
 use Rattle.hash_inserts.proofs.Showing.{SoundAreShown, shown_of}
@@ -282,17 +282,24 @@ module _ (h : Holding) (sound : IsSound h) (directory : is_directory_in h ≡ tr
     abbrev draft_after : {V : Type 0} → Drafted V → ℕ → Drafted V
     draft_after old a = record old { fates = insert (insert old.fates b (Put (inode_lock a) false new)) a (Put (inode_lock a) false table) }
 
+    -- the draft has both blocks
+    pub sees_after : (v : Seen) (fates : FinMap nat_cmp Fate) → HasBlock (seen_with v (fates_after fates)) h.own × HasBlock (seen_with v (fates_after fates)) b
+    sees_after v fates = (
+      (table, ap (λ fate. block_with fate (v.block_at h.own)) (fate_here (insert fates b (Put (inode_lock h.own) false new)) h.own (Put (inode_lock h.own) false table))),
+      (new, ap (λ fate. block_with fate (v.block_at b)) (fate_apart (insert fates b (Put (inode_lock h.own) false new)) h.own (Put (inode_lock h.own) false table) b b_apart ∙ fate_here fates b (Put (inode_lock h.own) false new))),
+    )
+
     pub converts : {V : Type 0} (seen : V → Seen) (old now : Drafted V) (dir : ℕ) (room left : List ℕ) → inode.IsShown (seen_in seen old) dir h → now ≡ draft_after old dir → room ≡ b ∷ left → SoundAreShown → ConversionsStay
-        → (g : Holding) × IsShown (seen_in seen now) dir g × Converts old.fates now.fates room left h g
+        → (g : Holding) × IsShown (seen_in seen now) dir g × ((is : Converts old.fates now.fates room left h g) × HasBlock (seen_in seen now) h.own × HasBlock (seen_in seen now) is.block)
     converts {V} seen old now dir room left shown put front law stay =
         let stays = stay h after b sound directory linear converted in
-        subst (λ (d : Drafted V). (g : Holding) × IsShown (seen_in seen d) dir g × Converts old.fates d.fates room left h g) (ap (draft_after old) shown.own ∙ sym put) (
+        subst (λ (d : Drafted V). (g : Holding) × IsShown (seen_in seen d) dir g × ((is : Converts old.fates d.fates room left h g) × HasBlock (seen_in seen d) h.own × HasBlock (seen_in seen d) is.block)) (ap (draft_after old) shown.own ∙ sym put) (
           after,
           shown_of law (seen_in seen (draft_after old h.own)) after dir stays.sound stays.hashed shown.own shown.size ((puts (seen old.view) old.fates).seen shown.same),
-          record {
+          (record {
             block = b;
             takes = record { front = front; has = has_taken; drafted = (puts (seen old.view) old.fates).drafted; changes = two_put old.fates (fates_after old.fates) b h.own (Put (inode_lock h.own) false new) (Put (inode_lock h.own) false table) refl };
             converted = converted;
             stays = stays;
-          },
+          }, (sees_after (seen old.view) old.fates).0, (sees_after (seen old.view) old.fates).1),
         )

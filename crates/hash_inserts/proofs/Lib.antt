@@ -29,3 +29,4 @@ mod After
 mod Past
 mod Counted
 mod Over
+mod Only

@@ -10,7 +10,7 @@ ghost use Rattle.gfs2_layout.specs.Device.{IsBlockSize};
 ghost use Rattle.gfs2_layout.specs.Holding.{Holding};
 ghost use Rattle.gfs2_layout.specs.Inode.{is_directory_in, is_hashed_in, leaf_length};
 ghost use Rattle.glock_names.specs.Steps.{IfIs, IfNeedBlock, IfDamaged};
-ghost use Rattle.glock_names.specs.Views.{IsOfView};
+ghost use Rattle.glock_names.specs.Views.{HasBlock, IsOfView};
 ghost use Rattle.dinode_tree.specs.Reading.{inode_lock};
 ghost use Rattle.dinode_tree.specs.Shown as inode;
 ghost use Rattle.dinode_tree.specs.Walking.{missing_dinode};
@@ -57,7 +57,7 @@ fn write_pointers(area: &mut [u8], count: usize, leaf: u64)
     }
 }
 
-// Puts a dinode over that of a directory's block, and the first table behind it, whose pointers lead to this leaf.
+/// Puts a dinode over that of a directory's block, and the first table behind it, whose pointers lead to this leaf.
 fn write_table(bytes: &mut [u8], dinode: &Dinode, leaf: u64)
     requires { IsBlockSize (length bytes.old) }
     ensures { IsTableWritten bytes.old bytes.new dinode.now leaf }
@@ -85,7 +85,7 @@ pub(crate) fn write_first(area: &[u8], bytes: &mut [u8])
 }
 
 /// The depth of a directory's first table, in blocks of this size.
-pub(crate) fn first_depth(size: usize) -> u16
+pub fn first_depth(size: usize) -> u16
     requires { IsBlockSize size }
     ensures count { 2 ^ result ≡ first_count size }
     ensures most { result ≤ 8 }
@@ -176,7 +176,8 @@ pub fn to_hashed<V: View>(
 ) -> Result<Step<bool>, CallFault>
     requires linear { IsLinearIn (seen_in V.seen draft.old) dir }
     ensures put { (h : Holding) → inode.IsShown (seen_in V.seen draft.old) dir h → IsSound h → is_directory_in h ≡ true → is_hashed_in h ≡ false → h.count < 2 ^ 64 → AreFreeFor h room.old.items → 1 ≤ length room.old.items
-        → IfIs result (λ done. (done ≡ true) × ((g : Holding) × IsShown (seen_in V.seen draft.new) dir g × Converts draft.old.fates draft.new.fates room.old.items room.new.items h g)) }
+        → IfIs result (λ done. (done ≡ true) × ((g : Holding) × IsShown (seen_in V.seen draft.new) dir g
+        × ((is : Converts draft.old.fates draft.new.fates room.old.items room.new.items h g) × HasBlock (seen_in V.seen draft.new) h.own × HasBlock (seen_in V.seen draft.new) is.block))) }
     ensures inside { (h : Holding) → inode.IsShown (seen_in V.seen draft.old) dir h → IfIs result (λ done. done ≡ true → ConvertsWithin draft.old.fates draft.new.fates room.old.items room.new.items h) }
     ensures needed { IfNeedBlock result (λ missing. missing ≡ missing_dinode dir) }
     ensures absent { IfNeedBlock result (λ missing. (seen_in V.seen draft.old).block_at dir ≡ None) }

@@ -17,7 +17,8 @@ ghost use Rattle.hash_steps.specs.Leaves.{IsFullBefore, has_room_for};
 ghost use Rattle.hash_inserts.specs.Advancing.{CanInsert, IsAtLeaf, IsFullLeaf, StepsOn};
 ghost use Rattle.hash_inserts.specs.Committing.{HasInserted, SeesInside};
 ghost use Rattle.hash_inserts.specs.Drafting.{SeesTree};
-ghost use Rattle.hash_inserts.specs.Finding.{IsChainFound};
+ghost use Rattle.hash_inserts.specs.Finding.{IsChainFound, IsOnlyLeaf};
+ghost use Rattle.hash_inserts.specs.Walking.{first_with};
 ghost use Rattle.hash_inserts.specs.Inserting.{CanCountOne, HasNoRoom, HasOneLeafFor, Inserts, IsDeepest, IsNeededToInsert, IsWrongToInsert, StaysInside, depth_for};
 ghost use Rattle.hash_inserts.specs.Needing.{TakesBlocks};
 
@@ -30,6 +31,7 @@ use crate::looking::see_table;
 use crate::pointers::double_table;
 use crate::records::put_in_leaf;
 use crate::splitting::split_leaf;
+use crate::walking::{Walked, first_of};
 use crc_words::{checksums_have_32_bits, crc32};
 use dinode_tree::{sound_inodes_are_shown, sound_pointers_are_parts};
 use drafts::{Draft, Written};
@@ -38,7 +40,7 @@ use hash_dirs::index_of;
 use hash_steps::{exchanges_join, puts_get_a_record};
 use nested_drafts::{are_whole, puts_are_seen_alike};
 use no_memory::NoMemory;
-use pointer_tables::{PointerTable, PointerTableMut};
+use pointer_tables::{Pointer, PointerTable, PointerTableMut};
 use std::alloc::Global;
 use std::collections::VecDeque;
 
@@ -325,6 +327,41 @@ fn inserted_blocks<V: View, T: PointerTableMut>(
     Ok(Some(change.blocks))
 }
 
+// Puts a name into a hashed directory in a draft, as its chain was found: as a whole, or not at all.
+fn insert_whole<V: View, T: PointerTableMut>(
+    alloc: Global,
+    draft: &mut Draft<'_, V>,
+    dir: u64,
+    found: &Found,
+    name: &[u8],
+    entry: Entry,
+    room: &mut VecDeque<u64>,
+    table: &mut T,
+) -> Result<bool, NoMemory>
+    requires some { 1 ≤ length name.now }
+    requires short { length name.now ≤ 255 }
+    requires number { entry.number ≢ 0 }
+    requires address { entry.addr ≢ 0 }
+    ensures put { (h : Holding) (need : ℕ) → CanInsert (seen_in V.seen draft.old) dir h name.now room.old.items need → T.shows table.old (seen_in V.seen draft.old) h
+        → IsChainFound (seen_in V.seen draft.old) h name.now found.now → HasBlock (seen_in V.seen draft.old) dir → (HasNoRoom h name.now → HasOneLeafFor h name.now → SeesInside (seen_in V.seen draft.old) h)
+        → IfOk result (λ done. (done ≡ true) × ((g : Holding) × IsShown (seen_in V.seen draft.new) dir g × T.shows table.new (seen_in V.seen draft.new) g
+        × Inserts draft.old.fates draft.new.fates room.old.items room.new.items need name.now entry h g)) }
+    ensures inside { IfOk result (λ done. done ≡ true → StaysInside (seen_in V.seen draft.old) draft.old.fates draft.new.fates room.old.items room.new.items dir) }
+    ensures view { draft.new.view ≡ draft.old.view }
+{
+    puts_are_seen_alike();
+    sound_pointers_are_parts();
+    let mut left = room.clone()?;
+    let made = inserted_blocks(
+        alloc, &*draft, dir, found, name, entry, &mut left, table,
+    )?;
+    let Some(blocks) = made else {
+        return Ok(false);
+    };
+    let done = commit(alloc, draft, dir, &blocks, room, left.len())?;
+    Ok(done)
+}
+
 /// Puts a name that isn't there and leads to this entry into the hashed directory with its dinode in this block, by its table, into the
 /// first leaf of its chain that has room for it. Where none has, the leaf is split, the table doubled or an overflow leaf added, until one
 /// has; blocks are taken for that from the front of `room`, as many as `need_insert` tells. The answer is whether that was done: `false`
@@ -358,21 +395,59 @@ pub fn insert<V: View, T: PointerTableMut>(
     ensures stays { IfDamaged result (λ rule block. (draft.new ≡ draft.old) × (room.new.items ≡ room.old.items) × (table.new ≡ table.old)) }
     ensures view { draft.new.view ≡ draft.old.view }
 {
-    puts_are_seen_alike();
     checksums_have_32_bits();
-    sound_pointers_are_parts();
     sound_inodes_are_shown();
     let found = match see_to_insert(alloc, &*draft, dir, name, &*table)? {
         Step::Is(found) => found,
         Step::NeedBlock(missing) => return Ok(Step::NeedBlock(missing)),
     };
-    let mut left = room.clone()?;
-    let made = inserted_blocks(
-        alloc, &*draft, dir, &found, name, entry, &mut left, table,
-    )?;
-    let Some(blocks) = made else {
-        return Ok(Step::Is(false));
-    };
-    let done = commit(alloc, draft, dir, &blocks, room, left.len())?;
+    let done = insert_whole(alloc, draft, dir, &found, name, entry, room, table)?;
     Ok(Step::Is(done))
+}
+
+// What is found of a name's chain that has one leaf, to which a pointer behind the dinode leads.
+fn only_leaf(dir: u64, leaf: u64, has_room: bool) -> Found
+    ensures head { result.head ≡ record { leaf = leaf; from = dir } }
+    ensures chain { result.chain ≡ record { last = leaf; single = true; with_room = first_with None has_room leaf } }
+{
+    Found {
+        head: Pointer { leaf, from: dir },
+        chain: Walked {
+            last: leaf,
+            single: true,
+            with_room: first_of(None, has_room, leaf),
+        },
+    }
+}
+
+/// Puts a name that isn't there and leads to this entry into the hashed directory with its dinode in this block, by its table, which stands behind the
+/// dinode and of which the name's pointer leads to this leaf, the only one of its chain: so of a directory that has just become a hashed one.
+/// It looks at nothing, and does else what `insert` does.
+pub fn insert_first<V: View, T: PointerTableMut>(
+    alloc: Global,
+    draft: &mut Draft<'_, V>,
+    dir: u64,
+    leaf: u64,
+    name: &[u8],
+    entry: Entry,
+    room: &mut VecDeque<u64>,
+    table: &mut T,
+) -> Result<bool, NoMemory>
+    requires some { 1 ≤ length name.now }
+    requires short { length name.now ≤ 255 }
+    requires number { entry.number ≢ 0 }
+    requires address { entry.addr ≢ 0 }
+    ensures put { (h : Holding) (need : ℕ) → CanInsert (seen_in V.seen draft.old) dir h name.now room.old.items need → T.shows table.old (seen_in V.seen draft.old) h
+        → IsOnlyLeaf (seen_in V.seen draft.old) h name.now leaf
+        → IfOk result (λ done. (done ≡ true) × ((g : Holding) × IsShown (seen_in V.seen draft.new) dir g × T.shows table.new (seen_in V.seen draft.new) g
+        × Inserts draft.old.fates draft.new.fates room.old.items room.new.items need name.now entry h g)) }
+    ensures inside { IfOk result (λ done. done ≡ true → StaysInside (seen_in V.seen draft.old) draft.old.fates draft.new.fates room.old.items room.new.items dir) }
+    ensures view { draft.new.view ≡ draft.old.view }
+{
+    sound_pointers_are_parts();
+    let Some(has_room) = has_room_in(&*draft, leaf, name.len() as u16) else {
+        return Ok(false);
+    };
+    let found = only_leaf(dir, leaf, has_room);
+    insert_whole(alloc, draft, dir, &found, name, entry, room, table)
 }

@@ -17,9 +17,9 @@ mod splitting;
 mod walking;
 mod writing;
 
-pub use converting::to_hashed;
+pub use converting::{first_depth, to_hashed};
 pub use firsts::{first_needs_stay, need_first};
-pub use inserting::insert;
+pub use inserting::{insert, insert_first};
 pub use needing::need_insert;
 pub use splitting::split;
 pub use walking::area_has_room;

@@ -54,8 +54,8 @@ pub fn area_has_room(area: &[u8], len: u16) -> bool
     false
 }
 
-// The first leaf with room so far, once one more was looked at.
-fn first_of(found: Option<u64>, room: bool, leaf: u64) -> Option<u64>
+/// The first leaf with room so far, once one more was looked at.
+pub(crate) fn first_of(found: Option<u64>, room: bool, leaf: u64) -> Option<u64>
     ensures { result ≡ first_with found room leaf }
 {
     match found {

@@ -1,5 +1,5 @@
 // A name put into a directory in a draft.
-ghost use Rattle.std.specs.Prelude.{ℕ, ◌≡◌, ◌≢◌, ◌^◌, ◌<◌, ◌≤◌, false, true, None, length};
+ghost use Rattle.std.specs.Prelude.{ℕ, ◌≡◌, ◌≢◌, ◌^◌, ◌<◌, ◌≤◌, false, true, None, Contains, length};
 ghost use Rattle.drafts.specs.Fates.{seen_in};
 ghost use Rattle.gfs2_layout.specs.Holding.{Holding};
 ghost use Rattle.gfs2_layout.specs.Inode.{is_directory_in, is_hashed_in, records_of};
@@ -10,6 +10,7 @@ ghost use Rattle.dinode_tree.specs.Shown as inode;
 ghost use Rattle.dinode_tree.specs.Walking.{missing_dinode};
 ghost use Rattle.linear_dirs.specs.Broken as linear;
 ghost use Rattle.linear_dirs.specs.Shown.{IsLinearIn, holding_over};
+ghost use Rattle.resource_groups.specs.Putting.{HasDataBlock};
 ghost use Rattle.growth_drafts.specs.Taken.{AreFreeFor};
 ghost use Rattle.directories.specs.Shown.{IsDirectoryIn, IsShown};
 ghost use Rattle.hash_dirs.specs.Shown.{IsSound};
@@ -23,7 +24,7 @@ use dinode_tree::read_dinode;
 use directories::is_hashed;
 use drafts::Draft;
 use glock_names::{CallFault, Entry, Step, View};
-use hash_inserts::to_hashed;
+use hash_inserts::{first_depth, insert_first, to_hashed};
 use std::alloc::Global;
 use std::collections::VecDeque;
 use tree_tables::TreeTable;
@@ -69,6 +70,7 @@ fn put_converted<V: View>(
     room: &mut VecDeque<u64>,
 ) -> Result<Step<bool>, CallFault>
     requires linear { IsLinearIn (seen_in V.seen draft.old) dir }
+    requires room { (b : ℕ) → Contains room.old.items b → HasDataBlock (seen_in V.seen draft.old) b }
     requires some { 1 ≤ length name.now }
     requires short { length name.now ≤ 255 }
     requires number { entry.number ≢ 0 }
@@ -85,6 +87,7 @@ fn put_converted<V: View>(
     ensures view { draft.new.view ≡ draft.old.view }
 {
     checksums_have_32_bits();
+    let first = room.front().copied();
     let hashed = match to_hashed(alloc, draft, dir, room)? {
         Step::Is(hashed) => hashed,
         Step::NeedBlock(missing) => return Ok(Step::NeedBlock(missing)),
@@ -92,17 +95,20 @@ fn put_converted<V: View>(
     if !hashed {
         return Ok(Step::Is(false));
     }
-    // of a directory that was sound nothing is asked for then, and nothing is wrong
-    match put_in_hashed(alloc, draft, dir, name, entry, room) {
-        Ok(Step::Is(done)) => Ok(Step::Is(done)),
-        Ok(Step::NeedBlock(_missing)) => Ok(Step::Is(false)),
-        Err(CallFault::Damaged { .. }) => Ok(Step::Is(false)),
-        Err(CallFault::NoMemory) => Err(CallFault::NoMemory),
-    }
+    let Some(leaf) = first else {
+        return Ok(Step::Is(false));
+    };
+    let mut table = TreeTable {
+        directory: dir,
+        depth: first_depth(draft.block_size() as usize),
+    };
+    let done = insert_first(alloc, draft, dir, leaf, name, entry, room, &mut table)?;
+    Ok(Step::Is(done))
 }
 
 /// Puts a name that isn't there and leads to this entry into the directory with its dinode in this block, and counts it. A linear directory that
-/// has no room for it becomes a hashed one. Blocks are taken for that from the front of `room`, as many as `need_name` tells. The answer is whether
+/// has no room for it becomes a hashed one. Blocks are taken for that from the front of `room`, as many as `need_name` tells; each block of it is
+/// a data block of a group. The answer is whether
 /// that was done: `false` where the room isn't enough or the directory isn't sound, and then the draft may be half done, and is to be dropped.
 /// It looks at what `need_name` looks at before it changes anything. It costs what `need_name` costs, and a few copies of each block that it puts.
 pub fn put_name<V: View>(
@@ -114,6 +120,7 @@ pub fn put_name<V: View>(
     room: &mut VecDeque<u64>,
 ) -> Result<Step<bool>, CallFault>
     requires directory { IsDirectoryIn (seen_in V.seen draft.old) dir }
+    requires room { (b : ℕ) → Contains room.old.items b → HasDataBlock (seen_in V.seen draft.old) b }
     requires some { 1 ≤ length name.now }
     requires short { length name.now ≤ 255 }
     requires number { entry.number ≢ 0 }
