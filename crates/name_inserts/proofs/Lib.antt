@@ -1,4 +1,5 @@
 pub mod Needed
 pub mod Forms
+pub mod First
 pub mod Converted
 pub mod Puts
