@@ -206,17 +206,7 @@ fn insert_past<V: View, T: PointerTableMut>(
         if !done {
             return Ok(false);
         }
-        insert_past(
-            alloc,
-            draft,
-            dir,
-            leaf,
-            name,
-            entry,
-            room,
-            table,
-            steps - 1,
-        )
+        insert_past(alloc, draft, dir, leaf, name, entry, room, table, steps - 1)
     } else {
         put_with_leaf(alloc, draft, dir, leaf, name, entry, room, &*table)
     }
@@ -249,9 +239,7 @@ fn insert_found<V: View, T: PointerTableMut>(
     }
     let last = found.chain.last;
     if found.chain.single {
-        insert_past(
-            alloc, draft, dir, last, name, entry, room, table, STEPS,
-        )
+        insert_past(alloc, draft, dir, last, name, entry, room, table, STEPS)
     } else {
         put_with_leaf(alloc, draft, dir, last, name, entry, room, &*table)
     }
@@ -367,9 +355,7 @@ pub fn insert<V: View, T: PointerTableMut>(
         Step::NeedBlock(missing) => return Ok(Step::NeedBlock(missing)),
     };
     let mut left = room.clone()?;
-    let made = inserted_blocks(
-        alloc, &*draft, dir, &found, name, entry, &mut left, table,
-    )?;
+    let made = inserted_blocks(alloc, &*draft, dir, &found, name, entry, &mut left, table)?;
     let Some(blocks) = made else {
         return Ok(Step::Is(false));
     };

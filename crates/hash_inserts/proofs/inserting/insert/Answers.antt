@@ -1,4 +1,4 @@
-use Rattle.std.proofs.Common.{◌≡◌, ◌∙◌, ◌<◌, ◌^◌, ℕ, length, sym, ap, subst, subst₂, arith}
+use Rattle.std.proofs.Common.{◌≡◌, ◌∙◌, ◌<◌, length, sym, ap, subst, subst₂, arith}
 use Rattle.std.specs.Prelude.{Contains}
 use Rattle.std.specs.List.{each_same}
 use Rattle.std.proofs.lemmas.List.Elements.{All-from_get_or}
