@@ -1,10 +1,10 @@
 -- How many blocks a name takes, as it is counted: of a chain that was gone along, and of one with one leaf.
-use Rattle.std.proofs.Common.{◌≡◌, ◌≢◌, ◌⊎◌, ℕ, ◌+◌, ◌-◌, ◌*◌, ◌^◌, ◌<◌, ◌≤◌, inl, inr, Bool, true, false, List, [], ◌∷◌, length, Option, None, Some, refl, sym, ap, ap₂, ◌∙◌, subst, arith}
+use Rattle.std.proofs.Common.{◌≡◌, ◌≢◌, ◌⊎◌, ℕ, ◌+◌, ◌-◌, ◌*◌, ◌^◌, ◌<◌, ◌≤◌, inl, inr, Bool, true, false, List, length, None, Some, refl, sym, ap, ap₂, ◌∙◌, subst, arith}
 use Rattle.std.specs.Prelude.{◌==◌, if◌then◌else◌}
 use Rattle.std.proofs.lemmas.Bool.{true≢false}
-use Rattle.gfs2_layout.specs.Area.{Slot, slots_of}
+use Rattle.gfs2_layout.specs.Area.{slots_of}
 use Rattle.gfs2_layout.specs.Holding.{Holding}
-use Rattle.gfs2_layout.specs.Inode.{depth_in, dinode_in, entry, entry_block, leaf_area, leaf_in, leaf_length, table_count}
+use Rattle.gfs2_layout.specs.Inode.{depth_in, dinode_in, entry, entry_block, leaf_in, leaf_length, table_count}
 use Rattle.glock_names.specs.Views.{Seen, HasBlock}
 use Rattle.leaf_areas.specs.Splitting.{bit_at, lower_half, upper_half}
 use Rattle.resource_groups.specs.Putting.{HasDataBlock}

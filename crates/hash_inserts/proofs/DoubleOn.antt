@@ -1,5 +1,5 @@
 -- A table that is doubled as a step of an insertion.
-use Rattle.std.proofs.Common.{◌≡◌, ◌≢◌, ◌⊎◌, ℕ, suc, ◌+◌, ◌-◌, ◌*◌, ◌/◌, ◌^◌, ◌<◌, ◌≤◌, inl, inr, Bool, true, false, List, [], ◌∷◌, ◌++◌, length, take, drop, Option, None, Some, refl, sym, ap, ap₂, ◌∙◌, subst, length-append, arith}
+use Rattle.std.proofs.Common.{◌≡◌, ◌≢◌, ◌⊎◌, ℕ, ◌+◌, ◌-◌, ◌*◌, ◌/◌, ◌^◌, ◌<◌, ◌≤◌, inl, inr, Bool, true, false, List, [], ◌∷◌, ◌++◌, length, drop, Option, None, Some, refl, sym, ap, ap₂, ◌∙◌, subst, arith}
 use Rattle.std.specs.Prelude.{IsSome, Contains, ◌==◌, ◌||◌, if◌then◌else◌}
 use Rattle.std.specs.FinMap.{FinMap, get}
 use Rattle.std.specs.List.{list_any}
@@ -17,17 +17,15 @@ use Rattle.gfs2_layout.specs.Inode.{content_count, depth_in, dinode_in, entry, f
 use Rattle.gfs2_layout.specs.Structures.{leaf_of}
 use Rattle.gfs2_layout.specs.declared.dinode.Dinode.{Dinode}
 use Rattle.image_model.proofs.Rows.{and_left}
-use Rattle.glock_names.specs.Views.{Seen, HasBlock}
-use Rattle.glock_names.specs.declared.steps.Entry.{Entry}
-use Rattle.growth_drafts.specs.Taken.{HasTaken}
+use Rattle.glock_names.specs.Views.{Seen}
 use Rattle.growth_laws.specs.Need.{raised_to}
 use Rattle.pointer_tables.specs.Directories.{chain_head}
 use Rattle.pointer_tables.specs.Tables.{doubling_need, doubling_need_of, table_height}
-use Rattle.hash_dirs.specs.Shown.{IsInChain, IsShown, IsSound, index_for}
+use Rattle.hash_dirs.specs.Shown.{IsInChain, IsShown, index_for}
 use Rattle.hash_dirs.proofs.Chained.{cell_some, deep, index_low, rules}
 use Rattle.hash_dirs.proofs.Indexes.{bits_of_bits}
 use Rattle.hash_steps.specs.Laws.{Stays}
-use Rattle.hash_steps.specs.Leaves.{HasOneLeaf, has_room_for}
+use Rattle.hash_steps.specs.Leaves.{has_room_for}
 use Rattle.hash_inserts.specs.Advancing.{CanInsert, IsAtLeaf, IsFullLeaf, StepsOn, StepsTo}
 use Rattle.hash_inserts.specs.Drafting.{DoublesTable}
 use Rattle.hash_inserts.specs.Inserting as ins
@@ -229,8 +227,7 @@ module _ (v : Seen) (old new : FinMap nat_cmp Fate) (room left : List ℕ) (dir 
       let is = can.takes.is in
       let leaves = one_leaf h (entry h i) c.leaves is.leaves at.one in
       let rest = needs_doubled h name need leaf can.takes at.leaf_is at.one full deepest may in
-      let height : table_height c.size c.height (2 * 2 ^ c.table) ≡ height_in m = ap (λ n. table_height c.size c.height (2 * 2 ^ n)) is.table ∙ ap₂ (λ s n. table_height s n (2 * table_count h)) is.size is.height ∙ sym height_is in
-      (
+      let height : table_height c.size c.height (2 * 2 ^ c.table) ≡ height_in m = ap (λ n. table_height c.size c.height (2 * 2 ^ n)) is.table ∙ ap₂ (λ s n. table_height s n (2 * table_count h)) is.size is.height ∙ sym height_is in (
         rest.0,
         rest.1,
         record {

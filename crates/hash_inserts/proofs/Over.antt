@@ -1,5 +1,5 @@
 -- What was inserted in a draft over a draft, once it is put into that.
-use Rattle.std.proofs.Common.{◌≡◌, ◌⊎◌, ℕ, ◌+◌, ◌<◌, inl, inr, Bool, true, false, List, [], ◌∷◌, ◌++◌, length, take, drop, Option, None, Some, refl, sym, ap, ◌∙◌, subst, subst₂, length-append, arith}
+use Rattle.std.proofs.Common.{◌≡◌, ◌⊎◌, ℕ, inl, inr, Bool, false, List, ◌++◌, length, take, drop, Option, None, Some, refl, sym, ap, ◌∙◌, subst, length-append, arith}
 use Rattle.std.specs.Prelude.{IsSome, Contains}
 use Rattle.std.specs.FinMap.{FinMap, empty, entries, get, get-empty}
 use Rattle.std.specs.Ordering.{nat_cmp}
@@ -9,15 +9,15 @@ use Rattle.drafts.specs.Fates.{block_with, blocks_in, seen_with}
 use Rattle.drafts.specs.declared.change.Written.{Written}
 use Rattle.drafts.specs.declared.fate.Fate.{Fate}
 use Rattle.drafts.specs.declared.fate.Fate.TheVariants.{Put}
-use Rattle.gfs2_layout.specs.Holding.{Cell, Holding, Part, Pointed, cell_part, part_at, bytes_at}
-use Rattle.glock_names.specs.Views.{Seen, HasBlock}
+use Rattle.gfs2_layout.specs.Holding.{Cell, Holding, Part, cell_part, bytes_at}
+use Rattle.glock_names.specs.Views.{Seen}
 use Rattle.glock_names.specs.declared.LockName.{LockName}
 use Rattle.glock_names.specs.declared.steps.Entry.{Entry}
 use Rattle.dinode_tree.specs.Reading.{inode_lock}
 use Rattle.resource_groups.specs.Putting.{HasDataBlock}
 use Rattle.nested_drafts.specs.Nested.{fate_over, with_blocks}
 use Rattle.pointer_tables.specs.Tables.{DraftsDirectory}
-use Rattle.hash_dirs.specs.Shown.{IsInChain, IsShown, IsSound, index_for}
+use Rattle.hash_dirs.specs.Shown.{IsInChain, IsSound, index_for}
 use Rattle.hash_inserts.specs.Committing.{HasInserted, SeesInside}
 use Rattle.hash_inserts.specs.Inserting.{HasNoRoom, HasOneLeafFor, Inserts, IsInsertedAt, MayChange, a_data_block, a_full_leaf, a_leaf_with_room, a_taken_one, its_dinode, of_table, one_taken, the_dinode}
 use Rattle.hash_inserts.proofs.Seen.{PartsAreLed}

@@ -9,7 +9,7 @@ ghost use Rattle.hash_inserts.specs.Inserting.{MayChange, StaysInside};
 use drafts::{Draft, Written};
 use glock_names::View;
 use linear_dirs::lock_of;
-use nested_drafts::{puts_are_seen_alike, put_blocks};
+use nested_drafts::{put_blocks, puts_are_seen_alike};
 use no_memory::NoMemory;
 use resource_groups::group_of;
 use std::alloc::Global;
@@ -41,11 +41,7 @@ fn are_inside<V: View>(view: &V, dir: u64, taken: &[u64], blocks: &[Written]) ->
 }
 
 // Takes blocks from the front of the room until so many are left.
-fn take_front(
-    alloc: Global,
-    room: &mut VecDeque<u64>,
-    left: usize,
-) -> Result<Vec<u64>, NoMemory>
+fn take_front(alloc: Global, room: &mut VecDeque<u64>, left: usize) -> Result<Vec<u64>, NoMemory>
     ensures front { IfOk result (λ taken. room.old.items ≡ taken.items ++ room.new.items) }
     ensures left { left ≤ length room.old.items → OnOk result (length room.new.items ≡ left) }
 {

@@ -208,17 +208,7 @@ fn insert_past<V: View, T: PointerTableMut>(
         if !done {
             return Ok(false);
         }
-        insert_past(
-            alloc,
-            draft,
-            dir,
-            leaf,
-            name,
-            entry,
-            room,
-            table,
-            steps - 1,
-        )
+        insert_past(alloc, draft, dir, leaf, name, entry, room, table, steps - 1)
     } else {
         put_with_leaf(alloc, draft, dir, leaf, name, entry, room, &*table)
     }
@@ -251,9 +241,7 @@ fn insert_found<V: View, T: PointerTableMut>(
     }
     let last = found.chain.last;
     if found.chain.single {
-        insert_past(
-            alloc, draft, dir, last, name, entry, room, table, STEPS,
-        )
+        insert_past(alloc, draft, dir, last, name, entry, room, table, STEPS)
     } else {
         put_with_leaf(alloc, draft, dir, last, name, entry, room, &*table)
     }

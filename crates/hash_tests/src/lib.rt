@@ -2,4 +2,6 @@
 #![tactic(auto)]
 
 #[cfg(test)]
+mod inserting;
+#[cfg(test)]
 mod reading;

@@ -20,7 +20,7 @@ static GROUPS: [Group; 1] = [Group {
 
 // The blocks that are there.
 #[derive(Drop)]
-struct Shelf {
+pub(crate) struct Shelf {
     blocks: BTreeMap<u64, Vec<u8>>,
 }
 
@@ -155,7 +155,7 @@ fn lay(shelf: &mut Shelf, alloc: Global, part: Part) -> Result<(), AllocError> {
 }
 
 // The directory.
-fn directory(alloc: Global) -> Result<Shelf, AllocError> {
+pub(crate) fn directory(alloc: Global) -> Result<Shelf, AllocError> {
     let mut shelf = Shelf {
         blocks: BTreeMap::new(alloc),
     };
@@ -173,12 +173,12 @@ fn directory(alloc: Global) -> Result<Shelf, AllocError> {
     Ok(shelf)
 }
 
-const TABLE: TreeTable = TreeTable {
+pub(crate) const TABLE: TreeTable = TreeTable {
     directory: 160,
     depth: 5,
 };
 
-fn file(number: u64, addr: u64) -> Option<Entry> {
+pub(crate) fn file(number: u64, addr: u64) -> Option<Entry> {
     Some(Entry {
         number,
         addr,

@@ -1,5 +1,4 @@
 use Rattle.std.proofs.Common.{refl, sym, subst, arith}
-use Rattle.std.proofs.lemmas.Bool.{true≢false}
 use Rattle.nested_drafts.proofs.Lists.{each_all, each_next}
 use Rattle.hash_inserts.specs.Inserting.{MayChange}
 use Rattle.hash_inserts.proofs.Results.{contradict}

@@ -1,5 +1,4 @@
-use Rattle.std.proofs.Common.{◌≡◌, ◌∙◌, ◌+◌, ◌≤◌, inl, inr, length, refl, sym, ap, subst, length-append, arith}
-use Rattle.std.specs.Prelude.{Contains}
+use Rattle.std.proofs.Common.{◌∙◌, ◌≤◌, inl, inr, length, refl, sym, ap, subst, length-append, arith}
 use Rattle.std.specs.FinMap.{get}
 use Rattle.drafts.specs.Fates.{Drafted, seen_in}
 use Rattle.hash_inserts.specs.Inserting.{MayChange}

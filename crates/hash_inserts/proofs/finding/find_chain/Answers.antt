@@ -1,4 +1,4 @@
-use Rattle.std.proofs.Common.{◌≡◌, ◌<◌, ◌^◌, refl, sym, ap, ◌∙◌, subst}
+use Rattle.std.proofs.Common.{◌≡◌, ◌<◌, ◌^◌, refl, ap, ◌∙◌, subst}
 use Rattle.gfs2_layout.specs.Inode.{depth_in, top_bits}
 use Rattle.glock_names.specs.Steps.{IsDamage}
 use Rattle.glock_names.proofs.StepLaws.{answer_at, needed_at}

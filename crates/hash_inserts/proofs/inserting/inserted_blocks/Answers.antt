@@ -1,16 +1,13 @@
-use Rattle.std.proofs.Common.{◌≡◌, ◌∙◌, ℕ, length, sym, ap, subst, subst₂}
+use Rattle.std.proofs.Common.{◌≡◌, ◌∙◌, sym, ap, subst}
 use Rattle.std.specs.Prelude.{Contains}
-use Rattle.std.specs.FinMap.{FinMap, empty}
-use Rattle.std.specs.Ordering.{nat_cmp}
 use Rattle.drafts.specs.Fates.{Drafted, seen_in, seen_with}
-use Rattle.drafts.specs.declared.fate.Fate.{Fate}
-use Rattle.glock_names.specs.Views.{HasBlock, Seen}
+use Rattle.glock_names.specs.Views.{HasBlock}
 use Rattle.hash_dirs.specs.Shown.{IsShown}
 use Rattle.hash_inserts.specs.Advancing.{CanInsert}
 use Rattle.hash_inserts.specs.Committing.{HasInserted}
 use Rattle.hash_inserts.specs.Drafting.{SeesTree}
 use Rattle.hash_inserts.specs.Finding.{IsChainFound}
-use Rattle.hash_inserts.specs.Inserting.{HasNoRoom, HasOneLeafFor, Inserts}
+use Rattle.hash_inserts.specs.Inserting.{Inserts}
 use Rattle.hash_inserts.proofs.Over.{seen_fresh, whole_put}
 use Rattle.hash_inserts.proofs.Results.{contradict}
 use Rattle.hash_inserts.proofs.inserting.inserted_blocks.Goals as goal

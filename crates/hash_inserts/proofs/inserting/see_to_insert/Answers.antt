@@ -1,4 +1,4 @@
-use Rattle.std.proofs.Common.{◌≡◌, ◌∙◌, length, sym, ap}
+use Rattle.std.proofs.Common.{◌∙◌, length, sym}
 use Rattle.glock_names.specs.Steps.{TellsOf}
 use Rattle.glock_names.proofs.StepLaws.{answer_at, needed_at}
 use Rattle.linear_dirs.proofs.Looked.{handed}
@@ -38,4 +38,4 @@ returns-in-NeedBlock-2-clause-needed g c h shown shows =
     let found = answer_at _ _ _ c.in-Is.is (c.in_ok-found.ensures.found h shown shows) in
     let none = none_is c.in-Is.found.chain.with_room (sym c.is_some.ensures ∙ c.if-is_some.false) in
     inserting.IsNeededToInsert.of_table (none_walked v h (index_for h name) (length name) chain found.walked none) (one_walked v h (index_for h name) (length name) chain found.walked c.if-not-found.false found.head.low).1
-        (needed_at _ _ _ c.in-NeedBlock-2.is (c.in_ok-_dinode.ensures.needed h shown))
+    (needed_at _ _ _ c.in-NeedBlock-2.is (c.in_ok-_dinode.ensures.needed h shown))
