@@ -2,4 +2,8 @@
 #![tactic(auto)]
 
 #[cfg(test)]
+mod converting;
+#[cfg(test)]
 mod reading;
+#[cfg(test)]
+mod shelf;
