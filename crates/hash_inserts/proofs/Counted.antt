@@ -1,12 +1,13 @@
 -- How many blocks a name takes, as it is counted: of a chain that was gone along, and of one with one leaf.
-use Rattle.std.proofs.Common.{◌≡◌, ◌≢◌, ◌⊎◌, ℕ, ◌+◌, ◌-◌, ◌*◌, ◌^◌, ◌<◌, ◌≤◌, inl, inr, Bool, true, false, List, [], ◌∷◌, length, Option, None, Some, refl, sym, ap, ap₂, ◌∙◌, subst, arith}
+use Rattle.std.proofs.Common.{◌≡◌, ◌≢◌, ◌⊎◌, ℕ, ◌+◌, ◌-◌, ◌*◌, ◌^◌, ◌<◌, ◌≤◌, inl, inr, Bool, true, false, List, length, None, Some, refl, sym, ap, ap₂, ◌∙◌, subst, arith}
 use Rattle.std.specs.Prelude.{◌==◌, if◌then◌else◌}
 use Rattle.std.proofs.lemmas.Bool.{true≢false}
-use Rattle.gfs2_layout.specs.Area.{Slot, slots_of}
+use Rattle.gfs2_layout.specs.Area.{slots_of}
 use Rattle.gfs2_layout.specs.Holding.{Holding}
-use Rattle.gfs2_layout.specs.Inode.{depth_in, dinode_in, entry, entry_block, leaf_area, leaf_in, leaf_length, table_count}
+use Rattle.gfs2_layout.specs.Inode.{depth_in, dinode_in, entry, entry_block, leaf_in, leaf_length, table_count}
 use Rattle.glock_names.specs.Views.{Seen, HasBlock}
 use Rattle.leaf_areas.specs.Splitting.{bit_at, lower_half, upper_half}
+use Rattle.resource_groups.specs.Putting.{HasDataBlock}
 use Rattle.pointer_tables.specs.Directories.{chain_head}
 use Rattle.pointer_tables.specs.Tables.{table_height}
 use Rattle.hash_dirs.specs.Shown.{IsInChain, index_for}
@@ -59,9 +60,16 @@ module _ (v : Seen) (h : Holding) (name : List ℕ) (w : Walked) (walked : IsWal
     | inr behind ↦ absurd (ended h i walked.at w.last place x walked.chain walked.ends behind there)
   ]
 
+  -- each is a data block of a group
+  pub data_walked : (place x : ℕ) → IsInChain h (index_for h name) place x → HasDataBlock v x
+  data_walked place x there = elim (which place) [
+    | inl before ↦ (walked.there place x before there).1
+    | inr behind ↦ absurd (ended h i walked.at w.last place x walked.chain walked.ends behind there)
+  ]
+
   -- the view has what an insertion looks at, where some leaf has room, or there are several
-  pub sees_with : HasBlock v (entry_block h (index_for h name)) → (HasNoRoom h name → HasOneLeafFor h name → SeesTree v h) → SeesToInsert v h name
-  sees_with pointer table = record { pointer = pointer; leaves = sees_leaves; table = table }
+  pub sees_with : HasBlock v h.own → HasBlock v (entry_block h (index_for h name)) → (HasNoRoom h name → HasOneLeafFor h name → SeesTree v h) → SeesToInsert v h name
+  sees_with own pointer table = record { own = own; pointer = pointer; leaves = sees_leaves; table = table }
 
   pub room_or_none : (x : ℕ) → w.with_room ≡ Some x → HasNoRoom h name → ⊥
   room_or_none x is none =

@@ -1,10 +1,10 @@
 -- A table that is doubled as a step of an insertion.
-use Rattle.std.proofs.Common.{◌≡◌, ◌≢◌, ◌⊎◌, ℕ, suc, ◌+◌, ◌-◌, ◌*◌, ◌/◌, ◌^◌, ◌<◌, ◌≤◌, inl, inr, Bool, true, false, List, [], ◌∷◌, ◌++◌, length, take, drop, Option, None, Some, refl, sym, ap, ap₂, ◌∙◌, subst, length-append, arith}
+use Rattle.std.proofs.Common.{◌≡◌, ◌≢◌, ◌⊎◌, ℕ, ◌+◌, ◌-◌, ◌*◌, ◌/◌, ◌^◌, ◌<◌, ◌≤◌, inl, inr, Bool, true, false, List, [], ◌∷◌, ◌++◌, length, drop, Option, None, Some, refl, sym, ap, ap₂, ◌∙◌, subst, arith}
 use Rattle.std.specs.Prelude.{IsSome, Contains, ◌==◌, ◌||◌, if◌then◌else◌}
 use Rattle.std.specs.FinMap.{FinMap, get}
 use Rattle.std.specs.List.{list_any}
 use Rattle.std.specs.Ordering.{nat_cmp}
-use Rattle.std.proofs.Math.Seq.{take-append_seam}
+use Rattle.std.proofs.lemmas.List.{append_cancel_right}
 use Rattle.std.proofs.lemmas.Bool.{cases_Bool, cond-false, eqb-true, true≢false}
 use Rattle.std.proofs.lemmas.List.Elements.{Contains-append_left, Contains-append_right}
 use Rattle.crc_words.specs.Remainder.{crc32_of}
@@ -17,17 +17,15 @@ use Rattle.gfs2_layout.specs.Inode.{content_count, depth_in, dinode_in, entry, f
 use Rattle.gfs2_layout.specs.Structures.{leaf_of}
 use Rattle.gfs2_layout.specs.declared.dinode.Dinode.{Dinode}
 use Rattle.image_model.proofs.Rows.{and_left}
-use Rattle.glock_names.specs.Views.{Seen, HasBlock}
-use Rattle.glock_names.specs.declared.steps.Entry.{Entry}
-use Rattle.growth_drafts.specs.Taken.{HasTaken}
+use Rattle.glock_names.specs.Views.{Seen}
 use Rattle.growth_laws.specs.Need.{raised_to}
 use Rattle.pointer_tables.specs.Directories.{chain_head}
 use Rattle.pointer_tables.specs.Tables.{doubling_need, doubling_need_of, table_height}
-use Rattle.hash_dirs.specs.Shown.{IsInChain, IsShown, IsSound, index_for}
+use Rattle.hash_dirs.specs.Shown.{IsInChain, IsShown, index_for}
 use Rattle.hash_dirs.proofs.Chained.{cell_some, deep, index_low, rules}
 use Rattle.hash_dirs.proofs.Indexes.{bits_of_bits}
 use Rattle.hash_steps.specs.Laws.{Stays}
-use Rattle.hash_steps.specs.Leaves.{HasOneLeaf, has_room_for}
+use Rattle.hash_steps.specs.Leaves.{has_room_for}
 use Rattle.hash_inserts.specs.Advancing.{CanInsert, IsAtLeaf, IsFullLeaf, StepsOn, StepsTo}
 use Rattle.hash_inserts.specs.Drafting.{DoublesTable}
 use Rattle.hash_inserts.specs.Inserting as ins
@@ -66,13 +64,6 @@ needs_doubled h name need leaf takes leaf_is one full deepest may =
     let may_c : 2 * 2 ^ c.table ≤ 8 * c.size = subst (λ n. 2 * 2 ^ n ≤ 8 * c.size) (sym is.table) (subst (λ n. 2 * table_count h ≤ 8 * n) (sym is.size) may) in
     let rest = by_rule (length name) (crc32_of name) slots c need takes.needs (one_leaf h (entry h (index_for h name)) c.leaves is.leaves one) is_full (omega (arith, is.depth, is.table, deepest)) may_c in
     (rest.0, rest.1 ∙ ap (λ n. rest.0 + n) (ap (λ n. doubling_need c.size c.height (2 ^ n)) is.table ∙ ap₂ (λ s n. doubling_need s n (table_count h)) is.size is.height), rest.2)
-
--- ---- the front of the room is one
-
-pub same_front : (xs ys left : List ℕ) → xs ++ left ≡ ys ++ left → xs ≡ ys
-same_front xs ys left e =
-    let long : length xs ≡ length ys = omega (arith, ap length e, length-append xs left, length-append ys left) in
-    sym (take-append_seam xs left) ∙ ap (take (length xs)) e ∙ ap (λ n. take n (ys ++ left)) long ∙ take-append_seam ys left
 
 module _ (v : Seen) (old new : FinMap nat_cmp Fate) (room left : List ℕ) (dir : ℕ) (name : List ℕ) (need leaf : ℕ) (h m : Holding) (can : CanInsert (seen_with v old) dir h name room need) (at : IsAtLeaf (seen_with v old) h name leaf)
     (full : IsFullLeaf h name leaf) (deepest : depth_for h name ≡ depth_in h) (may : 2 * table_count h ≤ 8 * h.size) (doubles : DoublesTable v old new room left h m) (stays : Stays h m) (parts : PointersAreParts) where
@@ -155,7 +146,7 @@ module _ (v : Seen) (old new : FinMap nat_cmp Fate) (room left : List ℕ) (dir 
   later_at x later (ins.IsInsertedAt.of_table above k level first none one is) = pointed x later above k level first is
 
   same_taken : doubles.within.taken ≡ taken
-  same_taken = same_front doubles.within.taken taken left (sym doubles.within.front ∙ doubles.takes.front)
+  same_taken = append_cancel_right doubles.within.taken taken left (sym doubles.within.front ∙ doubles.takes.front)
 
   changes : (x : ℕ) → (get new x ≡ get old x) ⊎ IsInsertedAt h name taken x
   changes x = elim (doubles.within.changes x) [
@@ -236,8 +227,7 @@ module _ (v : Seen) (old new : FinMap nat_cmp Fate) (room left : List ℕ) (dir 
       let is = can.takes.is in
       let leaves = one_leaf h (entry h i) c.leaves is.leaves at.one in
       let rest = needs_doubled h name need leaf can.takes at.leaf_is at.one full deepest may in
-      let height : table_height c.size c.height (2 * 2 ^ c.table) ≡ height_in m = ap (λ n. table_height c.size c.height (2 * 2 ^ n)) is.table ∙ ap₂ (λ s n. table_height s n (2 * table_count h)) is.size is.height ∙ sym height_is in
-      (
+      let height : table_height c.size c.height (2 * 2 ^ c.table) ≡ height_in m = ap (λ n. table_height c.size c.height (2 * 2 ^ n)) is.table ∙ ap₂ (λ s n. table_height s n (2 * table_count h)) is.size is.height ∙ sym height_is in (
         rest.0,
         rest.1,
         record {

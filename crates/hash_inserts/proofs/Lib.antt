@@ -28,3 +28,4 @@ mod Needed
 mod After
 mod Past
 mod Counted
+mod Over

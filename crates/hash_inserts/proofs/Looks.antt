@@ -15,6 +15,7 @@ use Rattle.glock_names.specs.declared.steps.Missing.{Missing}
 use Rattle.dinode_tree.specs.Below.{AnyIndex, IsLedFrom}
 use Rattle.dinode_tree.specs.Broken as inode
 use Rattle.dinode_tree.specs.Reading.{IsNeeded, IsOnWay, inode_lock, the_dinode, led_to}
+use Rattle.dinode_tree.specs.Walking.{missing_dinode}
 use Rattle.dinode_tree.specs.declared.below.PointedBlock.{PointedBlock}
 use Rattle.dinode_tree.proofs.Spans.{span_some}
 use Rattle.hash_dirs.specs.Broken.{IsWrongIn, breaks, of_inode}
@@ -66,6 +67,14 @@ way_to v dir h m p shown view lock is absent led =
         and_false : (b : Bool) → (b && false) ≡ false
         and_false true = refl
         and_false false = refl
+
+-- the dinode's block, where it isn't there
+pub dinode_needed : (v : Seen) (dir : ℕ) (h : Holding) (m : Missing) (wanted : ℕ → Type 0) → IsShown v dir h → m ≡ missing_dinode dir → v.block_at dir ≡ None → IsNeeded v h wanted 0 m
+dinode_needed v dir h m wanted shown is absent = subst (IsNeeded v h wanted 0) (sym is) (record {
+  lock = ap inode_lock (sym shown.inode.own);
+  absent = absent;
+  way = the_dinode (sym shown.inode.own) (sym shown.inode.own) refl;
+})
 
 pub absent_of : (v : Seen) (h : Holding) (wanted : ℕ → Type 0) (least : ℕ) (m : Missing) → IsNeeded v h wanted least m → v.block_at m.block ≡ None
 absent_of v h wanted least m needed = needed.absent

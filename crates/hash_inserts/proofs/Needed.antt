@@ -2,7 +2,7 @@
 use Rattle.std.proofs.Common.{◌≡◌, ◌≢◌, ◌⊎◌, ℕ, zero, suc, ◌+◌, ◌*◌, ◌^◌, ◌<◌, ◌≤◌, inl, inr, Bool, true, false, List, [], ◌∷◌, length, refl, sym, ap, ◌∙◌, subst, arith}
 use Rattle.std.specs.Prelude.{◌||◌}
 use Rattle.std.specs.List.{list_any}
-use Rattle.std.proofs.lemmas.Bool.{cases_eq, true≢false}
+use Rattle.std.proofs.lemmas.Bool.{true≢false}
 use Rattle.crc_words.specs.Remainder.{crc32_of}
 use Rattle.gfs2_layout.specs.Area.{Slot, slots_of}
 use Rattle.gfs2_layout.specs.Holding.{Holding}
@@ -13,7 +13,7 @@ use Rattle.pointer_tables.specs.Directories.{chain_head, chain_next}
 use Rattle.hash_dirs.proofs.Along.{chain_is, chain_one, ended, there_before}
 use Rattle.hash_steps.specs.Leaves.{has_room_for, leaf_depth}
 use Rattle.hash_inserts.specs.Inserting.{HasNoRoom, HasOneLeafFor, IsDeepest}
-use Rattle.hash_inserts.specs.Needing.{AreLeavesFrom, Chain, IsChainOf, Needs, TakesBlocks, a_doubling, a_leaf, a_split, has_room_in, is_full, nothing, one_more, the_last}
+use Rattle.hash_inserts.specs.Needing.{AreLeavesFrom, Chain, Needs, TakesBlocks, a_doubling, a_leaf, a_split, has_room_in, is_full, nothing, one_more, the_last}
 
 either_left : (a b : Bool) → a ≡ true → (a || b) ≡ true
 either_left true b e = refl

@@ -1,6 +1,6 @@
 -- What still holds of a directory a step of an insertion on.
-use Rattle.std.proofs.Common.{◌≡◌, ◌≢◌, ◌⊎◌, ℕ, ◌+◌, ◌^◌, ◌<◌, ◌≤◌, inl, inr, Bool, true, false, List, [], ◌∷◌, ◌++◌, length, Option, None, Some, refl, sym, ap, ◌∙◌, subst, length-append, cond, arith}
-use Rattle.std.specs.Prelude.{IsSome, Contains, count_by, find, if◌then◌else◌}
+use Rattle.std.proofs.Common.{◌≡◌, ◌⊎◌, ℕ, ◌+◌, ◌^◌, ◌<◌, ◌≤◌, inl, inr, Bool, true, false, List, [], ◌∷◌, ◌++◌, length, Option, None, Some, refl, sym, ap, ◌∙◌, subst, length-append, cond, arith}
+use Rattle.std.specs.Prelude.{IsSome, count_by, find}
 use Rattle.std.specs.FinMap.{FinMap}
 use Rattle.std.specs.Ordering.{nat_cmp}
 use Rattle.std.specs.Str.{bytes_eq}
@@ -8,12 +8,10 @@ use Rattle.std.proofs.lemmas.Bool.{true≢false}
 use Rattle.std.proofs.lemmas.List.Sums.{sum_by-cons}
 use Rattle.drafts.specs.Fates.{block_with, seen_with}
 use Rattle.drafts.specs.declared.fate.Fate.{Fate}
-use Rattle.gfs2_layout.specs.Exchanges.{IsExchanged}
 use Rattle.gfs2_layout.specs.Holding.{Holding, Cell, InChain, Itself, Part, Pointed, cell_bytes, cell_part, part_at, bytes_at}
-use Rattle.gfs2_layout.specs.Inode.{IsInode, dinode_in, is_leaf_part, records_of}
-use Rattle.gfs2_layout.specs.Records.{Record, record_named}
+use Rattle.gfs2_layout.specs.Inode.{IsInode, is_leaf_part, records_of}
+use Rattle.gfs2_layout.specs.Records.{record_named}
 use Rattle.glock_names.specs.Views.{Seen, HasBlock}
-use Rattle.growth_laws.specs.Files.{with_cells}
 use Rattle.growth_drafts.specs.Taken.{AreFreeFor, HasTaken}
 use Rattle.growth_drafts.proofs.Rooms.{free_left}
 use Rattle.hash_dirs.specs.Shown.{IsShown, IsSound}

@@ -1,6 +1,6 @@
 -- An insertion past a leaf that is full.
-use Rattle.std.proofs.Common.{◌≡◌, ◌≢◌, ◌⊎◌, ℕ, ◌+◌, ◌*◌, ◌^◌, ◌<◌, ◌≤◌, zero, suc, inl, inr, Bool, true, false, List, length, Option, None, Some, refl, sym, ap, ◌∙◌, subst, arith}
-use Rattle.std.specs.Prelude.{is_some, IsSome, IsSomeAnd, IfOk, Result, ◌==◌}
+use Rattle.std.proofs.Common.{◌≡◌, ◌≢◌, ◌⊎◌, ℕ, ◌+◌, ◌<◌, ◌≤◌, zero, suc, inl, inr, Bool, true, false, List, Option, None, Some, refl, sym, ap, ◌∙◌, subst, arith}
+use Rattle.std.specs.Prelude.{is_some, IsSomeAnd, IfOk, Result, ◌==◌}
 use Rattle.std.proofs.lemmas.Bool.{eqb-true, true≢false}
 use Rattle.std.specs.FinMap.{FinMap}
 use Rattle.std.specs.Ordering.{nat_cmp}
@@ -10,14 +10,14 @@ use Rattle.gfs2_layout.specs.Inode.{depth_in, entry, first_hash, is_leaf_part, l
 use Rattle.glock_names.specs.Views.{Seen, HasBlock}
 use Rattle.glock_names.specs.declared.steps.Entry.{Entry}
 use Rattle.no_memory.specs.declared.NoMemory.{NoMemory}
-use Rattle.hash_dirs.specs.Shown.{IsInChain, IsShown, IsSound, index_for}
+use Rattle.hash_dirs.specs.Shown.{IsInChain, IsShown, index_for}
 use Rattle.pointer_tables.specs.Directories.{chain_head}
 use Rattle.hash_dirs.proofs.Along.{chain_one, ended}
 use Rattle.hash_dirs.proofs.Chained.{cell_some, deep, index_low, rules}
 use Rattle.hash_steps.specs.Laws.{ExchangesJoin}
 use Rattle.hash_steps.specs.Leaves.{IsFull, IsFullBefore}
-use Rattle.hash_inserts.specs.Advancing.{CanInsert, IsAtLeaf, SeesTable, StepsOn}
-use Rattle.hash_inserts.specs.Inserting.{HasOneLeafFor, Inserts, depth_for}
+use Rattle.hash_inserts.specs.Advancing.{CanInsert, IsAtLeaf, StepsOn}
+use Rattle.hash_inserts.specs.Inserting.{Inserts, depth_for}
 use Rattle.hash_inserts.specs.Walking.{IsRoomBefore, IsWalked}
 use Rattle.hash_inserts.specs.Writing.{IsLeafBlock}
 use Rattle.hash_inserts.specs.declared.walking.Walked.{Walked}

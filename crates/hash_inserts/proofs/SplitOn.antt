@@ -1,18 +1,16 @@
 -- A split as a step of an insertion.
-use Rattle.std.proofs.Common.{◌≡◌, ◌≢◌, ◌⊎◌, ℕ, ◌+◌, ◌^◌, ◌<◌, ◌≤◌, inl, inr, Bool, true, false, List, [], ◌∷◌, ◌++◌, length, Option, None, Some, refl, sym, ap, ◌∙◌, subst, arith}
+use Rattle.std.proofs.Common.{◌≡◌, ◌⊎◌, ℕ, ◌+◌, ◌<◌, ◌≤◌, inl, inr, true, List, [], ◌∷◌, length, Option, None, Some, refl, sym, ap, ◌∙◌, subst, arith}
 use Rattle.std.specs.Prelude.{IsSome, Contains}
-use Rattle.std.specs.FinMap.{FinMap, get}
+use Rattle.std.specs.FinMap.{FinMap}
 use Rattle.std.specs.Ordering.{nat_cmp}
-use Rattle.std.proofs.lemmas.Bool.{cases_eq, true≢false}
-use Rattle.std.proofs.lemmas.List.Elements.{Contains-append_left, Contains-append_right}
-use Rattle.crc_words.specs.Remainder.{crc32_of}
+use Rattle.std.proofs.lemmas.Bool.{cases_eq}
+use Rattle.std.proofs.lemmas.List.Elements.{Contains-append_right}
 use Rattle.drafts.specs.Fates.{seen_with}
 use Rattle.drafts.specs.declared.fate.Fate.{Fate}
 use Rattle.gfs2_layout.specs.Area.{slots_of}
-use Rattle.gfs2_layout.specs.Holding.{Holding, InChain, Part, Pointed, part_at}
+use Rattle.gfs2_layout.specs.Holding.{Holding, InChain, Pointed, part_at}
 use Rattle.gfs2_layout.specs.Inode.{depth_in, entry, first_hash, is_leaf_part, leaf_area, leaf_in, table_count}
 use Rattle.glock_names.specs.Views.{Seen, HasBlock}
-use Rattle.glock_names.specs.declared.steps.Entry.{Entry}
 use Rattle.hash_dirs.specs.Shown.{IsInChain, IsShown, index_for}
 use Rattle.pointer_tables.specs.Directories.{chain_head, chain_next}
 use Rattle.hash_dirs.proofs.Chained.{cell_some, index_low}
@@ -23,7 +21,7 @@ use Rattle.hash_inserts.specs.Drafting.{SplitsLeaf}
 use Rattle.hash_inserts.specs.Inserting as ins
 use Rattle.hash_inserts.specs.Inserting.{HasNoRoom, HasOneLeafFor, IsInserted, IsInsertedAt, IsSplitAt, a_full_leaf, a_leaf_with_room, after_split, depth_for, one_taken, the_leaf, the_new_one}
 use Rattle.hash_inserts.proofs.Blockwise.{size_bounds}
-use Rattle.hash_inserts.proofs.Chosen.{chosen, depth_same, index_same, needs_less}
+use Rattle.hash_inserts.proofs.Chosen.{chosen, depth_same, needs_less}
 use Rattle.hash_inserts.proofs.Onward.{came_there, can_still, table_still}
 
 -- ---- a chain with one leaf

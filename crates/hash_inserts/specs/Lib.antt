@@ -8,3 +8,4 @@ pub mod FirstNeeds
 pub mod Counting
 pub mod Finding
 pub mod Advancing
+pub mod Committing

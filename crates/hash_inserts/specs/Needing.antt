@@ -76,9 +76,10 @@ pub record TakesBlocks (h : Holding) (name : List ℕ) (n : ℕ) : Type 0 where
   pub is : IsChainOf h name chain
   pub needs : Needs (length name) (crc32_of name) chain n
 
--- The view has what an insertion of the name looks at: the block with its pointer, the leaves of its chain, and where the one leaf of that has no room
--- each block of the table.
+-- The view has what an insertion of the name looks at: the dinode, the block with its pointer, the leaves of its chain, and where the one leaf of that
+-- has no room each block of the table.
 pub record SeesToInsert (v : Seen) (h : Holding) (name : List ℕ) : Type 0 where
+  pub own : HasBlock v h.own
   pub pointer : HasBlock v (entry_block h (index_for h name))
   pub leaves : (place x : ℕ) → IsInChain h (index_for h name) place x → HasBlock v x
   pub table : HasNoRoom h name → HasOneLeafFor h name → SeesTree v h

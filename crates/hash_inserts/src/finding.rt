@@ -15,7 +15,7 @@ ghost use Rattle.hash_inserts.specs.Finding.{IsChainFound};
 use crate::walking::{Walked, area_has_room, walk};
 use crate::writing::head_of;
 use crc_words::crc32;
-use dinode_tree::sound_inodes_break_nothing;
+use dinode_tree::{read_dinode, sound_inodes_break_nothing};
 use glock_names::{CallFault, Step, View, block_of};
 use hash_dirs::{IN_LEAF, index_of};
 use pointer_tables::{Pointer, PointerTable};
@@ -27,7 +27,7 @@ pub(crate) struct Found {
     pub chain: Walked,
 }
 
-/// Goes along the chain of a name by the directory's table. It looks at what `look` looks at for a name that isn't there.
+/// Goes along the chain of a name by the directory's table. It looks at the dinode, and at what `look` looks at for a name that isn't there.
 pub(crate) fn find_chain<V: View, T: PointerTable>(
     view: &V,
     dir: u64,
@@ -37,11 +37,15 @@ pub(crate) fn find_chain<V: View, T: PointerTable>(
     requires short { length name.now ≤ 255 }
     ensures found { (h : Holding) → IsShown (V.seen view.now) dir h → T.shows table.now (V.seen view.now) h → IfIs result (IsChainFound (V.seen view.now) h name.now) }
     ensures there { IfIs result (λ found. HasBlock (V.seen view.now) found.head.from) }
+    ensures own { IfIs result (λ found. HasBlock (V.seen view.now) dir) }
     ensures needed { (h : Holding) → IsShown (V.seen view.now) dir h → T.shows table.now (V.seen view.now) h → IfNeedBlock result (IsNeededFor (V.seen view.now) h (λ i. i ≡ index_for h name.now)) }
     ensures absent { IfNeedBlock result (λ missing. (V.seen view.now).block_at missing.block ≡ None) }
     ensures damaged { (h : Holding) → IsShown (V.seen view.now) dir h → T.shows table.now (V.seen view.now) h → OnlyDamaged result (IsWrongIn (V.seen view.now) h) }
     ensures kept { OnlyDamaged result (IsOfView (V.seen view.now)) }
 {
+    if let Step::NeedBlock(missing) = read_dinode(view, dir)? {
+        return Ok(Step::NeedBlock(missing));
+    }
     let depth = table.depth();
     let head = match table.get(view, index_of(crc32(name), depth))? {
         Step::Is(head) => head,

@@ -1,6 +1,10 @@
 // A name put into a hashed directory in a draft.
-ghost use Rattle.std.specs.Prelude.{ℕ, List, ◌≡◌, ◌≢◌, ◌+◌, ◌*◌, ◌^◌, ◌<◌, ◌≤◌, true, None, IfOk, IsSomeAnd, length};
-ghost use Rattle.drafts.specs.Fates.{seen_in};
+ghost use Rattle.std.specs.Prelude.{ℕ, List, ◌≡◌, ◌≢◌, ◌+◌, ◌*◌, ◌^◌, ◌<◌, ◌≤◌, true, None, Contains, IfOk, IfSome, IsSomeAnd, length};
+ghost use Rattle.std.specs.FinMap.{FinMap};
+ghost use Rattle.std.specs.Ordering.{nat_cmp};
+ghost use Rattle.drafts.specs.Fates.{seen_in, seen_with};
+ghost use Rattle.drafts.specs.declared.change.Written.{Written as WrittenBlock};
+ghost use Rattle.drafts.specs.declared.fate.Fate.{Fate};
 ghost use Rattle.gfs2_layout.specs.Area.{slots_of};
 ghost use Rattle.gfs2_layout.specs.Holding.{Holding};
 ghost use Rattle.gfs2_layout.specs.Inode.{depth_in, leaf_area, leaf_in, records_of, table_count};
@@ -11,11 +15,13 @@ ghost use Rattle.growth_drafts.specs.Taken.{AreFreeFor};
 ghost use Rattle.hash_dirs.specs.Shown.{IsInChain, IsShown, IsSound, index_for};
 ghost use Rattle.hash_steps.specs.Leaves.{IsFullBefore, has_room_for};
 ghost use Rattle.hash_inserts.specs.Advancing.{CanInsert, IsAtLeaf, IsFullLeaf, StepsOn};
+ghost use Rattle.hash_inserts.specs.Committing.{HasInserted, SeesInside};
 ghost use Rattle.hash_inserts.specs.Drafting.{SeesTree};
 ghost use Rattle.hash_inserts.specs.Finding.{IsChainFound};
 ghost use Rattle.hash_inserts.specs.Inserting.{CanCountOne, HasNoRoom, HasOneLeafFor, Inserts, IsDeepest, IsNeededToInsert, IsWrongToInsert, StaysInside, depth_for};
 ghost use Rattle.hash_inserts.specs.Needing.{TakesBlocks};
 
+use crate::committing::commit;
 use crate::counting::may_double;
 use crate::drafting::depth_in;
 use crate::finding::{Found, find_chain, has_room_in, leaf_for};
@@ -25,13 +31,14 @@ use crate::pointers::double_table;
 use crate::records::put_in_leaf;
 use crate::splitting::split_leaf;
 use crc_words::{checksums_have_32_bits, crc32};
-use dinode_tree::{sound_inodes_are_shown, sound_inodes_break_nothing, sound_pointers_are_parts};
-use drafts::Draft;
+use dinode_tree::{sound_inodes_are_shown, sound_pointers_are_parts};
+use drafts::{Draft, Written};
 use glock_names::{CallFault, Entry, Step, View};
 use hash_dirs::index_of;
 use hash_steps::{exchanges_join, puts_get_a_record};
+use nested_drafts::{are_whole, puts_are_seen_alike};
 use no_memory::NoMemory;
-use pointer_tables::PointerTableMut;
+use pointer_tables::{PointerTable, PointerTableMut};
 use std::alloc::Global;
 use std::collections::VecDeque;
 
@@ -199,17 +206,7 @@ fn insert_past<V: View, T: PointerTableMut>(
         if !done {
             return Ok(false);
         }
-        insert_past(
-            alloc,
-            draft,
-            dir,
-            leaf,
-            name,
-            entry,
-            room,
-            table,
-            steps - 1,
-        )
+        insert_past(alloc, draft, dir, leaf, name, entry, room, table, steps - 1)
     } else {
         put_with_leaf(alloc, draft, dir, leaf, name, entry, room, &*table)
     }
@@ -242,20 +239,86 @@ fn insert_found<V: View, T: PointerTableMut>(
     }
     let last = found.chain.last;
     if found.chain.single {
-        insert_past(
-            alloc, draft, dir, last, name, entry, room, table, STEPS,
-        )
+        insert_past(alloc, draft, dir, last, name, entry, room, table, STEPS)
     } else {
         put_with_leaf(alloc, draft, dir, last, name, entry, room, &*table)
     }
 }
 
+// Finds the chain of a name, and where its one leaf has no room looks at every block of the table.
+fn see_to_insert<V: View, T: PointerTable>(
+    alloc: Global,
+    view: &V,
+    dir: u64,
+    name: &[u8],
+    table: &T,
+) -> Result<Step<Found>, CallFault>
+    requires short { length name.now ≤ 255 }
+    ensures found { (h : Holding) → IsShown (V.seen view.now) dir h → T.shows table.now (V.seen view.now) h → IfIs result (IsChainFound (V.seen view.now) h name.now) }
+    ensures own { IfIs result (λ found. HasBlock (V.seen view.now) dir) }
+    ensures inside { (h : Holding) → IsShown (V.seen view.now) dir h → T.shows table.now (V.seen view.now) h → IfIs result (λ found. HasNoRoom h name.now → HasOneLeafFor h name.now → SeesInside (V.seen view.now) h) }
+    ensures needed { (h : Holding) → IsShown (V.seen view.now) dir h → T.shows table.now (V.seen view.now) h → IfNeedBlock result (IsNeededToInsert (V.seen view.now) h name.now) }
+    ensures absent { IfNeedBlock result (λ missing. (V.seen view.now).block_at missing.block ≡ None) }
+    ensures damaged { (h : Holding) → IsShown (V.seen view.now) dir h → T.shows table.now (V.seen view.now) h → IfDamaged result (IsWrongToInsert (V.seen view.now) h) }
+    ensures kept { IfDamaged result (IsOfView (V.seen view.now)) }
+{
+    let found = match find_chain(view, dir, name, table)? {
+        Step::Is(found) => found,
+        Step::NeedBlock(missing) => return Ok(Step::NeedBlock(missing)),
+    };
+    if found.chain.with_room.is_some() {
+        return Ok(Step::Is(found));
+    }
+    if !found.chain.single {
+        return Ok(Step::Is(found));
+    }
+    match see_table(alloc, view, dir)? {
+        Step::Is(_dinode) => Ok(Step::Is(found)),
+        Step::NeedBlock(missing) => Ok(Step::NeedBlock(missing)),
+    }
+}
+
+// The blocks that make of a directory one that has got the name, in a draft of their own; none where that isn't done.
+fn inserted_blocks<V: View, T: PointerTableMut>(
+    alloc: Global,
+    view: &V,
+    dir: u64,
+    found: &Found,
+    name: &[u8],
+    entry: Entry,
+    room: &mut VecDeque<u64>,
+    table: &mut T,
+) -> Result<Option<Vec<Written>>, NoMemory>
+    requires some { 1 ≤ length name.now }
+    requires short { length name.now ≤ 255 }
+    requires number { entry.number ≢ 0 }
+    requires address { entry.addr ≢ 0 }
+    ensures put { (h : Holding) (need : ℕ) → CanInsert (V.seen view.now) dir h name.now room.old.items need → T.shows table.old (V.seen view.now) h
+        → IsChainFound (V.seen view.now) h name.now found.now → HasBlock (V.seen view.now) dir → (HasNoRoom h name.now → HasOneLeafFor h name.now → SeesTree (V.seen view.now) h)
+        → IfOk result (λ blocks. IsSomeAnd blocks (λ written. (fates : FinMap nat_cmp Fate) × ((g : Holding) × T.shows table.new (seen_with (V.seen view.now) fates) g
+        × HasInserted (V.seen view.now) fates written.items dir room.old.items room.new.items need name.now entry h g))) }
+    ensures whole { IfOk result (λ blocks. IfSome blocks (λ written. (w : WrittenBlock) → Contains written.items w → length w.bytes ≡ (V.seen view.now).size)) }
+{
+    puts_are_seen_alike();
+    let size = view.block_size() as usize;
+    let mut draft = Draft::new(alloc, view);
+    let done = insert_found(alloc, &mut draft, dir, found, name, entry, room, table)?;
+    if !done {
+        return Ok(None);
+    }
+    let change = draft.finish()?;
+    if !are_whole(&change.blocks, size) {
+        return Ok(None);
+    }
+    Ok(Some(change.blocks))
+}
+
 /// Puts a name that isn't there and leads to this entry into the hashed directory with its dinode in this block, by its table, into the
 /// first leaf of its chain that has room for it. Where none has, the leaf is split, the table doubled or an overflow leaf added, until one
 /// has; blocks are taken for that from the front of `room`, as many as `need_insert` tells. The answer is whether that was done: `false`
-/// where the room isn't enough, the directory isn't sound, or its dinode can't count one more; then the draft, the room and the table may be
-/// half changed, and are to be dropped. It looks at what `need_insert` looks at before it changes anything. It costs a copy of the room, and
-/// a few copies of each block that it puts.
+/// where the room isn't enough, the directory isn't sound, or its dinode can't count one more; then the draft is as it was, but the room and
+/// the table may be changed, and are to be dropped. It looks at what `need_insert` looks at before it changes anything. It makes the change in a
+/// draft of its own, and puts it into the draft as a whole. It costs a copy of the room, and a few copies of each block that it puts.
 pub fn insert<V: View, T: PointerTableMut>(
     alloc: Global,
     draft: &mut Draft<'_, V>,
@@ -283,5 +346,19 @@ pub fn insert<V: View, T: PointerTableMut>(
     ensures stays { IfDamaged result (λ rule block. (draft.new ≡ draft.old) × (room.new.items ≡ room.old.items) × (table.new ≡ table.old)) }
     ensures view { draft.new.view ≡ draft.old.view }
 {
-    Err(CallFault::NoMemory)
+    puts_are_seen_alike();
+    checksums_have_32_bits();
+    sound_pointers_are_parts();
+    sound_inodes_are_shown();
+    let found = match see_to_insert(alloc, &*draft, dir, name, &*table)? {
+        Step::Is(found) => found,
+        Step::NeedBlock(missing) => return Ok(Step::NeedBlock(missing)),
+    };
+    let mut left = room.clone()?;
+    let made = inserted_blocks(alloc, &*draft, dir, &found, name, entry, &mut left, table)?;
+    let Some(blocks) = made else {
+        return Ok(Step::Is(false));
+    };
+    let done = commit(alloc, draft, dir, &blocks, room, left.len())?;
+    Ok(Step::Is(done))
 }

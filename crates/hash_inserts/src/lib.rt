@@ -1,6 +1,7 @@
 //! Names that come into hashed directories.
 #![tactic(auto)]
 
+mod committing;
 mod converting;
 mod counting;
 mod drafting;

@@ -1,4 +1,3 @@
-use Rattle.std.proofs.Common.{◌≡◌, ◌∙◌, ap}
 use Rattle.glock_names.proofs.StepLaws.{needed_at}
 use Rattle.hash_inserts.proofs.Seen.{none_needed}
 use Rattle.hash_inserts.proofs.finding.leaf_for.Goals as goal

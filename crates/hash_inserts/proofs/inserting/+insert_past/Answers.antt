@@ -1,4 +1,4 @@
-use Rattle.std.proofs.Common.{◌≡◌, ◌⊎◌, ◌∙◌, ◌+◌, ◌-◌, ◌*◌, ◌^◌, ◌<◌, ◌≤◌, ℕ, inl, inr, Bool, true, false, Some, drop, length, refl, sym, ap, subst, arith}
+use Rattle.std.proofs.Common.{◌≡◌, ◌⊎◌, ◌∙◌, ◌+◌, ◌-◌, ◌*◌, ◌^◌, ◌<◌, ◌≤◌, ℕ, inl, inr, Bool, true, false, Some, drop, length, sym, ap, subst, arith}
 use Rattle.std.proofs.lemmas.Bool.{true≢false}
 use Rattle.drafts.specs.Fates.{seen_in}
 use Rattle.gfs2_layout.specs.Area.{slots_of}
@@ -73,9 +73,9 @@ returns-in-Some-true-clause-put g t c h need can shows at full enough =
     let room_m : has_room_for (length name) (slots_of (leaf_area m half)) ≡ true = ap (λ y. has_room_for (length name) (slots_of (drop leaf_length y))) bytes_m
     ∙ one_bool _ c.in-Some-true.field-0 (sym (c.has_room_in.ensures step.at.there.0 step.at.there.1 block_m) ∙ c.in-Some-true.is) ∙ c.in-Some-true.field-0-test in
     on_before c.exchanges_join.ensures (seen c.args.draft.now.view) w (seen_in seen c.put_with_room.new.draft) c.args.draft.now.fates c.split_on.new.draft.fates c.put_with_room.new.draft.fates room between between c.args.dir name c.args.entry need half h m step
-        (λ k. g.T.PointerTable.shows c.split_on.new.table (seen_in seen c.put_with_room.new.draft) k) c.put_with_room.result
-        (c.put_with_room.ensures.put m between step.rest 0 step.can on.1 (at_head w c.args.dir m name between step.rest half step.can step.at) (full_before w c.args.dir m name between step.rest half step.can step.at (length name)) room_m step.at.there
-        (sees_own w c.args.dir m name between step.rest half step.can step.at))
+    (λ k. g.T.PointerTable.shows c.split_on.new.table (seen_in seen c.put_with_room.new.draft) k) c.put_with_room.result
+    (c.put_with_room.ensures.put m between step.rest 0 step.can on.1 (at_head w c.args.dir m name between step.rest half step.can step.at) (full_before w c.args.dir m name between step.rest half step.can step.at (length name)) room_m step.at.there
+    (sees_own w c.args.dir m name between step.rest half step.can step.at))
   where
     one_bool : (x y : Bool) → Some x ≡ Some y → x ≡ y
     one_bool x y e = cc
@@ -104,7 +104,7 @@ returns-in-Some-false-clause-put g t c h need can shows at full enough =
     ∙ one_bool _ c.in-Some-false.field-0 (sym (c.has_room_in.ensures step.at.there.0 step.at.there.1 block_m) ∙ c.in-Some-false.is) ∙ c.in-Some-false.field-0-test in
     let enough_m : 31 ≤ (c.args.steps - 1) + (depth_for m name + depth_in m) = omega (arith, enough, step.deeper, c.if-steps-eq0.false) in
     on_before c.exchanges_join.ensures (seen c.args.draft.now.view) w (seen_in seen c.insert_past.new.draft) c.args.draft.now.fates c.split_on.new.draft.fates c.insert_past.new.draft.fates room between c.insert_past.new.room.items c.args.dir name c.args.entry need half h m step
-        (λ k. g.T.PointerTable.shows c.insert_past.new.table (seen_in seen c.insert_past.new.draft) k) c.insert_past.result (c.insert_past.ensures.put m step.rest step.can on.1 step.at full_m enough_m)
+    (λ k. g.T.PointerTable.shows c.insert_past.new.table (seen_in seen c.insert_past.new.draft) k) c.insert_past.result (c.insert_past.ensures.put m step.rest step.can on.1 step.at full_m enough_m)
   where
     one_bool : (x y : Bool) → Some x ≡ Some y → x ≡ y
     one_bool x y e = cc
@@ -146,7 +146,7 @@ returns-else-not-done-clause-put g t c h need can shows at full enough =
     let step = done.1.3 in
     let enough_m : 31 ≤ (c.args.steps - 1) + (depth_for m name + depth_in m) = omega (arith, enough, step.deeper, c.if-steps-eq0.false) in
     on_before c.exchanges_join.ensures (seen c.args.draft.now.view) (seen_in seen c.double_on.new.draft) (seen_in seen c.insert_past-then-may_double.new.draft) c.args.draft.now.fates c.double_on.new.draft.fates c.insert_past-then-may_double.new.draft.fates room c.double_on.new.room.items c.insert_past-then-may_double.new.room.items c.args.dir name c.args.entry need leaf h m step
-        (λ k. g.T.PointerTable.shows c.insert_past-then-may_double.new.table (seen_in seen c.insert_past-then-may_double.new.draft) k) c.insert_past-then-may_double.result (c.insert_past-then-may_double.ensures.put m step.rest step.can done.1.1 step.at done.1.2 enough_m)
+    (λ k. g.T.PointerTable.shows c.insert_past-then-may_double.new.table (seen_in seen c.insert_past-then-may_double.new.draft) k) c.insert_past-then-may_double.result (c.insert_past-then-may_double.ensures.put m step.rest step.can done.1.1 step.at done.1.2 enough_m)
 
 pub returns-else-may_double-clause-put : goal.returns-else-may_double-clause-put
 returns-else-may_double-clause-put g t c h need can shows at full enough =

@@ -1,4 +1,4 @@
-use Rattle.std.proofs.Common.{◌≡◌, ◌∙◌, ◌+◌, ◌≤◌, length, ℕ, sym, ap, subst, arith}
+use Rattle.std.proofs.Common.{◌≡◌, ◌≤◌, length, sym, ap, subst, arith}
 use Rattle.drafts.specs.Fates.{seen_in, seen_with}
 use Rattle.hash_dirs.specs.Shown.{IsShown}
 use Rattle.pointer_tables.specs.Tables.{doubling_need_of}

@@ -1,11 +1,8 @@
-use Rattle.std.proofs.Common.{◌≡◌, ◌∙◌, ◌+◌, ◌<◌, ◌≤◌, ℕ, length, sym, ap, subst, arith}
+use Rattle.std.proofs.Common.{◌+◌, length, subst, arith}
 use Rattle.drafts.specs.Fates.{seen_in}
-use Rattle.gfs2_layout.specs.Area.{slots_of}
-use Rattle.gfs2_layout.specs.Inode.{leaf_area}
 use Rattle.hash_dirs.specs.Shown.{index_for}
-use Rattle.hash_steps.specs.Leaves.{has_room_for}
-use Rattle.hash_inserts.specs.Advancing.{IsAtLeaf, IsFullLeaf}
-use Rattle.hash_inserts.specs.Inserting.{HasNoRoom, depth_for}
+use Rattle.hash_inserts.specs.Advancing.{IsAtLeaf}
+use Rattle.hash_inserts.specs.Inserting.{HasNoRoom}
 use Rattle.hash_inserts.specs.Walking.{IsRoomBefore}
 use Rattle.hash_inserts.proofs.Onward.{by_parts}
 use Rattle.hash_inserts.proofs.Past.{none_walked, one_walked, several_walked, walked_block}
@@ -41,4 +38,4 @@ returns-else-found-clause-put g c h need can shows found own tree =
     let chain = c.args.found.now.chain in
     let i = index_for h c.args.name.now in
     c.put_with_leaf.ensures.put h need found.walked.at can shows found.walked.chain found.walked.ends (none_walked v h i (length name) chain found.walked c.in_default.is)
-        (λ one. absurd (several_walked v h i (length name) chain found.walked c.if-found.false found.head.low one)) (walked_block v h i (length name) chain found.walked) own
+    (λ one. absurd (several_walked v h i (length name) chain found.walked c.if-found.false found.head.low one)) (walked_block v h i (length name) chain found.walked) own

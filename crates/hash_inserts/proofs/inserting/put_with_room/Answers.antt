@@ -1,5 +1,5 @@
-use Rattle.std.proofs.Common.{◌≡◌, ◌∙◌, ◌<◌, ℕ, sym, ap, subst}
-use Rattle.gfs2_layout.specs.Inode.{depth_in, table_count}
+use Rattle.std.proofs.Common.{◌≡◌, sym, ap, subst}
+use Rattle.gfs2_layout.specs.Inode.{depth_in}
 use Rattle.gfs2_layout.specs.declared.dinode.Dinode.{Dinode}
 use Rattle.hash_dirs.specs.Shown.{index_for}
 use Rattle.hash_steps.proofs.Leaves.{chain_low}

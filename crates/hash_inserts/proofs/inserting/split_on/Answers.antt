@@ -1,5 +1,4 @@
-use Rattle.std.proofs.Common.{◌≡◌, ◌∙◌, ◌≤◌, ◌∷◌, ◌^◌, ◌<◌, length, ℕ, Option, Some, refl, sym, ap, ap₂, subst, arith}
-use Rattle.std.specs.Prelude.{IsSomeAnd}
+use Rattle.std.proofs.Common.{◌≡◌, ◌∙◌, ◌∷◌, ◌<◌, refl, sym, ap, ap₂, subst, arith}
 use Rattle.std.proofs.lemmas.Bool.{true≢false}
 use Rattle.drafts.specs.Fates.{seen_in, seen_with}
 use Rattle.gfs2_layout.specs.Inode.{depth_in, entry, table_count, top_bits}

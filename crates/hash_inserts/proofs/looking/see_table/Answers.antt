@@ -1,4 +1,4 @@
-use Rattle.std.proofs.Common.{◌≡◌, ◌∙◌, refl, sym, ap, subst}
+use Rattle.std.proofs.Common.{refl, sym, subst}
 use Rattle.std.specs.Prelude.{Contains}
 use Rattle.glock_names.specs.Steps.{TellsOf}
 use Rattle.glock_names.specs.Views.{HasBlock, IsOfView}

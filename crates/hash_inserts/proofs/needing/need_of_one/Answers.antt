@@ -1,10 +1,9 @@
-use Rattle.std.proofs.Common.{◌≡◌, ◌∙◌, ◌+◌, ◌≤◌, ◌∷◌, [], ℕ, length, drop, length-drop, refl, sym, ap, subst, subst₂, arith}
-use Rattle.crc_words.specs.Remainder.{crc32_of}
+use Rattle.std.proofs.Common.{◌≡◌, ◌∙◌, ◌+◌, ◌∷◌, [], length, length-drop, sym, ap, subst, subst₂, arith}
 use Rattle.glock_names.specs.Steps.{TellsOf}
 use Rattle.glock_names.proofs.StepLaws.{answer_at, needed_at}
 use Rattle.gfs2_layout.specs.Area.{slots_of}
 use Rattle.gfs2_layout.specs.Holding.{InChain, bytes_at}
-use Rattle.gfs2_layout.specs.Inode.{dinode_in, entry, first_hash, leaf_area, leaf_in, leaf_length}
+use Rattle.gfs2_layout.specs.Inode.{entry, first_hash, leaf_area, leaf_in, leaf_length}
 use Rattle.gfs2_layout.specs.declared.dinode.Dinode.{Dinode}
 use Rattle.gfs2_layout.specs.declared.leaf.Leaf.{Leaf}
 use Rattle.linear_dirs.proofs.Looked.{handed}
