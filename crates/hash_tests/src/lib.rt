@@ -4,6 +4,8 @@
 #[cfg(test)]
 mod converting;
 #[cfg(test)]
+mod inserting;
+#[cfg(test)]
 mod reading;
 #[cfg(test)]
 mod shelf;

@@ -87,7 +87,7 @@ const DIRECTORY: [Part; 32] = [
 ];
 
 // The directory.
-fn directory(alloc: Global) -> Result<Shelf, AllocError> {
+pub(crate) fn directory(alloc: Global) -> Result<Shelf, AllocError> {
     let mut shelf = Shelf {
         blocks: BTreeMap::new(alloc),
     };
@@ -105,12 +105,12 @@ fn directory(alloc: Global) -> Result<Shelf, AllocError> {
     Ok(shelf)
 }
 
-const TABLE: TreeTable = TreeTable {
+pub(crate) const TABLE: TreeTable = TreeTable {
     directory: 160,
     depth: 5,
 };
 
-fn file(number: u64, addr: u64) -> Option<Entry> {
+pub(crate) fn file(number: u64, addr: u64) -> Option<Entry> {
     Some(Entry {
         number,
         addr,
