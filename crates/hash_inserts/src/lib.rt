@@ -21,6 +21,6 @@ mod writing;
 pub use converting::to_hashed;
 pub use firsts::need_first;
 pub use inserting::insert;
-pub use laws::{first_needs_stay, rooms_stay_free};
+pub use laws::{absent_names_stay, first_needs_stay, rooms_stay_free};
 pub use needing::need_insert;
 pub use splitting::split;
