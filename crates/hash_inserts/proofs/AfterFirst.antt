@@ -12,7 +12,7 @@ use Rattle.gfs2_layout.specs.declared.leaf.Leaf.{Leaf}
 use Rattle.hash_dirs.specs.Shown.{IsSound, index_for}
 use Rattle.hash_dirs.proofs.Indexes.{bits_low}
 use Rattle.hash_steps.specs.Steps.{IsConverted, first_count}
-use Rattle.hash_inserts.specs.FirstNeeds.{FirstNeedsStay}
+use Rattle.hash_inserts.specs.Laws.{FirstNeedsStay}
 use Rattle.hash_inserts.specs.Needing.{AreLeavesFrom, IsChainOf, TakesBlocksFirst, the_last}
 
 same_power : (i j : ℕ) → 2 ^ i ≡ 2 ^ j → i ≡ j

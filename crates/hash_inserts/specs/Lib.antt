@@ -4,7 +4,7 @@ pub mod Writing
 pub mod Drafting
 pub mod Walking
 pub mod Converting
-pub mod FirstNeeds
+pub mod Laws
 pub mod Counting
 pub mod Finding
 pub mod Advancing

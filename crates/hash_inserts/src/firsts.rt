@@ -9,7 +9,6 @@ ghost use Rattle.dinode_tree.specs.Walking.{missing_dinode};
 ghost use Rattle.linear_dirs.specs.Broken as linear;
 ghost use Rattle.linear_dirs.specs.Shown.{IsLinearIn};
 ghost use Rattle.hash_dirs.specs.Shown.{IsSound};
-ghost use Rattle.hash_inserts.specs.FirstNeeds.{FirstNeedsStay};
 ghost use Rattle.hash_inserts.specs.Needing.{TakesBlocksFirst};
 
 use crate::converting::{first_depth, write_first};
@@ -20,11 +19,6 @@ use glock_names::{CallFault, Step, View, block_of};
 use hash_dirs::{IN_LEAF, damaged};
 use linear_dirs::look;
 use std::alloc::Global;
-
-/// A law: once a linear directory is a hashed one, a name takes there as many blocks as were counted for it beside the first leaf.
-pub fn first_needs_stay()
-    ensures { FirstNeedsStay }
-{}
 
 /// How many blocks a name takes that isn't in the linear directory with its dinode in this block, and for which it has no room: a leaf, and
 /// what `insert` takes once the directory is a hashed one. It looks at what a linear directory's `look` looks at, and changes a copy of the

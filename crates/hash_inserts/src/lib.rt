@@ -8,6 +8,7 @@ mod drafting;
 mod finding;
 mod firsts;
 mod inserting;
+mod laws;
 mod lengthening;
 mod looking;
 mod needing;
@@ -18,7 +19,8 @@ mod walking;
 mod writing;
 
 pub use converting::to_hashed;
-pub use firsts::{first_needs_stay, need_first};
+pub use firsts::need_first;
 pub use inserting::insert;
+pub use laws::{absent_names_stay, first_needs_stay, rooms_stay_free};
 pub use needing::need_insert;
 pub use splitting::split;

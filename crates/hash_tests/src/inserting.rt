@@ -1,5 +1,6 @@
 // Names whose hashes begin with the same 12 bits come into the directory, until its table is as deep as one may be.
-use crate::reading::{Shelf, TABLE, directory, file};
+use crate::reading::{TABLE, directory, file};
+use crate::shelf::Shelf;
 use drafts::Draft;
 use glock_names::{Entry, Step};
 use hash_dirs::look;
@@ -67,15 +68,30 @@ fn a_full_leaf_of_the_greatest_depth_gets_another(rt: HostRuntime) -> Result<(),
     for name in &NAMES[0..6] {
         assert_eq!(rt; put(a, &mut draft, name, &mut room, &mut table), Some(0));
     }
-    assert_eq!(rt; put(a, &mut draft, NAMES[6], &mut room, &mut table), Some(1));
-    assert_eq!(rt; put(a, &mut draft, NAMES[7], &mut room, &mut table), Some(0));
+    assert_eq!(rt;
+        put(a, &mut draft, NAMES[6], &mut room, &mut table),
+        Some(1)
+    );
+    assert_eq!(rt;
+        put(a, &mut draft, NAMES[7], &mut room, &mut table),
+        Some(0)
+    );
     assert_eq!(rt; table.depth, 5);
     // ten splits, seven doublings, which take 70 blocks, and an overflow leaf
-    assert_eq!(rt; put(a, &mut draft, NAMES[8], &mut room, &mut table), Some(81));
+    assert_eq!(rt;
+        put(a, &mut draft, NAMES[8], &mut room, &mut table),
+        Some(81)
+    );
     assert_eq!(rt; table.depth, 12);
-    assert_eq!(rt; put(a, &mut draft, NAMES[9], &mut room, &mut table), Some(0));
+    assert_eq!(rt;
+        put(a, &mut draft, NAMES[9], &mut room, &mut table),
+        Some(0)
+    );
     for name in &NAMES {
-        assert_eq!(rt; look(&draft, 160, name, &table), Ok(Step::Is(file(30, 190))));
+        assert_eq!(rt;
+            look(&draft, 160, name, &table),
+            Ok(Step::Is(file(30, 190)))
+        );
     }
     assert_eq!(rt;
         look(&draft, 160, b"beta", &table),
