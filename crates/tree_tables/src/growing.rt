@@ -16,13 +16,14 @@ ghost use Rattle.tree_tables.specs.Doubling.{AreDoubledBlocks, IsDoubledTable};
 ghost use Rattle.tree_tables.specs.Pointers.{IsTableOf};
 
 use crate::TreeTable;
-use crate::putting::{are_whole, put_dinode};
+use crate::putting::put_dinode;
 use drafts::{Draft, Written};
 use file_fills::height_for;
 use file_growth::write_range;
 use gfs2_layout::Dinode;
 use glock_names::{CallFault, Step, View};
 use growth_laws::files_are_inodes;
+use nested_drafts::are_whole;
 use no_memory::NoMemory;
 use pointer_tables::{doubling_need, table_blocks, tree_blocks};
 use std::alloc::Global;

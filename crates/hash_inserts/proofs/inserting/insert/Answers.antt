@@ -1,10 +1,4 @@
-<<<<<<< HEAD
 use Rattle.std.proofs.Common.{◌<◌}
-=======
-use Rattle.std.proofs.Common.{◌≡◌, ◌∙◌, ◌<◌, length, sym, ap, subst, subst₂, arith}
-use Rattle.std.specs.Prelude.{Contains}
-use Rattle.std.specs.List.{each_same}
->>>>>>> 2193ca95baba100f7cf363b5a0969388864f12bf
 use Rattle.std.proofs.lemmas.List.Elements.{All-from_get_or}
 use Rattle.glock_names.proofs.StepLaws.{answer_at, needed_at}
 use Rattle.hash_inserts.proofs.inserting.insert.Goals as goal

@@ -1,7 +1,7 @@
 use Rattle.std.proofs.Common.{refl, sym, subst, arith}
 use Rattle.tree_tables.specs.Doubling.{IsOfTable}
 use Rattle.tree_tables.proofs.Committed.{contradict}
-use Rattle.tree_tables.proofs.Lists.{each_all, each_next}
+use Rattle.nested_drafts.proofs.Lists.{each_all, each_next}
 use Rattle.tree_tables.proofs.putting.are_of_table.Goals as goal
 
 pub returns-then-not-is_of_table : goal.returns-then-not-is_of_table

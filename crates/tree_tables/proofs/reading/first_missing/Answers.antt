@@ -1,5 +1,5 @@
 use Rattle.glock_names.specs.Views.{HasBlock}
-use Rattle.tree_tables.proofs.Lists.{each_next}
+use Rattle.nested_drafts.proofs.Lists.{each_next}
 use Rattle.tree_tables.proofs.reading.first_missing.Goals as goal
 
 pub loop-pointed-preserved : goal.loop-pointed-preserved
