@@ -18,7 +18,7 @@ use Rattle.image_model.proofs.Held.{none_some}
 use Rattle.linear_dirs.specs.Shown.{bytes_over, holding_over}
 use Rattle.linear_dirs.proofs.Over.{as_seen}
 use Rattle.linear_dirs.proofs.Rewritten.{over_there}
-use Rattle.pointer_tables.specs.Directories.{EachPointerLeads, IsTableBroken, of_inode, leads_nowhere}
+use Rattle.table_growth.specs.Pointers.{EachPointerLeads, IsTableBroken, of_inode, leads_nowhere}
 use Rattle.pointer_tables.specs.Tables.{is_within}
 use Rattle.hash_dirs.specs.Shown.{IsSound}
 use Rattle.hash_dirs.proofs.Chained.{cell_some, rules, some_block}

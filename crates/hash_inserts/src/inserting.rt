@@ -40,7 +40,8 @@ use hash_dirs::index_of;
 use hash_steps::{exchanges_join, puts_get_a_record};
 use nested_drafts::{are_whole, puts_are_seen_alike};
 use no_memory::NoMemory;
-use pointer_tables::{Pointer, PointerTable, PointerTableMut};
+use pointer_tables::{Pointer, PointerTable};
+use table_changes::PointerTableMut;
 use std::alloc::Global;
 use std::collections::VecDeque;
 

@@ -28,7 +28,7 @@ use hash_dirs::leaf_at;
 use hash_steps::splits_stay;
 use nested_drafts::{are_whole, puts_are_seen_alike};
 use no_memory::NoMemory;
-use pointer_tables::PointerTableMut;
+use table_changes::PointerTableMut;
 use std::alloc::Global;
 use std::collections::VecDeque;
 

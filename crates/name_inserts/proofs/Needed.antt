@@ -9,7 +9,7 @@ use Rattle.gfs2_layout.specs.Device.{IsBlockSize}
 use Rattle.gfs2_layout.specs.Holding.{Holding, InChain}
 use Rattle.gfs2_layout.specs.Inode.{entry, first_hash, is_hashed_in, leaf_area, leaf_in, table_count}
 use Rattle.pointer_tables.specs.Directories.{chain_head, chain_next}
-use Rattle.pointer_tables.specs.Tables.{doubling_need}
+use Rattle.table_growth.specs.Tables.{doubling_need}
 use Rattle.hash_dirs.specs.Shown.{IsInChain, IsSound, index_for}
 use Rattle.hash_dirs.proofs.Along.{comes_back}
 use Rattle.hash_dirs.proofs.Chained.{deep, in_chain, index_low, inside, rules, same_hash, some_block}

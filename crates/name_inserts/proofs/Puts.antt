@@ -14,7 +14,7 @@ use Rattle.glock_names.specs.declared.steps.Entry.{Entry}
 use Rattle.growth_drafts.specs.Taken.{AreFreeFor, HasTaken}
 use Rattle.linear_dirs.specs.Exchanges.{HasExchanged}
 use Rattle.linear_dirs.specs.Shown.{record_for}
-use Rattle.pointer_tables.specs.Tables.{DraftsDirectory}
+use Rattle.table_growth.specs.Tables.{DraftsDirectory}
 use Rattle.hash_dirs.specs.Shown.{IsSound}
 use Rattle.hash_steps.proofs.Joins.{joined}
 use Rattle.hash_inserts.specs.Inserting.{CanCountOne, Converts, Inserts}

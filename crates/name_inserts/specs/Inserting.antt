@@ -17,7 +17,7 @@ use Rattle.growth_drafts.specs.Taken.{AreFreeFor, HasTaken}
 use Rattle.linear_dirs.specs.Broken as linear
 use Rattle.linear_dirs.specs.Exchanges.{HasExchanged, IsLaidOver, uncounted}
 use Rattle.linear_dirs.specs.Shown.{head_for, record_for}
-use Rattle.pointer_tables.specs.Tables.{DraftsDirectory}
+use Rattle.table_growth.specs.Tables.{DraftsDirectory}
 use Rattle.hash_dirs.specs.Shown.{IsSound}
 use Rattle.hash_steps.specs.Steps.{IsConverted}
 use Rattle.hash_inserts.specs.Inserting.{CanCountOne, IsInserted, IsNeededToInsert, IsWrongToInsert}

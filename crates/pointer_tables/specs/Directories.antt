@@ -1,10 +1,9 @@
 -- A hashed directory as a view shows it, and the inode that it is, its leaves aside.
-use Rattle.std.specs.Prelude.{ℕ, ◌≡◌, ◌≢◌, ◌+◌, ◌*◌, ◌/◌, ◌<◌, ◌≤◌, true, length, IsSome, None, Some}
+use Rattle.std.specs.Prelude.{ℕ, ◌≡◌, ◌≢◌, ◌+◌, ◌<◌, true, length, IsSome, None, Some}
 use Rattle.gfs2_layout.specs.Headers.{HasHeader}
 use Rattle.gfs2_layout.specs.Holding.{Holding, Part, Itself, bytes_at, part_at}
-use Rattle.gfs2_layout.specs.Inode.{Fits, HasTree, block_count, dinode_in, entry, entry_block, is_hashed_in, leaf_in, table_count, unit}
+use Rattle.gfs2_layout.specs.Inode.{Fits, HasTree, block_count, dinode_in, entry, is_hashed_in, leaf_in, table_count}
 use Rattle.glock_names.specs.Views.{Seen}
-use Rattle.dinode_tree.specs.Broken as inode_rules
 use Rattle.dinode_tree.specs.Shown as inode
 
 -- ---- chains
@@ -41,28 +40,3 @@ pub record IsPlaced (h : Holding) : Type 0 where
   pub only : (b : ℕ) → part_at h b ≡ Some Itself → b ≡ h.own
   pub nobody : part_at h 0 ≡ None
   pub inside : (b : ℕ) → IsSome (h.cell b) → b < h.count
-
--- ---- its pointers
-
--- none of its pointers is 0: so its table has no hole
-abbrev pub EachPointerLeads : Holding → Type 0
-EachPointerLeads h = (i : ℕ) → i < table_count h → entry h i ≢ 0
-
--- index i is one of so many neighbouring ones
-pub record IsWithin (from count i : ℕ) : Type 0 where
-  pub low : from ≤ i
-  pub high : i < from + count
-
--- the block has one of so many neighbouring pointers
-abbrev pub HasPointerOf : Holding → ℕ → ℕ → ℕ → Type 0
-HasPointerOf h from count b = (i : ℕ) × IsWithin from count i × (b ≡ entry_block h i)
-
--- the block of content with this index has one of so many neighbouring pointers, where it is there
-abbrev pub IsOfPointers : Holding → ℕ → ℕ → ℕ → Type 0
-IsOfPointers h from count k = (i : ℕ) × IsWithin from count i × (k ≡ 8 * i / unit h)
-
--- `IsTableBroken h rule b`: block b breaks this rule, of the inode or of its table
-pub data IsTableBroken (h : Holding) : ℕ → ℕ → Type 0 where
-  of_inode : (rule b : ℕ) → inode_rules.IsBroken h rule b → IsTableBroken h rule b
-  -- 14: a pointer leads nowhere
-  leads_nowhere : (i : ℕ) → i < table_count h → entry h i ≡ 0 → IsTableBroken h 14 (entry_block h i)

@@ -30,11 +30,12 @@ use Rattle.file_fills.proofs.Headers.{put_over}
 use Rattle.file_heights.specs.Sized.{dinode_as}
 use Rattle.file_growth.specs.Written.{IsWritten, size_with}
 use Rattle.pointer_tables.specs.Directories.{IsPlaced, IsTreeSound}
-use Rattle.pointer_tables.specs.Tables.{GrowsAsFile, IsClearBehind, IsDoubled, IsTableFile, KeepsTableHeaders, LeavesStay, table_blocks, table_header, table_height, tree_blocks, without_leaf}
+use Rattle.pointer_tables.specs.Tables.{IsDoubled, LeavesStay}
+use Rattle.table_growth.specs.Tables.{GrowsAsFile, IsClearBehind, IsTableFile, KeepsTableHeaders, table_blocks, table_header, table_height, tree_blocks, without_leaf}
 use Rattle.table_files.specs.Files.{AreDoubledPointers, AreHeadersOf, SaysInstead, directory_cells, doubled_dinode, file_cells, file_dinode, header_at, own_cell, table_block, table_bytes}
 use Rattle.table_files.proofs.Alike.{LeadAlike, content_block_alike, tree_alike}
 use Rattle.table_files.proofs.ContentParts.{content_part, whole_by_parts}
-use Rattle.table_files.proofs.Entries.{entry_in_block, fits_block, within}
+use Rattle.tree_tables.proofs.Entries.{entry_in_block, fits_block, within}
 use Rattle.table_files.proofs.Pieces.{count_both, count_most, begins_piece, whole_pieces}
 use Rattle.table_files.proofs.TableBytes.{all_over, block_clear, block_has_header, block_header, block_long, block_pointer, front_header, new_header, same_piece, table_long, zeros_no_header}
 use Rattle.table_files.specs.Laws.{IsTable}

@@ -1,4 +1,3 @@
-pub mod Entries
 pub mod ContentParts
 pub mod Alike
 pub mod Pieces

@@ -13,9 +13,9 @@ use Rattle.dinode_tree.proofs.Ranges.{range_of_piece}
 use Rattle.file_tree.specs.Apply.{overwritten}
 use Rattle.growth_laws.proofs.Bytes.{byte, over_in, over_length, pieces_length, same_bytes, zero_byte}
 use Rattle.growth_laws.proofs.Numbers.{numbers_at_the_back, numbers_in_front, number_behind}
-use Rattle.pointer_tables.specs.Tables.{table_header}
+use Rattle.table_growth.specs.Tables.{table_header}
 use Rattle.table_files.specs.Files.{header_at, table_block, table_bytes}
-use Rattle.table_files.proofs.Entries.{in_front, u64_same}
+use Rattle.tree_tables.proofs.Entries.{in_front, u64_same}
 
 -- ---- numbers at the front
 

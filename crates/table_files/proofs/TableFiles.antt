@@ -24,12 +24,12 @@ use Rattle.file_fills.specs.Headers.{HaveSamePads}
 use Rattle.file_fills.proofs.Headers.{put_over}
 use Rattle.file_growth.specs.Written.{CanWrite}
 use Rattle.file_growth.proofs.Writes.{long_content}
-use Rattle.pointer_tables.specs.Tables.{CanDouble, IsTableFile, doubling_need, table_blocks, table_height, tree_blocks, without_leaf}
+use Rattle.table_growth.specs.Tables.{CanDouble, IsTableFile, doubling_need, table_blocks, table_height, tree_blocks, without_leaf}
 use Rattle.table_files.specs.Files.{SaysInstead, file_cells, file_dinode, own_cell}
 use Rattle.table_files.specs.Laws.{IsTable}
 use Rattle.table_files.proofs.Alike.{LeadAlike, content_block_alike, tree_alike}
 use Rattle.table_files.proofs.ContentParts.{whole_by_parts}
-use Rattle.table_files.proofs.Entries.{entry_in_hole}
+use Rattle.tree_tables.proofs.Entries.{entry_in_hole}
 use Rattle.table_files.proofs.Filled.{blocks_counted, needed_all}
 use Rattle.table_files.proofs.Pieces.{begins_piece, more_pieces, piece_begins, whole_pieces}
 

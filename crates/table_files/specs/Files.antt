@@ -8,7 +8,7 @@ use Rattle.gfs2_layout.specs.Inode.{content_block, content_count, dinode_in, ent
 use Rattle.gfs2_layout.specs.Structures.{dinode_length, dinode_of}
 use Rattle.gfs2_layout.specs.Writing.{dinode_put}
 use Rattle.gfs2_layout.specs.declared.dinode.Dinode.{Dinode}
-use Rattle.pointer_tables.specs.Tables.{table_header, without_leaf}
+use Rattle.table_growth.specs.Tables.{table_header, without_leaf}
 
 -- ---- the file that a directory's table is
 

@@ -6,8 +6,9 @@ use Rattle.gfs2_layout.specs.Inode.{dinode_in, height_in, is_directory_in, table
 use Rattle.growth_laws.specs.Files.{with_cells}
 use Rattle.growth_laws.specs.Need.{needed}
 use Rattle.growth_drafts.specs.Taken.{IsCounted}
-use Rattle.pointer_tables.specs.Directories.{EachPointerLeads, IsPlaced, IsTreeSound}
-use Rattle.pointer_tables.specs.Tables.{IsTableFile, doubling_need_of, table_blocks, tree_blocks}
+use Rattle.pointer_tables.specs.Directories.{IsPlaced, IsTreeSound}
+use Rattle.table_growth.specs.Pointers.{EachPointerLeads}
+use Rattle.table_growth.specs.Tables.{IsTableFile, doubling_need_of, table_blocks, tree_blocks}
 use Rattle.table_files.specs.Files.{SaysInstead, file_cells, file_dinode}
 
 -- A directory of which the table has no hole and is as long as its depth says.

@@ -1,6 +1,6 @@
 -- The pointer that was read, of a directory and of the view alone.
-use Rattle.std.proofs.Common.{◌≡◌, ◌≢◌, ℕ, suc, ◌+◌, ◌-◌, ◌*◌, ◌/◌, ◌%◌, ◌^◌, ◌<◌, ◌≤◌, inl, inr, true, false, List, None, Some, Result, Ok, Err, refl, sym, ap, ◌∙◌, subst, arith}
-use Rattle.std.specs.Prelude.{◌==◌, IsSome, nat_lt, option_map}
+use Rattle.std.proofs.Common.{◌≡◌, ◌≢◌, ℕ, suc, ◌+◌, ◌-◌, ◌*◌, ◌/◌, ◌%◌, ◌^◌, ◌<◌, ◌≤◌, inl, inr, Bool, true, false, List, None, Some, Result, Ok, Err, refl, sym, ap, ◌∙◌, subst, arith}
+use Rattle.std.specs.Prelude.{◌==◌, IsSome, nat_lt, option_map, if◌then◌else◌}
 use Rattle.std.proofs.lemmas.Bool.{cases_Bool, cases_eq, cond-true, cond-false, eq-eqb, ne_eqb, eqb-true, lt-ltb}
 use Rattle.gfs2_layout.specs.Bytes.{u64_at}
 use Rattle.gfs2_layout.specs.Device.{IsBlockSize}
@@ -8,7 +8,7 @@ use Rattle.gfs2_layout.specs.Headers.{HasHeader}
 use Rattle.gfs2_layout.specs.Holding.{Holding, bytes_at}
 use Rattle.gfs2_layout.specs.Inode.{Fits, Leads, content_block, dinode_in, entry, entry_block, header_length, height_in, is_directory_in, has_hash_flag, unit}
 use Rattle.gfs2_layout.specs.Structures.{dinode_length, file_type, is_regular}
-use Rattle.image_model.proofs.Held.{none_some}
+use Rattle.image_model.proofs.Held.{none_some, some_same}
 use Rattle.image_model.proofs.Rows.{and_left}
 use Rattle.glock_names.specs.Steps.{IfIs, IfNeedBlock, IsDamage, OnlyDamaged}
 use Rattle.glock_names.specs.Views.{Seen, HasBlock}
@@ -24,8 +24,7 @@ use Rattle.linear_dirs.proofs.Looked.{bytes_of}
 use Rattle.pointer_tables.specs.declared.pointer.Pointer.{Pointer}
 use Rattle.tree_tables.specs.Pointers.{IsTableOf, block_of, bytes_or_none, carries, or_zero, pointer_at, pointer_in, seen_as, table_block}
 use Rattle.tree_tables.specs.declared.tree_table.TreeTable.{TreeTable}
-use Rattle.table_files.proofs.ContentParts.{some_block}
-use Rattle.table_files.proofs.Entries.{entry_in_block, entry_in_hole, entry_stuffed, within}
+use Rattle.tree_tables.proofs.Entries.{entry_in_block, entry_in_hole, entry_stuffed, within}
 
 -- what is known of a block where there is an answer
 pub where_there : {A : Type 0} (v : Seen) (b : ℕ) (result : Result (Step A) CallFault) (F : List ℕ → A → Type 0) (Q : A → Type 0) → IfIs result (λ a. HasBlock v b)
@@ -64,6 +63,19 @@ one_less n some = elim (cases_eq n 0) [
 ]
 
 -- ---- which block has the pointer
+
+pub some_block : (h : Holding) (i b : ℕ) → block_at h i ≡ Some b → (content_block h i ≡ b) × (b ≢ 0)
+some_block h i b is = by (nat_lt i (reach h.size (height_in h))) (content_block h i) is
+  where
+    targets : (p : ℕ) → target p ≡ Some b → (p ≡ b) × (b ≢ 0)
+    targets p e = elim (cases_eq p 0) [
+      | inl zero_is ↦ absurd (none_some (sym (cond-true (p == 0) None (Some p) (eq-eqb p 0 zero_is)) ∙ e))
+      | inr some ↦ let same : p ≡ b = some_same (sym (cond-false (p == 0) None (Some p) (ne_eqb p 0 some)) ∙ e) in (same, λ z. some (same ∙ z))
+    ]
+
+    by : (t : Bool) (p : ℕ) → (if t then target p else None) ≡ Some b → (p ≡ b) × (b ≢ 0)
+    by true p e = targets p e
+    by false p e = absurd (none_some e)
 
 no_block : (h : Holding) (i : ℕ) → i < reach h.size (height_in h) → block_at h i ≡ None → content_block h i ≡ 0
 no_block h i low is = elim (cases_eq (content_block h i) 0) [

@@ -1,4 +1,2 @@
 pub mod Pointers
 pub mod Following
-pub mod Setting
-pub mod Doubling

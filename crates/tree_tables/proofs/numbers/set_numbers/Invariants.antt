@@ -1,5 +1,0 @@
-use Rattle.tree_tables.specs.Setting.{HasNumbersSet}
-use Rattle.tree_tables.proofs.numbers.set_numbers.Given as goal
-
-abbrev pub invariant-loop-k : goal.invariant-loop-k
-invariant-loop-k l = HasNumbersSet l.initial.bytes l.bytes l.start l.k l.number
