@@ -336,6 +336,7 @@ fn insert_whole<V: View, T: PointerTableMut>(
         → IfOk result (λ done. (done ≡ true) × ((g : Holding) × IsShown (seen_in V.seen draft.new) dir g × T.shows table.new (seen_in V.seen draft.new) g
         × Inserts draft.old.fates draft.new.fates room.old.items room.new.items need name.now entry h g)) }
     ensures inside { IfOk result (λ done. done ≡ true → StaysInside (seen_in V.seen draft.old) draft.old.fates draft.new.fates room.old.items room.new.items dir) }
+    ensures undone { IfOk result (λ done. done ≡ false → draft.new ≡ draft.old) }
     ensures view { draft.new.view ≡ draft.old.view }
 {
     puts_are_seen_alike();
@@ -432,6 +433,7 @@ pub fn insert_first<V: View, T: PointerTableMut>(
         → IfOk result (λ done. (done ≡ true) × ((g : Holding) × IsShown (seen_in V.seen draft.new) dir g × T.shows table.new (seen_in V.seen draft.new) g
         × Inserts draft.old.fates draft.new.fates room.old.items room.new.items need name.now entry h g)) }
     ensures inside { IfOk result (λ done. done ≡ true → StaysInside (seen_in V.seen draft.old) draft.old.fates draft.new.fates room.old.items room.new.items dir) }
+    ensures undone { IfOk result (λ done. done ≡ false → draft.new ≡ draft.old) }
     ensures view { draft.new.view ≡ draft.old.view }
 {
     sound_pointers_are_parts();

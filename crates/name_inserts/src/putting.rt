@@ -1,5 +1,5 @@
 // A name put into a directory in a draft.
-ghost use Rattle.std.specs.Prelude.{ℕ, ◌≡◌, ◌≢◌, ◌^◌, ◌<◌, ◌≤◌, false, true, None, Contains, length};
+ghost use Rattle.std.specs.Prelude.{ℕ, ◌≡◌, ◌≢◌, ◌^◌, ◌<◌, ◌≤◌, false, true, None, Contains, length, slice_get};
 ghost use Rattle.drafts.specs.Fates.{seen_in};
 ghost use Rattle.gfs2_layout.specs.Holding.{Holding};
 ghost use Rattle.gfs2_layout.specs.Inode.{is_directory_in, is_hashed_in, records_of};
@@ -60,6 +60,13 @@ fn put_in_hashed<V: View>(
     hash_inserts::insert(alloc, draft, dir, name, entry, room, &mut table)
 }
 
+// The block at the front of a room.
+fn first_block(room: &VecDeque<u64>) -> Option<u64>
+    ensures { result ≡ slice_get room.now.items 0 }
+{
+    room.front().copied()
+}
+
 // Makes a linear directory a hashed one, and puts the name there; and tells whether that was done.
 fn put_converted<V: View>(
     alloc: Global,
@@ -87,7 +94,7 @@ fn put_converted<V: View>(
     ensures view { draft.new.view ≡ draft.old.view }
 {
     checksums_have_32_bits();
-    let first = room.front().copied();
+    let first = first_block(&*room);
     let hashed = match to_hashed(alloc, draft, dir, room)? {
         Step::Is(hashed) => hashed,
         Step::NeedBlock(missing) => return Ok(Step::NeedBlock(missing)),
@@ -138,6 +145,7 @@ pub fn put_name<V: View>(
     ensures stays { IfDamaged result (λ rule block. (draft.new ≡ draft.old) × (room.new.items ≡ room.old.items)) }
     ensures view { draft.new.view ≡ draft.old.view }
 {
+    checksums_have_32_bits();
     let dinode = match read_dinode(&*draft, dir)? {
         Step::Is(dinode) => dinode,
         Step::NeedBlock(missing) => return Ok(Step::NeedBlock(missing)),

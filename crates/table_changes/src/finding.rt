@@ -12,7 +12,7 @@ ghost use Rattle.table_growth.specs.Pointers.{IsOfPointers, IsTableBroken};
 ghost use Rattle.tree_tables.specs.Pointers.{IsTableOf};
 ghost use Rattle.table_changes.specs.Setting.{AreRuns, IsRun, IsSeenRun, counted};
 
-use crate::TreeTable;
+use tree_tables::TreeTable;
 use tree_tables::{IN_TABLE, damaged};
 use dinode_tree::{Located, all_blocks_are_shown, locate, read_dinode};
 use gfs2_layout::{DINODE_LENGTH, has_header};

@@ -15,7 +15,7 @@ ghost use Rattle.table_files.specs.Files.{doubled_dinode, file_dinode};
 ghost use Rattle.table_changes.specs.Doubling.{AreDoubledBlocks, IsDoubledTable};
 ghost use Rattle.tree_tables.specs.Pointers.{IsTableOf};
 
-use crate::TreeTable;
+use tree_tables::TreeTable;
 use crate::putting::put_dinode;
 use drafts::{Draft, Written};
 use file_fills::height_for;

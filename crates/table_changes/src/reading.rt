@@ -18,7 +18,7 @@ ghost use Rattle.table_files.specs.Files.{AreHeadersOf};
 ghost use Rattle.tree_tables.specs.Pointers.{IsTableOf};
 ghost use Rattle.table_changes.specs.Doubling.{IsDoubledTable};
 
-use crate::TreeTable;
+use tree_tables::TreeTable;
 use crate::doubling::{each_twice, table_bytes};
 use crate::finding::find_run;
 use tree_tables::{IN_TABLE, pointers_of};

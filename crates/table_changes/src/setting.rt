@@ -6,7 +6,7 @@ ghost use Rattle.pointer_tables.specs.Directories.{IsPlaced, IsTreeSound};
 ghost use Rattle.tree_tables.specs.Pointers.{IsTableOf};
 ghost use Rattle.table_changes.specs.Setting.{AreRuns, IsSeenRun, IsSetIn, PutsRuns, counted};
 
-use crate::TreeTable;
+use tree_tables::TreeTable;
 use crate::finding::Run;
 use crate::putting::put_pointers;
 use drafts::Draft;

@@ -1,5 +1,5 @@
 // A table in its directory's blocks that changes in a draft.
-use crate::TreeTable;
+use tree_tables::TreeTable;
 use crate::finding::find_runs;
 use crate::growing::doubled_blocks;
 use crate::putting::are_of_table;

@@ -1,7 +1,7 @@
 use Rattle.std.proofs.Common.{◌<◌, ◌∙◌, ap, arith}
 use Rattle.gfs2_layout.specs.Inode.{pieces}
 use Rattle.dinode_tree.proofs.Spans.{pieces_of, span_some}
-use Rattle.pointer_tables.proofs.need.level_blocks.Goals as goal
+use Rattle.table_growth.proofs.need.level_blocks.Goals as goal
 
 pub div_ceil-requires : goal.div_ceil-requires
 div_ceil-requires c = omega (arith, c.in-Some.ensures.some, span_some c.args.size c.args.level c.requires.large)

@@ -1,6 +1,6 @@
 use Rattle.std.proofs.Common.{◌≡◌, ◌*◌, ◌≤◌}
 use Rattle.table_growth.specs.Tables.{tree_blocks}
-use Rattle.pointer_tables.proofs.need.tree_blocks.Given as goal
+use Rattle.table_growth.proofs.need.tree_blocks.Given as goal
 
 abbrev pub invariant-loop-level : goal.invariant-loop-level
 invariant-loop-level l = record {
