@@ -1,5 +1,5 @@
 -- What becomes of a directory that gets a name, whatever its form.
-use Rattle.std.specs.Prelude.{ℕ, ◌≡◌, ◌⊎◌, ◌^◌, ◌<◌, ◌≤◌, true, false, List, [], ◌∷◌, ◌++◌, length, Contains, None, Some, IsSome}
+use Rattle.std.specs.Prelude.{ℕ, ◌≡◌, ◌≢◌, ◌⊎◌, ◌^◌, ◌<◌, ◌≤◌, true, false, List, [], ◌∷◌, ◌++◌, length, Contains, None, Some, IsSome}
 use Rattle.std.specs.FinMap.{FinMap, get}
 use Rattle.std.specs.Ordering.{nat_cmp}
 use Rattle.drafts.specs.declared.fate.Fate.{Fate}
@@ -33,7 +33,8 @@ pub record IsPutInLinear (h g : Holding) (name : List ℕ) (e : Entry) : Type 0 
   pub counted : IsCounted (dinode_in h) (dinode_in g) [] (record_for name e ∷ [])
   pub slots : put_slot (head_for name e) name (slots_of (linear_area h)) ≡ Some (slots_of (linear_area g))
   pub bytes : IsLaidOver (bytes_at h h.own) (bytes_at g h.own)
-  pub others : (b : ℕ) → g.cell b ≡ h.cell b ⊎ (b ≡ h.own)
+  pub parts : (x : ℕ) → part_at g x ≡ part_at h x
+  pub others : (x : ℕ) → x ≢ h.own → bytes_at g x ≡ bytes_at h x
 
 -- `IsNamed name e h g taken`: the directory gets the name, and takes these blocks for it, in this order. A linear directory without room for it
 -- becomes a hashed one first, whose leaf is the first of these blocks.

@@ -72,10 +72,9 @@ returns-clause-put g c h shown plain full can =
     } in
     let view : (seen mid.view) ≡ (seen old.view) = ap seen c.in_ok-hashed.ensures.view in
     let deep : 2 ^ c.first_depth.result ≡ first_count h.size = c.first_depth.ensures.count ∙ ap first_count (c.block_size.ensures.value ∙ ap (λ (s : Seen). s.size) view ∙ sym shown.size) in
-    let table = table_of h m is.block can.sound can.directory plain is.converted sound w dir (record { directory = dir; depth = c.first_depth.result }) refl deep shown_m in
     let data_block = data_block_in v w is.block (ap (λ (s : Seen). s.groups) view) (c.requires.room is.block (subst (λ l. Contains l is.block) (sym is.takes.front) (0, omega arith, refl))) in
     let only = only_leaf h m is.block can.sound can.directory plain is.converted sound w name c.in-Some.leaf small same (subst (HasBlock w) (sym is.converted.same.own) own_there) leaf_there data_block in
-    let done = c.in_ok-done.ensures.put m (need_in_hashed m name) can_insert table only in
+    let done = c.in_ok-done.ensures.put m (need_in_hashed m name) can_insert (table_of h m is.block can.sound can.directory plain is.converted sound w dir _ refl deep shown_m) only in
     let k = done.1.0 in
     let inserts = done.1.3 in
     let own : k.own ≡ m.own = done.1.1.inode.own ∙ sym shown_m.inode.own in (
