@@ -78,7 +78,7 @@ pub record IsPutSo {V : Type 0} (seen : V → Seen) (old new : Drafted V) (dir :
   pub laid : IsLaidOver (bytes_at h h.own) (bytes_at (holding_over (seen_in seen new) h) h.own)
 
 module _ {V : Type 0} (seen : V → Seen) (old new : Drafted V) (dir : ℕ) (h : Holding) (name : List ℕ) (e : Entry) (bytes : List ℕ) (shown : inode.IsShown (seen_in seen old) dir h) (is : IsPutSo seen old new dir h name e bytes) where
-  abbrev after : Holding
+  abbrev pub after : Holding
   after = holding_over (seen_in seen new) h
 
   again : IsRewritten (seen_in seen new) h bytes
