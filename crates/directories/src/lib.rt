@@ -10,5 +10,5 @@ mod removing;
 pub use gathering::counted_leaves;
 pub use laws::{directories_say_their_records, sound_directories_break_nothing};
 pub use listing::names;
-pub use looking::look;
+pub use looking::{is_hashed, look};
 pub use removing::remove;

@@ -17,8 +17,8 @@ use gfs2_layout::Dinode;
 use glock_names::{CallFault, Entry, Step, View};
 use tree_tables::TreeTable;
 
-// Whether a directory's dinode says that it is a hashed one.
-pub(crate) fn is_hashed(dinode: &Dinode) -> bool
+/// Whether a directory's dinode says that it is a hashed one.
+pub fn is_hashed(dinode: &Dinode) -> bool
     ensures { result ≡ has_hash_flag dinode.now }
 {
     dinode.flags / 2 % 2 == 1

@@ -18,17 +18,17 @@ use pointer_tables::Pointer;
 use resource_groups::group_of;
 
 /// Where the records of a leaf begin.
-pub(crate) const IN_LEAF: usize = 104;
+pub const IN_LEAF: usize = 104;
 
 /// A leaf: what its head says, and the records behind it.
 #[derive(Clone, Copy)]
-pub(crate) struct LeafAt<'a> {
+pub struct LeafAt<'a> {
     pub head: Leaf,
     pub area: &'a [u8],
 }
 
 /// The fault of a block that breaks a rule.
-pub(crate) fn damaged(block: u64, rule: u16) -> CallFault
+pub fn damaged(block: u64, rule: u16) -> CallFault
     ensures { result ≡ CallFault.Damaged block rule }
 {
     CallFault::Damaged { block, rule }
@@ -63,7 +63,7 @@ fn read_leaf(bytes: &[u8], block: u64, depth: u16) -> Result<LeafAt<'_>, CallFau
 
 /// The leaf to which a pointer or the leaf before it leads, of a directory whose table is so deep. It looks that there is one, and
 /// a data block of a group; at its header, the format of its records and its depth; and that the records fill it, in this order.
-pub(crate) fn leaf_at<'a, V: View>(
+pub fn leaf_at<'a, V: View>(
     view: &'a V,
     dir: u64,
     depth: u16,

@@ -35,7 +35,7 @@ pub(crate) struct Found {
 }
 
 /// The index of a hash in a table of this depth: so many of its top bits.
-pub(crate) fn index_of(hash: u32, depth: u16) -> u32
+pub fn index_of(hash: u32, depth: u16) -> u32
     requires { depth ≤ 15 }
     ensures value { result ≡ top_bits depth hash }
     ensures low { result < 2 ^ depth }

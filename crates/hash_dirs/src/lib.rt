@@ -9,6 +9,8 @@ mod listing;
 mod looking;
 mod removing;
 
+pub use chains::{IN_LEAF, LeafAt, damaged, leaf_at};
+pub use finding::index_of;
 pub use gathering::{all_leaves, count_records, have_records};
 pub use laws::{chains_tell_names, leaves_have_records};
 pub use listing::names;

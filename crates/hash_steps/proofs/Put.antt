@@ -45,7 +45,7 @@ abbrev one_or_none : Bool → ℕ
 one_or_none b = cond b 1 0
 
 -- where nothing passes a test, nothing is counted
-none_counted : {X : Type 0} (test : X → Bool) (xs : List X) → find test xs ≡ None → count_by test xs ≡ 0
+pub none_counted : {X : Type 0} (test : X → Bool) (xs : List X) → find test xs ≡ None → count_by test xs ≡ 0
 none_counted test [] e = refl
 none_counted test (x ∷ xs) e = by (test x) refl (none_counted test xs) e
   where

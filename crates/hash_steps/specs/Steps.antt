@@ -1,6 +1,6 @@
 -- What becomes of a hashed directory, step by step: a leaf is split, a leaf is added behind a chain, a record is put into a leaf; and a linear directory
 -- becomes a hashed one.
-use Rattle.std.specs.Prelude.{ℕ, ◌≡◌, ◌≢◌, ◌+◌, ◌-◌, ◌*◌, ◌/◌, ◌<◌, true, if◌then◌else◌, List, [], ◌∷◌, length, drop, filter, not, ◌&&◌, Some, None}
+use Rattle.std.specs.Prelude.{ℕ, ◌≡◌, ◌≢◌, ◌+◌, ◌-◌, ◌*◌, ◌/◌, ◌<◌, true, if◌then◌else◌, List, [], ◌∷◌, length, drop, replicate, filter, not, ◌&&◌, Some, None}
 use Rattle.std.specs.List.{All}
 use Rattle.gfs2_layout.specs.Area.{Slot, slots_of}
 use Rattle.gfs2_layout.specs.Exchanges.{IsCounted}
@@ -95,8 +95,8 @@ pub record IsPutInLeaf (h g : Holding) (name : List ℕ) (e : Entry) : Type 0 wh
 abbrev pub first_count : ℕ → ℕ
 first_count size = size / 16
 
--- Block b is a leaf of depth 0 with all records of the linear directory, in order; the table of the first size, behind the dinode, leads to it. What
--- the leaf has are bytes: so the hash of each name in it has 32 bits, and belongs to the one leaf that there is.
+-- Block b is a leaf of depth 0 with all records of the linear directory, in order; the table of the first size, behind the dinode, leads to it, and the
+-- rest of the dinode's block is zeros. What the leaf has are bytes: so the hash of each name in it has 32 bits, and belongs to the one leaf that there is.
 pub record IsConverted (h g : Holding) (b : ℕ) : Type 0 where
   pub same : IsSame h g
   pub new : h.cell b ≡ None
@@ -114,3 +114,4 @@ pub record IsConverted (h g : Holding) (b : ℕ) : Type 0 where
     blocks = (dinode_in h).blocks + 1;
   }
   pub pads : KeepsPads (bytes_at h h.own) (bytes_at g g.own)
+  pub clear : drop (dinode_length + 8 * first_count h.size) (bytes_at g h.own) ≡ replicate (h.size - (dinode_length + 8 * first_count h.size)) 0

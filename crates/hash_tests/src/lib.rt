@@ -2,4 +2,10 @@
 #![tactic(auto)]
 
 #[cfg(test)]
+mod converting;
+#[cfg(test)]
+mod inserting;
+#[cfg(test)]
 mod reading;
+#[cfg(test)]
+mod shelf;

@@ -1,68 +1,16 @@
 // A hashed directory on blocks of 512 bytes, laid out by hand after Linux's gfs2_ondisk.h. Its table has 32 pointers behind the dinode:
 // the lower half leads to one leaf, the upper half to another, behind which stands an overflow leaf.
+use crate::shelf::{Part, Shelf, lay};
 use drafts::Draft;
 use file_tree::Name;
-use glock_names::{CallFault, Entry, Group, LockName, Missing, State, Step, View};
+use glock_names::{CallFault, Entry, LockName, Missing, Step};
 use hash_dirs::{all_leaves, look, names, remove};
+use pointer_tables::{Pointer, PointerTable};
 use std::alloc::{AllocError, Global};
-use std::collections::BTreeMap;
+use std::collections::{BTreeMap, VecDeque};
 use std::test::Fail;
+use table_changes::PointerTableMut;
 use tree_tables::TreeTable;
-
-// One group, which has the directory, its leaves and the files.
-static GROUPS: [Group; 1] = [Group {
-    addr: 130,
-    length: 1,
-    first: 131,
-    count: 100,
-}];
-
-// The blocks that are there.
-#[derive(Drop)]
-struct Shelf {
-    blocks: BTreeMap<u64, Vec<u8>>,
-}
-
-impl View for Shelf {
-    ghost use Rattle.std.specs.Prelude.{None, Some, [], ◌∷◌, length, ◌==◌, if◌then◌else◌, option_and_then};
-    ghost use Rattle.std.specs.BTreeMap.{get};
-    ghost use Rattle.std.specs.Ordering.{nat_cmp};
-    ghost use Rattle.glock_names.specs.declared.State.TheVariants.{Ex};
-
-    ghost seen = { λ v. record {
-      size = 512;
-      root = 2;
-      groups = record { addr = 130; length = 1; first = 131; count = 100 } ∷ [];
-      state_of = λ lock. Ex;
-      block_at = λ b. option_and_then (λ bytes. if length bytes.items == 512 then Some bytes.items else None) (get nat_cmp v.blocks b);
-    } };
-
-    fn state(&self, _lock: LockName) -> State {
-        State::Ex
-    }
-
-    fn block(&self, block: u64) -> Option<&[u8]> {
-        match self.blocks.get(&block) {
-            Some(bytes) if bytes.len() == 512 => Some(bytes),
-            _ => None,
-        }
-    }
-
-    fn groups(&self) -> &[Group] {
-        &GROUPS
-    }
-
-    fn root(&self) -> u64 {
-        2
-    }
-
-    fn block_size(&self) -> u32 {
-        512
-    }
-}
-
-// Bytes at a place of a block.
-type Part = (u64, usize, &'static [u8]);
 
 const DIRECTORY: [Part; 32] = [
     (160, 0, b"\x01\x16\x19\x70\x00\x00\x00\x04"),
@@ -74,7 +22,11 @@ const DIRECTORY: [Part; 32] = [
     ),
     (160, 40, b"\x00\x00\x41\xed"),
     (160, 52, b"\x00\x00\x00\x02"),
-    (160, 56, b"\x00\x00\x00\x00\x00\x00\x01\x00"),
+    (
+        160,
+        56,
+        b"\x00\x00\x00\x00\x00\x00\x01\x00\x00\x00\x00\x00\x00\x00\x00\x04",
+    ),
     (160, 128, b"\x00\x00\x00\x02"),
     (160, 146, b"\x00\x05\x00\x00\x00\x05"),
     (161, 0, b"\x01\x16\x19\x70\x00\x00\x00\x06"),
@@ -135,22 +87,8 @@ const DIRECTORY: [Part; 32] = [
     (163, 144, b"beta"),
 ];
 
-// Lays a part over its block, which is made of zeros where it isn't there.
-fn lay(shelf: &mut Shelf, alloc: Global, part: Part) -> Result<(), AllocError> {
-    let (number, at, bytes) = part;
-    let mut block = match shelf.blocks.remove(&number) {
-        Some(block) => block,
-        None => vec![in alloc; 0; 512]?,
-    };
-    if at <= block.len() && bytes.len() <= block.len() - at {
-        block[at..at + bytes.len()].copy_from_slice(bytes);
-    }
-    shelf.blocks.insert(number, block)?;
-    Ok(())
-}
-
 // The directory.
-fn directory(alloc: Global) -> Result<Shelf, AllocError> {
+pub(crate) fn directory(alloc: Global) -> Result<Shelf, AllocError> {
     let mut shelf = Shelf {
         blocks: BTreeMap::new(alloc),
     };
@@ -168,12 +106,12 @@ fn directory(alloc: Global) -> Result<Shelf, AllocError> {
     Ok(shelf)
 }
 
-const TABLE: TreeTable = TreeTable {
+pub(crate) const TABLE: TreeTable = TreeTable {
     directory: 160,
     depth: 5,
 };
 
-fn file(number: u64, addr: u64) -> Option<Entry> {
+pub(crate) fn file(number: u64, addr: u64) -> Option<Entry> {
     Some(Entry {
         number,
         addr,
@@ -264,5 +202,41 @@ fn names_are_listed_and_taken(rt: HostRuntime) -> Result<(), Fail> {
     );
     assert_eq!(rt; look(&draft, 160, b"beta", &TABLE), Ok(Step::Is(None)));
     assert!(rt; gives(names(a, &draft, 160, &TABLE), &[b"zeta", b"alpha"]));
+    Ok(())
+}
+
+// Where a pointer leads, and the block in which it stands.
+fn pointer(leaf: u64, from: u64) -> Result<Step<Pointer>, CallFault> {
+    Ok(Step::Is(Pointer { leaf, from }))
+}
+
+#[test]
+fn a_table_is_doubled(rt: HostRuntime) -> Result<(), Fail> {
+    let a = rt.alloc();
+    let shelf = directory(a)?;
+    let mut draft = Draft::new(a, &shelf);
+    let mut room = VecDeque::new(a);
+    room.push_back(170)?;
+    room.push_back(171)?;
+    let mut table = TABLE;
+    let done = table.double(a, &mut draft, &mut room);
+    assert_eq!(rt; done, Ok(Step::Is(true)));
+    assert_eq!(rt; table.depth, 6);
+    assert_eq!(rt; table.get(&draft, 32), pointer(162, 170));
+    assert_eq!(rt; table.get(&draft, 63), pointer(162, 171));
+    Ok(())
+}
+
+#[test]
+fn pointers_are_set(rt: HostRuntime) -> Result<(), Fail> {
+    let a = rt.alloc();
+    let shelf = directory(a)?;
+    let mut draft = Draft::new(a, &shelf);
+    let mut table = TABLE;
+    let done = table.set(a, &mut draft, 8, 8, 162);
+    assert_eq!(rt; done, Ok(Step::Is(())));
+    assert_eq!(rt; table.depth, 5);
+    assert_eq!(rt; table.get(&draft, 7), pointer(161, 160));
+    assert_eq!(rt; table.get(&draft, 8), pointer(162, 160));
     Ok(())
 }

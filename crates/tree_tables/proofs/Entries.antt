@@ -24,11 +24,11 @@ unfolding number_at
 u64_behind start at bytes = ap (λ (b : List ℕ). from_be_bytes w64 (take 8 b)) (sym (drop-drop at start bytes))
 
 -- numbers are read alike where the eight bytes are the same
-u64_same : (a b : ℕ) (xs ys : List ℕ) → take 8 (drop a xs) ≡ take 8 (drop b ys) → u64_at a xs ≡ u64_at b ys
+pub u64_same : (a b : ℕ) (xs ys : List ℕ) → take 8 (drop a xs) ≡ take 8 (drop b ys) → u64_at a xs ≡ u64_at b ys
 unfolding number_at
 u64_same a b xs ys same = ap (from_be_bytes w64) same
 
-in_front : (size at : ℕ) (xs : List ℕ) → at + 8 ≤ size → take 8 (drop at (take size xs)) ≡ take 8 (drop at xs)
+pub in_front : (size at : ℕ) (xs : List ℕ) → at + 8 ≤ size → take 8 (drop at (take size xs)) ≡ take 8 (drop at xs)
 in_front size at xs low =
     ap (λ n. take 8 (drop at (take n xs))) (whole low) ∙ ap (take 8) (drop-take at (size - at) xs) ∙ take-take 8 (size - at) (drop at xs) (room low)
   where
@@ -46,7 +46,7 @@ module _ (h : Holding) (i : ℕ) (low : 8 * i + 8 ≤ (dinode_in h).size) where
       ap (u64_at (8 * i)) here ∙ u64_same (8 * i) (8 * i) _ _ (in_front (dinode_in h).size (8 * i) (drop dinode_length (bytes_at h h.own)) low) ∙ sym (u64_behind dinode_length (8 * i) (bytes_at h h.own))
 
 -- pointers don't lie across the blocks of a table
-fits_block : (size n : ℕ) → IsBlockSize size → 8 * n % (size - header_length) + 8 ≤ size - header_length
+pub fits_block : (size n : ℕ) → IsBlockSize size → 8 * n % (size - header_length) + 8 ≤ size - header_length
 fits_block size n (inl e) = subst (λ s. 8 * n % (s - 24) + 8 ≤ s - 24) (sym e) (omega arith)
 fits_block size n (inr (inl e)) = subst (λ s. 8 * n % (s - 24) + 8 ≤ s - 24) (sym e) (omega arith)
 fits_block size n (inr (inr (inl e))) = subst (λ s. 8 * n % (s - 24) + 8 ≤ s - 24) (sym e) (omega arith)

@@ -64,7 +64,7 @@ one_less n some = elim (cases_eq n 0) [
 
 -- ---- which block has the pointer
 
-some_block : (h : Holding) (i b : ℕ) → block_at h i ≡ Some b → (content_block h i ≡ b) × (b ≢ 0)
+pub some_block : (h : Holding) (i b : ℕ) → block_at h i ≡ Some b → (content_block h i ≡ b) × (b ≢ 0)
 some_block h i b is = by (nat_lt i (reach h.size (height_in h))) (content_block h i) is
   where
     targets : (p : ℕ) → target p ≡ Some b → (p ≡ b) × (b ≢ 0)
@@ -86,6 +86,16 @@ no_block h i low is = elim (cases_eq (content_block h i) 0) [
   where
     low_is : (a b : ℕ) → a < b → nat_lt a b ≡ true
     low_is a b less = lt-ltb a b less
+
+-- a directory is no regular file
+pub directory_no_file : (h : Holding) → is_directory_in h ≡ true → is_regular (dinode_in h) ≡ false
+directory_no_file h directory = elim (cases_Bool (is_regular (dinode_in h))) [
+  | inl file ↦ absurd (both (file_type (dinode_in h).mode) (eqb-true _ 4 directory) (eqb-true _ 8 file))
+  | inr none ↦ none
+]
+  where
+    both : (n : ℕ) → n ≡ 4 → n ≡ 8 → ⊥
+    both n e g = omega (arith, e, g)
 
 -- ---- of the view alone
 
@@ -165,13 +175,7 @@ module _ (t : TreeTable) (v : Seen) (h : Holding) (i : ℕ) (table : IsTableOf t
   -- ---- what is asked for, and what is broken
 
   no_file : is_regular (dinode_in h) ≡ false
-  no_file = elim (cases_Bool (is_regular (dinode_in h))) [
-    | inl file ↦ absurd (both (file_type (dinode_in h).mode) (eqb-true _ 4 directory) (eqb-true _ 8 file))
-    | inr none ↦ none
-  ]
-    where
-      both : (n : ℕ) → n ≡ 4 → n ≡ 8 → ⊥
-      both n e g = omega (arith, e, g)
+  no_file = directory_no_file h directory
 
   pub block_needed : (m : Missing) (from b k index : ℕ) → m ≡ record { lock = inode_lock t.directory; block = b; plain = false; from = from } → v.block_at b ≡ None → Leads h from k 0 index b → IsNeeded v h (λ j. j ≡ index) 0 m
   block_needed m from b k index is absent leads = subst (IsNeeded v h (λ j. j ≡ index) 0) (sym is) (record {

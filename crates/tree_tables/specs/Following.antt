@@ -1,5 +1,5 @@
 -- A table is that of its directory in whatever shows that, as long as it says the same depth.
-use Rattle.std.specs.Prelude.{◌≡◌, ◌*◌, ◌^◌}
+use Rattle.std.specs.Prelude.{◌≡◌, ◌*◌, ◌/◌, ◌^◌, ◌≤◌}
 use Rattle.std.proofs.Common.{sym, ap, ◌∙◌, subst}
 use Rattle.gfs2_layout.specs.Device.{IsBlockSize}
 use Rattle.gfs2_layout.specs.Holding.{Holding}
@@ -16,6 +16,7 @@ follows_in t v w h g table own shown size sound deep = record {
   shown = subst (λ a. inode.IsShown w a g) table.shown.own shown.inode;
   hashed = shown.hashed;
   depth = table.depth ∙ sym deep;
+  least = subst (λ n. g.size / 16 ≤ 2 ^ n) (deep ∙ sym table.depth) (sound.hashed shown.hashed).least;
   size = (sound.hashed shown.hashed).size ∙ ap (λ n. 8 * 2 ^ n) (deep ∙ sym table.depth);
   whole = λ at. sound_is_whole g at size sound;
 }

@@ -1,5 +1,5 @@
 -- The pointers of a table that stands in its directory's blocks.
-use Rattle.std.specs.Prelude.{ℕ, ◌≡◌, ◌+◌, ◌-◌, ◌*◌, ◌/◌, ◌%◌, ◌^◌, ◌==◌, true, if◌then◌else◌, List, [], Option, None, Some, option_map}
+use Rattle.std.specs.Prelude.{ℕ, ◌≡◌, ◌+◌, ◌-◌, ◌*◌, ◌/◌, ◌%◌, ◌^◌, ◌≤◌, ◌==◌, true, if◌then◌else◌, List, [], Option, None, Some, option_map}
 use Rattle.gfs2_layout.specs.Bytes.{u64_at}
 use Rattle.gfs2_layout.specs.Holding.{Holding, Itself, bytes_at}
 use Rattle.gfs2_layout.specs.Inode.{depth_in, dinode_in, header_length, height_in, is_hashed_in}
@@ -52,5 +52,6 @@ pub record IsTableOf (t : TreeTable) (v : Seen) (h : Holding) : Type 0 where
   pub shown : inode.IsShown v t.directory h
   pub hashed : is_hashed_in h ≡ true
   pub depth : t.depth ≡ depth_in h
+  pub least : h.size / 16 ≤ 2 ^ t.depth
   pub size : (dinode_in h).size ≡ 8 * 2 ^ t.depth
   pub whole : (at : ℕ) → AreWholeBefore h at

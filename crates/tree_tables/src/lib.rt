@@ -4,4 +4,5 @@
 mod numbers;
 mod tree_table;
 
-pub use tree_table::TreeTable;
+pub use numbers::number_at;
+pub use tree_table::{IN_TABLE, TreeTable, damaged, pointers_of};

@@ -4,7 +4,7 @@ ghost use Rattle.gfs2_layout.specs.Bytes.{u64_at};
 
 /// The number in the eight bytes at a place.
 #[tactic(auto, unfolding(gfs2_layout::specs::Bytes::number_at))]
-pub(crate) fn number_at(bytes: &[u8], at: usize) -> u64
+pub fn number_at(bytes: &[u8], at: usize) -> u64
     requires { at + 8 ≤ length bytes.now }
     ensures { result ≡ u64_at at bytes.now }
 {

@@ -20,8 +20,8 @@ use glock_names::{CallFault, Missing, Step, View, block_of};
 use linear_dirs::lock_of;
 use pointer_tables::{Pointer, PointerTable};
 
-// Where the pointers of a table block begin.
-const IN_TABLE: usize = 24;
+/// Where the pointers of a table block begin.
+pub const IN_TABLE: usize = 24;
 
 /// The table of the hashed directory with its dinode in this block, which is so deep.
 #[derive(Clone, Copy, Debug, PartialEq, Eq)]
@@ -161,17 +161,18 @@ fn table_pointer<V: View>(
     }))
 }
 
-// The fault of a block that breaks a rule.
-fn damaged(block: u64, rule: u16) -> CallFault
+/// The fault of a block that breaks a rule.
+pub fn damaged(block: u64, rule: u16) -> CallFault
     ensures { result ≡ CallFault.Damaged block rule }
 {
     CallFault::Damaged { block, rule }
 }
 
-// How many pointers a table of this depth has.
-fn pointers_of(depth: u16) -> u64
+/// How many pointers a table of this depth has.
+pub fn pointers_of(depth: u16) -> u64
     requires { depth ≤ 15 }
-    ensures { result ≡ 2 ^ depth }
+    ensures value { result ≡ 2 ^ depth }
+    ensures most { result ≤ 2 ^ 15 }
 {
     1 << depth
 }

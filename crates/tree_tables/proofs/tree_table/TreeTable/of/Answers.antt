@@ -25,16 +25,16 @@ pub returns-then-count-size-clause-damaged : goal.returns-then-count-size-clause
 returns-then-count-size-clause-damaged g c h shown hashed =
     let dinode = answer_at _ _ _ c.in-Is.is (c.in_ok-dinode.ensures.found h shown) in
     told_own h c.damaged-then-count-size.result c.args.directory 13 shown.own c.damaged-then-count-size.ensures
-    (table_too_small (subst (λ (d : Dinode). 2 ^ d.depth < h.size / 16) dinode (omega (arith, c.if-count-size.true, c.pointers_of-count.ensures, c.from-size.ensures, c.block_size.ensures.value, shown.size))))
+    (table_too_small (subst (λ (d : Dinode). 2 ^ d.depth < h.size / 16) dinode (omega (arith, c.if-count-size.true, c.pointers_of-count.ensures.value, c.from-size.ensures, c.block_size.ensures.value, shown.size))))
 
 pub returns-then-size-count-clause-damaged : goal.returns-then-size-count-clause-damaged
 returns-then-size-count-clause-damaged g c h shown hashed =
     let dinode = answer_at _ _ _ c.in-Is.is (c.in_ok-dinode.ensures.found h shown) in
     told_own h c.damaged-then-size-count.result c.args.directory 13 shown.own c.damaged-then-size-count.ensures
-    (table_too_large (subst (λ (d : Dinode). 8 * h.size < 2 ^ d.depth) dinode (omega (arith, c.if-size-count.true, c.pointers_of-count.ensures, c.from-size.ensures, c.block_size.ensures.value, shown.size))))
+    (table_too_large (subst (λ (d : Dinode). 8 * h.size < 2 ^ d.depth) dinode (omega (arith, c.if-size-count.true, c.pointers_of-count.ensures.value, c.from-size.ensures, c.block_size.ensures.value, shown.size))))
 
 pub returns-then-dinode-count-clause-damaged : goal.returns-then-dinode-count-clause-damaged
 returns-then-dinode-count-clause-damaged g c h shown hashed =
     let dinode = answer_at _ _ _ c.in-Is.is (c.in_ok-dinode.ensures.found h shown) in
     told_own h c.damaged-then-dinode-count.result c.args.directory 13 shown.own c.damaged-then-dinode-count.ensures
-    (table_size (subst (λ (d : Dinode). d.size ≡ 8 * 2 ^ d.depth → ⊥) dinode (λ e. c.if-dinode-count.true (e ∙ ap (λ n. 8 * n) (sym c.pointers_of-count.ensures)))))
+    (table_size (subst (λ (d : Dinode). d.size ≡ 8 * 2 ^ d.depth → ⊥) dinode (λ e. c.if-dinode-count.true (e ∙ ap (λ n. 8 * n) (sym c.pointers_of-count.ensures.value)))))

@@ -1,0 +1,32 @@
+mod AfterFirst
+mod Blocks
+mod Blockwise
+mod Converted
+mod Chosen
+mod LeafBytes
+mod Doubling
+mod Lengthened
+mod Longer
+mod Looks
+mod FirstTable
+mod Parted
+mod PartedDrafts
+mod Put
+mod Results
+mod Seen
+mod Settled
+mod Showing
+mod Trees
+mod TwoLeaves
+mod Walks
+mod DoubleOn
+mod Inserted
+pub mod Joined
+pub mod Onward
+mod SplitOn
+mod Needed
+mod After
+mod Past
+mod Counted
+mod Over
+mod Only

@@ -1,0 +1,150 @@
+-- A split as a step of an insertion.
+use Rattle.std.proofs.Common.{◌≡◌, ◌⊎◌, ℕ, ◌+◌, ◌<◌, ◌≤◌, inl, inr, true, List, [], ◌∷◌, length, Option, None, Some, refl, sym, ap, ◌∙◌, subst, arith}
+use Rattle.std.specs.Prelude.{IsSome, Contains}
+use Rattle.std.specs.FinMap.{FinMap}
+use Rattle.std.specs.Ordering.{nat_cmp}
+use Rattle.std.proofs.lemmas.Bool.{cases_eq}
+use Rattle.std.proofs.lemmas.List.Elements.{Contains-append_right}
+use Rattle.drafts.specs.Fates.{seen_with}
+use Rattle.drafts.specs.declared.fate.Fate.{Fate}
+use Rattle.gfs2_layout.specs.Area.{slots_of}
+use Rattle.gfs2_layout.specs.Holding.{Holding, InChain, Pointed, part_at}
+use Rattle.gfs2_layout.specs.Inode.{depth_in, entry, first_hash, is_leaf_part, leaf_area, leaf_in, table_count}
+use Rattle.glock_names.specs.Views.{Seen, HasBlock}
+use Rattle.hash_dirs.specs.Shown.{IsInChain, IsShown, index_for}
+use Rattle.pointer_tables.specs.Directories.{chain_head, chain_next}
+use Rattle.hash_dirs.proofs.Chained.{cell_some, index_low}
+use Rattle.hash_steps.specs.Laws.{Stays}
+use Rattle.hash_steps.specs.Leaves.{HasOneLeaf, has_room_for, middle_hash}
+use Rattle.hash_inserts.specs.Advancing.{CanInsert, IsAtLeaf, IsFullLeaf, StepsOn, StepsTo}
+use Rattle.hash_inserts.specs.Drafting.{SplitsLeaf}
+use Rattle.hash_inserts.specs.Inserting as ins
+use Rattle.hash_inserts.specs.Inserting.{HasNoRoom, HasOneLeafFor, IsInserted, IsInsertedAt, IsSplitAt, a_full_leaf, a_leaf_with_room, after_split, depth_for, one_taken, the_leaf, the_new_one}
+use Rattle.hash_inserts.proofs.Blockwise.{size_bounds}
+use Rattle.hash_inserts.proofs.Chosen.{chosen, depth_same, needs_less}
+use Rattle.hash_inserts.proofs.Onward.{came_there, can_still, table_still}
+
+-- ---- a chain with one leaf
+
+pub only_head : (k : Holding) (i : ℕ) → HasOneLeaf k i → (place x : ℕ) → IsInChain k i place x → x ≡ entry k i
+only_head k i one _ _ (chain_head low) = refl
+only_head k i one _ _ (chain_next place x chain more) = absurd (more (ap (λ y. (leaf_in k y).next) (only_head k i one place x chain) ∙ one))
+
+pub none_has_room : (h : Holding) (name : List ℕ) (leaf : ℕ) → leaf ≡ entry h (index_for h name) → HasOneLeafFor h name → IsFullLeaf h name leaf → HasNoRoom h name
+none_has_room h name leaf is one full place x chain = ap (λ y. has_room_for (length name) (slots_of (leaf_area h y))) (only_head h (index_for h name) one place x chain ∙ sym is) ∙ full
+
+pub here : (x : ℕ) (xs : List ℕ) → Contains (x ∷ xs) x
+here x xs = (0, omega arith, refl)
+
+module _ (v : Seen) (old new : FinMap nat_cmp Fate) (room left : List ℕ) (dir : ℕ) (name : List ℕ) (need b leaf : ℕ) (h m : Holding) (can : CanInsert (seen_with v old) dir h name room need) (at : IsAtLeaf (seen_with v old) h name leaf)
+    (full : IsFullLeaf h name leaf) (less : depth_for h name < depth_in h) (splits : SplitsLeaf v old new h m (index_for h name) b) (stays : Stays h m) (front : room ≡ b ∷ left) where
+  abbrev i : ℕ
+  i = index_for h name
+
+  no_room : HasNoRoom h name
+  no_room = none_has_room h name leaf at.leaf_is at.one full
+
+  low : i < table_count h
+  low = index_low h can.sound can.shown.hashed name can.small
+
+  first_leaf : (x : ℕ) (taken : List ℕ) → x ≡ entry h i → IsInsertedAt h name taken x
+  first_leaf x taken is = subst (IsInsertedAt h name taken) (sym is) (a_full_leaf 0 no_room (chain_head low))
+
+  one_after : HasOneLeafFor m name
+  one_after =
+      let new_one = chosen h m name b can.sound can.shown.hashed can.small less splits.is in
+      ap (λ x. (leaf_in m x).next) new_one.leads ∙ new_one.next
+
+  -- what is done to a leaf of the name's chain afterwards is done to the new one, or to the one that it had
+  of_leaf : (place x : ℕ) (taken : List ℕ) → IsInChain m (index_for m name) place x → IsInsertedAt h name (b ∷ taken) x
+  of_leaf place x taken chain =
+      let new_one = chosen h m name b can.sound can.shown.hashed can.small less splits.is in
+      let is : x ≡ new_one.leaf = only_head m (index_for m name) one_after place x chain ∙ new_one.leads in
+      elim new_one.which [
+        | inl new_is ↦ one_taken (subst (Contains (b ∷ taken)) (sym (is ∙ new_is)) (here b taken))
+        | inr old_is ↦ first_leaf x (b ∷ taken) (is ∙ old_is)
+      ]
+
+  in_chain_only : (x from k level first hash place : ℕ) → part_at m x ≡ Some (InChain hash place) → part_at m x ≡ Some (Pointed from k level first) → ⊥
+  in_chain_only x from k level first hash place one two = no (sym one ∙ two)
+    where
+      no : Some (InChain hash place) ≡ Some (Pointed from k level first) → ⊥
+      no e = cc
+
+  later : (x : ℕ) (taken : List ℕ) → IsInsertedAt m name taken x → IsInsertedAt h name (b ∷ taken) x
+  later x taken (ins.IsInsertedAt.its_dinode is) = ins.IsInsertedAt.its_dinode (is ∙ splits.is.same.own)
+  later x taken (a_leaf_with_room place chain none room_there) = of_leaf place x taken chain
+  later x taken (a_full_leaf place none chain) = of_leaf place x taken chain
+  later x taken (one_taken came) = one_taken (Contains-append_right (b ∷ []) taken x came)
+  later x taken (ins.IsInsertedAt.of_table above k level first none one part) = elim (cases_eq x b) [
+    | inl is ↦ absurd (in_chain_only x above k level first (first_hash h i) 0 (ap (part_at m) is ∙ splits.is.new_part) part)
+    | inr not_new ↦ elim (cases_eq x (entry h i)) [
+      | inl is ↦ absurd (in_chain_only x above k level first (middle_hash h i) 0 (ap (part_at m) is ∙ splits.is.old_part) part)
+      | inr other ↦ ins.IsInsertedAt.of_table above k level first no_room at.one (sym (splits.is.parts x not_new other) ∙ part)
+    ]
+  ]
+
+  by_split : (x : ℕ) → IsSplitAt h i b x → IsInsertedAt h name (b ∷ []) x
+  by_split x (ins.IsSplitAt.its_dinode is) = ins.IsInsertedAt.its_dinode is
+  by_split x (the_leaf chain) = a_full_leaf 0 no_room chain
+  by_split x (the_new_one is) = one_taken (subst (Contains (b ∷ [])) (sym is) (here b []))
+  by_split x (ins.IsSplitAt.of_table above k level first part) = ins.IsInsertedAt.of_table above k level first no_room at.one part
+
+  steps : StepsTo v old new name h m (b ∷ [])
+  steps = record {
+    puts = splits.puts;
+    has = splits.has;
+    stays = stays;
+    changes = λ x. elim (splits.only x) [
+      | inl same ↦ inl same
+      | inr done ↦ inr (by_split x done)
+    ];
+    later = later;
+    goes_on = λ e g taken inserted. after_split h m g b taken no_room at.one less splits.is stays.sound inserted;
+  }
+
+  leaves : (x : ℕ) → IsSome (h.cell x) → is_leaf_part (part_at h x) ≡ true → is_leaf_part (part_at m x) ≡ true
+  leaves x some is_leaf = elim (cases_eq x b) [
+    | inl is ↦ ap is_leaf_part (ap (part_at m) is ∙ splits.is.new_part)
+    | inr not_new ↦ elim (cases_eq x (entry h i)) [
+      | inl is ↦ ap is_leaf_part (ap (part_at m) is ∙ splits.is.old_part)
+      | inr other ↦ ap is_leaf_part (splits.is.parts x not_new other) ∙ is_leaf
+    ]
+  ]
+
+  large : 512 ≤ m.size
+  large = (size_bounds m.size stays.sound.block_size).0
+
+  chosen_some : (x : ℕ) → (x ≡ b) ⊎ (x ≡ entry h i) → IsSome (m.cell x)
+  chosen_some x (inl is) = cell_some (m.cell x) (InChain (first_hash h i) 0) (ap (part_at m) is ∙ splits.is.new_part)
+  chosen_some x (inr is) = cell_some (m.cell x) (InChain (middle_hash h i) 0) (ap (part_at m) is ∙ splits.is.old_part)
+
+  chosen_had : (x : ℕ) → (x ≡ b) ⊎ (x ≡ entry h i) → IsSome (h.cell x) → HasBlock (seen_with v old) x
+  chosen_had x (inl is) some = absurd (no (h.cell x) (ap h.cell is ∙ splits.is.new) some)
+    where
+      no : {A : Type 0} (o : Option A) → o ≡ None → IsSome o → ⊥
+      no None e some = cc
+      no (Some c) e some = cc
+  chosen_had x (inr is) some = subst (HasBlock (seen_with v old)) (at.leaf_is ∙ sym is) at.there
+
+  pub split_on : IsShown (seen_with v new) dir m → (next : ℕ) → next ≡ entry m (index_for m name) → StepsOn v (seen_with v new) old new room left dir name need next h m
+  split_on shown next next_is =
+      let new_one = chosen h m name b can.sound can.shown.hashed can.small less splits.is in
+      let which : (next ≡ b) ⊎ (next ≡ entry h i) = subst (λ x. (x ≡ b) ⊎ (x ≡ entry h i)) (sym (next_is ∙ new_one.leads)) new_one.which in
+      let fewer = needs_less h m name b can.sound can.shown.hashed can.small less splits.is need at.one (ap (λ x. has_room_for (length name) (slots_of (leaf_area h x))) (sym at.leaf_is) ∙ full) can.takes in
+      let all : need ≡ 1 + fewer.0 = omega (arith, fewer.1) in
+      record {
+        more = b ∷ [];
+        rest = fewer.0;
+        steps = steps;
+        front = front;
+        all = all;
+        can = can_still (seen_with v old) (seen_with v new) dir h m name (b ∷ []) room left need fewer.0 can shown stays splits.has front all fewer.2;
+        at = record {
+          leaf_is = next_is;
+          one = one_after;
+          sees = table_still v old new h m splits.puts large stays.sound.inode leaves at.sees;
+          there = came_there v old new h m splits.puts large stays.sound.inode.whole next (chosen_some next which) (chosen_had next which);
+        };
+        deeper = omega (arith, ap (λ x. (leaf_in m x).depth) new_one.leads, new_one.depth, depth_same h m name b can.sound can.shown.hashed can.small less splits.is);
+      }

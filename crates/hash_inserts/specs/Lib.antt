@@ -1,0 +1,11 @@
+pub mod Needing
+pub mod Inserting
+pub mod Writing
+pub mod Drafting
+pub mod Walking
+pub mod Converting
+pub mod Laws
+pub mod Counting
+pub mod Finding
+pub mod Advancing
+pub mod Committing

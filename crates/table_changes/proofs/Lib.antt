@@ -1,0 +1,14 @@
+pub mod Told
+pub mod Set
+pub mod Kept
+pub mod Fronts
+pub mod OneRun
+pub mod Entered
+pub mod RunSet
+pub mod Runs
+pub mod Lists
+pub mod Below
+pub mod Doubles
+pub mod Grown
+pub mod Whole
+pub mod Committed

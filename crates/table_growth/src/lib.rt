@@ -1,0 +1,6 @@
+//! What becomes of a hashed directory's table as it is set and doubled, and how many blocks a doubling takes.
+#![tactic(auto)]
+
+mod need;
+
+pub use need::{doubling_need, table_blocks, tree_blocks};
