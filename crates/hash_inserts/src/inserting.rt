@@ -1,5 +1,5 @@
 // A name put into a hashed directory in a draft.
-ghost use Rattle.std.specs.Prelude.{ℕ, List, ◌≡◌, ◌≢◌, ◌+◌, ◌*◌, ◌^◌, ◌<◌, ◌≤◌, true, None, Contains, IfOk, IfSome, IsSomeAnd, length};
+ghost use Rattle.std.specs.Prelude.{ℕ, List, ◌≡◌, ◌≢◌, ◌+◌, ◌*◌, ◌^◌, ◌<◌, ◌≤◌, true, false, None, Contains, IfOk, IfSome, IsSomeAnd, length};
 ghost use Rattle.std.specs.FinMap.{FinMap};
 ghost use Rattle.std.specs.Ordering.{nat_cmp};
 ghost use Rattle.drafts.specs.Fates.{seen_in, seen_with};
@@ -41,9 +41,9 @@ use hash_steps::{exchanges_join, puts_get_a_record};
 use nested_drafts::{are_whole, puts_are_seen_alike};
 use no_memory::NoMemory;
 use pointer_tables::{Pointer, PointerTable};
+use table_changes::PointerTableMut;
 use std::alloc::Global;
 use std::collections::VecDeque;
-use table_changes::PointerTableMut;
 
 // More steps than an insertion can take: with each one the table or the leaf is one deeper, and both are 15 deep at most.
 const STEPS: u32 = 31;
@@ -336,12 +336,15 @@ fn insert_whole<V: View, T: PointerTableMut>(
         → IfOk result (λ done. (done ≡ true) × ((g : Holding) × IsShown (seen_in V.seen draft.new) dir g × T.shows table.new (seen_in V.seen draft.new) g
         × Inserts draft.old.fates draft.new.fates room.old.items room.new.items need name.now entry h g)) }
     ensures inside { IfOk result (λ done. done ≡ true → StaysInside (seen_in V.seen draft.old) draft.old.fates draft.new.fates room.old.items room.new.items dir) }
+    ensures undone { IfOk result (λ done. done ≡ false → draft.new ≡ draft.old) }
     ensures view { draft.new.view ≡ draft.old.view }
 {
     puts_are_seen_alike();
     sound_pointers_are_parts();
     let mut left = room.clone()?;
-    let made = inserted_blocks(alloc, &*draft, dir, found, name, entry, &mut left, table)?;
+    let made = inserted_blocks(
+        alloc, &*draft, dir, found, name, entry, &mut left, table,
+    )?;
     let Some(blocks) = made else {
         return Ok(false);
     };
@@ -373,6 +376,7 @@ pub fn insert<V: View, T: PointerTableMut>(
         → IfIs result (λ done. (done ≡ true) × ((g : Holding) × IsShown (seen_in V.seen draft.new) dir g × T.shows table.new (seen_in V.seen draft.new) g
         × Inserts draft.old.fates draft.new.fates room.old.items room.new.items need name.now entry h g)) }
     ensures inside { IfIs result (λ done. done ≡ true → StaysInside (seen_in V.seen draft.old) draft.old.fates draft.new.fates room.old.items room.new.items dir) }
+    ensures undone { IfIs result (λ done. done ≡ false → draft.new ≡ draft.old) }
     ensures needed { (h : Holding) → IsShown (seen_in V.seen draft.old) dir h → T.shows table.old (seen_in V.seen draft.old) h
         → IfNeedBlock result (IsNeededToInsert (seen_in V.seen draft.old) h name.now) }
     ensures absent { IfNeedBlock result (λ missing. (seen_in V.seen draft.old).block_at missing.block ≡ None) }
@@ -429,6 +433,7 @@ pub fn insert_first<V: View, T: PointerTableMut>(
         → IfOk result (λ done. (done ≡ true) × ((g : Holding) × IsShown (seen_in V.seen draft.new) dir g × T.shows table.new (seen_in V.seen draft.new) g
         × Inserts draft.old.fates draft.new.fates room.old.items room.new.items need name.now entry h g)) }
     ensures inside { IfOk result (λ done. done ≡ true → StaysInside (seen_in V.seen draft.old) draft.old.fates draft.new.fates room.old.items room.new.items dir) }
+    ensures undone { IfOk result (λ done. done ≡ false → draft.new ≡ draft.old) }
     ensures view { draft.new.view ≡ draft.old.view }
 {
     sound_pointers_are_parts();
