@@ -25,7 +25,7 @@ use Rattle.glock_names.specs.declared.steps.Entry.{Entry}
 use Rattle.glock_names.specs.declared.steps.Missing.{Missing}
 use Rattle.glock_names.specs.declared.views.Group.{Group}
 use Rattle.dinode_tree.specs.Reading.{inode_lock}
-use Rattle.growth_drafts.specs.Taken.{IsDistinct}
+use Rattle.growth_drafts.specs.Taken.{AreFreeFor, IsDistinct}
 use Rattle.linear_dirs.specs.Exchanges.{IsLaidOver, uncounted}
 use Rattle.linear_dirs.specs.Shown.{head_for, holding_over, record_for}
 use Rattle.directories.specs.Shown.{IsShown}
@@ -103,6 +103,7 @@ pub record HasLinearRoom (h : Holding) (name : List ℕ) : Type 0 where
 pub record GrowsInto (v : Seen) (fates : FinMap nat_cmp Fate) (name : List ℕ) (e : Entry) (time : ℕ) (taken : List ℕ) (h g : Holding) : Type 0 where
   pub named : Holding
   pub gets : IsNamed name e h named taken
+  pub few : length taken ≡ name_need h name
   pub touched : IsTouched named g time
   pub sees : g ≡ holding_over (seen_with v fates) named
 
@@ -185,16 +186,17 @@ pub record IsAddition (v : Seen) (is_directory : Bool) (p : Place) (name : List 
   pub parent_put : get fates p.inode ≡ Some (Put (inode_lock p.inode) false parent_bytes)
   pub times : HasTimes (dinode_of parent_bytes) time
   pub gets : (h : Holding) → IsShown v p.inode h → HasLinearRoom h name → GetsRecord (bytes_at h p.inode) parent_bytes name (entry_for is_directory number r.block) time
-  pub grows : (h : Holding) → IsShown v p.inode h → CanGetName h name room → (g : Holding) × GrowsInto v fates name (entry_for is_directory number r.block) time taken h g
+  pub grows : (h : Holding) → IsShown v p.inode h → CanGetName h name room → AreFreeFor h (r.block ∷ room) → (g : Holding) × GrowsInto v fates name (entry_for is_directory number r.block) time taken h g
   -- in an image
   pub adds : (im : Image) (o : Owners) (l : Layout) (t : Tree) (path : Path) → IsOf v im o l t → IsPlaceFor im o l path name p r room
       → (g : Holding) × GrowsByName im o l fates p.inode name r.block (new_tree is_directory) g taken
+          × GrowsInto v fates name (entry_for is_directory number r.block) time taken (holding im o p.inode) g
 
 -- ---- what stands in the way
 
 -- the view hasn't this block: one that the directory's name needs, or one with the header or bits of these blocks
 pub data IsNeededIn (v : Seen) (dir : ℕ) (name blocks : List ℕ) (m : Missing) : Type 0 where
-  in_directory : ((h : Holding) → IsShown v dir h → IsNeededForName v h name m) → IsNeededIn v dir name blocks m
+  in_directory : v.block_at m.block ≡ None → ((h : Holding) → IsShown v dir h → IsNeededForName v h name m) → IsNeededIn v dir name blocks m
   in_group : IsNeededFor v blocks m → IsNeededIn v dir name blocks m
 
 -- the directory breaks the rule, or a group does that has some of these blocks

@@ -6,6 +6,7 @@ ghost use Rattle.gfs2_layout.specs.Inode.{dinode_in};
 ghost use Rattle.glock_names.specs.Steps.{IfDamaged, IfIs, IfNeedBlock};
 ghost use Rattle.glock_names.specs.Views.{HasBlock, HasGroup, IsOfView};
 ghost use Rattle.directories.specs.Shown.{IsDirectoryIn, IsShown};
+ghost use Rattle.growth_drafts.specs.Taken.{IsDistinct};
 ghost use Rattle.resource_groups.specs.Putting.{HasDataBlock};
 ghost use Rattle.resource_groups.specs.Shown as group;
 ghost use Rattle.image_model.specs.Flat.{Path};
@@ -13,6 +14,7 @@ ghost use Rattle.image_model.specs.Image.{Image};
 ghost use Rattle.image_model.specs.Owners.{Owners};
 ghost use Rattle.image_model.specs.Stands.{Layout};
 ghost use Rattle.image_changes.specs.Does.{IsOf};
+ghost use Rattle.name_inserts.specs.Inserting.{CanGetName};
 ghost use Rattle.name_drafts.specs.Drafting.{IsAddition, IsNeededIn, IsPlaceFor, IsWrongIn};
 
 use drafts::{Change, Stamp};
@@ -50,8 +52,9 @@ pub fn addition<V: View>(
     requires block { group.IsDataOf new.now.group new.now.block }
     requires room { (b : ℕ) → Contains room.now b → HasDataBlock (V.seen view.now) b }
     requires apart { ¬ (Contains (new.now.block ∷ room.now) place.now.inode) }
-    requires other { ¬ (Contains room.now new.now.block) }
+    requires once { IsDistinct (new.now.block ∷ room.now) }
     ensures added { IfIs result (λ done. IfSome done (IsAddition (V.seen view.now) is_directory place.now name.now new.now room.now stamp.now.time)) }
+    ensures able { (h : Holding) → IsShown (V.seen view.now) place.now.inode h → CanGetName h name.now room.now → IfIs result (λ done. IsSome done) }
     ensures done { (im : Image) (o : Owners) (l : Layout) (t : Tree) (path : Path) → IsOf (V.seen view.now) im o l t → IsPlaceFor im o l path name.now place.now new.now room.now → IfIs result (λ done. IsSome done) }
     ensures needed { IfNeedBlock result (IsNeededIn (V.seen view.now) place.now.inode name.now (new.now.block ∷ room.now)) }
     ensures damaged { IfDamaged result (IsWrongIn (V.seen view.now) place.now.inode (new.now.block ∷ room.now)) }
