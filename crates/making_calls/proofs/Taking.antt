@@ -41,7 +41,7 @@ use Rattle.image_model.specs.Groups.{IsListed}
 use Rattle.image_model.specs.Image.{Image}
 use Rattle.image_model.specs.Owners.{Owners, holding}
 use Rattle.image_model.specs.Stands.{Layout}
-use Rattle.image_model.proofs.Held.{none_some}
+use Rattle.image_model.proofs.Held.{none_some, own_block}
 use Rattle.image_model.proofs.Members.{IsIn, contained, in_left, in_right, is_in}
 use Rattle.image_changes.specs.Does.{IsOf, Does, with_change}
 use Rattle.image_changes.specs.Drafted.{is_put}
@@ -103,6 +103,11 @@ whole_front rest taken left front long =
 in_front : (block : ℕ) (rest taken left : List ℕ) → rest ≡ taken ++ left → (b : ℕ) → Contains (block ∷ taken) b → Contains (block ∷ rest) b
 in_front block rest taken left front b there = subst (λ xs. Contains (block ∷ xs) b) (sym front) (Contains-append_left (block ∷ taken) left b there)
 
+-- the directory's lock is held, so what is asked for of it is asked for under it
+pub own_among_of : (v : Seen) (im : Image) (o : Owners) (l : Layout) (t : Tree) → IsOf v im o l t → (c : Call) (name : List ℕ) → IsMaking c → IsLastOf (path_of c false) name → (p : Place) → IsReachedIn v im o l c p
+    → IsAmong v (path_holds im o l c) p.inode
+own_among_of v im o l t of c name is last p reached = among_held v (path_holds im o l c) p.inode Ex (directory_listed im o l c name is last p.inode reached.place.at) reached.held
+
 module _ (v : Seen) (c : Call) (is : IsMaking c) (p : Place) (name : List ℕ) (last : IsLastOf (path_of c false) name) (named : IsName name)
     (lacks : (h : Holding) → IsShown v p.inode h → LacksName h name) where
   module _ (im : Image) (o : Owners) (l : Layout) (t : Tree) (of : IsOf v im o l t) (reached : IsReachedIn v im o l c p) where
@@ -139,9 +144,8 @@ module _ (v : Seen) (c : Call) (is : IsMaking c) (p : Place) (name : List ℕ) (
     addition_sound blocks rule b (drafting.IsWrongIn.in_directory r d wrong) = name_sound r d wrong
     addition_sound blocks rule b (drafting.IsWrongIn.in_group r d breaks) = groups_break_nothing v im o l t blocks r d of breaks
 
-    -- the directory's lock is held, so what is asked for of it is asked for under it
     own_among : IsAmong v (path_holds im o l c) p.inode
-    own_among = among_held v (path_holds im o l c) p.inode Ex (directory_listed im o l c name is last p.inode reached.place.at) reached.held
+    own_among = own_among_of v im o l t of c name is last p reached
 
     pub insert_lacks : (node : ℕ) (m : Missing) → ((h : Holding) → IsShown v p.inode h → IsNeededForName v h name m) → IsAskedFor v im o l (call_holds im o l t c node) m
     insert_lacks node m needs = asked_before v im o l (path_holds im o l c) _ m
@@ -312,7 +316,7 @@ module _ (v : Seen) (c : Call) (is : IsMaking c) (p : Place) (name : List ℕ) (
               gets_record : HasLinearRoom dir name → drafting.GetsRecord (im.at p.inode) ((with_change im change).at p.inode) (name_in c) entry time
               gets_record room =
                   subst (λ n. drafting.GetsRecord (im.at p.inode) ((with_change im change).at p.inode) n entry time) (sym (own_name c name last))
-                  (subst₂ (λ old new. drafting.GetsRecord old new name entry time) (own_bytes im o p.inode (is_inode v im o l t of (directory_path c) p.inode reached.place.at))
+                  (subst₂ (λ old new. drafting.GetsRecord old new name entry time) (own_block im o p.inode (is_inode v im o l t of (directory_path c) p.inode reached.place.at))
                   (sym (change_at added.fates change added.finished im p.inode (inode_lock p.inode) added.parent_bytes added.parent_put))
                   (added.gets dir shown room))
 
