@@ -2,6 +2,7 @@
 use Rattle.std.proofs.Common.{◌≡◌, ℕ, ◌-◌, ◌%◌, ◌<◌, ◌≤◌, true, List, [], ◌∷◌, length, get_or, map, Some, inl, refl, sym, ap, ◌∙◌, subst, arith}
 use Rattle.std.specs.Prelude.{Contains}
 use Rattle.std.proofs.Math.Nat.{mod-lt}
+use Rattle.std.proofs.lemmas.List.Elements.{Contains-append_right}
 use Rattle.std.proofs.lemmas.Option.{slice_get-get_or}
 use Rattle.file_tree.specs.Tree.{Tree}
 use Rattle.glock_names.specs.Views.{Seen, IsView, HasGroup, group_of_entry}
@@ -52,6 +53,10 @@ own_of v node some first =
 distinct : (xs : List ℕ) → Rising xs → IsDistinct xs
 distinct [] r = tt
 distinct (x ∷ xs) r = ((λ has. let less : x < x = all_in (λ y. x < y) x xs r.0 (is_in x xs has) in absurd (omega (arith, less))), distinct xs r.1)
+
+-- the rest are of the blocks
+pub later_one : (r : Room) (b : ℕ) → Contains r.rest.items b → Contains (blocks_of r) b
+later_one r b there = Contains-append_right (r.new.block ∷ []) r.rest.items b there
 
 -- what a search tells, as far as the view shows
 abbrev pub IsSearched : Seen → ℕ → ℕ → Locked NewRoom → Type 0

@@ -78,6 +78,7 @@ fn make_with<V: View>(
     requires last { IsLastOf (path_of call.now false) name.now }
     requires seen { IsSeenAt (V.seen view.now) (wanted call.now) (directory_path call.now) place.now }
     requires reached { (im : Image) (o : Owners) (l : Layout) (t : Tree) → IsOf (V.seen view.now) im o l t → IsReachedIn (V.seen view.now) im o l call.now place.now }
+    requires named { IsName name.now }
     requires directory { IsDirectoryIn (V.seen view.now) place.now.inode }
     requires lacks { (h : Holding) → IsShown (V.seen view.now) place.now.inode h → LacksName h name.now }
     requires inside { HasDataBlock (V.seen view.now) place.now.inode }
@@ -132,6 +133,7 @@ fn make_at<V: View>(
     requires last { IsLastOf (path_of call.now false) name.now }
     requires seen { IsSeenAt (V.seen view.now) (wanted call.now) (directory_path call.now) place.now }
     requires reached { (im : Image) (o : Owners) (l : Layout) (t : Tree) → IsOf (V.seen view.now) im o l t → IsReachedIn (V.seen view.now) im o l call.now place.now }
+    requires named { IsName name.now }
     requires directory { IsDirectoryIn (V.seen view.now) place.now.inode }
     requires lacks { (h : Holding) → IsShown (V.seen view.now) place.now.inode h → LacksName h name.now }
     requires groups { 1 ≤ length (V.seen view.now).groups }
