@@ -17,7 +17,7 @@ use Rattle.cluster_program.specs.World.{Inputs, Outputs}
 use Rattle.cluster_program.specs.Course.{Course, RefusesWords, MakesImage, NoScript, Makes, IsTooLarge, IsTooSmall, LacksMemory, HasFailed, HasMade, RunsScript, LacksScript, SourceFailed, Refused, RefusedEarly, NotBuiltYet, NoRoom, Shows, HasShown, ShowsNone, TreeFailed, TreeDamaged, NothingHeld, ShowsImage, words_refusal, refusal_of, is_built}
 use Rattle.cluster_program.specs.Mounting.{MountEnds, DiskFails, LiesOutside, IsDamaged, IsDirty, LacksRoom}
 use Rattle.cluster_program.specs.Runs as runs
-use Rattle.cluster_program.specs.Runs.{RunEnds, IsDone, NotMounted, CallFailed, CallHashed, CallUnbuilt, CallDamaged}
+use Rattle.cluster_program.specs.Runs.{RunEnds, IsDone, NotMounted, CallFailed, CallUnbuilt, CallDamaged}
 use Rattle.cluster_program.specs.Report.{Becomes, Stays, WithoutMemory, Fails, Reports}
 use Rattle.cluster_program.specs.Command.{FaultHasCause}
 
@@ -64,8 +64,7 @@ module _ (given left : Inputs) (sinks sinks_now : Outputs) where
   run_fault s time items what own (IsDone m all whole) = tt
   run_fault s time items what own (NotMounted own' none same ends) = mount_fault own ends
   run_fault s time items what own (CallFailed m block x y for root up within at) = up
-  run_fault s time items what own (CallHashed m block for at) = tt
-  run_fault s time items what own (CallUnbuilt m place for at taken) = tt
+  run_fault s time items what own (CallUnbuilt m place for none at) = tt
   run_fault s time items what own (CallDamaged m block rule for never at told) = tt
   run_fault s time items what own (runs.NoRoom what') = tt
 

@@ -13,14 +13,14 @@ use Rattle.directories.specs.Shown.{IsShown}
 use Rattle.resource_groups.proofs.Apart.{one_group}
 use Rattle.image_changes.specs.Flats.{in_directory}
 use Rattle.path_walks.specs.Holds.{holds, hold_of_group}
-use Rattle.path_walks.specs.Walks.{IsLastOf, IsSeenAt}
+use Rattle.path_walks.specs.Walks.{IsLastOf, IsSeenAt, LacksName}
 use Rattle.path_walks.specs.declared.walk.Place.{Place}
 use Rattle.path_walks.proofs.Leads.{no_end}
 use Rattle.path_walks.proofs.Lists.{parent_of_next}
 use Rattle.name_inserts.specs.Inserting.{IsNeededForName, IsWrongForName}
 use Rattle.name_drafts.specs.Drafting as drafting
 use Rattle.name_drafts.specs.Drafting.{IsNeededIn, IsWrongIn}
-use Rattle.making_calls.specs.Making.{IsDamage, IsNeededFor, IsToGetName, LacksName, NeedsBlocks, TakesForName, directory_path, name_in}
+use Rattle.making_calls.specs.Making.{IsDamage, IsNeededFor, IsToGetName, NeedsBlocks, TakesForName, directory_path, name_in}
 use Rattle.making_calls.specs.Making as damage
 use Rattle.making_calls.specs.Searches.{blocks_of}
 use Rattle.making_calls.specs.declared.blocks.Room.{Room}
@@ -37,7 +37,7 @@ module _ (c : Call) (name : List ℕ) (last : IsLastOf (path_of c false) name) w
   pub below_root : path_of c false ≡ [] → ⊥
   below_root root = no_end last.0 name (sym root ∙ last.1)
 
-  module _ (v : Seen) (p : Place) (seen : IsSeenAt v (wanted c) (directory_path c) p) (lacks : (h : Holding) → IsShown v p.inode h → LacksName h name) where
+  module _ (v : Seen) (p : Place) (seen : IsSeenAt v (wanted c) (directory_path c) p) (lacks : LacksName v p.inode name) where
     -- it is to get the name
     pub to_get : IsToGetName v c
     to_get = record {
@@ -45,7 +45,7 @@ module _ (c : Call) (name : List ℕ) (last : IsLastOf (path_of c false) name) w
       directory = p.inode;
       leads = seen.leads;
       there = seen.there;
-      lacks = λ h shown. subst (LacksName h) (sym own_name) (lacks h shown);
+      lacks = subst (LacksName v p.inode) (sym own_name) lacks;
     }
 
     pub needs_blocks : (more : ℕ) → TakesForName v p.inode name more → NeedsBlocks v c (more + 1)

@@ -15,7 +15,7 @@ use Rattle.drafts.specs.declared.change.Change.{Change}
 use Rattle.drafts.specs.declared.fate.Fate.TheVariants.{Put}
 use Rattle.gfs2_layout.specs.Holding.{Holding, alone}
 use Rattle.gfs2_layout.specs.Records.{child_named}
-use Rattle.gfs2_layout.specs.Inode.{records_of}
+use Rattle.gfs2_layout.specs.Inode.{is_directory_in, records_of}
 use Rattle.gfs2_layout.specs.Structures.{dinode_of}
 use Rattle.gfs2_layout.specs.declared.dinode.Dinode.{Dinode}
 use Rattle.gfs2_layout.specs.declared.rindex.Rindex.{Rindex}
@@ -54,7 +54,7 @@ use Rattle.directory_changes.proofs.Grown.{growing_makes}
 use Rattle.group_locks.proofs.Locks.{groups_break_nothing}
 use Rattle.path_walks.specs.Holds as locks
 use Rattle.path_walks.specs.Holds.{Hold, AreHeld, IsAskedFor, IsFirstLack, hold_for, hold_of, holds, hold_of_group}
-use Rattle.path_walks.specs.Walks.{LeadsTo, IsLastOf}
+use Rattle.path_walks.specs.Walks.{LeadsTo, IsLastOf, LacksName}
 use Rattle.path_walks.specs.declared.walk.Place.{Place}
 use Rattle.path_walks.proofs.Asked.{IsAmong, name_asked, unread_absent}
 use Rattle.path_walks.proofs.Images.{is_inode, is_shown, says_none, shown_inode, sound_directory}
@@ -72,7 +72,7 @@ use Rattle.name_inserts.specs.Need.{name_need}
 use Rattle.name_drafts.specs.Drafting.{GrowsInto, HasLinearRoom, IsAddition, IsNeededIn, IsPlaceFor, IsPutUnder, IsWrongIn, entry_for, new_tree}
 use Rattle.name_drafts.specs.Drafting as drafting
 use Rattle.making_calls.specs.Blocks.{block_holds, first_of, new_holds}
-use Rattle.making_calls.specs.Making.{HasGotName, IsMaking, IsNeededFor, IsReachedIn, IsTooFew, LacksName, TakesForName, blocks_needed, call_holds, directory_path, makes_directory, name_in, need_at, path_holds}
+use Rattle.making_calls.specs.Making.{HasGotName, IsMaking, IsNeededFor, IsReachedIn, IsTooFew, TakesForName, blocks_needed, call_holds, directory_path, makes_directory, name_in, need_at, path_holds}
 use Rattle.making_calls.specs.Making as damage
 use Rattle.making_calls.specs.Searches.{IsTaken, blocks_of}
 use Rattle.making_calls.specs.declared.blocks.Room.{Room}
@@ -108,8 +108,7 @@ pub own_among_of : (v : Seen) (im : Image) (o : Owners) (l : Layout) (t : Tree) 
     → IsAmong v (path_holds im o l c) p.inode
 own_among_of v im o l t of c name is last p reached = among_held v (path_holds im o l c) p.inode Ex (directory_listed im o l c name is last p.inode reached.place.at) reached.held
 
-module _ (v : Seen) (c : Call) (is : IsMaking c) (p : Place) (name : List ℕ) (last : IsLastOf (path_of c false) name) (named : IsName name)
-    (lacks : (h : Holding) → IsShown v p.inode h → LacksName h name) where
+module _ (v : Seen) (c : Call) (is : IsMaking c) (p : Place) (name : List ℕ) (last : IsLastOf (path_of c false) name) (named : IsName name) (lacks : LacksName v p.inode name) where
   module _ (im : Image) (o : Owners) (l : Layout) (t : Tree) (of : IsOf v im o l t) (reached : IsReachedIn v im o l c p) where
     abbrev dir : Holding
     dir = holding im o p.inode
@@ -117,18 +116,18 @@ module _ (v : Seen) (c : Call) (is : IsMaking c) (p : Place) (name : List ℕ) (
     shown : IsShown v p.inode dir
     shown = shown_inode v im o l t of (directory_path c) p.inode reached.place.at
 
-    here : LacksName dir name
-    here = lacks dir shown
+    here : is_directory_in dir ≡ true
+    here = lacks.directory dir shown.inode
 
     absent : child_named (records_of dir) name ≡ None
-    absent = says_none v im o l t of (directory_path c) p.inode name reached.place.at here.directory here.absent
+    absent = says_none v im o l t of (directory_path c) p.inode name reached.place.at here (lacks.absent dir shown)
 
     sound : IsSound dir
-    sound = sound_directory v im o l t of (directory_path c) p.inode reached.place.at here.directory
+    sound = sound_directory v im o l t of (directory_path c) p.inode reached.place.at here
 
     -- the tree takes the call
     pub taken_so : apply c t ≡ record { reply = Ok; tree = put_at (path_of c false) (new_tree (makes_directory c)) t }
-    taken_so = takes v im o l t of c name is last p.inode reached.place.at here.directory named absent
+    taken_so = takes v im o l t of c name is last p.inode reached.place.at here named absent
 
     pub reply_ok : (apply c t).reply ≡ Ok
     reply_ok = ap (λ (x : Answer). x.reply) taken_so
@@ -138,7 +137,7 @@ module _ (v : Seen) (c : Call) (is : IsMaking c) (p : Place) (name : List ℕ) (
 
     -- nothing is damaged
     pub name_sound : (rule b : ℕ) → ((h : Holding) → IsShown v p.inode h → IsWrongForName v h rule b) → ⊥
-    name_sound rule b wrong = none_wrong v im o l t of (directory_path c) p.inode reached.place.at here.directory rule b (wrong dir shown)
+    name_sound rule b wrong = none_wrong v im o l t of (directory_path c) p.inode reached.place.at here rule b (wrong dir shown)
 
     pub addition_sound : (blocks : List ℕ) (rule b : ℕ) → IsWrongIn v p.inode blocks rule b → ⊥
     addition_sound blocks rule b (drafting.IsWrongIn.in_directory r d wrong) = name_sound r d wrong
@@ -149,11 +148,11 @@ module _ (v : Seen) (c : Call) (is : IsMaking c) (p : Place) (name : List ℕ) (
 
     pub insert_lacks : (node : ℕ) (m : Missing) → ((h : Holding) → IsShown v p.inode h → IsNeededForName v h name m) → IsAskedFor v im o l (call_holds im o l t c node) m
     insert_lacks node m needs = asked_before v im o l (path_holds im o l c) _ m
-        (insert_asked v im o l t of (directory_path c) p.inode reached.place.at here.directory (path_holds im o l c) own_among name m (needs dir shown))
+        (insert_asked v im o l t of (directory_path c) p.inode reached.place.at here (path_holds im o l c) own_among name m (needs dir shown))
 
     module _ (more : ℕ) (for_name : TakesForName v p.inode name more) (node : ℕ) (some : 1 ≤ length v.groups) (first : 1 ≤ node) where
       more_is : more ≡ name_need dir name
-      more_is = for_name.sound dir shown sound here.directory
+      more_is = for_name.sound dir shown sound here
 
       pub need_so : more + 1 ≡ blocks_needed im o l c
       need_so = ap (λ n. n + 1) (more_is ∙ sym (ap (name_need dir) (own_name c name last))) ∙ sym (ap (λ x. need_at im o (name_in c) x + 1) reached.place.at)
@@ -222,7 +221,7 @@ module _ (v : Seen) (c : Call) (is : IsMaking c) (p : Place) (name : List ℕ) (
         pub placed : IsPlaceFor im o l (directory_path c) name p r.new r.rest.items
         placed = record {
           at = reached.place.at;
-          directory = here.directory;
+          directory = here;
           dinode = reached.place.dinode;
           absent = absent;
           free = λ b there. said_free v im o l t of groups b (room_found.1.room.each b there);

@@ -33,7 +33,6 @@ use Rattle.image_changes.specs.Instances.{IsAt, dinode_at}
 use Rattle.path_walks.specs.Answers.{Refuses}
 use Rattle.path_walks.specs.Holds.{Hold, AreHeld, IsAskedFor, IsFirstLack, holds, holds_in, hold_of_group}
 use Rattle.path_walks.specs.declared.walk.Place.{Place}
-use Rattle.directories.specs.Shown.{Says}
 use Rattle.directories.specs.Shown as dirs
 use Rattle.hash_dirs.specs.Shown.{IsSound}
 use Rattle.draft_changes.specs.Resizing.{HoldsThere}
@@ -41,7 +40,7 @@ use Rattle.name_inserts.specs.Inserting.{CanGetName, IsNamed, IsNeededForName, I
 use Rattle.name_inserts.specs.Need.{has_linear_room, name_need}
 use Rattle.name_drafts.specs.Drafting.{CountsNumber, GetsRecord, HasLinearRoom, HasTimes, IsAddition, IsNewInode, IsNextOf, entry_for}
 use Rattle.new_inodes.specs.Touched.{IsTouched}
-use Rattle.path_walks.specs.Walks.{LeadsTo, Names, IsAbsent, IsDirectoryAt, IsLacked, IsOnTheWay, IsPlaceOf, IsSeenAt, IsUnread, IsWrongAt}
+use Rattle.path_walks.specs.Walks.{LeadsTo, Names, IsAbsent, IsDirectoryAt, IsLacked, IsOnTheWay, IsPlaceOf, IsSeenAt, IsUnread, IsWrongAt, LacksName}
 use Rattle.path_walks.specs.Walks as path
 use Rattle.room_search.specs.Blocks.{states_by, free_for, free_in_all, group_of_node}
 use Rattle.room_search.specs.Searches.{AreShown, IsGroupBroken, IsGroupNeeded}
@@ -103,18 +102,13 @@ pub record IsTooFew (v : Seen) (im : Image) (o : Owners) (l : Layout) (t : Tree)
 
 -- ---- as far as the view shows
 
--- a directory that hasn't the name
-pub record LacksName (h : Holding) (name : List ℕ) : Type 0 where
-  pub directory : is_directory_in h ≡ true
-  pub absent : Says h name None
-
 -- The path has a last name; what is before it leads to this directory, which hasn't the name.
 pub record IsToGetName (v : Seen) (call : Call) : Type 0 where
   pub below : path_of call false ≢ []
   pub directory : ℕ
   pub leads : LeadsTo v (wanted call) (directory_path call) directory
   pub there : HasBlock v directory
-  pub lacks : (h : Holding) → dirs.IsShown v directory h → LacksName h (name_in call)
+  pub lacks : LacksName v directory (name_in call)
 
 -- The directory in this block takes so many blocks for the name, where it is sound; and none where it is a linear one that has room for it.
 pub record TakesForName (v : Seen) (dir : ℕ) (name : List ℕ) (more : ℕ) : Type 0 where

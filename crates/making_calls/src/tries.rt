@@ -4,12 +4,11 @@ ghost use Rattle.cluster_history.specs.Changes.{is_ok};
 ghost use Rattle.file_tree.specs.Names.{IsName};
 ghost use Rattle.file_tree.specs.Tree.{Tree};
 ghost use Rattle.file_tree.specs.declared.reply.Reply.TheVariants.{Ok as OkReply};
-ghost use Rattle.gfs2_layout.specs.Holding.{Holding};
 ghost use Rattle.glock_names.specs.Steps.{IfDamaged};
 ghost use Rattle.glock_names.specs.Views.{IsOfView, IsView};
 ghost use Rattle.call_locks.specs.WantLaws.{path_of};
 ghost use Rattle.call_locks.specs.Wants.{wanted};
-ghost use Rattle.directories.specs.Shown.{IsDirectoryIn, IsShown};
+ghost use Rattle.directories.specs.Shown.{IsDirectoryIn};
 ghost use Rattle.resource_groups.specs.Putting.{HasDataBlock};
 ghost use Rattle.image_model.specs.Image.{Image};
 ghost use Rattle.image_model.specs.Owners.{Owners};
@@ -17,8 +16,8 @@ ghost use Rattle.image_model.specs.Stands.{Layout};
 ghost use Rattle.image_changes.specs.Does.{IsOf, Does, AreInside};
 ghost use Rattle.path_walks.specs.Answers.{IfDone, IfNeedLock, IfNeedBlock, IfNoSpace, IfHashed, IfNotBuilt, HasSpace};
 ghost use Rattle.path_walks.specs.Holds.{AreHeld, IsAskedFor, IsFirstLack, IsUnder};
-ghost use Rattle.path_walks.specs.Walks.{IsSeenAt, IsLastOf};
-ghost use Rattle.making_calls.specs.Making.{IfMade, IsAnswered, IsDamage, IsFound, IsFullFor, IsLackedFor, IsMade, IsMaking, IsNeededFor, IsReachedIn, IsRefusal, IsStamped, IsToldOf, IsTooFew, IsUnbuilt, LacksName, TakesForName, call_holds, directory_path, makes_directory};
+ghost use Rattle.path_walks.specs.Walks.{IsLastOf, IsSeenAt, LacksName};
+ghost use Rattle.making_calls.specs.Making.{IfMade, IsAnswered, IsDamage, IsFound, IsFullFor, IsLackedFor, IsMade, IsMaking, IsNeededFor, IsReachedIn, IsRefusal, IsStamped, IsToldOf, IsTooFew, IsUnbuilt, TakesForName, call_holds, directory_path, makes_directory};
 
 use crate::blocks::{NewRoom, find_blocks};
 use crate::finds::Found;
@@ -80,7 +79,7 @@ fn make_with<V: View>(
     requires reached { (im : Image) (o : Owners) (l : Layout) (t : Tree) → IsOf (V.seen view.now) im o l t → IsReachedIn (V.seen view.now) im o l call.now place.now }
     requires named { IsName name.now }
     requires directory { IsDirectoryIn (V.seen view.now) place.now.inode }
-    requires lacks { (h : Holding) → IsShown (V.seen view.now) place.now.inode h → LacksName h name.now }
+    requires lacks { LacksName (V.seen view.now) place.now.inode name.now }
     requires inside { HasDataBlock (V.seen view.now) place.now.inode }
     requires takes { TakesForName (V.seen view.now) place.now.inode name.now more }
     requires most { more < 2 ^ 42 }
@@ -135,7 +134,7 @@ fn make_at<V: View>(
     requires reached { (im : Image) (o : Owners) (l : Layout) (t : Tree) → IsOf (V.seen view.now) im o l t → IsReachedIn (V.seen view.now) im o l call.now place.now }
     requires named { IsName name.now }
     requires directory { IsDirectoryIn (V.seen view.now) place.now.inode }
-    requires lacks { (h : Holding) → IsShown (V.seen view.now) place.now.inode h → LacksName h name.now }
+    requires lacks { LacksName (V.seen view.now) place.now.inode name.now }
     requires groups { 1 ≤ length (V.seen view.now).groups }
     requires node { 1 ≤ stamp.now.node }
     ensures found { (im : Image) (o : Owners) (l : Layout) (t : Tree) → IsOf (V.seen view.now) im o l t → IfOk result (IsFound (V.seen view.now) im o l t call.now stamp.now.node) }

@@ -92,9 +92,9 @@ make_at-requires-clause-directory g c =
     directory_here (g.V.View.seen c.args.view.now) c.args.place.now.inode c.args.place.now.dinode c.requires.seen.dinode (sym c.is_directory.ensures ∙ c.if-not-is_directory.false)
 
 pub make_at-requires-clause-lacks : goal.make_at-requires-clause-lacks
-make_at-requires-clause-lacks g c h shown = record {
-  directory = directory_all (g.V.View.seen c.args.view.now) c.args.place.now.inode c.args.place.now.dinode c.requires.seen.dinode (sym c.is_directory.ensures ∙ c.if-not-is_directory.false) h shown.inode;
-  absent = subst (λ n. Says h n None) c.bytes.ensures.bytes (subst (Says h c.bytes.result.now) c.in-Is-None.field-0-is (answer_at _ _ _ c.in-Is-None.is (c.in_ok-look.ensures.found h shown)));
+make_at-requires-clause-lacks g c = record {
+  directory = directory_all (g.V.View.seen c.args.view.now) c.args.place.now.inode c.args.place.now.dinode c.requires.seen.dinode (sym c.is_directory.ensures ∙ c.if-not-is_directory.false);
+  absent = λ h shown. subst (λ n. Says h n None) c.bytes.ensures.bytes (subst (Says h c.bytes.result.now) c.in-Is-None.field-0-is (answer_at _ _ _ c.in-Is-None.is (c.in_ok-look.ensures.found h shown)));
 }
 
 pub returns-clause-found : goal.returns-clause-found
