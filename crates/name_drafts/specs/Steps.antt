@@ -9,7 +9,7 @@ use Rattle.drafts.specs.declared.fate.Fate.TheVariants.{Put}
 use Rattle.gfs2_layout.specs.Holding.{Holding}
 use Rattle.gfs2_layout.specs.Structures.{dinode_length, dinode_of}
 use Rattle.gfs2_layout.specs.Writing.{dinode_put}
-use Rattle.glock_names.specs.Views.{Seen, HasBlock, HasGroup}
+use Rattle.glock_names.specs.Views.{Seen, IsView, HasGroup}
 use Rattle.glock_names.specs.declared.steps.Entry.{Entry}
 use Rattle.glock_names.specs.declared.views.Group.{Group}
 use Rattle.dinode_tree.specs.Reading.{inode_lock}
@@ -62,6 +62,8 @@ pub record IsNewSaid {V : Type 0} (seen : V → Seen) (old new : Drafted V) (r :
   pub mid : Drafted V
   pub put : mid ≡ record old { fates = insert old.fates r.group.addr (Put (group_lock r.group) false header) }
   pub numbered : (at : ℕ → List ℕ) → group.IsShown (seen_in seen old) r.group at → IsNumberPut at (overlaid (seen_in seen mid) at) r.group number
+  pub shows : IsView (seen_in seen mid)
+  pub then : IsView (seen_in seen new)
   pub set : AreSet seen mid new (r.block ∷ []) 3
   pub rest : KeepsBlocks seen mid new (r.block ∷ [])
 
