@@ -1,3 +1,6 @@
 pub mod Fates
 pub mod Faults
 pub mod Said
+pub mod Named
+pub mod Done
+pub mod Grown
