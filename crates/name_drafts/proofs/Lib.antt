@@ -4,3 +4,7 @@ pub mod Said
 pub mod Named
 pub mod Done
 pub mod Grown
+pub mod NewInodes
+pub mod InImage
+pub mod GroupsSay
+pub mod Adds
