@@ -8,3 +8,4 @@ pub mod NewInodes
 pub mod InImage
 pub mod GroupsSay
 pub mod Adds
+pub mod Adding
