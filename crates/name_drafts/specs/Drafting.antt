@@ -156,10 +156,14 @@ pub data IsPutUnder (v : Seen) (p : Place) (r : NewBlock) (taken : List ℕ) (b 
 abbrev pub PutsUnder : Seen → FinMap nat_cmp Fate → Place → NewBlock → List ℕ → Type 0
 PutsUnder v fates p r taken = (b : ℕ) (lock : LockName) (plain : Bool) (bytes : List ℕ) → get fates b ≡ Some (Put lock plain bytes) → IsPutUnder v p r taken b lock
 
--- The change is that of a draft that puts all under these locks and inside the view's groups, and frees nothing. From the front of the room it takes
--- blocks for the directory. The new inode is put with the next number of its block's group and with this time, and the directory with the time: each
--- that is sound, hasn't the name and can get it gets it so, and a linear one with room for it byte by byte. In each image that the view may be of it
--- adds the name.
+-- the directory has no block of a group's header or bitmap
+abbrev pub HasNoGroupBlock : Seen → Holding → Type 0
+HasNoGroupBlock v h = (k : Group) (b : ℕ) → HasGroup v k → IsHeaderOf k b → h.cell b ≡ None
+
+-- The change is that of a draft that puts whole blocks, inside the view's groups. From the front of the room it takes blocks for the directory. The new
+-- inode is put with the next number of its block's group and with this time, and the directory with the time: each that is sound, hasn't the name and can
+-- get it gets it so, all is put under these locks then, and nothing is freed; and a linear one with room for the name gets it byte by byte. In each image
+-- that the view may be of it adds the name.
 pub record IsAddition (v : Seen) (is_directory : Bool) (p : Place) (name : List ℕ) (r : NewBlock) (room : List ℕ) (time : ℕ) (change : Change) : Type 0 where
   pub fates : FinMap nat_cmp Fate
   pub finished : IsFinished fates change
@@ -167,8 +171,8 @@ pub record IsAddition (v : Seen) (is_directory : Bool) (p : Place) (name : List 
   pub taken : List ℕ
   pub left : List ℕ
   pub front : room ≡ taken ++ left
-  pub locks : PutsUnder v fates p r taken
-  pub none_freed : (b : ℕ) → is_freed fates b ≡ false
+  pub locks : (h : Holding) → IsShown v p.inode h → CanGetName h name room → PutsUnder v fates p r taken
+  pub none_freed : (h : Holding) → IsShown v p.inode h → CanGetName h name room → (b : ℕ) → is_freed fates b ≡ false
   pub inside : AreInside v change
   -- the groups
   pub number : ℕ
@@ -186,7 +190,7 @@ pub record IsAddition (v : Seen) (is_directory : Bool) (p : Place) (name : List 
   pub parent_put : get fates p.inode ≡ Some (Put (inode_lock p.inode) false parent_bytes)
   pub times : HasTimes (dinode_of parent_bytes) time
   pub gets : (h : Holding) → IsShown v p.inode h → HasLinearRoom h name → GetsRecord (bytes_at h p.inode) parent_bytes name (entry_for is_directory number r.block) time
-  pub grows : (h : Holding) → IsShown v p.inode h → CanGetName h name room → AreFreeFor h (r.block ∷ room) → (g : Holding) × GrowsInto v fates name (entry_for is_directory number r.block) time taken h g
+  pub grows : (h : Holding) → IsShown v p.inode h → CanGetName h name room → AreFreeFor h (r.block ∷ room) → HasNoGroupBlock v h → (g : Holding) × GrowsInto v fates name (entry_for is_directory number r.block) time taken h g
   -- in an image
   pub adds : (im : Image) (o : Owners) (l : Layout) (t : Tree) (path : Path) → IsOf v im o l t → IsPlaceFor im o l path name p r room
       → (g : Holding) × GrowsByName im o l fates p.inode name r.block (new_tree is_directory) g taken
