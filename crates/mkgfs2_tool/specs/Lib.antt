@@ -2,6 +2,7 @@ pub mod Groups
 pub mod Files
 pub mod Order
 pub mod Directories
+pub mod Hashing
 pub mod Blocks
 pub mod Making
 pub mod Outcomes

@@ -7,6 +7,7 @@ mod device;
 mod directory;
 mod files;
 mod groups;
+mod hashing;
 mod inodes;
 mod laws;
 mod making;
