@@ -1,3 +1,4 @@
+pub mod LeafLaws
 pub mod Enough
 pub mod RecordLaws
 pub mod PutLaws

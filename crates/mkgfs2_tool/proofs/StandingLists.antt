@@ -15,6 +15,10 @@ pub map_same : {X Y : Type 0} (f g : X → Y) (xs : List X) → ((x : X) → IsI
 map_same f g [] same = refl
 map_same f g (x ∷ xs) same = λ t. same x (inl refl) t ∷ map_same f g xs (λ y h. same y (inr h)) t
 
+pub all_append : {X : Type 0} (P : X → Type 0) (xs ys : List X) → AllByRecursion P xs → AllByRecursion P ys → AllByRecursion P (xs ++ ys)
+all_append P [] ys first later = later
+all_append P (x ∷ xs) ys first later = (first.0, all_append P xs ys first.1 later)
+
 -- ---- counts
 
 none_before : (b x : ℕ) (xs : List ℕ) → b ≤ x → AllByRecursion (λ y. x < y) xs → count_by (λ q. q == b) xs ≡ 0
