@@ -1,4 +1,5 @@
 pub mod LeafLaws
+pub mod LeafHashes
 pub mod Enough
 pub mod RecordLaws
 pub mod PutLaws
@@ -26,6 +27,9 @@ pub mod StandingList
 pub mod StandingRecords
 pub mod StandingDirs
 pub mod StandingNames
+pub mod StandingLeaves
+pub mod StandingHashed
+pub mod StandingJindex
 pub mod StandingSystem
 pub mod StandingZones
 pub mod StandingWhole
