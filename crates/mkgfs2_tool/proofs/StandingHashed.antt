@@ -1,1 +1,263 @@
--- Soon.
+-- The directory of journals of a new image is sound where it is a hashed one.
+use Rattle.std.proofs.Common.{ℕ, zero, suc, ◌≡◌, ◌≢◌, ◌+◌, ◌-◌, ◌*◌, ◌/◌, ◌^◌, ◌<◌, ◌≤◌, ◌⊎◌, inl, inr, Bool, true, false, List, [], ◌∷◌, ◌++◌, length, take, drop, replicate, map, Some, refl, sym, ap, ◌∙◌, subst, arith, append-nil}
+use Rattle.std.specs.Prelude.{◌==◌, ◌&&◌, nat_lt, if◌then◌else◌, is_some, filter, Contains, get_or}
+use Rattle.std.specs.List.{AllByRecursion, flat_map, range_with_len}
+use Rattle.std.proofs.lemmas.Bool.{cases_lt, cases_Bool, cond-true, cond-false, eq-eqb, lt-ltb, le-ltb, ne_eqb, true≢false}
+use Rattle.std.proofs.lemmas.List.{take_at}
+use Rattle.std.proofs.lemmas.List.FromFn.{length-range_with_len, get_or-range_with_len}
+use Rattle.gfs2_layout.specs.Bytes.{put_at, u32_at, u64_at}
+use Rattle.gfs2_layout.specs.Structures.{dinode_of, is_directory, leaf_of}
+use Rattle.gfs2_layout.specs.Writing.{dinode_put}
+use Rattle.gfs2_layout.specs.declared.dinode.Dinode.{Dinode}
+use Rattle.gfs2_layout.specs.declared.leaf.Leaf.{Leaf}
+use Rattle.gfs2_layout.specs.Headers.{HasHeader}
+use Rattle.image_model.specs.Image.{Blocks}
+use Rattle.gfs2_layout.specs.Inode.{dinode_in, height_in, has_hash_flag, is_directory_in, is_hashed_in, content_of, depth_in, table_count, entry, leaf_in, leaf_area, leaves_of, is_leaf_part, top_bits, index_bits, first_hash, records_of, IsLeaf, IsHashed, IsInode, block_count}
+use Rattle.image_model.specs.Owners.{Chained, is_dinode}
+use Rattle.gfs2_layout.specs.Holding.{Holding, Part, Itself, Pointed, InChain, bytes_at, part_at}
+use Rattle.gfs2_layout.specs.Records.{Record, records_in, IsRecordArea}
+use Rattle.mkgfs2_tool.specs.Groups.{super_block, data_address}
+use Rattle.mkgfs2_tool.specs.Order.{journals_place, has_hashed_journals, is_split, journal_leaves, leaf_place, taken}
+use Rattle.mkgfs2_tool.specs.Directories.{records}
+use Rattle.mkgfs2_tool.specs.Hashing.{table_bytes, leaf_of_pointer, leaf_room, leaf_entries, leaf_depth, leaf_head, leaf_records}
+use Rattle.mkgfs2_tool.specs.Blocks.{zeros, new_block, used_block, dinode, dinode_block, hashed_directory, journals_block, leaf_block}
+use Rattle.mkgfs2_tool.specs.Making.{IsFitting}
+use Rattle.mkgfs2_tool.specs.declared.plan.Plan.{Plan}
+use Rattle.mkgfs2_tool.proofs.LeafLaws.{leaves_few, leaves_whole, leaves_split, hashed_size}
+use Rattle.mkgfs2_tool.proofs.PointerLaws.{length-pointers}
+use Rattle.mkgfs2_tool.proofs.StandingLists.{IsIn, is_in, in_range, from_range, Rising}
+use Rattle.image_model.proofs.Members.{in_filter, from_filter}
+use Rattle.image_model.proofs.Rising.{same_rising, rising_filter, rising_range}
+use Rattle.mkgfs2_tool.proofs.StandingGiven.{Known, own_part, itself_own, pointed_owner, chained_owner, chained_part, block_same, own_block}
+use Rattle.mkgfs2_tool.proofs.StandingCounts.{count_images}
+use Rattle.mkgfs2_tool.proofs.StandingBytes.{spelled, read_spelled}
+use Rattle.mkgfs2_tool.proofs.StandingDinodes.{IsDinodeBlock, dinode_put_is, IsSmall, dinode_widths}
+use Rattle.mkgfs2_tool.proofs.StandingPlan.{apart_addresses, addresses_up, address_low, address_high}
+use Rattle.mkgfs2_tool.proofs.StandingOwners.{leaf_hash, leaf_owner, spot, owner, in_all, owner_journals, owner_leaf, use_of_journals, use_of_leaf, journals_taken, leaf_taken}
+use Rattle.mkgfs2_tool.proofs.StandingFiles.{size_few}
+use Rattle.mkgfs2_tool.proofs.StandingWhose.{file_apart_journals, IsLeafOf, leaf_of as leaf_owned, chained_same, IsBelowOf, below_of}
+use Rattle.mkgfs2_tool.proofs.StandingInodes.{image, AreMade, held, below_1, cell_some, some_cell}
+use Rattle.mkgfs2_tool.proofs.StandingRecords.{AreRecordsOf}
+use Rattle.mkgfs2_tool.proofs.StandingDirs.{used_at}
+use Rattle.mkgfs2_tool.proofs.StandingLeaves.{IsLeafBlock, leaf_said, leaf_area_is, leaf_block_is, leaf_hashes}
+
+-- ---- over plain numbers: of 32 pointers the first 16 lead to leaf 1 where there are two leaves, and the others to leaf 0
+
+abbrev to_leaf : Bool → ℕ → ℕ
+to_leaf split i = if split && nat_lt i 16 then 1 else 0
+
+abbrev hash_of : Bool → ℕ → ℕ
+hash_of split n = if split then (if n == 0 then 2 ^ 31 else 0) else 0
+
+abbrev depth_of : Bool → ℕ
+depth_of split = if split then 1 else 0
+
+pointer_low : (split : Bool) (i leaves : ℕ) → (split ≡ true → leaves ≡ 2) → (split ≡ false → leaves ≡ 1) → to_leaf split i < leaves
+pointer_low true i leaves two one = elim (cases_Bool (nat_lt i 16)) [
+  | inl so ↦ omega (arith, cond-true {A = ℕ} (nat_lt i 16) 1 0 so, two refl)
+  | inr non ↦ omega (arith, cond-false {A = ℕ} (nat_lt i 16) 1 0 non, two refl)
+]
+pointer_low false i leaves two one = omega (arith, one refl)
+
+first_index : (split : Bool) (i : ℕ) → i < 32 → i / 2 ^ (5 - depth_of split) * 2 ^ (32 - depth_of split) ≡ hash_of split (to_leaf split i)
+first_index true i low = elim (cases_lt i 16) [
+  | inl less ↦ omega (arith, less) ∙ ap (λ n. if n == 0 then 2 ^ 31 else 0) (sym (cond-true {A = ℕ} _ 1 0 (lt-ltb i 16 less)))
+  | inr ge ↦ omega (arith, low, ge) ∙ ap (λ n. if n == 0 then 2 ^ 31 else 0) (sym (cond-false {A = ℕ} _ 1 0 (le-ltb i 16 ge)))
+]
+first_index false i low = omega (arith, low)
+
+same_leaf : (split : Bool) (i j : ℕ) → i < 32 → j < 32 → j / 2 ^ (5 - depth_of split) ≡ i / 2 ^ (5 - depth_of split) → to_leaf split j ≡ to_leaf split i
+same_leaf true i j low low' e = elim (cases_lt i 16) [
+  | inl less ↦ cond-true {A = ℕ} _ 1 0 (lt-ltb j 16 (omega (arith, e, less, low'))) ∙ sym (cond-true {A = ℕ} _ 1 0 (lt-ltb i 16 less))
+  | inr ge ↦ cond-false {A = ℕ} _ 1 0 (le-ltb j 16 (omega (arith, e, ge, low))) ∙ sym (cond-false {A = ℕ} _ 1 0 (le-ltb i 16 ge))
+]
+same_leaf false i j low low' e = refl
+
+-- a pointer that leads to this leaf
+pub led_by : (split : Bool) (n leaves : ℕ) → (split ≡ true → leaves ≡ 2) → (split ≡ false → leaves ≡ 1) → n < leaves → (i : ℕ) × (i < 32) × (to_leaf split i ≡ n)
+led_by true n leaves two one low = elim (cases_lt n 1) [
+  | inl less ↦ (16, omega arith, omega (arith, less))
+  | inr ge ↦ (0, omega arith, omega (arith, ge, low, two refl))
+]
+led_by false n leaves two one low = (0, omega arith, omega (arith, low, one refl))
+
+module _ (p : Plan) (fit : IsFitting p) (known : Known p) (at : Blocks) (made : AreMade p at) (hashed : has_hashed_journals p ≡ true) where
+  abbrev a : ℕ
+  a = data_address p (journals_place p)
+
+  abbrev h : Holding
+  h = held p at a
+
+  abbrev d : Dinode
+  d = dinode p 4 (journals_place p) (hashed_directory p)
+
+  abbrev leaf : ℕ → ℕ
+  leaf n = data_address p (leaf_place p n)
+
+  kept : journals_place p < taken p
+  kept = journals_taken p
+
+  low_address : a < p.count
+  low_address = address_low p fit (journals_place p) (in_all p fit (journals_place p) kept)
+
+  leaf_low : (n : ℕ) → n < journal_leaves p → leaf n < p.count
+  leaf_low n low = address_low p fit (leaf_place p n) (in_all p fit (leaf_place p n) (leaf_taken p n low))
+
+  near : (b : ℕ) → b < p.count → b < 2 ^ 64
+  near b low = through b p.count low fit.count
+    where
+      through : (a c : ℕ) → a < c → c ≤ 131072 → a < 2 ^ 64
+      through a c low few = omega (arith, low, few)
+
+  size_is_512 : p.size ≡ 512
+  size_is_512 = hashed_size p hashed
+
+  two : is_split p ≡ true → journal_leaves p ≡ 2
+  two split = leaves_split p hashed split
+
+  one : is_split p ≡ false → journal_leaves p ≡ 1
+  one whole = leaves_whole p hashed whole
+
+  -- ---- its dinode
+
+  table_long : length (table_bytes p) ≡ 256
+  unfolding table_bytes
+  table_long = length-pointers (λ i. leaf (leaf_of_pointer p i)) (range_with_len 0 32) ∙ ap (λ n. 8 * n) (length-range_with_len 0 32)
+
+  small : IsSmall (hashed_directory p)
+  small = record {
+    mode = omega arith;
+    nlink = omega arith;
+    size = omega arith;
+    blocks = few (journal_leaves p) (leaves_few p.size p.journals);
+    flags = omega arith;
+    payload_format = omega arith;
+    height = omega arith;
+    depth = omega arith;
+    entries = count p.journals fit.plan.journals;
+  }
+    where
+      few : (n : ℕ) → n ≤ 2 → 1 + n < 2 ^ 64
+      few n le = omega (arith, le)
+
+      count : (n : ℕ) → n ≤ 8 → 2 + n < 2 ^ 32
+      count n le = omega (arith, le)
+
+  is_block : new_block p a ≡ put_at 232 (table_bytes p) (dinode_put d (zeros p))
+  unfolding journals_block dinode_block used_block
+  is_block = used_at p fit known (journals_place p) kept ∙ ap (used_block p) (use_of_journals p) ∙ cond-true _ _ _ hashed
+
+  block_is : IsDinodeBlock p.size d (table_bytes p) (new_block p a)
+  block_is = subst (IsDinodeBlock p.size d (table_bytes p)) (sym is_block)
+      (dinode_put_is known.given p.size d (table_bytes p) (omega (arith, table_long, size_is_512)) (dinode_widths p 4 (journals_place p) (hashed_directory p) (omega arith) (near a low_address) known.time small))
+
+  own_is : is_dinode (owner p a) ≡ true
+  own_is = ap is_dinode (owner_journals p fit)
+
+  own_bytes : bytes_at h a ≡ new_block p a
+  own_bytes = own_block known.given (image p at) (owner p) a own_is ∙ made.is a low_address
+
+  dinode_is : dinode_in h ≡ d
+  unfolding dinode_in
+  dinode_is = ap dinode_of own_bytes ∙ block_is.is
+
+  pub hashed_dir : is_directory_in h ≡ true
+  unfolding dinode
+  hashed_dir = ap is_directory dinode_is
+
+  pub hashed_form : is_hashed_in h ≡ true
+  unfolding dinode
+  hashed_form = ap (λ (d : Dinode). is_directory d && has_hash_flag d) dinode_is
+
+  height_is : height_in h ≡ 0
+  unfolding dinode
+  height_is = ap (λ (d : Dinode). d.height) dinode_is
+
+  depth_is : depth_in h ≡ 5
+  unfolding dinode
+  depth_is = ap (λ (d : Dinode). d.depth) dinode_is
+
+  size_is : (dinode_in h).size ≡ 256
+  unfolding dinode
+  size_is = ap (λ (d : Dinode). d.size) dinode_is
+
+  pub hashed_number : (dinode_in h).num.number ≡ 4
+  unfolding dinode
+  hashed_number = ap (λ (d : Dinode). d.num.number) dinode_is
+
+  address_is : (dinode_in h).num.address ≡ a
+  unfolding dinode
+  address_is = ap (λ (d : Dinode). d.num.address) dinode_is
+
+  pub hashed_entries : (dinode_in h).entries ≡ 2 + p.journals
+  unfolding dinode
+  hashed_entries = ap (λ (d : Dinode). d.entries) dinode_is
+
+  pub hashed_links : (dinode_in h).nlink ≡ 2
+  unfolding dinode
+  hashed_links = ap (λ (d : Dinode). d.nlink) dinode_is
+
+  blocks_is : (dinode_in h).blocks ≡ 1 + journal_leaves p
+  unfolding dinode
+  blocks_is = ap (λ (d : Dinode). d.blocks) dinode_is
+
+  count_is : table_count h ≡ 32
+  count_is = ap (λ n. 2 ^ n) depth_is
+
+  -- ---- its table
+
+  content_is : content_of h ≡ table_bytes p
+  unfolding content_of
+  content_is =
+      ap (λ n. take n (if height_in h == 0 then drop 232 (bytes_at h a) else _)) size_is
+      ∙ ap (take 256) (cond-true _ _ _ (eq-eqb (height_in h) 0 height_is) ∙ ap (drop 232) own_bytes ∙ block_is.rest)
+      ∙ take_at (table_bytes p) (replicate (p.size - 232 - length (table_bytes p)) 0) 256 table_long
+
+  pointer_leaf : (i : ℕ) → i < 32 → leaf_of_pointer p i < journal_leaves p
+  pointer_leaf i low = pointer_low (is_split p) i (journal_leaves p) two one
+
+  entry_is : (i : ℕ) → i < 32 → entry h i ≡ leaf (leaf_of_pointer p i)
+  unfolding table_bytes
+  entry_is i low =
+      ap (u64_at (8 * i)) (content_is ∙ sym (append-nil (table_bytes p)))
+      ∙ read_spelled (λ i. leaf (leaf_of_pointer p i)) (range_with_len 0 32) [] i (omega (arith, length-range_with_len 0 32, low)) (subst (λ n. leaf (leaf_of_pointer p n) < 2 ^ 64) (sym at_i) (near _ (leaf_low (leaf_of_pointer p i) (pointer_leaf i low))))
+      ∙ ap (λ n. leaf (leaf_of_pointer p n)) at_i
+    where
+      at_i : get_or (range_with_len 0 32) i 0 ≡ i
+      at_i = get_or-range_with_len 0 32 i 0 low
+
+  -- ---- its leaves
+
+  leaf_part : (n : ℕ) → n < journal_leaves p → part_at h (leaf n) ≡ Some (InChain (leaf_hash p n) 0)
+  leaf_part n low = chained_part known.given (image p at) (owner p) a (leaf n) (leaf_hash p n) 0 (owner_leaf p fit n low)
+
+  record IsLeafPart (y hash place : ℕ) : Type 0 where
+    pub n : ℕ
+    pub low : n < journal_leaves p
+    pub is : y ≡ leaf n
+    pub hash_is : hash ≡ leaf_hash p n
+    pub first : place ≡ 0
+
+  part_leaf : (y hash place : ℕ) → part_at h y ≡ Some (InChain hash place) → IsLeafPart y hash place
+  part_leaf y hash place e = from (leaf_owned p fit known y a hash place (chained_owner known.given (image p at) (owner p) a y hash place e))
+    where
+      from : IsLeafOf p fit known y a hash place → IsLeafPart y hash place
+      from q = let same = chained_same p fit known _ _ _ _ _ _ q.owned in record { n = q.n; low = q.low; is = q.is; hash_is = sym same.1; first = sym same.2 }
+
+  leaf_bytes : (n : ℕ) → n < journal_leaves p → bytes_at h (leaf n) ≡ leaf_block p n
+  unfolding used_block
+  leaf_bytes n low =
+      block_same known.given (image p at) (owner p) a (leaf n) (InChain (leaf_hash p n) 0) (leaf_part n low) ∙ made.is (leaf n) (leaf_low n low)
+      ∙ used_at p fit known (leaf_place p n) (leaf_taken p n low) ∙ ap (used_block p) (use_of_leaf p n low)
+
+  leaf_is : (n : ℕ) → n < journal_leaves p → IsLeafBlock p.size (leaf_head p n) (records (leaf_room p) (leaf_entries p n)) (bytes_at h (leaf n))
+  leaf_is n low = subst (IsLeafBlock p.size (leaf_head p n) (records (leaf_room p) (leaf_entries p n))) (sym (leaf_bytes n low)) (leaf_block_is p fit known n)
+
+  head_is : (n : ℕ) → n < journal_leaves p → leaf_in h (leaf n) ≡ leaf_head p n
+  head_is n low = (leaf_is n low).is
+
+  area_is : (n : ℕ) → n < journal_leaves p → leaf_area h (leaf n) ≡ records (leaf_room p) (leaf_entries p n)
+  area_is n low = (leaf_is n low).rest
+
+  pub said_is : (n : ℕ) → n < journal_leaves p → records_in (leaf_area h (leaf n)) ≡ leaf_said p n
+  said_is n low = ap records_in (area_is n low) ∙ (leaf_area_is p fit known n).are

@@ -1,5 +1,4 @@
-use Rattle.mkgfs2_tool.proofs.StandingLeaves.{leaf_block_is}
-use Rattle.mkgfs2_tool.proofs.LeafHashes.{half_0}
+use Rattle.mkgfs2_tool.proofs.StandingHashed.{said_is}
 use Rattle.mkgfs2_tool.proofs.StandingProfile.{new_stands}
 use Rattle.mkgfs2_tool.proofs.laws.new_images_stand.Goals as goal
 
