@@ -33,7 +33,7 @@ use Rattle.mkgfs2_tool.proofs.StandingOwners.{leaf_hash, journals_taken, some_ta
 use Rattle.mkgfs2_tool.proofs.StandingFiles.{size_few}
 use Rattle.mkgfs2_tool.proofs.StandingRecords.{AreBytes, IsPlain, IsEntry, AreEntries, AreRecordsOf, entry_record, none_area, used_area, one_record, both_areas, records_are}
 use Rattle.mkgfs2_tool.proofs.StandingDirs.{this_is, parent_is, journal_is, journals_are, all_are}
-use Rattle.mkgfs2_tool.proofs.StandingNames.{journal_records}
+use Rattle.mkgfs2_tool.proofs.StandingNames.{journal_records, length_journals}
 
 -- ---- what the records of a leaf say
 
@@ -284,3 +284,19 @@ leaf_hashes p fit known n r there = by_tests (is_split p) refl (n == 0) there
     by_tests true split true h = upper_half p r h
     by_tests true split false h = lower_half p r (seven_or_eight p.journals (split_more p.journals split) fit.plan.journals) h
     by_tests false whole w h = small_hash (crc32_of r.name) (known.given.fits r.name (All-from_recursion (λ b. b < 256) r.name (bytes_of (journals_entries p) (all_are p fit known) r h)))
+
+-- ---- how many there are
+
+pub said_long : (p : Plan) (fit : IsFitting p) (n : ℕ) → leaf_records p n ≡ length (leaf_said p n)
+said_long p fit n = by_tests (is_split p) refl (n == 0)
+  where
+    lower : (n m : ℕ) → 7 ≤ n → m ≡ n - 6 → n - 3 ≡ suc (suc (suc m))
+    lower n m many e = omega (arith, many, e)
+
+    all : (n m : ℕ) → m ≡ n → 2 + n ≡ suc (suc m)
+    all n m e = omega (arith, e)
+
+    by_tests : (v : Bool) → is_split p ≡ v → (w : Bool) → (if v then (if w then 5 else p.journals - 3) else 2 + p.journals) ≡ length (if v then (if w then upper_said p else lower_said p) else all_said p)
+    by_tests true e true = refl
+    by_tests true e false = lower p.journals (length (journal_records p 6 (p.journals - 6))) (split_more p.journals e) (length_journals p 6 (p.journals - 6))
+    by_tests false e w = all p.journals (length (journal_records p 0 p.journals)) (length_journals p 0 p.journals)
