@@ -28,6 +28,7 @@ pub mod StandingRecords
 pub mod StandingDirs
 pub mod StandingNames
 pub mod StandingLeaves
+pub mod StandingTable
 pub mod StandingHashed
 pub mod StandingJindex
 pub mod StandingSystem

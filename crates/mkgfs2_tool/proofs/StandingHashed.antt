@@ -40,6 +40,7 @@ use Rattle.mkgfs2_tool.proofs.StandingWhose.{file_apart_journals, IsLeafOf, leaf
 use Rattle.mkgfs2_tool.proofs.StandingInodes.{image, AreMade, held, below_1, cell_some, some_cell}
 use Rattle.mkgfs2_tool.proofs.StandingRecords.{AreRecordsOf}
 use Rattle.mkgfs2_tool.proofs.StandingDirs.{used_at}
+use Rattle.mkgfs2_tool.proofs.StandingTable.{table_long, table_block_is}
 use Rattle.mkgfs2_tool.proofs.StandingLeaves.{IsLeafBlock, leaf_said, leaf_area_is, leaf_block_is, leaf_hashes, said_long}
 
 -- ---- over plain numbers: of 32 pointers the first 16 lead to leaf 1 where there are two leaves, and the others to leaf 0
@@ -121,36 +122,8 @@ module _ (p : Plan) (fit : IsFitting p) (known : Known p) (at : Blocks) (made : 
 
   -- ---- its dinode
 
-  table_long : length (table_bytes p) ≡ 256
-  unfolding table_bytes
-  table_long = length-pointers (λ i. leaf (leaf_of_pointer p i)) (range_with_len 0 32) ∙ ap (λ n. 8 * n) (length-range_with_len 0 32)
-
-  small : IsSmall (hashed_directory p)
-  small = record {
-    mode = omega arith;
-    nlink = omega arith;
-    size = omega arith;
-    blocks = few (journal_leaves p) (leaves_few p.size p.journals);
-    flags = omega arith;
-    payload_format = omega arith;
-    height = omega arith;
-    depth = omega arith;
-    entries = count p.journals fit.plan.journals;
-  }
-    where
-      few : (n : ℕ) → n ≤ 2 → 1 + n < 2 ^ 64
-      few n le = omega (arith, le)
-
-      count : (n : ℕ) → n ≤ 8 → 2 + n < 2 ^ 32
-      count n le = omega (arith, le)
-
-  is_block : new_block p a ≡ put_at 232 (table_bytes p) (dinode_put d (zeros p))
-  unfolding journals_block dinode_block used_block
-  is_block = used_at p fit known (journals_place p) kept ∙ ap (used_block p) (use_of_journals p) ∙ cond-true _ _ _ hashed
-
   block_is : IsDinodeBlock p.size d (table_bytes p) (new_block p a)
-  block_is = subst (IsDinodeBlock p.size d (table_bytes p)) (sym is_block)
-      (dinode_put_is known.given p.size d (table_bytes p) (omega (arith, table_long, size_is_512)) (dinode_widths p 4 (journals_place p) (hashed_directory p) (omega arith) (near a low_address) known.time small))
+  block_is = table_block_is p fit known hashed
 
   own_is : is_dinode (owner p a) ≡ true
   own_is = ap is_dinode (owner_journals p fit)
@@ -212,7 +185,7 @@ module _ (p : Plan) (fit : IsFitting p) (known : Known p) (at : Blocks) (made : 
   content_is = from (dinode_in h).size (height_in h) (drop 232 (bytes_at h a)) _ size_is height_is (ap (drop 232) own_bytes ∙ block_is.rest)
     where
       from : (n m : ℕ) (xs ys : List ℕ) → n ≡ 256 → m ≡ 0 → xs ≡ table_bytes p ++ replicate (p.size - 232 - length (table_bytes p)) 0 → take n (if m == 0 then xs else ys) ≡ table_bytes p
-      from n m xs ys long flat is = ap (λ k. take k (if m == 0 then xs else ys)) long ∙ ap (take 256) (cond-true _ xs ys (eq-eqb m 0 flat) ∙ is) ∙ take_at (table_bytes p) (replicate (p.size - 232 - length (table_bytes p)) 0) 256 table_long
+      from n m xs ys long flat is = ap (λ k. take k (if m == 0 then xs else ys)) long ∙ ap (take 256) (cond-true _ xs ys (eq-eqb m 0 flat) ∙ is) ∙ take_at (table_bytes p) (replicate (p.size - 232 - length (table_bytes p)) 0) 256 (table_long p)
 
   pointer_leaf : (i : ℕ) → i < 32 → leaf_of_pointer p i < journal_leaves p
   pointer_leaf i low = pointer_low (is_split p) i (journal_leaves p) two one

@@ -17,7 +17,7 @@ use Rattle.mkgfs2_tool.proofs.RecordLaws.{split_more}
 use Rattle.mkgfs2_tool.proofs.StandingLists.{IsIn}
 use Rattle.mkgfs2_tool.proofs.StandingGiven.{Known}
 use Rattle.mkgfs2_tool.proofs.StandingInodes.{AreMade, held}
-use Rattle.mkgfs2_tool.proofs.StandingNames.{AreApart, IsOfJournal, of_journal, journal_records, journal_in, journals_apart, later_apart, dots_apart, length_journals, no_directory, no_directories}
+use Rattle.mkgfs2_tool.proofs.StandingNames.{AreApart, IsOfJournal, of_journal, journal_records, journal_in, journals_apart, later_apart, dots_apart, length_journals, no_directories}
 use Rattle.mkgfs2_tool.proofs.StandingDirs.{dir_is, dir_linear, dir_sound, dir_number, dir_entries, dir_links, dir_records, journals_at}
 use Rattle.mkgfs2_tool.proofs.StandingLeaves.{this_record, parent_record, journal_record, all_said, upper_said, lower_said, leaf_said}
 use Rattle.mkgfs2_tool.proofs.StandingHashed.{hashed_dir, hashed_form, hashed_sound, hashed_number, hashed_entries, hashed_links, hashed_records}
@@ -50,7 +50,7 @@ all_are p = record {
   only = only;
   apart = ((refl, dots_apart (codes ".") p 0 p.journals (λ j. refl)), (dots_apart (codes "..") p 0 p.journals (λ j. refl), journals_apart p 0 p.journals));
   long = two_more p.journals (length (journal_records p 0 p.journals)) (length_journals p 0 p.journals);
-  plain = no_directory (this_record p) (parent_record p ∷ journal_records p 0 p.journals) refl (no_directory (parent_record p) (journal_records p 0 p.journals) refl (no_directories p 0 p.journals));
+  plain = no_directories p 0 p.journals;
 }
   where
     only : (r : Record) → IsIn r (all_said p) → Said p r
@@ -66,34 +66,30 @@ halves_are p many = record {
   each = each;
   only = only;
   apart = (
-    (refl, (refl, (refl, (refl, (refl, (refl, (refl, dots_apart (codes "..") p 6 m (λ j. refl)))))))),
+    (refl, (refl, (refl, (refl, (refl, (refl, (refl, dots_apart (codes "..") p 6 (p.journals - 6) (λ j. refl)))))))),
     (
-      (refl, (refl, (refl, (refl, (refl, (refl, later_apart p 0 6 m (omega arith))))))),
+      (refl, (refl, (refl, (refl, (refl, (refl, later_apart p 0 6 (p.journals - 6) (omega arith))))))),
       (
-        (refl, (refl, (refl, (refl, (refl, later_apart p 1 6 m (omega arith)))))),
+        (refl, (refl, (refl, (refl, (refl, later_apart p 1 6 (p.journals - 6) (omega arith)))))),
         (
-          (refl, (refl, (refl, (refl, later_apart p 4 6 m (omega arith))))),
+          (refl, (refl, (refl, (refl, later_apart p 4 6 (p.journals - 6) (omega arith))))),
           (
-            (refl, (refl, (refl, later_apart p 5 6 m (omega arith)))),
-            ((refl, (refl, dots_apart (codes ".") p 6 m (λ j. refl))), ((refl, later_apart p 2 6 m (omega arith)), (later_apart p 3 6 m (omega arith), journals_apart p 6 m))),
+            (refl, (refl, (refl, later_apart p 5 6 (p.journals - 6) (omega arith)))),
+            ((refl, (refl, dots_apart (codes ".") p 6 (p.journals - 6) (λ j. refl))), ((refl, later_apart p 2 6 (p.journals - 6) (omega arith)), (later_apart p 3 6 (p.journals - 6) (omega arith), journals_apart p 6 (p.journals - 6)))),
           ),
         ),
       ),
     ),
   );
-  long = eight_more p.journals (length (journal_records p 6 m)) (length_journals p 6 m) many;
-  plain = no_directory (parent_record p) _ refl (no_directory (journal_record p 0) _ refl (no_directory (journal_record p 1) _ refl (no_directory (journal_record p 4) _ refl (no_directory (journal_record p 5) _ refl
-      (no_directory (this_record p) _ refl (no_directory (journal_record p 2) _ refl (no_directory (journal_record p 3) _ refl (no_directories p 6 m))))))));
+  long = eight_more p.journals (length (journal_records p 6 (p.journals - 6))) (length_journals p 6 (p.journals - 6)) many;
+  plain = no_directories p 6 (p.journals - 6);
 }
   where
-    abbrev m : ℕ
-    m = p.journals - 6
-
     eight_more : (n k : ℕ) → k ≡ n - 6 → 7 ≤ n → suc (suc (suc (suc (suc (suc (suc (suc k))))))) ≡ 2 + n
     eight_more n k e many = omega (arith, e, many)
 
     later : (j : ℕ) → 6 ≤ j → j < p.journals → IsIn (journal_record p j) (upper_said p ++ lower_said p)
-    later j high low = inr (inr (inr (inr (inr (inr (inr (inr (journal_in p 6 m j high (omega (arith, low, many))))))))))
+    later j high low = inr (inr (inr (inr (inr (inr (inr (inr (journal_in p 6 (p.journals - 6) j high (omega (arith, low, many))))))))))
 
     each : (j : ℕ) → j < p.journals → IsIn (journal_record p j) (upper_said p ++ lower_said p)
     each zero low = inr (inl refl)
@@ -116,7 +112,7 @@ halves_are p many = record {
     only r (inr (inr (inr (inr (inr (inl e)))))) = is_this e
     only r (inr (inr (inr (inr (inr (inr (inl e))))))) = known 2 r (omega arith) e
     only r (inr (inr (inr (inr (inr (inr (inr (inl e)))))))) = known 3 r (omega arith) e
-    only r (inr (inr (inr (inr (inr (inr (inr (inr h)))))))) = is_journal (of_journal p 6 m p.journals r (omega (arith, many)) h)
+    only r (inr (inr (inr (inr (inr (inr (inr (inr h)))))))) = is_journal (of_journal p 6 (p.journals - 6) p.journals r (omega (arith, many)) h)
 
 -- ---- the directory
 

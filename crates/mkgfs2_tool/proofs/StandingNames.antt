@@ -158,17 +158,13 @@ of_journal p start (suc n) all r few (inr h) = of_journal p (start + 1) n all r 
 pub length_journals : (p : Plan) (start n : ℕ) → length (journal_records p start n) ≡ n
 length_journals p start n = length-map (map (journal_entry p) (range_with_len start n)) entry_record ∙ length-map (range_with_len start n) (journal_entry p) ∙ length-range_with_len start n
 
--- a record that isn't a directory's, or is one of the dots, counts for none
-pub no_directory : (r : Record) (rs : List Record) → (not (is_dots r.name) && r.kind == 4) ≡ false → directory_count rs ≡ 0 → directory_count (r ∷ rs) ≡ 0
-no_directory r rs off rest = none (directory_count (r ∷ rs)) (cond (not (is_dots r.name) && r.kind == 4) 1 0) (directory_count rs)
-    (sum_by-cons (λ (r : Record). cond (not (is_dots r.name) && r.kind == 4) 1 0) r rs) (cond-false {A = ℕ} _ 1 0 off) rest
-  where
-    none : (a b c : ℕ) → a ≡ b + c → b ≡ 0 → c ≡ 0 → a ≡ 0
-    none a b c e z y = omega (arith, e, z, y)
-
 pub no_directories : (p : Plan) (start n : ℕ) → directory_count (journal_records p start n) ≡ 0
 no_directories p start zero = refl
-no_directories p start (suc n) = no_directory (entry_record (journal_entry p start)) (journal_records p (start + 1) n) refl (no_directories p (start + 1) n)
+no_directories p start (suc n) = none (directory_count (journal_records p start (suc n))) (directory_count (journal_records p (start + 1) n))
+    (sum_by-cons (λ (r : Record). cond (not (is_dots r.name) && r.kind == 4) 1 0) (entry_record (journal_entry p start)) (journal_records p (start + 1) n)) (no_directories p (start + 1) n)
+  where
+    none : (a b : ℕ) → a ≡ 0 + b → b ≡ 0 → a ≡ 0
+    none a b e z = omega (arith, e, z)
 
 -- ---- places in a list over a range
 

@@ -17,7 +17,7 @@ use Rattle.mkgfs2_tool.specs.Directories.{journals_entries}
 use Rattle.mkgfs2_tool.specs.Making.{IsFitting}
 use Rattle.mkgfs2_tool.specs.Standing.{IsStamped, IsNewImage, new_layout, HasCleanHeads, StandsEmpty}
 use Rattle.mkgfs2_tool.specs.declared.plan.Plan.{Plan}
-use Rattle.mkgfs2_tool.proofs.StandingDirs.{dir_linear, journals_at}
+use Rattle.mkgfs2_tool.proofs.StandingJindex.{jindex_is}
 use Rattle.mkgfs2_tool.proofs.StandingGiven.{Given, Known}
 use Rattle.mkgfs2_tool.proofs.StandingGround.{group_ends}
 use Rattle.mkgfs2_tool.proofs.StandingPlan.{ground, ground_is}
@@ -135,7 +135,7 @@ module _ (p : Plan) (fit : IsFitting p) (known : Known p) (at : Blocks) (made : 
     stands = record { owners = owner p; layout = new_layout p; laid = laid; reads = reads p fit known at made };
     found = refl;
     heads = heads;
-    linear = dir_linear p fit known at made (journals_place p) 4 (2 + p.journals) 2 (journals_entries p) (journals_at p fit known);
+    form = (jindex_is p fit known at made).form;
     profile = profile;
   }
 

@@ -1,4 +1,3 @@
-use Rattle.mkgfs2_tool.proofs.StandingJindex.{jindex_is}
 use Rattle.mkgfs2_tool.proofs.StandingProfile.{new_stands}
 use Rattle.mkgfs2_tool.proofs.laws.new_images_stand.Goals as goal
 
