@@ -1,5 +1,5 @@
 -- To which half the hashes of a new image's names belong.
-use Rattle.std.proofs.Common.{ℕ, ◌≡◌, codes, refl}
+use Rattle.std.proofs.Common.{ℕ, ◌≡◌, refl}
 use Rattle.crc_words.specs.Remainder.{crc32_of, remainder, after_bits, after_bit}
 use Rattle.gfs2_layout.specs.Inode.{top_bits}
 use Rattle.mkgfs2_tool.specs.Directories.{name_bytes}

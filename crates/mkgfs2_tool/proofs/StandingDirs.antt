@@ -15,7 +15,6 @@ use Rattle.gfs2_layout.specs.Holding.{Holding, Part, Itself, Pointed, InChain, b
 use Rattle.gfs2_layout.specs.Records.{records_in, IsRecordArea}
 use Rattle.mkgfs2_tool.proofs.StandingGiven.{own_part, itself_own, pointed_owner, chained_owner, block_same, own_block}
 use Rattle.mkgfs2_tool.specs.Groups.{super_block, data_address}
-use Rattle.mkgfs2_tool.specs.Files.{file_blocks}
 use Rattle.mkgfs2_tool.specs.Order.{master_place, root_place, group_list_place, journals_place, has_hashed_journals, journal_leaves, journal_place, taken, use_of}
 use Rattle.mkgfs2_tool.specs.Directories.{records, Fit, name_of as name_in, entry, journal_entry, master_entries, root_entries, journals_entries}
 use Rattle.mkgfs2_tool.specs.Blocks.{data_block, zeros, new_block, used_block, dinode, dinode_block, directory, area_length, master_block, root_block, journals_block}

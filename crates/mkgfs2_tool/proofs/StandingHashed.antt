@@ -1,44 +1,40 @@
 -- The directory of journals of a new image is sound where it is a hashed one.
-use Rattle.std.proofs.Common.{ℕ, zero, suc, ◌≡◌, ◌≢◌, ◌+◌, ◌-◌, ◌*◌, ◌/◌, ◌^◌, ◌<◌, ◌≤◌, ◌⊎◌, inl, inr, Bool, true, false, List, [], ◌∷◌, ◌++◌, length, take, drop, replicate, map, Option, None, Some, refl, sym, ap, ◌∙◌, subst, arith, append-nil}
-use Rattle.std.specs.Prelude.{◌==◌, ◌&&◌, nat_lt, if◌then◌else◌, is_some, filter, Contains, get_or}
+use Rattle.std.proofs.Common.{ℕ, zero, suc, ◌≡◌, ◌+◌, ◌-◌, ◌*◌, ◌/◌, ◌^◌, ◌<◌, ◌≤◌, inl, inr, Bool, true, false, List, [], ◌++◌, length, take, drop, replicate, map, Option, None, Some, refl, sym, ap, ◌∙◌, subst, arith, append-nil}
+use Rattle.std.specs.Prelude.{◌==◌, ◌&&◌, nat_lt, if◌then◌else◌, is_some, Contains, get_or}
 use Rattle.std.specs.List.{AllByRecursion, flat_map, range_with_len}
-use Rattle.std.proofs.lemmas.Bool.{cases_lt, cases_eq, cases_Bool, cond-true, cond-false, eq-eqb, lt-ltb, le-ltb, ne_eqb, true≢false}
+use Rattle.std.proofs.lemmas.Bool.{cases_lt, cases_eq, cases_Bool, cond-true, cond-false, eq-eqb, lt-ltb, le-ltb, true≢false}
 use Rattle.std.proofs.lemmas.List.{take_at}
 use Rattle.std.proofs.lemmas.List.FromFn.{length-range_with_len, get_or-range_with_len}
-use Rattle.gfs2_layout.specs.Bytes.{put_at, u32_at, u64_at}
-use Rattle.gfs2_layout.specs.Structures.{dinode_of, is_directory, leaf_of}
-use Rattle.gfs2_layout.specs.Writing.{dinode_put}
+use Rattle.gfs2_layout.specs.Bytes.{u64_at}
+use Rattle.gfs2_layout.specs.Structures.{dinode_of, is_directory}
 use Rattle.gfs2_layout.specs.declared.dinode.Dinode.{Dinode}
 use Rattle.gfs2_layout.specs.declared.leaf.Leaf.{Leaf}
 use Rattle.gfs2_layout.specs.Headers.{HasHeader}
 use Rattle.crc_words.specs.Remainder.{crc32_of}
 use Rattle.image_model.specs.Image.{Blocks}
 use Rattle.gfs2_layout.specs.Inode.{dinode_in, height_in, has_hash_flag, is_directory_in, is_hashed_in, content_of, depth_in, table_count, entry, leaf_in, leaf_area, leaves_of, is_leaf_part, top_bits, index_bits, first_hash, records_of, IsLeaf, IsHashed, IsInode, block_count}
-use Rattle.image_model.specs.Owners.{Chained, is_dinode}
+use Rattle.image_model.specs.Owners.{is_dinode}
 use Rattle.gfs2_layout.specs.Holding.{Holding, Part, Itself, Pointed, InChain, bytes_at, part_at}
 use Rattle.gfs2_layout.specs.Records.{Record, records_in, IsRecordArea}
-use Rattle.mkgfs2_tool.specs.Groups.{super_block, all_data, data_address}
+use Rattle.mkgfs2_tool.specs.Groups.{all_data, data_address}
 use Rattle.mkgfs2_tool.specs.Order.{journals_place, has_hashed_journals, is_split, journal_leaves, leaf_place, taken}
 use Rattle.mkgfs2_tool.specs.Directories.{records}
 use Rattle.mkgfs2_tool.specs.Hashing.{table_bytes, leaf_of_pointer, leaf_room, leaf_entries, leaf_depth, leaf_head, leaf_records}
-use Rattle.mkgfs2_tool.specs.Blocks.{zeros, new_block, used_block, dinode, dinode_block, hashed_directory, journals_block, leaf_block}
+use Rattle.mkgfs2_tool.specs.Blocks.{new_block, used_block, dinode, hashed_directory, leaf_block}
 use Rattle.mkgfs2_tool.specs.Making.{IsFitting}
 use Rattle.mkgfs2_tool.specs.declared.plan.Plan.{Plan}
-use Rattle.mkgfs2_tool.proofs.LeafLaws.{leaves_few, leaves_whole, leaves_split, hashed_size}
-use Rattle.mkgfs2_tool.proofs.PointerLaws.{length-pointers}
-use Rattle.mkgfs2_tool.proofs.StandingLists.{IsIn, is_in, in_range, from_range, Rising}
+use Rattle.mkgfs2_tool.proofs.LeafLaws.{leaves_whole, leaves_split, hashed_size}
+use Rattle.mkgfs2_tool.proofs.StandingLists.{IsIn, is_in, in_range, Rising}
 use Rattle.image_model.proofs.Members.{in_filter, from_filter}
 use Rattle.image_model.proofs.Rising.{same_rising, rising_filter, rising_range}
 use Rattle.mkgfs2_tool.proofs.StandingGiven.{Known, own_part, itself_own, pointed_owner, chained_owner, chained_part, block_same, own_block}
 use Rattle.mkgfs2_tool.proofs.StandingCounts.{count_images}
-use Rattle.mkgfs2_tool.proofs.StandingBytes.{spelled, read_spelled}
-use Rattle.mkgfs2_tool.proofs.StandingDinodes.{IsDinodeBlock, dinode_put_is, IsSmall, dinode_widths}
-use Rattle.mkgfs2_tool.proofs.StandingPlan.{apart_addresses, addresses_up, address_low, address_high}
-use Rattle.mkgfs2_tool.proofs.StandingOwners.{leaf_hash, leaf_owner, spot, owner, in_all, owner_journals, owner_leaf, use_of_journals, use_of_leaf, journals_taken, leaf_taken}
-use Rattle.mkgfs2_tool.proofs.StandingFiles.{size_few}
+use Rattle.mkgfs2_tool.proofs.StandingBytes.{read_spelled}
+use Rattle.mkgfs2_tool.proofs.StandingDinodes.{IsDinodeBlock}
+use Rattle.mkgfs2_tool.proofs.StandingPlan.{apart_addresses, addresses_up, address_low}
+use Rattle.mkgfs2_tool.proofs.StandingOwners.{leaf_hash, owner, in_all, owner_journals, owner_leaf, use_of_leaf, journals_taken, leaf_taken}
 use Rattle.mkgfs2_tool.proofs.StandingWhose.{file_apart_journals, IsLeafOf, leaf_of as leaf_owned, chained_same, IsBelowOf, below_of}
 use Rattle.mkgfs2_tool.proofs.StandingInodes.{image, AreMade, held, below_1, cell_some, some_cell}
-use Rattle.mkgfs2_tool.proofs.StandingRecords.{AreRecordsOf}
 use Rattle.mkgfs2_tool.proofs.StandingDirs.{used_at}
 use Rattle.mkgfs2_tool.proofs.StandingTable.{table_long, table_block_is}
 use Rattle.mkgfs2_tool.proofs.StandingLeaves.{IsLeafBlock, leaf_said, leaf_area_is, leaf_block_is, leaf_hashes, said_long}

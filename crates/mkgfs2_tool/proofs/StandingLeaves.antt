@@ -1,8 +1,8 @@
 -- The leaves of a new image's directory of journals, read back.
-use Rattle.std.proofs.Common.{ℕ, zero, suc, ◌≡◌, ◌≢◌, ◌+◌, ◌-◌, ◌*◌, ◌/◌, ◌^◌, ◌<◌, ◌≤◌, ◌⊎◌, inl, inr, Bool, true, false, List, [], ◌∷◌, ◌++◌, length, drop, replicate, map, Option, None, Some, Ok, refl, sym, ap, ◌∙◌, subst, arith, length-append, append_assoc, append-nil}
-use Rattle.std.specs.Prelude.{◌==◌, nat_lt, if◌then◌else◌}
-use Rattle.std.specs.List.{AllByRecursion, range_with_len}
-use Rattle.std.proofs.lemmas.Bool.{cases_Bool, cond-true, cond-false, eqb-true}
+use Rattle.std.proofs.Common.{ℕ, suc, ◌≡◌, ◌+◌, ◌-◌, ◌/◌, ◌^◌, ◌<◌, ◌≤◌, ◌⊎◌, inl, inr, Bool, true, false, List, [], ◌∷◌, ◌++◌, length, drop, replicate, map, Option, None, Some, Ok, refl, sym, ap, ◌∙◌, subst, arith, length-append, append_assoc, append-nil}
+use Rattle.std.specs.Prelude.{◌==◌, if◌then◌else◌}
+use Rattle.std.specs.List.{AllByRecursion}
+use Rattle.std.proofs.lemmas.Bool.{cases_Bool, cond-false, eqb-true}
 use Rattle.std.proofs.lemmas.List.{length-replicate, drop-replicate}
 use Rattle.std.proofs.lemmas.List.Elements.{All-from_recursion}
 use Rattle.gfs2_layout.specs.Bytes.{put_at, u32_at}
@@ -18,8 +18,8 @@ use Rattle.gfs2_layout.specs.declared.fault.LayoutFault.TheVariants.{Value}
 use Rattle.crc_words.specs.Remainder.{crc32_of}
 use Rattle.mkgfs2_tool.specs.Directories.{records, Fit, emptied, reaching, record_bytes, entry, journal_entry, journals_entries, upper_entries, lower_entries}
 use Rattle.mkgfs2_tool.specs.Hashing.{leaf_room, leaf_entries, leaf_records, leaf_depth, leaf_head}
-use Rattle.mkgfs2_tool.specs.Blocks.{leaf_block, zeros}
-use Rattle.mkgfs2_tool.specs.Order.{master_place, journals_place, is_split, taken}
+use Rattle.mkgfs2_tool.specs.Blocks.{leaf_block}
+use Rattle.mkgfs2_tool.specs.Order.{master_place, journals_place, is_split}
 use Rattle.mkgfs2_tool.specs.Making.{IsFitting}
 use Rattle.mkgfs2_tool.specs.declared.directory.Entry.{Entry}
 use Rattle.mkgfs2_tool.specs.declared.directory.Name.TheVariants as name

@@ -13,7 +13,6 @@ use Rattle.mkgfs2_tool.proofs.StandingLists.{some_same}
 use Rattle.mkgfs2_tool.specs.Groups.{super_block, group_address, group_blocks, data_address}
 use Rattle.mkgfs2_tool.specs.Order.{master_place, journals_place, journal_place}
 use Rattle.mkgfs2_tool.specs.Blocks.{group_entry, clean_header}
-use Rattle.mkgfs2_tool.specs.Directories.{journals_entries}
 use Rattle.mkgfs2_tool.specs.Making.{IsFitting}
 use Rattle.mkgfs2_tool.specs.Standing.{IsStamped, IsNewImage, new_layout, HasCleanHeads, StandsEmpty}
 use Rattle.mkgfs2_tool.specs.declared.plan.Plan.{Plan}

@@ -1,9 +1,8 @@
 -- The inodes of a new image, and where names lead.
 use Rattle.std.proofs.Common.{ℕ, zero, suc, ◌≡◌, ◌+◌, ◌<◌, ◌≤◌, ◌⊎◌, inl, inr, Bool, true, false, List, [], ◌∷◌, map, Option, None, Some, codes, refl, sym, ap, ◌∙◌, subst, arith}
-use Rattle.std.specs.Prelude.{length, ◌/◌, ◌%◌, ◌==◌, ◌&&◌, not, Contains, option_and_then, cond}
+use Rattle.std.specs.Prelude.{length, ◌/◌, ◌%◌, Contains, option_and_then}
 use Rattle.std.specs.Option.{option_map}
 use Rattle.std.proofs.lemmas.Bool.{cond-true, cond-false, eqb-true, true≢false}
-use Rattle.std.proofs.lemmas.List.Sums.{sum_by-cons}
 use Rattle.std.proofs.lemmas.List.FromFn.{length-map-range_with_len}
 use Rattle.file_tree.specs.Tree.{dir, none}
 use Rattle.gfs2_layout.specs.Structures.{is_directory, is_regular}
@@ -13,19 +12,14 @@ use Rattle.image_model.specs.Image.{Blocks}
 use Rattle.gfs2_layout.specs.Inode.{Head, dinode_in, is_directory_in, records_of, IsInode}
 use Rattle.image_model.specs.Journals.{journal_name, IsJournal}
 use Rattle.image_model.specs.Owners.{Owner, Super, InGroup, Free, Nobody, Root, Master, Named, Below, Chained, Up, up_of, parent_of, is_dinode, IsUsed, IsWithin}
-use Rattle.image_model.specs.Nodes.{node_of, child_of}
+use Rattle.image_model.specs.Nodes.{node_of}
 use Rattle.image_model.specs.Stands.{IsJournalAt, flat_of, heads_of, IsRecordOf, HasRecord, LeadsDown, IsDirectory, IsSystem, IsFound, AreShort}
-use Rattle.mkgfs2_tool.proofs.StandingLists.{none_some, some_same, IsIn, is_in, contained, found_in}
-use Rattle.std.specs.Str.{bytes_eq}
+use Rattle.mkgfs2_tool.proofs.StandingLists.{none_some, some_same, IsIn, is_in, contained}
 use Rattle.std.specs.Option.{option_map}
-use Rattle.std.proofs.lemmas.Bool.{cases_Bool}
-use Rattle.std.proofs.lemmas.Slice.Eq.{bytes_eq-Decides}
-use Rattle.gfs2_layout.specs.Records.{Record, is_dots, child_named, record_named}
-use Rattle.gfs2_layout.specs.Holding.{Holding}
-use Rattle.gfs2_layout.specs.Exchanges.{directory_count}
+use Rattle.gfs2_layout.specs.Records.{Record, is_dots, child_named}
 use Rattle.mkgfs2_tool.specs.Groups.{data_address}
 use Rattle.mkgfs2_tool.specs.Order.{master_place, root_place, journals_place, journal_place}
-use Rattle.mkgfs2_tool.specs.Directories.{journal_entry, master_entries, root_entries, journals_entries}
+use Rattle.mkgfs2_tool.specs.Directories.{journal_entry, master_entries, root_entries}
 use Rattle.mkgfs2_tool.specs.Blocks.{group_entries}
 use Rattle.mkgfs2_tool.specs.Making.{IsFitting}
 use Rattle.mkgfs2_tool.specs.Standing.{new_layout}
@@ -44,7 +38,7 @@ use Rattle.mkgfs2_tool.proofs.StandingNames.{record_name, name_is, is_journal_na
 use Rattle.mkgfs2_tool.proofs.StandingLeaves.{this_record, parent_record, journal_record}
 use Rattle.mkgfs2_tool.proofs.StandingJindex.{Said, is_this, is_parent, is_journal, IsJindex, jindex_is}
 use Rattle.image_model.proofs.JournalNames.{one_number}
-use Rattle.image_model.proofs.Reach.{Leading, IsNamedChild, leading, named_child}
+use Rattle.image_model.proofs.Reach.{Leading, IsNamedChild, named_child}
 
 used_dinode : (o : Owner) → is_dinode o ≡ true → IsUsed o
 used_dinode Super e = cc

@@ -2,7 +2,6 @@
 use Rattle.std.proofs.Common.{ℕ, ◌≡◌, ◌+◌, ◌<◌, ◌≤◌, ◌⊎◌, inl, inr, List, codes, sym, ap, ◌∙◌, subst, arith}
 use Rattle.std.proofs.lemmas.Bool.{cases_eq, cond-true, cond-false, eq-eqb, ne_eqb}
 use Rattle.image_model.specs.Owners.{Root, Master, Named, Below, Chained, IsUsed}
-use Rattle.image_model.specs.Owners.{Owner, Super, InGroup, Free, Nobody}
 use Rattle.mkgfs2_tool.specs.Groups.{data_address}
 use Rattle.mkgfs2_tool.specs.Files.{height, level_start}
 use Rattle.mkgfs2_tool.specs.Order.{master_place, root_place, journals_place, journal_leaves, leaf_place}
@@ -11,7 +10,7 @@ use Rattle.mkgfs2_tool.specs.declared.plan.Plan.{Plan}
 use Rattle.mkgfs2_tool.proofs.StandingGiven.{Known}
 use Rattle.mkgfs2_tool.proofs.StandingPlan.{apart_addresses}
 use Rattle.mkgfs2_tool.proofs.StandingShapes.{IsBelow, part_below, part_here, inside_file, Piece, is_top, is_below, piece}
-use Rattle.mkgfs2_tool.proofs.StandingOwners.{file_place, file_shape, file_owner, spot, named, below_owner, owner, Kept, leaf_hash, leaf_owner, is_master, is_root, is_journals, is_leaf, is_file, kept, owner_file, owner_master, owner_root, owner_journals, owner_leaf, IsTaken, used_taken, file_apart, file_not_journals, journals_taken, in_all, file_taken, file_some}
+use Rattle.mkgfs2_tool.proofs.StandingOwners.{file_place, file_shape, file_owner, spot, named, below_owner, owner, Kept, leaf_owner, is_master, is_root, is_journals, is_leaf, is_file, kept, owner_file, owner_master, owner_root, owner_journals, owner_leaf, IsTaken, used_taken, file_apart, file_not_journals, journals_taken, in_all, file_taken, file_some}
 use Rattle.mkgfs2_tool.proofs.StandingFiles.{file_low}
 pub use Rattle.image_model.proofs.Unique.{used_or_not}
 

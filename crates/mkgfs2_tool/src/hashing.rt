@@ -57,7 +57,11 @@ impl Plan {
     {
         for n in 0..TABLE_POINTERS {
             let address = self.data_address(self.leaf_place(self.leaf_of_pointer(n)));
-            put_bytes(block, DINODE_LENGTH + 8 * n as usize, &address.to_be_bytes());
+            put_bytes(
+                block,
+                DINODE_LENGTH + 8 * n as usize,
+                &address.to_be_bytes(),
+            );
         }
     }
 
