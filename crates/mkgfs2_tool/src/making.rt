@@ -201,8 +201,6 @@ fn make_plan<D: SharedDisk>(alloc: Global, disk: &mut D, plan: &Plan) -> Result<
 /// master directory with the list of groups and the directory of journals, an empty root, and clean journals; all other
 /// blocks are zero. The options are looked at first, then whether it fits, and memory is taken before anything is written.
 /// Each block is read, and is written only where it is not yet as it is to be; at most 512 writes are in flight.
-///
-/// In blocks of 512 bytes the directory of four and more journals is a hashed one.
 pub fn make<D: SharedDisk>(
     alloc: Global,
     disk: &mut D,
