@@ -16,11 +16,15 @@ use Rattle.gfs2_layout.specs.Inode.{Head, IsInode, head_of}
 use Rattle.gfs2_layout.specs.declared.dinode.Dinode.{Dinode}
 use Rattle.gfs2_layout.specs.declared.rindex.Rindex.{Rindex}
 use Rattle.glock_names.specs.Views.{Seen, HasBlock, HasGroup, IsView, group_of_entry}
+use Rattle.glock_names.specs.declared.steps.Entry.{Entry}
 use Rattle.glock_names.specs.declared.views.Group.{Group}
 use Rattle.dinode_tree.specs.Reading.{inode_lock}
 use Rattle.linear_dirs.specs.Shown.{bytes_over, holding_over, record_for}
 use Rattle.linear_dirs.proofs.Over.{as_seen, parts_stay}
 use Rattle.linear_dirs.proofs.Rewritten.{over_there}
+use Rattle.growth_drafts.specs.Taken.{AreFreeFor}
+use Rattle.directories.specs.Shown as dirs
+use Rattle.name_inserts.specs.Inserting.{CanGetName, PutsName}
 use Rattle.resource_groups.specs.Freeing as freeing
 use Rattle.resource_groups.specs.Putting.{HasDataBlock}
 use Rattle.resource_groups.specs.Shown.{IsDataOf, IsHeaderOf}
@@ -42,7 +46,7 @@ use Rattle.draft_changes.proofs.Views.{groups_are_listed}
 use Rattle.image_changes.proofs.Finishing.{drafts_show}
 use Rattle.directory_changes.specs.Growing.{GrowsByName, IsPutOrLeft}
 use Rattle.path_walks.specs.declared.walk.Place.{Place}
-use Rattle.name_drafts.specs.Drafting.{GrowsInto, IsNewOf, IsPlaceFor, entry_for, kind_for, new_tree}
+use Rattle.name_drafts.specs.Drafting.{GrowsInto, HasNoGroupBlock, IsNewOf, IsPlaceFor, entry_for, kind_for, new_tree}
 use Rattle.name_drafts.specs.declared.drafting.NewBlock.{NewBlock}
 use Rattle.name_drafts.proofs.Done.{AreDone, as_named, new_put, parent_put, second_away}
 use Rattle.name_drafts.proofs.Fates.{put_seen}
@@ -114,9 +118,16 @@ module _ (v : Seen) (is_directory : Bool) (p : Place) (name : List ℕ) (r : New
   abbrev first : FinMap nat_cmp Fate
   first = is.named.first
 
+  h_shown : dirs.IsShown v p.inode h
   h_shown = shown v im o l t of shows path name p r room place
+
+  h_can : CanGetName h name room
   h_can = can_get v im o l t of shows path name p r room place
+
+  h_free : AreFreeFor h (r.block ∷ room)
   h_free = all_free v im o l t of shows path name p r room place
+
+  h_clear : HasNoGroupBlock v h
   h_clear = no_group_block v im o l t of shows p.inode
 
   abbrev m : Holding
@@ -125,7 +136,13 @@ module _ (v : Seen) (is_directory : Bool) (p : Place) (name : List ℕ) (r : New
   abbrev g : Holding
   g = holding_over (seen_with v end) m
 
+  abbrev entry : Entry
+  entry = entry_for is_directory is.number r.block
+
+  abbrev m_puts : PutsName empty first room is.named.left name entry h m
   m_puts = puts v is_directory p name r room time change is shows has block inside rooms apart h h_shown h_can h_free h_clear
+
+  abbrev m_is : (x : Holding) × dirs.IsShown (seen_with v first) p.inode x × ((given : PutsName empty first room is.named.left name entry h x) × (given.taken ≡ is.taken))
   m_is = named_is v is_directory p name r room time change is shows has block inside rooms apart h h_shown h_can h_free h_clear
 
   -- ---- its blocks

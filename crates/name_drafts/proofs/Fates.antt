@@ -26,6 +26,9 @@ unchanged v = λ i. record v { block_at = λ b. ap (λ f. block_with f (v.block_
 pub seen_old : {V : Type 0} (seen : V → Seen) (d : Drafted V) → d.fates ≡ empty → seen_in seen d ≡ seen d.view
 seen_old seen d new = ap (seen_with (seen d.view)) new ∙ unchanged (seen d.view)
 
+pub seen_new : {V : Type 0} (seen : V → Seen) (view : V) (d : Drafted V) → d ≡ record { view = view; fates = empty } → seen_in seen d ≡ seen view
+seen_new seen view d new = ap (seen_in seen) new ∙ unchanged (seen view)
+
 pub seen_over : {V : Type 0} (seen : V → Seen) (view : V) (d : Drafted V) → d.view ≡ view → seen_in seen d ≡ seen_with (seen view) d.fates
 seen_over seen view d over = ap (λ x. seen_with (seen x) d.fates) over
 

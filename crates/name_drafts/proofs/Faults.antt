@@ -114,8 +114,18 @@ module _ (v : Seen) (fates : FinMap nat_cmp Fate) (leaves : LeavesGroups v fates
   pub breaks_before : (blocks : List ℕ) (rule c : ℕ) → BreaksSome (seen_with v fates) blocks rule c → BreaksSome v blocks rule c
   breaks_before blocks rule c (g, has, some, broken) = (g, has, some, λ at shown. broken at (shown_then g at has shown))
 
--- the view has a group's block that a draft sees of which a rule is told, if it has each block of a header that is put
-pub kept_before : (v : Seen) (fates : FinMap nat_cmp Fate) → IsView v → ((g : Group) (c : ℕ) → HasGroup v g → IsHeaderOf g c → HasBlock (seen_with v fates) c → HasBlock v c)
-    → (blocks : List ℕ) (rule c : ℕ) → BreaksSome v blocks rule c → HasBlock (seen_with v fates) c → HasBlock v c
-kept_before v fates shows sees blocks rule c (g, has, some, broken) there =
-    sees g c has (broken_own (some_bytes v) g rule c (fit_of v g shows has).some (broken (some_bytes v) (some_shown v g shows))) there
+  -- where a rule is told of a group, the block is of its header and bitmap
+  pub told_header : IsView (seen_with v fates) → (blocks : List ℕ) (rule c : ℕ) → BreaksSome v blocks rule c → (g : Group) × HasGroup v g × IsHeaderOf g c
+  told_header shows blocks rule c (g, has, some, broken) =
+      let w = seen_with v fates in
+      (g, has, broken_own (some_bytes w) g rule c (fit_of w g shows has).some (broken (some_bytes w) (shown_before g (some_bytes w) has (some_shown w g shows))))
+
+  -- so the view has it, if a later draft sees none of these that it hasn't
+  pub kept_before : IsView (seen_with v fates) → (later : Seen) → ((g : Group) (c : ℕ) → HasGroup v g → IsHeaderOf g c → HasBlock later c → HasBlock v c)
+      → (blocks : List ℕ) (rule c : ℕ) → BreaksSome v blocks rule c → HasBlock later c → HasBlock v c
+  kept_before shows later sees blocks rule c breaks there =
+      let of = told_header shows blocks rule c breaks in
+      sees of.0 c of.1 of.2 there
+
+  pub sees_below : (g : Group) (c : ℕ) → HasGroup v g → IsHeaderOf g c → HasBlock (seen_with v fates) c → HasBlock v c
+  sees_below g c has own there = (there.0, sym (left_seen v fates c (leaves g c has own)) ∙ there.1)

@@ -18,6 +18,7 @@ use Rattle.gfs2_layout.specs.Structures.{dinode_length, dinode_of}
 use Rattle.gfs2_layout.specs.declared.dinode.Dinode.{Dinode}
 use Rattle.glock_names.specs.Views.{Seen, HasBlock, HasGroup, IsView}
 use Rattle.glock_names.specs.declared.steps.Entry.{Entry}
+use Rattle.glock_names.specs.declared.views.Group.{Group}
 use Rattle.dinode_tree.specs.Pads.{KeepsPads}
 use Rattle.dinode_tree.proofs.Pads.{keeps_on, put_keeps}
 use Rattle.growth_drafts.specs.Taken.{AreFreeFor}
@@ -106,13 +107,13 @@ module _ (v : Seen) (is_directory : Bool) (p : Place) (name : List ℕ) (r : New
   end = last v is_directory p name r room time change is shows has block inside rooms apart
 
   -- the directory with the name, and its blocks
-  pub named_is : (g : Holding) × IsShown (seen_with v is.named.first) p.inode g × ((puts : PutsName empty is.named.first room is.named.left name entry h g) × (puts.taken ≡ is.taken))
+  abbrev pub named_is : (g : Holding) × IsShown (seen_with v is.named.first) p.inode g × ((puts : PutsName empty is.named.first room is.named.left name entry h g) × (puts.taken ≡ is.taken))
   named_is = is.named.named h shown can
 
   abbrev pub named : Holding
   named = named_is.0
 
-  pub puts : PutsName empty is.named.first room is.named.left name entry h named
+  abbrev pub puts : PutsName empty is.named.first room is.named.left name entry h named
   puts = named_is.2.0
 
   in_room : (b : ℕ) → Contains is.taken b → Contains room b

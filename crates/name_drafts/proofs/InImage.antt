@@ -1,5 +1,5 @@
 -- In an image that the view may be of: the directory at a place can get its name.
-use Rattle.std.proofs.Common.{◌≡◌, ◌≢◌, inl, inr, ℕ, zero, suc, ◌+◌, ◌-◌, ◌*◌, ◌^◌, ◌<◌, ◌≤◌, Bool, true, false, List, [], ◌∷◌, ◌++◌, length, drop, Option, None, Some, refl, sym, ap, ◌∙◌, subst, arith, length-append, length-drop}
+use Rattle.std.proofs.Common.{◌≡◌, ◌≢◌, ◌⊎◌, inl, inr, ℕ, zero, suc, ◌+◌, ◌-◌, ◌*◌, ◌^◌, ◌<◌, ◌≤◌, Bool, true, false, List, [], ◌∷◌, ◌++◌, length, drop, Option, None, Some, refl, sym, ap, ◌∙◌, subst, arith, length-append, length-drop}
 use Rattle.std.proofs.lemmas.Bool.{cases_Bool, cases_lt, cond-true, cond-false, and_right}
 use Rattle.std.proofs.lemmas.List.{length-map}
 use Rattle.std.proofs.lemmas.List.FromFn.{length-range_with_len}
@@ -49,6 +49,7 @@ few_within zero bytes = omega arith
 few_within (suc most) bytes = grind (arith, few_within most)
 
 few_slots : (area : List ℕ) → length (slots_of area) ≤ length area
+unfolding slots_of
 few_slots area = few_within (length area) area
 
 few_in : (area : List ℕ) → length (records_in area) ≤ length area
@@ -61,13 +62,9 @@ few_in area = omega (
   few_slots area,
 )
 
-few_joined : {X Y : Type 0} (f : X → List Y) (xs : List X) (most : ℕ) → ((x : X) → length (f x) ≤ most) → length (flat_map f xs) ≤ length xs * most
-few_joined f [] most few = omega arith
-few_joined f (x ∷ xs) most few =
-    let later = few_joined f xs most few in
-    let both = length-append (f x) (flat_map f xs) in
-    let more : length (x ∷ xs) * most ≡ most + length xs * most = refl in
-    omega (arith, later, both, few x, more)
+few_joined : {X Y : Type 0} (f : X → List Y) (xs : List X) → ((x : X) → length (f x) ≤ 4096) → length (flat_map f xs) ≤ 4096 * length xs
+few_joined f [] few = omega arith
+few_joined f (x ∷ xs) few = omega (arith, few_joined f xs few, length-append (f x) (flat_map f xs), few x)
 
 -- no block of an inode has more bytes than a block
 short_block : (h : Holding) (x most : ℕ) → IsInode h → h.size ≤ most → length (bytes_at h x) ≤ most
@@ -92,7 +89,7 @@ few_records h sound small few = elim (cases_Bool (is_hashed_in h)) [
     in_leaves : length (flat_map (λ x. records_in (leaf_area h x)) (leaves_of h)) ≤ 1073741824
     in_leaves = omega (
       arith,
-      few_joined (λ x. records_in (leaf_area h x)) (leaves_of h) 4096 in_leaf,
+      few_joined (λ x. records_in (leaf_area h x)) (leaves_of h) in_leaf,
       length-filter (λ x. is_leaf_part (part_at h x)) (range_with_len 0 h.count),
       count_by-le-length (λ x. is_leaf_part (part_at h x)) (range_with_len 0 h.count),
       length-range_with_len 0 h.count,

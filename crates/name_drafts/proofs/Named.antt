@@ -1,7 +1,8 @@
 -- A directory that gets a name in a new draft, and then the time.
 use Rattle.std.proofs.Common.{◌≡◌, ◌≢◌, inl, inr, ℕ, ◌+◌, ◌-◌, ◌<◌, ◌≤◌, ◌++◌, true, false, true≢false, List, [], ◌∷◌, length, take, drop, Option, None, Some, Ok, refl, sym, ap, ◌∙◌, subst, arith, length-append}
 use Rattle.std.proofs.Math.Seq.{take-append_seam}
-use Rattle.std.specs.Prelude.{Contains, IsSome}
+use Rattle.std.proofs.lemmas.Bool.Decides.{nat_tests}
+use Rattle.std.specs.Prelude.{Contains, Err, IsSome, Result, is_ok}
 use Rattle.std.specs.FinMap.{FinMap, get, empty, insert, get-empty}
 use Rattle.std.specs.Ordering.{nat_cmp}
 use Rattle.drafts.specs.Fates.{Drafted, seen_in, seen_with}
@@ -111,3 +112,7 @@ module _ {V : Type 0} (seen : V → Seen) (old mid last : Drafted V) (dir : ℕ)
 
 pub header_well : (bytes : List ℕ) → dinode_length ≤ length bytes → HasHeader 4 400 bytes → header_fault dinode_length 4 400 bytes ≡ None
 header_well bytes long header = grind (arith, nat_tests, header.magic_is, header.kind_is, header.format_is)
+
+pub ok_there : {A B : Type 0} (r : Result A B) → is_ok r ≡ true → (x : A) × (r ≡ Ok x)
+ok_there (Ok x) so = (x, refl)
+ok_there (Err f) so = absurd (true≢false (sym so))

@@ -111,8 +111,9 @@ pub(crate) fn say_and_finish<V: View>(
     ensures kept { IfDamaged result (IsOfView (V.seen draft.entry.view)) }
 {
     is_a_view(&draft);
-    if let Step::NeedBlock(missing) = say_new(&mut draft, new)? {
-        return Ok(Step::NeedBlock(missing));
+    match say_new(&mut draft, new)? {
+        Step::Is(_number) => {}
+        Step::NeedBlock(missing) => return Ok(Step::NeedBlock(missing)),
     }
     match take_blocks(&mut draft, taken)? {
         Step::Is(()) => {}
