@@ -1,5 +1,5 @@
 -- The directory at the place to which the walk came, as far as the view shows it.
-use Rattle.std.proofs.Common.{◌≡◌, ℕ, ◌+◌, ◌≤◌, true, List, [], ◌∷◌, ◌++◌, length, None, refl, sym, ap, ◌∙◌, subst}
+use Rattle.std.proofs.Common.{◌≡◌, ℕ, ◌+◌, ◌≤◌, true, false, List, [], ◌∷◌, ◌++◌, length, None, refl, sym, ap, ◌∙◌, subst}
 use Rattle.std.specs.Prelude.{Contains}
 use Rattle.file_tree.specs.Names.{parent_of, last_of}
 use Rattle.file_tree.specs.declared.call.Call.{Call}
@@ -39,7 +39,7 @@ module _ (c : Call) (name : List ℕ) (last : IsLastOf (path_of c false) name) w
 
   module _ (v : Seen) (p : Place) (seen : IsSeenAt v (wanted c) (directory_path c) p) (lacks : LacksName v p.inode name) where
     -- it is to get the name
-    pub to_get : IsToGetName v c
+    abbrev pub to_get : IsToGetName v c
     to_get = record {
       below = below_root;
       directory = p.inode;
@@ -48,7 +48,7 @@ module _ (c : Call) (name : List ℕ) (last : IsLastOf (path_of c false) name) w
       lacks = subst (LacksName v p.inode) (sym own_name) lacks;
     }
 
-    pub needs_blocks : (more : ℕ) → TakesForName v p.inode name more → NeedsBlocks v c (more + 1)
+    abbrev pub needs_blocks : (more : ℕ) → TakesForName v p.inode name more → NeedsBlocks v c (more + 1)
     needs_blocks more takes = record { gets = to_get; more = more; takes = subst (λ n. TakesForName v p.inode n more) (sym own_name) takes; all = refl }
 
     pub insert_needs : (m : Missing) → v.block_at m.block ≡ None → ((h : Holding) → IsShown v p.inode h → IsNeededForName v h name m) → IsNeededFor v c m

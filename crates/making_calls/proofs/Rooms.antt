@@ -50,7 +50,7 @@ own_of v node some first =
     (get_or v.groups i nobody, slice_get-get_or v.groups i nobody low, read_group v.groups i nobody low)
 
 -- numbers that rise stand once each
-distinct : (xs : List ℕ) → Rising xs → IsDistinct xs
+pub distinct : (xs : List ℕ) → Rising xs → IsDistinct xs
 distinct [] r = tt
 distinct (x ∷ xs) r = ((λ has. let less : x < x = all_in (λ y. x < y) x xs r.0 (is_in x xs has) in absurd (omega (arith, less))), distinct xs r.1)
 

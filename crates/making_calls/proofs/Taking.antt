@@ -41,8 +41,9 @@ use Rattle.image_model.specs.Groups.{IsListed}
 use Rattle.image_model.specs.Image.{Image}
 use Rattle.image_model.specs.Owners.{Owners, holding}
 use Rattle.image_model.specs.Stands.{Layout}
-use Rattle.image_model.proofs.Held.{none_some, own_block}
+use Rattle.image_model.proofs.Held.{own_block}
 use Rattle.image_model.proofs.Members.{IsIn, contained, in_left, in_right, is_in}
+use Rattle.image_model.proofs.Rising.{rising}
 use Rattle.image_changes.specs.Does.{IsOf, Does, with_change}
 use Rattle.image_changes.specs.Drafted.{is_put}
 use Rattle.image_changes.proofs.Drafting.{drafts_do}
@@ -60,7 +61,7 @@ use Rattle.path_walks.proofs.Asked.{IsAmong, name_asked, unread_absent}
 use Rattle.path_walks.proofs.Images.{is_inode, is_shown, says_none, shown_inode, sound_directory}
 use Rattle.path_walks.proofs.Wants.{exclusive}
 use Rattle.path_walks.proofs.Longer.{asked_before, asked_behind, lack_behind}
-use Rattle.room_search.specs.Blocks.{free_for, free_in_all, group_holds, group_of_node}
+use Rattle.room_search.specs.Blocks.{free_for, free_in_all, group_holds, group_of_node, states_by}
 use Rattle.room_search.specs.Searches.{AreShown, IsFreeUnder, IsGroupBlock, IsUnder}
 use Rattle.room_search.specs.declared.search.Locked.{Locked}
 use Rattle.room_search.specs.declared.search.Locked.TheVariants as locked
@@ -212,7 +213,7 @@ module _ (v : Seen) (c : Call) (is : IsMaking c) (p : Place) (name : List ℕ) (
             subst (λ g. Contains groups (hold_of_group g)) (one_group v b e.group k view e.has e.data_block has lies) e.listed
 
         pub addition_lacks : (m : Missing) → IsNeededIn v p.inode name (blocks_of r) m → IsAskedFor v im o l (call_holds im o l t c node) m
-        addition_lacks m (drafting.IsNeededIn.in_directory absent needs) = insert_lacks node m needs
+        addition_lacks m (drafting.IsNeededIn.in_directory away needs) = insert_lacks node m needs
         addition_lacks m (drafting.IsNeededIn.in_group asks) =
             asked_so m (block_under v new asks.0 m room_found.0 (Contains-append_left groups _ (hold_of_group asks.0) (listed_group asks.0 asks.2.0 asks.1 asks.2.1 asks.2.2)) asks.1 asks.2.3.block)
 
@@ -226,7 +227,7 @@ module _ (v : Seen) (c : Call) (is : IsMaking c) (p : Place) (name : List ℕ) (
           dinode = reached.place.dinode;
           absent = absent;
           free = λ b there. said_free v im o l t of groups b (room_found.1.room.each b there);
-          once = distinct (blocks_of r) room_found.1.room.rise;
+          once = distinct (blocks_of r) (rising (blocks_of r) room_found.1.room.rise);
           as_many = long;
         }
 
@@ -235,7 +236,7 @@ module _ (v : Seen) (c : Call) (is : IsMaking c) (p : Place) (name : List ℕ) (
 
         -- the directory's own block isn't among them
         pub directory_apart : Contains (blocks_of r) p.inode → ⊥
-        directory_apart there = none_some (sym ((free_blocks_are_new im o l p.inode of.stands.laid (placed.free p.inode there)).0 p.inode) ∙ shown.inode.dinode)
+        directory_apart there = true≢false (sym shown.inode.dinode ∙ ap is_some ((free_blocks_are_new im o l p.inode of.stands.laid (placed.free p.inode there)).0 p.inode))
 
         -- the locks that the change touches are of the list
         pub under : {time : ℕ} (change : Change) → IsAddition v (makes_directory c) p name r.new r.rest.items time change → locks.IsUnder o (call_holds im o l t c node) change
@@ -300,7 +301,7 @@ module _ (v : Seen) (c : Call) (is : IsMaking c) (p : Place) (name : List ℕ) (
             of_node = ap (λ gs. group_of_node gs node) of.groups ∙ own.1;
             block = r.new.block;
             rest = r.rest.items;
-            first = room_found.1.room.are ∙ blocks_said v im o l t of own.0 (more + 1) own.2 ∙ ap (free_for _ _ own.0) need_so;
+            first = room_found.1.room.are ∙ blocks_said v im o l t of own.0 (more + 1) own.2 ∙ ap (free_for (states_by o) (map group_of_entry l.groups) own.0) need_so;
             group = r.new.group;
             listed = subst (λ gs. Contains gs r.new.group) (sym of.groups) room_found.1.has;
             data_block = room_found.1.data_block;
@@ -337,11 +338,11 @@ module _ (v : Seen) (c : Call) (is : IsMaking c) (p : Place) (name : List ℕ) (
       {time : ℕ} (change : Change) (added : IsAddition v (makes_directory c) p name r.new r.rest.items time change) where
     all_exclusive : (h : Holding) → IsShown v p.inode h → CanGetName h name r.rest.items → (b : ℕ) (lock : LockName) (plain : Bool) (bytes : List ℕ) → get added.fates b ≡ Some (Put lock plain bytes) → v.state_of lock ≡ Ex
     all_exclusive h shown can b lock plain bytes put = elim (added.locks h shown can b lock plain bytes put) [
-      | of_group k has of_them says e ↦
+      | drafting.IsPutUnder.of_group k has of_them says e ↦
           let h = room.each of_them.0 (in_front r.new.block r.rest.items added.taken added.left added.front of_them.0 of_them.1) in
           ap v.state_of e ∙ exclusive (v.state_of (group_lock k)) (subst (λ g. holds v (hold_of_group g) ≡ true) (one_group v of_them.0 h.group k view h.has h.data_block has of_them.2) h.held)
-      | of_directory at e ↦ ap v.state_of e ∙ directory_held v c name p.inode is last leads
-      | of_inode at e ↦ ap v.state_of e ∙ exclusive (v.state_of (inode_lock r.new.block)) room.inode_held
+      | drafting.IsPutUnder.of_directory at e ↦ ap v.state_of e ∙ directory_held v c name p.inode is last leads
+      | drafting.IsPutUnder.of_inode at e ↦ ap v.state_of e ∙ exclusive (v.state_of (inode_lock r.new.block)) room.inode_held
     ]
 
     header_is_put : is_put added.fates r.new.group.addr ≡ true

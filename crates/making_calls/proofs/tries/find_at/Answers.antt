@@ -97,8 +97,8 @@ make_at-requires-clause-lacks g c = record {
   absent = λ h shown. subst (λ n. Says h n None) c.bytes.ensures.bytes (subst (Says h c.bytes.result.now) c.in-Is-None.field-0-is (answer_at _ _ _ c.in-Is-None.is (c.in_ok-look.ensures.found h shown)));
 }
 
-pub returns-clause-found : goal.returns-clause-found
-returns-clause-found g c im o l t of =
+pub returns-in-NeedBlock-clause-found : goal.returns-in-NeedBlock-clause-found
+returns-in-NeedBlock-clause-found g c im o l t of =
     let v = g.V.View.seen c.args.view.now in
     let reached = c.requires.reached im o l t of in
     let h = holding im o c.args.place.now.inode in
@@ -110,8 +110,8 @@ returns-clause-found g c im o l t of =
     (own_among_of v im o l t of c.args.call.now c.args.name.now c.requires.making c.requires.last c.args.place.now reached) is c.bytes.result.now c.in-NeedBlock.missing
     (needed_at _ _ (dirs.IsNeededFor v h c.bytes.result.now) c.in-NeedBlock.is (c.in_ok-look.ensures.needed h shown)))
 
-pub returns-clause-told : goal.returns-clause-told
-returns-clause-told g c =
+pub returns-in-NeedBlock-clause-told : goal.returns-in-NeedBlock-clause-told
+returns-in-NeedBlock-clause-told g c =
     let v = g.V.View.seen c.args.view.now in
     let name : c.bytes.result.now ≡ name_in c.args.call.now = c.bytes.ensures.bytes ∙ sym (own_name c.args.call.now c.args.name.now c.requires.last) in
     damage.to_look c.args.place.now.inode (below_root c.args.call.now c.args.name.now c.requires.last) c.requires.seen.leads c.requires.seen.there

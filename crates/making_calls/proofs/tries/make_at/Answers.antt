@@ -1,7 +1,6 @@
 use Rattle.std.proofs.Common.{◌≡◌, ◌<◌, ◌^◌, true, sym, ap, ◌∙◌, subst}
 use Rattle.std.specs.Prelude.{not}
 use Rattle.gfs2_layout.specs.Holding.{Holding}
-use Rattle.glock_names.specs.Steps.{IfIs}
 use Rattle.glock_names.proofs.StepLaws.{answer_at, needed_at}
 use Rattle.directories.specs.Shown.{IsShown}
 use Rattle.path_walks.proofs.Faults.{told_on, tells_each, tells_so}
@@ -26,19 +25,19 @@ returns-then-is_none-clause-damaged g c =
     let v = g.V.View.seen c.args.view.now in
     damage.no_data_block c.args.place.now.inode c.requires.seen.leads (none_so _ c.group_of.result (c.is_none.ensures ∙ ap not c.if-is_none.true) c.group_of.ensures.none)
 
-pub returns-in_err-need_name-clause-sound : goal.returns-in_err-need_name-clause-sound
-returns-in_err-need_name-clause-sound g c im o l t of =
+pub returns-in_err-more-clause-sound : goal.returns-in_err-more-clause-sound
+returns-in_err-more-clause-sound g c im o l t of =
     let v = g.V.View.seen c.args.view.now in
     told_on (λ rule b. ⊥) _ _ c.from_residual.ensures.1
     (tells_so (λ rule b. (h : Holding) → IsShown v c.args.place.now.inode h → IsWrongForName v h rule b) (λ rule b. ⊥)
-    (name_sound v c.args.call.now c.requires.making c.args.place.now c.args.name.now c.requires.last c.requires.named c.requires.lacks im o l t of (c.requires.reached im o l t of)) c.in_err-need_name.field-0.0 (tells_each (IsShown v c.args.place.now.inode) (IsWrongForName v) c.in_err-need_name.field-0.0 c.in_err-need_name.ensures.damaged))
+    (name_sound v c.args.call.now c.requires.making c.args.place.now c.args.name.now c.requires.last c.requires.named c.requires.lacks im o l t of (c.requires.reached im o l t of)) c.in_err-more.field-0.0 (tells_each (IsShown v c.args.place.now.inode) (IsWrongForName v) c.in_err-more.field-0.0 c.in_err-more.ensures.damaged))
 
-pub returns-in_err-need_name-clause-damaged : goal.returns-in_err-need_name-clause-damaged
-returns-in_err-need_name-clause-damaged g c =
+pub returns-in_err-more-clause-damaged : goal.returns-in_err-more-clause-damaged
+returns-in_err-more-clause-damaged g c =
     let v = g.V.View.seen c.args.view.now in
     told_on (IsDamage v c.args.call.now) _ _ c.from_residual.ensures.1
     (tells_so (λ rule b. (h : Holding) → IsShown v c.args.place.now.inode h → IsWrongForName v h rule b) (IsDamage v c.args.call.now)
-    (name_damage c.args.call.now c.args.name.now c.requires.last v c.args.place.now c.requires.seen c.requires.lacks) c.in_err-need_name.field-0.0 (tells_each (IsShown v c.args.place.now.inode) (IsWrongForName v) c.in_err-need_name.field-0.0 c.in_err-need_name.ensures.damaged))
+    (name_damage c.args.call.now c.args.name.now c.requires.last v c.args.place.now c.requires.seen c.requires.lacks) c.in_err-more.field-0.0 (tells_each (IsShown v c.args.place.now.inode) (IsWrongForName v) c.in_err-more.field-0.0 c.in_err-more.ensures.damaged))
 
 pub make_with-requires-clause-inside : goal.make_with-requires-clause-inside
 make_with-requires-clause-inside g c =
@@ -49,23 +48,23 @@ pub make_with-requires-clause-takes : goal.make_with-requires-clause-takes
 make_with-requires-clause-takes g c =
     let v = g.V.View.seen c.args.view.now in
     record {
-      sound = λ h shown sound dir. answer_at _ _ (λ n. n ≡ name_need h c.args.name.now) c.in-Is.is (subst (λ n. IfIs _ (λ need. need ≡ name_need h n)) c.bytes.ensures.bytes (c.in_ok-need_name.ensures.need h shown sound dir));
-      room = λ h shown linear room. answer_at _ _ (λ n. n ≡ 0) c.in-Is.is (c.in_ok-need_name.ensures.room h shown linear (subst (λ n. has_linear_room h n ≡ true) (sym c.bytes.ensures.bytes) room));
+      sound = λ h shown sound dir. subst (λ n. c.in-Is.more ≡ name_need h n) c.bytes.ensures.bytes (answer_at _ _ (λ n. n ≡ name_need h c.bytes.result.now) c.in-Is.is (c.in_ok-more.ensures.need h shown sound dir));
+      room = λ h shown linear room. answer_at _ _ (λ n. n ≡ 0) c.in-Is.is (c.in_ok-more.ensures.room h shown linear (subst (λ n. has_linear_room h n ≡ true) (sym c.bytes.ensures.bytes) room));
     }
 
 pub make_with-requires-clause-most : goal.make_with-requires-clause-most
 make_with-requires-clause-most g c =
     let v = g.V.View.seen c.args.view.now in
-    answer_at _ _ (λ n. n < 2 ^ 42) c.in-Is.is c.in_ok-need_name.ensures.most
+    answer_at _ _ (λ n. n < 2 ^ 42) c.in-Is.is c.in_ok-more.ensures.most
 
-pub returns-clause-found : goal.returns-clause-found
-returns-clause-found g c im o l t of =
+pub returns-in-NeedBlock-clause-found : goal.returns-in-NeedBlock-clause-found
+returns-in-NeedBlock-clause-found g c im o l t of =
     let v = g.V.View.seen c.args.view.now in
     insert_lacks v c.args.call.now c.requires.making c.args.place.now c.args.name.now c.requires.last c.requires.named c.requires.lacks im o l t of (c.requires.reached im o l t of) c.args.stamp.now.node c.in-NeedBlock.missing
-    (λ h shown. subst (λ n. IsNeededForName v h n c.in-NeedBlock.missing) c.bytes.ensures.bytes (needed_at _ _ (IsNeededForName v h c.bytes.result.now) c.in-NeedBlock.is (c.in_ok-need_name.ensures.needed h shown)))
+    (λ h shown. subst (λ n. IsNeededForName v h n c.in-NeedBlock.missing) c.bytes.ensures.bytes (needed_at _ _ (IsNeededForName v h c.bytes.result.now) c.in-NeedBlock.is (c.in_ok-more.ensures.needed h shown)))
 
-pub returns-clause-told : goal.returns-clause-told
-returns-clause-told g c =
+pub returns-in-NeedBlock-clause-told : goal.returns-in-NeedBlock-clause-told
+returns-in-NeedBlock-clause-told g c =
     let v = g.V.View.seen c.args.view.now in
-    insert_needs c.args.call.now c.args.name.now c.requires.last v c.args.place.now c.requires.seen c.requires.lacks c.in-NeedBlock.missing (needed_at _ _ _ c.in-NeedBlock.is c.in_ok-need_name.ensures.absent)
-    (λ h shown. subst (λ n. IsNeededForName v h n c.in-NeedBlock.missing) c.bytes.ensures.bytes (needed_at _ _ (IsNeededForName v h c.bytes.result.now) c.in-NeedBlock.is (c.in_ok-need_name.ensures.needed h shown)))
+    insert_needs c.args.call.now c.args.name.now c.requires.last v c.args.place.now c.requires.seen c.requires.lacks c.in-NeedBlock.missing (needed_at _ _ _ c.in-NeedBlock.is c.in_ok-more.ensures.absent)
+    (λ h shown. subst (λ n. IsNeededForName v h n c.in-NeedBlock.missing) c.bytes.ensures.bytes (needed_at _ _ (IsNeededForName v h c.bytes.result.now) c.in-NeedBlock.is (c.in_ok-more.ensures.needed h shown)))
