@@ -94,8 +94,8 @@ addition_is v is_directory p name r room time change is shows has block inside r
       times = times v is_directory p name r room time change is shows has block inside rooms apart;
       gets = λ h shown linear. gets_record v shows p.inode name _ time room is.taken is.second is.named there h shown linear;
       grows = λ h shown can free clear. (
-          grown v is_directory p name r room time change is shows has block inside rooms apart h shown can free clear,
-          grows_into v is_directory p name r room time change is shows has block inside rooms apart h shown can free clear,
+        grown v is_directory p name r room time change is shows has block inside rooms apart h shown can free clear,
+        grows_into v is_directory p name r room time change is shows has block inside rooms apart h shown can free clear,
       );
       adds = λ im o l t path of place. adds v is_directory p name r room time change is shows has block inside rooms apart is_name im o l t path of place;
     }
