@@ -71,7 +71,7 @@ new_record : (is_directory : Bool) (p : Place) (number time : ℕ) (h : Holding)
 new_record true p number time h name is = directory_record number time (record { number = p.dinode.num.number; addr = p.inode; kind = 4 }) h name is
 new_record false p number time h name is = file_record number time h name is
 
-head_with : ℕ → Bool → Head
+abbrev head_with : ℕ → Bool → Head
 head_with n b = record { number = n; is_dir = b }
 
 -- ---- what is seen of a block

@@ -1,5 +1,5 @@
 -- What is told, or asked for, of groups of which a draft over a view put the headers.
-use Rattle.std.proofs.Common.{◌≡◌, ◌≢◌, inl, inr, ℕ, zero, suc, ◌+◌, ◌<◌, ◌≤◌, List, [], ◌∷◌, Option, None, Some, Result, Ok, Err, refl, sym, ap, ◌∙◌, subst, arith}
+use Rattle.std.proofs.Common.{◌≡◌, ◌≢◌, inl, inr, ℕ, zero, suc, ◌+◌, ◌<◌, ◌≤◌, List, [], ◌∷◌, Option, None, Some, Result, Ok, Err, refl, sym, ap, ◌∙◌, subst, subst₂, arith}
 use Rattle.std.proofs.lemmas.Bool.{cases_eq}
 use Rattle.std.proofs.lemmas.List.FromFn.{get_or-map-range_with_len}
 use Rattle.std.specs.List.{range_with_len}
@@ -11,7 +11,10 @@ use Rattle.drafts.specs.declared.fate.Fate.{Fate}
 use Rattle.gfs2_layout.specs.Bitmap.{state_at}
 use Rattle.gfs2_layout.specs.Groups.{count_of}
 use Rattle.gfs2_layout.specs.Headers.{HasHeader}
+use Rattle.gfs2_layout.specs.Holding.{Holding}
+use Rattle.gfs2_layout.specs.Inode.{dinode_in}
 use Rattle.gfs2_layout.specs.Structures.{group_of}
+use Rattle.gfs2_layout.specs.declared.dinode.Dinode.{Dinode}
 use Rattle.gfs2_layout.specs.declared.group_header.GroupHeader.{GroupHeader}
 use Rattle.glock_names.specs.Steps.{IfDamaged, TellsOf}
 use Rattle.glock_names.specs.Views.{Seen, HasBlock, HasGroup, IsView}
@@ -19,6 +22,9 @@ use Rattle.glock_names.specs.declared.steps.CallFault.{CallFault}
 use Rattle.glock_names.specs.declared.steps.CallFault.TheVariants.{Damaged, NoMemory}
 use Rattle.glock_names.specs.declared.steps.Missing.{Missing}
 use Rattle.glock_names.specs.declared.views.Group.{Group}
+use Rattle.dinode_tree.specs.Broken as rules
+use Rattle.directories.specs.Shown as dirs
+use Rattle.name_inserts.specs.Inserting.{IsWrongForName, of_directory}
 use Rattle.resource_groups.specs.Freeing.{BreaksSome, HasSome, IsNeededFor}
 use Rattle.resource_groups.specs.Numbering.{IsNumberPut}
 use Rattle.resource_groups.specs.Putting.{HasDataBlock, IsOneOfTwo}
@@ -129,3 +135,12 @@ module _ (v : Seen) (fates : FinMap nat_cmp Fate) (leaves : LeavesGroups v fates
 
   pub sees_below : (g : Group) (c : ℕ) → HasGroup v g → IsHeaderOf g c → HasBlock (seen_with v fates) c → HasBlock v c
   sees_below g c has own there = (there.0, sym (left_seen v fates c (leaves g c has own)) ∙ there.1)
+
+-- no data block is the first block of the image
+pub positive_block : (v : Seen) → IsView v → (b : ℕ) → HasDataBlock v b → b ≢ 0
+positive_block v shows b inside none = let fit = fit_of v inside.0 shows inside.1 in omega (arith, inside.2.low, fit.first, fit.above, none)
+
+-- a directory without a number
+pub no_number_wrong : (v : Seen) (dir : ℕ) (d : Dinode) (h : Holding) → dirs.IsShown v dir h → d ≡ dinode_in h → d.num.number ≡ 0 → (rule b : ℕ) → rule ≡ 7 → b ≡ dir → IsWrongForName v h rule b
+no_number_wrong v dir d h shown same none rule b seven at =
+    subst₂ (IsWrongForName v h) (sym seven) (shown.inode.own ∙ sym at) (of_directory (dirs.IsBroken.of_inode (rules.IsBroken.no_number (ap (λ (x : Dinode). x.num.number) (sym same) ∙ none))))

@@ -79,8 +79,7 @@ module _ {V : Type 0} (seen : V → Seen) (old mid last : Drafted V) (dir : ℕ)
         | inr may ↦ inr (subst (λ x. MayChange x dir inside.taken b) old_is may)
       ];
       named = λ h shown can.
-          let got = put h (subst (λ x. IsShown x dir h) (sym old_is) shown) can in
-          (
+          let got = put h (subst (λ x. IsShown x dir h) (sym old_is) shown) can in (
             got.0,
             subst (λ x. IsShown x dir got.0) mid_is got.1,
             (

@@ -194,7 +194,7 @@ pub record IsAddition (v : Seen) (is_directory : Bool) (p : Place) (name : List 
   -- in an image
   pub adds : (im : Image) (o : Owners) (l : Layout) (t : Tree) (path : Path) → IsOf v im o l t → IsPlaceFor im o l path name p r room
       → (g : Holding) × GrowsByName im o l fates p.inode name r.block (new_tree is_directory) g taken
-          × GrowsInto v fates name (entry_for is_directory number r.block) time taken (holding im o p.inode) g
+      × GrowsInto v fates name (entry_for is_directory number r.block) time taken (holding im o p.inode) g
 
 -- ---- what stands in the way
 

@@ -126,7 +126,13 @@ pub fn addition<V: View>(
     };
     let mut draft = Draft::new(alloc, view);
     let taken = match put_in_directory(
-        alloc, &mut draft, place.inode, name.bytes(), entry, stamp.time, room,
+        alloc,
+        &mut draft,
+        place.inode,
+        name.bytes(),
+        entry,
+        stamp.time,
+        room,
     )? {
         Step::Is(Some(taken)) => &room[..taken],
         Step::Is(None) => return Ok(Step::Is(None)),

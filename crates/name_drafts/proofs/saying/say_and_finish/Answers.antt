@@ -12,8 +12,7 @@ use Rattle.name_drafts.proofs.saying.say_and_finish.Goals as goal
 pub take_blocks-requires : goal.take_blocks-requires
 take_blocks-requires g c = record {
   blocks = λ b there.
-      let is = c.requires.taken b there in
-      (
+      let is = c.requires.taken b there in (
         is.0,
         has2 g.V.View.seen c.args.draft c.say_new.new.draft c.args.new.now c.in-Is._number (answer_at _ _ _ c.in-Is.is c.in_ok-_number.ensures.said) c.is_a_view.ensures c.requires.group c.requires.block c.requires.groups is.0 is.1,
         is.2,
