@@ -1,7 +1,8 @@
 -- How many leaves the directory of journals has.
-use Rattle.std.proofs.Common.{ℕ, ◌≡◌, ◌≤◌, Bool, true, false, refl, ◌∙◌, arith}
+use Rattle.std.proofs.Common.{ℕ, ◌≡◌, ◌≤◌, Bool, true, false, refl, sym, ◌∙◌, arith}
 use Rattle.std.specs.Prelude.{◌==◌, ◌&&◌, nat_lt, if◌then◌else◌}
-use Rattle.std.proofs.lemmas.Bool.{cond-true, cond-false, eqb-true}
+use Rattle.std.proofs.lemmas.Bool.{cond-true, cond-false, eqb-true, true≢false}
+use Rattle.std.proofs.lemmas.Bool.Decides.{nat_tests}
 use Rattle.mkgfs2_tool.specs.Order.{has_hashed_journals, is_split, leaf_count, journal_leaves}
 use Rattle.mkgfs2_tool.specs.declared.plan.Plan.{Plan}
 
@@ -33,3 +34,14 @@ hashed_size p hashed = eqb-true p.size 512 (first (p.size == 512) (nat_lt 3 p.jo
     first : (a b : Bool) → (a && b) ≡ true → a ≡ true
     first true b e = refl
     first false b e = e
+
+-- and four journals at least
+pub hashed_more : (p : Plan) → has_hashed_journals p ≡ true → 4 ≤ p.journals
+hashed_more p hashed = from p.journals (last (p.size == 512) (nat_lt 3 p.journals) hashed)
+  where
+    last : (a b : Bool) → (a && b) ≡ true → b ≡ true
+    last true b e = e
+    last false b e = absurd (true≢false (sym e))
+
+    from : (n : ℕ) → nat_lt 3 n ≡ true → 4 ≤ n
+    from n e = grind (arith, nat_tests)

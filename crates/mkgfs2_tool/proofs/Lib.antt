@@ -39,3 +39,5 @@ pub mod StandingTallies
 pub mod StandingGroups
 pub mod StandingHeaders
 pub mod StandingProfile
+pub mod StandingSlots
+pub mod StandingInserted

@@ -88,7 +88,7 @@ all_journals : (p : Plan) (room : ℕ) → IsFitting p → 96 + 48 * p.journals 
 all_journals p room is enough = subst (AreAll room (journals_entries p)) (sym (taken_first p p.journals is.plan.journals))
     (record { are = refl; named = (tt, (tt, named_journals p p.journals 0 (omega (arith, is.plan.journals)))); fit = dots_fit p p.journals room enough is.plan.some_journals })
 
-linear_room : (size n : ℕ) → (size ≡ 512) ⊎ ((size ≡ 1024) ⊎ ((size ≡ 2048) ⊎ (size ≡ 4096))) → n ≤ 8 → (size == 512 && nat_lt 3 n) ≡ false → 96 + 48 * n ≤ size - 232
+pub linear_room : (size n : ℕ) → (size ≡ 512) ⊎ ((size ≡ 1024) ⊎ ((size ≡ 2048) ⊎ (size ≡ 4096))) → n ≤ 8 → (size == 512 && nat_lt 3 n) ≡ false → 96 + 48 * n ≤ size - 232
 linear_room size n (inl is) few linear = rw is (let low : n ≤ 3 = from n (sym (ap (λ (s : ℕ). s == 512 && nat_lt 3 n) is) ∙ linear) in omega (arith, low))
   where
     from : (n : ℕ) → nat_lt 3 n ≡ false → n ≤ 3

@@ -96,13 +96,13 @@ module _ (p : Plan) (fit : IsFitting p) (known : Known p) where
     abbrev gone : Entry
     gone = emptied (entry p name.This 4 (journals_place p) 4)
 
-    gone_plain : IsPlain gone
+    pub gone_plain : IsPlain gone
     gone_plain = record { name = omega arith; bytes = this_ok.plain.bytes; number_low = omega arith; address_low = omega arith; kind = inl refl }
 
     abbrev wide : Entry
     wide = reaching 96 (journal_entry p 1)
 
-    wide_plain : IsPlain wide
+    pub wide_plain : IsPlain wide
     wide_plain = record {
       name = (journal_ok 1 (omega arith)).plain.name;
       bytes = (journal_ok 1 (omega arith)).plain.bytes;
@@ -117,7 +117,7 @@ module _ (p : Plan) (fit : IsFitting p) (known : Known p) where
     one : (j : ℕ) → j < 7 → AreRecordsOf 48 (journal_record p j ∷ []) (record_bytes (journal_entry p j) 48)
     one j low = one_record known.given (journal_entry p j) 48 (journal_ok j low) (omega arith) (omega arith)
 
-    taken_long : length taken_up ≡ 96
+    pub taken_long : length taken_up ≡ 96
     taken_long = omega (arith, length-append (record_bytes (journal_entry p 2) 48) (record_bytes (journal_entry p 3) 48), (one 2 (omega arith)).long, (one 3 (omega arith)).long)
 
     abbrev last_room : ℕ

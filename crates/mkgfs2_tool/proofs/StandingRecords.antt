@@ -97,14 +97,14 @@ head_read given e room is fits short =
       behind = behind_put 40 (room - 40) name base (omega (arith, long_base, inside)) (law.behind head clear enough tt ∙ drop-replicate {X = ℕ} 40 room 0);
     }
 
-record IsOne (e : Entry) (bytes : List ℕ) : Type 0 where
+pub record IsOne (e : Entry) (bytes : List ℕ) : Type 0 where
   pub slots : slots_of bytes ≡ slot_at bytes ∷ []
   pub area : IsArea bytes
   pub head : (slot_at bytes).head ≡ head_of e (length bytes - e.reach)
   pub name : name_of (slot_at bytes) ≡ name_in e
 
 -- one record, which reaches over what stands behind its own bytes
-one_area : (given : Given) (e : Entry) (room : ℕ) (tail : List ℕ) → IsPlain e → least_length (length (name_in e)) ≤ room → room + e.reach < 2 ^ 16 → length tail ≡ e.reach → IsOne e (record_bytes e room ++ tail)
+pub one_area : (given : Given) (e : Entry) (room : ℕ) (tail : List ℕ) → IsPlain e → least_length (length (name_in e)) ≤ room → room + e.reach < 2 ^ 16 → length tail ≡ e.reach → IsOne e (record_bytes e room ++ tail)
 one_area given e room tail is fits short over =
     let own = head_read given e room is fits short in
     let name : List ℕ = name_in e in

@@ -7,3 +7,4 @@ pub mod Blocks
 pub mod Making
 pub mod Outcomes
 pub mod Standing
+pub mod Insertions
