@@ -1,24 +1,22 @@
 -- The directory of journals of a new image is the one that comes of putting its names in one by one.
-use Rattle.std.proofs.Common.{ℕ, zero, suc, ◌≡◌, ◌+◌, ◌-◌, ◌*◌, ◌/◌, ◌^◌, ◌<◌, ◌≤◌, ◌⊎◌, inl, inr, Bool, true, false, List, [], ◌∷◌, ◌++◌, length, take, drop, replicate, map, filter, Option, Some, None, refl, sym, ap, ap₂, ◌∙◌, subst, arith, length-append, append-nil, append_assoc}
+use Rattle.std.proofs.Common.{ℕ, zero, suc, ◌≡◌, ◌+◌, ◌-◌, ◌*◌, ◌^◌, ◌<◌, ◌≤◌, ◌⊎◌, inl, inr, Bool, true, false, List, [], ◌∷◌, ◌++◌, length, replicate, map, filter, Some, None, refl, sym, ap, ◌∙◌, subst, arith, append-nil, append_assoc}
 use Rattle.std.specs.Prelude.{◌==◌, ◌%◌, ◌&&◌, option_and_then}
-use Rattle.std.specs.List.{AllByRecursion, range_with_len}
+use Rattle.std.specs.List.{range_with_len}
 use Rattle.std.proofs.lemmas.Bool.{cases_eq, cond-true, cond-false}
 use Rattle.std.proofs.lemmas.List.{take_at}
 use Rattle.std.proofs.lemmas.List.FromFn.{length-map-range_with_len}
-use Rattle.crc_words.specs.Remainder.{crc32_of}
-use Rattle.gfs2_layout.specs.Area.{Slot, slots_of, slot_at, slot_bytes, IsArea, name_of}
+use Rattle.gfs2_layout.specs.Area.{Slot, slots_of, slot_bytes}
 use Rattle.gfs2_layout.specs.Bytes.{with_number}
 use Rattle.gfs2_layout.specs.Fields.{with_fields}
 use Rattle.gfs2_layout.specs.Cutting.{without, emptied, joined}
-use Rattle.leaf_areas.specs.Moving.{moved, packed}
+use Rattle.leaf_areas.specs.Moving.{packed}
 use Rattle.leaf_areas.specs.Splitting.{is_lower, is_lower_name, cut_each, lower_half, upper_half}
 use Rattle.mkgfs2_tool.specs.Directories.{directory_kind, entry, head_of, journal_entry, journals_entries, name_of as name_in, name_bytes, record_bytes, records, emptied as gone_entry, reaching, upper_entries, lower_entries}
 use Rattle.mkgfs2_tool.specs.Order.{master_place, journals_place, has_hashed_journals, is_split}
-use Rattle.mkgfs2_tool.specs.Hashing.{leaf_room, leaf_entries}
+use Rattle.mkgfs2_tool.specs.Hashing.{leaf_room}
 use Rattle.mkgfs2_tool.specs.Blocks.{area_length}
 use Rattle.mkgfs2_tool.specs.Making.{IsFitting}
-use Rattle.mkgfs2_tool.specs.Standing.{IsStamped}
-use Rattle.mkgfs2_tool.specs.Insertions.{put_in, put_each, no_records, first_entries, later_entries, leaf_slots, AreHalves, IsPutLinear, IsPutHashed, JournalsAreInserted}
+use Rattle.mkgfs2_tool.specs.Insertions.{put_each, no_records, first_entries, later_entries, leaf_slots, AreHalves, IsPutLinear, IsPutHashed, JournalsAreInserted}
 use Rattle.mkgfs2_tool.specs.declared.directory.Entry.{Entry}
 use Rattle.mkgfs2_tool.specs.declared.directory.Name.{Name}
 use Rattle.mkgfs2_tool.specs.declared.directory.Name.TheVariants as name

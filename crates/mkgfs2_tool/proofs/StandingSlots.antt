@@ -1,15 +1,15 @@
 -- The records of a new image's areas, one by one, and one more that is put in. Each takes 48 bytes.
-use Rattle.std.proofs.Common.{ℕ, zero, suc, ◌≡◌, ◌+◌, ◌-◌, ◌*◌, ◌/◌, ◌^◌, ◌<◌, ◌≤◌, inl, inr, Bool, true, false, List, [], ◌∷◌, ◌++◌, length, take, drop, replicate, map, Option, Some, None, refl, sym, ap, ap₂, ◌∙◌, subst, arith, length-append, length-drop, append-nil, append_assoc}
-use Rattle.std.specs.Prelude.{◌==◌, ◌&&◌, not, nat_le, if◌then◌else◌, option_and_then}
+use Rattle.std.proofs.Common.{ℕ, ◌≡◌, ◌+◌, ◌-◌, ◌*◌, ◌^◌, ◌<◌, ◌≤◌, Bool, true, false, List, [], ◌∷◌, ◌++◌, length, take, drop, replicate, Option, Some, None, refl, sym, ap, ap₂, ◌∙◌, subst, arith, length-append, length-drop, append-nil, append_assoc}
+use Rattle.std.specs.Prelude.{◌&&◌, not, nat_le, option_and_then}
 use Rattle.std.specs.List.{AllByRecursion}
 use Rattle.std.specs.Option.{option_map}
 use Rattle.std.proofs.lemmas.Bool.{cond-true, cond-false, ne_eqb, le-leb, lt-leb}
-use Rattle.std.proofs.lemmas.List.{take_at, take_all, drop_at, drop-drop, drop_all, take-append-le, drop-append-le, length-replicate, drop-replicate, take-replicate, replicate-append-replicate, length-take-le}
+use Rattle.std.proofs.lemmas.List.{take_all, take-append-le, drop-append-le, length-replicate, drop-replicate, take-replicate, replicate-append-replicate}
 use Rattle.std.proofs.Math.Seq.{take-append-add, drop-append-add}
 use Rattle.gfs2_layout.specs.Area.{Slot, slot_at, slots_of, IsArea}
 use Rattle.gfs2_layout.specs.Bytes.{put_at, slice, u16_at, with_number}
 use Rattle.gfs2_layout.specs.Fields.{with_fields}
-use Rattle.gfs2_layout.specs.Putting.{least_length, taken_length, has_room, cut_short, new_slot, put_into, put_slot}
+use Rattle.gfs2_layout.specs.Putting.{least_length, taken_length, has_room, cut_short, new_slot}
 use Rattle.gfs2_layout.specs.Structures.{is_in_use, dirent_of}
 use Rattle.gfs2_layout.specs.Writing.{dirent_put}
 use Rattle.gfs2_layout.specs.declared.dirent.Dirent.{Dirent}
@@ -18,7 +18,7 @@ use Rattle.mkgfs2_tool.specs.Insertions.{put_in, put_each, no_records}
 use Rattle.mkgfs2_tool.specs.declared.directory.Entry.{Entry}
 use Rattle.mkgfs2_tool.proofs.StandingLists.{all_append}
 use Rattle.mkgfs2_tool.proofs.StandingGiven.{Given}
-use Rattle.mkgfs2_tool.proofs.StandingRecords.{IsPlain, IsEntry, head_read, IsOne, one_area}
+use Rattle.mkgfs2_tool.proofs.StandingRecords.{IsPlain, IsEntry, head_read, one_area}
 
 -- ---- one record
 
