@@ -31,9 +31,9 @@ module _ (given left : Inputs) (sinks sinks_now : Outputs) where
   words_fault : (block_size : ℕ) (words : List (List ℕ)) (own : Status) → words_refusal block_size words ≡ Some own → FaultHasCause given left sinks sinks_now own
   words_fault block_size words own refused = by_read (words_read block_size words) own refused
     where
-      by_read : (read : Result Command Usage) (own : Status) → refusal_of block_size read ≡ Some own → FaultHasCause given left sinks sinks_now own
+      by_read : (read : Result Command Usage) (own : Status) → refusal_of read ≡ Some own → FaultHasCause given left sinks sinks_now own
       by_read (Err usage) own is = let same : status.Usage usage.word ≡ own = cc in subst (FaultHasCause given left sinks sinks_now) same tt
-      by_read (Ok c) own is = by_test (is_built block_size c) own is
+      by_read (Ok c) own is = by_test (is_built c) own is
         where
           by_test : (b : Bool) (own : Status) → (if b then None else Some (status.NotBuilt part.Words)) ≡ Some own → FaultHasCause given left sinks sinks_now own
           by_test true own is = cc
