@@ -161,7 +161,7 @@ module _ (v : Seen) (im : Image) (call : Call) (read : IsReadFrom v im) (whole :
 
   -- what stands in the directory for the name
   name_told : (gets : making.IsToGetName v call) (rule b : ℕ) → ((h : Holding) → dirs.IsShown v gets.directory h → names.IsWrongForName v h rule b) → IsTold v im (wanted call) (making.directory_path call) rule b
-  name_told gets rule b wrong = elim (led_there v im read whole.image (wanted call) path gets.directory gets.leads) [
+  name_told gets rule b wrong = elim (led_there v im read whole.image (wanted call) (making.directory_path call) gets.directory gets.leads) [
     | inr ahead ↦ astray rule b ahead
     | inl has ↦ elim (directory_or v im read whole.image gets.directory (is_directory v im read whole.image gets.directory has gets.lacks.directory)) [
       | inr out ↦ astray rule b (up out)
@@ -169,18 +169,15 @@ module _ (v : Seen) (im : Image) (call : Call) (read : IsReadFrom v im) (whole :
     ]
   ]
     where
-      abbrev path : Path
-      path = making.directory_path call
+      up : ((x : ℕ) × IsAstray im gets.directory x) → HasAstray v im (wanted call) (making.directory_path call)
+      up out = astray_at v im read whole.image (wanted call) (making.directory_path call) gets.directory gets.leads out
 
-      up : ((x : ℕ) × IsAstray im gets.directory x) → HasAstray v im (wanted call) path
-      up out = astray_at v im read whole.image (wanted call) path gets.directory gets.leads out
-
-      by_kind : HasDirectory im gets.directory → (rule b : ℕ) → names.IsWrongForName v (every im gets.directory) rule b → IsTold v im (wanted call) path rule b
-      by_kind there rule b (names.IsWrongForName.of_directory broken) = broken_directory_told v im read whole.image (wanted call) path gets.directory up there rule b broken
+      by_kind : HasDirectory im gets.directory → (rule b : ℕ) → names.IsWrongForName v (every im gets.directory) rule b → IsTold v im (wanted call) (making.directory_path call) rule b
+      by_kind there rule b (names.IsWrongForName.of_directory broken) = broken_directory_told v im read whole.image (wanted call) (making.directory_path call) gets.directory up there rule b broken
       by_kind there rule b (names.IsWrongForName.in_hashed hashed (inserts.IsWrongToInsert.in_directory r x broken)) =
-          broken_directory_told v im read whole.image (wanted call) path gets.directory up there r x (dirs.IsBroken.in_hashed hashed broken)
+          broken_directory_told v im read whole.image (wanted call) (making.directory_path call) gets.directory up there r x (dirs.IsBroken.in_hashed hashed broken)
       by_kind there rule b (names.IsWrongForName.in_hashed hashed (inserts.IsWrongToInsert.stray_pointer from x led out)) =
-          told_or v im (wanted call) path 2 from (stray_told v im read whole.image (wanted call) path gets.directory from x gets.leads led out)
+          told_or v im (wanted call) (making.directory_path call) 2 from (stray_told v im read whole.image (wanted call) (making.directory_path call) gets.directory from x gets.leads led out)
 
   makings_told : (rule b : ℕ) → making.IsDamage v call rule b → IsToldOf v im call rule b
   makings_told rule b (making.on_path r x broken) = on_directory_path r x (paths_tell v im (wanted call) (making.directory_path call) r x read whole.image broken)

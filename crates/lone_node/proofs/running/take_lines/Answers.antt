@@ -10,7 +10,7 @@ use Rattle.lone_node.specs.Course.{AreSteps, HasTaken, Moment, moment}
 use Rattle.lone_node.specs.Items.{AnsweredCall}
 use Rattle.lone_node.specs.Run.{EndsAt, EndsAtCall, HasChangedNothing, IsFailedOn}
 use Rattle.lone_node.specs.Standing.{LeavesStanding, StandsFor}
-use Rattle.lone_node.proofs.Endings.{damaged_before, damaged_so, damaged_with, failed_before, failed_so, hashed_before, hashed_with, unbuilt_before, unbuilt_so, unbuilt_with, unless_so}
+use Rattle.lone_node.proofs.Endings.{damaged_before, damaged_so, damaged_with, failed_before, failed_so, unbuilt_before, unbuilt_so, unbuilt_with, unless_so}
 use Rattle.lone_node.proofs.Leaving.{leaves_none, stands_on}
 use Rattle.lone_node.proofs.Steps.{ends_at, goes_on, its_call, no_more_calls, run_none, tree_is, wait_more}
 use Rattle.lone_node.proofs.running.take_lines.Given.{Over}
