@@ -1,34 +1,29 @@
 -- What was done over a view by a draft that makes a name, and what became of each block. `named` is the draft with the directory, `third` that with the
 -- new inode, and `said.fates` that with the groups.
-use Rattle.std.proofs.Common.{◌≡◌, ◌≢◌, ◌⊎◌, inl, inr, Bool, true, false, true≢false, ℕ, ◌+◌, ◌-◌, ◌<◌, ◌≤◌, ◌++◌, List, [], ◌∷◌, Option, None, Some, refl, sym, ap, ap₂, ◌∙◌, subst, subst₂, arith}
+use Rattle.std.proofs.Common.{◌≡◌, ◌≢◌, ◌⊎◌, inl, inr, Bool, false, true≢false, ℕ, ◌+◌, ◌-◌, ◌<◌, List, [], ◌∷◌, None, Some, refl, sym, ap, ◌∙◌, subst, arith}
 use Rattle.std.proofs.lemmas.Bool.{cases_Bool, cases_eq, cases_lt}
 use Rattle.std.proofs.lemmas.List.Elements.{Contains-append_left, Contains-append_right, Contains-append_cases}
 use Rattle.std.specs.Prelude.{Contains, is_some}
 use Rattle.std.specs.Ordering.{nat_cmp}
-use Rattle.std.specs.FinMap.{FinMap, get, empty, insert, get-empty}
-use Rattle.drafts.specs.Fates.{AreWhole, Drafted, block_with, seen_in, seen_with}
+use Rattle.std.specs.FinMap.{FinMap, get, insert, get-empty}
+use Rattle.drafts.specs.Fates.{seen_with}
 use Rattle.drafts.specs.declared.change.Change.{Change}
 use Rattle.drafts.specs.declared.fate.Fate.{Fate}
-use Rattle.drafts.specs.declared.fate.Fate.TheVariants.{Put, Freed}
+use Rattle.drafts.specs.declared.fate.Fate.TheVariants.{Put}
 use Rattle.gfs2_layout.specs.Groups.{group_header, uncounted}
 use Rattle.gfs2_layout.specs.Holding.{Holding, alone, bytes_at}
 use Rattle.gfs2_layout.specs.Structures.{dinode_of}
 use Rattle.gfs2_layout.specs.declared.dinode.Dinode.{Dinode}
-use Rattle.gfs2_layout.specs.declared.group_header.GroupHeader.{GroupHeader}
-use Rattle.glock_names.specs.Views.{Seen, HasBlock, HasGroup, IsView}
+use Rattle.glock_names.specs.Views.{Seen, HasGroup, IsView}
 use Rattle.glock_names.specs.declared.LockName.{LockName}
 use Rattle.glock_names.specs.declared.steps.Entry.{Entry}
 use Rattle.glock_names.specs.declared.views.Group.{Group}
 use Rattle.dinode_tree.specs.Reading.{inode_lock}
-use Rattle.growth_drafts.specs.Taken.{IsDistinct}
-use Rattle.table_growth.specs.Tables.{DraftsDirectory}
 use Rattle.directories.specs.Shown.{IsShown}
-use Rattle.new_inodes.specs.New.{IsInodePut}
 use Rattle.resource_groups.specs.Freeing.{HasSome, SaysStateOfSome}
 use Rattle.resource_groups.specs.Putting.{ArePutIn, HasDataBlock, SaysStateOf, overlaid, seen_or}
 use Rattle.resource_groups.specs.Shown.{IsDataOf, IsHeaderOf, first_place, group_lock}
 use Rattle.resource_groups.specs.Shown as group
-use Rattle.resource_groups.proofs.Apart.{no_header_data, one_header}
 use Rattle.resource_groups.proofs.Fits.{fit_of}
 use Rattle.resource_groups.proofs.PutIn.{blocks_same, cases_data, not_data}
 use Rattle.resource_groups.proofs.Sets.{only_has}
@@ -40,12 +35,12 @@ use Rattle.image_changes.proofs.Inside.{stay_inside}
 use Rattle.path_walks.proofs.Lying.{data_lies, header_lies}
 use Rattle.path_walks.specs.declared.walk.Place.{Place}
 use Rattle.hash_inserts.specs.Inserting.{MayChange, a_data_block, a_taken_one, the_dinode}
-use Rattle.name_inserts.specs.Inserting.{CanGetName, PutsName}
-use Rattle.name_drafts.specs.Drafting.{CountsNumber, HasTimes, IsNewOf, IsPutUnder, PutsUnder, entry_for, header_in, kind_for, of_directory, of_group, of_inode}
+use Rattle.name_inserts.specs.Inserting.{CanGetName}
+use Rattle.name_drafts.specs.Drafting.{CountsNumber, HasTimes, IsNewOf, IsPutUnder, PutsUnder, entry_for, header_in, of_directory, of_group, of_inode}
 use Rattle.name_drafts.specs.Steps.{IsNamePut, IsSaidAndDone, LeavesGroups}
 use Rattle.name_drafts.specs.declared.drafting.NewBlock.{NewBlock}
 use Rattle.name_drafts.proofs.Fates.{lock_put, put_elsewhere, put_seen, put_there}
-use Rattle.name_drafts.proofs.Faults.{data_apart, header_same, own_header}
+use Rattle.name_drafts.proofs.Faults.{data_apart, header_same}
 
 -- what was done over a view
 pub record AreDone (v : Seen) (is_directory : Bool) (p : Place) (name : List ℕ) (r : NewBlock) (room : List ℕ) (time : ℕ) (change : Change) : Type 0 where
