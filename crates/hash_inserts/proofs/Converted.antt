@@ -296,10 +296,14 @@ module _ (h : Holding) (sound : IsSound h) (directory : is_directory_in h ≡ tr
         subst (λ (d : Drafted V). (g : Holding) × IsShown (seen_in seen d) dir g × ((is : Converts old.fates d.fates room left h g) × HasBlock (seen_in seen d) h.own × HasBlock (seen_in seen d) is.block)) (ap (draft_after old) shown.own ∙ sym put) (
           after,
           shown_of law (seen_in seen (draft_after old h.own)) after dir stays.sound stays.hashed shown.own shown.size ((puts (seen old.view) old.fates).seen shown.same),
-          (record {
-            block = b;
-            takes = record { front = front; has = has_taken; drafted = (puts (seen old.view) old.fates).drafted; changes = two_put old.fates (fates_after old.fates) b h.own (Put (inode_lock h.own) false new) (Put (inode_lock h.own) false table) refl };
-            converted = converted;
-            stays = stays;
-          }, (sees_after (seen old.view) old.fates).0, (sees_after (seen old.view) old.fates).1),
+          (
+            record {
+              block = b;
+              takes = record { front = front; has = has_taken; drafted = (puts (seen old.view) old.fates).drafted; changes = two_put old.fates (fates_after old.fates) b h.own (Put (inode_lock h.own) false new) (Put (inode_lock h.own) false table) refl };
+              converted = converted;
+              stays = stays;
+            },
+            (sees_after (seen old.view) old.fates).0,
+            (sees_after (seen old.view) old.fates).1,
+          ),
         )

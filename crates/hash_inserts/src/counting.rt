@@ -12,8 +12,8 @@ use file_fills::height_for;
 use hash_dirs::IN_LEAF;
 use leaf_areas::split_area;
 use no_memory::NoMemory;
-use table_growth::{doubling_need, table_blocks};
 use std::alloc::Global;
+use table_growth::{doubling_need, table_blocks};
 
 /// What an insertion finds of a chain with one leaf: how high the dinode is, and how deep the table and the leaf are.
 #[derive(Clone, Copy)]

@@ -41,9 +41,9 @@ use hash_steps::{exchanges_join, puts_get_a_record};
 use nested_drafts::{are_whole, puts_are_seen_alike};
 use no_memory::NoMemory;
 use pointer_tables::{Pointer, PointerTable};
-use table_changes::PointerTableMut;
 use std::alloc::Global;
 use std::collections::VecDeque;
+use table_changes::PointerTableMut;
 
 // More steps than an insertion can take: with each one the table or the leaf is one deeper, and both are 15 deep at most.
 const STEPS: u32 = 31;
@@ -342,9 +342,7 @@ fn insert_whole<V: View, T: PointerTableMut>(
     puts_are_seen_alike();
     sound_pointers_are_parts();
     let mut left = room.clone()?;
-    let made = inserted_blocks(
-        alloc, &*draft, dir, found, name, entry, &mut left, table,
-    )?;
+    let made = inserted_blocks(alloc, &*draft, dir, found, name, entry, &mut left, table)?;
     let Some(blocks) = made else {
         return Ok(false);
     };

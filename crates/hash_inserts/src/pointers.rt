@@ -15,9 +15,9 @@ use drafts::Draft;
 use glock_names::{CallFault, Step, View};
 use hash_steps::doublings_stay;
 use no_memory::NoMemory;
-use table_changes::PointerTableMut;
 use std::alloc::Global;
 use std::collections::VecDeque;
+use table_changes::PointerTableMut;
 
 /// Makes so many neighbouring pointers lead to a leaf; and tells whether that was done: of a sound directory of which the draft has every
 /// block of the table, it is.

@@ -28,9 +28,9 @@ use hash_dirs::leaf_at;
 use hash_steps::splits_stay;
 use nested_drafts::{are_whole, puts_are_seen_alike};
 use no_memory::NoMemory;
-use table_changes::PointerTableMut;
 use std::alloc::Global;
 use std::collections::VecDeque;
+use table_changes::PointerTableMut;
 
 // Splits a leaf of this depth, which is the one of the chain of a pointer and less deep than the table; and tells whether that was done: of a
 // sound directory of which the draft has every block of the table, it is.

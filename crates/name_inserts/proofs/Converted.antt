@@ -1,23 +1,22 @@
 -- A linear directory that became a hashed one: the chain of each name is its one leaf, and what a name takes then is what was counted before.
-use Rattle.std.proofs.Common.{◌≡◌, ◌⊎◌, inl, inr, ℕ, suc, zero, ◌+◌, ◌-◌, ◌*◌, ◌/◌, ◌^◌, ◌<◌, ◌≤◌, Bool, true, false, List, [], ◌∷◌, length, map, Some, refl, sym, ap, ◌∙◌, subst, arith}
-use Rattle.std.specs.Prelude.{◌==◌, if◌then◌else◌}
+use Rattle.std.proofs.Common.{◌≡◌, ◌⊎◌, inl, inr, ℕ, suc, zero, ◌+◌, ◌-◌, ◌^◌, ◌<◌, ◌≤◌, true, false, List, [], ◌∷◌, length, map, sym, ap, ◌∙◌, subst, arith}
+use Rattle.std.specs.Prelude.{◌==◌}
 use Rattle.std.proofs.lemmas.Bool.{cond-true, eq-eqb}
 use Rattle.std.proofs.lemmas.Nat.{pow_below}
 use Rattle.crc_words.specs.Remainder.{crc32_of}
-use Rattle.gfs2_layout.specs.Area.{Slot, slots_of}
+use Rattle.gfs2_layout.specs.Area.{slots_of}
 use Rattle.gfs2_layout.specs.Device.{IsBlockSize}
-use Rattle.gfs2_layout.specs.Holding.{Holding, InChain}
-use Rattle.gfs2_layout.specs.Inode.{depth_in, dinode_in, entry, height_in, is_directory_in, is_hashed_in, leaf_area, leaf_in, leaf_length, linear_area, table_count}
+use Rattle.gfs2_layout.specs.Holding.{Holding}
+use Rattle.gfs2_layout.specs.Inode.{depth_in, entry, is_directory_in, is_hashed_in, leaf_area, leaf_in, leaf_length, linear_area, table_count}
 use Rattle.gfs2_layout.specs.declared.dinode.Dinode.{Dinode}
 use Rattle.gfs2_layout.specs.declared.leaf.Leaf.{Leaf}
 use Rattle.leaf_areas.specs.Moving.{in_use, packed}
 use Rattle.hash_dirs.specs.Shown.{IsSound, index_for}
 use Rattle.hash_dirs.proofs.Chained.{index_low, inside}
-use Rattle.hash_steps.specs.Leaves.{leaf_depth}
 use Rattle.hash_steps.specs.Steps.{IsConverted, first_count}
-use Rattle.hash_inserts.specs.Needing.{Chain, Needs, TakesBlocks, TakesBlocksFirst}
+use Rattle.hash_inserts.specs.Needing.{Chain, Needs, TakesBlocksFirst}
 use Rattle.name_inserts.specs.Need.{chain_of, first_chain, first_depth, leaves_from, most_steps, need_in_hashed, need_within}
-use Rattle.name_inserts.proofs.Needed.{IsBounded, needs_within, small_blocks, within_needs}
+use Rattle.name_inserts.proofs.Needed.{IsBounded, needs_within, small_blocks}
 
 -- ---- numbers
 

@@ -1,19 +1,17 @@
 -- A name that comes into a linear directory that has room for it.
-use Rattle.std.proofs.Common.{◌≡◌, ◌≢◌, ◌⊎◌, inl, inr, ℕ, ◌+◌, ◌<◌, ◌≤◌, ◌&&◌, Bool, true, false, true≢false, List, [], ◌∷◌, ◌++◌, length, None, Some, refl, sym, ap, ap₂, ◌∙◌, subst, cond, arith}
+use Rattle.std.proofs.Common.{◌≡◌, ◌≢◌, inl, inr, ℕ, ◌+◌, ◌≤◌, ◌&&◌, Bool, true, false, true≢false, List, [], ◌∷◌, None, Some, refl, sym, ap, ap₂, ◌∙◌, subst, cond, arith}
 use Rattle.std.specs.Prelude.{Contains, IsSome, count_by}
 use Rattle.std.specs.List.Sorted.{IsPermutation}
 use Rattle.std.proofs.lemmas.List.Sums.{sum_by-cons}
 use Rattle.std.proofs.lemmas.Slice.Eq.{bytes_eq-Decides}
-use Rattle.std.specs.FinMap.{FinMap, get, insert}
-use Rattle.std.specs.Ordering.{nat_cmp}
+use Rattle.std.specs.FinMap.{get, insert}
 use Rattle.std.specs.Str.{bytes_eq}
 use Rattle.std.proofs.lemmas.Bool.{cases_Bool, cases_eq, cond-false, cond-true}
 use Rattle.drafts.specs.Fates.{Drafted, seen_in}
-use Rattle.drafts.specs.declared.fate.Fate.{Fate}
 use Rattle.drafts.specs.declared.fate.Fate.TheVariants.{Put}
 use Rattle.gfs2_layout.specs.Area.{slots_of}
-use Rattle.gfs2_layout.specs.Holding.{Holding, Itself, bytes_at, part_at}
-use Rattle.gfs2_layout.specs.Inode.{dinode_in, is_directory_in, is_hashed_in, has_hash_flag, linear_area, records_of}
+use Rattle.gfs2_layout.specs.Holding.{Holding, bytes_at}
+use Rattle.gfs2_layout.specs.Inode.{dinode_in, is_hashed_in, has_hash_flag, linear_area, records_of}
 use Rattle.gfs2_layout.specs.Putting.{put_slot}
 use Rattle.gfs2_layout.specs.Records.{Record, record_named}
 use Rattle.gfs2_layout.specs.Structures.{is_directory}
@@ -38,7 +36,7 @@ use Rattle.hash_steps.proofs.Put.{none_counted}
 use Rattle.hash_steps.proofs.Sound.{count_moved}
 use Rattle.directories.specs.Shown.{IsShown}
 use Rattle.name_inserts.specs.Inserting.{CanGetName, IsPutInLinear, PutsName, in_linear}
-use Rattle.name_inserts.specs.Need.{has_linear_room, name_need, need_in_linear}
+use Rattle.name_inserts.specs.Need.{has_linear_room, need_in_linear}
 
 -- ---- one name more
 

@@ -1,27 +1,22 @@
 -- A name that comes into a directory: by its form.
-use Rattle.std.proofs.Common.{◌≡◌, ◌⊎◌, inl, inr, ℕ, suc, ◌+◌, ◌^◌, ◌<◌, ◌≤◌, Bool, true, false, List, [], ◌∷◌, ◌++◌, length, None, Some, refl, sym, ap, ap₂, ◌∙◌, subst, arith}
-use Rattle.std.specs.Prelude.{Contains, IsSome, if◌then◌else◌}
-use Rattle.std.specs.FinMap.{FinMap, get, insert}
+use Rattle.std.proofs.Common.{◌≡◌, inl, ℕ, suc, ◌+◌, ◌^◌, ◌<◌, ◌≤◌, true, false, List, [], ◌∷◌, length, None, sym, ap, ◌∙◌, subst, arith}
+use Rattle.std.specs.FinMap.{FinMap}
 use Rattle.std.specs.Ordering.{nat_cmp}
 use Rattle.std.proofs.lemmas.Bool.{cond-false, cond-true}
 use Rattle.crc_words.specs.Remainder.{crc32_of}
 use Rattle.drafts.specs.declared.fate.Fate.{Fate}
 use Rattle.gfs2_layout.specs.Holding.{Holding}
-use Rattle.gfs2_layout.specs.Inode.{is_directory_in, is_hashed_in, records_of}
+use Rattle.gfs2_layout.specs.Inode.{is_hashed_in, records_of}
 use Rattle.gfs2_layout.specs.Records.{record_named}
-use Rattle.glock_names.specs.Views.{Seen}
 use Rattle.glock_names.specs.declared.steps.Entry.{Entry}
 use Rattle.growth_drafts.specs.Taken.{AreFreeFor, HasTaken}
-use Rattle.linear_dirs.specs.Exchanges.{HasExchanged}
 use Rattle.linear_dirs.specs.Shown.{record_for}
-use Rattle.table_growth.specs.Tables.{DraftsDirectory}
-use Rattle.hash_dirs.specs.Shown.{IsSound}
 use Rattle.hash_steps.proofs.Joins.{joined}
 use Rattle.hash_inserts.specs.Inserting.{CanCountOne, Converts, Inserts}
 use Rattle.hash_inserts.proofs.Joined.{drafted_join, taken_join}
 use Rattle.hash_inserts.proofs.Onward.{counts_still, fresh_still, room_still}
-use Rattle.name_inserts.specs.Inserting.{CanGetName, IsNamed, PutsName, converted, in_hashed}
-use Rattle.name_inserts.specs.Need.{first_chain, has_linear_room, most_steps, name_need, need_in_hashed, need_in_linear, need_within}
+use Rattle.name_inserts.specs.Inserting.{CanGetName, PutsName, converted, in_hashed}
+use Rattle.name_inserts.specs.Need.{first_chain, has_linear_room, most_steps, name_need, need_in_hashed, need_within}
 use Rattle.name_inserts.proofs.Converted.{need_after}
 
 -- what a name takes in a directory of each form

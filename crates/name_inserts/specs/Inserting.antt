@@ -1,11 +1,11 @@
 -- What becomes of a directory that gets a name, whatever its form.
-use Rattle.std.specs.Prelude.{ℕ, ◌≡◌, ◌≢◌, ◌⊎◌, ◌^◌, ◌<◌, ◌≤◌, true, false, List, [], ◌∷◌, ◌++◌, length, Contains, None, Some, IsSome}
-use Rattle.std.specs.FinMap.{FinMap, get}
+use Rattle.std.specs.Prelude.{ℕ, ◌≡◌, ◌≢◌, ◌^◌, ◌<◌, ◌≤◌, true, false, List, [], ◌∷◌, ◌++◌, length, None, Some}
+use Rattle.std.specs.FinMap.{FinMap}
 use Rattle.std.specs.Ordering.{nat_cmp}
 use Rattle.drafts.specs.declared.fate.Fate.{Fate}
 use Rattle.gfs2_layout.specs.Area.{slots_of}
 use Rattle.gfs2_layout.specs.Exchanges.{IsCounted}
-use Rattle.gfs2_layout.specs.Holding.{Holding, Pointed, bytes_at, part_at}
+use Rattle.gfs2_layout.specs.Holding.{Holding, bytes_at, part_at}
 use Rattle.gfs2_layout.specs.Inode.{dinode_in, is_directory_in, is_hashed_in, linear_area, records_of}
 use Rattle.gfs2_layout.specs.Putting.{put_slot}
 use Rattle.gfs2_layout.specs.Records.{record_named}
@@ -14,7 +14,6 @@ use Rattle.glock_names.specs.declared.steps.Entry.{Entry}
 use Rattle.glock_names.specs.declared.steps.Missing.{Missing}
 use Rattle.dinode_tree.specs.Walking.{missing_dinode}
 use Rattle.growth_drafts.specs.Taken.{AreFreeFor, HasTaken}
-use Rattle.linear_dirs.specs.Broken as linear
 use Rattle.linear_dirs.specs.Exchanges.{HasExchanged, IsLaidOver, uncounted}
 use Rattle.linear_dirs.specs.Shown.{head_for, record_for}
 use Rattle.table_growth.specs.Tables.{DraftsDirectory}

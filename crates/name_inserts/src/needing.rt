@@ -1,5 +1,5 @@
 // How many blocks a name takes that comes into a directory.
-ghost use Rattle.std.specs.Prelude.{ℕ, List, ◌≡◌, ◌≤◌, false, true, None, length, IfOk};
+ghost use Rattle.std.specs.Prelude.{ℕ, List, ◌≡◌, ◌^◌, ◌<◌, ◌≤◌, false, true, None, length, IfOk};
 ghost use Rattle.gfs2_layout.specs.Holding.{Holding};
 ghost use Rattle.gfs2_layout.specs.Inode.{is_directory_in, is_hashed_in};
 ghost use Rattle.glock_names.specs.Steps.{IfIs, IfNeedBlock, IfDamaged, OnlyDamaged};
@@ -55,6 +55,7 @@ fn need_in_linear<V: View>(
     requires short { length name.now ≤ 255 }
     ensures need { (h : Holding) → inode.IsShown (V.seen view.now) dir h → IsSound h → is_directory_in h ≡ true → is_hashed_in h ≡ false → IfIs result (λ need. need ≡ need_in_linear h name.now) }
     ensures room { (h : Holding) → inode.IsShown (V.seen view.now) dir h → has_linear_room h name.now ≡ true → IfIs result (λ need. need ≡ 0) }
+    ensures most { IfIs result (λ n. n < 2 ^ 42) }
     ensures needed { IfNeedBlock result (λ missing. missing ≡ missing_dinode dir) }
     ensures absent { IfNeedBlock result (λ missing. (V.seen view.now).block_at dir ≡ None) }
     ensures damaged { (h : Holding) → inode.IsShown (V.seen view.now) dir h → IfDamaged result (linear.IsBroken h) }
@@ -77,6 +78,7 @@ fn need_in_hashed<V: View>(
     requires some { 1 ≤ length name.now }
     requires short { length name.now ≤ 255 }
     ensures need { (h : Holding) → IsShown (V.seen view.now) dir h → is_hashed_in h ≡ true → IsSound h → IfIs result (λ need. need ≡ need_in_hashed h name.now) }
+    ensures most { IfIs result (λ n. n < 2 ^ 42) }
     ensures needed { (h : Holding) → IsShown (V.seen view.now) dir h → is_hashed_in h ≡ true → IfNeedBlock result (IsNeededForName (V.seen view.now) h name.now) }
     ensures absent { IfNeedBlock result (λ missing. (V.seen view.now).block_at missing.block ≡ None) }
     ensures damaged { (h : Holding) → IsShown (V.seen view.now) dir h → is_hashed_in h ≡ true → IfDamaged result (IsWrongForName (V.seen view.now) h) }
@@ -105,6 +107,7 @@ pub fn need_name<V: View>(
     requires short { length name.now ≤ 255 }
     ensures need { (h : Holding) → IsShown (V.seen view.now) dir h → IsSound h → is_directory_in h ≡ true → IfIs result (λ need. need ≡ name_need h name.now) }
     ensures room { (h : Holding) → IsShown (V.seen view.now) dir h → is_hashed_in h ≡ false → has_linear_room h name.now ≡ true → IfIs result (λ need. need ≡ 0) }
+    ensures most { IfIs result (λ n. n < 2 ^ 42) }
     ensures needed { (h : Holding) → IsShown (V.seen view.now) dir h → IfNeedBlock result (IsNeededForName (V.seen view.now) h name.now) }
     ensures absent { IfNeedBlock result (λ missing. (V.seen view.now).block_at missing.block ≡ None) }
     ensures damaged { (h : Holding) → IsShown (V.seen view.now) dir h → IfDamaged result (IsWrongForName (V.seen view.now) h) }

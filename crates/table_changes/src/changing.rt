@@ -12,9 +12,9 @@ ghost use Rattle.pointer_tables.specs.Directories.{IsPlaced, IsTreeSound};
 ghost use Rattle.table_growth.specs.Pointers.{EachPointerLeads, HasPointerOf, IsOfPointers, IsTableBroken};
 ghost use Rattle.table_growth.specs.Tables.{CanDouble, DraftsDirectory, HasPointersSet, TakesDoubled, TakesWithin};
 
-use pointer_tables::PointerTable;
 use drafts::Draft;
 use glock_names::{CallFault, Step, View};
+use pointer_tables::PointerTable;
 use std::alloc::Global;
 use std::collections::VecDeque;
 

@@ -3,10 +3,10 @@ ghost use Rattle.std.specs.Prelude.{ℕ, ◌≡◌, ◌+◌, ◌-◌, ◌*◌, �
 ghost use Rattle.gfs2_layout.specs.Bytes.{u64_at};
 ghost use Rattle.table_files.specs.Files.{header_at, table_block, table_bytes as bytes_of};
 
-use tree_tables::IN_TABLE;
 use gfs2_layout::MetaHeader;
 use no_memory::NoMemory;
 use std::alloc::Global;
+use tree_tables::IN_TABLE;
 
 /// Each eight bytes twice, one behind the other.
 pub(crate) fn each_twice(alloc: Global, bytes: &[u8]) -> Result<Vec<u8>, NoMemory>

@@ -12,13 +12,12 @@ ghost use Rattle.table_growth.specs.Pointers.{IsOfPointers, IsTableBroken};
 ghost use Rattle.tree_tables.specs.Pointers.{IsTableOf};
 ghost use Rattle.table_changes.specs.Setting.{AreRuns, IsRun, IsSeenRun, counted};
 
-use tree_tables::TreeTable;
-use tree_tables::{IN_TABLE, damaged};
 use dinode_tree::{Located, all_blocks_are_shown, locate, read_dinode};
 use gfs2_layout::{DINODE_LENGTH, has_header};
 use glock_names::{CallFault, Missing, Step, View, block_of};
 use linear_dirs::lock_of;
 use std::alloc::Global;
+use tree_tables::{IN_TABLE, TreeTable, damaged};
 
 /// Neighbouring pointers of a table that stand in one block: from which byte of it on, and how many.
 #[derive(Clone, Copy)]

@@ -15,7 +15,6 @@ ghost use Rattle.table_files.specs.Files.{doubled_dinode, file_dinode};
 ghost use Rattle.table_changes.specs.Doubling.{AreDoubledBlocks, IsDoubledTable};
 ghost use Rattle.tree_tables.specs.Pointers.{IsTableOf};
 
-use tree_tables::TreeTable;
 use crate::putting::put_dinode;
 use drafts::{Draft, Written};
 use file_fills::height_for;
@@ -25,9 +24,10 @@ use glock_names::{CallFault, Step, View};
 use growth_laws::files_are_inodes;
 use nested_drafts::are_whole;
 use no_memory::NoMemory;
-use table_growth::{doubling_need, table_blocks, tree_blocks};
 use std::alloc::Global;
 use std::collections::VecDeque;
+use table_growth::{doubling_need, table_blocks, tree_blocks};
+use tree_tables::TreeTable;
 
 // The dinode of the file that a table is.
 fn file_of(dinode: &Dinode, size: usize, depth: u16) -> Dinode

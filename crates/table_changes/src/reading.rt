@@ -18,15 +18,14 @@ ghost use Rattle.table_files.specs.Files.{AreHeadersOf};
 ghost use Rattle.tree_tables.specs.Pointers.{IsTableOf};
 ghost use Rattle.table_changes.specs.Doubling.{IsDoubledTable};
 
-use tree_tables::TreeTable;
 use crate::doubling::{each_twice, table_bytes};
 use crate::finding::find_run;
-use tree_tables::{IN_TABLE, pointers_of};
 use dinode_tree::{PointedBlock, all_blocks_are_shown, blocks_below, read_range};
 use glock_names::{CallFault, Missing, Step, View, block_of};
 use linear_dirs::lock_of;
-use table_growth::table_blocks;
 use std::alloc::Global;
+use table_growth::table_blocks;
+use tree_tables::{IN_TABLE, TreeTable, pointers_of};
 
 // The first of these blocks that the view hasn't.
 fn first_missing<V: View>(view: &V, directory: u64, blocks: &[PointedBlock]) -> Option<Missing>

@@ -1,5 +1,5 @@
 // A table in its directory's blocks that changes in a draft.
-use tree_tables::TreeTable;
+use crate::changing::PointerTableMut;
 use crate::finding::find_runs;
 use crate::growing::doubled_blocks;
 use crate::putting::are_of_table;
@@ -10,9 +10,9 @@ use drafts::Draft;
 use glock_names::{CallFault, Step, View};
 use linear_dirs::lock_of;
 use nested_drafts::put_blocks;
-use crate::changing::PointerTableMut;
 use std::alloc::Global;
 use std::collections::VecDeque;
+use tree_tables::TreeTable;
 
 impl PointerTableMut for TreeTable {
     fn set<V: View>(

@@ -38,7 +38,7 @@ returns-clause-put g c h need can shows only =
     let at = only_at led v c.args.dir h name room need c.args.leaf can only in
     let is = c.has_room_in.ensures at.there.0 at.there.1 (seen_block v c.args.dir h name room need c.args.leaf can at) in
     let flag : c.in-Some.has_room ≡ has_room_for (length name) (slots_of (leaf_area h c.args.leaf)) = one_bool _ _ (sym c.in-Some.is ∙ is)
-        ∙ ap (λ y. has_room_for (length name) (slots_of (drop leaf_length y))) (sym (seen_bytes v c.args.dir h name room need c.args.leaf can at)) in
+    ∙ ap (λ y. has_room_for (length name) (slots_of (drop leaf_length y))) (sym (seen_bytes v c.args.dir h name room need c.args.leaf can at)) in
     let found = only_found led v c.args.dir h name room need c.args.leaf can only c.in-Some.has_room flag in
     c.insert_whole.ensures.put h need can shows (subst (IsChainFound v h name) (sym (found_eq c.only_leaf-found.result _ _ c.only_leaf-found.ensures.head c.only_leaf-found.ensures.chain)) found)
     (sees_own v c.args.dir h name room need c.args.leaf can at) (λ full one. sees_all led v c.args.dir h name room need c.args.leaf can only)

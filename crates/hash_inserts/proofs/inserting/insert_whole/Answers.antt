@@ -1,9 +1,7 @@
-use Rattle.std.proofs.Common.{◌≡◌, ◌∙◌, ◌<◌, length, sym, ap, subst, subst₂, arith}
+use Rattle.std.proofs.Common.{◌≡◌, ◌∙◌, length, sym, ap, subst, subst₂, arith}
 use Rattle.std.specs.Prelude.{Contains}
 use Rattle.std.specs.FinMap.{empty}
 use Rattle.std.specs.List.{each_same}
-use Rattle.std.proofs.lemmas.List.Elements.{All-from_get_or}
-use Rattle.glock_names.proofs.StepLaws.{answer_at, needed_at}
 use Rattle.drafts.specs.Fates.{Drafted, seen_in, seen_with}
 use Rattle.dinode_tree.specs.Reading.{inode_lock}
 use Rattle.hash_dirs.specs.Shown.{IsShown}

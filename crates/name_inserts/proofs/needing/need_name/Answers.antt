@@ -1,5 +1,5 @@
-use Rattle.std.proofs.Common.{◌≡◌, true≢false, sym, ap, ◌∙◌}
-use Rattle.std.proofs.lemmas.Bool.{cond-false, cond-true, cases_Bool}
+use Rattle.std.proofs.Common.{◌≡◌, true≢false, sym, ◌∙◌}
+use Rattle.std.proofs.lemmas.Bool.{cond-false, cond-true}
 use Rattle.gfs2_layout.specs.Inode.{is_hashed_in}
 use Rattle.glock_names.specs.Steps.{TellsOf}
 use Rattle.glock_names.proofs.StepLaws.{answer_at, answer_so}

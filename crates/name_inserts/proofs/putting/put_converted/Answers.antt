@@ -1,18 +1,13 @@
-use Rattle.std.proofs.Common.{◌≡◌, ◌<◌, ◌≤◌, ◌^◌, ℕ, ◌∷◌, ◌++◌, true, List, [], length, None, Some, refl, sym, ap, ◌∙◌, subst, arith}
+use Rattle.std.proofs.Common.{◌≡◌, ◌+◌, ◌<◌, ◌≤◌, ◌^◌, ℕ, List, None, Some, refl, sym, ap, ◌∙◌, subst, arith}
 use Rattle.std.specs.Prelude.{Contains, slice_get}
 use Rattle.std.proofs.lemmas.List.Elements.{All-from_get_or}
-use Rattle.drafts.specs.Fates.{seen_in, seen_with}
-use Rattle.gfs2_layout.specs.Holding.{Holding}
+use Rattle.drafts.specs.Fates.{seen_in}
 use Rattle.glock_names.specs.Views.{HasBlock, Seen}
 use Rattle.glock_names.proofs.StepLaws.{answer_at}
 use Rattle.dinode_tree.proofs.Sound.{some_is_shown}
 use Rattle.resource_groups.specs.Putting.{HasDataBlock}
-use Rattle.hash_dirs.specs.Shown as hashed
 use Rattle.hash_steps.specs.Steps.{first_count}
 use Rattle.hash_inserts.specs.Advancing.{CanInsert}
-use Rattle.hash_inserts.specs.Inserting.{Converts, ConvertsWithin}
-use Rattle.tree_tables.specs.declared.tree_table.TreeTable.{TreeTable}
-use Rattle.name_inserts.specs.Inserting.{CanGetName}
 use Rattle.name_inserts.specs.Need.{need_in_hashed}
 use Rattle.name_inserts.proofs.First.{both_inside, only_leaf, table_of}
 use Rattle.name_inserts.proofs.Forms.{any_shown}

@@ -3,7 +3,6 @@ use Rattle.glock_names.proofs.StepLaws.{answer_at, answer_so, needed_so}
 use Rattle.std.proofs.Common.{◌≡◌, true}
 use Rattle.drafts.specs.Fates.{seen_in}
 use Rattle.gfs2_layout.specs.Holding.{Holding}
-use Rattle.dinode_tree.proofs.Sound.{sound_is_whole}
 use Rattle.hash_dirs.specs.Broken as leaves
 use Rattle.linear_dirs.proofs.Looked.{handed}
 use Rattle.directories.specs.Shown as directory
@@ -27,7 +26,7 @@ returns-clause-put g c h shown is sound counts few absent free need takes enough
     let w = seen_in g.V.View.seen c.insert.new.draft in
     let table = answer_at _ _ _ c.in-Is.is (c.in_ok-table.ensures.table h shown.inode is (shown.whole is)) in
     answer_so c.insert.result _ (λ done. (done ≡ true) × ((x : Holding) × IsShown w c.args.dir x × Inserts c.args.draft.now.fates c.insert.new.draft.fates c.args.room.now.items c.insert.new.room.items need c.args.name.now c.args.entry h x))
-    (λ done is. (is.0, is.1, any_shown w c.args.dir is.1 is.2 is.4.sound, is.4))
+    (λ done is. (is.0, (is.1.0, any_shown w c.args.dir is.1.0 is.1.1 is.1.3.sound, is.1.3)))
     (c.insert.ensures.put h need (leaves_shown v c.args.dir h shown is) table sound counts absent free takes enough few)
 
 pub returns-clause-needed : goal.returns-clause-needed
