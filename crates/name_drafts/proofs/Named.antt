@@ -74,7 +74,7 @@ module _ {V : Type 0} (seen : V → Seen) (old mid last : Drafted V) (dir : ℕ)
       first = mid.fates;
       changes = λ b. elim (inside.changes b) [
         | inl same ↦ inl (same ∙ ap (λ (m : FinMap nat_cmp Fate). get m b) new ∙ get-empty nat_cmp b)
-        | inr may ↦ inr (subst (λ x. MayChange x dir inside.taken b) old_is may)
+        | inr put ↦ inr (subst (λ x. MayChange x dir inside.taken b) old_is put.0, put.1)
       ];
       named = λ h shown can.
           let got = put h (subst (λ x. IsShown x dir h) (sym old_is) shown) can in (
