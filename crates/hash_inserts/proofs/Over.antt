@@ -1,10 +1,13 @@
 -- What was inserted in a draft over a draft, once it is put into that.
-use Rattle.std.proofs.Common.{◌≡◌, ◌⊎◌, ℕ, ◌<◌, ◌∷◌, [], inl, inr, Bool, false, List, ◌++◌, length, take, drop, Option, None, Some, refl, sym, ap, ◌∙◌, subst, length-append, arith}
+use Rattle.std.proofs.Common.{◌≡◌, ◌⊎◌, ℕ, suc, ◌<◌, ◌∷◌, [], inl, inr, Bool, false, List, ◌++◌, length, take, drop, Option, None, Some, refl, sym, ap, ◌∙◌, subst, length-append, arith}
 use Rattle.std.specs.Prelude.{IsSome, Contains}
-use Rattle.std.specs.FinMap.{FinMap, empty, entries, get, get-empty}
+use Rattle.std.proofs.lemmas.Bool.{cases_eq}
+use Rattle.std.specs.Cmp.{nat_cmp_total}
+use Rattle.std.specs.FinMap.{FinMap, empty, entries, get, get-empty, insert, nat_cmp-IsAntisymmetric}
 use Rattle.std.specs.Ordering.{nat_cmp}
 use Rattle.std.proofs.Math.Path.{fun_ext}
 use Rattle.std.proofs.Math.Seq.{drop-append_seam, take-append_seam}
+use Rattle.finite_maps.proofs.Keys.{inserted_at, inserted_apart}
 use Rattle.drafts.specs.Fates.{block_with, blocks_in, seen_with}
 use Rattle.drafts.specs.declared.change.Written.{Written}
 use Rattle.drafts.specs.declared.fate.Fate.{Fate}
@@ -32,6 +35,20 @@ same_parts xs ys xs' ys' e long =
       sym (take-append_seam xs ys) ∙ ap (take (length xs)) e ∙ ap (λ n. take n (xs' ++ ys')) front ∙ take-append_seam xs' ys',
       sym (drop-append_seam xs ys) ∙ ap (drop (length xs)) e ∙ ap (λ n. drop n (xs' ++ ys')) front ∙ drop-append_seam xs' ys',
     )
+
+-- ---- blocks that are put under a lock
+
+-- what becomes of a block: what became of it before, or it is one of them and put under the lock
+pub blocks_put : (lock : LockName) (ws : List Written) (below : FinMap nat_cmp Fate) (b : ℕ)
+    → (get (with_blocks lock ws below) b ≡ get below b) ⊎ ((w : Written) × Contains ws w × (w.block ≡ b) × ((bytes : List ℕ) × (get (with_blocks lock ws below) b ≡ Some (Put lock false bytes))))
+blocks_put lock [] below b = inl refl
+blocks_put lock (w ∷ ws) below b = elim (blocks_put lock ws (insert below w.block (Put lock false w.bytes)) b) [
+  | inr later ↦ inr (later.0, (suc later.1.0, omega (arith, later.1.1), later.1.2), later.2, later.3)
+  | inl same ↦ elim (cases_eq b w.block) [
+    | inl here ↦ inr (w, (0, omega arith, refl), sym here, (w.bytes, same ∙ ap (get (insert below w.block (Put lock false w.bytes))) here ∙ inserted_at nat_cmp_total nat_cmp-IsAntisymmetric below w.block (Put lock false w.bytes)))
+    | inr apart ↦ inl (same ∙ inserted_apart nat_cmp_total nat_cmp-IsAntisymmetric below w.block (Put lock false w.bytes) b apart)
+  ]
+]
 
 -- ---- a draft in which nothing was put
 

@@ -20,7 +20,7 @@ ghost use Rattle.linear_dirs.specs.Shown.{IsLinearIn};
 ghost use Rattle.hash_dirs.specs.Shown.{IsShown, IsSound};
 ghost use Rattle.hash_steps.specs.Steps.{first_count};
 ghost use Rattle.hash_inserts.specs.Converting.{AreConverted, CanConvert, IsFirstLeaf, IsTableWritten, hashed_dinode};
-ghost use Rattle.hash_inserts.specs.Inserting.{Converts, ConvertsWithin};
+ghost use Rattle.hash_inserts.specs.Inserting.{Converts, ConvertsWithin, IsPutUnder};
 
 use dinode_tree::sound_inodes_are_shown;
 use drafts::Draft;
@@ -148,7 +148,7 @@ fn convert_in<V: View>(
         × ((table new : List ℕ) × AreConverted bytes table new leaf
         × (draft.new ≡ record draft.old { fates = with_fate (with_fate draft.old.fates leaf (Put (inode_lock dir) false new)) dir (Put (inode_lock dir) false table) }))) }
     ensures undone { IfOk result (λ done. done ≡ false → draft.new ≡ draft.old) }
-    ensures inside { IfOk result (λ done. (b : ℕ) → (fate_of draft.new.fates b ≡ fate_of draft.old.fates b) ⊎ ((b ≡ dir) ⊎ (b ≡ leaf))) }
+    ensures inside { IfOk result (λ done. (b : ℕ) → (fate_of draft.new.fates b ≡ fate_of draft.old.fates b) ⊎ (((b ≡ dir) ⊎ (b ≡ leaf)) × IsPutUnder draft.new.fates dir b)) }
     ensures view { draft.new.view ≡ draft.old.view }
 {
     let _size = draft.block_size();

@@ -1,23 +1,22 @@
 -- In an image that the view may be of: a draft that makes a name adds it.
-use Rattle.std.proofs.Common.{◌≡◌, ◌≢◌, ◌⊎◌, ◌↔◌, inl, inr, Bool, true, false, ℕ, ◌+◌, ◌-◌, ◌<◌, ◌≤◌, ◌++◌, List, [], ◌∷◌, length, Option, None, Some, refl, sym, ap, ap₂, ◌∙◌, subst, subst₂, arith}
+use Rattle.std.proofs.Common.{◌≡◌, ◌≢◌, inl, inr, Bool, true, false, ℕ, ◌<◌, ◌≤◌, List, [], ◌∷◌, length, Option, None, Some, refl, sym, ap, ap₂, ◌∙◌, subst, arith}
 use Rattle.std.proofs.lemmas.Bool.{cases_eq}
 use Rattle.std.proofs.lemmas.List.Elements.{Contains-append_cases, Contains-append_left, Contains-append_right}
-use Rattle.std.specs.Prelude.{Contains, IsSome, is_some, option_map, unwrap_or}
+use Rattle.std.specs.Prelude.{Contains, IsSome, option_map, unwrap_or}
 use Rattle.std.specs.Ordering.{nat_cmp}
 use Rattle.std.specs.FinMap.{FinMap, get, empty, get-empty}
 use Rattle.file_tree.specs.Names.{IsName}
 use Rattle.file_tree.specs.Tree.{Tree}
-use Rattle.drafts.specs.Fates.{AreWhole, block_with, seen_with}
+use Rattle.drafts.specs.Fates.{AreWhole, seen_with}
 use Rattle.drafts.specs.declared.change.Change.{Change}
 use Rattle.drafts.specs.declared.fate.Fate.{Fate}
-use Rattle.drafts.specs.declared.fate.Fate.TheVariants.{Put, Freed}
+use Rattle.drafts.specs.declared.fate.Fate.TheVariants.{Put}
 use Rattle.gfs2_layout.specs.Holding.{Cell, Holding, Itself, Part, alone, bytes_at, cell_bytes, cell_part, part_at}
 use Rattle.gfs2_layout.specs.Inode.{Head, IsInode, head_of}
 use Rattle.gfs2_layout.specs.declared.dinode.Dinode.{Dinode}
 use Rattle.gfs2_layout.specs.declared.rindex.Rindex.{Rindex}
-use Rattle.glock_names.specs.Views.{Seen, HasBlock, HasGroup, IsView, group_of_entry}
+use Rattle.glock_names.specs.Views.{Seen, HasGroup, IsView, group_of_entry}
 use Rattle.glock_names.specs.declared.steps.Entry.{Entry}
-use Rattle.glock_names.specs.declared.views.Group.{Group}
 use Rattle.dinode_tree.specs.Reading.{inode_lock}
 use Rattle.linear_dirs.specs.Shown.{bytes_over, holding_over, record_for}
 use Rattle.linear_dirs.proofs.Over.{as_seen, parts_stay}
@@ -46,7 +45,7 @@ use Rattle.draft_changes.proofs.Views.{groups_are_listed}
 use Rattle.image_changes.proofs.Finishing.{drafts_show}
 use Rattle.directory_changes.specs.Growing.{GrowsByName, IsPutOrLeft}
 use Rattle.path_walks.specs.declared.walk.Place.{Place}
-use Rattle.name_drafts.specs.Drafting.{GrowsInto, HasNoGroupBlock, IsNewOf, IsPlaceFor, entry_for, kind_for, new_tree}
+use Rattle.name_drafts.specs.Drafting.{GrowsInto, HasNoGroupBlock, IsNewOf, IsPlaceFor, entry_for, new_tree}
 use Rattle.name_drafts.specs.declared.drafting.NewBlock.{NewBlock}
 use Rattle.name_drafts.proofs.Done.{AreDone, as_named, new_put, parent_put, second_away}
 use Rattle.name_drafts.proofs.Fates.{put_seen}

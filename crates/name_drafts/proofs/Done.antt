@@ -1,34 +1,29 @@
 -- What was done over a view by a draft that makes a name, and what became of each block. `named` is the draft with the directory, `third` that with the
 -- new inode, and `said.fates` that with the groups.
-use Rattle.std.proofs.Common.{◌≡◌, ◌≢◌, ◌⊎◌, inl, inr, Bool, true, false, true≢false, ℕ, ◌+◌, ◌-◌, ◌<◌, ◌≤◌, ◌++◌, List, [], ◌∷◌, Option, None, Some, refl, sym, ap, ap₂, ◌∙◌, subst, subst₂, arith}
+use Rattle.std.proofs.Common.{◌≡◌, ◌≢◌, ◌⊎◌, inl, inr, Bool, false, true≢false, ℕ, ◌+◌, ◌-◌, ◌<◌, List, [], ◌∷◌, None, Some, refl, sym, ap, ◌∙◌, subst, arith}
 use Rattle.std.proofs.lemmas.Bool.{cases_Bool, cases_eq, cases_lt}
 use Rattle.std.proofs.lemmas.List.Elements.{Contains-append_left, Contains-append_right, Contains-append_cases}
 use Rattle.std.specs.Prelude.{Contains, is_some}
 use Rattle.std.specs.Ordering.{nat_cmp}
-use Rattle.std.specs.FinMap.{FinMap, get, empty, insert, get-empty}
-use Rattle.drafts.specs.Fates.{AreWhole, Drafted, block_with, seen_in, seen_with}
+use Rattle.std.specs.FinMap.{FinMap, get, insert, get-empty}
+use Rattle.drafts.specs.Fates.{seen_with}
 use Rattle.drafts.specs.declared.change.Change.{Change}
 use Rattle.drafts.specs.declared.fate.Fate.{Fate}
-use Rattle.drafts.specs.declared.fate.Fate.TheVariants.{Put, Freed}
+use Rattle.drafts.specs.declared.fate.Fate.TheVariants.{Put}
 use Rattle.gfs2_layout.specs.Groups.{group_header, uncounted}
 use Rattle.gfs2_layout.specs.Holding.{Holding, alone, bytes_at}
 use Rattle.gfs2_layout.specs.Structures.{dinode_of}
 use Rattle.gfs2_layout.specs.declared.dinode.Dinode.{Dinode}
-use Rattle.gfs2_layout.specs.declared.group_header.GroupHeader.{GroupHeader}
-use Rattle.glock_names.specs.Views.{Seen, HasBlock, HasGroup, IsView}
+use Rattle.glock_names.specs.Views.{Seen, HasGroup, IsView}
 use Rattle.glock_names.specs.declared.LockName.{LockName}
 use Rattle.glock_names.specs.declared.steps.Entry.{Entry}
 use Rattle.glock_names.specs.declared.views.Group.{Group}
 use Rattle.dinode_tree.specs.Reading.{inode_lock}
-use Rattle.growth_drafts.specs.Taken.{IsDistinct}
-use Rattle.table_growth.specs.Tables.{DraftsDirectory}
 use Rattle.directories.specs.Shown.{IsShown}
-use Rattle.new_inodes.specs.New.{IsInodePut}
 use Rattle.resource_groups.specs.Freeing.{HasSome, SaysStateOfSome}
 use Rattle.resource_groups.specs.Putting.{ArePutIn, HasDataBlock, SaysStateOf, overlaid, seen_or}
 use Rattle.resource_groups.specs.Shown.{IsDataOf, IsHeaderOf, first_place, group_lock}
 use Rattle.resource_groups.specs.Shown as group
-use Rattle.resource_groups.proofs.Apart.{no_header_data, one_header}
 use Rattle.resource_groups.proofs.Fits.{fit_of}
 use Rattle.resource_groups.proofs.PutIn.{blocks_same, cases_data, not_data}
 use Rattle.resource_groups.proofs.Sets.{only_has}
@@ -40,12 +35,12 @@ use Rattle.image_changes.proofs.Inside.{stay_inside}
 use Rattle.path_walks.proofs.Lying.{data_lies, header_lies}
 use Rattle.path_walks.specs.declared.walk.Place.{Place}
 use Rattle.hash_inserts.specs.Inserting.{MayChange, a_data_block, a_taken_one, the_dinode}
-use Rattle.name_inserts.specs.Inserting.{CanGetName, PutsName}
-use Rattle.name_drafts.specs.Drafting.{CountsNumber, HasTimes, IsNewOf, IsPutUnder, PutsUnder, entry_for, header_in, kind_for, of_directory, of_group, of_inode}
+use Rattle.name_inserts.specs.Inserting.{CanGetName}
+use Rattle.name_drafts.specs.Drafting.{CountsNumber, HasTimes, IsNewOf, IsPutUnder, PutsUnder, entry_for, header_in, of_directory, of_group, of_inode}
 use Rattle.name_drafts.specs.Steps.{IsNamePut, IsSaidAndDone, LeavesGroups}
 use Rattle.name_drafts.specs.declared.drafting.NewBlock.{NewBlock}
 use Rattle.name_drafts.proofs.Fates.{lock_put, put_elsewhere, put_seen, put_there}
-use Rattle.name_drafts.proofs.Faults.{data_apart, header_same, own_header}
+use Rattle.name_drafts.proofs.Faults.{data_apart, header_same}
 
 -- what was done over a view
 pub record AreDone (v : Seen) (is_directory : Bool) (p : Place) (name : List ℕ) (r : NewBlock) (room : List ℕ) (time : ℕ) (change : Change) : Type 0 where
@@ -136,7 +131,7 @@ module _ (v : Seen) (shows : IsView v) (dir : ℕ) (name : List ℕ) (e : Entry)
 
   -- what becomes of a block: nothing, or it is a data block
   pub first_inside : (b : ℕ) → (get named.first b ≡ None) ⊎ HasDataBlock v b
-  first_inside b = elim (named.changes b) [ inl none ↦ inl none | inr may ↦ inr (may_inside b may) ]
+  first_inside b = elim (named.changes b) [ inl none ↦ inl none | inr put ↦ inr (may_inside b put.0) ]
 
   pub second_apart : (b : ℕ) → b ≢ dir → get fates b ≡ get named.first b
   second_apart b other = ap (λ (m : FinMap nat_cmp Fate). get m b) named.put ∙ put_elsewhere named.first dir (Put (inode_lock dir) false named.final) b other
@@ -228,55 +223,42 @@ module _ (v : Seen) (is_directory : Bool) (p : Place) (name : List ℕ) (r : New
   abbrev IsPutSo : ℕ → Type 0
   IsPutSo b = (lock : LockName) × (bytes : List ℕ) × (get last b ≡ Some (Put lock false bytes)) × IsPutUnder v p r is.taken b lock
 
-  module _ (h : Holding) (shown : IsShown v p.inode h) (can : CanGetName h name room) where
-    first_what : (b : ℕ) → (get is.named.first b ≡ None) ⊎ ((bytes : List ℕ) × (get is.named.first b ≡ Some (Put (inode_lock p.inode) false bytes)))
-    first_what b =
-        let got = is.named.named h shown can in
-        elim (cases_Bool (is_some (got.0.cell b))) [
-          | inl some ↦ elim (got.2.0.drafted.own b some) [
-            | inl left ↦ inl (left.0 ∙ get-empty nat_cmp b)
-            | inr put ↦ inr (bytes_at got.0 b, put ∙ ap (λ n. Some (Put (inode_lock n) false (bytes_at got.0 b))) got.1.inode.own)
-          ]
-          | inr none ↦ inl (got.2.0.drafted.others b (λ some. true≢false (sym some ∙ none)) ∙ get-empty nat_cmp b)
-        ]
-
-    what : (b : ℕ) → (get last b ≡ None) ⊎ IsPutSo b
-    what b = elim (header_or_not b) [
-      | inl header ↦ elim (says_or_not v.size header.0 (r.block ∷ is.taken) b) [
-        | inl says ↦ elim (is.said.headers header.0 b header.1 header.2) [
-          | inl none ↦ inl none
-          | inr put ↦ inr (group_lock header.0, put.0, put.1, of_group header.0 header.1 (says.0, says.1, says.2) says refl)
-        ]
-        | inr silent ↦ inl (is.said.only header.0 b header.1 header.2 silent)
+  what : (b : ℕ) → (get last b ≡ None) ⊎ IsPutSo b
+  what b = elim (header_or_not b) [
+    | inl header ↦ elim (says_or_not v.size header.0 (r.block ∷ is.taken) b) [
+      | inl says ↦ elim (is.said.headers header.0 b header.1 header.2) [
+        | inl none ↦ inl none
+        | inr put ↦ inr (group_lock header.0, put.0, put.1, of_group header.0 header.1 (says.0, says.1, says.2) says refl)
       ]
-      | inr none ↦ elim (cases_eq b r.block) [
-        | inl same ↦ inr (inode_lock r.block, is.bytes, ap (get last) same ∙ new_put, of_inode same refl)
-        | inr new_away ↦ elim (cases_eq b p.inode) [
-          | inl same ↦ inr (inode_lock p.inode, is.named.final, ap (get last) same ∙ parent_put, of_directory (inl same) refl)
-          | inr away ↦
-              let stays = as_named b away new_away (λ g there some. none g there) in
-              elim (first_what b) [
-                | inl never ↦ inl (stays ∙ never)
-                | inr put ↦ inr (inode_lock p.inode, put.0, stays ∙ put.1, of_directory (inr (may b put)) refl)
-              ]
-        ]
+      | inr silent ↦ inl (is.said.only header.0 b header.1 header.2 silent)
+    ]
+    | inr none ↦ elim (cases_eq b r.block) [
+      | inl same ↦ inr (inode_lock r.block, is.bytes, ap (get last) same ∙ new_put, of_inode same refl)
+      | inr new_away ↦ elim (cases_eq b p.inode) [
+        | inl same ↦ inr (inode_lock p.inode, is.named.final, ap (get last) same ∙ parent_put, of_directory (inl same) refl)
+        | inr away ↦
+            let stays = as_named b away new_away (λ g there some. none g there) in
+            elim (is.named.changes b) [
+              | inl never ↦ inl (stays ∙ never)
+              | inr put ↦ inr (inode_lock p.inode, put.1.0, stays ∙ put.1.1, of_directory (may b put.0) refl)
+            ]
       ]
     ]
-      where
-        may : (b : ℕ) → ((bytes : List ℕ) × (get is.named.first b ≡ Some (Put (inode_lock p.inode) false bytes))) → Contains is.taken b ⊎ HasDataBlock v b
-        may b put = elim (first_inside v shows p.inode name entry time room is.taken is.second is.named inside rooms b) [
-          | inl never ↦ absurd (none_some (sym never ∙ put.1))
-          | inr data_block ↦ inr data_block
-        ]
+  ]
+    where
+      may : (b : ℕ) → MayChange v p.inode is.taken b → (b ≡ p.inode) ⊎ (Contains is.taken b ⊎ HasDataBlock v b)
+      may b (the_dinode here) = inl here
+      may b (a_taken_one there) = inr (inl there)
+      may b (a_data_block data_block) = inr (inr data_block)
 
-    pub locks : PutsUnder v last p r is.taken
-    locks b lock plain bytes put = elim (what b) [
-      | inl none ↦ absurd (none_some (sym none ∙ put))
-      | inr so ↦ subst (IsPutUnder v p r is.taken b) (lock_put so.0 lock false plain so.1 bytes (sym so.2 ∙ put)) so.3
-    ]
+  pub locks : PutsUnder v last p r is.taken
+  locks b lock plain bytes put = elim (what b) [
+    | inl none ↦ absurd (none_some (sym none ∙ put))
+    | inr so ↦ subst (IsPutUnder v p r is.taken b) (lock_put so.0 lock false plain so.1 bytes (sym so.2 ∙ put)) so.3
+  ]
 
-    pub none_freed : (b : ℕ) → is_freed last b ≡ false
-    none_freed b = elim (what b) [ inl none ↦ ap is_gone none | inr so ↦ ap is_gone so.2 ]
+  pub none_freed : (b : ℕ) → is_freed last b ≡ false
+  none_freed b = elim (what b) [ inl none ↦ ap is_gone none | inr so ↦ ap is_gone so.2 ]
 
   -- ---- the directory's times, and the groups' headers
 

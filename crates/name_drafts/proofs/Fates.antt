@@ -1,5 +1,5 @@
 -- What becomes of blocks in a draft over a view, and what it sees of them.
-use Rattle.std.proofs.Common.{◌≡◌, ◌≢◌, inl, inr, ℕ, Bool, List, Option, None, Some, refl, sym, ap, ◌∙◌, subst}
+use Rattle.std.proofs.Common.{◌≡◌, ◌≢◌, inl, inr, ℕ, Bool, List, Option, None, Some, refl, sym, ap, ◌∙◌}
 use Rattle.std.proofs.lemmas.Bool.{cases_eq}
 use Rattle.std.specs.Cmp.{nat_cmp_total}
 use Rattle.std.specs.Ordering.{nat_cmp}
@@ -10,7 +10,6 @@ use Rattle.drafts.specs.declared.fate.Fate.{Fate}
 use Rattle.drafts.specs.declared.fate.Fate.TheVariants.{Put, Freed}
 use Rattle.glock_names.specs.Views.{Seen, HasBlock, IsView}
 use Rattle.glock_names.specs.declared.LockName.{LockName}
-use Rattle.resource_groups.specs.Putting.{overlaid, seen_or}
 use Rattle.image_model.proofs.Held.{none_some}
 
 pub put_there : (f : FinMap nat_cmp Fate) (b : ℕ) (x : Fate) → get (insert f b x) b ≡ Some x

@@ -1,11 +1,10 @@
 -- What is told, or asked for, of groups of which a draft over a view put the headers.
-use Rattle.std.proofs.Common.{◌≡◌, ◌≢◌, inl, inr, ℕ, zero, suc, ◌+◌, ◌<◌, ◌≤◌, List, [], ◌∷◌, Option, None, Some, Result, Ok, Err, refl, sym, ap, ◌∙◌, subst, subst₂, arith}
-use Rattle.std.proofs.lemmas.Bool.{cases_eq}
+use Rattle.std.proofs.Common.{◌≡◌, ◌≢◌, inl, ℕ, zero, suc, ◌+◌, ◌<◌, ◌≤◌, List, [], Result, Ok, Err, refl, sym, ap, ◌∙◌, subst, subst₂, arith}
 use Rattle.std.proofs.lemmas.List.FromFn.{get_or-map-range_with_len}
 use Rattle.std.specs.List.{range_with_len}
-use Rattle.std.specs.Prelude.{Contains, IfErr, map, slice_index_or}
+use Rattle.std.specs.Prelude.{Contains, map, slice_index_or}
 use Rattle.std.specs.Ordering.{nat_cmp}
-use Rattle.std.specs.FinMap.{FinMap, get}
+use Rattle.std.specs.FinMap.{FinMap}
 use Rattle.drafts.specs.Fates.{seen_with}
 use Rattle.drafts.specs.declared.fate.Fate.{Fate}
 use Rattle.gfs2_layout.specs.Bitmap.{state_at}
@@ -25,9 +24,9 @@ use Rattle.glock_names.specs.declared.views.Group.{Group}
 use Rattle.dinode_tree.specs.Broken as rules
 use Rattle.directories.specs.Shown as dirs
 use Rattle.name_inserts.specs.Inserting.{IsWrongForName, of_directory}
-use Rattle.resource_groups.specs.Freeing.{BreaksSome, HasSome, IsNeededFor}
+use Rattle.resource_groups.specs.Freeing.{BreaksSome, IsNeededFor}
 use Rattle.resource_groups.specs.Numbering.{IsNumberPut}
-use Rattle.resource_groups.specs.Putting.{HasDataBlock, IsOneOfTwo}
+use Rattle.resource_groups.specs.Putting.{HasDataBlock}
 use Rattle.resource_groups.specs.Shown.{IsBroken, IsDataOf, IsHeaderOf, IsMissing, IsShown, blocks_of, format_of, kind_of, no_header, wrong_dinodes, wrong_free}
 use Rattle.resource_groups.proofs.Apart.{no_header_data}
 use Rattle.resource_groups.proofs.Fits.{fit_of}

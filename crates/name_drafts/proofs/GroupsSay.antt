@@ -1,9 +1,9 @@
 -- In an image that the view may be of: what the groups say of a draft that makes a name, as the states of their blocks.
-use Rattle.std.proofs.Common.{◌≡◌, ◌≢◌, ◌⊎◌, inl, inr, ℕ, ◌+◌, ◌-◌, ◌*◌, ◌<◌, ◌≤◌, ◌==◌, Bool, true, false, List, [], ◌∷◌, length, Option, None, Some, refl, sym, ap, ◌∙◌, subst, arith, length-set}
+use Rattle.std.proofs.Common.{◌≡◌, inl, inr, ℕ, ◌*◌, ◌≤◌, ◌==◌, Bool, true, false, List, [], ◌∷◌, length, refl, sym, ap, ◌∙◌, subst, arith, length-set}
 use Rattle.std.proofs.lemmas.Bool.{cases_Bool, cases_eq, cond-true, cond-false, eq-eqb, ne_eqb}
 use Rattle.std.specs.Prelude.{Contains, if◌then◌else◌}
 use Rattle.std.specs.Ordering.{nat_cmp}
-use Rattle.std.specs.FinMap.{FinMap, get}
+use Rattle.std.specs.FinMap.{FinMap}
 use Rattle.file_tree.specs.Tree.{Tree}
 use Rattle.drafts.specs.Fates.{seen_with}
 use Rattle.drafts.specs.declared.change.Change.{Change}
@@ -14,13 +14,12 @@ use Rattle.gfs2_layout.specs.declared.rindex.Rindex.{Rindex}
 use Rattle.gfs2_layout.proofs.StatePuts.{map_same}
 use Rattle.glock_names.specs.Views.{Seen, HasGroup, IsView, group_of_entry}
 use Rattle.glock_names.specs.declared.views.Group.{Group}
-use Rattle.resource_groups.specs.Freeing as freeing
 use Rattle.resource_groups.specs.Putting.{overlaid}
 use Rattle.resource_groups.specs.Shown as group
 use Rattle.resource_groups.proofs.Apart.{one_header}
 use Rattle.resource_groups.proofs.PutIn.{puts_say}
 use Rattle.resource_groups.proofs.Sets.{long_bitmap, only_has}
-use Rattle.image_model.specs.Groups.{IsDataOf, IsGroup, IsHeaderOf, IsListed, group_blocks, state_of, states_of}
+use Rattle.image_model.specs.Groups.{IsGroup, IsListed, group_blocks, state_of, states_of}
 use Rattle.image_model.specs.Image.{Image}
 use Rattle.image_model.specs.Owners.{Below, Owner, Owners, Root}
 use Rattle.image_model.specs.Stands.{Layout}
@@ -30,7 +29,7 @@ use Rattle.image_changes.specs.Drafted.{with_draft}
 use Rattle.image_changes.specs.Instances.{among}
 use Rattle.image_changes.proofs.Nodes.{among_in, in_among}
 use Rattle.image_changes.proofs.States.{blocks_are_set, other_generation}
-use Rattle.draft_changes.specs.Groups.{IsPutUnder, PutsGroup}
+use Rattle.draft_changes.specs.Groups.{PutsGroup}
 use Rattle.draft_changes.specs.Removing.{HasSome}
 use Rattle.draft_changes.proofs.Views.{groups_are_listed, shows_blocks}
 use Rattle.directory_changes.specs.Growing.{states_made}

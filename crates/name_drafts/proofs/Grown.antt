@@ -1,17 +1,16 @@
 -- The directory in the end: it has got the name, and the time.
-use Rattle.std.proofs.Common.{◌≡◌, ◌≢◌, ◌⊎◌, inl, inr, Bool, true, false, ℕ, ◌+◌, ◌<◌, ◌≤◌, ◌++◌, List, [], ◌∷◌, length, drop, Option, None, Some, refl, sym, ap, ◌∙◌, subst, subst₂, arith}
-use Rattle.std.proofs.lemmas.Bool.{cases_eq}
+use Rattle.std.proofs.Common.{◌≡◌, ◌≢◌, ◌⊎◌, inl, inr, Bool, true, false, ℕ, ◌≤◌, List, [], ◌∷◌, length, drop, Option, None, Some, refl, sym, ap, ◌∙◌, subst, subst₂, arith}
 use Rattle.std.proofs.lemmas.List.Elements.{Contains-append_left}
 use Rattle.std.specs.Prelude.{Contains, IsSome, is_some, option_map}
 use Rattle.std.specs.Ordering.{nat_cmp}
 use Rattle.std.specs.FinMap.{FinMap, get, empty}
-use Rattle.drafts.specs.Fates.{block_with, seen_with}
+use Rattle.drafts.specs.Fates.{seen_with}
 use Rattle.drafts.specs.declared.change.Change.{Change}
 use Rattle.drafts.specs.declared.fate.Fate.{Fate}
 use Rattle.gfs2_layout.specs.Area.{IsArea, slots_of}
 use Rattle.gfs2_layout.specs.Exchanges.{IsCounted, IsExchanged}
-use Rattle.gfs2_layout.specs.Holding.{Cell, Holding, Itself, bytes_at, part_at}
-use Rattle.gfs2_layout.specs.Inode.{dinode_in, linear_area, records_of}
+use Rattle.gfs2_layout.specs.Holding.{Cell, Holding, bytes_at}
+use Rattle.gfs2_layout.specs.Inode.{dinode_in, records_of}
 use Rattle.gfs2_layout.specs.Putting.{put_slot}
 use Rattle.gfs2_layout.specs.Records.{Record}
 use Rattle.gfs2_layout.specs.Structures.{dinode_length, dinode_of}
@@ -22,23 +21,21 @@ use Rattle.glock_names.specs.declared.views.Group.{Group}
 use Rattle.dinode_tree.specs.Pads.{KeepsPads}
 use Rattle.dinode_tree.proofs.Pads.{keeps_on, put_keeps}
 use Rattle.growth_drafts.specs.Taken.{AreFreeFor}
-use Rattle.linear_dirs.specs.Exchanges.{HasExchanged, IsLaidOver, uncounted}
+use Rattle.linear_dirs.specs.Exchanges.{HasExchanged, uncounted}
 use Rattle.linear_dirs.specs.Shown.{bytes_over, head_for, holding_over, record_for}
 use Rattle.linear_dirs.proofs.Looked.{bytes_of}
 use Rattle.linear_dirs.proofs.Over.{as_seen}
 use Rattle.linear_dirs.proofs.Rewritten.{over_there}
 use Rattle.directories.specs.Shown.{IsShown}
 use Rattle.new_inodes.specs.Touched.{IsTouched, with_times}
-use Rattle.resource_groups.specs.Freeing.{HasSome}
 use Rattle.resource_groups.specs.Putting.{HasDataBlock}
 use Rattle.resource_groups.specs.Shown.{IsDataOf, IsHeaderOf}
-use Rattle.image_model.proofs.Held.{none_some}
 use Rattle.path_walks.specs.declared.walk.Place.{Place}
 use Rattle.name_inserts.specs.Inserting.{CanGetName, IsNamed, IsPutInLinear, PutsName}
 use Rattle.name_drafts.specs.Drafting.{GetsRecord, GrowsInto, HasLinearRoom, HasNoGroupBlock, entry_for}
 use Rattle.name_drafts.specs.Steps.{IsNamePut}
 use Rattle.name_drafts.specs.declared.drafting.NewBlock.{NewBlock}
-use Rattle.name_drafts.proofs.Done.{AreDone, as_named, last, of_taken, second_away, third_apart}
+use Rattle.name_drafts.proofs.Done.{AreDone, last, of_taken, third_apart}
 use Rattle.name_drafts.proofs.Fates.{alike_seen}
 use Rattle.name_drafts.proofs.Faults.{data_apart}
 

@@ -1,31 +1,28 @@
 -- In an image that the view may be of: the directory at a place can get its name.
-use Rattle.std.proofs.Common.{◌≡◌, ◌≢◌, ◌⊎◌, inl, inr, ℕ, zero, suc, ◌+◌, ◌-◌, ◌*◌, ◌^◌, ◌<◌, ◌≤◌, Bool, true, false, List, [], ◌∷◌, ◌++◌, length, drop, Option, None, Some, refl, sym, ap, ◌∙◌, subst, arith, length-append, length-drop}
-use Rattle.std.proofs.lemmas.Bool.{cases_Bool, cases_lt, cond-true, cond-false, and_right}
+use Rattle.std.proofs.Common.{◌≡◌, ◌⊎◌, inl, inr, ℕ, zero, suc, ◌-◌, ◌*◌, ◌<◌, ◌≤◌, List, [], ◌∷◌, length, Option, None, Some, refl, sym, ap, ◌∙◌, subst, arith, length-append, length-drop}
+use Rattle.std.proofs.lemmas.Bool.{cases_Bool, cases_lt, cond-true, cond-false}
 use Rattle.std.proofs.lemmas.List.{length-map}
 use Rattle.std.proofs.lemmas.List.FromFn.{length-range_with_len}
 use Rattle.std.proofs.lemmas.List.Sums.{count_by-le-length, length-filter}
 use Rattle.std.proofs.lemmas.List.Elements.{Contains-append_right}
-use Rattle.std.specs.Prelude.{◌&&◌, ◌==◌, not, Contains, count_by, filter, flat_map, is_some, option_map, IsSome}
+use Rattle.std.specs.Prelude.{◌&&◌, ◌==◌, not, Contains, filter, flat_map, option_map, IsSome}
 use Rattle.std.specs.List.{AllByRecursion, range_with_len}
 use Rattle.file_tree.specs.Tree.{Tree}
 use Rattle.gfs2_layout.specs.Area.{Slot, slots_of, slots_within}
 use Rattle.gfs2_layout.specs.Device.{IsBlockSize, superblock_place}
 use Rattle.gfs2_layout.specs.Exchanges.{directory_count}
-use Rattle.gfs2_layout.specs.Holding.{Cell, Holding, Part, bytes_at, cell_bytes, cell_part, part_at}
-use Rattle.gfs2_layout.specs.Inode.{IsInode, dinode_in, is_hashed_in, is_leaf_part, leaf_area, leaf_length, leaves_of, linear_area, records_of}
-use Rattle.gfs2_layout.specs.Records.{Record, child_named, is_dots, record_named, record_of, records_in}
+use Rattle.gfs2_layout.specs.Holding.{Cell, Holding, bytes_at, cell_bytes, cell_part, part_at}
+use Rattle.gfs2_layout.specs.Inode.{IsInode, is_hashed_in, is_leaf_part, leaf_area, leaf_length, leaves_of, linear_area, records_of}
+use Rattle.gfs2_layout.specs.Records.{Record, is_dots, record_named, record_of, records_in}
 use Rattle.gfs2_layout.specs.Structures.{dinode_length, is_in_use}
-use Rattle.glock_names.specs.Views.{Seen, HasGroup, IsView, end_of, group_of_entry}
-use Rattle.glock_names.specs.declared.views.Group.{Group}
+use Rattle.glock_names.specs.Views.{Seen, IsView, end_of, group_of_entry}
 use Rattle.growth_drafts.specs.Taken.{AreFreeFor, IsDistinct}
 use Rattle.resource_groups.specs.Shown.{IsHeaderOf}
 use Rattle.directories.specs.Shown as dirs
 use Rattle.image_model.specs.Flat.{Path}
-use Rattle.image_model.specs.Groups.{IsListed}
-use Rattle.image_model.specs.Groups as owned
 use Rattle.image_model.specs.Image.{Image}
 use Rattle.image_model.specs.Owners.{InGroup, Owner, Owners, holding}
-use Rattle.image_model.specs.Stands.{IsDirectory, Layout}
+use Rattle.image_model.specs.Stands.{Layout}
 use Rattle.image_model.proofs.Held.{none_some}
 use Rattle.image_model.proofs.Members.{IsIn, is_in}
 use Rattle.image_changes.specs.Changes.{inode_of}
@@ -38,7 +35,6 @@ use Rattle.path_walks.proofs.Images.{is_inode, shown_inode, sound_directory}
 use Rattle.path_walks.specs.declared.walk.Place.{Place}
 use Rattle.hash_inserts.specs.Inserting.{CanCountOne}
 use Rattle.name_inserts.specs.Inserting.{CanGetName}
-use Rattle.name_inserts.specs.Need.{name_need}
 use Rattle.name_drafts.specs.Drafting.{HasNoGroupBlock, IsPlaceFor}
 use Rattle.name_drafts.specs.declared.drafting.NewBlock.{NewBlock}
 

@@ -1,8 +1,8 @@
 -- A directory that gets a name in a new draft, and then the time.
-use Rattle.std.proofs.Common.{◌≡◌, ◌≢◌, inl, inr, ℕ, ◌+◌, ◌-◌, ◌<◌, ◌≤◌, ◌++◌, true, false, true≢false, List, [], ◌∷◌, length, take, drop, Option, None, Some, Ok, refl, sym, ap, ◌∙◌, subst, arith, length-append}
+use Rattle.std.proofs.Common.{◌≡◌, inl, inr, ℕ, ◌+◌, ◌≤◌, ◌++◌, true, false, true≢false, List, length, take, drop, None, Some, Ok, refl, sym, ap, ◌∙◌, subst, arith, length-append}
 use Rattle.std.proofs.Math.Seq.{take-append_seam}
 use Rattle.std.proofs.lemmas.Bool.Decides.{nat_tests}
-use Rattle.std.specs.Prelude.{Contains, Err, IsSome, Result, is_ok}
+use Rattle.std.specs.Prelude.{Err, Result, is_ok}
 use Rattle.std.specs.FinMap.{FinMap, get, empty, insert, get-empty}
 use Rattle.std.specs.Ordering.{nat_cmp}
 use Rattle.drafts.specs.Fates.{Drafted, seen_in, seen_with}
@@ -13,9 +13,8 @@ use Rattle.gfs2_layout.specs.Holding.{Holding}
 use Rattle.gfs2_layout.specs.Inode.{is_hashed_in}
 use Rattle.gfs2_layout.specs.Structures.{dinode_length, dinode_of, dinode_read, header_fault}
 use Rattle.gfs2_layout.specs.Writing.{dinode_put}
-use Rattle.gfs2_layout.specs.declared.dinode.Dinode.{Dinode}
 use Rattle.gfs2_layout.proofs.HeaderLaws.{answer_ok}
-use Rattle.glock_names.specs.Views.{Seen, HasBlock}
+use Rattle.glock_names.specs.Views.{Seen}
 use Rattle.glock_names.specs.declared.steps.Entry.{Entry}
 use Rattle.dinode_tree.specs.Reading.{inode_lock}
 use Rattle.dinode_tree.specs.Shown as inode
@@ -25,7 +24,6 @@ use Rattle.new_inodes.specs.Touched.{IsTouched, with_times}
 use Rattle.hash_inserts.specs.Inserting.{MayChange, StaysInside}
 use Rattle.name_inserts.specs.Inserting.{CanGetName, IsPutInLinear, PutsName}
 use Rattle.name_inserts.specs.Need.{has_linear_room}
-use Rattle.name_drafts.specs.Drafting.{HasLinearRoom}
 use Rattle.name_drafts.specs.Steps.{IsNamePut}
 use Rattle.name_drafts.proofs.Fates.{seen_old}
 
@@ -76,7 +74,7 @@ module _ {V : Type 0} (seen : V → Seen) (old mid last : Drafted V) (dir : ℕ)
       first = mid.fates;
       changes = λ b. elim (inside.changes b) [
         | inl same ↦ inl (same ∙ ap (λ (m : FinMap nat_cmp Fate). get m b) new ∙ get-empty nat_cmp b)
-        | inr may ↦ inr (subst (λ x. MayChange x dir inside.taken b) old_is may)
+        | inr put ↦ inr (subst (λ x. MayChange x dir inside.taken b) old_is put.0, put.1)
       ];
       named = λ h shown can.
           let got = put h (subst (λ x. IsShown x dir h) (sym old_is) shown) can in (

@@ -1,32 +1,29 @@
 -- The groups of a draft that says what was taken: a number is given, a block is a dinode, and others are in use. d0 is the draft before, d1 that with the
 -- number, d2 that with the dinode, and d3 that with all.
-use Rattle.std.proofs.Common.{◌≡◌, ◌≢◌, ◌⊎◌, inl, inr, ℕ, ◌+◌, ◌<◌, ◌≤◌, ◌++◌, false, List, [], ◌∷◌, Option, None, Some, refl, sym, ap, ◌∙◌, subst, arith}
+use Rattle.std.proofs.Common.{◌≡◌, ◌≢◌, ◌⊎◌, inl, inr, ℕ, ◌+◌, false, List, [], ◌∷◌, None, Some, sym, ap, ◌∙◌, subst, arith}
 use Rattle.std.proofs.lemmas.Bool.{cases_eq}
 use Rattle.std.proofs.lemmas.List.Elements.{Contains-append_left, Contains-append_right, Contains-append_cases}
 use Rattle.std.specs.List.{range_with_len}
-use Rattle.std.specs.Prelude.{Contains, map}
-use Rattle.std.specs.FinMap.{FinMap, get, insert}
-use Rattle.std.specs.Ordering.{nat_cmp}
+use Rattle.std.specs.Prelude.{map}
+use Rattle.std.specs.FinMap.{get, insert}
 use Rattle.drafts.specs.Fates.{AreWhole, Drafted, seen_in, seen_with}
 use Rattle.drafts.specs.declared.change.Change.{Change}
-use Rattle.drafts.specs.declared.fate.Fate.{Fate}
 use Rattle.drafts.specs.declared.fate.Fate.TheVariants.{Put}
 use Rattle.gfs2_layout.specs.Bitmap.{state_at}
 use Rattle.gfs2_layout.specs.Groups.{bitmap_of, count_of, group_header}
 use Rattle.gfs2_layout.specs.Headers.{HasHeader}
-use Rattle.gfs2_layout.specs.declared.group_header.GroupHeader.{GroupHeader}
 use Rattle.glock_names.specs.Views.{Seen, HasBlock, HasGroup, IsView}
 use Rattle.glock_names.specs.declared.steps.Missing.{Missing}
 use Rattle.glock_names.specs.declared.views.Group.{Group}
 use Rattle.resource_groups.specs.Freeing.{BreaksSome, HasSome, IsNeededFor, IsSameOrPut, SaysStateOfSome}
 use Rattle.resource_groups.specs.Numbering.{IsNumberPut}
 use Rattle.resource_groups.specs.Putting.{AreSameIn, ArePutIn, overlaid, seen_or}
-use Rattle.resource_groups.specs.Shown.{IsBroken, IsDataOf, IsHeaderOf, IsShown, blocks_of, format_of, group_lock, kind_of, no_header, wrong_dinodes, wrong_free}
+use Rattle.resource_groups.specs.Shown.{IsBroken, IsDataOf, IsHeaderOf, IsShown, format_of, group_lock, kind_of, no_header, wrong_dinodes, wrong_free}
 use Rattle.resource_groups.specs.Taking.{AreSet, KeepsBlocks}
-use Rattle.resource_groups.proofs.Apart.{one_group, one_header}
+use Rattle.resource_groups.proofs.Apart.{one_header}
 use Rattle.resource_groups.proofs.Fits.{fit_of}
 use Rattle.resource_groups.proofs.PutIn.{blocks_same, puts_join, puts_say, puts_to}
-use Rattle.resource_groups.proofs.Sets.{as_over, broken_before, groups_same, one_has, only_has, over_twice, seen_same, shown_over, size_same}
+use Rattle.resource_groups.proofs.Sets.{as_over, broken_before, groups_same, one_has, over_twice, seen_same, shown_over, size_same}
 use Rattle.image_changes.specs.Drafted.{IsFinished}
 use Rattle.name_drafts.specs.Drafting.{IsNextOf, SaysMade}
 use Rattle.name_drafts.specs.Steps.{IsNewSaid, IsSaidAndDone, LeavesGroups}

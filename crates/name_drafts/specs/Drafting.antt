@@ -1,8 +1,8 @@
 -- What a draft that makes a name makes: the directory gets a record, and blocks for it where it needs some; it gets times; the new inode is put; and the
 -- groups say what is taken.
-use Rattle.std.specs.Prelude.{ℕ, ◌≡◌, ◌≢◌, ◌⊎◌, ◌+◌, ◌-◌, ◌<◌, Bool, true, false, List, [], ◌∷◌, ◌++◌, length, drop, Contains, None, Some}
+use Rattle.std.specs.Prelude.{ℕ, ◌≡◌, ◌≢◌, ◌⊎◌, ◌<◌, Bool, true, false, List, [], ◌∷◌, ◌++◌, length, drop, Contains, None, Some}
 use Rattle.std.specs.Ordering.{nat_cmp}
-use Rattle.std.specs.FinMap.{FinMap, empty, get, insert}
+use Rattle.std.specs.FinMap.{FinMap, get}
 use Rattle.file_tree.specs.Tree.{Tree, file, dir, none}
 use Rattle.drafts.specs.Fates.{AreWhole, seen_with}
 use Rattle.drafts.specs.declared.change.Change.{Change}
@@ -160,10 +160,10 @@ PutsUnder v fates p r taken = (b : ℕ) (lock : LockName) (plain : Bool) (bytes 
 abbrev pub HasNoGroupBlock : Seen → Holding → Type 0
 HasNoGroupBlock v h = (k : Group) (b : ℕ) → HasGroup v k → IsHeaderOf k b → h.cell b ≡ None
 
--- The change is that of a draft that puts whole blocks, inside the view's groups. From the front of the room it takes blocks for the directory. The new
--- inode is put with the next number of its block's group and with this time, and the directory with the time: each that is sound, hasn't the name and can
--- get it gets it so, all is put under these locks then, and nothing is freed; and a linear one with room for the name gets it byte by byte. In each image
--- that the view may be of it adds the name.
+-- The change is that of a draft that puts all under these locks and inside the view's groups, and frees nothing. From the front of the room it takes
+-- blocks for the directory. The new inode is put with the next number of its block's group and with this time, and the directory with the time: each
+-- that is sound, hasn't the name and can get it gets it so, and a linear one with room for it byte by byte. In each image that the view may be of it
+-- adds the name.
 pub record IsAddition (v : Seen) (is_directory : Bool) (p : Place) (name : List ℕ) (r : NewBlock) (room : List ℕ) (time : ℕ) (change : Change) : Type 0 where
   pub fates : FinMap nat_cmp Fate
   pub finished : IsFinished fates change
@@ -171,8 +171,8 @@ pub record IsAddition (v : Seen) (is_directory : Bool) (p : Place) (name : List 
   pub taken : List ℕ
   pub left : List ℕ
   pub front : room ≡ taken ++ left
-  pub locks : (h : Holding) → IsShown v p.inode h → CanGetName h name room → PutsUnder v fates p r taken
-  pub none_freed : (h : Holding) → IsShown v p.inode h → CanGetName h name room → (b : ℕ) → is_freed fates b ≡ false
+  pub locks : PutsUnder v fates p r taken
+  pub none_freed : (b : ℕ) → is_freed fates b ≡ false
   pub inside : AreInside v change
   -- the groups
   pub number : ℕ

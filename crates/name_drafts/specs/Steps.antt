@@ -1,5 +1,5 @@
 -- The steps of a draft that makes a name, over a view.
-use Rattle.std.specs.Prelude.{ℕ, ◌≡◌, ◌⊎◌, ◌<◌, ◌≤◌, Bool, false, List, [], ◌∷◌, ◌++◌, length, drop, Contains, None, Some}
+use Rattle.std.specs.Prelude.{ℕ, ◌≡◌, ◌⊎◌, false, List, [], ◌∷◌, ◌++◌, drop, None, Some}
 use Rattle.std.specs.Ordering.{nat_cmp}
 use Rattle.std.specs.FinMap.{FinMap, empty, get, insert}
 use Rattle.drafts.specs.Fates.{AreWhole, Drafted, seen_in, seen_with}
@@ -24,7 +24,7 @@ use Rattle.resource_groups.specs.Shown.{IsHeaderOf, group_lock}
 use Rattle.resource_groups.specs.Shown as group
 use Rattle.resource_groups.specs.Taking.{AreSet, KeepsBlocks}
 use Rattle.image_changes.specs.Drafted.{IsFinished}
-use Rattle.hash_inserts.specs.Inserting.{MayChange}
+use Rattle.hash_inserts.specs.Inserting.{IsPutUnder, MayChange}
 use Rattle.name_inserts.specs.Inserting.{CanGetName, IsPutInLinear, PutsName}
 use Rattle.name_drafts.specs.Drafting.{HasLinearRoom, IsNextOf, SaysMade}
 use Rattle.name_drafts.specs.declared.drafting.NewBlock.{NewBlock}
@@ -36,7 +36,7 @@ pub record IsNamePut (v : Seen) (dir : ℕ) (name : List ℕ) (e : Entry) (time 
   pub left : List ℕ
   pub front : room ≡ taken ++ left
   pub first : FinMap nat_cmp Fate
-  pub changes : (b : ℕ) → (get first b ≡ None) ⊎ MayChange v dir taken b
+  pub changes : (b : ℕ) → (get first b ≡ None) ⊎ (MayChange v dir taken b × IsPutUnder first dir b)
   pub named : (h : Holding) → IsShown v dir h → CanGetName h name room
       → (g : Holding) × IsShown (seen_with v first) dir g × ((puts : PutsName empty first room left name e h g) × (puts.taken ≡ taken))
   pub linear : (h : Holding) → IsShown v dir h → HasLinearRoom h name → IsPutInLinear h (holding_over (seen_with v first) h) name e

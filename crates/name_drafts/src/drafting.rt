@@ -86,7 +86,7 @@ fn put_new<V: View>(
 /// What a draft changes that makes a name in the directory at this place, which hasn't it, and the inode that it leads to, in a free block of a
 /// group. Blocks for the directory are taken from the front of `room`, as many as `need_name` tells; these and the new block are data blocks of
 /// groups, each another one, and none is the directory's own. None isn't answered in an image that stands for a tree. It costs what `put_name`
-/// costs, what `take_blocks` costs for the blocks that it takes, and two copies of each of four blocks.
+/// costs, a copy of the room, what `take_blocks` costs for the blocks that it takes, and two copies of each of six blocks.
 pub fn addition<V: View>(
     alloc: Global,
     view: &V,

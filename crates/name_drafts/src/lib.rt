@@ -3,6 +3,8 @@
 
 mod directory;
 mod drafting;
+mod laws;
 mod saying;
 
 pub use drafting::{NewBlock, addition};
+pub use laws::places_can_get_names;

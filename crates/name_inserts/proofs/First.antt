@@ -1,11 +1,13 @@
 -- A directory that has just become a hashed one: its table, its one leaf, and that it can get a name.
-use Rattle.std.proofs.Common.{◌≡◌, inl, inr, ℕ, suc, ◌*◌, ◌/◌, ◌^◌, ◌<◌, ◌≤◌, true, false, List, ◌∷◌, sym, ap, ◌∙◌, subst, arith}
+use Rattle.std.proofs.Common.{◌≡◌, ◌⊎◌, inl, inr, ℕ, suc, ◌*◌, ◌/◌, ◌^◌, ◌<◌, ◌≤◌, true, false, List, ◌∷◌, Some, sym, ap, ◌∙◌, subst, arith}
 use Rattle.std.specs.Prelude.{◌==◌}
 use Rattle.std.specs.FinMap.{FinMap}
 use Rattle.std.specs.Ordering.{nat_cmp}
 use Rattle.std.proofs.lemmas.Bool.{cond-true, eq-eqb}
 use Rattle.crc_words.specs.Remainder.{crc32_of}
 use Rattle.drafts.specs.declared.fate.Fate.{Fate}
+use Rattle.drafts.specs.declared.fate.Fate.TheVariants.{Put}
+use Rattle.dinode_tree.specs.Reading.{inode_lock}
 use Rattle.gfs2_layout.specs.Holding.{Holding}
 use Rattle.gfs2_layout.specs.Inode.{Leads, depth_in, from_block, from_dinode, height_in, is_directory_in, is_hashed_in, leaf_in, table_count}
 use Rattle.gfs2_layout.specs.declared.dinode.Dinode.{Dinode}
@@ -67,13 +69,16 @@ both_inside v w old mid new room between left dir h own data_blocks first second
   changes = λ b. elim (second.changes b) [
     | inl same ↦ elim (first.changes b) [
       | inl before ↦ inl (same ∙ before)
-      | inr (inl at_own) ↦ inr (the_dinode (at_own ∙ own))
-      | inr (inr at_leaf) ↦ inr (a_taken_one (0, omega arith, sym at_leaf))
+      | inr put ↦ inr (which b put.0, (put.1.0, same ∙ put.1.1 ∙ ap (λ n. Some (Put (inode_lock n) false put.1.0)) own))
     ]
-    | inr may ↦ inr (wider b may)
+    | inr put ↦ inr (wider b put.0, put.1)
   ];
 }
   where
+    which : (b : ℕ) → (b ≡ h.own) ⊎ (b ≡ first.block) → MayChange v dir (first.block ∷ second.taken) b
+    which b (inl at_own) = the_dinode (at_own ∙ own)
+    which b (inr at_leaf) = a_taken_one (0, omega arith, sym at_leaf)
+
     wider : (b : ℕ) → MayChange w dir second.taken b → MayChange v dir (first.block ∷ second.taken) b
     wider b (the_dinode at) = the_dinode at
     wider b (a_taken_one there) = a_taken_one (suc there.0, omega (arith, there.1), there.2)

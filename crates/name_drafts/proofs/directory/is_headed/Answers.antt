@@ -1,4 +1,4 @@
-use Rattle.std.proofs.Common.{sym, ap, ◌∙◌, subst}
+use Rattle.std.proofs.Common.{sym, ap, ◌∙◌}
 use Rattle.gfs2_layout.specs.Structures.{dinode_read}
 use Rattle.image_model.proofs.Held.{some_same}
 use Rattle.name_drafts.proofs.Named.{ok_there}

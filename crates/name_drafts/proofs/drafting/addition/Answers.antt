@@ -1,10 +1,9 @@
-use Rattle.std.proofs.Common.{ℕ, List, [], ◌∷◌, ◌++◌, ◌≡◌, Some, take, refl, sym, ap, ◌∙◌, subst, inl, inr, arith}
+use Rattle.std.proofs.Common.{ℕ, List, [], ◌∷◌, take, refl, sym, ap, ◌∙◌, subst, inl, inr, arith}
 use Rattle.std.proofs.lemmas.List.Elements.{Contains-append_cases, Contains-append_left, Contains-append_right}
 use Rattle.std.specs.Prelude.{Contains, IfSome, IsSome}
 use Rattle.gfs2_layout.specs.Holding.{Holding}
 use Rattle.glock_names.proofs.StepLaws.{answer_at, needed_at}
 use Rattle.glock_names.specs.Steps.{TellsOf}
-use Rattle.glock_names.specs.Views.{Seen}
 use Rattle.directories.specs.Shown.{IsShown}
 use Rattle.path_walks.proofs.Faults.{only_so, told_on, tells_each, tells_so}
 use Rattle.resource_groups.specs.Freeing.{BreaksSome, IsNeededFor}

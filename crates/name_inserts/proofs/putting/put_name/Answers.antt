@@ -2,7 +2,7 @@ use Rattle.std.proofs.Common.{◌≡◌, ◌<◌, ◌≤◌, inl, inr, true≢fa
 use Rattle.std.proofs.lemmas.Bool.{cases_eq}
 use Rattle.std.specs.Cmp.{nat_cmp_total}
 use Rattle.std.specs.FinMap.{get, nat_cmp-IsAntisymmetric}
-use Rattle.finite_maps.proofs.Keys.{inserted_apart}
+use Rattle.finite_maps.proofs.Keys.{inserted_apart, inserted_at}
 use Rattle.drafts.specs.declared.fate.Fate.TheVariants.{Put}
 use Rattle.gfs2_layout.specs.Holding.{Holding}
 use Rattle.dinode_tree.specs.Reading.{inode_lock}
@@ -109,7 +109,10 @@ returns-in-Is-true-clause-inside g c done =
       taken = [];
       front = refl;
       changes = λ b. elim (cases_eq b c.args.dir) [
-        | inl own ↦ inr (the_dinode own)
+        | inl own ↦ inr (
+          the_dinode own,
+          (one.0, ap (get c.insert.new.draft.fates) own ∙ ap (λ (d : Drafted _). get d.fates c.args.dir) one.1 ∙ inserted_at nat_cmp_total nat_cmp-IsAntisymmetric c.args.draft.now.fates c.args.dir (Put (inode_lock c.args.dir) false one.0)),
+        )
         | inr other ↦ inl (ap (λ (d : Drafted _). get d.fates b) one.1 ∙ inserted_apart nat_cmp_total nat_cmp-IsAntisymmetric c.args.draft.now.fates c.args.dir (Put (inode_lock c.args.dir) false one.0) b other)
       ];
     }
