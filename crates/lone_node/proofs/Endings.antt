@@ -16,7 +16,6 @@ use Rattle.lone_node.proofs.Leaving.{same_on}
 later_before : (d d' : DiskState) (first n view : Lone) → d' ≡ d → IsSameSystem first n → IsLaterView d n view → IsLaterView d' first view
 later_before d d' first n view still same is = record { same = same_on same is.same; on = subst (λ (e : DiskState). IsOn e view) (sym still) is.on }
 
-
 pub unbuilt_before : (d d' : DiskState) (first n : Lone) (call : Call) → d' ≡ d → IsSameSystem first n → IsUnbuiltOn d n call → IsUnbuiltOn d' first call
 unbuilt_before d d' first n call still same is = record { view = is.view; later = later_before d d' first n is.view still same is.later; unbuilt = is.unbuilt }
 
@@ -46,7 +45,6 @@ damaged_so (end.Damaged block rule) P Q f is = f block rule is
 damaged_so (end.NotBuilt line) P Q f is = tt
 damaged_so end.NoMemory P Q f is = tt
 
-
 pub unbuilt_so : (e : RunEnd) (P Q : ℕ → Type 0) → ((line : ℕ) → P line → Q line) → IfNotBuilt e P → IfNotBuilt e Q
 unbuilt_so (end.DiskFailed block rise) P Q f is = tt
 unbuilt_so (end.Damaged block rule) P Q f is = tt
@@ -66,7 +64,6 @@ damaged_with (end.DiskFailed block rise) P Q f s is = tt
 damaged_with (end.Damaged block rule) P Q f s is = f s block rule is
 damaged_with (end.NotBuilt line) P Q f s is = tt
 damaged_with end.NoMemory P Q f s is = tt
-
 
 pub unbuilt_with : (e : RunEnd) {S : Type 0} (P Q : ℕ → Type 0) → (S → (line : ℕ) → P line → Q line) → UnlessFailed e S → IfNotBuilt e P → IfNotBuilt e Q
 unbuilt_with (end.DiskFailed block rise) P Q f s is = tt

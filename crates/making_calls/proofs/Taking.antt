@@ -349,5 +349,5 @@ module _ (v : Seen) (c : Call) (is : IsMaking c) (p : Place) (name : List ℕ) (
     addition_does reached place =
         drafts_do v c Ok added.fates change added.finished (changes c is) r.new.group.addr header_is_put (λ im o l t of. all_exclusive)
         (λ im o l t of. let grown = added.adds im o l t (directory_path c) of (place im o l t of) in
-            growing_makes v c added.fates im o l t (directory_path c) p.inode name r.new.block (new_tree (makes_directory c)) grown.0 added.taken of (reached im o l t of).place.at grown.1
-            (taken_so im o l t of (reached im o l t of) ∙ ap (λ q. record { reply = Ok; tree = put_at q (new_tree (makes_directory c)) t }) (sym (whole_path c name last))))
+        growing_makes v c added.fates im o l t (directory_path c) p.inode name r.new.block (new_tree (makes_directory c)) grown.0 added.taken of (reached im o l t of).place.at grown.1
+        (taken_so im o l t of (reached im o l t of) ∙ ap (λ q. record { reply = Ok; tree = put_at q (new_tree (makes_directory c)) t }) (sym (whole_path c name last))))

@@ -21,7 +21,6 @@ returns-in-Err-clause-sound g c =
     (λ b rule never t s. never t (subst (λ e. StandsFor e c.loop-found.view t) (sym so.same) (stands_on d c.args.view.now c.loop-found.view t so.system s)))
     c.in-Err.ensures.sound
 
-
 pub returns-in-Err-clause-unbuilt : goal.returns-in-Err-clause-unbuilt
 returns-in-Err-clause-unbuilt g c =
     let so = c.loop-found.invariant in

@@ -157,7 +157,6 @@ returns-in-Err-clause-sound g c =
     damaged_so c.in-Err.end (λ b rule. (t : Tree) → StandsFor (now g c) c.loop-place.view t → ⊥) (λ b rule. (t : Tree) → start g c t → ⊥)
     (λ b rule never t s. never _ (stands_on (now g c) c.args.view.now c.loop-place.view _ c.loop-place.invariant.system (c.loop-place.invariant.leaves t s).now)) c.in-Err.ensures.sound
 
-
 pub returns-in-Err-clause-unbuilt : goal.returns-in-Err-clause-unbuilt
 returns-in-Err-clause-unbuilt g c =
     let P = λ (call : Call). IsUnbuiltOn (next g c) c.args.view.now call in
