@@ -1,5 +1,5 @@
 -- What is asked for and told of the directory that is to get a name, in an image that the view may be of.
-use Rattle.std.proofs.Common.{◌≡◌, ℕ, true, List, [], ◌∷◌, ◌++◌, Some, inl, inr, sym, ap, subst, ◌∙◌}
+use Rattle.std.proofs.Common.{◌≡◌, ℕ, true, List, [], ◌∷◌, ◌++◌, inl, inr, sym, ap, subst}
 use Rattle.file_tree.specs.Tree.{Tree}
 use Rattle.gfs2_layout.specs.Inode.{is_directory_in}
 use Rattle.glock_names.specs.Views.{Seen}
@@ -46,5 +46,5 @@ module _ (v : Seen) (im : Image) (o : Owners) (l : Layout) (t : Tree) (of : IsOf
   pub none_wrong : (rule b : ℕ) → IsWrongForName v (holding im o a) rule b → ⊥
   none_wrong rule b (names.IsWrongForName.of_directory broken) = unbroken_directory v im o l t of path a rule b at dir broken
   none_wrong rule b (names.IsWrongForName.in_hashed hashed (inserts.IsWrongToInsert.in_directory r d broken)) = unbroken_directory v im o l t of path a r d at dir (dirs.IsBroken.in_hashed hashed broken)
-  none_wrong rule b (names.IsWrongForName.in_hashed hashed (inserts.IsWrongToInsert.stray_pointer from d led outside)) = 
+  none_wrong rule b (names.IsWrongForName.in_hashed hashed (inserts.IsWrongToInsert.stray_pointer from d led outside)) =
       outside (own_inside v im o l t of a d (cell_some ((holding im o a).cell d) _ (part_of_led (holding im o a) from led.0 led.1 led.2 d (is_sound v im o l t of path a at).tree led.3)))

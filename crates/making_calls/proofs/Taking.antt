@@ -1,7 +1,7 @@
 -- A name made in the directory at the place to which the walk came.
 use Rattle.std.proofs.Common.{◌≡◌, inl, Bool, true, false, true≢false, ℕ, ◌+◌, ◌<◌, ◌≤◌, List, [], ◌∷◌, ◌++◌, length, map, None, Some, refl, sym, ap, ◌∙◌, subst, subst₂, arith}
 use Rattle.std.proofs.lemmas.List.{append-nil, length-append, nil_from_length}
-use Rattle.std.proofs.lemmas.List.Elements.{All-append, Contains-append_left, Contains-append_right}
+use Rattle.std.proofs.lemmas.List.Elements.{All-append, Contains-append_left}
 use Rattle.std.specs.FinMap.{get}
 use Rattle.std.specs.Prelude.{Contains, is_some}
 use Rattle.cluster_history.specs.Changes.{is_ok}
@@ -30,9 +30,7 @@ use Rattle.call_locks.specs.Wants.{wanted}
 use Rattle.call_locks.specs.WantLaws.{path_of}
 use Rattle.dinode_tree.specs.Reading.{inode_lock}
 use Rattle.directories.specs.Shown.{IsShown}
-use Rattle.directories.specs.Shown as dirs
 use Rattle.hash_dirs.specs.Shown.{IsSound}
-use Rattle.growth_drafts.specs.Taken.{IsDistinct}
 use Rattle.resource_groups.specs.Putting.{HasDataBlock}
 use Rattle.resource_groups.specs.Shown.{IsDataOf, group_lock, said}
 use Rattle.resource_groups.proofs.Apart.{one_group}
@@ -57,12 +55,12 @@ use Rattle.path_walks.specs.Holds as locks
 use Rattle.path_walks.specs.Holds.{Hold, AreHeld, IsAskedFor, IsFirstLack, hold_for, hold_of, holds, hold_of_group}
 use Rattle.path_walks.specs.Walks.{LeadsTo, IsLastOf, LacksName}
 use Rattle.path_walks.specs.declared.walk.Place.{Place}
-use Rattle.path_walks.proofs.Asked.{IsAmong, name_asked, unread_absent}
-use Rattle.path_walks.proofs.Images.{is_inode, is_shown, says_none, shown_inode, sound_directory}
+use Rattle.path_walks.proofs.Asked.{IsAmong, unread_absent}
+use Rattle.path_walks.proofs.Images.{is_inode, says_none, shown_inode, sound_directory}
 use Rattle.path_walks.proofs.Wants.{exclusive}
 use Rattle.path_walks.proofs.Longer.{asked_before, asked_behind, lack_behind}
 use Rattle.room_search.specs.Blocks.{free_for, free_in_all, group_holds, group_of_node, states_by}
-use Rattle.room_search.specs.Searches.{AreShown, IsFreeUnder, IsGroupBlock, IsUnder}
+use Rattle.room_search.specs.Searches.{IsGroupBlock, IsUnder}
 use Rattle.room_search.specs.declared.search.Locked.{Locked}
 use Rattle.room_search.specs.declared.search.Locked.TheVariants as locked
 use Rattle.room_search.proofs.Holds.{block_under, held_before}
@@ -242,8 +240,8 @@ module _ (v : Seen) (c : Call) (is : IsMaking c) (p : Place) (name : List ℕ) (
         pub under : {time : ℕ} (change : Change) → IsAddition v (makes_directory c) p name r.new r.rest.items time change → locks.IsUnder o (call_holds im o l t c node) change
         under change added = subst (λ list. locks.IsUnder o list change) (sym whole) (record {
           written = each_lock added.fates change added.finished (λ lock. Contains (path_holds im o l c ++ new) (record { lock = lock; state = Ex }))
-              (λ b lock plain bytes put. contained (record { lock = lock; state = Ex }) (path_holds im o l c ++ new) (listed b lock (added.locks dir shown can b lock plain bytes put)));
-          freed = λ b a gone its. absurd (true≢false (sym gone ∙ (finish_makes added.fates change added.finished).gone b ∙ added.none_freed dir shown can b));
+              (λ b lock plain bytes put. contained (record { lock = lock; state = Ex }) (path_holds im o l c ++ new) (listed b lock (added.locks b lock plain bytes put)));
+          freed = λ b a gone its. absurd (true≢false (sym gone ∙ (finish_makes added.fates change added.finished).gone b ∙ added.none_freed b));
         })
           where
             last_one : List Hold
@@ -336,8 +334,8 @@ module _ (v : Seen) (c : Call) (is : IsMaking c) (p : Place) (name : List ℕ) (
 
   module _ (leads : LeadsTo v (wanted c) (directory_path c) p.inode) (node more : ℕ) (view : IsView v) (some : 1 ≤ length v.groups) (first : 1 ≤ node) (r : Room) (room : IsHeldRoom v node (more + 1) view some first r)
       {time : ℕ} (change : Change) (added : IsAddition v (makes_directory c) p name r.new r.rest.items time change) where
-    all_exclusive : (h : Holding) → IsShown v p.inode h → CanGetName h name r.rest.items → (b : ℕ) (lock : LockName) (plain : Bool) (bytes : List ℕ) → get added.fates b ≡ Some (Put lock plain bytes) → v.state_of lock ≡ Ex
-    all_exclusive h shown can b lock plain bytes put = elim (added.locks h shown can b lock plain bytes put) [
+    all_exclusive : (b : ℕ) (lock : LockName) (plain : Bool) (bytes : List ℕ) → get added.fates b ≡ Some (Put lock plain bytes) → v.state_of lock ≡ Ex
+    all_exclusive b lock plain bytes put = elim (added.locks b lock plain bytes put) [
       | drafting.IsPutUnder.of_group k has of_them says e ↦
           let h = room.each of_them.0 (in_front r.new.block r.rest.items added.taken added.left added.front of_them.0 of_them.1) in
           ap v.state_of e ∙ exclusive (v.state_of (group_lock k)) (subst (λ g. holds v (hold_of_group g) ≡ true) (one_group v of_them.0 h.group k view h.has h.data_block has of_them.2) h.held)
@@ -351,7 +349,7 @@ module _ (v : Seen) (c : Call) (is : IsMaking c) (p : Place) (name : List ℕ) (
     pub addition_does : ((im : Image) (o : Owners) (l : Layout) (t : Tree) → IsOf v im o l t → IsReachedIn v im o l c p)
         → ((im : Image) (o : Owners) (l : Layout) (t : Tree) → IsOf v im o l t → IsPlaceFor im o l (directory_path c) name p r.new r.rest.items) → Does v c Ok change
     addition_does reached place =
-        drafts_do v c Ok added.fates change added.finished (changes c is) r.new.group.addr header_is_put (λ im o l t of. let at = place im o l t of in all_exclusive (holding im o p.inode) (shown_inode v im o l t of (directory_path c) p.inode at.at) (can_get v im o l t of view (directory_path c) name p r.new r.rest.items at))
+        drafts_do v c Ok added.fates change added.finished (changes c is) r.new.group.addr header_is_put (λ im o l t of. all_exclusive)
         (λ im o l t of. let grown = added.adds im o l t (directory_path c) of (place im o l t of) in
-            growing_makes v c added.fates im o l t (directory_path c) p.inode name r.new.block (new_tree (makes_directory c)) grown.0 added.taken of (reached im o l t of).place.at grown.1
-            (taken_so im o l t of (reached im o l t of) ∙ ap (λ q. record { reply = Ok; tree = put_at q (new_tree (makes_directory c)) t }) (sym (whole_path c name last))))
+        growing_makes v c added.fates im o l t (directory_path c) p.inode name r.new.block (new_tree (makes_directory c)) grown.0 added.taken of (reached im o l t of).place.at grown.1
+        (taken_so im o l t of (reached im o l t of) ∙ ap (λ q. record { reply = Ok; tree = put_at q (new_tree (makes_directory c)) t }) (sym (whole_path c name last))))

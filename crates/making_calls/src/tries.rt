@@ -112,7 +112,16 @@ fn make_with<V: View>(
         });
     }
     let is_directory = is_of_directory(call);
-    match addition(alloc, view, is_directory, stamp, place, name, &room.new, &room.rest)? {
+    match addition(
+        alloc,
+        view,
+        is_directory,
+        stamp,
+        place,
+        name,
+        &room.new,
+        &room.rest,
+    )? {
         Step::Is(Some(change)) => Ok(Found::Made(change)),
         Step::Is(None) => Ok(Found::NotBuilt),
         Step::NeedBlock(missing) => Ok(Found::NeedBlock(missing)),
