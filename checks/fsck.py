@@ -370,7 +370,7 @@ WORDS = ["create"] * 5 + ["mkdir"] * 3 + ["unlink"] * 2 + ["rmdir"] * 2 + ["writ
 def new_image(random, folder):
     """A new image, with few free blocks or many, in one group or in several."""
     size, name = random.choice((512, 1024, 2048, 4096)), os.path.join(folder, "image")
-    journals, groups = random.randint(1, 3), random.choice((1, 1, 2, 5))
+    journals, groups = random.choice((1, 1, 2, 3, 5, 8)), random.choice((1, 1, 2, 5))
     words = ["mkfs", "--bsize", str(size), "--journals", str(journals), "--journal-blocks", "512", "--groups", str(groups)]
     blocks, more = 65536 // size + 512, random.choice((0, 1, 4, 30, 300))
     while True:

@@ -61,7 +61,7 @@ def file_levels(size, nbytes):
 def total_taken(size, o):
     lv = file_levels(size, 96 * o['groups'])
     lj = file_levels(size, o['journal_blocks'] * size)
-    return 3 + sum(lv) + 1 + o['journals'] * (1 + sum(lj))
+    return 3 + sum(lv) + 1 + journals_leaves(size, o['journals']) + o['journals'] * (1 + sum(lj))
 
 def does_fit(size, blocks, o, taken=None):
     try:
@@ -96,31 +96,110 @@ def dinode(num, addr, mode, nlink, fsize, blocks, time, flags, payload, height, 
     assert len(b) == 232
     return b
 
-def directory_area(length, entries):
-    """put records in one by one, as the format puts them"""
-    area = bytearray(length)
-    recs = []  # (offset, rec_len, used entry)
-    recs = [[0, length, None]]
-    for e in entries:
-        name, num, addr, kind = e
-        least = (40 + len(name) + 7) & ~7
-        for i, (off, ln, used) in enumerate(recs):
-            if used is None and ln >= least:
-                recs[i][2] = e
-                break
-            if used is not None:
-                own = (40 + len(used[0]) + 7) & ~7
-                if ln - own >= least:
-                    recs[i][1] = own
-                    recs.insert(i + 1, [off + own, ln - own, e])
-                    break
-        else:
-            raise Exception('no room in a linear directory')
-    for off, ln, used in recs:
-        name, num, addr, kind = used
-        rec = struct.pack('>QQIHHHH', num, addr, zlib.crc32(name), ln, len(name), kind, 0) + bytes(12) + name
-        area[off:off + len(rec)] = rec
-    return bytes(area)
+def least(name):
+    return (40 + len(name) + 7) & ~7
+
+class Area:
+    """The records of a directory or of a leaf, over their bytes."""
+    def __init__(self, length):
+        self.bytes = bytearray(length)
+        self.bytes[20:22] = struct.pack('>H', length)
+
+    def records(self):
+        """(place, length, name, or None where it isn't in use)"""
+        at = 0
+        while at < len(self.bytes):
+            number, address, _, length, count = struct.unpack_from('>QQIHH', self.bytes, at)
+            yield at, length, bytes(self.bytes[at + 40:at + 40 + count]) if number and address else None
+            at += length
+        assert at == len(self.bytes)
+
+    def put(self, entry):
+        """Into the first record with room; whether there is one."""
+        name, number, address, kind = entry
+        for at, length, there in self.records():
+            own = least(there) if there is not None else 0
+            if length - own < least(name):
+                continue
+            if there is not None:
+                self.bytes[at + 20:at + 22] = struct.pack('>H', own)
+            at += own
+            self.bytes[at:at + 40] = struct.pack('>QQIHHHH', number, address, zlib.crc32(name), length - own, len(name), kind, 0) + bytes(12)
+            self.bytes[at + 40:at + 40 + len(name)] = name
+            return True
+        return False
+
+    def cut(self, name):
+        """Joined to the record before it, or no longer in use where it is the first."""
+        before = None
+        for at, length, there in self.records():
+            if there == name:
+                if before is None:
+                    self.bytes[at:at + 16] = bytes(16)
+                else:
+                    self.bytes[before[0] + 20:before[0] + 22] = struct.pack('>H', before[1] + length)
+                return
+            before = at, length
+        raise KeyError(name)
+
+class Directory:
+    """A directory into which names are put one by one. Its leaves are numbered as they are taken."""
+    def __init__(self, size):
+        self.size, self.linear, self.entries = size, Area(size - 232), []
+        self.leaves, self.depths, self.table, self.depth = [], [], [], None
+
+    def put(self, entry):
+        self.entries.append(entry)
+        if self.linear is not None:
+            if self.linear.put(entry):
+                return
+            self.convert()
+        hash_ = zlib.crc32(entry[0])
+        while True:
+            leaf = self.table[hash_ >> 32 - self.depth]
+            if self.leaves[leaf].put(entry):
+                return
+            assert self.depths[leaf] < self.depth, 'no new image has so many names'
+            self.split(leaf)
+
+    def convert(self):
+        self.linear, self.depth = None, {512: 5, 1024: 6, 2048: 7, 4096: 8}[self.size]
+        self.table = [self.new_leaf(0)] * (1 << self.depth)
+        for entry in self.entries[:-1]:
+            assert self.leaves[0].put(entry)
+
+    def new_leaf(self, depth):
+        self.leaves.append(Area(self.size - 104))
+        self.depths.append(depth)
+        return len(self.leaves) - 1
+
+    def split(self, leaf):
+        self.depths[leaf] += 1
+        new = self.new_leaf(self.depths[leaf])
+        span = [i for i, n in enumerate(self.table) if n == leaf]
+        for i in span[:len(span) // 2]:
+            self.table[i] = new
+        for _, _, name in list(self.leaves[leaf].records()):
+            if name is not None and self.table[zlib.crc32(name) >> 32 - self.depth] == new:
+                self.leaves[leaf].cut(name)
+                assert self.leaves[new].put(next(e for e in self.entries if e[0] == name))
+
+    def leaf_block(self, n):
+        count = sum(name is not None for _, _, name in self.leaves[n].records())
+        return header(6, 600) + struct.pack('>HHIQ', self.depths[n], count, 1200, 0) + bytes(64) + bytes(self.leaves[n].bytes)
+
+def directory_of(size, entries):
+    d = Directory(size)
+    for entry in entries:
+        d.put(entry)
+    return d
+
+def journal_name(j):
+    return b'journal%d' % j
+
+def journals_leaves(size, journals):
+    """how many leaves the directory of journals has, which is told by the names alone"""
+    return len(directory_of(size, [(name, 1, 1, 8) for name in [b'.', b'..'] + [journal_name(j) for j in range(journals)]]).leaves)
 
 def make(size, blocks, o):
     G, J, JB, T, U = o['groups'], o['journals'], o['journal_blocks'], o['time'], o['uuid']
@@ -167,6 +246,7 @@ def make(size, blocks, o):
 
     rindex_n, rindex = put_file(len(rind), lambda i: rind if i is None else rind[i * size:(i + 1) * size])
     jindex, jindex_n = take(3), number()
+    leaves = [take(1) for _ in range(journals_leaves(size, J))]
     names = []
     def journal_content(j):
         def f(i):
@@ -179,12 +259,20 @@ def make(size, blocks, o):
         return f
     for j in range(J):
         n, a = put_file(JB * size, journal_content(j))
-        names.append((b'journal%d' % j, n, a, 8))
-    def put_dir(a, n, nlink, entries):
-        img[a] = pad(dinode(n, a, 16877, nlink, size - 232, 1, T, 1, 1200, 0, 0, len(entries)) + directory_area(size - 232, entries), size)
+        names.append((journal_name(j), n, a, 8))
+    def put_dir(a, n, nlink, entries, leaves=()):
+        d = directory_of(size, entries)
+        assert len(leaves) == len(d.leaves)
+        if d.linear is not None:
+            img[a] = pad(dinode(n, a, 16877, nlink, size - 232, 1, T, 1, 1200, 0, 0, len(entries)) + bytes(d.linear.bytes), size)
+            return
+        table = b''.join(struct.pack('>Q', leaves[i]) for i in d.table)
+        img[a] = pad(dinode(n, a, 16877, nlink, len(table), 1 + len(leaves), T, 3, 1200, 0, d.depth, len(entries)) + table, size)
+        for i, x in enumerate(leaves):
+            img[x] = pad(d.leaf_block(i), size)
     put_dir(master, master_n, 3, [(b'.', master_n, master, 4), (b'..', master_n, master, 4), (b'jindex', jindex_n, jindex, 4), (b'rindex', rindex_n, rindex, 8)])
     put_dir(root, root_n, 2, [(b'.', root_n, root, 4), (b'..', root_n, root, 4)])
-    put_dir(jindex, jindex_n, 2, [(b'.', jindex_n, jindex, 4), (b'..', master_n, master, 4)] + names)
+    put_dir(jindex, jindex_n, 2, [(b'.', jindex_n, jindex, 4), (b'..', master_n, master, 4)] + names, leaves)
     sb = header(1, 100) + struct.pack('>IIIIII', 1801, 1900, 0, size, size.bit_length() - 1, 0)
     sb += struct.pack('>QQQQQQ', master_n, master, 0, 0, root_n, root)
     sb += b'lock_dlm'.ljust(64, b'\0') + b'gfs2run:image'.ljust(64, b'\0') + bytes(32) + U

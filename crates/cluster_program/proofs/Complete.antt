@@ -16,10 +16,10 @@ use Rattle.cluster_program.specs.World.{Inputs, Outputs}
 use Rattle.cluster_program.specs.Course.{Course, RefusesWords, MakesImage, NoScript, Makes, IsTooLarge, IsTooSmall, LacksMemory, HasFailed, HasMade, plan_for, RunsScript, LacksScript, SourceFailed, Refused, RefusedEarly, NotBuiltYet, NoRoom, Shows, HasShown, ShowsNone, TreeFailed, TreeDamaged, NothingHeld, ShowsImage}
 use Rattle.cluster_program.specs.Mounting.{IsMountable, MountEnds, DiskFails, LiesOutside, IsDamaged, IsDirty, LacksRoom}
 use Rattle.cluster_program.specs.Runs as runs
-use Rattle.cluster_program.specs.Runs.{RunEnds, IsDone, NotMounted, CallFailed, CallHashed, CallUnbuilt, CallDamaged}
+use Rattle.cluster_program.specs.Runs.{RunEnds, IsDone, NotMounted, CallFailed, CallUnbuilt, CallDamaged}
 use Rattle.cluster_program.specs.declared.status.Part.TheVariants as part
 use Rattle.cluster_program.specs.Report.{Becomes, Stays, WithoutMemory, Fails, Reports}
-use Rattle.cluster_program.specs.Command.{NoneRose, IsRunnable, IsShowable, IsMakeable, IsWhole, IsUpToBuilt, IsComplete}
+use Rattle.cluster_program.specs.Command.{NoneRose, IsRunnable, IsShowable, IsMakeable, IsWhole, IsComplete}
 use Rattle.mkgfs2_tool.specs.Order.{fits}
 use Rattle.command_words.specs.Commands.{words_read}
 use Rattle.command_words.specs.declared.command.Command.TheVariants as command
@@ -79,14 +79,13 @@ module _ (words : List (List ℕ)) (given left : Inputs) (sinks sinks_now : Outp
   of_show may lines own (TreeDamaged block rule clean never breaks) = absurd (never may.is.tells may.tree may.is.stands)
   of_show may lines own NothingHeld = inr refl
 
-  of_run : IsMountable given.disk → (s : ScriptValue) (time : ℕ) (items : List TraceItem) (what : Option MountedValue) (own : Status) → RunEnds given left s time items what own → IsUpToBuilt own
-  of_run may s time items what own (IsDone m all whole) = inl (inl refl)
-  of_run may s time items what own (NotMounted own' none_yet same ends) = inl (of_mount may own ends)
+  of_run : IsMountable given.disk → (s : ScriptValue) (time : ℕ) (items : List TraceItem) (what : Option MountedValue) (own : Status) → RunEnds given left s time items what own → IsWhole own
+  of_run may s time items what own (IsDone m all whole) = inl refl
+  of_run may s time items what own (NotMounted own' none_yet same ends) = of_mount may own ends
   of_run may s time items what own (CallFailed m block x y for root up within at) = absurd (none.disk 1 (rose (given.disk_faults 1) (left.disk_faults 1) x y up))
-  of_run may s time items what own (CallHashed m block for at) = inr (part.Block block, refl)
-  of_run may s time items what own (CallUnbuilt m place for at taken) = inr (part.Script (runs.first_line s + place), refl)
+  of_run may s time items what own (CallUnbuilt m place for never at) = absurd (never may.is.tells may.tree may.is.stands)
   of_run may s time items what own (CallDamaged m block rule for never at told) = absurd (never may.is.tells may.tree may.is.stands)
-  of_run may s time items what own (runs.NoRoom what') = inl (inr refl)
+  of_run may s time items what own (runs.NoRoom what') = inr refl
 
   -- an image that fits its device
   of_make : (make : MakeWords) → given.disk.count ≤ most_blocks → fits (plan_for given.disk make) ≡ true → (own : Status) → Makes make given left own → IsWhole own
@@ -109,11 +108,11 @@ module _ (words : List (List ℕ)) (given left : Inputs) (sinks sinks_now : Outp
   one_make : (make other : MakeWords) → words_read given.disk.size words ≡ Ok (command.Make make) → words_read given.disk.size words ≡ Ok (command.Make other) → make ≡ other
   one_make make other first second = let both : Ok (command.Make make) ≡ Ok (command.Make other) = sym first ∙ second in cc
 
-  of_running : IsRunnable words given → (s : ScriptValue) (items : List TraceItem) (lines : List ℕ) (own : Status) → Course words given left s items lines own → IsUpToBuilt own
+  of_running : IsRunnable words given → (s : ScriptValue) (items : List TraceItem) (lines : List ℕ) (own : Status) → Course words given left s items lines own → IsWhole own
   of_running may s items lines own (RefusesWords told refused untouched) = let both : None ≡ Some own = sym may.run.built ∙ refused in cc
   of_running may s items lines own (MakesImage make own' asks makes) = absurd (not_make_run make may.run.run asks.read may.run.read)
   of_running may s items lines own (ShowsImage lines' own' asks script disk shows) = absurd (not_run_show may.run.run may.run.read asks.read)
-  of_running may s items lines own (NoScript told asks lacks untouched same) = inl (of_script may own lacks)
+  of_running may s items lines own (NoScript told asks lacks untouched same) = of_script may own lacks
   of_running may s items lines own (RunsScript text s' items' own' asks read script built ran) = of_run may.mountable s asks.run.time items ran.value own ran.ends
 
   of_showing : IsShowable words given → (s : ScriptValue) (items : List TraceItem) (lines : List ℕ) (own : Status) → Course words given left s items lines own → IsWhole own
@@ -144,7 +143,7 @@ module _ (words : List (List ℕ)) (given left : Inputs) (sinks sinks_now : Outp
 pub complete : (given left : Inputs) (sinks sinks_now : Outputs) (words : List (List ℕ)) (s : ScriptValue) (items : List TraceItem) (lines : List ℕ) (own answer : Status) → Course words given left s items lines own
     → Reports sinks sinks_now s items lines 0 own answer → IsComplete words given left sinks sinks_now answer
 complete given left sinks sinks_now words s items lines own answer course report = record {
-  run = λ none may. at_end words given left sinks sinks_now none IsUpToBuilt (inl (inr refl)) s items lines own answer report (of_running words given left sinks sinks_now none may s items lines own course);
+  run = λ none may. at_end words given left sinks sinks_now none IsWhole (inr refl) s items lines own answer report (of_running words given left sinks sinks_now none may s items lines own course);
   show = λ none may. at_end words given left sinks sinks_now none IsWhole (inr refl) s items lines own answer report (of_showing words given left sinks sinks_now none may s items lines own course);
   make = λ none may. at_end words given left sinks sinks_now none IsWhole (inr refl) s items lines own answer report (of_making words given left sinks sinks_now none may s items lines own course);
 }

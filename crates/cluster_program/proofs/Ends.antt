@@ -17,7 +17,7 @@ use Rattle.cluster_program.specs.World.{Inputs, Outputs}
 use Rattle.cluster_program.specs.Course.{Course, RefusesWords, MakesImage, NoScript, Makes, IsTooLarge, IsTooSmall, LacksMemory, HasFailed, HasMade, RunsScript, LacksScript, SourceFailed, Refused, RefusedEarly, NotBuiltYet, NoRoom, Shows, HasShown, ShowsNone, TreeFailed, TreeDamaged, NothingHeld, ShowsImage, words_refusal, refusal_of, is_built}
 use Rattle.cluster_program.specs.Mounting.{MountEnds, DiskFails, LiesOutside, IsDamaged, IsDirty, LacksRoom}
 use Rattle.cluster_program.specs.Runs as runs
-use Rattle.cluster_program.specs.Runs.{RunEnds, IsDone, NotMounted, CallFailed, CallHashed, CallUnbuilt, CallDamaged}
+use Rattle.cluster_program.specs.Runs.{RunEnds, IsDone, NotMounted, CallFailed, CallUnbuilt, CallDamaged}
 use Rattle.cluster_program.specs.Report.{Becomes, Stays, WithoutMemory, Fails, Reports}
 use Rattle.cluster_program.specs.Command.{FaultHasCause}
 
@@ -31,9 +31,9 @@ module _ (given left : Inputs) (sinks sinks_now : Outputs) where
   words_fault : (block_size : ℕ) (words : List (List ℕ)) (own : Status) → words_refusal block_size words ≡ Some own → FaultHasCause given left sinks sinks_now own
   words_fault block_size words own refused = by_read (words_read block_size words) own refused
     where
-      by_read : (read : Result Command Usage) (own : Status) → refusal_of block_size read ≡ Some own → FaultHasCause given left sinks sinks_now own
+      by_read : (read : Result Command Usage) (own : Status) → refusal_of read ≡ Some own → FaultHasCause given left sinks sinks_now own
       by_read (Err usage) own is = let same : status.Usage usage.word ≡ own = cc in subst (FaultHasCause given left sinks sinks_now) same tt
-      by_read (Ok c) own is = by_test (is_built block_size c) own is
+      by_read (Ok c) own is = by_test (is_built c) own is
         where
           by_test : (b : Bool) (own : Status) → (if b then None else Some (status.NotBuilt part.Words)) ≡ Some own → FaultHasCause given left sinks sinks_now own
           by_test true own is = cc
@@ -64,8 +64,7 @@ module _ (given left : Inputs) (sinks sinks_now : Outputs) where
   run_fault s time items what own (IsDone m all whole) = tt
   run_fault s time items what own (NotMounted own' none same ends) = mount_fault own ends
   run_fault s time items what own (CallFailed m block x y for root up within at) = up
-  run_fault s time items what own (CallHashed m block for at) = tt
-  run_fault s time items what own (CallUnbuilt m place for at taken) = tt
+  run_fault s time items what own (CallUnbuilt m place for none at) = tt
   run_fault s time items what own (CallDamaged m block rule for never at told) = tt
   run_fault s time items what own (runs.NoRoom what') = tt
 

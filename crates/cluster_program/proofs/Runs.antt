@@ -20,17 +20,17 @@ use Rattle.gfs2_layout.specs.Device.{IsBlockSize}
 use Rattle.image_model.specs.Stands.{IsLaid}
 use Rattle.script_lang.specs.WellFormed.{IsWellFormed}
 use Rattle.lone_view.specs.Seeing.{Lone, seen_alone}
-use Rattle.lone_node.specs.Answering.{IsDamagedOn, IsHashedOn, IsUnbuiltOn, IsSameDisk}
+use Rattle.lone_node.specs.Answering.{IsDamagedOn, IsUnbuiltOn, IsSameDisk}
 use Rattle.lone_node.specs.Course.{IsCourse, moment}
-use Rattle.lone_node.specs.Ends.{HasCause, IfDamaged, IfDiskFailed, IfHashed, IfNotBuilt, UnlessDiskFailed, UnlessFailed}
-use Rattle.lone_node.specs.Run.{EndsAt, EndsAtCall, HasChangedNothing, IsCallThat, IsFailedOn, IsRunOf, IsRunUpTo, IsUnbuiltBehind, IsWholeRun, NotJoined, Taken, Unmounted}
+use Rattle.lone_node.specs.Ends.{HasCause, IfDamaged, IfDiskFailed, IfNotBuilt, UnlessDiskFailed, UnlessFailed}
+use Rattle.lone_node.specs.Run.{EndsAt, EndsAtCall, HasChangedNothing, IsCallThat, IsFailedOn, IsRunOf, IsRunUpTo, IsWholeRun, NotJoined, Taken, Unmounted}
 use Rattle.lone_node.specs.Standing.{StandsFor, LeavesStanding}
 use Rattle.lone_node.specs.declared.ends.RunEnd.{RunEnd}
 use Rattle.lone_node.specs.declared.ends.RunEnd.TheVariants as end
 use Rattle.damage_laws.specs.Telling.{CallsTellExactly, NeedsTell, MountedAreRead, HasRootInside}
 use Rattle.cluster_program.specs.Early.{status_of_end}
 use Rattle.cluster_program.specs.Mounting.{OfImage, IsImageOf, IsMountable, IsMountedFor, MountEnds}
-use Rattle.cluster_program.specs.Runs.{Runs, RunEnds, IsDone, NotMounted, CallFailed, CallHashed, CallUnbuilt, CallDamaged, NoRoom, UnlessFault, AreCleanAtEnd, HasCourse, as_mounted, first_line}
+use Rattle.cluster_program.specs.Runs.{Runs, RunEnds, IsDone, NotMounted, CallFailed, CallUnbuilt, CallDamaged, NoRoom, UnlessFault, AreCleanAtEnd, HasCourse, as_mounted, first_line}
 use Rattle.cluster_program.specs.World.{Inputs, KeepsDisk}
 use Rattle.cluster_program.specs.declared.status.Status.{Status}
 use Rattle.cluster_program.specs.declared.status.Status.TheVariants as status
@@ -110,9 +110,8 @@ pub record HasRun (d d' : DiskState) (list list' : Option (List Operation)) (n :
   pub answered : OnOk r (AllAnswered items s)
   pub sound : IfErr r (λ e. IfDamaged e (λ b rule. (t : Tree) → StandsFor d n t → ⊥))
   pub damaged : IfErr r (λ e. IfDamaged e (λ b rule. EndsAtCall (λ call. IsDamagedOn d' n call b rule) s.clients s.lines items (StandsFor d n)))
-  pub hashed : IfErr r (λ e. IfHashed e (λ b. EndsAtCall (λ call. IsHashedOn d' n call b) s.clients s.lines items (StandsFor d n)))
   pub unbuilt : IfErr r (λ e. IfNotBuilt e (λ place. EndsAt place (λ call. IsUnbuiltOn d' n call) s.clients s.lines items (StandsFor d n)))
-  pub built : IfErr r (λ e. IfNotBuilt e (λ place. EndsAt place (IsUnbuiltBehind s.clients items (StandsFor d n)) s.clients s.lines items (StandsFor d n)))
+  pub built : IfErr r (λ e. IfNotBuilt e (λ place. (t : Tree) → StandsFor d n t → ⊥))
   pub failed : IfErr r (λ e. IfDiskFailed e (λ block. EndsAtCall (λ call. IsFailedOn (moment d list) (moment d' list') n time s.clients items call block) s.clients s.lines items (StandsFor d n)))
   pub cause : IfErr r (HasCause 1 d.count before now)
 
@@ -121,7 +120,6 @@ pub record HasRun (d d' : DiskState) (list list' : Option (List Operation)) (n :
 unless : (first : ℕ) (e : RunEnd) {P Q : Type 0} → (P → Q) → UnlessFailed e P → UnlessFault (status_of_end first e) Q
 unless first (end.DiskFailed block rise) f p = tt
 unless first (end.Damaged block rule) f p = f p
-unless first (end.Hashed block) f p = f p
 unless first (end.NotBuilt place) f p = f p
 unless first end.NoMemory f p = f p
 
@@ -157,11 +155,9 @@ module _ (given left : Inputs) (m : MountedValue) (s : ScriptValue) (time : ℕ)
         CallDamaged m block rule for (λ tells tree stands. r.sound tree (from tree (record { tells = tells; stands = stands })))
         (call_from s.clients s.lines items (StandsFor given.disk n) (IsImageOf given.disk) from (λ call holds. holds) r.damaged)
         (by_call r.damaged.ends.next (λ call damaged. told calls needs read given.disk left.disk m call block rule image inside damaged) r.damaged.ends.holds)
-    call_end (end.Hashed block) image r = CallHashed m block for (call_from s.clients s.lines items (StandsFor given.disk n) (IsImageOf given.disk) from (λ call holds. holds) r.hashed)
     call_end (end.NotBuilt place) image r =
-        CallUnbuilt m place for
+        CallUnbuilt m place for (λ tells tree stands. r.built tree (from tree (record { tells = tells; stands = stands })))
         (ends_from s.clients s.lines items (StandsFor given.disk n) (IsImageOf given.disk) from place (λ call holds. holds) r.unbuilt)
-        (ends_from s.clients s.lines items (StandsFor given.disk n) (IsImageOf given.disk) from place (λ call named t is. named t (from t is)) r.built)
     call_end end.NoMemory image r = NoRoom (Some m)
 
     -- what holds of the image that is left
@@ -250,7 +246,6 @@ has_run d mid d' list list_mid list' m n before now s time items r same same_lis
 pub whole_blocks : (e : RunEnd) (mid d' : DiskState) → IsSound d' → IsBlockSize mid.size → UnlessFailed e (IsSameDisk mid d') → UnlessFailed e (OfImage d' IsImage)
 whole_blocks (end.DiskFailed block rise) mid d' sound four same = tt
 whole_blocks (end.Damaged block rule) mid d' sound four same = image_there d' sound (subst IsBlockSize (sym same.size) four)
-whole_blocks (end.Hashed block) mid d' sound four same = image_there d' sound (subst IsBlockSize (sym same.size) four)
 whole_blocks (end.NotBuilt place) mid d' sound four same = image_there d' sound (subst IsBlockSize (sym same.size) four)
 whole_blocks end.NoMemory mid d' sound four same = image_there d' sound (subst IsBlockSize (sym same.size) four)
 
@@ -259,7 +254,6 @@ pub small_number : (e : RunEnd) (s : ScriptValue) (items : List TraceItem) (P : 
     → IfNotBuilt e (λ place. first_line s + place < 2 ^ 32)
 small_number (end.DiskFailed block rise) s items P start well at = tt
 small_number (end.Damaged block rule) s items P start well at = tt
-small_number (end.Hashed block) s items P start well at = tt
 small_number (end.NotBuilt place) s items P start well at = let low = below_end s.lines place at.next at.is_next in omega (arith, low, well.few_lines)
 small_number end.NoMemory s items P start well at = tt
 
@@ -294,7 +288,6 @@ not_begun given left s time items own idle none same ends = record {
 pub never_done : (first : ℕ) (e : RunEnd) → status_of_end first e ≡ status.Done → ⊥
 never_done first (end.DiskFailed block rise) is = cc
 never_done first (end.Damaged block rule) is = cc
-never_done first (end.Hashed block) is = cc
 never_done first (end.NotBuilt place) is = cc
 never_done first end.NoMemory is = cc
 
@@ -302,7 +295,6 @@ pub no_run_fault : (given left : Inputs) (s : ScriptValue) (time : ℕ) (items :
 no_run_fault given left s time items what own (IsDone m all whole) never = never
 no_run_fault given left s time items what own (NotMounted own' none same ends) never = no_mount_fault given.disk given.disk_faults left.disk_faults own ends never
 no_run_fault given left s time items what own (CallFailed m block x y for root up within at) never = never
-no_run_fault given left s time items what own (CallHashed m block for at) never = never
-no_run_fault given left s time items what own (CallUnbuilt m place for at taken) never = never
+no_run_fault given left s time items what own (CallUnbuilt m place for none at) never = never
 no_run_fault given left s time items what own (CallDamaged m block rule for none at told) never = never
 no_run_fault given left s time items what own (NoRoom what') never = never

@@ -72,12 +72,8 @@ pub record IsMakeable (words : List (List ℕ)) (given : Inputs) : Type 0 where
 abbrev pub IsWhole : Status → Type 0
 IsWhole answer = (answer ≡ status.Done) ⊎ (answer ≡ status.NoMemory)
 
--- or that what a call met isn't built
-abbrev pub IsUpToBuilt : Status → Type 0
-IsUpToBuilt answer = IsWhole answer ⊎ ((p : Part) × (answer ≡ status.NotBuilt p))
-
--- Then a show and an image are done, but for want of memory; and a run, but for that and for what a call of it met that isn't built.
+-- Then a run, a show and an image are done, but for want of memory.
 pub record IsComplete (words : List (List ℕ)) (given left : Inputs) (sinks sinks_now : Outputs) (answer : Status) : Type 0 where
-  pub run : NoneRose given left sinks sinks_now → IsRunnable words given → IsUpToBuilt answer
+  pub run : NoneRose given left sinks sinks_now → IsRunnable words given → IsWhole answer
   pub show : NoneRose given left sinks sinks_now → IsShowable words given → IsWhole answer
   pub make : NoneRose given left sinks sinks_now → IsMakeable words given → IsWhole answer

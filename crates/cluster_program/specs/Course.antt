@@ -1,5 +1,5 @@
 -- What a command does, from its words and its script to the items of its run and its own end.
-use Rattle.std.specs.Prelude.{ℕ, ◌≡◌, ◌<◌, ◌≤◌, ◌==◌, nat_lt, not, IfSome, IsTrue, ◌++◌, ◌&&◌, Bool, true, false, if◌then◌else◌, List, [], map, Option, Some, None, Result, Ok, Err}
+use Rattle.std.specs.Prelude.{ℕ, ◌≡◌, ◌<◌, ◌≤◌, IfSome, IsTrue, ◌++◌, ◌&&◌, Bool, true, false, if◌then◌else◌, List, [], map, Option, Some, None, Result, Ok, Err}
 use Rattle.profile_limits.specs.Limits.{most_blocks}
 use Rattle.std.specs.Io.KnownBytes.{Consumes, IsAtEnd}
 use Rattle.fault_counts.specs.Causes.{WentUp}
@@ -38,24 +38,20 @@ abbrev pub is_none : {A : Type 0} → Option A → Bool
 is_none None = true
 is_none (Some a) = false
 
--- more journals than a linear directory in a block of 512 bytes has names for
-abbrev pub has_many_journals : ℕ → MakeWords → Bool
-has_many_journals block_size words = block_size == 512 && nat_lt 3 words.journals
+-- today any image is made and shown, and a run is built, but not its schedules, steps and frames
+abbrev pub is_built : Command → Bool
+is_built (command.Make words) = true
+is_built command.Show = true
+is_built (command.Run words) = is_none words.schedule && is_none words.steps && is_none words.frames
+is_built _ = false
 
--- today an image is made, but not one with so many journals, an image is shown, and a run is built, but not its schedules, steps and frames
-abbrev pub is_built : ℕ → Command → Bool
-is_built block_size (command.Make words) = not (has_many_journals block_size words)
-is_built block_size command.Show = true
-is_built block_size (command.Run words) = is_none words.schedule && is_none words.steps && is_none words.frames
-is_built block_size _ = false
-
-abbrev pub refusal_of : ℕ → Result Command Usage → Option Status
-refusal_of block_size (Err usage) = Some (status.Usage usage.word)
-refusal_of block_size (Ok c) = if is_built block_size c then None else Some (status.NotBuilt part.Words)
+abbrev pub refusal_of : Result Command Usage → Option Status
+refusal_of (Err usage) = Some (status.Usage usage.word)
+refusal_of (Ok c) = if is_built c then None else Some (status.NotBuilt part.Words)
 
 -- why these words are not carried out on a disk of this block size
 abbrev pub words_refusal : ℕ → List (List ℕ) → Option Status
-words_refusal block_size words = refusal_of block_size (words_read block_size words)
+words_refusal block_size words = refusal_of (words_read block_size words)
 
 -- the words ask for an image, for a show, or for a run, and that is built
 pub record AsksToMake (block_size : ℕ) (words : List (List ℕ)) (make : MakeWords) : Type 0 where

@@ -18,7 +18,6 @@ use Rattle.cluster_program.specs.declared.status.Part.TheVariants as part
 abbrev pub status_of_end : ℕ → RunEnd → Status
 status_of_end first (end.DiskFailed block rise) = status.DeviceFault 1 block rise.before rise.after
 status_of_end first (end.Damaged block rule) = status.Damaged block rule
-status_of_end first (end.Hashed block) = status.NotBuilt (part.Block block)
 status_of_end first (end.NotBuilt line) = status.NotBuilt (part.Script (first + line))
 status_of_end first end.NoMemory = status.NoMemory
 

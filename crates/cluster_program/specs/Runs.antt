@@ -15,9 +15,9 @@ use Rattle.run_rules.specs.History.{HoldsHistory, NoneStopped, AllAnswered}
 use Rattle.shared_disk.specs.Disk.{DiskState, IsIdle}
 use Rattle.lone_view.specs.Seeing.{Lone, seen_alone}
 use Rattle.damage_laws.specs.Telling.{HasRootInside, IsAstray}
-use Rattle.lone_node.specs.Answering.{IsDamagedOn, IsHashedOn, IsSameDisk, IsUnbuiltOn}
+use Rattle.lone_node.specs.Answering.{IsDamagedOn, IsSameDisk, IsUnbuiltOn}
 use Rattle.lone_node.specs.Course.{IsCourse, moment}
-use Rattle.lone_node.specs.Run.{EndsAt, EndsAtCall, HasChangedNothing, IsFailedOn, IsRunOf, IsUnbuiltBehind, IsWholeRun}
+use Rattle.lone_node.specs.Run.{EndsAt, EndsAtCall, HasChangedNothing, IsFailedOn, IsRunOf, IsWholeRun}
 use Rattle.cluster_program.specs.Mounting.{OfImage, IsImageOf, IsMountable, NeverStands, IsMountedClean, IsMountedFor, MountEnds, is_clean_in}
 use Rattle.cluster_program.specs.World.{Inputs, KeepsDisk}
 use Rattle.cluster_program.specs.declared.status.Status.{Status}
@@ -47,19 +47,16 @@ pub data IsToldBroken (im : Image) (rule block : ℕ) : Type 0 where
   beyond : (a x : ℕ) → IsAstray im a x → IsToldBroken im rule block
 
 -- How a run of what was mounted ends, if anything was: each line is answered and the node has unmounted; the image was not mounted, before the first item; or, in a call
--- behind the lines above it: the disk failed as its blocks were read or written; a directory is met that is a hashed one, which
--- isn't read yet; the call isn't built: where the image stands for a tree, that would take it, and a name has to be made; or a block is met that
--- breaks a rule of the image as it then was, if that still has what was mounted of it; or there was no memory.
+-- behind the lines above it: the disk failed as its blocks were read or written; the call isn't built for what stands there, in an image that stands for no
+-- tree; or, in such an image too, a block is met that breaks a rule of the image as it then was, if that still has what was mounted of it; or there was no memory.
 pub data RunEnds (given left : Inputs) (s : ScriptValue) (time : ℕ) (items : List TraceItem) : Option MountedValue → Status → Type 0 where
   IsDone : (m : MountedValue) → AllAnswered items s → IsWholeRun s.clients s.lines items (IsImageOf given.disk) → RunEnds given left s time items (Some m) status.Done
   NotMounted : (own : Status) → items ≡ [] → KeepsDisk given left → MountEnds given.disk given.disk_faults left.disk_faults own → RunEnds given left s time items None own
   CallFailed : (m : MountedValue) (block : Option ℕ) (x y : ℕ) → IsMountedFor given.disk m → HasRootInside (seen_alone (as_mounted given.disk m))
       → WentUp (given.disk_faults 1) (left.disk_faults 1) x y → IfSome block (λ b. b < given.disk.count)
       → AtCall given s items (λ call. IsFailedOn (moment given.disk given.disk_list) (moment left.disk left.disk_list) (as_mounted given.disk m) time s.clients items call block) → RunEnds given left s time items (Some m) (status.DeviceFault 1 block x y)
-  CallHashed : (m : MountedValue) (block : ℕ) → IsMountedFor given.disk m → AtCall given s items (λ call. IsHashedOn left.disk (as_mounted given.disk m) call block)
-      → RunEnds given left s time items (Some m) (status.NotBuilt (part.Block block))
-  CallUnbuilt : (m : MountedValue) (place : ℕ) → IsMountedFor given.disk m → AtPlace given s items place (λ call. IsUnbuiltOn left.disk (as_mounted given.disk m) call)
-      → AtPlace given s items place (IsUnbuiltBehind s.clients items (IsImageOf given.disk)) → RunEnds given left s time items (Some m) (status.NotBuilt (part.Script (first_line s + place)))
+  CallUnbuilt : (m : MountedValue) (place : ℕ) → IsMountedFor given.disk m → OfImage given.disk NeverStands → AtPlace given s items place (λ call. IsUnbuiltOn left.disk (as_mounted given.disk m) call)
+      → RunEnds given left s time items (Some m) (status.NotBuilt (part.Script (first_line s + place)))
   CallDamaged : (m : MountedValue) (block rule : ℕ) → IsMountedFor given.disk m → OfImage given.disk NeverStands → AtCall given s items (λ call. IsDamagedOn left.disk (as_mounted given.disk m) call block rule)
       → OfImage left.disk (λ im. IsMounted im m → IsToldBroken im rule block) → RunEnds given left s time items (Some m) (status.Damaged block rule)
   NoRoom : (what : Option MountedValue) → RunEnds given left s time items what status.NoMemory

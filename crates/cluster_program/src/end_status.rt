@@ -51,7 +51,6 @@ pub(crate) fn status_of_end(first: u32, end: RunEnd) -> Status
             after: rise.after,
         },
         RunEnd::Damaged { block, rule } => Status::Damaged { block, rule },
-        RunEnd::Hashed { block } => not_built(block),
         RunEnd::NotBuilt { line } => Status::NotBuilt {
             part: Part::Script {
                 line: first + line as u32,

@@ -1,8 +1,8 @@
-ghost use Rattle.std.specs.Prelude.{◌≡◌, ◌≤◌, ℕ, List, Option, false};
+ghost use Rattle.std.specs.Prelude.{◌≡◌, ◌≤◌, ℕ, List, Option};
 ghost use Rattle.shared_disk.specs.Disk.{IsIdle};
 ghost use Rattle.gfs2_layout.specs.Device.{IsBlockSize};
 ghost use Rattle.command_words.specs.Limits.{IsMakeWithin};
-ghost use Rattle.cluster_program.specs.Course.{Makes, has_many_journals, options_of as options_asked};
+ghost use Rattle.cluster_program.specs.Course.{Makes, options_of as options_asked};
 ghost use Rattle.cluster_program.specs.World.{inputs};
 ghost use Rattle.cluster_program.specs.Report.{IsSinkFault};
 ghost use Rattle.profile_limits.specs.Limits.{most_blocks};
@@ -33,7 +33,6 @@ fn make_on<D: SharedDisk>(alloc: Global, disk: &mut D, words: &MakeWords) -> Sta
     requires idle { IsIdle (D.state disk.old) }
     requires small { (D.state disk.old).count ≤ most_blocks }
     requires within { IsMakeWithin words.now }
-    requires few { has_many_journals (D.state disk.old).size words.now ≡ false }
     ensures makes { (left : Option (List ℕ)) (failed : ℕ) → Makes words.now
         (inputs (D.state disk.old) (D.list disk.old) (D.faults disk.old) left failed)
         (inputs (D.state disk.new) (D.list disk.new) (D.faults disk.new) left failed) result }
@@ -65,7 +64,6 @@ pub(crate) fn make_image<D: SharedDisk>(alloc: Global, disk: &mut D, words: &Mak
     requires size { IsBlockSize (D.state disk.old).size }
     requires idle { IsIdle (D.state disk.old) }
     requires within { IsMakeWithin words.now }
-    requires few { has_many_journals (D.state disk.old).size words.now ≡ false }
     ensures makes { (left : Option (List ℕ)) (failed : ℕ) → Makes words.now
         (inputs (D.state disk.old) (D.list disk.old) (D.faults disk.old) left failed)
         (inputs (D.state disk.new) (D.list disk.new) (D.faults disk.new) left failed) result }

@@ -1,5 +1,5 @@
 ghost use Rattle.std.specs.Prelude.{◌≡◌, ℕ, List, IfOk, IfErr, MatchOption, Some, None, true, false, map, string_bytes};
-ghost use Rattle.cluster_program.specs.Course.{is_built as counts_as_built, has_many_journals as are_many, words_refusal};
+ghost use Rattle.cluster_program.specs.Course.{is_built as counts_as_built, words_refusal};
 ghost use Rattle.cluster_program.specs.Tasks.{IsTaskOf, Asks};
 
 use crate::status::{Part, Status};
@@ -14,20 +14,12 @@ pub(crate) enum Task {
     Run { time: u64 },
 }
 
-// Whether an image has more journals than a linear directory has names for.
-fn has_many_journals(words: &MakeWords, block_size: u32) -> bool
-    ensures { result ≡ are_many block_size words.now }
-{
-    block_size == 512 && words.journals > 3
-}
-
 // Whether a command is built today.
-fn is_built(command: &Command, block_size: u32) -> bool
-    ensures { result ≡ counts_as_built block_size command.now }
+fn is_built(command: &Command) -> bool
+    ensures { result ≡ counts_as_built command.now }
 {
     match command {
-        Command::Make(words) => !has_many_journals(words, block_size),
-        Command::Show => true,
+        Command::Make(_) | Command::Show => true,
         Command::Run(words) => {
             words.schedule.is_none() && words.steps.is_none() && words.frames.is_none()
         }
@@ -36,10 +28,10 @@ fn is_built(command: &Command, block_size: u32) -> bool
 }
 
 // The task that a command is, if it is built.
-fn task_of(command: &Command, block_size: u32) -> Option<Task>
-    ensures { MatchOption result (counts_as_built block_size command.now ≡ false) (λ t. (counts_as_built block_size command.now ≡ true) × IsTaskOf command.now t) }
+fn task_of(command: &Command) -> Option<Task>
+    ensures { MatchOption result (counts_as_built command.now ≡ false) (λ t. (counts_as_built command.now ≡ true) × IsTaskOf command.now t) }
 {
-    if !is_built(command, block_size) {
+    if !is_built(command) {
         return None;
     }
     match command {
@@ -59,7 +51,7 @@ pub(crate) fn read_task(words: &[String], block_size: u32) -> Result<Task, Statu
         Ok(command) => command,
         Err(usage) => return Err(Status::Usage { word: usage.word }),
     };
-    match task_of(&command, block_size) {
+    match task_of(&command) {
         Some(task) => Ok(task),
         None => Err(Status::NotBuilt { part: Part::Words }),
     }

@@ -4,6 +4,10 @@ use Rattle.std.specs.Prelude.{false}
 use Rattle.call_locks.specs.declared.want.Want.{Want}
 use Rattle.dinode_tree.specs.Below.{IsLedFrom}
 use Rattle.dinode_tree.specs.Shown.{IsShown}
+use Rattle.directories.specs.Shown as dirs
+use Rattle.gfs2_layout.specs.Holding.{Holding}
+use Rattle.hash_inserts.specs.Inserting as inserts
+use Rattle.name_inserts.specs.Inserting as names
 use Rattle.file_tree.specs.declared.call.Call.{Call}
 use Rattle.file_tree.specs.declared.call.Call.TheVariants as calls
 use Rattle.call_locks.specs.Wants.{wanted}
@@ -18,7 +22,7 @@ use Rattle.glock_names.specs.declared.views.Group.{Group}
 use Rattle.resource_groups.specs.Putting.{HasDataBlock}
 use Rattle.resource_groups.specs.Shown as group
 use Rattle.image_model.specs.Claims as image
-use Rattle.image_model.specs.Claims.{every, below, HasInode}
+use Rattle.image_model.specs.Claims.{every, below, HasDirectory, HasInode}
 use Rattle.image_model.specs.Flat.{Path}
 use Rattle.image_model.specs.Image.{Image, IsImage}
 use Rattle.image_model.specs.Owners.{Root, Below}
@@ -28,10 +32,10 @@ use Rattle.making_calls.specs.Making as making
 use Rattle.path_walks.specs.Walks as path
 use Rattle.removing_calls.specs.Removing as removing
 use Rattle.writing_calls.specs.Writing as writing
-use Rattle.damage_laws.specs.Telling.{IsReadFrom, HasRootInside, HasWholeGroups, HasAstray, IsTold, itself, astray, IsToldOf, on_path, by_root, WritesTell, WritesTellExactly, RemovalsTell, RemovalsTellExactly, MakingsTell, MakingsTellExactly, CallsTell, CallsTellExactly}
-use Rattle.damage_laws.proofs.Claimed.{shown, root_claimed, led_there, outside, astray_at, further}
+use Rattle.damage_laws.specs.Telling.{IsAstray, IsReadFrom, HasRootInside, HasWholeGroups, HasAstray, IsTold, itself, astray, IsToldOf, on_path, by_root, WritesTell, WritesTellExactly, RemovalsTell, RemovalsTellExactly, MakingsTell, MakingsTellExactly, CallsTell, CallsTellExactly}
+use Rattle.damage_laws.proofs.Claimed.{shown, root_claimed, directory_or, is_directory, led_there, outside, astray_at, further}
 use Rattle.damage_laws.proofs.Owned.{dinode_state, from_parent, record_told, shared_told}
-use Rattle.damage_laws.proofs.Paths.{broken_inode, paths_tell, wrong_at}
+use Rattle.damage_laws.proofs.Paths.{broken_directory_told, broken_inode, paths_tell, wrong_at}
 
 -- ---- an inode in no group to which a path leads is the root
 
@@ -155,9 +159,30 @@ module _ (v : Seen) (im : Image) (call : Call) (read : IsReadFrom v im) (whole :
       no_dinode : (n : ℕ) → n ≡ 0 → n ≡ 3 → ⊥
       no_dinode n free dinode = absurd (omega (arith, free, dinode))
 
+  -- what stands in the directory for the name
+  name_told : (gets : making.IsToGetName v call) (rule b : ℕ) → ((h : Holding) → dirs.IsShown v gets.directory h → names.IsWrongForName v h rule b) → IsTold v im (wanted call) (making.directory_path call) rule b
+  name_told gets rule b wrong = elim (led_there v im read whole.image (wanted call) (making.directory_path call) gets.directory gets.leads) [
+    | inr ahead ↦ astray rule b ahead
+    | inl has ↦ elim (directory_or v im read whole.image gets.directory (is_directory v im read whole.image gets.directory has gets.lacks.directory)) [
+      | inr out ↦ astray rule b (up out)
+      | inl seen ↦ by_kind (is_directory v im read whole.image gets.directory has gets.lacks.directory) rule b (wrong (every im gets.directory) seen)
+    ]
+  ]
+    where
+      up : ((x : ℕ) × IsAstray im gets.directory x) → HasAstray v im (wanted call) (making.directory_path call)
+      up out = astray_at v im read whole.image (wanted call) (making.directory_path call) gets.directory gets.leads out
+
+      by_kind : HasDirectory im gets.directory → (rule b : ℕ) → names.IsWrongForName v (every im gets.directory) rule b → IsTold v im (wanted call) (making.directory_path call) rule b
+      by_kind there rule b (names.IsWrongForName.of_directory broken) = broken_directory_told v im read whole.image (wanted call) (making.directory_path call) gets.directory up there rule b broken
+      by_kind there rule b (names.IsWrongForName.in_hashed hashed (inserts.IsWrongToInsert.in_directory r x broken)) =
+          broken_directory_told v im read whole.image (wanted call) (making.directory_path call) gets.directory up there r x (dirs.IsBroken.in_hashed hashed broken)
+      by_kind there rule b (names.IsWrongForName.in_hashed hashed (inserts.IsWrongToInsert.stray_pointer from x led out)) =
+          told_or v im (wanted call) (making.directory_path call) 2 from (stray_told v im read whole.image (wanted call) (making.directory_path call) gets.directory from x gets.leads led out)
+
   makings_told : (rule b : ℕ) → making.IsDamage v call rule b → IsToldOf v im call rule b
   makings_told rule b (making.on_path r x broken) = on_directory_path r x (paths_tell v im (wanted call) (making.directory_path call) r x read whole.image broken)
   makings_told rule b (making.in_directory a r x leads wrong) = on_directory_path r x (in_directory_told a r x leads wrong)
+  makings_told rule b (making.for_name r x gets wrong) = on_directory_path r x (name_told gets r x wrong)
   makings_told rule b (making.in_group r x gets broken) = on_path r x (itself r x (group_told v im read whole broken.group broken.has r x broken.broken))
   makings_told rule b (making.called_free a gets leads free) = elim (led_there v im read whole.image (wanted call) (making.directory_path call) a leads) [
     | inr ahead ↦ on_directory_path 5 a (astray 5 a ahead)

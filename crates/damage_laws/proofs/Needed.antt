@@ -25,6 +25,8 @@ use Rattle.glock_names.specs.Views.{Seen, HasBlock}
 use Rattle.glock_names.specs.declared.steps.Missing.{Missing}
 use Rattle.growth_laws.proofs.Numbers.{zeros_are_no_number}
 use Rattle.hash_dirs.specs.Shown as hashed
+use Rattle.hash_inserts.specs.Inserting as inserts
+use Rattle.name_inserts.specs.Inserting as names
 use Rattle.image_model.specs.Claims.{every, below, HasInode, HasDirectory}
 use Rattle.image_model.specs.Flat.{Path}
 use Rattle.image_model.specs.Image.{Image, IsImage}
@@ -259,13 +261,22 @@ module _ (v : Seen) (im : Image) (read : IsReadFrom v im) (whole : HasWholeGroup
   removal_out call m (removing.of_group a blocks taken all held needs) out =
       absurd (omega (arith, out, whole.headers needs.0 m.block needs.1 needs.2.3.block.own))
 
+  insert_way : (h : Holding) (name : List ℕ) (m : Missing) → im.count ≤ m.block → names.IsNeededForName v h name m → IsWay h m
+  insert_way h name m out (names.IsNeededForName.the_dinode is absent) = own_way h m is
+  insert_way h name m out (names.IsNeededForName.in_hashed is (inserts.IsNeededToInsert.of_chain needs)) = hashed_way h _ m out needs
+  insert_way h name m out (names.IsNeededForName.in_hashed is (inserts.IsNeededToInsert.of_table full one needs)) = way_of h _ 0 m needs.way
+
+  -- what is out of the device on the directory's path is so on the call's
+  above_out : (call : Call) (m : Missing) → Source (wanted call) (making.directory_path call) m → Source (wanted call) (path_of call false) m
+  above_out call m (inl source) = inl source
+  above_out call m (inr ahead) = let f = from_parent (path_of call false) in inr (further v im read whole.image (wanted call) (making.directory_path call) f.0 (path_of call false) f.1 ahead)
+
   making_out : (call : Call) (m : Missing) → making.IsNeededFor v call m → im.count ≤ m.block → Source (wanted call) (path_of call false) m
-  making_out call m (making.on_path unread) out =
-      let f = from_parent (path_of call false) in
-      elim (unread_out (wanted call) (making.directory_path call) m unread out) [
-        | inl source ↦ inl source
-        | inr ahead ↦ inr (further v im read whole.image (wanted call) (making.directory_path call) f.0 (path_of call false) f.1 ahead)
-      ]
+  making_out call m (making.on_path unread) out = above_out call m (unread_out (wanted call) (making.directory_path call) m unread out)
+  making_out call m (making.to_look a named leads there directory absent needs) out =
+      above_out call m (directory_out (wanted call) (making.directory_path call) a m leads directory absent (λ h seen. name_way h (making.name_in call) m out (needs h seen)) out)
+  making_out call m (making.to_insert gets absent needs) out =
+      above_out call m (directory_out (wanted call) (making.directory_path call) gets.directory m gets.leads gets.lacks.directory absent (λ h seen. insert_way h (making.name_in call) m out (needs h seen)) out)
   making_out call m (making.of_group gets needed) out = absurd (omega (arith, out, whole.headers needed.group m.block needed.has needed.missing.own))
 
   file_out : (wants : List Want) (path : Path) (a : ℕ) (W : Holding → ℕ → Type 0) (blocks : List ℕ) (m : Missing) → LeadsTo v wants path a → IsNeededAt v a W blocks m → im.count ≤ m.block → Source wants path m

@@ -181,15 +181,12 @@ module _ (v : Seen) (im : Image) (read : IsReadFrom v im) (is_image : IsImage im
   few_records xs are own above few =
       rules.entry_count a xs are (λ e. two_long xs own.0 above.0 own.1 above.1 (λ same. dots_differ (sym own.2 ∙ same ∙ above.2)) (omega (arith, e, few)))
 
-  wrong_directory : (rule b : ℕ) → ((h : Holding) → dirs.IsShown v a h → dirs.IsBroken v h rule b) → Told rule b
-  wrong_directory rule b wrong = elim (directory_or v im read is_image a has) [
-    | inr out ↦ astray rule b (up out)
-    | inl seen ↦ elim (cases_Bool (is_hashed_in (every im a))) [
-      | inr linear ↦ itself rule b (plain_told linear (wrong (every im a) seen))
-      | inl hashed ↦ elim (marked_or im a has hashed) [
-        | inr out ↦ astray rule b (up out)
-        | inl leaves ↦ itself rule b (wrong_every v im read is_image a has hashed leaves.0 leaves.1 rule b (wrong (every im a) seen))
-      ]
+  pub broken_directory_told : (rule b : ℕ) → dirs.IsBroken v (every im a) rule b → Told rule b
+  broken_directory_told rule b broken = elim (cases_Bool (is_hashed_in (every im a))) [
+    | inr linear ↦ itself rule b (plain_told linear broken)
+    | inl hashed ↦ elim (marked_or im a has hashed) [
+      | inr out ↦ astray rule b (up out)
+      | inl leaves ↦ itself rule b (wrong_every v im read is_image a has hashed leaves.0 leaves.1 rule b broken)
     ]
   ]
     where
@@ -197,6 +194,12 @@ module _ (v : Seen) (im : Image) (read : IsReadFrom v im) (is_image : IsImage im
       plain_told linear (dirs.of_inode broken) = broken_inode im a has.inode rule b broken
       plain_told linear (dirs.in_linear dir plain broken) = broken_directory im a has plain rule b broken
       plain_told linear (dirs.in_hashed flag wrong) = absurd (not_both (is_hashed_in (every im a)) flag linear)
+
+  wrong_directory : (rule b : ℕ) → ((h : Holding) → dirs.IsShown v a h → dirs.IsBroken v h rule b) → Told rule b
+  wrong_directory rule b wrong = elim (directory_or v im read is_image a has) [
+    | inr out ↦ astray rule b (up out)
+    | inl seen ↦ broken_directory_told rule b (wrong (every im a) seen)
+  ]
 
   -- a linear one in which `.` or `..` isn't found
   wrong_dots : (name : List ℕ) → (((x : ℕ) (r : Record) → HasRecordIn im a x r → r.name ≢ name) → Breaks im 10 a) → IsLinearAt v a → ((h : Holding) → dirs.IsShown v a h → dirs.Says h name None) → Told 10 a

@@ -30,7 +30,7 @@ walk_lacks v wants path lock state is = ap (holds v) is.is ∙ is.lacks
 
 make_lacks : (v : Seen) (call : Call) (node : ℕ) (lock : LockName) (state : State) → making.IsLackedFor v call node lock state → IsNotHeld v lock state
 make_lacks v call node lock state (making.on_path is) = walk_lacks v (wanted call) (making.directory_path call) lock state is
-make_lacks v call node lock state (making.of_block own gets is lacks first) = lacks
+make_lacks v call node lock state (making.of_block own need needs is lacks first) = lacks
 
 remove_lacks : (v : Seen) (call : Call) (lock : LockName) (state : State) → removing.IsLackedFor v call lock state → IsNotHeld v lock state
 remove_lacks v call lock state (removing.on_path s is) = walk_lacks v (wanted call) (path_of call false) lock s is

@@ -27,7 +27,8 @@ IsAnswered seen view (calls.Truncate path size) node time reply change = writing
 IsAnswered seen view calls.Sync node time reply change = writing.IsAnswered (seen view) calls.Sync node time reply change
 IsAnswered seen view call node time reply change = reading.IsAnswered (seen view) call reply
 
--- too few blocks are free for the call, as far as the view shows: `create` and `mkdir` take one, `write` and `truncate` what the file's content does
+-- too few blocks are free for the call, as far as the view shows: `create` and `mkdir` take one for the new inode and what the directory does, `write` and `truncate` what the file's content
+-- does
 abbrev pub IsFullFor : Seen → Call → ℕ → ℕ → Type 0
 IsFullFor v (calls.Create path) need free = making.IsFullFor v (calls.Create path) need free
 IsFullFor v (calls.Mkdir path) need free = making.IsFullFor v (calls.Mkdir path) need free

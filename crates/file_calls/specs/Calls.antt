@@ -1,10 +1,8 @@
 -- The file calls that are built: what holds of every one.
-use Rattle.std.specs.Prelude.{ℕ, ◌≡◌, false, List}
-use Rattle.file_tree.specs.Apply.{apply}
+use Rattle.std.specs.Prelude.{ℕ, false, List}
 use Rattle.file_tree.specs.Tree.{Tree}
 use Rattle.file_tree.specs.declared.call.Call.{Call}
 use Rattle.file_tree.specs.declared.call.Call.TheVariants as calls
-use Rattle.file_tree.specs.declared.reply.Reply.TheVariants as reply
 use Rattle.glock_names.specs.Views.{Seen}
 use Rattle.glock_names.specs.declared.LockName.{LockName}
 use Rattle.glock_names.specs.declared.State.{State}
@@ -39,8 +37,8 @@ IsBuilt calls.Sync = Unit {0}
 
 -- ---- locks
 
--- the locks that the call takes in an image, in their order: those of the inodes on its path; where a name is made those under which a
--- free block is found, and of the new inode; where one is removed those of the groups that have the inode's blocks; and where a file's content
+-- the locks that the call takes in an image, in their order: those of the inodes on its path; where a name is made those under which
+-- free blocks are found, and of the new inode; where one is removed those of the groups that have the inode's blocks; and where a file's content
 -- changes those of the groups in which free blocks are found, or that have the blocks that go
 abbrev pub call_holds : Image → Owners → Layout → Tree → Call → ℕ → List Hold
 call_holds im o l t (calls.Create path) node = making.call_holds im o l t (calls.Create path) node
@@ -93,25 +91,11 @@ IsDamage v (calls.Unlink path) rule b = removing.IsDamage v (calls.Unlink path) 
 IsDamage v (calls.Rmdir path) rule b = removing.IsDamage v (calls.Rmdir path) rule b
 IsDamage v call rule b = path.IsDamage v (wanted call) (path_of call false) rule b
 
--- The dinode in this block is that of a hashed directory, and the call isn't answered: it would make a name there.
-abbrev pub IsHashed : Seen → Call → ℕ → Type 0
-IsHashed v (calls.Create path) b = making.IsHashedFor v (calls.Create path) b
-IsHashed v (calls.Mkdir path) b = making.IsHashedFor v (calls.Mkdir path) b
-IsHashed v call b = ⊥
-
--- what the call has to do isn't built yet: to put a name into a linear directory that has no room for it; or it would change a file that isn't
--- sound in itself, which none is in an image that stands for a tree
-abbrev pub IsUnbuilt : Seen → Call → Type 0
-IsUnbuilt v (calls.Create path) = making.IsUnbuilt v (calls.Create path)
-IsUnbuilt v (calls.Mkdir path) = making.IsUnbuilt v (calls.Mkdir path)
-IsUnbuilt v (calls.Write path at new) = writing.IsUnbuilt v (calls.Write path at new)
-IsUnbuilt v (calls.Truncate path size) = writing.IsUnbuilt v (calls.Truncate path size)
-IsUnbuilt v call = ⊥
-
--- ---- in an image that stands for a tree
-
--- What alone isn't built of a call where the image stands for this tree: it makes a name, and the tree would take it. Every other call is built.
--- That the directory for the name is a linear one without room is told besides, of what was read (`IsUnbuilt`).
-pub record IsUnbuiltName (t : Tree) (call : Call) : Type 0 where
-  pub taken : (apply call t).reply ≡ reply.Ok
-  pub makes : making.IsMaking call
+-- The call isn't built for what stands there: it would make a name in a directory, or change a file, that isn't sound in itself, in a way that no rule
+-- tells of what was read. In an image that stands for a tree none is so.
+abbrev pub IsUnbuilt : Seen → Call → ℕ → Type 0
+IsUnbuilt v (calls.Create path) node = making.IsUnbuilt v (calls.Create path) node
+IsUnbuilt v (calls.Mkdir path) node = making.IsUnbuilt v (calls.Mkdir path) node
+IsUnbuilt v (calls.Write path at new) node = writing.IsUnbuilt v (calls.Write path at new)
+IsUnbuilt v (calls.Truncate path size) node = writing.IsUnbuilt v (calls.Truncate path size)
+IsUnbuilt v call node = ⊥

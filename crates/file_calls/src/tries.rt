@@ -13,7 +13,7 @@ ghost use Rattle.path_walks.specs.Answers.{IfDone, IfNeedLock, IfNeedBlock, IfNo
 ghost use Rattle.path_walks.specs.Holds.{AreHeld, IsAskedFor, IsFirstLack, IsUnder, holds};
 ghost use Rattle.writing_calls.specs.Writing.{IfSync, IsSynced};
 ghost use Rattle.file_calls.specs.Answers.{IsAnswered, IsFullFor, IsMadeIn};
-ghost use Rattle.file_calls.specs.Calls.{IsBuilt, IsDamage, IsHashed, IsLackedFor, IsNeededFor, IsTooFew, IsUnbuilt, IsUnbuiltName, call_holds};
+ghost use Rattle.file_calls.specs.Calls.{IsBuilt, IsDamage, IsLackedFor, IsNeededFor, IsTooFew, IsUnbuilt, call_holds};
 
 use dinode_tree::every_view_shows_an_inode;
 use drafts::{Attempt, Stamp};
@@ -51,9 +51,9 @@ pub fn attempt<V: View>(
     ensures lacks { IfNeedLock result (λ lock state. holds (V.seen view.now) (record { lock = lock; state = state }) ≡ false) }
     ensures needed { IfNeedBlock result (IsNeededFor (V.seen view.now) call.now) }
     ensures absent { IfNeedBlock result (λ m. (V.seen view.now).block_at m.block ≡ None) }
-    ensures hashed { IfHashed result (IsHashed (V.seen view.now) call.now) }
-    ensures unbuilt { IfNotBuilt result (IsUnbuilt (V.seen view.now) call.now) }
-    ensures built { (im : Image) (o : Owners) (l : Layout) (t : Tree) → IsOf (V.seen view.now) im o l t → IfNotBuilt result (IsUnbuiltName t call.now) }
+    ensures hashed { IfHashed result (λ block. ⊥) }
+    ensures unbuilt { IfNotBuilt result (IsUnbuilt (V.seen view.now) call.now stamp.now.node) }
+    ensures built { (im : Image) (o : Owners) (l : Layout) (t : Tree) → IsOf (V.seen view.now) im o l t → IfNotBuilt result ⊥ }
     ensures sound { (im : Image) (o : Owners) (l : Layout) (t : Tree) → IsOf (V.seen view.now) im o l t → IfDamaged result (λ rule block. ⊥) }
     ensures damaged { IfDamaged result (IsDamage (V.seen view.now) call.now) }
     ensures kept { IfDamaged result (IsOfView (V.seen view.now)) }

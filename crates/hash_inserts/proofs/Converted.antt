@@ -35,7 +35,7 @@ use Rattle.hash_steps.specs.Steps.{IsConverted, first_count}
 use Rattle.hash_steps.proofs.Sound.{tree_of}
 use Rattle.hash_inserts.specs.Converting.{AreConverted, CanConvert, hashed_dinode}
 use Rattle.hash_inserts.specs.Drafting.{IsFree, Puts, with_block}
-use Rattle.hash_inserts.specs.Inserting.{Converts}
+use Rattle.hash_inserts.specs.Inserting.{Converts, IsPutUnder}
 use Rattle.hash_inserts.proofs.Blocks.{bytes_apart, bytes_here, counts_more, counts_same, fate_apart, fate_here, one_put, part_apart, part_here, puts_then, some_before, some_here, some_still}
 use Rattle.hash_inserts.proofs.Blockwise.{dinode_own, few_blocks, free_apart, own_read}
 use Rattle.hash_inserts.proofs.LeafBytes.{leaf_put_of}
@@ -49,6 +49,24 @@ two_put old new b own first second is y = elim (cases_eq y own) [
   | inr other ↦ elim (cases_eq y b) [
     | inl leaf ↦ inr (inr leaf)
     | inr apart ↦ inl (ap (λ fates. get fates y) is ∙ fate_apart (insert old b first) own second y other ∙ fate_apart old b first y apart)
+  ]
+]
+
+-- and the two are put under the lock
+pub two_put_under : (old new : FinMap nat_cmp Fate) (b own : ℕ) (one two : List ℕ) → new ≡ insert (insert old b (Put (inode_lock own) false one)) own (Put (inode_lock own) false two)
+    → (y : ℕ) → (get new y ≡ get old y) ⊎ (((y ≡ own) ⊎ (y ≡ b)) × IsPutUnder new own y)
+two_put_under old new b own one two is y = elim (cases_eq y own) [
+  | inl here ↦ inr (inl here, (two, ap (get new) here ∙ ap (λ fates. get fates own) is ∙ fate_here (insert old b (Put (inode_lock own) false one)) own (Put (inode_lock own) false two)))
+  | inr other ↦ elim (cases_eq y b) [
+    | inl leaf ↦ inr (
+      inr leaf,
+      (
+        one,
+        ap (λ fates. get fates y) is ∙ fate_apart (insert old b (Put (inode_lock own) false one)) own (Put (inode_lock own) false two) y other
+            ∙ ap (get (insert old b (Put (inode_lock own) false one))) leaf ∙ fate_here old b (Put (inode_lock own) false one),
+      ),
+    )
+    | inr apart ↦ inl (ap (λ fates. get fates y) is ∙ fate_apart (insert old b (Put (inode_lock own) false one)) own (Put (inode_lock own) false two) y other ∙ fate_apart old b (Put (inode_lock own) false one) y apart)
   ]
 ]
 

@@ -1,20 +1,17 @@
 -- The one leaf of a directory that has just become a hashed one, as the chain of a name.
-use Rattle.std.proofs.Common.{◌≡◌, ℕ, ◌+◌, ◌<◌, Bool, true, false, List, length, None, Some, refl, sym, ap, ◌∙◌, subst, arith}
+use Rattle.std.proofs.Common.{◌≡◌, ℕ, ◌+◌, ◌<◌, Bool, true, false, List, length, None, refl, sym, ap, ◌∙◌, subst, arith}
 use Rattle.gfs2_layout.specs.Area.{slots_of}
 use Rattle.gfs2_layout.specs.Holding.{Holding}
 use Rattle.gfs2_layout.specs.Inode.{leaf_area}
 use Rattle.glock_names.specs.Views.{Seen}
 use Rattle.hash_inserts.proofs.Seen.{PartsAreLed}
 use Rattle.hash_dirs.specs.Shown.{IsInChain, index_for}
-use Rattle.hash_steps.specs.Leaves.{IsFullBefore, has_room_for}
+use Rattle.hash_steps.specs.Leaves.{has_room_for}
 use Rattle.hash_inserts.specs.Advancing.{CanInsert, IsAtLeaf}
 use Rattle.hash_inserts.specs.Committing.{SeesInside}
 use Rattle.hash_inserts.specs.Drafting.{SeesTree}
 use Rattle.hash_inserts.specs.Finding.{IsChainFound, IsOnlyLeaf}
 use Rattle.hash_inserts.specs.Walking.{IsRoomBefore, SeesLeaf, first_with}
-use Rattle.hash_inserts.specs.declared.finding.Found.{Found}
-use Rattle.hash_inserts.specs.declared.walking.Walked.{Walked}
-use Rattle.pointer_tables.specs.declared.pointer.Pointer.{Pointer}
 use Rattle.hash_inserts.proofs.Onward.{by_parts}
 use Rattle.hash_inserts.proofs.Past.{at_head, ends_there, full_before, low}
 use Rattle.hash_inserts.proofs.SplitOn.{only_head}

@@ -1,26 +1,32 @@
 -- What was inserted in a draft over a draft, once it is put into that.
-use Rattle.std.proofs.Common.{◌≡◌, ◌⊎◌, ℕ, inl, inr, Bool, false, List, ◌++◌, length, take, drop, Option, None, Some, refl, sym, ap, ◌∙◌, subst, length-append, arith}
+use Rattle.std.proofs.Common.{◌≡◌, ◌⊎◌, ℕ, suc, ◌<◌, ◌∷◌, [], inl, inr, Bool, false, List, ◌++◌, length, take, drop, Option, None, Some, refl, sym, ap, ◌∙◌, subst, length-append, arith}
 use Rattle.std.specs.Prelude.{IsSome, Contains}
-use Rattle.std.specs.FinMap.{FinMap, empty, entries, get, get-empty}
+use Rattle.std.proofs.lemmas.Bool.{cases_eq}
+use Rattle.std.specs.Cmp.{nat_cmp_total}
+use Rattle.std.specs.FinMap.{FinMap, empty, entries, get, get-empty, insert, nat_cmp-IsAntisymmetric}
 use Rattle.std.specs.Ordering.{nat_cmp}
 use Rattle.std.proofs.Math.Path.{fun_ext}
 use Rattle.std.proofs.Math.Seq.{drop-append_seam, take-append_seam}
+use Rattle.finite_maps.proofs.Keys.{inserted_at, inserted_apart}
 use Rattle.drafts.specs.Fates.{block_with, blocks_in, seen_with}
 use Rattle.drafts.specs.declared.change.Written.{Written}
 use Rattle.drafts.specs.declared.fate.Fate.{Fate}
 use Rattle.drafts.specs.declared.fate.Fate.TheVariants.{Put}
 use Rattle.gfs2_layout.specs.Holding.{Cell, Holding, Part, cell_part, bytes_at}
+use Rattle.gfs2_layout.specs.Inode.{entry, table_count}
 use Rattle.glock_names.specs.Views.{Seen}
 use Rattle.glock_names.specs.declared.LockName.{LockName}
 use Rattle.glock_names.specs.declared.steps.Entry.{Entry}
 use Rattle.dinode_tree.specs.Reading.{inode_lock}
 use Rattle.resource_groups.specs.Putting.{HasDataBlock}
 use Rattle.nested_drafts.specs.Nested.{fate_over, with_blocks}
-use Rattle.table_growth.specs.Tables.{DraftsDirectory}
 use Rattle.hash_dirs.specs.Shown.{IsInChain, IsSound, index_for}
-use Rattle.hash_inserts.specs.Committing.{HasInserted, SeesInside}
-use Rattle.hash_inserts.specs.Inserting.{HasNoRoom, HasOneLeafFor, Inserts, IsInsertedAt, MayChange, a_data_block, a_full_leaf, a_leaf_with_room, a_taken_one, its_dinode, of_table, one_taken, the_dinode}
+use Rattle.hash_steps.specs.Leaves.{HasOneLeaf}
+use Rattle.hash_inserts.specs.Committing.{HasInserted, HasPut, SeesInside}
+use Rattle.hash_inserts.specs.Inserting as ins
+use Rattle.hash_inserts.specs.Inserting.{HasNoRoom, HasOneLeafFor, Inserts, IsInsertedAt, IsSplitAt, MayChange, Takes, a_data_block, a_full_leaf, a_leaf_with_room, a_taken_one, one_taken, the_dinode, the_leaf, the_new_one}
 use Rattle.hash_inserts.proofs.Seen.{PartsAreLed}
+use Rattle.hash_inserts.proofs.SplitOn.{only_head}
 
 -- two parts of a list, of which the second is so long
 pub same_parts : (xs ys xs' ys' : List ℕ) → xs ++ ys ≡ xs' ++ ys' → length ys ≡ length ys' → (xs ≡ xs') × (ys ≡ ys')
@@ -29,6 +35,20 @@ same_parts xs ys xs' ys' e long =
       sym (take-append_seam xs ys) ∙ ap (take (length xs)) e ∙ ap (λ n. take n (xs' ++ ys')) front ∙ take-append_seam xs' ys',
       sym (drop-append_seam xs ys) ∙ ap (drop (length xs)) e ∙ ap (λ n. drop n (xs' ++ ys')) front ∙ drop-append_seam xs' ys',
     )
+
+-- ---- blocks that are put under a lock
+
+-- what becomes of a block: what became of it before, or it is one of them and put under the lock
+pub blocks_put : (lock : LockName) (ws : List Written) (below : FinMap nat_cmp Fate) (b : ℕ)
+    → (get (with_blocks lock ws below) b ≡ get below b) ⊎ ((w : Written) × Contains ws w × (w.block ≡ b) × ((bytes : List ℕ) × (get (with_blocks lock ws below) b ≡ Some (Put lock false bytes))))
+blocks_put lock [] below b = inl refl
+blocks_put lock (w ∷ ws) below b = elim (blocks_put lock ws (insert below w.block (Put lock false w.bytes)) b) [
+  | inr later ↦ inr (later.0, (suc later.1.0, omega (arith, later.1.1), later.1.2), later.2, later.3)
+  | inl same ↦ elim (cases_eq b w.block) [
+    | inl here ↦ inr (w, (0, omega arith, refl), sym here, (w.bytes, same ∙ ap (get (insert below w.block (Put lock false w.bytes))) here ∙ inserted_at nat_cmp_total nat_cmp-IsAntisymmetric below w.block (Put lock false w.bytes)))
+    | inr apart ↦ inl (same ∙ inserted_apart nat_cmp_total nat_cmp-IsAntisymmetric below w.block (Put lock false w.bytes) b apart)
+  ]
+]
 
 -- ---- a draft in which nothing was put
 
@@ -63,7 +83,7 @@ part_of : (c : Option Cell) → IsSome c → (p : Part) × (cell_part c ≡ Some
 part_of None some = cc
 part_of (Some c) some = (c.part, refl)
 
-module _ (v : Seen) (fates : FinMap nat_cmp Fate) (ws : List Written) (dir : ℕ) (room left : List ℕ) (need : ℕ) (name : List ℕ) (e : Entry) (h g : Holding) (has : HasInserted v fates ws dir room left need name e h g)
+module _ (v : Seen) (fates : FinMap nat_cmp Fate) (ws : List Written) (dir : ℕ) (room left taken : List ℕ) (IsOne : ℕ → Type 0) (h g : Holding) (has : HasPut v fates ws dir room left taken IsOne h g)
     (told : (above : FinMap nat_cmp Fate) (w : Written) → Contains (blocks_in (entries above)) w → (lock : LockName) × (plain : Bool) × (get above w.block ≡ Some (Put lock plain w.bytes))) where
   put_at : (w : Written) → Contains ws w → (lock : LockName) × (plain : Bool) × (get fates w.block ≡ Some (Put lock plain w.bytes))
   put_at w there = told fates w (subst (λ xs. Contains xs w) has.written there)
@@ -76,67 +96,74 @@ module _ (v : Seen) (fates : FinMap nat_cmp Fate) (ws : List Written) (dir : ℕ
   whole_put w there =
       let put = put_at w there in
       elim (some_or_not (g.cell w.block)) [
-        | inr none ↦ absurd (none_is (get fates w.block) (Put put.0 put.1 w.bytes) (kept w.block (has.inserts.takes.drafted.others w.block none)) put.2)
-        | inl some ↦ elim (has.inserts.takes.drafted.own w.block some) [
+        | inr none ↦ absurd (none_is (get fates w.block) (Put put.0 put.1 w.bytes) (kept w.block (has.takes.drafted.others w.block none)) put.2)
+        | inl some ↦ elim (has.takes.drafted.own w.block some) [
           | inl same ↦ absurd (none_is (get fates w.block) (Put put.0 put.1 w.bytes) (kept w.block same.0) put.2)
           | inr is ↦
               let bytes : w.bytes ≡ bytes_at g w.block = same_bytes put.0 (inode_lock g.own) put.1 false w.bytes (bytes_at g w.block) (sym put.2 ∙ is) in
               let part = part_of (g.cell w.block) some in
-              ap length bytes ∙ has.inserts.sound.inode.whole w.block part.0 part.1 ∙ has.shown.inode.size
+              ap length bytes ∙ has.sound.inode.whole w.block part.0 part.1 ∙ has.shown.inode.size
         ]
       ]
 
   -- and one that may change
-  pub inside_put : h.own ≡ dir → IsSound h → PartsAreLed → ((place x : ℕ) → IsInChain h (index_for h name) place x → HasDataBlock v x) → (HasNoRoom h name → HasOneLeafFor h name → SeesInside v h)
-      → (w : Written) → Contains ws w → MayChange v dir has.inserts.taken w.block
-  inside_put own sound led leaves tree w there = elim (has.inserts.takes.changes w.block) [
+  pub inside_put : ((b : ℕ) → IsOne b → MayChange v dir taken b) → (w : Written) → Contains ws w → MayChange v dir taken w.block
+  inside_put each w there = elim (has.takes.changes w.block) [
     | inl same ↦
         let put = put_at w there in
         absurd (none_is (get fates w.block) (Put put.0 put.1 w.bytes) (kept w.block same) put.2)
-    | inr done ↦ by w.block done
+    | inr done ↦ each w.block done
   ]
-    where
-      by : (b : ℕ) → IsInsertedAt h name has.inserts.taken b → MayChange v dir has.inserts.taken b
-      by b (its_dinode is) = the_dinode (is ∙ own)
-      by b (a_leaf_with_room place chain full room_there) = a_data_block (leaves place b chain)
-      by b (a_full_leaf place full chain) = a_data_block (leaves place b chain)
-      by b (one_taken came) = a_taken_one came
-      by b (of_table above k level first full one part) = a_data_block ((tree full one).below b (led h b above k level first sound.inode sound.placed.nobody part))
 
-  -- in the draft below it is the same insertion
+  -- in the draft below the same blocks are taken, and nothing is done to others
   module _ (old : FinMap nat_cmp Fate) (over : (below above : FinMap nat_cmp Fate) (lock : LockName) (b : ℕ) → get (with_blocks lock (blocks_in (entries above)) below) b ≡ fate_over lock (get above b) (get below b)) where
-    abbrev pub new : FinMap nat_cmp Fate
-    new = with_blocks (inode_lock dir) ws old
-
     fate : (b : ℕ) → get (with_blocks (inode_lock dir) ws old) b ≡ fate_over (inode_lock dir) (get fates b) (get old b)
     fate b = ap (λ xs. get (with_blocks (inode_lock dir) xs old) b) has.written ∙ over old fates (inode_lock dir) b
 
     fate_kept : (b : ℕ) → get fates b ≡ get nothing_put b → get (with_blocks (inode_lock dir) ws old) b ≡ get old b
     fate_kept b same = fate b ∙ ap (λ o. fate_over (inode_lock dir) o (get old b)) (kept b same)
 
-    drafted : DraftsDirectory old new h g
-    drafted = record {
-      own = λ b there. elim (has.inserts.takes.drafted.own b there) [
-        | inl same ↦ inl (fate_kept b same.0, same.1)
-        | inr put ↦ inr (fate b ∙ ap (λ o. fate_over (inode_lock dir) o (get old b)) put ∙ ap (λ a. Some (Put (inode_lock a) false (bytes_at g b))) (sym has.shown.inode.own))
+    pub takes_over : Takes old (with_blocks (inode_lock dir) ws old) room left taken IsOne h g
+    takes_over = record {
+      front = has.takes.front;
+      has = has.takes.has;
+      drafted = record {
+        own = λ b there. elim (has.takes.drafted.own b there) [
+          | inl same ↦ inl (fate_kept b same.0, same.1)
+          | inr put ↦ inr (fate b ∙ ap (λ o. fate_over (inode_lock dir) o (get old b)) put ∙ ap (λ a. Some (Put (inode_lock a) false (bytes_at g b))) (sym has.shown.inode.own))
+        ];
+        others = λ b none. fate_kept b (has.takes.drafted.others b none);
+      };
+      changes = λ b. elim (has.takes.changes b) [
+        | inl same ↦ inl (fate_kept b same)
+        | inr done ↦ inr done
       ];
-      others = λ b none. fate_kept b (has.inserts.takes.drafted.others b none);
     }
 
-    pub inserts_over : Inserts old (with_blocks (inode_lock dir) ws old) room left need name e h g
-    inserts_over = record {
-      taken = has.inserts.taken;
-      few = has.inserts.few;
-      takes = record {
-        front = has.inserts.takes.front;
-        has = has.inserts.takes.has;
-        drafted = drafted;
-        changes = λ b. elim (has.inserts.takes.changes b) [
-          | inl same ↦ inl (fate_kept b same)
-          | inr done ↦ inr done
-        ];
-      };
-      inserted = has.inserts.inserted;
-      exchanged = has.inserts.exchanged;
-      sound = has.inserts.sound;
-    }
+-- ---- an insertion
+
+-- a block to which an insertion does something may change
+pub may_insert : (v : Seen) (dir : ℕ) (h : Holding) (name taken : List ℕ) → h.own ≡ dir → IsSound h → PartsAreLed → ((place x : ℕ) → IsInChain h (index_for h name) place x → HasDataBlock v x)
+    → (HasNoRoom h name → HasOneLeafFor h name → SeesInside v h) → (b : ℕ) → IsInsertedAt h name taken b → MayChange v dir taken b
+may_insert v dir h name taken own sound led leaves tree b (ins.IsInsertedAt.its_dinode is) = the_dinode (is ∙ own)
+may_insert v dir h name taken own sound led leaves tree b (a_leaf_with_room place chain full room_there) = a_data_block (leaves place b chain)
+may_insert v dir h name taken own sound led leaves tree b (a_full_leaf place full chain) = a_data_block (leaves place b chain)
+may_insert v dir h name taken own sound led leaves tree b (one_taken came) = a_taken_one came
+may_insert v dir h name taken own sound led leaves tree b (ins.IsInsertedAt.of_table above k level first full one part) = a_data_block ((tree full one).below b (led h b above k level first sound.inode sound.placed.nobody part))
+
+pub put_of : (v : Seen) (fates : FinMap nat_cmp Fate) (ws : List Written) (dir : ℕ) (room left : List ℕ) (need : ℕ) (name : List ℕ) (e : Entry) (h g : Holding) → (has : HasInserted v fates ws dir room left need name e h g)
+    → HasPut v fates ws dir room left has.inserts.taken (IsInsertedAt h name has.inserts.taken) h g
+put_of v fates ws dir room left need name e h g has = record { written = has.written; shown = has.shown; sound = has.inserts.sound; takes = has.inserts.takes }
+
+-- the insertion that it is once other fates do the same to its blocks
+pub inserts_with : (old new old' new' : FinMap nat_cmp Fate) (room left : List ℕ) (need : ℕ) (name : List ℕ) (e : Entry) (h g : Holding) (ins : Inserts old new room left need name e h g) → Takes old' new' room left ins.taken (IsInsertedAt h name ins.taken) h g
+    → Inserts old' new' room left need name e h g
+inserts_with old new old' new' room left need name e h g ins takes = record { taken = ins.taken; few = ins.few; takes = takes; inserted = ins.inserted; exchanged = ins.exchanged; sound = ins.sound }
+
+-- ---- a split
+
+pub may_split : (v : Seen) (dir : ℕ) (h : Holding) (i block : ℕ) → h.own ≡ dir → IsSound h → PartsAreLed → i < table_count h → HasDataBlock v (entry h i) → SeesInside v h → HasOneLeaf h i → (b : ℕ) → IsSplitAt h i block b → MayChange v dir (block ∷ []) b
+may_split v dir h i block own sound led low leaf tree one b (ins.IsSplitAt.its_dinode is) = the_dinode (is ∙ own)
+may_split v dir h i block own sound led low leaf tree one b (the_leaf chain) = a_data_block (subst (HasDataBlock v) (sym (only_head h i one 0 b chain)) leaf)
+may_split v dir h i block own sound led low leaf tree one b (the_new_one is) = a_taken_one (subst (Contains (block ∷ [])) (sym is) (0, omega arith, refl))
+may_split v dir h i block own sound led low leaf tree one b (ins.IsSplitAt.of_table above k level first part) = a_data_block (tree.below b (led h b above k level first sound.inode sound.placed.nobody part))

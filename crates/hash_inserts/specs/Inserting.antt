@@ -1,8 +1,9 @@
 -- How a name comes into a hashed directory.
-use Rattle.std.specs.Prelude.{ℕ, ◌≡◌, ◌⊎◌, ◌+◌, ◌*◌, ◌^◌, ◌<◌, ◌≤◌, true, List, [], ◌∷◌, ◌++◌, length, Contains, Some}
+use Rattle.std.specs.Prelude.{ℕ, ◌≡◌, ◌⊎◌, ◌+◌, ◌*◌, ◌^◌, ◌<◌, ◌≤◌, true, false, List, [], ◌∷◌, ◌++◌, length, Contains, Some}
 use Rattle.std.specs.FinMap.{FinMap, get}
 use Rattle.std.specs.Ordering.{nat_cmp}
 use Rattle.drafts.specs.declared.fate.Fate.{Fate}
+use Rattle.drafts.specs.declared.fate.Fate.TheVariants.{Put}
 use Rattle.gfs2_layout.specs.Area.{slots_of}
 use Rattle.gfs2_layout.specs.Holding.{Holding, Pointed, bytes_at, part_at}
 use Rattle.gfs2_layout.specs.Inode.{depth_in, dinode_in, leaf_area, table_count}
@@ -11,7 +12,7 @@ use Rattle.glock_names.specs.declared.steps.Entry.{Entry}
 use Rattle.glock_names.specs.declared.steps.Missing.{Missing}
 use Rattle.dinode_tree.specs.Below.{AnyIndex, IsLedFrom}
 use Rattle.dinode_tree.specs.Pads.{KeepsPads}
-use Rattle.dinode_tree.specs.Reading.{IsNeeded}
+use Rattle.dinode_tree.specs.Reading.{IsNeeded, inode_lock}
 use Rattle.growth_drafts.specs.Taken.{HasTaken}
 use Rattle.linear_dirs.specs.Exchanges.{HasExchanged}
 use Rattle.linear_dirs.specs.Shown.{record_for}
@@ -96,11 +97,15 @@ pub data MayChange (v : Seen) (dir : ℕ) (taken : List ℕ) (b : ℕ) : Type 0 
   a_taken_one : Contains taken b → MayChange v dir taken b
   a_data_block : HasDataBlock v b → MayChange v dir taken b
 
--- nothing becomes of any other block, and what is taken is the front of the room
+-- the block is put under the lock of the directory in block dir, and isn't plain
+abbrev pub IsPutUnder : FinMap nat_cmp Fate → ℕ → ℕ → Type 0
+IsPutUnder fates dir b = (bytes : List ℕ) × (get fates b ≡ Some (Put (inode_lock dir) false bytes))
+
+-- each that changes is put under the directory's lock, nothing becomes of any other block, and what is taken is the front of the room
 pub record StaysInside (v : Seen) (old new : FinMap nat_cmp Fate) (room left : List ℕ) (dir : ℕ) : Type 0 where
   pub taken : List ℕ
   pub front : room ≡ taken ++ left
-  pub changes : (b : ℕ) → (get new b ≡ get old b) ⊎ MayChange v dir taken b
+  pub changes : (b : ℕ) → (get new b ≡ get old b) ⊎ (MayChange v dir taken b × IsPutUnder new dir b)
 
 -- a block to which a split does something: the dinode's, the leaf's, the new leaf's, and those with pointers to it
 pub data IsSplitAt (h : Holding) (i taken b : ℕ) : Type 0 where
@@ -121,11 +126,12 @@ pub record Converts (old new : FinMap nat_cmp Fate) (room left : List ℕ) (h g 
   pub converted : IsConverted h g block
   pub stays : Stays h g
 
--- Whatever the directory is: one block was taken from the front of the room, and nothing becomes of any block but the dinode's and that one.
+-- Whatever the directory is: one block was taken from the front of the room, and nothing becomes of any block but the dinode's and that one, which are put
+-- under its lock.
 pub record ConvertsWithin (old new : FinMap nat_cmp Fate) (room left : List ℕ) (h : Holding) : Type 0 where
   pub block : ℕ
   pub front : room ≡ block ∷ left
-  pub changes : (b : ℕ) → (get new b ≡ get old b) ⊎ ((b ≡ h.own) ⊎ (b ≡ block))
+  pub changes : (b : ℕ) → (get new b ≡ get old b) ⊎ (((b ≡ h.own) ⊎ (b ≡ block)) × IsPutUnder new h.own b)
 
 -- ---- what is asked for
 

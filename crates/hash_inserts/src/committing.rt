@@ -1,5 +1,5 @@
 // Blocks of an insertion that are put into a draft, where each is one that may change.
-ghost use Rattle.std.specs.Prelude.{ℕ, List, ◌≡◌, ◌↔◌, ◌++◌, ◌≤◌, true, Contains, IfOk, IsTrue, OnOk, length};
+ghost use Rattle.std.specs.Prelude.{ℕ, List, ◌≡◌, ◌↔◌, ◌++◌, ◌≤◌, true, false, Contains, IfOk, IsTrue, OnOk, length};
 ghost use Rattle.drafts.specs.Fates.{seen_in};
 ghost use Rattle.drafts.specs.declared.change.Written.{Written};
 ghost use Rattle.dinode_tree.specs.Reading.{inode_lock};
@@ -71,6 +71,7 @@ pub(crate) fn commit<V: View>(
     ensures inside { IfOk result (λ done. done ≡ true → StaysInside (seen_in V.seen draft.old) draft.old.fates draft.new.fates room.old.items room.new.items dir) }
     ensures all { (taken rest : List ℕ) → room.old.items ≡ taken ++ rest → length rest ≡ left → ((w : Written) → Contains blocks.now w → MayChange (seen_in V.seen draft.old) dir taken w.block)
         → IfOk result (λ done. (done ≡ true) × (room.new.items ≡ rest)) }
+    ensures undone { IfOk result (λ done. done ≡ false → draft.new ≡ draft.old) }
     ensures view { draft.new.view ≡ draft.old.view }
 {
     puts_are_seen_alike();

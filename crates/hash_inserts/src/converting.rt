@@ -20,7 +20,7 @@ ghost use Rattle.linear_dirs.specs.Shown.{IsLinearIn};
 ghost use Rattle.hash_dirs.specs.Shown.{IsShown, IsSound};
 ghost use Rattle.hash_steps.specs.Steps.{first_count};
 ghost use Rattle.hash_inserts.specs.Converting.{AreConverted, CanConvert, IsFirstLeaf, IsTableWritten, hashed_dinode};
-ghost use Rattle.hash_inserts.specs.Inserting.{Converts, ConvertsWithin};
+ghost use Rattle.hash_inserts.specs.Inserting.{Converts, ConvertsWithin, IsPutUnder};
 
 use dinode_tree::sound_inodes_are_shown;
 use drafts::Draft;
@@ -147,7 +147,8 @@ fn convert_in<V: View>(
     ensures put { (bytes : List ℕ) → (seen_in V.seen draft.old).block_at dir ≡ Some bytes → CanConvert bytes → IfOk result (λ done. (done ≡ true)
         × ((table new : List ℕ) × AreConverted bytes table new leaf
         × (draft.new ≡ record draft.old { fates = with_fate (with_fate draft.old.fates leaf (Put (inode_lock dir) false new)) dir (Put (inode_lock dir) false table) }))) }
-    ensures inside { IfOk result (λ done. (b : ℕ) → (fate_of draft.new.fates b ≡ fate_of draft.old.fates b) ⊎ ((b ≡ dir) ⊎ (b ≡ leaf))) }
+    ensures undone { IfOk result (λ done. done ≡ false → draft.new ≡ draft.old) }
+    ensures inside { IfOk result (λ done. (b : ℕ) → (fate_of draft.new.fates b ≡ fate_of draft.old.fates b) ⊎ (((b ≡ dir) ⊎ (b ≡ leaf)) × IsPutUnder draft.new.fates dir b)) }
     ensures view { draft.new.view ≡ draft.old.view }
 {
     let _size = draft.block_size();
@@ -165,7 +166,7 @@ fn convert_in<V: View>(
 
 /// Makes the linear directory with its dinode in this block a hashed one: all its records go into one leaf of depth 0, the block at the
 /// front of `room`, in order, and the table of the first size, behind the dinode, leads to it. The answer is whether that was done: `false`
-/// where the room is empty or the directory isn't sound; then the room may be a block shorter, and is to be dropped with the draft. It looks
+/// where the room is empty or the directory isn't sound; then the draft is as it was, but the room may be a block shorter. It looks
 /// at what a linear directory's `look` looks at before it changes anything. It costs a step for each record and each pointer, and three
 /// copies of a block.
 pub fn to_hashed<V: View>(
@@ -179,6 +180,7 @@ pub fn to_hashed<V: View>(
         → IfIs result (λ done. (done ≡ true) × ((g : Holding) × IsShown (seen_in V.seen draft.new) dir g
         × ((is : Converts draft.old.fates draft.new.fates room.old.items room.new.items h g) × HasBlock (seen_in V.seen draft.new) h.own × HasBlock (seen_in V.seen draft.new) is.block))) }
     ensures inside { (h : Holding) → inode.IsShown (seen_in V.seen draft.old) dir h → IfIs result (λ done. done ≡ true → ConvertsWithin draft.old.fates draft.new.fates room.old.items room.new.items h) }
+    ensures undone { IfIs result (λ done. done ≡ false → draft.new ≡ draft.old) }
     ensures needed { IfNeedBlock result (λ missing. missing ≡ missing_dinode dir) }
     ensures absent { IfNeedBlock result (λ missing. (seen_in V.seen draft.old).block_at dir ≡ None) }
     ensures waits { IfNeedBlock result (λ missing. (draft.new ≡ draft.old) × (room.new.items ≡ room.old.items)) }

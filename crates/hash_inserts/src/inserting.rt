@@ -1,5 +1,5 @@
 // A name put into a hashed directory in a draft.
-ghost use Rattle.std.specs.Prelude.{ℕ, List, ◌≡◌, ◌≢◌, ◌+◌, ◌*◌, ◌^◌, ◌<◌, ◌≤◌, true, None, Contains, IfOk, IfSome, IsSomeAnd, length};
+ghost use Rattle.std.specs.Prelude.{ℕ, List, ◌≡◌, ◌≢◌, ◌+◌, ◌*◌, ◌^◌, ◌<◌, ◌≤◌, true, false, None, Contains, IfOk, IfSome, IsSomeAnd, length};
 ghost use Rattle.std.specs.FinMap.{FinMap};
 ghost use Rattle.std.specs.Ordering.{nat_cmp};
 ghost use Rattle.drafts.specs.Fates.{seen_in, seen_with};
@@ -336,6 +336,7 @@ fn insert_whole<V: View, T: PointerTableMut>(
         → IfOk result (λ done. (done ≡ true) × ((g : Holding) × IsShown (seen_in V.seen draft.new) dir g × T.shows table.new (seen_in V.seen draft.new) g
         × Inserts draft.old.fates draft.new.fates room.old.items room.new.items need name.now entry h g)) }
     ensures inside { IfOk result (λ done. done ≡ true → StaysInside (seen_in V.seen draft.old) draft.old.fates draft.new.fates room.old.items room.new.items dir) }
+    ensures undone { IfOk result (λ done. done ≡ false → draft.new ≡ draft.old) }
     ensures view { draft.new.view ≡ draft.old.view }
 {
     puts_are_seen_alike();
@@ -373,6 +374,7 @@ pub fn insert<V: View, T: PointerTableMut>(
         → IfIs result (λ done. (done ≡ true) × ((g : Holding) × IsShown (seen_in V.seen draft.new) dir g × T.shows table.new (seen_in V.seen draft.new) g
         × Inserts draft.old.fates draft.new.fates room.old.items room.new.items need name.now entry h g)) }
     ensures inside { IfIs result (λ done. done ≡ true → StaysInside (seen_in V.seen draft.old) draft.old.fates draft.new.fates room.old.items room.new.items dir) }
+    ensures undone { IfIs result (λ done. done ≡ false → draft.new ≡ draft.old) }
     ensures needed { (h : Holding) → IsShown (seen_in V.seen draft.old) dir h → T.shows table.old (seen_in V.seen draft.old) h
         → IfNeedBlock result (IsNeededToInsert (seen_in V.seen draft.old) h name.now) }
     ensures absent { IfNeedBlock result (λ missing. (seen_in V.seen draft.old).block_at missing.block ≡ None) }
@@ -429,6 +431,7 @@ pub fn insert_first<V: View, T: PointerTableMut>(
         → IfOk result (λ done. (done ≡ true) × ((g : Holding) × IsShown (seen_in V.seen draft.new) dir g × T.shows table.new (seen_in V.seen draft.new) g
         × Inserts draft.old.fates draft.new.fates room.old.items room.new.items need name.now entry h g)) }
     ensures inside { IfOk result (λ done. done ≡ true → StaysInside (seen_in V.seen draft.old) draft.old.fates draft.new.fates room.old.items room.new.items dir) }
+    ensures undone { IfOk result (λ done. done ≡ false → draft.new ≡ draft.old) }
     ensures view { draft.new.view ≡ draft.old.view }
 {
     sound_pointers_are_parts();

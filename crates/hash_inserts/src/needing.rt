@@ -1,5 +1,5 @@
 // How many blocks a name takes that comes into a hashed directory.
-ghost use Rattle.std.specs.Prelude.{ℕ, ◌≡◌, ◌≤◌, None, length};
+ghost use Rattle.std.specs.Prelude.{ℕ, ◌≡◌, ◌^◌, ◌<◌, ◌≤◌, None, length};
 ghost use Rattle.crc_words.specs.Remainder.{crc32_of};
 ghost use Rattle.gfs2_layout.specs.Holding.{Holding};
 ghost use Rattle.gfs2_layout.specs.Inode.{depth_in};
@@ -36,6 +36,7 @@ fn need_of_one<V: View>(
     requires from { HasBlock (V.seen view.now) head.now.from }
     ensures need { (h : Holding) → IsShown (V.seen view.now) dir h → IsSound h → depth ≡ depth_in h → IsHead h (index_for h name.now) head.now → HasOneLeafFor h name.now → IfIs result (TakesBlocks h name.now) }
     ensures seen { (h : Holding) → IsShown (V.seen view.now) dir h → IfIs result (λ n. SeesTree (V.seen view.now) h) }
+    ensures most { IfIs result (λ n. n < 2 ^ 42) }
     ensures needed { (h : Holding) → IsShown (V.seen view.now) dir h → IsHead h (index_for h name.now) head.now → HasNoRoom h name.now → HasOneLeafFor h name.now
         → IfNeedBlock result (IsNeededToInsert (V.seen view.now) h name.now) }
     ensures absent { IfNeedBlock result (λ missing. (V.seen view.now).block_at missing.block ≡ None) }
@@ -74,6 +75,7 @@ pub fn need_insert<V: View, T: PointerTable>(
     requires some { 1 ≤ length name.now }
     requires short { length name.now ≤ 255 }
     ensures need { (h : Holding) → IsShown (V.seen view.now) dir h → T.shows table.now (V.seen view.now) h → IsSound h → IfIs result (TakesBlocks h name.now) }
+    ensures most { IfIs result (λ n. n < 2 ^ 42) }
     ensures seen { (h : Holding) → IsShown (V.seen view.now) dir h → T.shows table.now (V.seen view.now) h → IfIs result (λ n. SeesToInsert (V.seen view.now) h name.now) }
     ensures needed { (h : Holding) → IsShown (V.seen view.now) dir h → T.shows table.now (V.seen view.now) h → IfNeedBlock result (IsNeededToInsert (V.seen view.now) h name.now) }
     ensures absent { IfNeedBlock result (λ missing. (V.seen view.now).block_at missing.block ≡ None) }

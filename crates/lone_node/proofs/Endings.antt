@@ -3,9 +3,9 @@ use Rattle.std.proofs.Common.{◌≡◌, ℕ, Option, sym, subst}
 use Rattle.file_tree.specs.declared.call.Call.{Call}
 use Rattle.shared_disk.specs.Disk.{DiskState}
 use Rattle.lone_view.specs.Seeing.{Lone, seen_alone}
-use Rattle.lone_node.specs.Answering.{IsDamagedFor, IsDamagedOn, IsFailedAt, IsHashedOn, IsUnbuiltOn}
+use Rattle.lone_node.specs.Answering.{IsDamagedFor, IsDamagedOn, IsFailedAt, IsUnbuiltOn}
 use Rattle.lone_node.specs.Course.{IsLaterView, Moment}
-use Rattle.lone_node.specs.Ends.{IfDamaged, IfDiskFailed, IfHashed, IfNotBuilt, UnlessFailed}
+use Rattle.lone_node.specs.Ends.{IfDamaged, IfDiskFailed, IfNotBuilt, UnlessFailed}
 use Rattle.lone_node.specs.declared.ends.RunEnd.{RunEnd}
 use Rattle.lone_node.specs.declared.ends.RunEnd.TheVariants as end
 use Rattle.lone_node.specs.Standing.{IsOn, IsSameSystem}
@@ -15,9 +15,6 @@ use Rattle.lone_node.proofs.Leaving.{same_on}
 
 later_before : (d d' : DiskState) (first n view : Lone) → d' ≡ d → IsSameSystem first n → IsLaterView d n view → IsLaterView d' first view
 later_before d d' first n view still same is = record { same = same_on same is.same; on = subst (λ (e : DiskState). IsOn e view) (sym still) is.on }
-
-pub hashed_before : (d d' : DiskState) (first n : Lone) (call : Call) (b : ℕ) → d' ≡ d → IsSameSystem first n → IsHashedOn d n call b → IsHashedOn d' first call b
-hashed_before d d' first n call b still same is = record { view = is.view; later = later_before d d' first n is.view still same is.later; hashed = is.hashed }
 
 pub unbuilt_before : (d d' : DiskState) (first n : Lone) (call : Call) → d' ≡ d → IsSameSystem first n → IsUnbuiltOn d n call → IsUnbuiltOn d' first call
 unbuilt_before d d' first n call still same is = record { view = is.view; later = later_before d d' first n is.view still same is.later; unbuilt = is.unbuilt }
@@ -39,28 +36,18 @@ failed_before before after first n time call block same is = record { view = is.
 pub failed_so : (e : RunEnd) (P Q : Option ℕ → Type 0) → ((block : Option ℕ) → P block → Q block) → IfDiskFailed e P → IfDiskFailed e Q
 failed_so (end.DiskFailed block rise) P Q f is = f block is
 failed_so (end.Damaged block rule) P Q f is = tt
-failed_so (end.Hashed block) P Q f is = tt
 failed_so (end.NotBuilt line) P Q f is = tt
 failed_so end.NoMemory P Q f is = tt
 
 pub damaged_so : (e : RunEnd) (P Q : ℕ → ℕ → Type 0) → ((b rule : ℕ) → P b rule → Q b rule) → IfDamaged e P → IfDamaged e Q
 damaged_so (end.DiskFailed block rise) P Q f is = tt
 damaged_so (end.Damaged block rule) P Q f is = f block rule is
-damaged_so (end.Hashed block) P Q f is = tt
 damaged_so (end.NotBuilt line) P Q f is = tt
 damaged_so end.NoMemory P Q f is = tt
-
-pub hashed_so : (e : RunEnd) (P Q : ℕ → Type 0) → ((b : ℕ) → P b → Q b) → IfHashed e P → IfHashed e Q
-hashed_so (end.DiskFailed block rise) P Q f is = tt
-hashed_so (end.Damaged block rule) P Q f is = tt
-hashed_so (end.Hashed block) P Q f is = f block is
-hashed_so (end.NotBuilt line) P Q f is = tt
-hashed_so end.NoMemory P Q f is = tt
 
 pub unbuilt_so : (e : RunEnd) (P Q : ℕ → Type 0) → ((line : ℕ) → P line → Q line) → IfNotBuilt e P → IfNotBuilt e Q
 unbuilt_so (end.DiskFailed block rise) P Q f is = tt
 unbuilt_so (end.Damaged block rule) P Q f is = tt
-unbuilt_so (end.Hashed block) P Q f is = tt
 unbuilt_so (end.NotBuilt line) P Q f is = f line is
 unbuilt_so end.NoMemory P Q f is = tt
 
@@ -69,27 +56,17 @@ unbuilt_so end.NoMemory P Q f is = tt
 pub unless_so : (e : RunEnd) {P Q : Type 0} → (P → Q) → UnlessFailed e P → UnlessFailed e Q
 unless_so (end.DiskFailed block rise) f is = tt
 unless_so (end.Damaged block rule) f is = f is
-unless_so (end.Hashed block) f is = f is
 unless_so (end.NotBuilt line) f is = f is
 unless_so end.NoMemory f is = f is
 
 pub damaged_with : (e : RunEnd) {S : Type 0} (P Q : ℕ → ℕ → Type 0) → (S → (b rule : ℕ) → P b rule → Q b rule) → UnlessFailed e S → IfDamaged e P → IfDamaged e Q
 damaged_with (end.DiskFailed block rise) P Q f s is = tt
 damaged_with (end.Damaged block rule) P Q f s is = f s block rule is
-damaged_with (end.Hashed block) P Q f s is = tt
 damaged_with (end.NotBuilt line) P Q f s is = tt
 damaged_with end.NoMemory P Q f s is = tt
-
-pub hashed_with : (e : RunEnd) {S : Type 0} (P Q : ℕ → Type 0) → (S → (b : ℕ) → P b → Q b) → UnlessFailed e S → IfHashed e P → IfHashed e Q
-hashed_with (end.DiskFailed block rise) P Q f s is = tt
-hashed_with (end.Damaged block rule) P Q f s is = tt
-hashed_with (end.Hashed block) P Q f s is = f s block is
-hashed_with (end.NotBuilt line) P Q f s is = tt
-hashed_with end.NoMemory P Q f s is = tt
 
 pub unbuilt_with : (e : RunEnd) {S : Type 0} (P Q : ℕ → Type 0) → (S → (line : ℕ) → P line → Q line) → UnlessFailed e S → IfNotBuilt e P → IfNotBuilt e Q
 unbuilt_with (end.DiskFailed block rise) P Q f s is = tt
 unbuilt_with (end.Damaged block rule) P Q f s is = tt
-unbuilt_with (end.Hashed block) P Q f s is = tt
 unbuilt_with (end.NotBuilt line) P Q f s is = f s line is
 unbuilt_with end.NoMemory P Q f s is = tt

@@ -11,7 +11,7 @@ use Rattle.glock_names.specs.Views.{Seen, HasBlock}
 use Rattle.glock_names.specs.declared.steps.Missing.{Missing}
 use Rattle.drafts.specs.declared.change.Change.{Change}
 use Rattle.shared_disk.specs.Disk.{DiskState}
-use Rattle.file_calls.specs.Calls.{IsDamage, IsHashed, IsNeededFor, IsUnbuilt}
+use Rattle.file_calls.specs.Calls.{IsDamage, IsNeededFor, IsUnbuilt}
 use Rattle.lone_view.specs.Seeing.{Lone, seen_alone}
 use Rattle.lone_node.specs.Course.{HasStopped, IsDoneBy, IsLaterView, Moment}
 use Rattle.lone_node.specs.declared.answering.Full.{Full}
@@ -36,17 +36,11 @@ pub record IsToldFull (reply : Reply) (full : Option Full) : Type 0 where
 
 -- ---- why a call isn't answered
 
--- it can't be answered yet for the hashed directory in this block
-pub record IsHashedOn (d : DiskState) (n : Lone) (call : Call) (b : ℕ) : Type 0 where
-  pub view : Lone
-  pub later : IsLaterView d n view
-  pub hashed : IsHashed (seen_alone view) call b
-
--- what it has to do isn't built yet
+-- it isn't built for what stands there
 pub record IsUnbuiltOn (d : DiskState) (n : Lone) (call : Call) : Type 0 where
   pub view : Lone
   pub later : IsLaterView d n view
-  pub unbuilt : IsUnbuilt (seen_alone view) call
+  pub unbuilt : IsUnbuilt (seen_alone view) call 1
 
 -- the block that has the number of a missing one: the superblock's has that of the root, which is asked for by itself
 abbrev pub source_of : ℕ → Missing → ℕ

@@ -26,11 +26,6 @@ abbrev pub IfDamaged : RunEnd → (ℕ → ℕ → Type 0) → Type 0
 IfDamaged (end.Damaged block rule) P = P block rule
 IfDamaged e P = ⊤
 
--- a fact for the end at a hashed directory, of its block
-abbrev pub IfHashed : RunEnd → (ℕ → Type 0) → Type 0
-IfHashed (end.Hashed block) P = P block
-IfHashed e P = ⊤
-
 -- a fact for the end at a call that isn't built, of its line's place
 abbrev pub IfNotBuilt : RunEnd → (ℕ → Type 0) → Type 0
 IfNotBuilt (end.NotBuilt line) P = P line

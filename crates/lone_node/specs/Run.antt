@@ -4,7 +4,6 @@ use Rattle.std.specs.List.{AllByRecursion, filter}
 use Rattle.file_tree.specs.Tree.{Tree}
 use Rattle.file_tree.specs.declared.call.Call.{Call}
 use Rattle.file_tree.specs.declared.reply.Reply.{Reply}
-use Rattle.file_calls.specs.Calls.{IsUnbuiltName}
 use Rattle.cluster_history.specs.Changes.{Changes}
 use Rattle.cluster_history.specs.History.{Replied, AllAnswer, alive, tree_of}
 use Rattle.run_rules.specs.Follows.{history_of}
@@ -59,10 +58,6 @@ pub record EndsAt (place : ℕ) (P : Call → Type 0) (clients : List Client) (l
 pub record EndsAtCall (P : Call → Type 0) (clients : List Client) (lines : List Line) (items : List TraceItem) (IsStart : Tree → Type 0) : Type 0 where
   pub count : ℕ
   pub ends : EndsAt count P clients lines items IsStart
-
--- behind these items each tree, from each with which the run may have begun, would take the call, which makes a name: nothing else isn't built
-abbrev pub IsUnbuiltBehind : List Client → List TraceItem → (Tree → Type 0) → Call → Type 0
-IsUnbuiltBehind clients items IsStart call = (t : Tree) → IsStart t → IsUnbuiltName (tree_of (history_of clients items) t) call
 
 -- no call among these items has changed the tree
 abbrev pub HasChangedNothing : List Client → List TraceItem → Type 0

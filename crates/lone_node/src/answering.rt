@@ -4,11 +4,11 @@ ghost use Rattle.file_tree.specs.Tree.{Tree};
 ghost use Rattle.cluster_history.specs.Changes.{Changes};
 ghost use Rattle.gfs2_layout.specs.Device.{IsBlockSize};
 ghost use Rattle.shared_disk.specs.Disk.{Gains, IsIdle, Operation};
-ghost use Rattle.file_calls.specs.Calls.{IsBuilt, IsHashed, IsUnbuilt, IsUnbuiltName};
+ghost use Rattle.file_calls.specs.Calls.{IsBuilt, IsUnbuilt};
 ghost use Rattle.lone_view.specs.Seeing.{seen_alone};
-ghost use Rattle.lone_node.specs.Answering.{IsAnsweredFrom, IsDamagedFor, IsDamagedOn, IsFailedAt, IsFailedFor, IsHashedOn, IsSameDisk, IsToldFull, IsUnbuiltOn};
+ghost use Rattle.lone_node.specs.Answering.{IsAnsweredFrom, IsDamagedFor, IsDamagedOn, IsFailedAt, IsFailedFor, IsSameDisk, IsToldFull, IsUnbuiltOn};
 ghost use Rattle.lone_node.specs.Course.{AreBrought, HasStopped, IsStep, moment};
-ghost use Rattle.lone_node.specs.Ends.{HasCause, IfDamaged, IfDiskFailed, IfHashed, IfNotBuilt, UnlessFailed, end_at};
+ghost use Rattle.lone_node.specs.Ends.{HasCause, IfDamaged, IfDiskFailed, IfNotBuilt, UnlessFailed, end_at};
 ghost use Rattle.lone_node.specs.Standing.{IsOn, IsSameSystem, StandsFor, lacked_count};
 ghost use Rattle.lone_node.specs.Writing.{AreOfDisk, AreWritten, with_blocks};
 
@@ -63,7 +63,6 @@ fn carry_out<D: SharedDisk>(
     ensures kept { OnOk result (view.new ≡ record view.old { blocks = with_blocks view.old.blocks change.now.blocks.items }) }
     ensures before { IfErr result (λ end. UnlessFailed end ((D.state disk.new ≡ D.state disk.old) × (D.list disk.new ≡ D.list disk.old))) }
     ensures stopped { IfErr result (λ end. IfDiskFailed end (HasStopped (moment (D.state disk.old) (D.list disk.old)) (moment (D.state disk.new) (D.list disk.new)) change.now.blocks.items)) }
-    ensures hashed { IfErr result (λ end. IfHashed end (λ b. ⊥)) }
     ensures built { IfErr result (λ end. IfNotBuilt end (λ line. ⊥)) }
     ensures sound { IfErr result (λ end. IfDamaged end (λ b rule. ⊥)) }
     ensures later { (i : ℕ) → D.faults disk.old i ≤ D.faults disk.new i }
@@ -103,9 +102,8 @@ fn try_once<D: SharedDisk>(
     ensures before { IfErr result (λ end. UnlessFailed end ((D.state disk.new ≡ D.state disk.old) × (D.list disk.new ≡ D.list disk.old))) }
     ensures sound { IfErr result (λ end. IfDamaged end (λ b rule. (t : Tree) → StandsFor (D.state disk.old) view.old t → ⊥)) }
     ensures damaged { IfErr result (λ end. IfDamaged end (IsDamagedFor (D.state disk.old) (seen_alone view.old) call.now)) }
-    ensures hashed { IfErr result (λ end. IfHashed end (IsHashed (seen_alone view.old) call.now)) }
-    ensures unbuilt { IfErr result (λ end. IfNotBuilt end (λ place. (place ≡ line) × IsUnbuilt (seen_alone view.old) call.now)) }
-    ensures built { IfErr result (λ end. IfNotBuilt end (λ place. (place ≡ line) × ((t : Tree) → StandsFor (D.state disk.old) view.old t → IsUnbuiltName t call.now))) }
+    ensures unbuilt { IfErr result (λ end. IfNotBuilt end (λ place. (place ≡ line) × IsUnbuilt (seen_alone view.old) call.now 1)) }
+    ensures built { IfErr result (λ end. IfNotBuilt end (λ place. (t : Tree) → StandsFor (D.state disk.old) view.old t → ⊥)) }
     ensures failed { IfErr result (λ end. IfDiskFailed end (IsFailedFor (moment (D.state disk.old) (D.list disk.old)) (moment (D.state disk.new) (D.list disk.new)) view.old stamp.now.time call.now)) }
     ensures later { (i : ℕ) → D.faults disk.old i ≤ D.faults disk.new i }
     ensures cause { IfErr result (HasCause 1 (D.state disk.old).count (D.faults disk.old) (D.faults disk.new)) }
@@ -124,9 +122,8 @@ fn try_once<D: SharedDisk>(
             reply: Reply::NoSpace,
             full: Some(Full { need, free }),
         })),
-        Ok(Attempt::Hashed { block }) => Err(RunEnd::Hashed { block }),
         Ok(Attempt::NotBuilt) => Err(RunEnd::NotBuilt { line }),
-        Ok(Attempt::NeedLock { .. }) => unreachable!(),
+        Ok(Attempt::NeedLock { .. } | Attempt::Hashed { .. }) => unreachable!(),
         Err(fault) => Err(end_of(fault)),
     }
 }
@@ -159,9 +156,8 @@ pub(crate) fn answer_call<D: SharedDisk>(
     ensures before { IfErr result (λ end. UnlessFailed end ((D.state disk.new ≡ D.state disk.old) × (D.list disk.new ≡ D.list disk.old))) }
     ensures sound { IfErr result (λ end. IfDamaged end (λ b rule. (t : Tree) → StandsFor (D.state disk.old) view.old t → ⊥)) }
     ensures damaged { IfErr result (λ end. IfDamaged end (IsDamagedOn (D.state disk.old) view.old call.now)) }
-    ensures hashed { IfErr result (λ end. IfHashed end (IsHashedOn (D.state disk.old) view.old call.now)) }
     ensures unbuilt { IfErr result (λ end. IfNotBuilt end (λ place. (place ≡ line) × IsUnbuiltOn (D.state disk.old) view.old call.now)) }
-    ensures built { IfErr result (λ end. IfNotBuilt end (λ place. (place ≡ line) × ((t : Tree) → StandsFor (D.state disk.old) view.old t → IsUnbuiltName t call.now))) }
+    ensures built { IfErr result (λ end. IfNotBuilt end (λ place. (t : Tree) → StandsFor (D.state disk.old) view.old t → ⊥)) }
     ensures failed { IfErr result (λ end. IfDiskFailed end (IsFailedAt (moment (D.state disk.old) (D.list disk.old)) (moment (D.state disk.new) (D.list disk.new)) view.old stamp.now.time call.now)) }
     ensures later { (i : ℕ) → D.faults disk.old i ≤ D.faults disk.new i }
     ensures cause { IfErr result (HasCause 1 (D.state disk.old).count (D.faults disk.old) (D.faults disk.new)) }

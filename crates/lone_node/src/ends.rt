@@ -9,9 +9,7 @@ pub enum RunEnd {
     DiskFailed { block: Option<u64>, rise: Rise },
     /// This block breaks this rule.
     Damaged { block: u64, rule: u16 },
-    /// The dinode in this block is that of a hashed directory, which isn't read yet.
-    Hashed { block: u64 },
-    /// The call of this line, by its place from 0, would be taken, and what it has to do isn't built yet.
+    /// The call of this line, by its place from 0, isn't built for what stands there.
     NotBuilt { line: usize },
     NoMemory,
 }

@@ -4,7 +4,7 @@ ghost use Rattle.std.specs.FinMap.{insert};
 ghost use Rattle.gfs2_layout.specs.Device.{IsBlockSize};
 ghost use Rattle.shared_disk.specs.Disk.{IsIdle, ReadsOnly};
 ghost use Rattle.lone_node.specs.Answering.{source_of as source_in};
-ghost use Rattle.lone_node.specs.Ends.{HasCause, IfDamaged, IfDiskFailed, IfHashed, IfNotBuilt};
+ghost use Rattle.lone_node.specs.Ends.{HasCause, IfDamaged, IfDiskFailed, IfNotBuilt};
 ghost use Rattle.lone_node.specs.Standing.{IsOn};
 
 use crate::RunEnd;
@@ -43,7 +43,6 @@ pub(crate) fn fetch<D: SharedDisk>(
     ensures inside { OnOk result (missing.now.block < (D.state disk.old).count) }
     ensures outside { IfErr result (λ end. IfDamaged end (λ b rule. ((D.state disk.old).count ≤ missing.now.block) × (b ≡ source_in (D.state disk.old).size missing.now) × (rule ≡ 2))) }
     ensures failed { IfErr result (λ end. IfDiskFailed end (λ block. block ≡ Some missing.now.block)) }
-    ensures hashed { IfErr result (λ end. IfHashed end (λ b. ⊥)) }
     ensures built { IfErr result (λ end. IfNotBuilt end (λ line. ⊥)) }
     ensures reads { ReadsOnly (D.state disk.old) (D.state disk.new) (D.list disk.old) (D.list disk.new) (D.faults disk.old) (D.faults disk.new) }
     ensures cause { IfErr result (HasCause 1 (D.state disk.old).count (D.faults disk.old) (D.faults disk.new)) }

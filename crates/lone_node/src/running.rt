@@ -8,13 +8,13 @@ ghost use Rattle.gfs2_layout.specs.Device.{IsBlockSize};
 ghost use Rattle.run_rules.specs.Follows.{history_of};
 ghost use Rattle.run_rules.specs.History.{HoldsHistory, NoneStopped, AllAnswered};
 ghost use Rattle.shared_disk.specs.Disk.{IsIdle};
-ghost use Rattle.file_calls.specs.Calls.{IsBuilt, IsUnbuiltName};
+ghost use Rattle.file_calls.specs.Calls.{IsBuilt};
 ghost use Rattle.script_lang.specs.OneNode.{IsOneNode, IsOwnLine};
-ghost use Rattle.lone_node.specs.Answering.{IsDamagedOn, IsFailedAt, IsHashedOn, IsSameDisk, IsUnbuiltOn};
+ghost use Rattle.lone_node.specs.Answering.{IsDamagedOn, IsFailedAt, IsSameDisk, IsUnbuiltOn};
 ghost use Rattle.lone_node.specs.Course.{HasTaken, IsCourse, moment};
-ghost use Rattle.lone_node.specs.Ends.{HasCause, IfDamaged, IfDiskFailed, IfHashed, IfNotBuilt, UnlessDiskFailed, UnlessFailed};
+ghost use Rattle.lone_node.specs.Ends.{HasCause, IfDamaged, IfDiskFailed, IfNotBuilt, UnlessDiskFailed, UnlessFailed};
 ghost use Rattle.lone_node.specs.Items.{full_item};
-ghost use Rattle.lone_node.specs.Run.{EndsAt, EndsAtCall, HasChangedNothing, IsFailedOn, IsRunOf, IsRunUpTo, IsTakenCall, IsUnbuiltBehind, IsWholeRun};
+ghost use Rattle.lone_node.specs.Run.{EndsAt, EndsAtCall, HasChangedNothing, IsFailedOn, IsRunOf, IsRunUpTo, IsTakenCall, IsWholeRun};
 ghost use Rattle.lone_node.specs.Standing.{IsOn, IsSameSystem, LeavesStanding, StandsFor};
 
 use crate::RunEnd;
@@ -109,9 +109,8 @@ fn take_call<D: SharedDisk>(
     ensures before { IfErr result (λ end. UnlessFailed end ((D.state disk.new ≡ D.state disk.old) × (D.list disk.new ≡ D.list disk.old))) }
     ensures sound { IfErr result (λ end. IfDamaged end (λ b rule. (t : Tree) → StandsFor (D.state disk.old) view.old t → ⊥)) }
     ensures damaged { IfErr result (λ end. IfDamaged end (IsDamagedOn (D.state disk.old) view.old call.now)) }
-    ensures hashed { IfErr result (λ end. IfHashed end (IsHashedOn (D.state disk.old) view.old call.now)) }
     ensures unbuilt { IfErr result (λ end. IfNotBuilt end (λ place. (place ≡ line) × IsUnbuiltOn (D.state disk.old) view.old call.now)) }
-    ensures built { IfErr result (λ end. IfNotBuilt end (λ place. (place ≡ line) × ((t : Tree) → StandsFor (D.state disk.old) view.old t → IsUnbuiltName t call.now))) }
+    ensures built { IfErr result (λ end. IfNotBuilt end (λ place. (t : Tree) → StandsFor (D.state disk.old) view.old t → ⊥)) }
     ensures failed { IfErr result (λ end. IfDiskFailed end (IsFailedAt (moment (D.state disk.old) (D.list disk.old)) (moment (D.state disk.new) (D.list disk.new)) view.old stamp.now.time call.now)) }
     ensures later { (i : ℕ) → D.faults disk.old i ≤ D.faults disk.new i }
     ensures cause { IfErr result (HasCause 1 (D.state disk.old).count (D.faults disk.old) (D.faults disk.new)) }
@@ -155,9 +154,8 @@ fn take_lines<D: SharedDisk>(
     ensures system { OnOk result (IsSameSystem view.old view.new) }
     ensures sound { IfErr result (λ end. IfDamaged end (λ b rule. (t : Tree) → StandsFor (D.state disk.old) view.old t → ⊥)) }
     ensures damaged { IfErr result (λ end. IfDamaged end (λ b rule. EndsAtCall (λ call. IsDamagedOn (D.state disk.new) view.old call b rule) clients.now lines.now items.new.items (StandsFor (D.state disk.old) view.old))) }
-    ensures hashed { IfErr result (λ end. IfHashed end (λ b. EndsAtCall (λ call. IsHashedOn (D.state disk.new) view.old call b) clients.now lines.now items.new.items (StandsFor (D.state disk.old) view.old))) }
     ensures unbuilt { IfErr result (λ end. IfNotBuilt end (λ line. EndsAt line (λ call. IsUnbuiltOn (D.state disk.new) view.old call) clients.now lines.now items.new.items (StandsFor (D.state disk.old) view.old))) }
-    ensures built { IfErr result (λ end. IfNotBuilt end (λ line. EndsAt line (IsUnbuiltBehind clients.now items.new.items (StandsFor (D.state disk.old) view.old)) clients.now lines.now items.new.items (StandsFor (D.state disk.old) view.old))) }
+    ensures built { IfErr result (λ end. IfNotBuilt end (λ line. (t : Tree) → StandsFor (D.state disk.old) view.old t → ⊥)) }
     ensures failed { IfErr result (λ end. IfDiskFailed end (λ block. EndsAtCall (λ call. IsFailedOn (moment (D.state disk.old) (D.list disk.old)) (moment (D.state disk.new) (D.list disk.new)) view.old stamp.now.time clients.now items.new.items call block) clients.now lines.now items.new.items (StandsFor (D.state disk.old) view.old))) }
     ensures later { (i : ℕ) → D.faults disk.old i ≤ D.faults disk.new i }
     ensures cause { IfErr result (HasCause 1 (D.state disk.old).count (D.faults disk.old) (D.faults disk.new)) }
@@ -204,9 +202,8 @@ fn run_lines<D: SharedDisk>(
     ensures system { OnOk result (IsSameSystem view.old view.new) }
     ensures sound { IfErr result (λ end. IfDamaged end (λ b rule. (t : Tree) → StandsFor (D.state disk.old) view.old t → ⊥)) }
     ensures damaged { IfErr result (λ end. IfDamaged end (λ b rule. EndsAtCall (λ call. IsDamagedOn (D.state disk.new) view.old call b rule) clients.now lines.now items.new.items (StandsFor (D.state disk.old) view.old))) }
-    ensures hashed { IfErr result (λ end. IfHashed end (λ b. EndsAtCall (λ call. IsHashedOn (D.state disk.new) view.old call b) clients.now lines.now items.new.items (StandsFor (D.state disk.old) view.old))) }
     ensures unbuilt { IfErr result (λ end. IfNotBuilt end (λ line. EndsAt line (λ call. IsUnbuiltOn (D.state disk.new) view.old call) clients.now lines.now items.new.items (StandsFor (D.state disk.old) view.old))) }
-    ensures built { IfErr result (λ end. IfNotBuilt end (λ line. EndsAt line (IsUnbuiltBehind clients.now items.new.items (StandsFor (D.state disk.old) view.old)) clients.now lines.now items.new.items (StandsFor (D.state disk.old) view.old))) }
+    ensures built { IfErr result (λ end. IfNotBuilt end (λ line. (t : Tree) → StandsFor (D.state disk.old) view.old t → ⊥)) }
     ensures failed { IfErr result (λ end. IfDiskFailed end (λ block. EndsAtCall (λ call. IsFailedOn (moment (D.state disk.old) (D.list disk.old)) (moment (D.state disk.new) (D.list disk.new)) view.old stamp.now.time clients.now items.new.items call block) clients.now lines.now items.new.items (StandsFor (D.state disk.old) view.old))) }
     ensures later { (i : ℕ) → D.faults disk.old i ≤ D.faults disk.new i }
     ensures cause { IfErr result (HasCause 1 (D.state disk.old).count (D.faults disk.old) (D.faults disk.new)) }
@@ -259,9 +256,8 @@ pub fn run_script<D: SharedDisk>(
     ensures system { OnOk result (IsSameSystem view.old view.new) }
     ensures sound { IfErr result (λ end. IfDamaged end (λ b rule. (t : Tree) → StandsFor (D.state disk.old) view.old t → ⊥)) }
     ensures damaged { IfErr result (λ end. IfDamaged end (λ b rule. EndsAtCall (λ call. IsDamagedOn (D.state disk.new) view.old call b rule) script.now.clients script.now.lines items.new.items (StandsFor (D.state disk.old) view.old))) }
-    ensures hashed { IfErr result (λ end. IfHashed end (λ b. EndsAtCall (λ call. IsHashedOn (D.state disk.new) view.old call b) script.now.clients script.now.lines items.new.items (StandsFor (D.state disk.old) view.old))) }
     ensures unbuilt { IfErr result (λ end. IfNotBuilt end (λ line. EndsAt line (λ call. IsUnbuiltOn (D.state disk.new) view.old call) script.now.clients script.now.lines items.new.items (StandsFor (D.state disk.old) view.old))) }
-    ensures built { IfErr result (λ end. IfNotBuilt end (λ line. EndsAt line (IsUnbuiltBehind script.now.clients items.new.items (StandsFor (D.state disk.old) view.old)) script.now.clients script.now.lines items.new.items (StandsFor (D.state disk.old) view.old))) }
+    ensures built { IfErr result (λ end. IfNotBuilt end (λ line. (t : Tree) → StandsFor (D.state disk.old) view.old t → ⊥)) }
     ensures failed { IfErr result (λ end. IfDiskFailed end (λ block. EndsAtCall (λ call. IsFailedOn (moment (D.state disk.old) (D.list disk.old)) (moment (D.state disk.new) (D.list disk.new)) view.old time script.now.clients items.new.items call block) script.now.clients script.now.lines items.new.items (StandsFor (D.state disk.old) view.old))) }
     ensures later { (i : ℕ) → D.faults disk.old i ≤ D.faults disk.new i }
     ensures cause { IfErr result (HasCause 1 (D.state disk.old).count (D.faults disk.old) (D.faults disk.new)) }

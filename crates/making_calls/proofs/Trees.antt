@@ -1,7 +1,7 @@
 -- What the tree answers a call that makes a name, by the inode at the end of its directory's path.
-use Rattle.std.proofs.Common.{◌≡◌, true, false, ℕ, List, [], ◌∷◌, ◌++◌, Option, None, Some, refl, sym, ap, ap₂, ◌∙◌}
+use Rattle.std.proofs.Common.{◌≡◌, true, false, ℕ, List, [], ◌∷◌, ◌++◌, Option, None, Some, refl, sym, ap, ◌∙◌}
 use Rattle.std.proofs.lemmas.List.{append-nil}
-use Rattle.std.specs.Prelude.{◌&&◌, if◌then◌else◌, option_and_then}
+use Rattle.std.specs.Prelude.{if◌then◌else◌, option_and_then}
 use Rattle.cluster_history.specs.Changes.{Changes, is_ok}
 use Rattle.file_tree.specs.Apply.{apply, Answer, Walked, Found, Refused, add, add_to, found_or, put_at, refuse, step_to, walk}
 use Rattle.file_tree.specs.Names.{IsName, last_of, parent_of}
@@ -27,8 +27,8 @@ use Rattle.image_changes.proofs.FlatPaths.{follow-append}
 use Rattle.image_changes.proofs.Walks.{walks_end, walks_find}
 use Rattle.path_walks.proofs.Images.{child_is_there, no_child_of_file}
 use Rattle.making_calls.specs.Blocks.{new_holds}
-use Rattle.making_calls.specs.Drafting.{new_tree}
-use Rattle.making_calls.specs.Making.{IsMaking, call_holds, directory_has_room, directory_path, makes_directory, path_holds}
+use Rattle.name_drafts.specs.Drafting.{new_tree}
+use Rattle.making_calls.specs.Making.{IsMaking, blocks_needed, call_holds, directory_path, makes_directory, path_holds}
 use Rattle.path_walks.specs.Walks.{IsLastOf}
 
 adds_at : (t : Tree) (path front : Path) (name : List ℕ) (new : Tree) → path ≡ front ++ name ∷ [] → add t path new ≡ add_to (walk t (parent_of path)) t path new
@@ -90,11 +90,11 @@ changes call.Sync is = absurd is
 -- ---- the list of locks
 
 pub plain_list : (im : Image) (o : Owners) (l : Layout) (t : Tree) (c : Call) (node : ℕ) → is_ok (apply c t).reply ≡ false → call_holds im o l t c node ≡ path_holds im o l c
-plain_list im o l t c node e = ap (λ b. path_holds im o l c ++ (if b && directory_has_room im o l c then new_holds o l node else [])) e ∙ append-nil (path_holds im o l c)
+plain_list im o l t c node e = ap (λ b. path_holds im o l c ++ (if b then new_holds o l node (blocks_needed im o l c) else [])) e ∙ append-nil (path_holds im o l c)
 
-pub taken_list : (im : Image) (o : Owners) (l : Layout) (t : Tree) (c : Call) (node : ℕ) → is_ok (apply c t).reply ≡ true → directory_has_room im o l c ≡ true
-    → call_holds im o l t c node ≡ path_holds im o l c ++ new_holds o l node
-taken_list im o l t c node e room = ap₂ (λ b d. path_holds im o l c ++ (if b && d then new_holds o l node else [])) e room
+pub taken_list : (im : Image) (o : Owners) (l : Layout) (t : Tree) (c : Call) (node : ℕ) → is_ok (apply c t).reply ≡ true
+    → call_holds im o l t c node ≡ path_holds im o l c ++ new_holds o l node (blocks_needed im o l c)
+taken_list im o l t c node e = ap (λ b. path_holds im o l c ++ (if b then new_holds o l node (blocks_needed im o l c) else [])) e
 
 -- ---- the name in the directory
 

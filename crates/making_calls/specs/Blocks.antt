@@ -1,5 +1,5 @@
--- The block that a new inode takes, and the locks under which it is found.
-use Rattle.std.specs.Prelude.{ℕ, List, [], ◌++◌, map, slice_get, Option, None, Some}
+-- The blocks that a call takes which makes a name, and the locks under which they are found.
+use Rattle.std.specs.Prelude.{ℕ, nat_lt, if◌then◌else◌, List, [], ◌++◌, length, map, slice_get, Option, None, Some}
 use Rattle.glock_names.specs.Views.{group_of_entry}
 use Rattle.glock_names.specs.declared.State.TheVariants.{Ex}
 use Rattle.glock_names.specs.declared.views.Group.{Group}
@@ -8,18 +8,18 @@ use Rattle.image_model.specs.Stands.{Layout}
 use Rattle.path_walks.specs.Holds.{Hold, hold_for}
 use Rattle.room_search.specs.Blocks.{States, free_for, group_holds, group_of_node, states_by}
 
--- how many blocks a new name takes: one for the inode's dinode, and none for a record that has room in a linear directory
-abbrev pub blocks_needed : ℕ
-blocks_needed = 1
+-- the first of these blocks, where they are as many as are needed
+abbrev pub first_of : ℕ → List ℕ → Option ℕ
+first_of need blocks = if nat_lt (length blocks) need then None else slice_get blocks 0
 
--- the locks under which a node with this group finds so many blocks, and then that of the block that is taken, which is the new inode's
-abbrev pub block_holds : States → List Group → Group → List Hold
-block_holds says groups own = group_holds says groups own blocks_needed ++ hold_for (slice_get (free_for says groups own blocks_needed) 0) Ex
+-- the locks under which a node with this group finds so many blocks, and then, where enough are free, that of the first of them, which is the new inode's
+abbrev pub block_holds : States → List Group → Group → ℕ → List Hold
+block_holds says groups own need = group_holds says groups own need ++ hold_for (first_of need (free_for says groups own need)) Ex
 
-abbrev pub holds_from : States → List Group → Option Group → List Hold
-holds_from says groups None = []
-holds_from says groups (Some own) = block_holds says groups own
+abbrev pub holds_from : States → List Group → Option Group → ℕ → List Hold
+holds_from says groups None need = []
+holds_from says groups (Some own) need = block_holds says groups own need
 
--- the locks that a node takes for a new inode, in an image with these owners
-abbrev pub new_holds : Owners → Layout → ℕ → List Hold
-new_holds o l node = holds_from (states_by o) (map group_of_entry l.groups) (group_of_node (map group_of_entry l.groups) node)
+-- the locks that a node takes for a new inode and so many blocks in all, in an image with these owners
+abbrev pub new_holds : Owners → Layout → ℕ → ℕ → List Hold
+new_holds o l node need = holds_from (states_by o) (map group_of_entry l.groups) (group_of_node (map group_of_entry l.groups) node) need

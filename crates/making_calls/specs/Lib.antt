@@ -1,4 +1,3 @@
 pub mod Blocks
 pub mod Searches
 pub mod Making
-pub mod Drafting

@@ -1,24 +1,25 @@
--- What a search for a new inode's block tells of a view, as the bits of its groups say.
-use Rattle.std.specs.Prelude.{ℕ, ◌≡◌, List, Contains, Some, slice_get}
+-- What a search for the blocks of a new name tells of a view, as the bits of its groups say.
+use Rattle.std.specs.Prelude.{ℕ, List, ◌∷◌}
 use Rattle.glock_names.specs.Views.{Seen, HasGroup}
 use Rattle.glock_names.specs.declared.views.Group.{Group}
 use Rattle.resource_groups.specs.Shown.{IsDataOf}
-use Rattle.path_walks.specs.Holds.{hold_of_group}
-use Rattle.room_search.specs.Blocks.{States, free_for, group_holds}
-use Rattle.room_search.specs.Searches.{IsShort}
-use Rattle.making_calls.specs.Blocks.{blocks_needed}
+use Rattle.room_search.specs.Blocks.{States}
+use Rattle.room_search.specs.Searches.{IsRoom, IsShort}
 use Rattle.making_calls.specs.declared.blocks.NewRoom.{NewRoom}
 use Rattle.making_calls.specs.declared.blocks.NewRoom.TheVariants as taken
 use Rattle.making_calls.specs.declared.blocks.Room.{Room}
 
--- a data block of a group, which is free: the first of these blocks
-pub record IsRoom (v : Seen) (says : States) (blocks : List ℕ) (r : Room) : Type 0 where
-  pub has : HasGroup v r.group
-  pub data_block : IsDataOf r.group r.block
-  pub free : says r.group r.block ≡ 0
-  pub first : slice_get blocks 0 ≡ Some r.block
+-- all of its blocks: the new inode's, and the rest
+abbrev pub blocks_of : Room → List ℕ
+blocks_of r = r.new.block ∷ r.rest.items
 
--- the block that a node with this group takes, whose group's lock is one of those; or so few are free in all groups
-abbrev pub IsTaken : Seen → States → List Group → Group → NewRoom → Type 0
-IsTaken v says groups own (taken.Is room) = IsRoom v says (free_for says groups own blocks_needed) room × Contains (group_holds says groups own blocks_needed) (hold_of_group room.group)
-IsTaken v says groups own (taken.TooFew free) = IsShort says groups own blocks_needed free
+-- they are those that a node with this group takes, as many as are needed; and the first is a data block of this group
+pub record IsNewRoom (v : Seen) (says : States) (own : Group) (need : ℕ) (r : Room) : Type 0 where
+  pub has : HasGroup v r.new.group
+  pub data_block : IsDataOf r.new.group r.new.block
+  pub room : IsRoom v says v.groups own need (blocks_of r)
+
+-- the blocks are found, or so few are free in all groups
+abbrev pub IsTaken : Seen → States → Group → ℕ → NewRoom → Type 0
+IsTaken v says own need (taken.Is r) = IsNewRoom v says own need r
+IsTaken v says own need (taken.TooFew free) = IsShort says v.groups own need free

@@ -12,12 +12,10 @@ pub(crate) enum Found {
     Made(Change),
     /// This block isn't in the view.
     NeedBlock(Missing),
-    /// The directory at the end of the path is hashed.
-    Hashed(u64),
-    /// The directory would be hashed with the name.
+    /// The directory can't get the name, in a way of which no rule tells.
     NotBuilt,
     /// This lock isn't held so strongly.
     NeedLock { lock: LockName, state: State },
-    /// Every group is held exclusive, and in all of them so many blocks are free.
-    NoSpace(u64),
+    /// Every group is held exclusive, and so many blocks are needed, and so many are free.
+    NoSpace { need: u64, free: u64 },
 }

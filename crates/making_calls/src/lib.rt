@@ -2,9 +2,7 @@
 #![tactic(auto)]
 
 mod blocks;
-mod drafting;
 mod finds;
-mod records;
 mod tries;
 
 pub use tries::attempt;

@@ -1,34 +1,33 @@
 // A try of a call that makes a name.
-ghost use Rattle.std.specs.Prelude.{ℕ, ◌≡◌, ◌<◌, ◌≤◌, [], true, false, length, IfOk, None};
+ghost use Rattle.std.specs.Prelude.{ℕ, ◌≡◌, ◌^◌, ◌<◌, ◌≤◌, [], true, false, length, IfOk, None};
 ghost use Rattle.cluster_history.specs.Changes.{is_ok};
-ghost use Rattle.file_tree.specs.Apply.{apply};
 ghost use Rattle.file_tree.specs.Names.{IsName};
 ghost use Rattle.file_tree.specs.Tree.{Tree};
 ghost use Rattle.file_tree.specs.declared.reply.Reply.TheVariants.{Ok as OkReply};
-ghost use Rattle.gfs2_layout.specs.Holding.{Holding};
 ghost use Rattle.glock_names.specs.Steps.{IfDamaged};
-ghost use Rattle.glock_names.specs.Views.{IsOfView};
+ghost use Rattle.glock_names.specs.Views.{IsOfView, IsView};
 ghost use Rattle.call_locks.specs.WantLaws.{path_of};
 ghost use Rattle.call_locks.specs.Wants.{wanted};
-ghost use Rattle.dinode_tree.specs.Shown.{IsShown};
+ghost use Rattle.directories.specs.Shown.{IsDirectoryIn};
+ghost use Rattle.resource_groups.specs.Putting.{HasDataBlock};
 ghost use Rattle.image_model.specs.Image.{Image};
 ghost use Rattle.image_model.specs.Owners.{Owners};
 ghost use Rattle.image_model.specs.Stands.{Layout};
 ghost use Rattle.image_changes.specs.Does.{IsOf, Does, AreInside};
 ghost use Rattle.path_walks.specs.Answers.{IfDone, IfNeedLock, IfNeedBlock, IfNoSpace, IfHashed, IfNotBuilt, HasSpace};
 ghost use Rattle.path_walks.specs.Holds.{AreHeld, IsAskedFor, IsFirstLack, IsUnder};
-ghost use Rattle.path_walks.specs.Walks.{IsSeenAt, IsLastOf};
-ghost use Rattle.making_calls.specs.Making.{IfMade, IsAnswered, IsDamage, IsFound, IsFullFor, IsHashedFor, IsLackedFor, IsMade, IsMaking, IsNeededFor, IsReachedIn, IsRefusal, IsStamped, IsToldOf, IsTooFew, IsUnbuilt, LacksName, call_holds, directory_path, makes_directory};
+ghost use Rattle.path_walks.specs.Walks.{IsLastOf, IsSeenAt, LacksName};
+ghost use Rattle.making_calls.specs.Making.{IfMade, IsAnswered, IsDamage, IsFound, IsFullFor, IsLackedFor, IsMade, IsMaking, IsNeededFor, IsReachedIn, IsRefusal, IsStamped, IsToldOf, IsTooFew, IsUnbuilt, TakesForName, call_holds, directory_path, makes_directory};
 
-use crate::blocks::{NewRoom, find_block};
-use crate::drafting::{addition, is_a_view};
+use crate::blocks::{NewRoom, find_blocks};
 use crate::finds::Found;
-use crate::records::look_for_room;
 use call_locks::wants;
+use directories::look;
 use drafts::{Attempt, Stamp};
 use file_tree::{Call, Name, Path, Reply};
 use glock_names::{CallFault, Step, View};
-use linear_dirs::look;
+use name_drafts::addition;
+use name_inserts::need_name;
 use path_walks::{Place, Walk, nothing, walk_along};
 use resource_groups::group_of;
 use room_search::Locked;
@@ -56,8 +55,80 @@ fn is_of_directory(call: &Call) -> bool
     }
 }
 
-// Makes the name in the linear directory at a place, which hasn't it: a record with room is searched, then a free block, and then all is
-// drafted.
+// A law: what a node has of the file system is a view of it.
+fn is_a_view<V: View>(view: &V)
+    ensures { IsView (V.seen view.now) }
+{
+    let _size = view.block_size();
+}
+
+// Makes the name in the directory at a place, which hasn't it and takes so many blocks for it: they are searched with that of the new inode, and
+// then all is drafted.
+fn make_with<V: View>(
+    alloc: Global,
+    view: &V,
+    call: &Call,
+    place: &Place,
+    name: &Name,
+    more: u64,
+    stamp: &Stamp,
+) -> Result<Found, CallFault>
+    requires making { IsMaking call.now }
+    requires last { IsLastOf (path_of call.now false) name.now }
+    requires seen { IsSeenAt (V.seen view.now) (wanted call.now) (directory_path call.now) place.now }
+    requires reached { (im : Image) (o : Owners) (l : Layout) (t : Tree) → IsOf (V.seen view.now) im o l t → IsReachedIn (V.seen view.now) im o l call.now place.now }
+    requires named { IsName name.now }
+    requires directory { IsDirectoryIn (V.seen view.now) place.now.inode }
+    requires lacks { LacksName (V.seen view.now) place.now.inode name.now }
+    requires inside { HasDataBlock (V.seen view.now) place.now.inode }
+    requires takes { TakesForName (V.seen view.now) place.now.inode name.now more }
+    requires most { more < 2 ^ 42 }
+    requires groups { 1 ≤ length (V.seen view.now).groups }
+    requires node { 1 ≤ stamp.now.node }
+    ensures found { (im : Image) (o : Owners) (l : Layout) (t : Tree) → IsOf (V.seen view.now) im o l t → IfOk result (IsFound (V.seen view.now) im o l t call.now stamp.now.node) }
+    ensures done { IfOk result (IfMade (Does (V.seen view.now) call.now OkReply)) }
+    ensures inside { IfOk result (IfMade (AreInside (V.seen view.now))) }
+    ensures under { (im : Image) (o : Owners) (l : Layout) (t : Tree) → IsOf (V.seen view.now) im o l t → IfOk result (IfMade (IsUnder o (call_holds im o l t call.now stamp.now.node))) }
+    ensures made { (im : Image) (o : Owners) (l : Layout) (t : Tree) → IsOf (V.seen view.now) im o l t → IfOk result (IfMade (IsMade im o l call.now stamp.now.node stamp.now.time)) }
+    ensures stamped { (im : Image) (o : Owners) (l : Layout) (t : Tree) → IsOf (V.seen view.now) im o l t → IfOk result (IfMade (IsStamped im o l call.now stamp.now.time)) }
+    ensures refusal { IfOk result IsRefusal }
+    ensures told { IfOk result (IsToldOf (V.seen view.now) call.now stamp.now.node stamp.now.time) }
+    ensures sound { (im : Image) (o : Owners) (l : Layout) (t : Tree) → IsOf (V.seen view.now) im o l t → IfDamaged result (λ rule block. ⊥) }
+    ensures damaged { IfDamaged result (IsDamage (V.seen view.now) call.now) }
+    ensures kept { IfDamaged result (IsOfView (V.seen view.now)) }
+{
+    is_a_view(view);
+    let need = more + 1;
+    let room = match find_blocks(alloc, view, stamp.node, need)? {
+        Locked::Is(NewRoom::Is(room)) => room,
+        Locked::Is(NewRoom::TooFew(free)) => return Ok(Found::NoSpace { need, free }),
+        Locked::NeedLock { lock, state } => return Ok(Found::NeedLock { lock, state }),
+        Locked::NeedBlock(missing) => return Ok(Found::NeedBlock(missing)),
+    };
+    if room.has(place.inode) {
+        return Err(CallFault::Damaged {
+            block: place.inode,
+            rule: 5,
+        });
+    }
+    let is_directory = is_of_directory(call);
+    match addition(
+        alloc,
+        view,
+        is_directory,
+        stamp,
+        place,
+        name,
+        &room.new,
+        &room.rest,
+    )? {
+        Step::Is(Some(change)) => Ok(Found::Made(change)),
+        Step::Is(None) => Ok(Found::NotBuilt),
+        Step::NeedBlock(missing) => Ok(Found::NeedBlock(missing)),
+    }
+}
+
+// Makes the name in the directory at a place, which hasn't it: the blocks that it takes for it are counted before any lock of a group is looked at.
 fn make_at<V: View>(
     alloc: Global,
     view: &V,
@@ -71,7 +142,8 @@ fn make_at<V: View>(
     requires seen { IsSeenAt (V.seen view.now) (wanted call.now) (directory_path call.now) place.now }
     requires reached { (im : Image) (o : Owners) (l : Layout) (t : Tree) → IsOf (V.seen view.now) im o l t → IsReachedIn (V.seen view.now) im o l call.now place.now }
     requires named { IsName name.now }
-    requires lacks { (h : Holding) → IsShown (V.seen view.now) place.now.inode h → LacksName h name.now }
+    requires directory { IsDirectoryIn (V.seen view.now) place.now.inode }
+    requires lacks { LacksName (V.seen view.now) place.now.inode name.now }
     requires groups { 1 ≤ length (V.seen view.now).groups }
     requires node { 1 ≤ stamp.now.node }
     ensures found { (im : Image) (o : Owners) (l : Layout) (t : Tree) → IsOf (V.seen view.now) im o l t → IfOk result (IsFound (V.seen view.now) im o l t call.now stamp.now.node) }
@@ -93,32 +165,8 @@ fn make_at<V: View>(
             rule: 2,
         });
     }
-    let fits = look_for_room(view, place.inode, name)?;
-    if !fits {
-        return Ok(Found::NotBuilt);
-    }
-    let room = match find_block(alloc, view, stamp.node)? {
-        Locked::Is(NewRoom::Is(room)) => room,
-        Locked::Is(NewRoom::TooFew(free)) => return Ok(Found::NoSpace(free)),
-        Locked::NeedLock { lock, state } => return Ok(Found::NeedLock { lock, state }),
-        Locked::NeedBlock(missing) => return Ok(Found::NeedBlock(missing)),
-    };
-    if room.block == place.inode {
-        return Err(CallFault::Damaged {
-            block: place.inode,
-            rule: 5,
-        });
-    }
-    match addition(
-        alloc,
-        view,
-        is_of_directory(call),
-        stamp,
-        place,
-        name,
-        &room,
-    )? {
-        Step::Is(change) => Ok(Found::Made(change)),
+    match need_name(alloc, view, place.inode, name.bytes())? {
+        Step::Is(more) => make_with(alloc, view, call, place, name, more, stamp),
         Step::NeedBlock(missing) => Ok(Found::NeedBlock(missing)),
     }
 }
@@ -153,13 +201,10 @@ fn find_at<V: View>(
     if !place.dinode.is_directory() {
         return Ok(Found::Refused(Reply::NotDir));
     }
-    if place.dinode.flags / 2 % 2 == 1 {
-        return Ok(Found::Hashed(place.inode));
-    }
     match look(view, place.inode, name.bytes())? {
         Step::Is(Some(_)) => Ok(Found::Refused(Reply::Exists)),
         Step::Is(None) => make_at(alloc, view, call, place, name, stamp),
-        Step::NeedBlock(_) => unreachable!(),
+        Step::NeedBlock(missing) => Ok(Found::NeedBlock(missing)),
     }
 }
 
@@ -194,10 +239,11 @@ fn find<V: View>(alloc: Global, view: &V, call: &Call, stamp: &Stamp) -> Result<
 }
 
 /// Tries a call that makes a name, over a view: its answer with what it changes, or the first lock that isn't held, the block that
-/// isn't there, or that too few blocks are free. A directory without room for the name is told before any lock of a group is asked
-/// for. A new inode is in the least free block of the node's own group, or else of all groups in order, and it and the directory get
-/// the stamp's time. It costs a walk along the path, six passes over the directory's records, two over the blocks of each group that
-/// it looks at, and copies of five blocks.
+/// isn't there, or that too few blocks are free. The blocks that the directory, of whatever form, takes for the name are counted before any lock of a
+/// group is asked for. They and that of the new inode, which is the first, are the least free ones of the node's own group, or else of all groups in order;
+/// the new inode and the directory get the stamp's time. It costs a walk along the path, and what looking up the name, counting the blocks, putting the
+/// name and taking the blocks cost: two passes over the blocks of each group that is looked at, of a linear directory four over its records, of a hashed
+/// one four along the chain of the name, and copies of the few blocks that change.
 pub fn attempt<V: View>(
     alloc: Global,
     view: &V,
@@ -223,9 +269,9 @@ pub fn attempt<V: View>(
     ensures lacked { IfNeedLock result (IsLackedFor (V.seen view.now) call.now stamp.now.node) }
     ensures needed { IfNeedBlock result (IsNeededFor (V.seen view.now) call.now) }
     ensures absent { IfNeedBlock result (λ missing. (V.seen view.now).block_at missing.block ≡ None) }
-    ensures hashed { IfHashed result (IsHashedFor (V.seen view.now) call.now) }
-    ensures unbuilt { IfNotBuilt result (IsUnbuilt (V.seen view.now) call.now) }
-    ensures taken { (im : Image) (o : Owners) (l : Layout) (t : Tree) → IsOf (V.seen view.now) im o l t → IfNotBuilt result ((apply call.now t).reply ≡ OkReply) }
+    ensures hashed { IfHashed result (λ block. ⊥) }
+    ensures unbuilt { IfNotBuilt result (IsUnbuilt (V.seen view.now) call.now stamp.now.node) }
+    ensures built { (im : Image) (o : Owners) (l : Layout) (t : Tree) → IsOf (V.seen view.now) im o l t → IfNotBuilt result ⊥ }
     ensures sound { (im : Image) (o : Owners) (l : Layout) (t : Tree) → IsOf (V.seen view.now) im o l t → IfDamaged result (λ rule block. ⊥) }
     ensures damaged { IfDamaged result (IsDamage (V.seen view.now) call.now) }
     ensures kept { IfDamaged result (IsOfView (V.seen view.now)) }
@@ -240,9 +286,8 @@ pub fn attempt<V: View>(
             change,
         },
         Found::NeedBlock(missing) => Attempt::NeedBlock(missing),
-        Found::Hashed(block) => Attempt::Hashed { block },
         Found::NotBuilt => Attempt::NotBuilt,
         Found::NeedLock { lock, state } => Attempt::NeedLock { lock, state },
-        Found::NoSpace(free) => Attempt::NoSpace { need: 1, free },
+        Found::NoSpace { need, free } => Attempt::NoSpace { need, free },
     })
 }

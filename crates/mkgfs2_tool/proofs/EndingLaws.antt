@@ -5,7 +5,7 @@ use Rattle.std.proofs.lemmas.Bool.Decides.{nat_tests}
 use Rattle.shared_disk.specs.Disk.{DiskState, Operation}
 use Rattle.mkgfs2_tool.specs.Groups.{data_blocks, last_group, all_data}
 use Rattle.mkgfs2_tool.specs.Order.{fits, taken, IsNeeded}
-use Rattle.mkgfs2_tool.specs.Making.{bad_option, is_between, plan_of, IsPlan, IsFitting, HasLinearJournals, IsFaultOf}
+use Rattle.mkgfs2_tool.specs.Making.{bad_option, is_between, plan_of, IsPlan, IsFitting, IsFaultOf}
 use Rattle.mkgfs2_tool.specs.Outcomes.{IsBegun, IsMade, PlanEnding, HasFailed, HasMade, Ending, IsRefused, IsTooSmall, IsTried}
 use Rattle.mkgfs2_tool.specs.declared.plan.Plan.{Plan}
 use Rattle.mkgfs2_tool.specs.declared.options.MakeOptions.{MakeOptions}
@@ -34,12 +34,12 @@ plan_is size count o good size_is few = by_tests (is_between 1 8 o.journals) (is
     by_tests true false c a b d none = let never : ⊥ = cc in elim never [ ]
     by_tests false b c a d e none = let never : ⊥ = cc in elim never [ ]
 
-pub fitting : (p : Plan) → IsPlan p → p.count ≤ 131072 → HasLinearJournals p → fits p ≡ true → IsFitting p
-fitting p plan few linear is = by_tests (nat_le 4 (data_blocks p 0)) (nat_le 4 (data_blocks p (last_group p))) (nat_le (taken p) (all_data p)) refl refl refl is
+pub fitting : (p : Plan) → IsPlan p → p.count ≤ 131072 → fits p ≡ true → IsFitting p
+fitting p plan few is = by_tests (nat_le 4 (data_blocks p 0)) (nat_le 4 (data_blocks p (last_group p))) (nat_le (taken p) (all_data p)) refl refl refl is
   where
     by_tests : (a b c : Bool) → nat_le 4 (data_blocks p 0) ≡ a → nat_le 4 (data_blocks p (last_group p)) ≡ b → nat_le (taken p) (all_data p) ≡ c → (a && b && c) ≡ true → IsFitting p
     by_tests true true true a b c all =
-        record { plan = plan; count = few; first = grind (arith, nat_tests, a); last = grind (arith, nat_tests, b); room = grind (arith, nat_tests, c); linear = linear }
+        record { plan = plan; count = few; first = grind (arith, nat_tests, a); last = grind (arith, nat_tests, b); room = grind (arith, nat_tests, c) }
     by_tests true true false a b c all = let never : ⊥ = cc in elim never [ ]
     by_tests true false c a b d all = let never : ⊥ = cc in elim never [ ]
     by_tests false b c a d e all = let never : ⊥ = cc in elim never [ ]
@@ -73,7 +73,7 @@ tried o s now list list_now faults faults_now p r is good room ending =
 pub good_plan : (p : Plan) (size count : ℕ) (o : MakeOptions) → p ≡ plan_of size count o → bad_option o ≡ None → IsBlockSize size → count ≤ 131072 → IsPlan p
 good_plan p size count o is good size_is few = subst IsPlan (sym is) (plan_is size count o good size_is few)
 
-pub fitting_plan : (p : Plan) (size count : ℕ) (o : MakeOptions) → p ≡ plan_of size count o → bad_option o ≡ None → IsBlockSize size → count ≤ 131072 → HasLinearJournals (plan_of size count o)
+pub fitting_plan : (p : Plan) (size count : ℕ) (o : MakeOptions) → p ≡ plan_of size count o → bad_option o ≡ None → IsBlockSize size → count ≤ 131072
     → fits p ≡ true → IsFitting p
-fitting_plan p size count o is good size_is few linear room =
-    fitting p (good_plan p size count o is good size_is few) (subst (λ (q : Plan). q.count ≤ 131072) (sym is) few) (subst HasLinearJournals (sym is) linear) room
+fitting_plan p size count o is good size_is few room =
+    fitting p (good_plan p size count o is good size_is few) (subst (λ (q : Plan). q.count ≤ 131072) (sym is) few) room

@@ -7,6 +7,7 @@ use Rattle.mkgfs2_tool.specs.Groups.{parts, super_block, share, group_address, g
 use Rattle.mkgfs2_tool.specs.Files.{content_blocks, height, level_blocks, level_start, file_blocks, block_pointers, IsShape}
 use Rattle.mkgfs2_tool.specs.Order.{taken, fits, group_list, journal}
 use Rattle.mkgfs2_tool.specs.Making.{IsPlan}
+use Rattle.mkgfs2_tool.proofs.LeafLaws.{leaves_few}
 use Rattle.mkgfs2_tool.specs.declared.plan.Plan.{Plan}
 use Rattle.mkgfs2_tool.specs.declared.files.Shape.{Shape}
 
@@ -109,7 +110,7 @@ taken-few p is =
     let one : file_blocks (journal p) ≤ 1 + 4 * (p.journal_blocks * p.size) = file_blocks-few (journal p) (record { size = is.size; bytes = omega (arith, bytes) }) in
     let list : file_blocks (group_list p) ≤ 1 + 4 * (96 * p.groups) = file_blocks-few (group_list p) (record { size = is.size; bytes = omega (arith, is.groups) }) in
     let all : p.journals * file_blocks (journal p) ≤ 8 * (1 + 4 * (65536 * 4096)) = mul-le-mul {m₂ = 1 + 4 * (65536 * 4096)} is.journals (omega (arith, one, bytes)) in
-    omega (arith, all, list, is.groups)
+    omega (arith, all, list, is.groups, leaves_few p.size p.journals)
 
 -- and its number of blocks is small
 pub enough-small : (p : Plan) → IsPlan p → p.count ≤ 131072 → enough p < 2 ^ 48

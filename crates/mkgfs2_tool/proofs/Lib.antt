@@ -1,3 +1,5 @@
+pub mod LeafLaws
+pub mod LeafHashes
 pub mod Enough
 pub mod RecordLaws
 pub mod PutLaws
@@ -25,6 +27,10 @@ pub mod StandingList
 pub mod StandingRecords
 pub mod StandingDirs
 pub mod StandingNames
+pub mod StandingLeaves
+pub mod StandingTable
+pub mod StandingHashed
+pub mod StandingJindex
 pub mod StandingSystem
 pub mod StandingZones
 pub mod StandingWhole
@@ -33,3 +39,5 @@ pub mod StandingTallies
 pub mod StandingGroups
 pub mod StandingHeaders
 pub mod StandingProfile
+pub mod StandingSlots
+pub mod StandingInserted

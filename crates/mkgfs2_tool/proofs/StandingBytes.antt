@@ -1,18 +1,18 @@
 -- What is read of bytes that were put.
 use Rattle.std.proofs.Common.{ℕ, zero, suc, ◌≡◌, ◌+◌, ◌-◌, ◌*◌, ◌^◌, ◌<◌, ◌≤◌, inl, inr, List, [], ◌∷◌, ◌++◌, length, take, drop, replicate, get_or, Option, None, Some, Ok, refl, sym, ap, ◌∙◌, arith, length-append, length-drop, append_assoc, append-nil}
-use Rattle.std.specs.Prelude.{◌==◌, nat_lt, not}
+use Rattle.std.specs.Prelude.{◌==◌}
 use Rattle.std.specs.List.{flat_map, range_with_len}
 use Rattle.std.specs.Int.{w64, to_be_bytes, from_be_bytes}
-use Rattle.std.proofs.lemmas.Bool.{cases_lt, cases_Bool, cond-true, cond-false, eqb-true}
+use Rattle.std.proofs.lemmas.Bool.{cases_lt, cases_Bool, cond-false, eqb-true}
 use Rattle.std.proofs.lemmas.List.{take_at, drop_at, take_all, take-append-drop, drop-drop, drop_all, length-take-le, drop-replicate, take-replicate}
 use Rattle.std.proofs.Math.Seq.{take-append-add}
 use Rattle.std.proofs.Math.Nat.{suc-mul}
 use Rattle.std.proofs.lemmas.Nat.{from_be_bytes-to_be_bytes_8}
 use Rattle.gfs2_layout.specs.Bytes.{slice, put_at, number_at, u32_at, u64_at}
-use Rattle.gfs2_layout.specs.Structures.{answer, or_else, length_fault, magic_fault, header_of, header_read, header_fault, magic}
+use Rattle.gfs2_layout.specs.Structures.{or_else, length_fault, magic_fault, header_of, header_read, magic}
 use Rattle.gfs2_layout.specs.declared.header.MetaHeader.{MetaHeader}
 use Rattle.gfs2_layout.specs.declared.fault.LayoutFault.{LayoutFault}
-use Rattle.gfs2_layout.specs.declared.fault.LayoutFault.TheVariants.{Short, Magic, Kind, Format}
+use Rattle.gfs2_layout.specs.declared.fault.LayoutFault.TheVariants.{Magic}
 use Rattle.gfs2_layout.specs.Headers.{HasHeader}
 -- ---- answers
 

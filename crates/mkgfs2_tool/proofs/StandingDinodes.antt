@@ -51,10 +51,11 @@ pub record IsSmall (i : Inode) : Type 0 where
   pub flags : i.flags < 2 ^ 32
   pub payload_format : i.payload_format < 2 ^ 32
   pub height : i.height < 2 ^ 16
+  pub depth : i.depth < 2 ^ 16
   pub entries : i.entries < 2 ^ 32
 
 pub dinode_widths : (p : Plan) (number place : ℕ) (i : Inode) → number < 2 ^ 64 → data_address p place < 2 ^ 64 → p.time < 2 ^ 64 → IsSmall i
     → AllByRecursion HasItsWidth (dinode_fields (dinode p number place i))
 unfolding dinode
 dinode_widths p number place i low near time small =
-    (omega arith, (omega arith, (omega arith, (omega arith, (low, (near, (small.mode, (omega arith, (omega arith, (small.nlink, (small.size, (small.blocks, (time, (time, (time, (omega arith, (omega arith, (near, (near, (low, (small.flags, (small.payload_format, (small.height, (omega arith, (small.entries, (omega arith, (omega arith, (omega arith, (omega arith, tt)))))))))))))))))))))))))))))
+    (omega arith, (omega arith, (omega arith, (omega arith, (low, (near, (small.mode, (omega arith, (omega arith, (small.nlink, (small.size, (small.blocks, (time, (time, (time, (omega arith, (omega arith, (near, (near, (low, (small.flags, (small.payload_format, (small.height, (small.depth, (small.entries, (omega arith, (omega arith, (omega arith, (omega arith, tt)))))))))))))))))))))))))))))

@@ -15,8 +15,7 @@ use Rattle.gfs2_layout.specs.Holding.{Holding, Part, Itself, Pointed, InChain, b
 use Rattle.gfs2_layout.specs.Records.{records_in, IsRecordArea}
 use Rattle.mkgfs2_tool.proofs.StandingGiven.{own_part, itself_own, pointed_owner, chained_owner, block_same, own_block}
 use Rattle.mkgfs2_tool.specs.Groups.{super_block, data_address}
-use Rattle.mkgfs2_tool.specs.Files.{file_blocks}
-use Rattle.mkgfs2_tool.specs.Order.{master_place, root_place, group_list_place, journals_place, journal_place, group_list, taken, use_of}
+use Rattle.mkgfs2_tool.specs.Order.{master_place, root_place, group_list_place, journals_place, has_hashed_journals, journal_leaves, journal_place, taken, use_of}
 use Rattle.mkgfs2_tool.specs.Directories.{records, Fit, name_of as name_in, entry, journal_entry, master_entries, root_entries, journals_entries}
 use Rattle.mkgfs2_tool.specs.Blocks.{data_block, zeros, new_block, used_block, dinode, dinode_block, directory, area_length, master_block, root_block, journals_block}
 use Rattle.mkgfs2_tool.specs.Making.{IsFitting}
@@ -24,12 +23,13 @@ use Rattle.mkgfs2_tool.specs.declared.directory.Entry.{Entry}
 use Rattle.mkgfs2_tool.specs.declared.directory.Name.{Name}
 use Rattle.mkgfs2_tool.specs.declared.directory.Name.TheVariants as name
 use Rattle.mkgfs2_tool.specs.declared.plan.Plan.{Plan}
-use Rattle.mkgfs2_tool.proofs.RecordLaws.{AreJournals, journals_first}
+use Rattle.mkgfs2_tool.proofs.RecordLaws.{AreAll, journals_first}
+use Rattle.mkgfs2_tool.proofs.LeafLaws.{leaves_none}
 use Rattle.mkgfs2_tool.proofs.StandingGiven.{Known}
 use Rattle.mkgfs2_tool.proofs.StandingCounts.{count_images}
 use Rattle.mkgfs2_tool.proofs.StandingDinodes.{IsDinodeBlock, dinode_put_is, IsSmall, dinode_widths}
 use Rattle.mkgfs2_tool.proofs.StandingPlan.{apart_addresses, address_low, address_high, new_data}
-use Rattle.mkgfs2_tool.proofs.StandingOwners.{file_place, spot, owner, file_some, file_taken, in_all, owner_master, owner_root, owner_journals, use_of_journals, some_taken, two_taken, journals_taken}
+use Rattle.mkgfs2_tool.proofs.StandingOwners.{file_place, spot, owner, file_some, file_taken, file_not_journals, in_all, owner_master, owner_root, owner_journals, use_of_journals, some_taken, two_taken, journals_taken}
 use Rattle.mkgfs2_tool.proofs.StandingFiles.{large, size_few}
 use Rattle.mkgfs2_tool.proofs.StandingWhose.{not_chained, IsBelowOf, below_of}
 use Rattle.mkgfs2_tool.proofs.StandingInodes.{image, AreMade, held, below_1, cell_some, some_cell}
@@ -41,6 +41,7 @@ pub record IsDirectoryAt (p : Plan) (place number count links : ℕ) (es : List 
   pub block : new_block p (data_address p place) ≡ put_at 232 (records (area_length p) es) (dinode_put (dinode p number place (directory p count links)) (zeros p))
   pub own : is_dinode (owner p (data_address p place)) ≡ true
   pub no_file : (i : ℕ) → i ≤ p.journals → spot p i 0 ≡ data_address p place → ⊥
+  pub no_leaf : data_address p (journals_place p) ≡ data_address p place → journal_leaves p ≡ 0
   pub entries : AreEntries es
   pub fit : Fit (area_length p) es
   pub some : number ≢ 0
@@ -82,6 +83,7 @@ module _ (p : Plan) (fit : IsFitting p) (known : Known p) (at : Blocks) (made : 
     flags = omega arith;
     payload_format = omega arith;
     height = omega arith;
+    depth = omega arith;
     entries = is.count_low;
   }
     where
@@ -155,7 +157,7 @@ module _ (p : Plan) (fit : IsFitting p) (known : Known p) (at : Blocks) (made : 
       from q = is.no_file q.file q.ok (below_1 _ _ _ _ _ _ _ _ _ _ q.owned)
 
   no_chain : (y hash place : ℕ) → part_at h y ≡ Some (InChain hash place) → ⊥
-  no_chain y hash place e = not_chained p fit known y a hash place (chained_owner known.given (image p at) (owner p) a y hash place e)
+  no_chain y hash place e = not_chained p fit known y a hash place is.no_leaf (chained_owner known.given (image p at) (owner p) a y hash place e)
 
   only_own : (y : ℕ) (q : Part) → part_at h y ≡ Some q → y ≡ a
   only_own y Itself e = itself_own known.given (image p at) (owner p) a y e
@@ -220,13 +222,16 @@ module _ (p : Plan) (fit : IsFitting p) (known : Known p) where
   entry_is : (n : Name) (number place kind : ℕ) → length (name_in (entry p n number place kind)) ≤ 16 → AllByRecursion (λ b. b < 256) (name_in (entry p n number place kind))
       → 1 ≤ number → number ≤ 12 → place < taken p → (kind ≡ 4) ⊎ (kind ≡ 8) → IsEntry (entry p n number place kind)
   entry_is n number place kind short bytes some few kept kind_is = record {
-    name = short;
-    bytes = bytes;
+    plain = record {
+      name = short;
+      bytes = bytes;
+      number_low = omega (arith, few);
+      address_low = near (data_address p place) p.count (address_low p fit place (in_all p fit place kept)) fit.count;
+      kind = kind_is;
+    };
     number = λ e. absurd (omega (arith, some, e));
-    number_low = omega (arith, few);
     address = λ e. never (super_block p) (data_address p place) (address_high p fit place (in_all p fit place kept)) e;
-    address_low = near (data_address p place) p.count (address_low p fit place (in_all p fit place kept)) fit.count;
-    kind = kind_is;
+    reach = refl;
   }
     where
       never : (s n : ℕ) → s < n → n ≡ 0 → ⊥
@@ -238,10 +243,10 @@ module _ (p : Plan) (fit : IsFitting p) (known : Known p) where
   list_taken : group_list_place < taken p
   list_taken = omega arith
 
-  this_is : (number place : ℕ) → 1 ≤ number → number ≤ 12 → place < taken p → IsEntry (entry p name.This number place 4)
+  pub this_is : (number place : ℕ) → 1 ≤ number → number ≤ 12 → place < taken p → IsEntry (entry p name.This number place 4)
   this_is number place some few kept = entry_is name.This number place 4 (omega arith) (omega arith, tt) some few kept (inl refl)
 
-  parent_is : (number place : ℕ) → 1 ≤ number → number ≤ 12 → place < taken p → IsEntry (entry p name.Parent number place 4)
+  pub parent_is : (number place : ℕ) → 1 ≤ number → number ≤ 12 → place < taken p → IsEntry (entry p name.Parent number place 4)
   parent_is number place some few kept = entry_is name.Parent number place 4 (omega arith) (omega arith, (omega arith, tt)) some few kept (inl refl)
 
   no_file_at : (place : ℕ) → place < taken p → ((i : ℕ) → file_place p i ≡ place → ⊥) → (i : ℕ) → i ≤ p.journals → spot p i 0 ≡ data_address p place → ⊥
@@ -250,7 +255,7 @@ module _ (p : Plan) (fit : IsFitting p) (known : Known p) where
       drop_zero : (a b : ℕ) → a + 0 ≡ b → a ≡ b
       drop_zero a b e = omega (arith, e)
 
-  used_at : (place : ℕ) → place < taken p → new_block p (data_address p place) ≡ used_block p (use_of p place)
+  pub used_at : (place : ℕ) → place < taken p → new_block p (data_address p place) ≡ used_block p (use_of p place)
   unfolding data_block
   used_at place kept = new_data p fit place (in_all p fit place kept) ∙ cond-true _ _ _ (lt-ltb place (taken p) kept)
 
@@ -261,6 +266,7 @@ module _ (p : Plan) (fit : IsFitting p) (known : Known p) where
     block = used_at master_place (some_taken p);
     own = ap is_dinode (owner_master p fit);
     no_file = no_file_at master_place (some_taken p) none;
+    no_leaf = λ e. absurd (omega (arith, apart_addresses p fit (journals_place p) master_place (in_all p fit (journals_place p) (journals_taken p)) (in_all p fit master_place (some_taken p)) e));
     entries = (
       this_is 1 master_place (omega arith) (omega arith) (some_taken p),
       (
@@ -295,6 +301,7 @@ module _ (p : Plan) (fit : IsFitting p) (known : Known p) where
     block = used_at root_place (two_taken p);
     own = ap is_dinode (owner_root p fit);
     no_file = no_file_at root_place (two_taken p) none;
+    no_leaf = λ e. absurd (omega (arith, apart_addresses p fit (journals_place p) root_place (in_all p fit (journals_place p) (journals_taken p)) (in_all p fit root_place (two_taken p)) e));
     entries = (this_is 2 root_place (omega arith) (omega arith) (two_taken p), (parent_is 2 root_place (omega arith) (omega arith) (two_taken p), tt));
     fit = fits (area_length p) (room p.size (large p fit known));
     some = λ e. absurd (omega (arith, e));
@@ -313,7 +320,7 @@ module _ (p : Plan) (fit : IsFitting p) (known : Known p) where
       fits : (n : ℕ) → 280 ≤ n → Fit n (root_entries p)
       fits n large = (omega (arith, large), omega (arith, large))
 
-  journal_is : (j : ℕ) → suc j ≤ p.journals → IsEntry (journal_entry p j)
+  pub journal_is : (j : ℕ) → suc j ≤ p.journals → IsEntry (journal_entry p j)
   journal_is j ok = entry_is (name.Journal j) (5 + j) (journal_place p j) 8 (omega arith)
       (omega arith, (omega arith, (omega arith, (omega arith, (omega arith, (omega arith, (omega arith, (digit j p.journals ok fit.plan.journals, tt)))))))) (omega arith) (few j p.journals ok fit.plan.journals)
       (at_first (journal_place p j) (taken p) (file_taken p (suc j) 0 ok (file_some p (suc j)))) (inr refl)
@@ -327,34 +334,31 @@ module _ (p : Plan) (fit : IsFitting p) (known : Known p) where
       at_first : (k t : ℕ) → k + 0 < t → k < t
       at_first k t low = omega (arith, low)
 
-  journals_are : (start n : ℕ) → start + n ≤ p.journals → AreEntries (map (journal_entry p) (range_with_len start n))
+  pub journals_are : (start n : ℕ) → start + n ≤ p.journals → AreEntries (map (journal_entry p) (range_with_len start n))
   journals_are start zero ok = tt
   journals_are start (suc n) ok = (journal_is start (omega (arith, ok)), journals_are (start + 1) n (omega (arith, ok)))
 
-  pub journals_at : IsDirectoryAt p (journals_place p) 4 (2 + p.journals) 2 (journals_entries p)
+  pub all_are : AreEntries (journals_entries p)
+  all_are = (this_is 4 (journals_place p) (omega arith) (omega arith) (journals_taken p), (parent_is 1 master_place (omega arith) (omega arith) (some_taken p), journals_are 0 p.journals (omega arith)))
+
+  pub journals_at : has_hashed_journals p ≡ false → IsDirectoryAt p (journals_place p) 4 (2 + p.journals) 2 (journals_entries p)
   unfolding journals_block dinode_block used_block
-  journals_at = record {
+  journals_at linear = record {
     kept = journals_taken p;
-    block = used_at (journals_place p) (journals_taken p) ∙ ap (used_block p) (use_of_journals p);
+    block = used_at (journals_place p) (journals_taken p) ∙ ap (used_block p) (use_of_journals p) ∙ cond-false _ _ _ linear;
     own = ap is_dinode (owner_journals p fit);
-    no_file = no_file_at (journals_place p) (journals_taken p) none;
-    entries = (this_is 4 (journals_place p) (omega arith) (omega arith) (journals_taken p), (parent_is 1 master_place (omega arith) (omega arith) (some_taken p), journals_are 0 p.journals (omega arith)));
-    fit = fits (journals_first p fit);
+    no_file = no_file_at (journals_place p) (journals_taken p) (file_not_journals p);
+    no_leaf = λ e. leaves_none p linear;
+    entries = all_are;
+    fit = fits (journals_first p fit linear);
     some = λ e. absurd (omega (arith, e));
     number_low = omega arith;
     count_low = few p.journals fit.plan.journals;
     links_low = omega arith;
   }
     where
-      none : (i : ℕ) → file_place p i ≡ journals_place p → ⊥
-      none zero e = absurd (before (file_blocks (group_list p)) (file_some p 0) e)
-        where
-          before : (n : ℕ) → 1 ≤ n → 2 ≡ 2 + n → ⊥
-          before n some e = absurd (omega (arith, some, e))
-      none (suc j) e = absurd (omega (arith, e))
-
       few : (n : ℕ) → n ≤ 8 → 2 + n < 2 ^ 32
       few n le = omega (arith, le)
 
-      fits : {es : List Entry} → AreJournals p es → Fit (area_length p) (journals_entries p)
+      fits : {es : List Entry} → AreAll (area_length p) (journals_entries p) es → Fit (area_length p) (journals_entries p)
       fits {es} is = subst (Fit (area_length p)) is.are is.fit

@@ -191,6 +191,7 @@ module _ (p : Plan) (fit : IsFitting p) (known : Known p) where
     flags = omega arith;
     payload_format = omega arith;
     height = height_small (height (file_shape p i)) (height_low (file_shape p i) (file_low i));
+    depth = omega arith;
     entries = omega arith;
   }
     where

@@ -44,6 +44,9 @@ module _ (given : Given) (im : Image) (owners : Owners) where
   pub chained_owner : (a b hash place : ℕ) → part_at (holding im owners a) b ≡ Some (InChain hash place) → owners b ≡ Chained a hash place
   chained_owner a b hash place = ((given.holdings im owners).chained a b hash place).0
 
+  pub chained_part : (a b hash place : ℕ) → owners b ≡ Chained a hash place → part_at (holding im owners a) b ≡ Some (InChain hash place)
+  chained_part a b hash place = ((given.holdings im owners).chained a b hash place).1
+
   pub block_same : (a b : ℕ) (part : Part) → part_at (holding im owners a) b ≡ Some part → bytes_at (holding im owners a) b ≡ im.at b
   block_same = (given.holdings im owners).bytes
 

@@ -1,7 +1,7 @@
 -- Where the blocks of groups lie, over plain numbers.
-use Rattle.std.proofs.Common.{ℕ, ◌≡◌, ◌+◌, ◌-◌, ◌*◌, ◌/◌, ◌<◌, ◌≤◌, inl, inr, min, sym, ap, ◌∙◌, subst, arith}
+use Rattle.std.proofs.Common.{ℕ, ◌≡◌, ◌+◌, ◌-◌, ◌*◌, ◌/◌, ◌<◌, ◌≤◌, ◌⊎◌, inl, inr, min, sym, ap, ◌∙◌, subst, arith}
 use Rattle.std.specs.Prelude.{◌%◌}
-use Rattle.std.proofs.lemmas.Bool.{cases_lt}
+use Rattle.std.proofs.lemmas.Bool.{cases_lt, cases_order}
 use Rattle.std.proofs.lemmas.Nat.{div-mul-add, le-div, row_fits, div-add-mod', mod_below}
 
 -- the last block before the groups, the count, the share of a group, the last group, and of each group its blocks, its headers and its data blocks
@@ -183,3 +183,40 @@ module _ (G : Ground) (is : IsGround G) where
 
   pub apart : (k n : ℕ) → k < all G → n < all G → address G k ≡ address G n → k ≡ n
   apart k n low low' e = sym (place_back k low) ∙ ap place_of e ∙ place_back n low'
+
+  -- later data blocks have higher addresses
+  rooms_rise : (k n : ℕ) → IsRoom G k → IsRoom G n → k < n → address G k < address G n
+  rooms_rise k n x y less =
+      subst (λ m. address G m < address G n) (sym x.is) (subst (λ m. address G (before G x.group + x.offset) < address G m) (sym y.is)
+      (subst (λ m. m < address G (before G y.group + y.offset)) (sym (address_at_room x.group x.offset x.listed x.inside))
+      (subst (λ m. behind G x.group + x.offset < m) (sym (address_at_room y.group y.offset y.listed y.inside)) (each (cases_order x.group y.group)))))
+    where
+      before_less : before G x.group + x.offset < before G y.group + y.offset
+      before_less = subst (λ m. m < before G y.group + y.offset) x.is (subst (λ m. k < m) y.is less)
+
+      same : (g h a b : ℕ) → g ≡ h → before G g + a < before G h + b → behind G g + a < behind G h + b
+      same g h a b e low = subst (λ m. behind G g + a < behind G m + b) e (plain (before G g) (behind G g) a b (subst (λ m. before G g + a < before G m + b) (sym e) low))
+        where
+          plain : (u v a b : ℕ) → u + a < u + b → v + a < v + b
+          plain u v a b low = omega (arith, low)
+
+      later : (s t h r b i a c : ℕ) → h + r ≤ b → s + b ≤ t → a < r → s + h + a < t + i + c
+      later s t h r b i a c held rise low = omega (arith, held, rise, low)
+
+      never : (u v r a b : ℕ) → v + r ≤ u → b < r → u + a < v + b → ⊥
+      never u v r a b row low less = absurd (omega (arith, row, low, less))
+
+      under : (g h l : ℕ) → g < h → h ≤ l → g < l
+      under g h l a b = omega (arith, a, b)
+
+      each : (x.group ≡ y.group) ⊎ ((x.group < y.group) ⊎ (y.group < x.group)) → behind G x.group + x.offset < behind G y.group + y.offset
+      each (inl e) = same x.group y.group x.offset y.offset e before_less
+      each (inr (inl low)) = later (start G x.group) (start G y.group) (G.heads x.group) (G.rooms x.group) (G.blocks x.group) (G.heads y.group) x.offset y.offset (is.held x.group x.listed) (starts_rise x.group y.group low y.listed) x.inside
+      each (inr (inr high)) = absurd (never (before G x.group) (before G y.group) (G.rooms 0) x.offset y.offset (row_fits y.group (G.rooms 0) x.group (G.rooms 0) high (omega arith))
+          (subst (λ m. y.offset < m) (is.even y.group (under y.group x.group G.last high x.listed)) y.inside) before_less)
+
+  pub addresses_rise : (k n : ℕ) → k < n → n < all G → address G k < address G n
+  addresses_rise k n less low = rooms_rise k n (room k (through k n (all G) less low)) (room n low) less
+    where
+      through : (k n a : ℕ) → k < n → n < a → k < a
+      through k n a less low = omega (arith, less, low)

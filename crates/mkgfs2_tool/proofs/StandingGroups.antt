@@ -46,6 +46,7 @@ state_use : (p : Plan) (u : Use) → state_of (use_owner p u) ≡ (if is_dinode 
 state_use p use_is.Master = refl
 state_use p use_is.Root = refl
 state_use p use_is.Journals = refl
+state_use p (use_is.Leaf n) = refl
 state_use p (use_is.GroupList Top) = refl
 state_use p (use_is.GroupList (Pointers l x)) = refl
 state_use p (use_is.GroupList (Content x)) = refl

@@ -24,7 +24,7 @@ use Rattle.mkgfs2_tool.proofs.StandingShapes.{IsBelow, Piece, is_top, is_below, 
 use Rattle.mkgfs2_tool.proofs.StandingPlan.{apart_addresses}
 use Rattle.mkgfs2_tool.proofs.StandingOwners.{file_place, file_shape, file_bytes, spot, up_block, up_pointer, below_owner, owner, file_some, file_taken, in_all}
 use Rattle.mkgfs2_tool.proofs.StandingFiles.{file_low, file_number, file_dinode, file_dinode_is, spot_low, top_pointers, inner_block}
-use Rattle.mkgfs2_tool.proofs.StandingWhose.{owner_below, owner_top, same_file, not_chained, IsBelowOf, below_of}
+use Rattle.mkgfs2_tool.proofs.StandingWhose.{owner_below, owner_top, same_file, file_apart_journals, not_chained, IsBelowOf, below_of}
 
 abbrev pub image : Plan → Blocks → Image
 image p at = record { size = p.size; count = p.count; at = at }
@@ -164,7 +164,7 @@ module _ (p : Plan) (fit : IsFitting p) (known : Known p) (at : Blocks) (made : 
       from q = part_from y b k level first q.file q.l q.x (same_file p fit known q.file i q.ok ok (below_1 _ _ _ _ _ _ _ _ _ _ q.owned)) q.at q.is q.owned
 
   no_chain : (y hash place : ℕ) → part_at h y ≡ Some (InChain hash place) → ⊥
-  no_chain y hash place e = not_chained p fit known y a hash place (chained_owner known.given (image p at) (owner p) a y hash place e)
+  no_chain y hash place e = not_chained p fit known y a hash place (λ same. absurd (file_apart_journals p fit known i ok same)) (chained_owner known.given (image p at) (owner p) a y hash place e)
 
   spot_of : (l x : ℕ) → IsBelow (file_shape p i) l x → spot p i (level_start (file_shape p i) l + x) < p.count
   spot_of l x is = spot_low p fit known i (level_start (file_shape p i) l + x) ok (inside_file (file_shape p i) (file_low p fit known i) l x is)

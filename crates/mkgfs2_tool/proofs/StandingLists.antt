@@ -1,8 +1,8 @@
 -- Elements of lists, and how many of them pass a test.
-use Rattle.std.proofs.Common.{ℕ, zero, suc, ◌≡◌, ◌+◌, ◌<◌, ◌≤◌, ◌⊎◌, inl, inr, Bool, true, List, [], ◌∷◌, ◌++◌, length, map, get_or, Option, None, Some, refl, sym, ap, ap₂, ◌∙◌, subst, arith, cond}
-use Rattle.std.specs.Prelude.{◌==◌, Contains, count_by, flat_map}
-use Rattle.std.specs.List.{AllByRecursion, range_with_len, find}
-use Rattle.std.proofs.lemmas.Bool.{cases_Bool, cases_eq, cond-true, cond-false, eq-eqb, ne_eqb}
+use Rattle.std.proofs.Common.{ℕ, zero, suc, ◌≡◌, ◌+◌, ◌<◌, ◌≤◌, inl, inr, List, [], ◌∷◌, ◌++◌, map, refl, sym, arith}
+use Rattle.std.specs.Prelude.{◌==◌, count_by}
+use Rattle.std.specs.List.{AllByRecursion, range_with_len}
+use Rattle.std.proofs.lemmas.Bool.{cond-true, cond-false, eq-eqb, ne_eqb}
 use Rattle.std.proofs.lemmas.List.Sums.{sum_by-cons}
 pub use Rattle.image_model.proofs.Members.{IsIn, contained, is_in, in_range, from_range}
 pub use Rattle.image_model.proofs.Held.{none_some, some_same}
@@ -14,6 +14,10 @@ pub use Rattle.image_model.proofs.Reach.{found_in}
 pub map_same : {X Y : Type 0} (f g : X → Y) (xs : List X) → ((x : X) → IsIn x xs → f x ≡ g x) → map f xs ≡ map g xs
 map_same f g [] same = refl
 map_same f g (x ∷ xs) same = λ t. same x (inl refl) t ∷ map_same f g xs (λ y h. same y (inr h)) t
+
+pub all_append : {X : Type 0} (P : X → Type 0) (xs ys : List X) → AllByRecursion P xs → AllByRecursion P ys → AllByRecursion P (xs ++ ys)
+all_append P [] ys first later = later
+all_append P (x ∷ xs) ys first later = (first.0, all_append P xs ys first.1 later)
 
 -- ---- counts
 

@@ -3,7 +3,7 @@ use Rattle.std.proofs.Common.{ℕ, zero, suc, ◌≡◌, ◌+◌, ◌<◌, ◌�
 use Rattle.std.specs.Prelude.{◌==◌, ◌&&◌, not, slice_get}
 use Rattle.std.specs.List.{AllByRecursion, range_with_len, find}
 use Rattle.std.specs.Str.{bytes_eq}
-use Rattle.std.proofs.lemmas.Bool.{cases_eq, cases_Bool, cond-true, cond-false, false_from_ne_true}
+use Rattle.std.proofs.lemmas.Bool.{cases_eq, cases_Bool, cond-true, cond-false, true≢false, false_from_ne_true}
 use Rattle.std.proofs.lemmas.List.{length-map}
 use Rattle.std.proofs.lemmas.List.FromFn.{length-range_with_len}
 use Rattle.std.proofs.lemmas.List.Sums.{sum_by-cons}
@@ -14,7 +14,7 @@ use Rattle.image_model.specs.Journals.{journal_name}
 use Rattle.gfs2_layout.specs.Exchanges.{directory_count}
 use Rattle.gfs2_layout.specs.Records.{Record, is_dots}
 use Rattle.image_model.specs.Stands.{name_count}
-use Rattle.mkgfs2_tool.proofs.StandingLists.{IsIn}
+use Rattle.mkgfs2_tool.proofs.StandingLists.{IsIn, all_in}
 use Rattle.mkgfs2_tool.specs.Directories.{name_bytes, journal_entry}
 use Rattle.mkgfs2_tool.specs.declared.directory.Name.TheVariants as name
 use Rattle.mkgfs2_tool.specs.declared.plan.Plan.{Plan}
@@ -115,26 +115,34 @@ named_once (r ∷ rs) all name = elim (cases_Bool (bytes_eq name r.name)) [
 abbrev pub journal_records : Plan → ℕ → ℕ → List Record
 journal_records p start n = map entry_record (map (journal_entry p) (range_with_len start n))
 
+-- a journal has another name than later ones
+pub later_apart : (p : Plan) (j from n : ℕ) → j < from → AllByRecursion (λ (s : Record). bytes_eq (record_name j) s.name ≡ false) (journal_records p from n)
+later_apart p j from zero less = tt
+later_apart p j from (suc n) less =
+    (false_from_ne_true (bytes_eq (record_name j) (record_name from)) (λ e. absurd (omega (arith, less, names_apart j from ((bytes_eq-Decides (record_name j) (record_name from)).0 e)))), later_apart p j (from + 1) n (omega (arith, less)))
+
 pub journals_apart : (p : Plan) (start n : ℕ) → AreApart (journal_records p start n)
 journals_apart p start zero = tt
-journals_apart p start (suc n) = (later start (start + 1) n (omega arith), journals_apart p (start + 1) n)
-  where
-    later : (j from n : ℕ) → j < from → AllByRecursion (λ (s : Record). bytes_eq (record_name j) s.name ≡ false) (journal_records p from n)
-    later j from zero less = tt
-    later j from (suc n) less =
-        (false_from_ne_true (bytes_eq (record_name j) (record_name from)) (λ e. absurd (omega (arith, less, names_apart j from ((bytes_eq-Decides (record_name j) (record_name from)).0 e)))), later j (from + 1) n (omega (arith, less)))
+journals_apart p start (suc n) = (later_apart p start (start + 1) n (omega arith), journals_apart p (start + 1) n)
 
 pub dots_apart : (b : List ℕ) (p : Plan) (start n : ℕ) → ((j : ℕ) → bytes_eq b (record_name j) ≡ false) → AllByRecursion (λ (s : Record). bytes_eq b s.name ≡ false) (journal_records p start n)
 dots_apart b p start zero off = tt
 dots_apart b p start (suc n) off = (off start, dots_apart b p (start + 1) n off)
 
-pub journal_found : (p : Plan) (start n j : ℕ) → start ≤ j → j < start + n → find (λ (r : Record). bytes_eq (record_name j) r.name) (journal_records p start n) ≡ Some (entry_record (journal_entry p j))
-journal_found p start zero j low high = absurd (omega (arith, low, high))
-journal_found p start (suc n) j low high = elim (cases_eq j start) [
-  | inl e ↦ cond-true _ _ _ ((bytes_eq-Decides (record_name j) (record_name start)).1 (ap record_name e)) ∙ ap (λ k. Some (entry_record (journal_entry p k))) (sym e)
-  | inr d ↦ cond-false _ _ _ (false_from_ne_true (bytes_eq (record_name j) (record_name start)) (λ e. absurd (d (names_apart j start ((bytes_eq-Decides (record_name j) (record_name start)).0 e)))))
-      ∙ journal_found p (start + 1) n j (omega (arith, low, d)) (omega (arith, high))
+pub journal_in : (p : Plan) (start n j : ℕ) → start ≤ j → j < start + n → IsIn (entry_record (journal_entry p j)) (journal_records p start n)
+journal_in p start zero j low high = absurd (omega (arith, low, high))
+journal_in p start (suc n) j low high = elim (cases_eq j start) [
+  | inl e ↦ inl (ap (λ k. entry_record (journal_entry p k)) e)
+  | inr d ↦ inr (journal_in p (start + 1) n j (omega (arith, low, d)) (omega (arith, high)))
 ]
+
+-- of records of different names each is found by its own
+pub found_apart : (rs : List Record) → AreApart rs → (r : Record) → IsIn r rs → find (λ (s : Record). bytes_eq r.name s.name) rs ≡ Some r
+found_apart [] all r there = elim there [ ]
+found_apart (x ∷ rs) all r (inl e) = cond-true _ _ _ ((bytes_eq-Decides r.name x.name).1 (ap (λ (s : Record). s.name) e)) ∙ ap Some (sym e)
+found_apart (x ∷ rs) all r (inr h) =
+    cond-false _ _ _ (false_from_ne_true (bytes_eq r.name x.name) (λ e. absurd (true≢false (sym ((bytes_eq-Decides x.name r.name).1 (sym ((bytes_eq-Decides r.name x.name).0 e))) ∙ all_in (λ (s : Record). bytes_eq x.name s.name ≡ false) r rs all.0 h))))
+    ∙ found_apart rs all.1 r h
 
 -- a record of a journal
 pub record IsOfJournal (p : Plan) (n : ℕ) (r : Record) : Type 0 where

@@ -1,14 +1,14 @@
 -- Who owns each block of a new image.
-use Rattle.std.proofs.Common.{ℕ, zero, suc, ◌≡◌, ◌+◌, ◌-◌, ◌*◌, ◌/◌, ◌<◌, ◌≤◌, inl, inr, List, codes, refl, sym, ap, ◌∙◌, subst, arith}
-use Rattle.std.specs.Prelude.{◌%◌, nat_lt, nat_le, if◌then◌else◌}
+use Rattle.std.proofs.Common.{ℕ, zero, suc, ◌≡◌, ◌+◌, ◌-◌, ◌*◌, ◌/◌, ◌<◌, ◌≤◌, ◌⊎◌, inl, inr, List, codes, refl, sym, ap, ◌∙◌, subst, arith}
+use Rattle.std.specs.Prelude.{◌%◌, ◌^◌, ◌==◌, nat_lt, nat_le, if◌then◌else◌}
 use Rattle.std.proofs.lemmas.Bool.{cases_lt, cases_order, cond-true, cond-false, eq-eqb, ne_eqb, lt-ltb, le-ltb, le-leb, lt-leb}
 use Rattle.std.proofs.lemmas.Nat.{div-mul-add, mod-mul-add, div-add-mod', mod_below, div_below, row_fits}
 use Rattle.gfs2_layout.specs.Inode.{span}
 use Rattle.image_model.specs.Journals.{journal_name}
-use Rattle.image_model.specs.Owners.{Owner, Super, InGroup, Free, Nobody, Root, Master, Named, Below, Owners, IsUsed}
+use Rattle.image_model.specs.Owners.{Owner, Super, InGroup, Free, Nobody, Root, Master, Named, Below, Chained, Owners, IsUsed}
 use Rattle.mkgfs2_tool.specs.Groups.{super_block, last_group, group_address, group_blocks, headers_of, first_data, data_blocks, data_before, all_data, data_address}
 use Rattle.mkgfs2_tool.specs.Files.{block_pointers, height, level_start, file_blocks, part}
-use Rattle.mkgfs2_tool.specs.Order.{master_place, root_place, group_list_place, journals_place, journal_place, group_list, journal, taken, use_of, journal_use}
+use Rattle.mkgfs2_tool.specs.Order.{master_place, root_place, group_list_place, journals_place, journal_leaves, is_split, leaf_place, journal_place, group_list, journal, taken, use_of, journal_use}
 use Rattle.mkgfs2_tool.specs.Blocks.{group_at}
 use Rattle.mkgfs2_tool.specs.Making.{IsFitting}
 use Rattle.mkgfs2_tool.specs.declared.files.Shape.{Shape}
@@ -72,12 +72,21 @@ file_owner p i Top = named p i
 file_owner p i (Pointers l x) = below_owner p i l x
 file_owner p i (Content x) = below_owner p i (height (file_shape p i)) x
 
+-- ---- the leaves of the directory of journals: of two the one that was taken last has the lower half of the hashes
+
+abbrev pub leaf_hash : Plan → ℕ → ℕ
+leaf_hash p n = if is_split p then (if n == 0 then 2 ^ 31 else 0) else 0
+
+abbrev pub leaf_owner : Plan → ℕ → Owner
+leaf_owner p n = Chained (data_address p (journals_place p)) (leaf_hash p n) 0
+
 abbrev pub use_owner : Plan → Use → Owner
 use_owner p use_is.Master = Master
 use_owner p use_is.Root = Root
 use_owner p (use_is.GroupList part) = file_owner p 0 part
 use_owner p use_is.Journals = Named (data_address p master_place) (codes "jindex")
 use_owner p (use_is.Journal j part) = file_owner p (suc j) part
+use_owner p (use_is.Leaf n) = leaf_owner p n
 
 abbrev pub data_owner : Plan → ℕ → ℕ → Owner
 data_owner p group k = if nat_lt k (taken p) then use_owner p (use_of p k) else Free (group_address p group)
@@ -107,6 +116,7 @@ pub data Kept (p : Plan) (k : ℕ) : Type 0 where
   is_master : k ≡ master_place → Kept p k
   is_root : k ≡ root_place → Kept p k
   is_journals : k ≡ journals_place p → Kept p k
+  is_leaf : (n : ℕ) → n < journal_leaves p → k ≡ leaf_place p n → Kept p k
   is_file : (i n : ℕ) → i ≤ p.journals → n < file_blocks (file_shape p i) → k ≡ file_place p i + n → Kept p k
 
 gone : (a r : ℕ) → a + r - a ≡ r
@@ -143,20 +153,36 @@ use_of_list p n low =
     ∙ cond-true _ _ _ (lt-ltb (2 + n) (journals_place p) (omega (arith, low)))
     ∙ ap (λ m. use_is.GroupList (part (group_list p) m)) (gone 2 n)
 
-use_behind : (p : Plan) (m : ℕ) → use_of p (journals_place p + 1 + m) ≡ journal_use p m
-use_behind p m =
-    cond-false _ _ _ (ne_eqb (journals_place p + 1 + m) 0 (λ e. absurd (omega (arith, e))))
-    ∙ cond-false _ _ _ (ne_eqb (journals_place p + 1 + m) 1 (λ e. absurd (omega (arith, e))))
-    ∙ cond-false _ _ _ (le-ltb (journals_place p + 1 + m) (journals_place p) (omega arith))
-    ∙ cond-false _ _ _ (ne_eqb (journals_place p + 1 + m) (journals_place p) (λ e. absurd (omega (arith, e))))
-    ∙ ap (journal_use p) (behind_first (journals_place p + 1) m (file_blocks (journal p)))
+-- behind the directory's dinode
+use_later : (p : Plan) (m : ℕ) → use_of p (leaf_place p m) ≡ (if nat_lt (leaf_place p m) (journal_place p 0) then use_is.Leaf (leaf_place p m - leaf_place p 0) else journal_use p (leaf_place p m - journal_place p 0))
+use_later p m =
+    cond-false _ _ _ (ne_eqb (leaf_place p m) 0 (λ e. absurd (omega (arith, e))))
+    ∙ cond-false _ _ _ (ne_eqb (leaf_place p m) 1 (λ e. absurd (omega (arith, e))))
+    ∙ cond-false _ _ _ (le-ltb (leaf_place p m) (journals_place p) (omega arith))
+    ∙ cond-false _ _ _ (ne_eqb (leaf_place p m) (journals_place p) (λ e. absurd (omega (arith, e))))
+
+pub use_of_leaf : (p : Plan) (n : ℕ) → n < journal_leaves p → use_of p (leaf_place p n) ≡ use_is.Leaf n
+use_of_leaf p n low =
+    use_later p n ∙ cond-true _ _ _ (lt-ltb (leaf_place p n) (journal_place p 0) (omega (arith, low))) ∙ ap use_is.Leaf (first (journals_place p) n)
   where
-    behind_first : (a m n : ℕ) → a + m - (a + 0 * n) ≡ m
-    behind_first a m n = omega arith
+    first : (a n : ℕ) → a + 1 + n - (a + 1 + 0) ≡ n
+    first a n = omega arith
+
+use_behind : (p : Plan) (m : ℕ) → use_of p (leaf_place p (journal_leaves p) + m) ≡ journal_use p m
+use_behind p m =
+    ap (use_of p) (turn (journals_place p + 1) (journal_leaves p) m) ∙ use_later p (journal_leaves p + m)
+    ∙ cond-false _ _ _ (le-ltb (leaf_place p (journal_leaves p + m)) (journal_place p 0) (omega arith))
+    ∙ ap (journal_use p) (behind_first (journals_place p + 1) (journal_leaves p) m (file_blocks (journal p)))
+  where
+    turn : (a b m : ℕ) → a + b + m ≡ a + (b + m)
+    turn a b m = omega arith
+
+    behind_first : (a b m n : ℕ) → a + (b + m) - (a + b + 0 * n) ≡ m
+    behind_first a b m n = omega arith
 
 use_of_journal : (p : Plan) (j n : ℕ) → n < file_blocks (journal p) → use_of p (journal_place p j + n) ≡ use_is.Journal j (part (journal p) n)
 use_of_journal p j n low =
-    ap (use_of p) (let e : journals_place p + 1 + j * file_blocks (journal p) + n ≡ journals_place p + 1 + (j * file_blocks (journal p) + n) = omega arith in e)
+    ap (use_of p) (let e : leaf_place p (journal_leaves p) + j * file_blocks (journal p) + n ≡ leaf_place p (journal_leaves p) + (j * file_blocks (journal p) + n) = omega arith in e)
     ∙ use_behind p (j * file_blocks (journal p) + n)
     ∙ (λ i. use_is.Journal (div-mul-add j (file_blocks (journal p)) n low i) (part (journal p) (mod-mul-add j (file_blocks (journal p)) n low i)))
 
@@ -170,14 +196,18 @@ kept p (suc zero) low = is_root refl
 kept p (suc (suc n)) low = elim (cases_order (suc (suc n)) (journals_place p)) [
   | inl e ↦ is_journals e
   | inr (inl less) ↦ is_file 0 n (omega arith) (omega (arith, less)) (omega arith)
-  | inr (inr more) ↦ of_journals (suc (suc n) - (journals_place p + 1)) (omega (arith, more))
+  | inr (inr more) ↦ later (cases_lt (suc (suc n)) (leaf_place p (journal_leaves p))) more
 ]
   where
-    of_journals : (m : ℕ) → suc (suc n) ≡ journals_place p + 1 + m → Kept p (suc (suc n))
+    of_journals : (m : ℕ) → suc (suc n) ≡ leaf_place p (journal_leaves p) + m → Kept p (suc (suc n))
     of_journals m e =
         let fb = file_blocks (journal p) in
         is_file (suc (m / fb)) (m % fb) (div_below m fb p.journals (some_blocks (journal p)) (omega (arith, low, e)))
         (mod_below m fb (some_blocks (journal p))) (omega (arith, e, div-add-mod' m fb))
+
+    later : (suc (suc n) < leaf_place p (journal_leaves p)) ⊎ (leaf_place p (journal_leaves p) ≤ suc (suc n)) → journals_place p < suc (suc n) → Kept p (suc (suc n))
+    later (inl leaf) more = is_leaf (suc (suc n) - leaf_place p 0) (omega (arith, leaf, more)) (omega (arith, more))
+    later (inr behind) more = of_journals (suc (suc n) - leaf_place p (journal_leaves p)) (omega (arith, behind))
 
 -- each file has a place of its own
 pub file_apart : (p : Plan) (i k : ℕ) → file_place p i ≡ file_place p k → i ≡ k
@@ -189,6 +219,14 @@ file_apart p (suc j) (suc k) e = ap suc (elim (cases_order j k) [
   | inr (inl less) ↦ absurd (omega (arith, e, some_blocks (journal p), row_fits j (file_blocks (journal p)) k (file_blocks (journal p)) less (omega arith)))
   | inr (inr more) ↦ absurd (omega (arith, e, some_blocks (journal p), row_fits k (file_blocks (journal p)) j (file_blocks (journal p)) more (omega arith)))
 ])
+
+-- none is that of the directory of journals
+pub file_not_journals : (p : Plan) (i : ℕ) → file_place p i ≡ journals_place p → ⊥
+file_not_journals p zero e = absurd (before (file_blocks (group_list p)) (file_some p 0) e)
+  where
+    before : (n : ℕ) → 1 ≤ n → 2 ≡ 2 + n → ⊥
+    before n some e = absurd (omega (arith, some, e))
+file_not_journals p (suc j) e = absurd (omega (arith, e))
 
 -- a file's blocks are taken
 pub file_taken : (p : Plan) (i n : ℕ) → i ≤ p.journals → n < file_blocks (file_shape p i) → file_place p i + n < taken p
@@ -203,6 +241,9 @@ two_taken p = omega arith
 
 pub journals_taken : (p : Plan) → journals_place p < taken p
 journals_taken p = omega arith
+
+pub leaf_taken : (p : Plan) (n : ℕ) → n < journal_leaves p → leaf_place p n < taken p
+leaf_taken p n low = omega (arith, low)
 
 module _ (p : Plan) (fit : IsFitting p) where
   pub zone : (b : ℕ) → Zone p b
@@ -306,6 +347,9 @@ module _ (p : Plan) (fit : IsFitting p) where
 
   pub owner_journals : owner p (data_address p (journals_place p)) ≡ Named (data_address p master_place) (codes "jindex")
   owner_journals = owner_taken (journals_place p) (journals_taken p) ∙ ap (use_owner p) (use_of_journals p)
+
+  pub owner_leaf : (n : ℕ) → n < journal_leaves p → owner p (data_address p (leaf_place p n)) ≡ leaf_owner p n
+  owner_leaf n low = owner_taken (leaf_place p n) (leaf_taken p n low) ∙ ap (use_owner p) (use_of_leaf p n low)
 
   pub owner_file : (i n : ℕ) → i ≤ p.journals → n < file_blocks (file_shape p i) → owner p (spot p i n) ≡ file_owner p i (part (file_shape p i) n)
   owner_file i n ok low = owner_taken (file_place p i + n) (file_taken p i n ok low) ∙ ap (use_owner p) (use_of_file p i n low) ∙ same i (part (file_shape p i) n)

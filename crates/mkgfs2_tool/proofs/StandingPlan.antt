@@ -8,7 +8,7 @@ use Rattle.mkgfs2_tool.specs.Blocks.{zeros, superblock, new_block, group_block, 
 use Rattle.gfs2_layout.specs.Writing.{superblock_put}
 use Rattle.mkgfs2_tool.specs.Making.{IsFitting}
 use Rattle.mkgfs2_tool.specs.declared.plan.Plan.{Plan}
-use Rattle.mkgfs2_tool.proofs.StandingGround.{Ground, IsGround, IsRoom, address_at_room, over_at, room, group_ends, rooms_below, apart}
+use Rattle.mkgfs2_tool.proofs.StandingGround.{Ground, IsGround, IsRoom, address_at_room, over_at, room, group_ends, rooms_below, apart, addresses_rise}
 
 abbrev pub ground : Plan → Ground
 ground p = record {
@@ -105,6 +105,10 @@ module _ (p : Plan) (fit : IsFitting p) where
   pub apart_addresses : (k n : ℕ) → k < all_data p → n < all_data p → data_address p k ≡ data_address p n → k ≡ n
   unfolding data_address
   apart_addresses k n low low' e = apart (ground p) ground_is k n low low' e
+
+  pub addresses_up : (k n : ℕ) → k < n → n < all_data p → data_address p k < data_address p n
+  unfolding data_address
+  addresses_up k n less low = addresses_rise (ground p) ground_is k n less low
 
   pub new_room : (g r : ℕ) → g ≤ last_group p → r < data_blocks p g → new_block p (first_data p g + r) ≡ data_block p (data_before p g + r)
   unfolding group_block

@@ -13,11 +13,10 @@ use Rattle.mkgfs2_tool.proofs.StandingLists.{some_same}
 use Rattle.mkgfs2_tool.specs.Groups.{super_block, group_address, group_blocks, data_address}
 use Rattle.mkgfs2_tool.specs.Order.{master_place, journals_place, journal_place}
 use Rattle.mkgfs2_tool.specs.Blocks.{group_entry, clean_header}
-use Rattle.mkgfs2_tool.specs.Directories.{journals_entries}
 use Rattle.mkgfs2_tool.specs.Making.{IsFitting}
 use Rattle.mkgfs2_tool.specs.Standing.{IsStamped, IsNewImage, new_layout, HasCleanHeads, StandsEmpty}
 use Rattle.mkgfs2_tool.specs.declared.plan.Plan.{Plan}
-use Rattle.mkgfs2_tool.proofs.StandingDirs.{dir_linear, journals_at}
+use Rattle.mkgfs2_tool.proofs.StandingJindex.{jindex_is}
 use Rattle.mkgfs2_tool.proofs.StandingGiven.{Given, Known}
 use Rattle.mkgfs2_tool.proofs.StandingGround.{group_ends}
 use Rattle.mkgfs2_tool.proofs.StandingPlan.{ground, ground_is}
@@ -135,7 +134,7 @@ module _ (p : Plan) (fit : IsFitting p) (known : Known p) (at : Blocks) (made : 
     stands = record { owners = owner p; layout = new_layout p; laid = laid; reads = reads p fit known at made };
     found = refl;
     heads = heads;
-    linear = dir_linear p fit known at made (journals_place p) 4 (2 + p.journals) 2 (journals_entries p) (journals_at p fit known);
+    form = (jindex_is p fit known at made).form;
     profile = profile;
   }
 

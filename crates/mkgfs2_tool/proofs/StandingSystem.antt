@@ -1,9 +1,8 @@
 -- The inodes of a new image, and where names lead.
 use Rattle.std.proofs.Common.{ℕ, zero, suc, ◌≡◌, ◌+◌, ◌<◌, ◌≤◌, ◌⊎◌, inl, inr, Bool, true, false, List, [], ◌∷◌, map, Option, None, Some, codes, refl, sym, ap, ◌∙◌, subst, arith}
-use Rattle.std.specs.Prelude.{length, ◌/◌, ◌%◌, ◌==◌, ◌&&◌, not, Contains, option_and_then, cond}
+use Rattle.std.specs.Prelude.{length, ◌/◌, ◌%◌, Contains, option_and_then}
 use Rattle.std.specs.Option.{option_map}
 use Rattle.std.proofs.lemmas.Bool.{cond-true, cond-false, eqb-true, true≢false}
-use Rattle.std.proofs.lemmas.List.Sums.{sum_by-cons}
 use Rattle.std.proofs.lemmas.List.FromFn.{length-map-range_with_len}
 use Rattle.file_tree.specs.Tree.{dir, none}
 use Rattle.gfs2_layout.specs.Structures.{is_directory, is_regular}
@@ -13,36 +12,33 @@ use Rattle.image_model.specs.Image.{Blocks}
 use Rattle.gfs2_layout.specs.Inode.{Head, dinode_in, is_directory_in, records_of, IsInode}
 use Rattle.image_model.specs.Journals.{journal_name, IsJournal}
 use Rattle.image_model.specs.Owners.{Owner, Super, InGroup, Free, Nobody, Root, Master, Named, Below, Chained, Up, up_of, parent_of, is_dinode, IsUsed, IsWithin}
-use Rattle.image_model.specs.Nodes.{node_of, child_of}
+use Rattle.image_model.specs.Nodes.{node_of}
 use Rattle.image_model.specs.Stands.{IsJournalAt, flat_of, heads_of, IsRecordOf, HasRecord, LeadsDown, IsDirectory, IsSystem, IsFound, AreShort}
-use Rattle.mkgfs2_tool.proofs.StandingLists.{none_some, some_same, IsIn, is_in, contained, found_in}
-use Rattle.std.specs.Str.{bytes_eq}
+use Rattle.mkgfs2_tool.proofs.StandingLists.{none_some, some_same, IsIn, is_in, contained}
 use Rattle.std.specs.Option.{option_map}
-use Rattle.std.proofs.lemmas.Bool.{cases_Bool}
-use Rattle.std.proofs.lemmas.Slice.Eq.{bytes_eq-Decides}
-use Rattle.gfs2_layout.specs.Records.{Record, is_dots, child_named, record_named}
-use Rattle.gfs2_layout.specs.Holding.{Holding}
-use Rattle.gfs2_layout.specs.Exchanges.{directory_count}
+use Rattle.gfs2_layout.specs.Records.{Record, is_dots, child_named}
 use Rattle.mkgfs2_tool.specs.Groups.{data_address}
 use Rattle.mkgfs2_tool.specs.Order.{master_place, root_place, journals_place, journal_place}
-use Rattle.mkgfs2_tool.specs.Directories.{journal_entry, master_entries, root_entries, journals_entries}
+use Rattle.mkgfs2_tool.specs.Directories.{journal_entry, master_entries, root_entries}
 use Rattle.mkgfs2_tool.specs.Blocks.{group_entries}
 use Rattle.mkgfs2_tool.specs.Making.{IsFitting}
 use Rattle.mkgfs2_tool.specs.Standing.{new_layout}
 use Rattle.mkgfs2_tool.specs.declared.directory.Entry.{Entry}
 use Rattle.mkgfs2_tool.specs.declared.plan.Plan.{Plan}
 use Rattle.mkgfs2_tool.proofs.StandingGiven.{Known}
-use Rattle.mkgfs2_tool.proofs.StandingOwners.{file_place, file_name, file_parent, spot, below_owner, owner, owner_master, owner_root, owner_journals}
+use Rattle.mkgfs2_tool.proofs.StandingOwners.{file_place, file_name, file_parent, spot, below_owner, leaf_owner, owner, owner_master, owner_root, owner_journals}
 use Rattle.mkgfs2_tool.proofs.StandingFiles.{file_number}
-use Rattle.mkgfs2_tool.proofs.StandingWhose.{Whose, whose_master, whose_root, whose_journals, whose_file, whose_below, whose_none, whose, owner_top}
+use Rattle.mkgfs2_tool.proofs.StandingWhose.{Whose, whose_master, whose_root, whose_journals, whose_leaf, whose_file, whose_below, whose_none, whose, owner_top}
 use Rattle.mkgfs2_tool.proofs.StandingInodes.{image, AreMade, held, file_own, file_plain, file_number_is, file_sound}
 use Rattle.mkgfs2_tool.proofs.StandingRings.{new_journal}
 use Rattle.mkgfs2_tool.proofs.StandingList.{list_content, list_is}
 use Rattle.mkgfs2_tool.proofs.StandingRecords.{entry_record}
-use Rattle.mkgfs2_tool.proofs.StandingDirs.{IsDirectoryAt, dir_is, dir_sound, dir_number, dir_entries, dir_links, dir_records, master_at, root_at, journals_at}
-use Rattle.mkgfs2_tool.proofs.StandingNames.{record_name, name_is, is_journal_name, is_jindex_name, is_rindex_name, named_once, journal_records, journals_apart, dots_apart, journal_found, IsOfJournal, of_journal, length_journals, no_directories, got_at, get_at}
+use Rattle.mkgfs2_tool.proofs.StandingDirs.{IsDirectoryAt, dir_is, dir_sound, dir_number, dir_entries, dir_links, dir_records, master_at, root_at}
+use Rattle.mkgfs2_tool.proofs.StandingNames.{record_name, name_is, is_journal_name, is_jindex_name, is_rindex_name, named_once, found_apart, IsOfJournal, got_at, get_at}
+use Rattle.mkgfs2_tool.proofs.StandingLeaves.{this_record, parent_record, journal_record}
+use Rattle.mkgfs2_tool.proofs.StandingJindex.{Said, is_this, is_parent, is_journal, IsJindex, jindex_is}
 use Rattle.image_model.proofs.JournalNames.{one_number}
-use Rattle.image_model.proofs.Reach.{Leading, IsNamedChild, leading, named_child}
+use Rattle.image_model.proofs.Reach.{Leading, IsNamedChild, named_child}
 
 used_dinode : (o : Owner) → is_dinode o ≡ true → IsUsed o
 used_dinode Super e = cc
@@ -83,6 +79,12 @@ not_regular d e f = absurd (omega (arith, eqb-true (d.mode / 4096 % 16) 4 e, eqb
 no_below_dinode : (p : Plan) (i l x : ℕ) → is_dinode (below_owner p i l x) ≡ true → ⊥
 no_below_dinode p i l x e = cc
 
+no_leaf_dinode : (p : Plan) (n : ℕ) → is_dinode (leaf_owner p n) ≡ true → ⊥
+no_leaf_dinode p n e = cc
+
+leaf_up : (p : Plan) (n : ℕ) (u : Up) → up_of (leaf_owner p n) ≡ Some u → ⊥
+leaf_up p n u e = cc
+
 master_up : (u : Up) → up_of Master ≡ Some u → ⊥
 master_up u e = cc
 
@@ -121,11 +123,11 @@ module _ (p : Plan) (fit : IsFitting p) (known : Known p) (at : Blocks) (made : 
   root_head : HasHead root 2 true
   root_head = record { number_is = dir_number p fit known at made root_place 2 2 2 (root_entries p) (root_at p fit known); dir_is = dir_is p fit known at made root_place 2 2 2 (root_entries p) (root_at p fit known) }
 
+  the_jindex : IsJindex p (held p at jindex)
+  the_jindex = jindex_is p fit known at made
+
   jindex_head : HasHead jindex 4 true
-  jindex_head = record {
-    number_is = dir_number p fit known at made (journals_place p) 4 (2 + p.journals) 2 (journals_entries p) (journals_at p fit known);
-    dir_is = dir_is p fit known at made (journals_place p) 4 (2 + p.journals) 2 (journals_entries p) (journals_at p fit known);
-  }
+  jindex_head = record { number_is = the_jindex.number; dir_is = the_jindex.dir }
 
   file_head : (i : ℕ) → i ≤ p.journals → HasHead (spot p i 0) (file_number i) false
   file_head i ok = record { number_is = file_number_is p fit known at made i ok; dir_is = file_plain p fit known at made i ok }
@@ -155,7 +157,7 @@ module _ (p : Plan) (fit : IsFitting p) (known : Known p) (at : Blocks) (made : 
   root_records = map entry_record (root_entries p)
 
   abbrev jindex_records : List Record
-  jindex_records = map entry_record (journals_entries p)
+  jindex_records = the_jindex.said
 
   no_dots : (r q : Record) → r ≡ q → is_dots q.name ≡ true → is_dots r.name ≡ false → ⊥
   no_dots r q e so non = true≢false (sym (ap (λ (s : Record). is_dots s.name) e ∙ so) ∙ non)
@@ -218,47 +220,23 @@ module _ (p : Plan) (fit : IsFitting p) (known : Known p) (at : Blocks) (made : 
   }
 
   jindex_down : (r : Record) → Contains jindex_records r → is_dots r.name ≡ false → LeadsDown heads (owner p) jindex r
-  jindex_down r there non = each (is_in r jindex_records there)
+  jindex_down r there non = each (the_jindex.are.only r (is_in r jindex_records there))
     where
-      of : IsOfJournal p p.journals r → LeadsDown heads (owner p) jindex r
-      of q = subst (LeadsDown heads (owner p) jindex) (sym q.is) (journal_down q.j q.low)
-
-      each : IsIn r jindex_records → LeadsDown heads (owner p) jindex r
-      each (inl e) = absurd (no_dots r _ e refl non)
-      each (inr (inl e)) = absurd (no_dots r _ e refl non)
-      each (inr (inr h)) = of (of_journal p 0 p.journals p.journals r (omega arith) h)
-
-  jindex_links : directory_count jindex_records ≡ 0
-  jindex_links = none (directory_count jindex_records) (directory_count later) (directory_count (journal_records p 0 p.journals)) (sum_by-cons test first later) (sum_by-cons test second (journal_records p 0 p.journals)) (no_directories p 0 p.journals)
-    where
-      test : Record → ℕ
-      test r = cond (not (is_dots r.name) && r.kind == 4) 1 0
-
-      first : Record
-      first = record { name = codes "."; number = 4; address = jindex; kind = 4 }
-
-      second : Record
-      second = record { name = codes ".."; number = 1; address = master; kind = 4 }
-
-      later : List Record
-      later = second ∷ journal_records p 0 p.journals
-
-      none : (a b c : ℕ) → a ≡ 0 + b → b ≡ 0 + c → c ≡ 0 → a ≡ 0
-      none a b c e f z = omega (arith, e, f, z)
+      each : Said p r → LeadsDown heads (owner p) jindex r
+      each (is_this e) = absurd (no_dots r _ e refl non)
+      each (is_parent e) = absurd (no_dots r _ e refl non)
+      each (is_journal q) = subst (LeadsDown heads (owner p) jindex) (sym q.is) (journal_down q.j q.low)
 
   jindex_directory : IsDirectory heads (owner p) jindex jindex_records (dinode_in (held p at jindex))
   jindex_directory = record {
-    dot = has_record jindex_records (record { name = codes "."; number = 4; address = jindex; kind = 4 }) jindex (inl refl) (dir_record (codes ".") jindex 4 jindex_head);
+    dot = has_record jindex_records (this_record p) jindex the_jindex.are.dot (dir_record (codes ".") jindex 4 jindex_head);
     dots = subst (HasRecord heads jindex_records (codes "..")) (sym (ap (parent_of jindex) (owner_journals p fit)))
-        (has_record jindex_records (record { name = codes ".."; number = 1; address = master; kind = 4 }) master (inr (inl refl)) (dir_record (codes "..") master 1 master_head));
-    once = named_once jindex_records ((refl, dots_apart (codes ".") p 0 p.journals (λ j. refl)), (dots_apart (codes "..") p 0 p.journals (λ j. refl), journals_apart p 0 p.journals));
+        (has_record jindex_records (parent_record p) master the_jindex.are.dots (dir_record (codes "..") master 1 master_head));
+    once = named_once jindex_records the_jindex.are.apart;
     down = jindex_down;
-    entries = dir_entries p fit known at made (journals_place p) 4 (2 + p.journals) 2 (journals_entries p) (journals_at p fit known) ∙ two_more p.journals ∙ ap (λ n. suc (suc n)) (sym (length_journals p 0 p.journals));
-    links = dir_links p fit known at made (journals_place p) 4 (2 + p.journals) 2 (journals_entries p) (journals_at p fit known) ∙ ap (λ n. 2 + n) (sym jindex_links);
+    entries = the_jindex.entries ∙ sym the_jindex.are.long;
+    links = the_jindex.links ∙ ap (λ n. 2 + n) (sym the_jindex.are.plain);
   }
-    where
-      two_more : (n : ℕ) → 2 + n ≡ suc (suc n)
-      two_more n = omega arith
 
   pub directories : (a : ℕ) → is_dinode (owner p a) ≡ true → is_directory_in (held p at a) ≡ true → IsDirectory heads (owner p) a (records_of (held p at a)) (dinode_in (held p at a))
   directories a dinode is = each (whose p fit known a)
@@ -270,7 +248,8 @@ module _ (p : Plan) (fit : IsFitting p) (known : Known p) (at : Blocks) (made : 
       each (whose_master e o) = subst directory_at (sym e) (subst (λ (rs : List Record). IsDirectory heads (owner p) master rs (dinode_in (held p at master))) (sym (dir_records p fit known at made master_place 1 4 3 (master_entries p) (master_at p fit known))) master_directory)
       each (whose_root e o) = subst directory_at (sym e) (subst (λ (rs : List Record). IsDirectory heads (owner p) root rs (dinode_in (held p at root))) (sym (dir_records p fit known at made root_place 2 2 2 (root_entries p) (root_at p fit known))) root_directory)
       each (whose_journals e o) = subst directory_at (sym e) (subst (λ (rs : List Record). IsDirectory heads (owner p) jindex rs (dinode_in (held p at jindex)))
-          (sym (dir_records p fit known at made (journals_place p) 4 (2 + p.journals) 2 (journals_entries p) (journals_at p fit known))) jindex_directory)
+          (sym the_jindex.records) jindex_directory)
+      each (whose_leaf n low e o) = absurd (no_leaf_dinode p n (ap is_dinode (sym o) ∙ dinode))
       each (whose_file i ok e o) = absurd (true≢false (sym is ∙ ap (λ n. is_directory_in (held p at n)) e ∙ file_plain p fit known at made i ok))
       each (whose_below i l x ok below e o) = absurd (no_below_dinode p i l x (ap is_dinode (sym o) ∙ dinode))
       each (whose_none un) = absurd (un (used_dinode (owner p a) dinode))
@@ -284,7 +263,8 @@ module _ (p : Plan) (fit : IsFitting p) (known : Known p) (at : Blocks) (made : 
       each : Whose p a → IsInode (held p at a)
       each (whose_master e o) = subst sound_at (sym e) (dir_sound p fit known at made master_place 1 4 3 (master_entries p) (master_at p fit known))
       each (whose_root e o) = subst sound_at (sym e) (dir_sound p fit known at made root_place 2 2 2 (root_entries p) (root_at p fit known))
-      each (whose_journals e o) = subst sound_at (sym e) (dir_sound p fit known at made (journals_place p) 4 (2 + p.journals) 2 (journals_entries p) (journals_at p fit known))
+      each (whose_journals e o) = subst sound_at (sym e) the_jindex.sound
+      each (whose_leaf n low e o) = absurd (no_leaf_dinode p n (ap is_dinode (sym o) ∙ dinode))
       each (whose_file i ok e o) = subst sound_at (sym e) (file_sound p fit known at made i ok)
       each (whose_below i l x ok below e o) = absurd (no_below_dinode p i l x (ap is_dinode (sym o) ∙ dinode))
       each (whose_none un) = absurd (un (used_dinode (owner p a) dinode))
@@ -296,51 +276,67 @@ module _ (p : Plan) (fit : IsFitting p) (known : Known p) (at : Blocks) (made : 
       each (whose_master e o) = elim (subst (IsWithin a) o inside) [ ]
       each (whose_root e o) = elim (subst (IsWithin a) o inside) [ ]
       each (whose_journals e o) = elim (subst (IsWithin a) o inside) [ ]
+      each (whose_leaf n low e o) = ap (λ b. is_dinode (owner p b)) (sym (subst (IsWithin a) o inside)) ∙ ap is_dinode (owner_journals p fit)
       each (whose_file i ok e o) = elim (subst (IsWithin a) o inside) [ ]
       each (whose_below i l x ok below e o) = ap (λ n. is_dinode (owner p n)) (sym (subst (IsWithin a) o inside)) ∙ file_own p fit known at made i ok
       each (whose_none un) = absurd (un (used_within a (owner p b) inside))
 
   -- ---- where names lead
 
-  module _ (place number count links : ℕ) (es : List Entry) (is : IsDirectoryAt p place number count links es) where
-    node_is : flat (data_address p place) ≡ node_of (held p at (data_address p place))
+  -- the directory in this block has these records
+  record HasSaid (a : ℕ) (rs : List Record) : Type 0 where
+    pub own : is_dinode (owner p a) ≡ true
+    pub dir : is_directory_in (held p at a) ≡ true
+    pub records : records_of (held p at a) ≡ rs
+
+  said_at : (place number count links : ℕ) (es : List Entry) → IsDirectoryAt p place number count links es → HasSaid (data_address p place) (map entry_record es)
+  said_at place number count links es is = record { own = is.own; dir = dir_is p fit known at made place number count links es is; records = dir_records p fit known at made place number count links es is }
+
+  master_said : HasSaid master master_records
+  master_said = said_at master_place 1 4 3 (master_entries p) (master_at p fit known)
+
+  root_said : HasSaid root root_records
+  root_said = said_at root_place 2 2 2 (root_entries p) (root_at p fit known)
+
+  jindex_said : HasSaid jindex jindex_records
+  jindex_said = record { own = ap is_dinode (owner_journals p fit); dir = the_jindex.dir; records = the_jindex.records }
+
+  module _ (a : ℕ) (rs : List Record) (is : HasSaid a rs) where
+    node_is : flat a ≡ node_of (held p at a)
     node_is = cond-true _ _ _ is.own
 
-    child_is : (name : List ℕ) → is_dots name ≡ false → (flat (data_address p place)).child name ≡ child_named (map entry_record es) name
+    child_is : (name : List ℕ) → is_dots name ≡ false → (flat a).child name ≡ child_named rs name
     child_is name non =
         ap (λ (n : Node). n.child name) node_is
-        ∙ cond-true _ _ _ (dir_is p fit known at made place number count links es is)
+        ∙ cond-true _ _ _ is.dir
         ∙ cond-false _ _ _ non
-        ∙ ap (λ (rs : List Record). child_named rs name) (dir_records p fit known at made place number count links es is)
+        ∙ ap (λ (rs : List Record). child_named rs name) is.records
 
-    dir_thing : (flat (data_address p place)).thing ≡ ADir
-    dir_thing = ap (λ (n : Node). n.thing) node_is ∙ cond-true _ _ _ (dir_is p fit known at made place number count links es is)
+    dir_thing : (flat a).thing ≡ ADir
+    dir_thing = ap (λ (n : Node). n.thing) node_is ∙ cond-true _ _ _ is.dir
 
     -- a name that leads somewhere is that of a record
-    child_from : (name : List ℕ) (b : ℕ) → (flat (data_address p place)).child name ≡ Some b → (is_dots name ≡ false) × Leading (map entry_record es) name b
-    child_from name b e = from (named_child (held p at (data_address p place)) name b (sym (ap (λ (n : Node). n.child name) node_is) ∙ e))
+    child_from : (name : List ℕ) (b : ℕ) → (flat a).child name ≡ Some b → (is_dots name ≡ false) × Leading rs name b
+    child_from name b e = from (named_child (held p at a) name b (sym (ap (λ (n : Node). n.child name) node_is) ∙ e))
       where
-        from : IsNamedChild (held p at (data_address p place)) name b → (is_dots name ≡ false) × Leading (map entry_record es) name b
-        from q = (q.name_is, subst (λ (rs : List Record). Leading rs name b) (dir_records p fit known at made place number count links es is) q.leads)
+        from : IsNamedChild (held p at a) name b → (is_dots name ≡ false) × Leading rs name b
+        from q = (q.name_is, subst (λ (rs : List Record). Leading rs name b) is.records q.leads)
 
   master_jindex : (flat master).child (codes "jindex") ≡ Some jindex
-  master_jindex = child_is master_place 1 4 3 (master_entries p) (master_at p fit known) (codes "jindex") refl
+  master_jindex = child_is master master_records master_said (codes "jindex") refl
 
   master_rindex : (flat master).child (codes "rindex") ≡ Some (spot p 0 0)
-  master_rindex = child_is master_place 1 4 3 (master_entries p) (master_at p fit known) (codes "rindex") refl
+  master_rindex = child_is master master_records master_said (codes "rindex") refl
 
   jindex_journal : (j : ℕ) → suc j ≤ p.journals → (flat jindex).child (journal_name j) ≡ Some (spot p (suc j) 0)
   jindex_journal j low =
       ap (flat jindex).child (sym (name_is j (few_journals j low)))
-      ∙ child_is (journals_place p) 4 (2 + p.journals) 2 (journals_entries p) (journals_at p fit known) (record_name j) refl
-      ∙ ap (option_map (λ (r : Record). r.address)) (journal_found p 0 p.journals j (omega arith) (under j p.journals low))
+      ∙ child_is jindex jindex_records jindex_said (record_name j) refl
+      ∙ ap (option_map (λ (r : Record). r.address)) (found_apart jindex_records the_jindex.are.apart (journal_record p j) (the_jindex.are.each j low))
       ∙ ap Some (file_address (suc j))
-    where
-      under : (j n : ℕ) → suc j ≤ n → j < 0 + n
-      under j n low = omega (arith, low)
 
   pub master_only : (name : List ℕ) (b : ℕ) → (flat master).child name ≡ Some b → (name ≡ codes "jindex") ⊎ (name ≡ codes "rindex")
-  master_only name b e = from (child_from master_place 1 4 3 (master_entries p) (master_at p fit known) name b e)
+  master_only name b e = from (child_from master master_records master_said name b e)
     where
       from : (is_dots name ≡ false) × Leading master_records name b → (name ≡ codes "jindex") ⊎ (name ≡ codes "rindex")
       from q = each (is_in q.1.entry master_records q.1.there)
@@ -353,7 +349,7 @@ module _ (p : Plan) (fit : IsFitting p) (known : Known p) (at : Blocks) (made : 
           each (inr (inr (inr (inr h)))) = elim h [ ]
 
   root_none : (name : List ℕ) (b : ℕ) → (flat root).child name ≡ Some b → ⊥
-  root_none name b e = from (child_from root_place 2 2 2 (root_entries p) (root_at p fit known) name b e)
+  root_none name b e = from (child_from root root_records root_said name b e)
     where
       from : (is_dots name ≡ false) × Leading root_records name b → ⊥
       from q = each (is_in q.1.entry root_records q.1.there)
@@ -378,10 +374,10 @@ module _ (p : Plan) (fit : IsFitting p) (known : Known p) (at : Blocks) (made : 
     pub named : name ≡ journal_name j
 
   pub jindex_only : (name : List ℕ) (b : ℕ) → (flat jindex).child name ≡ Some b → IsJournalNamed name b
-  jindex_only name b e = from (child_from (journals_place p) 4 (2 + p.journals) 2 (journals_entries p) (journals_at p fit known) name b e)
+  jindex_only name b e = from (child_from jindex jindex_records jindex_said name b e)
     where
       from : (is_dots name ≡ false) × Leading jindex_records name b → IsJournalNamed name b
-      from q = each (is_in q.1.entry jindex_records q.1.there)
+      from q = each (the_jindex.are.only q.1.entry (is_in q.1.entry jindex_records q.1.there))
         where
           of : IsOfJournal p p.journals q.1.entry → IsJournalNamed name b
           of g = record {
@@ -391,10 +387,10 @@ module _ (p : Plan) (fit : IsFitting p) (known : Known p) (at : Blocks) (made : 
             named = sym q.1.named ∙ ap (λ (r : Record). r.name) g.is ∙ name_is g.j (few_journals g.j g.low);
           }
 
-          each : IsIn q.1.entry jindex_records → IsJournalNamed name b
-          each (inl g) = absurd (true≢false (sym (ap is_dots (sym q.1.named ∙ ap (λ (r : Record). r.name) g)) ∙ q.0))
-          each (inr (inl g)) = absurd (true≢false (sym (ap is_dots (sym q.1.named ∙ ap (λ (r : Record). r.name) g)) ∙ q.0))
-          each (inr (inr h)) = of (of_journal p 0 p.journals p.journals q.1.entry (omega arith) h)
+          each : Said p q.1.entry → IsJournalNamed name b
+          each (is_this g) = absurd (true≢false (sym (ap is_dots (sym q.1.named ∙ ap (λ (r : Record). r.name) g)) ∙ q.0))
+          each (is_parent g) = absurd (true≢false (sym (ap is_dots (sym q.1.named ∙ ap (λ (r : Record). r.name) g)) ∙ q.0))
+          each (is_journal g) = of g
 
   -- ---- the layout's journals
 
@@ -425,7 +421,7 @@ module _ (p : Plan) (fit : IsFitting p) (known : Known p) (at : Blocks) (made : 
     rindex = master_rindex;
     groups = (group_entries p, list_thing, list_is p fit known at made);
     jindex = master_jindex;
-    directory = dir_thing (journals_place p) 4 (2 + p.journals) 2 (journals_entries p) (journals_at p fit known);
+    directory = dir_thing jindex jindex_records jindex_said;
     journals = λ j d e. let at_j = journal_at j d e in jindex_journal j at_j.0 ∙ ap Some (sym at_j.1);
     last = none_last ((flat jindex).child (journal_name (length (new_layout p).journals))) refl;
     rings = λ j d e. let q = jindex_only (journal_name j) d e in subst (λ n. IsJournal (held p at n)) (sym q.is) (new_journal p fit known at made q.j q.low);
@@ -460,6 +456,7 @@ module _ (p : Plan) (fit : IsFitting p) (known : Known p) (at : Blocks) (made : 
       each (whose_master s o) = absurd (master_up u (sym (ap up_of o) ∙ e))
       each (whose_root s o) = absurd (root_up u (sym (ap up_of o) ∙ e))
       each (whose_journals s o) = led master (codes "jindex") o (master_jindex ∙ ap Some (sym s))
+      each (whose_leaf n low s o) = absurd (leaf_up p n u (sym (ap up_of o) ∙ e))
       each (whose_file i ok s o) = led (file_parent p i) (file_name i) o (of_file i ok ∙ ap Some (sym s))
       each (whose_below i l x ok below s o) = absurd (below_up p i l x u (sym (ap up_of o) ∙ e))
       each (whose_none un) = absurd (un (used_up (owner p a) u e))
@@ -478,6 +475,7 @@ module _ (p : Plan) (fit : IsFitting p) (known : Known p) (at : Blocks) (made : 
       each (whose_master s o) = inr ([], ap Some (sym s))
       each (whose_root s o) = inl ([], ap Some (sym s))
       each (whose_journals s o) = inr (codes "jindex" ∷ [], to master jindex [] (codes "jindex") master_jindex ∙ ap Some (sym s))
+      each (whose_leaf n low s o) = absurd (no_leaf_dinode p n (ap is_dinode (sym o) ∙ dinode))
       each (whose_file i ok s o) = let way = of_file i ok in inr (way.0, way.1 ∙ ap Some (sym s))
       each (whose_below i l x ok below s o) = absurd (no_below_dinode p i l x (ap is_dinode (sym o) ∙ dinode))
       each (whose_none un) = absurd (un (used_dinode (owner p a) dinode))
@@ -495,7 +493,7 @@ module _ (p : Plan) (fit : IsFitting p) (known : Known p) (at : Blocks) (made : 
   reads = record { tree = tt; same = same }
     where
       same : (path : Path) → thing_from flat root path ≡ thing_at (dir none) path
-      same [] = ap Some (dir_thing root_place 2 2 2 (root_entries p) (root_at p fit known))
+      same [] = ap Some (dir_thing root root_records root_said)
       same (name ∷ path) = ap (option_and_then (λ b. Some (flat b).thing)) (nothing_below name path)
 
   pub root_is : is_directory_in (held p at root) ≡ true

@@ -10,7 +10,7 @@ use Rattle.std.proofs.lemmas.List.Sums.{sum_by-cons, count_by-le-length}
 use Rattle.std.proofs.lemmas.Nat.{row_fits}
 use Rattle.mkgfs2_tool.proofs.StandingLists.{IsIn, Rising, one_if, count_split, count_in, count_out}
 use Rattle.mkgfs2_tool.specs.Files.{height, file_blocks, part}
-use Rattle.mkgfs2_tool.specs.Order.{journals_place, journal_place, group_list, journal, taken, use_of, dinode_places}
+use Rattle.mkgfs2_tool.specs.Order.{journals_place, journal_leaves, leaf_place, journal_place, group_list, journal, taken, use_of, dinode_places}
 use Rattle.mkgfs2_tool.specs.Blocks.{is_dinode, is_dinode_part, is_within, state}
 use Rattle.mkgfs2_tool.specs.Making.{IsFitting}
 use Rattle.mkgfs2_tool.specs.declared.files.Part.{Part}
@@ -19,7 +19,7 @@ use Rattle.mkgfs2_tool.specs.declared.plan.Plan.{Plan}
 use Rattle.mkgfs2_tool.proofs.StandingGiven.{Known}
 use Rattle.mkgfs2_tool.proofs.StandingCounts.{count_none}
 use Rattle.mkgfs2_tool.proofs.StandingShapes.{part_below, part_here, Piece, is_top, is_below, piece}
-use Rattle.mkgfs2_tool.proofs.StandingOwners.{file_place, file_shape, file_use, Kept, is_master, is_root, is_journals, is_file, kept, file_taken, file_some, use_of_file, use_of_journals, some_taken, two_taken, journals_taken}
+use Rattle.mkgfs2_tool.proofs.StandingOwners.{file_place, file_shape, file_use, Kept, is_master, is_root, is_journals, is_leaf, is_file, kept, file_taken, file_some, use_of_file, use_of_journals, use_of_leaf, some_taken, two_taken, journals_taken}
 use Rattle.mkgfs2_tool.proofs.StandingFiles.{file_low}
 
 -- ---- free blocks
@@ -57,7 +57,7 @@ free_counted p b (suc n) = elim (cases_lt b (taken p)) [
 
 journals_above : (p : Plan) (x s n : ℕ) → x < journal_place p s → AllByRecursion (λ y. x < y) (map (journal_place p) (range_with_len s n))
 journals_above p x s zero low = tt
-journals_above p x s (suc n) low = (low, journals_above p x (s + 1) n (further x (journals_place p + 1) (s * file_blocks (journal p)) ((s + 1) * file_blocks (journal p)) low (row_fits s (file_blocks (journal p)) (s + 1) (file_blocks (journal p)) (omega arith) (omega arith))))
+journals_above p x s (suc n) low = (low, journals_above p x (s + 1) n (further x (leaf_place p (journal_leaves p)) (s * file_blocks (journal p)) ((s + 1) * file_blocks (journal p)) low (row_fits s (file_blocks (journal p)) (s + 1) (file_blocks (journal p)) (omega arith) (omega arith))))
   where
     further : (x a u v : ℕ) → x < a + u → u + file_blocks (journal p) ≤ v → x < a + v
     further x a u v low step = through x a u v (file_blocks (journal p)) low step
@@ -68,7 +68,7 @@ journals_above p x s (suc n) low = (low, journals_above p x (s + 1) n (further x
 journals_rise : (p : Plan) (s n : ℕ) → Rising (map (journal_place p) (range_with_len s n))
 journals_rise p s zero = tt
 journals_rise p s (suc n) = (
-  journals_above p (journal_place p s) (s + 1) n (next (journals_place p + 1) (s * file_blocks (journal p)) ((s + 1) * file_blocks (journal p)) (file_blocks (journal p)) (file_some p 1)
+  journals_above p (journal_place p s) (s + 1) n (next (leaf_place p (journal_leaves p)) (s * file_blocks (journal p)) ((s + 1) * file_blocks (journal p)) (file_blocks (journal p)) (file_some p 1)
       (row_fits s (file_blocks (journal p)) (s + 1) (file_blocks (journal p)) (omega arith) (omega arith))),
   journals_rise p (s + 1) n,
 )
@@ -170,6 +170,7 @@ module _ (p : Plan) (fit : IsFitting p) (known : Known p) where
       each (is_master s) low = inl s
       each (is_root s) low = inr (inl s)
       each (is_journals s) low = inr (inr (inr (inl s)))
+      each (is_leaf n inside s) low = absurd (never_one (state p k) (state_used p k low ∙ cond-false _ 3 1 (ap (λ m. is_dinode (use_of p m)) s ∙ ap is_dinode (use_of_leaf p n inside))) e)
       each (is_file i n ok inside s) low = of_piece i n ok inside s low (piece (file_shape p i) (file_low p fit known i) n inside)
 
   -- a place is that of one dinode exactly where the state says so

@@ -2,7 +2,7 @@
 use Rattle.std.proofs.Common.{ℕ, zero, suc, ◌≡◌, ◌+◌, ◌-◌, ◌*◌, ◌^◌, ◌<◌, ◌≤◌, ◌⊎◌, inl, inr, List, length, drop, replicate, Ok, None, refl, sym, ap, ◌∙◌, subst, arith, length-append}
 use Rattle.std.specs.Prelude.{min}
 use Rattle.std.specs.List.{AllByRecursion}
-use Rattle.std.proofs.lemmas.Bool.{cases_lt, cases_eq, cond-true, cond-false, eq-eqb, ne_eqb, lt-ltb, le-ltb}
+use Rattle.std.proofs.lemmas.Bool.{cases_lt, cases_eq, cases_Bool, cond-true, cond-false, eq-eqb, ne_eqb, lt-ltb, le-ltb}
 use Rattle.std.proofs.lemmas.List.{length-replicate, length-take}
 use Rattle.std.proofs.lemmas.List.FromFn.{length-map-range_with_len}
 use Rattle.gfs2_layout.specs.Bytes.{slice, put_at}
@@ -17,7 +17,7 @@ use Rattle.gfs2_layout.specs.declared.log_header.LogHeader.{LogHeader}
 use Rattle.gfs2_layout.specs.Headers.{HasHeader}
 use Rattle.mkgfs2_tool.specs.Groups.{super_block, last_group, headers_of, first_data, data_blocks, data_before, data_address}
 use Rattle.mkgfs2_tool.specs.Files.{height, level_start}
-use Rattle.mkgfs2_tool.specs.Order.{master_place, root_place, journals_place, taken}
+use Rattle.mkgfs2_tool.specs.Order.{master_place, root_place, journals_place, has_hashed_journals, journal_leaves, leaf_place, taken}
 use Rattle.mkgfs2_tool.specs.Directories.{records, master_entries, root_entries, journals_entries}
 use Rattle.mkgfs2_tool.specs.Blocks.{group_block, data_block, zeros, shift_of, superblock, bitmap_byte, bitmap, group_header, first_header_block, further_header_block, header_block, area_length, dinode, directory, group_entries, group_list_block, journal_block, clean_header, used_block, new_block}
 use Rattle.mkgfs2_tool.specs.Making.{IsFitting}
@@ -28,10 +28,12 @@ use Rattle.mkgfs2_tool.proofs.StandingGiven.{Given, Known, length_put, zeros_are
 use Rattle.mkgfs2_tool.proofs.StandingBytes.{answer_ok, header_from, filled}
 use Rattle.mkgfs2_tool.proofs.StandingShapes.{IsBelow, Piece, is_top, is_below, piece}
 use Rattle.mkgfs2_tool.proofs.StandingPlan.{new_at, new_header, new_room, new_super, address_at, address_low}
-use Rattle.mkgfs2_tool.proofs.StandingOwners.{file_shape, file_use, spot, Zone, is_low, is_past, is_header, is_room, is_end, zone, Kept, is_master, is_root, is_journals, is_file, kept, in_all, some_taken, two_taken}
+use Rattle.mkgfs2_tool.proofs.StandingOwners.{file_shape, file_use, spot, Zone, is_low, is_past, is_header, is_room, is_end, zone, Kept, is_master, is_root, is_journals, is_leaf, is_file, kept, leaf_taken, use_of_leaf, in_all, some_taken, two_taken}
 use Rattle.mkgfs2_tool.proofs.StandingFiles.{file_low, large, size_few, file_dinode_is, inner_block, content_at}
 use Rattle.mkgfs2_tool.proofs.StandingRecords.{records_are}
-use Rattle.mkgfs2_tool.proofs.StandingDirs.{IsDirectoryAt, master_at, root_at, journals_at}
+use Rattle.mkgfs2_tool.proofs.StandingDirs.{IsDirectoryAt, used_at, master_at, root_at, journals_at}
+use Rattle.mkgfs2_tool.proofs.StandingLeaves.{leaf_block_is}
+use Rattle.mkgfs2_tool.proofs.StandingTable.{hashed_long}
 
 -- ---- lengths of what is put over zeros
 
@@ -199,6 +201,16 @@ module _ (p : Plan) (fit : IsFitting p) (known : Known p) where
           let at' : IsBelow (file_shape p i) (height (file_shape p i)) x = subst (λ n. IsBelow (file_shape p i) n x) e at in
           ap (λ n. length (new_block p (spot p i (level_start (file_shape p i) n + x)))) e ∙ ap length (content_at p fit known i x ok at'.some at'.inside) ∙ content_long i x
 
+  journals_long : length (new_block p (data_address p (journals_place p))) ≡ p.size
+  journals_long = elim (cases_Bool (has_hashed_journals p)) [
+    | inr linear ↦ dir_long (journals_place p) 4 (2 + p.journals) 2 (journals_entries p) (journals_at p fit known linear)
+    | inl hashed ↦ hashed_long p fit known hashed
+  ]
+
+  leaf_long : (n : ℕ) → n < journal_leaves p → length (new_block p (data_address p (leaf_place p n))) ≡ p.size
+  unfolding used_block
+  leaf_long n low = ap length (used_at p fit known (leaf_place p n) (leaf_taken p n low) ∙ ap (used_block p) (use_of_leaf p n low)) ∙ (leaf_block_is p fit known n).long
+
   taken_long : (k : ℕ) → k < taken p → length (new_block p (data_address p k)) ≡ p.size
   taken_long k low = each (kept p k low)
     where
@@ -209,7 +221,8 @@ module _ (p : Plan) (fit : IsFitting p) (known : Known p) where
       each : Kept p k → length (new_block p (data_address p k)) ≡ p.size
       each (is_master e) = ap (λ m. length (new_block p (data_address p m))) e ∙ dir_long master_place 1 4 3 (master_entries p) (master_at p fit known)
       each (is_root e) = ap (λ m. length (new_block p (data_address p m))) e ∙ dir_long root_place 2 2 2 (root_entries p) (root_at p fit known)
-      each (is_journals e) = ap (λ m. length (new_block p (data_address p m))) e ∙ dir_long (journals_place p) 4 (2 + p.journals) 2 (journals_entries p) (journals_at p fit known)
+      each (is_journals e) = ap (λ m. length (new_block p (data_address p m))) e ∙ journals_long
+      each (is_leaf n inside e) = ap (λ m. length (new_block p (data_address p m))) e ∙ leaf_long n inside
       each (is_file i n ok inside e) = ap (λ m. length (new_block p (data_address p m))) e ∙ of_piece i n ok (piece (file_shape p i) (file_low p fit known i) n inside)
 
   room_long : (g r : ℕ) → g ≤ last_group p → r < data_blocks p g → length (new_block p (first_data p g + r)) ≡ p.size

@@ -1,17 +1,16 @@
 -- Which blocks an owner of a new image has.
-use Rattle.std.proofs.Common.{ℕ, ◌≡◌, ◌+◌, ◌≤◌, ◌⊎◌, inl, inr, List, codes, sym, ap, ◌∙◌, subst, arith}
+use Rattle.std.proofs.Common.{ℕ, ◌≡◌, ◌+◌, ◌<◌, ◌≤◌, ◌⊎◌, inl, inr, List, codes, sym, ap, ◌∙◌, subst, arith}
 use Rattle.std.proofs.lemmas.Bool.{cases_eq, cond-true, cond-false, eq-eqb, ne_eqb}
 use Rattle.image_model.specs.Owners.{Root, Master, Named, Below, Chained, IsUsed}
-use Rattle.image_model.specs.Owners.{Owner, Super, InGroup, Free, Nobody}
 use Rattle.mkgfs2_tool.specs.Groups.{data_address}
 use Rattle.mkgfs2_tool.specs.Files.{height, level_start}
-use Rattle.mkgfs2_tool.specs.Order.{master_place, root_place, journals_place}
+use Rattle.mkgfs2_tool.specs.Order.{master_place, root_place, journals_place, journal_leaves, leaf_place}
 use Rattle.mkgfs2_tool.specs.Making.{IsFitting}
 use Rattle.mkgfs2_tool.specs.declared.plan.Plan.{Plan}
 use Rattle.mkgfs2_tool.proofs.StandingGiven.{Known}
 use Rattle.mkgfs2_tool.proofs.StandingPlan.{apart_addresses}
 use Rattle.mkgfs2_tool.proofs.StandingShapes.{IsBelow, part_below, part_here, inside_file, Piece, is_top, is_below, piece}
-use Rattle.mkgfs2_tool.proofs.StandingOwners.{file_place, file_shape, file_owner, spot, named, below_owner, owner, Kept, is_master, is_root, is_journals, is_file, kept, owner_file, owner_master, owner_root, owner_journals, IsTaken, used_taken, file_apart, in_all, file_taken, file_some}
+use Rattle.mkgfs2_tool.proofs.StandingOwners.{file_place, file_shape, file_owner, spot, named, below_owner, owner, Kept, leaf_owner, is_master, is_root, is_journals, is_leaf, is_file, kept, owner_file, owner_master, owner_root, owner_journals, owner_leaf, IsTaken, used_taken, file_apart, file_not_journals, journals_taken, in_all, file_taken, file_some}
 use Rattle.mkgfs2_tool.proofs.StandingFiles.{file_low}
 pub use Rattle.image_model.proofs.Unique.{used_or_not}
 
@@ -19,6 +18,7 @@ pub data Whose (p : Plan) (b : ℕ) : Type 0 where
   whose_master : b ≡ data_address p master_place → owner p b ≡ Master → Whose p b
   whose_root : b ≡ data_address p root_place → owner p b ≡ Root → Whose p b
   whose_journals : b ≡ data_address p (journals_place p) → owner p b ≡ Named (data_address p master_place) (codes "jindex") → Whose p b
+  whose_leaf : (n : ℕ) → n < journal_leaves p → b ≡ data_address p (leaf_place p n) → owner p b ≡ leaf_owner p n → Whose p b
   whose_file : (i : ℕ) → i ≤ p.journals → b ≡ spot p i 0 → owner p b ≡ named p i → Whose p b
   whose_below : (i l x : ℕ) → i ≤ p.journals → IsBelow (file_shape p i) l x → b ≡ spot p i (level_start (file_shape p i) l + x) → owner p b ≡ below_owner p i l x → Whose p b
   whose_none : (IsUsed (owner p b) → ⊥) → Whose p b
@@ -52,6 +52,7 @@ module _ (p : Plan) (fit : IsFitting p) (known : Known p) where
       of_kept k e (is_master is) = let at : b ≡ data_address p master_place = e ∙ ap (data_address p) is in whose_master at (ap (owner p) at ∙ owner_master p fit)
       of_kept k e (is_root is) = let at : b ≡ data_address p root_place = e ∙ ap (data_address p) is in whose_root at (ap (owner p) at ∙ owner_root p fit)
       of_kept k e (is_journals is) = let at : b ≡ data_address p (journals_place p) = e ∙ ap (data_address p) is in whose_journals at (ap (owner p) at ∙ owner_journals p fit)
+      of_kept k e (is_leaf n low is) = let at : b ≡ data_address p (leaf_place p n) = e ∙ ap (data_address p) is in whose_leaf n low at (ap (owner p) at ∙ owner_leaf p fit n low)
       of_kept k e (is_file i n ok inside is) = of_piece i n ok (e ∙ ap (data_address p) is) (piece (file_shape p i) (file_low p fit known i) n inside)
 
       of_taken : IsTaken p fit b → Whose p b
@@ -66,8 +67,15 @@ module _ (p : Plan) (fit : IsFitting p) (known : Known p) where
       drop_zero : (a b : ℕ) → a + 0 ≡ b + 0 → a ≡ b
       drop_zero a b e = omega (arith, e)
 
-  pub not_chained : (b a hash place : ℕ) → owner p b ≡ Chained a hash place → ⊥
-  not_chained b a hash place e = each (whose b)
+  -- a block in a chain is a leaf of the directory of journals
+  pub record IsLeafOf (b a hash place : ℕ) : Type 0 where
+    pub n : ℕ
+    pub low : n < journal_leaves p
+    pub is : b ≡ data_address p (leaf_place p n)
+    pub owned : leaf_owner p n ≡ Chained a hash place
+
+  pub leaf_of : (b a hash place : ℕ) → owner p b ≡ Chained a hash place → IsLeafOf b a hash place
+  leaf_of b a hash place e = each (whose b)
     where
       no_master : Master ≡ Chained a hash place → ⊥
       no_master e = cc
@@ -81,13 +89,34 @@ module _ (p : Plan) (fit : IsFitting p) (known : Known p) where
       no_below : (c d k l f : ℕ) → Below c d k l f ≡ Chained a hash place → ⊥
       no_below c d k l f e = cc
 
-      each : Whose p b → ⊥
-      each (whose_master at is) = no_master (sym is ∙ e)
-      each (whose_root at is) = no_root (sym is ∙ e)
-      each (whose_journals at is) = no_named (data_address p master_place) (codes "jindex") (sym is ∙ e)
-      each (whose_file i ok at is) = no_named _ _ (sym is ∙ e)
-      each (whose_below i l x ok at same is) = no_below _ _ _ _ _ (sym is ∙ e)
-      each (whose_none none) = none (subst IsUsed (sym e) tt)
+      each : Whose p b → IsLeafOf b a hash place
+      each (whose_master at is) = absurd (no_master (sym is ∙ e))
+      each (whose_root at is) = absurd (no_root (sym is ∙ e))
+      each (whose_journals at is) = absurd (no_named (data_address p master_place) (codes "jindex") (sym is ∙ e))
+      each (whose_leaf n low at is) = record { n = n; low = low; is = at; owned = sym is ∙ e }
+      each (whose_file i ok at is) = absurd (no_named _ _ (sym is ∙ e))
+      each (whose_below i l x ok at same is) = absurd (no_below _ _ _ _ _ (sym is ∙ e))
+      each (whose_none none) = absurd (none (subst IsUsed (sym e) tt))
+
+  pub chained_same : (a b c a' b' c' : ℕ) → Chained a b c ≡ Chained a' b' c' → (a ≡ a') × (b ≡ b') × (c ≡ c')
+  chained_same a b c a' b' c' e = (cc, cc, cc)
+
+  pub file_apart_journals : (i : ℕ) → i ≤ p.journals → data_address p (journals_place p) ≡ spot p i 0 → ⊥
+  file_apart_journals i ok e =
+      file_not_journals p i (drop_zero (journals_place p) (file_place p i) (apart_addresses p fit (journals_place p) (file_place p i + 0) (in_all p fit (journals_place p) (journals_taken p)) (in_all p fit (file_place p i + 0) (file_taken p i 0 ok (file_some p i))) e))
+    where
+      drop_zero : (a b : ℕ) → a ≡ b + 0 → b ≡ a
+      drop_zero a b e = omega (arith, e)
+
+  -- no other inode has leaves
+  pub not_chained : (b a hash place : ℕ) → (data_address p (journals_place p) ≡ a → journal_leaves p ≡ 0) → owner p b ≡ Chained a hash place → ⊥
+  not_chained b a hash place other e = from (leaf_of b a hash place e)
+    where
+      none : (n m : ℕ) → n < m → m ≡ 0 → ⊥
+      none n m low e = absurd (omega (arith, low, e))
+
+      from : IsLeafOf b a hash place → ⊥
+      from q = none q.n (journal_leaves p) q.low (other (chained_same _ _ _ _ _ _ q.owned).0)
 
   -- a block below a dinode is one of a file's
   pub record IsBelowOf (b a c k level first : ℕ) : Type 0 where
@@ -111,10 +140,14 @@ module _ (p : Plan) (fit : IsFitting p) (known : Known p) where
       no_named : (d : ℕ) (name : List ℕ) → Named d name ≡ Below a c k level first → ⊥
       no_named d name e = cc
 
+      no_chained : (d hash place : ℕ) → Chained d hash place ≡ Below a c k level first → ⊥
+      no_chained d hash place e = cc
+
       each : Whose p b → IsBelowOf b a c k level first
       each (whose_master at is) = absurd (no_master (sym is ∙ e))
       each (whose_root at is) = absurd (no_root (sym is ∙ e))
       each (whose_journals at is) = absurd (no_named (data_address p master_place) (codes "jindex") (sym is ∙ e))
+      each (whose_leaf n low at is) = absurd (no_chained _ _ _ (sym is ∙ e))
       each (whose_file i ok at is) = absurd (no_named _ _ (sym is ∙ e))
       each (whose_below i l x ok at same is) = record { file = i; ok = ok; l = l; x = x; at = at; is = same; owned = sym is ∙ e }
       each (whose_none none) = absurd (none (subst IsUsed (sym e) tt))

@@ -17,7 +17,7 @@ use Rattle.mkgfs2_tool.proofs.StandingGiven.{Known}
 use Rattle.mkgfs2_tool.proofs.StandingGround.{IsRoom, IsOver, block_over, group_ends, starts_rise}
 use Rattle.mkgfs2_tool.proofs.StandingShapes.{Piece, is_top, is_below, piece}
 use Rattle.mkgfs2_tool.proofs.StandingPlan.{ground, ground_is, address_at, room_of}
-use Rattle.mkgfs2_tool.proofs.StandingOwners.{file_shape, spot, owner, Zone, is_low, is_past, is_header, is_room, is_end, zone, Kept, is_master, is_root, is_journals, is_file, kept, owner_low, owner_past, owner_header, owner_end, owner_free, owner_master, owner_root, owner_journals, IsTaken, used_taken, in_all}
+use Rattle.mkgfs2_tool.proofs.StandingOwners.{file_shape, spot, owner, Zone, is_low, is_past, is_header, is_room, is_end, zone, Kept, is_master, is_root, is_journals, is_leaf, is_file, kept, owner_low, owner_past, owner_header, owner_end, owner_free, owner_master, owner_root, owner_journals, owner_leaf, IsTaken, used_taken, in_all}
 use Rattle.mkgfs2_tool.proofs.StandingFiles.{file_low}
 use Rattle.mkgfs2_tool.proofs.StandingWhose.{owner_below, owner_top}
 use Rattle.mkgfs2_tool.proofs.StandingInodes.{image}
@@ -128,6 +128,7 @@ module _ (p : Plan) (fit : IsFitting p) (known : Known p) where
       each (is_master e) = subst IsUsed (sym (ap (λ n. owner p (data_address p n)) e ∙ owner_master p fit)) tt
       each (is_root e) = subst IsUsed (sym (ap (λ n. owner p (data_address p n)) e ∙ owner_root p fit)) tt
       each (is_journals e) = subst IsUsed (sym (ap (λ n. owner p (data_address p n)) e ∙ owner_journals p fit)) tt
+      each (is_leaf n inside e) = subst IsUsed (sym (ap (λ n. owner p (data_address p n)) e ∙ owner_leaf p fit n inside)) tt
       each (is_file i n ok inside e) = subst (λ m. IsUsed (owner p (data_address p m))) (sym e) (of_piece i n ok (piece (file_shape p i) (file_low p fit known i) n inside))
 
   of_room : (g r : ℕ) → g ≤ last_group p → r < data_blocks p g → (owner p (first_data p g + r) ≡ Free (group_address p g)) ⊎ IsUsed (owner p (first_data p g + r))

@@ -1,11 +1,12 @@
 -- What stands in each block of a new image.
-use Rattle.std.specs.Prelude.{ℕ, ◌≡◌, ◌+◌, ◌-◌, ◌*◌, ◌/◌, ◌==◌, ◌&&◌, Bool, true, false, min, nat_le, nat_lt, if◌then◌else◌, List, ◌++◌, length, map, replicate, codes, count_by}
+use Rattle.std.specs.Prelude.{ℕ, ◌≡◌, ◌+◌, ◌-◌, ◌*◌, ◌/◌, ◌^◌, ◌==◌, ◌&&◌, Bool, true, false, min, nat_le, nat_lt, if◌then◌else◌, List, ◌++◌, length, map, replicate, codes, count_by}
 use Rattle.gfs2_layout.specs.Structures.{dinode_length}
+use Rattle.gfs2_layout.specs.Inode.{leaf_length}
 use Rattle.std.specs.List.{range_with_len, flat_map}
 use Rattle.std.specs.Int.{w64, to_be_bytes}
 use Rattle.gfs2_layout.specs.Bytes.{put_at, slice}
 use Rattle.gfs2_layout.specs.Bitmap.{byte_of}
-use Rattle.gfs2_layout.specs.Writing.{header_put, superblock_put, dinode_put, rindex_put, group_put, log_put}
+use Rattle.gfs2_layout.specs.Writing.{header_put, superblock_put, dinode_put, rindex_put, group_put, leaf_put, log_put}
 use Rattle.gfs2_layout.specs.declared.superblock.SuperBlock.{SuperBlock}
 use Rattle.gfs2_layout.specs.declared.dinode.Dinode.{Dinode}
 use Rattle.gfs2_layout.specs.declared.rindex.Rindex.{Rindex}
@@ -17,9 +18,10 @@ use Rattle.mkgfs2_tool.specs.declared.files.Shape.{Shape}
 use Rattle.mkgfs2_tool.specs.declared.files.Part.{Part}
 use Rattle.mkgfs2_tool.specs.declared.files.Part.TheVariants.{Top, Pointers, Content}
 use Rattle.mkgfs2_tool.specs.declared.order.Use.{Use}
-use Rattle.mkgfs2_tool.specs.declared.order.Use.TheVariants.{Master, Root, GroupList, Journals, Journal}
-use Rattle.mkgfs2_tool.specs.Order.{master_place, root_place, group_list_place, journals_place, journal_place, group_list, journal, taken, use_of, dinodes, dinode_places}
+use Rattle.mkgfs2_tool.specs.declared.order.Use.TheVariants.{Master, Root, GroupList, Journals, Leaf, Journal}
+use Rattle.mkgfs2_tool.specs.Order.{master_place, root_place, group_list_place, journals_place, journal_place, has_hashed_journals, journal_leaves, group_list, journal, taken, use_of, dinodes, dinode_places}
 use Rattle.mkgfs2_tool.specs.Directories.{records, master_entries, root_entries, journals_entries}
+use Rattle.mkgfs2_tool.specs.Hashing.{table_depth, table_bytes, leaf_room, leaf_entries, leaf_head}
 use Rattle.mkgfs2_tool.specs.declared.plan.Plan.{Plan}
 use Rattle.mkgfs2_tool.specs.declared.inodes.Inode.{Inode}
 
@@ -71,6 +73,7 @@ is_dinode_part _ = false
 abbrev pub is_dinode : Use → Bool
 is_dinode (GroupList part) = is_dinode_part part
 is_dinode (Journal j part) = is_dinode_part part
+is_dinode (Leaf n) = false
 is_dinode _ = true
 
 -- the state of data block k
@@ -147,6 +150,9 @@ pub record IsGroupList (p : Plan) (bytes : List ℕ) : Type 0 where
 abbrev pub journaled : ℕ
 journaled = 0x1
 
+abbrev pub hashed : ℕ
+hashed = 0x2
+
 abbrev pub system : ℕ
 system = 0x200
 
@@ -160,7 +166,17 @@ directory p entries directories = record {
   flags = journaled;
   payload_format = 1200;
   height = 0;
+  depth = 0;
   entries = entries;
+}
+
+-- the directory of journals where it is a hashed one: its content is the table, whose pointers have eight bytes, and its leaves are its blocks too
+abbrev pub hashed_directory : Plan → Inode
+hashed_directory p = record (directory p (2 + p.journals) 2) {
+  size = 8 * 2 ^ table_depth;
+  blocks = 1 + journal_leaves p;
+  flags = journaled + hashed;
+  depth = table_depth;
 }
 
 abbrev pub system_file : Shape → Inode
@@ -172,6 +188,7 @@ system_file f = record {
   flags = journaled + system;
   payload_format = 0;
   height = height f;
+  depth = 0;
   entries = 0;
 }
 
@@ -196,7 +213,7 @@ dinode p number place i = record {
   flags = i.flags;
   payload_format = i.payload_format;
   height = i.height;
-  depth = 0;
+  depth = i.depth;
   entries = i.entries;
   eattr = 0;
   atime_nsec = 0;
@@ -249,8 +266,14 @@ master_block p = dinode_block p (dinode p 1 master_place (directory p 4 3)) (rec
 unfoldable pub root_block : Plan → List ℕ
 root_block p = dinode_block p (dinode p 2 root_place (directory p 2 2)) (records (area_length p) (root_entries p))
 
+-- the records of the directory of journals, or its table
 unfoldable pub journals_block : Plan → List ℕ
-journals_block p = dinode_block p (dinode p 4 (journals_place p) (directory p (2 + p.journals) 2)) (records (area_length p) (journals_entries p))
+journals_block p =
+    if has_hashed_journals p then dinode_block p (dinode p 4 (journals_place p) (hashed_directory p)) (table_bytes p)
+    else dinode_block p (dinode p 4 (journals_place p) (directory p (2 + p.journals) 2)) (records (area_length p) (journals_entries p))
+
+unfoldable pub leaf_block : Plan → ℕ → List ℕ
+leaf_block p n = put_at leaf_length (records (leaf_room p) (leaf_entries p n)) (leaf_put (leaf_head p n) (zeros p))
 
 -- ---- the image
 
@@ -259,6 +282,7 @@ used_block p Master = master_block p
 used_block p Root = root_block p
 used_block p (GroupList part) = group_list_block p part
 used_block p Journals = journals_block p
+used_block p (Leaf n) = leaf_block p n
 used_block p (Journal j part) = journal_block p j part
 
 -- data block k

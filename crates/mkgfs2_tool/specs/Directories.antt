@@ -32,17 +32,18 @@ name_bytes (name.Journal j) = codes "journal" ++ (48 + j) ∷ []
 abbrev pub name_of : Entry → List ℕ
 name_of e = name_bytes e.name
 
+-- it reaches over its own bytes, and over those of records that it took up
 abbrev pub head_of : Entry → ℕ → Dirent
 head_of e room = record {
   inum = record { number = e.number; address = e.address };
   hash = crc32_of (name_of e);
-  rec_len = room;
+  rec_len = room + e.reach;
   name_len = length (name_of e);
   kind = e.kind;
   rahead = 0;
 }
 
--- a record of so many bytes
+-- a record in so many bytes
 abbrev pub record_bytes : Entry → ℕ → List ℕ
 record_bytes e room = put_at 40 (name_of e) (dirent_put (head_of e room) (replicate room 0))
 
@@ -72,7 +73,7 @@ Fit room (e ∷ f ∷ es) = (least_length (length (name_of e)) ≤ room) × Fit 
 -- ---- the entries of the three directories, in the order in which they are put in
 
 abbrev pub entry : Plan → Name → ℕ → ℕ → ℕ → Entry
-entry p name number place kind = record { name = name; number = number; address = data_address p place; kind = kind }
+entry p name number place kind = record { name = name; number = number; address = data_address p place; kind = kind; reach = 0 }
 
 abbrev pub master_entries : Plan → List Entry
 master_entries p =
@@ -101,3 +102,34 @@ most_entries p =
     ∷ entry p name.Parent 1 master_place directory_kind
     ∷ journal_entry p 0 ∷ journal_entry p 1 ∷ journal_entry p 2 ∷ journal_entry p 3
     ∷ journal_entry p 4 ∷ journal_entry p 5 ∷ journal_entry p 6 ∷ journal_entry p 7 ∷ []
+
+-- ---- the two halves of a leaf that was split: it was full with `.`, `..` and six journals
+
+-- a record that is no longer in use
+abbrev pub emptied : Entry → Entry
+emptied e = record e { number = 0; address = 0 }
+
+-- a record that took up so many bytes behind it
+abbrev pub reaching : ℕ → Entry → Entry
+reaching n e = record e { reach = n }
+
+-- What stays are the names of the upper half. Those of the lower half were cut: `.` stood first, and `journal2` and `journal3` stood behind `journal1`, which took up their records of 48 bytes.
+abbrev pub upper_entries : Plan → List Entry
+upper_entries p =
+    emptied (entry p name.This 4 (journals_place p) directory_kind)
+    ∷ entry p name.Parent 1 master_place directory_kind
+    ∷ journal_entry p 0 ∷ reaching 96 (journal_entry p 1) ∷ journal_entry p 2 ∷ journal_entry p 3
+    ∷ journal_entry p 4 ∷ journal_entry p 5 ∷ []
+
+-- the names of the lower half go into another leaf, and later journals have names of that half too
+abbrev pub lower_entries : Plan → List Entry
+lower_entries p =
+    entry p name.This 4 (journals_place p) directory_kind
+    ∷ journal_entry p 2 ∷ journal_entry p 3
+    ∷ map (journal_entry p) (range_with_len 6 (p.journals - 6))
+
+-- these entries, if there were eight journals
+abbrev pub most_lower : Plan → List Entry
+most_lower p =
+    entry p name.This 4 (journals_place p) directory_kind
+    ∷ journal_entry p 2 ∷ journal_entry p 3 ∷ journal_entry p 6 ∷ journal_entry p 7 ∷ []

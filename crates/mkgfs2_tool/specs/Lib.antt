@@ -2,7 +2,9 @@ pub mod Groups
 pub mod Files
 pub mod Order
 pub mod Directories
+pub mod Hashing
 pub mod Blocks
 pub mod Making
 pub mod Outcomes
 pub mod Standing
+pub mod Insertions

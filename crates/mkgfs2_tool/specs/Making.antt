@@ -40,10 +40,6 @@ pub record IsPlan (p : Plan) : Type 0 where
   pub some_groups : 1 ≤ p.groups
   pub groups : p.groups ≤ most_groups
 
--- with at most three journals, or in blocks of more than 512 bytes, the directory of the journals is a linear one
-abbrev pub HasLinearJournals : Plan → Type 0
-HasLinearJournals p = (p.journals ≤ 3) ⊎ (1024 ≤ p.size)
-
 -- a plan of an image that fits its device
 pub record IsFitting (p : Plan) : Type 0 where
   pub plan : IsPlan p
@@ -51,7 +47,6 @@ pub record IsFitting (p : Plan) : Type 0 where
   pub first : 4 ≤ data_blocks p 0
   pub last : 4 ≤ data_blocks p (last_group p)
   pub room : taken p ≤ all_data p
-  pub linear : HasLinearJournals p
 
 -- a part has one of the levels below the dinode, and its place is small
 abbrev pub IsPartOf : Part → Type 0

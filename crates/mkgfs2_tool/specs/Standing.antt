@@ -1,5 +1,5 @@
 -- A new image stands for the empty directory, and what a mount finds in it.
-use Rattle.std.specs.Prelude.{ℕ, ◌≡◌, ◌^◌, ◌<◌, false, length, map, Some}
+use Rattle.std.specs.Prelude.{ℕ, ◌≡◌, ◌^◌, ◌<◌, length, map, Some}
 use Rattle.std.specs.List.{range_with_len}
 use Rattle.file_tree.specs.Tree.{dir, none}
 use Rattle.image_model.specs.Claims.{every}
@@ -10,7 +10,7 @@ use Rattle.image_model.specs.Owners.{holding}
 use Rattle.image_model.specs.Profile.{IsInProfile}
 use Rattle.image_model.specs.Stands.{Layout, IsJournalAt, Stands}
 use Rattle.mkgfs2_tool.specs.Groups.{data_address}
-use Rattle.mkgfs2_tool.specs.Order.{master_place, root_place, group_list_place, journals_place, journal_place}
+use Rattle.mkgfs2_tool.specs.Order.{master_place, root_place, group_list_place, journals_place, journal_place, has_hashed_journals}
 use Rattle.mkgfs2_tool.specs.Blocks.{group_entry, clean_header, new_block}
 use Rattle.mkgfs2_tool.specs.Making.{IsFitting}
 use Rattle.mkgfs2_tool.specs.declared.plan.Plan.{Plan}
@@ -41,13 +41,13 @@ new_layout p = record {
 abbrev pub HasCleanHeads : Image → Layout → Type 0
 HasCleanHeads im l = (j d : ℕ) → IsJournalAt l j d → head_in (ring_of (every im d)) ≡ Some (clean_header j)
 
--- the image stands for the empty directory, is found as it was laid, has clean journals in a linear directory, and is one of
+-- the image stands for the empty directory, is found as it was laid, has clean journals in a linear directory or a hashed one, and is one of
 -- those that are mounted
 pub record StandsEmpty (p : Plan) (im : Image) : Type 0 where
   pub stands : Stands im (dir none)
   pub found : stands.layout ≡ new_layout p
   pub heads : HasCleanHeads im (new_layout p)
-  pub linear : is_hashed_in (holding im stands.owners (new_layout p).jindex) ≡ false
+  pub form : is_hashed_in (holding im stands.owners (new_layout p).jindex) ≡ has_hashed_journals p
   pub profile : IsInProfile im (new_layout p)
 
 -- every image that is made of a fitting plan stands for the empty directory

@@ -169,6 +169,7 @@ impl Plan {
             Use::Root => self.put_root(block),
             Use::GroupList(part) => self.put_group_list(block, part, entries),
             Use::Journals => self.put_journals(block),
+            Use::Leaf(leaf) => self.put_leaf(block, leaf),
             Use::Journal { number, part } => self.put_journal(block, number, part),
         }
     }

@@ -40,13 +40,15 @@ impl Name {
     }
 }
 
-/// An entry of a directory: its name, and formal number, address and kind (4 a directory, 8 a file) of what it names.
+/// An entry of a directory: its name, and formal number, address and kind (4 a directory, 8 a file) of what it names; and
+/// over how many bytes of records that it took up its own record reaches.
 #[derive(Clone, Copy, Debug, PartialEq, Eq)]
 pub(crate) struct Entry {
     pub name: Name,
     pub number: u64,
     pub address: u64,
     pub kind: u16,
+    pub reach: u8,
 }
 
 // The least length of a record with a name of so many bytes.
@@ -62,7 +64,7 @@ fn record_length(name: usize) -> usize
 fn put_record(bytes: &mut [u8], entry: Entry)
     requires named { IsNamed entry }
     requires room { 40 + length (name_of entry) ≤ length bytes.old }
-    requires short { length bytes.old < 2 ^ 16 }
+    requires short { length bytes.old ≤ 4096 }
     ensures { bytes.new ≡ record_bytes entry (length bytes.old) }
 {
     let name = entry.name.bytes();
@@ -72,7 +74,7 @@ fn put_record(bytes: &mut [u8], entry: Entry)
             address: entry.address,
         },
         hash: crc_words::crc32(name),
-        rec_len: bytes.len() as u16,
+        rec_len: bytes.len() as u16 + u16::from(entry.reach),
         name_len: name.len() as u16,
         kind: entry.kind,
         rahead: 0,
@@ -82,12 +84,12 @@ fn put_record(bytes: &mut [u8], entry: Entry)
     put_bytes(bytes, 40, name);
 }
 
-/// Fills an area with these records: each has its least length, and the last takes the rest.
+/// Fills an area with these records: each stands in its least length, and the last takes the rest.
 #[tactic(auto, using(crate::proofs::RecordLaws::first_of_several, crate::proofs::RecordLaws::only_one))]
 pub(crate) fn put_records(area: &mut [u8], entries: &[Entry])
     requires named { AreNamed entries.now }
     requires fit { Fit (length area.old) entries.now }
-    requires short { length area.old < 2 ^ 16 }
+    requires short { length area.old ≤ 4096 }
     ensures { area.new ≡ records (length area.old) entries.now }
 {
     if let [entry, later @ ..] = entries {

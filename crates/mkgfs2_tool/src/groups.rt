@@ -26,6 +26,7 @@ fn is_dinode(block: Use) -> bool
 {
     match block {
         Use::Master | Use::Root | Use::Journals => true,
+        Use::Leaf(_) => false,
         Use::GroupList(part) | Use::Journal { part, .. } => is_dinode_part(part),
     }
 }

@@ -1,4 +1,4 @@
-ghost use Rattle.std.specs.Prelude.{◌≡◌, ◌+◌, ◌-◌, ◌^◌, ◌<◌, ◌≤◌, length, replicate};
+ghost use Rattle.std.specs.Prelude.{◌≡◌, ◌+◌, ◌-◌, ◌^◌, ◌<◌, ◌≤◌, false, length, replicate};
 ghost use Rattle.mkgfs2_tool.specs.Files.{IsShape};
 ghost use Rattle.mkgfs2_tool.specs.Making.{IsFitting};
 ghost use Rattle.mkgfs2_tool.specs.Directories.{AreNamed, Fit, records};
@@ -15,14 +15,14 @@ const DIRECTORY: u32 = 0o040_755;
 const SYSTEM_FILE: u32 = 0o100_600;
 
 // The flags of an inode whose content is journaled, and of a system file.
-const JOURNALED: u32 = 0x1;
+pub(crate) const JOURNALED: u32 = 0x1;
 
 const SYSTEM: u32 = 0x200;
 
 // The format of a directory's records, and their kinds.
 const RECORDS: u32 = 1200;
 
-const DIRECTORY_KIND: u16 = 4;
+pub(crate) const DIRECTORY_KIND: u16 = 4;
 
 const FILE_KIND: u16 = 8;
 
@@ -36,6 +36,7 @@ pub(crate) struct Inode {
     pub flags: u32,
     pub payload_format: u32,
     pub height: u16,
+    pub depth: u16,
     pub entries: u32,
 }
 
@@ -52,6 +53,7 @@ pub(crate) fn system_file(shape: Shape) -> Inode
         flags: JOURNALED + SYSTEM,
         payload_format: 0,
         height: shape.height() as u16,
+        depth: 0,
         entries: 0,
     }
 }
@@ -59,8 +61,9 @@ pub(crate) fn system_file(shape: Shape) -> Inode
 impl Plan {
     ghost use Rattle.mkgfs2_tool.specs.Blocks.{directory, dinode, master_block, root_block, journals_block, area_length};
     ghost use Rattle.mkgfs2_tool.specs.Directories.{entry, journal_entry, most_entries};
+    ghost use Rattle.mkgfs2_tool.specs.Order.{has_hashed_journals};
 
-    fn directory(&self, entries: u32, directories: u32) -> Inode
+    pub(crate) fn directory(&self, entries: u32, directories: u32) -> Inode
         requires { IsFitting self.now }
         ensures { result ≡ directory self.now entries directories }
     {
@@ -72,6 +75,7 @@ impl Plan {
             flags: JOURNALED,
             payload_format: RECORDS,
             height: 0,
+            depth: 0,
             entries,
         }
     }
@@ -103,7 +107,7 @@ impl Plan {
             flags: inode.flags,
             payload_format: inode.payload_format,
             height: inode.height,
-            depth: 0,
+            depth: inode.depth,
             entries: inode.entries,
             eattr: 0,
             atime_nsec: 0,
@@ -112,7 +116,7 @@ impl Plan {
         }
     }
 
-    fn entry(&self, name: Name, number: u64, place: u64, kind: u16) -> Entry
+    pub(crate) fn entry(&self, name: Name, number: u64, place: u64, kind: u16) -> Entry
         requires plan { IsFitting self.now }
         requires place { place < 2 ^ 40 }
         ensures { result ≡ entry self.now name number place kind }
@@ -122,10 +126,11 @@ impl Plan {
             number,
             address: self.data_address(place),
             kind,
+            reach: 0,
         }
     }
 
-    fn journal_entry(&self, number: u64) -> Entry
+    pub(crate) fn journal_entry(&self, number: u64) -> Entry
         requires plan { IsFitting self.now }
         requires number { number < 8 }
         ensures { result ≡ journal_entry self.now number }
@@ -194,7 +199,7 @@ impl Plan {
     }
 
     // The entries of the directory of the journals, if there were eight.
-    fn most_entries(&self) -> [Entry; 10]
+    pub(crate) fn most_entries(&self) -> [Entry; 10]
         requires { IsFitting self.now }
         ensures { result ≡ most_entries self.now }
     {
@@ -212,11 +217,12 @@ impl Plan {
         ]
     }
 
-    /// The block of the directory of the journals.
+    /// The block of the directory of the journals where it is a linear one.
     #[tactic(auto, using(crate::proofs::RecordLaws::journals_first), unfolding(crate::specs::Blocks::journals_block))]
-    pub(crate) fn put_journals(&self, block: &mut [u8])
+    pub(crate) fn put_linear_journals(&self, block: &mut [u8])
         requires plan { IsFitting self.now }
         requires size { length block.old ≡ self.now.size }
+        requires linear { has_hashed_journals self.now ≡ false }
         ensures { block.new ≡ journals_block self.now }
     {
         let entries = self.most_entries();

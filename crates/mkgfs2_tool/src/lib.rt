@@ -7,6 +7,7 @@ mod device;
 mod directory;
 mod files;
 mod groups;
+mod hashing;
 mod inodes;
 mod laws;
 mod making;
@@ -15,7 +16,7 @@ mod order;
 mod plan;
 mod pointers;
 
-pub use laws::new_images_stand;
+pub use laws::{journals_are_inserted, new_images_stand};
 pub use making::make;
 pub use options::{MakeFault, MakeOptions, Opt};
 pub use plan::Plan;

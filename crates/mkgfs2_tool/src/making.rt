@@ -3,7 +3,7 @@ ghost use Rattle.std.specs.List.{AllByRecursion};
 ghost use Rattle.std.specs.Prelude.{◌≢◌, IsTrue};
 ghost use Rattle.shared_disk.specs.Disk.{DiskState, Operation, read_gives};
 ghost use Rattle.mkgfs2_tool.specs.Blocks.{IsGroupList, new_block};
-ghost use Rattle.mkgfs2_tool.specs.Making.{IsFitting, IsFaultOf, HasLinearJournals, plan_of};
+ghost use Rattle.mkgfs2_tool.specs.Making.{IsFitting, IsFaultOf};
 ghost use Rattle.mkgfs2_tool.specs.Outcomes.{IsMadeUpTo, IsBegun, IsMade, PlanEnding, Ending, IsRoom};
 ghost use Rattle.mkgfs2_tool.specs.declared.plan.Plan.{Plan};
 ghost use Rattle.gfs2_layout.specs.Device.{IsBlockSize};
@@ -201,8 +201,6 @@ fn make_plan<D: SharedDisk>(alloc: Global, disk: &mut D, plan: &Plan) -> Result<
 /// master directory with the list of groups and the directory of journals, an empty root, and clean journals; all other
 /// blocks are zero. The options are looked at first, then whether it fits, and memory is taken before anything is written.
 /// Each block is read, and is written only where it is not yet as it is to be; at most 512 writes are in flight.
-///
-/// In blocks of 512 bytes it makes at most three journals, whose directory is a linear one.
 pub fn make<D: SharedDisk>(
     alloc: Global,
     disk: &mut D,
@@ -211,7 +209,6 @@ pub fn make<D: SharedDisk>(
     requires size { IsBlockSize (D.state disk.old).size }
     requires small { (D.state disk.old).count ≤ most_blocks }
     requires idle { (D.state disk.old).in_flight 0 ≡ [] }
-    requires linear { HasLinearJournals (plan_of (D.state disk.old).size (D.state disk.old).count options.now) }
     ensures ending { Ending options.now (D.state disk.old) (D.state disk.new) (D.list disk.old) (D.list disk.new) (D.faults disk.old) (D.faults disk.new) result }
     ensures later { (j : ℕ) → D.faults disk.old j ≤ D.faults disk.new j }
 {

@@ -14,11 +14,13 @@ pub(crate) enum Use {
     Root,
     GroupList(Part),
     Journals,
+    /// This one of the leaves of the directory of journals.
+    Leaf(u64),
     Journal { number: u64, part: Part },
 }
 
 impl Plan {
-    ghost use Rattle.mkgfs2_tool.specs.Order.{group_list, journal, journals_place, journal_place, taken, journal_use, use_of, dinodes, fits, IsNeeded};
+    ghost use Rattle.mkgfs2_tool.specs.Order.{group_list, journal, journals_place, has_hashed_journals, is_split, leaf_count, journal_leaves, leaf_place, journal_place, taken, journal_use, use_of, dinodes, fits, IsNeeded};
 
     /// The list of groups, at 96 bytes for each.
     pub(crate) fn group_list(&self) -> Shape
@@ -53,13 +55,49 @@ impl Plan {
         2 + self.group_list().file_blocks()
     }
 
+    /// Whether the directory of journals is a hashed one.
+    pub(crate) fn has_hashed_journals(&self) -> bool
+        ensures { result ≡ has_hashed_journals self.now }
+    {
+        self.size == 512 && self.journals > 3
+    }
+
+    /// Whether its first leaf was split.
+    pub(crate) fn is_split(&self) -> bool
+        ensures { result ≡ is_split self.now }
+    {
+        self.journals > 6
+    }
+
+    /// How many leaves the directory of journals has.
+    #[tactic(auto, unfolding(crate::specs::Order::leaf_count))]
+    pub(crate) fn journal_leaves(&self) -> u64
+        ensures value { result ≡ journal_leaves self.now }
+        ensures few { result ≤ 2 }
+    {
+        if self.has_hashed_journals() {
+            if self.is_split() { 2 } else { 1 }
+        } else {
+            0
+        }
+    }
+
+    pub(crate) fn leaf_place(&self, leaf: u64) -> u64
+        requires plan { IsPlan self.now }
+        requires leaf { leaf < 2 ^ 16 }
+        ensures value { result ≡ leaf_place self.now leaf }
+        ensures bound { result < 2 ^ 18 }
+    {
+        self.journals_place() + 1 + leaf
+    }
+
     pub(crate) fn journal_place(&self, number: u64) -> u64
         requires plan { IsPlan self.now }
         requires number { number ≤ 8 }
         ensures value { result ≡ journal_place self.now number }
         ensures bound { result < 2 ^ 36 }
     {
-        self.journals_place() + 1 + number * self.journal().file_blocks()
+        self.leaf_place(self.journal_leaves()) + number * self.journal().file_blocks()
     }
 
     /// How many blocks are taken.
@@ -100,6 +138,7 @@ impl Plan {
             1 => Use::Root,
             _ if k < journals => Use::GroupList(self.group_list().part(k - 2)),
             _ if k == journals => Use::Journals,
+            _ if k < self.journal_place(0) => Use::Leaf(k.saturating_sub(self.leaf_place(0))),
             _ => self.journal_use(k.saturating_sub(self.journal_place(0))),
         }
     }

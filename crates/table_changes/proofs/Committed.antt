@@ -1,19 +1,13 @@
 -- Blocks of one draft that are put into another.
-use Rattle.std.proofs.Common.{◌≡◌, ◌≢◌, ◌↔◌, ◌⊎◌, ℕ, zero, suc, ◌+◌, ◌-◌, ◌*◌, ◌/◌, ◌^◌, ◌<◌, inl, inr, Bool, true, false, cond, T, List, [], ◌∷◌, ◌++◌, length, take, drop, Option, None, Some, refl, sym, ap, ap₂, ◌∙◌, subst, arith}
-use Rattle.std.specs.Prelude.{◌&&◌, Contains, IsSome, IsSomeAnd}
-use Rattle.std.specs.Cmp.{nat_cmp_total, ranks}
-use Rattle.std.specs.FinMap.{FinMap, entries, entries_sorted, find, get, get-entries, insert, is_sorted, nat_cmp-IsAntisymmetric}
-use Rattle.std.specs.FinMap.Entries.{below_all}
-use Rattle.std.specs.Ordering.{is_lt, nat_cmp, MatchOrdering}
-use Rattle.std.specs.declared.cmp.Ordering.{Ordering}
-use Rattle.std.specs.declared.cmp.Ordering.TheVariants.{Less, Equal, Greater}
-use Rattle.std.proofs.lemmas.Bool.{cases_eq}
+use Rattle.std.proofs.Common.{◌≡◌, ◌↔◌, ◌⊎◌, ℕ, suc, ◌+◌, ◌-◌, ◌*◌, ◌/◌, ◌^◌, inl, inr, Bool, true, false, List, ◌++◌, length, take, drop, Option, None, Some, refl, sym, ap, ap₂, ◌∙◌, subst, arith}
+use Rattle.std.specs.Prelude.{Contains, IsSome, IsSomeAnd}
+use Rattle.std.specs.FinMap.{FinMap, get}
+use Rattle.std.specs.Ordering.{nat_cmp}
 use Rattle.std.proofs.lemmas.List.{drop_at, length-append, take_at}
-use Rattle.finite_maps.proofs.Keys.{inserted_at, inserted_apart, tied, untied}
-use Rattle.drafts.specs.Fates.{Drafted, block_with, blocks_in, seen_in}
+use Rattle.drafts.specs.Fates.{Drafted, block_with, seen_in}
 use Rattle.drafts.specs.declared.change.Written.{Written}
 use Rattle.drafts.specs.declared.fate.Fate.{Fate}
-use Rattle.drafts.specs.declared.fate.Fate.TheVariants.{Put, Freed}
+use Rattle.drafts.specs.declared.fate.Fate.TheVariants.{Put}
 use Rattle.gfs2_layout.specs.Device.{IsBlockSize}
 use Rattle.gfs2_layout.specs.Holding.{Cell, Holding, InChain, Itself, Part, Pointed, cell_part, bytes_at, part_at}
 use Rattle.gfs2_layout.specs.Inode.{dinode_in}
@@ -28,7 +22,9 @@ use Rattle.dinode_tree.proofs.Sound.{is_there, part_of_led, size_large}
 use Rattle.pointer_tables.specs.Directories.{IsPlaced, IsTreeSound}
 use Rattle.table_growth.specs.Tables.{DraftsDirectory, TakesDoubled, TakesWithin}
 use Rattle.table_files.proofs.ContentParts.{whole_by_parts}
-use Rattle.table_changes.specs.Doubling.{AreDoubledBlocks, IsOfTable, with_blocks}
+use Rattle.nested_drafts.specs.Nested.{fate_over, with_blocks}
+use Rattle.nested_drafts.proofs.Over.{fates_put, kept_or_put, told_put}
+use Rattle.table_changes.specs.Doubling.{AreDoubledBlocks, IsOfTable}
 use Rattle.tree_tables.specs.Pointers.{IsTableOf}
 use Rattle.tree_tables.specs.declared.tree_table.TreeTable.{TreeTable}
 use Rattle.table_changes.proofs.Below.{below_of_part}
@@ -42,97 +38,6 @@ none_and (Some x) P none holds = let never : Some x ≡ None = none in absurd (c
 
 pub some_at : {A : Type 0} (o : Option A) (x : A) (P : A → Type 0) → o ≡ Some x → IsSomeAnd o P → P x
 some_at {A} o x P some holds = subst (λ (q : Option A). IsSomeAnd q P) some holds
-
--- ---- what becomes of a block, by what became of it in the other draft
-
--- put, where it was put there, and else as it was
-abbrev pub over : LockName → Option Fate → Option Fate → Option Fate
-over lock (Some (Put l plain bytes)) old = Some (Put lock false bytes)
-over lock (Some Freed) old = old
-over lock None old = old
-
-both_of : (a b : Bool) → T (a && b) → T a × T b
-both_of true b h = (tt, h)
-both_of false b h = absurd h
-
-above : (k x : ℕ) → T (is_lt (nat_cmp k x)) → k < x
-above k x h = by (nat_cmp k x) (ranks k x) h
-  where
-    by : (r : Ordering) → MatchOrdering r (k < x) (k ≡ x) (x < k) → T (is_lt r) → k < x
-    by Less m t = m
-    by Equal m t = absurd t
-    by Greater m t = absurd t
-
-find_above : (k : ℕ) (es : List (ℕ × Fate)) → T (below_all nat_cmp k es) → find nat_cmp k es ≡ None
-find_above k [] h = refl
-find_above k (e ∷ es) h =
-    let hs = both_of (is_lt (nat_cmp k e.0)) (below_all nat_cmp k es) h in
-    let less = above k e.0 hs.0 in
-    ap (λ t. cond t (Some e.1) (find nat_cmp k es)) (untied nat_cmp-IsAntisymmetric k e.0 (λ s. absurd (omega (arith, s, less)))) ∙ find_above k es hs.1
-
-found_here : (x : ℕ) (f : Fate) (es : List (ℕ × Fate)) (b : ℕ) → b ≡ x → find nat_cmp b ((x, f) ∷ es) ≡ Some f
-found_here x f es b same = ap (λ z. find nat_cmp z ((x, f) ∷ es)) same ∙ ap (λ t. cond t (Some f) (find nat_cmp x es)) (tied nat_cmp_total x)
-
-found_later : (x : ℕ) (f : Fate) (es : List (ℕ × Fate)) (b : ℕ) → b ≢ x → find nat_cmp b ((x, f) ∷ es) ≡ find nat_cmp b es
-found_later x f es b other = ap (λ t. cond t (Some f) (find nat_cmp b es)) (untied nat_cmp-IsAntisymmetric b x other)
-
-put_found : (lock : LockName) (es : List (ℕ × Fate)) (fates : FinMap nat_cmp Fate) (b : ℕ) → T (is_sorted nat_cmp es) → get (with_blocks lock (blocks_in es) fates) b ≡ over lock (find nat_cmp b es) (get fates b)
-put_found lock [] fates b sorted = refl
-put_found lock ((x, Put l plain bytes) ∷ es) fates b sorted =
-    let parts = both_of (below_all nat_cmp x es) (is_sorted nat_cmp es) sorted in
-    let rest = put_found lock es (insert fates x (Put lock false bytes)) b parts.1 in
-    elim (cases_eq b x) [
-      | inl same ↦ rest ∙ ap₂ (λ o q. over lock o q) (ap (λ z. find nat_cmp z es) same ∙ find_above x es parts.0) (ap (get (insert fates x (Put lock false bytes))) same ∙ inserted_at nat_cmp_total nat_cmp-IsAntisymmetric fates x (Put lock false bytes))
-          ∙ sym (ap (λ o. over lock o (get fates b)) (found_here x (Put l plain bytes) es b same))
-      | inr other ↦ rest ∙ ap (over lock (find nat_cmp b es)) (inserted_apart nat_cmp_total nat_cmp-IsAntisymmetric fates x (Put lock false bytes) b other) ∙ sym (ap (λ o. over lock o (get fates b)) (found_later x (Put l plain bytes) es b other))
-    ]
-put_found lock ((x, Freed) ∷ es) fates b sorted =
-    let parts = both_of (below_all nat_cmp x es) (is_sorted nat_cmp es) sorted in
-    let rest = put_found lock es fates b parts.1 in
-    elim (cases_eq b x) [
-      | inl same ↦ rest ∙ ap (λ o. over lock o (get fates b)) (ap (λ z. find nat_cmp z es) same ∙ find_above x es parts.0) ∙ sym (ap (λ o. over lock o (get fates b)) (found_here x Freed es b same))
-      | inr other ↦ rest ∙ sym (ap (λ o. over lock o (get fates b)) (found_later x Freed es b other))
-    ]
-
-pub fates_put : (lock : LockName) (there fates : FinMap nat_cmp Fate) (b : ℕ) → get (with_blocks lock (blocks_in (entries there)) fates) b ≡ over lock (get there b) (get fates b)
-fates_put lock there fates b = put_found lock (entries there) fates b (entries_sorted there) ∙ ap (λ o. over lock o (get fates b)) (sym (get-entries there b))
-
--- a block that isn't among those that are put keeps its fate
-pub kept_or_put : (lock : LockName) (ws : List Written) (fates : FinMap nat_cmp Fate) (b : ℕ) → (get (with_blocks lock ws fates) b ≡ get fates b) ⊎ ((w : Written) × Contains ws w × (w.block ≡ b))
-kept_or_put lock [] fates b = inl refl
-kept_or_put lock (w ∷ ws) fates b = elim (kept_or_put lock ws (insert fates w.block (Put lock false w.bytes)) b) [
-  | inl kept ↦ elim (cases_eq b w.block) [
-    | inl same ↦ inr (w, (zero, omega arith, refl), sym same)
-    | inr other ↦ inl (kept ∙ inserted_apart nat_cmp_total nat_cmp-IsAntisymmetric fates w.block (Put lock false w.bytes) b other)
-  ]
-  | inr later ↦ inr (later.0, (suc later.1.0, omega (arith, later.1.1), later.1.2), later.2)
-]
-
--- a block that is told was put
-told : (es : List (ℕ × Fate)) → T (is_sorted nat_cmp es) → (w : Written) → Contains (blocks_in es) w → (lock : LockName) × (plain : Bool) × (find nat_cmp w.block es ≡ Some (Put lock plain w.bytes))
-told [] sorted w has = absurd (omega (arith, has.1))
-told ((x, Put l plain bytes) ∷ es) sorted w (zero, low, is) =
-    (l, plain, subst (λ (v : Written). find nat_cmp v.block ((x, Put l plain bytes) ∷ es) ≡ Some (Put l plain v.bytes)) is (found_here x (Put l plain bytes) es x refl))
-told ((x, Put l plain bytes) ∷ es) sorted w (suc n, low, is) =
-    let parts = both_of (below_all nat_cmp x es) (is_sorted nat_cmp es) sorted in
-    let rest = told es parts.1 w (n, omega (arith, low), is) in
-    (rest.0, rest.1, onward x (Put l plain bytes) es w.block _ parts.0 rest.2)
-  where
-    onward : (x : ℕ) (f : Fate) (es : List (ℕ × Fate)) (b : ℕ) (g : Fate) → T (below_all nat_cmp x es) → find nat_cmp b es ≡ Some g → find nat_cmp b ((x, f) ∷ es) ≡ Some g
-    onward x f es b g below at = elim (cases_eq b x) [
-      | inl same ↦ let never : None ≡ Some g = sym (find_above x es below) ∙ ap (λ z. find nat_cmp z es) (sym same) ∙ at in absurd (cc)
-      | inr other ↦ found_later x f es b other ∙ at
-    ]
-told ((x, Freed) ∷ es) sorted w has =
-    let parts = both_of (below_all nat_cmp x es) (is_sorted nat_cmp es) sorted in
-    let rest = told es parts.1 w has in
-    (rest.0, rest.1, onward x Freed es w.block _ parts.0 rest.2)
-  where
-    onward : (x : ℕ) (f : Fate) (es : List (ℕ × Fate)) (b : ℕ) (g : Fate) → T (below_all nat_cmp x es) → find nat_cmp b es ≡ Some g → find nat_cmp b ((x, f) ∷ es) ≡ Some g
-    onward x f es b g below at = elim (cases_eq b x) [
-      | inl same ↦ let never : None ≡ Some g = sym (find_above x es below) ∙ ap (λ z. find nat_cmp z es) (sym same) ∙ at in absurd (cc)
-      | inr other ↦ found_later x f es b other ∙ at
-    ]
 
 -- where each block that was put is one of the directory's, or of the room's front, nothing becomes of any other
 pub takes_within : (h : Holding) (lock : LockName) (ws : List Written) (old new : FinMap nat_cmp Fate) (directory : ℕ) (below : List PointedBlock) (room taken left : List ℕ) → h.own ≡ directory → ((b : ℕ) → TellsOfBlock below b ↔ IsBelow h b)
@@ -171,8 +76,8 @@ cell_cases (Some c) = inl refl
 module _ (h : Holding) (room left : List ℕ) (ws : List Written) (made : AreDoubledBlocks h room left ws) where
   pub whole_blocks : (w : Written) → Contains ws w → length w.bytes ≡ h.size
   whole_blocks w has =
-      let is = told (entries made.fates) (entries_sorted made.fates) w (subst (λ xs. Contains xs w) made.written has) in
-      let at : get made.fates w.block ≡ Some (Put is.0 is.1 w.bytes) = get-entries made.fates w.block ∙ is.2 in
+      let is = told_put made.fates w (subst (λ xs. Contains xs w) made.written has) in
+      let at : get made.fates w.block ≡ Some (Put is.0 is.1 w.bytes) = is.2 in
       elim (cell_cases (made.g.cell w.block)) [
         | inr none ↦ no_put (Put is.0 is.1 w.bytes) (sym (made.others w.block none) ∙ at)
         | inl there ↦ elim (made.each w.block there) [
@@ -187,8 +92,8 @@ module _ (h : Holding) (room left : List ℕ) (ws : List Written) (made : AreDou
   -- each of them is the directory's own, one below it, or one that was taken
   pub blocks_within : IsTreeSound h → IsPlaced h → (w : Written) → Contains ws w → (w.block ≡ h.own) ⊎ (IsBelow h w.block ⊎ Contains made.taken w.block)
   blocks_within sound placed w has =
-      let is = told (entries made.fates) (entries_sorted made.fates) w (subst (λ xs. Contains xs w) made.written has) in
-      let at : get made.fates w.block ≡ Some (Put is.0 is.1 w.bytes) = get-entries made.fates w.block ∙ is.2 in
+      let is = told_put made.fates w (subst (λ xs. Contains xs w) made.written has) in
+      let at : get made.fates w.block ≡ Some (Put is.0 is.1 w.bytes) = is.2 in
       elim (cell_cases (made.g.cell w.block)) [
         | inr none ↦ no_put (Put is.0 is.1 w.bytes) (sym (made.others w.block none) ∙ at)
         | inl there ↦ elim ((made.has.blocks w.block).0 there) [
@@ -225,14 +130,14 @@ module _ (h : Holding) (room left : List ℕ) (ws : List Written) (made : AreDou
     abbrev lock : LockName
     lock = inode_lock t.directory
 
-    fate : (b : ℕ) → get new.fates b ≡ over lock (get made.fates b) (get old.fates b)
+    fate : (b : ℕ) → get new.fates b ≡ fate_over lock (get made.fates b) (get old.fates b)
     fate b = ap (λ (d : Drafted V). get d.fates b) put ∙ ap (λ xs. get (with_blocks lock xs old.fates) b) made.written ∙ fates_put lock made.fates old.fates b
 
     fate_kept : (b : ℕ) → get made.fates b ≡ None → get new.fates b ≡ get old.fates b
-    fate_kept b none = fate b ∙ ap (λ o. over lock o (get old.fates b)) none
+    fate_kept b none = fate b ∙ ap (λ o. fate_over lock o (get old.fates b)) none
 
     fate_put : (b : ℕ) (l : LockName) (plain : Bool) (bytes : List ℕ) → get made.fates b ≡ Some (Put l plain bytes) → get new.fates b ≡ Some (Put lock false bytes)
-    fate_put b l plain bytes at = fate b ∙ ap (λ o. over lock o (get old.fates b)) at
+    fate_put b l plain bytes at = fate b ∙ ap (λ o. fate_over lock o (get old.fates b)) at
 
     view_is : new.view ≡ old.view
     view_is = ap (λ (d : Drafted V). d.view) put

@@ -1,6 +1,6 @@
 -- What the code that doubles a table holds, as what it stands for.
-use Rattle.std.specs.Prelude.{ℕ, ◌≡◌, ◌⊎◌, Bool, true, false, List, [], ◌∷◌, ◌++◌, length, Contains, None, Some, IsSome}
-use Rattle.std.specs.FinMap.{FinMap, entries, get, insert}
+use Rattle.std.specs.Prelude.{ℕ, ◌≡◌, ◌⊎◌, Bool, true, List, ◌++◌, length, Contains, None, Some, IsSome}
+use Rattle.std.specs.FinMap.{FinMap, entries, get}
 use Rattle.std.specs.Ordering.{nat_cmp}
 use Rattle.drafts.specs.Fates.{blocks_in}
 use Rattle.drafts.specs.declared.change.Written.{Written}
@@ -16,11 +16,6 @@ use Rattle.growth_drafts.specs.Taken.{HasTaken}
 use Rattle.pointer_tables.specs.Tables.{IsDoubled}
 use Rattle.table_growth.specs.Tables.{GrowsAsFile, IsClearBehind, KeepsTableHeaders, doubling_need_of}
 use Rattle.table_files.specs.Files.{AreDoubledPointers, AreHeadersOf, table_bytes}
-
--- what becomes of blocks where these are put as well, under a lock, none of them plain
-abbrev pub with_blocks : LockName → List Written → FinMap nat_cmp Fate → FinMap nat_cmp Fate
-with_blocks lock [] fates = fates
-with_blocks lock (w ∷ ws) fates = with_blocks lock ws (insert fates w.block (Put lock false w.bytes))
 
 -- a block that a table's doubling may put: the directory's own, one below it, or one that was taken
 abbrev pub IsOfTable : ℕ → List PointedBlock → List ℕ → ℕ → Type 0

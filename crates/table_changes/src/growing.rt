@@ -15,13 +15,14 @@ ghost use Rattle.table_files.specs.Files.{doubled_dinode, file_dinode};
 ghost use Rattle.table_changes.specs.Doubling.{AreDoubledBlocks, IsDoubledTable};
 ghost use Rattle.tree_tables.specs.Pointers.{IsTableOf};
 
-use crate::putting::{are_whole, put_dinode};
+use crate::putting::put_dinode;
 use drafts::{Draft, Written};
 use file_fills::height_for;
 use file_growth::write_range;
 use gfs2_layout::Dinode;
 use glock_names::{CallFault, Step, View};
 use growth_laws::files_are_inodes;
+use nested_drafts::are_whole;
 use no_memory::NoMemory;
 use std::alloc::Global;
 use std::collections::VecDeque;

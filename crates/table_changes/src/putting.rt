@@ -9,7 +9,7 @@ ghost use Rattle.gfs2_layout.specs.Writing.{dinode_put};
 ghost use Rattle.glock_names.specs.Views.{HasBlock};
 ghost use Rattle.dinode_tree.specs.Below.{TellsOfBlock};
 ghost use Rattle.dinode_tree.specs.Reading.{inode_lock};
-ghost use Rattle.table_changes.specs.Doubling.{IsOfTable, with_blocks};
+ghost use Rattle.table_changes.specs.Doubling.{IsOfTable};
 ghost use Rattle.table_changes.specs.Setting.{HasNumbersSet};
 
 use crate::numbers::set_numbers;
@@ -66,18 +66,6 @@ pub(crate) fn put_dinode<V: View>(
     Ok(true)
 }
 
-/// Whether each of these blocks has so many bytes.
-pub(crate) fn are_whole(blocks: &[Written], size: usize) -> bool
-    ensures { IsTrue result ↔ ((w : Written) → Contains blocks.now w → length w.bytes ≡ size) }
-{
-    for one in blocks {
-        if one.bytes.bytes().len() != size {
-            return false;
-        }
-    }
-    true
-}
-
 // Whether the list tells of a block.
 fn is_told(below: &[PointedBlock], block: u64) -> bool
     ensures { IsTrue result ↔ TellsOfBlock below.now block }
@@ -119,20 +107,4 @@ pub(crate) fn are_of_table(
         }
     }
     true
-}
-
-/// Puts these blocks under their directory's lock. It costs a copy of each.
-pub(crate) fn put_blocks<V: View>(
-    draft: &mut Draft<'_, V>,
-    directory: u64,
-    blocks: &[Written],
-) -> Result<(), NoMemory>
-    requires { (w : Written) → Contains blocks.now w → length w.bytes ≡ (V.seen draft.old.view).size }
-    ensures put { OnOk result (draft.new ≡ record draft.old { fates = with_blocks (inode_lock directory) blocks.now draft.old.fates }) }
-    ensures view { draft.new.view ≡ draft.old.view }
-{
-    for one in blocks {
-        draft.put(lock_of(directory), one.block, false, one.bytes.bytes())?;
-    }
-    Ok(())
 }

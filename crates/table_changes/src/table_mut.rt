@@ -2,12 +2,14 @@
 use crate::changing::PointerTableMut;
 use crate::finding::find_runs;
 use crate::growing::doubled_blocks;
-use crate::putting::{are_of_table, put_blocks};
+use crate::putting::are_of_table;
 use crate::reading::{doubled_table, see_below};
 use crate::setting::set_runs;
 use dinode_tree::read_dinode;
 use drafts::Draft;
 use glock_names::{CallFault, Step, View};
+use linear_dirs::lock_of;
+use nested_drafts::put_blocks;
 use std::alloc::Global;
 use std::collections::VecDeque;
 use tree_tables::TreeTable;
@@ -57,7 +59,7 @@ impl PointerTableMut for TreeTable {
         if !are_of_table(&blocks, self.directory, &below, &taken) {
             return Ok(Step::Is(false));
         }
-        put_blocks(draft, self.directory, &blocks)?;
+        put_blocks(draft, lock_of(self.directory), &blocks)?;
         *room = rest;
         self.depth += 1;
         Ok(Step::Is(true))

@@ -60,7 +60,6 @@ module _ (g : Over) (c : goal.After-drop-view-inside-in-Ok-run_script g) (left l
     answered = c.in-Ok-run_script.ensures.answered;
     sound = c.in-Ok-run_script.ensures.sound;
     damaged = c.in-Ok-run_script.ensures.damaged;
-    hashed = c.in-Ok-run_script.ensures.hashed;
     unbuilt = c.in-Ok-run_script.ensures.unbuilt;
     built = c.in-Ok-run_script.ensures.built;
     failed = c.in-Ok-run_script.ensures.failed;
@@ -99,7 +98,6 @@ module _ (g : Over) (c : goal.After-drop-view-inside-3 g) (left left_now : Optio
     answered = c.in-Err-run_script.ensures.answered;
     sound = c.in-Err-run_script.ensures.sound;
     damaged = c.in-Err-run_script.ensures.damaged;
-    hashed = c.in-Err-run_script.ensures.hashed;
     unbuilt = c.in-Err-run_script.ensures.unbuilt;
     built = c.in-Err-run_script.ensures.built;
     failed = c.in-Err-run_script.ensures.failed;

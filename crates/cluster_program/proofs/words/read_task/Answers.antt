@@ -11,12 +11,12 @@ use Rattle.cluster_program.specs.declared.words.Task.TheVariants as task
 use Rattle.cluster_program.proofs.words.read_task.Goals as goal
 
 -- a command that is built is refused by nothing
-not_refused : (size : ℕ) (words : List (List ℕ)) (c : Command) → words_read size words ≡ Ok c → is_built size c ≡ true → words_refusal size words ≡ None
+not_refused : (size : ℕ) (words : List (List ℕ)) (c : Command) → words_read size words ≡ Ok c → is_built c ≡ true → words_refusal size words ≡ None
 not_refused size words c read built =
-    (λ i. refusal_of size (read i)) ∙ (λ i. if built i then None else Some (status.NotBuilt part.Words))
+    (λ i. refusal_of (read i)) ∙ (λ i. if built i then None else Some (status.NotBuilt part.Words))
 
 -- the words ask for the task that their command is
-asked_for : (size : ℕ) (words : List (List ℕ)) (c : Command) (t : Task) → words_read size words ≡ Ok c → IsWithinLimits c → is_built size c ≡ true → IsTaskOf c t → Asks size words t
+asked_for : (size : ℕ) (words : List (List ℕ)) (c : Command) (t : Task) → words_read size words ≡ Ok c → IsWithinLimits c → is_built c ≡ true → IsTaskOf c t → Asks size words t
 asked_for size words c (task.Make make) read limits built told =
     (record { read = read ∙ (λ i. Ok (told i)); built = not_refused size words c read built }, subst IsWithinLimits told limits)
 asked_for size words c task.Show read limits built told =

@@ -20,7 +20,7 @@ use Rattle.image_changes.specs.Does.{Does, AreInside}
 use Rattle.read_calls.specs.Reading.{IsReading}
 use Rattle.read_calls.proofs.Lists.{no_change}
 use Rattle.file_calls.specs.Answers.{IsMadeIn}
-use Rattle.file_calls.specs.Calls.{IsLackedFor, IsUnbuiltName, call_holds}
+use Rattle.file_calls.specs.Calls.{IsLackedFor, call_holds}
 use Rattle.file_calls.proofs.Lacked.{lacked_lacks}
 use Rattle.file_calls.proofs.Made.{making_full, making_made, removing_made, writing_full}
 use Rattle.file_calls.proofs.Blocks.{needed_absent, covered_low, making_few, making_holds, nothing_under, reading_holds, removing_absent, removing_holds, removing_inside, removing_under, writing_absent, writing_few, writing_holds}
@@ -198,29 +198,8 @@ built_so (Err e) P is = tt
 pub returns-in-Read-clause-unbuilt : goal.returns-in-Read-clause-unbuilt
 returns-in-Read-clause-unbuilt g c = built_so c.attempt-in-Read.result _ c.attempt-in-Read.ensures.built
 
-pub returns-in-Read-clause-built : goal.returns-in-Read-clause-built
-returns-in-Read-clause-built g c im o l t of = built_so c.attempt-in-Read.result _ c.attempt-in-Read.ensures.built
-
 pub returns-in-Unlink-clause-unbuilt : goal.returns-in-Unlink-clause-unbuilt
 returns-in-Unlink-clause-unbuilt g c = built_so c.attempt-in-Unlink.result _ c.attempt-in-Unlink.ensures.built
-
-pub returns-in-Unlink-clause-built : goal.returns-in-Unlink-clause-built
-returns-in-Unlink-clause-built g c im o l t of = built_so c.attempt-in-Unlink.result _ c.attempt-in-Unlink.ensures.built
-
--- what isn't built is so of a call that makes a name, if this one does
-made_so : (r : Result Attempt CallFault) (t : Tree) (call : Call) → IsMaking call → IfNotBuilt r ((apply call t).reply ≡ reply.Ok) → IfNotBuilt r (IsUnbuiltName t call)
-made_so (Ok (NeedBlock m)) t call is taken = tt
-made_so (Ok (Done reply change)) t call is taken = tt
-made_so (Ok (NeedLock lock state)) t call is taken = tt
-made_so (Ok (NoSpace need free)) t call is taken = tt
-made_so (Ok (Hashed b)) t call is taken = tt
-made_so (Ok NotBuilt) t call is taken = record { taken = taken; makes = is }
-made_so (Err e) t call is taken = tt
-
-pub returns-in-Create-clause-built : goal.returns-in-Create-clause-built
-returns-in-Create-clause-built g c im o l t of =
-    let is : IsMaking c.args.call.now = search rules in
-    made_so c.attempt-in-Create.result t c.args.call.now is (c.attempt-in-Create.ensures.taken im o l t of)
 
 -- a reply that doesn't tell of too few free blocks is another one
 space_so : (r : Reply) → HasSpace r → r ≢ reply.NoSpace
@@ -251,9 +230,6 @@ returns-in-Write-clause-space g c im o l t of =
 
 pub returns-in-Write-clause-fewer : goal.returns-in-Write-clause-fewer
 returns-in-Write-clause-fewer g c = few_so c.attempt.result _ _ (λ need free full. full.fewer) c.attempt.ensures.full
-
-pub returns-in-Write-clause-built : goal.returns-in-Write-clause-built
-returns-in-Write-clause-built g c im o l t of = built_so c.attempt.result _ (c.attempt.ensures.built im o l t of)
 
 pub returns-in-Create-clause-made : goal.returns-in-Create-clause-made
 returns-in-Create-clause-made g c im o l t of =

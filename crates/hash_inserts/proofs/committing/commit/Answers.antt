@@ -1,8 +1,9 @@
-use Rattle.std.proofs.Common.{◌∙◌, ◌≤◌, inl, inr, length, refl, sym, ap, subst, length-append, arith}
+use Rattle.std.proofs.Common.{Some, false, ◌∙◌, ◌≤◌, inl, inr, length, refl, sym, ap, subst, length-append, arith}
 use Rattle.std.specs.FinMap.{get}
 use Rattle.drafts.specs.Fates.{Drafted, seen_in}
 use Rattle.hash_inserts.specs.Inserting.{MayChange}
-use Rattle.hash_inserts.proofs.Over.{same_parts}
+use Rattle.drafts.specs.declared.fate.Fate.TheVariants.{Put}
+use Rattle.hash_inserts.proofs.Over.{blocks_put, same_parts}
 use Rattle.hash_inserts.proofs.Results.{contradict}
 use Rattle.hash_inserts.proofs.committing.commit.Goals as goal
 
@@ -20,9 +21,12 @@ returns-clause-inside g c done =
     record {
       taken = c.in_ok-taken.taken.items;
       front = c.in_ok-taken.ensures.front;
-      changes = λ b. elim (c.puts_are_seen_alike.ensures.only c.lock_of.result c.args.blocks.now c.args.draft.now.fates b) [
+      changes = λ b. elim (blocks_put c.lock_of.result c.args.blocks.now c.args.draft.now.fates b) [
         | inl kept ↦ inl (ap (λ (d : Drafted _). get d.fates b) put ∙ kept)
-        | inr one ↦ inr (subst (MayChange v c.args.dir c.in_ok-taken.taken.items) one.2 (subst (λ xs. MayChange v c.args.dir xs one.0.block) c.deref.ensures.value (c.are_inside.ensures.0 c.if-not-are_inside.false one.0 one.1)))
+        | inr one ↦ inr (
+          subst (MayChange v c.args.dir c.in_ok-taken.taken.items) one.2 (subst (λ xs. MayChange v c.args.dir xs one.0.block) c.deref.ensures.value (c.are_inside.ensures.0 c.if-not-are_inside.false one.0 one.1)),
+          (one.3.0, ap (λ (d : Drafted _). get d.fates b) put ∙ one.3.1 ∙ ap (λ l. Some (Put l false one.3.0)) c.lock_of.ensures),
+        )
       ];
     }
 

@@ -6,7 +6,7 @@ use Rattle.drafts.specs.Fates.{Drafted}
 use Rattle.drafts.specs.declared.fate.Fate.TheVariants.{Put}
 use Rattle.dinode_tree.specs.Reading.{inode_lock}
 use Rattle.hash_inserts.specs.Converting.{AreConverted, CanConvert}
-use Rattle.hash_inserts.proofs.Converted.{two_put}
+use Rattle.hash_inserts.proofs.Converted.{two_put_under}
 use Rattle.hash_inserts.proofs.converting.convert_in.Goals as goal
 
 one_bytes : (x y : List ℕ) → Some x ≡ Some y → x ≡ y
@@ -36,7 +36,6 @@ returns-clause-put g c bytes there can =
 
 pub returns-clause-inside : goal.returns-clause-inside
 returns-clause-inside g c =
-    let first = Put c.lock_of.result false c.deref.result.now in
-    let second = Put c.lock_of-2.result false c.deref-2.result.now in
-    two_put c.args.draft.now.fates c.put-2.new.self.fates c.args.leaf c.args.dir first second
-    (ap (λ (d : Drafted _). d.fates) c.in_ok-put-2.ensures.ok ∙ ap (λ (d : Drafted _). with_fate d.fates c.args.dir second) c.in_ok-put.ensures.ok)
+    two_put_under c.args.draft.now.fates c.put-2.new.self.fates c.args.leaf c.args.dir c.deref.result.now c.deref-2.result.now
+    (ap (λ (d : Drafted _). d.fates) c.in_ok-put-2.ensures.ok ∙ ap (λ (d : Drafted _). with_fate d.fates c.args.dir (Put c.lock_of-2.result false c.deref-2.result.now)) c.in_ok-put.ensures.ok
+    ∙ ap₂ (λ l k. with_fate (with_fate c.args.draft.now.fates c.args.leaf (Put l false c.deref.result.now)) c.args.dir (Put k false c.deref-2.result.now)) c.lock_of.ensures c.lock_of-2.ensures)

@@ -1,8 +1,7 @@
-use Rattle.std.proofs.Common.{◌≡◌, ◌∙◌, ◌<◌, ◌^◌, ℕ, length, sym, ap, subst, subst₂, arith}
+use Rattle.std.proofs.Common.{◌≡◌, ◌∙◌, length, sym, ap, subst, subst₂, arith}
 use Rattle.std.specs.Prelude.{Contains}
+use Rattle.std.specs.FinMap.{empty}
 use Rattle.std.specs.List.{each_same}
-use Rattle.std.proofs.lemmas.List.Elements.{All-from_get_or}
-use Rattle.glock_names.proofs.StepLaws.{answer_at, needed_at}
 use Rattle.drafts.specs.Fates.{Drafted, seen_in, seen_with}
 use Rattle.dinode_tree.specs.Reading.{inode_lock}
 use Rattle.hash_dirs.specs.Shown.{IsShown}
@@ -11,7 +10,7 @@ use Rattle.hash_inserts.specs.Advancing.{CanInsert}
 use Rattle.hash_inserts.specs.Committing.{HasInserted}
 use Rattle.hash_inserts.specs.Inserting.{Inserts}
 use Rattle.hash_inserts.proofs.Counted.{data_walked}
-use Rattle.hash_inserts.proofs.Over.{inserts_over, inside_put, seen_put}
+use Rattle.hash_inserts.proofs.Over.{inserts_with, inside_put, may_insert, put_of, seen_put, takes_over}
 use Rattle.hash_inserts.proofs.Past.{some_at, some_of}
 use Rattle.hash_inserts.proofs.inserting.insert_whole.Goals as goal
 
@@ -48,7 +47,8 @@ returns-clause-put g c h need can0 shows found own tree =
     let has : HasInserted v fates blocks dir room left need name c.args.entry h k = subst (λ xs. HasInserted v fates blocks dir xs left need name c.args.entry h k) same at.1.2 in
     let told = c.puts_are_seen_alike.ensures.told in
     let data_there = data_walked v h name c.args.found.now.chain found.walked found.head.low in
-    let inside = inside_put v fates blocks dir room left need name c.args.entry h k has told can0.shown.inode.own can0.sound c.sound_pointers_are_parts.ensures.led data_there tree in
+    let inside = inside_put v fates blocks dir room left has.inserts.taken _ h k (put_of v fates blocks dir room left need name c.args.entry h k has) told
+    (may_insert v dir h name has.inserts.taken can0.shown.inode.own can0.sound c.sound_pointers_are_parts.ensures.led data_there tree) in
     let long : length left ≡ c.len.result = omega (arith, c.len.ensures, c.inserted_blocks.new.room.ok) in
     let all = c.in_ok-done.ensures.all has.inserts.taken left has.inserts.takes.front long (λ w there. inside w (subst (λ xs. Contains xs w) c.deref.ensures.value there)) in
     let put = c.in_ok-done.ensures.put all.0 in
@@ -58,7 +58,8 @@ returns-clause-put g c h need can0 shows found own tree =
     let seen_is : seen_in seen new ≡ seen_with v fates =
     ap (λ y. seen_with (seen y) new.fates) view_is ∙ ap (λ f. seen_with (seen old.view) f) (sym fates_is ∙ ap (λ xs. with_blocks (inode_lock dir) xs old.fates) has.written)
     ∙ seen_put (seen old.view) old.fates fates (inode_lock dir) (c.puts_are_seen_alike.ensures.seen (seen old.view) old.fates fates (inode_lock dir)) in
-    let over = inserts_over v fates blocks dir room left need name c.args.entry h k has told old.fates c.puts_are_seen_alike.ensures.fates in (
+    let over = inserts_with empty fates old.fates (with_blocks (inode_lock dir) blocks old.fates) room left need name c.args.entry h k has.inserts
+    (takes_over v fates blocks dir room left has.inserts.taken _ h k (put_of v fates blocks dir room left need name c.args.entry h k has) told old.fates c.puts_are_seen_alike.ensures.fates) in (
       all.0,
       (
         k,

@@ -8,7 +8,7 @@ use Rattle.hash_inserts.specs.Committing.{HasInserted}
 use Rattle.hash_inserts.specs.Drafting.{SeesTree}
 use Rattle.hash_inserts.specs.Finding.{IsChainFound}
 use Rattle.hash_inserts.specs.Inserting.{Inserts}
-use Rattle.hash_inserts.proofs.Over.{seen_fresh, whole_put}
+use Rattle.hash_inserts.proofs.Over.{put_of, seen_fresh, whole_put}
 use Rattle.hash_inserts.proofs.Results.{contradict}
 use Rattle.hash_inserts.proofs.inserting.inserted_blocks.Goals as goal
 
@@ -39,7 +39,8 @@ returns-then-not-are_whole-clause-put g c h need can shows found own tree =
       shown = subst (λ w. IsShown w dir k) seen_now done.1.1;
       inserts = subst (λ f. Inserts f now.fates c.args.room.now.items c.insert_found.new.room.items need name c.args.entry h k) (ap (λ (d : Drafted _). d.fates) c.new-draft.ensures) done.1.3;
     } in
-    contradict c.are_whole.result (c.are_whole.ensures.1 (λ w there. whole_put v now.fates c.in_ok-change.change.blocks.items dir c.args.room.now.items c.insert_found.new.room.items need name c.args.entry h k has c.puts_are_seen_alike.ensures.told w (subst (λ xs. Contains xs w) c.deref.ensures.value there)
+    contradict c.are_whole.result (c.are_whole.ensures.1 (λ w there. whole_put v now.fates c.in_ok-change.change.blocks.items dir c.args.room.now.items c.insert_found.new.room.items has.inserts.taken _ h k
+    (put_of v now.fates c.in_ok-change.change.blocks.items dir c.args.room.now.items c.insert_found.new.room.items need name c.args.entry h k has) c.puts_are_seen_alike.ensures.told w (subst (λ xs. Contains xs w) c.deref.ensures.value there)
     ∙ sym c.block_size-size.ensures.value)) c.if-not-are_whole.true
 
 pub returns-clause-put : goal.returns-clause-put

@@ -2,14 +2,13 @@ use Rattle.std.proofs.Common.{◌≡◌, Option, false, sym, ◌∙◌, subst}
 use Rattle.std.specs.Prelude.{IfSome}
 use Rattle.file_tree.specs.Tree.{Tree}
 use Rattle.cluster_history.specs.Changes.{Changes}
-use Rattle.file_calls.specs.Calls.{IsHashed, IsUnbuiltName}
 use Rattle.lone_view.specs.Seeing.{seen_alone}
-use Rattle.lone_node.specs.Answering.{IsAnsweredFrom, IsDamagedFor, IsDamagedOn, IsFailedAt, IsFailedFor, IsHashedOn, IsToldFull, IsUnbuiltOn}
+use Rattle.lone_node.specs.Answering.{IsAnsweredFrom, IsDamagedFor, IsDamagedOn, IsFailedAt, IsFailedFor, IsToldFull, IsUnbuiltOn}
 use Rattle.lone_node.specs.Course.{IsStep, Moment, moment}
 use Rattle.lone_node.specs.Standing.{StandsFor}
 use Rattle.lone_node.specs.declared.answering.Answer.{Answer}
 use Rattle.lone_node.proofs.Answered.{answered_from}
-use Rattle.lone_node.proofs.Endings.{damaged_so, failed_so, hashed_so, unbuilt_so}
+use Rattle.lone_node.proofs.Endings.{damaged_so, failed_so, unbuilt_so}
 use Rattle.lone_node.proofs.Courses.{step_as}
 use Rattle.lone_node.proofs.Leaving.{stands_on}
 use Rattle.lone_node.proofs.answering.answer_call.Goals as goal
@@ -22,12 +21,6 @@ returns-in-Err-clause-sound g c =
     (λ b rule never t s. never t (subst (λ e. StandsFor e c.loop-found.view t) (sym so.same) (stands_on d c.args.view.now c.loop-found.view t so.system s)))
     c.in-Err.ensures.sound
 
-pub returns-in-Err-clause-hashed : goal.returns-in-Err-clause-hashed
-returns-in-Err-clause-hashed g c =
-    let so = c.loop-found.invariant in
-    hashed_so c.in-Err.end (IsHashed (seen_alone c.loop-found.view) c.args.call.now) (IsHashedOn (g.D.SharedDisk.state c.args.disk.now) c.args.view.now c.args.call.now)
-    (λ b is. record { view = c.loop-found.view; later = record { same = so.system; on = so.on }; hashed = is }) c.in-Err.ensures.hashed
-
 pub returns-in-Err-clause-unbuilt : goal.returns-in-Err-clause-unbuilt
 returns-in-Err-clause-unbuilt g c =
     let so = c.loop-found.invariant in
@@ -38,8 +31,8 @@ pub returns-in-Err-clause-built : goal.returns-in-Err-clause-built
 returns-in-Err-clause-built g c =
     let d = g.D.SharedDisk.state c.args.disk.now in
     let so = c.loop-found.invariant in
-    unbuilt_so c.in-Err.end _ (λ place. (place ≡ c.args.line) × ((t : Tree) → StandsFor d c.args.view.now t → IsUnbuiltName t c.args.call.now))
-    (λ place is. (is.0, λ t s. is.1 t (subst (λ e. StandsFor e c.loop-found.view t) (sym so.same) (stands_on d c.args.view.now c.loop-found.view t so.system s)))) c.in-Err.ensures.built
+    unbuilt_so c.in-Err.end _ (λ place. (t : Tree) → StandsFor d c.args.view.now t → ⊥)
+    (λ place never t s. never t (subst (λ e. StandsFor e c.loop-found.view t) (sym so.same) (stands_on d c.args.view.now c.loop-found.view t so.system s))) c.in-Err.ensures.built
 
 pub returns-in-Err-clause-failed : goal.returns-in-Err-clause-failed
 returns-in-Err-clause-failed g c =

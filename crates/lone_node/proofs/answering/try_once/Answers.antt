@@ -11,7 +11,7 @@ use Rattle.glock_names.specs.Steps.{TellsOf}
 use Rattle.lone_view.specs.Seeing.{Lone, seen_alone}
 use Rattle.file_tree.specs.Apply.{TakesSpace}
 use Rattle.file_calls.specs.Answers.{IsFullFor}
-use Rattle.file_calls.specs.Calls.{IsNeededFor, IsTooFew, IsUnbuiltName}
+use Rattle.file_calls.specs.Calls.{IsNeededFor, IsTooFew}
 use Rattle.lone_node.specs.Answering.{IsDamagedFor, IsFailedFor, in_a_read, in_a_write, leads_out, source_of}
 use Rattle.lone_node.specs.Course.{done, moment, spaceless}
 use Rattle.lone_node.specs.Ends.{IfDamaged, end_at}
@@ -159,7 +159,7 @@ returns-in-Err-carry_out-clause-failed g c =
 pub returns-in-Ok-NotBuilt-clause-built : goal.returns-in-Ok-NotBuilt-clause-built
 returns-in-Ok-NotBuilt-clause-built g c =
     let d = g.D.SharedDisk.state c.args.disk.now in
-    (refl, λ t s. subst (λ a. IfNotBuilt (Ok a) (IsUnbuiltName t c.args.call.now)) c.in-Ok-NotBuilt.field-0-is (c.in-Ok-NotBuilt.ensures.built (image_of d) s.owners s.layout t (of_view d c.args.view.now t c.requires.on s)))
+    λ t s. subst (λ a. IfNotBuilt (Ok a) ⊥) c.in-Ok-NotBuilt.field-0-is (c.in-Ok-NotBuilt.ensures.built (image_of d) s.owners s.layout t (of_view d c.args.view.now t c.requires.on s))
 
 pub returns-in-Ok-NoSpace-clause-full : goal.returns-in-Ok-NoSpace-clause-full
 returns-in-Ok-NoSpace-clause-full g c = record {

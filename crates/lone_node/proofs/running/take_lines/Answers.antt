@@ -1,17 +1,16 @@
 use Rattle.std.proofs.Common.{◌≡◌, List, refl, rules, sym, ◌∙◌, subst, arith}
 use Rattle.file_tree.specs.Tree.{Tree}
 use Rattle.file_tree.specs.declared.call.Call.{Call}
-use Rattle.file_calls.specs.Calls.{IsUnbuiltName}
 use Rattle.cluster_history.specs.History.{tree_of}
 use Rattle.run_rules.specs.Follows.{history_of}
 use Rattle.shared_disk.specs.Disk.{DiskState}
 use Rattle.trace_text.specs.declared.item.TraceItem.{TraceItem}
-use Rattle.lone_node.specs.Answering.{IsDamagedOn, IsFailedAt, IsHashedOn, IsUnbuiltOn}
+use Rattle.lone_node.specs.Answering.{IsDamagedOn, IsFailedAt, IsUnbuiltOn}
 use Rattle.lone_node.specs.Course.{AreSteps, HasTaken, Moment, moment}
 use Rattle.lone_node.specs.Items.{AnsweredCall}
-use Rattle.lone_node.specs.Run.{EndsAt, EndsAtCall, HasChangedNothing, IsFailedOn, IsUnbuiltBehind}
+use Rattle.lone_node.specs.Run.{EndsAt, EndsAtCall, HasChangedNothing, IsFailedOn}
 use Rattle.lone_node.specs.Standing.{LeavesStanding, StandsFor}
-use Rattle.lone_node.proofs.Endings.{damaged_before, damaged_so, damaged_with, failed_before, failed_so, hashed_before, hashed_with, unbuilt_before, unbuilt_so, unbuilt_with, unless_so}
+use Rattle.lone_node.proofs.Endings.{damaged_before, damaged_so, damaged_with, failed_before, failed_so, unbuilt_before, unbuilt_so, unbuilt_with, unless_so}
 use Rattle.lone_node.proofs.Leaving.{leaves_none, stands_on}
 use Rattle.lone_node.proofs.Steps.{ends_at, goes_on, its_call, no_more_calls, run_none, tree_is, wait_more}
 use Rattle.lone_node.proofs.running.take_lines.Given.{Over}
@@ -158,13 +157,6 @@ returns-in-Err-clause-sound g c =
     damaged_so c.in-Err.end (λ b rule. (t : Tree) → StandsFor (now g c) c.loop-place.view t → ⊥) (λ b rule. (t : Tree) → start g c t → ⊥)
     (λ b rule never t s. never _ (stands_on (now g c) c.args.view.now c.loop-place.view _ c.loop-place.invariant.system (c.loop-place.invariant.leaves t s).now)) c.in-Err.ensures.sound
 
-pub returns-in-Err-clause-hashed : goal.returns-in-Err-clause-hashed
-returns-in-Err-clause-hashed g c =
-    hashed_with c.in-Err.end (IsHashedOn (now g c) c.loop-place.view c.in-Call.call) _
-    (λ (same : IsStill g c) b is. at_call g c (λ call. IsHashedOn (next g c) c.args.view.now call b)
-    (hashed_before (now g c) (next g c) c.args.view.now c.loop-place.view c.in-Call.call b same.0 c.loop-place.invariant.system is))
-    c.in-Err.ensures.before c.in-Err.ensures.hashed
-
 pub returns-in-Err-clause-unbuilt : goal.returns-in-Err-clause-unbuilt
 returns-in-Err-clause-unbuilt g c =
     let P = λ (call : Call). IsUnbuiltOn (next g c) c.args.view.now call in
@@ -175,12 +167,8 @@ returns-in-Err-clause-unbuilt g c =
 
 pub returns-in-Err-clause-built : goal.returns-in-Err-clause-built
 returns-in-Err-clause-built g c =
-    let P = IsUnbuiltBehind c.args.clients.now c.take_call.new.items.items (start g c) in
-    unbuilt_so c.in-Err.end (λ place. (place ≡ c.loop-place.place) × ((t : Tree) → StandsFor (now g c) c.loop-place.view t → IsUnbuiltName t c.in-Call.call)) _
-    (λ place is. subst (λ k. EndsAt k P c.args.clients.now c.args.lines.now c.take_call.new.items.items (start g c)) (sym is.0)
-    (at_line g c P (λ t s. is.1 (tree_of (history_of c.args.clients.now c.take_call.new.items.items) t)
-    (stands_on (now g c) c.args.view.now c.loop-place.view _ c.loop-place.invariant.system (stood g c t s).now))))
-    c.in-Err.ensures.built
+    unbuilt_so c.in-Err.end (λ place. (t : Tree) → StandsFor (now g c) c.loop-place.view t → ⊥) (λ place. (t : Tree) → start g c t → ⊥)
+    (λ place never t s. never _ (stands_on (now g c) c.args.view.now c.loop-place.view _ c.loop-place.invariant.system (c.loop-place.invariant.leaves t s).now)) c.in-Err.ensures.built
 
 pub returns-in-Err-clause-failed : goal.returns-in-Err-clause-failed
 returns-in-Err-clause-failed g c =

@@ -19,7 +19,7 @@ returns-then-not-fits-clause-ending g c =
 pub make_plan-requires-clause-plan : goal.make_plan-requires-clause-plan
 make_plan-requires-clause-plan g c =
     fitting_plan c.of-plan.result _ _ c.args.options.now (same_plan c.of-plan.result _ _ _ _ c.args.options.now c.of-plan.ensures c.block_size.ensures c.blocks-2.ensures.value)
-    (sym c.bad_option.ensures ∙ c.in_default.is) c.requires.size c.requires.small c.requires.linear (sym c.fits.ensures ∙ c.if-not-fits.false)
+    (sym c.bad_option.ensures ∙ c.in_default.is) c.requires.size c.requires.small (sym c.fits.ensures ∙ c.if-not-fits.false)
 
 pub returns-clause-ending : goal.returns-clause-ending
 returns-clause-ending g c =

@@ -1,7 +1,7 @@
 use Rattle.std.proofs.Common.{refl, sym, subst, arith}
 use Rattle.table_changes.specs.Doubling.{IsOfTable}
 use Rattle.table_changes.proofs.Committed.{contradict}
-use Rattle.table_changes.proofs.Lists.{each_all, each_next}
+use Rattle.nested_drafts.proofs.Lists.{each_all, each_next}
 use Rattle.table_changes.proofs.putting.are_of_table.Goals as goal
 
 pub returns-then-not-is_of_table : goal.returns-then-not-is_of_table

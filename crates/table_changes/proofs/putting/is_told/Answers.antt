@@ -1,5 +1,5 @@
 use Rattle.std.proofs.Common.{◌≢◌, arith}
-use Rattle.table_changes.proofs.Lists.{each_all, each_next}
+use Rattle.nested_drafts.proofs.Lists.{each_all, each_next}
 use Rattle.table_changes.proofs.putting.is_told.Goals as goal
 
 pub loop-pointed-preserved : goal.loop-pointed-preserved

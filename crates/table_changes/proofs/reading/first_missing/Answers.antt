@@ -1,5 +1,5 @@
 use Rattle.glock_names.specs.Views.{HasBlock}
-use Rattle.table_changes.proofs.Lists.{each_next}
+use Rattle.nested_drafts.proofs.Lists.{each_next}
 use Rattle.table_changes.proofs.reading.first_missing.Goals as goal
 
 pub loop-pointed-preserved : goal.loop-pointed-preserved

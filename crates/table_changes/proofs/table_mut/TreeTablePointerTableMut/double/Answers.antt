@@ -10,7 +10,8 @@ use Rattle.glock_names.proofs.StepLaws.{answer_at, needed_at}
 use Rattle.linear_dirs.proofs.Looked.{handed}
 use Rattle.table_growth.specs.Pointers.{IsTableBroken}
 use Rattle.table_growth.specs.Tables.{CanDouble}
-use Rattle.table_changes.specs.Doubling.{AreDoubledBlocks, IsDoubledTable, with_blocks}
+use Rattle.nested_drafts.specs.Nested.{with_blocks}
+use Rattle.table_changes.specs.Doubling.{AreDoubledBlocks, IsDoubledTable}
 use Rattle.table_changes.proofs.Below.{damage_tells, hashed_no_file, table_tells}
 use Rattle.table_changes.proofs.Committed.{are_of, contradict, left_is, none_and, some_at, table_after, takes_doubled, takes_within}
 use Rattle.table_changes.proofs.table_mut.TreeTablePointerTableMut.double.Goals as goal
@@ -69,7 +70,8 @@ returns-clause-doubled g c = λ h table can.
     let first = subst (λ xs. AreDoubledBlocks h xs left c.in-Some.blocks.items) same (some_at _ _ _ c.in-Some.is made) in
     let rest : left ≡ c.in_ok-rest.rest.items = sym (c.in_ok-rest.ensures.tail ∙ ap (λ n. drop n c.in_ok-taken.taken.items) gone ∙ ap (drop (length room - length left)) again ∙ left_is h room left c.in-Some.blocks.items first) in
     let all = subst (λ xs. AreDoubledBlocks h room xs c.in-Some.blocks.items) rest first in
-    let put = c.in_ok-put_blocks.ensures.put ∙ ap (λ xs. record c.args.draft.now { fates = with_blocks (inode_lock c.args.self.now.directory) xs c.args.draft.now.fates }) c.deref-4.ensures.value in
+    let put = c.in_ok-put_blocks.ensures.put ∙ ap (λ l. record c.args.draft.now { fates = with_blocks l c.deref-4.result.now c.args.draft.now.fates }) c.lock_of.ensures
+    ∙ ap (λ xs. record c.args.draft.now { fates = with_blocks (inode_lock c.args.self.now.directory) xs c.args.draft.now.fates }) c.deref-4.ensures.value in
     let size = c.block_size-size.ensures.view.block_size in
     (refl, (all.g, table_after h _ _ _ all g.V.View.seen c.args.draft.now c.put_blocks.new.draft c.args.self.now table size put _ refl refl, takes_doubled h _ _ _ all g.V.View.seen c.args.draft.now c.put_blocks.new.draft c.args.self.now table size put))
 
@@ -82,6 +84,6 @@ returns-clause-parts g c = λ h table done.
     = sym again ∙ sym (take-append-drop n c.in_ok-taken.taken.items) ∙ ap₂ (λ xs ys. xs ++ ys) (sym c.in_ok-rest.ensures.items) (sym c.in_ok-rest.ensures.tail) in
     let tells = answer_at _ _ _ c.in-Is-2.is (c.in_ok-below.ensures.below h table.shown) in
     let put = ap (λ d. d.fates) c.in_ok-put_blocks.ensures.put in
-    takes_within h (inode_lock c.args.self.now.directory) c.deref-4.result.now c.args.draft.now.fates c.put_blocks.new.draft.fates c.args.self.now.directory c.deref-3.result.now room c.split_off.new.self.items c.in_ok-rest.rest.items table.shown.own
+    takes_within h c.lock_of.result c.deref-4.result.now c.args.draft.now.fates c.put_blocks.new.draft.fates c.args.self.now.directory c.deref-3.result.now room c.split_off.new.self.items c.in_ok-rest.rest.items table.shown.own
     (subst (λ xs. (b : ℕ) → TellsOfBlock xs b ↔ IsBelow h b) (sym c.deref-3.ensures.value) tells) front
     (λ w has. c.are_of_table.ensures.0 c.if-not-are_of_table.false w (subst (λ xs. Contains xs w) (c.deref-4.ensures.value ∙ sym c.deref-2.ensures.value) has)) put

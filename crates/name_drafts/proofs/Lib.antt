@@ -1,0 +1,11 @@
+pub mod Fates
+pub mod Faults
+pub mod Said
+pub mod Named
+pub mod Done
+pub mod Grown
+pub mod NewInodes
+pub mod InImage
+pub mod GroupsSay
+pub mod Adds
+pub mod Adding

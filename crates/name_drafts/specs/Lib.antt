@@ -1,0 +1,3 @@
+pub mod Drafting
+pub mod Steps
+pub mod Laws

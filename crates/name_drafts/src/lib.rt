@@ -1,0 +1,10 @@
+//! The draft that makes a name, in a directory of any form.
+#![tactic(auto)]
+
+mod directory;
+mod drafting;
+mod laws;
+mod saying;
+
+pub use drafting::{NewBlock, addition};
+pub use laws::places_can_get_names;

@@ -1,0 +1,6 @@
+pub mod Needed
+pub mod Forms
+pub mod First
+pub mod Linear
+pub mod Converted
+pub mod Puts
