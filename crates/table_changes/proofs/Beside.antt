@@ -25,7 +25,9 @@ beside_numbers old new start count number set some at n beside = elim (cases_lt 
         | inr high ↦ absurd (omega (arith, high, before))
       ]
       | inr behind ↦ elim (beside ((at - start) / 8) (omega (arith, behind, under))) [
-        | inl low ↦ absurd (omega (arith, low, behind, over))
+        | inl low ↦
+            let none : n ≡ 0 = omega (arith, low, behind) in
+            ap (λ m. slice at m new) none ∙ sym (ap (λ m. slice at m old) none)
         | inr high ↦ absurd (omega (arith, high, behind))
       ]
     ]
