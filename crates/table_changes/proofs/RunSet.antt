@@ -10,7 +10,7 @@ use Rattle.drafts.specs.declared.fate.Fate.TheVariants.{Put}
 use Rattle.gfs2_layout.specs.Bytes.{slice}
 use Rattle.gfs2_layout.specs.Device.{IsBlockSize}
 use Rattle.gfs2_layout.specs.Holding.{Holding, Cell, Itself, Pointed, InChain, part_at, bytes_at}
-use Rattle.gfs2_layout.specs.Inode.{dinode_in, entry, fan, has_hash_flag, is_directory_in, span, unit}
+use Rattle.gfs2_layout.specs.Inode.{dinode_in, entry, entry_block, fan, has_hash_flag, is_directory_in, span, table_count, unit}
 use Rattle.gfs2_layout.specs.Structures.{dinode_length}
 use Rattle.glock_names.specs.Views.{Seen, HasBlock}
 use Rattle.image_model.proofs.Rows.{and_left}
@@ -28,10 +28,10 @@ use Rattle.table_changes.specs.Setting.{HasNumbersSet, IsBehindDinode, IsInTable
 use Rattle.table_changes.specs.declared.finding.Run.{Run}
 use Rattle.tree_tables.specs.declared.tree_table.TreeTable.{TreeTable}
 use Rattle.table_files.proofs.ContentParts.{IsContentPart, content_part, whole_by_parts}
-use Rattle.table_changes.proofs.Beside.{beside_run}
+use Rattle.table_changes.proofs.Beside.{beside_run, entry_block_after}
 use Rattle.table_changes.proofs.Entered.{entry_set_in_table, entry_set_stuffed}
 use Rattle.tree_tables.proofs.Entries.{within}
-use Rattle.table_changes.proofs.Kept.{KeepsContentBlocks, KeepsWays, content_block_after, placed_after, sound_after}
+use Rattle.table_changes.proofs.Kept.{KeepsContentBlocks, KeepsWays, content_block_after, height_after, placed_after, sound_after, unit_after}
 use Rattle.table_changes.proofs.OneRun.{front_kept, IsBlockSet, bytes_here, bytes_old, bytes_other, cells, g, keeps_stuffed, keeps_table, leaves_stay, table_after}
 
 -- so many pointers are set in the draft, and the blocks that have them stand where they stood
@@ -94,6 +94,10 @@ module _ {V : Type 0} (seen : V → Seen) (before after : Drafted V) (t : TreeTa
       | inr other ↦ ap (slice at n) (bytes_other (seen_in seen before) (seen_in seen after) t.directory h run.block old new run.start run.count leaf table.shown step there x other)
     ]
 
+    blocks : KeepsWays h k → (i : ℕ) → i < table_count h → entry_block h' i ≡ entry_block h i
+    blocks keeps i low = entry_block_after h h' i refl (height_after h k keeps) (unit_after h k keeps) (content_block_after h k keeps sound.tree large)
+        (λ level high. omega (arith, within h level block_size directory high sound.fits (whole_by_parts h sound large) i (omega (arith, table.size, ap (λ n. 2 ^ n) table.depth, low)), sound.fits.under level high))
+
     all_set : IsRun h index most run → (h.own ≡ run.block → 232 ≤ run.start) → KeepsWays h k → ((hash place : ℕ) → part_at h run.block ≡ Some (InChain hash place) → ⊥)
         → ((i : ℕ) → 8 * i + 8 ≤ (dinode_in h).size → entry h' i ≡ (if is_within index run.count i then leaf else entry h i)) → IsSetKept seen before after t h index run.count leaf
     all_set is low keeps no_leaf entries = (
@@ -105,6 +109,7 @@ module _ {V : Type 0} (seen : V → Seen) (before after : Drafted V) (t : TreeTa
           dinode = keeps.dinode;
           front = front_kept (seen_in seen before) (seen_in seen after) t.directory h run.block old new run.start run.count leaf table.shown step there low;
           entries = λ i few. entries i (omega (arith, table.size, ap (λ n. 2 ^ n) table.depth, few));
+          blocks = blocks keeps;
           others = others most is;
           stays = leaves_stay (seen_in seen before) (seen_in seen after) t.directory h run.block old new run.start run.count leaf table.shown step there sound no_leaf;
         },

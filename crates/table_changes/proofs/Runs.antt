@@ -56,6 +56,7 @@ none_set_in {V} seen old t h from leaf table =
           dinode = refl;
           front = refl;
           entries = λ i low. choose from 0 i leaf (entry h i) (entry h i) (λ more less. absurd (omega (arith, more, less))) (λ apart. refl);
+          blocks = λ i low. refl;
           others = λ x at n beside. refl;
           stays = record { leaves = λ x hash place at. refl; parts = λ x hash place at. at };
         },
@@ -134,6 +135,7 @@ module _ {V : Type 0} (seen : V → Seen) (old mid new : Drafted V) (t : TreeTab
     dinode = next.1.dinode ∙ first.1.dinode;
     front = next.1.front ∙ first.1.front;
     entries = λ i low. both_set from k n i leaf (entry h i) (entry g1 i) (entry g2 i) (first.1.entries i low) (next.1.entries i (omega (arith, low, counts_same)));
+    blocks = λ i low. next.1.blocks i (omega (arith, low, counts_same)) ∙ first.1.blocks i low;
     others = λ x at m beside. next.1.others x at m (beside_next x at m beside) ∙ first.1.others x at m (beside_first x at m beside);
     stays = record {
       leaves = λ x hash place at. let same = first.1.stays.leaves x hash place at in next.1.stays.leaves x hash place (ap cell_part same ∙ at) ∙ same;
