@@ -45,11 +45,6 @@ none_broken law h _ _ sound hashed (leads_nowhere i low none) = pointers_lead h 
 
 -- ---- after pointers are set
 
-over_bytes : (o : Option (List ℕ)) (c : Option Cell) → ((bytes : List ℕ) → IsSome c → o ≡ Some bytes → cell_bytes c ≡ bytes) → cell_bytes (option_map (bytes_over o) c) ≡ cell_bytes c
-over_bytes o None same = refl
-over_bytes None (Some c) same = refl
-over_bytes (Some bytes) (Some c) same = sym (same bytes refl refl)
-
 module _ (v : Seen) (old new : FinMap nat_cmp Fate) (h : Holding) (from count leaf : ℕ) (set : SetsPointers v old new h from count leaf) where
   abbrev w : Seen
   w = seen_with v new
@@ -78,16 +73,6 @@ module _ (v : Seen) (old new : FinMap nat_cmp Fate) (h : Holding) (from count le
     there = there_still;
     keeps = λ b some. over_there (w.block_at b) (h.cell b) ∙ some;
   }
-
-  -- a block without one of these pointers has the bytes that it had
-  pub bytes_set : IsAsSeen (seen_with v old) h → (b : ℕ) → ((j : ℕ) → is_within from count j ≡ true → b ≢ entry_block h j) → bytes_at middle b ≡ bytes_at h b
-  bytes_set was b apart = over_bytes (w.block_at b) (h.cell b) (λ bytes some at. elim (set.only b) [
-    | inl same ↦ was b bytes some (ap (λ f. block_with f (v.block_at b)) (sym same) ∙ at)
-    | inr pointer ↦ absurd (apart pointer.0 (tested from count pointer.0 pointer.1.low pointer.1.high) pointer.2)
-  ])
-    where
-      tested : (from run j : ℕ) → from ≤ j → j < from + run → is_within from run j ≡ true
-      tested from run j low high = grind (arith, nat_tests)
 
 -- ---- the leaf of a pointer, and the dinode
 

@@ -1,11 +1,11 @@
 -- What becomes of a directory's table, block by block: pointers that are set, and a table that is doubled.
-use Rattle.std.specs.Prelude.{ℕ, suc, zero, ◌≡◌, ◌≢◌, ◌⊎◌, ◌+◌, ◌-◌, ◌*◌, ◌/◌, ◌^◌, ◌<◌, ◌≤◌, ◌==◌, ◌&&◌, Bool, false, nat_le, nat_lt, if◌then◌else◌, Contains, List, ◌++◌, length, take, drop, replicate, Option, None, Some, IsSome}
+use Rattle.std.specs.Prelude.{ℕ, suc, zero, ◌≡◌, ◌≢◌, ◌⊎◌, ◌+◌, ◌-◌, ◌*◌, ◌^◌, ◌<◌, ◌≤◌, ◌==◌, false, if◌then◌else◌, Contains, List, ◌++◌, length, take, drop, replicate, Option, None, Some, IsSome}
 use Rattle.std.specs.FinMap.{FinMap, get}
 use Rattle.std.specs.Ordering.{nat_cmp}
 use Rattle.drafts.specs.declared.fate.Fate.{Fate}
 use Rattle.drafts.specs.declared.fate.Fate.TheVariants.{Put}
 use Rattle.gfs2_layout.specs.Bytes.{slice}
-use Rattle.gfs2_layout.specs.Holding.{Cell, Holding, InChain, part_at, bytes_at}
+use Rattle.gfs2_layout.specs.Holding.{Cell, Holding, part_at, bytes_at}
 use Rattle.gfs2_layout.specs.Inode.{block_count, content_count, dinode_in, entry, entry_block, header_length, height_in, is_leaf_part, pieces, span, table_count, unit}
 use Rattle.gfs2_layout.specs.Structures.{dinode_length}
 use Rattle.gfs2_layout.specs.Writing.{header_put}
