@@ -29,7 +29,7 @@ use Rattle.hash_steps.specs.Leaves.{first_of, has_room_for, run_of}
 use Rattle.hash_inserts.specs.Advancing.{CanInsert, IsAtLeaf, IsFullLeaf, StepsOn, StepsTo}
 use Rattle.hash_inserts.specs.Drafting.{DoublesTable}
 use Rattle.hash_inserts.specs.Inserting as ins
-use Rattle.hash_inserts.specs.Inserting.{HasDoubled, HasNoRoom, HasOneLeafFor, IsInserted, IsInsertedAt, a_full_leaf, a_leaf_with_room, after_doubling, depth_for, one_taken}
+use Rattle.hash_inserts.specs.Inserting.{HasDoubled, HasNoRoom, HasOneLeafFor, IsInserted, IsInsertedAt, a_leaf_with_room, after_doubling, depth_for, one_taken, the_last_leaf}
 use Rattle.hash_inserts.specs.Needing.{AreLeavesFrom, Chain, Needs, TakesBlocks, a_doubling, a_leaf, a_split, doubled, nothing, one_more, the_last}
 use Rattle.hash_inserts.proofs.Pointing.{pointer_block, run_low}
 use Rattle.hash_inserts.proofs.Blockwise.{size_bounds}
@@ -112,7 +112,7 @@ module _ (v : Seen) (old new : FinMap nat_cmp Fate) (room left : List ℕ) (dir 
   -- ---- what it is to an insertion
 
   here : (x : ℕ) (g : Holding) (all : List ℕ) → x ≡ entry h i → IsInsertedAt h g name all x
-  here x g all is = subst (IsInsertedAt h g name all) (sym is) (a_full_leaf 0 no_room (chain_head low))
+  here x g all is = subst (IsInsertedAt h g name all) (sym is) (the_last_leaf 0 no_room (chain_head low) at.one)
 
   of_leaf : (place x : ℕ) (g : Holding) (all : List ℕ) → IsInChain m (index_for m name) place x → IsInsertedAt h g name all x
   of_leaf place x g all chain = here x g all (only_head m (index_for m name) one_after place x chain ∙ led)
@@ -142,7 +142,7 @@ module _ (v : Seen) (old new : FinMap nat_cmp Fate) (room left : List ℕ) (dir 
   later_at : (x : ℕ) (g : Holding) (later : List ℕ) → depth_in m ≤ depth_in g → IsInsertedAt m g name later x → IsInsertedAt h g name (taken ++ later) x
   later_at x g later on (ins.IsInsertedAt.its_dinode is) = ins.IsInsertedAt.its_dinode (is ∙ doubles.puts.own)
   later_at x g later on (a_leaf_with_room place chain none room_there) = of_leaf place x g (taken ++ later) chain
-  later_at x g later on (a_full_leaf place none chain) = of_leaf place x g (taken ++ later) chain
+  later_at x g later on (the_last_leaf place none chain ends) = of_leaf place x g (taken ++ later) chain
   later_at x g later on (one_taken came) = one_taken (Contains-append_right taken later x came)
   later_at x g later on (ins.IsInsertedAt.of_pointers none one less pointer) =
       elim (pointer_block m (first_of m (index_for m name)) (run_of m (depth_for m name)) x stays.sound stays.hashed (run_low m (index_for m name) stays.sound stays.hashed low_m) pointer) [

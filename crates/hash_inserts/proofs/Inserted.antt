@@ -16,7 +16,7 @@ use Rattle.hash_dirs.specs.Shown.{IsInChain, index_for}
 use Rattle.hash_steps.specs.Laws.{ExchangesJoin, GetsRecord}
 use Rattle.hash_steps.specs.Leaves.{IsFullBefore, has_room_for}
 use Rattle.hash_inserts.specs.Drafting.{PutsBehind, PutsInLeaf}
-use Rattle.hash_inserts.specs.Inserting.{HasNoRoom, HasOneLeafFor, Inserts, IsDeepest, IsInsertedAt, a_full_leaf, a_leaf_with_room, after_leaf, its_dinode, one_taken, put}
+use Rattle.hash_inserts.specs.Inserting.{HasNoRoom, HasOneLeafFor, Inserts, IsDeepest, IsInsertedAt, a_leaf_with_room, after_leaf, its_dinode, one_taken, put, the_last_leaf}
 use Rattle.hash_inserts.proofs.Joined.{drafted_join, taken_join}
 
 -- nothing is taken where no block comes
@@ -82,7 +82,7 @@ behind_inserts law v old new room left name e h g leaf behind front full deepest
       | inl same ↦ elim (behind.lengthens.only b) [
         | inl was ↦ inl (same ∙ was)
         | inr (inl own) ↦ inr (its_dinode own)
-        | inr (inr (inl last)) ↦ inr (subst (IsInsertedAt h g name (leaf ∷ [])) (sym last) (a_full_leaf behind.lengthens.is.at_place full behind.lengthens.is.chain))
+        | inr (inr (inl last)) ↦ inr (subst (IsInsertedAt h g name (leaf ∷ [])) (sym last) (the_last_leaf behind.lengthens.is.at_place full behind.lengthens.is.chain behind.lengthens.is.ends))
         | inr (inr (inr is)) ↦ inr (one_taken (here b is))
       ]
     ]

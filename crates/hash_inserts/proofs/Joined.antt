@@ -16,7 +16,8 @@ use Rattle.growth_drafts.specs.Taken.{HasTaken}
 use Rattle.table_growth.specs.Tables.{DraftsDirectory}
 use Rattle.hash_steps.specs.Laws.{ExchangesJoin}
 use Rattle.hash_inserts.specs.Advancing.{StepsTo}
-use Rattle.hash_inserts.specs.Inserting.{Inserts, IsInserted, IsInsertedAt, a_full_leaf, a_leaf_with_room, after_doubling, after_leaf, after_split, its_dinode, of_pointers, of_table, one_taken, put}
+use Rattle.hash_inserts.specs.Inserting as ins
+use Rattle.hash_inserts.specs.Inserting.{Inserts, IsInserted, IsInsertedAt, a_leaf_with_room, after_doubling, after_leaf, after_split, its_dinode, of_pointers, of_table, one_taken, the_last_leaf}
 
 some_or_none : (c : Option Cell) → IsSome c ⊎ (IsSome c → ⊥)
 some_or_none None = inr (λ e. cc)
@@ -74,7 +75,7 @@ drafted_join old mid new h m g own_is keeps keeps' one two = record { own = own;
 
 -- an insertion leaves the table as deep as it was, or deeper
 pub deepens : (name : List ℕ) (e : Entry) (h g : Holding) (taken : List ℕ) → IsInserted name e h g taken → depth_in h ≤ depth_in g
-deepens name e _ _ _ (put h g is) = let same : depth_in g ≡ depth_in h = ap (λ (d : Dinode). d.depth) is.dinode in omega (arith, same)
+deepens name e _ _ _ (ins.IsInserted.put h g is) = let same : depth_in g ≡ depth_in h = ap (λ (d : Dinode). d.depth) is.dinode in omega (arith, same)
 deepens name e _ _ _ (after_split h m g b taken full one less split sound later) =
     let same : depth_in m ≡ depth_in h = ap (λ (d : Dinode). d.depth) split.counts.dinode in
     let on = deepens name e m g taken later in
@@ -92,7 +93,7 @@ deepens name e _ _ _ (after_leaf h m g b full deepest longer sound is) =
 pub at_more : (h m g : Holding) (name more taken : List ℕ) (b : ℕ) → depth_in m ≤ depth_in g → IsInsertedAt h m name more b → IsInsertedAt h g name (more ++ taken) b
 at_more h m g name more taken b on (its_dinode is) = its_dinode is
 at_more h m g name more taken b on (a_leaf_with_room place chain full room) = a_leaf_with_room place chain full room
-at_more h m g name more taken b on (a_full_leaf place full chain) = a_full_leaf place full chain
+at_more h m g name more taken b on (the_last_leaf place full chain ends) = the_last_leaf place full chain ends
 at_more h m g name more taken b on (one_taken came) = one_taken (Contains-append_left more taken b came)
 at_more h m g name more taken b on (of_pointers full one less pointer) = of_pointers full one less pointer
 at_more h m g name more taken b on (of_table above k level first full one deeper part) = of_table above k level first full one (omega (arith, deeper, on)) part

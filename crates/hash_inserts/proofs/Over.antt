@@ -27,7 +27,7 @@ use Rattle.hash_dirs.proofs.Chained.{index_low}
 use Rattle.hash_steps.specs.Leaves.{HasOneLeaf, leaf_depth}
 use Rattle.hash_inserts.specs.Committing.{HasInserted, HasPut, SeesInside}
 use Rattle.hash_inserts.specs.Inserting as ins
-use Rattle.hash_inserts.specs.Inserting.{HasNoRoom, HasOneLeafFor, Inserts, IsInsertedAt, IsSplitAt, MayChange, Takes, a_data_block, a_full_leaf, a_leaf_with_room, a_taken_one, one_taken, the_dinode, the_leaf, the_new_one}
+use Rattle.hash_inserts.specs.Inserting.{HasNoRoom, HasOneLeafFor, Inserts, IsInsertedAt, IsSplitAt, MayChange, Takes, a_data_block, a_leaf_with_room, a_taken_one, one_taken, the_dinode, the_last_leaf, the_leaf, the_new_one}
 use Rattle.hash_inserts.proofs.Pointing.{half_less, pointer_block, run_low}
 use Rattle.hash_inserts.proofs.Seen.{PartsAreLed}
 use Rattle.hash_inserts.proofs.SplitOn.{only_head}
@@ -158,7 +158,7 @@ pub may_insert : (v : Seen) (dir : ℕ) (h g : Holding) (name taken : List ℕ) 
     → (HasNoRoom h name → HasOneLeafFor h name → SeesInside v h) → (b : ℕ) → IsInsertedAt h g name taken b → MayChange v dir taken b
 may_insert v dir h g name taken own sound hashed small led leaves tree b (ins.IsInsertedAt.its_dinode is) = the_dinode (is ∙ own)
 may_insert v dir h g name taken own sound hashed small led leaves tree b (a_leaf_with_room place chain full room_there) = a_data_block (leaves place b chain)
-may_insert v dir h g name taken own sound hashed small led leaves tree b (a_full_leaf place full chain) = a_data_block (leaves place b chain)
+may_insert v dir h g name taken own sound hashed small led leaves tree b (the_last_leaf place full chain ends) = a_data_block (leaves place b chain)
 may_insert v dir h g name taken own sound hashed small led leaves tree b (one_taken came) = a_taken_one came
 may_insert v dir h g name taken own sound hashed small led leaves tree b (ins.IsInsertedAt.of_pointers full one less pointer) =
     pointer_may v dir h taken _ _ b own sound hashed led (tree full one) (run_low h (index_for h name) sound hashed (index_low h sound hashed name small)) pointer

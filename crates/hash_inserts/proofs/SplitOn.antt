@@ -20,7 +20,7 @@ use Rattle.hash_steps.specs.Leaves.{HasOneLeaf, first_of, has_room_for, leaf_dep
 use Rattle.hash_inserts.specs.Advancing.{CanInsert, IsAtLeaf, IsFullLeaf, StepsOn, StepsTo}
 use Rattle.hash_inserts.specs.Drafting.{SplitsLeaf}
 use Rattle.hash_inserts.specs.Inserting as ins
-use Rattle.hash_inserts.specs.Inserting.{HasNoRoom, HasOneLeafFor, IsInserted, IsInsertedAt, IsSplitAt, a_full_leaf, a_leaf_with_room, after_split, depth_for, one_taken, the_leaf, the_new_one}
+use Rattle.hash_inserts.specs.Inserting.{HasNoRoom, HasOneLeafFor, IsInserted, IsInsertedAt, IsSplitAt, a_leaf_with_room, after_split, depth_for, one_taken, the_last_leaf, the_leaf, the_new_one}
 use Rattle.hash_inserts.proofs.Blockwise.{size_bounds}
 use Rattle.hash_inserts.proofs.Chosen.{chosen, depth_same, index_same, needs_less}
 use Rattle.hash_inserts.proofs.Pointing.{half_less, pointer_of_more, run_inside, run_low}
@@ -50,7 +50,7 @@ module _ (v : Seen) (old new : FinMap nat_cmp Fate) (room left : List ℕ) (dir 
   low = index_low h can.sound can.shown.hashed name can.small
 
   first_leaf : (x : ℕ) (g : Holding) (taken : List ℕ) → x ≡ entry h i → IsInsertedAt h g name taken x
-  first_leaf x g taken is = subst (IsInsertedAt h g name taken) (sym is) (a_full_leaf 0 no_room (chain_head low))
+  first_leaf x g taken is = subst (IsInsertedAt h g name taken) (sym is) (the_last_leaf 0 no_room (chain_head low) at.one)
 
   one_after : HasOneLeafFor m name
   one_after =
@@ -93,7 +93,7 @@ module _ (v : Seen) (old new : FinMap nat_cmp Fate) (room left : List ℕ) (dir 
   later : (x : ℕ) (g : Holding) (taken : List ℕ) → depth_in m ≤ depth_in g → IsInsertedAt m g name taken x → IsInsertedAt h g name (b ∷ taken) x
   later x g taken on (ins.IsInsertedAt.its_dinode is) = ins.IsInsertedAt.its_dinode (is ∙ splits.is.same.own)
   later x g taken on (a_leaf_with_room place chain none room_there) = of_leaf place x g taken chain
-  later x g taken on (a_full_leaf place none chain) = of_leaf place x g taken chain
+  later x g taken on (the_last_leaf place none chain ends) = of_leaf place x g taken chain
   later x g taken on (one_taken came) = one_taken (Contains-append_right (b ∷ []) taken x came)
   later x g taken on (ins.IsInsertedAt.of_pointers none one again pointer) = ins.IsInsertedAt.of_pointers no_room at.one less (pointer_before x pointer)
   later x g taken on (ins.IsInsertedAt.of_table above k level first none one deeper part) = elim (cases_eq x b) [
@@ -106,7 +106,7 @@ module _ (v : Seen) (old new : FinMap nat_cmp Fate) (room left : List ℕ) (dir 
 
   by_split : (x : ℕ) → IsSplitAt h i b x → IsInsertedAt h m name (b ∷ []) x
   by_split x (ins.IsSplitAt.its_dinode is) = ins.IsInsertedAt.its_dinode is
-  by_split x (the_leaf chain) = a_full_leaf 0 no_room chain
+  by_split x (the_leaf chain) = the_last_leaf 0 no_room chain (ap (λ y. (leaf_in h y).next) (only_head h i at.one 0 x chain) ∙ at.one)
   by_split x (the_new_one is) = one_taken (subst (Contains (b ∷ [])) (sym is) (here b []))
   by_split x (ins.IsSplitAt.of_pointers pointer) =
       ins.IsInsertedAt.of_pointers no_room at.one less

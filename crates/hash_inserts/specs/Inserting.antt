@@ -6,7 +6,7 @@ use Rattle.drafts.specs.declared.fate.Fate.{Fate}
 use Rattle.drafts.specs.declared.fate.Fate.TheVariants.{Put}
 use Rattle.gfs2_layout.specs.Area.{slots_of}
 use Rattle.gfs2_layout.specs.Holding.{Holding, Pointed, bytes_at, part_at}
-use Rattle.gfs2_layout.specs.Inode.{depth_in, dinode_in, leaf_area, table_count}
+use Rattle.gfs2_layout.specs.Inode.{depth_in, dinode_in, leaf_area, leaf_in, table_count}
 use Rattle.glock_names.specs.Views.{Seen}
 use Rattle.glock_names.specs.declared.steps.Entry.{Entry}
 use Rattle.glock_names.specs.declared.steps.Missing.{Missing}
@@ -65,14 +65,14 @@ pub data IsInserted (name : List ℕ) (e : Entry) : Holding → Holding → List
 
 -- ---- in a draft
 
--- A block to which an insertion that makes g of h does something: the dinode's; the leaf that gets the record, or where none has room any of the name's
--- chain; and where blocks are taken, these, and blocks of the table: those with pointers to the name's leaf where that is split, and all where the table is
+-- A block to which an insertion that makes g of h does something: the dinode's; the leaf that gets the record, or where none has room the last of the
+-- name's chain; and where blocks are taken, these, and blocks of the table: those with pointers to the name's leaf where that is split, and all where the table is
 -- doubled.
 pub data IsInsertedAt (h g : Holding) (name taken : List ℕ) (b : ℕ) : Type 0 where
   its_dinode : b ≡ h.own → IsInsertedAt h g name taken b
   a_leaf_with_room : (place : ℕ) → IsInChain h (index_for h name) place b → IsFullBefore h (index_for h name) (length name) place → has_room_for (length name) (slots_of (leaf_area h b)) ≡ true
       → IsInsertedAt h g name taken b
-  a_full_leaf : (place : ℕ) → HasNoRoom h name → IsInChain h (index_for h name) place b → IsInsertedAt h g name taken b
+  the_last_leaf : (place : ℕ) → HasNoRoom h name → IsInChain h (index_for h name) place b → (leaf_in h b).next ≡ 0 → IsInsertedAt h g name taken b
   one_taken : Contains taken b → IsInsertedAt h g name taken b
   of_pointers : HasNoRoom h name → HasOneLeafFor h name → depth_for h name < depth_in h → HasPointerOf h (first_of h (index_for h name)) (run_of h (depth_for h name)) b → IsInsertedAt h g name taken b
   of_table : (above k level first : ℕ) → HasNoRoom h name → HasOneLeafFor h name → depth_in h < depth_in g → part_at h b ≡ Some (Pointed above k level first) → IsInsertedAt h g name taken b
