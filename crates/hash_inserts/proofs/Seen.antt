@@ -1,25 +1,22 @@
 -- What a draft that has every block of a table can be asked.
-use Rattle.std.proofs.Common.{◌≡◌, ◌≢◌, ◌⊎◌, ℕ, ◌+◌, ◌<◌, ◌≤◌, inl, inr, true, List, Option, None, Some, refl, sym, ap, ◌∙◌, subst, arith}
-use Rattle.std.specs.Prelude.{IsSome, option_map}
-use Rattle.std.proofs.lemmas.Bool.Decides.{nat_tests}
+use Rattle.std.proofs.Common.{◌≡◌, ◌⊎◌, ℕ, ◌<◌, inl, inr, true, Option, None, Some, refl, sym, ap, ◌∙◌, subst}
+use Rattle.std.specs.Prelude.{IsSome}
 use Rattle.std.specs.FinMap.{FinMap}
 use Rattle.std.specs.Ordering.{nat_cmp}
 use Rattle.drafts.specs.Fates.{block_with, seen_with}
 use Rattle.drafts.specs.declared.fate.Fate.{Fate}
-use Rattle.gfs2_layout.specs.Holding.{Holding, Cell, InChain, Pointed, cell_bytes, part_at, bytes_at}
-use Rattle.gfs2_layout.specs.Inode.{IsInode, entry, entry_block, first_hash, is_hashed_in, table_count}
+use Rattle.gfs2_layout.specs.Holding.{Holding, Cell, InChain, Pointed, part_at, bytes_at}
+use Rattle.gfs2_layout.specs.Inode.{IsInode, entry, first_hash, is_hashed_in, table_count}
 use Rattle.glock_names.specs.Views.{Seen, HasBlock}
 use Rattle.glock_names.specs.declared.steps.Missing.{Missing}
 use Rattle.dinode_tree.specs.Below.{IsBelow}
 use Rattle.dinode_tree.specs.Broken as inode_rules
 use Rattle.dinode_tree.specs.Reading.{IsNeeded, IsOnWay, the_dinode, led_to}
-use Rattle.dinode_tree.specs.Shown.{IsAsSeen}
 use Rattle.image_model.proofs.Held.{none_some}
-use Rattle.linear_dirs.specs.Shown.{bytes_over, holding_over}
+use Rattle.linear_dirs.specs.Shown.{holding_over}
 use Rattle.linear_dirs.proofs.Over.{as_seen}
 use Rattle.linear_dirs.proofs.Rewritten.{over_there}
 use Rattle.table_growth.specs.Pointers.{EachPointerLeads, IsTableBroken, of_inode, leads_nowhere}
-use Rattle.pointer_tables.specs.Tables.{is_within}
 use Rattle.hash_dirs.specs.Shown.{IsSound}
 use Rattle.hash_dirs.proofs.Chained.{cell_some, rules, some_block}
 use Rattle.hash_inserts.specs.Drafting.{Puts, SeesTree, SetsPointers}
