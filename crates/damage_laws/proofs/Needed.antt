@@ -273,7 +273,7 @@ module _ (v : Seen) (im : Image) (read : IsReadFrom v im) (whole : HasWholeGroup
 
   making_out : (call : Call) (m : Missing) → making.IsNeededFor v call m → im.count ≤ m.block → Source (wanted call) (path_of call false) m
   making_out call m (making.on_path unread) out = above_out call m (unread_out (wanted call) (making.directory_path call) m unread out)
-  making_out call m (making.to_look a below leads there directory absent needs) out =
+  making_out call m (making.to_look a named leads there directory absent needs) out =
       above_out call m (directory_out (wanted call) (making.directory_path call) a m leads directory absent (λ h seen. name_way h (making.name_in call) m out (needs h seen)) out)
   making_out call m (making.to_insert gets absent needs) out =
       above_out call m (directory_out (wanted call) (making.directory_path call) gets.directory m gets.leads gets.lacks.directory absent (λ h seen. insert_way h (making.name_in call) m out (needs h seen)) out)
