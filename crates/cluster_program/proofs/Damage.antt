@@ -8,7 +8,7 @@ use Rattle.gfs2_layout.specs.Device.{superblock_place}
 use Rattle.glock_names.specs.Views.{HasBlock}
 use Rattle.glock_names.specs.declared.views.Group.{Group}
 use Rattle.resource_groups.specs.Shown.{IsDataOf}
-use Rattle.image_model.specs.Image.{IsImage, image_of}
+use Rattle.image_model.specs.Image.{Image, IsImage, image_of}
 use Rattle.image_mount.specs.Mounted.{MountedValue, IsMounted}
 use Rattle.shared_disk.specs.Disk.{DiskState}
 use Rattle.lone_view.specs.Seeing.{Lone, seen_alone}

@@ -1,8 +1,10 @@
 -- An image that was just made can be mounted.
-use Rattle.std.proofs.Common.{inl, inr, IsTrue, sym, ap, ◌∙◌, subst, arith}
+use Rattle.std.proofs.Common.{◌≡◌, ℕ, inl, inr, true, false, IsTrue, sym, ap, ◌∙◌, subst, arith}
+use Rattle.std.specs.Prelude.{codes}
 use Rattle.file_tree.specs.Tree.{dir, none}
+use Rattle.image_model.specs.Claims.{every}
 use Rattle.image_model.specs.Image.{Image, image_of}
-use Rattle.image_model.specs.Owners.{Owners}
+use Rattle.image_model.specs.Owners.{Owners, holding}
 use Rattle.image_model.specs.Profile.{IsInProfile}
 use Rattle.image_model.specs.Stands.{Layout, IsLaid}
 use Rattle.mkgfs2_tool.specs.Standing.{HasCleanHeads, StandsEmpty}

@@ -1,12 +1,12 @@
 -- An image that could be mounted can be mounted after calls too: where it stands for a tree, and what mounting reads of it is as it was.
-use Rattle.std.proofs.Common.{◌≡◌, ℕ, ◌^◌, ◌≤◌, List, [], ◌∷◌, Some, refl, sym, ap, ◌∙◌, subst}
+use Rattle.std.proofs.Common.{◌≡◌, ℕ, ◌^◌, ◌≤◌, true, List, [], ◌∷◌, Some, refl, sym, ap, ◌∙◌, subst}
 use Rattle.std.specs.Prelude.{codes}
 use Rattle.profile_limits.specs.Limits.{least_journal_blocks, most_blocks, most_journal_blocks}
 use Rattle.file_tree.specs.Tree.{Tree}
 use Rattle.gfs2_layout.specs.Device.{superblock_place}
 use Rattle.gfs2_layout.specs.Structures.{superblock_of}
 use Rattle.gfs2_layout.specs.declared.superblock.SuperBlock.{SuperBlock}
-use Rattle.image_model.specs.Claims.{LeadsTo}
+use Rattle.image_model.specs.Claims.{every, LeadsTo}
 use Rattle.image_model.specs.Flat.{Path, Node, follow}
 use Rattle.image_model.specs.Image.{Image, image_of, superblock_in}
 use Rattle.image_model.specs.Journals.{journal_name}
