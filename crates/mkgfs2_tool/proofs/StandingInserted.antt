@@ -1,6 +1,6 @@
 -- The directory of journals of a new image is the one that comes of putting its names in one by one.
 use Rattle.std.proofs.Common.{ℕ, zero, suc, ◌≡◌, ◌+◌, ◌-◌, ◌*◌, ◌^◌, ◌<◌, ◌≤◌, ◌⊎◌, inl, inr, Bool, true, false, List, [], ◌∷◌, ◌++◌, length, replicate, map, filter, Some, None, refl, sym, ap, ◌∙◌, subst, arith, append-nil, append_assoc}
-use Rattle.std.specs.Prelude.{◌==◌, ◌%◌, ◌&&◌, option_and_then}
+use Rattle.std.specs.Prelude.{◌==◌, ◌%◌, ◌&&◌}
 use Rattle.std.specs.List.{range_with_len}
 use Rattle.std.proofs.lemmas.Bool.{cases_eq, cond-true, cond-false}
 use Rattle.std.proofs.lemmas.List.{take_at}
@@ -11,7 +11,7 @@ use Rattle.gfs2_layout.specs.Fields.{with_fields}
 use Rattle.gfs2_layout.specs.Cutting.{without, emptied, joined}
 use Rattle.leaf_areas.specs.Moving.{in_use, packed}
 use Rattle.leaf_areas.specs.Splitting.{is_lower, is_lower_name, cut_each, lower_half, upper_half}
-use Rattle.mkgfs2_tool.specs.Directories.{directory_kind, entry, head_of, journal_entry, journals_entries, name_of as name_in, name_bytes, record_bytes, records, emptied as gone_entry, reaching, upper_entries, lower_entries}
+use Rattle.mkgfs2_tool.specs.Directories.{directory_kind, entry, head_of, journal_entry, name_of as name_in, name_bytes, record_bytes, records, emptied as gone_entry, reaching, upper_entries, lower_entries}
 use Rattle.mkgfs2_tool.specs.Order.{master_place, journals_place, has_hashed_journals, is_split}
 use Rattle.mkgfs2_tool.specs.Hashing.{leaf_room}
 use Rattle.mkgfs2_tool.specs.Blocks.{area_length}
