@@ -21,12 +21,13 @@ import shutil
 import subprocess
 import sys
 import tempfile
+from functools import lru_cache
 from random import Random
 from struct import pack, unpack_from
 from zlib import crc32
 
 sys.dont_write_bytecode = True
-from plain_calls import Disk, NotBuilt, carried_out, spelled
+from plain_calls import Disk, carried_out, spelled
 
 HERE = os.path.dirname(os.path.abspath(__file__))
 PROGRAM = os.environ.get("PROGRAM") or os.path.join(HERE, "..", "crates", "gfs2run", "out", "gfs2run")
@@ -427,15 +428,41 @@ def some_call(random, paths, size):
     return "%s %s" % (word, path)
 
 
+def crowded_call(random, place, crowd):
+    """A call on one of many names in one directory, some of which are long, and some of which have hashes that begin alike; or one
+    that makes the directory, or would take it away."""
+    if place != "/" and random.randrange(100) == 0:
+        return random.choice(("mkdir ", "rmdir ")) + place
+    number = random.randrange(crowd)
+    if number % 4 == 0:
+        name = alike(40)[number // 4 % 40]
+    else:
+        name = "%d%s" % (number, "n" * (number * 37 % 250 if number % 3 else 0))
+    return "%s %s/%s" % (random.choice(["create"] * 12 + ["mkdir"] * 4 + ["unlink"] * 5 + ["rmdir", "stat", "stat"]), place.rstrip("/"), name)
+
+
+@lru_cache
+def alike(count):
+    """So many names of which the hashes begin with the same 15 bits."""
+    found = {}
+    for number in range(1 << 24):
+        names = found.setdefault(crc32(b"%d-alike" % number) >> 17, [])
+        names.append("%d-alike" % number)
+        if len(names) == count:
+            return names
+
+
 def some_script(random, disk):
-    """A script, and the status, output and trace that the plain calls give it. The disk is as it leaves it."""
+    """A script, and the status, output and trace that the plain calls give it. The disk is as it leaves it. In one of three scripts
+    one directory gets many names."""
     paths, lines, before = ["/"], ["nodes 1", "client p on 1", "client q on 1"], disk.data[:]
-    for _ in range(random.choice((20, 100, 400))):
-        call = some_call(random, paths, disk.size)
-        try:
-            reply = disk.answer(call)[0]
-        except NotBuilt:
-            continue
+    crowd, place = random.choice((0, 0, random.choice((40, 150, 600)))), random.choice(("/", "/e"))
+    for _ in range(random.choice((20, 100, 400)) + 3 * crowd):
+        if crowd and random.randrange(4):
+            call = crowded_call(random, place, crowd)
+        else:
+            call = some_call(random, paths, disk.size)
+        reply = disk.answer(call)[0]
         word, path = (call.split(" ") + [""])[:2]
         if reply == "ok" and word in ("create", "mkdir"):
             paths += [path] * (4 if word == "mkdir" else 1)
@@ -456,7 +483,7 @@ def shown(disk, journals):
     def below(path, inode):
         lines.append("dir " + (path or "/"))
         for name in disk.names(inode):
-            child, here = disk.look(inode, name)[3], path + "/" + spelled(name)
+            child, here = disk.look(inode, name)[2], path + "/" + spelled(name)
             if disk.is_directory(child):
                 below(here, child)
             else:

@@ -13,10 +13,6 @@ MAGIC = 0x01161970
 LARGEST = 67108864
 
 
-class NotBuilt(Exception):
-    """The call is one of those that aren't built yet: its word is `line`, or the number of a block."""
-
-
 class Refused(Exception):
     """The answer of a call that is refused, and how many blocks it would need where it is `nospace`."""
 
@@ -38,6 +34,29 @@ def least_length(name_length):
     return (name_length + 47) // 8 * 8
 
 
+def record(name, number, address, length, kind):
+    return pack(">QQIHHHH", number, address, crc32(name), length, len(name), kind, 0) + bytes(12) + name
+
+
+def packed(names, room):
+    """(name, length) of records one behind another in so much room, of which the last takes the rest."""
+    lengths = [least_length(len(it)) for it in names]
+    return [(it, room - sum(lengths[:index]) if index == len(names) - 1 else lengths[index]) for index, it in enumerate(names)] or [(None, room)]
+
+
+def without(slots, names):
+    """(name or None, length) of what is left where these names' records are cut."""
+    left = []
+    for name, length in slots:
+        if name is None or name not in names:
+            left.append((name, length))
+        elif left:
+            left[-1] = (left[-1][0], left[-1][1] + length)
+        else:
+            left.append((None, length))
+    return left
+
+
 class Disk:
     """An image's blocks, and its groups as `rindex` has them."""
 
@@ -46,7 +65,7 @@ class Disk:
         self.size = self.word(65536 + 36, 4)
         self.root = self.word(65536 + 88, 8)
         master = self.word(65536 + 56, 8)
-        rindex = next(it for it in self.records(master) if it[1] == b"rindex")[3]
+        rindex = next(it for it in self.records(master) if it[0] == b"rindex")[2]
         text = self.content(rindex)
         self.groups = [unpack_from(">QII", text, at)[:2] + unpack_from(">QI", text, at + 16) for at in range(0, len(text), 96)]
 
@@ -132,19 +151,25 @@ class Disk:
     # ---- directories
 
     def records(self, directory):
-        """(place in the block, name, formal number, address, kind, length) of each record that is in use."""
-        for place, used, length in self.slots(directory):
-            if used:
-                number, address, _, _, count, kind = unpack_from(">QQIHHH", self.data, directory * self.size + place)
-                name = directory * self.size + place + 40
-                yield place, bytes(self.data[name:name + count]), number, address, kind, length
+        """(name, formal number, address) of each record that is in use."""
+        for area in self.areas(directory):
+            yield from self.records_in(*area)
 
-    def slots(self, directory):
-        if self.field(directory, 128, 4) & 2:
-            raise NotBuilt(directory)
-        place = 232
+    def areas(self, directory):
+        """(block, place) of each area of records."""
+        return [(leaf, 104) for leaf in self.leaves(directory)] if self.is_hashed(directory) else [(directory, 232)]
+
+    def records_in(self, block, place):
+        for at, used, _ in self.slots(block, place):
+            if used:
+                number, address, _, _, count = unpack_from(">QQIHH", self.data, block * self.size + at)
+                name = block * self.size + at + 40
+                yield bytes(self.data[name:name + count]), number, address
+
+    def slots(self, block, place):
+        """(place in the block, whether it is in use, length) of each record of an area."""
         while place < self.size:
-            at = directory * self.size + place
+            at = block * self.size + place
             length = self.word(at + 20, 2)
             if length < 40:
                 raise ValueError("a record of %d bytes" % length)
@@ -152,37 +177,219 @@ class Disk:
             place += length
 
     def look(self, directory, name):
-        for record in self.records(directory):
-            if record[1] == name:
-                return record
+        """(name, formal number, address) of the record of a name."""
+        for area in self.areas_for(directory, name):
+            for found in self.records_in(*area):
+                if found[0] == name:
+                    return found
         return None
 
+    def areas_for(self, directory, name):
+        """The areas in which a name's record may stand."""
+        return [(leaf, 104) for leaf in self.chain(directory, self.index(directory, name))] if self.is_hashed(directory) else [(directory, 232)]
+
+    def has_room(self, block, place, name):
+        """Where in an area a name's record goes: (place, whether a record in use is cut there, its length)."""
+        for at, used, length in self.slots(block, place):
+            own = least_length(self.field(block, at + 22, 2)) if used else 0
+            if length - own >= least_length(len(name)):
+                return at, own, length
+        return None
+
+    def insert_in(self, block, place, name, number, address, kind):
+        at, own, length = self.has_room(block, place, name)
+        if own:
+            self.put(block, at + 20, own, 2)
+        self.put(block, at + own, record(name, number, address, length - own, kind))
+
+    def cut_from(self, block, place, name):
+        before = None
+        for at, used, length in self.slots(block, place):
+            start = block * self.size + at + 40
+            if used and bytes(self.data[start:start + self.field(block, at + 22, 2)]) == name:
+                if before is None:
+                    self.put(block, at, bytes(16))
+                else:
+                    self.put(block, before + 20, self.field(block, before + 20, 2) + length, 2)
+                return
+            before = at
+
     def insert(self, directory, name, number, address, kind):
-        wanted = least_length(len(name))
-        for place, used, length in self.slots(directory):
-            own = least_length(self.field(directory, place + 22, 2)) if used else 0
-            if length - own >= wanted:
-                if used:
-                    self.put(directory, place + 20, own, 2)
-                head = pack(">QQIHHHH", number, address, crc32(name), length - own, len(name), kind, 0) + bytes(12)
-                self.put(directory, place + own, head + name)
-                return True
-        return False
+        """Puts a name where it belongs; a block that is needed is the least that is free then."""
+        if not self.is_hashed(directory) and not self.has_room(directory, 232, name):
+            self.make_hashed(directory)
+        if not self.is_hashed(directory):
+            return self.insert_in(directory, 232, name, number, address, kind)
+        while True:
+            index = self.index(directory, name)
+            chain = self.chain(directory, index)
+            roomy = [leaf for leaf in chain if self.has_room(leaf, 104, name)]
+            if roomy:
+                self.insert_in(roomy[0], 104, name, number, address, kind)
+                return self.put(roomy[0], 26, self.field(roomy[0], 26, 2) + 1, 2)
+            if len(chain) == 1 and self.field(chain[0], 24, 2) < self.depth(directory):
+                self.split(directory, index)
+            elif len(chain) == 1 and self.depth(directory) < self.greatest_depth():
+                self.double(directory)
+            else:
+                leaf = self.take(directory)
+                self.put_leaf(leaf, self.field(chain[0], 24, 2), [])
+                self.put(chain[-1], 32, leaf, 8)
 
     def remove(self, directory, name):
-        before = None
-        for place, used, length in self.slots(directory):
-            at = directory * self.size + place + 40
-            if used and bytes(self.data[at:at + self.field(directory, place + 22, 2)]) == name:
-                if before is None:
-                    self.put(directory, place, bytes(16))
-                else:
-                    self.put(directory, before + 20, self.field(directory, before + 20, 2) + length, 2)
+        for block, place in self.areas_for(directory, name):
+            if any(it[0] == name for it in self.records_in(block, place)):
+                self.cut_from(block, place, name)
+                if place == 104:
+                    self.put(block, 26, self.field(block, 26, 2) - 1, 2)
                 return
-            before = place
+
+    # ---- hashed directories
+
+    def is_hashed(self, directory):
+        return self.field(directory, 128, 4) & 2 != 0
+
+    def depth(self, directory):
+        return self.field(directory, 146, 2)
+
+    def greatest_depth(self):
+        return (8 * self.size).bit_length() - 1
+
+    def index(self, directory, name):
+        return crc32(name) >> 32 - self.depth(directory)
+
+    def pointer(self, directory, index):
+        """Where in the image a pointer of the table stands."""
+        height = self.field(directory, 138, 2)
+        if height == 0:
+            return directory * self.size + 232 + 8 * index
+        each = (self.size - 24) // 8
+        return self.word(self.pointer_to(directory, height, 0, index // each), 8) * self.size + 24 + index % each * 8
+
+    def chain(self, directory, index):
+        leaf, found = self.word(self.pointer(directory, index), 8), []
+        while leaf:
+            found.append(leaf)
+            leaf = self.field(leaf, 32, 8)
+        return found
+
+    def leaves(self, directory):
+        found, index = [], 0
+        while index < 1 << self.depth(directory):
+            chain = self.chain(directory, index)
+            found += chain
+            index += 1 << self.depth(directory) - self.field(chain[0], 24, 2)
+        return found
+
+    def put_leaf(self, block, depth, records):
+        """A leaf with these records (name, number, address, kind) one behind another, the last of which takes the rest."""
+        self.put(block, 0, (pack(">IIQII", MAGIC, 6, 0, 600, 0) + pack(">HHIQ", depth, len(records), 1200, 0)).ljust(self.size, b"\0"))
+        place = 104
+        for index, (name, number, address, kind) in enumerate(records):
+            length = self.size - place if index == len(records) - 1 else least_length(len(name))
+            self.put(block, place, record(name, number, address, length, kind))
+            place += length
+        if not records:
+            self.put(block, place + 20, self.size - place, 2)
+
+    def kept(self, block, place):
+        """(name, number, address, kind) of each record of an area."""
+        for at, used, _ in self.slots(block, place):
+            if used:
+                start = block * self.size + at
+                number, address, _, _, count, kind = unpack_from(">QQIHHH", self.data, start)
+                yield bytes(self.data[start + 40:start + 40 + count]), number, address, kind
+
+    def make_hashed(self, directory):
+        """A table of pointers to one leaf takes the place of the records."""
+        records, leaf = list(self.kept(directory, 232)), self.take(directory)
+        self.put_leaf(leaf, 0, records)
+        count = self.size // 16
+        self.put(directory, 232, (pack(">Q", leaf) * count).ljust(self.size - 232, b"\0"))
+        self.put(directory, 56, 8 * count, 8)
+        self.put(directory, 128, self.field(directory, 128, 4) | 2, 4)
+        self.put(directory, 146, count.bit_length() - 1, 2)
+
+    def split(self, directory, index):
+        """A new leaf takes the lower half of a leaf's pointers, and of its records."""
+        old = self.word(self.pointer(directory, index), 8)
+        depth, new = self.field(old, 24, 2), self.take(directory)
+        run = 1 << self.depth(directory) - depth
+        lower = [it for it in self.kept(old, 104) if not crc32(it[0]) >> 31 - depth & 1]
+        self.put_leaf(new, depth + 1, lower)
+        for name, *_ in lower:
+            self.cut_from(old, 104, name)
+        self.put(old, 24, depth + 1, 2)
+        self.put(old, 26, self.field(old, 26, 2) - len(lower), 2)
+        for at in range(index // run * run, index // run * run + run // 2):
+            place = self.pointer(directory, at)
+            self.data[place:place + 8] = pack(">Q", new)
+
+    def table_height(self, pointers):
+        """How high a directory is whose table has so many pointers."""
+        each, height = (self.size - 24) // 8, 0
+        while (self.size - 232) // 8 * each ** height < pointers:
+            height += 1
+        return height
+
+    def double(self, directory):
+        """Each pointer comes twice: the table grows as a file does, of which each block has a header."""
+        count = 1 << self.depth(directory)
+        leaves = [self.word(self.pointer(directory, index), 8) for index in range(count)]
+        self.rise(directory, self.table_height(2 * count))
+        for index in range(-(-2 * count // ((self.size - 24) // 8))):
+            self.block_for(directory, index)
+        self.put(directory, 56, 16 * count, 8)
+        self.put(directory, 146, self.depth(directory) + 1, 2)
+        for index in range(2 * count):
+            place = self.pointer(directory, index)
+            self.data[place:place + 8] = pack(">Q", leaves[index // 2])
+
+    def head_of_content(self, inode):
+        """With what each block of an inode's content begins."""
+        return pack(">IIQII", MAGIC, 7, 0, 700, 0) if self.is_directory(inode) else b""
+
+    def need(self, directory, name):
+        """How many blocks a directory takes for a name."""
+        if not self.is_hashed(directory):
+            if self.has_room(directory, 232, name):
+                return 0
+            depth, level, need = (self.size // 16).bit_length() - 1, 0, 1
+            used, room = [it[0] for it in self.records(directory)], self.size - 104
+            slots = packed(used, room)
+        else:
+            chain = self.chain(directory, self.index(directory, name))
+            if any(self.has_room(leaf, 104, name) for leaf in chain):
+                return 0
+            if len(chain) > 1:
+                return 1
+            depth, level, need, room = self.depth(directory), self.field(chain[0], 24, 2), 0, self.size - 104
+            slots, names = [], self.records_in(chain[0], 104)
+            for _, used, length in self.slots(chain[0], 104):
+                slots.append((next(names)[0] if used else None, length))
+        wanted = least_length(len(name))
+        while not any(length - (least_length(len(it)) if it is not None else 0) >= wanted for it, length in slots):
+            if level < depth:
+                upper = crc32(name) >> 31 - level & 1
+                if upper:
+                    slots = without(slots, [it for it, _ in slots if it is not None and not crc32(it) >> 31 - level & 1])
+                else:
+                    slots = packed([it for it, _ in slots if it is not None and not crc32(it) >> 31 - level & 1], room)
+                level, need = level + 1, need + 1
+            elif depth < self.greatest_depth():
+                need += self.table_blocks(depth + 1) - self.table_blocks(depth)
+                depth += 1
+            else:
+                return need + 1
+        return need
+
+    def table_blocks(self, depth):
+        """How many blocks a table so deep takes beside the dinode's."""
+        height, each = self.table_height(1 << depth), (self.size - 24) // 8
+        return sum(-(-(1 << depth) // each ** (level + 1)) for level in range(height))
 
     def names(self, directory):
-        return sorted(it[1] for it in self.records(directory) if it[1] not in (b".", b".."))
+        return sorted(it[0] for it in self.records(directory) if it[0] not in (b".", b".."))
 
     def is_directory(self, inode):
         return self.field(inode, 40, 4) >> 12 & 15 == 4
@@ -266,7 +473,7 @@ class Disk:
             content = bytes(self.data[area:area + self.field(inode, 56, 8)] if old == 0 else self.data[area:area + (self.size - 232) // 8 * 8])
             block = self.take(inode) if self.carries(inode) else 0
             if block:
-                head = b"" if old == 0 else pack(">IIQII", MAGIC, 5, 0, 500, 0)
+                head = self.head_of_content(inode) if old == 0 else pack(">IIQII", MAGIC, 5, 0, 500, 0)
                 self.put(block, 0, (head + content).ljust(self.size, b"\0"))
             self.put(inode, 232, pack(">Q", block).ljust(self.size - 232, b"\0"))
             self.put(inode, 138, old + 1, 2)
@@ -278,7 +485,7 @@ class Disk:
             at = self.pointer_to(inode, height, level, index // self.span(level))
             if not self.word(at, 8):
                 block = self.take(inode)
-                head = pack(">IIQII", MAGIC, 5, 0, 500, 0) if level else b""
+                head = pack(">IIQII", MAGIC, 5, 0, 500, 0) if level else self.head_of_content(inode)
                 self.put(block, 0, head.ljust(self.size, b"\0"))
                 self.data[at:at + 8] = pack(">Q", block)
         return self.word(at, 8)
@@ -358,7 +565,7 @@ class Disk:
             record = self.look(way[-1], name)
             if record is None:
                 raise Refused("notfound")
-            way.append(record[3])
+            way.append(record[2])
         return way
 
     def make(self, names, is_directory):
@@ -369,12 +576,11 @@ class Disk:
             raise Refused("notdir")
         if self.look(parent, names[-1]):
             raise Refused("exists")
-        if not any(length - (least_length(self.field(parent, place + 22, 2)) if used else 0) >= least_length(len(names[-1]))
-                   for place, used, length in self.slots(parent)):
-            raise NotBuilt("line")
+        need = self.need(parent, names[-1]) + 1
+        if need > self.free_count():
+            raise Refused("nospace", need)
+        left = self.free_count() - need
         block = self.least_free()
-        if block is None:
-            raise Refused("nospace", 1)
         self.set_state(block, 3)
         number = self.count(block, -1, 1, 1)
         self.put(block, 0, self.dinode(block, number, is_directory).ljust(self.size, b"\0"))
@@ -384,6 +590,8 @@ class Disk:
             self.put(block, 232, first + bytes(14) + b".")
             self.put(block, 280, second + bytes(14) + b"..")
         self.insert(parent, names[-1], number, block, 4 if is_directory else 8)
+        if self.free_count() != left:
+            raise ValueError("%d blocks were needed, not %d" % (need + left - self.free_count(), need))
         self.put(parent, 148, self.field(parent, 148, 4) + 1, 4)
         if is_directory:
             self.put(parent, 52, self.field(parent, 52, 4) + 1, 4)
@@ -406,7 +614,8 @@ class Disk:
             raise Refused("notdir" if is_directory else "isdir")
         if is_directory and self.names(inode):
             raise Refused("notempty")
-        for block, _ in list(self.blocks_under(inode, 232, self.field(inode, 138, 2))) if self.field(inode, 138, 2) else []:
+        below = [block for block, _ in self.blocks_under(inode, 232, self.field(inode, 138, 2))] if self.field(inode, 138, 2) else []
+        for block in below + (self.leaves(inode) if is_directory and self.is_hashed(inode) else []):
             self.set_state(block, 0)
             self.count(block, 1, 0)
         self.set_state(inode, 0)
@@ -479,7 +688,7 @@ class Disk:
                 return "ok", None
         except Refused as refused:
             return refused.args[0], (refused.args[1], self.free_count()) if refused.args[0] == "nospace" else None
-        raise NotBuilt("line")
+        raise ValueError("no call of one node alone: " + call)
 
 
 def written(call):
@@ -494,25 +703,20 @@ def carried_out(disk, script):
     """The status, the output and the trace of a script of one node."""
     lines = script.splitlines()
     clients = [it.split(" ")[1] for it in lines if it.startswith("client ")]
-    items, replies, end = ["join 1"], [], "done"
-    for number, line in enumerate(lines, 1):
+    items, replies = ["join 1"], []
+    for line in lines:
         client, _, call = line.partition(": ")
         if not call:
             continue
-        try:
-            reply, full = disk.answer(call)
-        except NotBuilt as fault:
-            end = "not built: " + ("line %d" % number if fault.args[0] == "line" else "block %d" % fault.args[0])
-            break
+        reply, full = disk.answer(call)
         if full:
             items.append("full 1 %d %d" % full)
         replies.append((client, "%s: %s = %s" % (client, written(call), reply)))
         items.append("call 1 %s %d %s = %s" % (client, len(replies), written(call), reply))
-    else:
-        items.append("unmount 1")
+    items.append("unmount 1")
     out = [line for name in clients for client, line in replies if client == name]
-    out += ["calls %d lost 0 commits 0 crashes 0 dirty 0" % len(replies), end]
-    return 0 if end == "done" else 20, "".join(it + "\n" for it in out), "".join(it + "\n" for it in items)
+    out += ["calls %d lost 0 commits 0 crashes 0 dirty 0" % len(replies), "done"]
+    return 0, "".join(it + "\n" for it in out), "".join(it + "\n" for it in items)
 
 
 def main(name, time="0"):
