@@ -4,3 +4,4 @@ pub mod First
 pub mod Linear
 pub mod Converted
 pub mod Puts
+pub mod OnWay
