@@ -1,10 +1,10 @@
 -- The way to a name: what is seen of a leaf's bytes, and leaf by leaf along a chain.
-use Rattle.std.proofs.Common.{◌≡◌, ◌≢◌, ◌⊎◌, ℕ, ◌+◌, ◌*◌, ◌/◌, ◌^◌, ◌<◌, ◌≤◌, inl, inr, true, List, Contains, Option, None, Some, Result, Ok, refl, sym, ap, ◌∙◌, subst, arith}
+use Rattle.std.proofs.Common.{◌≡◌, ◌≢◌, ◌⊎◌, ℕ, ◌+◌, ◌*◌, ◌/◌, ◌^◌, ◌<◌, ◌≤◌, inl, inr, false, true≢false, List, Contains, Option, None, Some, Result, Ok, sym, ap, ◌∙◌, subst, arith}
 use Rattle.std.specs.Prelude.{◌==◌, IfNone, IfSome}
 use Rattle.std.proofs.lemmas.Bool.{cases_Bool, cond-false, eqb-true}
 use Rattle.gfs2_layout.specs.Bytes.{u32_at}
 use Rattle.gfs2_layout.specs.Holding.{Holding, bytes_at}
-use Rattle.gfs2_layout.specs.Inode.{depth_in, leaf_in, table_count}
+use Rattle.gfs2_layout.specs.Inode.{depth_in, is_hashed_in, leaf_in, table_count}
 use Rattle.gfs2_layout.specs.Structures.{header_fault, leaf_of, leaf_read, or_else, records_fault}
 use Rattle.gfs2_layout.specs.declared.fault.LayoutFault.{LayoutFault}
 use Rattle.gfs2_layout.specs.declared.fault.LayoutFault.TheVariants.{Value}
@@ -20,7 +20,7 @@ use Rattle.hash_dirs.proofs.Along.{chain_one, ended}
 use Rattle.hash_dirs.proofs.Leaves.{bytes_there}
 use Rattle.tree_tables.specs.Pointers.{IsTableOf}
 use Rattle.tree_tables.specs.declared.tree_table.TreeTable.{TreeTable}
-use Rattle.name_inserts.specs.Way.{AreOfLeaf, AreRightAlong, AreRightBefore, BreaksLeaf, IsRightLeaf, IsRightTable, no_header, other_count, other_format, unfilled}
+use Rattle.name_inserts.specs.Way.{AreOfLeaf, AreRightAlong, AreRightBefore, BreaksLeaf, IsOnWay, IsRightBehind, IsRightLeaf, IsRightTable, its_dinode, its_leaf, its_pointer, no_header, other_count, other_format, unfilled}
 
 -- ---- a leaf's bytes
 
@@ -97,3 +97,17 @@ module _ (v : Seen) (h : Holding) (i place link : ℕ) (blocks : List ℕ) (chai
     | inl low ↦ were k x low there
     | inr behind ↦ absurd (ended h i place link k x chain ends behind there)
   ]
+
+-- ---- the way
+
+-- a block that is none of these isn't on the way, of a hashed directory
+pub hashed_apart : (v : Seen) (h : Holding) (name blocks : List ℕ) → (Contains blocks h.own → ⊥) → IsRightBehind v h name blocks → (b : ℕ) → Contains blocks b → IsOnWay h name b → ⊥
+hashed_apart v h name blocks own behind b has (its_dinode is) = own (subst (Contains blocks) is has)
+hashed_apart v h name blocks own behind b has (its_pointer hashed is) = behind.pointer (subst (Contains blocks) is has)
+hashed_apart v h name blocks own behind b has (its_leaf place hashed there) = (behind.leaves place b there).1 has
+
+-- and of a linear one
+pub linear_apart : (h : Holding) (name blocks : List ℕ) → is_hashed_in h ≡ false → (Contains blocks h.own → ⊥) → (b : ℕ) → Contains blocks b → IsOnWay h name b → ⊥
+linear_apart h name blocks plain own b has (its_dinode is) = own (subst (Contains blocks) is has)
+linear_apart h name blocks plain own b has (its_pointer hashed is) = absurd (true≢false (sym hashed ∙ plain))
+linear_apart h name blocks plain own b has (its_leaf place hashed there) = absurd (true≢false (sym hashed ∙ plain))

@@ -1,4 +1,4 @@
-use Rattle.std.proofs.Common.{◌≡◌, ◌∷◌, ◌∙◌, ℕ, Option, None, Some, true≢false, refl, sym, subst}
+use Rattle.std.proofs.Common.{◌≡◌, ◌∷◌, ◌∙◌, ℕ, true≢false, refl, sym, subst}
 use Rattle.std.specs.Prelude.{Contains, IfNone, IfSome}
 use Rattle.gfs2_layout.specs.Inode.{depth_in}
 use Rattle.glock_names.specs.Steps.{IsDamage}
@@ -7,9 +7,9 @@ use Rattle.linear_dirs.proofs.Looked.{handed}
 use Rattle.hash_dirs.specs.Broken as leaves
 use Rattle.hash_dirs.specs.Shown.{IsInChain, index_for, of_table}
 use Rattle.hash_dirs.proofs.Leaves.{head_at, index_is}
-use Rattle.hash_inserts.specs.Inserting.{IsWrongToInsert, of_chain}
+use Rattle.hash_inserts.specs.Inserting.{of_chain}
 use Rattle.directories.specs.Shown as directory
-use Rattle.directories.proofs.Forms.{answer_as, fault_as, leaves_shown}
+use Rattle.directories.proofs.Forms.{fault_as, leaves_shown}
 use Rattle.name_inserts.specs.Inserting as name
 use Rattle.name_inserts.specs.Way.{AreRightAlong, IsOnWay, IsRightBehind, its_leaf, its_pointer}
 use Rattle.name_inserts.proofs.OnWay.{none_so, right_table, some_so}
@@ -31,7 +31,7 @@ pub returns-then-is_one_of-clause-some : goal.returns-then-is_one_of-clause-some
 returns-then-is_one_of-clause-some g c h shown is =
     let table = answer_at _ _ _ c.in-Is.is (c.in_ok-table.ensures.table h shown.inode is (shown.whole is)) in
     let head = head_at h c.args.name.now c.depth-depth.result c.crc32.result c.index_of.result c.in-Is-2.head c.index_of.ensures.value (c.depth-depth.ensures.value ∙ table.depth) c.crc32.ensures c.index_of.ensures.low
-        (answer_at _ _ _ c.in-Is-2.is (c.in_ok-head.ensures.found h table)) in
+    (answer_at _ _ _ c.in-Is-2.is (c.in_ok-head.ensures.found h table)) in
     (c.if-is_one_of.ensures.0 refl, its_pointer is head.from)
 
 pub returns-clause-some : goal.returns-clause-some
@@ -41,7 +41,7 @@ returns-clause-some g c h shown is =
     let i = index_for h c.args.name.now in
     let table = answer_at _ _ _ c.in-Is.is (c.in_ok-table.ensures.table h shown.inode is (shown.whole is)) in
     let head = head_at h c.args.name.now c.depth-depth.result c.crc32.result c.index_of.result c.in-Is-2.head c.index_of.ensures.value (c.depth-depth.ensures.value ∙ table.depth) c.crc32.ensures c.index_of.ensures.low
-        (answer_at _ _ _ c.in-Is-2.is (c.in_ok-head.ensures.found h table)) in
+    (answer_at _ _ _ c.in-Is-2.is (c.in_ok-head.ensures.found h table)) in
     answer_so c.leaf_among.result (λ found. IfSome found (λ x. Contains blocks x × ((place : ℕ) × IsInChain h i place x))) (λ found. IfSome found (λ b. Contains blocks b × IsOnWay h c.args.name.now b))
     (λ found. some_so found (λ x. Contains blocks x × ((place : ℕ) × IsInChain h i place x)) (λ b. Contains blocks b × IsOnWay h c.args.name.now b) (λ x so. (so.0, its_leaf so.1.0 is so.1.1)))
     (c.leaf_among.ensures.some h i (leaves_shown v c.args.dir h shown is) head)
@@ -54,7 +54,7 @@ returns-clause-none g c h shown is =
     let table = answer_at _ _ _ c.in-Is.is (c.in_ok-table.ensures.table h shown.inode is (shown.whole is)) in
     let deep : c.depth-depth.result ≡ depth_in h = c.depth-depth.ensures.value ∙ table.depth in
     let head = head_at h c.args.name.now c.depth-depth.result c.crc32.result c.index_of.result c.in-Is-2.head c.index_of.ensures.value deep c.crc32.ensures c.index_of.ensures.low
-        (answer_at _ _ _ c.in-Is-2.is (c.in_ok-head.ensures.found h table)) in
+    (answer_at _ _ _ c.in-Is-2.is (c.in_ok-head.ensures.found h table)) in
     answer_so c.leaf_among.result (λ found. IfNone found (AreRightAlong v h i blocks)) (λ found. IfNone found (IsRightBehind v h c.args.name.now blocks))
     (λ found. none_so found (AreRightAlong v h i blocks) (IsRightBehind v h c.args.name.now blocks) (λ along. record {
       table = right_table h c.args.name.now c.in-Is.table v head.low table;
@@ -68,5 +68,5 @@ returns-clause-needed g c h shown is =
     let v = g.V.View.seen c.args.view.now in
     let table = answer_at _ _ _ c.in-Is.is (c.in_ok-table.ensures.table h shown.inode is (shown.whole is)) in
     let head = head_at h c.args.name.now c.depth-depth.result c.crc32.result c.index_of.result c.in-Is-2.head c.index_of.ensures.value (c.depth-depth.ensures.value ∙ table.depth) c.crc32.ensures c.index_of.ensures.low
-        (answer_at _ _ _ c.in-Is-2.is (c.in_ok-head.ensures.found h table)) in
+    (answer_at _ _ _ c.in-Is-2.is (c.in_ok-head.ensures.found h table)) in
     needed_so c.leaf_among.result _ (name.IsNeededForName v h c.args.name.now) (λ m needs. name.IsNeededForName.in_hashed is (of_chain needs)) (c.leaf_among.ensures.needed h (index_for h c.args.name.now) (leaves_shown v c.args.dir h shown is) head)

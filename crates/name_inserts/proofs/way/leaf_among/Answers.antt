@@ -38,7 +38,7 @@ returns-then-leaf-eq0-clause-none g c h i shown is deep =
     let small = answer_at _ _ _ c.in-Is.is c.in_ok-leaf.ensures.small in
     let leaf = answer_at _ _ _ c.in-Is.is (c.in_ok-leaf.ensures.read h i shown at.leads) in
     let right = right_leaf v c.args.dir h i link.from link.leaf c.args.depth c.in-Is.leaf c.in-Some.bytes.now shown at.leads small.0 c.in-Some.ensures.some (answer_at _ _ _ c.in-Is.is c.in_ok-leaf.ensures.inside) c.in_default-broken_rule.ensures.none leaf deep
-        (answer_at _ _ _ c.in-Is.is c.in_ok-leaf.ensures.low) in
+    (answer_at _ _ _ c.in-Is.is c.in_ok-leaf.ensures.low) in
     let apart : Contains blocks link.leaf → ⊥ = λ has. true≢false (sym (c.is_one_of.ensures.1 has) ∙ c.if-is_one_of.false) in
     right_all v h i c.loop-place._place link.leaf blocks at.chain (ap (λ (l : Leaf). l.next) (sym leaf.head) ∙ c.if-leaf-eq0.true)
     (right_more v h i c.loop-place._place link.leaf blocks at.chain right apart (c.loop-place.invariant.right h i shown is deep))
