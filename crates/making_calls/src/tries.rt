@@ -27,7 +27,7 @@ use drafts::{Attempt, Stamp};
 use file_tree::{Call, Name, Path, Reply};
 use glock_names::{CallFault, Step, View};
 use name_drafts::addition;
-use name_inserts::need_name;
+use name_inserts::{block_on_way, need_name};
 use path_walks::{Place, Walk, nothing, walk_along};
 use resource_groups::group_of;
 use room_search::Locked;
@@ -62,8 +62,8 @@ fn is_a_view<V: View>(view: &V)
     let _size = view.block_size();
 }
 
-// Makes the name in the directory at a place, which hasn't it and takes so many blocks for it: they are searched with that of the new inode, and
-// then all is drafted.
+// Makes the name in the directory at a place, which hasn't it and takes so many blocks for it: they are searched with that of the new inode, the way to
+// the name is looked at again, that none of them is on it, and then all is drafted.
 fn make_with<V: View>(
     alloc: Global,
     view: &V,
@@ -105,11 +105,10 @@ fn make_with<V: View>(
         Locked::NeedLock { lock, state } => return Ok(Found::NeedLock { lock, state }),
         Locked::NeedBlock(missing) => return Ok(Found::NeedBlock(missing)),
     };
-    if room.has(place.inode) {
-        return Err(CallFault::Damaged {
-            block: place.inode,
-            rule: 5,
-        });
+    match block_on_way(view, place.inode, name.bytes(), room.new.block, &room.rest)? {
+        Step::Is(None) => {}
+        Step::Is(Some(block)) => return Err(CallFault::Damaged { block, rule: 5 }),
+        Step::NeedBlock(missing) => return Ok(Found::NeedBlock(missing)),
     }
     let is_directory = is_of_directory(call);
     match addition(
@@ -243,7 +242,7 @@ fn find<V: View>(alloc: Global, view: &V, call: &Call, stamp: &Stamp) -> Result<
 /// group is asked for. They and that of the new inode, which is the first, are the least free ones of the node's own group, or else of all groups in order;
 /// the new inode and the directory get the stamp's time. It costs a walk along the path, and what looking up the name, counting the blocks, putting the
 /// name and taking the blocks cost: two passes over the blocks of each group that is looked at, of a linear directory four over its records, of a hashed
-/// one four along the chain of the name, and copies of the few blocks that change.
+/// one five along the chain of the name, and copies of the few blocks that change.
 pub fn attempt<V: View>(
     alloc: Global,
     view: &V,

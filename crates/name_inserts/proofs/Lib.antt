@@ -5,3 +5,4 @@ pub mod Linear
 pub mod Converted
 pub mod Puts
 pub mod OnWay
+pub mod Led

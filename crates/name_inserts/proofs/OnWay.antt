@@ -103,11 +103,11 @@ module _ (v : Seen) (h : Holding) (i place link : ℕ) (blocks : List ℕ) (chai
 -- a block that is none of these isn't on the way, of a hashed directory
 pub hashed_apart : (v : Seen) (h : Holding) (name blocks : List ℕ) → (Contains blocks h.own → ⊥) → IsRightBehind v h name blocks → (b : ℕ) → Contains blocks b → IsOnWay h name b → ⊥
 hashed_apart v h name blocks own behind b has (its_dinode is) = own (subst (Contains blocks) is has)
-hashed_apart v h name blocks own behind b has (its_pointer hashed is) = behind.pointer (subst (Contains blocks) is has)
+hashed_apart v h name blocks own behind b has (its_pointer hashed below is) = behind.pointer (subst (Contains blocks) is has)
 hashed_apart v h name blocks own behind b has (its_leaf place hashed there) = (behind.leaves place b there).1 has
 
 -- and of a linear one
 pub linear_apart : (h : Holding) (name blocks : List ℕ) → is_hashed_in h ≡ false → (Contains blocks h.own → ⊥) → (b : ℕ) → Contains blocks b → IsOnWay h name b → ⊥
 linear_apart h name blocks plain own b has (its_dinode is) = own (subst (Contains blocks) is has)
-linear_apart h name blocks plain own b has (its_pointer hashed is) = absurd (true≢false (sym hashed ∙ plain))
+linear_apart h name blocks plain own b has (its_pointer hashed below is) = absurd (true≢false (sym hashed ∙ plain))
 linear_apart h name blocks plain own b has (its_leaf place hashed there) = absurd (true≢false (sym hashed ∙ plain))

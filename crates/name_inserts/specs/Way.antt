@@ -8,14 +8,15 @@ use Rattle.gfs2_layout.specs.Inode.{depth_in, dinode_in, entry_block, is_hashed_
 use Rattle.gfs2_layout.specs.Records.{records_in}
 use Rattle.gfs2_layout.specs.Structures.{leaf_of}
 use Rattle.glock_names.specs.Views.{Seen, HasBlock}
+use Rattle.dinode_tree.specs.Below.{IsBelow}
 use Rattle.dinode_tree.specs.Reading.{IsRightDinode}
 use Rattle.resource_groups.specs.Putting.{HasDataBlock}
 use Rattle.hash_dirs.specs.Shown.{IsInChain, index_for}
 
--- A block on the way to a name: the dinode's; of a hashed directory that with the pointer to the name's chain, and each leaf of this.
+-- A block on the way to a name: the dinode's; of a hashed directory that of the table with the pointer to the name's chain, and each leaf of this.
 pub data IsOnWay (h : Holding) (name : List ℕ) (b : ℕ) : Type 0 where
   its_dinode : b ≡ h.own → IsOnWay h name b
-  its_pointer : is_hashed_in h ≡ true → b ≡ entry_block h (index_for h name) → IsOnWay h name b
+  its_pointer : is_hashed_in h ≡ true → IsBelow h b → b ≡ entry_block h (index_for h name) → IsOnWay h name b
   its_leaf : (place : ℕ) → is_hashed_in h ≡ true → IsInChain h (index_for h name) place b → IsOnWay h name b
 
 -- ---- leaves

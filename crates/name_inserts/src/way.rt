@@ -1,7 +1,7 @@
 // The blocks on the way to a name in a directory.
 ghost use Rattle.std.specs.Prelude.{ℕ, List, ◌≡◌, ◌∷◌, ◌↔◌, ◌≤◌, true, None, IsTrue, Contains, IfNone, IfSome, length};
 ghost use Rattle.gfs2_layout.specs.Holding.{Holding};
-ghost use Rattle.gfs2_layout.specs.Inode.{depth_in, is_hashed_in};
+ghost use Rattle.gfs2_layout.specs.Inode.{Fits, depth_in, is_hashed_in};
 ghost use Rattle.glock_names.specs.Steps.{IfIs, IfNeedBlock, IfDamaged, OnlyDamaged};
 ghost use Rattle.glock_names.specs.Views.{HasBlock, IsOfView};
 ghost use Rattle.directories.specs.Shown.{IsDirectoryIn, IsShown};
@@ -108,7 +108,7 @@ fn block_of_hashed<V: View>(
     rest: &[u64],
 ) -> Result<Step<Option<u64>>, CallFault>
     requires short { length name.now ≤ 255 }
-    ensures some { (h : Holding) → IsShown (V.seen view.now) dir h → is_hashed_in h ≡ true → IfIs result (λ found. IfSome found (λ b. Contains (first ∷ rest.now) b × IsOnWay h name.now b)) }
+    ensures some { (h : Holding) → IsShown (V.seen view.now) dir h → is_hashed_in h ≡ true → Fits h → IfIs result (λ found. IfSome found (λ b. Contains (first ∷ rest.now) b × IsOnWay h name.now b)) }
     ensures there { IfIs result (λ found. IfSome found (HasBlock (V.seen view.now))) }
     ensures none { (h : Holding) → IsShown (V.seen view.now) dir h → is_hashed_in h ≡ true → IfIs result (λ found. IfNone found (IsRightBehind (V.seen view.now) h name.now (first ∷ rest.now))) }
     ensures needed { (h : Holding) → IsShown (V.seen view.now) dir h → is_hashed_in h ≡ true → IfNeedBlock result (IsNeededForName (V.seen view.now) h name.now) }
@@ -116,6 +116,7 @@ fn block_of_hashed<V: View>(
     ensures damaged { (h : Holding) → IsShown (V.seen view.now) dir h → is_hashed_in h ≡ true → OnlyDamaged result (IsWrongForName (V.seen view.now) h) }
     ensures kept { OnlyDamaged result (IsOfView (V.seen view.now)) }
 {
+    let _size = view.block_size();
     let table = match TreeTable::of(view, dir)? {
         Step::Is(table) => table,
         Step::NeedBlock(missing) => return Ok(Step::NeedBlock(missing)),

@@ -36,6 +36,7 @@ returns-clause-some g c h shown =
     let v = g.V.View.seen c.args.view.now in
     let is = is_directory_here v c.args.dir h c.requires.directory (answer_at _ _ _ c.in-Is.is c.in_ok-dinode.ensures.there) shown.inode in
     c.block_of_hashed.ensures.some h shown (hashed_here h c.in-Is.dinode (answer_at _ _ _ c.in-Is.is (c.in_ok-dinode.ensures.found h shown.inode)) is (sym c.is_hashed.ensures ∙ c.if-not-is_hashed.false))
+    (answer_at _ _ _ c.in-Is.is (c.in_ok-dinode.ensures.fits h shown.inode))
 
 pub returns-clause-none : goal.returns-clause-none
 returns-clause-none g c h shown =
