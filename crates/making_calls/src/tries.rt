@@ -19,7 +19,7 @@ ghost use Rattle.path_walks.specs.Holds.{AreHeld, IsAskedFor, IsFirstLack, IsUnd
 ghost use Rattle.path_walks.specs.Walks.{IsLastOf, IsSeenAt, LacksName};
 ghost use Rattle.making_calls.specs.Making.{IfMade, IsAnswered, IsDamage, IsFound, IsFullFor, IsLackedFor, IsMade, IsMaking, IsNeededFor, IsReachedIn, IsRefusal, IsStamped, IsToldOf, IsTooFew, IsUnbuilt, TakesForName, call_holds, directory_path, makes_directory};
 
-use crate::blocks::{NewRoom, find_blocks};
+use crate::blocks::{NewRoom, find_blocks, taken_on_way};
 use crate::finds::Found;
 use call_locks::wants;
 use directories::look;
@@ -27,7 +27,7 @@ use drafts::{Attempt, Stamp};
 use file_tree::{Call, Name, Path, Reply};
 use glock_names::{CallFault, Step, View};
 use name_drafts::addition;
-use name_inserts::{block_on_way, need_name};
+use name_inserts::need_name;
 use path_walks::{Place, Walk, nothing, walk_along};
 use resource_groups::group_of;
 use room_search::Locked;
@@ -105,10 +105,12 @@ fn make_with<V: View>(
         Locked::NeedLock { lock, state } => return Ok(Found::NeedLock { lock, state }),
         Locked::NeedBlock(missing) => return Ok(Found::NeedBlock(missing)),
     };
-    match block_on_way(view, place.inode, name.bytes(), room.new.block, &room.rest)? {
-        Step::Is(None) => {}
-        Step::Is(Some(block)) => return Err(CallFault::Damaged { block, rule: 5 }),
+    let on_way = match taken_on_way(view, place.inode, name, &room)? {
+        Step::Is(on_way) => on_way,
         Step::NeedBlock(missing) => return Ok(Found::NeedBlock(missing)),
+    };
+    if let Some(block) = on_way {
+        return Err(CallFault::Damaged { block, rule: 5 });
     }
     let is_directory = is_of_directory(call);
     match addition(

@@ -37,11 +37,13 @@ returns-then-is_one_of-clause-some g c h shown is fits =
     let head = head_at h c.args.name.now c.depth-depth.result c.crc32.result c.index_of.result c.in-Is-2.head c.index_of.ensures.value (c.depth-depth.ensures.value ∙ table.depth) c.crc32.ensures c.index_of.ensures.low
     (answer_at _ _ _ c.in-Is-2.is (c.in_ok-head.ensures.found h table)) in
     let whole : IsBlockSize h.size = subst IsBlockSize (sym shown.inode.size) c.block_size-size.ensures.view.block_size in
-    let directory = and_left (is_directory_in h) (has_hash_flag (dinode_in h)) is in
-    (c.if-is_one_of.ensures.0 refl, elim (entry_below h (omega arith) directory fits (right_table h c.args.name.now c.in-Is.table (g.V.View.seen c.args.view.now) head.low table).size (index_for h c.args.name.now) head.low) [
-      | inl own ↦ its_dinode (head.from ∙ own)
-      | inr below ↦ its_pointer is (subst (IsBelow h) (sym head.from) below) head.from
-    ])
+    let directory = and_left (is_directory_in h) (has_hash_flag (dinode_in h)) is in (
+      c.if-is_one_of.ensures.0 refl,
+      elim (entry_below h (omega arith) directory fits (right_table h c.args.name.now c.in-Is.table (g.V.View.seen c.args.view.now) head.low table).size (index_for h c.args.name.now) head.low) [
+        | inl own ↦ its_dinode (head.from ∙ own)
+        | inr below ↦ its_pointer is (subst (IsBelow h) (sym head.from) below) head.from
+      ],
+    )
 
 pub returns-clause-some : goal.returns-clause-some
 returns-clause-some g c h shown is fits =
