@@ -1,5 +1,5 @@
 -- What is asked for and told of the directory that is to get a name, in an image that the view may be of.
-use Rattle.std.proofs.Common.{◌≡◌, ℕ, true, List, [], ◌∷◌, ◌++◌, Some, inl, inr, sym, ap, subst, ◌∙◌}
+use Rattle.std.proofs.Common.{◌≡◌, ℕ, true, List, [], ◌∷◌, ◌++◌, inl, inr, sym, ap, subst}
 use Rattle.file_tree.specs.Tree.{Tree}
 use Rattle.gfs2_layout.specs.Inode.{is_directory_in}
 use Rattle.glock_names.specs.Views.{Seen}

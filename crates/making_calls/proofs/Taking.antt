@@ -1,7 +1,7 @@
 -- A name made in the directory at the place to which the walk came.
 use Rattle.std.proofs.Common.{◌≡◌, ◌≢◌, inl, Bool, true, false, true≢false, ℕ, ◌+◌, ◌<◌, ◌≤◌, List, [], ◌∷◌, ◌++◌, length, map, None, Some, refl, sym, ap, ◌∙◌, subst, subst₂, arith}
 use Rattle.std.proofs.lemmas.List.{append-nil, length-append, nil_from_length}
-use Rattle.std.proofs.lemmas.List.Elements.{All-append, Contains-append_left, Contains-append_right}
+use Rattle.std.proofs.lemmas.List.Elements.{All-append, Contains-append_left}
 use Rattle.std.specs.FinMap.{get}
 use Rattle.std.specs.Prelude.{Contains, IsSome, is_some}
 use Rattle.cluster_history.specs.Changes.{is_ok}
@@ -30,9 +30,7 @@ use Rattle.call_locks.specs.Wants.{wanted}
 use Rattle.call_locks.specs.WantLaws.{path_of}
 use Rattle.dinode_tree.specs.Reading.{inode_lock}
 use Rattle.directories.specs.Shown.{IsShown}
-use Rattle.directories.specs.Shown as dirs
 use Rattle.hash_dirs.specs.Shown.{IsSound, index_for}
-use Rattle.growth_drafts.specs.Taken.{IsDistinct}
 use Rattle.resource_groups.specs.Putting.{HasDataBlock}
 use Rattle.resource_groups.specs.Shown.{IsDataOf, group_lock, said}
 use Rattle.resource_groups.proofs.Apart.{one_group}
@@ -57,12 +55,12 @@ use Rattle.path_walks.specs.Holds as locks
 use Rattle.path_walks.specs.Holds.{Hold, AreHeld, IsAskedFor, IsFirstLack, hold_for, hold_of, holds, hold_of_group}
 use Rattle.path_walks.specs.Walks.{LeadsTo, IsLastOf, LacksName}
 use Rattle.path_walks.specs.declared.walk.Place.{Place}
-use Rattle.path_walks.proofs.Asked.{IsAmong, name_asked, unread_absent}
-use Rattle.path_walks.proofs.Images.{is_inode, is_shown, says_none, shown_inode, sound_directory}
+use Rattle.path_walks.proofs.Asked.{IsAmong, unread_absent}
+use Rattle.path_walks.proofs.Images.{is_inode, says_none, shown_inode, sound_directory}
 use Rattle.path_walks.proofs.Wants.{exclusive}
 use Rattle.path_walks.proofs.Longer.{asked_before, asked_behind, lack_behind}
 use Rattle.room_search.specs.Blocks.{free_for, free_in_all, group_holds, group_of_node, states_by}
-use Rattle.room_search.specs.Searches.{AreShown, IsFreeUnder, IsGroupBlock, IsUnder}
+use Rattle.room_search.specs.Searches.{IsGroupBlock, IsUnder}
 use Rattle.room_search.specs.declared.search.Locked.{Locked}
 use Rattle.room_search.specs.declared.search.Locked.TheVariants as locked
 use Rattle.room_search.proofs.Holds.{block_under, held_before}

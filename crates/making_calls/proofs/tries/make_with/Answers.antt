@@ -1,4 +1,4 @@
-use Rattle.std.proofs.Common.{◌≡◌, ◌+◌, ℕ, true≢false, List, ◌∷◌, None, Some, refl, sym, ap, ◌∙◌, subst, subst₂}
+use Rattle.std.proofs.Common.{◌+◌, ℕ, true≢false, List, ◌∷◌, None, Some, refl, sym, ap, ◌∙◌, subst, subst₂}
 use Rattle.std.specs.Prelude.{Contains, IfSome, IsSome}
 use Rattle.glock_names.specs.Steps.{TellsOf}
 use Rattle.glock_names.specs.declared.steps.Step.TheVariants.{Is}
