@@ -1,19 +1,13 @@
 -- A hashed directory whose blocks are all on the device is whole; or a block of it is beyond.
-use Rattle.std.proofs.Common.{◌≡◌, ◌≢◌, ℕ, zero, suc, ◌+◌, ◌-◌, ◌*◌, ◌/◌, ◌%◌, ◌<◌, ◌≤◌, ◌⊎◌, inl, inr, Bool, true, false, true≢false, length, Option, None, Some, refl, sym, ap, ◌∙◌, subst, arith}
-use Rattle.std.proofs.lemmas.Bool.{cases_eq, cases_lt, cond-true, cond-false, eq-eqb, ne_eqb, lt-ltb, le-ltb}
-use Rattle.std.proofs.Math.Nat.{mod-lt, div-lt_iff_lt-mul}
+use Rattle.std.proofs.Common.{◌≡◌, ℕ, ◌<◌, ◌≤◌, ◌⊎◌, inl, inr, Bool, true, false, true≢false, Option, None, Some, refl, sym, ap, ◌∙◌, arith}
+use Rattle.std.proofs.lemmas.Bool.{cases_lt, cond-true, cond-false, lt-ltb, le-ltb}
 use Rattle.std.specs.Prelude.{nat_lt, if◌then◌else◌}
 use Rattle.gfs2_layout.specs.Device.{IsBlockSize}
-use Rattle.gfs2_layout.specs.Holding.{Holding}
-use Rattle.gfs2_layout.specs.Inode.{Leads, is_hashed_in, from_dinode, from_block, height_in, header_length, fan, span, pointer, descend, content_block, content_count}
-use Rattle.gfs2_layout.specs.Structures.{dinode_length}
-use Rattle.dinode_tree.specs.Reading.{AreWholeBefore, block_at, reach, target}
-use Rattle.dinode_tree.proofs.Pointers.{leads_somewhere, descend_one, descend_top, descend_zero}
-use Rattle.dinode_tree.proofs.Spans.{span_some}
-use Rattle.image_model.specs.Claims.{every, Claims, below, HasInode, HasDirectory}
+use Rattle.gfs2_layout.specs.Inode.{Leads, is_hashed_in, content_count}
+use Rattle.dinode_tree.specs.Reading.{AreWholeBefore, block_at}
+use Rattle.image_model.specs.Claims.{every, below, HasDirectory}
 use Rattle.image_model.specs.Image.{Image, IsImage}
 use Rattle.image_model.specs.Owners.{Below}
-use Rattle.image_model.proofs.Held.{none_some, some_same}
 use Rattle.name_inserts.proofs.Led.{content_led}
 use Rattle.damage_laws.specs.Telling.{IsAstray}
 use Rattle.damage_laws.proofs.Search.{seek}

@@ -1,11 +1,11 @@
 -- A block that is needed lies out of the device: its number stands in a block that is wrong.
-use Rattle.std.proofs.Common.{◌≡◌, ◌≢◌, ℕ, suc, ◌+◌, ◌*◌, ◌≤◌, ◌<◌, ◌⊎◌, inl, inr, true, List, [], ◌∷◌, ◌++◌, length, replicate, Option, None, Some, refl, sym, ap, ◌∙◌, subst, arith}
+use Rattle.std.proofs.Common.{◌≡◌, ◌≢◌, ℕ, suc, ◌+◌, ◌*◌, ◌≤◌, ◌⊎◌, inl, inr, List, [], ◌∷◌, length, replicate, Option, None, Some, refl, sym, ap, ◌∙◌, subst, arith}
 use Rattle.std.proofs.lemmas.Bool.{cases_Bool, cases_eq, cases_lt, cond-true, cond-false, eq-eqb, ne_eqb, true≢false}
 use Rattle.std.proofs.lemmas.List.{get_or-drop, get_or-take, get_or_past, length-replicate, length-take}
 use Rattle.std.specs.Int.{from_be_bytes, w32}
 use Rattle.growth_laws.proofs.Bytes.{byte, zero_byte}
 use Rattle.directories.proofs.Forms.{linear_here}
-use Rattle.std.specs.Prelude.{false, codes, ◌==◌, ◌&&◌, ◌/◌, ◌%◌, take, drop, get_or, if◌then◌else◌}
+use Rattle.std.specs.Prelude.{false, ◌==◌, ◌&&◌, ◌/◌, ◌%◌, take, drop, get_or, if◌then◌else◌}
 use Rattle.call_locks.specs.declared.want.Want.{Want}
 use Rattle.call_locks.specs.Wants.{wanted}
 use Rattle.call_locks.specs.WantLaws.{path_of}
@@ -19,7 +19,7 @@ use Rattle.file_tree.specs.declared.call.Call.TheVariants as calls
 use Rattle.gfs2_layout.specs.Bytes.{number_at, u32_at, u64_at}
 use Rattle.gfs2_layout.specs.Device.{superblock_place}
 use Rattle.gfs2_layout.specs.Holding.{Holding}
-use Rattle.gfs2_layout.specs.Inode.{Leads, from_dinode, from_block, has_hash_flag, header_length, height_in, dinode_in, is_hashed_in, span}
+use Rattle.gfs2_layout.specs.Inode.{Leads, from_dinode, from_block, has_hash_flag, header_length, dinode_in, is_hashed_in, span}
 use Rattle.gfs2_layout.specs.Structures.{dinode_length, dinode_of, is_directory as says_directory}
 use Rattle.glock_names.specs.Views.{Seen, HasBlock}
 use Rattle.glock_names.specs.declared.steps.Missing.{Missing}
@@ -273,7 +273,7 @@ module _ (v : Seen) (im : Image) (read : IsReadFrom v im) (whole : HasWholeGroup
 
   making_out : (call : Call) (m : Missing) → making.IsNeededFor v call m → im.count ≤ m.block → Source (wanted call) (path_of call false) m
   making_out call m (making.on_path unread) out = above_out call m (unread_out (wanted call) (making.directory_path call) m unread out)
-  making_out call m (making.to_look a below leads there directory absent needs) out =
+  making_out call m (making.to_look a named leads there directory absent needs) out =
       above_out call m (directory_out (wanted call) (making.directory_path call) a m leads directory absent (λ h seen. name_way h (making.name_in call) m out (needs h seen)) out)
   making_out call m (making.to_insert gets absent needs) out =
       above_out call m (directory_out (wanted call) (making.directory_path call) gets.directory m gets.leads gets.lacks.directory absent (λ h seen. insert_way h (making.name_in call) m out (needs h seen)) out)
