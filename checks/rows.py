@@ -4,8 +4,8 @@ It makes each image with the program's own `mkfs`, and lays files and patches ov
 (docs/FORMAT.md), without any of the project's code. Rows in which calls fail or writes in flight are settled are left out and
 counted. PROGRAM may name another program than crates/gfs2run/out/gfs2run. Ends with status 1 where a row differs.
 
-Each image of which a row says what `show` prints afterwards is judged by the distribution's fsck.gfs2 too, where that is there
-(checks/fsck.py), but for those that the row itself has patched.
+Each image of which a row says what `show` prints afterwards, or on which a thousand calls ran, is judged by the distribution's
+fsck.gfs2 too, where that is there (checks/fsck.py), but for those that the row itself has patched.
 """
 import os
 import re
@@ -127,6 +127,11 @@ def expanded(image, lines):
                 out.append(braced(image, piece, k + 1, times - k) if i % 2 else escaped(piece))
             out.append(end)
     return b"".join(out)
+
+
+def is_judged(command):
+    lines = [line for _, block in command for line in block]
+    return any(item[0] == "shows" for item in command) or any(re.match(r"\\times [0-9]{4} c:", line) for line in lines)
 
 
 def braced(image, words, up, down):
@@ -457,7 +462,7 @@ class Book:
             if word == "do" or word in CHANGES:
                 if command:
                     told += self.command(base, image, command)
-                    if not is_patched and any(it[0] == "shows" for it in command):
+                    if not is_patched and is_judged(command):
                         told += self.judge(image)
                 command = []
             if word in CHANGES:

@@ -1,17 +1,17 @@
 -- What was done over a view by a draft that makes a name, and what became of each block. `named` is the draft with the directory, `third` that with the
 -- new inode, and `said.fates` that with the groups.
-use Rattle.std.proofs.Common.{◌≡◌, ◌≢◌, ◌⊎◌, inl, inr, Bool, false, true≢false, ℕ, ◌+◌, ◌-◌, ◌<◌, List, [], ◌∷◌, None, Some, refl, sym, ap, ◌∙◌, subst, arith}
-use Rattle.std.proofs.lemmas.Bool.{cases_Bool, cases_eq, cases_lt}
+use Rattle.std.proofs.Common.{◌≡◌, ◌≢◌, ◌⊎◌, inl, inr, Bool, false, ℕ, ◌+◌, ◌-◌, ◌<◌, List, [], ◌∷◌, None, Some, refl, sym, ap, ◌∙◌, subst, arith}
+use Rattle.std.proofs.lemmas.Bool.{cases_eq, cases_lt}
 use Rattle.std.proofs.lemmas.List.Elements.{Contains-append_left, Contains-append_right, Contains-append_cases}
-use Rattle.std.specs.Prelude.{Contains, is_some}
+use Rattle.std.specs.Prelude.{Contains}
 use Rattle.std.specs.Ordering.{nat_cmp}
-use Rattle.std.specs.FinMap.{FinMap, get, insert, get-empty}
+use Rattle.std.specs.FinMap.{FinMap, get, insert}
 use Rattle.drafts.specs.Fates.{seen_with}
 use Rattle.drafts.specs.declared.change.Change.{Change}
 use Rattle.drafts.specs.declared.fate.Fate.{Fate}
 use Rattle.drafts.specs.declared.fate.Fate.TheVariants.{Put}
 use Rattle.gfs2_layout.specs.Groups.{group_header, uncounted}
-use Rattle.gfs2_layout.specs.Holding.{Holding, alone, bytes_at}
+use Rattle.gfs2_layout.specs.Holding.{alone}
 use Rattle.gfs2_layout.specs.Structures.{dinode_of}
 use Rattle.gfs2_layout.specs.declared.dinode.Dinode.{Dinode}
 use Rattle.glock_names.specs.Views.{Seen, HasGroup, IsView}
@@ -19,7 +19,6 @@ use Rattle.glock_names.specs.declared.LockName.{LockName}
 use Rattle.glock_names.specs.declared.steps.Entry.{Entry}
 use Rattle.glock_names.specs.declared.views.Group.{Group}
 use Rattle.dinode_tree.specs.Reading.{inode_lock}
-use Rattle.directories.specs.Shown.{IsShown}
 use Rattle.resource_groups.specs.Freeing.{HasSome, SaysStateOfSome}
 use Rattle.resource_groups.specs.Putting.{ArePutIn, HasDataBlock, SaysStateOf, overlaid, seen_or}
 use Rattle.resource_groups.specs.Shown.{IsDataOf, IsHeaderOf, first_place, group_lock}
@@ -35,7 +34,6 @@ use Rattle.image_changes.proofs.Inside.{stay_inside}
 use Rattle.path_walks.proofs.Lying.{data_lies, header_lies}
 use Rattle.path_walks.specs.declared.walk.Place.{Place}
 use Rattle.hash_inserts.specs.Inserting.{MayChange, a_data_block, a_taken_one, the_dinode}
-use Rattle.name_inserts.specs.Inserting.{CanGetName}
 use Rattle.name_drafts.specs.Drafting.{CountsNumber, HasTimes, IsNewOf, IsPutUnder, PutsUnder, entry_for, header_in, of_directory, of_group, of_inode}
 use Rattle.name_drafts.specs.Steps.{IsNamePut, IsSaidAndDone, LeavesGroups}
 use Rattle.name_drafts.specs.declared.drafting.NewBlock.{NewBlock}
