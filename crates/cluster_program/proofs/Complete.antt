@@ -84,7 +84,7 @@ module _ (words : List (List ℕ)) (given left : Inputs) (sinks sinks_now : Outp
   of_run may s time items what own (NotMounted own' none_yet same ends) = of_mount may own ends
   of_run may s time items what own (CallFailed m block x y for root up within at) = absurd (none.disk 1 (rose (given.disk_faults 1) (left.disk_faults 1) x y up))
   of_run may s time items what own (CallUnbuilt m place for never at) = absurd (never may.is.tells may.tree may.is.stands)
-  of_run may s time items what own (CallDamaged m block rule for never at told) = absurd (never may.is.tells may.tree may.is.stands)
+  of_run may s time items what own (CallDamaged m block rule for never at) = absurd (never may.is.tells may.tree may.is.stands)
   of_run may s time items what own (runs.NoRoom what') = inr refl
 
   -- an image that fits its device

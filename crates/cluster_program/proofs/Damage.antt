@@ -23,7 +23,7 @@ inside_yet : (n v : Lone) → v.root ≡ n.root → v.groups ≡ n.groups → Ha
 inside_yet n v root groups inside = (inside.0, subst (λ (gs : List Group). Contains gs inside.0) (sym groups) inside.1, subst (IsDataOf inside.0) (sym root) inside.2)
 
 pub told : (calls : CallsTellExactly) (needs : NeedsTell) (read : MountedAreRead) (given left : DiskState) (m : MountedValue) (call : Call) (b rule : ℕ) → OfImage left IsImage
-    → HasRootInside (seen_alone (as_mounted given m)) → IsDamagedOn left (as_mounted given m) call b rule → OfImage left (λ im. IsMounted im m → IsToldBroken im rule b)
+    → HasRootInside (seen_alone (as_mounted given m)) → (shown : IsDamagedOn left (as_mounted given m) call b rule) → OfImage left (λ im. IsMounted im m → IsToldBroken (seen_alone shown.view) im call rule b)
 told calls needs read given left m call b rule image inside damaged tells mounted = by_view b rule damaged.damaged
   where
     of_mounted : IsOfMounted (seen_alone damaged.view) (image_of left) m
@@ -37,14 +37,14 @@ told calls needs read given left m call b rule image inside damaged tells mounte
     there x (inl is) = subst (λ y. y < left.count) (sym is) mounted.found.groups.list.master.format.super.inside
     there x (inr has) = damaged.later.on.inside x has.0 has.1
 
-    shown : (rule b : ℕ) → HasBlock (seen_alone damaged.view) b → IsTold (seen_alone damaged.view) (image_of left) (wanted call) (path_of call false) rule b → IsToldBroken (image_of left) rule b
+    shown : (rule b : ℕ) → HasBlock (seen_alone damaged.view) b → IsTold (seen_alone damaged.view) (image_of left) (wanted call) (path_of call false) rule b → IsToldBroken (seen_alone damaged.view) (image_of left) call rule b
     shown _ _ has (telling.itself rule b breaks) = itself (record { breaks = breaks; there = inl (there b (inr has)) })
-    shown _ _ has (telling.astray rule b out) = beyond out.directory out.block out.astray
+    shown _ _ has (telling.astray rule b out) = beyond out
 
-    by_view : (b rule : ℕ) → IsDamagedFor left (seen_alone damaged.view) call b rule → IsToldBroken (image_of left) rule b
+    by_view : (b rule : ℕ) → IsDamagedFor left (seen_alone damaged.view) call b rule → IsToldBroken (seen_alone damaged.view) (image_of left) call rule b
     by_view _ _ (as_shown b rule has damage) =
         shown rule b has (calls (seen_alone damaged.view) (image_of left) call rule b from.0 from.1 (inside_yet (as_mounted given m) damaged.view damaged.later.same.root damaged.later.same.groups inside) damage)
     by_view _ _ (leads_out m needed out) = elim (needs (seen_alone damaged.view) (image_of left) call m from.0 from.1 needed out) [
       | inl source ↦ itself (record { breaks = source.breaks; there = inl (there (source_of left.size m) source.there) })
-      | inr astray ↦ beyond astray.directory astray.block astray.astray
+      | inr astray ↦ beyond astray
     ]

@@ -65,7 +65,7 @@ module _ (given left : Inputs) (sinks sinks_now : Outputs) where
   run_fault s time items what own (NotMounted own' none same ends) = mount_fault own ends
   run_fault s time items what own (CallFailed m block x y for root up within at) = up
   run_fault s time items what own (CallUnbuilt m place for none at) = tt
-  run_fault s time items what own (CallDamaged m block rule for never at told) = tt
+  run_fault s time items what own (CallDamaged m block rule for never at) = tt
   run_fault s time items what own (runs.NoRoom what') = tt
 
   make_fault : (make : MakeWords) (own : Status) → Makes make given left own → FaultHasCause given left sinks sinks_now own

@@ -86,13 +86,6 @@ module _ (clients : List Client) (lines : List Line) (items : List TraceItem) (P
   pub call_from : {A B : Call → Type 0} → ((call : Call) → A call → B call) → EndsAtCall A clients lines items P → EndsAtCall B clients lines items Q
   call_from {A} {B} f at = record { count = at.count; ends = ends_from {A = A} {B = B} at.count f at.ends }
 
--- where a run ended at a call of which this holds, something that doesn't depend on the call follows
-by_call : {A : Call → Type 0} {R : Type 0} (l : Line) → ((call : Call) → A call → R) → IsCallThat A l → R
-by_call (line.Call client call) f holds = f call holds
-by_call line.Wait f holds = absurd holds
-by_call (line.Crash nodes) f holds = absurd holds
-by_call (line.Join node) f holds = absurd holds
-
 -- ---- what one node's run is known to be
 
 pub record HasRun (d d' : DiskState) (list list' : Option (List Operation)) (n : Lone) (before now : ℕ → ℕ) (s : ScriptValue) (time : ℕ) (items : List TraceItem) (r : Result (Unit {0}) RunEnd) : Type 0 where
@@ -153,8 +146,7 @@ module _ (given left : Inputs) (m : MountedValue) (s : ScriptValue) (time : ℕ)
         (call_from s.clients s.lines items (StandsFor given.disk n) (IsImageOf given.disk) from (λ call holds. holds) r.failed)
     call_end (end.Damaged block rule) image r =
         CallDamaged m block rule for (λ tells tree stands. r.sound tree (from tree (record { tells = tells; stands = stands })))
-        (call_from s.clients s.lines items (StandsFor given.disk n) (IsImageOf given.disk) from (λ call holds. holds) r.damaged)
-        (by_call r.damaged.ends.next (λ call damaged. told calls needs read given.disk left.disk m call block rule image inside damaged) r.damaged.ends.holds)
+        (call_from s.clients s.lines items (StandsFor given.disk n) (IsImageOf given.disk) from (λ call shown. record { shown = shown; told = told calls needs read given.disk left.disk m call block rule image inside shown }) r.damaged)
     call_end (end.NotBuilt place) image r =
         CallUnbuilt m place for (λ tells tree stands. r.built tree (from tree (record { tells = tells; stands = stands })))
         (ends_from s.clients s.lines items (StandsFor given.disk n) (IsImageOf given.disk) from place (λ call holds. holds) r.unbuilt)
@@ -296,5 +288,5 @@ no_run_fault given left s time items what own (IsDone m all whole) never = never
 no_run_fault given left s time items what own (NotMounted own' none same ends) never = no_mount_fault given.disk given.disk_faults left.disk_faults own ends never
 no_run_fault given left s time items what own (CallFailed m block x y for root up within at) never = never
 no_run_fault given left s time items what own (CallUnbuilt m place for none at) never = never
-no_run_fault given left s time items what own (CallDamaged m block rule for none at told) never = never
+no_run_fault given left s time items what own (CallDamaged m block rule for none at) never = never
 no_run_fault given left s time items what own (NoRoom what') never = never

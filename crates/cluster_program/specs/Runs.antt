@@ -1,10 +1,13 @@
 -- How a run of a script goes, and how it ends.
-use Rattle.std.specs.Prelude.{ℕ, ◌≡◌, ◌≢◌, ◌+◌, ◌<◌, ⊤, true, IfSome, IsSome, List, [], length, slice_get, Option, None, Some}
+use Rattle.std.specs.Prelude.{ℕ, ◌≡◌, ◌≢◌, ◌+◌, ◌<◌, ⊤, true, false, IfSome, IsSome, List, [], length, slice_get, Option, None, Some}
 use Rattle.std.specs.FinMap.{empty}
 use Rattle.fault_counts.specs.Causes.{WentUp}
+use Rattle.call_locks.specs.WantLaws.{path_of}
+use Rattle.call_locks.specs.Wants.{wanted}
 use Rattle.file_tree.specs.Tree.{Tree}
 use Rattle.file_tree.specs.declared.call.Call.{Call}
 use Rattle.cluster_history.specs.History.{Legal, NoneLost, tree_of}
+use Rattle.glock_names.specs.Views.{Seen}
 use Rattle.image_model.specs.Image.{Image, image_of}
 use Rattle.image_model.specs.Rules.{IsBrokenBlock}
 use Rattle.image_mount.specs.Mounted.{Journal, MountedValue, IsMounted}
@@ -14,7 +17,7 @@ use Rattle.run_rules.specs.Follows.{history_of}
 use Rattle.run_rules.specs.History.{HoldsHistory, NoneStopped, AllAnswered}
 use Rattle.shared_disk.specs.Disk.{DiskState, IsIdle}
 use Rattle.lone_view.specs.Seeing.{Lone, seen_alone}
-use Rattle.damage_laws.specs.Telling.{HasRootInside, IsAstray}
+use Rattle.damage_laws.specs.Telling.{HasAstray, HasRootInside}
 use Rattle.lone_node.specs.Answering.{IsDamagedOn, IsSameDisk, IsUnbuiltOn}
 use Rattle.lone_node.specs.Course.{IsCourse, moment}
 use Rattle.lone_node.specs.Run.{EndsAt, EndsAtCall, HasChangedNothing, IsFailedOn, IsRunOf, IsWholeRun}
@@ -40,11 +43,17 @@ AtPlace given s items place P = EndsAt place P s.clients s.lines items (IsImageO
 abbrev pub first_line : ScriptValue → ℕ
 first_line s = 2 + length s.clients + length s.armed
 
--- What a call tells as damage: a block that breaks this rule. But where a hashed directory has a block that is beyond the device, that is broken, and what
--- is told may be another block.
-pub data IsToldBroken (im : Image) (rule block : ℕ) : Type 0 where
-  itself : IsBrokenBlock im rule block → IsToldBroken im rule block
-  beyond : (a x : ℕ) → IsAstray im a x → IsToldBroken im rule block
+-- What this call tells as damage: a block that breaks this rule. But where a hashed directory on its path, as the view shows this, has a block that is beyond
+-- the device, that is broken, and what is told may be another block.
+pub data IsToldBroken (v : Seen) (im : Image) (call : Call) (rule block : ℕ) : Type 0 where
+  itself : IsBrokenBlock im rule block → IsToldBroken v im call rule block
+  beyond : HasAstray v im (wanted call) (path_of call false) → IsToldBroken v im call rule block
+
+-- The call meets a block that breaks this rule, as what the node may have read by then shows it; and that is so of the image as it then was, if this still has
+-- what was mounted of it.
+pub record MeetsDamage (given left : DiskState) (m : MountedValue) (block rule : ℕ) (call : Call) : Type 0 where
+  pub shown : IsDamagedOn left (as_mounted given m) call block rule
+  pub told : OfImage left (λ im. IsMounted im m → IsToldBroken (seen_alone shown.view) im call rule block)
 
 -- How a run of what was mounted ends, if anything was: each line is answered and the node has unmounted; the image was not mounted, before the first item; or, in a call
 -- behind the lines above it: the disk failed as its blocks were read or written; the call isn't built for what stands there, in an image that stands for no
@@ -57,8 +66,8 @@ pub data RunEnds (given left : Inputs) (s : ScriptValue) (time : ℕ) (items : L
       → AtCall given s items (λ call. IsFailedOn (moment given.disk given.disk_list) (moment left.disk left.disk_list) (as_mounted given.disk m) time s.clients items call block) → RunEnds given left s time items (Some m) (status.DeviceFault 1 block x y)
   CallUnbuilt : (m : MountedValue) (place : ℕ) → IsMountedFor given.disk m → OfImage given.disk NeverStands → AtPlace given s items place (λ call. IsUnbuiltOn left.disk (as_mounted given.disk m) call)
       → RunEnds given left s time items (Some m) (status.NotBuilt (part.Script (first_line s + place)))
-  CallDamaged : (m : MountedValue) (block rule : ℕ) → IsMountedFor given.disk m → OfImage given.disk NeverStands → AtCall given s items (λ call. IsDamagedOn left.disk (as_mounted given.disk m) call block rule)
-      → OfImage left.disk (λ im. IsMounted im m → IsToldBroken im rule block) → RunEnds given left s time items (Some m) (status.Damaged block rule)
+  CallDamaged : (m : MountedValue) (block rule : ℕ) → IsMountedFor given.disk m → OfImage given.disk NeverStands → AtCall given s items (MeetsDamage given.disk left.disk m block rule)
+      → RunEnds given left s time items (Some m) (status.Damaged block rule)
   NoRoom : (what : Option MountedValue) → RunEnds given left s time items what status.NoMemory
 
 -- This was mounted, its root is in one of its groups, and the items are the course of a run from what was given to what is left: each of its calls is a step, at this time.

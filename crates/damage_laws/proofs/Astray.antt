@@ -1,66 +1,16 @@
 -- A hashed directory whose blocks are all on the device is whole; or a block of it is beyond.
-use Rattle.std.proofs.Common.{◌≡◌, ◌≢◌, ℕ, zero, suc, ◌+◌, ◌-◌, ◌*◌, ◌/◌, ◌%◌, ◌<◌, ◌≤◌, ◌⊎◌, inl, inr, Bool, true, false, true≢false, length, Option, None, Some, refl, sym, ap, ◌∙◌, subst, arith}
-use Rattle.std.proofs.lemmas.Bool.{cases_eq, cases_lt, cond-true, cond-false, eq-eqb, ne_eqb, lt-ltb, le-ltb}
-use Rattle.std.proofs.Math.Nat.{mod-lt, div-lt_iff_lt-mul}
+use Rattle.std.proofs.Common.{◌≡◌, ℕ, ◌<◌, ◌≤◌, ◌⊎◌, inl, inr, Bool, true, false, true≢false, Option, None, Some, refl, sym, ap, ◌∙◌, arith}
+use Rattle.std.proofs.lemmas.Bool.{cases_lt, cond-true, cond-false, lt-ltb, le-ltb}
 use Rattle.std.specs.Prelude.{nat_lt, if◌then◌else◌}
 use Rattle.gfs2_layout.specs.Device.{IsBlockSize}
-use Rattle.gfs2_layout.specs.Holding.{Holding}
-use Rattle.gfs2_layout.specs.Inode.{Leads, is_hashed_in, from_dinode, from_block, height_in, header_length, fan, span, pointer, descend, content_block, content_count}
-use Rattle.gfs2_layout.specs.Structures.{dinode_length}
-use Rattle.dinode_tree.specs.Reading.{AreWholeBefore, block_at, reach, target}
-use Rattle.dinode_tree.proofs.Pointers.{leads_somewhere, descend_one, descend_top, descend_zero}
-use Rattle.dinode_tree.proofs.Spans.{span_some}
-use Rattle.image_model.specs.Claims.{every, Claims, below, HasInode, HasDirectory}
+use Rattle.gfs2_layout.specs.Inode.{Leads, is_hashed_in, content_count}
+use Rattle.dinode_tree.specs.Reading.{AreWholeBefore, block_at}
+use Rattle.image_model.specs.Claims.{every, below, HasDirectory}
 use Rattle.image_model.specs.Image.{Image, IsImage}
 use Rattle.image_model.specs.Owners.{Below}
-use Rattle.image_model.proofs.Held.{none_some, some_same}
+use Rattle.name_inserts.proofs.Led.{content_led}
 use Rattle.damage_laws.specs.Telling.{IsAstray}
 use Rattle.damage_laws.proofs.Search.{seek}
-
--- some pointer of the inode leads there
-abbrev pub IsLed : Holding → ℕ → Type 0
-IsLed h b = (from k level first : ℕ) × Leads h from k level first b
-
--- a block of content below one that is led to
-led_down : (h : Holding) → 512 ≤ h.size → (level b i from k first : ℕ) → Leads h from k level first b → i < span h.size level → descend h level b i ≢ 0 → IsLed h (descend h level b i)
-led_down h large zero b i from k first leads low some = (from, k, 0, first, leads)
-led_down h large (suc level) b i from k first leads low some =
-    let j = i / span h.size level in
-    let p = pointer h header_length b j in
-    let rest = i % span h.size level in
-    let down : descend h (suc level) b i ≡ descend h level p rest = descend_one h level b i (leads_somewhere h from k (suc level) first b leads) in
-    let there : p ≢ 0 = λ none. some (down ∙ ap (λ c. descend h level c rest) none ∙ descend_zero h level rest) in
-    let next = from_block from k level first b j leads ((div-lt_iff_lt-mul (span_some h.size level large)).1 low) there in
-    subst (IsLed h) (sym down) (led_down h large level p rest b j (first + j * span h.size level) next (mod-lt i (span_some h.size level large)) (λ none. some (down ∙ none)))
-
-within_reach : (h : Holding) (i b : ℕ) → block_at h i ≡ Some b → (i < reach h.size (height_in h)) × (content_block h i ≡ b) × (b ≢ 0)
-within_reach h i b is = elim (cases_lt i (reach h.size (height_in h))) [
-  | inr past ↦ absurd (none_some (sym (cond-false _ _ _ (le-ltb i (reach h.size (height_in h)) past)) ∙ is))
-  | inl low ↦
-      let here : target (content_block h i) ≡ Some b = sym (cond-true _ _ _ (lt-ltb i (reach h.size (height_in h)) low)) ∙ is in
-      elim (cases_eq (content_block h i) 0) [
-        | inl none ↦ absurd (none_some (sym (cond-true _ _ _ (eq-eqb (content_block h i) 0 none)) ∙ here))
-        | inr some ↦ let same = some_same (sym (cond-false _ _ _ (ne_eqb (content_block h i) 0 some)) ∙ here) in (low, same, λ z. some (same ∙ z))
-      ]
-]
-
-pub content_led : (h : Holding) → 512 ≤ h.size → (i b : ℕ) → block_at h i ≡ Some b → IsLed h b
-content_led h large i b is = by (height_in h) refl
-  where
-    at : (i < reach h.size (height_in h)) × (content_block h i ≡ b) × (b ≢ 0)
-    at = within_reach h i b is
-
-    by : (n : ℕ) → height_in h ≡ n → IsLed h b
-    by zero flat = absurd (omega (arith, subst (λ n. i < reach h.size n) flat at.0))
-    by (suc level) high =
-        let k = i / span h.size level in
-        let p = pointer h dinode_length h.own k in
-        let rest = i % span h.size level in
-        let down : content_block h i ≡ descend h level p rest = descend_top h level i high in
-        let some : descend h level p rest ≢ 0 = λ none. at.2 (sym at.1 ∙ down ∙ none) in
-        let there : p ≢ 0 = λ none. some (ap (λ c. descend h level c rest) none ∙ descend_zero h level rest) in
-        let low : k < fan h.size dinode_length = (div-lt_iff_lt-mul (span_some h.size level large)).1 (subst (λ n. i < reach h.size n) high at.0) in
-        subst (IsLed h) (sym down ∙ at.1) (led_down h large level p rest h.own k (k * span h.size level) (from_dinode k level high low there) (mod-lt i (span_some h.size level large)) some)
 
 -- ---- of an image
 

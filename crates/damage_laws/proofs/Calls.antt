@@ -1,13 +1,15 @@
 -- Damage that a call meets beside its path: at the root, below an inode that goes, and in groups.
 use Rattle.std.proofs.Common.{◌≡◌, ℕ, zero, suc, ◌+◌, ◌⊎◌, inl, inr, List, [], ◌++◌, refl, sym, ◌∙◌, subst, arith}
-use Rattle.std.specs.Prelude.{false}
+use Rattle.std.specs.Prelude.{true, false}
 use Rattle.call_locks.specs.declared.want.Want.{Want}
 use Rattle.dinode_tree.specs.Below.{IsLedFrom}
-use Rattle.dinode_tree.specs.Shown.{IsShown}
 use Rattle.directories.specs.Shown as dirs
 use Rattle.gfs2_layout.specs.Holding.{Holding}
+use Rattle.gfs2_layout.specs.Inode.{first_hash}
+use Rattle.hash_dirs.specs.Shown.{index_for}
 use Rattle.hash_inserts.specs.Inserting as inserts
 use Rattle.name_inserts.specs.Inserting as names
+use Rattle.name_inserts.specs.Way.{IsOnWay, its_dinode, its_leaf, its_pointer}
 use Rattle.file_tree.specs.declared.call.Call.{Call}
 use Rattle.file_tree.specs.declared.call.Call.TheVariants as calls
 use Rattle.call_locks.specs.Wants.{wanted}
@@ -22,10 +24,11 @@ use Rattle.glock_names.specs.declared.views.Group.{Group}
 use Rattle.resource_groups.specs.Putting.{HasDataBlock}
 use Rattle.resource_groups.specs.Shown as group
 use Rattle.image_model.specs.Claims as image
-use Rattle.image_model.specs.Claims.{every, below, HasDirectory, HasInode}
+use Rattle.image_model.specs.Claims.{every, Claims, below, HasDirectory, HasInode}
 use Rattle.image_model.specs.Flat.{Path}
+use Rattle.image_model.specs.Groups.{state_of}
 use Rattle.image_model.specs.Image.{Image, IsImage}
-use Rattle.image_model.specs.Owners.{Root, Below}
+use Rattle.image_model.specs.Owners.{Owner, Root, Below, Chained, is_dinode}
 use Rattle.image_model.specs.Rules.{Breaks, of_group, of_bitmap, of_owner, no_header, beyond_groups, bits_of, free_count, dinode_count, wrong_bits}
 use Rattle.path_walks.specs.Walks.{LeadsTo, at_root, by_name}
 use Rattle.making_calls.specs.Making as making
@@ -33,7 +36,7 @@ use Rattle.path_walks.specs.Walks as path
 use Rattle.removing_calls.specs.Removing as removing
 use Rattle.writing_calls.specs.Writing as writing
 use Rattle.damage_laws.specs.Telling.{IsAstray, IsReadFrom, HasRootInside, HasWholeGroups, HasAstray, IsTold, itself, astray, IsToldOf, on_path, by_root, WritesTell, WritesTellExactly, RemovalsTell, RemovalsTellExactly, MakingsTell, MakingsTellExactly, CallsTell, CallsTellExactly}
-use Rattle.damage_laws.proofs.Claimed.{shown, root_claimed, directory_or, is_directory, led_there, outside, astray_at, further}
+use Rattle.damage_laws.proofs.Claimed.{chain_claims, shown, root_claimed, directory_or, is_directory, led_there, outside, astray_at, further}
 use Rattle.damage_laws.proofs.Owned.{dinode_state, from_parent, record_told, shared_told}
 use Rattle.damage_laws.proofs.Paths.{broken_directory_told, broken_inode, paths_tell, wrong_at}
 
@@ -147,17 +150,36 @@ module _ (v : Seen) (im : Image) (call : Call) (read : IsReadFrom v im) (whole :
     | inl has ↦ wrong_at v im read whole.image (wanted call) (making.directory_path call) a (λ out. astray_at v im read whole.image (wanted call) (making.directory_path call) a leads out) has rule b wrong
   ]
 
-  -- the directory's own block, which its group's bits call free
-  called_free_told : (a : ℕ) → HasInode im a → making.IsCalledFree v a → Breaks im 5 a
-  called_free_told a has free =
+  -- a block with an owner, which its group's bits call free
+  owned_free_told : (x by : ℕ) (o : Owner) → Claims im by x o → (state_of o ≡ 0 → ⊥) → making.IsCalledFree v x → Breaks im 5 x
+  owned_free_told x by o claimed used free =
       let listed = (read.groups free.group).0 free.has in
-      let within : group.IsDataOf (group_of_entry listed.0) a = subst (λ k. group.IsDataOf k a) listed.2 free.data_block in
-      let bits : bits_of im listed.0 a ≡ 0 = subst (λ k. group.said im.at k a ≡ 0) listed.2 (free.free im.at (λ k there. group_shown v im read whole k there)) in
-      wrong_bits listed.0 a listed.1 (record { low = within.low; high = within.high })
-      (of_owner has.1.by has.0 has.1.claimed (λ e. no_dinode (bits_of im listed.0 a) bits (e ∙ dinode_state has.0 has.1.dinode)))
-    where
-      no_dinode : (n : ℕ) → n ≡ 0 → n ≡ 3 → ⊥
-      no_dinode n free dinode = absurd (omega (arith, free, dinode))
+      let within : group.IsDataOf (group_of_entry listed.0) x = subst (λ k. group.IsDataOf k x) listed.2 free.data_block in
+      let bits : bits_of im listed.0 x ≡ 0 = subst (λ k. group.said im.at k x ≡ 0) listed.2 (free.free im.at (λ k there. group_shown v im read whole k there)) in
+      wrong_bits listed.0 x listed.1 (record { low = within.low; high = within.high }) (of_owner by o claimed (λ e. used (sym e ∙ bits)))
+
+  dinode_used : (o : Owner) → is_dinode o ≡ true → state_of o ≡ 0 → ⊥
+  dinode_used o is none = let three : state_of o ≡ 3 = dinode_state o is in absurd (omega (arith, three, none))
+
+  -- one on the way to a name
+  way_free_told : (a : ℕ) → HasInode im a → (name : List ℕ) (x : ℕ) → IsOnWay (every im a) name x → making.IsCalledFree v x → Breaks im 5 x
+  way_free_told a has name x (its_dinode is) free =
+      subst (Breaks im 5) (sym is) (owned_free_told a has.1.by has.0 has.1.claimed (dinode_used has.0 has.1.dinode) (subst (making.IsCalledFree v) is free))
+  way_free_told a has name x (its_pointer hashed led is) free =
+      owned_free_told x led.0 (Below a led.0 led.1 led.2 led.3) (below has.1.by a has.0 led.0 led.1 led.2 led.3 x has.1.claimed has.1.dinode led.4) (λ none. absurd (let one : 1 ≡ 0 = none in omega (arith, one))) free
+  way_free_told a has name x (its_leaf place hashed chain) free =
+      let claim = chain_claims im a has hashed (index_for (every im a) name) place x chain in
+      owned_free_told x claim.0 (Chained a (first_hash (every im a) (index_for (every im a) name)) place) claim.1 (λ none. absurd (let one : 1 ≡ 0 = none in omega (arith, one))) free
+
+  free_on_way_told : (gets : making.IsToGetName v call) (x : ℕ) → ((h : Holding) → dirs.IsShown v gets.directory h → IsOnWay h (making.name_in call) x) → making.IsCalledFree v x
+      → IsTold v im (wanted call) (making.directory_path call) 5 x
+  free_on_way_told gets x on free = elim (led_there v im read whole.image (wanted call) (making.directory_path call) gets.directory gets.leads) [
+    | inr ahead ↦ astray 5 x ahead
+    | inl has ↦ elim (directory_or v im read whole.image gets.directory (is_directory v im read whole.image gets.directory has gets.lacks.directory)) [
+      | inr out ↦ astray 5 x (astray_at v im read whole.image (wanted call) (making.directory_path call) gets.directory gets.leads out)
+      | inl seen ↦ itself 5 x (way_free_told gets.directory has (making.name_in call) x (on (every im gets.directory) seen) free)
+    ]
+  ]
 
   -- what stands in the directory for the name
   name_told : (gets : making.IsToGetName v call) (rule b : ℕ) → ((h : Holding) → dirs.IsShown v gets.directory h → names.IsWrongForName v h rule b) → IsTold v im (wanted call) (making.directory_path call) rule b
@@ -184,10 +206,7 @@ module _ (v : Seen) (im : Image) (call : Call) (read : IsReadFrom v im) (whole :
   makings_told rule b (making.in_directory a r x leads wrong) = on_directory_path r x (in_directory_told a r x leads wrong)
   makings_told rule b (making.for_name r x gets wrong) = on_directory_path r x (name_told gets r x wrong)
   makings_told rule b (making.in_group r x gets broken) = on_path r x (itself r x (group_told v im read whole broken.group broken.has r x broken.broken))
-  makings_told rule b (making.called_free a gets leads free) = elim (led_there v im read whole.image (wanted call) (making.directory_path call) a leads) [
-    | inr ahead ↦ on_directory_path 5 a (astray 5 a ahead)
-    | inl has ↦ on_directory_path 5 a (itself 5 a (called_free_told a has free))
-  ]
+  makings_told rule b (making.called_free x gets on free) = on_directory_path 5 x (free_on_way_told gets x on free)
   makings_told rule b (making.no_data_block a leads out) = root_told v im read call (making.directory_path call) a whole.image leads out
 
 pub makings_tell : MakingsTell

@@ -1,12 +1,12 @@
 -- What a view shows is the image's: inodes, names, pointers and groups.
-use Rattle.std.proofs.Common.{◌≡◌, ℕ, ◌+◌, ◌⊎◌, inl, inr, List, [], ◌∷◌, ◌++◌, length, Option, None, Some, true, false, refl, sym, ap, ◌∙◌, subst}
+use Rattle.std.proofs.Common.{◌≡◌, ℕ, ◌+◌, ◌⊎◌, inl, inr, List, [], ◌∷◌, ◌++◌, Option, Some, true, false, refl, sym, ap, ◌∙◌, subst}
 use Rattle.std.proofs.lemmas.Bool.{cases_Bool, cond-false, true≢false}
 use Rattle.std.proofs.lemmas.List.{append-nil, append_assoc}
 use Rattle.std.specs.Prelude.{Contains}
 use Rattle.std.specs.Option.{option_map}
 use Rattle.file_tree.specs.Names.{IsName}
 use Rattle.gfs2_layout.specs.Device.{superblock_place}
-use Rattle.gfs2_layout.specs.Inode.{first_hash, is_directory_in, is_hashed_in, leaf_area, linear_area, records_of}
+use Rattle.gfs2_layout.specs.Inode.{first_hash, is_directory_in, is_hashed_in, leaf_area, records_of}
 use Rattle.gfs2_layout.specs.Records.{Record, is_dots, record_named, records_in}
 use Rattle.glock_names.specs.Views.{Seen, group_of_entry}
 use Rattle.glock_names.specs.declared.steps.Entry.{Entry}
@@ -14,7 +14,7 @@ use Rattle.call_locks.specs.declared.want.Want.{Want}
 use Rattle.dinode_tree.specs.Shown.{IsShown}
 use Rattle.linear_dirs.specs.Shown.{entry_of}
 use Rattle.pointer_tables.specs.Directories.{IsInChain, chain_head, chain_next}
-use Rattle.hash_dirs.specs.Finding.{IsFirstNamed, IsFoundAlong, in_leaf, nowhere}
+use Rattle.hash_dirs.specs.Finding.{IsFirstNamed, in_leaf, nowhere}
 use Rattle.hash_dirs.specs.Shown.{LeadsToLeaf, by_leaf, by_pointer, index_for}
 use Rattle.directories.specs.Shown.{HasName, Says, in_linear, in_hashed}
 use Rattle.directories.specs.Shown as dirs

@@ -1,5 +1,5 @@
 -- The leaves that a walk over all chains of a hashed directory finds are those that its table and its leaves claim.
-use Rattle.std.proofs.Common.{◌≡◌, ◌≢◌, ◌⊎◌, ℕ, ◌+◌, ◌<◌, inl, inr, Bool, true, false, true≢false, List, [], ◌∷◌, length, refl, sym, ap, ◌∙◌, subst, arith}
+use Rattle.std.proofs.Common.{◌≡◌, ◌≢◌, ◌⊎◌, ℕ, ◌+◌, ◌<◌, inl, inr, Bool, true, true≢false, List, [], ◌∷◌, length, sym, ap, ◌∙◌, subst, arith}
 use Rattle.std.proofs.lemmas.Bool.{cases_Bool}
 use Rattle.std.proofs.lemmas.List.Sorted.{length_permutation}
 use Rattle.std.proofs.lemmas.Slice.Eq.{bytes_eq-Decides}
@@ -20,7 +20,7 @@ use Rattle.image_model.specs.Owners.{Chained}
 use Rattle.image_model.specs.Rules.{Breaks, HasRecordIn, no_dot, no_dots}
 use Rattle.image_model.proofs.Members.{IsIn, in_flat_map, is_in}
 use Rattle.image_reader.proofs.Directories.{not_both}
-use Rattle.pointer_tables.specs.Directories.{IsInChain, chain_head, chain_next}
+use Rattle.pointer_tables.specs.Directories.{chain_head, chain_next}
 use Rattle.damage_laws.proofs.Claimed.{chain_claims}
 use Rattle.damage_laws.proofs.Leaves.{AreMarked, all_records, marked, marked_leaf}
 

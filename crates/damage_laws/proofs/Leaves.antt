@@ -1,20 +1,20 @@
 -- All leaves of a hashed directory, where none is beyond the device; and its records.
-use Rattle.std.proofs.Common.{◌≡◌, ◌≢◌, ℕ, zero, suc, ◌+◌, ◌<◌, ◌≤◌, ◌⊎◌, inl, inr, Bool, true, false, true≢false, List, length, Some, refl, sym, ap, ◌∙◌, subst, arith}
-use Rattle.std.proofs.lemmas.Bool.{cases_Bool, cases_eq, cases_lt, cond-true, cond-false, eq-eqb, ne_eqb, lt-ltb, le-ltb}
+use Rattle.std.proofs.Common.{◌≡◌, ◌≢◌, ℕ, zero, suc, ◌+◌, ◌<◌, ◌≤◌, ◌⊎◌, inl, inr, Bool, true, false, true≢false, List, Some, refl, sym, ap, ◌∙◌, subst, arith}
+use Rattle.std.proofs.lemmas.Bool.{cases_eq, cases_lt, cond-true, cond-false, eq-eqb, ne_eqb, lt-ltb, le-ltb}
 use Rattle.std.specs.Prelude.{◌==◌, nat_lt, if◌then◌else◌, Contains, flat_map}
 use Rattle.std.specs.List.{range_with_len}
 use Rattle.gfs2_layout.specs.Holding.{Holding, Itself, InChain, part_at}
 use Rattle.gfs2_layout.specs.Inode.{entry, entry_block, first_hash, is_hashed_in, is_leaf_part, leaf_area, leaf_in, leaves_of, table_count}
 use Rattle.gfs2_layout.specs.Records.{Record, records_in}
-use Rattle.image_model.specs.Claims.{every, Claims, first_leaf, next_leaf, HasInode, HasDirectory, HasLeaf}
+use Rattle.image_model.specs.Claims.{every, Claims, first_leaf, next_leaf, HasDirectory, HasLeaf}
 use Rattle.image_model.specs.Image.{Image}
 use Rattle.image_model.specs.Owners.{Chained}
 use Rattle.image_model.specs.Rules.{AreLeaves, HasRecords, from_leaves}
-use Rattle.image_model.proofs.Members.{IsIn, contained, from_filter, from_flat_map, from_range, in_filter, in_flat_map, in_range, is_in}
+use Rattle.image_model.proofs.Members.{IsIn, contained, from_filter, from_flat_map, in_filter, in_flat_map, in_range, is_in}
 use Rattle.image_model.proofs.Rising.{rising_filter, rising_range}
 use Rattle.image_reader.proofs.Leaves.{unrise}
 use Rattle.damage_laws.specs.Telling.{IsAstray}
-use Rattle.damage_laws.proofs.Search.{seek, bare, bare_fewer, with_mark, mark_here, mark_stays, mark_before}
+use Rattle.damage_laws.proofs.Search.{seek, bare, bare_fewer, with_mark, mark_stays, mark_before}
 
 abbrev is_open : Bool → Bool → Bool → Bool
 is_open true false false = true

@@ -1,10 +1,10 @@
 -- A block with two owners: the directory above an inode that is to go, where it is one of the blocks that go with it.
-use Rattle.std.proofs.Common.{◌≡◌, ◌≢◌, ◌⊎◌, inl, inr, ℕ, true, false, true≢false, List, [], ◌∷◌, ◌++◌, Option, Some, refl, sym, ap, ◌∙◌, subst}
+use Rattle.std.proofs.Common.{◌≡◌, ◌≢◌, ◌⊎◌, inl, inr, ℕ, true, true≢false, List, [], ◌∷◌, ◌++◌, Option, Some, refl, sym, ap, ◌∙◌, subst}
 use Rattle.std.proofs.lemmas.Bool.{cases_eq}
 use Rattle.call_locks.specs.declared.want.Want.{Want}
 use Rattle.directories.proofs.Sound.{says_once}
 use Rattle.directories.specs.Shown as dirs
-use Rattle.file_tree.specs.Names.{IsName, parent_of}
+use Rattle.file_tree.specs.Names.{parent_of}
 use Rattle.gfs2_layout.specs.Device.{superblock_place}
 use Rattle.glock_names.specs.Views.{Seen}
 use Rattle.glock_names.specs.declared.steps.Entry.{Entry}

@@ -1,10 +1,8 @@
 -- Damage in an inode, and on a path.
-use Rattle.std.proofs.Common.{◌≡◌, ◌≢◌, ◌⊎◌, ℕ, zero, suc, ◌+◌, ◌<◌, ◌^◌, inl, inr, Bool, true, false, true≢false, List, [], ◌∷◌, ◌++◌, length, Option, None, Some, refl, sym, ap, ◌∙◌, subst, arith}
+use Rattle.std.proofs.Common.{◌≡◌, ◌≢◌, ℕ, suc, ◌<◌, inl, inr, Bool, true, false, List, [], ◌∷◌, length, Option, None, Some, refl, sym, ap, ◌∙◌, subst, arith}
 use Rattle.std.proofs.lemmas.Bool.{cases_Bool, cond-false}
 use Rattle.std.specs.Prelude.{Contains, codes}
 use Rattle.std.specs.Option.{option_map}
-use Rattle.crc_words.specs.Remainder.{crc32_of}
-use Rattle.gfs2_layout.specs.Exchanges.{directory_count}
 use Rattle.gfs2_layout.specs.Holding.{Holding}
 use Rattle.gfs2_layout.specs.Inode.{dinode_in, first_hash, is_hashed_in, leaf_area, linear_area, records_of}
 use Rattle.gfs2_layout.specs.Records.{Record, record_named, records_in}
@@ -12,11 +10,8 @@ use Rattle.glock_names.specs.Views.{Seen}
 use Rattle.glock_names.specs.declared.steps.Entry.{Entry}
 use Rattle.call_locks.specs.declared.want.Want.{Want}
 use Rattle.dinode_tree.specs.Broken as inode
-use Rattle.dinode_tree.specs.Shown.{IsShown}
 use Rattle.directories.specs.Shown as dirs
 use Rattle.hash_dirs.specs.Broken as leaves
-use Rattle.hash_dirs.specs.Finding.{IsFirstNamed, IsNamedLater, in_leaf, nowhere}
-use Rattle.hash_dirs.specs.Shown.{index_for}
 use Rattle.linear_dirs.specs.Broken as directory
 use Rattle.linear_dirs.specs.Shown.{entry_of}
 use Rattle.image_model.specs.Claims.{every, below, HasInode, HasDirectory, HasArea, HasLeaf, behind_dinode, of_leaf}
@@ -28,13 +23,12 @@ use Rattle.image_model.specs.Rules as rules
 use Rattle.image_model.specs.Rules.{Needs, of_dinode, of_indirect, of_table, HasRecords, from_dinode_block, Breaks, HasRecordIn}
 use Rattle.image_model.proofs.Held.{none_some}
 use Rattle.image_model.proofs.Members.{IsIn, is_in}
-use Rattle.image_model.proofs.Reach.{Leading}
 use Rattle.image_reader.proofs.Directories.{leaf_is_hashed, not_both}
 use Rattle.path_walks.specs.Walks as path
 use Rattle.path_walks.specs.Walks.{IsDirectoryAt, IsHeldAt, IsLinearAt, IsNext, IsWrongAt, LeadsTo, in_inode, in_directory, too_few, on_path, leads_out}
 use Rattle.path_walks.proofs.Images.{none_named}
 use Rattle.damage_laws.specs.Telling.{InodesAreThere, PathsTell, HasAstray, IsAstray, IsReadFrom, IsTold, itself, astray}
-use Rattle.damage_laws.proofs.Claimed.{shown, is_directory, directory_or, astray_at, further, named_there, led_there, next_there, next_led, outside, chain_claims, leaf_claims, has_leaf, record_is, name_claims, IsNamedBy}
+use Rattle.damage_laws.proofs.Claimed.{shown, is_directory, directory_or, astray_at, further, led_there, next_there, next_led, outside, chain_claims, leaf_claims, has_leaf, record_is, name_claims, IsNamedBy}
 use Rattle.damage_laws.proofs.Leaves.{AreMarked, marked_or, all_records, has_records, record_of_leaf}
 use Rattle.damage_laws.proofs.Gone.{as_many, lacks_dot}
 

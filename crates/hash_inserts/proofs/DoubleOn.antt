@@ -25,12 +25,13 @@ use Rattle.hash_dirs.specs.Shown.{IsInChain, IsShown, index_for}
 use Rattle.hash_dirs.proofs.Chained.{cell_some, deep, index_low, rules}
 use Rattle.hash_dirs.proofs.Indexes.{bits_of_bits}
 use Rattle.hash_steps.specs.Laws.{Stays}
-use Rattle.hash_steps.specs.Leaves.{has_room_for}
+use Rattle.hash_steps.specs.Leaves.{first_of, has_room_for, run_of}
 use Rattle.hash_inserts.specs.Advancing.{CanInsert, IsAtLeaf, IsFullLeaf, StepsOn, StepsTo}
 use Rattle.hash_inserts.specs.Drafting.{DoublesTable}
 use Rattle.hash_inserts.specs.Inserting as ins
-use Rattle.hash_inserts.specs.Inserting.{HasDoubled, HasNoRoom, HasOneLeafFor, IsInserted, IsInsertedAt, a_full_leaf, a_leaf_with_room, after_doubling, depth_for, one_taken}
+use Rattle.hash_inserts.specs.Inserting.{HasDoubled, HasNoRoom, HasOneLeafFor, IsInserted, IsInsertedAt, a_leaf_with_room, after_doubling, depth_for, one_taken, the_last_leaf}
 use Rattle.hash_inserts.specs.Needing.{AreLeavesFrom, Chain, Needs, TakesBlocks, a_doubling, a_leaf, a_split, doubled, nothing, one_more, the_last}
+use Rattle.hash_inserts.proofs.Pointing.{pointer_block, run_low}
 use Rattle.hash_inserts.proofs.Blockwise.{size_bounds}
 use Rattle.hash_inserts.proofs.Onward.{can_still, table_still}
 use Rattle.hash_inserts.proofs.Seen.{PointersAreParts}
@@ -110,51 +111,56 @@ module _ (v : Seen) (old new : FinMap nat_cmp Fate) (room left : List ℕ) (dir 
 
   -- ---- what it is to an insertion
 
-  here : (x : ℕ) (all : List ℕ) → x ≡ entry h i → IsInsertedAt h name all x
-  here x all is = subst (IsInsertedAt h name all) (sym is) (a_full_leaf 0 no_room (chain_head low))
+  here : (x : ℕ) (g : Holding) (all : List ℕ) → x ≡ entry h i → IsInsertedAt h g name all x
+  here x g all is = subst (IsInsertedAt h g name all) (sym is) (the_last_leaf 0 no_room (chain_head low) at.one)
 
-  of_leaf : (place x : ℕ) (all : List ℕ) → IsInChain m (index_for m name) place x → IsInsertedAt h name all x
-  of_leaf place x all chain = here x all (only_head m (index_for m name) one_after place x chain ∙ led)
+  of_leaf : (place x : ℕ) (g : Holding) (all : List ℕ) → IsInChain m (index_for m name) place x → IsInsertedAt h g name all x
+  of_leaf place x g all chain = here x g all (only_head m (index_for m name) one_after place x chain ∙ led)
 
   some_cell : (x : ℕ) (p : Part) → part_at m x ≡ Some p → IsSome (m.cell x)
   some_cell x p is = cell_some (m.cell x) p is
 
-  pointed : (x : ℕ) (later : List ℕ) (above k level first : ℕ) → part_at m x ≡ Some (Pointed above k level first) → IsInsertedAt h name (taken ++ later) x
-  pointed x later above k level first is = elim ((doubles.takes.has.blocks x).0 (some_cell x _ is)) [
+  pointed : (x : ℕ) (g : Holding) (later : List ℕ) (above k level first : ℕ) → depth_in m ≤ depth_in g → part_at m x ≡ Some (Pointed above k level first) → IsInsertedAt h g name (taken ++ later) x
+  pointed x g later above k level first on is = elim ((doubles.takes.has.blocks x).0 (some_cell x _ is)) [
     | inr came ↦ one_taken (Contains-append_left taken later x came)
     | inl had ↦ by (part_at h x) refl had
   ]
     where
-      by : (p : Option Part) → part_at h x ≡ p → IsSome (h.cell x) → IsInsertedAt h name (taken ++ later) x
+      by : (p : Option Part) → part_at h x ≡ p → IsSome (h.cell x) → IsInsertedAt h g name (taken ++ later) x
       by None none had = absurd (no (h.cell x) had none)
         where
           no : (c : Option Cell) → IsSome c → cell_part c ≡ None → ⊥
           no None there e = cc
           no (Some c) there e = cc
       by (Some Itself) itself had = ins.IsInsertedAt.its_dinode (can.sound.placed.only x itself)
-      by (Some (Pointed above' k' level' first')) as_told had = ins.IsInsertedAt.of_table above' k' level' first' no_room at.one as_told
+      by (Some (Pointed above' k' level' first')) as_told had = ins.IsInsertedAt.of_table above' k' level' first' no_room at.one (omega (arith, on, deeper)) as_told
       by (Some (InChain hash place)) chained had = absurd (no (sym (ap cell_part (doubles.takes.doubled.stays.leaves x hash place chained) ∙ chained) ∙ is))
         where
           no : Some (InChain hash place) ≡ Some (Pointed above k level first) → ⊥
           no e = cc
 
-  later_at : (x : ℕ) (later : List ℕ) → IsInsertedAt m name later x → IsInsertedAt h name (taken ++ later) x
-  later_at x later (ins.IsInsertedAt.its_dinode is) = ins.IsInsertedAt.its_dinode (is ∙ doubles.puts.own)
-  later_at x later (a_leaf_with_room place chain none room_there) = of_leaf place x (taken ++ later) chain
-  later_at x later (a_full_leaf place none chain) = of_leaf place x (taken ++ later) chain
-  later_at x later (one_taken came) = one_taken (Contains-append_right taken later x came)
-  later_at x later (ins.IsInsertedAt.of_table above k level first none one is) = pointed x later above k level first is
+  later_at : (x : ℕ) (g : Holding) (later : List ℕ) → depth_in m ≤ depth_in g → IsInsertedAt m g name later x → IsInsertedAt h g name (taken ++ later) x
+  later_at x g later on (ins.IsInsertedAt.its_dinode is) = ins.IsInsertedAt.its_dinode (is ∙ doubles.puts.own)
+  later_at x g later on (a_leaf_with_room place chain none room_there) = of_leaf place x g (taken ++ later) chain
+  later_at x g later on (the_last_leaf place none chain ends) = of_leaf place x g (taken ++ later) chain
+  later_at x g later on (one_taken came) = one_taken (Contains-append_right taken later x came)
+  later_at x g later on (ins.IsInsertedAt.of_pointers none one less pointer) =
+      elim (pointer_block m (first_of m (index_for m name)) (run_of m (depth_for m name)) x stays.sound stays.hashed (run_low m (index_for m name) stays.sound stays.hashed low_m) pointer) [
+        | inl is ↦ ins.IsInsertedAt.its_dinode (is ∙ doubles.puts.own)
+        | inr p ↦ pointed x g later p.0 p.1 0 p.2 on p.3
+      ]
+  later_at x g later on (ins.IsInsertedAt.of_table above k level first none one again is) = pointed x g later above k level first on is
 
   same_taken : doubles.within.taken ≡ taken
   same_taken = append_cancel_right doubles.within.taken taken left (sym doubles.within.front ∙ doubles.takes.front)
 
-  changes : (x : ℕ) → (get new x ≡ get old x) ⊎ IsInsertedAt h name taken x
+  changes : (x : ℕ) → (get new x ≡ get old x) ⊎ IsInsertedAt h m name taken x
   changes x = elim (doubles.within.changes x) [
     | inl same ↦ inl same
     | inr (inl own) ↦ inr (ins.IsInsertedAt.its_dinode own)
     | inr (inr (inl below)) ↦
         let p = parts h x can.sound.inode below in
-        inr (ins.IsInsertedAt.of_table p.0 p.1 p.2 p.3 no_room at.one p.4)
+        inr (ins.IsInsertedAt.of_table p.0 p.1 p.2 p.3 no_room at.one (omega (arith, deeper)) p.4)
     | inr (inr (inr came)) ↦ inr (one_taken (subst (λ xs. Contains xs x) same_taken came))
   ]
 
@@ -173,6 +179,7 @@ module _ (v : Seen) (old new : FinMap nat_cmp Fate) (room left : List ℕ) (dir 
     puts = doubles.puts;
     has = doubles.takes.has;
     stays = stays;
+    deep = omega (arith, deeper);
     changes = changes;
     later = later_at;
     goes_on = λ e g later inserted. after_doubling h m g taken later no_room at.one deepest may has_doubled stays.sound inserted;

@@ -16,7 +16,7 @@ use Rattle.hash_dirs.specs.Shown.{IsInChain, index_for}
 use Rattle.hash_steps.specs.Laws.{ExchangesJoin, GetsRecord}
 use Rattle.hash_steps.specs.Leaves.{IsFullBefore, has_room_for}
 use Rattle.hash_inserts.specs.Drafting.{PutsBehind, PutsInLeaf}
-use Rattle.hash_inserts.specs.Inserting.{HasNoRoom, HasOneLeafFor, Inserts, IsDeepest, IsInsertedAt, a_full_leaf, a_leaf_with_room, after_leaf, its_dinode, one_taken, put}
+use Rattle.hash_inserts.specs.Inserting.{HasNoRoom, HasOneLeafFor, Inserts, IsDeepest, IsInsertedAt, a_leaf_with_room, after_leaf, its_dinode, one_taken, put, the_last_leaf}
 use Rattle.hash_inserts.proofs.Joined.{drafted_join, taken_join}
 
 -- nothing is taken where no block comes
@@ -52,8 +52,8 @@ put_inserts v old new room name e h g leaf place puts chain full_before has_room
   sound = gets.sound;
 }
   where
-    at : (b : ℕ) → b ≡ leaf → IsInsertedAt h name [] b
-    at b is = subst (IsInsertedAt h name []) (sym is) (a_leaf_with_room place chain full_before has_room)
+    at : (b : ℕ) → b ≡ leaf → IsInsertedAt h g name [] b
+    at b is = subst (IsInsertedAt h g name []) (sym is) (a_leaf_with_room place chain full_before has_room)
 
 -- into one that is added for it
 pub behind_inserts : ExchangesJoin → (v : Seen) (old new : FinMap nat_cmp Fate) (room left : List ℕ) (name : List ℕ) (e : Entry) (h g : Holding) (leaf : ℕ) → (behind : PutsBehind v old new h g name e leaf) → room ≡ leaf ∷ left
@@ -75,14 +75,14 @@ behind_inserts law v old new room left name e h g leaf behind front full deepest
     here : (b : ℕ) → b ≡ leaf → Contains (leaf ∷ []) b
     here b is = (0, omega arith, sym is)
 
-    changes : (b : ℕ) → (get new b ≡ get old b) ⊎ IsInsertedAt h name (leaf ∷ []) b
+    changes : (b : ℕ) → (get new b ≡ get old b) ⊎ IsInsertedAt h g name (leaf ∷ []) b
     changes b = elim (behind.puts.only b) [
       | inr (inl own) ↦ inr (its_dinode (own ∙ behind.lengthens.is.same.own))
       | inr (inr is) ↦ inr (one_taken (here b is))
       | inl same ↦ elim (behind.lengthens.only b) [
         | inl was ↦ inl (same ∙ was)
         | inr (inl own) ↦ inr (its_dinode own)
-        | inr (inr (inl last)) ↦ inr (subst (IsInsertedAt h name (leaf ∷ [])) (sym last) (a_full_leaf behind.lengthens.is.at_place full behind.lengthens.is.chain))
+        | inr (inr (inl last)) ↦ inr (subst (IsInsertedAt h g name (leaf ∷ [])) (sym last) (the_last_leaf behind.lengthens.is.at_place full behind.lengthens.is.chain behind.lengthens.is.ends))
         | inr (inr (inr is)) ↦ inr (one_taken (here b is))
       ]
     ]

@@ -1,5 +1,5 @@
 -- Steps of an insertion one after another, in a draft.
-use Rattle.std.proofs.Common.{◌≡◌, ◌⊎◌, ℕ, ◌+◌, inl, inr, false, List, [], ◌++◌, length, Option, None, Some, refl, sym, ap, ◌∙◌, append_assoc, length-append, arith}
+use Rattle.std.proofs.Common.{◌≡◌, ◌⊎◌, ℕ, ◌+◌, ◌≤◌, inl, inr, false, List, [], ◌++◌, length, Option, None, Some, refl, sym, ap, ◌∙◌, append_assoc, length-append, arith}
 use Rattle.std.specs.Prelude.{IsSome, Contains}
 use Rattle.std.proofs.lemmas.List.Elements.{Contains-append_left, Contains-append_right, Contains-append_cases}
 use Rattle.std.specs.FinMap.{FinMap, get}
@@ -7,6 +7,8 @@ use Rattle.std.specs.Ordering.{nat_cmp}
 use Rattle.drafts.specs.declared.fate.Fate.{Fate}
 use Rattle.drafts.specs.declared.fate.Fate.TheVariants.{Put}
 use Rattle.gfs2_layout.specs.Holding.{Holding, Cell, cell_bytes, bytes_at}
+use Rattle.gfs2_layout.specs.Inode.{depth_in}
+use Rattle.gfs2_layout.specs.declared.dinode.Dinode.{Dinode}
 use Rattle.glock_names.specs.Views.{Seen}
 use Rattle.glock_names.specs.declared.steps.Entry.{Entry}
 use Rattle.dinode_tree.specs.Reading.{inode_lock}
@@ -14,7 +16,8 @@ use Rattle.growth_drafts.specs.Taken.{HasTaken}
 use Rattle.table_growth.specs.Tables.{DraftsDirectory}
 use Rattle.hash_steps.specs.Laws.{ExchangesJoin}
 use Rattle.hash_inserts.specs.Advancing.{StepsTo}
-use Rattle.hash_inserts.specs.Inserting.{Inserts, IsInsertedAt, a_full_leaf, a_leaf_with_room, its_dinode, of_table, one_taken}
+use Rattle.hash_inserts.specs.Inserting as ins
+use Rattle.hash_inserts.specs.Inserting.{Inserts, IsInserted, IsInsertedAt, a_leaf_with_room, after_doubling, after_leaf, after_split, its_dinode, of_pointers, of_table, one_taken, the_last_leaf}
 
 some_or_none : (c : Option Cell) → IsSome c ⊎ (IsSome c → ⊥)
 some_or_none None = inr (λ e. cc)
@@ -70,13 +73,30 @@ drafted_join old mid new h m g own_is keeps keeps' one two = record { own = own;
       ]
     ]
 
+-- an insertion leaves the table as deep as it was, or deeper
+pub deepens : (name : List ℕ) (e : Entry) (h g : Holding) (taken : List ℕ) → IsInserted name e h g taken → depth_in h ≤ depth_in g
+deepens name e _ _ _ (ins.IsInserted.put h g is) = let same : depth_in g ≡ depth_in h = ap (λ (d : Dinode). d.depth) is.dinode in omega (arith, same)
+deepens name e _ _ _ (after_split h m g b taken full one less split sound later) =
+    let same : depth_in m ≡ depth_in h = ap (λ (d : Dinode). d.depth) split.counts.dinode in
+    let on = deepens name e m g taken later in
+    omega (arith, same, on)
+deepens name e _ _ _ (after_doubling h m g more taken full one deepest may doubled sound later) =
+    let deeper : depth_in m ≡ depth_in h + 1 = ap (λ (d : Dinode). d.depth) doubled.doubled.dinode in
+    let on = deepens name e m g taken later in
+    omega (arith, deeper, on)
+deepens name e _ _ _ (after_leaf h m g b full deepest longer sound is) =
+    let first : depth_in m ≡ depth_in h = ap (λ (d : Dinode). d.depth) longer.counts.dinode in
+    let next : depth_in g ≡ depth_in m = ap (λ (d : Dinode). d.depth) is.dinode in
+    omega (arith, first, next)
+
 -- a block to which an insertion does something that takes these blocks, and more
-pub at_more : (h : Holding) (name more taken : List ℕ) (b : ℕ) → IsInsertedAt h name more b → IsInsertedAt h name (more ++ taken) b
-at_more h name more taken b (its_dinode is) = its_dinode is
-at_more h name more taken b (a_leaf_with_room place chain full room) = a_leaf_with_room place chain full room
-at_more h name more taken b (a_full_leaf place full chain) = a_full_leaf place full chain
-at_more h name more taken b (one_taken came) = one_taken (Contains-append_left more taken b came)
-at_more h name more taken b (of_table above k level first full one part) = of_table above k level first full one part
+pub at_more : (h m g : Holding) (name more taken : List ℕ) (b : ℕ) → depth_in m ≤ depth_in g → IsInsertedAt h m name more b → IsInsertedAt h g name (more ++ taken) b
+at_more h m g name more taken b on (its_dinode is) = its_dinode is
+at_more h m g name more taken b on (a_leaf_with_room place chain full room) = a_leaf_with_room place chain full room
+at_more h m g name more taken b on (the_last_leaf place full chain ends) = the_last_leaf place full chain ends
+at_more h m g name more taken b on (one_taken came) = one_taken (Contains-append_left more taken b came)
+at_more h m g name more taken b on (of_pointers full one less pointer) = of_pointers full one less pointer
+at_more h m g name more taken b on (of_table above k level first full one deeper part) = of_table above k level first full one (omega (arith, deeper, on)) part
 
 -- a step, and an insertion from there
 pub inserts_join : ExchangesJoin → (v : Seen) (old mid new : FinMap nat_cmp Fate) (room between left : List ℕ) (need rest : ℕ) (name : List ℕ) (e : Entry) (h m g : Holding) (more : List ℕ) → StepsTo v old mid name h m more
@@ -95,11 +115,14 @@ inserts_join law v old mid new room between left need rest name e h m g more ste
   sound = ins.sound;
 }
   where
-    changes : (b : ℕ) → (get new b ≡ get old b) ⊎ IsInsertedAt h name (more ++ ins.taken) b
+    on : depth_in m ≤ depth_in g
+    on = deepens name e m g ins.taken ins.inserted
+
+    changes : (b : ℕ) → (get new b ≡ get old b) ⊎ IsInsertedAt h g name (more ++ ins.taken) b
     changes b = elim (ins.takes.changes b) [
-      | inr at ↦ inr (steps.later b ins.taken at)
+      | inr at ↦ inr (steps.later b g ins.taken on at)
       | inl same ↦ elim (steps.changes b) [
         | inl was ↦ inl (same ∙ was)
-        | inr at ↦ inr (at_more h name more ins.taken b at)
+        | inr at ↦ inr (at_more h m g name more ins.taken b on at)
       ]
     ]

@@ -10,6 +10,7 @@ mod Longer
 mod Looks
 mod FirstTable
 mod Parted
+mod Pointing
 mod PartedDrafts
 mod Put
 mod Results

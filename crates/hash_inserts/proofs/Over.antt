@@ -1,5 +1,5 @@
 -- What was inserted in a draft over a draft, once it is put into that.
-use Rattle.std.proofs.Common.{◌≡◌, ◌⊎◌, ℕ, suc, ◌<◌, ◌∷◌, [], inl, inr, Bool, false, List, ◌++◌, length, take, drop, Option, None, Some, refl, sym, ap, ◌∙◌, subst, length-append, arith}
+use Rattle.std.proofs.Common.{◌≡◌, ◌⊎◌, ℕ, suc, ◌+◌, ◌^◌, ◌<◌, ◌≤◌, ◌∷◌, [], inl, inr, Bool, true, false, List, ◌++◌, length, take, drop, Option, None, Some, refl, sym, ap, ◌∙◌, subst, length-append, arith}
 use Rattle.std.specs.Prelude.{IsSome, Contains}
 use Rattle.std.proofs.lemmas.Bool.{cases_eq}
 use Rattle.std.specs.Cmp.{nat_cmp_total}
@@ -8,23 +8,27 @@ use Rattle.std.specs.Ordering.{nat_cmp}
 use Rattle.std.proofs.Math.Path.{fun_ext}
 use Rattle.std.proofs.Math.Seq.{drop-append_seam, take-append_seam}
 use Rattle.finite_maps.proofs.Keys.{inserted_at, inserted_apart}
+use Rattle.crc_words.specs.Remainder.{crc32_of}
 use Rattle.drafts.specs.Fates.{block_with, blocks_in, seen_with}
 use Rattle.drafts.specs.declared.change.Written.{Written}
 use Rattle.drafts.specs.declared.fate.Fate.{Fate}
 use Rattle.drafts.specs.declared.fate.Fate.TheVariants.{Put}
 use Rattle.gfs2_layout.specs.Holding.{Cell, Holding, Part, cell_part, bytes_at}
-use Rattle.gfs2_layout.specs.Inode.{entry, table_count}
+use Rattle.gfs2_layout.specs.Inode.{depth_in, entry, is_hashed_in, table_count}
 use Rattle.glock_names.specs.Views.{Seen}
 use Rattle.glock_names.specs.declared.LockName.{LockName}
 use Rattle.glock_names.specs.declared.steps.Entry.{Entry}
 use Rattle.dinode_tree.specs.Reading.{inode_lock}
 use Rattle.resource_groups.specs.Putting.{HasDataBlock}
+use Rattle.table_growth.specs.Pointers.{HasPointerOf}
 use Rattle.nested_drafts.specs.Nested.{fate_over, with_blocks}
 use Rattle.hash_dirs.specs.Shown.{IsInChain, IsSound, index_for}
-use Rattle.hash_steps.specs.Leaves.{HasOneLeaf}
+use Rattle.hash_dirs.proofs.Chained.{index_low}
+use Rattle.hash_steps.specs.Leaves.{HasOneLeaf, leaf_depth}
 use Rattle.hash_inserts.specs.Committing.{HasInserted, HasPut, SeesInside}
 use Rattle.hash_inserts.specs.Inserting as ins
-use Rattle.hash_inserts.specs.Inserting.{HasNoRoom, HasOneLeafFor, Inserts, IsInsertedAt, IsSplitAt, MayChange, Takes, a_data_block, a_full_leaf, a_leaf_with_room, a_taken_one, one_taken, the_dinode, the_leaf, the_new_one}
+use Rattle.hash_inserts.specs.Inserting.{HasNoRoom, HasOneLeafFor, Inserts, IsInsertedAt, IsSplitAt, MayChange, Takes, a_data_block, a_leaf_with_room, a_taken_one, one_taken, the_dinode, the_last_leaf, the_leaf, the_new_one}
+use Rattle.hash_inserts.proofs.Pointing.{half_less, pointer_block, run_low}
 use Rattle.hash_inserts.proofs.Seen.{PartsAreLed}
 use Rattle.hash_inserts.proofs.SplitOn.{only_head}
 
@@ -142,28 +146,40 @@ module _ (v : Seen) (fates : FinMap nat_cmp Fate) (ws : List Written) (dir : ℕ
 
 -- ---- an insertion
 
+-- a block with one of some pointers may change
+pointer_may : (v : Seen) (dir : ℕ) (h : Holding) (taken : List ℕ) (from count b : ℕ) → h.own ≡ dir → IsSound h → is_hashed_in h ≡ true → PartsAreLed → SeesInside v h → from + count ≤ table_count h → HasPointerOf h from count b → MayChange v dir taken b
+pointer_may v dir h taken from count b own sound hashed led tree within pointer = elim (pointer_block h from count b sound hashed within pointer) [
+  | inl is ↦ the_dinode (is ∙ own)
+  | inr at ↦ a_data_block (tree.below b (led h b at.0 at.1 0 at.2 sound.inode sound.placed.nobody at.3))
+]
+
 -- a block to which an insertion does something may change
-pub may_insert : (v : Seen) (dir : ℕ) (h : Holding) (name taken : List ℕ) → h.own ≡ dir → IsSound h → PartsAreLed → ((place x : ℕ) → IsInChain h (index_for h name) place x → HasDataBlock v x)
-    → (HasNoRoom h name → HasOneLeafFor h name → SeesInside v h) → (b : ℕ) → IsInsertedAt h name taken b → MayChange v dir taken b
-may_insert v dir h name taken own sound led leaves tree b (ins.IsInsertedAt.its_dinode is) = the_dinode (is ∙ own)
-may_insert v dir h name taken own sound led leaves tree b (a_leaf_with_room place chain full room_there) = a_data_block (leaves place b chain)
-may_insert v dir h name taken own sound led leaves tree b (a_full_leaf place full chain) = a_data_block (leaves place b chain)
-may_insert v dir h name taken own sound led leaves tree b (one_taken came) = a_taken_one came
-may_insert v dir h name taken own sound led leaves tree b (ins.IsInsertedAt.of_table above k level first full one part) = a_data_block ((tree full one).below b (led h b above k level first sound.inode sound.placed.nobody part))
+pub may_insert : (v : Seen) (dir : ℕ) (h g : Holding) (name taken : List ℕ) → h.own ≡ dir → IsSound h → is_hashed_in h ≡ true → crc32_of name < 2 ^ 32 → PartsAreLed → ((place x : ℕ) → IsInChain h (index_for h name) place x → HasDataBlock v x)
+    → (HasNoRoom h name → HasOneLeafFor h name → SeesInside v h) → (b : ℕ) → IsInsertedAt h g name taken b → MayChange v dir taken b
+may_insert v dir h g name taken own sound hashed small led leaves tree b (ins.IsInsertedAt.its_dinode is) = the_dinode (is ∙ own)
+may_insert v dir h g name taken own sound hashed small led leaves tree b (a_leaf_with_room place chain full room_there) = a_data_block (leaves place b chain)
+may_insert v dir h g name taken own sound hashed small led leaves tree b (the_last_leaf place full chain ends) = a_data_block (leaves place b chain)
+may_insert v dir h g name taken own sound hashed small led leaves tree b (one_taken came) = a_taken_one came
+may_insert v dir h g name taken own sound hashed small led leaves tree b (ins.IsInsertedAt.of_pointers full one less pointer) =
+    pointer_may v dir h taken _ _ b own sound hashed led (tree full one) (run_low h (index_for h name) sound hashed (index_low h sound hashed name small)) pointer
+may_insert v dir h g name taken own sound hashed small led leaves tree b (ins.IsInsertedAt.of_table above k level first full one deeper part) =
+    a_data_block ((tree full one).below b (led h b above k level first sound.inode sound.placed.nobody part))
 
 pub put_of : (v : Seen) (fates : FinMap nat_cmp Fate) (ws : List Written) (dir : ℕ) (room left : List ℕ) (need : ℕ) (name : List ℕ) (e : Entry) (h g : Holding) → (has : HasInserted v fates ws dir room left need name e h g)
-    → HasPut v fates ws dir room left has.inserts.taken (IsInsertedAt h name has.inserts.taken) h g
+    → HasPut v fates ws dir room left has.inserts.taken (IsInsertedAt h g name has.inserts.taken) h g
 put_of v fates ws dir room left need name e h g has = record { written = has.written; shown = has.shown; sound = has.inserts.sound; takes = has.inserts.takes }
 
 -- the insertion that it is once other fates do the same to its blocks
-pub inserts_with : (old new old' new' : FinMap nat_cmp Fate) (room left : List ℕ) (need : ℕ) (name : List ℕ) (e : Entry) (h g : Holding) (ins : Inserts old new room left need name e h g) → Takes old' new' room left ins.taken (IsInsertedAt h name ins.taken) h g
+pub inserts_with : (old new old' new' : FinMap nat_cmp Fate) (room left : List ℕ) (need : ℕ) (name : List ℕ) (e : Entry) (h g : Holding) (ins : Inserts old new room left need name e h g) → Takes old' new' room left ins.taken (IsInsertedAt h g name ins.taken) h g
     → Inserts old' new' room left need name e h g
 inserts_with old new old' new' room left need name e h g ins takes = record { taken = ins.taken; few = ins.few; takes = takes; inserted = ins.inserted; exchanged = ins.exchanged; sound = ins.sound }
 
 -- ---- a split
 
-pub may_split : (v : Seen) (dir : ℕ) (h : Holding) (i block : ℕ) → h.own ≡ dir → IsSound h → PartsAreLed → i < table_count h → HasDataBlock v (entry h i) → SeesInside v h → HasOneLeaf h i → (b : ℕ) → IsSplitAt h i block b → MayChange v dir (block ∷ []) b
-may_split v dir h i block own sound led low leaf tree one b (ins.IsSplitAt.its_dinode is) = the_dinode (is ∙ own)
-may_split v dir h i block own sound led low leaf tree one b (the_leaf chain) = a_data_block (subst (HasDataBlock v) (sym (only_head h i one 0 b chain)) leaf)
-may_split v dir h i block own sound led low leaf tree one b (the_new_one is) = a_taken_one (subst (Contains (block ∷ [])) (sym is) (0, omega arith, refl))
-may_split v dir h i block own sound led low leaf tree one b (ins.IsSplitAt.of_table above k level first part) = a_data_block (tree.below b (led h b above k level first sound.inode sound.placed.nobody part))
+pub may_split : (v : Seen) (dir : ℕ) (h : Holding) (i block : ℕ) → h.own ≡ dir → IsSound h → is_hashed_in h ≡ true → PartsAreLed → i < table_count h → leaf_depth h i < depth_in h → HasDataBlock v (entry h i) → SeesInside v h → HasOneLeaf h i
+    → (b : ℕ) → IsSplitAt h i block b → MayChange v dir (block ∷ []) b
+may_split v dir h i block own sound hashed led low less leaf tree one b (ins.IsSplitAt.its_dinode is) = the_dinode (is ∙ own)
+may_split v dir h i block own sound hashed led low less leaf tree one b (the_leaf chain) = a_data_block (subst (HasDataBlock v) (sym (only_head h i one 0 b chain)) leaf)
+may_split v dir h i block own sound hashed led low less leaf tree one b (the_new_one is) = a_taken_one (subst (Contains (block ∷ [])) (sym is) (0, omega arith, refl))
+may_split v dir h i block own sound hashed led low less leaf tree one b (ins.IsSplitAt.of_pointers pointer) =
+    pointer_may v dir h (block ∷ []) _ _ b own sound hashed led tree (omega (arith, half_less h i less, run_low h i sound hashed low)) pointer

@@ -64,15 +64,15 @@ module _ {V : Type 0} (seen : V → Seen) (old d1 two now : Drafted V) (dir : �
   written_m = subst (λ y. IsDinodeWritten y dinode (counting (dinode_in mid) 0 0 1)) (sym bytes_own) (subst (λ d. IsDinodeWritten own dinode (counting d 0 0 1)) (sym dinode_m) written)
 
   abbrev pub last : Holding
-  last = after (seen old.view) old.fates d1.fates h i b from count low high dinode sound shown.hashed small one deep free shown.inode.same from_is count_is within set halved_h written_m
+  last = after (seen old.view) old.fates d1.fates h i b from count low high dinode sound shown.hashed small one deep free from_is count_is within set halved_h written_m
 
   pub splits_leaf : SplitsLeaf (seen old.view) old.fates now.fates h last i b
   splits_leaf = subst (λ f. SplitsLeaf (seen old.view) old.fates f h last i b)
       (three_fates d1 two now h.own dir b (entry h i) low high dinode shown.inode.own two_is now_is)
-      (split_in (seen old.view) old.fates d1.fates h i b from count low high dinode sound shown.hashed small one deep free shown.inode.same from_is count_is within set halved_h written_m)
+      (split_in (seen old.view) old.fates d1.fates h i b from count low high dinode sound shown.hashed small one deep free from_is count_is within set halved_h written_m)
 
   pub deep_as : depth_in last ≡ depth_in mid
-  deep_as = depth_kept (seen old.view) old.fates d1.fates h i b from count low high dinode sound shown.hashed small one deep free shown.inode.same from_is count_is within set halved_h written_m
+  deep_as = depth_kept (seen old.view) old.fates d1.fates h i b from count low high dinode sound shown.hashed small one deep free from_is count_is within set halved_h written_m
 
   -- ---- what the last of the drafts shows
 

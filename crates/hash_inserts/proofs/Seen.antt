@@ -1,25 +1,22 @@
 -- What a draft that has every block of a table can be asked.
-use Rattle.std.proofs.Common.{◌≡◌, ◌≢◌, ◌⊎◌, ℕ, ◌+◌, ◌<◌, ◌≤◌, inl, inr, true, List, Option, None, Some, refl, sym, ap, ◌∙◌, subst, arith}
-use Rattle.std.specs.Prelude.{IsSome, option_map}
-use Rattle.std.proofs.lemmas.Bool.Decides.{nat_tests}
+use Rattle.std.proofs.Common.{◌≡◌, ◌⊎◌, ℕ, ◌<◌, inl, inr, true, Option, None, Some, refl, sym, ap, ◌∙◌, subst}
+use Rattle.std.specs.Prelude.{IsSome}
 use Rattle.std.specs.FinMap.{FinMap}
 use Rattle.std.specs.Ordering.{nat_cmp}
 use Rattle.drafts.specs.Fates.{block_with, seen_with}
 use Rattle.drafts.specs.declared.fate.Fate.{Fate}
-use Rattle.gfs2_layout.specs.Holding.{Holding, Cell, InChain, Pointed, cell_bytes, part_at, bytes_at}
-use Rattle.gfs2_layout.specs.Inode.{IsInode, entry, entry_block, first_hash, is_hashed_in, table_count}
+use Rattle.gfs2_layout.specs.Holding.{Holding, Cell, InChain, Pointed, part_at, bytes_at}
+use Rattle.gfs2_layout.specs.Inode.{IsInode, entry, first_hash, is_hashed_in, table_count}
 use Rattle.glock_names.specs.Views.{Seen, HasBlock}
 use Rattle.glock_names.specs.declared.steps.Missing.{Missing}
 use Rattle.dinode_tree.specs.Below.{IsBelow}
 use Rattle.dinode_tree.specs.Broken as inode_rules
 use Rattle.dinode_tree.specs.Reading.{IsNeeded, IsOnWay, the_dinode, led_to}
-use Rattle.dinode_tree.specs.Shown.{IsAsSeen}
 use Rattle.image_model.proofs.Held.{none_some}
-use Rattle.linear_dirs.specs.Shown.{bytes_over, holding_over}
+use Rattle.linear_dirs.specs.Shown.{holding_over}
 use Rattle.linear_dirs.proofs.Over.{as_seen}
 use Rattle.linear_dirs.proofs.Rewritten.{over_there}
 use Rattle.table_growth.specs.Pointers.{EachPointerLeads, IsTableBroken, of_inode, leads_nowhere}
-use Rattle.pointer_tables.specs.Tables.{is_within}
 use Rattle.hash_dirs.specs.Shown.{IsSound}
 use Rattle.hash_dirs.proofs.Chained.{cell_some, rules, some_block}
 use Rattle.hash_inserts.specs.Drafting.{Puts, SeesTree, SetsPointers}
@@ -44,11 +41,6 @@ none_broken law h rule b sound hashed (of_inode _ _ broken) = law h rule b sound
 none_broken law h _ _ sound hashed (leads_nowhere i low none) = pointers_lead h sound hashed i low none
 
 -- ---- after pointers are set
-
-over_bytes : (o : Option (List ℕ)) (c : Option Cell) → ((bytes : List ℕ) → IsSome c → o ≡ Some bytes → cell_bytes c ≡ bytes) → cell_bytes (option_map (bytes_over o) c) ≡ cell_bytes c
-over_bytes o None same = refl
-over_bytes None (Some c) same = refl
-over_bytes (Some bytes) (Some c) same = sym (same bytes refl refl)
 
 module _ (v : Seen) (old new : FinMap nat_cmp Fate) (h : Holding) (from count leaf : ℕ) (set : SetsPointers v old new h from count leaf) where
   abbrev w : Seen
@@ -78,16 +70,6 @@ module _ (v : Seen) (old new : FinMap nat_cmp Fate) (h : Holding) (from count le
     there = there_still;
     keeps = λ b some. over_there (w.block_at b) (h.cell b) ∙ some;
   }
-
-  -- a block without one of these pointers has the bytes that it had
-  pub bytes_set : IsAsSeen (seen_with v old) h → (b : ℕ) → ((j : ℕ) → is_within from count j ≡ true → b ≢ entry_block h j) → bytes_at middle b ≡ bytes_at h b
-  bytes_set was b apart = over_bytes (w.block_at b) (h.cell b) (λ bytes some at. elim (set.only b) [
-    | inl same ↦ was b bytes some (ap (λ f. block_with f (v.block_at b)) (sym same) ∙ at)
-    | inr pointer ↦ absurd (apart pointer.0 (tested from count pointer.0 pointer.1.low pointer.1.high) pointer.2)
-  ])
-    where
-      tested : (from run j : ℕ) → from ≤ j → j < from + run → is_within from run j ≡ true
-      tested from run j low high = grind (arith, nat_tests)
 
 -- ---- the leaf of a pointer, and the dinode
 

@@ -1,5 +1,5 @@
 -- A split as a step of an insertion.
-use Rattle.std.proofs.Common.{◌≡◌, ◌⊎◌, ℕ, ◌+◌, ◌<◌, ◌≤◌, inl, inr, true, List, [], ◌∷◌, length, Option, None, Some, refl, sym, ap, ◌∙◌, subst, arith}
+use Rattle.std.proofs.Common.{◌≡◌, ◌⊎◌, ℕ, ◌+◌, ◌-◌, ◌*◌, ◌/◌, ◌^◌, ◌<◌, ◌≤◌, inl, inr, true, List, [], ◌∷◌, length, Option, None, Some, refl, sym, ap, ap₂, ◌∙◌, subst, subst₂, arith}
 use Rattle.std.specs.Prelude.{IsSome, Contains}
 use Rattle.std.specs.FinMap.{FinMap}
 use Rattle.std.specs.Ordering.{nat_cmp}
@@ -13,15 +13,17 @@ use Rattle.gfs2_layout.specs.Inode.{depth_in, entry, first_hash, is_leaf_part, l
 use Rattle.glock_names.specs.Views.{Seen, HasBlock}
 use Rattle.hash_dirs.specs.Shown.{IsInChain, IsShown, index_for}
 use Rattle.pointer_tables.specs.Directories.{chain_head, chain_next}
+use Rattle.table_growth.specs.Pointers.{HasPointerOf, IsWithin}
 use Rattle.hash_dirs.proofs.Chained.{cell_some, index_low}
 use Rattle.hash_steps.specs.Laws.{Stays}
-use Rattle.hash_steps.specs.Leaves.{HasOneLeaf, has_room_for, middle_hash}
+use Rattle.hash_steps.specs.Leaves.{HasOneLeaf, first_of, has_room_for, leaf_depth, middle_hash, run_of}
 use Rattle.hash_inserts.specs.Advancing.{CanInsert, IsAtLeaf, IsFullLeaf, StepsOn, StepsTo}
 use Rattle.hash_inserts.specs.Drafting.{SplitsLeaf}
 use Rattle.hash_inserts.specs.Inserting as ins
-use Rattle.hash_inserts.specs.Inserting.{HasNoRoom, HasOneLeafFor, IsInserted, IsInsertedAt, IsSplitAt, a_full_leaf, a_leaf_with_room, after_split, depth_for, one_taken, the_leaf, the_new_one}
+use Rattle.hash_inserts.specs.Inserting.{HasNoRoom, HasOneLeafFor, IsInserted, IsInsertedAt, IsSplitAt, a_leaf_with_room, after_split, depth_for, one_taken, the_last_leaf, the_leaf, the_new_one}
 use Rattle.hash_inserts.proofs.Blockwise.{size_bounds}
-use Rattle.hash_inserts.proofs.Chosen.{chosen, depth_same, needs_less}
+use Rattle.hash_inserts.proofs.Chosen.{chosen, depth_same, index_same, needs_less}
+use Rattle.hash_inserts.proofs.Pointing.{half_less, pointer_of_more, run_inside, run_low}
 use Rattle.hash_inserts.proofs.Onward.{came_there, can_still, table_still}
 
 -- ---- a chain with one leaf
@@ -47,8 +49,8 @@ module _ (v : Seen) (old new : FinMap nat_cmp Fate) (room left : List ℕ) (dir 
   low : i < table_count h
   low = index_low h can.sound can.shown.hashed name can.small
 
-  first_leaf : (x : ℕ) (taken : List ℕ) → x ≡ entry h i → IsInsertedAt h name taken x
-  first_leaf x taken is = subst (IsInsertedAt h name taken) (sym is) (a_full_leaf 0 no_room (chain_head low))
+  first_leaf : (x : ℕ) (g : Holding) (taken : List ℕ) → x ≡ entry h i → IsInsertedAt h g name taken x
+  first_leaf x g taken is = subst (IsInsertedAt h g name taken) (sym is) (the_last_leaf 0 no_room (chain_head low) at.one)
 
   one_after : HasOneLeafFor m name
   one_after =
@@ -56,13 +58,13 @@ module _ (v : Seen) (old new : FinMap nat_cmp Fate) (room left : List ℕ) (dir 
       ap (λ x. (leaf_in m x).next) new_one.leads ∙ new_one.next
 
   -- what is done to a leaf of the name's chain afterwards is done to the new one, or to the one that it had
-  of_leaf : (place x : ℕ) (taken : List ℕ) → IsInChain m (index_for m name) place x → IsInsertedAt h name (b ∷ taken) x
-  of_leaf place x taken chain =
+  of_leaf : (place x : ℕ) (g : Holding) (taken : List ℕ) → IsInChain m (index_for m name) place x → IsInsertedAt h g name (b ∷ taken) x
+  of_leaf place x g taken chain =
       let new_one = chosen h m name b can.sound can.shown.hashed can.small less splits.is in
       let is : x ≡ new_one.leaf = only_head m (index_for m name) one_after place x chain ∙ new_one.leads in
       elim new_one.which [
         | inl new_is ↦ one_taken (subst (Contains (b ∷ taken)) (sym (is ∙ new_is)) (here b taken))
-        | inr old_is ↦ first_leaf x (b ∷ taken) (is ∙ old_is)
+        | inr old_is ↦ first_leaf x g (b ∷ taken) (is ∙ old_is)
       ]
 
   in_chain_only : (x from k level first hash place : ℕ) → part_at m x ≡ Some (InChain hash place) → part_at m x ≡ Some (Pointed from k level first) → ⊥
@@ -71,30 +73,51 @@ module _ (v : Seen) (old new : FinMap nat_cmp Fate) (room left : List ℕ) (dir 
       no : Some (InChain hash place) ≡ Some (Pointed from k level first) → ⊥
       no e = cc
 
-  later : (x : ℕ) (taken : List ℕ) → IsInsertedAt m name taken x → IsInsertedAt h name (b ∷ taken) x
-  later x taken (ins.IsInsertedAt.its_dinode is) = ins.IsInsertedAt.its_dinode (is ∙ splits.is.same.own)
-  later x taken (a_leaf_with_room place chain none room_there) = of_leaf place x taken chain
-  later x taken (a_full_leaf place none chain) = of_leaf place x taken chain
-  later x taken (one_taken came) = one_taken (Contains-append_right (b ∷ []) taken x came)
-  later x taken (ins.IsInsertedAt.of_table above k level first none one part) = elim (cases_eq x b) [
+  -- what has a pointer to the name's leaf has had one to the leaf before
+  deep_same : depth_in m ≡ depth_in h
+  deep_same = depth_same h m name b can.sound can.shown.hashed can.small less splits.is
+
+  pointer_before : (x : ℕ) → HasPointerOf m (first_of m (index_for m name)) (run_of m (depth_for m name)) x → HasPointerOf h (first_of h i) (run_of h (leaf_depth h i)) x
+  pointer_before x pointer =
+      let new_one = chosen h m name b can.sound can.shown.hashed can.small less splits.is in
+      let half : ℕ = run_of h (leaf_depth h i + 1) in
+      let deep_is : depth_for m name ≡ leaf_depth h i + 1 = ap (λ y. (leaf_in m y).depth) new_one.leads ∙ new_one.depth in
+      let run_is : run_of m (depth_for m name) ≡ run_of h (leaf_depth h i + 1) = ap₂ (λ n k. 2 ^ (n - k)) deep_same deep_is in
+      let first_is : first_of m (index_for m name) ≡ i / run_of h (leaf_depth h i + 1) * run_of h (leaf_depth h i + 1) = ap₂ (λ n r. n / r * r) (index_same h m name b can.sound can.shown.hashed can.small less splits.is) run_is in
+      let inside = run_inside h i less in
+      let j : ℕ = pointer.0 in
+      let within : IsWithin (i / run_of h (leaf_depth h i + 1) * run_of h (leaf_depth h i + 1)) (run_of h (leaf_depth h i + 1)) j = subst₂ (λ f n. IsWithin f n j) first_is run_is pointer.1 in
+      let low_j : j < table_count h = omega (arith, within.high, inside.1, run_low h i can.sound can.shown.hashed low) in
+      pointer_of_more h (i / half * half) half (first_of h i) (run_of h (leaf_depth h i)) x inside.0 inside.1 (j, within, pointer.2 ∙ splits.blocks j low_j)
+
+  later : (x : ℕ) (g : Holding) (taken : List ℕ) → depth_in m ≤ depth_in g → IsInsertedAt m g name taken x → IsInsertedAt h g name (b ∷ taken) x
+  later x g taken on (ins.IsInsertedAt.its_dinode is) = ins.IsInsertedAt.its_dinode (is ∙ splits.is.same.own)
+  later x g taken on (a_leaf_with_room place chain none room_there) = of_leaf place x g taken chain
+  later x g taken on (the_last_leaf place none chain ends) = of_leaf place x g taken chain
+  later x g taken on (one_taken came) = one_taken (Contains-append_right (b ∷ []) taken x came)
+  later x g taken on (ins.IsInsertedAt.of_pointers none one again pointer) = ins.IsInsertedAt.of_pointers no_room at.one less (pointer_before x pointer)
+  later x g taken on (ins.IsInsertedAt.of_table above k level first none one deeper part) = elim (cases_eq x b) [
     | inl is ↦ absurd (in_chain_only x above k level first (first_hash h i) 0 (ap (part_at m) is ∙ splits.is.new_part) part)
     | inr not_new ↦ elim (cases_eq x (entry h i)) [
       | inl is ↦ absurd (in_chain_only x above k level first (middle_hash h i) 0 (ap (part_at m) is ∙ splits.is.old_part) part)
-      | inr other ↦ ins.IsInsertedAt.of_table above k level first no_room at.one (sym (splits.is.parts x not_new other) ∙ part)
+      | inr other ↦ ins.IsInsertedAt.of_table above k level first no_room at.one (omega (arith, deeper, deep_same)) (sym (splits.is.parts x not_new other) ∙ part)
     ]
   ]
 
-  by_split : (x : ℕ) → IsSplitAt h i b x → IsInsertedAt h name (b ∷ []) x
+  by_split : (x : ℕ) → IsSplitAt h i b x → IsInsertedAt h m name (b ∷ []) x
   by_split x (ins.IsSplitAt.its_dinode is) = ins.IsInsertedAt.its_dinode is
-  by_split x (the_leaf chain) = a_full_leaf 0 no_room chain
+  by_split x (the_leaf chain) = the_last_leaf 0 no_room chain (ap (λ y. (leaf_in h y).next) (only_head h i at.one 0 x chain) ∙ at.one)
   by_split x (the_new_one is) = one_taken (subst (Contains (b ∷ [])) (sym is) (here b []))
-  by_split x (ins.IsSplitAt.of_table above k level first part) = ins.IsInsertedAt.of_table above k level first no_room at.one part
+  by_split x (ins.IsSplitAt.of_pointers pointer) =
+      ins.IsInsertedAt.of_pointers no_room at.one less
+      (pointer_of_more h (first_of h i) (run_of h (leaf_depth h i + 1)) (first_of h i) (run_of h (leaf_depth h i)) x (omega arith) (omega (arith, half_less h i less)) pointer)
 
   steps : StepsTo v old new name h m (b ∷ [])
   steps = record {
     puts = splits.puts;
     has = splits.has;
     stays = stays;
+    deep = omega (arith, deep_same);
     changes = λ x. elim (splits.only x) [
       | inl same ↦ inl same
       | inr done ↦ inr (by_split x done)

@@ -1,16 +1,17 @@
 -- Leaves come to a directory and change: its tree is what it was.
-use Rattle.std.proofs.Common.{◌≡◌, ◌≢◌, ℕ, suc, ◌+◌, ◌-◌, ◌*◌, ◌<◌, ◌≤◌, inl, inr, List, length, drop, Option, None, Some, sym, ap, ap₂, ◌∙◌, subst, arith}
+use Rattle.std.proofs.Common.{◌≡◌, ◌≢◌, ℕ, suc, ◌+◌, ◌-◌, ◌*◌, ◌/◌, ◌<◌, ◌≤◌, inl, inr, List, length, drop, Option, None, Some, refl, sym, ap, ap₂, ◌∙◌, subst, arith}
 use Rattle.std.specs.Prelude.{IsSome, ◌&&◌, if◌then◌else◌}
 use Rattle.gfs2_layout.specs.Bytes.{u64_at}
 use Rattle.gfs2_layout.specs.Headers.{HasHeader}
 use Rattle.gfs2_layout.specs.Holding.{Holding, Cell, Part, Itself, Pointed, InChain, part_at, bytes_at}
-use Rattle.gfs2_layout.specs.Inode.{Fits, HasTree, IsChild, IsPointed, by_dinode, by_block, block_count, content_count, depth_in, dinode_in, entry, fan, has_hash_flag, header_length, height_in, is_directory_in, is_hashed_in, pieces, pointer, span, unit}
+use Rattle.gfs2_layout.specs.Inode.{Fits, HasTree, IsChild, IsPointed, by_dinode, by_block, block_count, content_count, depth_in, dinode_in, entry, entry_block, fan, has_hash_flag, header_length, height_in, is_directory_in, is_hashed_in, pieces, pointer, span, unit}
 use Rattle.gfs2_layout.specs.Structures.{dinode_length, dinode_of, is_directory}
 use Rattle.gfs2_layout.specs.declared.dinode.Dinode.{Dinode}
 use Rattle.growth_laws.specs.Files.{with_cells}
 use Rattle.growth_laws.proofs.Numbers.{numbers_behind_are_the_same}
 use Rattle.pointer_tables.specs.Directories.{IsPlaced, IsTreeSound}
-use Rattle.hash_steps.proofs.Contents.{KeepsContent, content_same}
+use Rattle.hash_steps.proofs.Contents.{KeepsContent, content_block_same, content_same}
+use Rattle.table_changes.proofs.Beside.{entry_block_after}
 use Rattle.hash_inserts.specs.Drafting.{with_block}
 use Rattle.hash_inserts.proofs.Blocks.{bytes_here, bytes_apart, part_here, part_apart, some_before}
 use Rattle.std.proofs.lemmas.Bool.{cases_eq}
@@ -152,6 +153,11 @@ module _ (h : Holding) (cell : ℕ → Option Cell) (keeps : KeepsTree h cell) w
 
   pub entry_same : IsTreeSound h → 512 ≤ h.size → (i : ℕ) → entry g i ≡ entry h i
   entry_same sound large i = ap (u64_at (8 * i)) (content_same h cell keeps_content sound.tree large sound.fits)
+
+  -- each pointer of a table stands where it stood
+  pub entry_block_same : IsTreeSound h → 512 ≤ h.size → (j : ℕ) → 8 * j / unit h < content_count h → entry_block g j ≡ entry_block h j
+  entry_block_same sound large j near = entry_block_after h g j refl height_same unit_same
+      (λ level high i low. (content_block_same h cell keeps_content sound.tree large level high i low).0) (λ level high. omega (arith, near, sound.fits.under level high))
 
 -- ---- block by block
 

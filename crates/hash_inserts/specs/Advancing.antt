@@ -51,8 +51,9 @@ pub record StepsTo (v : Seen) (old new : FinMap nat_cmp Fate) (name : List ℕ) 
   pub puts : Puts v old new h m
   pub has : HasTaken h m more
   pub stays : Stays h m
-  pub changes : (b : ℕ) → (get new b ≡ get old b) ⊎ IsInsertedAt h name more b
-  pub later : (b : ℕ) (taken : List ℕ) → IsInsertedAt m name taken b → IsInsertedAt h name (more ++ taken) b
+  pub deep : depth_in h ≤ depth_in m
+  pub changes : (b : ℕ) → (get new b ≡ get old b) ⊎ IsInsertedAt h m name more b
+  pub later : (b : ℕ) (g : Holding) (taken : List ℕ) → depth_in m ≤ depth_in g → IsInsertedAt m g name taken b → IsInsertedAt h g name (more ++ taken) b
   pub goes_on : (e : Entry) (g : Holding) (taken : List ℕ) → IsInserted name e m g taken → IsInserted name e h g (more ++ taken)
 
 -- The draft is a step on: it shows the directory after it, which can still get the name, and the one leaf of the name's chain.

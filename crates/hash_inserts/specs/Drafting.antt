@@ -5,7 +5,7 @@ use Rattle.std.specs.Ordering.{nat_cmp}
 use Rattle.drafts.specs.Fates.{seen_with}
 use Rattle.drafts.specs.declared.fate.Fate.{Fate}
 use Rattle.gfs2_layout.specs.Holding.{Holding, Part}
-use Rattle.gfs2_layout.specs.Inode.{entry}
+use Rattle.gfs2_layout.specs.Inode.{entry, entry_block, table_count}
 use Rattle.glock_names.specs.Views.{Seen, HasBlock}
 use Rattle.glock_names.specs.declared.steps.Entry.{Entry}
 use Rattle.dinode_tree.specs.Below.{IsBelow}
@@ -53,10 +53,11 @@ pub record Lengthens (v : Seen) (old new : FinMap nat_cmp Fate) (h g : Holding) 
   pub there : HasBlock (seen_with v new) b
   pub has : HasTaken h g (b ∷ [])
 
--- The leaf of pointer i is split.
+-- The leaf of pointer i is split, and each pointer stands where it stood.
 pub record SplitsLeaf (v : Seen) (old new : FinMap nat_cmp Fate) (h g : Holding) (i b : ℕ) : Type 0 where
   pub puts : Puts v old new h g
   pub is : IsSplit h g i b
+  pub blocks : (j : ℕ) → j < table_count h → entry_block g j ≡ entry_block h j
   pub only : (y : ℕ) → (get new y ≡ get old y) ⊎ IsSplitAt h i b y
   pub has : HasTaken h g (b ∷ [])
 

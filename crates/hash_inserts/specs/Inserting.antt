@@ -6,7 +6,7 @@ use Rattle.drafts.specs.declared.fate.Fate.{Fate}
 use Rattle.drafts.specs.declared.fate.Fate.TheVariants.{Put}
 use Rattle.gfs2_layout.specs.Area.{slots_of}
 use Rattle.gfs2_layout.specs.Holding.{Holding, Pointed, bytes_at, part_at}
-use Rattle.gfs2_layout.specs.Inode.{depth_in, dinode_in, leaf_area, table_count}
+use Rattle.gfs2_layout.specs.Inode.{depth_in, dinode_in, leaf_area, leaf_in, table_count}
 use Rattle.glock_names.specs.Views.{Seen}
 use Rattle.glock_names.specs.declared.steps.Entry.{Entry}
 use Rattle.glock_names.specs.declared.steps.Missing.{Missing}
@@ -17,12 +17,13 @@ use Rattle.growth_drafts.specs.Taken.{HasTaken}
 use Rattle.linear_dirs.specs.Exchanges.{HasExchanged}
 use Rattle.linear_dirs.specs.Shown.{record_for}
 use Rattle.pointer_tables.specs.Tables.{IsDoubled}
+use Rattle.table_growth.specs.Pointers.{HasPointerOf}
 use Rattle.table_growth.specs.Tables.{DraftsDirectory, GrowsAsFile, IsClearBehind, KeepsTableHeaders, doubling_need_of}
 use Rattle.resource_groups.specs.Putting.{HasDataBlock}
 use Rattle.hash_dirs.specs.Broken.{IsWrongIn}
 use Rattle.hash_dirs.specs.Shown.{IsInChain, IsNeededFor, IsSound, index_for}
 use Rattle.hash_steps.specs.Laws.{Stays}
-use Rattle.hash_steps.specs.Leaves.{HasOneLeaf, IsFull, IsFullBefore, has_room_for, leaf_depth}
+use Rattle.hash_steps.specs.Leaves.{HasOneLeaf, IsFull, IsFullBefore, first_of, has_room_for, leaf_depth, run_of}
 use Rattle.hash_steps.specs.Steps.{IsConverted, IsLengthened, IsPutInLeaf, IsSplit}
 
 -- no leaf of the name's chain has room for it
@@ -64,15 +65,17 @@ pub data IsInserted (name : List ℕ) (e : Entry) : Holding → Holding → List
 
 -- ---- in a draft
 
--- A block to which an insertion does something: the dinode's; the leaf that gets the record, or where none has room any of the name's chain; and where
--- blocks are taken, these, and blocks of the table.
-pub data IsInsertedAt (h : Holding) (name taken : List ℕ) (b : ℕ) : Type 0 where
-  its_dinode : b ≡ h.own → IsInsertedAt h name taken b
+-- A block to which an insertion that makes g of h does something: the dinode's; the leaf that gets the record, or where none has room the last of the
+-- name's chain; and where blocks are taken, these, and blocks of the table: those with pointers to the name's leaf where that is split, and all where the table is
+-- doubled.
+pub data IsInsertedAt (h g : Holding) (name taken : List ℕ) (b : ℕ) : Type 0 where
+  its_dinode : b ≡ h.own → IsInsertedAt h g name taken b
   a_leaf_with_room : (place : ℕ) → IsInChain h (index_for h name) place b → IsFullBefore h (index_for h name) (length name) place → has_room_for (length name) (slots_of (leaf_area h b)) ≡ true
-      → IsInsertedAt h name taken b
-  a_full_leaf : (place : ℕ) → HasNoRoom h name → IsInChain h (index_for h name) place b → IsInsertedAt h name taken b
-  one_taken : Contains taken b → IsInsertedAt h name taken b
-  of_table : (above k level first : ℕ) → HasNoRoom h name → HasOneLeafFor h name → part_at h b ≡ Some (Pointed above k level first) → IsInsertedAt h name taken b
+      → IsInsertedAt h g name taken b
+  the_last_leaf : (place : ℕ) → HasNoRoom h name → IsInChain h (index_for h name) place b → (leaf_in h b).next ≡ 0 → IsInsertedAt h g name taken b
+  one_taken : Contains taken b → IsInsertedAt h g name taken b
+  of_pointers : HasNoRoom h name → HasOneLeafFor h name → depth_for h name < depth_in h → HasPointerOf h (first_of h (index_for h name)) (run_of h (depth_for h name)) b → IsInsertedAt h g name taken b
+  of_table : (above k level first : ℕ) → HasNoRoom h name → HasOneLeafFor h name → depth_in h < depth_in g → part_at h b ≡ Some (Pointed above k level first) → IsInsertedAt h g name taken b
 
 -- From one directory to another it puts of each block what it has then, or leaves it, and takes these blocks, which are the front of the room; it
 -- does nothing to any block that isn't one of these.
@@ -86,7 +89,7 @@ pub record Takes (old new : FinMap nat_cmp Fate) (room left taken : List ℕ) (I
 pub record Inserts (old new : FinMap nat_cmp Fate) (room left : List ℕ) (need : ℕ) (name : List ℕ) (e : Entry) (h g : Holding) : Type 0 where
   pub taken : List ℕ
   pub few : length taken ≡ need
-  pub takes : Takes old new room left taken (IsInsertedAt h name taken) h g
+  pub takes : Takes old new room left taken (IsInsertedAt h g name taken) h g
   pub inserted : IsInserted name e h g taken
   pub exchanged : HasExchanged h g [] (record_for name e ∷ [])
   pub sound : IsSound g
@@ -107,12 +110,12 @@ pub record StaysInside (v : Seen) (old new : FinMap nat_cmp Fate) (room left : L
   pub front : room ≡ taken ++ left
   pub changes : (b : ℕ) → (get new b ≡ get old b) ⊎ (MayChange v dir taken b × IsPutUnder new dir b)
 
--- a block to which a split does something: the dinode's, the leaf's, the new leaf's, and those with pointers to it
+-- a block to which a split does something: the dinode's, the leaf's, the new leaf's, and those with pointers that then lead to the new one
 pub data IsSplitAt (h : Holding) (i taken b : ℕ) : Type 0 where
   its_dinode : b ≡ h.own → IsSplitAt h i taken b
   the_leaf : IsInChain h i 0 b → IsSplitAt h i taken b
   the_new_one : b ≡ taken → IsSplitAt h i taken b
-  of_table : (above k level first : ℕ) → part_at h b ≡ Some (Pointed above k level first) → IsSplitAt h i taken b
+  of_pointers : HasPointerOf h (first_of h i) (run_of h (leaf_depth h i + 1)) b → IsSplitAt h i taken b
 
 pub record Splits (old new : FinMap nat_cmp Fate) (room left : List ℕ) (i : ℕ) (h g : Holding) : Type 0 where
   pub block : ℕ

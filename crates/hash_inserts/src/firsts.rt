@@ -1,14 +1,12 @@
 // How many blocks a name takes for which a linear directory has no room.
-ghost use Rattle.std.specs.Prelude.{◌≡◌, ◌^◌, ◌<◌, ◌≤◌, None, false, true, length};
+ghost use Rattle.std.specs.Prelude.{◌≡◌, ◌^◌, ◌<◌, ◌≤◌, None, length};
 ghost use Rattle.gfs2_layout.specs.Holding.{Holding};
-ghost use Rattle.gfs2_layout.specs.Inode.{is_directory_in, is_hashed_in};
 ghost use Rattle.glock_names.specs.Steps.{IfDamaged, IfIs, IfNeedBlock};
 ghost use Rattle.glock_names.specs.Views.{HasBlock, IsOfView};
 ghost use Rattle.dinode_tree.specs.Shown as inode;
 ghost use Rattle.dinode_tree.specs.Walking.{missing_dinode};
 ghost use Rattle.linear_dirs.specs.Broken as linear;
 ghost use Rattle.linear_dirs.specs.Shown.{IsLinearIn};
-ghost use Rattle.hash_dirs.specs.Shown.{IsSound};
 ghost use Rattle.hash_inserts.specs.Needing.{TakesBlocksFirst};
 
 use crate::converting::{first_depth, write_first};
@@ -32,7 +30,7 @@ pub fn need_first<V: View>(
     requires linear { IsLinearIn (V.seen view.now) dir }
     requires some { 1 ≤ length name.now }
     requires short { length name.now ≤ 255 }
-    ensures need { (h : Holding) → inode.IsShown (V.seen view.now) dir h → IsSound h → is_directory_in h ≡ true → is_hashed_in h ≡ false → IfIs result (TakesBlocksFirst h name.now) }
+    ensures need { (h : Holding) → inode.IsShown (V.seen view.now) dir h → IfIs result (TakesBlocksFirst h name.now) }
     ensures most { IfIs result (λ n. n < 2 ^ 42) }
     ensures there { IfIs result (λ n. HasBlock (V.seen view.now) dir) }
     ensures needed { IfNeedBlock result (λ missing. missing ≡ missing_dinode dir) }

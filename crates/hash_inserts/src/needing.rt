@@ -7,7 +7,7 @@ ghost use Rattle.glock_names.specs.Steps.{IfIs, IfNeedBlock, IfDamaged};
 ghost use Rattle.glock_names.specs.Views.{HasBlock, IsOfView};
 ghost use Rattle.dinode_tree.specs.Below.{AnyIndex};
 ghost use Rattle.dinode_tree.specs.Reading.{IsNeeded};
-ghost use Rattle.hash_dirs.specs.Shown.{IsNeededFor, IsShown, IsSound, index_for};
+ghost use Rattle.hash_dirs.specs.Shown.{IsNeededFor, IsShown, index_for};
 ghost use Rattle.hash_dirs.specs.Walking.{IsHead};
 ghost use Rattle.hash_inserts.specs.Drafting.{SeesTree};
 ghost use Rattle.hash_inserts.specs.Inserting.{HasNoRoom, HasOneLeafFor, IsNeededToInsert, IsWrongToInsert};
@@ -34,7 +34,7 @@ fn need_of_one<V: View>(
     requires deep { depth ≤ 15 }
     requires short { length name.now ≤ 255 }
     requires from { HasBlock (V.seen view.now) head.now.from }
-    ensures need { (h : Holding) → IsShown (V.seen view.now) dir h → IsSound h → depth ≡ depth_in h → IsHead h (index_for h name.now) head.now → HasOneLeafFor h name.now → IfIs result (TakesBlocks h name.now) }
+    ensures need { (h : Holding) → IsShown (V.seen view.now) dir h → depth ≡ depth_in h → IsHead h (index_for h name.now) head.now → HasOneLeafFor h name.now → IfIs result (TakesBlocks h name.now) }
     ensures seen { (h : Holding) → IsShown (V.seen view.now) dir h → IfIs result (λ n. SeesTree (V.seen view.now) h) }
     ensures most { IfIs result (λ n. n < 2 ^ 42) }
     ensures needed { (h : Holding) → IsShown (V.seen view.now) dir h → IsHead h (index_for h name.now) head.now → HasNoRoom h name.now → HasOneLeafFor h name.now
@@ -74,7 +74,7 @@ pub fn need_insert<V: View, T: PointerTable>(
 ) -> Result<Step<u64>, CallFault>
     requires some { 1 ≤ length name.now }
     requires short { length name.now ≤ 255 }
-    ensures need { (h : Holding) → IsShown (V.seen view.now) dir h → T.shows table.now (V.seen view.now) h → IsSound h → IfIs result (TakesBlocks h name.now) }
+    ensures need { (h : Holding) → IsShown (V.seen view.now) dir h → T.shows table.now (V.seen view.now) h → IfIs result (TakesBlocks h name.now) }
     ensures most { IfIs result (λ n. n < 2 ^ 42) }
     ensures seen { (h : Holding) → IsShown (V.seen view.now) dir h → T.shows table.now (V.seen view.now) h → IfIs result (λ n. SeesToInsert (V.seen view.now) h name.now) }
     ensures needed { (h : Holding) → IsShown (V.seen view.now) dir h → T.shows table.now (V.seen view.now) h → IfNeedBlock result (IsNeededToInsert (V.seen view.now) h name.now) }

@@ -4,9 +4,11 @@ use Rattle.std.specs.Prelude.{Contains, ◌&&◌, filter, flat_map, not}
 use Rattle.std.specs.List.Sorted.{IsPermutation}
 use Rattle.std.proofs.Math.Nat.{mul-div_cancel, mul-le-mul_right}
 use Rattle.std.proofs.lemmas.Bool.{cases_eq, cond-false, cond-true, eq-eqb, eqb-true, true≢false}
+use Rattle.std.proofs.lemmas.List.{take_all}
 use Rattle.std.proofs.lemmas.List.Sorted.{IsPermutation-filter_both, IsPermutation-refl}
 use Rattle.crc_words.specs.Remainder.{crc32_of}
 use Rattle.gfs2_layout.specs.Area.{name_of, slots_of}
+use Rattle.gfs2_layout.specs.Bytes.{slice}
 use Rattle.gfs2_layout.specs.Exchanges.{IsExchanged}
 use Rattle.gfs2_layout.specs.Holding.{Holding, Part, InChain, part_at, bytes_at}
 use Rattle.gfs2_layout.specs.Inode.{IsHashed, IsLeaf, IsNextLeaf, depth_in, entry, first_hash, has_hash_flag, index_bits, is_hashed_in, is_leaf_part, leaf_area, leaf_in, leaf_length, leaves_of, records_of, table_count, top_bits}
@@ -47,6 +49,13 @@ upper_count depth area =
     used : (a b : Bool) → (a && not (a && b)) ≡ (a && not b)
     used true b = refl
     used false b = refl
+
+-- ---- bytes of which every stretch is the same
+
+same_slices : (xs ys : List ℕ) → ((at n : ℕ) → slice at n xs ≡ slice at n ys) → xs ≡ ys
+same_slices xs ys same =
+    let n : ℕ = length xs + length ys in
+    sym (take_all n xs (omega arith)) ∙ same 0 n ∙ take_all n ys (omega arith)
 
 module _ (h g : Holding) (i b : ℕ) (sound : IsSound h) (hashed : is_hashed_in h ≡ true) (low : i < table_count h) (one_leaf : HasOneLeaf h i) (shallow : leaf_depth h i < depth_in h) (split : IsSplit h g i b) where
   was : IsHashed h
@@ -144,9 +153,10 @@ module _ (h g : Holding) (i b : ℕ) (sound : IsSound h) (hashed : is_hashed_in 
 
   leaf_bytes : (y hash place : ℕ) → part_at h y ≡ Some (InChain hash place) → y ≢ entry h i → bytes_at g y ≡ bytes_at h y
   leaf_bytes y hash place part other =
-      split.others y (λ own. no_table_block y hash place part (inl own)) (new_apart y (InChain hash place) part) other
-      (λ j within is. no_table_block y hash place part (subst (IsTableBlock h) (sym is)
-      (table_block h sound.inode.tree sound.inode.fits (large_of h.size sound.block_size) (directory_of h hashed) was.size j (within_low j within))))
+      same_slices (bytes_at g y) (bytes_at h y) (λ at n.
+      split.others y at n (new_apart y (InChain hash place) part) other (λ own. absurd (no_table_block y hash place part (inl own)))
+      (λ j within is. absurd (no_table_block y hash place part (subst (IsTableBlock h) (sym is)
+      (table_block h sound.inode.tree sound.inode.fits (large_of h.size sound.block_size) (directory_of h hashed) was.size j (within_low j within))))))
 
   -- ---- which hashes belong to a pointer
 

@@ -1,14 +1,16 @@
 -- A leaf as it is put, and what a step leaves of a hashed directory's other blocks.
-use Rattle.std.specs.Prelude.{ℕ, ◌≡◌, ◌+◌, ◌-◌, ◌*◌, ◌/◌, ◌^◌, ◌<◌, Bool, false, List, take, replicate}
+use Rattle.std.specs.Prelude.{ℕ, ◌≡◌, ◌⊎◌, ◌+◌, ◌-◌, ◌*◌, ◌/◌, ◌%◌, ◌^◌, ◌<◌, ◌≤◌, ◌==◌, Bool, true, false, if◌then◌else◌, List, take, replicate}
 use Rattle.std.specs.List.{list_any}
 use Rattle.gfs2_layout.specs.Area.{Slot, IsArea, slots_of}
 use Rattle.gfs2_layout.specs.Bytes.{u32_at}
 use Rattle.gfs2_layout.specs.Headers.{HasHeader}
 use Rattle.gfs2_layout.specs.Holding.{Holding, bytes_at}
-use Rattle.gfs2_layout.specs.Inode.{depth_in, entry, first_hash, leaf_area, leaf_in, leaf_length}
+use Rattle.gfs2_layout.specs.Inode.{depth_in, entry, entry_block, first_hash, header_length, height_in, leaf_area, leaf_in, leaf_length, unit}
 use Rattle.gfs2_layout.specs.Putting.{has_room, least_length}
+use Rattle.gfs2_layout.specs.Structures.{dinode_length}
 use Rattle.gfs2_layout.specs.Writing.{leaf_put}
 use Rattle.gfs2_layout.specs.declared.leaf.Leaf.{Leaf}
+use Rattle.pointer_tables.specs.Tables.{is_within}
 use Rattle.hash_dirs.specs.Shown.{IsInChain}
 
 -- ---- leaves
@@ -43,6 +45,14 @@ run_of h depth = 2 ^ (depth_in h - depth)
 -- the first of the pointers that lead where pointer i leads
 abbrev pub first_of : Holding → ℕ → ℕ
 first_of h i = i / run_of h (leaf_depth h i) * run_of h (leaf_depth h i)
+
+-- from which byte of its block on a pointer stands: behind the dinode, or behind a table block's header
+abbrev pub entry_place : Holding → ℕ → ℕ
+entry_place h j = if height_in h == 0 then dinode_length + 8 * j else header_length + 8 * j % unit h
+
+-- of the pointers that lead where pointer i leads, none of the lower half stands in the n bytes of the block from this one on
+abbrev pub IsBesideHalf : Holding → ℕ → ℕ → ℕ → ℕ → Type 0
+IsBesideHalf h i x at n = (j : ℕ) → is_within (first_of h i) (run_of h (leaf_depth h i + 1)) j ≡ true → x ≡ entry_block h j → (at + n ≤ entry_place h j) ⊎ (entry_place h j + 8 ≤ at)
 
 -- the first hash of the upper half of the leaf to which pointer i leads
 abbrev pub middle_hash : Holding → ℕ → ℕ

@@ -1,11 +1,12 @@
 -- What becomes of a hashed directory, step by step: a leaf is split, a leaf is added behind a chain, a record is put into a leaf; and a linear directory
 -- becomes a hashed one.
-use Rattle.std.specs.Prelude.{ℕ, ◌≡◌, ◌≢◌, ◌+◌, ◌-◌, ◌*◌, ◌/◌, ◌<◌, true, if◌then◌else◌, List, [], ◌∷◌, length, drop, replicate, filter, not, ◌&&◌, Some, None}
+use Rattle.std.specs.Prelude.{ℕ, ◌≡◌, ◌≢◌, ◌+◌, ◌-◌, ◌*◌, ◌/◌, ◌<◌, ◌≤◌, true, if◌then◌else◌, List, [], ◌∷◌, length, drop, replicate, filter, not, ◌&&◌, Some, None}
 use Rattle.std.specs.List.{All}
 use Rattle.gfs2_layout.specs.Area.{Slot, slots_of}
+use Rattle.gfs2_layout.specs.Bytes.{slice}
 use Rattle.gfs2_layout.specs.Exchanges.{IsCounted}
 use Rattle.gfs2_layout.specs.Holding.{Holding, InChain, bytes_at, part_at}
-use Rattle.gfs2_layout.specs.Inode.{dinode_in, entry, entry_block, first_hash, is_hashed_in, leaf_area, leaf_in, leaf_length, linear_area, table_count}
+use Rattle.gfs2_layout.specs.Inode.{dinode_in, entry, first_hash, is_hashed_in, leaf_area, leaf_in, leaf_length, linear_area, table_count}
 use Rattle.gfs2_layout.specs.Putting.{put_slot}
 use Rattle.gfs2_layout.specs.Structures.{dinode_length, is_in_use}
 use Rattle.glock_names.specs.declared.steps.Entry.{Entry}
@@ -17,7 +18,7 @@ use Rattle.leaf_areas.specs.Splitting.{is_lower, lower_half, upper_half}
 use Rattle.pointer_tables.specs.Directories.{IsPlaced, IsTreeSound}
 use Rattle.pointer_tables.specs.Tables.{is_within}
 use Rattle.hash_dirs.specs.Shown.{IsInChain, index_for}
-use Rattle.hash_steps.specs.Leaves.{IsLeafPut, IsFullBefore, blank, first_of, leaf_depth, middle_hash, run_of}
+use Rattle.hash_steps.specs.Leaves.{IsBesideHalf, IsLeafPut, IsFullBefore, blank, first_of, leaf_depth, middle_hash, run_of}
 
 -- It is an inode in the same image with its dinode in the same block, sound but for its leaves, and each of its blocks is one of the image.
 pub record IsSame (h g : Holding) : Type 0 where
@@ -35,7 +36,7 @@ pub record CountsOneMore (h g : Holding) : Type 0 where
 -- ---- a leaf is split
 
 -- Block b is a new leaf. It takes the lower half of the pointers that lead to the leaf of pointer i, and of that leaf's records; the old leaf keeps
--- the rest. Pointers apart, no other block of the directory changes but the dinode's.
+-- the rest. Of each other block all bytes stay but these pointers; of the dinode's, all behind the dinode but these.
 pub record IsSplit (h g : Holding) (i b : ℕ) : Type 0 where
   pub same : IsSame h g
   pub counts : CountsOneMore h g
@@ -48,7 +49,7 @@ pub record IsSplit (h g : Holding) (i b : ℕ) : Type 0 where
   pub old_leaf : IsLeafPut g (entry h i) (bytes_at h (entry h i)) (record { depth = leaf_depth h i + 1; entries = length (filter (λ s. is_in_use s.head && not (is_lower (leaf_depth h i) s)) (slots_of (leaf_area h (entry h i)))); next = 0 })
       (upper_half (leaf_depth h i) (slots_of (leaf_area h (entry h i))))
   pub entries : (j : ℕ) → j < table_count h → entry g j ≡ (if is_within (first_of h i) (run_of h (leaf_depth h i + 1)) j then b else entry h j)
-  pub others : (x : ℕ) → x ≢ h.own → x ≢ b → x ≢ entry h i → ((j : ℕ) → is_within (first_of h i) (run_of h (leaf_depth h i + 1)) j ≡ true → x ≢ entry_block h j) → bytes_at g x ≡ bytes_at h x
+  pub others : (x at n : ℕ) → x ≢ b → x ≢ entry h i → (x ≡ h.own → dinode_length ≤ at) → IsBesideHalf h i x at n → slice at n (bytes_at g x) ≡ slice at n (bytes_at h x)
 
 -- ---- a leaf is added
 

@@ -1,12 +1,16 @@
 -- The directory at the place to which the walk came, as far as the view shows it.
-use Rattle.std.proofs.Common.{◌≡◌, ℕ, ◌+◌, ◌≤◌, true, false, List, [], ◌∷◌, ◌++◌, length, None, refl, sym, ap, ◌∙◌, subst}
-use Rattle.std.specs.Prelude.{Contains}
+use Rattle.std.proofs.Common.{◌≡◌, ℕ, ◌+◌, ◌≤◌, true, false, List, [], ◌∷◌, ◌++◌, length, Option, None, Ok, refl, sym, ap, ◌∙◌, subst}
+use Rattle.std.specs.Prelude.{Contains, IfNone}
 use Rattle.file_tree.specs.Names.{parent_of, last_of}
 use Rattle.file_tree.specs.declared.call.Call.{Call}
 use Rattle.file_tree.proofs.WalkLaws.{last_front}
 use Rattle.gfs2_layout.specs.Holding.{Holding}
 use Rattle.glock_names.specs.Views.{Seen, IsView}
+use Rattle.glock_names.specs.Steps.{IfIs}
 use Rattle.glock_names.specs.declared.steps.Missing.{Missing}
+use Rattle.glock_names.specs.declared.steps.Step.{Step}
+use Rattle.glock_names.specs.declared.steps.Step.TheVariants.{Is}
+use Rattle.glock_names.proofs.StepLaws.{answer_at}
 use Rattle.call_locks.specs.Wants.{wanted}
 use Rattle.call_locks.specs.WantLaws.{path_of}
 use Rattle.directories.specs.Shown.{IsShown}
@@ -18,6 +22,7 @@ use Rattle.path_walks.specs.declared.walk.Place.{Place}
 use Rattle.path_walks.proofs.Leads.{no_end}
 use Rattle.path_walks.proofs.Lists.{parent_of_next}
 use Rattle.name_inserts.specs.Inserting.{IsNeededForName, IsWrongForName}
+use Rattle.name_inserts.specs.Way.{IsOnWay}
 use Rattle.name_drafts.specs.Drafting as drafting
 use Rattle.name_drafts.specs.Drafting.{IsNeededIn, IsWrongIn}
 use Rattle.making_calls.specs.Making.{IsDamage, IsNeededFor, IsToGetName, NeedsBlocks, TakesForName, directory_path, name_in}
@@ -25,6 +30,10 @@ use Rattle.making_calls.specs.Making as damage
 use Rattle.making_calls.specs.Searches.{blocks_of}
 use Rattle.making_calls.specs.declared.blocks.Room.{Room}
 use Rattle.making_calls.proofs.Rooms.{IsHeldRoom}
+
+-- what holds where nothing was found
+pub none_at : (step : Step (Option ℕ)) (o : Option ℕ) (P : Type 0) → step ≡ Is o → o ≡ None → IfIs (Ok step) (λ found. IfNone found P) → P
+none_at step o P is none holds = subst (λ found. IfNone found P) none (answer_at step o (λ found. IfNone found P) is holds)
 
 module _ (c : Call) (name : List ℕ) (last : IsLastOf (path_of c false) name) where
   pub own_name : name_in c ≡ name
@@ -58,11 +67,11 @@ module _ (c : Call) (name : List ℕ) (last : IsLastOf (path_of c false) name) w
     name_damage rule b wrong = damage.for_name rule b to_get wrong
 
     module _ (node more : ℕ) (view : IsView v) (some : 1 ≤ length v.groups) (first : 1 ≤ node) (r : Room) (room : IsHeldRoom v node (more + 1) view some first r) where
-      -- the group's bits call the directory's own block free
-      pub free_damage : Contains (blocks_of r) p.inode → IsDamage v c 5 p.inode
-      free_damage there =
-          let h = room.each p.inode there in
-          damage.called_free p.inode to_get seen.leads (record { group = h.group; has = h.has; data_block = h.data_block; held = h.held; free = room.free p.inode h.group there h.has h.data_block })
+      -- the group's bits call a block free that is on the way to the name
+      pub free_damage : (b : ℕ) → Contains (blocks_of r) b → ((h : Holding) → IsShown v p.inode h → IsOnWay h name b) → IsDamage v c 5 b
+      free_damage b there on =
+          let h = room.each b there in
+          damage.called_free b to_get (λ k shown. subst (λ n. IsOnWay k n b) (sym own_name) (on k shown)) (record { group = h.group; has = h.has; data_block = h.data_block; held = h.held; free = room.free b h.group there h.has h.data_block })
 
       -- what the draft asks for, and tells
       pub addition_needs : (m : Missing) → IsNeededIn v p.inode name (blocks_of r) m → IsNeededFor v c m

@@ -1,9 +1,9 @@
 -- A name made in the directory at the place to which the walk came.
-use Rattle.std.proofs.Common.{◌≡◌, inl, Bool, true, false, true≢false, ℕ, ◌+◌, ◌<◌, ◌≤◌, List, [], ◌∷◌, ◌++◌, length, map, None, Some, refl, sym, ap, ◌∙◌, subst, subst₂, arith}
+use Rattle.std.proofs.Common.{◌≡◌, ◌≢◌, inl, Bool, true, false, true≢false, ℕ, ◌+◌, ◌<◌, ◌≤◌, List, [], ◌∷◌, ◌++◌, length, map, None, Some, refl, sym, ap, ◌∙◌, subst, subst₂, arith}
 use Rattle.std.proofs.lemmas.List.{append-nil, length-append, nil_from_length}
 use Rattle.std.proofs.lemmas.List.Elements.{All-append, Contains-append_left}
 use Rattle.std.specs.FinMap.{get}
-use Rattle.std.specs.Prelude.{Contains, is_some}
+use Rattle.std.specs.Prelude.{Contains, IsSome, is_some}
 use Rattle.cluster_history.specs.Changes.{is_ok}
 use Rattle.file_tree.specs.Apply.{apply, Answer, put_at}
 use Rattle.file_tree.specs.Names.{IsName}
@@ -30,7 +30,7 @@ use Rattle.call_locks.specs.Wants.{wanted}
 use Rattle.call_locks.specs.WantLaws.{path_of}
 use Rattle.dinode_tree.specs.Reading.{inode_lock}
 use Rattle.directories.specs.Shown.{IsShown}
-use Rattle.hash_dirs.specs.Shown.{IsSound}
+use Rattle.hash_dirs.specs.Shown.{IsSound, index_for}
 use Rattle.resource_groups.specs.Putting.{HasDataBlock}
 use Rattle.resource_groups.specs.Shown.{IsDataOf, group_lock, said}
 use Rattle.resource_groups.proofs.Apart.{one_group}
@@ -68,6 +68,7 @@ use Rattle.room_search.proofs.InImage.{all_said, are_shown, blocks_said, group_a
 use Rattle.room_search.proofs.Room.{all_listed}
 use Rattle.name_inserts.specs.Inserting.{IsNamed, IsNeededForName, IsWrongForName}
 use Rattle.name_inserts.specs.Need.{name_need}
+use Rattle.name_inserts.specs.Way.{IsOnWay, its_dinode, its_leaf, its_pointer}
 use Rattle.name_drafts.specs.Drafting.{GrowsInto, HasLinearRoom, IsAddition, IsNeededIn, IsPlaceFor, IsPutUnder, IsWrongIn, entry_for, new_tree}
 use Rattle.name_drafts.specs.Drafting as drafting
 use Rattle.making_calls.specs.Blocks.{block_holds, first_of, new_holds}
@@ -228,9 +229,17 @@ module _ (v : Seen) (c : Call) (is : IsMaking c) (p : Place) (name : List ℕ) (
           as_many = long;
         }
 
-        -- the directory's own block isn't among them
-        pub directory_apart : Contains (blocks_of r) p.inode → ⊥
-        directory_apart there = true≢false (sym shown.inode.dinode ∙ ap is_some ((free_blocks_are_new im o l p.inode of.stands.laid (placed.free p.inode there)).0 p.inode))
+        -- none of them is on the way to the name
+        pub way_apart : (b : ℕ) → Contains (blocks_of r) b → IsOnWay dir name b → ⊥
+        way_apart b there on = true≢false (sym (has b on new_block.1) ∙ ap is_some (new_block.0 p.inode))
+          where
+            new_block : ((a : ℕ) → (holding im o a).cell b ≡ None) × (b ≢ 0) × (b < im.count)
+            new_block = free_blocks_are_new im o l b of.stands.laid (placed.free b there)
+
+            has : (x : ℕ) → IsOnWay dir name x → x ≢ 0 → IsSome (dir.cell x)
+            has x (its_dinode is) some = subst (λ y. IsSome (dir.cell y)) (sym is) shown.inode.dinode
+            has x (its_pointer hashed below is) some = shown.inode.led_to below.0 below.1 below.2 below.3 x below.4
+            has x (its_leaf place hashed chain) some = shown.leaves hashed (index_for dir name) place x chain some
 
         -- the locks that the change touches are of the list
         pub under : {time : ℕ} (change : Change) → IsAddition v (makes_directory c) p name r.new r.rest.items time change → locks.IsUnder o (call_holds im o l t c node) change

@@ -36,8 +36,10 @@ use Rattle.path_walks.specs.declared.walk.Place.{Place}
 use Rattle.directories.specs.Shown as dirs
 use Rattle.hash_dirs.specs.Shown.{IsSound}
 use Rattle.draft_changes.specs.Resizing.{HoldsThere}
+use Rattle.hash_inserts.specs.Needing as leaves
 use Rattle.name_inserts.specs.Inserting.{CanGetName, IsNamed, IsNeededForName, IsWrongForName}
-use Rattle.name_inserts.specs.Need.{has_linear_room, name_need}
+use Rattle.name_inserts.specs.Need.{name_need, need_in_linear}
+use Rattle.name_inserts.specs.Way.{IsOnWay, IsRightWay}
 use Rattle.name_drafts.specs.Drafting.{CountsNumber, GetsRecord, HasLinearRoom, HasTimes, IsAddition, IsNewInode, IsNextOf, entry_for}
 use Rattle.new_inodes.specs.Touched.{IsTouched}
 use Rattle.path_walks.specs.Walks.{LeadsTo, Names, IsAbsent, IsDirectoryAt, IsLacked, IsOnTheWay, IsPlaceOf, IsSeenAt, IsUnread, IsWrongAt, LacksName}
@@ -45,7 +47,7 @@ use Rattle.path_walks.specs.Walks as path
 use Rattle.room_search.specs.Blocks.{states_by, free_for, free_in_all, group_of_node}
 use Rattle.room_search.specs.Searches.{AreShown, IsGroupBroken, IsGroupNeeded}
 use Rattle.making_calls.specs.Blocks.{block_holds, new_holds}
-use Rattle.making_calls.specs.Searches.{IsNewRoom}
+use Rattle.making_calls.specs.Searches.{IsNewRoom, blocks_of}
 use Rattle.making_calls.specs.declared.blocks.Room.{Room}
 use Rattle.making_calls.specs.declared.finds.Found.{Found}
 use Rattle.making_calls.specs.declared.finds.Found.TheVariants as found
@@ -110,10 +112,12 @@ pub record IsToGetName (v : Seen) (call : Call) : Type 0 where
   pub there : HasBlock v directory
   pub lacks : LacksName v directory (name_in call)
 
--- The directory in this block takes so many blocks for the name, where it is sound; and none where it is a linear one that has room for it.
+-- The directory in this block takes so many blocks for the name, by what stands there, be it right or wrong: a linear one by its records, a hashed one by
+-- the name's chain. Of a sound one that is what the name needs.
 pub record TakesForName (v : Seen) (dir : ℕ) (name : List ℕ) (more : ℕ) : Type 0 where
   pub sound : (h : Holding) → dirs.IsShown v dir h → IsSound h → is_directory_in h ≡ true → more ≡ name_need h name
-  pub room : (h : Holding) → dirs.IsShown v dir h → is_hashed_in h ≡ false → has_linear_room h name ≡ true → more ≡ 0
+  pub linear : (h : Holding) → dirs.IsShown v dir h → is_hashed_in h ≡ false → more ≡ need_in_linear h name
+  pub hashed : (h : Holding) → dirs.IsShown v dir h → is_hashed_in h ≡ true → leaves.TakesBlocks h name more
 
 -- The directory is to get the name, and so many blocks are needed in all: one for the new inode, and those that the directory takes.
 pub record NeedsBlocks (v : Seen) (call : Call) (need : ℕ) : Type 0 where
@@ -140,7 +144,7 @@ pub data IsRefused (v : Seen) (call : Call) : Reply → Type 0 where
   has_name : (a b : ℕ) → path_of call false ≢ [] → LeadsTo v (wanted call) (directory_path call) a → Names v a (name_in call) b → IsRefused v call reply.Exists
 
 -- The name was made in the directory at this place, which is to get it: the change is that of this addition, in the blocks that the node takes. The first of
--- these is the new inode's, and the directory takes the rest.
+-- these is the new inode's, and the directory takes the rest. The way to the name is right, and none of them is on it.
 pub record IsMadeBy (v : Seen) (call : Call) (node time : ℕ) (change : Change) : Type 0 where
   pub need : ℕ
   pub needs : NeedsBlocks v call need
@@ -150,6 +154,7 @@ pub record IsMadeBy (v : Seen) (call : Call) (node time : ℕ) (change : Change)
   pub inside : HasDataBlock v place.inode
   pub room : Room
   pub takes : TakesBlocks v node need room
+  pub way : (h : Holding) → dirs.IsShown v place.inode h → IsRightWay v h (name_in call) (blocks_of room)
   pub added : IsAddition v (makes_directory call) place (name_in call) room.new room.rest.items time change
 
 -- the call is answered so
@@ -172,12 +177,14 @@ pub record IsFullFor (v : Seen) (call : Call) (need free : ℕ) : Type 0 where
   pub fewer : free < need
 
 -- The call isn't built for what stands there: the directory that is to get the name can't get it in the blocks that the node takes, since it isn't sound, or
--- can't count it, or the blocks are its own, in a way that no rule tells of what was read. In an image that stands for a tree no directory is such a one.
+-- can't count it, or the blocks are its own. The way to the name is right all the same, each block of it by itself, and none of the blocks is on it. In an
+-- image that stands for a tree no directory is such a one.
 pub record IsUnbuilt (v : Seen) (call : Call) (node : ℕ) : Type 0 where
   pub need : ℕ
   pub needs : NeedsBlocks v call need
   pub room : Room
   pub takes : TakesBlocks v node need room
+  pub way : (h : Holding) → dirs.IsShown v needs.gets.directory h → IsRightWay v h (name_in call) (blocks_of room)
   pub unfit : (h : Holding) → dirs.IsShown v needs.gets.directory h → CanGetName h (name_in call) room.rest.items → ⊥
 
 -- A block without which the call isn't answered: one on the directory's path; of the directory at its end, one without which it isn't told whether it has the
@@ -199,14 +206,15 @@ pub record IsCalledFree (v : Seen) (b : ℕ) : Type 0 where
   pub free : (at : ℕ → List ℕ) → AreShown v at → said at group b ≡ 0
 
 -- the block breaks this rule: on the path, or in the directory at its end; where this is to get the name, in it as what stands there for the name, or in a group
--- whose lock is held; or (2) the directory is none of the groups' data blocks; or (5), where it is to get the name, its group's bits call its own block free
+-- whose lock is held; or (2) the directory is none of the groups' data blocks; or (5), where it is to get the name, the bits of its group call a block free
+-- that is on the way to the name
 pub data IsDamage (v : Seen) (call : Call) : ℕ → ℕ → Type 0 where
   on_path : (rule b : ℕ) → path.IsDamage v (wanted call) (directory_path call) rule b → IsDamage v call rule b
   in_directory : (a rule b : ℕ) → LeadsTo v (wanted call) (directory_path call) a → IsWrongAt v a rule b → IsDamage v call rule b
   for_name : (rule b : ℕ) (gets : IsToGetName v call) → ((h : Holding) → dirs.IsShown v gets.directory h → IsWrongForName v h rule b) → IsDamage v call rule b
   in_group : (rule b : ℕ) → IsToGetName v call → IsGroupBroken v rule b → IsDamage v call rule b
   no_data_block : (a : ℕ) → LeadsTo v (wanted call) (directory_path call) a → ¬ (HasDataBlock v a) → IsDamage v call 2 a
-  called_free : (a : ℕ) → IsToGetName v call → LeadsTo v (wanted call) (directory_path call) a → IsCalledFree v a → IsDamage v call 5 a
+  called_free : (b : ℕ) (gets : IsToGetName v call) → ((h : Holding) → dirs.IsShown v gets.directory h → IsOnWay h (name_in call) b) → IsCalledFree v b → IsDamage v call 5 b
 
 -- ---- in an image that the view may be of
 

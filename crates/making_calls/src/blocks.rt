@@ -1,16 +1,23 @@
 // The blocks that a new name takes: the new inode's, whose lock is looked at, and those that the directory needs for the record.
-ghost use Rattle.std.specs.Prelude.{ℕ, List, ◌≡◌, ◌≤◌, ◌↔◌, IsTrue, length, Contains, Some, IfOk};
-ghost use Rattle.glock_names.specs.Steps.{IfDamaged};
-ghost use Rattle.glock_names.specs.Views.{IsOfView};
+ghost use Rattle.std.specs.Prelude.{ℕ, List, ◌≡◌, ◌≤◌, length, Contains, None, Some, IfNone, IfOk, IfSome};
+ghost use Rattle.file_tree.specs.Names.{IsName};
+ghost use Rattle.gfs2_layout.specs.Holding.{Holding};
+ghost use Rattle.glock_names.specs.Steps.{IfDamaged, IfIs, IfNeedBlock};
+ghost use Rattle.glock_names.specs.Views.{HasBlock, IsOfView};
 ghost use Rattle.glock_names.specs.declared.views.Group.{Group as GroupValue};
 ghost use Rattle.resource_groups.specs.Shown.{said};
 ghost use Rattle.room_search.specs.Blocks.{group_of_node};
 ghost use Rattle.room_search.specs.Searches.{AreShown, IsGroupBroken, IsUnder};
+ghost use Rattle.directories.specs.Shown.{IsDirectoryIn, IsShown};
+ghost use Rattle.name_inserts.specs.Inserting.{IsNeededForName, IsWrongForName};
+ghost use Rattle.name_inserts.specs.Way.{IsOnWay, IsRightWay};
 ghost use Rattle.making_calls.specs.Blocks.{block_holds};
 ghost use Rattle.making_calls.specs.Searches.{IsTaken, blocks_of};
 
-use glock_names::{CallFault, LockName, State, View, is_at_most};
+use file_tree::Name;
+use glock_names::{CallFault, LockName, State, Step, View, is_at_most};
 use name_drafts::NewBlock;
+use name_inserts::block_on_way;
 use resource_groups::group_of;
 use room_search::{Locked, Taken, find_room};
 use std::alloc::Global;
@@ -20,15 +27,6 @@ use std::alloc::Global;
 pub(crate) struct Room {
     pub new: NewBlock,
     pub rest: Vec<u64>,
-}
-
-impl Room {
-    /// Whether a block is one of these. It goes over them.
-    pub(crate) fn has(&self, block: u64) -> bool
-        ensures { IsTrue result ↔ Contains (blocks_of self.now) block }
-    {
-        self.new.block == block || self.rest.contains(&block)
-    }
 }
 
 /// The blocks that are taken, or how few are free in all groups.
@@ -80,4 +78,25 @@ pub(crate) fn find_blocks<V: View>(
         new: NewBlock { group, block },
         rest: blocks,
     })))
+}
+
+/// The first of these blocks that is on the way to a name in the directory with its dinode in this block. Where none is, the way is right. It costs what
+/// `block_on_way` costs.
+pub(crate) fn taken_on_way<V: View>(
+    view: &V,
+    dir: u64,
+    name: &Name,
+    room: &Room,
+) -> Result<Step<Option<u64>>, CallFault>
+    requires directory { IsDirectoryIn (V.seen view.now) dir }
+    requires named { IsName name.now }
+    ensures some { (h : Holding) → IsShown (V.seen view.now) dir h → IfIs result (λ found. IfSome found (λ b. Contains (blocks_of room.now) b × IsOnWay h name.now b)) }
+    ensures there { IfIs result (λ found. IfSome found (HasBlock (V.seen view.now))) }
+    ensures none { (h : Holding) → IsShown (V.seen view.now) dir h → IfIs result (λ found. IfNone found (IsRightWay (V.seen view.now) h name.now (blocks_of room.now))) }
+    ensures needed { (h : Holding) → IsShown (V.seen view.now) dir h → IfNeedBlock result (IsNeededForName (V.seen view.now) h name.now) }
+    ensures absent { IfNeedBlock result (λ missing. (V.seen view.now).block_at missing.block ≡ None) }
+    ensures damaged { (h : Holding) → IsShown (V.seen view.now) dir h → IfDamaged result (IsWrongForName (V.seen view.now) h) }
+    ensures kept { IfDamaged result (IsOfView (V.seen view.now)) }
+{
+    block_on_way(view, dir, name.bytes(), room.new.block, &room.rest)
 }

@@ -19,7 +19,7 @@ ghost use Rattle.path_walks.specs.Holds.{AreHeld, IsAskedFor, IsFirstLack, IsUnd
 ghost use Rattle.path_walks.specs.Walks.{IsLastOf, IsSeenAt, LacksName};
 ghost use Rattle.making_calls.specs.Making.{IfMade, IsAnswered, IsDamage, IsFound, IsFullFor, IsLackedFor, IsMade, IsMaking, IsNeededFor, IsReachedIn, IsRefusal, IsStamped, IsToldOf, IsTooFew, IsUnbuilt, TakesForName, call_holds, directory_path, makes_directory};
 
-use crate::blocks::{NewRoom, find_blocks};
+use crate::blocks::{NewRoom, find_blocks, taken_on_way};
 use crate::finds::Found;
 use call_locks::wants;
 use directories::look;
@@ -62,8 +62,8 @@ fn is_a_view<V: View>(view: &V)
     let _size = view.block_size();
 }
 
-// Makes the name in the directory at a place, which hasn't it and takes so many blocks for it: they are searched with that of the new inode, and
-// then all is drafted.
+// Makes the name in the directory at a place, which hasn't it and takes so many blocks for it: they are searched with that of the new inode, the way to
+// the name is looked at again, that none of them is on it, and then all is drafted.
 fn make_with<V: View>(
     alloc: Global,
     view: &V,
@@ -105,11 +105,12 @@ fn make_with<V: View>(
         Locked::NeedLock { lock, state } => return Ok(Found::NeedLock { lock, state }),
         Locked::NeedBlock(missing) => return Ok(Found::NeedBlock(missing)),
     };
-    if room.has(place.inode) {
-        return Err(CallFault::Damaged {
-            block: place.inode,
-            rule: 5,
-        });
+    let on_way = match taken_on_way(view, place.inode, name, &room)? {
+        Step::Is(on_way) => on_way,
+        Step::NeedBlock(missing) => return Ok(Found::NeedBlock(missing)),
+    };
+    if let Some(block) = on_way {
+        return Err(CallFault::Damaged { block, rule: 5 });
     }
     let is_directory = is_of_directory(call);
     match addition(
@@ -243,7 +244,7 @@ fn find<V: View>(alloc: Global, view: &V, call: &Call, stamp: &Stamp) -> Result<
 /// group is asked for. They and that of the new inode, which is the first, are the least free ones of the node's own group, or else of all groups in order;
 /// the new inode and the directory get the stamp's time. It costs a walk along the path, and what looking up the name, counting the blocks, putting the
 /// name and taking the blocks cost: two passes over the blocks of each group that is looked at, of a linear directory four over its records, of a hashed
-/// one four along the chain of the name, and copies of the few blocks that change.
+/// one five along the chain of the name, and copies of the few blocks that change.
 pub fn attempt<V: View>(
     alloc: Global,
     view: &V,

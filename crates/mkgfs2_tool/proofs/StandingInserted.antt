@@ -1,6 +1,6 @@
 -- The directory of journals of a new image is the one that comes of putting its names in one by one.
 use Rattle.std.proofs.Common.{ℕ, zero, suc, ◌≡◌, ◌+◌, ◌-◌, ◌*◌, ◌^◌, ◌<◌, ◌≤◌, ◌⊎◌, inl, inr, Bool, true, false, List, [], ◌∷◌, ◌++◌, length, replicate, map, filter, Some, None, refl, sym, ap, ◌∙◌, subst, arith, append-nil, append_assoc}
-use Rattle.std.specs.Prelude.{◌==◌, ◌%◌, ◌&&◌, option_and_then}
+use Rattle.std.specs.Prelude.{◌==◌, ◌%◌, ◌&&◌}
 use Rattle.std.specs.List.{range_with_len}
 use Rattle.std.proofs.lemmas.Bool.{cases_eq, cond-true, cond-false}
 use Rattle.std.proofs.lemmas.List.{take_at}
@@ -9,14 +9,14 @@ use Rattle.gfs2_layout.specs.Area.{Slot, slots_of, slot_bytes}
 use Rattle.gfs2_layout.specs.Bytes.{with_number}
 use Rattle.gfs2_layout.specs.Fields.{with_fields}
 use Rattle.gfs2_layout.specs.Cutting.{without, emptied, joined}
-use Rattle.leaf_areas.specs.Moving.{packed}
+use Rattle.leaf_areas.specs.Moving.{in_use, packed}
 use Rattle.leaf_areas.specs.Splitting.{is_lower, is_lower_name, cut_each, lower_half, upper_half}
-use Rattle.mkgfs2_tool.specs.Directories.{directory_kind, entry, head_of, journal_entry, journals_entries, name_of as name_in, name_bytes, record_bytes, records, emptied as gone_entry, reaching, upper_entries, lower_entries}
+use Rattle.mkgfs2_tool.specs.Directories.{directory_kind, entry, head_of, journal_entry, name_of as name_in, name_bytes, record_bytes, records, emptied as gone_entry, reaching, upper_entries, lower_entries}
 use Rattle.mkgfs2_tool.specs.Order.{master_place, journals_place, has_hashed_journals, is_split}
 use Rattle.mkgfs2_tool.specs.Hashing.{leaf_room}
 use Rattle.mkgfs2_tool.specs.Blocks.{area_length}
 use Rattle.mkgfs2_tool.specs.Making.{IsFitting}
-use Rattle.mkgfs2_tool.specs.Insertions.{put_each, no_records, first_entries, later_entries, leaf_slots, AreHalves, IsPutLinear, IsPutHashed, JournalsAreInserted}
+use Rattle.mkgfs2_tool.specs.Insertions.{put_in, put_each, no_records, some_entries, first_entries, later_entries, leaf_slots, AreHalves, IsPutLinear, IsPutHashed, JournalsAreInserted}
 use Rattle.mkgfs2_tool.specs.declared.directory.Entry.{Entry}
 use Rattle.mkgfs2_tool.specs.declared.directory.Name.{Name}
 use Rattle.mkgfs2_tool.specs.declared.directory.Name.TheVariants as name
@@ -29,7 +29,7 @@ use Rattle.mkgfs2_tool.proofs.StandingOwners.{journals_taken, some_taken}
 use Rattle.mkgfs2_tool.proofs.StandingFiles.{size_few}
 use Rattle.mkgfs2_tool.proofs.StandingDirs.{this_is, parent_is, journal_is}
 use Rattle.mkgfs2_tool.proofs.StandingLeaves.{gone_plain, wide_plain, taken_long}
-use Rattle.mkgfs2_tool.proofs.StandingSlots.{Is48, Are48, slot_made, made, IsMade, over_made, one_made, both_made, all_made, used, put_full, put_all, put_then, put_new}
+use Rattle.mkgfs2_tool.proofs.StandingSlots.{Is48, Are48, slot_made, made, IsMade, over_made, one_made, both_made, all_made, used, put_full, put_all, put_new, put_packed}
 
 -- ---- the bits of names' hashes
 
@@ -98,20 +98,52 @@ module _ (p : Plan) (fit : IsFitting p) (known : Known p) where
       let room : 96 + 48 * p.journals ≤ area_length p = linear_room p.size p.journals fit.plan.size fit.plan.journals linear in
       put_first_ones p.journals (area_length p) (omega arith) room ∙ ap Some (sym (made_first p.journals (area_length p) (omega arith) room short_area).are)
 
-  whole_is : is_split p ≡ false → put_each (journals_entries p) (no_records (leaf_room p)) ≡ Some (leaf_slots p 0)
-  whole_is whole =
-      let room : 96 + 48 * p.journals ≤ leaf_room p = fits p.journals (leaf_room p) (whole_few p.journals whole) (leaf_wide p fit) in
-      put_first_ones p.journals (leaf_room p) (omega arith) room
-      ∙ ap Some (sym (made_first p.journals (leaf_room p) (omega arith) room short_leaf).are ∙ ap (λ (es : List Entry). slots_of (records (leaf_room p) es)) (sym (cond-false _ _ _ whole)))
-    where
-      fits : (n r : ℕ) → n ≤ 6 → 408 ≤ r → 96 + 48 * n ≤ r
-      fits n r few wide = omega (arith, few, wide)
+  -- ---- what was a linear one
 
-  full_is : 4 ≤ p.journals → p.size ≡ 512 → put_each (first_entries p 4) (no_records (area_length p)) ≡ None
-  full_is some size = subst (λ s. put_each (first_entries p 4) (no_records (s - 232)) ≡ None) (sym size)
-      (put_then (first_entries p 3) (journal 3 ∷ []) (no_records 280)
-      ∙ ap (option_and_then (put_each (journal 3 ∷ []))) (put_first_ones 3 280 (omega (arith, some)) (omega arith))
-      ∙ ap (option_and_then (put_each [])) (put_full (journal 3) 280 this (parent ∷ journal 0 ∷ journal 1 ∷ journal 2 ∷ []) (journal_48 3 (omega (arith, some))) (first_48 3 (omega (arith, some))) (omega arith) (omega arith)))
+  -- the first journals, and those behind them
+  pub from_three : (n : ℕ) → 3 ≤ n → first_entries p 3 ++ some_entries p 3 (n - 3) ≡ first_entries p n
+  from_three n low = ap (first_entries p) (sym (whole n low))
+    where
+      whole : (n : ℕ) → 3 ≤ n → n ≡ suc (suc (suc (n - 3)))
+      whole n low = omega (arith, low)
+
+  module _ (some : 4 ≤ p.journals) (size : p.size ≡ 512) where
+    abbrev three : List Slot
+    three = made (area_length p) (first_entries p 3)
+
+    abbrev leaf : List Slot
+    leaf = packed (leaf_room p) (in_use three)
+
+    abbrev behind : List Entry
+    behind = parent ∷ map journal (range_with_len 0 3)
+
+    three_48 : Are48 (first_entries p 3)
+    three_48 = first_48 3 (omega (arith, some))
+
+    leaf_is : leaf ≡ made (leaf_room p) (first_entries p 3)
+    leaf_is = put_packed (leaf_room p) (area_length p) this behind three_48
+
+    three_put : put_each (first_entries p 3) (no_records (area_length p)) ≡ Some three
+    three_put = put_first_ones 3 (area_length p) (omega (arith, some)) (omega (arith, size))
+
+    no_fourth : put_in (journal 3) three ≡ None
+    no_fourth = put_full (journal 3) (area_length p) this behind (journal_48 3 (omega (arith, some))) three_48 (omega (arith, size)) (omega (arith, size))
+
+    -- more journals, so many, are put into the leaf
+    put_more_ones : (n : ℕ) → 3 ≤ n → n ≤ p.journals → 96 + 48 * n ≤ leaf_room p → put_each (some_entries p 3 (n - 3)) leaf ≡ Some (made (leaf_room p) (first_entries p n))
+    put_more_ones n more low fits =
+        ap (put_each (some_entries p 3 (n - 3))) leaf_is
+        ∙ put_all (leaf_room p) this behind (some_entries p 3 (n - 3)) three_48 (journals_48 3 (n - 3) (omega (arith, more, low))) (omega (arith, length-map-range_with_len journal 3 (n - 3), more, fits))
+        ∙ ap (λ (es : List Entry). Some (made (leaf_room p) es)) (from_three n more)
+
+    whole_is : is_split p ≡ false → put_each (later_entries p 3) leaf ≡ Some (leaf_slots p 0)
+    whole_is whole =
+        let room : 96 + 48 * p.journals ≤ leaf_room p = fits p.journals (leaf_room p) (whole_few p.journals whole) (leaf_wide p fit) in
+        put_more_ones p.journals (omega (arith, some)) (omega arith) room
+        ∙ ap Some (sym (made_first p.journals (leaf_room p) (omega arith) room short_leaf).are ∙ ap (λ (es : List Entry). slots_of (records (leaf_room p) es)) (sym (cond-false _ _ _ whole)))
+      where
+        fits : (n r : ℕ) → n ≤ 6 → 408 ≤ r → 96 + 48 * n ≤ r
+        fits n r few wide = omega (arith, few, wide)
 
   -- ---- the halves
 
@@ -131,7 +163,7 @@ module _ (p : Plan) (fit : IsFitting p) (known : Known p) where
   drops : (s : Slot) (later : List Slot) → is_lower 0 s ≡ false → filter (is_lower 0) (s ∷ later) ≡ filter (is_lower 0) later
   drops s later e = cond-false _ _ _ e
 
-  module _ (split : is_split p ≡ true) (size : p.size ≡ 512) where
+  module _ (some : 4 ≤ p.journals) (split : is_split p ≡ true) (size : p.size ≡ 512) where
     many : 7 ≤ p.journals
     many = split_more p.journals split
 
@@ -288,10 +320,10 @@ module _ (p : Plan) (fit : IsFitting p) (known : Known p) where
     belongs j (inl e) = subst (λ k. is_lower_name 0 (name_in (journal k)) ≡ true) (sym e) (lower_by (name.Journal 6) 0 half_6)
     belongs j (inr e) = subst (λ k. is_lower_name 0 (name_in (journal k)) ≡ true) (sym e) (lower_by (name.Journal 7) 0 half_7)
 
-    pub halves_are : AreHalves p
+    pub halves_are : AreHalves p (leaf some size)
     halves_are = record {
       full = full;
-      filled = put_first_ones 6 room (omega (arith, many)) (omega (arith, leaf_wide p fit));
+      filled = put_more_ones some size 6 (omega arith) (omega (arith, many)) (omega (arith, leaf_wide p fit));
       no_room = put_full (journal 6) room this (parent ∷ map journal (range_with_len 0 6)) (here 6 (omega arith)) (first_48 6 (omega (arith, many))) (omega (arith, leaf_wide p fit)) (omega (arith, size));
       upper = ap (λ (es : List Entry). slots_of (records room es)) (cond-true _ _ _ split) ∙ upper_made.are ∙ sym upper_is;
       lower = ap (put_each later) lower_is ∙ put_all room this (journal 2 ∷ journal 3 ∷ []) later (this_48, (here 2 (omega arith), (here 3 (omega arith), tt))) lower_48.1.1.1 lower_fits
@@ -300,7 +332,10 @@ module _ (p : Plan) (fit : IsFitting p) (known : Known p) where
     }
 
   pub hashed_is : has_hashed_journals p ≡ true → IsPutHashed p
-  hashed_is hashed = record { full = full_is (hashed_more p hashed) (hashed_size p hashed); whole = whole_is; split = λ split. halves_are split (hashed_size p hashed) }
+  hashed_is hashed =
+      let some : 4 ≤ p.journals = hashed_more p hashed in
+      let size : p.size ≡ 512 = hashed_size p hashed in
+      record { three = three some size; filled = three_put some size; no_room = no_fourth some size; whole = whole_is some size; split = λ split. halves_are some split size }
 
 -- of every plan
 pub inserted : Given → JournalsAreInserted

@@ -1,10 +1,10 @@
 -- The records of a new image's areas, one by one, and one more that is put in. Each takes 48 bytes.
-use Rattle.std.proofs.Common.{ℕ, ◌≡◌, ◌+◌, ◌-◌, ◌*◌, ◌^◌, ◌<◌, ◌≤◌, Bool, true, false, List, [], ◌∷◌, ◌++◌, length, take, drop, replicate, Option, Some, None, refl, sym, ap, ap₂, ◌∙◌, subst, arith, length-append, length-drop, append-nil, append_assoc}
-use Rattle.std.specs.Prelude.{◌&&◌, not, nat_le, option_and_then}
+use Rattle.std.proofs.Common.{ℕ, ◌≡◌, ◌+◌, ◌-◌, ◌*◌, ◌^◌, ◌<◌, ◌≤◌, Bool, true, false, List, [], ◌∷◌, ◌++◌, length, take, drop, replicate, Some, None, refl, sym, ap, ap₂, ◌∙◌, subst, arith, length-append, length-drop, append-nil, append_assoc}
+use Rattle.std.specs.Prelude.{◌&&◌, not, min, nat_le, option_and_then}
 use Rattle.std.specs.List.{AllByRecursion}
 use Rattle.std.specs.Option.{option_map}
 use Rattle.std.proofs.lemmas.Bool.{cond-true, cond-false, ne_eqb, le-leb, lt-leb}
-use Rattle.std.proofs.lemmas.List.{take_all, take-append-le, drop-append-le, length-replicate, drop-replicate, take-replicate, replicate-append-replicate}
+use Rattle.std.proofs.lemmas.List.{take_all, take_at, take-append-le, drop-append-le, length-replicate, drop-replicate, take-replicate, replicate-append-replicate}
 use Rattle.std.proofs.Math.Seq.{take-append-add, drop-append-add}
 use Rattle.gfs2_layout.specs.Area.{Slot, slot_at, slots_of, IsArea}
 use Rattle.gfs2_layout.specs.Bytes.{put_at, slice, u16_at, with_number}
@@ -13,6 +13,7 @@ use Rattle.gfs2_layout.specs.Putting.{least_length, taken_length, has_room, cut_
 use Rattle.gfs2_layout.specs.Structures.{is_in_use, dirent_of}
 use Rattle.gfs2_layout.specs.Writing.{dirent_put}
 use Rattle.gfs2_layout.specs.declared.dirent.Dirent.{Dirent}
+use Rattle.leaf_areas.specs.Moving.{in_use, moved, moved_length, packed}
 use Rattle.mkgfs2_tool.specs.Directories.{name_of as name_in, head_of, record_bytes, records}
 use Rattle.mkgfs2_tool.specs.Insertions.{put_in, put_each, no_records}
 use Rattle.mkgfs2_tool.specs.declared.directory.Entry.{Entry}
@@ -188,16 +189,47 @@ put_all r f es (e ∷ later) all more fits =
     ∙ put_all r f (es ++ e ∷ []) later (all.0, all_append Is48 es (e ∷ []) all.1 (more.0, tt)) more.1 (omega (arith, fits, length-append es (e ∷ [])))
     ∙ ap (λ (xs : List Entry). Some (made r (f ∷ xs))) (append_assoc es (e ∷ []) later)
 
--- entries that are put in behind others
-pub put_then : (es later : List Entry) (slots : List Slot) → put_each (es ++ later) slots ≡ option_and_then (put_each later) (put_each es slots)
-put_then [] later slots = refl
-put_then (e ∷ es) later slots = each (put_in e slots) (put_then es later)
-  where
-    each : (o : Option (List Slot)) → ((after : List Slot) → put_each (es ++ later) after ≡ option_and_then (put_each later) (put_each es after))
-        → option_and_then (put_each (es ++ later)) o ≡ option_and_then (put_each later) (option_and_then (put_each es) o)
-    each None rest = refl
-    each (Some after) rest = rest after
-
 -- all of them, into an area without records
 pub put_new : (r : ℕ) (e : Entry) (es : List Entry) → Are48 (e ∷ es) → 48 * length (e ∷ es) ≤ r → put_each (e ∷ es) (no_records r) ≡ Some (made r (e ∷ es))
 put_new r e es all fits = ap (option_and_then (put_each es)) (put_first e r all.0 (omega (arith, fits))) ∙ put_all r e [] es (all.0, tt) all.1 (omega (arith, fits))
+
+-- ---- records that are packed into another area
+
+all_used : (r : ℕ) (es : List Entry) → Are48 es → in_use (made r es) ≡ made r es
+all_used r [] all = refl
+all_used r (e ∷ []) all = cond-true _ _ _ (used e r all.0)
+all_used r (e ∷ f ∷ es) all = cond-true _ _ _ (used e 48 all.0) ∙ ap (λ (ss : List Slot). slot_made e 48 ∷ ss) (all_used (r - 48) (f ∷ es) all.1)
+
+moved_is : (e : Entry) (r s : ℕ) → Is48 e → moved s (slot_made e r) ≡ slot_made e s
+moved_is e r s is = λ t. record {
+  head = record (head_of e r) { rec_len = long t };
+  pad = replicate 12 0;
+  body = name t ++ replicate (s - 40 - length (name t)) 0;
+}
+  where
+    long : s ≡ s + e.reach
+    long = omega (arith, is.entry.reach)
+
+    name : take (length (name_in e)) (name_in e ++ replicate (r - 40 - length (name_in e)) 0) ≡ name_in e
+    name = take_at (name_in e) (replicate (r - 40 - length (name_in e)) 0) (length (name_in e)) refl
+
+moves_48 : (e : Entry) → Is48 e → moved_length (slot_made e 48) ≡ 48
+moves_48 e is = ap₂ min is.least long
+  where
+    long : 48 + e.reach ≡ 48
+    long = omega (arith, is.entry.reach)
+
+packed_more : (room : ℕ) (s : Slot) (r : ℕ) (f : Entry) (es : List Entry) → packed room (s ∷ made r (f ∷ es)) ≡ moved (moved_length s) s ∷ packed (room - moved_length s) (made r (f ∷ es))
+packed_more room s r f [] = refl
+packed_more room s r f (g ∷ es) = refl
+
+packed_made : (room r : ℕ) (e : Entry) (es : List Entry) → Are48 (e ∷ es) → packed room (made r (e ∷ es)) ≡ made room (e ∷ es)
+packed_made room r e [] all = ap (λ (s : Slot). s ∷ []) (moved_is e r room all.0)
+packed_made room r e (f ∷ es) all =
+    packed_more room (slot_made e 48) (r - 48) f es
+    ∙ (λ t. moved (moves_48 e all.0 t) (slot_made e 48) ∷ packed (room - moves_48 e all.0 t) (made (r - 48) (f ∷ es)))
+    ∙ ap₂ (λ (s : Slot) (ss : List Slot). s ∷ ss) (moved_is e 48 48 all.0) (packed_made (room - 48) (r - 48) f es all.1)
+
+-- packed into another area, the records are those that would stand there if the same entries had been put in there
+pub put_packed : (room r : ℕ) (e : Entry) (es : List Entry) → Are48 (e ∷ es) → packed room (in_use (made r (e ∷ es))) ≡ made room (e ∷ es)
+put_packed room r e es all = ap (packed room) (all_used r (e ∷ es) all) ∙ packed_made room r e es all

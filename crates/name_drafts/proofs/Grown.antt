@@ -1,16 +1,17 @@
 -- The directory in the end: it has got the name, and the time.
 use Rattle.std.proofs.Common.{◌≡◌, ◌≢◌, ◌⊎◌, inl, inr, Bool, true, false, ℕ, ◌≤◌, List, [], ◌∷◌, length, drop, Option, None, Some, refl, sym, ap, ◌∙◌, subst, subst₂, arith}
+use Rattle.std.proofs.lemmas.Bool.{cases_Bool, cases_eq}
 use Rattle.std.proofs.lemmas.List.Elements.{Contains-append_left}
 use Rattle.std.specs.Prelude.{Contains, IsSome, is_some, option_map}
 use Rattle.std.specs.Ordering.{nat_cmp}
-use Rattle.std.specs.FinMap.{FinMap, get, empty}
+use Rattle.std.specs.FinMap.{FinMap, get, empty, get-empty}
 use Rattle.drafts.specs.Fates.{seen_with}
 use Rattle.drafts.specs.declared.change.Change.{Change}
 use Rattle.drafts.specs.declared.fate.Fate.{Fate}
 use Rattle.gfs2_layout.specs.Area.{IsArea, slots_of}
 use Rattle.gfs2_layout.specs.Exchanges.{IsCounted, IsExchanged}
 use Rattle.gfs2_layout.specs.Holding.{Cell, Holding, bytes_at}
-use Rattle.gfs2_layout.specs.Inode.{dinode_in, records_of}
+use Rattle.gfs2_layout.specs.Inode.{dinode_in, is_hashed_in, records_of}
 use Rattle.gfs2_layout.specs.Putting.{put_slot}
 use Rattle.gfs2_layout.specs.Records.{Record}
 use Rattle.gfs2_layout.specs.Structures.{dinode_length, dinode_of}
@@ -31,11 +32,13 @@ use Rattle.new_inodes.specs.Touched.{IsTouched, with_times}
 use Rattle.resource_groups.specs.Putting.{HasDataBlock}
 use Rattle.resource_groups.specs.Shown.{IsDataOf, IsHeaderOf}
 use Rattle.path_walks.specs.declared.walk.Place.{Place}
-use Rattle.name_inserts.specs.Inserting.{CanGetName, IsNamed, IsPutInLinear, PutsName}
+use Rattle.hash_inserts.specs.Inserting.{its_dinode}
+use Rattle.name_inserts.specs.Inserting.{CanGetName, IsNamed, IsNamedAt, IsPutInLinear, PutsName, of_converted, of_hashed, of_linear}
+use Rattle.name_inserts.specs.Need.{has_linear_room}
 use Rattle.name_drafts.specs.Drafting.{GetsRecord, GrowsInto, HasLinearRoom, HasNoGroupBlock, entry_for}
 use Rattle.name_drafts.specs.Steps.{IsNamePut}
 use Rattle.name_drafts.specs.declared.drafting.NewBlock.{NewBlock}
-use Rattle.name_drafts.proofs.Done.{AreDone, last, of_taken, third_apart}
+use Rattle.name_drafts.proofs.Done.{AreDone, as_named, last, of_taken, third_apart}
 use Rattle.name_drafts.proofs.Fates.{alike_seen}
 use Rattle.name_drafts.proofs.Faults.{data_apart}
 
@@ -85,6 +88,16 @@ module _ (v : Seen) (shows : IsView v) (dir : ℕ) (name : List ℕ) (e : Entry)
   gets_record = subst (λ bytes. GetsRecord bytes is.final name e time) (sym old_is ∙ ap (bytes_at h) shown.inode.own) gets_old
 
 -- ---- of each that can get it
+
+-- something is always done to its dinode's block
+own_named : (h g : Holding) (name taken : List ℕ) (b : ℕ) → b ≡ h.own → IsNamedAt h g name taken b
+own_named h g name taken b own = elim (cases_Bool (is_hashed_in h)) [
+  | inl hashed ↦ of_hashed hashed (its_dinode own)
+  | inr plain ↦ elim (cases_Bool (has_linear_room h name)) [
+    | inl fits ↦ of_linear plain fits own
+    | inr full ↦ of_converted plain full (inl own)
+  ]
+]
 
 -- two views that have the same of its blocks leave the same of it
 pub over_alike : (x y : Seen) (g : Holding) → ((b : ℕ) → IsSome (g.cell b) → x.block_at b ≡ y.block_at b) → holding_over x g ≡ holding_over y g
@@ -153,6 +166,16 @@ module _ (v : Seen) (is_directory : Bool) (p : Place) (name : List ℕ) (r : New
   touched = subst (λ g. IsTouched named g time) (over_alike (seen_with v is.second) (seen_with v end) named (λ b some. alike_seen v end is.second b (sym (stays b some))))
       (is.named.touched named named_is.1.inode)
 
+  -- what becomes of a block that is neither the new inode's nor a group's
+  changes : (b : ℕ) → b ≢ r.block → ((k : Group) → HasGroup v k → ¬ (IsHeaderOf k b)) → (get end b ≡ None) ⊎ IsNamedAt h named name is.taken b
+  changes b new_away far = elim (cases_eq b p.inode) [
+    | inl same ↦ inr (own_named h named name is.taken b (same ∙ sym shown.inode.own))
+    | inr away ↦ elim (puts.changes b) [
+      | inl never ↦ inl (as_named v is_directory p name r room time change is shows has block inside rooms apart b away new_away (λ k there some. far k there) ∙ never ∙ get-empty nat_cmp b)
+      | inr at ↦ inr (subst (λ xs. IsNamedAt h named name xs b) named_is.2.1 at)
+    ]
+  ]
+
   pub grows_into : GrowsInto v end name entry time is.taken h grown
   grows_into = record {
     named = named;
@@ -160,6 +183,7 @@ module _ (v : Seen) (is_directory : Bool) (p : Place) (name : List ℕ) (r : New
     few = ap length (sym named_is.2.1) ∙ puts.few;
     touched = touched;
     sees = refl;
+    changes = changes;
   }
 
   -- it has the record, and is sound

@@ -46,7 +46,7 @@ use Rattle.image_changes.specs.Instances.{IsAt, dinode_at, is_directory_at, reco
 use Rattle.draft_changes.specs.Resizing.{IsSaidFree}
 use Rattle.directory_changes.specs.Growing.{GrowsByName}
 use Rattle.path_walks.specs.declared.walk.Place.{Place}
-use Rattle.name_inserts.specs.Inserting.{CanGetName, IsNamed, IsNeededForName, IsWrongForName}
+use Rattle.name_inserts.specs.Inserting.{CanGetName, IsNamed, IsNamedAt, IsNeededForName, IsWrongForName}
 use Rattle.name_inserts.specs.Need.{has_linear_room, name_need}
 use Rattle.name_drafts.specs.declared.drafting.NewBlock.{NewBlock}
 
@@ -99,13 +99,15 @@ pub record HasLinearRoom (h : Holding) (name : List ℕ) : Type 0 where
   pub linear : is_hashed_in h ≡ false
   pub room : has_linear_room h name ≡ true
 
--- The directory gets the name, and takes these blocks for it; then it gets this time. What it is then is what the draft sees of it.
+-- The directory gets the name, and takes these blocks for it; then it gets this time. What it is then is what the draft sees of it. Of the blocks that
+-- are neither the new inode's nor with a group's header or bits, the draft does something to those alone to which something is done for the name.
 pub record GrowsInto (v : Seen) (fates : FinMap nat_cmp Fate) (name : List ℕ) (e : Entry) (time : ℕ) (taken : List ℕ) (h g : Holding) : Type 0 where
   pub named : Holding
   pub gets : IsNamed name e h named taken
   pub few : length taken ≡ name_need h name
   pub touched : IsTouched named g time
   pub sees : g ≡ holding_over (seen_with v fates) named
+  pub changes : (b : ℕ) → b ≢ e.addr → ((k : Group) → HasGroup v k → ¬ (IsHeaderOf k b)) → (get fates b ≡ None) ⊎ IsNamedAt h named name taken b
 
 -- ---- the groups
 

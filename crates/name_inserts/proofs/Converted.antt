@@ -48,10 +48,10 @@ first_low size (inr (inr (inr e))) = subst (λ d. d ≤ 8) (sym (ap first_depth 
 chain_eq : (c d : Chain) → c.size ≡ d.size → c.height ≡ d.height → c.table ≡ d.table → c.depth ≡ d.depth → c.leaves ≡ d.leaves → c ≡ d
 chain_eq c d e f g i j = λ k. record { size = e k; height = f k; table = g k; depth = i k; leaves = j k }
 
-module _ (h : Holding) (sound : IsSound h) where
+module _ (h : Holding) (block_size : IsBlockSize h.size) where
   pub first_bounded : IsBounded most_steps (first_chain h)
-  first_bounded = let low = first_low h.size sound.block_size in record {
-    size = small_blocks h.size sound.block_size;
+  first_bounded = let low = first_low h.size block_size in record {
+    size = small_blocks h.size block_size;
     table = omega (arith, low);
     depth = omega arith;
     enough = omega arith;
@@ -60,7 +60,7 @@ module _ (h : Holding) (sound : IsSound h) where
   -- what the rules tell of the first chain is what is counted
   pub first_need : (name : List ℕ) (n : ℕ) → TakesBlocksFirst h name n → n ≡ need_within most_steps (length name) (crc32_of name) (first_chain h) + 1
   first_need name n takes =
-      let same = chain_eq takes.chain (first_chain h) takes.is.size takes.is.height (depth_is h.size takes.chain.table sound.block_size takes.is.table) takes.is.depth takes.is.leaves in
+      let same = chain_eq takes.chain (first_chain h) takes.is.size takes.is.height (depth_is h.size takes.chain.table block_size takes.is.table) takes.is.depth takes.is.leaves in
       takes.all ∙ ap (λ k. k + 1) (sym (needs_within (length name) (crc32_of name) (first_chain h) takes.more (subst (λ c. Needs (length name) (crc32_of name) c takes.more) same takes.needs) most_steps first_bounded))
 
 -- ---- the directory that it becomes

@@ -4,3 +4,5 @@ pub mod First
 pub mod Linear
 pub mod Converted
 pub mod Puts
+pub mod OnWay
+pub mod Led

@@ -35,7 +35,7 @@ use Rattle.hash_dirs.specs.Shown.{IsSound}
 use Rattle.hash_steps.proofs.Put.{none_counted}
 use Rattle.hash_steps.proofs.Sound.{count_moved}
 use Rattle.directories.specs.Shown.{IsShown}
-use Rattle.name_inserts.specs.Inserting.{CanGetName, IsPutInLinear, PutsName, in_linear}
+use Rattle.name_inserts.specs.Inserting.{CanGetName, IsPutInLinear, PutsName, in_linear, of_linear}
 use Rattle.name_inserts.specs.Need.{has_linear_room, need_in_linear}
 
 -- ---- one name more
@@ -165,6 +165,10 @@ module _ {V : Type 0} (seen : V → Seen) (old new : Drafted V) (dir : ℕ) (h :
     front = refl;
     has = has_taken;
     drafted = drafted;
+    changes = λ b. elim (cases_eq b dir) [
+      | inl own ↦ inr (of_linear plain fits (own ∙ sym shown.own))
+      | inr other ↦ inl (fate_other b other)
+    ];
     named = in_linear h after plain fits put_in_linear;
     exchanged = is.exchanged;
     sound = sound_after can.sound can.absent;

@@ -1,6 +1,6 @@
 -- What becomes of a directory that gets a name, whatever its form.
-use Rattle.std.specs.Prelude.{ℕ, ◌≡◌, ◌≢◌, ◌^◌, ◌<◌, ◌≤◌, true, false, List, [], ◌∷◌, ◌++◌, length, None, Some}
-use Rattle.std.specs.FinMap.{FinMap}
+use Rattle.std.specs.Prelude.{ℕ, ◌≡◌, ◌≢◌, ◌⊎◌, ◌^◌, ◌<◌, ◌≤◌, true, false, List, [], ◌∷◌, ◌++◌, length, Contains, None, Some}
+use Rattle.std.specs.FinMap.{FinMap, get}
 use Rattle.std.specs.Ordering.{nat_cmp}
 use Rattle.drafts.specs.declared.fate.Fate.{Fate}
 use Rattle.gfs2_layout.specs.Area.{slots_of}
@@ -19,7 +19,7 @@ use Rattle.linear_dirs.specs.Shown.{head_for, record_for}
 use Rattle.table_growth.specs.Tables.{DraftsDirectory}
 use Rattle.hash_dirs.specs.Shown.{IsSound}
 use Rattle.hash_steps.specs.Steps.{IsConverted}
-use Rattle.hash_inserts.specs.Inserting.{CanCountOne, IsInserted, IsNeededToInsert, IsWrongToInsert}
+use Rattle.hash_inserts.specs.Inserting.{CanCountOne, IsInserted, IsInsertedAt, IsNeededToInsert, IsWrongToInsert}
 use Rattle.directories.specs.Shown.{IsBroken}
 use Rattle.name_inserts.specs.Need.{has_linear_room, name_need}
 
@@ -56,14 +56,23 @@ pub record CanGetName (h : Holding) (name room : List ℕ) : Type 0 where
   pub free : AreFreeFor h room
   pub enough : name_need h name ≤ length room
 
+-- A block to which something is done as the directory, which becomes g, gets the name and takes these blocks: of a linear one with room for it that of its
+-- dinode; of a hashed one a block to which an insertion does something; of a linear one without room, which becomes a hashed one, that of its dinode, or
+-- one of those that it takes.
+pub data IsNamedAt (h g : Holding) (name taken : List ℕ) (b : ℕ) : Type 0 where
+  of_linear : is_hashed_in h ≡ false → has_linear_room h name ≡ true → b ≡ h.own → IsNamedAt h g name taken b
+  of_hashed : is_hashed_in h ≡ true → IsInsertedAt h g name taken b → IsNamedAt h g name taken b
+  of_converted : is_hashed_in h ≡ false → has_linear_room h name ≡ false → (b ≡ h.own) ⊎ Contains taken b → IsNamedAt h g name taken b
+
 -- The directory got the name: from the front of the room it took as many blocks as the name needs. The draft puts each block that the directory then
--- has, under its lock, or leaves it, and does nothing to any other.
+-- has, under its lock, or leaves it; and it does nothing to any but those to which something is done for the name.
 pub record PutsName (old new : FinMap nat_cmp Fate) (room left : List ℕ) (name : List ℕ) (e : Entry) (h g : Holding) : Type 0 where
   pub taken : List ℕ
   pub few : length taken ≡ name_need h name
   pub front : room ≡ taken ++ left
   pub has : HasTaken h g taken
   pub drafted : DraftsDirectory old new h g
+  pub changes : (b : ℕ) → (get new b ≡ get old b) ⊎ IsNamedAt h g name taken b
   pub named : IsNamed name e h g taken
   pub exchanged : HasExchanged h g [] (record_for name e ∷ [])
   pub sound : IsSound g

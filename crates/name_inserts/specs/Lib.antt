@@ -1,2 +1,3 @@
 pub mod Need
 pub mod Inserting
+pub mod Way

@@ -3,6 +3,8 @@
 
 mod needing;
 mod putting;
+mod way;
 
 pub use needing::need_name;
 pub use putting::put_name;
+pub use way::block_on_way;

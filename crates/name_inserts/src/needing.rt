@@ -10,6 +10,7 @@ ghost use Rattle.dinode_tree.specs.Walking.{missing_dinode};
 ghost use Rattle.dinode_tree.specs.Shown as inode;
 ghost use Rattle.directories.specs.Shown.{IsDirectoryIn, IsShown};
 ghost use Rattle.hash_dirs.specs.Shown.{IsSound};
+ghost use Rattle.hash_inserts.specs.Needing.{TakesBlocks};
 ghost use Rattle.name_inserts.specs.Need.{has_linear_room, need_in_hashed, need_in_linear, name_need};
 ghost use Rattle.name_inserts.specs.Inserting.{IsNeededForName, IsWrongForName};
 
@@ -53,14 +54,14 @@ fn need_in_linear<V: View>(
     requires linear { IsLinearIn (V.seen view.now) dir }
     requires some { 1 ≤ length name.now }
     requires short { length name.now ≤ 255 }
-    ensures need { (h : Holding) → inode.IsShown (V.seen view.now) dir h → IsSound h → is_directory_in h ≡ true → is_hashed_in h ≡ false → IfIs result (λ need. need ≡ need_in_linear h name.now) }
-    ensures room { (h : Holding) → inode.IsShown (V.seen view.now) dir h → has_linear_room h name.now ≡ true → IfIs result (λ need. need ≡ 0) }
+    ensures need { (h : Holding) → inode.IsShown (V.seen view.now) dir h → IfIs result (λ need. need ≡ need_in_linear h name.now) }
     ensures most { IfIs result (λ n. n < 2 ^ 42) }
     ensures needed { IfNeedBlock result (λ missing. missing ≡ missing_dinode dir) }
     ensures absent { IfNeedBlock result (λ missing. (V.seen view.now).block_at dir ≡ None) }
     ensures damaged { (h : Holding) → inode.IsShown (V.seen view.now) dir h → IfDamaged result (linear.IsBroken h) }
     ensures kept { IfDamaged result (IsOfView (V.seen view.now)) }
 {
+    let _size = view.block_size();
     let fits = has_room(view, dir, name.len() as u16)?;
     if fits {
         return Ok(Step::Is(0));
@@ -78,6 +79,7 @@ fn need_in_hashed<V: View>(
     requires some { 1 ≤ length name.now }
     requires short { length name.now ≤ 255 }
     ensures need { (h : Holding) → IsShown (V.seen view.now) dir h → is_hashed_in h ≡ true → IsSound h → IfIs result (λ need. need ≡ need_in_hashed h name.now) }
+    ensures takes { (h : Holding) → IsShown (V.seen view.now) dir h → is_hashed_in h ≡ true → IfIs result (TakesBlocks h name.now) }
     ensures most { IfIs result (λ n. n < 2 ^ 42) }
     ensures needed { (h : Holding) → IsShown (V.seen view.now) dir h → is_hashed_in h ≡ true → IfNeedBlock result (IsNeededForName (V.seen view.now) h name.now) }
     ensures absent { IfNeedBlock result (λ missing. (V.seen view.now).block_at missing.block ≡ None) }
@@ -92,8 +94,8 @@ fn need_in_hashed<V: View>(
     need_insert(alloc, view, dir, name, &table)
 }
 
-/// How many blocks a name takes that isn't in the directory with its dinode in this block: none where a record has room for it, of a hashed one
-/// in a leaf of its chain; else what `put_name` takes from its room. Of a linear directory it goes over the records twice, and where none has
+/// How many blocks a name takes that isn't in the directory with its dinode in this block, by what stands there, be it right or wrong: none where
+/// a record has room for it, of a hashed one in a leaf of its chain; else what `put_name` takes from its room. Of a linear directory it goes over the records twice, and where none has
 /// room it changes a copy of them; of a hashed one it looks along the whole chain of the name, and where its one leaf has no room at every
 /// block of the table, and changes a copy of that leaf's records.
 pub fn need_name<V: View>(
@@ -106,7 +108,8 @@ pub fn need_name<V: View>(
     requires some { 1 ≤ length name.now }
     requires short { length name.now ≤ 255 }
     ensures need { (h : Holding) → IsShown (V.seen view.now) dir h → IsSound h → is_directory_in h ≡ true → IfIs result (λ need. need ≡ name_need h name.now) }
-    ensures room { (h : Holding) → IsShown (V.seen view.now) dir h → is_hashed_in h ≡ false → has_linear_room h name.now ≡ true → IfIs result (λ need. need ≡ 0) }
+    ensures linear { (h : Holding) → IsShown (V.seen view.now) dir h → is_hashed_in h ≡ false → IfIs result (λ need. need ≡ need_in_linear h name.now) }
+    ensures hashed { (h : Holding) → IsShown (V.seen view.now) dir h → is_hashed_in h ≡ true → IfIs result (TakesBlocks h name.now) }
     ensures most { IfIs result (λ n. n < 2 ^ 42) }
     ensures needed { (h : Holding) → IsShown (V.seen view.now) dir h → IfNeedBlock result (IsNeededForName (V.seen view.now) h name.now) }
     ensures absent { IfNeedBlock result (λ missing. (V.seen view.now).block_at missing.block ≡ None) }

@@ -8,6 +8,7 @@ pub mod RunSet
 pub mod Runs
 pub mod Lists
 pub mod Below
+pub mod Beside
 pub mod Doubles
 pub mod Grown
 pub mod Whole

@@ -1,6 +1,6 @@
 -- Runs of pointers that are set one behind another.
-use Rattle.std.proofs.Common.{◌≡◌, ◌≢◌, ◌⊎◌, ℕ, zero, suc, ◌+◌, ◌-◌, ◌*◌, ◌/◌, ◌%◌, ◌^◌, ◌<◌, ◌≤◌, inl, inr, false, List, [], ◌∷◌, ◌++◌, length, get_or, take, Some, refl, sym, ap, ap₂, ◌∙◌, subst, arith, lit<}
-use Rattle.std.specs.Prelude.{◌==◌, Contains, IsSome, if◌then◌else◌}
+use Rattle.std.proofs.Common.{◌≡◌, ◌⊎◌, ℕ, zero, suc, ◌+◌, ◌-◌, ◌*◌, ◌/◌, ◌%◌, ◌^◌, ◌<◌, ◌≤◌, inl, inr, false, List, [], ◌∷◌, ◌++◌, length, get_or, take, Some, refl, sym, ap, ap₂, ◌∙◌, subst, arith, lit<}
+use Rattle.std.specs.Prelude.{Contains, IsSome, if◌then◌else◌}
 use Rattle.std.specs.Cmp.{nat_cmp_total}
 use Rattle.std.specs.FinMap.{FinMap, get, insert, nat_cmp-IsAntisymmetric}
 use Rattle.std.specs.Ordering.{nat_cmp}
@@ -12,10 +12,10 @@ use Rattle.gfs2_layout.specs.Device.{IsBlockSize}
 use Rattle.image_model.proofs.Rows.{and_left}
 use Rattle.dinode_tree.proofs.Sound.{size_large}
 use Rattle.pointer_tables.specs.Directories.{IsPlaced, IsTreeSound}
-use Rattle.table_growth.specs.Pointers.{HasPointerOf}
+use Rattle.table_growth.specs.Pointers.{HasPointerOf, IsBesidePointers}
 use Rattle.table_files.proofs.ContentParts.{whole_by_parts}
 use Rattle.tree_tables.proofs.Entries.{within}
-use Rattle.std.proofs.lemmas.Bool.{cases_eq, cases_lt, cond-true, cond-false, eq-eqb, ne_eqb}
+use Rattle.std.proofs.lemmas.Bool.{cases_eq, cases_lt, cond-true, cond-false}
 use Rattle.drafts.specs.Fates.{Drafted, seen_in}
 use Rattle.drafts.specs.declared.fate.Fate.TheVariants.{Put}
 use Rattle.gfs2_layout.specs.Holding.{Holding, cell_part}
@@ -34,6 +34,7 @@ use Rattle.tree_tables.specs.Pointers.{IsTableOf}
 use Rattle.table_changes.specs.Setting.{AreRuns, HasNumbersSet, IsRun, IsSeenRun, IsSetIn, PutsRuns, counted}
 use Rattle.table_changes.specs.declared.finding.Run.{Run}
 use Rattle.tree_tables.specs.declared.tree_table.TreeTable.{TreeTable}
+use Rattle.table_changes.proofs.Beside.{entry_block_after, entry_place_after, place_in_run}
 use Rattle.table_changes.proofs.Entered.{choose, is_before, is_behind, is_in}
 use Rattle.table_changes.proofs.Kept.{KeepsContentBlocks}
 use Rattle.table_changes.proofs.OneRun.{over_same}
@@ -55,6 +56,8 @@ none_set_in {V} seen old t h from leaf table =
           dinode = refl;
           front = refl;
           entries = λ i low. choose from 0 i leaf (entry h i) (entry h i) (λ more less. absurd (omega (arith, more, less))) (λ apart. refl);
+          blocks = λ i low. refl;
+          others = λ x at n beside. refl;
           stays = record { leaves = λ x hash place at. refl; parts = λ x hash place at. at };
         },
         record { own = λ b some. inl (refl, refl); others = λ b none. refl },
@@ -86,7 +89,8 @@ both_set from k n i leaf e m r first next = choose from (k + n) i leaf e r
     ]))
 
 module _ {V : Type 0} (seen : V → Seen) (old mid new : Drafted V) (t : TreeTable) (h : Holding) (from k n leaf : ℕ) (one : IsSetKept seen old mid t h from k leaf)
-    (more : IsSetKept seen mid new t (holding_over (seen_in seen mid) h) (from + k) n leaf) where
+    (more : IsSetKept seen mid new t (holding_over (seen_in seen mid) h) (from + k) n leaf)
+    (near : (j level : ℕ) → j < from + k + n → height_in h ≡ suc level → 8 * j / unit h < fan h.size dinode_length * span h.size level) where
   first : IsSetIn seen old mid t h from k leaf
   first = one.0
 
@@ -108,6 +112,22 @@ module _ {V : Type 0} (seen : V → Seen) (old mid new : Drafted V) (t : TreeTab
   there_after : (b : ℕ) → IsSome (g1.cell b) → IsSome (g2.cell b)
   there_after b some = over_there ((seen_in seen new).block_at b) (g1.cell b) ∙ some
 
+  height_same : height_in g1 ≡ height_in h
+  height_same = ap (λ (d : Dinode). d.height) first.1.dinode
+
+  unit_same : unit g1 ≡ unit h
+  unit_same = ap (λ (d : Dinode). if is_directory d then h.size - header_length else h.size) first.1.dinode
+
+  -- bytes beside all of these pointers are beside those that are set first, and beside those that are set then
+  beside_first : (x at m : ℕ) → IsBesidePointers h from (k + n) x at m → IsBesidePointers h from k x at m
+  beside_first x at m beside j within is = beside j (record { low = within.low; high = omega (arith, within.high) }) is
+
+  beside_next : (x at m : ℕ) → IsBesidePointers h from (k + n) x at m → IsBesidePointers g1 (from + k) n x at m
+  beside_next x at m beside j within is =
+      let block = entry_block_after h g1 j refl height_same unit_same one.1 (λ level high. near j level within.high high) in
+      subst (λ p. (at + m ≤ p) ⊎ (p + 8 ≤ at)) (sym (entry_place_after h g1 j height_same unit_same))
+      (beside j (record { low = omega (arith, within.low); high = omega (arith, within.high) }) (is ∙ block))
+
   set_both : HasPointersSet h g2 from (k + n) leaf
   set_both = record {
     sound = λ s. next.1.sound (first.1.sound s);
@@ -115,6 +135,8 @@ module _ {V : Type 0} (seen : V → Seen) (old mid new : Drafted V) (t : TreeTab
     dinode = next.1.dinode ∙ first.1.dinode;
     front = next.1.front ∙ first.1.front;
     entries = λ i low. both_set from k n i leaf (entry h i) (entry g1 i) (entry g2 i) (first.1.entries i low) (next.1.entries i (omega (arith, low, counts_same)));
+    blocks = λ i low. next.1.blocks i (omega (arith, low, counts_same)) ∙ first.1.blocks i low;
+    others = λ x at m beside. next.1.others x at m (beside_next x at m beside) ∙ first.1.others x at m (beside_first x at m beside);
     stays = record {
       leaves = λ x hash place at. let same = first.1.stays.leaves x hash place at in next.1.stays.leaves x hash place (ap cell_part same ∙ at) ∙ same;
       parts = λ x hash place at. first.1.stays.parts x hash place (next.1.stays.parts x hash place at);
@@ -260,12 +282,11 @@ module _ {V : Type 0} (seen : V → Seen) (old mid new : Drafted V) (t : TreeTab
       let is = run_at h from runs n run are low (item_is runs n e low) in
       let size_h : IsBlockSize h.size = subst IsBlockSize (sym table.shown.size) has.size in
       let most : from + k + run.count ≤ 2 ^ t.depth = omega (arith, few, counted_most runs (n + 1), next_count) in
-      let inside : 8 * (from + k) + 8 ≤ (dinode_in h).size = omega (arith, table.size, most, is.some) in
-      let near : (level : ℕ) → height_in h ≡ suc level → 8 * (from + k) / unit h < fan h.size dinode_length * span h.size level
-      = λ level high. omega (arith, within h level size_h (and_left (is_directory_in h) (has_hash_flag (dinode_in h)) table.hashed) high sound.fits (whole_by_parts h sound (size_large h.size size_h)) (from + k) inside, sound.fits.under level high) in
-      let is' = run_after h (holding_over (seen_in seen mid) h) from k leaf (from + k) run.count run refl refl one.0.1 one.1 near is in
+      let near : (j level : ℕ) → j < from + k + run.count → height_in h ≡ suc level → 8 * j / unit h < fan h.size dinode_length * span h.size level
+      = λ j level under high. omega (arith, within h level size_h (and_left (is_directory_in h) (has_hash_flag (dinode_in h)) table.hashed) high sound.fits (whole_by_parts h sound (size_large h.size size_h)) j (omega (arith, table.size, most, under)), sound.fits.under level high) in
+      let is' = run_after h (holding_over (seen_in seen mid) h) from k leaf (from + k) run.count run refl refl one.0.1 one.1 (λ level high. near (from + k) level (omega (arith, is.some)) high) is in
       let next = run_is_set seen mid new t (holding_over (seen_in seen mid) h) run (from + k) run.count leaf bytes bytes' one.0.0 (one.0.1.sound sound) (one.0.1.placed placed) size_h at set put most is' in
-      subst (λ m. IsSetKept seen old new t h from m leaf) (sym next_count) (runs_join seen old mid new t h from k run.count leaf one next (λ b there. seen_still seen mid new run.block t.directory bytes' put b there))
+      subst (λ m. IsSetKept seen old new t h from m leaf) (sym next_count) (runs_join seen old mid new t h from k run.count leaf one next near (λ b there. seen_still seen mid new run.block t.directory bytes' put b there))
 
   pub parts_more : PutsRuns old.fates mid.fates runs → PutsRuns old.fates new.fates runs
   parts_more parts b = elim (cases_eq b run.block) [
@@ -279,14 +300,7 @@ module _ {V : Type 0} (seen : V → Seen) (old mid new : Drafted V) (t : TreeTab
 
 -- the block of a run has its first pointer
 pub run_block : (h : Holding) (index most : ℕ) (run : Run) → IsRun h index most run → run.block ≡ entry_block h index
-run_block h index most run is = elim is.place [
-  | inl behind ↦ behind.block ∙ sym (cond-true (height_in h == 0) h.own _ (eq-eqb (height_in h) 0 behind.stuffed))
-  | inr inside ↦
-      let b : ℕ = content_block h (8 * index / unit h) in
-      let some : b ≢ 0 = λ z. inside.there (sym inside.block ∙ z) in
-      let high : height_in h ≢ 0 = λ z. absurd (omega (arith, z, inside.high)) in
-      sym (cond-false (height_in h == 0) h.own _ (ne_eqb (height_in h) 0 high) ∙ cond-false (b == 0) h.own b (ne_eqb b 0 some) ∙ inside.block)
-]
+run_block h index most run is = (place_in_run h index most run is 0 (omega (arith, is.some))).0 ∙ ap (entry_block h) (let e : index + 0 ≡ index = omega arith in e)
 
 -- nothing becomes of any block but those that have these pointers
 pub runs_have_pointers : (h : Holding) (from : ℕ) (old new : FinMap nat_cmp Fate) (runs : List Run) → AreRuns h from runs → PutsRuns old new runs → (b : ℕ) → (get new b ≡ get old b) ⊎ HasPointerOf h from (counted runs) b

@@ -1,11 +1,12 @@
 -- What becomes of a directory's table, block by block: pointers that are set, and a table that is doubled.
-use Rattle.std.specs.Prelude.{ℕ, suc, zero, ◌≡◌, ◌≢◌, ◌⊎◌, ◌+◌, ◌-◌, ◌*◌, ◌/◌, ◌^◌, ◌<◌, ◌≤◌, ◌==◌, ◌&&◌, Bool, false, nat_le, nat_lt, if◌then◌else◌, Contains, List, ◌++◌, length, take, drop, replicate, Option, None, Some, IsSome}
+use Rattle.std.specs.Prelude.{ℕ, suc, zero, ◌≡◌, ◌≢◌, ◌⊎◌, ◌+◌, ◌-◌, ◌*◌, ◌^◌, ◌<◌, ◌≤◌, ◌==◌, false, if◌then◌else◌, Contains, List, ◌++◌, length, take, drop, replicate, Option, None, Some, IsSome}
 use Rattle.std.specs.FinMap.{FinMap, get}
 use Rattle.std.specs.Ordering.{nat_cmp}
 use Rattle.drafts.specs.declared.fate.Fate.{Fate}
 use Rattle.drafts.specs.declared.fate.Fate.TheVariants.{Put}
-use Rattle.gfs2_layout.specs.Holding.{Cell, Holding, InChain, part_at, bytes_at}
-use Rattle.gfs2_layout.specs.Inode.{block_count, content_count, dinode_in, entry, header_length, height_in, is_leaf_part, pieces, span, table_count, unit}
+use Rattle.gfs2_layout.specs.Bytes.{slice}
+use Rattle.gfs2_layout.specs.Holding.{Cell, Holding, part_at, bytes_at}
+use Rattle.gfs2_layout.specs.Inode.{block_count, content_count, dinode_in, entry, entry_block, header_length, height_in, is_leaf_part, pieces, span, table_count, unit}
 use Rattle.gfs2_layout.specs.Structures.{dinode_length}
 use Rattle.gfs2_layout.specs.Writing.{header_put}
 use Rattle.dinode_tree.specs.Below.{IsBelow}
@@ -19,7 +20,7 @@ use Rattle.file_fills.specs.Headers.{HaveSamePads}
 use Rattle.file_growth.specs.Written.{IsWritten}
 use Rattle.pointer_tables.specs.Directories.{IsPlaced, IsTreeSound}
 use Rattle.pointer_tables.specs.Tables.{IsDoubled, LeavesStay, is_within}
-use Rattle.table_growth.specs.Pointers.{EachPointerLeads}
+use Rattle.table_growth.specs.Pointers.{EachPointerLeads, IsBesidePointers}
 
 -- ---- what becomes of its blocks in the draft
 
@@ -30,13 +31,16 @@ pub record DraftsDirectory (old new : FinMap nat_cmp Fate) (h g : Holding) : Typ
 
 -- ---- pointers that are set
 
--- so many neighbouring pointers lead to this leaf, and all else stays
+-- So many neighbouring pointers lead to this leaf, and all else stays: each pointer stands where it stood, and of each block so do the bytes in which
+-- none of these pointers stands.
 pub record HasPointersSet (h g : Holding) (from count leaf : ℕ) : Type 0 where
   pub sound : IsTreeSound h → IsTreeSound g
   pub placed : IsPlaced h → IsPlaced g
   pub dinode : dinode_in g ≡ dinode_in h
   pub front : take dinode_length (bytes_at g h.own) ≡ take dinode_length (bytes_at h h.own)
   pub entries : (i : ℕ) → i < table_count h → entry g i ≡ (if is_within from count i then leaf else entry h i)
+  pub blocks : (i : ℕ) → i < table_count h → entry_block g i ≡ entry_block h i
+  pub others : (x at n : ℕ) → IsBesidePointers h from count x at n → slice at n (bytes_at g x) ≡ slice at n (bytes_at h x)
   pub stays : LeavesStay h g
 
 -- ---- how many blocks a doubling takes

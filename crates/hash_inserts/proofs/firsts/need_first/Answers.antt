@@ -31,7 +31,7 @@ count_needs-requires-clause-filled g c =
     subst IsArea (sym (rest_is leaf_length c.deref.result.now ∙ ap (drop leaf_length) is)) c.write_first.ensures.filled
 
 pub returns-clause-need : goal.returns-clause-need
-returns-clause-need g c h shown sound directory linear =
+returns-clause-need g c h shown =
     let v = g.V.View.seen c.args.view.now in
     let bytes = c.in-Some.bytes.now in
     let new = c.write_first.new.bytes in

@@ -48,7 +48,7 @@ returns-clause-put g c h need can0 shows found own tree =
     let told = c.puts_are_seen_alike.ensures.told in
     let data_there = data_walked v h name c.args.found.now.chain found.walked found.head.low in
     let inside = inside_put v fates blocks dir room left has.inserts.taken _ h k (put_of v fates blocks dir room left need name c.args.entry h k has) told
-    (may_insert v dir h name has.inserts.taken can0.shown.inode.own can0.sound c.sound_pointers_are_parts.ensures.led data_there tree) in
+    (may_insert v dir h k name has.inserts.taken can0.shown.inode.own can0.sound can0.shown.hashed can0.small c.sound_pointers_are_parts.ensures.led data_there tree) in
     let long : length left ≡ c.len.result = omega (arith, c.len.ensures, c.inserted_blocks.new.room.ok) in
     let all = c.in_ok-done.ensures.all has.inserts.taken left has.inserts.takes.front long (λ w there. inside w (subst (λ xs. Contains xs w) c.deref.ensures.value there)) in
     let put = c.in_ok-done.ensures.put all.0 in

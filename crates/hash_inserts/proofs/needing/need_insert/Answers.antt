@@ -20,7 +20,7 @@ pub returns-in-NeedBlock-clause-needed : goal.returns-in-NeedBlock-clause-needed
 returns-in-NeedBlock-clause-needed g c h shown shows = of_chain (needed_at _ _ _ c.in-NeedBlock.is (c.in_ok-found.ensures.needed h shown shows))
 
 pub returns-then-is_some-clause-need : goal.returns-then-is_some-clause-need
-returns-then-is_some-clause-need g c h shown shows sound =
+returns-then-is_some-clause-need g c h shown shows =
     let found = answer_at _ _ _ c.in-Is.is (c.in_ok-found.ensures.found h shown shows) in
     let some = some_is c.in-Is.found.chain.with_room (sym c.is_some.ensures ∙ c.if-is_some.true) in
     takes_none (g.V.View.seen c.args.view.now) h c.args.name.now c.in-Is.found.chain found.walked found.head.low some.0 some.1
@@ -34,7 +34,7 @@ returns-then-is_some-clause-seen g c h shown shows =
     (λ none one. absurd (room_or_none v h c.args.name.now c.in-Is.found.chain found.walked found.head.low some.0 some.1 none))
 
 pub returns-then-not-found-clause-need : goal.returns-then-not-found-clause-need
-returns-then-not-found-clause-need g c h shown shows sound =
+returns-then-not-found-clause-need g c h shown shows =
     let v = g.V.View.seen c.args.view.now in
     let name = c.args.name.now in
     let chain = c.in-Is.found.chain in
@@ -52,11 +52,11 @@ returns-then-not-found-clause-seen g c h shown shows =
     (λ none one. absurd (several_walked v h (index_for h name) (length name) chain found.walked c.if-not-found.true found.head.low one))
 
 pub returns-clause-need : goal.returns-clause-need
-returns-clause-need g c h shown shows sound =
+returns-clause-need g c h shown shows =
     let v = g.V.View.seen c.args.view.now in
     let name = c.args.name.now in
     let found = answer_at _ _ _ c.in-Is.is (c.in_ok-found.ensures.found h shown shows) in
-    c.need_of_one.ensures.need h shown sound (c.depth.ensures.value ∙ g.met.T.PointerTable.deep_in c.args.table.now v h shows) found.head
+    c.need_of_one.ensures.need h shown (c.depth.ensures.value ∙ g.met.T.PointerTable.deep_in c.args.table.now v h shows) found.head
     (one_walked v h (index_for h name) (length name) c.in-Is.found.chain found.walked c.if-not-found.false found.head.low).1
 
 pub returns-clause-seen : goal.returns-clause-seen

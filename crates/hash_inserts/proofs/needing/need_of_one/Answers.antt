@@ -2,14 +2,12 @@ use Rattle.std.proofs.Common.{◌≡◌, ◌∙◌, ◌+◌, ◌∷◌, [], leng
 use Rattle.glock_names.specs.Steps.{TellsOf}
 use Rattle.glock_names.proofs.StepLaws.{answer_at, needed_at}
 use Rattle.gfs2_layout.specs.Area.{slots_of}
-use Rattle.gfs2_layout.specs.Holding.{InChain, bytes_at}
-use Rattle.gfs2_layout.specs.Inode.{entry, first_hash, leaf_area, leaf_in, leaf_length}
+use Rattle.gfs2_layout.specs.Inode.{entry, leaf_area, leaf_in, leaf_length}
 use Rattle.gfs2_layout.specs.declared.dinode.Dinode.{Dinode}
 use Rattle.gfs2_layout.specs.declared.leaf.Leaf.{Leaf}
 use Rattle.linear_dirs.proofs.Looked.{handed}
 use Rattle.hash_dirs.specs.Broken.{IsWrongIn}
 use Rattle.hash_dirs.specs.Shown.{LeadsToLeaf, by_pointer, index_for}
-use Rattle.hash_dirs.proofs.Chained.{rules}
 use Rattle.hash_inserts.specs.Inserting as inserting
 use Rattle.hash_inserts.specs.Inserting.{IsWrongToInsert, of_chain}
 use Rattle.hash_inserts.specs.Needing.{AreLeavesFrom, Needs, the_last}
@@ -47,7 +45,7 @@ count_needs-requires-clause-small g c =
     omega (arith, ap length leaf.area, length-drop 104 leaf.bytes, whole, (size_bounds _ view.block_size).1)
 
 pub returns-clause-need : goal.returns-clause-need
-returns-clause-need g c h shown sound deep head one =
+returns-clause-need g c h shown deep head one =
     let v = g.V.View.seen c.args.view.now in
     let name = c.args.name.now in
     let i = index_for h c.args.name.now in
@@ -56,8 +54,10 @@ returns-clause-need g c h shown sound deep head one =
     let leaf = answer_at _ _ _ c.in-Is-2.is (c.in_ok-leaf.ensures.read h i shown leads) in
     let dinode = answer_at _ _ _ c.in-Is.is (c.in_ok-dinode.ensures.dinode h shown) in
     let area : c.in-Is-2.leaf.area.now ≡ leaf_area h x = leaf.area ∙ ap (leaf_area h) head.leaf in
-    let long : length (bytes_at h x) ≡ h.size = sound.inode.whole x (InChain (first_hash h i) 0) ((rules h sound shown.hashed).leads i head.low) in
-    let size : length c.in-Is-2.leaf.area.now + leaf_length ≡ h.size = omega (arith, ap length area, length-drop 104 (bytes_at h x), long, (size_bounds h.size sound.block_size).0) in
+    let at = answer_at _ _ _ c.in-Is-2.is c.in_ok-leaf.ensures.seen in
+    let view = c.block_size-size.ensures.view in
+    let whole = view.whole c.args.head.now.leaf at.bytes at.there in
+    let size : length c.in-Is-2.leaf.area.now + leaf_length ≡ h.size = omega (arith, ap length at.area, length-drop leaf_length at.bytes, whole, shown.inode.size, (size_bounds _ view.block_size).0) in
     record {
       chain = record { size = length c.in-Is-2.leaf.area.now + leaf_length; height = c.in-Is.dinode.height; table = c.args.depth; depth = c.in-Is-2.leaf.head.depth; leaves = slots_of c.in-Is-2.leaf.area.now ∷ [] };
       is = record {

@@ -113,7 +113,7 @@ returns-clause-put g c h shown shows sound small one less free some count =
     let blocks = c.in-Some-made.blocks.items in
     let told = c.puts_are_seen_alike.ensures.told in
     let inside = inside_put v fates blocks dir (c.in-Some.lower ∷ []) [] (c.in-Some.lower ∷ []) _ h k split.put told
-    (may_split v dir h i c.in-Some.lower shown.inode.own sound c.sound_pointers_are_parts.ensures.led small (subst (HasDataBlock v) found.0 of_group) (record { tree = sees; below = below }) one) in
+    (may_split v dir h i c.in-Some.lower shown.inode.own sound shown.hashed c.sound_pointers_are_parts.ensures.led small less (subst (HasDataBlock v) found.0 of_group) (record { tree = sees; below = below }) one) in
     let long : length rest ≡ c.len.result = omega (arith, c.len.ensures, c.pop_front.new.self.ok) in
     let all = c.in_ok-done.ensures.all (c.in-Some.lower ∷ []) rest front long (λ w there. inside w (subst (λ xs. Contains xs w) c.deref.ensures.value there)) in
     let put = c.in_ok-done.ensures.put all.0 in

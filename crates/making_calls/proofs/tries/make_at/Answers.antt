@@ -1,4 +1,4 @@
-use Rattle.std.proofs.Common.{◌≡◌, ◌<◌, ◌^◌, true, sym, ap, ◌∙◌, subst}
+use Rattle.std.proofs.Common.{◌≡◌, ◌<◌, ◌^◌, ap, ◌∙◌, subst}
 use Rattle.std.specs.Prelude.{not}
 use Rattle.gfs2_layout.specs.Holding.{Holding}
 use Rattle.glock_names.proofs.StepLaws.{answer_at, needed_at}
@@ -6,8 +6,9 @@ use Rattle.directories.specs.Shown.{IsShown}
 use Rattle.path_walks.proofs.Faults.{told_on, tells_each, tells_so}
 use Rattle.path_walks.proofs.Steps.{none_so}
 use Rattle.path_walks.proofs.Steps.{inside_so as shown_inside}
+use Rattle.hash_inserts.specs.Needing.{TakesBlocks}
 use Rattle.name_inserts.specs.Inserting.{IsNeededForName, IsWrongForName}
-use Rattle.name_inserts.specs.Need.{has_linear_room, name_need}
+use Rattle.name_inserts.specs.Need.{name_need, need_in_linear}
 use Rattle.making_calls.specs.Making.{IsDamage}
 use Rattle.making_calls.specs.Making as damage
 use Rattle.making_calls.proofs.At.{insert_needs, name_damage}
@@ -49,7 +50,8 @@ make_with-requires-clause-takes g c =
     let v = g.V.View.seen c.args.view.now in
     record {
       sound = λ h shown sound dir. subst (λ n. c.in-Is.more ≡ name_need h n) c.bytes.ensures.bytes (answer_at _ _ (λ n. n ≡ name_need h c.bytes.result.now) c.in-Is.is (c.in_ok-more.ensures.need h shown sound dir));
-      room = λ h shown linear room. answer_at _ _ (λ n. n ≡ 0) c.in-Is.is (c.in_ok-more.ensures.room h shown linear (subst (λ n. has_linear_room h n ≡ true) (sym c.bytes.ensures.bytes) room));
+      linear = λ h shown linear. subst (λ n. c.in-Is.more ≡ need_in_linear h n) c.bytes.ensures.bytes (answer_at _ _ (λ n. n ≡ need_in_linear h c.bytes.result.now) c.in-Is.is (c.in_ok-more.ensures.linear h shown linear));
+      hashed = λ h shown hashed. subst (λ n. TakesBlocks h n c.in-Is.more) c.bytes.ensures.bytes (answer_at _ _ (TakesBlocks h c.bytes.result.now) c.in-Is.is (c.in_ok-more.ensures.hashed h shown hashed));
     }
 
 pub make_with-requires-clause-most : goal.make_with-requires-clause-most

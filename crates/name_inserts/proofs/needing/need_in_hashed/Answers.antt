@@ -24,7 +24,13 @@ returns-clause-need g c h shown is sound =
     let v = g.V.View.seen c.args.view.now in
     let table = answer_at _ _ _ c.in-Is.is (c.in_ok-table.ensures.table h shown.inode is (shown.whole is)) in
     let small = c.checksums_have_32_bits.ensures c.args.name.now (All-from_get_or (λ byte. byte < 256) c.args.name.now 0 (λ i inside. (c.type_inv.name i).fits)) in
-    answer_so c.need_insert.result _ (λ need. need ≡ need_in_hashed h c.args.name.now) (λ n takes. need_is h c.args.name.now sound is small n takes) (c.need_insert.ensures.need h (leaves_shown v c.args.dir h shown is) table sound)
+    answer_so c.need_insert.result _ (λ need. need ≡ need_in_hashed h c.args.name.now) (λ n takes. need_is h c.args.name.now sound is small n takes) (c.need_insert.ensures.need h (leaves_shown v c.args.dir h shown is) table)
+
+pub returns-clause-takes : goal.returns-clause-takes
+returns-clause-takes g c h shown is =
+    let v = g.V.View.seen c.args.view.now in
+    let table = answer_at _ _ _ c.in-Is.is (c.in_ok-table.ensures.table h shown.inode is (shown.whole is)) in
+    c.need_insert.ensures.need h (leaves_shown v c.args.dir h shown is) table
 
 pub returns-clause-needed : goal.returns-clause-needed
 returns-clause-needed g c h shown is =

@@ -25,8 +25,8 @@ returns-then-is_hashed-clause-need g c h shown sound is =
     let hashed = hashed_here h c.in-Is.dinode (answer_at _ _ _ c.in-Is.is (c.in_ok-dinode.ensures.found h shown.inode)) is (sym c.is_hashed.ensures ∙ c.if-is_hashed.true) in
     answer_so c.need_in_hashed.result _ (λ need. need ≡ name_need h c.args.name.now) (λ n e. e ∙ sym (cond-true (is_hashed_in h) _ _ hashed)) (c.need_in_hashed.ensures.need h shown hashed sound)
 
-pub returns-then-is_hashed-clause-room : goal.returns-then-is_hashed-clause-room
-returns-then-is_hashed-clause-room g c h shown plain room =
+pub returns-then-is_hashed-clause-linear : goal.returns-then-is_hashed-clause-linear
+returns-then-is_hashed-clause-linear g c h shown plain =
     let v = g.V.View.seen c.args.view.now in
     let is = is_directory_here v c.args.dir h c.requires.directory (answer_at _ _ _ c.in-Is.is c.in_ok-dinode.ensures.there) shown.inode in
     let hashed = hashed_here h c.in-Is.dinode (answer_at _ _ _ c.in-Is.is (c.in_ok-dinode.ensures.found h shown.inode)) is (sym c.is_hashed.ensures ∙ c.if-is_hashed.true) in
@@ -52,7 +52,12 @@ need_in_linear-requires-clause-linear g c =
 pub returns-clause-need : goal.returns-clause-need
 returns-clause-need g c h shown sound is =
     let plain = linear_here h c.in-Is.dinode (answer_at _ _ _ c.in-Is.is (c.in_ok-dinode.ensures.found h shown.inode)) (sym c.is_hashed.ensures ∙ c.if-is_hashed.false) in
-    answer_so c.need_in_linear.result _ (λ need. need ≡ name_need h c.args.name.now) (λ n e. e ∙ sym (cond-false (is_hashed_in h) _ _ plain)) (c.need_in_linear.ensures.need h shown.inode sound is plain)
+    answer_so c.need_in_linear.result _ (λ need. need ≡ name_need h c.args.name.now) (λ n e. e ∙ sym (cond-false (is_hashed_in h) _ _ plain)) (c.need_in_linear.ensures.need h shown.inode)
+
+pub returns-clause-hashed : goal.returns-clause-hashed
+returns-clause-hashed g c h shown hashed =
+    let plain = linear_here h c.in-Is.dinode (answer_at _ _ _ c.in-Is.is (c.in_ok-dinode.ensures.found h shown.inode)) (sym c.is_hashed.ensures ∙ c.if-is_hashed.false) in
+    absurd (true≢false (sym hashed ∙ plain))
 
 pub returns-clause-damaged : goal.returns-clause-damaged
 returns-clause-damaged g c h shown =
