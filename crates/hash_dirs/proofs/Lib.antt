@@ -11,6 +11,7 @@ pub mod Passed
 pub mod Anew
 pub mod Still
 pub mod Regrouped
+pub mod LeafHeads
 pub mod Cuts
 pub mod Removed
 pub mod Few

@@ -22,6 +22,7 @@ use Rattle.gfs2_layout.specs.Holding.{Holding, Cell, Part, Itself, Pointed, InCh
 use Rattle.gfs2_layout.specs.Inode.{IsInode, IsLeaf, depth_in, dinode_in, first_hash, has_hash_flag, is_directory_in, is_hashed_in, is_leaf_part, leaf_area, leaf_in, leaf_length, leaves_of, records_of, top_bits}
 use Rattle.gfs2_layout.specs.Records.{IsRecordArea, Record, record_named, record_of, records_in}
 use Rattle.gfs2_layout.specs.Structures.{dinode_length, dinode_of, header_fault, is_in_use, leaf_of, or_else, records_fault}
+use Rattle.gfs2_layout.specs.Writing.{leaf_put}
 use Rattle.gfs2_layout.specs.declared.dinode.Dinode.{Dinode}
 use Rattle.gfs2_layout.specs.declared.fault.LayoutFault.{LayoutFault}
 use Rattle.gfs2_layout.specs.declared.fault.LayoutFault.TheVariants.{Value}
@@ -369,6 +370,10 @@ module _ {V : Type 0} (seen : V → Seen) (old new : Drafted V) (dir : ℕ) (nam
 
   -- ---- byte by byte
 
+  front_now : take leaf_length (bytes_at after f.block) ≡ take leaf_length (leaf_put (leaf_in after f.block) (bytes_at h f.block))
+  front_now = ap (take leaf_length) after_x ∙ cut.front ∙ ap (λ l. take leaf_length (leaf_put l spot.bytes)) (sym read_leaf.1 ∙ ap leaf_of (sym after_x))
+      ∙ ap (λ b. take leaf_length (leaf_put (leaf_in after f.block) b)) (sym bytes_x)
+
   pub cut_from : (cut : IsCutFrom h after name) × (cut.leaf ≡ f.block)
   cut_from = (
     record {
@@ -382,7 +387,9 @@ module _ {V : Type 0} (seen : V → Seen) (old new : Drafted V) (dir : ℕ) (nam
       first = subst (λ a. first_named name (slots_of a) ≡ Some (slot_from f.spot.at a)) (sym area_x) spot.spot.first;
       slots = ap slots_of area_now ∙ cut.slots ∙ ap (slots_without f.spot.at) (sym area_x);
       head = leaf_now;
+      front = front_now;
       dinode = dinode_kept;
+      behind = keeps.behind;
       parts = parts;
       others = after_other;
     },

@@ -8,7 +8,7 @@ use Rattle.gfs2_layout.specs.Cutting.{slot_from, slots_without}
 use Rattle.gfs2_layout.specs.Holding.{Holding, bytes_at, part_at}
 use Rattle.gfs2_layout.specs.Inode.{dinode_in, leaf_area, leaf_in, leaf_length}
 use Rattle.gfs2_layout.specs.Structures.{dinode_length, dinode_read, leaf_of, leaf_read}
-use Rattle.gfs2_layout.specs.Writing.{dinode_put}
+use Rattle.gfs2_layout.specs.Writing.{dinode_put, leaf_put}
 use Rattle.gfs2_layout.specs.declared.dinode.Dinode.{Dinode}
 use Rattle.glock_names.specs.Views.{Seen, HasBlock}
 use Rattle.resource_groups.specs.Putting.{HasDataBlock}
@@ -21,8 +21,9 @@ use Rattle.linear_dirs.specs.Reading.{IsFewer}
 use Rattle.hash_dirs.specs.Finding.{IsNamedLater}
 use Rattle.hash_dirs.specs.Shown.{IsInChain, index_for}
 
--- the bytes of a leaf's block after the record at a place was cut: the head counts one record less
+-- the bytes of a leaf's block after the record at a place was cut: the head is written over the old one, and counts one record less
 pub record IsLeafCut (old new : List ℕ) (at : ℕ) : Type 0 where
+  pub front : take leaf_length new ≡ take leaf_length (leaf_put (record (leaf_of old) { entries = (leaf_of old).entries - 1 }) old)
   pub head : leaf_read new ≡ Ok (record (leaf_of old) { entries = (leaf_of old).entries - 1 })
   pub slots : slots_of (drop leaf_length new) ≡ slots_without at (drop leaf_length old)
   pub filled : IsArea (drop leaf_length new)
@@ -56,8 +57,8 @@ pub record ArePut {V : Type 0} (seen : V → Seen) (old new : Drafted V) (dir le
   pub dinode : Dinode
   pub read : dinode_read block ≡ Ok dinode
 
--- The first record of the name is cut from its leaf, which counts one record less; the dinode says, apart from its counts, what it said; and
--- no other block changes.
+-- The first record of the name is cut from its leaf, which counts one record less, by a head that is written over the old one; the dinode says, apart
+-- from its counts, what it said, and what stands behind it stays; and no other block changes.
 pub record IsCutFrom (h g : Holding) (name : List ℕ) : Type 0 where
   pub leaf : ℕ
   pub at_place : ℕ
@@ -69,6 +70,8 @@ pub record IsCutFrom (h g : Holding) (name : List ℕ) : Type 0 where
   pub first : first_named name (slots_of (leaf_area h leaf)) ≡ Some (slot_from place (leaf_area h leaf))
   pub slots : slots_of (leaf_area g leaf) ≡ slots_without place (leaf_area h leaf)
   pub head : leaf_in g leaf ≡ record (leaf_in h leaf) { entries = (leaf_in h leaf).entries - 1 }
+  pub front : take leaf_length (bytes_at g leaf) ≡ take leaf_length (leaf_put (leaf_in g leaf) (bytes_at h leaf))
   pub dinode : uncounted (dinode_in g) ≡ uncounted (dinode_in h)
+  pub behind : drop dinode_length (bytes_at g h.own) ≡ drop dinode_length (bytes_at h h.own)
   pub parts : (b : ℕ) → part_at g b ≡ part_at h b
   pub others : (b : ℕ) → b ≢ leaf → b ≢ h.own → bytes_at g b ≡ bytes_at h b

@@ -1,10 +1,11 @@
 -- A dinode that was put with other times.
-use Rattle.std.proofs.Common.{◌≡◌, ℕ, ◌≤◌, false, List, length, drop, None, Some, Result, Ok, Err, OnOk, sym, ap, ◌∙◌, subst}
+use Rattle.std.proofs.Common.{◌≡◌, ℕ, ◌≤◌, false, List, length, drop, Option, None, Some, Result, Ok, Err, OnOk, refl, sym, ap, ◌∙◌, subst}
+use Rattle.std.specs.Prelude.{IsSome, option_map}
 use Rattle.std.specs.FinMap.{insert}
 use Rattle.drafts.specs.Fates.{Drafted, seen_in}
 use Rattle.drafts.specs.declared.fate.Fate.TheVariants.{Put}
 use Rattle.gfs2_layout.specs.Headers.{HasHeader}
-use Rattle.gfs2_layout.specs.Holding.{Holding}
+use Rattle.gfs2_layout.specs.Holding.{Holding, Cell, cell_bytes}
 use Rattle.gfs2_layout.specs.Inode.{Head, dinode_in, has_hash_flag}
 use Rattle.gfs2_layout.specs.Structures.{header_fault, dinode_of, dinode_read, dinode_length, is_directory}
 use Rattle.gfs2_layout.specs.Writing.{dinode_put}
@@ -14,12 +15,18 @@ use Rattle.gfs2_layout.proofs.HeaderLaws.{answer_ok, header_from}
 use Rattle.glock_names.specs.Views.{Seen}
 use Rattle.dinode_tree.specs.Reading.{inode_lock}
 use Rattle.dinode_tree.specs.Shown.{IsShown}
-use Rattle.linear_dirs.specs.Shown.{IsLinearIn, holding_over}
+use Rattle.linear_dirs.specs.Shown.{IsLinearIn, bytes_over, holding_over}
 use Rattle.linear_dirs.proofs.Looked.{bytes_of}
 use Rattle.linear_dirs.proofs.Rewritten.{IsRewritten, rewritten, bytes_new, seen_at}
 use Rattle.new_inodes.specs.Touched.{IsTouched, with_times}
 use Rattle.new_inodes.proofs.Retimed.{IsRetimed, dinode_after, behind_after, content_after}
 use Rattle.new_inodes.proofs.Rehashed.{records_after, sound_after}
+
+-- a cell that is seen with the bytes that it has, or isn't seen, is as it was
+over_kept : (o : Option (List ℕ)) (c : Option Cell) → ((bytes : List ℕ) → IsSome c → o ≡ Some bytes → cell_bytes c ≡ bytes) → option_map (bytes_over o) c ≡ c
+over_kept o None same = refl
+over_kept None (Some c) same = refl
+over_kept (Some bytes) (Some c) same = ap (λ x. Some (record c { bytes = x })) (sym (same bytes refl refl))
 
 abbrev head_from : Dinode → Head
 head_from d = record { number = d.num.number; is_dir = is_directory d }
@@ -60,6 +67,7 @@ module _ {V : Type 0} (seen : V → Seen) (old new : Drafted V) (inode time : �
     header = subst (HasHeader 4 400) (sym (bytes_new (seen_in seen new) h now over)) retimed.header;
     written = bytes_new (seen_in seen new) h now over ∙ is.written ∙ ap (dinode_put (with_times (dinode_in h) time)) (sym (bytes_of (seen_in seen old) h inode before is.shown is.there));
     behind = behind_after (seen_in seen new) h now over time retimed;
+    others = λ b other. over_kept ((seen_in seen new).block_at b) (h.cell b) (λ bytes there at. over.same b bytes other there at);
     sound = λ own sound. sound_after (seen_in seen new) h now over time retimed own large sound;
     content = λ own sound. content_after (seen_in seen new) h now over time retimed own sound.tree sound.fits large;
     records = λ own. records_after (seen_in seen new) h now over time retimed own;

@@ -15,7 +15,7 @@ use Rattle.gfs2_layout.specs.Holding.{Holding, InChain, Itself, bytes_at, cell_b
 use Rattle.gfs2_layout.specs.Inode.{IsInode, dinode_in, is_hashed_in, leaf_length, linear_area, records_of}
 use Rattle.gfs2_layout.specs.Records.{Record, record_named, records_in}
 use Rattle.gfs2_layout.specs.Structures.{dinode_length, dinode_of, dinode_read, header_fault, leaf_of}
-use Rattle.gfs2_layout.specs.Writing.{dinode_put}
+use Rattle.gfs2_layout.specs.Writing.{dinode_put, leaf_put}
 use Rattle.gfs2_layout.specs.declared.dinode.Dinode.{Dinode}
 use Rattle.gfs2_layout.proofs.HeaderLaws.{answer_ok}
 use Rattle.glock_names.specs.Views.{Seen, IsView, HasBlock}
@@ -238,6 +238,9 @@ module _ {V : Type 0} (seen : V → Seen) (old : Drafted V) (new : old.fates ≡
           first = cut_leaf.cut.first;
           slots = ap (λ bytes. slots_of (drop leaf_length bytes)) (apart h cut_leaf.cut.leaf leaf_apart) ∙ cut_leaf.cut.slots;
           head = ap leaf_of (apart h cut_leaf.cut.leaf leaf_apart) ∙ cut_leaf.cut.head;
+          front = ap (take leaf_length) (apart h cut_leaf.cut.leaf leaf_apart) ∙ cut_leaf.cut.front
+              ∙ ap (λ bytes. take leaf_length (leaf_put (leaf_of bytes) (bytes_at h cut_leaf.cut.leaf))) (sym (apart h cut_leaf.cut.leaf leaf_apart));
+          behind = touch.behind ∙ cut_leaf.cut.behind;
           others = λ b other away. apart h b (λ e. away (e ∙ sym shown.inode.own)) ∙ cut_leaf.cut.others b other away;
         }
 

@@ -10,9 +10,10 @@ use Rattle.gfs2_layout.specs.Area.{IsRecordAt, first_named, slots_of}
 use Rattle.gfs2_layout.specs.Cutting.{slot_from, slots_without}
 use Rattle.gfs2_layout.specs.Exchanges.{IsCounted}
 use Rattle.gfs2_layout.specs.Holding.{Holding, bytes_at}
-use Rattle.gfs2_layout.specs.Inode.{dinode_in, is_hashed_in, leaf_area, leaf_in, records_of}
+use Rattle.gfs2_layout.specs.Inode.{dinode_in, is_hashed_in, leaf_area, leaf_in, leaf_length, records_of}
 use Rattle.gfs2_layout.specs.Records.{Record, record_named, records_in}
 use Rattle.gfs2_layout.specs.Structures.{dinode_length, dinode_of}
+use Rattle.gfs2_layout.specs.Writing.{leaf_put}
 use Rattle.gfs2_layout.specs.declared.dinode.Dinode.{Dinode}
 use Rattle.glock_names.specs.Views.{Seen, IsView, HasBlock}
 use Rattle.glock_names.specs.declared.steps.Missing.{Missing}
@@ -50,7 +51,8 @@ pub record LosesRecord (old new : List ℕ) (name : List ℕ) (time : ℕ) : Typ
   pub bytes : IsLaidOver old new
 
 -- A hashed directory after a name went: the first record of the name is cut from its leaf, which counts one record less; the dinode says, apart from its
--- counts, what it said, with this time as that of the last change of its content and of its own; its counts follow; and no other byte changes.
+-- counts, what it said, with this time as that of the last change of its content and of its own; its counts follow; and no other byte changes: the leaf's
+-- head is written over the old one, and what stands behind the dinode stays.
 pub record LosesInLeaf (h h' : Holding) (name : List ℕ) (time : ℕ) : Type 0 where
   pub dinode : uncounted (dinode_in h') ≡ uncounted (with_times (dinode_in h) time)
   pub record_is : Record
@@ -65,6 +67,8 @@ pub record LosesInLeaf (h h' : Holding) (name : List ℕ) (time : ℕ) : Type 0 
   pub first : first_named name (slots_of (leaf_area h leaf)) ≡ Some (slot_from place (leaf_area h leaf))
   pub slots : slots_of (leaf_area h' leaf) ≡ slots_without place (leaf_area h leaf)
   pub head : leaf_in h' leaf ≡ record (leaf_in h leaf) { entries = (leaf_in h leaf).entries - 1 }
+  pub front : take leaf_length (bytes_at h' leaf) ≡ take leaf_length (leaf_put (leaf_in h' leaf) (bytes_at h leaf))
+  pub behind : drop dinode_length (bytes_at h' h.own) ≡ drop dinode_length (bytes_at h h.own)
   pub others : (b : ℕ) → b ≢ leaf → b ≢ h.own → bytes_at h' b ≡ bytes_at h b
 
 -- In the draft the name is taken from the directory, and then the directory gets this time. What is put is under the directory's lock: its dinode's block,
