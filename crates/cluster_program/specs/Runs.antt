@@ -57,7 +57,7 @@ pub record MeetsDamage (given left : DiskState) (m : MountedValue) (block rule :
 
 -- How a run of what was mounted ends, if anything was: each line is answered and the node has unmounted; the image was not mounted, before the first item; or, in a call
 -- behind the lines above it: the disk failed as its blocks were read or written; the call isn't built for what stands there, in an image that stands for no
--- tree; or, in such an image too, a block is met that breaks a rule of the image as it then was, if that still has what was mounted of it; or there was no memory.
+-- tree; or, in such an image too, a block is met that is told as broken (`MeetsDamage`); or there was no memory.
 pub data RunEnds (given left : Inputs) (s : ScriptValue) (time : ℕ) (items : List TraceItem) : Option MountedValue → Status → Type 0 where
   IsDone : (m : MountedValue) → AllAnswered items s → IsWholeRun s.clients s.lines items (IsImageOf given.disk) → RunEnds given left s time items (Some m) status.Done
   NotMounted : (own : Status) → items ≡ [] → KeepsDisk given left → MountEnds given.disk given.disk_faults left.disk_faults own → RunEnds given left s time items None own

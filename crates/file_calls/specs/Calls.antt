@@ -91,8 +91,8 @@ IsDamage v (calls.Unlink path) rule b = removing.IsDamage v (calls.Unlink path) 
 IsDamage v (calls.Rmdir path) rule b = removing.IsDamage v (calls.Rmdir path) rule b
 IsDamage v call rule b = path.IsDamage v (wanted call) (path_of call false) rule b
 
--- The call isn't built for what stands there: it would make a name in a directory, or change a file, that isn't sound in itself, in a way that no rule
--- tells of what was read. In an image that stands for a tree none is so.
+-- The call isn't built for what stands there: it would make a name in a directory, or change a file, that isn't sound in itself, though no look of the
+-- call told a rule. In an image that stands for a tree none is so.
 abbrev pub IsUnbuilt : Seen → Call → ℕ → Type 0
 IsUnbuilt v (calls.Create path) node = making.IsUnbuilt v (calls.Create path) node
 IsUnbuilt v (calls.Mkdir path) node = making.IsUnbuilt v (calls.Mkdir path) node

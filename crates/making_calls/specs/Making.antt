@@ -177,8 +177,8 @@ pub record IsFullFor (v : Seen) (call : Call) (need free : ℕ) : Type 0 where
   pub fewer : free < need
 
 -- The call isn't built for what stands there: the directory that is to get the name can't get it in the blocks that the node takes, since it isn't sound, or
--- can't count it, or the blocks are its own. The way to the name is right all the same, each block of it by itself, and none of the blocks is on it. In an
--- image that stands for a tree no directory is such a one.
+-- can't count it, or the blocks are its own. The way to the name is right all the same, as `IsRightWay` has it, and none of the blocks is on it. In an image that
+-- stands for a tree no directory is such a one.
 pub record IsUnbuilt (v : Seen) (call : Call) (node : ℕ) : Type 0 where
   pub need : ℕ
   pub needs : NeedsBlocks v call need
