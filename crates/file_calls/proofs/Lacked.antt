@@ -61,6 +61,5 @@ lacked_lacks v call node (Ok (attempts.NeedLock lock state)) is = lacks_by v cal
 lacked_lacks v call node (Ok (attempts.Done r change)) is = is
 lacked_lacks v call node (Ok (attempts.NeedBlock m)) is = is
 lacked_lacks v call node (Ok (attempts.NoSpace need free)) is = is
-lacked_lacks v call node (Ok (attempts.Hashed b)) is = is
 lacked_lacks v call node (Ok attempts.NotBuilt) is = is
 lacked_lacks v call node (Err fault) is = is
