@@ -5,8 +5,8 @@ use Rattle.drafts.specs.declared.attempt.Attempt.TheVariants.{Done, NeedLock, Ne
 use Rattle.glock_names.specs.declared.steps.CallFault.{CallFault}
 use Rattle.glock_names.specs.declared.steps.Missing.{Missing}
 use Rattle.cluster_history.specs.Changes.{is_ok}
-use Rattle.path_walks.specs.Answers.{IfDone, IfNeedBlock, IfNeedLock, IfNoSpace, IfNotBuilt, HasSpace}
-use Rattle.path_walks.specs.Holds.{AreHeld, IsAskedFor, IsFirstLack, IsUnder}
+use Rattle.read_calls.specs.Answers.{IfDone, IfNeedBlock, IfNeedLock, IfNoSpace, IfNotBuilt, HasSpace}
+use Rattle.read_calls.specs.Holds.{AreHeld, IsAskedFor, IsFirstLack, IsUnder}
 use Rattle.making_calls.specs.Making.{IsMaking}
 use Rattle.removing_calls.specs.Removing.{IsRemoving}
 use Rattle.writing_calls.specs.Writing.{IsWriting}
