@@ -8,7 +8,7 @@ use Rattle.dinode_tree.specs.Reading.{AreWholeBefore, block_at}
 use Rattle.image_model.specs.Claims.{every, below, HasDirectory}
 use Rattle.image_model.specs.Image.{Image, IsImage}
 use Rattle.image_model.specs.Owners.{Below}
-use Rattle.name_inserts.proofs.Led.{content_led}
+use Rattle.file_calls.proofs.Led.{content_led}
 use Rattle.damage_laws.specs.Telling.{IsAstray}
 use Rattle.damage_laws.proofs.Search.{seek}
 

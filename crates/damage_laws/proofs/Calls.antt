@@ -7,15 +7,15 @@ use Rattle.directories.specs.Shown as dirs
 use Rattle.gfs2_layout.specs.Holding.{Holding}
 use Rattle.gfs2_layout.specs.Inode.{first_hash}
 use Rattle.hash_dirs.specs.Shown.{index_for}
-use Rattle.hash_inserts.specs.Inserting as inserts
-use Rattle.name_inserts.specs.Inserting as names
-use Rattle.name_inserts.specs.Way.{IsOnWay, its_dinode, its_leaf, its_pointer}
+use Rattle.file_calls.specs.HashInserting as inserts
+use Rattle.file_calls.specs.Inserting as names
+use Rattle.file_calls.specs.Way.{IsOnWay, its_dinode, its_leaf, its_pointer}
 use Rattle.file_tree.specs.declared.call.Call.{Call}
 use Rattle.file_tree.specs.declared.call.Call.TheVariants as calls
 use Rattle.call_locks.specs.Wants.{wanted}
 use Rattle.call_locks.specs.WantLaws.{path_of}
 use Rattle.file_tree.specs.Names.{parent_of}
-use Rattle.file_changes.specs.Drafting.{IsWrongAt, in_group, in_inode, stray}
+use Rattle.file_calls.specs.Drafting.{IsWrongAt, in_group, in_inode, stray}
 use Rattle.gfs2_layout.specs.Device.{superblock_place}
 use Rattle.gfs2_layout.specs.Headers.{HasHeader}
 use Rattle.gfs2_layout.specs.declared.rindex.Rindex.{Rindex}
@@ -31,10 +31,10 @@ use Rattle.image_model.specs.Image.{Image, IsImage}
 use Rattle.image_model.specs.Owners.{Owner, Root, Below, Chained, is_dinode}
 use Rattle.image_model.specs.Rules.{Breaks, of_group, of_bitmap, of_owner, no_header, beyond_groups, bits_of, free_count, dinode_count, wrong_bits}
 use Rattle.path_walks.specs.Walks.{LeadsTo, at_root, by_name}
-use Rattle.making_calls.specs.Making as making
+use Rattle.file_calls.specs.Making as making
 use Rattle.path_walks.specs.Walks as path
-use Rattle.removing_calls.specs.Removing as removing
-use Rattle.writing_calls.specs.Writing as writing
+use Rattle.file_calls.specs.Removing as removing
+use Rattle.file_calls.specs.Writing as writing
 use Rattle.damage_laws.specs.Telling.{IsAstray, IsReadFrom, HasRootInside, HasWholeGroups, HasAstray, IsTold, itself, astray, IsToldOf, on_path, by_root, WritesTell, WritesTellExactly, RemovalsTell, RemovalsTellExactly, MakingsTell, MakingsTellExactly, CallsTell, CallsTellExactly}
 use Rattle.damage_laws.proofs.Claimed.{chain_claims, shown, root_claimed, directory_or, is_directory, led_there, outside, astray_at, further}
 use Rattle.damage_laws.proofs.Owned.{dinode_state, from_parent, record_told, shared_told}

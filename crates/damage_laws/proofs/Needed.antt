@@ -25,20 +25,20 @@ use Rattle.glock_names.specs.Views.{Seen, HasBlock}
 use Rattle.glock_names.specs.declared.steps.Missing.{Missing}
 use Rattle.growth_laws.proofs.Numbers.{zeros_are_no_number}
 use Rattle.hash_dirs.specs.Shown as hashed
-use Rattle.hash_inserts.specs.Inserting as inserts
-use Rattle.name_inserts.specs.Inserting as names
+use Rattle.file_calls.specs.HashInserting as inserts
+use Rattle.file_calls.specs.Inserting as names
 use Rattle.image_model.specs.Claims.{every, below, HasInode, HasDirectory}
 use Rattle.image_model.specs.Flat.{Path}
 use Rattle.image_model.specs.Image.{Image, IsImage}
 use Rattle.image_model.specs.Owners.{Root, Below}
 use Rattle.image_model.specs.Rules.{Breaks, beyond_device}
 use Rattle.image_model.proofs.Held.{none_some}
-use Rattle.making_calls.specs.Making as making
+use Rattle.file_calls.specs.Making as making
 use Rattle.path_walks.specs.Walks.{IsDirectoryAt, LeadsTo, IsNext, the_root, the_child, IsUnread, a_dinode, in_directory}
-use Rattle.read_calls.specs.Reading as reading
-use Rattle.removing_calls.specs.Removing as removing
-use Rattle.writing_calls.specs.Writing as writing
-use Rattle.file_changes.specs.Drafting.{IsNeededAt, of_any, of_group, of_inode}
+use Rattle.file_calls.specs.Reading as reading
+use Rattle.file_calls.specs.Removing as removing
+use Rattle.file_calls.specs.Writing as writing
+use Rattle.file_calls.specs.Drafting.{IsNeededAt, of_any, of_group, of_inode}
 use Rattle.growth_drafts.specs.Taken.{IsCutAt, IsLookedAt}
 use Rattle.damage_laws.specs.Telling.{IsReadFrom, HasWholeGroups, HasAstray, IsAstray, IsBrokenSource, NeedsTell, source_of}
 use Rattle.damage_laws.proofs.Astray.{led_beyond, whole_or_out}

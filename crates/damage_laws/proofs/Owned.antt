@@ -19,7 +19,7 @@ use Rattle.image_model.proofs.Held.{none_some, some_same}
 use Rattle.path_walks.specs.Walks.{LeadsTo, Names, at_root, by_name}
 use Rattle.path_walks.proofs.Leads.{no_end}
 use Rattle.path_walks.proofs.Lists.{parent_of_next}
-use Rattle.removing_calls.specs.Removing.{Goes}
+use Rattle.file_calls.specs.Removing.{Goes}
 use Rattle.directories.specs.Taking.{HasRecordOf}
 use Rattle.directories.specs.Taking as taking
 use Rattle.hash_dirs.specs.Finding.{IsLeafOfName, in_none, in_this}

@@ -22,12 +22,12 @@ use Rattle.image_model.specs.Owners.{Owner, Owners, IsWithin}
 use Rattle.image_model.specs.Rules.{Breaks}
 use Rattle.image_model.specs.Stands.{Layout}
 use Rattle.image_mount.specs.Mounted.{IsMounted, MountedValue}
-use Rattle.making_calls.specs.Making as making
+use Rattle.file_calls.specs.Making as making
 use Rattle.path_walks.specs.Walks as path
-use Rattle.removing_calls.specs.Removing as removing
+use Rattle.file_calls.specs.Removing as removing
 use Rattle.resource_groups.specs.Putting.{HasDataBlock}
 use Rattle.resource_groups.specs.Shown.{IsHeaderOf}
-use Rattle.writing_calls.specs.Writing as writing
+use Rattle.file_calls.specs.Writing as writing
 
 -- The view may have been read from the image, be this right or wrong: they agree in the size of a block, in the root, in each block that
 -- the view has, and in the groups, which are those of the image's list.

@@ -5,8 +5,8 @@ use Rattle.std.proofs.lemmas.Bool.Decides.{nat_tests}
 use Rattle.gfs2_layout.specs.Holding.{Holding}
 use Rattle.gfs2_layout.specs.Inode.{dinode_in, is_hashed_in}
 use Rattle.glock_names.specs.Views.{Seen}
-use Rattle.hash_dirs.specs.Broken as leaves
-use Rattle.hash_dirs.specs.Leaves.{AreLeaves, records_among}
+use Rattle.tree_tables.specs.Broken as leaves
+use Rattle.tree_tables.specs.Leaves.{AreLeaves, records_among}
 use Rattle.directories.specs.Shown.{IsBroken}
 use Rattle.directories.specs.Shown as directory
 

@@ -19,7 +19,7 @@ use Rattle.glock_names.specs.declared.steps.Step.{Step}
 use Rattle.glock_names.specs.declared.steps.Step.TheVariants.{Is, NeedBlock}
 use Rattle.dinode_tree.specs.Shown as inode
 use Rattle.linear_dirs.specs.Shown.{IsLinearIn, entry_of}
-use Rattle.hash_dirs.specs.Shown as hashed
+use Rattle.tree_tables.specs.Shown as hashed
 use Rattle.directories.specs.Shown.{IsDirectoryIn, IsShown, Says, in_linear}
 
 -- as a hashed one

@@ -14,17 +14,17 @@ use Rattle.glock_names.specs.declared.steps.Entry.{Entry}
 use Rattle.dinode_tree.proofs.Sound.{sound_breaks_nothing}
 use Rattle.linear_dirs.specs.Broken as linear
 use Rattle.linear_dirs.specs.Shown.{entry_of}
-use Rattle.pointer_tables.specs.Directories.{IsInChain, chain_head, chain_next}
-use Rattle.hash_dirs.specs.Broken as leaves
-use Rattle.hash_dirs.specs.Finding.{IsFirstNamed, IsNamedLater, in_leaf, named_in, nowhere}
-use Rattle.hash_dirs.specs.Shown.{IsSound, LeadsToLeaf, by_leaf, by_pointer, index_for}
-use Rattle.hash_dirs.specs.Leaves.{records_among}
-use Rattle.hash_dirs.proofs.Along.{chain_one}
+use Rattle.tree_tables.specs.Directories.{IsInChain, chain_head, chain_next}
+use Rattle.tree_tables.specs.Broken as leaves
+use Rattle.tree_tables.specs.Finding.{IsFirstNamed, IsNamedLater, in_leaf, named_in, nowhere}
+use Rattle.tree_tables.specs.Shown.{IsSound, LeadsToLeaf, by_leaf, by_pointer, index_for}
+use Rattle.tree_tables.specs.Leaves.{records_among}
+use Rattle.tree_tables.proofs.Along.{chain_one}
 use Rattle.glock_names.specs.Views.{Seen}
 use Rattle.resource_groups.specs.Putting.{HasDataBlock}
-use Rattle.hash_dirs.proofs.Chained.{cell_some, in_chain, in_leaves, rules, same_hash}
-use Rattle.hash_dirs.proofs.InAll.{all_records}
-use Rattle.hash_dirs.proofs.Named.{records_are, tells}
+use Rattle.tree_tables.proofs.Chained.{cell_some, in_chain, in_leaves, rules, same_hash}
+use Rattle.tree_tables.proofs.InAll.{all_records}
+use Rattle.tree_tables.proofs.Named.{records_are, tells}
 use Rattle.directories.specs.Shown.{HasName, IsBroken, Says}
 use Rattle.directories.specs.Shown as directory
 

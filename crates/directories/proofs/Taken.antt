@@ -27,9 +27,9 @@ use Rattle.linear_dirs.specs.Shown as linear
 use Rattle.linear_dirs.proofs.Looked.{bytes_of}
 use Rattle.linear_dirs.proofs.Over.{as_seen}
 use Rattle.linear_dirs.proofs.Rewritten.{over_there, seen_at}
-use Rattle.hash_dirs.specs.Exchanging as exchanging
-use Rattle.hash_dirs.specs.Finding.{IsFirstNamed, IsLeafOfName, in_leaf, in_none, nowhere}
-use Rattle.hash_dirs.specs.Shown.{IsSound, index_for}
+use Rattle.tree_tables.specs.Exchanging as exchanging
+use Rattle.tree_tables.specs.Finding.{IsFirstNamed, IsLeafOfName, in_leaf, in_none, nowhere}
+use Rattle.tree_tables.specs.Shown.{IsSound, index_for}
 use Rattle.directories.specs.Shown.{IsShown, Says}
 use Rattle.directories.specs.Shown as directory
 use Rattle.directories.specs.Taking.{HasNameIn, HasRecordOf, IsWithoutName, PutsTwo, in_hashed, in_linear}

@@ -16,10 +16,10 @@ use Rattle.dinode_tree.specs.Reading.{AreWholeBefore}
 use Rattle.dinode_tree.specs.Walking.{missing_dinode}
 use Rattle.linear_dirs.specs.Broken as linear
 use Rattle.linear_dirs.specs.Shown.{entry_of}
-use Rattle.hash_dirs.specs.Broken as leaves
-use Rattle.hash_dirs.specs.Finding.{IsFoundBy}
-use Rattle.hash_dirs.specs.Leaves.{AreLeaves, records_among}
-use Rattle.hash_dirs.specs.Shown as hashed
+use Rattle.tree_tables.specs.Broken as leaves
+use Rattle.tree_tables.specs.Finding.{IsFoundBy}
+use Rattle.tree_tables.specs.Leaves.{AreLeaves, records_among}
+use Rattle.tree_tables.specs.Shown as hashed
 
 -- ---- what a view shows
 

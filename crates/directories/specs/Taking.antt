@@ -15,9 +15,9 @@ use Rattle.dinode_tree.specs.Reading.{inode_lock}
 use Rattle.resource_groups.specs.Putting.{HasDataBlock}
 use Rattle.linear_dirs.specs.Exchanges.{HasExchanged, IsCutFrom, IsLaidOver, uncounted}
 use Rattle.linear_dirs.specs.Shown.{holding_over}
-use Rattle.hash_dirs.specs.Exchanging as hashed
-use Rattle.hash_dirs.specs.Finding.{IsLeafOfName}
-use Rattle.hash_dirs.specs.Shown.{IsSound}
+use Rattle.tree_tables.specs.Exchanging as hashed
+use Rattle.tree_tables.specs.Finding.{IsLeafOfName}
+use Rattle.tree_tables.specs.Shown.{IsSound}
 use Rattle.directories.specs.Shown.{IsShown, Says}
 
 -- as far as the view shows, the directory has the name

@@ -5,14 +5,14 @@ ghost use Rattle.gfs2_layout.specs.Inode.{is_hashed_in};
 ghost use Rattle.glock_names.specs.Steps.{IfIs, IfNeedBlock, IfDamaged};
 ghost use Rattle.glock_names.specs.Views.{IsOfView};
 ghost use Rattle.resource_groups.specs.Putting.{HasDataBlock};
-ghost use Rattle.hash_dirs.specs.Leaves.{AreLeaves};
+ghost use Rattle.tree_tables.specs.Leaves.{AreLeaves};
 ghost use Rattle.directories.specs.Shown.{CountsItsLeaves, IsBroken, IsNeededForAll, IsShown};
 
 use dinode_tree::read_dinode;
 use glock_names::{CallFault, Step, View};
-use hash_dirs::{all_leaves, have_records};
 use std::alloc::Global;
 use tree_tables::TreeTable;
+use tree_tables::hashed::{all_leaves, have_records};
 
 /// The blocks of the leaves of the hashed directory with its dinode in this block, each once. It looks that its dinode counts the records in them. It
 /// costs what `all_leaves` costs, and a step for each record; memory for the list.

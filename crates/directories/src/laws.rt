@@ -10,7 +10,7 @@ ghost use Rattle.glock_names.specs.declared.steps.Entry.{Entry as EntryValue};
 ghost use Rattle.glock_names.specs.Views.{Seen};
 ghost use Rattle.resource_groups.specs.Putting.{HasDataBlock};
 ghost use Rattle.linear_dirs.specs.Shown.{entry_of};
-ghost use Rattle.hash_dirs.specs.Shown.{IsSound};
+ghost use Rattle.tree_tables.specs.Shown.{IsSound};
 ghost use Rattle.directories.specs.Shown.{IsBroken, Says};
 
 /// A law: a sound directory says of a name what its records say, whatever its form.

@@ -12,3 +12,4 @@ pub use laws::{directories_say_their_records, sound_directories_break_nothing};
 pub use listing::names;
 pub use looking::{is_hashed, look};
 pub use removing::remove;
+pub use tree_tables::TreeTable;

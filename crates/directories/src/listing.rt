@@ -25,7 +25,7 @@ fn names_hashed<V: View>(alloc: Global, view: &V, dir: u64) -> Result<Step<Vec<N
         Step::Is(table) => table,
         Step::NeedBlock(missing) => return Ok(Step::NeedBlock(missing)),
     };
-    hash_dirs::names(alloc, view, dir, &table)
+    tree_tables::hashed::names(alloc, view, dir, &table)
 }
 
 /// The names of the directory with its dinode in this block but `.` and `..`. It goes over all its records, those of a hashed one chain after chain,

@@ -7,7 +7,7 @@ ghost use Rattle.gfs2_layout.specs.Records.{is_dots as has_dots, record_named};
 ghost use Rattle.glock_names.specs.Steps.{IfIs, IfNeedBlock, OnlyDamaged};
 ghost use Rattle.glock_names.specs.Views.{HasBlock, IsOfView};
 ghost use Rattle.linear_dirs.specs.Shown.{entry_of};
-ghost use Rattle.hash_dirs.specs.Shown.{IsSound};
+ghost use Rattle.tree_tables.specs.Shown.{IsSound};
 ghost use Rattle.resource_groups.specs.Putting.{HasDataBlock};
 ghost use Rattle.directories.specs.Shown.{IsBroken, IsDirectoryIn, IsNeededFor, IsShown, Says};
 
@@ -39,7 +39,7 @@ fn look_hashed<V: View>(view: &V, dir: u64, name: &[u8]) -> Result<Step<Option<E
         Step::Is(table) => table,
         Step::NeedBlock(missing) => return Ok(Step::NeedBlock(missing)),
     };
-    hash_dirs::look(view, dir, name, &table)
+    tree_tables::hashed::look(view, dir, name, &table)
 }
 
 /// Where a name of the directory with its dinode in this block leads; None where it has no such name. `.` and `..` are names here. Of a linear

@@ -37,7 +37,7 @@ fn remove_hashed<V: View>(
         Step::Is(table) => table,
         Step::NeedBlock(missing) => return Ok(Step::NeedBlock(missing)),
     };
-    match hash_dirs::remove(draft, dir, name, &table)? {
+    match tree_tables::hashed::remove(draft, dir, name, &table)? {
         Step::Is(Some(leaf)) => Ok(Step::Is(leaf)),
         Step::Is(None) => unreachable!(),
         Step::NeedBlock(missing) => Ok(Step::NeedBlock(missing)),

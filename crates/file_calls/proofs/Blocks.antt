@@ -25,11 +25,11 @@ use Rattle.cluster_history.specs.Changes.{is_ok, may_change}
 use Rattle.file_tree.specs.Tree.{Tree}
 use Rattle.file_tree.specs.declared.reply.Reply.{Reply}
 use Rattle.making_calls.specs.Making as making
-use Rattle.path_walks.specs.Holds.{Hold, holds_in, IsUnder}
-use Rattle.path_walks.proofs.Asked.{unread_absent}
+use Rattle.read_calls.specs.Holds.{Hold, holds_in, IsUnder}
+use Rattle.read_calls.proofs.Asked.{unread_absent}
 use Rattle.removing_calls.specs.Removing.{IsRemoving, holds_for}
 use Rattle.removing_calls.specs.Removing as removing
-use Rattle.file_changes.specs.Drafting.{IsNeededAt, of_any, of_group, of_inode}
+use Rattle.writing_calls.specs.FileDrafting.{IsNeededAt, of_any, of_group, of_inode}
 use Rattle.growth_drafts.specs.Taken.{IsCutAt, IsLookedAt}
 
 -- a view shows each inode

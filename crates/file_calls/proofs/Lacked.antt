@@ -14,9 +14,9 @@ use Rattle.call_locks.specs.WantLaws.{path_of}
 use Rattle.call_locks.specs.Wants.{wanted}
 use Rattle.call_locks.specs.declared.want.Want.{Want}
 use Rattle.image_model.specs.Flat.{Path}
-use Rattle.path_walks.specs.Answers.{IfNeedLock}
-use Rattle.path_walks.specs.Holds.{holds}
-use Rattle.path_walks.specs.Walks.{IsLacked}
+use Rattle.read_calls.specs.Answers.{IfNeedLock}
+use Rattle.read_calls.specs.Holds.{holds}
+use Rattle.read_calls.specs.Walks.{IsLacked}
 use Rattle.making_calls.specs.Making as making
 use Rattle.removing_calls.specs.Removing as removing
 use Rattle.writing_calls.specs.Writing as writing
@@ -61,6 +61,5 @@ lacked_lacks v call node (Ok (attempts.NeedLock lock state)) is = lacks_by v cal
 lacked_lacks v call node (Ok (attempts.Done r change)) is = is
 lacked_lacks v call node (Ok (attempts.NeedBlock m)) is = is
 lacked_lacks v call node (Ok (attempts.NoSpace need free)) is = is
-lacked_lacks v call node (Ok (attempts.Hashed b)) is = is
 lacked_lacks v call node (Ok attempts.NotBuilt) is = is
 lacked_lacks v call node (Err fault) is = is

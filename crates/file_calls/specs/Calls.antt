@@ -13,9 +13,9 @@ use Rattle.image_model.specs.Image.{Image}
 use Rattle.image_model.specs.Owners.{Owners}
 use Rattle.image_model.specs.Stands.{Layout}
 use Rattle.making_calls.specs.Making as making
-use Rattle.path_walks.specs.Holds.{Hold, holds_in}
-use Rattle.path_walks.specs.Walks.{IsLacked}
-use Rattle.path_walks.specs.Walks as path
+use Rattle.read_calls.specs.Holds.{Hold, holds_in}
+use Rattle.read_calls.specs.Walks.{IsLacked}
+use Rattle.read_calls.specs.Walks as path
 use Rattle.read_calls.specs.Reading as reading
 use Rattle.removing_calls.specs.Removing as removing
 use Rattle.writing_calls.specs.Writing as writing

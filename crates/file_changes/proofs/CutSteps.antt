@@ -24,7 +24,7 @@ use Rattle.image_model.specs.Owners.{Owners, holding}
 use Rattle.image_model.specs.Stands.{Layout}
 use Rattle.image_changes.specs.Does.{IsOf}
 use Rattle.image_changes.specs.Instances.{IsAt}
-use Rattle.path_walks.proofs.Images.{is_shown}
+use Rattle.group_locks.proofs.Images.{is_shown}
 use Rattle.file_changes.specs.Drafting.{GetsTime, IsCutDraft}
 use Rattle.file_changes.proofs.Fresh.{seen_new, seen_over, still_there}
 use Rattle.file_changes.proofs.Standing.{own_inside}

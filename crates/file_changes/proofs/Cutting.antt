@@ -30,7 +30,7 @@ use Rattle.image_changes.proofs.Inside.{stay_inside}
 use Rattle.growth_drafts.proofs.Rooms.{none_in}
 use Rattle.draft_changes.specs.Resizing.{FreedGroupsSay, LeavesGroups}
 use Rattle.draft_changes.proofs.Views.{groups_are_listed}
-use Rattle.path_walks.proofs.Images.{is_shown}
+use Rattle.group_locks.proofs.Images.{is_shown}
 use Rattle.group_locks.proofs.Listed.{any_range, range_any}
 use Rattle.file_changes.specs.Drafting.{FreesIn, IsCutDraft}
 use Rattle.file_changes.specs.Making.{CanBeCut, IsCutIn, MakesFile, goes_at, goes_with, stays_below}

@@ -6,3 +6,5 @@ pub mod Lying
 pub mod Writing
 pub mod Stepping
 pub mod CutSteps
+-- Passed on to the crates above.
+pub use Rattle.group_locks.proofs.Locks

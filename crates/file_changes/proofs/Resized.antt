@@ -48,7 +48,7 @@ use Rattle.draft_changes.specs.Resizing.{HasExchangedBlocks, HasSomeOf, IsPutOf,
 use Rattle.draft_changes.proofs.Rows.{cell_its, header_among, said_free, same_group}
 use Rattle.draft_changes.proofs.Views.{groups_are_listed, is_listed}
 use Rattle.group_locks.proofs.Listed.{any_range, range_any}
-use Rattle.path_walks.proofs.Lying.{data_lies, header_lies}
+use Rattle.group_locks.proofs.Lying.{data_lies, header_lies}
 use Rattle.file_changes.specs.Drafting.{GetsTime}
 use Rattle.file_changes.specs.Making.{MakesFile}
 use Rattle.file_changes.proofs.Standing.{own_inside}

@@ -20,7 +20,7 @@ use Rattle.draft_changes.proofs.Rows.{cell_its, its_used}
 use Rattle.draft_changes.proofs.Views.{groups_are_listed, none_has_the_first}
 use Rattle.dinode_tree.proofs.Sound.{sound_breaks_nothing}
 use Rattle.group_locks.specs.Laws.{GroupsBreakNothing}
-use Rattle.path_walks.proofs.Images.{is_inode, is_shown, is_sound}
+use Rattle.group_locks.proofs.Images.{is_inode, is_shown, is_sound}
 use Rattle.file_changes.specs.Drafting.{IsWrongAt, in_inode, stray, in_group}
 
 module _ (v : Seen) (im : Image) (o : Owners) (l : Layout) (t : Tree) (of : IsOf v im o l t) where

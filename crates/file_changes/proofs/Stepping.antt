@@ -17,7 +17,7 @@ use Rattle.gfs2_layout.specs.Holding.{Holding}
 use Rattle.glock_names.specs.Views.{Seen}
 use Rattle.dinode_tree.specs.Shown.{IsShown}
 use Rattle.growth_drafts.specs.Touched.{Follows}
-use Rattle.file_growth.specs.Written.{CanWrite, HasWritten}
+use Rattle.file_cuts.specs.Written.{CanWrite, HasWritten}
 use Rattle.resource_groups.specs.Taking.{AreTaken, KeepsBlocks}
 use Rattle.file_changes.specs.Drafting.{GetsTime, TakesIn, WritesFile}
 

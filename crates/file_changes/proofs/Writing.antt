@@ -19,7 +19,7 @@ use Rattle.glock_names.specs.Views.{Seen, IsView, end_of, group_of_entry}
 use Rattle.dinode_tree.specs.Shown.{IsShown}
 use Rattle.growth_drafts.specs.Taken.{AreFreeFor}
 use Rattle.growth_laws.specs.Laws.{FilesAreInodes, InodesAreFiles}
-use Rattle.file_growth.specs.Written.{CanWrite, HasWritten}
+use Rattle.file_cuts.specs.Written.{CanWrite, HasWritten}
 use Rattle.resource_groups.specs.Freeing.{HasSome}
 use Rattle.resource_groups.specs.Shown as group
 use Rattle.image_model.specs.Flat.{Path}
@@ -34,7 +34,7 @@ use Rattle.image_changes.specs.Instances.{IsAt}
 use Rattle.growth_drafts.proofs.Rooms.{none_in}
 use Rattle.draft_changes.specs.Resizing.{FreeBlocksAreNew, LeavesGroups, TakenGroupsSay}
 use Rattle.draft_changes.proofs.Views.{groups_are_listed}
-use Rattle.path_walks.proofs.Images.{is_shown}
+use Rattle.group_locks.proofs.Images.{is_shown}
 use Rattle.file_changes.specs.Drafting.{GetsTime, TakesIn}
 use Rattle.file_changes.specs.Making.{IsRoomIn, MakesFile}
 use Rattle.file_changes.proofs.Lying.{all_at}

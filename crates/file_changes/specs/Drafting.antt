@@ -15,7 +15,7 @@ use Rattle.dinode_tree.specs.Reading.{IsNeeded, inode_lock}
 use Rattle.dinode_tree.specs.Shown.{IsShown}
 use Rattle.growth_drafts.specs.Touched.{Follows}
 use Rattle.file_cuts.specs.Cut.{CanCut, HasCut, WasLedTo}
-use Rattle.file_growth.specs.Written.{CanWrite, HasWritten}
+use Rattle.file_cuts.specs.Written.{CanWrite, HasWritten}
 use Rattle.linear_dirs.specs.Shown.{holding_over}
 use Rattle.new_inodes.specs.Touched.{IsTouched}
 use Rattle.resource_groups.specs.Freeing.{AreFreed, BreaksSome, IsNeededFor, KeepsRest}

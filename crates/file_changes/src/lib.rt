@@ -9,5 +9,7 @@ mod times;
 mod writes;
 
 pub use cuts::{cut_file, free_and_finish};
+pub use file_cuts::need_write;
+pub use group_locks::lacked_group;
 pub use laws::{cuts_free_exactly, cuts_make_files, nothing_is_wrong, writes_make_files};
 pub use writes::write_file;

@@ -1,2 +1,5 @@
 pub mod Cut
 pub mod Progress
+-- Passed on to the crates above.
+pub use Rattle.file_fills.specs.Filling
+pub use Rattle.file_growth.specs.Written

@@ -7,3 +7,5 @@ mod looking;
 mod places;
 
 pub use cutting::cut;
+pub use file_fills::need_write;
+pub use file_growth::write_range;

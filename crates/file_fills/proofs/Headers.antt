@@ -13,7 +13,7 @@ use Rattle.dinode_tree.specs.Pads.{dinode_over}
 use Rattle.dinode_tree.proofs.Pads.{over_again}
 use Rattle.growth_laws.specs.Blocks.{with_pointer}
 use Rattle.growth_laws.specs.Files.{IsPlaced}
-use Rattle.growth_steps.specs.New.{new_bytes}
+use Rattle.file_walks.specs.New.{new_bytes}
 use Rattle.file_fills.specs.Headers.{HaveSamePads, KeepsHeaders}
 
 -- ---- pads

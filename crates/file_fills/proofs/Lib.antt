@@ -9,3 +9,5 @@ pub mod Touching
 pub mod Turns
 pub mod Tails
 pub mod Headers
+-- Passed on to the crates above.
+pub use Rattle.file_walks.proofs.Steps

@@ -36,8 +36,8 @@ use Rattle.growth_laws.proofs.Pointing.{put_pointers_fill, rewritten_bytes, rewr
 use Rattle.growth_drafts.specs.Taken.{HasBytes, IsContentIn, IsLeft, IsPutFor}
 use Rattle.growth_drafts.proofs.Rooms.{none_in, none_some, only_in}
 use Rattle.growth_drafts.proofs.Shown.{from_there}
-use Rattle.growth_steps.specs.New.{new_bytes}
-use Rattle.growth_steps.proofs.Stepping.{is_new_block}
+use Rattle.file_walks.specs.New.{new_bytes}
+use Rattle.file_walks.proofs.Stepping.{is_new_block}
 use Rattle.file_walks.specs.Walks.{place_of, first_of, IsPlace, IsStop}
 use Rattle.file_walks.specs.declared.walks.Stop.{Stop}
 use Rattle.file_walks.proofs.Above.{under_above}

@@ -5,7 +5,7 @@ use Rattle.gfs2_layout.specs.Inode.{header_length}
 use Rattle.gfs2_layout.specs.declared.dinode.Dinode.{Dinode}
 use Rattle.dinode_tree.specs.Pads.{dinode_over}
 use Rattle.growth_laws.specs.Files.{IsPlaced}
-use Rattle.growth_steps.specs.New.{new_bytes}
+use Rattle.file_walks.specs.New.{new_bytes}
 
 -- Whatever dinode is put over either, the bytes are the same: so the two begin with the same bytes but for those of a dinode's fields. Pads and reserved bytes are no field.
 abbrev pub HaveSamePads : List ℕ → List ℕ → Type 0

@@ -6,6 +6,7 @@ mod looking;
 mod needing;
 mod numbers;
 
+pub use file_walks::span;
 pub use filling::{fill, way_to, write_pieces};
 pub use looking::look_at;
 pub use needing::{goes_along, need_write};

@@ -34,7 +34,7 @@ use Rattle.growth_drafts.specs.Taken.{HasTaken}
 use Rattle.growth_drafts.proofs.Rooms.{free_left, none_in}
 use Rattle.growth_steps.specs.Becoming.{Becomes}
 use Rattle.growth_steps.specs.Sizes.{CanHaveSize}
-use Rattle.file_fills.proofs.Turns.{stand_as}
+use Rattle.file_heights.proofs.Turns.{stand_as}
 use Rattle.file_heights.specs.Grown.{CanGrow, HasCleared, HasRisen, IsGrown, IsLower}
 use Rattle.file_heights.proofs.Changing.{changes_then, changes_wider}
 use Rattle.file_heights.proofs.Joining.{grown_as, grown_then, risen_none}

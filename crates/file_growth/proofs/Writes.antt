@@ -35,13 +35,13 @@ use Rattle.growth_laws.proofs.Rising.{none_above, there_false}
 use Rattle.growth_drafts.proofs.Rooms.{free_before, free_left, none_in}
 use Rattle.growth_steps.specs.Becoming.{Becomes}
 use Rattle.growth_steps.proofs.Putting.{drafts_on}
-use Rattle.file_fills.specs.Causes.{ChangesOnly, IsFilledAt}
-use Rattle.file_fills.specs.Filling.{HasFilled, IsRoomFor, IsSeenWay}
-use Rattle.file_fills.specs.Headers.{HaveSamePads}
-use Rattle.file_fills.specs.Turns.{IsMetBefore, StandIn}
-use Rattle.file_fills.proofs.Headers.{headers_then}
-use Rattle.file_fills.proofs.Turns.{stand_as, stand_then}
-use Rattle.file_fills.proofs.Ways.{ways_along}
+use Rattle.file_heights.specs.Causes.{ChangesOnly, IsFilledAt}
+use Rattle.file_heights.specs.Filling.{HasFilled, IsRoomFor, IsSeenWay}
+use Rattle.file_heights.specs.Headers.{HaveSamePads}
+use Rattle.file_heights.specs.Turns.{IsMetBefore, StandIn}
+use Rattle.file_heights.proofs.Headers.{headers_then}
+use Rattle.file_heights.proofs.Turns.{stand_as, stand_then}
+use Rattle.file_heights.proofs.Ways.{ways_along}
 use Rattle.file_heights.specs.Grown.{IsUnclear, IsLower, IsNewLevel}
 use Rattle.file_heights.specs.Sized.{dinode_as}
 use Rattle.file_heights.proofs.Changing.{changes_then, changes_wider}

@@ -12,7 +12,7 @@ use Rattle.growth_laws.specs.Files.{IsFile, with_cells}
 use Rattle.growth_laws.specs.Need.{height_for, needed_below}
 use Rattle.growth_laws.specs.Steps.{IsClearFrom}
 use Rattle.growth_drafts.specs.Taken.{AreFreeFor}
-use Rattle.file_fills.specs.Causes.{ChangesOnly}
+use Rattle.file_heights.specs.Causes.{ChangesOnly}
 use Rattle.file_heights.specs.Sized.{dinode_as}
 use Rattle.file_heights.specs.Grown.{AreLevels, IsGrown, IsRisen, IsUnclear}
 use Rattle.file_growth.specs.Written.{size_with}

@@ -13,10 +13,10 @@ use Rattle.dinode_tree.specs.Shown.{IsShown}
 use Rattle.growth_laws.specs.Files.{IsPlaced}
 use Rattle.growth_laws.specs.Need.{height_for, is_needed, needed}
 use Rattle.growth_laws.specs.Steps.{IsClearFrom}
-use Rattle.file_fills.specs.Headers.{KeepsHeaders}
-use Rattle.file_fills.specs.Turns.{IsMetBefore, StandIn}
+use Rattle.file_heights.specs.Headers.{KeepsHeaders}
+use Rattle.file_heights.specs.Turns.{IsMetBefore, StandIn}
 use Rattle.file_heights.specs.Grown.{IsUnclear, IsNewLevel}
-use Rattle.file_fills.specs.Causes.{ChangesOnly, IsFilledAt}
+use Rattle.file_heights.specs.Causes.{ChangesOnly, IsFilledAt}
 use Rattle.file_heights.specs.Sized.{dinode_as}
 use Rattle.growth_drafts.specs.Taken.{AreFreeFor, DraftsFile, HasTaken, IsCounted}
 

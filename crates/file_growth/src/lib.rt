@@ -4,4 +4,5 @@
 mod stretching;
 mod writing;
 
+pub use file_heights::{height_for, span};
 pub use writing::write_range;

@@ -8,7 +8,7 @@ ghost use Rattle.glock_names.specs.Views.{HasBlock};
 ghost use Rattle.dinode_tree.specs.Shown.{IsShown};
 ghost use Rattle.growth_laws.specs.Files.{IsFile};
 ghost use Rattle.growth_drafts.specs.Touched.{Follows};
-ghost use Rattle.file_fills.specs.Filling.{IsSeenWay};
+ghost use Rattle.file_heights.specs.Filling.{IsSeenWay};
 ghost use Rattle.file_growth.specs.Stretched.{CanStretch, HasEnd, HasStretched};
 
 use drafts::Draft;

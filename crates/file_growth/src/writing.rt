@@ -14,13 +14,13 @@ ghost use Rattle.growth_laws.specs.Files.{IsFile};
 ghost use Rattle.growth_laws.specs.Need.{height_for, needed};
 ghost use Rattle.growth_drafts.specs.Taken.{IsLookedAt};
 ghost use Rattle.growth_drafts.specs.Touched.{Follows};
-ghost use Rattle.file_fills.specs.Filling.{IsSeenWay};
+ghost use Rattle.file_heights.specs.Filling.{IsSeenWay};
 ghost use Rattle.file_growth.specs.Written.{CanWrite, HasWritten, size_with};
 
 use crate::stretching::stretch;
 use dinode_tree::read_dinode;
 use drafts::Draft;
-use file_fills::{has_room, need_write, write_pieces};
+use file_heights::{has_room, need_write, write_pieces};
 use gfs2_layout::Dinode;
 use glock_names::{CallFault, Step, View};
 use growth_steps::put_stuffed;

@@ -36,8 +36,8 @@ use Rattle.growth_drafts.specs.Touched.{Follows, as_it_was}
 use Rattle.growth_drafts.proofs.Following.{follows_draft, follows_one}
 use Rattle.growth_drafts.proofs.Rooms.{none_in}
 use Rattle.growth_steps.specs.Becoming.{Becomes}
-use Rattle.file_walks.specs.Walks.{IsPlace, IsStop}
-use Rattle.file_walks.specs.declared.walks.Stop.{Stop}
+use Rattle.file_fills.specs.Walks.{IsPlace, IsStop}
+use Rattle.file_fills.specs.walk_stops.Stop.{Stop}
 use Rattle.file_fills.specs.Causes.{ChangesOnly}
 use Rattle.file_fills.proofs.Headers.{same_front}
 use Rattle.file_heights.specs.Grown.{HasCleared, IsRisen, IsUnclear}

@@ -6,5 +6,6 @@ mod numbers;
 mod walks;
 
 pub use clear::leads_nowhere;
+pub use growth_steps::{fill_hole, put_content};
 pub use numbers::{begins_before, number_at, place_over, span};
 pub use walks::{Stop, count_blocks, find_place};

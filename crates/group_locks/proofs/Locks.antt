@@ -21,7 +21,7 @@ use Rattle.image_model.proofs.Counts.{at_in}
 use Rattle.image_model.proofs.Members.{IsIn, contained, in_right}
 use Rattle.image_changes.specs.Changes.{cover, is_free}
 use Rattle.image_changes.specs.Does.{IsOf, is_content_of}
-use Rattle.draft_changes.proofs.Views.{groups_are_listed}
+use Rattle.path_walks.proofs.Views.{groups_are_listed}
 use Rattle.path_walks.specs.Holds.{AreHeld, IsFirstLack, holds, hold_of_group}
 use Rattle.path_walks.proofs.Longer.{lack_behind}
 use Rattle.group_locks.specs.Groups.{has_some, holds_of_groups}

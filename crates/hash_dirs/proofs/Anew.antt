@@ -13,7 +13,7 @@ use Rattle.gfs2_layout.specs.Holding.{Holding, Cell, Pointed, part_at, bytes_at}
 use Rattle.gfs2_layout.specs.Inode.{HasTree, IsChild, IsPointed, by_dinode, by_block, Fits, dinode_in, height_in, is_directory_in, header_length, fan, span, pointer, descend, content_block, unit, carried, pieces, content_count, content_of}
 use Rattle.gfs2_layout.specs.Structures.{dinode_length, is_directory}
 use Rattle.gfs2_layout.specs.declared.dinode.Dinode.{Dinode}
-use Rattle.growth_laws.specs.Files.{with_cells}
+use Rattle.growth_drafts.specs.Files.{with_cells}
 
 -- what a dinode says but for its counts and its times
 abbrev pub alike : Dinode → Dinode

@@ -18,3 +18,6 @@ pub mod Few
 pub mod Gathered
 pub mod InAll
 pub mod Counted
+-- Passed on to the crates above.
+pub use Rattle.growth_drafts.proofs.Numbers
+pub use Rattle.linear_dirs.proofs.Looked

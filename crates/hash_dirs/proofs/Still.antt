@@ -8,7 +8,7 @@ use Rattle.gfs2_layout.specs.Holding.{Holding, Cell, Part, InChain, cell_part, p
 use Rattle.gfs2_layout.specs.Inode.{IsInode, IsHashed, IsLeaf, IsNextLeaf, block_count, depth_in, entry, fan, first_hash, has_hash_flag, head_of, index_bits, is_directory_in, is_hashed_in, leaf_in, span, table_count}
 use Rattle.gfs2_layout.specs.Structures.{dinode_length, is_directory}
 use Rattle.gfs2_layout.specs.declared.dinode.Dinode.{Dinode}
-use Rattle.growth_laws.specs.Files.{with_cells}
+use Rattle.growth_drafts.specs.Files.{with_cells}
 use Rattle.hash_dirs.proofs.Anew.{KeepsTree, content_after, count_after, directory_after, height_after, size_after, tree_after}
 
 pub record KeepsLeaves (h : Holding) (cell : ℕ → Option Cell) : Type 0 where

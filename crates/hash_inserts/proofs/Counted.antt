@@ -9,7 +9,7 @@ use Rattle.glock_names.specs.Views.{Seen, HasBlock}
 use Rattle.leaf_areas.specs.Splitting.{bit_at, lower_half, upper_half}
 use Rattle.resource_groups.specs.Putting.{HasDataBlock}
 use Rattle.pointer_tables.specs.Directories.{chain_head}
-use Rattle.table_growth.specs.Tables.{table_height}
+use Rattle.table_changes.specs.Tables.{table_height}
 use Rattle.hash_dirs.specs.Shown.{IsInChain, index_for}
 use Rattle.hash_dirs.proofs.Along.{ended}
 use Rattle.hash_steps.specs.Leaves.{has_room_for, leaf_depth}

@@ -20,7 +20,7 @@ use Rattle.image_model.proofs.Rows.{and_left}
 use Rattle.glock_names.specs.Views.{Seen}
 use Rattle.growth_laws.specs.Need.{raised_to}
 use Rattle.pointer_tables.specs.Directories.{chain_head}
-use Rattle.table_growth.specs.Tables.{doubling_need, doubling_need_of, table_height}
+use Rattle.table_changes.specs.Tables.{doubling_need, doubling_need_of, table_height}
 use Rattle.hash_dirs.specs.Shown.{IsInChain, IsShown, index_for}
 use Rattle.hash_dirs.proofs.Chained.{cell_some, deep, index_low, rules}
 use Rattle.hash_dirs.proofs.Indexes.{bits_of_bits}

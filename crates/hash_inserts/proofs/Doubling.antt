@@ -11,7 +11,7 @@ use Rattle.gfs2_layout.specs.declared.dinode.Dinode.{Dinode}
 use Rattle.glock_names.specs.Views.{Seen, HasBlock}
 use Rattle.dinode_tree.specs.Shown.{IsAsSeen}
 use Rattle.growth_drafts.specs.Taken.{AreFreeFor}
-use Rattle.table_growth.specs.Tables.{CanDouble, TakesDoubled, TakesWithin, doubling_need_of}
+use Rattle.table_changes.specs.Tables.{CanDouble, TakesDoubled, TakesWithin, doubling_need_of}
 use Rattle.hash_dirs.specs.Shown.{IsShown, IsSound}
 use Rattle.hash_dirs.proofs.Chained.{rules}
 use Rattle.hash_dirs.proofs.Indexes.{some_pow}

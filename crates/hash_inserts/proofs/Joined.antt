@@ -13,7 +13,7 @@ use Rattle.glock_names.specs.Views.{Seen}
 use Rattle.glock_names.specs.declared.steps.Entry.{Entry}
 use Rattle.dinode_tree.specs.Reading.{inode_lock}
 use Rattle.growth_drafts.specs.Taken.{HasTaken}
-use Rattle.table_growth.specs.Tables.{DraftsDirectory}
+use Rattle.table_changes.specs.Tables.{DraftsDirectory}
 use Rattle.hash_steps.specs.Laws.{ExchangesJoin}
 use Rattle.hash_inserts.specs.Advancing.{StepsTo}
 use Rattle.hash_inserts.specs.Inserting as ins

@@ -31,3 +31,7 @@ mod Past
 mod Counted
 mod Over
 mod Only
+-- Passed on to the crates above.
+pub use Rattle.hash_steps.proofs.Joins
+pub use Rattle.hash_steps.proofs.Put as PutSteps
+pub use Rattle.hash_steps.proofs.Sound

@@ -20,7 +20,7 @@ use Rattle.glock_names.specs.declared.LockName.{LockName}
 use Rattle.glock_names.specs.declared.steps.Entry.{Entry}
 use Rattle.dinode_tree.specs.Reading.{inode_lock}
 use Rattle.resource_groups.specs.Putting.{HasDataBlock}
-use Rattle.table_growth.specs.Pointers.{HasPointerOf}
+use Rattle.table_changes.specs.Pointers.{HasPointerOf}
 use Rattle.nested_drafts.specs.Nested.{fate_over, with_blocks}
 use Rattle.hash_dirs.specs.Shown.{IsInChain, IsSound, index_for}
 use Rattle.hash_dirs.proofs.Chained.{index_low}

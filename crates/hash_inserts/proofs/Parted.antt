@@ -25,7 +25,7 @@ use Rattle.linear_dirs.proofs.Over.{parts_stay}
 use Rattle.linear_dirs.proofs.Rewritten.{over_there}
 use Rattle.growth_drafts.specs.Taken.{HasTaken}
 use Rattle.pointer_tables.specs.Directories.{IsTreeSound, IsPlaced, chain_head}
-use Rattle.table_growth.specs.Pointers.{HasPointerOf}
+use Rattle.table_changes.specs.Pointers.{HasPointerOf}
 use Rattle.pointer_tables.specs.Tables.{is_within}
 use Rattle.hash_dirs.specs.Shown.{IsInChain, IsSound}
 use Rattle.hash_dirs.proofs.Chained.{cell_some, rules}

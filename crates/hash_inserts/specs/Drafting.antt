@@ -12,8 +12,8 @@ use Rattle.dinode_tree.specs.Below.{IsBelow}
 use Rattle.dinode_tree.specs.Shown.{IsAsSeen}
 use Rattle.growth_drafts.specs.Taken.{HasTaken}
 use Rattle.linear_dirs.specs.Shown.{holding_over}
-use Rattle.table_growth.specs.Pointers.{HasPointerOf}
-use Rattle.table_growth.specs.Tables.{DraftsDirectory, HasPointersSet, TakesDoubled, TakesWithin}
+use Rattle.table_changes.specs.Pointers.{HasPointerOf}
+use Rattle.table_changes.specs.Tables.{DraftsDirectory, HasPointersSet, TakesDoubled, TakesWithin}
 use Rattle.hash_dirs.specs.Shown.{index_for}
 use Rattle.hash_steps.specs.Laws.{Stays}
 use Rattle.hash_steps.specs.Steps.{IsLengthened, IsPutInLeaf, IsSplit}

@@ -17,8 +17,8 @@ use Rattle.growth_drafts.specs.Taken.{HasTaken}
 use Rattle.linear_dirs.specs.Exchanges.{HasExchanged}
 use Rattle.linear_dirs.specs.Shown.{record_for}
 use Rattle.pointer_tables.specs.Tables.{IsDoubled}
-use Rattle.table_growth.specs.Pointers.{HasPointerOf}
-use Rattle.table_growth.specs.Tables.{DraftsDirectory, GrowsAsFile, IsClearBehind, KeepsTableHeaders, doubling_need_of}
+use Rattle.table_changes.specs.Pointers.{HasPointerOf}
+use Rattle.table_changes.specs.Tables.{DraftsDirectory, GrowsAsFile, IsClearBehind, KeepsTableHeaders, doubling_need_of}
 use Rattle.resource_groups.specs.Putting.{HasDataBlock}
 use Rattle.hash_dirs.specs.Broken.{IsWrongIn}
 use Rattle.hash_dirs.specs.Shown.{IsInChain, IsNeededFor, IsSound, index_for}

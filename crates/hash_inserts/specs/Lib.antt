@@ -9,3 +9,7 @@ pub mod Counting
 pub mod Finding
 pub mod Advancing
 pub mod Committing
+-- Passed on to the crates above.
+pub use Rattle.hash_steps.specs.Leaves
+pub use Rattle.hash_steps.specs.Steps
+pub use Rattle.table_changes.specs.Tables

@@ -8,7 +8,7 @@ use Rattle.gfs2_layout.specs.Inode.{dinode_in, depth_in, entry, entry_block, lea
 use Rattle.glock_names.specs.Views.{Seen, HasBlock}
 use Rattle.leaf_areas.specs.Moving.{in_use, packed}
 use Rattle.leaf_areas.specs.Splitting.{bit_at, lower_half, upper_half}
-use Rattle.table_growth.specs.Tables.{doubling_need, table_height}
+use Rattle.table_changes.specs.Tables.{doubling_need, table_height}
 use Rattle.hash_dirs.specs.Shown.{IsInChain, index_for}
 use Rattle.hash_steps.specs.Leaves.{has_room_for, leaf_depth}
 use Rattle.hash_steps.specs.Steps.{first_count}

@@ -3,17 +3,16 @@ ghost use Rattle.std.specs.Prelude.{◌≡◌, ◌+◌, ◌-◌, ◌*◌, ◌^�
 ghost use Rattle.gfs2_layout.specs.Area.{IsArea, slots_of};
 ghost use Rattle.gfs2_layout.specs.Inode.{leaf_length};
 ghost use Rattle.leaf_areas.specs.Splitting.{bit_at, lower_half, upper_half};
-ghost use Rattle.table_growth.specs.Tables.{table_height};
+ghost use Rattle.table_changes.specs.Tables.{table_height};
 ghost use Rattle.hash_inserts.specs.Needing.{Needs};
 ghost use Rattle.hash_inserts.specs.Counting.{chain_with};
 
 use crate::walking::area_has_room;
-use file_fills::height_for;
 use hash_dirs::IN_LEAF;
 use leaf_areas::split_area;
 use no_memory::NoMemory;
 use std::alloc::Global;
-use table_growth::{doubling_need, table_blocks};
+use table_changes::{doubling_need, height_for, table_blocks};
 
 /// What an insertion finds of a chain with one leaf: how high the dinode is, and how deep the table and the leaf are.
 #[derive(Clone, Copy)]

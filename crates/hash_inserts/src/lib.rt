@@ -24,4 +24,5 @@ pub use inserting::{insert, insert_first};
 pub use laws::{absent_names_stay, first_needs_stay, rooms_stay_free};
 pub use needing::need_insert;
 pub use splitting::split;
+pub use table_changes::PointerTableMut;
 pub use walking::area_has_room;

@@ -6,7 +6,7 @@ ghost use Rattle.gfs2_layout.specs.Inode.{is_hashed_in, table_count};
 ghost use Rattle.linear_dirs.specs.Shown.{holding_over};
 ghost use Rattle.hash_dirs.specs.Shown.{IsShown, IsSound};
 ghost use Rattle.growth_drafts.specs.Taken.{AreFreeFor};
-ghost use Rattle.table_growth.specs.Tables.{doubling_need_of};
+ghost use Rattle.table_changes.specs.Tables.{doubling_need_of};
 ghost use Rattle.hash_steps.specs.Laws.{Stays};
 ghost use Rattle.hash_inserts.specs.Drafting.{DoublesTable, SeesTree, SetsPointers};
 

@@ -5,11 +5,11 @@ use drafts::Draft;
 use file_tree::Name;
 use glock_names::{CallFault, Entry, LockName, Missing, Step};
 use hash_dirs::{all_leaves, look, names, remove};
+use hash_inserts::PointerTableMut;
 use pointer_tables::{Pointer, PointerTable};
 use std::alloc::{AllocError, Global};
 use std::collections::{BTreeMap, VecDeque};
 use std::test::Fail;
-use table_changes::PointerTableMut;
 use tree_tables::TreeTable;
 
 const DIRECTORY: [Part; 32] = [

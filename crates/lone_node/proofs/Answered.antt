@@ -33,8 +33,8 @@ use Rattle.shared_disk.specs.Disk.{DiskState}
 use Rattle.lone_view.specs.Seeing.{Lone, seen_alone}
 use Rattle.drafts.specs.declared.attempt.Attempt.{Attempt}
 use Rattle.drafts.specs.declared.attempt.Attempt.TheVariants as attempts
-use Rattle.path_walks.specs.Answers.{IfDone}
-use Rattle.path_walks.specs.Holds.{IsUnder}
+use Rattle.file_calls.specs.AnswerParts.{IfDone}
+use Rattle.file_calls.specs.Holds.{IsUnder}
 use Rattle.file_calls.specs.Answers.{IsAnswered, IsMadeIn}
 use Rattle.file_calls.specs.Calls.{IsDamage, IsTooFew, call_holds}
 use Rattle.lone_node.specs.Course.{IsDoneBy}

@@ -12,7 +12,7 @@ use Rattle.image_model.specs.Image.{Image}
 use Rattle.image_model.specs.Owners.{Owners}
 use Rattle.image_model.specs.Stands.{Layout}
 use Rattle.image_changes.specs.Does.{AreInside, Does, IsOf}
-use Rattle.path_walks.specs.Holds.{IsUnder}
+use Rattle.file_calls.specs.Holds.{IsUnder}
 use Rattle.file_calls.specs.Answers.{IsAnswered, IsFullFor, IsMadeIn}
 use Rattle.file_calls.specs.Calls.{IsTooFew, call_holds}
 use Rattle.shared_disk.specs.Disk.{DiskState, Operation, Write, Barrier, Gains}

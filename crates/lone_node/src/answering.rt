@@ -123,7 +123,7 @@ fn try_once<D: SharedDisk>(
             full: Some(Full { need, free }),
         })),
         Ok(Attempt::NotBuilt) => Err(RunEnd::NotBuilt { line }),
-        Ok(Attempt::NeedLock { .. } | Attempt::Hashed { .. }) => unreachable!(),
+        Ok(Attempt::NeedLock { .. }) => unreachable!(),
         Err(fault) => Err(end_of(fault)),
     }
 }

@@ -13,7 +13,7 @@ use Rattle.glock_names.specs.declared.steps.Step.TheVariants.{Is}
 use Rattle.glock_names.proofs.StepLaws.{answer_at}
 use Rattle.call_locks.specs.Wants.{wanted}
 use Rattle.call_locks.specs.WantLaws.{path_of}
-use Rattle.directories.specs.Shown.{IsShown}
+use Rattle.name_drafts.specs.Shown.{IsShown}
 use Rattle.resource_groups.proofs.Apart.{one_group}
 use Rattle.image_changes.specs.Flats.{in_directory}
 use Rattle.path_walks.specs.Holds.{holds, hold_of_group}
@@ -21,8 +21,8 @@ use Rattle.path_walks.specs.Walks.{IsLastOf, IsSeenAt, LacksName}
 use Rattle.path_walks.specs.declared.walk.Place.{Place}
 use Rattle.path_walks.proofs.Leads.{no_end}
 use Rattle.path_walks.proofs.Lists.{parent_of_next}
-use Rattle.name_inserts.specs.Inserting.{IsNeededForName, IsWrongForName}
-use Rattle.name_inserts.specs.Way.{IsOnWay}
+use Rattle.name_drafts.specs.Inserting.{IsNeededForName, IsWrongForName}
+use Rattle.name_drafts.specs.Way.{IsOnWay}
 use Rattle.name_drafts.specs.Drafting as drafting
 use Rattle.name_drafts.specs.Drafting.{IsNeededIn, IsWrongIn}
 use Rattle.making_calls.specs.Making.{IsDamage, IsNeededFor, IsToGetName, NeedsBlocks, TakesForName, directory_path, name_in}

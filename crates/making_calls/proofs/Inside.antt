@@ -8,7 +8,7 @@ use Rattle.glock_names.specs.declared.steps.Missing.{Missing}
 use Rattle.dinode_tree.specs.Below.{AnyIndex}
 use Rattle.hash_dirs.proofs.Chained.{cell_some}
 use Rattle.dinode_tree.proofs.Sound.{part_of_led}
-use Rattle.directories.specs.Shown as dirs
+use Rattle.name_drafts.specs.Shown as dirs
 use Rattle.image_model.specs.Flat.{Path}
 use Rattle.image_model.specs.Image.{Image}
 use Rattle.image_model.specs.Owners.{Owners, holding}
@@ -20,9 +20,9 @@ use Rattle.group_locks.proofs.Listed.{held_upto}
 use Rattle.path_walks.specs.Holds.{Hold, AreHeld, IsAskedFor, hold_of}
 use Rattle.path_walks.proofs.Asked.{IsAmong, asked_among, name_asked}
 use Rattle.path_walks.proofs.Images.{is_sound, own_inside, unbroken_directory}
-use Rattle.hash_inserts.specs.Inserting as inserts
-use Rattle.name_inserts.specs.Inserting as names
-use Rattle.name_inserts.specs.Inserting.{IsNeededForName, IsWrongForName}
+use Rattle.name_drafts.specs.HashInserting as inserts
+use Rattle.name_drafts.specs.Inserting as names
+use Rattle.name_drafts.specs.Inserting.{IsNeededForName, IsWrongForName}
 
 -- a lock of a list that is held
 split_in : (x : Hold) (list : List Hold) → IsIn x list → (front back : List Hold) × (list ≡ front ++ x ∷ back)

@@ -7,3 +7,5 @@ pub mod Wanted
 pub mod Under
 pub mod At
 pub mod Taking
+-- Passed on to the crates above.
+pub use Rattle.name_drafts.proofs.Led

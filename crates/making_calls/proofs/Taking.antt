@@ -29,7 +29,7 @@ use Rattle.glock_names.specs.declared.views.Group.{Group}
 use Rattle.call_locks.specs.Wants.{wanted}
 use Rattle.call_locks.specs.WantLaws.{path_of}
 use Rattle.dinode_tree.specs.Reading.{inode_lock}
-use Rattle.directories.specs.Shown.{IsShown}
+use Rattle.name_drafts.specs.Shown.{IsShown}
 use Rattle.hash_dirs.specs.Shown.{IsSound, index_for}
 use Rattle.resource_groups.specs.Putting.{HasDataBlock}
 use Rattle.resource_groups.specs.Shown.{IsDataOf, group_lock, said}
@@ -66,9 +66,9 @@ use Rattle.room_search.specs.declared.search.Locked.TheVariants as locked
 use Rattle.room_search.proofs.Holds.{block_under, held_before}
 use Rattle.room_search.proofs.InImage.{all_said, are_shown, blocks_said, group_asked, said_free}
 use Rattle.room_search.proofs.Room.{all_listed}
-use Rattle.name_inserts.specs.Inserting.{IsNamed, IsNeededForName, IsWrongForName}
-use Rattle.name_inserts.specs.Need.{name_need}
-use Rattle.name_inserts.specs.Way.{IsOnWay, its_dinode, its_leaf, its_pointer}
+use Rattle.name_drafts.specs.Inserting.{IsNamed, IsNeededForName, IsWrongForName}
+use Rattle.name_drafts.specs.Need.{name_need}
+use Rattle.name_drafts.specs.Way.{IsOnWay, its_dinode, its_leaf, its_pointer}
 use Rattle.name_drafts.specs.Drafting.{GrowsInto, HasLinearRoom, IsAddition, IsNeededIn, IsPlaceFor, IsPutUnder, IsWrongIn, entry_for, new_tree}
 use Rattle.name_drafts.specs.Drafting as drafting
 use Rattle.making_calls.specs.Blocks.{block_holds, first_of, new_holds}

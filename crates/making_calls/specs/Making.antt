@@ -33,13 +33,13 @@ use Rattle.image_changes.specs.Instances.{IsAt, dinode_at}
 use Rattle.path_walks.specs.Answers.{Refuses}
 use Rattle.path_walks.specs.Holds.{Hold, AreHeld, IsAskedFor, IsFirstLack, holds, holds_in, hold_of_group}
 use Rattle.path_walks.specs.declared.walk.Place.{Place}
-use Rattle.directories.specs.Shown as dirs
+use Rattle.name_drafts.specs.Shown as dirs
 use Rattle.hash_dirs.specs.Shown.{IsSound}
 use Rattle.draft_changes.specs.Resizing.{HoldsThere}
-use Rattle.hash_inserts.specs.Needing as leaves
-use Rattle.name_inserts.specs.Inserting.{CanGetName, IsNamed, IsNeededForName, IsWrongForName}
-use Rattle.name_inserts.specs.Need.{name_need, need_in_linear}
-use Rattle.name_inserts.specs.Way.{IsOnWay, IsRightWay}
+use Rattle.name_drafts.specs.Needing as leaves
+use Rattle.name_drafts.specs.Inserting.{CanGetName, IsNamed, IsNeededForName, IsWrongForName}
+use Rattle.name_drafts.specs.Need.{name_need, need_in_linear}
+use Rattle.name_drafts.specs.Way.{IsOnWay, IsRightWay}
 use Rattle.name_drafts.specs.Drafting.{CountsNumber, GetsRecord, HasLinearRoom, HasTimes, IsAddition, IsNewInode, IsNextOf, entry_for}
 use Rattle.new_inodes.specs.Touched.{IsTouched}
 use Rattle.path_walks.specs.Walks.{LeadsTo, Names, IsAbsent, IsDirectoryAt, IsLacked, IsOnTheWay, IsPlaceOf, IsSeenAt, IsUnread, IsWrongAt, LacksName}

@@ -33,7 +33,7 @@ use Rattle.image_changes.specs.Drafted.{is_freed, is_gone}
 use Rattle.image_changes.proofs.Inside.{stay_inside}
 use Rattle.path_walks.proofs.Lying.{data_lies, header_lies}
 use Rattle.path_walks.specs.declared.walk.Place.{Place}
-use Rattle.hash_inserts.specs.Inserting.{MayChange, a_data_block, a_taken_one, the_dinode}
+use Rattle.name_inserts.specs.HashInserting.{MayChange, a_data_block, a_taken_one, the_dinode}
 use Rattle.name_drafts.specs.Drafting.{CountsNumber, HasTimes, IsNewOf, IsPutUnder, PutsUnder, entry_for, header_in, of_directory, of_group, of_inode}
 use Rattle.name_drafts.specs.Steps.{IsNamePut, IsSaidAndDone, LeavesGroups}
 use Rattle.name_drafts.specs.declared.drafting.NewBlock.{NewBlock}

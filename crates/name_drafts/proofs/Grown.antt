@@ -27,12 +27,12 @@ use Rattle.linear_dirs.specs.Shown.{bytes_over, head_for, holding_over, record_f
 use Rattle.linear_dirs.proofs.Looked.{bytes_of}
 use Rattle.linear_dirs.proofs.Over.{as_seen}
 use Rattle.linear_dirs.proofs.Rewritten.{over_there}
-use Rattle.directories.specs.Shown.{IsShown}
+use Rattle.name_inserts.specs.Shown.{IsShown}
 use Rattle.new_inodes.specs.Touched.{IsTouched, with_times}
 use Rattle.resource_groups.specs.Putting.{HasDataBlock}
 use Rattle.resource_groups.specs.Shown.{IsDataOf, IsHeaderOf}
 use Rattle.path_walks.specs.declared.walk.Place.{Place}
-use Rattle.hash_inserts.specs.Inserting.{its_dinode}
+use Rattle.name_inserts.specs.HashInserting.{its_dinode}
 use Rattle.name_inserts.specs.Inserting.{CanGetName, IsNamed, IsNamedAt, IsPutInLinear, PutsName, of_converted, of_hashed, of_linear}
 use Rattle.name_inserts.specs.Need.{has_linear_room}
 use Rattle.name_drafts.specs.Drafting.{GetsRecord, GrowsInto, HasLinearRoom, HasNoGroupBlock, entry_for}

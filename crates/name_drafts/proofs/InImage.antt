@@ -18,7 +18,7 @@ use Rattle.gfs2_layout.specs.Structures.{dinode_length, is_in_use}
 use Rattle.glock_names.specs.Views.{Seen, IsView, end_of, group_of_entry}
 use Rattle.growth_drafts.specs.Taken.{AreFreeFor, IsDistinct}
 use Rattle.resource_groups.specs.Shown.{IsHeaderOf}
-use Rattle.directories.specs.Shown as dirs
+use Rattle.name_inserts.specs.Shown as dirs
 use Rattle.image_model.specs.Flat.{Path}
 use Rattle.image_model.specs.Image.{Image}
 use Rattle.image_model.specs.Owners.{InGroup, Owner, Owners, holding}
@@ -33,7 +33,7 @@ use Rattle.draft_changes.proofs.Saying.{free_blocks_are_new}
 use Rattle.draft_changes.proofs.Views.{groups_are_listed}
 use Rattle.path_walks.proofs.Images.{is_inode, shown_inode, sound_directory}
 use Rattle.path_walks.specs.declared.walk.Place.{Place}
-use Rattle.hash_inserts.specs.Inserting.{CanCountOne}
+use Rattle.name_inserts.specs.HashInserting.{CanCountOne}
 use Rattle.name_inserts.specs.Inserting.{CanGetName}
 use Rattle.name_drafts.specs.Drafting.{HasNoGroupBlock, IsPlaceFor}
 use Rattle.name_drafts.specs.declared.drafting.NewBlock.{NewBlock}

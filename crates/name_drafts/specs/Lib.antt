@@ -1,3 +1,10 @@
 pub mod Drafting
 pub mod Steps
 pub mod Laws
+-- Passed on to the crates above.
+pub use Rattle.name_inserts.specs.HashInserting
+pub use Rattle.name_inserts.specs.Inserting
+pub use Rattle.name_inserts.specs.Need
+pub use Rattle.name_inserts.specs.Needing
+pub use Rattle.name_inserts.specs.Shown
+pub use Rattle.name_inserts.specs.Way

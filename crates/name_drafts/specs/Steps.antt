@@ -15,7 +15,7 @@ use Rattle.glock_names.specs.declared.views.Group.{Group}
 use Rattle.dinode_tree.specs.Reading.{inode_lock}
 use Rattle.dinode_tree.specs.Shown as inode
 use Rattle.linear_dirs.specs.Shown.{holding_over}
-use Rattle.directories.specs.Shown.{IsShown}
+use Rattle.name_inserts.specs.Shown.{IsShown}
 use Rattle.new_inodes.specs.Touched.{IsTouched, with_times}
 use Rattle.resource_groups.specs.Freeing.{HasSome, SaysStateOfSome}
 use Rattle.resource_groups.specs.Numbering.{IsNumberPut}
@@ -24,7 +24,7 @@ use Rattle.resource_groups.specs.Shown.{IsHeaderOf, group_lock}
 use Rattle.resource_groups.specs.Shown as group
 use Rattle.resource_groups.specs.Taking.{AreSet, KeepsBlocks}
 use Rattle.image_changes.specs.Drafted.{IsFinished}
-use Rattle.hash_inserts.specs.Inserting.{IsPutUnder, MayChange}
+use Rattle.name_inserts.specs.HashInserting.{IsPutUnder, MayChange}
 use Rattle.name_inserts.specs.Inserting.{CanGetName, IsPutInLinear, PutsName}
 use Rattle.name_drafts.specs.Drafting.{HasLinearRoom, IsNextOf, SaysMade}
 use Rattle.name_drafts.specs.declared.drafting.NewBlock.{NewBlock}

@@ -8,3 +8,4 @@ mod saying;
 
 pub use drafting::{NewBlock, addition};
 pub use laws::places_can_get_names;
+pub use name_inserts::{block_on_way, look, need_name};

@@ -13,7 +13,7 @@ use Rattle.gfs2_layout.specs.declared.leaf.Leaf.{Leaf}
 use Rattle.leaf_areas.specs.Moving.{in_use, packed}
 use Rattle.hash_dirs.specs.Shown.{IsSound, index_for}
 use Rattle.hash_dirs.proofs.Chained.{index_low, inside}
-use Rattle.hash_steps.specs.Steps.{IsConverted, first_count}
+use Rattle.hash_inserts.specs.Steps.{IsConverted, first_count}
 use Rattle.hash_inserts.specs.Needing.{Chain, Needs, TakesBlocksFirst}
 use Rattle.name_inserts.specs.Need.{chain_of, first_chain, first_depth, leaves_from, most_steps, need_in_hashed, need_within}
 use Rattle.name_inserts.proofs.Needed.{IsBounded, needs_within, small_blocks}

@@ -18,11 +18,11 @@ use Rattle.dinode_tree.proofs.Sound.{sound_is_whole}
 use Rattle.resource_groups.specs.Putting.{HasDataBlock}
 use Rattle.hash_dirs.specs.Shown.{IsShown, IsSound, index_for}
 use Rattle.hash_dirs.proofs.Chained.{index_low, rules}
-use Rattle.hash_steps.specs.Steps.{IsConverted, first_count}
+use Rattle.hash_inserts.specs.Steps.{IsConverted, first_count}
 use Rattle.hash_inserts.specs.Finding.{IsOnlyLeaf}
 use Rattle.hash_inserts.specs.Inserting.{ConvertsWithin, MayChange, StaysInside, a_data_block, a_taken_one, the_dinode}
-use Rattle.tree_tables.specs.Pointers.{IsTableOf}
-use Rattle.tree_tables.specs.declared.tree_table.TreeTable.{TreeTable}
+use Rattle.directories.specs.Pointers.{IsTableOf}
+use Rattle.directories.specs.tree_table.TreeTable.{TreeTable}
 use Rattle.name_inserts.proofs.Converted.{depth_is}
 
 -- no block stands below a dinode of height 0

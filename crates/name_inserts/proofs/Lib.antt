@@ -6,3 +6,5 @@ pub mod Converted
 pub mod Puts
 pub mod OnWay
 pub mod Led
+-- Passed on to the crates above.
+pub use Rattle.directories.proofs.Forms as DirectoryForms

@@ -30,10 +30,10 @@ use Rattle.finite_maps.proofs.Keys.{inserted_apart, inserted_at}
 use Rattle.std.specs.Cmp.{nat_cmp_total}
 use Rattle.std.specs.FinMap.{nat_cmp-IsAntisymmetric}
 use Rattle.pointer_tables.specs.Directories.{IsPlaced}
-use Rattle.table_growth.specs.Tables.{DraftsDirectory}
+use Rattle.hash_inserts.specs.Tables.{DraftsDirectory}
 use Rattle.hash_dirs.specs.Shown.{IsSound}
-use Rattle.hash_steps.proofs.Put.{none_counted}
-use Rattle.hash_steps.proofs.Sound.{count_moved}
+use Rattle.hash_inserts.proofs.PutSteps.{none_counted}
+use Rattle.hash_inserts.proofs.Sound.{count_moved}
 use Rattle.directories.specs.Shown.{IsShown}
 use Rattle.name_inserts.specs.Inserting.{CanGetName, IsPutInLinear, PutsName, in_linear, of_linear}
 use Rattle.name_inserts.specs.Need.{has_linear_room, need_in_linear}

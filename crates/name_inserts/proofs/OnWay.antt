@@ -18,8 +18,8 @@ use Rattle.hash_dirs.specs.Walking.{IsLeafOf}
 use Rattle.hash_dirs.specs.declared.chains.LeafAt.{LeafAt}
 use Rattle.hash_dirs.proofs.Along.{chain_one, ended}
 use Rattle.hash_dirs.proofs.Leaves.{bytes_there}
-use Rattle.tree_tables.specs.Pointers.{IsTableOf}
-use Rattle.tree_tables.specs.declared.tree_table.TreeTable.{TreeTable}
+use Rattle.directories.specs.Pointers.{IsTableOf}
+use Rattle.directories.specs.tree_table.TreeTable.{TreeTable}
 use Rattle.name_inserts.specs.Way.{AreOfLeaf, AreRightAlong, AreRightBefore, BreaksLeaf, IsOnWay, IsRightBehind, IsRightLeaf, IsRightTable, its_dinode, its_leaf, its_pointer, no_header, other_count, other_format, unfilled}
 
 -- ---- a leaf's bytes

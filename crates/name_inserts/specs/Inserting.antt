@@ -16,9 +16,9 @@ use Rattle.dinode_tree.specs.Walking.{missing_dinode}
 use Rattle.growth_drafts.specs.Taken.{AreFreeFor, HasTaken}
 use Rattle.linear_dirs.specs.Exchanges.{HasExchanged, IsLaidOver, uncounted}
 use Rattle.linear_dirs.specs.Shown.{head_for, record_for}
-use Rattle.table_growth.specs.Tables.{DraftsDirectory}
+use Rattle.hash_inserts.specs.Tables.{DraftsDirectory}
 use Rattle.hash_dirs.specs.Shown.{IsSound}
-use Rattle.hash_steps.specs.Steps.{IsConverted}
+use Rattle.hash_inserts.specs.Steps.{IsConverted}
 use Rattle.hash_inserts.specs.Inserting.{CanCountOne, IsInserted, IsInsertedAt, IsNeededToInsert, IsWrongToInsert}
 use Rattle.directories.specs.Shown.{IsBroken}
 use Rattle.name_inserts.specs.Need.{has_linear_room, name_need}

@@ -16,12 +16,11 @@ ghost use Rattle.name_inserts.specs.Inserting.{IsNeededForName, IsWrongForName};
 
 use crc_words::checksums_have_32_bits;
 use dinode_tree::read_dinode;
-use directories::is_hashed;
+use directories::{TreeTable, is_hashed};
 use gfs2_layout::{DINODE_LENGTH, is_area};
 use glock_names::{CallFault, Step, View, block_of};
 use hash_inserts::{area_has_room, need_first, need_insert};
 use std::alloc::Global;
-use tree_tables::TreeTable;
 
 // Whether some record behind the dinode of a linear directory, which the view has, has room for a name of so many bytes.
 fn has_room<V: View>(view: &V, dir: u64, len: u16) -> Result<bool, CallFault>

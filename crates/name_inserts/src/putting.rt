@@ -21,13 +21,12 @@ ghost use Rattle.name_inserts.specs.Inserting.{CanGetName, IsNeededForName, IsPu
 
 use crc_words::checksums_have_32_bits;
 use dinode_tree::read_dinode;
-use directories::is_hashed;
+use directories::{TreeTable, is_hashed};
 use drafts::Draft;
 use glock_names::{CallFault, Entry, Step, View};
 use hash_inserts::{first_depth, insert_first, to_hashed};
 use std::alloc::Global;
 use std::collections::VecDeque;
-use tree_tables::TreeTable;
 
 // The same of a hashed directory.
 fn put_in_hashed<V: View>(

@@ -14,13 +14,12 @@ ghost use Rattle.name_inserts.specs.Way.{AreOfLeaf, AreRightAlong, BreaksLeaf, I
 
 use crc_words::crc32;
 use dinode_tree::read_dinode;
-use directories::is_hashed;
+use directories::{TreeTable, is_hashed};
 use gfs2_layout::{Leaf, has_header, is_area};
 use glock_names::{CallFault, Step, View, block_of};
 use hash_dirs::{IN_LEAF, count_records, damaged, index_of, leaf_at};
 use pointer_tables::{Pointer, PointerTable};
 use profile_limits::MOST_BLOCKS;
-use tree_tables::TreeTable;
 
 // Whether a block is one of these.
 fn is_one_of(block: u64, first: u64, rest: &[u64]) -> bool

@@ -4,7 +4,7 @@ use Rattle.file_tree.specs.Tree.{Tree}
 use Rattle.gfs2_layout.specs.Inode.{dinode_in, first_hash, is_directory_in, is_hashed_in}
 use Rattle.glock_names.specs.declared.State.{State}
 use Rattle.dinode_tree.specs.Walking.{missing_dinode}
-use Rattle.hash_dirs.specs.Shown as leaves
+use Rattle.directories.specs.HashedShown as leaves
 use Rattle.directories.specs.Shown as dirs
 use Rattle.directories.proofs.Sound.{leaf_part}
 use Rattle.gfs2_layout.specs.Structures.{is_regular}

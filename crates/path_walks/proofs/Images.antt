@@ -16,8 +16,8 @@ use Rattle.dinode_tree.specs.Broken as inode
 use Rattle.dinode_tree.specs.Shown.{IsShown, IsAsSeen}
 use Rattle.dinode_tree.proofs.Sound.{sound_is_shown, sound_breaks_nothing}
 use Rattle.dinode_tree.proofs.Sound.{sound_is_whole}
-use Rattle.hash_dirs.specs.Shown.{IsSound}
-use Rattle.hash_dirs.proofs.Chained.{cell_some, in_chain}
+use Rattle.directories.specs.HashedShown.{IsSound}
+use Rattle.directories.proofs.Chained.{cell_some, in_chain}
 use Rattle.directories.specs.Shown.{HasName, Says}
 use Rattle.directories.specs.Shown as dirs
 use Rattle.directories.proofs.Sound.{says_sound}
@@ -33,7 +33,7 @@ use Rattle.path_walks.specs.Walks.{IsWrongAt}
 use Rattle.draft_changes.proofs.Rows.{cell_its, its_used}
 use Rattle.draft_changes.proofs.Views.{none_has_the_first}
 use Rattle.glock_names.specs.declared.steps.Entry.{Entry}
-use Rattle.linear_dirs.specs.Shown.{entry_of}
+use Rattle.directories.specs.LinearShown.{entry_of}
 use Rattle.image_model.proofs.Members.{IsIn, is_in}
 use Rattle.image_model.proofs.Rows.{and_left}
 use Rattle.image_changes.specs.Changes.{inode_of, lock_in, cover, is_free}

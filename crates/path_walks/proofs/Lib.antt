@@ -9,3 +9,6 @@ pub mod Faults
 pub mod Wants
 pub mod Refused
 pub mod Asked
+-- Passed on to the crates above.
+pub use Rattle.draft_changes.proofs.Rows
+pub use Rattle.draft_changes.proofs.Views

@@ -18,8 +18,8 @@ use Rattle.dinode_tree.proofs.Sound.{some_is_shown}
 use Rattle.directories.specs.Shown.{IsDirectoryIn, IsLinearDirectory}
 use Rattle.directories.specs.Shown as dirs
 use Rattle.directories.proofs.Forms.{linear_here}
-use Rattle.linear_dirs.specs.Broken as linear
-use Rattle.linear_dirs.specs.Shown.{IsLinearIn}
+use Rattle.directories.specs.Broken as linear
+use Rattle.directories.specs.LinearShown.{IsLinearIn}
 use Rattle.path_walks.specs.Walks.{IsDirectoryAt, IsWrongAt}
 
 -- the dinode that was read is that of the block which the view has

@@ -8,7 +8,7 @@ use Rattle.glock_names.specs.declared.State.{State}
 use Rattle.glock_names.specs.declared.steps.CallFault.{CallFault}
 use Rattle.glock_names.specs.declared.steps.Missing.{Missing}
 use Rattle.drafts.specs.declared.attempt.Attempt.{Attempt}
-use Rattle.drafts.specs.declared.attempt.Attempt.TheVariants.{Done, NeedLock, NeedBlock, NoSpace, Hashed, NotBuilt}
+use Rattle.drafts.specs.declared.attempt.Attempt.TheVariants.{Done, NeedLock, NeedBlock, NoSpace, NotBuilt}
 use Rattle.drafts.specs.declared.change.Change.{Change}
 
 -- P of what is told, where the call is answered so
@@ -27,10 +27,6 @@ IfNeedBlock _ P = ⊤
 abbrev pub IfNoSpace : Result Attempt CallFault → (ℕ → ℕ → Type 0) → Type 0
 IfNoSpace (Ok (NoSpace need free)) P = P need free
 IfNoSpace _ P = ⊤
-
-abbrev pub IfHashed : Result Attempt CallFault → (ℕ → Type 0) → Type 0
-IfHashed (Ok (Hashed block)) P = P block
-IfHashed _ P = ⊤
 
 abbrev pub IfNotBuilt : Result Attempt CallFault → Type 0 → Type 0
 IfNotBuilt (Ok NotBuilt) P = P

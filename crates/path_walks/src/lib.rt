@@ -5,4 +5,5 @@ mod answers;
 mod walk;
 
 pub use answers::nothing;
+pub use directories::{counted_leaves, names};
 pub use walk::{Place, Walk, walk_along};

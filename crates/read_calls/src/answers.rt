@@ -7,17 +7,16 @@ ghost use Rattle.glock_names.specs.Steps.{IfDamaged};
 ghost use Rattle.glock_names.specs.Views.{HasBlock, IsOfView};
 ghost use Rattle.dinode_tree.specs.Shown.{IsShown};
 ghost use Rattle.read_calls.specs.Reading.{IsReading, IsRangeOf, IsStatOf, IsListOf, IsAnswerOf, IsAskedRange, IsAskedRecords, IsAskedCount, IsAsked, IsShownFor, IsSpaceless};
-ghost use Rattle.directories.specs.Shown.{IsLinearDirectory};
-ghost use Rattle.directories.specs.Shown as dirs;
+ghost use Rattle.path_walks.specs.Shown.{IsLinearDirectory};
+ghost use Rattle.path_walks.specs.Shown as dirs;
 ghost use Rattle.linear_dirs.specs.Shown.{IsLinearIn};
 ghost use Rattle.path_walks.specs.Walks.{IsWrongAt};
 
 use dinode_tree::read_range;
-use directories::{counted_leaves, names};
 use file_tree::{Call, Content, Kind, Name, NameList, Reply};
 use glock_names::{CallFault, LockName, Missing, State, Step, View};
 use no_memory::NoMemory;
-use path_walks::Place;
+use path_walks::{Place, counted_leaves, names};
 use std::alloc::Global;
 
 /// What a call that reads finds at its path's end.

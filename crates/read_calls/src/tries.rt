@@ -9,7 +9,7 @@ ghost use Rattle.image_model.specs.Image.{Image};
 ghost use Rattle.image_model.specs.Owners.{Owners};
 ghost use Rattle.image_model.specs.Stands.{Layout};
 ghost use Rattle.image_changes.specs.Does.{IsOf, Does};
-ghost use Rattle.path_walks.specs.Answers.{IfDone, IfNeedLock, IfNeedBlock, IfNoSpace, IfHashed, IfNotBuilt, HasSpace};
+ghost use Rattle.path_walks.specs.Answers.{IfDone, IfNeedLock, IfNeedBlock, IfNoSpace, IfNotBuilt, HasSpace};
 ghost use Rattle.path_walks.specs.Holds.{AreHeld, IsAskedFor, IsFirstLack, holds_in};
 ghost use Rattle.path_walks.specs.Walks.{IsDamage, IsLacked};
 ghost use Rattle.read_calls.specs.Reading.{IsAnswered, IsFound, IsNeededFor, IsReading, IsSpaceless, IsToldOf};
@@ -74,7 +74,6 @@ pub fn attempt<V: View>(
     ensures answered { IfDone result (λ reply change. IsAnswered (V.seen view.now) call.now reply) }
     ensures lacked { IfNeedLock result (IsLacked (V.seen view.now) (wanted call.now) (path_of call.now false)) }
     ensures needed { IfNeedBlock result (IsNeededFor (V.seen view.now) call.now) }
-    ensures hashed { IfHashed result (λ block. ⊥) }
     ensures built { IfNotBuilt result ⊥ }
     ensures sound { (im : Image) (o : Owners) (l : Layout) (t : Tree) → IsOf (V.seen view.now) im o l t → IfDamaged result (λ rule block. ⊥) }
     ensures damaged { IfDamaged result (IsDamage (V.seen view.now) (wanted call.now) (path_of call.now false)) }

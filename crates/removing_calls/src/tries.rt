@@ -14,7 +14,7 @@ ghost use Rattle.image_model.specs.Image.{Image};
 ghost use Rattle.image_model.specs.Owners.{Owners};
 ghost use Rattle.image_model.specs.Stands.{Layout};
 ghost use Rattle.image_changes.specs.Does.{IsOf, Does, AreInside};
-ghost use Rattle.path_walks.specs.Answers.{IfDone, IfNeedLock, IfNeedBlock, IfNoSpace, IfHashed, IfNotBuilt, HasSpace};
+ghost use Rattle.path_walks.specs.Answers.{IfDone, IfNeedLock, IfNeedBlock, IfNoSpace, IfNotBuilt, HasSpace};
 ghost use Rattle.path_walks.specs.Holds.{AreHeld, IsAskedFor, IsFirstLack, IsUnder};
 ghost use Rattle.path_walks.specs.Walks.{IsSeenAt, IsLastOf};
 ghost use Rattle.removing_calls.specs.Removing.{IfRemoved, IsAimOf, IsAnswered, IsDamage, IsFound, IsLackedFor, IsNeededFor, IsPlaceIn, IsReachedIn, IsRefusal, IsRemoving, IsStamped, IsToldOf, holds_for};
@@ -206,7 +206,6 @@ pub fn attempt<V: View>(
     ensures inside { IfDone result (λ reply change. is_ok reply ≡ true → AreInside (V.seen view.now) change) }
     ensures lacked { IfNeedLock result (IsLackedFor (V.seen view.now) call.now) }
     ensures needed { IfNeedBlock result (IsNeededFor (V.seen view.now) call.now) }
-    ensures hashed { IfHashed result (λ block. ⊥) }
     ensures built { IfNotBuilt result ⊥ }
     ensures sound { (im : Image) (o : Owners) (l : Layout) (t : Tree) → IsOf (V.seen view.now) im o l t → IfDamaged result (λ rule block. ⊥) }
     ensures damaged { IfDamaged result (IsDamage (V.seen view.now) call.now) }

@@ -19,9 +19,9 @@ use Rattle.image_model.specs.Owners.{Owners, InGroup}
 use Rattle.image_model.specs.Stands.{Layout}
 use Rattle.image_changes.specs.Changes.{cover, is_free}
 use Rattle.image_changes.specs.Does.{IsOf, is_content_of}
-use Rattle.draft_changes.specs.Resizing.{IsSaidFree}
-use Rattle.draft_changes.proofs.Rows.{state_said}
-use Rattle.draft_changes.proofs.Views.{groups_are_listed}
+use Rattle.path_walks.specs.Resizing.{IsSaidFree}
+use Rattle.path_walks.proofs.Rows.{state_said}
+use Rattle.path_walks.proofs.Views.{groups_are_listed}
 use Rattle.path_walks.specs.Holds.{Hold, AreHeld, IsAskedFor, IsFirstLack, hold_of_group}
 use Rattle.room_search.specs.Blocks.{States, states_by, free_in, free_in_all, free_for, group_holds, group_of_node, blocks_with, holds_with, room_blocks, room_holds}
 use Rattle.room_search.specs.Searches.{AreShown, IsFoundIn, IsFreeUnder, IsGroupBlock, IsGroupBroken, IsListedUnder, IsTaken, IsUnder}

@@ -12,7 +12,7 @@ use Rattle.image_model.specs.Groups.{IsListed}
 use Rattle.image_model.specs.Image.{Image}
 use Rattle.image_model.specs.Owners.{Owners}
 use Rattle.image_model.specs.Stands.{Layout}
-use Rattle.draft_changes.specs.Resizing.{IsSaidFree}
+use Rattle.path_walks.specs.Resizing.{IsSaidFree}
 use Rattle.path_walks.specs.Holds.{Hold, AreHeld, IsAskedFor, IsFirstLack, holds, hold_of_group}
 use Rattle.room_search.specs.Blocks.{States, free_in, free_in_all, free_for, group_holds, group_of_node, room_blocks, room_holds, states_by}
 use Rattle.room_search.specs.declared.search.Locked.{Locked}

@@ -19,7 +19,7 @@ use Rattle.dinode_tree.specs.Shown as inode
 use Rattle.dinode_tree.proofs.Sound.{is_there, size_large}
 use Rattle.dinode_tree.proofs.Spans.{span_some}
 use Rattle.pointer_tables.specs.Directories.{IsTreeSound}
-use Rattle.table_growth.specs.Pointers.{IsTableBroken, of_inode}
+use Rattle.table_files.specs.Pointers.{IsTableBroken, of_inode}
 use Rattle.table_files.proofs.ContentParts.{content_part, whole_by_parts}
 use Rattle.tree_tables.proofs.Entries.{unit_is, within}
 use Rattle.tree_tables.specs.Pointers.{IsTableOf}

@@ -7,7 +7,7 @@ use Rattle.gfs2_layout.specs.Bytes.{slice}
 use Rattle.gfs2_layout.specs.Holding.{Holding}
 use Rattle.gfs2_layout.specs.Inode.{content_block, entry_block, fan, header_length, height_in, span, unit}
 use Rattle.gfs2_layout.specs.Structures.{dinode_length}
-use Rattle.table_growth.specs.Pointers.{IsBesidePointers, entry_place}
+use Rattle.table_files.specs.Pointers.{IsBesidePointers, entry_place}
 use Rattle.table_changes.specs.Setting.{HasNumbersSet, IsBehindDinode, IsInTable, IsRun}
 use Rattle.table_changes.specs.declared.finding.Run.{Run}
 use Rattle.table_changes.proofs.Kept.{KeepsContentBlocks}

@@ -20,7 +20,7 @@ use Rattle.dinode_tree.specs.Shown as inode
 use Rattle.dinode_tree.specs.declared.below.PointedBlock.{PointedBlock}
 use Rattle.dinode_tree.proofs.Sound.{is_there, part_of_led, size_large}
 use Rattle.pointer_tables.specs.Directories.{IsPlaced, IsTreeSound}
-use Rattle.table_growth.specs.Tables.{DraftsDirectory, TakesDoubled, TakesWithin}
+use Rattle.table_files.specs.Tables.{DraftsDirectory, TakesDoubled, TakesWithin}
 use Rattle.table_files.proofs.ContentParts.{whole_by_parts}
 use Rattle.nested_drafts.specs.Nested.{fate_over, with_blocks}
 use Rattle.nested_drafts.proofs.Over.{fates_put, kept_or_put, told_put}

@@ -27,8 +27,8 @@ use Rattle.growth_laws.specs.Files.{with_cells}
 use Rattle.growth_laws.specs.Need.{needed}
 use Rattle.growth_laws.proofs.Parts.{not_itself}
 use Rattle.growth_drafts.specs.Taken.{DraftsFile}
-use Rattle.file_growth.specs.Written.{HasWritten, IsWritten}
-use Rattle.table_growth.specs.Tables.{CanDouble, doubling_need, table_blocks, table_height, tree_blocks, without_leaf}
+use Rattle.table_files.specs.Written.{HasWritten, IsWritten}
+use Rattle.table_files.specs.Tables.{CanDouble, doubling_need, table_blocks, table_height, tree_blocks, without_leaf}
 use Rattle.table_files.specs.Files.{AreDoubledPointers, AreHeadersOf, SaysInstead, doubled_dinode, file_cells, file_dinode, own_cell, table_bytes}
 use Rattle.table_files.proofs.Back.{blocks_fit, bytes_own_g, cell_k, cell_leaf, cell_own_g, clear_g, dinode_g, directory_of, grows, has_taken, headers_kept, height_k, is_doubled, leaf_gone, pads_kept}
 use Rattle.table_files.proofs.TableBytes.{table_long}

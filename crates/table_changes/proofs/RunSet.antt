@@ -16,13 +16,13 @@ use Rattle.glock_names.specs.Views.{Seen, HasBlock}
 use Rattle.image_model.proofs.Rows.{and_left}
 use Rattle.dinode_tree.specs.Reading.{inode_lock}
 use Rattle.dinode_tree.proofs.Sound.{is_there, size_large}
-use Rattle.hash_dirs.proofs.Cuts.{seen_apart, there_still}
+use Rattle.tree_tables.proofs.Cuts.{seen_apart, there_still}
 use Rattle.linear_dirs.specs.Shown.{holding_over}
 use Rattle.linear_dirs.proofs.Rewritten.{over_there, seen_at}
 use Rattle.pointer_tables.specs.Directories.{IsPlaced, IsTreeSound}
 use Rattle.pointer_tables.specs.Tables.{is_within}
-use Rattle.table_growth.specs.Pointers.{IsBesidePointers}
-use Rattle.table_growth.specs.Tables.{DraftsDirectory}
+use Rattle.table_files.specs.Pointers.{IsBesidePointers}
+use Rattle.table_files.specs.Tables.{DraftsDirectory}
 use Rattle.tree_tables.specs.Pointers.{IsTableOf}
 use Rattle.table_changes.specs.Setting.{HasNumbersSet, IsBehindDinode, IsInTable, IsRun, IsSetIn}
 use Rattle.table_changes.specs.declared.finding.Run.{Run}

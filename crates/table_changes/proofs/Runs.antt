@@ -12,7 +12,7 @@ use Rattle.gfs2_layout.specs.Device.{IsBlockSize}
 use Rattle.image_model.proofs.Rows.{and_left}
 use Rattle.dinode_tree.proofs.Sound.{size_large}
 use Rattle.pointer_tables.specs.Directories.{IsPlaced, IsTreeSound}
-use Rattle.table_growth.specs.Pointers.{HasPointerOf, IsBesidePointers}
+use Rattle.table_files.specs.Pointers.{HasPointerOf, IsBesidePointers}
 use Rattle.table_files.proofs.ContentParts.{whole_by_parts}
 use Rattle.tree_tables.proofs.Entries.{within}
 use Rattle.std.proofs.lemmas.Bool.{cases_eq, cases_lt, cond-true, cond-false}
@@ -29,7 +29,7 @@ use Rattle.linear_dirs.specs.Shown.{holding_over}
 use Rattle.linear_dirs.proofs.Over.{over_over}
 use Rattle.linear_dirs.proofs.Rewritten.{over_there}
 use Rattle.pointer_tables.specs.Tables.{is_within}
-use Rattle.table_growth.specs.Tables.{DraftsDirectory, HasPointersSet}
+use Rattle.table_files.specs.Tables.{DraftsDirectory, HasPointersSet}
 use Rattle.tree_tables.specs.Pointers.{IsTableOf}
 use Rattle.table_changes.specs.Setting.{AreRuns, HasNumbersSet, IsRun, IsSeenRun, IsSetIn, PutsRuns, counted}
 use Rattle.table_changes.specs.declared.finding.Run.{Run}

@@ -5,7 +5,7 @@ use Rattle.glock_names.specs.Steps.{IsDamage}
 use Rattle.glock_names.specs.declared.steps.CallFault.{CallFault}
 use Rattle.glock_names.specs.declared.steps.CallFault.TheVariants.{Damaged, NoMemory}
 use Rattle.dinode_tree.specs.Broken as inode
-use Rattle.table_growth.specs.Pointers.{IsTableBroken, of_inode}
+use Rattle.table_files.specs.Pointers.{IsTableBroken, of_inode}
 
 -- what an inode breaks its table does
 pub table_damage : (h : Holding) (fault : CallFault) → IsDamage (inode.IsBroken h) fault → IsDamage (IsTableBroken h) fault

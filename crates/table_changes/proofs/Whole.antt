@@ -18,8 +18,8 @@ use Rattle.dinode_tree.specs.Reading.{inode_lock}
 use Rattle.dinode_tree.specs.Shown as inode
 use Rattle.growth_laws.specs.Files.{with_cells}
 use Rattle.growth_drafts.specs.Taken.{IsLeft, IsPutFor}
-use Rattle.file_growth.specs.Written.{CanWrite, HasWritten}
-use Rattle.table_growth.specs.Tables.{CanDouble, doubling_need, table_blocks, table_height}
+use Rattle.table_files.specs.Written.{CanWrite, HasWritten}
+use Rattle.table_files.specs.Tables.{CanDouble, doubling_need, table_blocks, table_height}
 use Rattle.table_files.specs.Files.{SaysInstead, doubled_dinode, file_dinode}
 use Rattle.table_files.specs.Laws.{IsTable}
 use Rattle.table_files.proofs.TableFiles.{can_write, cell_own, file_of, shown_file}

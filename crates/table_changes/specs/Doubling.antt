@@ -14,7 +14,7 @@ use Rattle.dinode_tree.specs.Pads.{KeepsPads}
 use Rattle.dinode_tree.specs.declared.below.PointedBlock.{PointedBlock}
 use Rattle.growth_drafts.specs.Taken.{HasTaken}
 use Rattle.pointer_tables.specs.Tables.{IsDoubled}
-use Rattle.table_growth.specs.Tables.{GrowsAsFile, IsClearBehind, KeepsTableHeaders, doubling_need_of}
+use Rattle.table_files.specs.Tables.{GrowsAsFile, IsClearBehind, KeepsTableHeaders, doubling_need_of}
 use Rattle.table_files.specs.Files.{AreDoubledPointers, AreHeadersOf, table_bytes}
 
 -- a block that a table's doubling may put: the directory's own, one below it, or one that was taken

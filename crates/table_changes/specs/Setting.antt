@@ -11,7 +11,7 @@ use Rattle.gfs2_layout.specs.Inode.{content_block, header_length, height_in, uni
 use Rattle.gfs2_layout.specs.Structures.{dinode_length}
 use Rattle.glock_names.specs.Views.{Seen, HasBlock}
 use Rattle.linear_dirs.specs.Shown.{holding_over}
-use Rattle.table_growth.specs.Tables.{DraftsDirectory, HasPointersSet}
+use Rattle.table_files.specs.Tables.{DraftsDirectory, HasPointersSet}
 use Rattle.tree_tables.specs.Pointers.{IsTableOf}
 use Rattle.table_changes.specs.declared.finding.Run.{Run}
 use Rattle.tree_tables.specs.declared.tree_table.TreeTable.{TreeTable}

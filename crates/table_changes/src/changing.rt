@@ -9,8 +9,8 @@ ghost use Rattle.dinode_tree.specs.Below.{AnyIndex};
 ghost use Rattle.dinode_tree.specs.Reading.{IsNeeded};
 ghost use Rattle.linear_dirs.specs.Shown.{holding_over};
 ghost use Rattle.pointer_tables.specs.Directories.{IsPlaced, IsTreeSound};
-ghost use Rattle.table_growth.specs.Pointers.{EachPointerLeads, HasPointerOf, IsOfPointers, IsTableBroken};
-ghost use Rattle.table_growth.specs.Tables.{CanDouble, DraftsDirectory, HasPointersSet, TakesDoubled, TakesWithin};
+ghost use Rattle.table_files.specs.Pointers.{EachPointerLeads, HasPointerOf, IsOfPointers, IsTableBroken};
+ghost use Rattle.table_files.specs.Tables.{CanDouble, DraftsDirectory, HasPointersSet, TakesDoubled, TakesWithin};
 
 use drafts::Draft;
 use glock_names::{CallFault, Step, View};

@@ -8,7 +8,7 @@ ghost use Rattle.gfs2_layout.specs.Structures.{dinode_length};
 ghost use Rattle.glock_names.specs.Steps.{IfDamaged, IfIs, IfNeedBlock, OnlyDamaged};
 ghost use Rattle.glock_names.specs.Views.{HasBlock, IsOfView};
 ghost use Rattle.dinode_tree.specs.Reading.{IsNeeded, inode_lock};
-ghost use Rattle.table_growth.specs.Pointers.{IsOfPointers, IsTableBroken};
+ghost use Rattle.table_files.specs.Pointers.{IsOfPointers, IsTableBroken};
 ghost use Rattle.tree_tables.specs.Pointers.{IsTableOf};
 ghost use Rattle.table_changes.specs.Setting.{AreRuns, IsRun, IsSeenRun, counted};
 

@@ -9,16 +9,14 @@ ghost use Rattle.drafts.specs.Fates.{seen_in};
 ghost use Rattle.drafts.specs.declared.change.Written.{Written};
 ghost use Rattle.dinode_tree.specs.Below.{IsBelow};
 ghost use Rattle.dinode_tree.specs.Shown.{IsShown};
-ghost use Rattle.file_growth.specs.Written.{CanWrite, HasWritten};
-ghost use Rattle.table_growth.specs.Tables.{CanDouble, doubling_need as need_of, table_blocks as blocks_of, table_height, tree_blocks as all_blocks_of};
+ghost use Rattle.table_files.specs.Written.{CanWrite, HasWritten};
+ghost use Rattle.table_files.specs.Tables.{CanDouble, doubling_need as need_of, table_blocks as blocks_of, table_height, tree_blocks as all_blocks_of};
 ghost use Rattle.table_files.specs.Files.{doubled_dinode, file_dinode};
 ghost use Rattle.table_changes.specs.Doubling.{AreDoubledBlocks, IsDoubledTable};
 ghost use Rattle.tree_tables.specs.Pointers.{IsTableOf};
 
 use crate::putting::put_dinode;
 use drafts::{Draft, Written};
-use file_fills::height_for;
-use file_growth::write_range;
 use gfs2_layout::Dinode;
 use glock_names::{CallFault, Step, View};
 use growth_laws::files_are_inodes;
@@ -26,7 +24,7 @@ use nested_drafts::are_whole;
 use no_memory::NoMemory;
 use std::alloc::Global;
 use std::collections::VecDeque;
-use table_growth::{doubling_need, table_blocks, tree_blocks};
+use table_files::{doubling_need, height_for, table_blocks, tree_blocks, write_range};
 use tree_tables::TreeTable;
 
 // The dinode of the file that a table is.

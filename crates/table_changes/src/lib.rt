@@ -12,3 +12,4 @@ mod setting;
 mod table_mut;
 
 pub use changing::PointerTableMut;
+pub use table_files::{doubling_need, height_for, table_blocks};

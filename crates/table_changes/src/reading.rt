@@ -13,7 +13,7 @@ ghost use Rattle.dinode_tree.specs.declared.below.PointedBlock.{PointedBlock};
 ghost use Rattle.dinode_tree.specs.Shown.{IsShown};
 ghost use Rattle.file_tree.specs.Apply.{file_limit};
 ghost use Rattle.pointer_tables.specs.Directories.{IsTreeSound};
-ghost use Rattle.table_growth.specs.Pointers.{IsTableBroken};
+ghost use Rattle.table_files.specs.Pointers.{IsTableBroken};
 ghost use Rattle.table_files.specs.Files.{AreHeadersOf};
 ghost use Rattle.tree_tables.specs.Pointers.{IsTableOf};
 ghost use Rattle.table_changes.specs.Doubling.{IsDoubledTable};
@@ -24,7 +24,7 @@ use dinode_tree::{PointedBlock, all_blocks_are_shown, blocks_below, read_range};
 use glock_names::{CallFault, Missing, Step, View, block_of};
 use linear_dirs::lock_of;
 use std::alloc::Global;
-use table_growth::table_blocks;
+use table_files::table_blocks;
 use tree_tables::{IN_TABLE, TreeTable, pointers_of};
 
 // The first of these blocks that the view hasn't.

@@ -25,10 +25,10 @@ use Rattle.growth_laws.proofs.Parts.{not_itself}
 use Rattle.growth_laws.proofs.Places.{content_is_level_zero, place_of_part}
 use Rattle.growth_laws.proofs.Trees.{part_within}
 use Rattle.growth_drafts.specs.Taken.{HasTaken}
-use Rattle.file_fills.specs.Headers.{HaveSamePads}
-use Rattle.file_fills.proofs.Headers.{put_over}
-use Rattle.file_heights.specs.Sized.{dinode_as}
-use Rattle.file_growth.specs.Written.{IsWritten, size_with}
+use Rattle.table_growth.specs.Headers.{HaveSamePads}
+use Rattle.table_growth.proofs.Headers.{put_over}
+use Rattle.table_growth.specs.Sized.{dinode_as}
+use Rattle.table_growth.specs.Written.{IsWritten, size_with}
 use Rattle.pointer_tables.specs.Directories.{IsPlaced, IsTreeSound}
 use Rattle.pointer_tables.specs.Tables.{IsDoubled, LeavesStay}
 use Rattle.table_growth.specs.Tables.{GrowsAsFile, IsClearBehind, IsTableFile, KeepsTableHeaders, table_blocks, table_header, table_height, tree_blocks, without_leaf}

@@ -17,8 +17,8 @@ use Rattle.growth_laws.proofs.Parts.{some_part}
 use Rattle.growth_laws.proofs.Places.{cancelled, part_of_place, place_of_part, size_large}
 use Rattle.growth_laws.proofs.Rising.{none_above, there_false}
 use Rattle.growth_laws.proofs.Trees.{part_within}
-use Rattle.file_fills.proofs.Counted.{count_all, count_window}
-use Rattle.file_fills.proofs.Over.{over_of, over_parts}
+use Rattle.table_growth.proofs.Counted.{count_all, count_window}
+use Rattle.table_growth.proofs.Over.{over_of, over_parts}
 use Rattle.table_growth.specs.Tables.{tree_blocks}
 use Rattle.table_files.proofs.Pieces.{begins_piece, below_scaled, count_both, count_places, false_else, more_pieces, piece_begins, pieces_scaled, scaled_below}
 

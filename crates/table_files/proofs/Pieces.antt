@@ -6,7 +6,7 @@ use Rattle.std.proofs.lemmas.Bool.{cases_Bool, cases_eq, cases_lt, eq-eqb, ne_eq
 use Rattle.std.proofs.Math.Nat.{div-lt_iff_lt-mul, mul-le-mul_right, one-le-mul}
 use Rattle.gfs2_layout.specs.Inode.{pieces}
 use Rattle.growth_laws.proofs.Counting.{count_more, one_if, step_of}
-use Rattle.file_fills.proofs.Counted.{count_none}
+use Rattle.table_growth.proofs.Counted.{count_none}
 
 -- ---- pieces
 

@@ -20,10 +20,10 @@ use Rattle.growth_laws.proofs.Numbers.{numbers_behind_are_the_same}
 use Rattle.growth_laws.proofs.Parts.{not_itself}
 use Rattle.growth_drafts.specs.Taken.{AreFreeFor, IsCounted}
 use Rattle.growth_drafts.proofs.Shown.{files_are_shown}
-use Rattle.file_fills.specs.Headers.{HaveSamePads}
-use Rattle.file_fills.proofs.Headers.{put_over}
-use Rattle.file_growth.specs.Written.{CanWrite}
-use Rattle.file_growth.proofs.Writes.{long_content}
+use Rattle.table_growth.specs.Headers.{HaveSamePads}
+use Rattle.table_growth.proofs.Headers.{put_over}
+use Rattle.table_growth.specs.Written.{CanWrite}
+use Rattle.table_growth.proofs.Writes.{long_content}
 use Rattle.table_growth.specs.Tables.{CanDouble, IsTableFile, doubling_need, table_blocks, table_height, tree_blocks, without_leaf}
 use Rattle.table_files.specs.Files.{SaysInstead, file_cells, file_dinode, own_cell}
 use Rattle.table_files.specs.Laws.{IsTable}

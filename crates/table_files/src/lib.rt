@@ -4,3 +4,4 @@
 mod laws;
 
 pub use laws::tables_are_files;
+pub use table_growth::{doubling_need, height_for, table_blocks, tree_blocks, write_range};

@@ -15,8 +15,8 @@ use Rattle.dinode_tree.specs.Reading.{inode_lock}
 use Rattle.growth_laws.specs.Files.{IsPlaced as StandsAt}
 use Rattle.growth_laws.specs.Need.{raised_to}
 use Rattle.growth_drafts.specs.Taken.{AreFreeFor, HasTaken}
-use Rattle.file_fills.specs.Causes.{ChangesOnly}
-use Rattle.file_fills.specs.Headers.{HaveSamePads}
+use Rattle.file_growth.specs.Causes.{ChangesOnly}
+use Rattle.file_growth.specs.Headers.{HaveSamePads}
 use Rattle.file_growth.specs.Written.{IsWritten}
 use Rattle.pointer_tables.specs.Directories.{IsPlaced, IsTreeSound}
 use Rattle.pointer_tables.specs.Tables.{IsDoubled, LeavesStay, is_within}

@@ -3,4 +3,5 @@
 
 mod need;
 
+pub use file_growth::{height_for, write_range};
 pub use need::{doubling_need, table_blocks, tree_blocks};

@@ -3,8 +3,7 @@ ghost use Rattle.std.specs.Prelude.{ℕ, ◌≡◌, ◌+◌, ◌-◌, ◌*◌, �
 ghost use Rattle.gfs2_layout.specs.Inode.{pieces, span as span_of};
 ghost use Rattle.table_growth.specs.Tables.{doubling_need as need_of, table_blocks as blocks_of, tree_blocks as all_blocks_of};
 
-use file_fills::height_for;
-use file_walks::span;
+use file_growth::{height_for, span};
 
 // Where the pointers of a table block begin.
 const IN_TABLE: usize = 24;

@@ -7,7 +7,7 @@ use Rattle.std.proofs.lemmas.Bool.{cases_eq, cond-true, cond-false, eq-eqb, ne_e
 use Rattle.std.proofs.lemmas.Nat.{div-add-mod'}
 use Rattle.std.proofs.lemmas.List.{drop-take, length-replicate, take-take}
 use Rattle.std.proofs.Math.Nat.{mul-div_cancel}
-use Rattle.growth_laws.proofs.Numbers.{zeros_are_no_number}
+use Rattle.hash_dirs.proofs.Numbers.{zeros_are_no_number}
 use Rattle.gfs2_layout.specs.Inode.{Fits}
 use Rattle.dinode_tree.specs.Reading.{AreWholeBefore, reach}
 use Rattle.dinode_tree.proofs.Pointers.{some_within}

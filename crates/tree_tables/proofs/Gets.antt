@@ -20,8 +20,8 @@ use Rattle.glock_names.specs.declared.steps.Step.TheVariants.{Is, NeedBlock}
 use Rattle.dinode_tree.specs.Broken as broken
 use Rattle.dinode_tree.specs.Reading.{IsNeeded, block_at, inode_lock, led_to, reach, target}
 use Rattle.dinode_tree.specs.Shown as inode
-use Rattle.linear_dirs.proofs.Looked.{bytes_of}
-use Rattle.pointer_tables.specs.declared.pointer.Pointer.{Pointer}
+use Rattle.hash_dirs.proofs.Looked.{bytes_of}
+use Rattle.hash_dirs.specs.pointer.Pointer.{Pointer}
 use Rattle.tree_tables.specs.Pointers.{IsTableOf, block_of, bytes_or_none, carries, or_zero, pointer_at, pointer_in, seen_as, table_block}
 use Rattle.tree_tables.specs.declared.tree_table.TreeTable.{TreeTable}
 use Rattle.tree_tables.proofs.Entries.{entry_in_block, entry_in_hole, entry_stuffed, within}

@@ -7,7 +7,7 @@ use Rattle.gfs2_layout.specs.Inode.{IsInode, depth_in}
 use Rattle.glock_names.specs.Views.{Seen}
 use Rattle.dinode_tree.specs.Shown as inode
 use Rattle.dinode_tree.proofs.Sound.{sound_is_whole}
-use Rattle.pointer_tables.specs.Directories.{IsShown}
+use Rattle.hash_dirs.specs.Directories.{IsShown}
 use Rattle.tree_tables.specs.Pointers.{IsTableOf}
 use Rattle.tree_tables.specs.declared.tree_table.TreeTable.{TreeTable}
 

@@ -7,7 +7,7 @@ use Rattle.gfs2_layout.specs.Structures.{dinode_length}
 use Rattle.glock_names.specs.Views.{Seen}
 use Rattle.dinode_tree.specs.Reading.{AreWholeBefore, block_at}
 use Rattle.dinode_tree.specs.Shown as inode
-use Rattle.pointer_tables.specs.declared.pointer.Pointer.{Pointer}
+use Rattle.hash_dirs.specs.pointer.Pointer.{Pointer}
 use Rattle.tree_tables.specs.declared.tree_table.TreeTable.{TreeTable}
 
 -- the bytes that a view has of a block; none of one that it hasn't

@@ -4,5 +4,6 @@
 mod numbers;
 mod tree_table;
 
+pub use hash_dirs as hashed;
 pub use numbers::number_at;
 pub use tree_table::{IN_TABLE, TreeTable, damaged, pointers_of};

@@ -17,8 +17,7 @@ use crate::numbers::number_at;
 use dinode_tree::{Located, all_blocks_are_shown, locate, read_dinode};
 use gfs2_layout::{DINODE_LENGTH, Dinode, has_header};
 use glock_names::{CallFault, Missing, Step, View, block_of};
-use linear_dirs::lock_of;
-use pointer_tables::{Pointer, PointerTable};
+use hash_dirs::{Pointer, PointerTable, lock_of};
 
 /// Where the pointers of a table block begin.
 pub const IN_TABLE: usize = 24;

@@ -44,9 +44,9 @@ use Rattle.draft_changes.proofs.Views.{groups_are_listed}
 use Rattle.file_changes.specs.Drafting.{IsCutDraft, IsFreedAndDone, IsNeededAt, of_any, of_group, of_inode}
 use Rattle.file_changes.specs.Making.{CanBeCut, CutsFreeExactly, CutsMakeFiles, MakesFile, goes_at}
 use Rattle.growth_laws.specs.Laws.{InodesAreFiles}
-use Rattle.group_locks.specs.Groups.{GroupsAreHeld, IsFirstGroupLack, holds_of_groups}
-use Rattle.group_locks.specs.Laws.{AreThose}
-use Rattle.group_locks.proofs.Locks.{blocks_of_groups_are_asked_for, first_group_lacks_are_first, groups_with_blocks_are_listed, held_groups_hold_the_list}
+use Rattle.file_changes.specs.Groups.{GroupsAreHeld, IsFirstGroupLack, holds_of_groups}
+use Rattle.file_changes.specs.Laws.{AreThose}
+use Rattle.file_changes.proofs.Locks.{blocks_of_groups_are_asked_for, first_group_lacks_are_first, groups_with_blocks_are_listed, held_groups_hold_the_list}
 use Rattle.path_walks.specs.Holds.{Hold, AreHeld, IsAskedFor, IsFirstLack, IsUnder, hold_of_group, holds_in}
 use Rattle.path_walks.specs.Walks.{IsSeenAt, IsWalked}
 use Rattle.path_walks.specs.declared.walk.Place.{Place}

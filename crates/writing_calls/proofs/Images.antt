@@ -52,7 +52,7 @@ use Rattle.draft_changes.proofs.Rows.{cell_its, in_header_or_not, its_used, part
 use Rattle.draft_changes.proofs.Views.{groups_are_listed, is_listed}
 use Rattle.file_changes.specs.Drafting.{IsWrongAt, in_group, in_inode, stray}
 use Rattle.file_changes.specs.Making.{MakesFile}
-use Rattle.group_locks.proofs.Locks.{groups_break_nothing}
+use Rattle.file_changes.proofs.Locks.{groups_break_nothing}
 use Rattle.path_walks.specs.Holds.{Hold, IsAskedFor, IsUnder, hold_of, hold_of_group, holds_in}
 use Rattle.path_walks.specs.Walks.{IsSeenAt, IsWalked}
 use Rattle.path_walks.specs.declared.walk.Place.{Place}

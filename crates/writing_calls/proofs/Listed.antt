@@ -19,7 +19,7 @@ use Rattle.image_changes.specs.Instances.{IsAt, dinode_at}
 use Rattle.file_changes.specs.Making.{goes_at}
 use Rattle.path_walks.specs.Holds.{holds_in}
 use Rattle.room_search.specs.Blocks.{room_holds}
-use Rattle.group_locks.specs.Groups.{holds_of_groups}
+use Rattle.file_changes.specs.Groups.{holds_of_groups}
 use Rattle.writing_calls.specs.Writing.{Cuts, Puts, by_growth, by_write, call_holds, group_holds_at, group_holds_of, looks_at, need_in}
 
 -- where the tree refuses the call no group's lock is taken

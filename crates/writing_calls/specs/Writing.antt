@@ -23,7 +23,7 @@ use Rattle.call_locks.specs.WantLaws.{path_of}
 use Rattle.dinode_tree.specs.Shown.{IsShown}
 use Rattle.growth_laws.specs.Files.{IsFile}
 use Rattle.growth_laws.specs.Need.{needed}
-use Rattle.file_fills.specs.Filling.{IsSeenWay}
+use Rattle.file_changes.specs.Filling.{IsSeenWay}
 use Rattle.growth_drafts.specs.Taken.{IsCutAt, IsLookedAt}
 use Rattle.drafts.specs.declared.attempt.Attempt.{Attempt}
 use Rattle.drafts.specs.declared.attempt.Attempt.TheVariants.{Done}
@@ -44,7 +44,7 @@ use Rattle.path_walks.specs.Walks as path
 use Rattle.path_walks.specs.Walks.{LeadsTo, IsAbsent, IsLacked, IsOnTheWay, IsUnread}
 use Rattle.room_search.specs.Blocks.{free_for, free_in_all, group_holds, group_of_node, room_holds, states_by}
 use Rattle.room_search.specs.Searches.{AreShown, IsGroupBroken, IsGroupNeeded}
-use Rattle.group_locks.specs.Groups.{GroupsAreHeld, IsFirstGroupLack, holds_of_groups}
+use Rattle.file_changes.specs.Groups.{GroupsAreHeld, IsFirstGroupLack, holds_of_groups}
 use Rattle.writing_calls.specs.Contents.{NeedsBlocks}
 use Rattle.writing_calls.specs.Drafting.{IsWrite}
 use Rattle.writing_calls.specs.declared.finds.Found.{Found}

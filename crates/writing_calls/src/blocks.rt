@@ -19,8 +19,7 @@ ghost use Rattle.writing_calls.specs.Writing.{GoesIntoBlocks, IfWritten, IsDamag
 
 use crate::finds::Found;
 use drafts::Stamp;
-use file_changes::{write_file, writes_make_files};
-use file_fills::need_write;
+use file_changes::{need_write, write_file, writes_make_files};
 use file_tree::Call;
 use glock_names::{CallFault, Step, View};
 use growth_laws::files_are_inodes;

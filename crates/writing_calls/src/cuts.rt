@@ -20,10 +20,9 @@ ghost use Rattle.writing_calls.specs.Writing.{Cuts, IfWritten, IsDamage, IsFound
 use crate::blocks::is_a_view;
 use crate::finds::Found;
 use drafts::{Draft, Stamp};
-use file_changes::{cut_file, cuts_free_exactly, cuts_make_files, free_and_finish};
+use file_changes::{cut_file, cuts_free_exactly, cuts_make_files, free_and_finish, lacked_group};
 use file_tree::Call;
 use glock_names::{CallFault, State, Step, View};
-use group_locks::lacked_group;
 use growth_laws::files_are_inodes;
 use path_walks::Place;
 use std::alloc::Global;

@@ -13,7 +13,7 @@ ghost use Rattle.image_model.specs.Stands.{Layout};
 ghost use Rattle.image_changes.specs.Does.{AreInside, Does, IsOf};
 ghost use Rattle.path_walks.specs.Walks.{IsSeenAt, IsWalked};
 ghost use Rattle.path_walks.specs.declared.walk.Walk.TheVariants.{At};
-ghost use Rattle.path_walks.specs.Answers.{HasSpace, IfDone, IfHashed, IfNeedBlock, IfNeedLock, IfNoSpace, IfNotBuilt};
+ghost use Rattle.path_walks.specs.Answers.{HasSpace, IfDone, IfNeedBlock, IfNeedLock, IfNoSpace, IfNotBuilt};
 ghost use Rattle.path_walks.specs.Holds.{AreHeld, IsAskedFor, IsFirstLack, IsUnder};
 ghost use Rattle.writing_calls.specs.Writing.{IfSync, IfWritten, IsAnswered, IsDamage, IsEdit, IsEditAnswered, IsFound, IsFullFor, IsLackedFor, IsNeededFor, IsRefusal, IsSynced, IsToldOf, IsTooFew, IsUnbuilt, IsWriting, call_holds};
 
@@ -200,7 +200,6 @@ fn edit<V: View>(alloc: Global, view: &V, call: &Call, stamp: &Stamp) -> Result<
     ensures answered { IfDone result (IsEditAnswered (V.seen view.now) call.now stamp.now.node stamp.now.time) }
     ensures lacked { IfNeedLock result (IsLackedFor (V.seen view.now) call.now stamp.now.node) }
     ensures needed { IfNeedBlock result (IsNeededFor (V.seen view.now) call.now) }
-    ensures hashed { IfHashed result (λ block. ⊥) }
     ensures unbuilt { IfNotBuilt result (IsUnbuilt (V.seen view.now) call.now) }
     ensures built { (im : Image) (o : Owners) (l : Layout) (t : Tree) → IsOf (V.seen view.now) im o l t → IfNotBuilt result ⊥ }
     ensures sound { (im : Image) (o : Owners) (l : Layout) (t : Tree) → IsOf (V.seen view.now) im o l t → IfDamaged result (λ rule block. ⊥) }
@@ -248,7 +247,6 @@ pub fn attempt<V: View>(
     ensures answered { IfDone result (IsAnswered (V.seen view.now) call.now stamp.now.node stamp.now.time) }
     ensures lacked { IfNeedLock result (IsLackedFor (V.seen view.now) call.now stamp.now.node) }
     ensures needed { IfNeedBlock result (IsNeededFor (V.seen view.now) call.now) }
-    ensures hashed { IfHashed result (λ block. ⊥) }
     ensures unbuilt { IfNotBuilt result (IsUnbuilt (V.seen view.now) call.now) }
     ensures built { (im : Image) (o : Owners) (l : Layout) (t : Tree) → IsOf (V.seen view.now) im o l t → IfNotBuilt result ⊥ }
     ensures synced { IfSync call.now (IsSynced result) }

@@ -4,8 +4,8 @@ use Rattle.gfs2_layout.specs.declared.dinode.Dinode.{Dinode}
 use Rattle.glock_names.proofs.StepLaws.{answer_at, needed_at}
 use Rattle.glock_names.specs.Steps.{TellsOf}
 use Rattle.linear_dirs.proofs.Looked.{handed}
-use Rattle.hash_dirs.specs.Broken as table
-use Rattle.hash_dirs.specs.Leaves.{AreLeaves, IsRead}
+use Rattle.tree_tables.specs.Broken as table
+use Rattle.tree_tables.specs.Leaves.{AreLeaves, IsRead}
 use Rattle.directories.specs.Shown as directory
 use Rattle.directories.proofs.Forms.{fault_as, leaves_shown, only_tells}
 use Rattle.directories.proofs.Counted.{counts_right, counts_wrong, differ, equal}

@@ -2,7 +2,7 @@ use Rattle.glock_names.proofs.StepLaws.{answer_at, needed_so}
 use Rattle.directories.specs.Shown as directory
 use Rattle.glock_names.specs.Steps.{TellsOf}
 use Rattle.linear_dirs.proofs.Looked.{handed}
-use Rattle.hash_dirs.specs.Broken as table
+use Rattle.tree_tables.specs.Broken as table
 use Rattle.directories.proofs.Forms.{fault_as, leaves_shown, only_tells}
 use Rattle.directories.proofs.listing.names_hashed.Goals as goal
 

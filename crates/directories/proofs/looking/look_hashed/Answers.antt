@@ -1,7 +1,7 @@
 use Rattle.std.proofs.Common.{◌<◌}
 use Rattle.std.proofs.lemmas.List.Elements.{All-from_get_or}
 use Rattle.glock_names.proofs.StepLaws.{answer_at, answer_so, needed_so}
-use Rattle.hash_dirs.specs.Broken as leaves
+use Rattle.tree_tables.specs.Broken as leaves
 use Rattle.glock_names.specs.Steps.{IsDamage}
 use Rattle.linear_dirs.proofs.Looked.{handed}
 use Rattle.directories.specs.Shown.{in_hashed, the_dinode}

@@ -6,10 +6,10 @@ use Rattle.glock_names.specs.Steps.{TellsOf}
 use Rattle.drafts.specs.Fates.{seen_in}
 use Rattle.linear_dirs.proofs.Looked.{handed}
 use Rattle.linear_dirs.specs.Shown.{holding_over}
-use Rattle.hash_dirs.specs.Broken as table
-use Rattle.hash_dirs.specs.Exchanging.{ArePut, IsCutFrom}
-use Rattle.hash_dirs.specs.Finding.{IsLeafOfName}
-use Rattle.hash_dirs.proofs.Leaves.{found_at}
+use Rattle.tree_tables.specs.Broken as table
+use Rattle.tree_tables.specs.Exchanging.{ArePut, IsCutFrom}
+use Rattle.tree_tables.specs.Finding.{IsLeafOfName}
+use Rattle.tree_tables.proofs.Leaves.{found_at}
 use Rattle.directories.specs.Shown as directory
 use Rattle.directories.proofs.Forms.{fault_as, leaves_shown, only_tells, some_directory}
 use Rattle.directories.proofs.Taken.{hashed_puts, hashed_without, in_some_leaf, is_there}

@@ -1,12 +1,12 @@
 use Rattle.std.proofs.Common.{rules, ℕ, ◌≡◌, ◌≢◌, true, Result, Ok, Err, sym, ap, ◌∙◌, subst}
 use Rattle.std.specs.Prelude.{not}
 use Rattle.drafts.specs.declared.attempt.Attempt.{Attempt}
-use Rattle.drafts.specs.declared.attempt.Attempt.TheVariants.{Done, NeedLock, NeedBlock, NoSpace, Hashed, NotBuilt}
+use Rattle.drafts.specs.declared.attempt.Attempt.TheVariants.{Done, NeedLock, NeedBlock, NoSpace, NotBuilt}
 use Rattle.glock_names.specs.declared.steps.CallFault.{CallFault}
 use Rattle.glock_names.specs.declared.steps.Missing.{Missing}
 use Rattle.cluster_history.specs.Changes.{is_ok}
-use Rattle.path_walks.specs.Answers.{IfDone, IfNeedBlock, IfNeedLock, IfNoSpace, IfNotBuilt, HasSpace}
-use Rattle.path_walks.specs.Holds.{AreHeld, IsAskedFor, IsFirstLack, IsUnder}
+use Rattle.read_calls.specs.Answers.{IfDone, IfNeedBlock, IfNeedLock, IfNoSpace, IfNotBuilt, HasSpace}
+use Rattle.read_calls.specs.Holds.{AreHeld, IsAskedFor, IsFirstLack, IsUnder}
 use Rattle.making_calls.specs.Making.{IsMaking}
 use Rattle.removing_calls.specs.Removing.{IsRemoving}
 use Rattle.writing_calls.specs.Writing.{IsWriting}
@@ -31,7 +31,6 @@ mapped (Ok (NeedBlock m)) P Q f is = f m is
 mapped (Ok (Done reply change)) P Q f is = tt
 mapped (Ok (NeedLock lock state)) P Q f is = tt
 mapped (Ok (NoSpace need free)) P Q f is = tt
-mapped (Ok (Hashed b)) P Q f is = tt
 mapped (Ok NotBuilt) P Q f is = tt
 mapped (Err e) P Q f is = tt
 
@@ -41,7 +40,6 @@ done_so (Ok (NeedBlock m)) P Q f is = tt
 done_so (Ok (Done reply change)) P Q f is = f reply change is
 done_so (Ok (NeedLock lock state)) P Q f is = tt
 done_so (Ok (NoSpace need free)) P Q f is = tt
-done_so (Ok (Hashed b)) P Q f is = tt
 done_so (Ok NotBuilt) P Q f is = tt
 done_so (Err e) P Q f is = tt
 
@@ -50,7 +48,6 @@ done_two (Ok (NeedBlock m)) P Q p q = tt
 done_two (Ok (Done reply change)) P Q p q = (p, q)
 done_two (Ok (NeedLock lock state)) P Q p q = tt
 done_two (Ok (NoSpace need free)) P Q p q = tt
-done_two (Ok (Hashed b)) P Q p q = tt
 done_two (Ok NotBuilt) P Q p q = tt
 done_two (Err e) P Q p q = tt
 
@@ -59,7 +56,6 @@ done_three (Ok (NeedBlock m)) P Q R p q s = tt
 done_three (Ok (Done reply change)) P Q R p q s = (p, q, s)
 done_three (Ok (NeedLock lock state)) P Q R p q s = tt
 done_three (Ok (NoSpace need free)) P Q R p q s = tt
-done_three (Ok (Hashed b)) P Q R p q s = tt
 done_three (Ok NotBuilt) P Q R p q s = tt
 done_three (Err e) P Q R p q s = tt
 
@@ -176,7 +172,6 @@ few_so (Ok (NeedBlock m)) P Q f is = tt
 few_so (Ok (Done reply change)) P Q f is = tt
 few_so (Ok (NeedLock lock state)) P Q f is = tt
 few_so (Ok (NoSpace need free)) P Q f is = f need free is
-few_so (Ok (Hashed b)) P Q f is = tt
 few_so (Ok NotBuilt) P Q f is = tt
 few_so (Err e) P Q f is = tt
 
@@ -191,7 +186,6 @@ built_so (Ok (NeedBlock m)) P is = tt
 built_so (Ok (Done reply change)) P is = tt
 built_so (Ok (NeedLock lock state)) P is = tt
 built_so (Ok (NoSpace need free)) P is = tt
-built_so (Ok (Hashed b)) P is = tt
 built_so (Ok NotBuilt) P is = absurd is
 built_so (Err e) P is = tt
 

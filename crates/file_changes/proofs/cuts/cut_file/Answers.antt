@@ -13,7 +13,7 @@ use Rattle.growth_drafts.specs.Touched.{Follows}
 use Rattle.file_cuts.specs.Cut.{HasCut, WasLedTo}
 use Rattle.resource_groups.specs.Putting.{HasDataBlock}
 use Rattle.image_model.specs.Owners.{holding}
-use Rattle.path_walks.proofs.Faults.{told_on, tells_so, tells_all}
+use Rattle.group_locks.proofs.Faults.{told_on, tells_so, tells_all}
 use Rattle.file_changes.specs.Drafting.{IsNeededAt, IsWrongAt, in_inode}
 use Rattle.file_changes.proofs.CutSteps.{shown_new, there_still, is_cut_draft, shown_there, freed_inside, some_at, if_some_at, none_at, left_inode}
 use Rattle.file_changes.proofs.Cutting.{can_cut}

@@ -1,7 +1,7 @@
 use Rattle.std.proofs.Common.{true≢false, sym, ◌∙◌, subst}
 use Rattle.drafts.specs.Fates.{AreWhole, Drafted}
 use Rattle.glock_names.proofs.StepLaws.{answer_at, needed_at, needed_so}
-use Rattle.path_walks.proofs.Faults.{told_on, tells_so}
+use Rattle.group_locks.proofs.Faults.{told_on, tells_so}
 use Rattle.resource_groups.specs.Freeing.{BreaksSome, IsNeededFor}
 use Rattle.file_changes.specs.Drafting.{IsWrongAt, in_group, of_any, of_group}
 use Rattle.file_changes.proofs.Cutting.{cut_inside, leaves}

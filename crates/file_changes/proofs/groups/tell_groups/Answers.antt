@@ -3,7 +3,7 @@ use Rattle.glock_names.specs.Steps.{TellsOf}
 use Rattle.glock_names.specs.Views.{IsOfView}
 use Rattle.resource_groups.specs.Freeing.{BreaksSome}
 use Rattle.resource_groups.specs.Putting.{HasDataBlock}
-use Rattle.path_walks.proofs.Faults.{told_on}
+use Rattle.group_locks.proofs.Faults.{told_on}
 use Rattle.file_changes.proofs.Fresh.{seen_new}
 use Rattle.file_changes.proofs.groups.tell_groups.Goals as goal
 

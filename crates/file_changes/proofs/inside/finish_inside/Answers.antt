@@ -1,5 +1,5 @@
 use Rattle.glock_names.proofs.StepLaws.{needed_at}
-use Rattle.path_walks.proofs.Faults.{told_on}
+use Rattle.group_locks.proofs.Faults.{told_on}
 use Rattle.file_changes.specs.Drafting.{IsWrongAt}
 use Rattle.file_changes.proofs.Lying.{whole_written}
 use Rattle.file_changes.proofs.Stepping.{not_both}

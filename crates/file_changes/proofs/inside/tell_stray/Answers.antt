@@ -4,7 +4,7 @@ use Rattle.glock_names.proofs.StepLaws.{answer_at, needed_at}
 use Rattle.dinode_tree.specs.Broken.{IsBroken}
 use Rattle.file_changes.specs.Drafting.{IsWrongAt, in_inode, stray}
 use Rattle.file_changes.proofs.inside.tell_stray.Goals as goal
-use Rattle.path_walks.proofs.Faults.{told_on, tells_so, tells_all}
+use Rattle.group_locks.proofs.Faults.{told_on, tells_so, tells_all}
 
 pub returns-in_err-below-clause-damaged : goal.returns-in_err-below-clause-damaged
 returns-in_err-below-clause-damaged g c blocks =

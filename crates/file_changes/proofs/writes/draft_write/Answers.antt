@@ -9,8 +9,8 @@ use Rattle.dinode_tree.specs.Shown.{IsShown}
 use Rattle.growth_drafts.specs.Taken.{IsLookedAt}
 use Rattle.resource_groups.specs.Freeing.{BreaksSome}
 use Rattle.image_model.specs.Owners.{holding}
-use Rattle.path_walks.proofs.Faults.{told_on, tells_so, tells_all, damaged_so}
-use Rattle.path_walks.proofs.Images.{is_shown}
+use Rattle.group_locks.proofs.Faults.{told_on, tells_so, tells_all, damaged_so}
+use Rattle.group_locks.proofs.Images.{is_shown}
 use Rattle.file_changes.specs.Drafting.{IsWrongAt, in_inode, in_group, of_inode}
 use Rattle.file_changes.proofs.Fresh.{still_there}
 use Rattle.file_changes.proofs.Stepping.{writes_file, wrote_over, timed_over}

@@ -8,8 +8,8 @@ use Rattle.dinode_tree.specs.Broken.{IsBroken}
 use Rattle.dinode_tree.specs.Reading.{IsNeeded}
 use Rattle.dinode_tree.specs.Shown.{IsShown}
 use Rattle.growth_drafts.specs.Taken.{IsLookedAt}
-use Rattle.file_growth.specs.Written.{CanWrite}
-use Rattle.path_walks.proofs.Faults.{told_on}
+use Rattle.file_cuts.specs.Written.{CanWrite}
+use Rattle.group_locks.proofs.Faults.{told_on}
 use Rattle.file_changes.proofs.Fresh.{seen_old}
 use Rattle.file_changes.proofs.Stepping.{none_left, wrote}
 use Rattle.file_changes.proofs.writes.write_bytes.Goals.{then-done, else-done}

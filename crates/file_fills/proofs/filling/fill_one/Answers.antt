@@ -1,6 +1,6 @@
 use Rattle.std.proofs.Common.{inl, inr, arith}
 use Rattle.growth_drafts.proofs.Following.{follows_draft, follows_two}
-use Rattle.growth_steps.proofs.Stepping.{on_ok}
+use Rattle.file_walks.proofs.Stepping.{on_ok}
 use Rattle.file_fills.proofs.Stepped.{filled_one}
 use Rattle.file_fills.proofs.filling.fill_one.Goals as goal
 

@@ -3,7 +3,7 @@ use Rattle.gfs2_layout.specs.Inode.{Fits, dinode_in}
 use Rattle.gfs2_layout.specs.declared.dinode.Dinode.{Dinode}
 use Rattle.glock_names.proofs.StepLaws.{answer_at}
 use Rattle.dinode_tree.proofs.Sound.{some_is_shown}
-use Rattle.file_fills.proofs.Seeing.{no_damage}
+use Rattle.file_heights.proofs.Seeing.{no_damage}
 use Rattle.file_growth.proofs.writing.file_in.Goals as goal
 
 pub returns-then-is_regular-clause-low : goal.returns-then-is_regular-clause-low

@@ -4,7 +4,7 @@ use Rattle.dinode_tree.specs.Shown.{IsShown}
 use Rattle.growth_laws.specs.Files.{with_cells}
 use Rattle.growth_drafts.specs.Touched.{Follows}
 use Rattle.growth_drafts.proofs.Following.{follows_then, follows_wider}
-use Rattle.file_fills.specs.Filling.{IsSeenWay}
+use Rattle.file_heights.specs.Filling.{IsSeenWay}
 use Rattle.file_growth.proofs.Lengths.{if_ok_so, on_done}
 use Rattle.file_growth.proofs.Writes.{can_stretch, room_for, way_there, written_in_blocks}
 use Rattle.file_growth.proofs.writing.write_blocks.Goals as goal

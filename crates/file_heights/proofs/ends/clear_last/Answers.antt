@@ -5,7 +5,7 @@ use Rattle.gfs2_layout.specs.Inode.{dinode_in}
 use Rattle.gfs2_layout.specs.declared.dinode.Dinode.{Dinode}
 use Rattle.growth_laws.proofs.Places.{size_large}
 use Rattle.growth_drafts.specs.Touched.{as_it_was}
-use Rattle.file_walks.specs.Walks.{IsStop}
+use Rattle.file_fills.specs.Walks.{IsStop}
 use Rattle.file_fills.proofs.Stepped.{content_at_stop}
 use Rattle.file_heights.proofs.Clearing.{cleared_changes, cleared_follows, empty_is_clear, end_is_clear, hole_is_clear, last_place}
 use Rattle.file_heights.proofs.ends.clear_last.Goals as goal

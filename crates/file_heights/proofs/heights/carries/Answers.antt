@@ -1,5 +1,5 @@
 use Rattle.drafts.specs.Fates.{seen_in}
-use Rattle.file_walks.proofs.Steps.{seen_dinode}
+use Rattle.file_fills.proofs.Steps.{seen_dinode}
 use Rattle.file_heights.proofs.heights.carries.Goals as goal
 
 pub returns : goal.returns

@@ -2,7 +2,7 @@ use Rattle.std.proofs.Common.{◌≡◌, ◌∙◌, ◌+◌, ◌*◌, ◌^◌, �
 use Rattle.std.specs.Prelude.{◌||◌}
 use Rattle.gfs2_layout.specs.Area.{slots_of}
 use Rattle.gfs2_layout.specs.Inode.{leaf_length}
-use Rattle.table_growth.specs.Tables.{doubling_need}
+use Rattle.table_changes.specs.Tables.{doubling_need}
 use Rattle.hash_steps.specs.Leaves.{has_room_for}
 use Rattle.hash_inserts.specs.Counting.{chain_with}
 use Rattle.hash_inserts.specs.Needing.{Needs, a_doubling, a_leaf, a_split, is_full, nothing}

@@ -1,7 +1,7 @@
 use Rattle.std.proofs.Common.{subst}
 use Rattle.glock_names.specs.Steps.{TellsOf}
 use Rattle.glock_names.proofs.StepLaws.{answer_at, needed_at}
-use Rattle.table_growth.specs.Pointers.{IsTableBroken}
+use Rattle.table_changes.specs.Pointers.{IsTableBroken}
 use Rattle.hash_inserts.proofs.Doubling.{can_double, doubled_all}
 use Rattle.hash_inserts.proofs.Seen.{none_broken, none_needed}
 use Rattle.hash_inserts.proofs.pointers.double_table.Goals as goal

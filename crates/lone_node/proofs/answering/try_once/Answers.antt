@@ -4,7 +4,7 @@ use Rattle.file_tree.specs.Tree.{Tree}
 use Rattle.file_tree.specs.declared.reply.Reply.TheVariants as reply
 use Rattle.image_model.specs.Image.{image_of}
 use Rattle.image_changes.specs.Does.{Does, AreInside}
-use Rattle.path_walks.specs.Answers.{IfDone, IfNeedBlock, IfNoSpace, IfNotBuilt}
+use Rattle.file_calls.specs.AnswerParts.{IfDone, IfNeedBlock, IfNoSpace, IfNotBuilt}
 use Rattle.glock_names.specs.declared.steps.CallFault.{CallFault}
 use Rattle.glock_names.specs.declared.steps.CallFault.TheVariants as fault
 use Rattle.glock_names.specs.Steps.{TellsOf}

@@ -1,7 +1,7 @@
 use Rattle.std.proofs.Common.{ℕ, List, ◌∷◌, subst₂}
 use Rattle.std.specs.Prelude.{Contains, IfSome}
 use Rattle.glock_names.specs.Steps.{IfIs}
-use Rattle.name_inserts.specs.Way.{IsOnWay}
+use Rattle.name_drafts.specs.Way.{IsOnWay}
 use Rattle.making_calls.proofs.blocks.taken_on_way.Goals as goal
 
 pub returns-clause-some : goal.returns-clause-some

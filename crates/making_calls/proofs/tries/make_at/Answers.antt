@@ -2,13 +2,13 @@ use Rattle.std.proofs.Common.{◌≡◌, ◌<◌, ◌^◌, ap, ◌∙◌, subst}
 use Rattle.std.specs.Prelude.{not}
 use Rattle.gfs2_layout.specs.Holding.{Holding}
 use Rattle.glock_names.proofs.StepLaws.{answer_at, needed_at}
-use Rattle.directories.specs.Shown.{IsShown}
+use Rattle.name_drafts.specs.Shown.{IsShown}
 use Rattle.path_walks.proofs.Faults.{told_on, tells_each, tells_so}
 use Rattle.path_walks.proofs.Steps.{none_so}
 use Rattle.path_walks.proofs.Steps.{inside_so as shown_inside}
-use Rattle.hash_inserts.specs.Needing.{TakesBlocks}
-use Rattle.name_inserts.specs.Inserting.{IsNeededForName, IsWrongForName}
-use Rattle.name_inserts.specs.Need.{name_need, need_in_linear}
+use Rattle.name_drafts.specs.Needing.{TakesBlocks}
+use Rattle.name_drafts.specs.Inserting.{IsNeededForName, IsWrongForName}
+use Rattle.name_drafts.specs.Need.{name_need, need_in_linear}
 use Rattle.making_calls.specs.Making.{IsDamage}
 use Rattle.making_calls.specs.Making as damage
 use Rattle.making_calls.proofs.At.{insert_needs, name_damage}

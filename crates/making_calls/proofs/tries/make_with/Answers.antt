@@ -5,8 +5,8 @@ use Rattle.glock_names.specs.declared.steps.Step.TheVariants.{Is}
 use Rattle.glock_names.proofs.StepLaws.{answer_at, needed_at}
 use Rattle.gfs2_layout.specs.Holding.{Holding}
 use Rattle.glock_names.specs.Views.{HasBlock}
-use Rattle.directories.specs.Shown.{IsShown}
-use Rattle.directories.proofs.Forms.{some_directory}
+use Rattle.name_drafts.specs.Shown.{IsShown}
+use Rattle.name_drafts.proofs.Forms.{some_directory}
 use Rattle.hash_dirs.proofs.Leaves.{found_at}
 use Rattle.image_model.specs.Owners.{holding}
 use Rattle.path_walks.proofs.Images.{shown_inode}
@@ -17,8 +17,8 @@ use Rattle.room_search.specs.Searches.{IsGroupBroken, IsUnder}
 use Rattle.room_search.specs.declared.search.Locked.TheVariants as locked
 use Rattle.room_search.proofs.InImage.{group_sound}
 use Rattle.room_search.proofs.Shown.{bytes_shown}
-use Rattle.name_inserts.specs.Inserting.{CanGetName, IsNeededForName, IsWrongForName}
-use Rattle.name_inserts.specs.Way.{IsOnWay, IsRightWay, its_dinode}
+use Rattle.name_drafts.specs.Inserting.{CanGetName, IsNeededForName, IsWrongForName}
+use Rattle.name_drafts.specs.Way.{IsOnWay, IsRightWay, its_dinode}
 use Rattle.name_drafts.specs.Drafting.{IsAddition, IsNeededIn, IsPlaceFor, IsWrongIn}
 use Rattle.making_calls.specs.Blocks.{block_holds}
 use Rattle.making_calls.specs.Making.{IsDamage, IsLackedFor, IsNeededFor, directory_path, makes_directory}

@@ -4,7 +4,7 @@ use Rattle.gfs2_layout.specs.Structures.{dinode_length}
 use Rattle.dinode_tree.proofs.Dinodes.{lacks}
 use Rattle.linear_dirs.specs.Broken.{IsBroken, no_area}
 use Rattle.linear_dirs.proofs.Looked.{bytes_of, rest_is}
-use Rattle.hash_steps.specs.Leaves.{has_room_for}
+use Rattle.hash_inserts.specs.Leaves.{has_room_for}
 use Rattle.name_inserts.proofs.needing.has_room.Goals as goal
 
 pub returns-then-not-is_area-clause-damaged : goal.returns-then-not-is_area-clause-damaged

@@ -6,7 +6,7 @@ use Rattle.glock_names.specs.Views.{HasBlock, Seen}
 use Rattle.glock_names.proofs.StepLaws.{answer_at}
 use Rattle.dinode_tree.proofs.Sound.{some_is_shown}
 use Rattle.resource_groups.specs.Putting.{HasDataBlock}
-use Rattle.hash_steps.specs.Steps.{first_count}
+use Rattle.hash_inserts.specs.Steps.{first_count}
 use Rattle.hash_inserts.specs.Advancing.{CanInsert}
 use Rattle.name_inserts.specs.Need.{need_in_hashed}
 use Rattle.name_inserts.proofs.First.{both_inside, only_leaf, table_of}

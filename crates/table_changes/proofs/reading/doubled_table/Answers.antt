@@ -3,7 +3,7 @@ use Rattle.glock_names.specs.Steps.{TellsOf}
 use Rattle.glock_names.proofs.StepLaws.{answer_at, needed_at}
 use Rattle.dinode_tree.proofs.Pieces.{needed_for}
 use Rattle.linear_dirs.proofs.Looked.{handed}
-use Rattle.table_growth.specs.Pointers.{IsTableBroken}
+use Rattle.table_files.specs.Pointers.{IsTableBroken}
 use Rattle.table_files.specs.Files.{table_bytes}
 use Rattle.table_files.proofs.TableBytes.{table_long}
 use Rattle.tree_tables.specs.Pointers.{seen_as}

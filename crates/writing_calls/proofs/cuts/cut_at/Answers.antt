@@ -8,7 +8,7 @@ use Rattle.call_locks.specs.WantLaws.{path_of}
 use Rattle.growth_drafts.specs.Taken.{IsCutAt}
 use Rattle.resource_groups.specs.Putting.{HasDataBlock}
 use Rattle.file_changes.specs.Drafting.{IsCutDraft, IsFreedAndDone, IsNeededAt, IsWrongAt}
-use Rattle.group_locks.specs.Groups.{GroupsAreHeld, IsFirstGroupLack}
+use Rattle.file_changes.specs.Groups.{GroupsAreHeld, IsFirstGroupLack}
 use Rattle.path_walks.proofs.Faults.{told_on, tells_so}
 use Rattle.writing_calls.specs.Writing.{IsChangeOf, IsDamage, IsLackedFor, IsNeededFor}
 use Rattle.writing_calls.proofs.Images as images

@@ -8,8 +8,8 @@ use Rattle.dinode_tree.specs.Reading.{inode_lock}
 use Rattle.glock_names.specs.Steps.{TellsOf}
 use Rattle.glock_names.proofs.StepLaws.{answer_at, needed_at}
 use Rattle.linear_dirs.proofs.Looked.{handed}
-use Rattle.table_growth.specs.Pointers.{IsTableBroken}
-use Rattle.table_growth.specs.Tables.{CanDouble}
+use Rattle.table_files.specs.Pointers.{IsTableBroken}
+use Rattle.table_files.specs.Tables.{CanDouble}
 use Rattle.nested_drafts.specs.Nested.{with_blocks}
 use Rattle.table_changes.specs.Doubling.{AreDoubledBlocks, IsDoubledTable}
 use Rattle.table_changes.proofs.Below.{damage_tells, hashed_no_file, table_tells}

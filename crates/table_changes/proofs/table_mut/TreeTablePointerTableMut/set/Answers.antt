@@ -2,7 +2,7 @@ use Rattle.std.proofs.Common.{◌≡◌, ◌⊎◌, ◌+◌, ◌^◌, ◌≤◌,
 use Rattle.std.specs.Prelude.{Contains}
 use Rattle.std.specs.FinMap.{get}
 use Rattle.glock_names.proofs.StepLaws.{answer_at, needed_at}
-use Rattle.table_growth.specs.Pointers.{HasPointerOf}
+use Rattle.table_files.specs.Pointers.{HasPointerOf}
 use Rattle.table_changes.specs.Setting.{AreRuns, IsSetIn, counted}
 use Rattle.table_changes.proofs.Runs.{runs_have_pointers}
 use Rattle.table_changes.proofs.table_mut.TreeTablePointerTableMut.set.Goals as goal

@@ -4,7 +4,7 @@ use Rattle.gfs2_layout.specs.Device.{IsBlockSize}
 use Rattle.gfs2_layout.specs.declared.dinode.Dinode.{Dinode}
 use Rattle.glock_names.specs.Steps.{IsDamage}
 use Rattle.glock_names.proofs.StepLaws.{answer_at}
-use Rattle.linear_dirs.proofs.Looked.{handed}
+use Rattle.hash_dirs.proofs.Looked.{handed}
 use Rattle.hash_dirs.specs.Broken.{IsBroken, table_too_small, table_too_large, table_size}
 use Rattle.hash_dirs.proofs.Leaves.{damage_of}
 use Rattle.tree_tables.proofs.Told.{told_own}
