@@ -8,14 +8,14 @@ use Rattle.gfs2_layout.specs.Holding.{Holding}
 use Rattle.gfs2_layout.specs.Inode.{first_hash}
 use Rattle.hash_dirs.specs.Shown.{index_for}
 use Rattle.file_calls.specs.HashInserting as inserts
-use Rattle.file_calls.specs.Inserting as names
-use Rattle.file_calls.specs.Way.{IsOnWay, its_dinode, its_leaf, its_pointer}
+use Rattle.file_calls.specs.NameInserting as names
+use Rattle.file_calls.specs.NameWay.{IsOnWay, its_dinode, its_leaf, its_pointer}
 use Rattle.file_tree.specs.declared.call.Call.{Call}
 use Rattle.file_tree.specs.declared.call.Call.TheVariants as calls
 use Rattle.call_locks.specs.Wants.{wanted}
 use Rattle.call_locks.specs.WantLaws.{path_of}
 use Rattle.file_tree.specs.Names.{parent_of}
-use Rattle.file_calls.specs.Drafting.{IsWrongAt, in_group, in_inode, stray}
+use Rattle.file_calls.specs.FileDrafting.{IsWrongAt, in_group, in_inode, stray}
 use Rattle.gfs2_layout.specs.Device.{superblock_place}
 use Rattle.gfs2_layout.specs.Headers.{HasHeader}
 use Rattle.gfs2_layout.specs.declared.rindex.Rindex.{Rindex}

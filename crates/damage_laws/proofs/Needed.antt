@@ -26,7 +26,7 @@ use Rattle.glock_names.specs.declared.steps.Missing.{Missing}
 use Rattle.growth_laws.proofs.Numbers.{zeros_are_no_number}
 use Rattle.hash_dirs.specs.Shown as hashed
 use Rattle.file_calls.specs.HashInserting as inserts
-use Rattle.file_calls.specs.Inserting as names
+use Rattle.file_calls.specs.NameInserting as names
 use Rattle.image_model.specs.Claims.{every, below, HasInode, HasDirectory}
 use Rattle.image_model.specs.Flat.{Path}
 use Rattle.image_model.specs.Image.{Image, IsImage}
@@ -38,7 +38,7 @@ use Rattle.path_walks.specs.Walks.{IsDirectoryAt, LeadsTo, IsNext, the_root, the
 use Rattle.file_calls.specs.Reading as reading
 use Rattle.file_calls.specs.Removing as removing
 use Rattle.file_calls.specs.Writing as writing
-use Rattle.file_calls.specs.Drafting.{IsNeededAt, of_any, of_group, of_inode}
+use Rattle.file_calls.specs.FileDrafting.{IsNeededAt, of_any, of_group, of_inode}
 use Rattle.growth_drafts.specs.Taken.{IsCutAt, IsLookedAt}
 use Rattle.damage_laws.specs.Telling.{IsReadFrom, HasWholeGroups, HasAstray, IsAstray, IsBrokenSource, NeedsTell, source_of}
 use Rattle.damage_laws.proofs.Astray.{led_beyond, whole_or_out}

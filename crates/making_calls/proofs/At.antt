@@ -13,7 +13,7 @@ use Rattle.glock_names.specs.declared.steps.Step.TheVariants.{Is}
 use Rattle.glock_names.proofs.StepLaws.{answer_at}
 use Rattle.call_locks.specs.Wants.{wanted}
 use Rattle.call_locks.specs.WantLaws.{path_of}
-use Rattle.name_drafts.specs.Shown.{IsShown}
+use Rattle.name_drafts.specs.DirectoryShown.{IsShown}
 use Rattle.resource_groups.proofs.Apart.{one_group}
 use Rattle.image_changes.specs.Flats.{in_directory}
 use Rattle.path_walks.specs.Holds.{holds, hold_of_group}

@@ -8,7 +8,7 @@ use Rattle.glock_names.specs.declared.steps.Missing.{Missing}
 use Rattle.dinode_tree.specs.Below.{AnyIndex}
 use Rattle.hash_dirs.proofs.Chained.{cell_some}
 use Rattle.dinode_tree.proofs.Sound.{part_of_led}
-use Rattle.name_drafts.specs.Shown as dirs
+use Rattle.name_drafts.specs.DirectoryShown as dirs
 use Rattle.image_model.specs.Flat.{Path}
 use Rattle.image_model.specs.Image.{Image}
 use Rattle.image_model.specs.Owners.{Owners, holding}

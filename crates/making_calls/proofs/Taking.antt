@@ -29,7 +29,7 @@ use Rattle.glock_names.specs.declared.views.Group.{Group}
 use Rattle.call_locks.specs.Wants.{wanted}
 use Rattle.call_locks.specs.WantLaws.{path_of}
 use Rattle.dinode_tree.specs.Reading.{inode_lock}
-use Rattle.name_drafts.specs.Shown.{IsShown}
+use Rattle.name_drafts.specs.DirectoryShown.{IsShown}
 use Rattle.hash_dirs.specs.Shown.{IsSound, index_for}
 use Rattle.resource_groups.specs.Putting.{HasDataBlock}
 use Rattle.resource_groups.specs.Shown.{IsDataOf, group_lock, said}

@@ -33,7 +33,7 @@ use Rattle.image_changes.specs.Instances.{IsAt, dinode_at}
 use Rattle.path_walks.specs.Answers.{Refuses}
 use Rattle.path_walks.specs.Holds.{Hold, AreHeld, IsAskedFor, IsFirstLack, holds, holds_in, hold_of_group}
 use Rattle.path_walks.specs.declared.walk.Place.{Place}
-use Rattle.name_drafts.specs.Shown as dirs
+use Rattle.name_drafts.specs.DirectoryShown as dirs
 use Rattle.hash_dirs.specs.Shown.{IsSound}
 use Rattle.draft_changes.specs.Resizing.{HoldsThere}
 use Rattle.name_drafts.specs.Needing as leaves

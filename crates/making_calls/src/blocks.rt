@@ -8,7 +8,7 @@ ghost use Rattle.glock_names.specs.declared.views.Group.{Group as GroupValue};
 ghost use Rattle.resource_groups.specs.Shown.{said};
 ghost use Rattle.room_search.specs.Blocks.{group_of_node};
 ghost use Rattle.room_search.specs.Searches.{AreShown, IsGroupBroken, IsUnder};
-ghost use Rattle.name_drafts.specs.Shown.{IsDirectoryIn, IsShown};
+ghost use Rattle.name_drafts.specs.DirectoryShown.{IsDirectoryIn, IsShown};
 ghost use Rattle.name_drafts.specs.Inserting.{IsNeededForName, IsWrongForName};
 ghost use Rattle.name_drafts.specs.Way.{IsOnWay, IsRightWay};
 ghost use Rattle.making_calls.specs.Blocks.{block_holds};

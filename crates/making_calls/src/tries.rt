@@ -8,7 +8,7 @@ ghost use Rattle.glock_names.specs.Steps.{IfDamaged};
 ghost use Rattle.glock_names.specs.Views.{IsOfView, IsView};
 ghost use Rattle.call_locks.specs.WantLaws.{path_of};
 ghost use Rattle.call_locks.specs.Wants.{wanted};
-ghost use Rattle.name_drafts.specs.Shown.{IsDirectoryIn};
+ghost use Rattle.name_drafts.specs.DirectoryShown.{IsDirectoryIn};
 ghost use Rattle.resource_groups.specs.Putting.{HasDataBlock};
 ghost use Rattle.image_model.specs.Image.{Image};
 ghost use Rattle.image_model.specs.Owners.{Owners};

@@ -22,7 +22,7 @@ use Rattle.linear_dirs.specs.Shown.{bytes_over, holding_over, record_for}
 use Rattle.linear_dirs.proofs.Over.{as_seen, parts_stay}
 use Rattle.linear_dirs.proofs.Rewritten.{over_there}
 use Rattle.growth_drafts.specs.Taken.{AreFreeFor}
-use Rattle.name_inserts.specs.Shown as dirs
+use Rattle.name_inserts.specs.DirectoryShown as dirs
 use Rattle.name_inserts.specs.Inserting.{CanGetName, PutsName}
 use Rattle.resource_groups.specs.Freeing as freeing
 use Rattle.resource_groups.specs.Putting.{HasDataBlock}

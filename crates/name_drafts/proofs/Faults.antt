@@ -22,7 +22,7 @@ use Rattle.glock_names.specs.declared.steps.CallFault.TheVariants.{Damaged, NoMe
 use Rattle.glock_names.specs.declared.steps.Missing.{Missing}
 use Rattle.glock_names.specs.declared.views.Group.{Group}
 use Rattle.dinode_tree.specs.Broken as rules
-use Rattle.name_inserts.specs.Shown as dirs
+use Rattle.name_inserts.specs.DirectoryShown as dirs
 use Rattle.name_inserts.specs.Inserting.{IsWrongForName, of_directory}
 use Rattle.resource_groups.specs.Freeing.{BreaksSome, IsNeededFor}
 use Rattle.resource_groups.specs.Numbering.{IsNumberPut}

@@ -18,7 +18,7 @@ use Rattle.gfs2_layout.specs.Structures.{dinode_length, is_in_use}
 use Rattle.glock_names.specs.Views.{Seen, IsView, end_of, group_of_entry}
 use Rattle.growth_drafts.specs.Taken.{AreFreeFor, IsDistinct}
 use Rattle.resource_groups.specs.Shown.{IsHeaderOf}
-use Rattle.name_inserts.specs.Shown as dirs
+use Rattle.name_inserts.specs.DirectoryShown as dirs
 use Rattle.image_model.specs.Flat.{Path}
 use Rattle.image_model.specs.Image.{Image}
 use Rattle.image_model.specs.Owners.{InGroup, Owner, Owners, holding}

@@ -19,7 +19,7 @@ use Rattle.glock_names.specs.declared.steps.Entry.{Entry}
 use Rattle.dinode_tree.specs.Reading.{inode_lock}
 use Rattle.dinode_tree.specs.Shown as inode
 use Rattle.linear_dirs.specs.Shown.{holding_over}
-use Rattle.name_inserts.specs.Shown.{IsShown}
+use Rattle.name_inserts.specs.DirectoryShown.{IsShown}
 use Rattle.new_inodes.specs.Touched.{IsTouched, with_times}
 use Rattle.name_inserts.specs.HashInserting.{MayChange, StaysInside}
 use Rattle.name_inserts.specs.Inserting.{CanGetName, IsPutInLinear, PutsName}

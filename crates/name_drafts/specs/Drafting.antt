@@ -28,7 +28,7 @@ use Rattle.dinode_tree.specs.Reading.{inode_lock}
 use Rattle.growth_drafts.specs.Taken.{AreFreeFor, IsDistinct}
 use Rattle.linear_dirs.specs.Exchanges.{IsLaidOver, uncounted}
 use Rattle.linear_dirs.specs.Shown.{head_for, holding_over, record_for}
-use Rattle.name_inserts.specs.Shown.{IsShown}
+use Rattle.name_inserts.specs.DirectoryShown.{IsShown}
 use Rattle.new_inodes.specs.New.{IsNewDirectory, IsNewFile}
 use Rattle.new_inodes.specs.Touched.{IsTouched, with_times}
 use Rattle.resource_groups.specs.Freeing.{BreaksSome, HasSome, IsNeededFor, SaysStateOfSome}

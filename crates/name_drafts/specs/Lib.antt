@@ -6,5 +6,5 @@ pub use Rattle.name_inserts.specs.HashInserting
 pub use Rattle.name_inserts.specs.Inserting
 pub use Rattle.name_inserts.specs.Need
 pub use Rattle.name_inserts.specs.Needing
-pub use Rattle.name_inserts.specs.Shown
+pub use Rattle.name_inserts.specs.DirectoryShown
 pub use Rattle.name_inserts.specs.Way

@@ -15,7 +15,7 @@ use Rattle.glock_names.specs.declared.views.Group.{Group}
 use Rattle.dinode_tree.specs.Reading.{inode_lock}
 use Rattle.dinode_tree.specs.Shown as inode
 use Rattle.linear_dirs.specs.Shown.{holding_over}
-use Rattle.name_inserts.specs.Shown.{IsShown}
+use Rattle.name_inserts.specs.DirectoryShown.{IsShown}
 use Rattle.new_inodes.specs.Touched.{IsTouched, with_times}
 use Rattle.resource_groups.specs.Freeing.{HasSome, SaysStateOfSome}
 use Rattle.resource_groups.specs.Numbering.{IsNumberPut}

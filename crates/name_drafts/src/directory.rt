@@ -7,7 +7,7 @@ ghost use Rattle.gfs2_layout.specs.Structures.{dinode_read};
 ghost use Rattle.gfs2_layout.specs.declared.dinode.Dinode.{Dinode as DinodeValue};
 ghost use Rattle.glock_names.specs.Steps.{IfDamaged, IfIs, IfNeedBlock};
 ghost use Rattle.glock_names.specs.Views.{HasBlock, IsOfView, IsView};
-ghost use Rattle.name_inserts.specs.Shown.{IsDirectoryIn, IsShown};
+ghost use Rattle.name_inserts.specs.DirectoryShown.{IsDirectoryIn, IsShown};
 ghost use Rattle.resource_groups.specs.Putting.{HasDataBlock};
 ghost use Rattle.name_inserts.specs.Inserting.{CanGetName, IsNeededForName, IsWrongForName};
 ghost use Rattle.name_drafts.specs.Steps.{IsNamePut};

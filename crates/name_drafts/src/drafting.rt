@@ -5,7 +5,7 @@ ghost use Rattle.gfs2_layout.specs.Holding.{Holding};
 ghost use Rattle.gfs2_layout.specs.Inode.{dinode_in};
 ghost use Rattle.glock_names.specs.Steps.{IfDamaged, IfIs, IfNeedBlock, OnlyDamaged};
 ghost use Rattle.glock_names.specs.Views.{HasBlock, HasGroup, IsOfView};
-ghost use Rattle.name_inserts.specs.Shown.{IsDirectoryIn, IsShown};
+ghost use Rattle.name_inserts.specs.DirectoryShown.{IsDirectoryIn, IsShown};
 ghost use Rattle.growth_drafts.specs.Taken.{IsDistinct};
 ghost use Rattle.new_inodes.specs.New.{IsInodePut};
 ghost use Rattle.resource_groups.specs.Putting.{HasDataBlock};

@@ -7,7 +7,7 @@ use Rattle.gfs2_layout.specs.Inode.{is_hashed_in, records_of}
 use Rattle.gfs2_layout.specs.Records.{record_named}
 use Rattle.glock_names.specs.declared.steps.Entry.{Entry}
 use Rattle.linear_dirs.specs.Shown.{entry_of}
-use Rattle.path_walks.specs.Shown.{Says, in_linear}
+use Rattle.path_walks.specs.DirectoryShown.{Says, in_linear}
 
 -- nothing was found
 pub none_found : (x : Option Entry) → is_some x ≡ false → x ≡ None

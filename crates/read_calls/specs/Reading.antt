@@ -17,7 +17,7 @@ use Rattle.image_model.specs.Owners.{Owners}
 use Rattle.image_model.specs.Stands.{Layout}
 use Rattle.path_walks.specs.Answers.{HasSpace}
 use Rattle.path_walks.specs.Holds.{Hold, AreHeld, IsAskedFor, IsFirstLack, holds_in}
-use Rattle.path_walks.specs.Shown as dirs
+use Rattle.path_walks.specs.DirectoryShown as dirs
 use Rattle.path_walks.specs.Walks.{LeadsTo, IsDirectoryAt, IsLacked, IsUnread, IsAbsent, IsOnTheWay}
 use Rattle.dinode_tree.specs.Shown.{IsShown}
 use Rattle.glock_names.specs.declared.steps.Missing.{Missing}

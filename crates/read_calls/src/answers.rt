@@ -7,8 +7,8 @@ ghost use Rattle.glock_names.specs.Steps.{IfDamaged};
 ghost use Rattle.glock_names.specs.Views.{HasBlock, IsOfView};
 ghost use Rattle.dinode_tree.specs.Shown.{IsShown};
 ghost use Rattle.read_calls.specs.Reading.{IsReading, IsRangeOf, IsStatOf, IsListOf, IsAnswerOf, IsAskedRange, IsAskedRecords, IsAskedCount, IsAsked, IsShownFor, IsSpaceless};
-ghost use Rattle.path_walks.specs.Shown.{IsLinearDirectory};
-ghost use Rattle.path_walks.specs.Shown as dirs;
+ghost use Rattle.path_walks.specs.DirectoryShown.{IsLinearDirectory};
+ghost use Rattle.path_walks.specs.DirectoryShown as dirs;
 ghost use Rattle.linear_dirs.specs.Shown.{IsLinearIn};
 ghost use Rattle.path_walks.specs.Walks.{IsWrongAt};
 

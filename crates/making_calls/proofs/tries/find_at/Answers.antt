@@ -5,8 +5,8 @@ use Rattle.file_tree.specs.declared.reply.Reply.TheVariants as reply
 use Rattle.gfs2_layout.specs.Holding.{Holding}
 use Rattle.gfs2_layout.specs.Structures.{is_directory}
 use Rattle.glock_names.proofs.StepLaws.{answer_at, needed_at}
-use Rattle.name_drafts.specs.Shown.{HasName, Says}
-use Rattle.name_drafts.specs.Shown as dirs
+use Rattle.name_drafts.specs.DirectoryShown.{HasName, Says}
+use Rattle.name_drafts.specs.DirectoryShown as dirs
 use Rattle.image_model.specs.Owners.{holding}
 use Rattle.path_walks.specs.Holds.{AreHeld}
 use Rattle.path_walks.specs.Walks.{IsWrongAt, Names}

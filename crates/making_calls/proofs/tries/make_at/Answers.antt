@@ -2,7 +2,7 @@ use Rattle.std.proofs.Common.{◌≡◌, ◌<◌, ◌^◌, ap, ◌∙◌, subst}
 use Rattle.std.specs.Prelude.{not}
 use Rattle.gfs2_layout.specs.Holding.{Holding}
 use Rattle.glock_names.proofs.StepLaws.{answer_at, needed_at}
-use Rattle.name_drafts.specs.Shown.{IsShown}
+use Rattle.name_drafts.specs.DirectoryShown.{IsShown}
 use Rattle.path_walks.proofs.Faults.{told_on, tells_each, tells_so}
 use Rattle.path_walks.proofs.Steps.{none_so}
 use Rattle.path_walks.proofs.Steps.{inside_so as shown_inside}

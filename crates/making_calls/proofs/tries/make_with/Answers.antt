@@ -5,7 +5,7 @@ use Rattle.glock_names.specs.declared.steps.Step.TheVariants.{Is}
 use Rattle.glock_names.proofs.StepLaws.{answer_at, needed_at}
 use Rattle.gfs2_layout.specs.Holding.{Holding}
 use Rattle.glock_names.specs.Views.{HasBlock}
-use Rattle.name_drafts.specs.Shown.{IsShown}
+use Rattle.name_drafts.specs.DirectoryShown.{IsShown}
 use Rattle.name_drafts.proofs.Forms.{some_directory}
 use Rattle.hash_dirs.proofs.Leaves.{found_at}
 use Rattle.image_model.specs.Owners.{holding}

@@ -5,7 +5,7 @@ use Rattle.glock_names.proofs.StepLaws.{answer_at, needed_at}
 use Rattle.glock_names.specs.Steps.{TellsOf}
 use Rattle.glock_names.specs.Views.{HasBlock, IsOfView}
 use Rattle.linear_dirs.proofs.Looked.{bytes_of}
-use Rattle.name_inserts.specs.Shown.{IsDirectoryIn, IsShown}
+use Rattle.name_inserts.specs.DirectoryShown.{IsDirectoryIn, IsShown}
 use Rattle.path_walks.proofs.Faults.{told_on}
 use Rattle.name_inserts.specs.Inserting.{CanGetName, IsNeededForName, IsWrongForName}
 use Rattle.name_drafts.proofs.Fates.{seen_old, still_there}

@@ -4,7 +4,7 @@ use Rattle.std.specs.Prelude.{Contains, IfSome, IsSome}
 use Rattle.gfs2_layout.specs.Holding.{Holding}
 use Rattle.glock_names.proofs.StepLaws.{answer_at, needed_at}
 use Rattle.glock_names.specs.Steps.{TellsOf}
-use Rattle.name_inserts.specs.Shown.{IsShown}
+use Rattle.name_inserts.specs.DirectoryShown.{IsShown}
 use Rattle.path_walks.proofs.Faults.{only_so, told_on, tells_each, tells_so}
 use Rattle.resource_groups.specs.Freeing.{BreaksSome, IsNeededFor}
 use Rattle.resource_groups.specs.Putting.{HasDataBlock}

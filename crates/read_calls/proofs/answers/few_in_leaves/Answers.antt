@@ -1,6 +1,6 @@
 use Rattle.gfs2_layout.specs.Holding.{Holding}
 use Rattle.glock_names.proofs.StepLaws.{answer_at, needed_at}
-use Rattle.path_walks.specs.Shown as dirs
+use Rattle.path_walks.specs.DirectoryShown as dirs
 use Rattle.path_walks.specs.Walks.{IsWrongAt}
 use Rattle.path_walks.proofs.Faults.{told_on, tells_each, tells_so}
 use Rattle.read_calls.proofs.Answering.{directory_of_hashed}

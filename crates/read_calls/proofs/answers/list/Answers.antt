@@ -1,7 +1,7 @@
 use Rattle.std.proofs.Common.{sym, ◌∙◌}
 use Rattle.gfs2_layout.specs.Holding.{Holding}
 use Rattle.glock_names.proofs.StepLaws.{answer_at, needed_at}
-use Rattle.path_walks.specs.Shown as dirs
+use Rattle.path_walks.specs.DirectoryShown as dirs
 use Rattle.path_walks.specs.Walks.{IsWrongAt}
 use Rattle.path_walks.proofs.Faults.{told_on, tells_each, tells_so}
 use Rattle.path_walks.proofs.Steps.{directory_all, directory_here, directory_so}
