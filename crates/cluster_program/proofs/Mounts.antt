@@ -21,7 +21,7 @@ use Rattle.lone_view.specs.Groups.{AreGroupsOn}
 use Rattle.lone_view.specs.Seeing.{seen_alone}
 use Rattle.lone_node.specs.Standing.{IsOn}
 use Rattle.damage_laws.specs.Telling.{HasRootInside, IsOfMounted, MountedAreRead}
-use Rattle.cluster_program.specs.Early.{status_of_mount}
+use Rattle.cluster_program.specs.EndStatuses.{status_of_mount}
 use Rattle.cluster_program.specs.Mounting.{OfImage, IsMountedFor, MountEnds, DiskFails, LiesOutside, IsDamaged, IsDirty, LacksRoom}
 use Rattle.cluster_program.specs.Report.{IsSinkFault}
 use Rattle.cluster_program.specs.declared.status.Status.{Status}

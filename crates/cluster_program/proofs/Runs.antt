@@ -28,7 +28,7 @@ use Rattle.lone_node.specs.Standing.{StandsFor, LeavesStanding}
 use Rattle.lone_node.specs.declared.ends.RunEnd.{RunEnd}
 use Rattle.lone_node.specs.declared.ends.RunEnd.TheVariants as end
 use Rattle.damage_laws.specs.Telling.{CallsTellExactly, NeedsTell, MountedAreRead, HasRootInside}
-use Rattle.cluster_program.specs.Early.{status_of_end}
+use Rattle.cluster_program.specs.EndStatuses.{status_of_end}
 use Rattle.cluster_program.specs.Mounting.{OfImage, IsImageOf, IsMountable, IsMountedFor, MountEnds}
 use Rattle.cluster_program.specs.Runs.{Runs, RunEnds, IsDone, NotMounted, CallFailed, CallUnbuilt, CallDamaged, NoRoom, UnlessFault, AreCleanAtEnd, HasCourse, as_mounted, first_line}
 use Rattle.cluster_program.specs.World.{Inputs, KeepsDisk}

@@ -10,7 +10,7 @@ use Rattle.script_lang.specs.declared.parser.ScriptRefusal.{ScriptRefusal}
 use Rattle.script_lang.specs.declared.parser.ScriptRefusal.TheVariants as refusal
 use Rattle.cluster_program.specs.Input.{InputHasCause}
 use Rattle.cluster_program.specs.Course.{HasRead, LacksScript, SourceFailed, Refused, RefusedEarly, NoRoom}
-use Rattle.cluster_program.specs.Early.{status_of_input, status_of_refusal}
+use Rattle.cluster_program.specs.EndStatuses.{status_of_input, status_of_refusal}
 use Rattle.cluster_program.specs.declared.input.InputFault.{InputFault}
 use Rattle.cluster_program.specs.declared.input.InputFault.TheVariants as input
 

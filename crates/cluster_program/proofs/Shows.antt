@@ -13,7 +13,7 @@ use Rattle.disk_trees.specs.Reading.{ending}
 use Rattle.disk_trees.specs.declared.faults.TreeFault.{TreeFault}
 use Rattle.disk_trees.specs.declared.faults.TreeFault.TheVariants as tree
 use Rattle.cluster_program.specs.Course.{clean_of, Shows, HasShown, ShowsNone, TreeFailed, TreeDamaged, NothingHeld}
-use Rattle.cluster_program.specs.Early.{status_of_tree}
+use Rattle.cluster_program.specs.EndStatuses.{status_of_tree}
 use Rattle.cluster_program.specs.Mounting.{OfImage, IsMountedClean, IsMountedFor}
 use Rattle.cluster_program.specs.Report.{IsSinkFault}
 use Rattle.cluster_program.specs.declared.status.Status.{Status}

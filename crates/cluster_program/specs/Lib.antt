@@ -10,6 +10,6 @@ pub mod Dirty
 pub mod Course
 pub mod Command
 pub mod Quiet
-pub mod Early
+pub mod EndStatuses
 pub mod Streams
 pub mod Tasks

@@ -1,7 +1,7 @@
 // How a command ends whose part ended early.
 ghost use Rattle.std.specs.Prelude.{◌≡◌, ◌+◌, ◌<◌, ◌^◌};
 ghost use Rattle.lone_node.specs.Ends.{IfNotBuilt};
-ghost use Rattle.cluster_program.specs.Early.{status_of_end, status_of_mount, status_of_tree};
+ghost use Rattle.cluster_program.specs.EndStatuses.{status_of_end, status_of_mount, status_of_tree};
 
 use crate::status::{Part, Status};
 use disk_trees::TreeFault;

@@ -4,7 +4,7 @@ ghost use Rattle.script_lang.specs.OneNode.{IsOneNode};
 ghost use Rattle.script_lang.specs.WellFormed.{IsWellFormed};
 ghost use Rattle.script_lang.specs.Foreign.{first_foreign};
 ghost use Rattle.cluster_program.specs.Course.{HasRead, LacksScript};
-ghost use Rattle.cluster_program.specs.Early.{status_of_input, status_of_refusal};
+ghost use Rattle.cluster_program.specs.EndStatuses.{status_of_input, status_of_refusal};
 
 use crate::input::{InputFault, read_text};
 use crate::status::{Part, Status};

@@ -7,7 +7,7 @@ use Rattle.lone_view.specs.Seeing.{Lone, seen_alone}
 use Rattle.lone_node.specs.Answering.{IsUnbuiltOn}
 use Rattle.lone_node.specs.Ends.{IfNotBuilt}
 use Rattle.lone_node.specs.Standing.{StandsFor}
-use Rattle.cluster_program.specs.Early.{status_of_end}
+use Rattle.cluster_program.specs.EndStatuses.{status_of_end}
 use Rattle.cluster_program.specs.Mounting.{MountEnds}
 use Rattle.cluster_program.specs.Runs.{Runs, as_mounted, first_line}
 use Rattle.cluster_program.specs.World.{inputs}

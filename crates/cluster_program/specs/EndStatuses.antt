@@ -1,4 +1,4 @@
--- What status an early end of a part has.
+-- Which status each end of a part has: of a run, of the reading of a tree, of a mount, of the script and its reading.
 use Rattle.std.specs.Prelude.{ℕ, ◌+◌, Some}
 use Rattle.script_lang.specs.declared.parser.ScriptRefusal.{ScriptRefusal}
 use Rattle.script_lang.specs.declared.parser.ScriptRefusal.TheVariants as refusal
