@@ -13,7 +13,7 @@ pub enum Attempt {
     NeedBlock(Missing),
     /// Every group is held exclusive, and has fewer free blocks, `free` in all, than the call takes.
     NoSpace { need: u64, free: u64 },
-    /// The call would be answered `Ok`, but what it has to do isn't built yet: to write content that isn't, or wouldn't be, in the
-    /// block of its file's dinode; or to put a name into a linear directory in which no record has room for it.
+    /// The call would be answered `Ok`, but can't be carried out on what stands there, and no look of it told a rule: so only on an image that stands
+    /// for no tree.
     NotBuilt,
 }

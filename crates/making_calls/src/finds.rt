@@ -12,7 +12,7 @@ pub(crate) enum Found {
     Made(Change),
     /// This block isn't in the view.
     NeedBlock(Missing),
-    /// The directory can't get the name, in a way of which no rule tells.
+    /// The directory can't get the name, and no look of the call told a rule.
     NotBuilt,
     /// This lock isn't held so strongly.
     NeedLock { lock: LockName, state: State },
