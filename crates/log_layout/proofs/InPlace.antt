@@ -3,8 +3,8 @@ use Rattle.std.proofs.Common.{◌≡◌, ℕ, zero, suc, ◌+◌, ◌≤◌, ◌
 use Rattle.std.specs.Prelude.{◌&&◌, ◌||◌, nat_le}
 use Rattle.std.proofs.lemmas.Bool.Decides.{nat_tests}
 use Rattle.std.specs.Int.{Width, w32, w64, byte_len}
-use Rattle.gfs2_layout.specs.Bytes.{number_at, with_number}
-use Rattle.gfs2_layout.proofs.InPlace.{IsWidth, is_width_32, is_width_64, length-with, number-with_same, number-with_other, drop-with}
+use Rattle.gfs2_layout.specs.Bytes.{number_at, with_number, slice}
+use Rattle.gfs2_layout.proofs.InPlace.{IsWidth, is_width_32, is_width_64, length-with, number-with_same, number-with_other, slice-with_other, drop-with}
 use Rattle.log_layout.specs.Fields.{Field, Four, Eight, place_of, width_of, value_of, end_of, HaveWidths, with_field, with_fields}
 
 pub is_width : (f : Field) → IsWidth (width_of f)
@@ -54,6 +54,13 @@ number-fields_other [] bytes fits v k beside = refl
 number-fields_other (f ∷ fs) bytes fits v k beside =
     number-fields_other fs (with_field f bytes) (on f fs bytes fits) v k (apart_later f fs k (byte_len v) beside)
     ∙ number-with_other (width_of f) (place_of f) (value_of f) bytes (is_width f) fits.0 v k (apart f fs k (byte_len v) beside)
+
+pub slice-fields_other : (fs : List Field) (bytes : List ℕ) → EndWithin fs (length bytes) → (k n : ℕ) → is_beside k n fs ≡ true → slice k n (with_fields fs bytes) ≡ slice k n bytes
+unfolding with_fields
+slice-fields_other [] bytes fits k n beside = refl
+slice-fields_other (f ∷ fs) bytes fits k n beside =
+    slice-fields_other fs (with_field f bytes) (on f fs bytes fits) k n (apart_later f fs k n beside)
+    ∙ slice-with_other (width_of f) (place_of f) (value_of f) bytes (is_width f) fits.0 k n (apart f fs k n beside)
 
 pub drop-fields : (fs : List Field) (bytes : List ℕ) (k : ℕ) → EndWithin fs (length bytes) → EndWithin fs k → drop k (with_fields fs bytes) ≡ drop k bytes
 unfolding with_fields

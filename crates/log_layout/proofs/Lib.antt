@@ -1,1 +1,3 @@
 pub mod InPlace
+pub mod DescriptorBack
+pub mod HeaderBack
