@@ -1,16 +1,16 @@
 -- A descriptor is read as it was written.
-use Rattle.std.proofs.Common.{◌≡◌, ℕ, ◌+◌, ◌≤◌, List, length, drop, Option, None, Some, Ok, refl, sym, ap, subst, ◌∙◌, inl, inr, arith}
+use Rattle.std.proofs.Common.{◌≡◌, ℕ, ◌≤◌, List, length, drop, Option, None, Some, Ok, refl, sym, ap, ◌∙◌, inl, inr, arith}
 use Rattle.std.specs.Prelude.{◌==◌, nat_lt}
 use Rattle.std.proofs.lemmas.Bool.{cases_Bool, cond-true, cond-false, eqb-true}
 use Rattle.std.specs.Int.{w32}
 use Rattle.gfs2_layout.specs.Bytes.{u32_at}
-use Rattle.gfs2_layout.specs.Structures.{magic, answer, or_else, length_fault, magic_fault, header_of, header_read}
+use Rattle.gfs2_layout.specs.Structures.{magic, or_else, length_fault, magic_fault, header_of, header_read}
 use Rattle.gfs2_layout.specs.declared.fault.LayoutFault.{LayoutFault}
 use Rattle.gfs2_layout.specs.declared.fault.LayoutFault.TheVariants.{Short, Magic}
 use Rattle.gfs2_layout.specs.declared.header.MetaHeader.{MetaHeader}
 use Rattle.gfs2_layout.proofs.HeaderLaws.{answer_ok, some_none}
 use Rattle.gfs2_layout.proofs.ReadBack.{no_header_fault}
-use Rattle.log_layout.specs.Fields.{Field, Four, HaveWidths, with_fields}
+use Rattle.log_layout.specs.Fields.{Four, HaveWidths, with_fields}
 use Rattle.log_layout.specs.Descriptors.{kind_number, kind_of, of_kind, of_header, descriptor_in, descriptor_fields, descriptor_read}
 use Rattle.log_layout.specs.declared.descriptor.ChunkKind.{ChunkKind}
 use Rattle.log_layout.specs.declared.descriptor.ChunkKind.TheVariants.{Metadata, Revoke, Journaled}

@@ -1,12 +1,12 @@
 -- A log header is read as it was written.
-use Rattle.std.proofs.Common.{◌≡◌, ℕ, ◌+◌, ◌-◌, ◌^◌, ◌≤◌, ◌<◌, Bool, true, false, List, length, take, drop, replicate, Option, None, Some, Result, Ok, Err, refl, sym, ap, subst, ◌∙◌, inl, inr, arith, length-drop}
+use Rattle.std.proofs.Common.{◌≡◌, ℕ, ◌+◌, ◌-◌, ◌^◌, ◌≤◌, ◌<◌, Bool, true, false, List, length, take, drop, replicate, None, Some, Result, Ok, Err, refl, sym, ap, ◌∙◌, inl, inr, arith}
 use Rattle.std.specs.Prelude.{◌==◌, nat_lt, if◌then◌else◌}
-use Rattle.std.proofs.lemmas.Bool.{cases_Bool, cond-true, cond-false, eqb-true, ltb-false}
+use Rattle.std.proofs.lemmas.Bool.{cond-true, cond-false}
 use Rattle.std.proofs.lemmas.Bool.Decides.{nat_tests}
-use Rattle.std.proofs.lemmas.List.{length-replicate, take-replicate, drop-drop, drop-replicate}
+use Rattle.std.proofs.lemmas.List.{take-replicate, drop-drop, drop-replicate}
 use Rattle.std.specs.Int.{w32, w64, from_be_bytes}
 use Rattle.crc_words.specs.Remainder.{crc32c_raw_of}
-use Rattle.gfs2_layout.specs.Bytes.{slice, u32_at, number_at, with_number}
+use Rattle.gfs2_layout.specs.Bytes.{u32_at, number_at}
 use Rattle.gfs2_layout.specs.Structures.{answer}
 use Rattle.gfs2_layout.specs.Structures.{log_read as front_read}
 use Rattle.gfs2_layout.specs.declared.fault.LayoutFault.{LayoutFault}
@@ -14,11 +14,11 @@ use Rattle.gfs2_layout.specs.declared.fault.LayoutFault.TheVariants.{Short}
 use Rattle.gfs2_layout.specs.declared.log_header.LogHeader.{LogHeader as Front}
 use Rattle.gfs2_layout.proofs.InPlace.{is_width_32, length-with, number-with_same, slice-with_other, number-with_other, drop-with}
 use Rattle.gfs2_layout.proofs.ReadOwn.{log_reads}
-use Rattle.log_layout.specs.Fields.{Field, Four, Eight, HaveWidths, with_fields}
-use Rattle.log_layout.specs.Headers.{crc_of, crc_fault, later_in, later_of, with_later, read_behind, log_read, front_of, later_fields, with_crc, as_read}
+use Rattle.log_layout.specs.Fields.{Four, HaveWidths, with_fields}
+use Rattle.log_layout.specs.Headers.{crc_of, crc_fault, later_in, with_later, read_behind, log_read, front_of, later_fields, with_crc, as_read}
 use Rattle.log_layout.specs.declared.log_header.Later.{Later}
 use Rattle.log_layout.specs.declared.log_header.LogHeader.{LogHeader}
-use Rattle.log_layout.proofs.InPlace.{EndWithin, length-fields, number-fields_other, slice-fields_other, drop-fields, field-read}
+use Rattle.log_layout.proofs.InPlace.{EndWithin, length-fields, slice-fields_other, drop-fields, field-read}
 
 -- a long enough block is read by its front and then by what is behind it
 pub long_read : (front : Front) (bytes : List ℕ) → 120 ≤ length bytes → front_read bytes ≡ Ok front → log_read bytes ≡ read_behind (Ok front) bytes

@@ -1,9 +1,9 @@
 -- Numbers in their places: each is read again, and what is beside them all stays.
-use Rattle.std.proofs.Common.{◌≡◌, ℕ, zero, suc, ◌+◌, ◌≤◌, ◌<◌, ◌⊎◌, inr, Bool, true, false, List, [], ◌∷◌, length, drop, get_or, refl, sym, ap, ◌∙◌, arith}
+use Rattle.std.proofs.Common.{◌≡◌, ℕ, zero, suc, ◌+◌, ◌≤◌, ◌⊎◌, Bool, true, false, List, [], ◌∷◌, length, drop, get_or, refl, ◌∙◌, arith}
 use Rattle.std.specs.Prelude.{◌&&◌, ◌||◌, nat_le}
 use Rattle.std.proofs.lemmas.Bool.Decides.{nat_tests}
-use Rattle.std.specs.Int.{Width, w32, w64, byte_len}
-use Rattle.gfs2_layout.specs.Bytes.{number_at, with_number, slice}
+use Rattle.std.specs.Int.{Width, byte_len}
+use Rattle.gfs2_layout.specs.Bytes.{number_at, slice}
 use Rattle.gfs2_layout.proofs.InPlace.{IsWidth, is_width_32, is_width_64, length-with, number-with_same, number-with_other, slice-with_other, drop-with}
 use Rattle.log_layout.specs.Fields.{Field, Four, Eight, place_of, width_of, value_of, end_of, HaveWidths, with_field, with_fields}
 

@@ -1,5 +1,5 @@
 -- Numbers at their places in a block: each of four or of eight bytes.
-use Rattle.std.specs.Prelude.{ℕ, ◌+◌, ◌*◌, ◌^◌, ◌<◌, ◌≤◌, ⊤, List, [], ◌∷◌}
+use Rattle.std.specs.Prelude.{ℕ, ◌+◌, ◌*◌, ◌^◌, ◌<◌, ⊤, List, [], ◌∷◌}
 use Rattle.std.specs.Int.{Width, w32, w64, byte_len}
 use Rattle.gfs2_layout.specs.Bytes.{with_number}
 

@@ -2,9 +2,11 @@
 #![tactic(auto)]
 
 mod descriptor;
+mod due;
 mod log_header;
 mod numbers;
 
 pub use descriptor::{ChunkKind, LogDescriptor};
+pub use due::Due;
 pub use log_header::{Later, LogHeader};
 pub use numbers::{put_u32, put_u64, u32_at, u64_at};

@@ -1,11 +1,8 @@
-use Rattle.std.proofs.Common.{◌≡◌, ◌<◌, ◌^◌, List, ℕ, length, drop, ap, subst, ◌∙◌, sym}
+use Rattle.std.proofs.Common.{◌≡◌, ◌<◌, ◌^◌, drop, ap, subst, ◌∙◌, sym}
 use Rattle.std.proofs.lemmas.List.{drop-drop}
-use Rattle.gfs2_layout.specs.Structures.{header_read}
-use Rattle.gfs2_layout.specs.Writing.{header_put}
-use Rattle.gfs2_layout.specs.declared.header.MetaHeader.{MetaHeader}
 use Rattle.log_layout.specs.Fields.{with_fields, HaveWidths}
-use Rattle.log_layout.specs.Descriptors.{descriptor_fields, descriptor_put, descriptor_read}
-use Rattle.log_layout.proofs.DescriptorBack.{descriptor_back, descriptor_long, descriptor_behind}
+use Rattle.log_layout.specs.Descriptors.{descriptor_fields, descriptor_read}
+use Rattle.log_layout.proofs.DescriptorBack.{descriptor_back, descriptor_behind}
 use Rattle.log_layout.proofs.descriptor.LogDescriptor.write.Goals as goal
 
 over_head : (c : goal.After-slice_known-6-1) → c.put_u32-4.new.bytes ≡ with_fields (descriptor_fields c.args.self.now) c.write.new.bytes

@@ -1,5 +1,4 @@
 use Rattle.std.proofs.Common.{◌≡◌, List, ℕ, ◌-◌, ◌≤◌, ◌<◌, ◌^◌, length, drop, replicate, ap, subst, ◌∙◌, sym, Ok, arith}
-use Rattle.gfs2_layout.specs.Structures.{log_read as front_read}
 use Rattle.log_layout.specs.Headers.{log_read, as_read, with_crc, crc_of, later_fields}
 use Rattle.log_layout.specs.Fields.{with_fields}
 use Rattle.log_layout.proofs.HeaderBack.{later_back, later_behind, plain_back, plain_behind}
