@@ -1,6 +1,7 @@
 -- What is live in a journal: for each block the bytes that a replay puts in its place.
-use Rattle.std.specs.Prelude.{ℕ, ◌≡◌, ◌-◌, ◌==◌, ◌&&◌, nat_lt, if◌then◌else◌, Bool, List, [], length, map, filter, slice_get, Option, None, Some, Result, Ok, Err}
+use Rattle.std.specs.Prelude.{ℕ, ◌≡◌, ◌-◌, ◌==◌, ◌&&◌, nat_lt, if◌then◌else◌, Bool, List, [], length, filter, slice_get, Option, None, Some, Result, Ok, Err}
 use Rattle.std.specs.List.{flat_map, list_any}
+use Rattle.std.specs.Option.{option_map}
 use Rattle.log_layout.specs.Journal.{Ring, head_in}
 use Rattle.log_layout.specs.Chunks.{Logged, Transaction}
 use Rattle.log_layout.specs.Transactions.{Sequenced, transactions_of}
@@ -10,17 +11,20 @@ use Rattle.log_layout.specs.declared.log_header.LogHeader.{LogHeader}
 abbrev pub is_cancelled : List Sequenced → ℕ → ℕ → Bool
 is_cancelled ts block sequence = list_any (λ (t : Sequenced). nat_lt sequence t.sequence && list_any (λ r. r == block) t.transaction.revokes) ts
 
--- the contents that a transaction has of a block
-abbrev pub contents_in : ℕ → Transaction → List (List ℕ)
-contents_in block t = map (λ (e : Logged). e.bytes) (filter (λ (e : Logged). e.block == block) t.blocks)
+-- what a transaction has of a block
+abbrev pub entries_in : ℕ → Transaction → List Logged
+entries_in block t = filter (λ (e : Logged). e.block == block) t.blocks
 
--- those of the block that count, in order: a later revoke drops what stands before it
-abbrev pub counting : List Sequenced → ℕ → List (List ℕ)
-counting ts block = flat_map (λ (t : Sequenced). if is_cancelled ts block t.sequence then [] else contents_in block t.transaction) ts
+-- the entries of the block that count, in order: a later revoke drops what stands before it
+abbrev pub counting : List Sequenced → ℕ → List Logged
+counting ts block = flat_map (λ (t : Sequenced). if is_cancelled ts block t.sequence then [] else entries_in block t.transaction) ts
 
 -- the last of them is live
+abbrev pub live_entry : List Sequenced → ℕ → Option Logged
+live_entry ts block = slice_get (counting ts block) (length (counting ts block) - 1)
+
 abbrev pub live_of : List Sequenced → ℕ → Option (List ℕ)
-live_of ts block = slice_get (counting ts block) (length (counting ts block) - 1)
+live_of ts block = option_map (λ (e : Logged). e.bytes) (live_entry ts block)
 
 abbrev pub live_read : Result (List Sequenced) ℕ → ℕ → Option (List ℕ)
 live_read (Ok ts) block = live_of ts block
