@@ -94,7 +94,7 @@ fn descriptor_at(block: &[u8], left: u32) -> Option<LogDescriptor>
         return None;
     }
     let behind = due_count(descriptor.kind, block.len(), descriptor.entries);
-    if descriptor.length as usize != 1 + behind || descriptor.length > left {
+    if u128::from(descriptor.length) != 1 + behind as u128 || descriptor.length > left {
         return None;
     }
     Some(descriptor)
@@ -131,7 +131,7 @@ fn push_further(due: &mut VecDeque<Due>, size: usize, entries: u32) -> Result<()
     let room = further_room(size);
     let rest = (entries as usize).saturating_sub(numbers_room(size));
     for i in 0..further_count(size, entries) {
-        due.push_back(Due::Further(rest.saturating_sub(room * i).min(room) as u32))?;
+        due.push_back(Due::Further(room.min(rest.saturating_sub(room * i)) as u32))?;
     }
     Ok(())
 }

@@ -14,7 +14,9 @@ pub enum ScanFault {
 }
 
 impl From<NoMemory> for ScanFault {
-    ghost from_gives = { λ _ fault. fault ≡ ScanFault.NoMemory };
+    ghost use Rattle.journal_scan.specs.declared.fault.ScanFault.TheVariants.{NoMemory as Lacking};
+
+    ghost from_gives = { λ _ fault. fault ≡ Lacking };
 
     fn from(_: NoMemory) -> Self {
         ScanFault::NoMemory
@@ -22,7 +24,9 @@ impl From<NoMemory> for ScanFault {
 }
 
 impl From<AllocError> for ScanFault {
-    ghost from_gives = { λ _ fault. fault ≡ ScanFault.NoMemory };
+    ghost use Rattle.journal_scan.specs.declared.fault.ScanFault.TheVariants.{NoMemory as Lacking};
+
+    ghost from_gives = { λ _ fault. fault ≡ Lacking };
 
     fn from(_: AllocError) -> Self {
         ScanFault::NoMemory
@@ -30,7 +34,9 @@ impl From<AllocError> for ScanFault {
 }
 
 impl<T: Drop> From<AllocFailed<T>> for ScanFault {
-    ghost from_gives = { λ _ fault. fault ≡ ScanFault.NoMemory };
+    ghost use Rattle.journal_scan.specs.declared.fault.ScanFault.TheVariants.{NoMemory as Lacking};
+
+    ghost from_gives = { λ _ fault. fault ≡ Lacking };
 
     fn from(_: AllocFailed<T>) -> Self {
         ScanFault::NoMemory

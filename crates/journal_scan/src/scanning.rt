@@ -166,11 +166,13 @@ fn scan_from(
     ensures read { IfOk result (λ ts. reading j.now.block_size [] None nothing (blocks_from (ring_of j.now) tail (count + 1)) ≡ Ok (map says_at ts.items)) }
     ensures bad { IfErr result (λ f. IsFaultOf f (reading j.now.block_size [] None nothing (blocks_from (ring_of j.now) tail (count + 1)))) }
 {
+    let places = j.length;
     let mut scan = Scan::new(alloc);
     let mut place = tail;
     for taken in 0..count + 1 {
-        scan.take(alloc, place, count - taken, j.block(place))?;
-        place = next_place(j.length, place);
+        let block = j.block(place);
+        scan.take(alloc, place, count - taken, block)?;
+        place = next_place(places, place);
     }
     Ok(scan.into_done())
 }
