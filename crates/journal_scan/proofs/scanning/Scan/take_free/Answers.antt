@@ -1,7 +1,6 @@
-use Rattle.std.proofs.Common.{◌≡◌, ◌×◌, true, false, Option, None, refl, length, ap, sym, ◌∙◌, arith}
-use Rattle.log_layout.specs.Chunks.{Chunk, joined, chunk_in}
+use Rattle.std.proofs.Common.{◌≡◌, true, false, refl, length, ap, sym, ◌∙◌, arith}
+use Rattle.log_layout.specs.Chunks.{chunk_in}
 use Rattle.log_layout.specs.Transactions.{may_follow}
-use Rattle.journal_scan.specs.Said.{says}
 use Rattle.journal_scan.specs.declared.scanning.Scan.{Scan}
 use Rattle.journal_scan.proofs.Steps.{takes_stray, takes_header, takes_none, takes_chunk, none_found, some_found}
 use Rattle.journal_scan.proofs.scanning.Scan.take_free.Goals as goal
@@ -28,5 +27,6 @@ pub returns-else-not-branch-clause-takes : goal.returns-else-not-branch-clause-t
 returns-else-not-branch-clause-takes c bs long =
     let on : c.in_ok-begin_chunk-in-None.field-0 ≡ true = grind (arith, c.if-not-branch.false) in
     let found = some_found (chunk_in (length c.args.block.now) c.args.left c.args.block.now) c.in_ok-begin_chunk-in-None.field-0 _ c.in_ok-begin_chunk-in-None.ensures.chunk on in
-    takes_chunk (length c.args.block.now) c.args.self.now (record { place = c.args.place; bytes = c.args.block.now }) bs found.0 _ c.requires.none (sym c.in-None.ensures)
+    let new : Scan = record { due = c.begin_chunk.new.due; last = c.args.self.now.last; begun = c.begin_chunk.new.begun; done = c.args.self.now.done } in
+    takes_chunk (length c.args.block.now) c.args.self.now (record { place = c.args.place; bytes = c.args.block.now }) bs found.0 new c.requires.none (sym c.in-None.ensures)
     (ap (λ n. chunk_in (length c.args.block.now) n c.args.block.now) long ∙ found.1) found.2.1 found.2.2 refl refl
