@@ -1,5 +1,5 @@
 -- Transactions as values of the program, and what they say.
-use Rattle.std.specs.Prelude.{ℕ, ◌≡◌, ⊤, List, map, Result, Ok, Err}
+use Rattle.std.specs.Prelude.{ℕ, ◌≡◌, ⊤, map, Result, Err}
 use Rattle.drafts.specs.declared.change.Written.{Written}
 use Rattle.drafts.specs.declared.change.Transaction.{Transaction as Held}
 use Rattle.log_layout.specs.Chunks.{Logged, Transaction}

@@ -4,6 +4,8 @@ ghost use Rattle.log_layout.specs.Chunks.{Chunk, are_entries as are_entries_of, 
 ghost use Rattle.log_layout.specs.declared.due.Due.TheVariants as variant;
 ghost use Rattle.journal_scan.specs.Course.{IsFit};
 ghost use Rattle.journal_scan.specs.Said.{says};
+ghost use Rattle.std.specs.Prelude.{None, Some, ◌==◌, nat_le};
+ghost use Rattle.gfs2_layout.specs.Bytes.{u64_at as number_64};
 
 use crate::numbers::push_numbers;
 use drafts::Transaction;
@@ -115,10 +117,7 @@ fn push_content(due: &mut VecDeque<Due>, block: &[u8], entries: u32) -> Result<(
     ensures { OnOk result (due.new.items ≡ due.old.items ++ map (λ i. variant.Content (number_64 (72 + 16 * i) block.now) (number_64 (80 + 16 * i) block.now == 1)) (range_with_len 0 entries)) }
 {
     for i in 0..entries as usize {
-        due.push_back(Due::Content(
-            u64_at(block, 72 + 16 * i),
-            u64_at(block, 80 + 16 * i) == 1,
-        ))?;
+        due.push_back(Due::Content(u64_at(block, 72 + 16 * i), u64_at(block, 80 + 16 * i) == 1))?;
     }
     Ok(())
 }
@@ -180,6 +179,3 @@ pub(crate) fn begin_chunk(
     }
     Ok(true)
 }
-
-ghost use Rattle.std.specs.Prelude.{None, Some, ◌==◌, nat_le};
-ghost use Rattle.gfs2_layout.specs.Bytes.{u64_at as number_64};

@@ -2,6 +2,7 @@ ghost use Rattle.std.specs.Prelude.{◌≡◌, ◌≤◌, length, true, false, i
 ghost use Rattle.log_layout.specs.Chunks.{joined, part_of, restored};
 ghost use Rattle.journal_scan.specs.Course.{IsFit};
 ghost use Rattle.journal_scan.specs.Said.{says};
+ghost use Rattle.log_layout.specs.Chunks.{one_block};
 
 use crate::numbers::push_numbers;
 use drafts::{Transaction, Written};
@@ -16,6 +17,7 @@ const MAGIC: u32 = 0x0116_1970;
 
 // The header of a block of further revokes.
 const KIND: u32 = 12;
+
 const FORMAT: u32 = 1000;
 
 // The bytes of a block, with the magic put back where it was taken out.
@@ -80,5 +82,3 @@ fn add_block(
     })?;
     Ok(())
 }
-
-ghost use Rattle.log_layout.specs.Chunks.{one_block};

@@ -6,6 +6,8 @@ ghost use Rattle.log_layout.specs.Transactions.{may_follow as may_follow_of, rea
 ghost use Rattle.journal_scan.specs.Course.{IsFit, Takes, makes};
 ghost use Rattle.journal_scan.specs.Images.{IsImage, ring_of};
 ghost use Rattle.journal_scan.specs.Said.{IsFaultOf, says_at};
+ghost use Rattle.std.specs.Prelude.{◌++◌};
+ghost use Rattle.journal_scan.specs.Said.{says};
 
 use crate::chunks::begin_chunk;
 use crate::fault::ScanFault;
@@ -16,6 +18,7 @@ use log_layout::{Due, LogHeader, accepted, heads_are_accepted, next_place, place
 use no_memory::NoMemory;
 use std::alloc::Global;
 use std::collections::VecDeque;
+use std::mem;
 
 /// A transaction of a journal, and the sequence of the header that ends it.
 #[derive(Drop)]
@@ -115,13 +118,7 @@ impl Scan {
     }
 
     // The next block, where so many are left behind it, of which the last is the head.
-    fn take(
-        &mut self,
-        alloc: Global,
-        place: u32,
-        left: u32,
-        block: &[u8],
-    ) -> Result<(), ScanFault>
+    fn take(&mut self, alloc: Global, place: u32, left: u32, block: &[u8]) -> Result<(), ScanFault>
         requires low { 72 ≤ length block.now }
         requires high { length block.now ≤ 4096 }
         requires fit { All (IsFit (length block.now)) self.old.due.items }
@@ -199,8 +196,3 @@ pub fn transactions(
     let count = places_between(j.length, head.tail, head.blkno);
     scan_from(alloc, j, head.tail, count)
 }
-
-ghost use Rattle.std.specs.Prelude.{◌++◌};
-ghost use Rattle.journal_scan.specs.Said.{says};
-
-use std::mem;

@@ -1,6 +1,6 @@
 -- What is live in a journal: for each block the bytes that a replay puts in its place.
-use Rattle.std.specs.Prelude.{ℕ, ◌≡◌, ◌-◌, ◌==◌, ◌&&◌, nat_lt, if◌then◌else◌, Bool, List, [], length, filter, slice_get, Option, None, Some, Result, Ok, Err}
-use Rattle.std.specs.List.{flat_map, list_any}
+use Rattle.std.specs.Prelude.{ℕ, ◌≡◌, ◌==◌, ◌&&◌, nat_lt, if◌then◌else◌, Bool, List, [], filter, Option, None, Some, Result, Ok, Err}
+use Rattle.std.specs.List.{flat_map, last_or, list_any}
 use Rattle.std.specs.Option.{option_map}
 use Rattle.log_layout.specs.Journal.{Ring, head_in}
 use Rattle.log_layout.specs.Chunks.{Logged, Transaction}
@@ -21,7 +21,7 @@ counting ts block = flat_map (λ (t : Sequenced). if is_cancelled ts block t.seq
 
 -- the last of them is live
 abbrev pub live_entry : List Sequenced → ℕ → Option Logged
-live_entry ts block = slice_get (counting ts block) (length (counting ts block) - 1)
+live_entry ts block = last_or None (counting ts block)
 
 abbrev pub live_of : List Sequenced → ℕ → Option (List ℕ)
 live_of ts block = option_map (λ (e : Logged). e.bytes) (live_entry ts block)

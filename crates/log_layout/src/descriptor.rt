@@ -1,11 +1,13 @@
 ghost use Rattle.std.specs.Prelude.{◌≡◌, ◌≤◌, length, drop, Ok};
 ghost use Rattle.log_layout.specs.Descriptors.{kind_number, kind_of};
+ghost use Rattle.gfs2_layout.specs.Bytes.{u32_at as number_32};
 
 use crate::numbers::{put_u32, u32_at};
 use gfs2_layout::{LayoutFault, MetaHeader};
 
 // The kind and the format of a descriptor's block.
 const KIND: u32 = 9;
+
 const FORMAT: u32 = 900;
 
 /// What a chunk has: blocks of metadata, numbers of revoked blocks, or blocks of files' content (in GFS2 'journaled data').
@@ -111,5 +113,3 @@ impl LogDescriptor {
         put_u32(bytes, 36, 0);
     }
 }
-
-ghost use Rattle.gfs2_layout.specs.Bytes.{u32_at as number_32};

@@ -1,5 +1,8 @@
 ghost use Rattle.std.specs.Prelude.{◌≡◌, ◌+◌, ◌<◌, ◌≤◌, ℕ};
 ghost use Rattle.log_layout.specs.Journal.{Ring, accepted as accepted_at, best_from, better as better_of, next, way};
+ghost use Rattle.std.specs.Prelude.{Some};
+ghost use Rattle.log_layout.specs.Journal.{head_in};
+ghost use Rattle.log_layout.specs.declared.log_header.LogHeader.{LogHeader as LogHeaderValue};
 
 use crate::log_header::LogHeader;
 
@@ -40,7 +43,11 @@ pub fn places_between(places: u32, from: u32, to: u32) -> u32
     ensures value { result ≡ way places from to }
     ensures inside { result < places }
 {
-    if from <= to { to - from } else { places - from + to }
+    if from <= to {
+        to - from
+    } else {
+        places - from + to
+    }
 }
 
 /// A law: the best header of some places and one more is the better of theirs and the one's.
@@ -52,7 +59,3 @@ pub fn best_headers_go_on()
 pub fn heads_are_accepted()
     ensures { (ring : Ring) (head : LogHeaderValue) → head_in ring ≡ Some head → (head.blkno < ring.places) × (accepted_at head.blkno (ring.at head.blkno) ≡ Some head) }
 {}
-
-ghost use Rattle.std.specs.Prelude.{Some};
-ghost use Rattle.log_layout.specs.Journal.{head_in};
-ghost use Rattle.log_layout.specs.declared.log_header.LogHeader.{LogHeader as LogHeaderValue};

@@ -1,8 +1,9 @@
 ghost use Rattle.std.specs.Prelude.{◌≡◌, ◌≤◌, ◌-◌, length, drop, replicate, Ok};
+ghost use Rattle.std.specs.Prelude.{◌<◌, ◌^◌};
+ghost use Rattle.log_layout.specs.Headers.{crc_of, with_crc};
 
 use crate::numbers::{put_u32, put_u64, u32_at, u64_at};
-use gfs2_layout::LayoutFault;
-use gfs2_layout::LogHeader as Front;
+use gfs2_layout::{LayoutFault, LogHeader as Front};
 
 // How many bytes a log header has: those that its hash guards, and those behind them.
 const LENGTH: usize = 120;
@@ -150,9 +151,6 @@ impl LogHeader {
         }
     }
 }
-
-ghost use Rattle.std.specs.Prelude.{◌<◌, ◌^◌};
-ghost use Rattle.log_layout.specs.Headers.{crc_of, with_crc};
 
 // The CRC-32C of all behind the checksum itself.
 #[tactic(auto, unfolding(crate::specs::Headers::crc_of))]

@@ -25,23 +25,23 @@ wrapped : (places p n : ℕ) → p < places → places ≤ p + n → n ≤ place
 wrapped places p zero inside past few = absurd (omega (arith, inside, past))
 wrapped places p (suc n) inside past few = elim (cases_Bool (nat_lt (p + 1) places)) [
   | inl more ↦
-    let less : p + 1 < places = grind (arith, nat_tests, more) in
-    ap (λ q. place_on places q n + places) (next_inside places p less) ∙ wrapped places (p + 1) n less (omega (arith, past)) (omega (arith, few)) ∙ (let e : (p + 1) + n ≡ p + suc n = omega arith in e)
+      let less : p + 1 < places = grind (arith, nat_tests, more) in
+      ap (λ q. place_on places q n + places) (next_inside places p less) ∙ wrapped places (p + 1) n less (omega (arith, past)) (omega (arith, few)) ∙ (let e : (p + 1) + n ≡ p + suc n = omega arith in e)
   | inr last ↦
-    let all : places ≤ p + 1 = grind (arith, nat_tests, last) in
-    let from_0 : place_on places 0 n ≡ 0 + n = ahead places 0 n (omega (arith, few)) in
-    ap (λ q. place_on places q n + places) (next_last places p all) ∙ ap (λ q. q + places) from_0 ∙ (let e : (0 + n) + places ≡ p + suc n = omega (arith, inside, all) in e)
+      let all : places ≤ p + 1 = grind (arith, nat_tests, last) in
+      let from_0 : place_on places 0 n ≡ 0 + n = ahead places 0 n (omega (arith, few)) in
+      ap (λ q. place_on places q n + places) (next_last places p all) ∙ ap (λ q. q + places) from_0 ∙ (let e : (0 + n) + places ≡ p + suc n = omega (arith, inside, all) in e)
 ]
 
 pub around : (places p n : ℕ) → p < places → n < places → place_on places p n ≡ (if nat_lt n (places - p) then p + n else n - (places - p))
 around places p n inside few = elim (cases_Bool (nat_lt n (places - p))) [
   | inl less ↦
-    let h : p + n < places = grind (arith, nat_tests, less) in
-    ahead places p n h ∙ sym (cond-true _ _ _ less)
+      let h : p + n < places = grind (arith, nat_tests, less) in
+      ahead places p n h ∙ sym (cond-true _ _ _ less)
   | inr not ↦
-    let h : places ≤ p + n = grind (arith, nat_tests, not) in
-    let e = wrapped places p n inside h (omega (arith, few)) in
-    (let d : place_on places p n ≡ n - (places - p) = omega (arith, e, inside, h) in d) ∙ sym (cond-false _ _ _ not)
+      let h : places ≤ p + n = grind (arith, nat_tests, not) in
+      let e = wrapped places p n inside h (omega (arith, few)) in
+      (let d : place_on places p n ≡ n - (places - p) = omega (arith, e, inside, h) in d) ∙ sym (cond-false _ _ _ not)
 ]
 
 pub division_is_less : (n k : ℕ) → n / k ≤ n

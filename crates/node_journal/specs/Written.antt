@@ -6,7 +6,7 @@ use Rattle.gfs2_layout.specs.Device.{IsBlockSize}
 use Rattle.gfs2_layout.specs.Structures.{magic}
 use Rattle.log_layout.specs.Chunks.{Logged, Transaction, nothing}
 use Rattle.log_layout.specs.Headers.{as_read, log_read}
-use Rattle.log_layout.specs.Journal.{Ring, Placed, IsWhole, accepted, blocks_from, head_in, next}
+use Rattle.log_layout.specs.Journal.{Ring, Placed, IsWhole, blocks_from, head_in, next}
 use Rattle.log_layout.specs.Live.{live_entry}
 use Rattle.log_layout.specs.Transactions.{Sequenced, after, reading, transactions_of}
 use Rattle.log_layout.specs.declared.log_header.LogHeader.{LogHeader}
@@ -19,8 +19,6 @@ use Rattle.node_journal.specs.declared.place.Place.{Place}
 -- a block is whole; metadata begins with the magic and is no log header
 pub record IsLoggable (size : ℕ) (e : Logged) : Type 0 where
   pub whole : length e.bytes ≡ size
-  pub bytes : All (λ byte. byte < 256) e.bytes
-  pub number : e.block < 2 ^ 64
   pub magic : e.plain ≡ false → u32_at 0 e.bytes ≡ magic
   pub other : e.plain ≡ false → u32_at 4 e.bytes ≢ 8
 
@@ -32,7 +30,12 @@ pub record IsLoggableAll (size : ℕ) (t : Transaction) : Type 0 where
   pub apart : (b : ℕ) → Contains (map (λ (e : Logged). e.block) t.blocks) b → Contains t.revokes b → ⊥
   pub few : length t.blocks + length t.revokes ≤ 131072
   pub blocks : All (IsLoggable size) t.blocks
-  pub numbers : All (λ b. b < 2 ^ 64) t.revokes
+
+-- its numbers have the widths of their types
+pub record AreNumbers (t : Transaction) : Type 0 where
+  pub bytes : All (λ (e : Logged). All (λ byte. byte < 256) e.bytes) t.blocks
+  pub blocks : All (λ (e : Logged). e.block < 2 ^ 64) t.blocks
+  pub revokes : All (λ b. b < 2 ^ 64) t.revokes
 
 -- it fits between its first place and that place again, and one place more
 pub record IsPlaceFor (size : ℕ) (at : Place) (t : Transaction) : Type 0 where
@@ -56,7 +59,7 @@ abbrev pub as_written : Transaction → Transaction
 as_written t = record { blocks = content_of t ++ metadata_of t; revokes = t.revokes }
 
 -- The journal is ready for a transaction: from the tail that its header will tell, so many places have whole transactions, of which the
--- last has the sequence before; the first place is behind them; a place is left free; and no header is as late.
+-- last has the sequence before; the first place is behind them; a place is left free; and the head so far is older.
 pub record IsReady (ring : Ring) (at : Place) (t : Transaction) (count : ℕ) (before : List Sequenced) : Type 0 where
   pub whole : IsWhole ring
   pub places : ring.places ≡ at.length
@@ -64,7 +67,7 @@ pub record IsReady (ring : Ring) (at : Place) (t : Transaction) (count : ℕ) (b
   pub follows : (ts : List Sequenced) (last : Sequenced) → before ≡ ts ++ last ∷ [] → after last.sequence ≡ at.sequence
   pub first : place_on at.length at.tail count ≡ at.first
   pub room : count + size_of ring.size t < at.length
-  pub older : (p : ℕ) (h : LogHeader) → p < ring.places → accepted p (ring.at p) ≡ Some h → h.sequence < at.sequence
+  pub older : (h : LogHeader) → head_in ring ≡ Some h → h.sequence < at.sequence
   pub sequence : at.sequence < 2 ^ 64
 
 -- what is live of a block behind these transactions and this one: what this one has, else nothing where it revokes the block, else what was
@@ -91,5 +94,5 @@ IsHeaderRead size at t = log_read (header_block size at t) ≡ Ok (as_read (head
 
 -- what is written to a journal that is ready is what the journal then says
 abbrev pub WhatIsWrittenIsSaid : Type 0
-WhatIsWrittenIsSaid = (ring : Ring) (at : Place) (t : Transaction) (count : ℕ) (before : List Sequenced) → IsLoggableAll ring.size t → IsPlaceFor ring.size at t
+WhatIsWrittenIsSaid = (ring : Ring) (at : Place) (t : Transaction) (count : ℕ) (before : List Sequenced) → IsLoggableAll ring.size t → AreNumbers t → IsPlaceFor ring.size at t
     → IsReady ring at t count before → IsHeaderRead ring.size at t → IsWritten ring.size (with_blocks ring (encoded ring.size at t)) at t before

@@ -1,5 +1,6 @@
 ghost use Rattle.std.specs.Prelude.{◌≡◌, ◌+◌, ◌<◌, ◌≤◌, ◌↔◌, IsTrue, true};
 ghost use Rattle.log_layout.specs.Journal.{next, way};
+ghost use Rattle.node_journal.specs.Places.{place_on};
 
 use log_layout::{LogHeader, next_place, places_between};
 
@@ -77,7 +78,9 @@ fn place_after(places: u32, place: u32, count: u32) -> u32
     ensures inside { result < places }
 {
     let rest = places - place;
-    if count < rest { place + count } else { count - rest }
+    if count < rest {
+        place + count
+    } else {
+        count - rest
+    }
 }
-
-ghost use Rattle.node_journal.specs.Places.{place_on};

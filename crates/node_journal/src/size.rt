@@ -4,6 +4,7 @@ ghost use Rattle.drafts.specs.declared.change.Written.{Written as WrittenValue};
 ghost use Rattle.log_layout.specs.Chunks.{Logged, content_room as content_room_of, further_count as further_count_of, further_room as further_room_of, numbers_room as numbers_room_of};
 ghost use Rattle.journal_scan.specs.Said.{logged, says};
 ghost use Rattle.node_journal.specs.Encoding.{kind_size as kind_size_of, piece_count as piece_count_of, revoke_size as revoke_size_of, size_of, content_of};
+ghost use Rattle.std.specs.Prelude.{◌*◌, map};
 
 use drafts::{Transaction, Written};
 
@@ -59,8 +60,7 @@ pub fn size(t: &Transaction, block_size: u32) -> u32
     let content = content_count(&t.blocks) as u64;
     let metadata = t.blocks.len() as u64 - content;
     let revokes = t.revokes.len() as u64;
-    let blocks = kind_size((size - 72) / 16, content) + (kind_size((size - 72) / 8, metadata) + revoke_size(size, revokes));
+    let blocks = kind_size((size - 72) / 16, content)
+        + (kind_size((size - 72) / 8, metadata) + revoke_size(size, revokes));
     (blocks + 1) as u32
 }
-
-ghost use Rattle.std.specs.Prelude.{◌*◌, map};

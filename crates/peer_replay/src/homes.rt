@@ -1,4 +1,3 @@
-// The blocks that go home.
 ghost use Rattle.std.specs.Prelude.{◌≡◌, ◌==◌, ◌&&◌, ◌||◌, ℕ, [], nat_lt, if◌then◌else◌, map, OnOk, IfOk, Some, Option, IsStrictlyIncreasing};
 ghost use Rattle.std.specs.List.{last_or, list_any};
 ghost use Rattle.drafts.specs.declared.change.Written.{Written as WrittenValue};
@@ -6,6 +5,9 @@ ghost use Rattle.log_layout.specs.Live.{entries_in, is_cancelled, live_entry};
 ghost use Rattle.journal_scan.specs.Said.{says, says_at};
 ghost use Rattle.revoke_table.specs.Revokes.{is_cancelled as is_cancelled_by};
 ghost use Rattle.peer_replay.specs.Plans.{AreByBlock, entry_at, put_home};
+ghost use Rattle.std.specs.Prelude.{filter};
+ghost use Rattle.log_layout.specs.Chunks.{Logged};
+ghost use Rattle.journal_scan.specs.Said.{logged};
 
 use drafts::{Transaction, Written};
 use journal_scan::Sequenced;
@@ -13,6 +15,7 @@ use no_memory::NoMemory;
 use revoke_table::Revokes;
 use std::alloc::Global;
 use std::collections::BTreeMap;
+// The blocks that go home.
 
 // Adds the revokes of one transaction.
 fn add_revokes(table: &mut Revokes, sequence: u64, blocks: &[u64]) -> Result<(), NoMemory>
@@ -88,7 +91,3 @@ fn into_blocks(alloc: Global, home: BTreeMap<u64, Written>) -> Result<Vec<Writte
     }
     Ok(blocks)
 }
-
-ghost use Rattle.std.specs.Prelude.{filter};
-ghost use Rattle.log_layout.specs.Chunks.{Logged};
-ghost use Rattle.journal_scan.specs.Said.{logged};

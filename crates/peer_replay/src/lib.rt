@@ -11,13 +11,15 @@ ghost use Rattle.drafts.specs.declared.change.Written.{Written as WrittenValue};
 ghost use Rattle.std.specs.Prelude.{List, ◌×◌};
 ghost use Rattle.journal_scan.specs.Images.{IsImage, ring_of};
 ghost use Rattle.peer_replay.specs.Plans.{IsWhyNot, clean_header as clean_header_of, put_home};
+ghost use Rattle.std.specs.Prelude.{◌<◌};
+ghost use Rattle.log_layout.specs.Live.{IsReadable};
 
 mod homes;
 
 use drafts::Written;
 use homes::gather_home;
 use journal_scan::{JournalImage, ScanFault, find_head, transactions};
-use log_layout::{LogHeader, next_place};
+use log_layout::{LogHeader, heads_are_accepted, next_place};
 use std::alloc::Global;
 
 /// What a replay writes: blocks in their places, by rising number, then, after a barrier, a clean header.
@@ -66,8 +68,3 @@ fn clean_header(places: u32, head: &LogHeader) -> Option<LogHeader>
         later: None,
     })
 }
-
-ghost use Rattle.std.specs.Prelude.{◌<◌};
-ghost use Rattle.log_layout.specs.Live.{IsReadable};
-
-use log_layout::heads_are_accepted;

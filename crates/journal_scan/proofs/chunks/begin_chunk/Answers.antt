@@ -1,4 +1,4 @@
-use Rattle.std.proofs.Common.{◌≡◌, ◌++◌, List, length, ap, sym, subst, ◌∙◌}
+use Rattle.std.proofs.Common.{◌++◌, List, length, ap, sym, subst, ◌∙◌}
 use Rattle.std.specs.List.{All}
 use Rattle.log_layout.specs.Chunks.{dues}
 use Rattle.log_layout.specs.declared.due.Due.{Due}

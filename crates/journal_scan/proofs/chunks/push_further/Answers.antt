@@ -1,4 +1,4 @@
-use Rattle.std.proofs.Common.{◌≡◌, ◌+◌, ◌-◌, ◌*◌, ap, ◌∙◌}
+use Rattle.std.proofs.Common.{◌≡◌, ◌-◌, ◌*◌, ap, ◌∙◌}
 use Rattle.std.specs.Prelude.{min}
 use Rattle.log_layout.specs.Chunks.{further_part}
 use Rattle.log_layout.specs.declared.due.Due.TheVariants as variant

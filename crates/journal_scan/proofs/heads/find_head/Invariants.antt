@@ -1,7 +1,6 @@
-use Rattle.std.proofs.Common.{◌≡◌, ◌≤◌}
+use Rattle.std.proofs.Common.{◌≡◌}
 use Rattle.log_layout.specs.Journal.{best_from}
 use Rattle.journal_scan.specs.Images.{ring_of}
-use Rattle.journal_scan.specs.declared.heads.HeadSearch.{HeadSearch}
 use Rattle.journal_scan.proofs.heads.find_head.Given as goal
 
 abbrev pub invariant-loop-place : goal.invariant-loop-place
