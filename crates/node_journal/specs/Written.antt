@@ -1,6 +1,7 @@
 -- What a journal says once a transaction was written to it.
-use Rattle.std.specs.Prelude.{ℕ, ◌≡◌, ◌≢◌, ◌+◌, ◌-◌, ◌^◌, ◌==◌, ◌<◌, ◌≤◌, ◌⊎◌, not, if◌then◌else◌, Bool, true, false, List, [], ◌∷◌, ◌++◌, length, map, Contains, find, IsStrictlyIncreasing, Option, None, Some, Ok}
+use Rattle.std.specs.Prelude.{ℕ, ◌≡◌, ◌≢◌, ◌+◌, ◌-◌, ◌^◌, ◌==◌, ◌<◌, ◌≤◌, ◌⊎◌, not, if◌then◌else◌, Bool, true, false, List, [], ◌∷◌, ◌++◌, length, map, Contains, find, Option, None, Some, Ok}
 use Rattle.std.specs.List.{All, list_any}
+use Rattle.std.specs.List.Sorted.{IsStrictlyIncreasing}
 use Rattle.gfs2_layout.specs.Bytes.{u32_at}
 use Rattle.gfs2_layout.specs.Device.{IsBlockSize}
 use Rattle.gfs2_layout.specs.Structures.{magic}
@@ -24,7 +25,7 @@ pub record IsLoggable (size : ℕ) (e : Logged) : Type 0 where
 
 -- the blocks rise and so do the revokes, and no block is both logged and revoked
 pub record IsLoggableAll (size : ℕ) (t : Transaction) : Type 0 where
-  pub size : IsBlockSize size
+  pub sized : IsBlockSize size
   pub rising : IsStrictlyIncreasing (map (λ (e : Logged). e.block) t.blocks)
   pub revokes : IsStrictlyIncreasing t.revokes
   pub apart : (b : ℕ) → Contains (map (λ (e : Logged). e.block) t.blocks) b → Contains t.revokes b → ⊥

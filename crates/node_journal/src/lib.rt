@@ -1,12 +1,13 @@
 //! Journals as they are written: a transaction's blocks, their places, and which places are in use.
 #![tactic(auto)]
 
-mod encode;
+mod around;
+mod encoding;
 mod place;
 mod ring;
-mod size;
+mod sizes;
 
-pub use encode::encode;
+pub use encoding::encode;
 pub use place::Place;
 pub use ring::Ring;
-pub use size::size;
+pub use sizes::size;

@@ -1,7 +1,7 @@
 ghost use Rattle.std.specs.Prelude.{◌≡◌, ◌+◌, ◌<◌, ◌≤◌, ◌↔◌, IsTrue, true};
 ghost use Rattle.log_layout.specs.Journal.{next, way};
-ghost use Rattle.node_journal.specs.Places.{place_on};
 
+use crate::around::place_after;
 use log_layout::{LogHeader, next_place, places_between};
 
 /// Which places of a journal are in use: those from the tail to the head, round the ring.
@@ -18,7 +18,7 @@ pub struct Ring {
 }
 
 impl Ring {
-    ghost use Rattle.node_journal.specs.Places.{IsBetween, free_in};
+    ghost use Rattle.node_journal.specs.Places.{IsBetween, free_in, place_on};
 
     /// The ring behind a clean head, whose own place is the tail.
     pub fn start(length: u32, head: &LogHeader) -> Ring
@@ -66,21 +66,5 @@ impl Ring {
     {
         self.head = place_after(self.length, self.head, blocks);
         self.tail = tail;
-    }
-}
-
-// The place so many places on, which are fewer than the ring has.
-#[tactic(auto, using(crate::proofs::Around::around))]
-fn place_after(places: u32, place: u32, count: u32) -> u32
-    requires inside { place < places }
-    requires few { count < places }
-    ensures value { result ≡ place_on places place count }
-    ensures inside { result < places }
-{
-    let rest = places - place;
-    if count < rest {
-        place + count
-    } else {
-        count - rest
     }
 }

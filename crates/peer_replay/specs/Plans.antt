@@ -1,5 +1,6 @@
 -- What a replay does with a journal.
-use Rattle.std.specs.Prelude.{ℕ, ◌≡◌, ◌==◌, ⊤, if◌then◌else◌, true, List, map, find, Option, None, Some, Err}
+use Rattle.std.specs.Prelude.{ℕ, ◌≡◌, ◌==◌, ⊤, if◌then◌else◌, true, List, [], ◌∷◌, map, filter, find, Option, None, Some, Err}
+use Rattle.std.specs.List.{AllByRecursion}
 use Rattle.std.specs.Option.{option_map}
 use Rattle.std.specs.Ordering.{nat_cmp}
 use Rattle.std.specs.BTreeMap.{BTreeMap, get}
@@ -8,6 +9,7 @@ use Rattle.log_layout.specs.Chunks.{Logged}
 use Rattle.log_layout.specs.Journal.{Ring, head_in, next}
 use Rattle.log_layout.specs.Transactions.{after, transactions_of}
 use Rattle.log_layout.specs.declared.log_header.LogHeader.{LogHeader}
+use Rattle.revoke_table.specs.Revokes.{Greatest, is_cancelled}
 use Rattle.journal_scan.specs.Said.{logged}
 use Rattle.journal_scan.specs.declared.fault.ScanFault.{ScanFault}
 use Rattle.journal_scan.specs.declared.fault.ScanFault.TheVariants.{NoHeader, BadChunk, NoMemory}
@@ -37,7 +39,7 @@ IsWhyNot ring NoHeader = head_in ring ≡ None
 IsWhyNot ring (BadChunk place) = (head : LogHeader) × (head_in ring ≡ Some head) × (transactions_of ring head ≡ Err place)
 IsWhyNot ring NoMemory = ⊤
 
--- ---- entries by their blocks, on the way
+-- ---- on the way
 
 -- the entry that is kept of a block
 abbrev pub entry_at : BTreeMap ℕ Written → ℕ → Option Logged
@@ -45,4 +47,13 @@ entry_at home block = option_map logged (get nat_cmp home block)
 
 -- each entry is kept under its block's number
 abbrev pub AreByBlock : BTreeMap ℕ Written → Type 0
-AreByBlock home = (b : ℕ) (w : Written) → get nat_cmp home b ≡ Some w → w.block ≡ b
+AreByBlock home = AllByRecursion (λ (e : ℕ × Written). e.1.block ≡ e.0) home.entries
+
+-- the entries of a block that count among these of one transaction
+abbrev pub counted : Greatest → ℕ → ℕ → List Written → List Logged
+counted table sequence block ws = if is_cancelled table block sequence then [] else filter (λ (e : Logged). e.block == block) (map logged ws)
+
+-- the revokes of a transaction before these, the last first, each with the transaction's sequence
+abbrev pub revokes_onto : ℕ → List ℕ → List (ℕ × ℕ) → List (ℕ × ℕ)
+revokes_onto sequence [] rs = rs
+revokes_onto sequence (b ∷ bs) rs = revokes_onto sequence bs ((b, sequence) ∷ rs)

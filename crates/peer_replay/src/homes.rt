@@ -1,25 +1,22 @@
-ghost use Rattle.std.specs.Prelude.{◌≡◌, ◌==◌, ◌&&◌, ◌||◌, ℕ, [], nat_lt, if◌then◌else◌, map, OnOk, IfOk, Some, Option, IsStrictlyIncreasing};
-ghost use Rattle.std.specs.List.{last_or, list_any};
+ghost use Rattle.std.specs.Prelude.{◌≡◌, ◌==◌, ℕ, [], List, if◌then◌else◌, map, OnOk, IfOk, Some};
+ghost use Rattle.std.specs.List.Sorted.{IsStrictlyIncreasing};
+ghost use Rattle.std.specs.List.{last_or};
 ghost use Rattle.drafts.specs.declared.change.Written.{Written as WrittenValue};
-ghost use Rattle.log_layout.specs.Live.{entries_in, is_cancelled, live_entry};
-ghost use Rattle.journal_scan.specs.Said.{says, says_at};
-ghost use Rattle.revoke_table.specs.Revokes.{is_cancelled as is_cancelled_by};
-ghost use Rattle.peer_replay.specs.Plans.{AreByBlock, entry_at, put_home};
-ghost use Rattle.std.specs.Prelude.{filter};
-ghost use Rattle.log_layout.specs.Chunks.{Logged};
+ghost use Rattle.log_layout.specs.Live.{is_cancelled, live_entry};
+ghost use Rattle.journal_scan.specs.Said.{says_at};
+ghost use Rattle.revoke_table.specs.Revokes.{all_revoked, is_cancelled as is_cancelled_by};
+ghost use Rattle.peer_replay.specs.Plans.{AreByBlock, counted, entry_at, put_home, revokes_onto};
 ghost use Rattle.journal_scan.specs.Said.{logged};
 
 use drafts::{Transaction, Written};
 use journal_scan::Sequenced;
 use no_memory::NoMemory;
-use revoke_table::Revokes;
+use revoke_table::{Revokes, later_revokes_cancel};
 use std::alloc::Global;
-use std::collections::BTreeMap;
-// The blocks that go home.
-
+use std::collections::{BTreeMap, VecDeque};
 // Adds the revokes of one transaction.
 fn add_revokes(table: &mut Revokes, sequence: u64, blocks: &[u64]) -> Result<(), NoMemory>
-    ensures { OnOk result ((b s : ℕ) → is_cancelled_by table.new b s ≡ (is_cancelled_by table.old b s || (nat_lt s sequence && list_any (λ r. r == b) blocks.now))) }
+    ensures { OnOk result ((rs : List (ℕ × ℕ)) → table.old ≡ all_revoked rs → table.new ≡ all_revoked (revokes_onto sequence blocks.now rs)) }
 {
     for block in blocks {
         table.add(*block, sequence)?;
@@ -31,11 +28,23 @@ fn add_revokes(table: &mut Revokes, sequence: u64, blocks: &[u64]) -> Result<(),
 fn gather_revokes(alloc: Global, transactions: &[Sequenced]) -> Result<Revokes, NoMemory>
     ensures { IfOk result (λ table. (b s : ℕ) → is_cancelled_by table b s ≡ is_cancelled (map says_at transactions.now) b s) }
 {
+    later_revokes_cancel();
     let mut table = Revokes::new(alloc);
     for t in transactions {
         add_revokes(&mut table, t.sequence, &t.transaction.revokes)?;
     }
     Ok(table)
+}
+
+// Puts an entry over what is there of its block.
+fn put_entry(home: &mut BTreeMap<u64, Written>, written: Written) -> Result<(), NoMemory>
+    requires by_block { AreByBlock home.old }
+    ensures by_block { OnOk result (AreByBlock home.new) }
+    ensures over { OnOk result ((b : ℕ) → entry_at home.new b ≡ (if written.block == b then Some (logged written) else entry_at home.old b)) }
+{
+    let block = written.block;
+    home.insert(block, written)?;
+    Ok(())
 }
 
 // Puts the entries of one transaction that count over those that are there.
@@ -47,12 +56,12 @@ fn put_live(
 ) -> Result<(), NoMemory>
     requires by_block { AreByBlock home.old }
     ensures by_block { OnOk result (AreByBlock home.new) }
-    ensures over { OnOk result ((b : ℕ) → entry_at home.new b
-        ≡ last_or (entry_at home.old b) (if is_cancelled_by revokes.now b sequence then [] else filter (λ (e : Logged). e.block == b) (map logged blocks.items))) }
+    ensures over { OnOk result ((b : ℕ) → entry_at home.new b ≡ last_or (entry_at home.old b) (counted revokes.now sequence b blocks.items)) }
 {
-    for written in blocks {
+    let mut left = VecDeque::from_vec(blocks);
+    while let Some(written) = left.pop_front() {
         if !revokes.cancels(written.block, sequence) {
-            home.insert(written.block, written)?;
+            put_entry(home, written)?;
         }
     }
     Ok(())
@@ -69,7 +78,8 @@ pub(crate) fn gather_home(
 {
     let revokes = gather_revokes(alloc, &transactions)?;
     let mut home = BTreeMap::new(alloc);
-    for t in transactions {
+    let mut left = VecDeque::from_vec(transactions);
+    while let Some(t) = left.pop_front() {
         let Sequenced {
             sequence,
             transaction,
@@ -80,13 +90,15 @@ pub(crate) fn gather_home(
     into_blocks(alloc, home)
 }
 
+// The entries, by rising block.
 fn into_blocks(alloc: Global, home: BTreeMap<u64, Written>) -> Result<Vec<Written>, NoMemory>
-    requires { AreByBlock home }
+    requires by_block { AreByBlock home }
     ensures rising { IfOk result (λ blocks. IsStrictlyIncreasing (map (λ (w : WrittenValue). w.block) blocks.items)) }
     ensures same { IfOk result (λ blocks. (b : ℕ) → put_home blocks.items b ≡ entry_at home b) }
 {
-    let mut blocks = Vec::with_capacity(alloc, home.len())?;
-    for (_, written) in home {
+    let mut left = home;
+    let mut blocks = Vec::with_capacity(alloc, left.len())?;
+    while let Some((_, written)) = left.pop_first() {
         blocks.push(written)?;
     }
     Ok(blocks)

@@ -9,7 +9,7 @@ ghost use Rattle.std.specs.Prelude.{◌*◌, map};
 use drafts::{Transaction, Written};
 
 // How many chunks and blocks so many entries take, where each chunk has room for so many.
-#[tactic(auto, using(crate::proofs::Around::division_is_less))]
+#[tactic(auto, using(crate::proofs::Arounds::division_is_less))]
 fn kind_size(room: u64, count: u64) -> u64
     requires some { 0 < room }
     requires room { room ≤ 4096 }
@@ -21,7 +21,7 @@ fn kind_size(room: u64, count: u64) -> u64
 }
 
 // How many blocks so many revokes take.
-#[tactic(auto, using(crate::proofs::Around::division_is_less))]
+#[tactic(auto, using(crate::proofs::Arounds::division_is_less))]
 fn revoke_size(size: u64, count: u64) -> u64
     requires size { IsBlockSize size }
     requires few { count ≤ 131072 }

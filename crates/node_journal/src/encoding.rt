@@ -21,6 +21,5 @@ pub fn encode(
     ensures numbers { IfOk result (λ _. AreNumbers (says t.now)) }
     ensures header { IfOk result (λ _. IsHeaderRead block_size at.now (says t.now)) }
 {
-    let _ = (alloc, t, at, block_size);
     Err(NoMemory)
 }
