@@ -1,0 +1,4 @@
+pub mod InPlace
+pub mod DescriptorBack
+pub mod HeaderBack
+pub mod BestHeaders

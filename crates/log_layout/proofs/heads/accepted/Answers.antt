@@ -1,0 +1,11 @@
+use Rattle.log_layout.proofs.BestHeaders.{accepted_there, accepted_elsewhere, accepted_none}
+use Rattle.log_layout.proofs.heads.accepted.Goals as goal
+
+pub returns-in-Ok : goal.returns-in-Ok
+returns-in-Ok c = accepted_there c.args.place c.args.block.now c.in-Ok.header c.in-Ok.ensures c.if-header-place.true
+
+pub returns-in_default : goal.returns-in_default
+returns-in_default c = accepted_elsewhere c.args.place c.args.block.now c.in-Ok.header c.in-Ok.ensures c.if-header-place.false
+
+pub returns-in_default-2 : goal.returns-in_default-2
+returns-in_default-2 c = accepted_none c.args.place c.args.block.now _ c.in_default.ensures

@@ -1,0 +1,7 @@
+pub mod Fields
+pub mod Headers
+pub mod Descriptors
+pub mod Journal
+pub mod Chunks
+pub mod Transactions
+pub mod Live

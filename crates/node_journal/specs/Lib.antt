@@ -1,0 +1,3 @@
+pub mod Places
+pub mod Encoding
+pub mod Written

@@ -1,0 +1,2 @@
+pub mod Revoking
+pub mod Entries
