@@ -1,7 +1,6 @@
 -- Where a transaction goes: its places round the ring, and what its header tells.
-use Rattle.std.specs.Prelude.{ℕ, zero, suc, ◌≡◌, ◌≤◌, ◌+◌, ◌<◌, true, Some, List, [], ◌∷◌, length}
-use Rattle.log_layout.specs.Journal.{Placed, next, way, tail_of, free_places}
-use Rattle.log_layout.specs.declared.log_header.LogHeader.{LogHeader}
+use Rattle.std.specs.Prelude.{ℕ, zero, suc, ◌≤◌, ◌<◌, List, [], ◌∷◌}
+use Rattle.log_layout.specs.Journal.{Placed, next, way, free_places}
 use Rattle.node_journal.specs.declared.ring.Ring.{Ring}
 
 -- how many places are free in the ring

@@ -1,24 +1,27 @@
 -- Entries that are put over others, block by block.
-use Rattle.std.proofs.Common.{◌≡◌, ◌≢◌, ℕ, Bool, true, false, cond, List, [], ◌∷◌, ◌++◌, Option, None, Some, refl, sym, ap, subst, ◌∙◌, inl, inr, ◌⊎◌, ◌<◌, Ordering, Less, Equal, Greater, arith}
-use Rattle.std.specs.Prelude.{◌==◌, if◌then◌else◌, map, filter, find}
+use Rattle.std.proofs.Common.{◌≡◌, ℕ, Bool, true, false, cond, List, [], ◌∷◌, ◌++◌, Option, None, Some, refl, sym, ap, subst, ◌∙◌, inl, inr, ◌<◌, Ordering, Less, Equal, Greater, arith}
+use Rattle.std.specs.Prelude.{◌==◌, if◌then◌else◌, map, filter, find, length, MatchOption, Result, Ok, Err}
 use Rattle.std.specs.List.{AllByRecursion, flat_map, last_or}
 use Rattle.std.specs.Option.{option_map}
 use Rattle.std.specs.Ordering.{nat_cmp, MatchOrdering, match_ordering}
 use Rattle.std.proofs.lemmas.Cmp.{ranked}
 use Rattle.std.proofs.lemmas.Bool.Decides.{nat_tests}
-use Rattle.std.specs.BTreeMap.{BTreeMap, get, insert_entry, is_at}
+use Rattle.std.specs.BTreeMap.{BTreeMap, insert_entry, is_at}
 use Rattle.std.specs.Map.{keys_of, lookup}
 use Rattle.std.specs.Cmp.{unsigned_tied}
-use Rattle.std.proofs.lemmas.Bool.{cases_Bool, cond-true, cond-false, eqb-true, eq-eqb}
+use Rattle.std.proofs.lemmas.Bool.{cases_Bool, cond-true, cond-false, eqb-true}
 use Rattle.std.proofs.lemmas.List.{append_assoc, append-nil}
 use Rattle.drafts.specs.declared.change.Written.{Written}
 use Rattle.log_layout.specs.Chunks.{Logged}
-use Rattle.log_layout.specs.Live.{counting, is_cancelled, live_entry}
+use Rattle.log_layout.specs.Live.{is_cancelled, live_entry}
+use Rattle.log_layout.specs.declared.log_header.LogHeader.{LogHeader}
+use Rattle.journal_scan.specs.declared.fault.ScanFault.{ScanFault}
+use Rattle.journal_scan.specs.declared.fault.ScanFault.TheVariants.{NoHeader}
 use Rattle.journal_scan.specs.Said.{logged, says_at}
 use Rattle.journal_scan.specs.declared.scanning.Sequenced.{Sequenced as Held}
 use Rattle.revoke_table.specs.Revokes.{Greatest}
 use Rattle.revoke_table.specs.Revokes.{is_cancelled as is_cancelled_by}
-use Rattle.peer_replay.specs.Plans.{AreByBlock, counted, entry_at, put_home}
+use Rattle.peer_replay.specs.Plans.{AreByBlock, counted, entry_at}
 
 abbrev pub ByBlock : ℕ × Written → Type 0
 ByBlock e = e.1.block ≡ e.0
@@ -145,3 +148,12 @@ part_more start left rest e blocks new part first one = record {
 
 pub part_end : (start left : List (ℕ × Written)) (blocks : List Written) → IsPart start left blocks → left ≡ [] → blocks ≡ map (λ (e : ℕ × Written). e.1) start
 part_end start left blocks part none = sym (append-nil blocks) ∙ ap (λ l. blocks ++ map (λ (f : ℕ × Written). f.1) l) (sym none) ∙ part.same
+
+pub no_entries : (es : List (ℕ × Written)) → (0 < length es → false ≡ true) → es ≡ []
+no_entries [] none = refl
+no_entries (e ∷ es) none = absurd (let e : false ≡ true = none (omega arith) in cc)
+
+-- what a search for the head answers
+pub head_found : (o : Option LogHeader) (head : LogHeader) → MatchOption o (◌≡◌ {A = Result LogHeader ScanFault} (Ok head) (Err NoHeader)) (λ h. ◌≡◌ {A = Result LogHeader ScanFault} (Ok head) (Ok h)) → o ≡ Some head
+head_found None head m = absurd (let no : ◌≡◌ {A = Result LogHeader ScanFault} (Ok head) (Err NoHeader) = m in cc)
+head_found (Some h) head m = let same : ◌≡◌ {A = Result LogHeader ScanFault} (Ok head) (Ok h) = m in cc

@@ -3,7 +3,6 @@ use Rattle.std.proofs.Common.{◌≡◌, ℕ, Bool, true, false, List, [], ◌�
 use Rattle.std.specs.Prelude.{◌==◌, ◌&&◌, ◌||◌, nat_lt, map}
 use Rattle.std.specs.List.{list_any}
 use Rattle.log_layout.specs.Live.{is_cancelled}
-use Rattle.log_layout.specs.Transactions.{Sequenced}
 use Rattle.journal_scan.specs.Said.{says_at}
 use Rattle.journal_scan.specs.declared.scanning.Sequenced.{Sequenced as Held}
 use Rattle.revoke_table.specs.Revokes.{Greatest, all_revoked}

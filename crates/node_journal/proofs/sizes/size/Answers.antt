@@ -3,7 +3,7 @@ use Rattle.std.specs.Prelude.{filter, map, not}
 use Rattle.drafts.specs.declared.change.Written.{Written}
 use Rattle.log_layout.specs.Chunks.{Logged}
 use Rattle.journal_scan.specs.Said.{logged, says}
-use Rattle.node_journal.specs.Encoding.{content_of, metadata_of, kind_size, revoke_size, size_of}
+use Rattle.node_journal.specs.Encoding.{content_of, metadata_of, kind_size, revoke_size}
 use Rattle.node_journal.proofs.sizes.size.Goals as goal
 
 pub returns : goal.returns

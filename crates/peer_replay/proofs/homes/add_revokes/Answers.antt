@@ -1,4 +1,4 @@
-use Rattle.std.proofs.Common.{◌<◌, ◌≡◌, ◌+◌, ◌++◌, [], ◌∷◌, List, ℕ, length, take, get_or, ap, sym, ◌∙◌, arith}
+use Rattle.std.proofs.Common.{◌≡◌, ◌+◌, ◌++◌, [], ◌∷◌, take, get_or, ap, sym, ◌∙◌, arith}
 use Rattle.std.proofs.lemmas.List.{take_more}
 use Rattle.revoke_table.specs.Revokes.{Greatest, all_revoked, with_revoke}
 use Rattle.peer_replay.specs.Plans.{revokes_onto}
