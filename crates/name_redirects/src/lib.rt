@@ -1,0 +1,4 @@
+//! Names that lead to another inode, in directories of any form.
+#![tactic(auto)]
+
+mod area;
