@@ -1,1 +1,4 @@
 pub mod Led
+pub mod Blocks
+pub mod Linear
+pub mod Hashed

@@ -2,3 +2,6 @@
 #![tactic(auto)]
 
 mod area;
+mod redirecting;
+
+pub use redirecting::redirect;
