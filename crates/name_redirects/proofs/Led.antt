@@ -76,23 +76,21 @@ number_in_rest at k n front rest size =
     (λ i. sym (take_at front rest at size) i ++ put_at k (to_be_bytes w64 n) (sym (drop_at front rest at size) i))
     ∙ put_in_rest at k (to_be_bytes w64 n) whole (omega (arith, length-append front rest, size))
 
--- an inum at a place is one in the rest from there on
-inum_in_rest : (at : ℕ) (inum : Inum) (area : List ℕ) → at ≤ length area → take at area ++ with_inum 0 inum (drop at area) ≡ with_inum at inum area
-inum_in_rest at inum area within =
+-- an inum at a place of the rest from another place on
+pub inum_in_rest : (at k : ℕ) (inum : Inum) (area : List ℕ) → at ≤ length area → take at area ++ with_inum k inum (drop at area) ≡ with_inum (at + k) inum area
+inum_in_rest at k inum area within =
     let front = take at area in
     let size = length-take-le at area within in
     let rest = drop at area in
-    number_in_rest at 8 inum.address front (with_number w64 0 inum.number rest) size
-    ∙ ap (with_number w64 (at + 8) inum.address) (
-    number_in_rest at 0 inum.number front rest size
-    ∙ (λ i. with_number w64 (plain i) inum.number (take-append-drop at area i))
-    )
-  where
-    plain : at + 0 ≡ at
-    plain = omega arith
+    let on : at + (k + 8) ≡ at + k + 8 = omega arith in
+    number_in_rest at (k + 8) inum.address front (with_number w64 k inum.number rest) size
+    ∙ ap (with_number w64 (at + (k + 8)) inum.address) (number_in_rest at k inum.number front rest size ∙ ap (with_number w64 (at + k) inum.number) (take-append-drop at area))
+    ∙ ap (λ (n : ℕ). with_number w64 n inum.address (with_number w64 (at + k) inum.number area)) on
 
 pub inum_at_place : (at : ℕ) (inum : Inum) (area tail new : List ℕ) → at ≤ length area → tail ≡ with_inum 0 inum (drop at area) → new ≡ take at area ++ tail → new ≡ with_inum at inum area
-inum_at_place at inum area tail new within tail_is is = is ∙ ap (λ (t : List ℕ). take at area ++ t) tail_is ∙ inum_in_rest at inum area within
+inum_at_place at inum area tail new within tail_is is =
+    let plain : at + 0 ≡ at = omega arith in
+    is ∙ ap (λ (t : List ℕ). take at area ++ t) tail_is ∙ inum_in_rest at 0 inum area within ∙ ap (λ (n : ℕ). with_inum n inum area) plain
 
 module _ (old : List ℕ) (at : ℕ) (here : IsRecordAt old at) (inum : Inum) (tail : List ℕ) (slots : slots_of tail ≡ led_to inum (slot_at (drop at old)) ∷ slots_of (behind (drop at old))) (is : IsArea tail) where
   pub led_at : slots_of (take at old ++ tail) ≡ slots_led_to at inum old

@@ -68,7 +68,7 @@ module _ {V : Type 0} (seen : V → Seen) (before after : Drafted V) (dir : ℕ)
   -- before, its records are those behind the dinode, and so they are afterwards
   plain : (k : Holding) → is_hashed_in k ≡ false → records_of k ≡ records_in (linear_area k)
   unfolding records_of
-  plain k no = rw no refl
+  plain k unhashed = rw unhashed refl
 
   linear_still : is_hashed_in anew ≡ false
   linear_still = ap (λ (d : Dinode). is_directory d && has_hash_flag d) dinode_still ∙ linear

@@ -17,12 +17,13 @@ ghost use Rattle.directories.specs.Taking.{HasNameIn, HasRecordOf};
 ghost use Rattle.name_redirects.specs.Redirects.{IsNameLed, IsRedirected, PutsOne};
 
 use crate::area::redirect_record;
+use crc_words::checksums_have_32_bits;
 use dinode_tree::read_dinode;
 use directories::{is_hashed, remove};
 use drafts::Draft;
 use gfs2_layout::{DINODE_LENGTH, Dinode, Inum, find_record, is_area, records_are_found_by_name};
 use glock_names::{CallFault, Step, View};
-use hash_dirs::IN_LEAF;
+use hash_dirs::{IN_LEAF, chains_tell_names};
 use linear_dirs::lock_of;
 use std::alloc::Global;
 
@@ -120,6 +121,7 @@ pub fn redirect<V: View>(
 ) -> Result<Step<u64>, CallFault>
     requires directory { IsDirectoryIn (seen_in V.seen draft.old) dir }
     requires named { HasNameIn (seen_in V.seen draft.old) dir name.now }
+    requires inside { HasDataBlock (seen_in V.seen draft.old) dir }
     requires number { inum.now.number ≢ 0 }
     requires address { inum.now.address ≢ 0 }
     ensures led { IfIs result (IsRedirected (seen_in V.seen draft.old) (seen_in V.seen draft.new) dir name.now inum.now) }
@@ -131,6 +133,8 @@ pub fn redirect<V: View>(
     ensures kept { IfDamaged result (IsOfView (seen_in V.seen draft.old)) }
     ensures stays { IfDamaged result (λ rule block. draft.new ≡ draft.old) }
 {
+    chains_tell_names();
+    checksums_have_32_bits();
     let _size = draft.block_size();
     let dinode = match read_dinode(&*draft, dir)? {
         Step::Is(dinode) => dinode,
