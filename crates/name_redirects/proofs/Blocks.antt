@@ -1,10 +1,10 @@
 -- A block in which a name's record was led elsewhere: what stands before its records, and what these say.
-use Rattle.std.proofs.Common.{◌≡◌, ℕ, ◌+◌, ◌≤◌, true, List, [], ◌∷◌, ◌++◌, length, take, drop, map, None, Some, refl, sym, ap, ◌∙◌, subst, arith, length-drop}
+use Rattle.std.proofs.Common.{◌≡◌, ℕ, ◌+◌, ◌≤◌, true, List, [], ◌∷◌, ◌++◌, length, take, drop, Some, refl, sym, ap, ◌∙◌, subst, arith, length-drop}
 use Rattle.std.specs.Int.{Width, w16, w32, w64, byte_len, to_be_bytes}
 use Rattle.std.specs.Option.{option_map}
 use Rattle.std.proofs.lemmas.List.{take-append-le, take-take, length-take-le}
-use Rattle.gfs2_layout.specs.Area.{Slot, IsArea, name_of, slots_of}
-use Rattle.gfs2_layout.specs.Bytes.{put_at, u32_at, with_number}
+use Rattle.gfs2_layout.specs.Area.{Slot, name_of, slots_of}
+use Rattle.gfs2_layout.specs.Bytes.{u32_at, with_number}
 use Rattle.gfs2_layout.specs.Cutting.{slot_from}
 use Rattle.gfs2_layout.specs.Exchanges.{IsCounted, IsExchanged}
 use Rattle.gfs2_layout.specs.Headers.{HasHeader}

@@ -1,6 +1,6 @@
 -- A record that leads to another inode.
-use Rattle.std.proofs.Common.{◌≡◌, ℕ, ◌+◌, ◌-◌, ◌≤◌, ◌<◌, ◌^◌, ◌≢◌, inl, inr, true, false, List, [], ◌∷◌, ◌++◌, length, take, drop, map, refl, sym, ap, ◌∙◌, subst, subst₂, arith, append_assoc, length-append}
-use Rattle.std.specs.Prelude.{filter, IsTrue}
+use Rattle.std.proofs.Common.{◌≡◌, ℕ, ◌+◌, ◌-◌, ◌≤◌, ◌<◌, ◌^◌, ◌≢◌, inl, inr, true, List, [], ◌∷◌, ◌++◌, length, take, drop, map, refl, sym, ap, ◌∙◌, subst, subst₂, arith, append_assoc, length-append}
+use Rattle.std.specs.Prelude.{filter}
 use Rattle.std.specs.Int.{Width, w16, w32, w64, to_be_bytes}
 use Rattle.std.specs.List.{AllByRecursion}
 use Rattle.std.specs.List.Sorted.{IsPermutation}
@@ -10,7 +10,7 @@ use Rattle.std.proofs.lemmas.Bool.{cases_Bool}
 use Rattle.std.proofs.lemmas.List.{drop_at, drop-drop, take_at, take-append-drop, length-take-le}
 use Rattle.gfs2_layout.specs.Bytes.{slice, put_at, u16_at, with_number}
 use Rattle.gfs2_layout.specs.Structures.{is_in_use}
-use Rattle.gfs2_layout.specs.Area.{Slot, slot_at, slots_of, HasItsName, IsArea, IsRecordAt}
+use Rattle.gfs2_layout.specs.Area.{Slot, slot_at, slots_of, IsArea, IsRecordAt}
 use Rattle.gfs2_layout.specs.Cutting.{slot_from}
 use Rattle.gfs2_layout.specs.Records.{Record, record_of, records_in, HasItsHash, IsRecordArea}
 use Rattle.gfs2_layout.specs.Exchanges.{IsExchanged}

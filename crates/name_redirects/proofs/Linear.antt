@@ -1,5 +1,5 @@
 -- A linear directory in whose block a name's record was led elsewhere.
-use Rattle.std.proofs.Common.{◌≡◌, ◌≢◌, ℕ, ◌+◌, ◌≤◌, Bool, true, false, List, [], ◌∷◌, length, take, drop, Option, None, Some, Ok, refl, sym, ap, ◌∙◌, subst, subst₂, arith}
+use Rattle.std.proofs.Common.{◌≡◌, ◌≢◌, ℕ, ◌≤◌, true, false, List, [], ◌∷◌, length, drop, Option, None, Some, Ok, refl, sym, ap, ◌∙◌, subst, subst₂, arith}
 use Rattle.std.specs.Prelude.{◌&&◌, IsSome}
 use Rattle.std.specs.FinMap.{insert}
 use Rattle.std.proofs.lemmas.Bool.{true≢false}
@@ -18,10 +18,9 @@ use Rattle.glock_names.specs.Views.{Seen}
 use Rattle.dinode_tree.specs.Reading.{inode_lock}
 use Rattle.dinode_tree.specs.Shown.{IsShown}
 use Rattle.linear_dirs.specs.Exchanges.{HasExchanged}
-use Rattle.linear_dirs.specs.Reading.{IsDirectoryOf}
 use Rattle.linear_dirs.specs.Shown.{holding_over}
 use Rattle.linear_dirs.proofs.Looked.{bytes_of}
-use Rattle.linear_dirs.proofs.Rewritten.{IsRewritten, area_new, bytes_new, dinode_new, exchanged as rewritten_exchanges, rewritten}
+use Rattle.linear_dirs.proofs.Rewritten.{IsRewritten, area_new, dinode_new, exchanged as rewritten_exchanges, rewritten}
 use Rattle.name_redirects.specs.Leading.{record_led_to}
 use Rattle.name_redirects.specs.Redirects.{IsNameLed}
 use Rattle.name_redirects.proofs.Blocks.{area_again, counted_still, dinode_front, exchanged, header_front, same_front, same_length, slot}

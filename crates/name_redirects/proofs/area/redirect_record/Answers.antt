@@ -1,4 +1,4 @@
-use Rattle.std.proofs.Common.{◌≡◌, ◌≤◌, ◌∙◌, List, ℕ, length, ap, arith, subst, sym, ◌∷◌}
+use Rattle.std.proofs.Common.{◌≤◌, ◌∙◌, List, ℕ, length, ap, arith, subst, sym, ◌∷◌}
 use Rattle.gfs2_layout.specs.Area.{IsArea, slot_at, slots_of}
 use Rattle.name_redirects.specs.Leading.{led_to, with_inum}
 use Rattle.gfs2_layout.proofs.PutHere.{end_part, end_put}

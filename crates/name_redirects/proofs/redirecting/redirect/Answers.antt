@@ -1,9 +1,7 @@
-use Rattle.std.proofs.Common.{◌≡◌, ◌∙◌, ◌≤◌, ◌<◌, ℕ, inl, inr, List, Some, ap, arith, length, subst, sym}
-use Rattle.std.specs.Prelude.{true}
+use Rattle.std.proofs.Common.{◌≤◌, ◌<◌, ℕ, inl, inr, arith, length, subst, sym}
 use Rattle.std.proofs.lemmas.List.Elements.{All-from_get_or}
 use Rattle.drafts.specs.Fates.{seen_in}
 use Rattle.gfs2_layout.specs.Holding.{Holding}
-use Rattle.gfs2_layout.specs.Inode.{dinode_in, is_directory_in}
 use Rattle.glock_names.proofs.StepLaws.{answer_at, needed_at}
 use Rattle.glock_names.specs.Steps.{TellsOf}
 use Rattle.linear_dirs.proofs.Looked.{handed}
