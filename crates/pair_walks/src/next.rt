@@ -36,7 +36,7 @@ pub(crate) enum Visit {
 }
 
 /// The inode in a block: its lock is looked at, and then its dinode.
-pub(crate) fn visit<V: View>(
+pub(crate) fn come_to<V: View>(
     view: &V,
     inode: u64,
     above: u64,

@@ -11,7 +11,7 @@ ghost use Rattle.image_changes.specs.Does.{IsOf};
 ghost use Rattle.path_walks.specs.Walks.{AreInOrder};
 ghost use Rattle.pair_walks.specs.Walks.{IsPairDamage, IsPairTold, IsPairWalked};
 
-use crate::next::{Next, Visit, ahead, visit};
+use crate::next::{Next, Visit, ahead, come_to};
 use call_locks::Want;
 use file_tree::Name;
 use glock_names::{CallFault, LockName, Missing, State, Step, View, is_at_most};
@@ -56,13 +56,12 @@ struct Way<'a> {
     next: Next,
 }
 
-// Which of the ways goes on.
+// Which of the ways goes on, to which inode, and the one above it on each way.
 #[derive(Clone, Copy)]
 enum Turn {
     First { block: u64, above: u64 },
     Second { block: u64, above: u64 },
     Both { block: u64, above: u64, beside: u64 },
-    None,
 }
 
 // Whether the second path is the first, or goes on from it.
@@ -80,33 +79,56 @@ fn goes_on(first: &[Name], second: &[Name]) -> bool
     true
 }
 
-// The way that goes on: of the inodes that come next that with the least number, and both ways where it is the same one.
-fn turn_of(first: &Way<'_>, second: &Way<'_>) -> Turn {
+// A way that begins at the root.
+fn begin<'a>(names: &'a [Name], wants: &'a [Want], root: u64) -> Way<'a> {
+    Way {
+        names,
+        wants,
+        depth: 0,
+        next: Next::Inode {
+            block: root,
+            above: root,
+        },
+    }
+}
+
+// The way that goes on: of the inodes that come next that with the least number, and both ways where it is the same one. None where the first way has
+// ended and so decides, or both have.
+fn turn_of(first: &Way<'_>, second: &Way<'_>, ends: bool) -> Option<Turn> {
     match (first.next, second.next) {
-        (Next::Ended(_), Next::Ended(_)) => Turn::None,
-        (Next::Inode { block, above }, Next::Ended(_)) => Turn::First { block, above },
-        (Next::Ended(_), Next::Inode { block, above }) => Turn::Second { block, above },
+        (Next::Ended(End::At(_)), Next::Inode { block, above }) => {
+            if ends {
+                None
+            } else {
+                Some(Turn::Second { block, above })
+            }
+        }
+        (Next::Ended(_), _) => None,
+        (Next::Inode { block, above }, Next::Ended(_)) => Some(Turn::First { block, above }),
         (
             Next::Inode { block, above },
             Next::Inode {
                 block: other,
                 above: beside,
             },
-        ) => {
-            if block == other {
-                Turn::Both {
-                    block,
-                    above,
-                    beside,
-                }
-            } else if block < other {
-                Turn::First { block, above }
-            } else {
-                Turn::Second {
-                    block: other,
-                    above: beside,
-                }
-            }
+        ) => Some(lesser(block, above, other, beside)),
+    }
+}
+
+// Of two inodes that come next the one with the least number, or the one that both are.
+fn lesser(block: u64, above: u64, other: u64, beside: u64) -> Turn {
+    if block == other {
+        Turn::Both {
+            block,
+            above,
+            beside,
+        }
+    } else if block < other {
+        Turn::First { block, above }
+    } else {
+        Turn::Second {
+            block: other,
+            above: beside,
         }
     }
 }
@@ -114,6 +136,78 @@ fn turn_of(first: &Way<'_>, second: &Way<'_>) -> Turn {
 // The stronger of two states.
 fn stronger(a: State, b: State) -> State {
     if is_at_most(a, b) { b } else { a }
+}
+
+// The state in which the next inode of a way is wanted.
+fn state_of(way: &Way<'_>) -> State
+    requires { way.now.depth < length way.now.wants.now }
+{
+    way.wants[way.depth].state
+}
+
+// Takes a way past the inode at a place.
+fn pass<V: View>(view: &V, way: &mut Way<'_>, place: &Place) -> Result<Option<Missing>, CallFault> {
+    match ahead(view, place, way.names, way.depth)? {
+        Step::Is(next) => {
+            way.next = next;
+            way.depth += 1;
+            Ok(None)
+        }
+        Step::NeedBlock(missing) => Ok(Some(missing)),
+    }
+}
+
+// Where both ways end.
+fn ended(first: &Way<'_>, second: &Way<'_>, ends: bool) -> PairWalk {
+    match (first.next, second.next) {
+        (Next::Ended(End::NotDir), _) => PairWalk::NotDir,
+        (Next::Ended(End::At(from)), Next::Ended(to)) => {
+            if ends {
+                PairWalk::Within(from)
+            } else {
+                PairWalk::Apart { from, to }
+            }
+        }
+        (Next::Ended(End::At(from)), _) => PairWalk::Within(from),
+        (_, _) => PairWalk::NotFound,
+    }
+}
+
+// One turn: the inode is come to, and the way that goes on, or both, past it. What stands in the way, if something does.
+fn go<V: View>(
+    view: &V,
+    one: &mut Way<'_>,
+    two: &mut Way<'_>,
+    turn: Turn,
+) -> Result<Option<PairWalk>, CallFault> {
+    let (block, above, state) = match turn {
+        Turn::First { block, above } => (block, above, state_of(&*one)),
+        Turn::Second { block, above } => (block, above, state_of(&*two)),
+        Turn::Both { block, above, .. } => {
+            (block, above, stronger(state_of(&*one), state_of(&*two)))
+        }
+    };
+    let place = match come_to(view, block, above, state)? {
+        Visit::At(place) => place,
+        Visit::NeedLock(lock) => return Ok(Some(PairWalk::NeedLock { lock, state })),
+        Visit::NeedBlock(missing) => return Ok(Some(PairWalk::NeedBlock(missing))),
+    };
+    let missing = match turn {
+        Turn::First { .. } => pass(view, one, &place)?,
+        Turn::Second { .. } => pass(view, two, &place)?,
+        Turn::Both { beside, .. } => match pass(view, one, &place)? {
+            Some(missing) => Some(missing),
+            None => pass(
+                view,
+                two,
+                &Place {
+                    above: beside,
+                    ..place
+                },
+            )?,
+        },
+    };
+    Ok(missing.map(PairWalk::NeedBlock))
 }
 
 /// Walks along two paths from the root, and takes the locks of the inodes on the way as they are wanted, of the inodes that come next on the two
@@ -138,5 +232,14 @@ pub fn walk_pair<V: View>(
     ensures damaged { OnlyDamaged result (IsPairDamage (V.seen view.now) first.now second.now first_wants.now second_wants.now) }
     ensures kept { OnlyDamaged result (IsOfView (V.seen view.now)) }
 {
-    todo!()
+    let root = view.root();
+    let ends = goes_on(first, second);
+    let mut one = begin(first, first_wants, root);
+    let mut two = begin(second, second_wants, root);
+    while let Some(turn) = turn_of(&one, &two, ends) {
+        if let Some(stop) = go(view, &mut one, &mut two, turn)? {
+            return Ok(stop);
+        }
+    }
+    Ok(ended(&one, &two, ends))
 }
