@@ -1,5 +1,5 @@
 -- The call that moves a name, `rename`: what it answers, under which locks.
-use Rattle.std.specs.Prelude.{ℕ, ◌≡◌, ◌≢◌, ◌⊎◌, ◌↔◌, ◌<◌, ◌==◌, ◌&&◌, ⊤, not, Bool, true, false, is_some, if◌then◌else◌, List, [], ◌∷◌, ◌++◌, length, map, Contains, IsSome, Option, None, Some}
+use Rattle.std.specs.Prelude.{ℕ, ◌≡◌, ◌≢◌, ◌⊎◌, ◌↔◌, ◌<◌, ◌&&◌, not, Bool, true, false, is_some, if◌then◌else◌, List, [], ◌∷◌, ◌++◌, length, map, Contains, IsSome, Option, None, Some}
 use Rattle.file_tree.specs.Names.{is_same_path, last_of, leads_to, parent_of}
 use Rattle.file_tree.specs.Tree.{Tree}
 use Rattle.file_tree.specs.Apply.{apply}
@@ -12,7 +12,7 @@ use Rattle.drafts.specs.declared.change.Change.{Change}
 use Rattle.gfs2_layout.specs.Holding.{Holding}
 use Rattle.gfs2_layout.specs.Inode.{dinode_in, is_directory_in, is_hashed_in}
 use Rattle.gfs2_layout.specs.Records.{Record, record_named}
-use Rattle.glock_names.specs.Views.{Seen, HasBlock, HasGroup, group_of_entry}
+use Rattle.glock_names.specs.Views.{Seen, HasGroup, group_of_entry}
 use Rattle.glock_names.specs.declared.LockName.{LockName}
 use Rattle.glock_names.specs.declared.State.{State}
 use Rattle.glock_names.specs.declared.State.TheVariants.{Ex}
@@ -34,21 +34,22 @@ use Rattle.draft_changes.specs.Resizing.{HoldsThere}
 use Rattle.image_changes.specs.Instances.{IsAt, dinode_at, is_directory_at, records_at}
 use Rattle.linear_dirs.specs.Shown.{entry_of}
 use Rattle.group_locks.specs.Groups.{GroupsAreHeld, IsFirstGroupLack, holds_of_groups, is_block_of}
-use Rattle.path_walks.specs.Answers.{Refuses}
-use Rattle.path_walks.specs.Holds.{Hold, AreHeld, IsAskedFor, IsFirstLack, hold_of_group, holds}
-use Rattle.path_walks.specs.Walks.{IsAbsent, IsOnTheWay, IsSeenAt, IsUnread, IsWrongAt, LacksName, LeadsTo}
+
+use Rattle.path_walks.specs.Holds.{Hold, AreHeld, IsFirstLack, hold_of_group, holds}
+use Rattle.path_walks.specs.Walks.{IsAbsent, IsOnTheWay, IsSeenAt, LacksName}
 use Rattle.pair_walks.specs.Orders.{pair_holds}
 use Rattle.pair_walks.specs.Walks.{IsPairDamage, IsPairLacked, IsPairUnread}
 use Rattle.path_walks.specs.declared.walk.Place.{Place}
 use Rattle.removing_calls.specs.Removing.{BreaksAsLinear, CountsItsRecords, Goes, IsNeededOf, IsWrongBelow}
 use Rattle.resource_groups.specs.Freeing as freeing
 use Rattle.resource_groups.specs.Putting.{HasDataBlock}
-use Rattle.resource_groups.specs.Shown.{said}
+use Rattle.resource_groups.specs.Shown.{IsDataOf, said}
 use Rattle.room_search.specs.Blocks.{free_in_all, group_holds, group_of_node, room_blocks, room_holds, states_by}
 use Rattle.room_search.specs.Searches.{AreShown, IsGroupBroken, IsGroupNeeded, IsRoom}
 use Rattle.name_inserts.specs.Inserting.{CanGetName}
+use Rattle.name_inserts.specs.Way.{IsOnWay, IsRightWay}
 use Rattle.name_moves.specs.Becoming.{GetsName, GetsParent, GivesName, LosesAll, NeedsAfter, losses}
-use Rattle.name_moves.specs.Moving.{IsMoving, IsNeededIn, IsWrongIn, Move, freed_by, is_reparented, lost_there}
+use Rattle.name_moves.specs.Moving.{IsMoving, IsNeededIn, IsWrongIn, Move, freed_by, lost_there}
 
 -- the call moves a name
 abbrev pub IsRenaming : Call → Type 0
@@ -231,6 +232,7 @@ pub record IsMovedBy (v : Seen) (call : Call) (node time : ℕ) (change : Change
   pub needs : NeedsBlocks v call move need
   pub room : List ℕ
   pub takes : TakesRoom v node need move room
+  pub way : (h k : Holding) → dirs.IsShown v move.to.inode h → LosesAll (lost_there move) h k → IsRightWay v k move.new_name room
   pub is : IsMoving v move room time change
 
 -- the call is answered so
@@ -257,10 +259,11 @@ pub record IsFullFor (v : Seen) (call : Call) (need free : ℕ) : Type 0 where
   pub fewer : free < need
 
 -- The call isn't built for what stands there: the directory that is to get the name isn't sound; or it can't get it in the blocks that the node takes, once the others
--- have gone. In an image that stands for a tree no directory is such a one.
+-- have gone, though the way to the name is right and none of the blocks is on it. In an image that stands for a tree no directory is such a one.
 pub data IsUnbuilt (v : Seen) (call : Call) (node : ℕ) : Type 0 where
   unsound : (m : Move) → IsToMove v call m → ((h : Holding) → dirs.IsShown v m.to.inode h → IsSound h → ⊥) → IsUnbuilt v call node
   unfit : (m : Move) (need : ℕ) (room : List ℕ) → NeedsBlocks v call m need → TakesRoom v node need m room
+      → ((h k : Holding) → dirs.IsShown v m.to.inode h → LosesAll (lost_there m) h k → IsRightWay v k m.new_name room)
       → ((h k : Holding) → dirs.IsShown v m.to.inode h → LosesAll (lost_there m) h k → CanGetName k m.new_name room → ⊥) → IsUnbuilt v call node
 
 -- a block without which the call isn't answered: one on the paths; of what stands at the new name, to tell whether it may go, or what goes with it; to move the name; or of a group
@@ -271,10 +274,19 @@ pub data IsNeededFor (v : Seen) (call : Call) (n : Missing) : Type 0 where
   of_freed : (m : Move) → IsToMove v call m → GroupsAreHeld v (freed_by m) → freeing.IsNeededFor v (freed_by m) n → IsNeededFor v call n
   of_group : (m : Move) → IsToMove v call m → IsGroupNeeded v n → IsNeededFor v call n
 
+-- A data block of a group whose lock is held, whose bits call it free, as far as the view's groups say.
+pub record IsCalledFree (v : Seen) (b : ℕ) : Type 0 where
+  pub group : Group
+  pub has : HasGroup v group
+  pub data_block : IsDataOf group b
+  pub held : holds v (hold_of_group group) ≡ true
+  pub free : (at : ℕ → List ℕ) → AreShown v at → said at group b ≡ 0
+
 -- the block breaks this rule: on the paths; what stands at the new name, as a directory that counts other records than it has, or in a pointer that leads past the groups; a
--- directory as names go from it and one comes, or which is no data block of a group, or is one of the blocks that go; or a group whose lock is held
+-- directory as names go from it and one comes, or which is no data block of a group, or is one of the blocks that go; the inode that is one of the directories; a group
+-- whose lock is held; or (5) the bits of a group call a block free that is on the way to the new name
 pub data IsDamage (v : Seen) (call : Call) : ℕ → ℕ → Type 0 where
-  on_paths : (rule b : ℕ) → IsPairDamage v (from_path call) (to_path call) (first_wants call) (second_wants call) rule b → IsDamage v call rule b
+  on_paths : (rule b : ℕ) → IsBegun v call → IsPairDamage v (from_path call) (to_path call) (first_wants call) (second_wants call) rule b → IsDamage v call rule b
   count : (from to at : Place) (rule b : ℕ) → AreEnds v call from to → StandsAt v call to at → ((h : Holding) → IsShown v at.inode h → BreaksAsLinear h rule b) → IsDamage v call rule b
   of_target : (from to at : Place) (rule b : ℕ) → AreEnds v call from to → StandsAt v call to at → MayGo v from at → IsWrongBelow v at.inode rule b → IsDamage v call rule b
   no_data_block : (from to : Place) (a : ℕ) → AreEnds v call from to → (a ≡ from.above) ⊎ (a ≡ to.inode) → ¬ (HasDataBlock v a) → IsDamage v call 2 a
@@ -283,6 +295,8 @@ pub data IsDamage (v : Seen) (call : Call) : ℕ → ℕ → Type 0 where
   to_move : (m : Move) (rule b : ℕ) → IsToMove v call m → IsWrongIn v m [] rule b → IsDamage v call rule b
   of_freed : (m : Move) (rule b : ℕ) → IsToMove v call m → GroupsAreHeld v (freed_by m) → freeing.BreaksSome v (freed_by m) rule b → IsDamage v call rule b
   of_group : (m : Move) (rule b : ℕ) → IsToMove v call m → IsGroupBroken v rule b → IsDamage v call rule b
+
+  called_free : (m : Move) (b : ℕ) → IsToMove v call m → ((h k : Holding) → dirs.IsShown v m.to.inode h → LosesAll (lost_there m) h k → IsOnWay k m.new_name b) → IsCalledFree v b → IsDamage v call 5 b
 
 -- ---- in an image that the view may be of
 

@@ -1,6 +1,6 @@
 -- What becomes of the directories of a name that moves: one loses records, one gets one, a directory that moves names another parent. Each relation is
 -- between a directory before and after, of any form.
-use Rattle.std.specs.Prelude.{ℕ, ◌≡◌, ◌==◌, Bool, true, false, if◌then◌else◌, List, [], ◌∷◌, ◌++◌, length, codes, Contains, Some}
+use Rattle.std.specs.Prelude.{ℕ, ◌≡◌, Bool, true, false, if◌then◌else◌, List, [], ◌∷◌, ◌++◌, length, codes, Contains, Some}
 use Rattle.gfs2_layout.specs.Holding.{Holding}
 use Rattle.gfs2_layout.specs.Inode.{is_directory_in, is_hashed_in, records_of}
 use Rattle.gfs2_layout.specs.Records.{Record, record_named}

@@ -1,5 +1,5 @@
 -- The draft that moves a name: two directories of any form, or one; the inode, where it gets another parent; what stood at the new name; and the groups.
-use Rattle.std.specs.Prelude.{ℕ, ◌≡◌, ◌≢◌, ◌⊎◌, ◌↔◌, ◌==◌, ◌&&◌, not, Bool, true, false, is_some, IsSome, List, [], ◌∷◌, ◌++◌, length, codes, Contains, Option, None, Some}
+use Rattle.std.specs.Prelude.{ℕ, ◌≡◌, ◌≢◌, ◌⊎◌, ◌↔◌, ◌==◌, ◌&&◌, not, Bool, true, false, is_some, IsSome, List, [], ◌++◌, length, codes, Contains, Option, None, Some}
 use Rattle.std.specs.Option.{option_copied}
 use Rattle.std.specs.Ordering.{nat_cmp}
 use Rattle.std.specs.FinMap.{FinMap, get}
@@ -11,7 +11,7 @@ use Rattle.drafts.specs.declared.fate.Fate.TheVariants.{Put}
 use Rattle.file_tree.specs.Names.{IsName}
 use Rattle.file_tree.specs.Tree.{Tree}
 use Rattle.gfs2_layout.specs.Holding.{Holding}
-use Rattle.gfs2_layout.specs.Inode.{dinode_in, is_hashed_in, records_of}
+use Rattle.gfs2_layout.specs.Inode.{dinode_in, records_of}
 use Rattle.gfs2_layout.specs.Records.{Record, child_named, record_named}
 use Rattle.gfs2_layout.specs.Structures.{is_directory}
 use Rattle.gfs2_layout.specs.declared.inum.Inum.{Inum}
@@ -22,7 +22,7 @@ use Rattle.glock_names.specs.declared.steps.Missing.{Missing}
 use Rattle.glock_names.specs.declared.views.Group.{Group}
 use Rattle.dinode_tree.specs.Reading.{inode_lock}
 use Rattle.dinode_tree.specs.Shown as inode
-use Rattle.linear_dirs.specs.Shown.{entry_of, holding_over}
+use Rattle.linear_dirs.specs.Shown.{holding_over}
 use Rattle.hash_dirs.specs.Shown.{IsSound}
 use Rattle.directories.specs.Shown.{HasName, IsBroken, IsDirectoryIn, IsShown, Says}
 use Rattle.directories.specs.Shown as dirs
@@ -47,7 +47,7 @@ use Rattle.path_walks.specs.declared.walk.Place.{Place}
 use Rattle.name_inserts.specs.Inserting.{CanGetName, IsNeededForName, IsWrongForName}
 use Rattle.name_inserts.specs.Need.{name_need}
 use Rattle.name_moves.specs.declared.moving.NameMove.{NameMove}
-use Rattle.name_moves.specs.Becoming.{GetsName, GetsParent, GivesName, LosesAll, LosesName, losses}
+use Rattle.name_moves.specs.Becoming.{GetsName, GetsParent, GivesName, LosesAll, losses}
 
 -- ---- what is to be moved
 
