@@ -1,5 +1,5 @@
 -- What comes next on one of two paths, and an inode that a walk comes to.
-use Rattle.std.specs.Prelude.{ℕ, ◌≡◌, ◌+◌, ◌<◌, false, List, length, slice_get, Option, None, Some}
+use Rattle.std.specs.Prelude.{ℕ, ◌≡◌, ◌+◌, ◌<◌, true, false, List, length, slice_get, Option, None, Some}
 use Rattle.file_tree.specs.Names.{IsName}
 use Rattle.gfs2_layout.specs.Holding.{Holding}
 use Rattle.gfs2_layout.specs.Inode.{is_directory_in}
