@@ -1,15 +1,21 @@
 // A walk along two paths.
-ghost use Rattle.std.specs.Prelude.{ℕ, ◌≡◌, ◌≢◌, ◌+◌, [], IfOk, length};
+ghost use Rattle.std.specs.Prelude.{ℕ, ◌≡◌, ◌≢◌, ◌+◌, ◌<◌, [], IfNone, IfOk, IfSome, Some, length, slice_get};
 ghost use Rattle.file_tree.specs.Names.{leads_to};
 ghost use Rattle.file_tree.specs.Tree.{Tree};
+ghost use Rattle.gfs2_layout.specs.Holding.{Holding};
+ghost use Rattle.gfs2_layout.specs.Inode.{dinode_in};
 ghost use Rattle.glock_names.specs.Steps.{OnlyDamaged};
-ghost use Rattle.glock_names.specs.Views.{IsOfView};
+ghost use Rattle.glock_names.specs.Views.{HasBlock, IsOfView};
+ghost use Rattle.call_locks.specs.declared.want.Want.{Want as WantValue};
+ghost use Rattle.dinode_tree.specs.Shown.{IsShown};
 ghost use Rattle.image_model.specs.Image.{Image};
 ghost use Rattle.image_model.specs.Owners.{Owners};
 ghost use Rattle.image_model.specs.Stands.{Layout};
 ghost use Rattle.image_changes.specs.Does.{IsOf};
-ghost use Rattle.path_walks.specs.Walks.{AreInOrder};
+ghost use Rattle.path_walks.specs.Walks.{AreInOrder, IsDamage, IsHeldAt, IsUnread};
+ghost use Rattle.pair_walks.specs.Orders.{stronger as stronger_of};
 ghost use Rattle.pair_walks.specs.Walks.{IsPairDamage, IsPairTold, IsPairWalked};
+ghost use Rattle.pair_walks.specs.Ways.{IsWayOf};
 
 use crate::next::{Next, Visit, ahead, come_to};
 use call_locks::Want;
@@ -80,7 +86,12 @@ fn goes_on(first: &[Name], second: &[Name]) -> bool
 }
 
 // A way that begins at the root.
-fn begin<'a>(names: &'a [Name], wants: &'a [Want], root: u64) -> Way<'a> {
+fn begin<'a>(names: &'a [Name], wants: &'a [Want], root: u64) -> Way<'a>
+    ensures names { result.names.now ≡ names.now }
+    ensures wants { result.wants.now ≡ wants.now }
+    ensures depth { result.depth ≡ 0 }
+    ensures next { result.next ≡ Next.Inode root root }
+{
     Way {
         names,
         wants,
@@ -134,19 +145,34 @@ fn lesser(block: u64, above: u64, other: u64, beside: u64) -> Turn {
 }
 
 // The stronger of two states.
-fn stronger(a: State, b: State) -> State {
+fn stronger(a: State, b: State) -> State
+    ensures { result ≡ stronger_of a b }
+{
     if is_at_most(a, b) { b } else { a }
 }
 
 // The state in which the next inode of a way is wanted.
 fn state_of(way: &Way<'_>) -> State
     requires { way.now.depth < length way.now.wants.now }
+    ensures { (w : WantValue) → slice_get way.now.wants.now way.now.depth ≡ Some w → w.state ≡ result }
 {
     way.wants[way.depth].state
 }
 
-// Takes a way past the inode at a place.
-fn pass<V: View>(view: &V, way: &mut Way<'_>, place: &Place) -> Result<Option<Missing>, CallFault> {
+// Takes a way past the inode at a place, which comes next on it and whose lock is held. The block that isn't in the view, if one is needed for that.
+fn pass<V: View>(view: &V, way: &mut Way<'_>, place: &Place) -> Result<Option<Missing>, CallFault>
+    requires way { IsWayOf (V.seen view.now) way.old }
+    requires next { way.old.next ≡ Next.Inode place.now.inode place.now.above }
+    requires there { HasBlock (V.seen view.now) place.now.inode }
+    requires dinode { (h : Holding) → IsShown (V.seen view.now) place.now.inode h → place.now.dinode ≡ dinode_in h }
+    requires held { IsHeldAt (V.seen view.now) way.old.wants.now way.old.depth place.now.inode }
+    ensures names { way.new.names.now ≡ way.old.names.now }
+    ensures wants { way.new.wants.now ≡ way.old.wants.now }
+    ensures passed { IfOk result (λ missing. IfNone missing ((way.new.depth ≡ way.old.depth + 1) × IsWayOf (V.seen view.now) way.new)) }
+    ensures needed { IfOk result (λ missing. IfSome missing (IsUnread (V.seen view.now) way.old.wants.now way.old.names.now)) }
+    ensures damaged { OnlyDamaged result (IsDamage (V.seen view.now) way.old.wants.now way.old.names.now) }
+    ensures kept { OnlyDamaged result (IsOfView (V.seen view.now)) }
+{
     match ahead(view, place, way.names, way.depth)? {
         Step::Is(next) => {
             way.next = next;
@@ -173,12 +199,44 @@ fn ended(first: &Way<'_>, second: &Way<'_>, ends: bool) -> PairWalk {
     }
 }
 
+// Whether a way has ended so that the other one doesn't matter.
+fn has_decided(first: &Way<'_>, ends: bool) -> bool {
+    match first.next {
+        Next::Inode { .. } => false,
+        Next::Ended(End::At(_)) => ends,
+        Next::Ended(_) => true,
+    }
+}
+
+// Takes both ways past an inode that comes next on both, the second from the one above it there; and the first alone, where that then decides.
+fn pass_both<V: View>(
+    view: &V,
+    one: &mut Way<'_>,
+    two: &mut Way<'_>,
+    place: &Place,
+    beside: u64,
+    ends: bool,
+) -> Result<Option<Missing>, CallFault> {
+    if let Some(missing) = pass(view, one, place)? {
+        return Ok(Some(missing));
+    }
+    if has_decided(&*one, ends) {
+        return Ok(None);
+    }
+    let above_it = Place {
+        above: beside,
+        ..*place
+    };
+    pass(view, two, &above_it)
+}
+
 // One turn: the inode is come to, and the way that goes on, or both, past it. What stands in the way, if something does.
 fn go<V: View>(
     view: &V,
     one: &mut Way<'_>,
     two: &mut Way<'_>,
     turn: Turn,
+    ends: bool,
 ) -> Result<Option<PairWalk>, CallFault> {
     let (block, above, state) = match turn {
         Turn::First { block, above } => (block, above, state_of(&*one)),
@@ -195,17 +253,7 @@ fn go<V: View>(
     let missing = match turn {
         Turn::First { .. } => pass(view, one, &place)?,
         Turn::Second { .. } => pass(view, two, &place)?,
-        Turn::Both { beside, .. } => match pass(view, one, &place)? {
-            Some(missing) => Some(missing),
-            None => pass(
-                view,
-                two,
-                &Place {
-                    above: beside,
-                    ..place
-                },
-            )?,
-        },
+        Turn::Both { beside, .. } => pass_both(view, one, two, &place, beside, ends)?,
     };
     Ok(missing.map(PairWalk::NeedBlock))
 }
@@ -237,7 +285,7 @@ pub fn walk_pair<V: View>(
     let mut one = begin(first, first_wants, root);
     let mut two = begin(second, second_wants, root);
     while let Some(turn) = turn_of(&one, &two, ends) {
-        if let Some(stop) = go(view, &mut one, &mut two, turn)? {
+        if let Some(stop) = go(view, &mut one, &mut two, turn, ends)? {
             return Ok(stop);
         }
     }
