@@ -1,5 +1,5 @@
 -- The call that moves a name, `rename`: what it answers, under which locks.
-use Rattle.std.specs.Prelude.{ℕ, ◌≡◌, ◌≢◌, ◌⊎◌, ◌↔◌, ◌<◌, ◌&&◌, not, Bool, true, false, is_some, if◌then◌else◌, List, [], ◌∷◌, ◌++◌, length, map, Contains, IsSome, Option, None, Some}
+use Rattle.std.specs.Prelude.{ℕ, ◌≡◌, ◌≢◌, ◌⊎◌, ◌↔◌, ◌<◌, ◌&&◌, not, Bool, true, false, is_some, if◌then◌else◌, codes, List, [], ◌∷◌, ◌++◌, length, map, Contains, IsSome, Option, None, Some}
 use Rattle.file_tree.specs.Names.{is_same_path, last_of, leads_to, parent_of}
 use Rattle.file_tree.specs.Tree.{Tree}
 use Rattle.file_tree.specs.Apply.{apply}
@@ -12,7 +12,7 @@ use Rattle.drafts.specs.declared.change.Change.{Change}
 use Rattle.gfs2_layout.specs.Holding.{Holding}
 use Rattle.gfs2_layout.specs.Inode.{dinode_in, is_directory_in, is_hashed_in}
 use Rattle.gfs2_layout.specs.Records.{Record, record_named}
-use Rattle.glock_names.specs.Views.{Seen, HasGroup, group_of_entry}
+use Rattle.glock_names.specs.Views.{Seen, HasBlock, HasGroup, group_of_entry}
 use Rattle.glock_names.specs.declared.LockName.{LockName}
 use Rattle.glock_names.specs.declared.State.{State}
 use Rattle.glock_names.specs.declared.State.TheVariants.{Ex}
@@ -36,7 +36,7 @@ use Rattle.linear_dirs.specs.Shown.{entry_of}
 use Rattle.group_locks.specs.Groups.{GroupsAreHeld, IsFirstGroupLack, holds_of_groups, is_block_of}
 
 use Rattle.path_walks.specs.Holds.{Hold, AreHeld, IsFirstLack, hold_of_group, holds}
-use Rattle.path_walks.specs.Walks.{IsAbsent, IsOnTheWay, IsSeenAt, LacksName}
+use Rattle.path_walks.specs.Walks.{IsAbsent, IsOnTheWay, IsSeenAt, LacksName, LeadsTo}
 use Rattle.pair_walks.specs.Orders.{pair_holds}
 use Rattle.pair_walks.specs.Walks.{IsPairDamage, IsPairLacked, IsPairUnread}
 use Rattle.path_walks.specs.declared.walk.Place.{Place}
@@ -139,12 +139,15 @@ pub record IsBegun (v : Seen) (call : Call) : Type 0 where
   pub to : to_path call ≢ []
   pub order : holds v order_hold ≡ true
 
--- the first path leads to this inode, all names of the second but the last to this directory, and the second path doesn't go on from the first
+-- The first path leads to this inode, all names of the second but the last to this directory, and the second path doesn't go on from the first. What is above the
+-- directory isn't told.
 pub record AreEnds (v : Seen) (call : Call) (from to : Place) : Type 0 where
   pub begun : IsBegun v call
   pub elsewhere : IsElsewhere call
   pub source : IsSeenAt v (first_wants call) (from_path call) from
-  pub target : IsSeenAt v (second_wants call) (parent_of (to_path call)) to
+  pub target : LeadsTo v (second_wants call) (parent_of (to_path call)) to.inode
+  pub there : HasBlock v to.inode
+  pub read : (h : Holding) → IsShown v to.inode h → to.dinode ≡ dinode_in h
   pub directory : (h : Holding) → IsShown v to.inode h → is_directory_in h ≡ true
 
 -- what stands at the new name
@@ -283,8 +286,8 @@ pub record IsCalledFree (v : Seen) (b : ℕ) : Type 0 where
   pub free : (at : ℕ → List ℕ) → AreShown v at → said at group b ≡ 0
 
 -- the block breaks this rule: on the paths; what stands at the new name, as a directory that counts other records than it has, or in a pointer that leads past the groups; a
--- directory as names go from it and one comes, or which is no data block of a group, or is one of the blocks that go; the inode that is one of the directories; a group
--- whose lock is held; or (5) the bits of a group call a block free that is on the way to the new name
+-- directory as names go from it and one comes, or which is no data block of a group, or is one of the blocks that go; the inode that is one of the directories, or (10) a directory
+-- that hasn't `..`; a group whose lock is held; or (5) the bits of a group call a block free that is on the way to the new name
 pub data IsDamage (v : Seen) (call : Call) : ℕ → ℕ → Type 0 where
   on_paths : (rule b : ℕ) → IsBegun v call → IsPairDamage v (from_path call) (to_path call) (first_wants call) (second_wants call) rule b → IsDamage v call rule b
   count : (from to at : Place) (rule b : ℕ) → AreEnds v call from to → StandsAt v call to at → ((h : Holding) → IsShown v at.inode h → BreaksAsLinear h rule b) → IsDamage v call rule b
@@ -292,6 +295,7 @@ pub data IsDamage (v : Seen) (call : Call) : ℕ → ℕ → Type 0 where
   no_data_block : (from to : Place) (a : ℕ) → AreEnds v call from to → (a ≡ from.above) ⊎ (a ≡ to.inode) → ¬ (HasDataBlock v a) → IsDamage v call 2 a
   shared : (from to at : Place) (b : ℕ) → AreEnds v call from to → StandsAt v call to at → (b ≡ from.above) ⊎ ((b ≡ to.inode) ⊎ (b ≡ from.inode)) → ((h : Holding) → dirs.IsShown v at.inode h → Goes h b) → IsDamage v call 3 b
   its_own : (from to : Place) → AreEnds v call from to → (from.inode ≡ from.above) ⊎ (from.inode ≡ to.inode) → IsDamage v call 3 from.inode
+  no_parent : (from to : Place) → AreEnds v call from to → IsKindAt v from.inode true → ((h : Holding) → dirs.IsShown v from.inode h → dirs.Says h (codes "..") None) → IsDamage v call 10 from.inode
   to_move : (m : Move) (rule b : ℕ) → IsToMove v call m → IsWrongIn v m [] rule b → IsDamage v call rule b
   of_freed : (m : Move) (rule b : ℕ) → IsToMove v call m → GroupsAreHeld v (freed_by m) → freeing.BreaksSome v (freed_by m) rule b → IsDamage v call rule b
   of_group : (m : Move) (rule b : ℕ) → IsToMove v call m → IsGroupBroken v rule b → IsDamage v call rule b

@@ -1,5 +1,5 @@
 // The draft of a move.
-ghost use Rattle.std.specs.Prelude.{ℕ, ◌≡◌, ◌≢◌, ◌^◌, ◌<◌, ◌++◌, None, Contains, IfSome, IsSome};
+ghost use Rattle.std.specs.Prelude.{ℕ, ◌≡◌, ◌≢◌, ◌^◌, ◌<◌, ◌++◌, [], None, Contains, IfSome, IsSome};
 ghost use Rattle.std.specs.List.Sorted.{IsDistinct};
 ghost use Rattle.file_tree.specs.Tree.{Tree};
 ghost use Rattle.gfs2_layout.specs.Holding.{Holding};
@@ -46,9 +46,9 @@ pub fn need_to_move<V: View>(
     requires can { CanBeMoved (V.seen view.now) (move_of m.now) }
     ensures need { (h k : Holding) → IsShown (V.seen view.now) m.now.to.inode h → IsSound h → LosesAll (lost_there (move_of m.now)) h k → IfIs result (λ need. need ≡ name_need k m.now.new_name.now) }
     ensures most { IfIs result (λ need. need < 2 ^ 42) }
-    ensures needed { IfNeedBlock result (IsNeededIn (V.seen view.now) (move_of m.now) (freed_by (move_of m.now))) }
+    ensures needed { IfNeedBlock result (IsNeededIn (V.seen view.now) (move_of m.now) []) }
     ensures absent { IfNeedBlock result (λ missing. (V.seen view.now).block_at missing.block ≡ None) }
-    ensures damaged { IfDamaged result (IsWrongIn (V.seen view.now) (move_of m.now) (freed_by (move_of m.now))) }
+    ensures damaged { IfDamaged result (IsWrongIn (V.seen view.now) (move_of m.now) []) }
     ensures kept { IfDamaged result (IsOfView (V.seen view.now)) }
 {
     let _size = view.block_size();
