@@ -46,7 +46,7 @@ use Rattle.directory_changes.specs.Moving.{MovesName}
 use Rattle.path_walks.specs.declared.walk.Place.{Place}
 use Rattle.name_inserts.specs.Inserting.{CanGetName, IsNeededForName, IsWrongForName}
 use Rattle.name_inserts.specs.Need.{name_need}
-use Rattle.name_moves.specs.declared.moving.NameMove.{NameMove}
+use Rattle.name_moves.specs.declared.drafting.NameMove.{NameMove}
 use Rattle.name_moves.specs.Becoming.{GetsName, GetsParent, GivesName, LosesAll, losses}
 
 -- ---- what is to be moved
