@@ -3,7 +3,6 @@ use Rattle.std.specs.Prelude.{ℕ, ◌≡◌, ◌≢◌, ◌⊎◌, ◌↔◌, �
 use Rattle.std.specs.Option.{option_copied}
 use Rattle.std.specs.Ordering.{nat_cmp}
 use Rattle.std.specs.FinMap.{FinMap, get}
-use Rattle.std.specs.List.Sorted.{IsDistinct}
 use Rattle.drafts.specs.Fates.{AreWhole, seen_with}
 use Rattle.drafts.specs.declared.change.Change.{Change}
 use Rattle.drafts.specs.declared.fate.Fate.{Fate}
@@ -32,7 +31,9 @@ use Rattle.resource_groups.specs.Freeing as freeing
 use Rattle.resource_groups.specs.Putting.{HasDataBlock, overlaid}
 use Rattle.resource_groups.specs.Shown.{group_lock}
 use Rattle.resource_groups.specs.Shown as group
-use Rattle.resource_groups.specs.Taking.{ArePutIn, HasSome, SaysStateOfSome}
+use Rattle.growth_drafts.specs.Taken.{IsDistinct}
+use Rattle.resource_groups.specs.Putting.{ArePutIn}
+use Rattle.resource_groups.specs.Freeing.{HasSome, SaysStateOfSome}
 use Rattle.image_model.specs.Flat.{Path}
 use Rattle.image_model.specs.Image.{Image}
 use Rattle.image_model.specs.Owners.{Owners, holding}

@@ -1,6 +1,6 @@
 // The draft of a move.
 ghost use Rattle.std.specs.Prelude.{ℕ, ◌≡◌, ◌≢◌, ◌^◌, ◌<◌, ◌++◌, [], None, Contains, IfSome, IsSome};
-ghost use Rattle.std.specs.List.Sorted.{IsDistinct};
+ghost use Rattle.growth_drafts.specs.Taken.{IsDistinct};
 ghost use Rattle.file_tree.specs.Tree.{Tree};
 ghost use Rattle.gfs2_layout.specs.Holding.{Holding};
 ghost use Rattle.gfs2_layout.specs.Inode.{dinode_in};
