@@ -12,7 +12,7 @@ if ! command -v python3 >/dev/null; then
 fi
 program=$PWD/crates/gfs2run/out/gfs2run
 # The gate has just built it; where a source is newer it is built again, with proof.
-if ! [ -x "$program" ] || [ -n "$(find crates -name '*.rt' -newer "$program" | head -n 1)" ]; then
+if ! [ -x "$program" ] || [ -n "$(find crates/*/src -name '*.rt' -newer "$program" | head -n 1)" ]; then
     (cd crates/gfs2run && rt run >/dev/null 2>&1) || true
 fi
 if ! [ -x "$program" ]; then
