@@ -27,6 +27,7 @@ from struct import pack, unpack_from
 from zlib import crc32
 
 sys.dont_write_bytecode = True
+from new_image import crc32c_raw
 from plain_calls import Disk, carried_out, spelled
 
 HERE = os.path.dirname(os.path.abspath(__file__))
@@ -274,7 +275,8 @@ class Copy:
             sequence = self.word(first + 24, 8)
             head = bytes(self.data[first:first + 24]) + pack(">QIII", (sequence - 1) % (1 << 64), 1, len(places) - 1, len(places) - 1)
             head += pack(">I", crc32(head + bytes(4)))
-            self.put(last // self.size, 0, head.ljust(self.size, b"\0"))
+            later = pack(">IQQQ", 0, self.word(first + 56, 8), last // self.size, journal).ljust(self.size - 52, b"\0")
+            self.put(last // self.size, 0, head + pack(">I", crc32c_raw(later)) + later)
             self.open.add(last // self.size)
 
     def add_files(self):

@@ -14,6 +14,15 @@ MAGIC = 0x01161970
 def header(kind, fmt, jid=0):
     return struct.pack('>IIQII', MAGIC, kind, 0, fmt, jid)
 
+def crc32c_raw(data):
+    """CRC-32C bit by bit (polynomial 0x1EDC6F41, the lowest bit first), from all ones, and not inverted at the end."""
+    state = 0xFFFFFFFF
+    for byte in data:
+        state ^= byte
+        for _ in range(8):
+            state = state >> 1 ^ (0x82F63B78 if state & 1 else 0)
+    return state
+
 def pad(b, size):
     assert len(b) <= size, (len(b), size)
     return b + bytes(size - len(b))
@@ -224,14 +233,14 @@ def make(size, blocks, o):
     assert len(rind) == 96 * G
 
     def put_file(nbytes, content):
-        """content: function of block -> bytes; returns number, address"""
+        """content: function of a block's place and address, and the dinode's -> bytes; returns number, address"""
         a, n = take(3), number()
         levels = file_levels(size, nbytes)
         h = len(levels)
         addrs = [[take(1) for _ in range(c)] for c in levels]
         d = dinode(n, a, 33152, 1, nbytes, 1 + sum(levels), T, 0x1 | 0x200, 0, h, 0, 0)
         if h == 0:
-            img[a] = pad(d + content(None), size)
+            img[a] = pad(d + content(None, a, a), size)
             return n, a
         def ptrs(xs):
             return b''.join(struct.pack('>Q', x) for x in xs)
@@ -241,21 +250,22 @@ def make(size, blocks, o):
             for i, x in enumerate(addrs[lv]):
                 img[x] = pad(header(5, 500) + ptrs(addrs[lv + 1][i * ip:(i + 1) * ip]), size)
         for i, x in enumerate(addrs[-1]):
-            img[x] = pad(content(i), size)
+            img[x] = pad(content(i, x, a), size)
         return n, a
 
-    rindex_n, rindex = put_file(len(rind), lambda i: rind if i is None else rind[i * size:(i + 1) * size])
+    rindex_n, rindex = put_file(len(rind), lambda i, x, a: rind if i is None else rind[i * size:(i + 1) * size])
     jindex, jindex_n = take(3), number()
     leaves = [take(1) for _ in range(journals_leaves(size, J))]
     names = []
     def journal_content(j):
-        def f(i):
+        def f(i, block, dinode):
             if i:
                 return b''
             h = header(8, 800, j) + struct.pack('>QIIII', 1, 1, 0, 0, 0)
             assert len(h) == 48
-            crc = zlib.crc32(h)
-            return h[:44] + struct.pack('>I', crc)
+            h = h[:44] + struct.pack('>I', zlib.crc32(h))
+            later = pad(struct.pack('>IQQQ', 0, T, block, dinode), size - 52)
+            return h + struct.pack('>I', crc32c_raw(later)) + later
         return f
     for j in range(J):
         n, a = put_file(JB * size, journal_content(j))

@@ -36,7 +36,9 @@ FIELDS = {
         "payload_format": (132, 4), "height": (138, 2), "depth": (146, 2), "entries": (148, 4), "eattr": (168, 8),
         "content": (232, 0)},
     6: {"depth": (24, 2), "entries": (26, 2), "dirent_format": (28, 4), "next": (32, 8)},
-    8: {"sequence": (24, 8), "flags": (32, 4), "tail": (36, 4), "blkno": (40, 4), "hash": (44, 4)},
+    8: {"sequence": (24, 8), "flags": (32, 4), "tail": (36, 4), "blkno": (40, 4), "hash": (44, 4), "crc": (48, 4), "nsec": (52, 4),
+        "sec": (56, 8), "addr": (64, 8), "jinode": (72, 8), "statfs_addr": (80, 8), "quota_addr": (88, 8), "local_total": (96, 8),
+        "local_free": (104, 8), "local_dinodes": (112, 8)},
 }
 RECORD = {"number": (0, 8), "address": (8, 8), "hash": (16, 4), "rec_len": (20, 2), "name_len": (22, 2),
           "kind": (24, 2), "rahead": (26, 2), "name": (40, 0)}

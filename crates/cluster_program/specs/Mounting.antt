@@ -9,8 +9,8 @@ use Rattle.image_mount.specs.Mounted.{Journal, MountedValue, IsMounted, IsOfProf
 use Rattle.image_mount.specs.Refusals.{IsOutside, IsReached, RefusesRightly}
 use Rattle.image_mount.specs.declared.field.Field.{Field}
 use Rattle.image_mount.specs.declared.fault.MountFault.TheVariants as fault
-use Rattle.gfs2_layout.specs.Journal.{ring_of, head_in}
-use Rattle.gfs2_layout.specs.declared.log_header.LogHeader.{LogHeader}
+use Rattle.log_layout.specs.Journal.{ring_of, head_in}
+use Rattle.log_layout.specs.declared.log_header.LogHeader.{LogHeader}
 use Rattle.shared_disk.specs.Disk.{DiskState}
 use Rattle.cluster_program.specs.declared.status.Status.{Status}
 use Rattle.cluster_program.specs.declared.status.Status.TheVariants as status

@@ -8,9 +8,9 @@ use Rattle.gfs2_layout.specs.Device.{IsBlockSize, superblock_place}
 use Rattle.gfs2_layout.specs.Headers.{HasHeader}
 use Rattle.gfs2_layout.specs.Structures.{superblock_of, dinode_of, is_directory, is_regular}
 use Rattle.gfs2_layout.specs.declared.dinode.Dinode.{Dinode}
-use Rattle.gfs2_layout.specs.declared.log_header.LogHeader.{LogHeader}
+use Rattle.log_layout.specs.declared.log_header.LogHeader.{LogHeader}
 use Rattle.gfs2_layout.specs.declared.rindex.Rindex.{Rindex}
-use Rattle.gfs2_layout.specs.Journal.{ring_of, head_in}
+use Rattle.log_layout.specs.Journal.{ring_of, head_in}
 use Rattle.gfs2_layout.specs.Holding.{Part, Itself, Pointed, cell_part, cell_bytes, part_at, bytes_at}
 use Rattle.gfs2_layout.specs.Inode.{head_of, dinode_in, is_directory_in, content_block, records_of, IsInode}
 use Rattle.image_model.specs.Flat.{Path, AFile, ADir, Node, no_node, follow, ReadsAs}

@@ -4,7 +4,7 @@ use Rattle.std.specs.Prelude.{ℕ, ◌≡◌, ◌≢◌, ◌⊎◌, ◌<◌, tru
 use Rattle.file_tree.specs.Tree.{Tree}
 use Rattle.gfs2_layout.specs.Holding.{Pointed, Holding, part_at, bytes_at, Itself}
 use Rattle.gfs2_layout.specs.Inode.{dinode_in, content_block, IsInode}
-use Rattle.gfs2_layout.specs.Journal.{Ring, ring_of, IsClean}
+use Rattle.log_layout.specs.Journal.{Ring, ring_of, IsClean}
 use Rattle.gfs2_layout.specs.Structures.{is_regular}
 use Rattle.image_model.specs.Image.{Image}
 use Rattle.image_model.specs.Owners.{Owners, Free, holding}

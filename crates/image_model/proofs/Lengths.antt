@@ -14,12 +14,13 @@ use Rattle.image_model.specs.Owners.{Owners, is_dinode, holding}
 use Rattle.gfs2_layout.specs.Device.{IsBlockSize}
 use Rattle.gfs2_layout.specs.Holding.{Itself, Pointed, bytes_at}
 use Rattle.gfs2_layout.specs.Inode.{dinode_in, height_in, is_directory_in, header_length, unit, pieces, carried, content_block, content_count, content_of, IsInode}
-use Rattle.gfs2_layout.specs.Journal.{Ring, ring_of, accepted, better, best_from, head_in}
+use Rattle.log_layout.specs.Journal.{ring_of, best_from, head_in}
 use Rattle.image_model.specs.Journals.{IsJournal}
 use Rattle.image_model.specs.Claims.{every}
 use Rattle.image_model.proofs.Members.{IsIn, from_range}
 use Rattle.image_model.proofs.Held.{own_part, block_same}
 use Rattle.image_model.proofs.Same.{IsReached, dinode_same, content_block_is}
+use Rattle.log_layout.proofs.BestHeaders.{best_same}
 
 enough : (n e p r : ℕ) → p + r ≡ n + e - 1 → r < e → n ≤ p
 enough n e p r same low = omega (arith, same, low)
@@ -128,10 +129,6 @@ module _ (im : Image) (owners : Owners) (large : 512 ≤ im.size) (a : ℕ) (din
 
     pub places_same : (ring_of (holding im owners a)).places ≡ (ring_of (every im a)).places
     places_same = ap (λ (d : Dinode). d.size / im.size) (dinode_same im owners a dinode sound)
-
-best_same : (r s : Ring) (p n : ℕ) → ((q : ℕ) → p ≤ q → q < p + n → r.at q ≡ s.at q) → best_from r p n ≡ best_from s p n
-best_same r s p zero same = refl
-best_same r s p (suc n) same = ap₂ better (ap (accepted p) (same p (omega arith) (omega arith))) (best_same r s (p + 1) n (λ q low high. same q (omega (arith, low)) (omega (arith, high))))
 
 module _ (im : Image) (owners : Owners) (large : 512 ≤ im.size) (a : ℕ) (dinode : is_dinode (owners a) ≡ true) (sound : IsInode (holding im owners a)) (journal : IsJournal (holding im owners a)) where
   pub head_same : head_in (ring_of (holding im owners a)) ≡ head_in (ring_of (every im a))

@@ -1,7 +1,6 @@
 -- What is found on going over the list of groups.
 use Rattle.std.proofs.Common.{◌≡◌, ℕ, zero, suc, min, ◌^◌, ◌+◌, ◌-◌, ◌*◌, ◌/◌, ◌<◌, ◌≤◌, ◌⊎◌, inl, inr, List, [], ◌∷◌, ◌++◌, length, take, drop, map, get_or, Some, slice_get, Option, None, Ok, refl, sym, ap, ◌∙◌, subst, arith}
-use Rattle.std.proofs.lemmas.List.{length_push, append_assoc, append-nil, length-drop, drop-drop, drop_more, take-append-drop}
-use Rattle.std.proofs.lemmas.Bool.{cases_eq, cases_lt}
+use Rattle.std.proofs.lemmas.List.{length_push, append_assoc, length-drop, drop-drop, drop_more, take-append-drop}
 use Rattle.std.proofs.lemmas.List.FromFn.{length-map-range_with_len}
 use Rattle.std.proofs.Math.Seq.{take-suc}
 use Rattle.std.specs.List.{range_with_len, All, AllByRecursion}
@@ -12,7 +11,6 @@ use Rattle.gfs2_layout.specs.declared.rindex.Rindex.{Rindex}
 use Rattle.gfs2_layout.specs.Device.{superblock_place}
 use Rattle.image_model.specs.Claims.{every, IsRindex, HasGroup}
 use Rattle.gfs2_layout.specs.Inode.{content_of}
-use Rattle.gfs2_layout.specs.Bitmap.{bitmap_room}
 use Rattle.image_model.specs.Groups.{groups_in, entry_length, IsGroupAt, IsListed, IsNear, GroupFits, end_of}
 use Rattle.image_model.specs.Image.{Image}
 use Rattle.image_model.specs.Listing.{RiseFrom, end_after}

@@ -1,7 +1,7 @@
 -- A look over the image comes to each block that breaks a rule.
-use Rattle.std.proofs.Common.{◌≡◌, ◌==◌, ℕ, suc, ◌+◌, ◌*◌, ◌/◌, ◌<◌, ◌≤◌, if◌then◌else◌, inl, inr, true, false, List, refl, sym, ◌∙◌, subst, arith}
+use Rattle.std.proofs.Common.{◌≡◌, ◌==◌, ℕ, suc, ◌+◌, ◌*◌, ◌/◌, ◌<◌, if◌then◌else◌, inl, inr, true, List, refl, sym, ◌∙◌, subst, arith}
 use Rattle.std.proofs.lemmas.Bool.{cases_Bool, cond-true, cond-false}
-use Rattle.gfs2_layout.specs.Inode.{Leads, from_dinode, from_block, content_block, entry, entry_block, first_hash, height_in, leaf_in, table_count, unit}
+use Rattle.gfs2_layout.specs.Inode.{Leads, from_dinode, from_block, content_block, entry, entry_block, first_hash, height_in, table_count, unit}
 use Rattle.gfs2_layout.specs.declared.rindex.Rindex.{Rindex}
 use Rattle.image_model.specs.Claims.{every, Claims, root, master, below, first_leaf, next_leaf, in_dinode, in_leaf, HasInode, HasDirectory, HasLeaf, HasArea, behind_dinode, of_leaf, HasGroup, LeadsTo, IsUnder, itself, by_name}
 use Rattle.image_model.specs.Image.{Image, superblock_in}

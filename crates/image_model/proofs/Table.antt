@@ -8,8 +8,7 @@ use Rattle.image_model.specs.Image.{Image}
 use Rattle.image_model.specs.Owners.{Owner, Owners, IsUsed}
 use Rattle.image_model.specs.Flat.{AFile}
 use Rattle.image_model.specs.Groups.{IsListed, IsHeaderOf, IsDataOf, end_of, groups_in}
-use Rattle.image_model.specs.Stands.{Layout, IsLaid, IsJournalAt, flat_of}
-use Rattle.image_model.specs.Journals.{journal_name}
+use Rattle.image_model.specs.Stands.{Layout, IsLaid, flat_of}
 use Rattle.image_model.proofs.Held.{some_same}
 use Rattle.image_model.proofs.Unique.{used_or_not, used_same, flat_same}
 

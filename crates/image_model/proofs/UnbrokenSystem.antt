@@ -12,7 +12,7 @@ use Rattle.image_model.specs.Groups.{IsListed, IsGroupAt, groups_in, entry_lengt
 use Rattle.gfs2_layout.specs.Device.{superblock_place}
 use Rattle.gfs2_layout.specs.Holding.{InChain, part_at}
 use Rattle.gfs2_layout.specs.Inode.{dinode_in, is_hashed_in, content_block, content_of, table_count, entry, index_bits, first_hash, leaf_in}
-use Rattle.gfs2_layout.specs.Journal.{ring_of, head_in}
+use Rattle.log_layout.specs.Journal.{ring_of, head_in}
 use Rattle.image_model.specs.Stands.{Layout, IsLaid}
 use Rattle.image_model.specs.Claims.{every, IsUnder, itself, by_name, IsRindex, HasGroup, HasJournal}
 use Rattle.image_model.specs.Rules.{IsHashedAt}

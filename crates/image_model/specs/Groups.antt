@@ -1,5 +1,5 @@
 -- Resource groups: where they lie, and what their headers and bitmaps say. A group is given by its entry in the list of groups.
-use Rattle.std.specs.Prelude.{ℕ, ◌≡◌, ◌+◌, ◌-◌, ◌*◌, ◌/◌, ◌<◌, ◌≤◌, List, [], length, map, slice_get, slice_index_or, Some}
+use Rattle.std.specs.Prelude.{ℕ, ◌≡◌, ◌+◌, ◌*◌, ◌/◌, ◌<◌, ◌≤◌, List, [], length, map, slice_get, slice_index_or, Some}
 use Rattle.std.specs.List.{range_with_len}
 use Rattle.gfs2_layout.specs.Bytes.{slice}
 use Rattle.gfs2_layout.specs.Structures.{rindex_of}

@@ -1,10 +1,10 @@
 -- The journals among the inodes.
 use Rattle.std.specs.Prelude.{ℕ, ◌≡◌, ◌≢◌, ◌%◌, ◌<◌, true, List, ◌++◌, codes, decimal, Some}
 use Rattle.gfs2_layout.specs.Structures.{is_regular}
-use Rattle.gfs2_layout.specs.declared.log_header.LogHeader.{LogHeader}
+use Rattle.log_layout.specs.declared.log_header.LogHeader.{LogHeader}
 use Rattle.gfs2_layout.specs.Holding.{Holding}
 use Rattle.gfs2_layout.specs.Inode.{dinode_in, content_block}
-use Rattle.gfs2_layout.specs.Journal.{ring_of, head_in}
+use Rattle.log_layout.specs.Journal.{ring_of, head_in}
 
 -- the name of journal j
 abbrev pub journal_name : ℕ → List ℕ

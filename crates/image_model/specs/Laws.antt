@@ -1,5 +1,5 @@
 -- Laws of images.
-use Rattle.std.specs.Prelude.{ℕ, ◌≡◌, ◌↔◌, true, List, Some}
+use Rattle.std.specs.Prelude.{ℕ, ◌≡◌, ◌<◌, ◌↔◌, true, List, Some}
 use Rattle.std.specs.List.Sorted.{IsPermutation}
 use Rattle.file_tree.specs.Tree.{Tree}
 use Rattle.image_model.specs.Image.{Image}
@@ -7,9 +7,9 @@ use Rattle.image_model.specs.Claims.{every, Claims}
 use Rattle.image_model.specs.Journals.{IsJournal}
 use Rattle.image_model.specs.Rules.{Breaks, IsReached}
 use Rattle.gfs2_layout.specs.declared.dinode.Dinode.{Dinode}
-use Rattle.gfs2_layout.specs.Journal.{ring_of, head_in}
+use Rattle.log_layout.specs.Journal.{ring_of, head_in}
 use Rattle.image_model.specs.Owners.{Owner, Owners, Below, Chained, is_dinode, IsUsed, holding}
-use Rattle.gfs2_layout.specs.Inode.{Head}
+use Rattle.gfs2_layout.specs.Inode.{Head, content_block}
 use Rattle.gfs2_layout.specs.Holding.{Part, Itself, Pointed, InChain, bytes_at, part_at}
 use Rattle.gfs2_layout.specs.Records.{Record, child_named}
 use Rattle.image_model.specs.Stands.{Layout, IsLaid, IsDirectory, Stands}
@@ -51,7 +51,12 @@ abbrev pub OwnersClaim : Type 0
 OwnersClaim = (im : Image) (owners : Owners) (l : Layout) → IsLaid im owners l → (b : ℕ) (o : Owner)
     → ((by : ℕ) × Claims im by b o) ↔ ((owners b ≡ o) × IsUsed o)
 
--- in an image that stands a journal that is read block after block is that which is read from its own blocks
+-- a journal that is read block after block is that which is read from its own blocks: the head, the count of the places, and each place
+pub record ReadsAlike (im : Image) (owners : Owners) (a : ℕ) : Type 0 where
+  pub head : head_in (ring_of (holding im owners a)) ≡ head_in (ring_of (every im a))
+  pub places : (ring_of (holding im owners a)).places ≡ (ring_of (every im a)).places
+  pub blocks : (p : ℕ) → p < (ring_of (holding im owners a)).places → content_block (holding im owners a) p ≡ content_block (every im a) p
+
+-- so it is with each journal of an image that stands
 abbrev pub JournalsReadAlike : Type 0
-JournalsReadAlike = (im : Image) (owners : Owners) (l : Layout) → IsLaid im owners l → (a : ℕ) → is_dinode (owners a) ≡ true → IsJournal (holding im owners a)
-    → (head_in (ring_of (holding im owners a)) ≡ head_in (ring_of (every im a))) × ((ring_of (holding im owners a)).places ≡ (ring_of (every im a)).places)
+JournalsReadAlike = (im : Image) (owners : Owners) (l : Layout) → IsLaid im owners l → (a : ℕ) → is_dinode (owners a) ≡ true → IsJournal (holding im owners a) → ReadsAlike im owners a

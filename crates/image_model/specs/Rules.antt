@@ -18,7 +18,7 @@ use Rattle.image_model.specs.Image.{Image, superblock_in}
 use Rattle.gfs2_layout.specs.Headers.{HasHeader}
 use Rattle.gfs2_layout.specs.Device.{superblock_place}
 use Rattle.image_model.specs.Owners.{Owner, Below, Chained, parent_of, IsWithin}
-use Rattle.gfs2_layout.specs.Journal.{ring_of, head_in}
+use Rattle.log_layout.specs.Journal.{ring_of, head_in}
 use Rattle.gfs2_layout.specs.Records.{Record, records_in, is_dots}
 use Rattle.gfs2_layout.specs.Exchanges.{directory_count}
 use Rattle.image_model.specs.Stands.{kind_of}

@@ -5,11 +5,11 @@ use Rattle.std.specs.List.{All}
 use Rattle.std.proofs.lemmas.List.{length-map}
 use Rattle.std.proofs.lemmas.Option.{slice_get_within, get_or_from_slice_get}
 use Rattle.glock_names.specs.Views.{group_of_entry}
-use Rattle.gfs2_layout.specs.declared.log_header.LogHeader.{LogHeader}
+use Rattle.log_layout.specs.declared.log_header.LogHeader.{LogHeader}
 use Rattle.gfs2_layout.specs.declared.superblock.SuperBlock.{SuperBlock}
 use Rattle.image_mount.specs.declared.listing.Link.{Link}
 use Rattle.gfs2_layout.specs.Inode.{content_block}
-use Rattle.gfs2_layout.specs.Journal.{ring_of}
+use Rattle.log_layout.specs.Journal.{ring_of}
 use Rattle.image_model.specs.Claims.{every}
 use Rattle.image_model.specs.Image.{Image, image_of}
 use Rattle.image_model.specs.Stands.{Layout, IsJournalAt}

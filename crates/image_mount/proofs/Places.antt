@@ -13,7 +13,7 @@ use Rattle.std.proofs.Math.Nat.{div-eq_of_lt, div-mul-le_self, mul-le-mul_left}
 use Rattle.dinode_tree.specs.Reading.{IsHeadedWay, IsNeeded, IsOnWay, the_dinode, led_to, block_at, reach, target}
 use Rattle.dinode_tree.specs.declared.locating.Located.{Located}
 use Rattle.gfs2_layout.specs.Inode.{Leads, dinode_in, height_in, is_directory_in, header_length, unit, content_block}
-use Rattle.gfs2_layout.specs.Journal.{ring_of}
+use Rattle.log_layout.specs.Journal.{ring_of}
 use Rattle.gfs2_layout.specs.Holding.{Holding}
 use Rattle.gfs2_layout.specs.declared.dinode.Dinode.{Dinode}
 use Rattle.glock_names.specs.Views.{Seen}

@@ -7,7 +7,7 @@ use Rattle.file_tree.specs.Names.{IsName}
 use Rattle.gfs2_layout.specs.Exchanges.{directory_count}
 use Rattle.gfs2_layout.specs.Holding.{Holding}
 use Rattle.gfs2_layout.specs.Inode.{content_block, content_count, dinode_in, entry, head_of, header_length, height_in, index_bits, is_directory_in, is_hashed_in, leaf_in, pointer, span, table_count, IsLeaf}
-use Rattle.gfs2_layout.specs.Journal.{ring_of}
+use Rattle.log_layout.specs.Journal.{ring_of}
 use Rattle.gfs2_layout.specs.Records.{Record, records_in, is_dots, IsRecordArea}
 use Rattle.gfs2_layout.specs.Structures.{dinode_length}
 use Rattle.gfs2_layout.specs.declared.rindex.Rindex.{Rindex}

@@ -4,8 +4,8 @@ use Rattle.std.specs.List.{AllByRecursion, range_with_len}
 use Rattle.glock_names.specs.Views.{AreGroups, end_of, group_of_entry}
 use Rattle.glock_names.specs.declared.views.Group.{Group}
 use Rattle.gfs2_layout.specs.Inode.{content_block}
-use Rattle.gfs2_layout.specs.Journal.{ring_of, head_in}
-use Rattle.gfs2_layout.specs.declared.log_header.LogHeader.{LogHeader}
+use Rattle.log_layout.specs.Journal.{ring_of, head_in}
+use Rattle.log_layout.specs.declared.log_header.LogHeader.{LogHeader}
 use Rattle.gfs2_layout.specs.declared.superblock.SuperBlock.{SuperBlock}
 use Rattle.image_model.specs.Claims.{every}
 use Rattle.image_model.specs.Image.{Image, superblock_in}

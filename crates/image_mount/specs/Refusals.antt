@@ -4,9 +4,9 @@ use Rattle.profile_limits.specs.Limits.{least_journal_blocks, most_blocks, most_
 use Rattle.fault_counts.specs.Causes.{WentUp}
 use Rattle.gfs2_layout.specs.Device.{superblock_place}
 use Rattle.gfs2_layout.specs.Inode.{dinode_in}
-use Rattle.gfs2_layout.specs.Journal.{ring_of, head_in}
+use Rattle.log_layout.specs.Journal.{ring_of, head_in}
 use Rattle.gfs2_layout.specs.Records.{Record}
-use Rattle.gfs2_layout.specs.declared.log_header.LogHeader.{LogHeader}
+use Rattle.log_layout.specs.declared.log_header.LogHeader.{LogHeader}
 use Rattle.image_model.specs.Claims.{every, Claims, master_of}
 use Rattle.image_model.specs.Groups.{entry_length, GroupsFit}
 use Rattle.image_model.specs.Image.{Image, superblock_in}

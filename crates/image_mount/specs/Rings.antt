@@ -6,9 +6,9 @@ use Rattle.dinode_tree.specs.Reading.{IsHeadedWay}
 use Rattle.dinode_tree.specs.declared.locating.Located.{Located}
 use Rattle.gfs2_layout.specs.Device.{superblock_place}
 use Rattle.gfs2_layout.specs.Inode.{Leads, dinode_in, content_block}
-use Rattle.gfs2_layout.specs.Journal.{ring_of, head_in}
-use Rattle.gfs2_layout.specs.Journal.{Ring as JournalRing}
-use Rattle.gfs2_layout.specs.declared.log_header.LogHeader.{LogHeader}
+use Rattle.log_layout.specs.Journal.{ring_of, head_in}
+use Rattle.log_layout.specs.Journal.{Ring as JournalRing}
+use Rattle.log_layout.specs.declared.log_header.LogHeader.{LogHeader}
 use Rattle.image_model.specs.Claims.{every, Claims}
 use Rattle.image_model.specs.Image.{Image}
 use Rattle.image_model.specs.Journals.{journal_name}
@@ -127,8 +127,8 @@ pub record AreJournals (im : Image) (rings : List Ring) (journals : List Journal
   pub each : All (IsLowJournal im) journals
 
 -- what a journal has at each of its places
-abbrev pub ring_at : (ℕ → List ℕ) → List ℕ → JournalRing
-ring_at at blocks = record { places = length blocks; at = λ p. at (slice_index blocks p) }
+abbrev pub ring_at : Image → List ℕ → JournalRing
+ring_at im blocks = record { size = im.size; places = length blocks; at = λ p. im.at (slice_index blocks p) }
 
 -- the head of the journal with its dinode in block d, of which the sequence is one of the profile
 pub record IsHeadOf (im : Image) (d : ℕ) (head : LogHeader) : Type 0 where

@@ -2,7 +2,7 @@ ghost use Rattle.std.specs.Prelude.{ℕ, ◌≡◌, ◌≢◌, ◌+◌, ◌<◌,
 ghost use Rattle.std.specs.List.{All};
 ghost use Rattle.gfs2_layout.specs.Device.{superblock_place};
 ghost use Rattle.gfs2_layout.specs.Inode.{Fits};
-ghost use Rattle.gfs2_layout.specs.Journal.{accepted as accepted_at, better as better_of, head_in};
+ghost use Rattle.log_layout.specs.Journal.{accepted as accepted_at, head_in};
 ghost use Rattle.shared_disk.specs.Disk.{IsIdle};
 ghost use Rattle.shared_disk.specs.Disk.{ReadsOnly};
 ghost use Rattle.image_mount.specs.declared.listing.Link.{Link as LinkValue};
@@ -29,8 +29,8 @@ use crate::mounted::JournalMap;
 use crate::stop::{Stop, damaged, outside, reads};
 use crate::system::System;
 use dinode_tree::{Located, locate};
-use gfs2_layout::LogHeader;
 use glock_names::{Step, View};
+use log_layout::{LogHeader, better};
 use profile_limits::{LEAST_JOURNAL_BLOCKS, MOST_JOURNAL_BLOCKS};
 use shared_disk::SharedDisk;
 use std::alloc::Global;
@@ -314,17 +314,6 @@ fn accepted(place: u64, bytes: &[u8]) -> Option<LogHeader>
     }
 }
 
-// Of two headers that of higher sequence, and of equal ones the first.
-fn better(first: Option<LogHeader>, second: Option<LogHeader>) -> Option<LogHeader>
-    ensures { result ≡ better_of first second }
-{
-    match (first, second) {
-        (Some(one), Some(other)) if one.sequence < other.sequence => Some(other),
-        (Some(one), _) => Some(one),
-        (None, other) => other,
-    }
-}
-
 // The best of the headers that are accepted in these blocks, each of which is read once.
 fn best_header<D: SharedDisk>(
     disk: &mut D,
@@ -334,7 +323,7 @@ fn best_header<D: SharedDisk>(
     requires idle { IsIdle (D.state disk.old) }
     requires size { length bytes.old ≡ (D.state disk.old).size }
     requires inside { All (λ b. b < (D.state disk.old).count) blocks.now }
-    ensures found { IfOk result (λ best. IsTrue (D.state disk.old).tells → best ≡ head_in (ring_at (D.state disk.old).block_at blocks.now)) }
+    ensures found { IfOk result (λ best. IsTrue (D.state disk.old).tells → best ≡ head_in (ring_at (image_of (D.state disk.old)) blocks.now)) }
     ensures refused { All (IsReached (image_of (D.state disk.old))) blocks.now → IfErr result (RefusesRightly (image_of (D.state disk.old))) }
     ensures risen { IfErr result (HasRisen (D.faults disk.old) (D.faults disk.new)) }
     ensures within { IfErr result (LiesWithin (D.state disk.old).count) }

@@ -1,5 +1,6 @@
-use gfs2_layout::{LogHeader, SuperBlock};
+use gfs2_layout::SuperBlock;
 use glock_names::Group;
+use log_layout::LogHeader;
 use std::marker::Model;
 
 /// A journal of a mounted image.

@@ -4,7 +4,7 @@ use Rattle.std.proofs.lemmas.Bool.{cases_Bool, cond-true, cond-false}
 use Rattle.std.proofs.lemmas.Nat.{le-div}
 use Rattle.std.proofs.Math.Nat.{div-mul-le_self, mul-le-mul_left}
 use Rattle.gfs2_layout.specs.Inode.{dinode_in, is_directory_in, header_length, unit, content_block, content_count}
-use Rattle.gfs2_layout.specs.Journal.{Ring, ring_of, accepted, better, best_from, head_in}
+use Rattle.log_layout.specs.Journal.{Ring, ring_of, accepted, better, best_from, head_in}
 use Rattle.gfs2_layout.specs.declared.dinode.Dinode.{Dinode}
 use Rattle.image_model.specs.Claims.{HasJournal}
 use Rattle.image_reader.specs.Reading.{held, image_at, IsTrueOf}

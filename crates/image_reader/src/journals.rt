@@ -1,5 +1,5 @@
 ghost use Rattle.std.specs.Prelude.{ℕ, ◌≡◌, ◌+◌, ◌*◌, ◌<◌, ◌≤◌, false, None, length, IfErr, IfSome, IfNone};
-ghost use Rattle.gfs2_layout.specs.Journal.{accepted};
+ghost use Rattle.log_layout.specs.Journal.{accepted};
 ghost use Rattle.image_model.specs.Claims.{Claims, HasJournal, IsJindex, master_of};
 ghost use Rattle.image_reader.specs.Found.{IsTreeOf};
 ghost use Rattle.image_model.specs.Journals.{journal_name};
@@ -11,7 +11,7 @@ use crate::blocks::Block;
 use crate::directory::Found;
 use crate::image::{ImageFault, damaged};
 use crate::inode::Inode;
-use gfs2_layout::LogHeader;
+use log_layout::LogHeader;
 use number_words::number_word;
 
 // The number of the journal that has this name.
@@ -23,7 +23,7 @@ fn journal_number(name: &[u8]) -> Option<u64>
 }
 
 // Whether a header is accepted at a place.
-#[tactic(auto, unfolding(gfs2_layout::specs::Journal::accepted))]
+#[tactic(auto, unfolding(log_layout::specs::Journal::accepted))]
 fn is_header(block: &Block<'_>, place: u64) -> bool
     ensures { result ≡ false → accepted place ((image_at block.now.image).at block.now.number) ≡ None }
 {

@@ -2,3 +2,5 @@ pub mod InPlace
 pub mod DescriptorBack
 pub mod HeaderBack
 pub mod BestHeaders
+pub mod CrcFits
+pub mod HeadersBack

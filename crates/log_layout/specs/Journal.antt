@@ -1,6 +1,8 @@
 -- A journal: a ring of places with a block each, the log headers that are accepted in it, its head and its tail.
-use Rattle.std.specs.Prelude.{ℕ, zero, suc, ◌≡◌, ◌+◌, ◌-◌, ◌<◌, ◌==◌, ◌||◌, nat_lt, nat_le, if◌then◌else◌, Bool, List, [], ◌∷◌, length, Option, None, Some, Result, Ok, Err}
+use Rattle.std.specs.Prelude.{ℕ, zero, suc, ◌≡◌, ◌+◌, ◌-◌, ◌/◌, ◌<◌, ◌==◌, ◌||◌, true, nat_lt, nat_le, if◌then◌else◌, Bool, List, [], ◌∷◌, length, Option, None, Some, Result, Ok, Err}
 use Rattle.gfs2_layout.specs.declared.fault.LayoutFault.{LayoutFault}
+use Rattle.gfs2_layout.specs.Holding.{Holding, bytes_at}
+use Rattle.gfs2_layout.specs.Inode.{dinode_in, content_block}
 use Rattle.log_layout.specs.Headers.{log_read}
 use Rattle.log_layout.specs.declared.log_header.LogHeader.{LogHeader}
 
@@ -13,6 +15,10 @@ pub record Ring : Type 0 where
 -- each place has a whole block
 abbrev pub IsWhole : Ring → Type 0
 IsWhole ring = (p : ℕ) → p < ring.places → length (ring.at p) ≡ ring.size
+
+-- the ring of a journal's inode: place p is the block of content with index p
+abbrev pub ring_of : Holding → Ring
+ring_of h = record { size = h.size; places = (dinode_in h).size / h.size; at = λ p. bytes_at h (content_block h p) }
 
 -- ---- round the ring
 
@@ -59,6 +65,10 @@ best_from ring p (suc count) = better (accepted p (ring.at p)) (best_from ring (
 -- the head: the accepted header of highest sequence, of several that in the least place
 unfoldable pub head_in : Ring → Option LogHeader
 head_in ring = best_from ring 0 ring.places
+
+-- nothing is to be replayed
+abbrev pub IsClean : Ring → Type 0
+IsClean ring = (head : LogHeader) × (head_in ring ≡ Some head) × (head.clean ≡ true)
 
 -- ---- the tail
 

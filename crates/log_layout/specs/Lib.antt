@@ -5,3 +5,4 @@ pub mod Journal
 pub mod Chunks
 pub mod Transactions
 pub mod Live
+pub mod Laws

@@ -4,6 +4,7 @@
 mod descriptor;
 mod due;
 mod heads;
+mod laws;
 mod log_header;
 mod numbers;
 
@@ -12,5 +13,6 @@ pub use due::Due;
 pub use heads::{
     accepted, best_headers_go_on, better, heads_are_accepted, next_place, places_between,
 };
+pub use laws::headers_read_back;
 pub use log_header::{Later, LogHeader};
 pub use numbers::{put_u32, put_u64, u32_at, u64_at};

@@ -7,6 +7,7 @@ use Rattle.crc_words.specs.Remainder.{crc32_of}
 use Rattle.gfs2_layout.specs.Bytes.{put_at}
 use Rattle.gfs2_layout.specs.Laws.{AreasJoin, StructuresReadBack}
 use Rattle.gfs2_layout.specs.Holding.{Part, Itself, Pointed, InChain, bytes_at, part_at}
+use Rattle.log_layout.specs.Laws.{HeadersReadBack}
 use Rattle.image_model.specs.Image.{Image}
 use Rattle.image_model.specs.Laws.{HoldingsAreOwned, JournalsReadAlike, OwnersClaim}
 use Rattle.image_model.specs.Owners.{Owners, Below, Chained, is_dinode, holding}
@@ -14,6 +15,7 @@ use Rattle.mkgfs2_tool.specs.declared.plan.Plan.{Plan}
 
 pub record Given : Type 0 where
   pub structures : StructuresReadBack
+  pub headers : HeadersReadBack
   pub areas : AreasJoin
   pub holdings : HoldingsAreOwned
   pub claims : OwnersClaim

@@ -1,9 +1,12 @@
 -- A new image stands, and is in the profile.
 use Rattle.std.proofs.Common.{List, ℕ, suc, ◌≡◌, ◌+◌, ◌^◌, ◌<◌, ◌≤◌, length, Some, refl, sym, ap, ◌∙◌, subst, arith}
 use Rattle.std.proofs.lemmas.List.FromFn.{length-map-range_with_len}
-use Rattle.gfs2_layout.specs.declared.log_header.LogHeader.{LogHeader}
+use Rattle.log_layout.specs.declared.log_header.LogHeader.{LogHeader}
 use Rattle.gfs2_layout.specs.declared.superblock.SuperBlock.{SuperBlock}
-use Rattle.gfs2_layout.specs.Journal.{ring_of, head_in}
+use Rattle.gfs2_layout.specs.Inode.{content_block}
+use Rattle.log_layout.specs.Headers.{as_read}
+use Rattle.log_layout.specs.Journal.{ring_of, head_in}
+use Rattle.image_model.specs.Laws.{ReadsAlike}
 use Rattle.image_model.specs.Claims.{every, LeadsTo}
 use Rattle.image_model.specs.Image.{Image, Blocks}
 use Rattle.image_model.specs.Journals.{journal_name}
@@ -12,9 +15,9 @@ use Rattle.image_model.specs.Stands.{IsSuper, IsLaid}
 use Rattle.mkgfs2_tool.proofs.StandingLists.{some_same}
 use Rattle.mkgfs2_tool.specs.Groups.{super_block, group_address, group_blocks, data_address}
 use Rattle.mkgfs2_tool.specs.Order.{master_place, journals_place, journal_place}
-use Rattle.mkgfs2_tool.specs.Blocks.{group_entry, clean_header}
+use Rattle.mkgfs2_tool.specs.Blocks.{group_entry, clean_header, clean_block, first_content}
 use Rattle.mkgfs2_tool.specs.Making.{IsFitting}
-use Rattle.mkgfs2_tool.specs.Standing.{IsStamped, IsNewImage, new_layout, HasCleanHeads, StandsEmpty}
+use Rattle.mkgfs2_tool.specs.Standing.{IsStamped, IsNewImage, new_layout, new_head, HasCleanHeads, StandsEmpty}
 use Rattle.mkgfs2_tool.specs.declared.plan.Plan.{Plan}
 use Rattle.mkgfs2_tool.proofs.StandingJindex.{jindex_is}
 use Rattle.mkgfs2_tool.proofs.StandingGiven.{Given, Known}
@@ -22,7 +25,7 @@ use Rattle.mkgfs2_tool.proofs.StandingGround.{group_ends}
 use Rattle.mkgfs2_tool.proofs.StandingPlan.{ground, ground_is}
 use Rattle.mkgfs2_tool.proofs.StandingOwners.{owner, spot, owner_master, owner_root}
 use Rattle.mkgfs2_tool.proofs.StandingInodes.{held, image, AreMade, file_own}
-use Rattle.mkgfs2_tool.proofs.StandingRings.{places_are, new_head, new_journal}
+use Rattle.mkgfs2_tool.proofs.StandingRings.{places_are, first_block, first_bytes, dinode_block_is, read_sequence, ring_head, new_journal}
 use Rattle.mkgfs2_tool.proofs.StandingSystem.{inodes, directories, within, names, found, system, short, reads, root_is, master_only, journal_at, jindex_others}
 use Rattle.image_model.specs.Owners.{Named, up_of}
 use Rattle.image_model.specs.Stands.{flat_of}
@@ -70,18 +73,33 @@ module _ (p : Plan) (fit : IsFitting p) (known : Known p) (at : Blocks) (made : 
 
   -- ---- the journals, block after block
 
-  alike : (j : ℕ) (ok : suc j ≤ p.journals) → (head_in (ring_of (held p at (spot p (suc j) 0))) ≡ head_in (ring_of (every (image p at) (spot p (suc j) 0))))
-      × ((ring_of (held p at (spot p (suc j) 0))).places ≡ (ring_of (every (image p at) (spot p (suc j) 0))).places)
+  alike : (j : ℕ) (ok : suc j ≤ p.journals) → ReadsAlike (image p at) (owner p) (spot p (suc j) 0)
   alike j ok = known.given.alike (image p at) (owner p) (new_layout p) laid (spot p (suc j) 0) (file_own p fit known at made (suc j) ok) (new_journal p fit known at made j ok)
 
   journal_places : (j : ℕ) (ok : suc j ≤ p.journals) → (ring_of (every (image p at) (spot p (suc j) 0))).places ≡ p.journal_blocks
-  journal_places j ok = sym (alike j ok).1 ∙ places_are p fit known at made j ok
+  journal_places j ok = sym (alike j ok).places ∙ places_are p fit known at made j ok
 
-  journal_head : (j : ℕ) (ok : suc j ≤ p.journals) → head_in (ring_of (every (image p at) (spot p (suc j) 0))) ≡ Some (clean_header j)
-  journal_head j ok = sym (alike j ok).0 ∙ new_head p fit known at made j ok
+  -- the first block of its content, block after block
+  journal_first : (j : ℕ) (ok : suc j ≤ p.journals) → content_block (held p at (spot p (suc j) 0)) 0 ≡ content_block (every (image p at) (spot p (suc j) 0)) 0
+  journal_first j ok = (alike j ok).blocks 0 (subst (λ n. 0 < n) (sym (places_are p fit known at made j ok)) (some_blocks p.journal_blocks fit.plan.some_journal_blocks))
+    where
+      some_blocks : (n : ℕ) → 512 ≤ n → 0 < n
+      some_blocks n some = omega (arith, some)
 
-  pub heads : HasCleanHeads (image p at) (new_layout p)
-  heads j d e = let at_j = journal_at p fit known at made j d e in subst (λ n. head_in (ring_of (every (image p at) n)) ≡ Some (clean_header j)) (sym at_j.1) (journal_head j at_j.0)
+  journal_head : (j : ℕ) (ok : suc j ≤ p.journals) → head_in (ring_of (every (image p at) (spot p (suc j) 0))) ≡ Some (new_head p (image p at) j (spot p (suc j) 0))
+  journal_head j ok = sym (alike j ok).head ∙ ring_head p fit known at made j ok ∙ (λ i. Some (as_read (clean_header p.time j (block i) (dinode i)) (bytes i)))
+    where
+      block : data_address p (first_content p j) ≡ content_block (every (image p at) (spot p (suc j) 0)) 0
+      block = sym (first_block p fit known at made j ok) ∙ journal_first j ok
+
+      dinode : data_address p (journal_place p j) ≡ spot p (suc j) 0
+      dinode = sym (dinode_block_is p fit known at made j ok)
+
+      bytes : clean_block p j ≡ at (content_block (every (image p at) (spot p (suc j) 0)) 0)
+      bytes = sym (first_bytes p fit known at made j ok) ∙ ap at (journal_first j ok)
+
+  pub heads : HasCleanHeads p (image p at) (new_layout p)
+  heads j d e = let at_j = journal_at p fit known at made j d e in subst (λ n. head_in (ring_of (every (image p at) n)) ≡ Some (new_head p (image p at) j n)) (sym at_j.1) (journal_head j at_j.0)
 
   -- ---- the profile
 
@@ -123,11 +141,11 @@ module _ (p : Plan) (fit : IsFitting p) (known : Known p) (at : Blocks) (made : 
         (subst (λ n. (512 ≤ n) × (n ≤ 65536)) (sym (journal_places j at_j.0)) (fit.plan.some_journal_blocks, fit.plan.journal_blocks));
     groups = subst (λ n. (1 ≤ n) × (n ≤ 64)) (sym (length-map-range_with_len (group_entry p) 0 p.groups)) (fit.plan.some_groups, fit.plan.groups);
     group_blocks = few_group_blocks p fit;
-    sequence = λ j d head e f. one head (some_same (sym f ∙ heads j d e));
+    sequence = λ j d head e f. one j d head (some_same (sym f ∙ heads j d e));
   }
     where
-      one : {j : ℕ} (head : LogHeader) → head ≡ clean_header j → head.sequence < 2 ^ 63
-      one {j} head e = subst (λ n. n < 2 ^ 63) (sym (ap (λ (h : LogHeader). h.sequence) e)) (omega arith)
+      one : (j d : ℕ) (head : LogHeader) → head ≡ new_head p (image p at) j d → head.sequence < 2 ^ 63
+      one j d head e = subst (λ n. n < 2 ^ 63) (sym (ap (λ (h : LogHeader). h.sequence) e ∙ read_sequence (clean_header p.time j (content_block (every (image p at) d) 0) d) (at (content_block (every (image p at) d) 0)))) (omega arith)
 
   pub stands_empty : StandsEmpty p (image p at)
   stands_empty = record {

@@ -1,31 +1,34 @@
 -- The content of the files of a new image: the journals' rings.
-use Rattle.std.proofs.Common.{ℕ, zero, suc, ◌≡◌, ◌≢◌, ◌+◌, ◌-◌, ◌*◌, ◌/◌, ◌<◌, ◌≤◌, inl, inr, List, length, replicate, None, Some, refl, sym, ap, ap₂, ◌∙◌, subst, arith}
-use Rattle.std.specs.Prelude.{◌%◌, ◌==◌, not}
+use Rattle.std.proofs.Common.{ℕ, zero, suc, ◌≡◌, ◌≢◌, ◌+◌, ◌-◌, ◌*◌, ◌/◌, ◌<◌, ◌≤◌, ◌^◌, inl, inr, Bool, true, false, List, length, replicate, None, Some, refl, sym, ap, ap₂, ◌∙◌, subst, arith}
+use Rattle.std.specs.Prelude.{◌%◌, ◌==◌, not, if◌then◌else◌}
 use Rattle.std.specs.Int.{w32, from_be_bytes}
-use Rattle.std.proofs.lemmas.Bool.{cases_eq, cond-true, cond-false, ne_eqb, le-ltb}
+use Rattle.std.proofs.lemmas.Bool.{cases_eq, cond-true, cond-false, eq-eqb, ne_eqb, le-ltb}
 use Rattle.std.proofs.lemmas.Bool.Decides.{nat_tests}
 use Rattle.std.proofs.lemmas.List.{length-replicate, take-replicate}
 use Rattle.std.proofs.lemmas.Nat.{div_below, div-add-mod', mod_below}
 use Rattle.std.proofs.Math.Nat.{mul-div_cancel, mul-le-mul_right, mul-mod_left, mul_assoc, add-mul}
 use Rattle.gfs2_layout.specs.Bytes.{number_at, u32_at, u64_at}
 use Rattle.gfs2_layout.specs.Structures.{log_of, header_fault, hash_fault, or_else, answer, magic, dinode_length}
-use Rattle.gfs2_layout.specs.Writing.{log_put}
+use Rattle.log_layout.specs.Headers.{log_put, as_read, read_behind}
+use Rattle.log_layout.specs.Laws.{HasWidths}
+use Rattle.log_layout.specs.declared.log_header.LogHeader.{LogHeader}
 use Rattle.gfs2_layout.specs.declared.fault.LayoutFault.TheVariants.{Magic}
 use Rattle.image_model.specs.Image.{Blocks}
 use Rattle.gfs2_layout.specs.Inode.{header_length, pointer, span, descend, content_block}
 use Rattle.image_model.specs.Journals.{IsJournal}
-use Rattle.gfs2_layout.specs.Journal.{Ring, ring_of, if_at, accepted, better, best_from, head_in}
+use Rattle.log_layout.specs.Journal.{Ring, ring_of, if_at, accepted, better, best_from, head_in}
 use Rattle.gfs2_layout.specs.Holding.{Holding, bytes_at}
-use Rattle.mkgfs2_tool.specs.Groups.{super_block}
+use Rattle.mkgfs2_tool.specs.Groups.{super_block, data_address}
 use Rattle.mkgfs2_tool.specs.Files.{block_pointers, content_blocks, height, level_blocks, level_start, file_blocks}
-use Rattle.mkgfs2_tool.specs.Blocks.{zeros, clean_header, journal_block, used_block}
+use Rattle.mkgfs2_tool.specs.Blocks.{zeros, clean_header, clean_block, first_content, journal_block, used_block}
+use Rattle.mkgfs2_tool.specs.Order.{journal, journal_place}
 use Rattle.mkgfs2_tool.specs.Making.{IsFitting}
 use Rattle.mkgfs2_tool.specs.declared.files.Part.TheVariants.{Content}
 use Rattle.mkgfs2_tool.specs.declared.plan.Plan.{Plan}
 use Rattle.mkgfs2_tool.proofs.StandingGiven.{Given, Known, zeros_are_bytes}
 use Rattle.mkgfs2_tool.proofs.StandingShapes.{IsBelow, begins_level, span_some, top_narrow, inside_file}
-use Rattle.mkgfs2_tool.proofs.StandingPlan.{address_high}
-use Rattle.mkgfs2_tool.proofs.StandingOwners.{file_place, file_shape, file_use, spot, file_taken, in_all}
+use Rattle.mkgfs2_tool.proofs.StandingPlan.{address_high, address_low}
+use Rattle.mkgfs2_tool.proofs.StandingOwners.{file_place, file_shape, file_use, spot, file_taken, file_some, in_all}
 use Rattle.mkgfs2_tool.proofs.StandingFiles.{file_low, large, top_pointers, inner_block, content_at, journal_blocks}
 use Rattle.mkgfs2_tool.proofs.StandingInodes.{AreMade, held, file_height, file_size, file_regular, bytes_below, own_bytes}
 
@@ -160,12 +163,27 @@ module _ (p : Plan) (fit : IsFitting p) (known : Known p) (at : Blocks) (made : 
       ap (bytes_at h) (content_is x high inside) ∙ bytes_below p fit known at made i ok (height (file_shape p i)) x (content_below x high inside)
       ∙ content_at p fit known i x ok high (content_level x inside)
 
+  pub spot_low : (n : ℕ) → n < file_blocks (file_shape p i) → spot p i n < p.count
+  spot_low n inside = address_low p fit (file_place p i + n) (in_all p fit (file_place p i + n) (file_taken p i n ok inside))
+
+  pub content_inside : (x : ℕ) → 1 ≤ height (file_shape p i) → x < content_blocks (file_shape p i) → level_start (file_shape p i) (height (file_shape p i)) + x < file_blocks (file_shape p i)
+  content_inside x high inside = inside_file (file_shape p i) (file_low p fit known i) (height (file_shape p i)) x (content_below x high inside)
+
+  -- and in the image
+  pub content_there : (x : ℕ) → 1 ≤ height (file_shape p i) → x < content_blocks (file_shape p i) → at (content_block h x) ≡ used_block p (file_use i (Content x))
+  content_there x high inside =
+      ap at (content_is x high inside)
+      ∙ made.is (spot p i (level_start (file_shape p i) (height (file_shape p i)) + x)) (spot_low (level_start (file_shape p i) (height (file_shape p i)) + x) (content_inside x high inside))
+      ∙ content_at p fit known i x ok high (content_level x inside)
+
 -- ---- the journals
 
 -- zeros are no header
 zeros_refused : (size q : ℕ) → 512 ≤ size → accepted q (replicate size 0) ≡ None
 unfolding accepted number_at
-zeros_refused size q large = ap (if_at q) (ap (λ f. answer (or_else f (hash_fault clear)) (log_of clear)) off)
+zeros_refused size q large =
+    ap (if_at q) (cond-false _ _ _ (le-ltb (length clear) 120 (omega (arith, length-replicate {A = ℕ} size 0, large)))
+    ∙ ap (λ f. read_behind (answer (or_else f (hash_fault clear)) (log_of clear)) clear) off)
   where
     clear : List ℕ
     clear = replicate size 0
@@ -177,10 +195,26 @@ zeros_refused size q large = ap (if_at q) (ap (λ f. answer (or_else f (hash_fau
     off = cond-false _ _ _ (le-ltb (length (replicate size 0)) 48 (omega (arith, length-replicate {A = ℕ} size 0, large)))
         ∙ cond-true _ _ _ (ap not (ap (λ n. n == magic) first))
 
-header_accepted : (given : Given) (size j : ℕ) → 512 ≤ size → j < 8 → accepted 0 (log_put (clean_header j) (replicate size 0)) ≡ Some (clean_header j)
+-- what is read back has the numbers that its hash guards
+pub read_blkno : (h : LogHeader) (bytes : List ℕ) → (as_read h bytes).blkno ≡ h.blkno
+read_blkno h bytes = each (u32_at 48 bytes == 0)
+  where
+    each : (b : Bool) → (if b then record h { later = None } else h).blkno ≡ h.blkno
+    each true = refl
+    each false = refl
+
+pub read_sequence : (h : LogHeader) (bytes : List ℕ) → (as_read h bytes).sequence ≡ h.sequence
+read_sequence h bytes = each (u32_at 48 bytes == 0)
+  where
+    each : (b : Bool) → (if b then record h { later = None } else h).sequence ≡ h.sequence
+    each true = refl
+    each false = refl
+
+header_accepted : (given : Given) (size : ℕ) (h : LogHeader) → 512 ≤ size → HasWidths h → h.blkno ≡ 0 → accepted 0 (log_put h (replicate size 0)) ≡ Some (as_read h (log_put h (replicate size 0)))
 unfolding accepted
-header_accepted given size j large few = ap (if_at 0) (given.structures.log.back (clean_header j) (replicate size 0) (omega (arith, length-replicate {A = ℕ} size 0, large)) (zeros_are_bytes size) tt
-    (omega arith, (omega arith, (omega arith, (omega (arith, few), (omega arith, (omega arith, (omega arith, (omega arith, tt)))))))))
+header_accepted given size h large widths at =
+    ap (if_at 0) (given.headers.back h (replicate size 0) (omega (arith, length-replicate {A = ℕ} size 0, large)) (zeros_are_bytes size) widths)
+    ∙ cond-true _ _ _ (eq-eqb _ 0 (read_blkno h (log_put h (replicate size 0)) ∙ at))
 
 best_none : (ring : Ring) (q n : ℕ) → ((m : ℕ) → q ≤ m → m < q + n → accepted m (ring.at m) ≡ None) → best_from ring q n ≡ None
 best_none ring q zero none = refl
@@ -218,32 +252,82 @@ module _ (p : Plan) (fit : IsFitting p) (known : Known p) (at : Blocks) (made : 
   inside_content : (q : ℕ) → q < p.journal_blocks → q < content_blocks (file_shape p (suc j))
   inside_content q low = subst (λ n. q < n) (sym journal_content) low
 
-  ring_first : (ring_of hj).at 0 ≡ log_put (clean_header j) (zeros p)
-  unfolding journal_block used_block
-  ring_first = content_bytes p fit known at made (suc j) ok 0 journal_high (inside_content 0 (some_blocks p.journal_blocks fit.plan.some_journal_blocks))
+  first_inside : 0 < content_blocks (file_shape p (suc j))
+  first_inside = inside_content 0 (some_blocks p.journal_blocks fit.plan.some_journal_blocks)
     where
       some_blocks : (n : ℕ) → 512 ≤ n → 0 < n
       some_blocks n some = omega (arith, some)
+
+  ring_first : (ring_of hj).at 0 ≡ clean_block p j
+  unfolding journal_block used_block
+  ring_first = content_bytes p fit known at made (suc j) ok 0 journal_high first_inside
+
+  -- ---- its header
+
+  pub first_block : content_block hj 0 ≡ data_address p (first_content p j)
+  first_block = content_is p fit known at made (suc j) ok 0 journal_high first_inside ∙ ap (data_address p) (sum (journal_place p j) (level_start (journal p) (height (journal p))))
+    where
+      sum : (a b : ℕ) → a + (b + 0) ≡ a + b
+      sum a b = omega arith
+
+  pub first_bytes : at (content_block hj 0) ≡ clean_block p j
+  unfolding journal_block used_block
+  first_bytes = content_there p fit known at made (suc j) ok 0 journal_high first_inside
+
+  pub dinode_block_is : spot p (suc j) 0 ≡ data_address p (journal_place p j)
+  dinode_block_is = ap (data_address p) (none (journal_place p j))
+    where
+      none : (a : ℕ) → a + 0 ≡ a
+      none a = omega arith
+
+  abbrev header : LogHeader
+  header = clean_header p.time j (data_address p (first_content p j)) (data_address p (journal_place p j))
+
+  narrow : (n : ℕ) → n < p.count → n < 2 ^ 64
+  narrow n low = through n p.count low fit.count
+    where
+      through : (a c : ℕ) → a < c → c ≤ 131072 → a < 2 ^ 64
+      through a c low few = omega (arith, low, few)
+
+  first_low : data_address p (first_content p j) < 2 ^ 64
+  first_low = subst (λ n. n < 2 ^ 64) (sym (content_is p fit known at made (suc j) ok 0 journal_high first_inside) ∙ first_block)
+      (narrow (spot p (suc j) (level_start (file_shape p (suc j)) (height (file_shape p (suc j))) + 0)) (spot_low p fit known at made (suc j) ok (level_start (file_shape p (suc j)) (height (file_shape p (suc j))) + 0) (content_inside p fit known at made (suc j) ok 0 journal_high first_inside)))
+
+  dinode_low : data_address p (journal_place p j) < 2 ^ 64
+  dinode_low = subst (λ n. n < 2 ^ 64) dinode_block_is (narrow (spot p (suc j) 0) (spot_low p fit known at made (suc j) ok 0 (file_some p (suc j))))
+
+  header_widths : HasWidths header
+  header_widths = record {
+    front = (omega arith, (omega arith, (omega arith, (few, (omega arith, (omega arith, (omega arith, (omega arith, tt))))))));
+    later = (omega arith, (known.time, (first_low, (dinode_low, (omega arith, (omega arith, (omega arith, (omega arith, (omega arith, tt)))))))));
+  }
+    where
+      under : (j n : ℕ) → suc j ≤ n → n ≤ 8 → j < 2 ^ 32
+      under j n a b = omega (arith, a, b)
+
+      few : j < 2 ^ 32
+      few = under j p.journals ok fit.plan.journals
+
+  first_accepted : accepted 0 (clean_block p j) ≡ Some (as_read header (clean_block p j))
+  unfolding clean_block
+  first_accepted = header_accepted known.given p.size header (large p fit known) header_widths refl
 
   ring_later : (q : ℕ) → 1 ≤ q → q < p.journal_blocks → (ring_of hj).at q ≡ zeros p
   unfolding journal_block used_block
   ring_later q some low = content_bytes p fit known at made (suc j) ok q journal_high (inside_content q low) ∙ cond-false _ _ _ (ne_eqb q 0 (λ e. absurd (omega (arith, e, some))))
 
-  best_is : (n : ℕ) → suc n ≤ p.journal_blocks → best_from (ring_of hj) 0 (suc n) ≡ Some (clean_header j)
+  best_is : (n : ℕ) → suc n ≤ p.journal_blocks → best_from (ring_of hj) 0 (suc n) ≡ Some (as_read header (clean_block p j))
   best_is n few =
-      ap₂ better (ap (accepted 0) ring_first ∙ header_accepted known.given p.size j (large p fit known) (under j p.journals ok fit.plan.journals))
+      ap₂ better (ap (accepted 0) ring_first ∙ first_accepted)
       (best_none (ring_of hj) 1 n (λ m low high. ap (accepted m) (ring_later m low (below_count m n p.journal_blocks high few)) ∙ zeros_refused p.size m (large p fit known)))
     where
-      under : (j n : ℕ) → suc j ≤ n → n ≤ 8 → j < 8
-      under j n a b = omega (arith, a, b)
-
       below_count : (m n b : ℕ) → m < 1 + n → suc n ≤ b → m < b
       below_count m n b high few = omega (arith, high, few)
 
-  -- the head of a new journal is its clean header
-  pub new_head : head_in (ring_of hj) ≡ Some (clean_header j)
+  -- the head of a new journal is its clean header, as it is read
+  pub ring_head : head_in (ring_of hj) ≡ Some (as_read header (clean_block p j))
   unfolding head_in
-  new_head = ap (best_from (ring_of hj) 0) (places_are ∙ one_more p.journal_blocks fit.plan.some_journal_blocks) ∙ best_is (p.journal_blocks - 1) (same p.journal_blocks fit.plan.some_journal_blocks)
+  ring_head = ap (best_from (ring_of hj) 0) (places_are ∙ one_more p.journal_blocks fit.plan.some_journal_blocks) ∙ best_is (p.journal_blocks - 1) (same p.journal_blocks fit.plan.some_journal_blocks)
     where
       one_more : (n : ℕ) → 512 ≤ n → n ≡ suc (n - 1)
       one_more n some = omega (arith, some)
@@ -256,5 +340,5 @@ module _ (p : Plan) (fit : IsFitting p) (known : Known p) (at : Blocks) (made : 
     file = file_regular p fit known at made (suc j) ok;
     whole = ap (λ n. n % p.size) (file_size p fit known at made (suc j) ok) ∙ mul-mod_left p.journal_blocks p.size;
     filled = λ q low. content_some p fit known at made (suc j) ok q journal_high (inside_content q (subst (λ n. q < n) places_are low));
-    headed = (clean_header j, new_head);
+    headed = (as_read header (clean_block p j), ring_head);
   }

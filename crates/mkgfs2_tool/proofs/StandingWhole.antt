@@ -10,16 +10,17 @@ use Rattle.gfs2_layout.specs.Fields.{HasItsWidth}
 use Rattle.gfs2_layout.specs.Laws.{HasTextLengths}
 use Rattle.gfs2_layout.specs.declared.dinode.Dinode.{Dinode}
 use Rattle.gfs2_layout.specs.Structures.{superblock_of, superblock_read, header_fault}
-use Rattle.gfs2_layout.specs.Writing.{superblock_fields, superblock_put, group_put, header_put, log_put, dinode_put}
+use Rattle.gfs2_layout.specs.Writing.{superblock_fields, superblock_put, group_put, header_put, dinode_put}
+use Rattle.log_layout.specs.Headers.{log_put}
 use Rattle.gfs2_layout.specs.declared.group_header.GroupHeader.{GroupHeader}
 use Rattle.gfs2_layout.specs.declared.header.MetaHeader.{MetaHeader}
-use Rattle.gfs2_layout.specs.declared.log_header.LogHeader.{LogHeader}
+use Rattle.log_layout.specs.declared.log_header.LogHeader.{LogHeader}
 use Rattle.gfs2_layout.specs.Headers.{HasHeader}
 use Rattle.mkgfs2_tool.specs.Groups.{super_block, last_group, headers_of, first_data, data_blocks, data_before, data_address}
 use Rattle.mkgfs2_tool.specs.Files.{height, level_start}
 use Rattle.mkgfs2_tool.specs.Order.{master_place, root_place, journals_place, has_hashed_journals, journal_leaves, leaf_place, taken}
 use Rattle.mkgfs2_tool.specs.Directories.{records, master_entries, root_entries, journals_entries}
-use Rattle.mkgfs2_tool.specs.Blocks.{group_block, data_block, zeros, shift_of, superblock, bitmap_byte, bitmap, group_header, first_header_block, further_header_block, header_block, area_length, dinode, directory, group_entries, group_list_block, journal_block, clean_header, used_block, new_block}
+use Rattle.mkgfs2_tool.specs.Blocks.{group_block, data_block, zeros, shift_of, superblock, bitmap_byte, bitmap, group_header, first_header_block, further_header_block, header_block, area_length, dinode, directory, group_entries, group_list_block, journal_block, clean_block, used_block, new_block}
 use Rattle.mkgfs2_tool.specs.Making.{IsFitting}
 use Rattle.mkgfs2_tool.specs.declared.directory.Entry.{Entry}
 use Rattle.mkgfs2_tool.specs.declared.files.Part.TheVariants.{Content}
@@ -56,7 +57,7 @@ dinode_put_long : (given : Given) (size : ℕ) (d : Dinode) → 512 ≤ size →
 dinode_put_long given size d large = given.structures.dinode.as_long d (replicate size 0) (clear_room 232 size (omega arith) large) tt ∙ clear_long size
 
 log_put_long : (given : Given) (size : ℕ) (h : LogHeader) → 512 ≤ size → length (log_put h (replicate size 0)) ≡ size
-log_put_long given size h large = given.structures.log.as_long h (replicate size 0) (clear_room 48 size (omega arith) large) tt ∙ clear_long size
+log_put_long given size h large = given.headers.as_long h (replicate size 0) (clear_room 120 size (omega arith) large) ∙ clear_long size
 
 -- ---- the superblock
 
@@ -177,14 +178,14 @@ module _ (p : Plan) (fit : IsFitting p) (known : Known p) where
       sum n m s le e = omega (arith, le, e)
 
   content_long : (i x : ℕ) → length (used_block p (file_use i (Content x))) ≡ p.size
-  unfolding group_list_block journal_block group_entries used_block
+  unfolding group_list_block journal_block clean_block group_entries used_block
   content_long zero x = filled_long (slice (x * p.size) p.size (group_entries p)) (least p.size (length (drop (x * p.size) (group_entries p))) (length (slice (x * p.size) p.size (group_entries p))) (length-take p.size (drop (x * p.size) (group_entries p))))
     where
       least : (s n m : ℕ) → m ≡ min s n → m ≤ s
       least s n m e = omega (arith, e)
   content_long (suc j) x = elim (cases_eq x 0) [
-    | inl e ↦ ap length (cond-true _ (log_put (clean_header j) (zeros p)) (zeros p) (eq-eqb x 0 e)) ∙ log_put_long known.given p.size (clean_header j) (large p fit known)
-    | inr d ↦ ap length (cond-false _ (log_put (clean_header j) (zeros p)) (zeros p) (ne_eqb x 0 d)) ∙ clear_long p.size
+    | inl e ↦ ap length (cond-true _ (clean_block p j) (zeros p) (eq-eqb x 0 e)) ∙ log_put_long known.given p.size _ (large p fit known)
+    | inr d ↦ ap length (cond-false _ (clean_block p j) (zeros p) (ne_eqb x 0 d)) ∙ clear_long p.size
   ]
 
   below_long : (i l x : ℕ) → i ≤ p.journals → IsBelow (file_shape p i) l x → length (new_block p (spot p i (level_start (file_shape p i) l + x))) ≡ p.size

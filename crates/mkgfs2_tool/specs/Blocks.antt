@@ -1,19 +1,20 @@
 -- What stands in each block of a new image.
-use Rattle.std.specs.Prelude.{ℕ, ◌≡◌, ◌+◌, ◌-◌, ◌*◌, ◌/◌, ◌^◌, ◌==◌, ◌&&◌, Bool, true, false, min, nat_le, nat_lt, if◌then◌else◌, List, ◌++◌, length, map, replicate, codes, count_by}
+use Rattle.std.specs.Prelude.{ℕ, ◌≡◌, ◌+◌, ◌-◌, ◌*◌, ◌/◌, ◌^◌, ◌==◌, ◌&&◌, Bool, true, false, min, nat_le, nat_lt, if◌then◌else◌, List, ◌++◌, length, map, replicate, codes, count_by, Some}
 use Rattle.gfs2_layout.specs.Structures.{dinode_length}
 use Rattle.gfs2_layout.specs.Inode.{leaf_length}
 use Rattle.std.specs.List.{range_with_len, flat_map}
 use Rattle.std.specs.Int.{w64, to_be_bytes}
 use Rattle.gfs2_layout.specs.Bytes.{put_at, slice}
 use Rattle.gfs2_layout.specs.Bitmap.{byte_of}
-use Rattle.gfs2_layout.specs.Writing.{header_put, superblock_put, dinode_put, rindex_put, group_put, leaf_put, log_put}
+use Rattle.gfs2_layout.specs.Writing.{header_put, superblock_put, dinode_put, rindex_put, group_put, leaf_put}
+use Rattle.log_layout.specs.Headers.{log_put}
 use Rattle.gfs2_layout.specs.declared.superblock.SuperBlock.{SuperBlock}
 use Rattle.gfs2_layout.specs.declared.dinode.Dinode.{Dinode}
 use Rattle.gfs2_layout.specs.declared.rindex.Rindex.{Rindex}
 use Rattle.gfs2_layout.specs.declared.group_header.GroupHeader.{GroupHeader}
-use Rattle.gfs2_layout.specs.declared.log_header.LogHeader.{LogHeader}
+use Rattle.log_layout.specs.declared.log_header.LogHeader.{LogHeader}
 use Rattle.mkgfs2_tool.specs.Groups.{super_block, share, last_group, group_address, headers_of, first_data, data_blocks, data_before, data_address}
-use Rattle.mkgfs2_tool.specs.Files.{height, file_blocks, children}
+use Rattle.mkgfs2_tool.specs.Files.{height, level_start, file_blocks, children}
 use Rattle.mkgfs2_tool.specs.declared.files.Shape.{Shape}
 use Rattle.mkgfs2_tool.specs.declared.files.Part.{Part}
 use Rattle.mkgfs2_tool.specs.declared.files.Part.TheVariants.{Top, Pointers, Content}
@@ -246,14 +247,39 @@ group_list_block p Top =
 group_list_block p (Pointers level index) = pointer_block p group_list_place (group_list p) level index
 group_list_block p (Content n) = padded p (slice (n * p.size) p.size (group_entries p))
 
--- a journal begins with a clean log header, and the rest of it is zeros
-abbrev pub clean_header : ℕ → LogHeader
-clean_header j = record { jid = j; sequence = 1; clean = true; tail = 0; blkno = 0 }
+-- the clean log header with which journal j begins, written at this time into this block, where the journal's dinode is in that one
+abbrev pub clean_header : ℕ → ℕ → ℕ → ℕ → LogHeader
+clean_header time j block dinode = record {
+  jid = j;
+  sequence = 1;
+  clean = true;
+  tail = 0;
+  blkno = 0;
+  later = Some (record {
+    nsec = 0;
+    sec = time;
+    addr = block;
+    jinode = dinode;
+    statfs_addr = 0;
+    quota_addr = 0;
+    local_total = 0;
+    local_free = 0;
+    local_dinodes = 0;
+  });
+}
 
+-- the first block of a journal's content
+abbrev pub first_content : Plan → ℕ → ℕ
+first_content p j = journal_place p j + level_start (journal p) (height (journal p))
+
+unfoldable pub clean_block : Plan → ℕ → List ℕ
+clean_block p j = log_put (clean_header p.time j (data_address p (first_content p j)) (data_address p (journal_place p j))) (zeros p)
+
+-- a journal begins with its clean header, and the rest of it is zeros
 unfoldable pub journal_block : Plan → ℕ → Part → List ℕ
 journal_block p j Top = pointing_dinode p (5 + j) (journal_place p j) (journal p)
 journal_block p j (Pointers level index) = pointer_block p (journal_place p j) (journal p) level index
-journal_block p j (Content n) = if n == 0 then log_put (clean_header j) (zeros p) else zeros p
+journal_block p j (Content n) = if n == 0 then clean_block p j else zeros p
 
 -- ---- directories
 

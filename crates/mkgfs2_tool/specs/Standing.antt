@@ -4,8 +4,10 @@ use Rattle.std.specs.List.{range_with_len}
 use Rattle.file_tree.specs.Tree.{dir, none}
 use Rattle.image_model.specs.Claims.{every}
 use Rattle.image_model.specs.Image.{Image}
-use Rattle.gfs2_layout.specs.Inode.{is_hashed_in}
-use Rattle.gfs2_layout.specs.Journal.{ring_of, head_in}
+use Rattle.gfs2_layout.specs.Inode.{content_block, is_hashed_in}
+use Rattle.log_layout.specs.Headers.{as_read}
+use Rattle.log_layout.specs.Journal.{ring_of, head_in}
+use Rattle.log_layout.specs.declared.log_header.LogHeader.{LogHeader}
 use Rattle.image_model.specs.Owners.{holding}
 use Rattle.image_model.specs.Profile.{IsInProfile}
 use Rattle.image_model.specs.Stands.{Layout, IsJournalAt, Stands}
@@ -37,16 +39,21 @@ new_layout p = record {
   journals = map (λ j. data_address p (journal_place p j)) (range_with_len 0 p.journals);
 }
 
--- each journal's head is its clean header: that of sequence 1, at place 0
-abbrev pub HasCleanHeads : Image → Layout → Type 0
-HasCleanHeads im l = (j d : ℕ) → IsJournalAt l j d → head_in (ring_of (every im d)) ≡ Some (clean_header j)
+-- the clean header of sequence 1 of journal j, as it is read at place 0: it tells the time, its own block and that of its dinode, unless its
+-- checksum comes out as zero, which says version 1
+abbrev pub new_head : Plan → Image → ℕ → ℕ → LogHeader
+new_head p im j d = let block = content_block (every im d) 0 in as_read (clean_header p.time j block d) (im.at block)
+
+-- each journal's head is that header
+abbrev pub HasCleanHeads : Plan → Image → Layout → Type 0
+HasCleanHeads p im l = (j d : ℕ) → IsJournalAt l j d → head_in (ring_of (every im d)) ≡ Some (new_head p im j d)
 
 -- the image stands for the empty directory, is found as it was laid, has clean journals in a linear directory or a hashed one, and is one of
 -- those that are mounted
 pub record StandsEmpty (p : Plan) (im : Image) : Type 0 where
   pub stands : Stands im (dir none)
   pub found : stands.layout ≡ new_layout p
-  pub heads : HasCleanHeads im (new_layout p)
+  pub heads : HasCleanHeads p im (new_layout p)
   pub form : is_hashed_in (holding im stands.owners (new_layout p).jindex) ≡ has_hashed_journals p
   pub profile : IsInProfile im (new_layout p)
 

@@ -1,6 +1,6 @@
 ghost use Rattle.std.specs.Prelude.{◌≡◌, ◌+◌, ◌-◌, ◌*◌, ◌/◌, ◌^◌, ◌<◌, ◌≤◌, length, replicate};
 ghost use Rattle.gfs2_layout.specs.Bytes.{slice};
-ghost use Rattle.gfs2_layout.specs.Writing.{superblock_put, log_put};
+ghost use Rattle.gfs2_layout.specs.Writing.{superblock_put};
 ghost use Rattle.mkgfs2_tool.specs.Blocks.{system_file as system_file_of, text_field as text_field_of, shift_of as shift_of_size};
 ghost use Rattle.mkgfs2_tool.specs.Making.{IsFitting};
 ghost use Rattle.profile_limits.specs.Limits.{most_blocks};
@@ -11,7 +11,8 @@ use crate::files::Part;
 use crate::inodes::system_file;
 use crate::order::Use;
 use crate::plan::Plan;
-use gfs2_layout::{DINODE_LENGTH, Inum, LogHeader, SuperBlock};
+use gfs2_layout::{DINODE_LENGTH, Inum, SuperBlock};
+use log_layout::{Later, LogHeader};
 
 // A name, and zeros behind it.
 fn text_field(text: &[u8]) -> [u8; 64]
@@ -48,10 +49,10 @@ fn shift_of(size: u64) -> u32
 }
 
 impl Plan {
-    ghost use Rattle.mkgfs2_tool.specs.Groups.{group_address, group_blocks, headers_of};
-    ghost use Rattle.mkgfs2_tool.specs.Order.{taken, group_list, journal};
+    ghost use Rattle.mkgfs2_tool.specs.Groups.{data_address, group_address, group_blocks, headers_of};
+    ghost use Rattle.mkgfs2_tool.specs.Order.{taken, group_list, journal, journal_place};
     ghost use Rattle.mkgfs2_tool.specs.Making.{IsPartOf, IsUseOf};
-    ghost use Rattle.mkgfs2_tool.specs.Blocks.{superblock, clean_header, group_list_block, journal_block, used_block, data_block, group_block, group_at, new_block, IsGroupList, padded, zeros, dinode_block, dinode};
+    ghost use Rattle.mkgfs2_tool.specs.Blocks.{superblock, clean_header, clean_block, first_content, group_list_block, journal_block, used_block, data_block, group_block, group_at, new_block, IsGroupList, padded, zeros, dinode_block, dinode};
 
     fn superblock(&self) -> SuperBlock
         requires { IsFitting self.now }
@@ -118,22 +119,46 @@ impl Plan {
         put_bytes(block, 0, piece);
     }
 
-    // The first block of a journal.
-    fn put_clean_header(&self, block: &mut [u8], number: u64)
+    // The log header with which a journal begins, of version 2.
+    fn clean_header(&self, number: u64) -> LogHeader
         requires plan { IsFitting self.now }
-        requires size { length block.old ≡ self.now.size }
         requires number { number < 8 }
-        ensures { block.new ≡ log_put (clean_header number) (zeros self.now) }
+        ensures { result ≡ clean_header self.now.time number (data_address self.now (first_content self.now number)) (data_address self.now (journal_place self.now number)) }
     {
-        self.clear(block);
-        let header = LogHeader {
+        let journal = self.journal();
+        let place = self.journal_place(number);
+        let first = place + journal.level_start(journal.height());
+        let later = Later {
+            nsec: 0,
+            sec: self.time(),
+            addr: self.data_address(first),
+            jinode: self.data_address(place),
+            statfs_addr: 0,
+            quota_addr: 0,
+            local_total: 0,
+            local_free: 0,
+            local_dinodes: 0,
+        };
+        LogHeader {
             jid: number as u32,
             sequence: 1,
             clean: true,
             tail: 0,
             blkno: 0,
-        };
-        header.write(block);
+            later: Some(later),
+        }
+    }
+
+    // The first block of a journal.
+    #[tactic(auto, unfolding(crate::specs::Blocks::clean_block))]
+    fn put_clean_header(&self, block: &mut [u8], number: u64)
+        requires plan { IsFitting self.now }
+        requires size { length block.old ≡ self.now.size }
+        requires number { number < 8 }
+        ensures { block.new ≡ clean_block self.now number }
+    {
+        self.clear(block);
+        self.clean_header(number).write(block);
     }
 
     /// A block of a journal.

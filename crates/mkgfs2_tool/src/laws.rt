@@ -6,12 +6,14 @@ ghost use Rattle.mkgfs2_tool.specs.Insertions.{JournalsAreInserted};
 use crc_words::checksums_have_32_bits;
 use gfs2_layout::{areas_join, structures_read_back};
 use image_model::{holdings_are_owned, journals_read_alike, owners_claim_their_blocks};
+use log_layout::headers_read_back;
 
 /// A law: every image that is made of a plan that fits its device stands for the empty directory.
 pub fn new_images_stand()
     ensures { NewImagesStand }
 {
     structures_read_back();
+    headers_read_back();
     areas_join();
     holdings_are_owned();
     owners_claim_their_blocks();
@@ -24,6 +26,7 @@ pub fn journals_are_inserted()
     ensures { JournalsAreInserted }
 {
     structures_read_back();
+    headers_read_back();
     areas_join();
     holdings_are_owned();
     owners_claim_their_blocks();

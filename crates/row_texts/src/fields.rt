@@ -69,12 +69,22 @@ static LEAF: [Field; 4] = [
     ("next", 32, 8),
 ];
 
-static LOG_HEADER: [Field; 5] = [
+static LOG_HEADER: [Field; 15] = [
     ("sequence", 24, 8),
     ("flags", 32, 4),
     ("tail", 36, 4),
     ("blkno", 40, 4),
     ("hash", 44, 4),
+    ("crc", 48, 4),
+    ("nsec", 52, 4),
+    ("sec", 56, 8),
+    ("addr", 64, 8),
+    ("jinode", 72, 8),
+    ("statfs_addr", 80, 8),
+    ("quota_addr", 88, 8),
+    ("local_total", 96, 8),
+    ("local_free", 104, 8),
+    ("local_dinodes", 112, 8),
 ];
 
 static RECORD: [Field; 8] = [

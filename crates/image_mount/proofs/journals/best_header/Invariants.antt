@@ -1,5 +1,6 @@
 use Rattle.std.proofs.Common.{◌≡◌, length, IsTrue}
-use Rattle.gfs2_layout.specs.Journal.{best_from}
+use Rattle.log_layout.specs.Journal.{best_from}
+use Rattle.image_model.specs.Image.{image_of}
 use Rattle.image_mount.specs.Rings.{ring_at}
 use Rattle.shared_disk.specs.Disk.{ReadsOnly}
 use Rattle.image_mount.proofs.journals.best_header.Given as goal
@@ -8,6 +9,6 @@ abbrev pub invariant-loop-block : goal.invariant-loop-block
 invariant-loop-block g l = record {
   place : l.place ≡ l.block-index;
   size : length l.bytes ≡ (g.D.SharedDisk.state l.initial.disk).size;
-  found : IsTrue (g.D.SharedDisk.state l.initial.disk).tells → l.best ≡ best_from (ring_at (g.D.SharedDisk.state l.initial.disk).block_at l.blocks) 0 l.block-index;
+  found : IsTrue (g.D.SharedDisk.state l.initial.disk).tells → l.best ≡ best_from (ring_at (image_of (g.D.SharedDisk.state l.initial.disk)) l.blocks) 0 l.block-index;
   reads : ReadsOnly (g.D.SharedDisk.state l.initial.disk) (g.D.SharedDisk.state l.disk) (g.D.SharedDisk.list l.initial.disk) (g.D.SharedDisk.list l.disk) (g.D.SharedDisk.faults l.initial.disk) (g.D.SharedDisk.faults l.disk);
 }

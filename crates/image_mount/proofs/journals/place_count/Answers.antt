@@ -6,7 +6,7 @@ use Rattle.image_model.proofs.Lengths.{size_large}
 use Rattle.image_model.specs.Rules.{HasRecordIn}
 use Rattle.image_mount.proofs.Places.{wrong_part, wrong_places, journal_format, journal_inode}
 use Rattle.image_mount.proofs.Stops.{stopped}
-use Rattle.gfs2_layout.specs.Journal.{ring_of}
+use Rattle.log_layout.specs.Journal.{ring_of}
 use Rattle.gfs2_layout.specs.declared.dinode.Dinode.{Dinode}
 use Rattle.image_mount.specs.Looks.{IsSized}
 use Rattle.image_mount.proofs.Looks.{file_sized}
