@@ -78,6 +78,6 @@ fn numbers_outside_their_limits_are_refused_first(rt: HostRuntime) -> Result<(),
     }
     let (end, bytes) = make_on(&rt, rt.alloc(), 538, &options_of(1, 512, 1))?;
     assert_eq!(rt; end, None);
-    assert_eq!(rt; crc32(&bytes), 0xDF7C_1FD8);
+    assert_eq!(rt; crc32(&bytes), 0x49FD_5DB1);
     Ok(())
 }

@@ -18,9 +18,9 @@ use Rattle.log_layout.specs.declared.log_header.LogHeader.{LogHeader}
 use Rattle.gfs2_layout.specs.Headers.{HasHeader}
 use Rattle.mkgfs2_tool.specs.Groups.{super_block, last_group, headers_of, first_data, data_blocks, data_before, data_address}
 use Rattle.mkgfs2_tool.specs.Files.{height, level_start}
-use Rattle.mkgfs2_tool.specs.Order.{master_place, root_place, journals_place, has_hashed_journals, journal_leaves, leaf_place, taken}
+use Rattle.mkgfs2_tool.specs.Order.{master_place, root_place, journal_place, journals_place, has_hashed_journals, journal_leaves, leaf_place, taken}
 use Rattle.mkgfs2_tool.specs.Directories.{records, master_entries, root_entries, journals_entries}
-use Rattle.mkgfs2_tool.specs.Blocks.{group_block, data_block, zeros, shift_of, superblock, bitmap_byte, bitmap, group_header, first_header_block, further_header_block, header_block, area_length, dinode, directory, group_entries, group_list_block, journal_block, clean_block, used_block, new_block}
+use Rattle.mkgfs2_tool.specs.Blocks.{group_block, data_block, zeros, shift_of, superblock, bitmap_byte, bitmap, group_header, first_header_block, further_header_block, header_block, area_length, dinode, directory, group_entries, group_list_block, journal_block, clean_header, clean_block, first_content, used_block, new_block}
 use Rattle.mkgfs2_tool.specs.Making.{IsFitting}
 use Rattle.mkgfs2_tool.specs.declared.directory.Entry.{Entry}
 use Rattle.mkgfs2_tool.specs.declared.files.Part.TheVariants.{Content}
@@ -184,7 +184,7 @@ module _ (p : Plan) (fit : IsFitting p) (known : Known p) where
       least : (s n m : ℕ) → m ≡ min s n → m ≤ s
       least s n m e = omega (arith, e)
   content_long (suc j) x = elim (cases_eq x 0) [
-    | inl e ↦ ap length (cond-true _ (clean_block p j) (zeros p) (eq-eqb x 0 e)) ∙ log_put_long known.given p.size _ (large p fit known)
+    | inl e ↦ ap length (cond-true _ (clean_block p j) (zeros p) (eq-eqb x 0 e)) ∙ log_put_long known.given p.size (clean_header p.time j (data_address p (first_content p j)) (data_address p (journal_place p j))) (large p fit known)
     | inr d ↦ ap length (cond-false _ (clean_block p j) (zeros p) (ne_eqb x 0 d)) ∙ clear_long p.size
   ]
 
