@@ -1,11 +1,9 @@
 -- What the inodes of an image say as nodes, and what is common to the changes that touch a few of them.
 use Rattle.std.proofs.Common.{◌≡◌, ◌≢◌, ℕ, ◌⊎◌, inl, inr, Bool, true, false, ◌||◌, List, [], ◌∷◌, Option, None, Some, refl, sym, ap, ◌∙◌, subst}
-use Rattle.std.specs.Prelude.{codes, ◌==◌, if◌then◌else◌}
+use Rattle.std.specs.Prelude.{◌==◌, if◌then◌else◌}
 use Rattle.std.specs.Str.{bytes_eq}
-use Rattle.std.proofs.lemmas.Slice.Eq.{bytes_eq-Decides}
 use Rattle.std.proofs.lemmas.Bool.{cases_Bool, cases_eq, cond-true, cond-false, eq-eqb, ne_eqb, eqb-true, or_cases, true≢false}
 use Rattle.file_tree.specs.Tree.{Tree, file, dir, none}
-use Rattle.file_tree.specs.Names.{IsName}
 use Rattle.gfs2_layout.specs.Inode.{is_directory_in, content_of, records_of}
 use Rattle.gfs2_layout.specs.Records.{is_dots, child_named}
 use Rattle.image_model.specs.Flat.{Path, AFile, ADir, thing_in, thing_at, Node, Flat, no_node, follow, thing_from, ReadsAs}

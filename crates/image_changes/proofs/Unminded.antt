@@ -8,9 +8,9 @@ use Rattle.gfs2_layout.specs.Device.{IsBlockSize, superblock_place}
 use Rattle.gfs2_layout.specs.Headers.{HasHeader}
 use Rattle.gfs2_layout.specs.Structures.{superblock_of, dinode_of, is_directory, is_regular}
 use Rattle.gfs2_layout.specs.declared.dinode.Dinode.{Dinode}
-use Rattle.log_layout.specs.declared.log_header.LogHeader.{LogHeader}
 use Rattle.gfs2_layout.specs.declared.rindex.Rindex.{Rindex}
-use Rattle.log_layout.specs.Journal.{ring_of, head_in}
+use Rattle.log_layout.specs.Journal.{ring_of}
+use Rattle.log_layout.specs.Live.{IsReadable}
 use Rattle.gfs2_layout.specs.Holding.{Part, Itself, Pointed, cell_part, cell_bytes, part_at, bytes_at}
 use Rattle.gfs2_layout.specs.Inode.{head_of, dinode_in, is_directory_in, content_block, records_of, IsInode}
 use Rattle.image_model.specs.Flat.{Path, AFile, ADir, Node, no_node, follow, ReadsAs}
@@ -34,7 +34,7 @@ use Rattle.image_changes.proofs.Laid.{fits_still, apart, journal_apart, journal_
 
 module _ (im im' : Image) (o : Owners) (l : Layout) (large : IsAsLarge im im')
     (bytes : (b : ℕ) → (im'.at b ≡ im.at b) ⊎ (((g : ℕ) × (o b ≡ Free g)) ⊎ IsRingPlace o l b))
-    (headed : (j d : ℕ) → IsJournalAt l j d → (head : LogHeader) × (head_in (ring_of (holding im' o d)) ≡ Some head)) (laid : IsLaid im o l) where
+    (readable : (j d : ℕ) → IsJournalAt l j d → IsReadable (ring_of (holding im' o d))) (laid : IsLaid im o l) where
   -- a block of any other owner has the bytes that it had
   kept : (b : ℕ) → ((g : ℕ) → o b ≢ Free g) → (IsRingPlace o l b → ⊥) → im'.at b ≡ im.at b
   kept b not not' = elim (bytes b) [ inl e ↦ e | inr (inl free) ↦ absurd (not free.0 free.1) | inr (inr place) ↦ absurd (not' place) ]
@@ -147,7 +147,7 @@ module _ (im im' : Image) (o : Owners) (l : Layout) (large : IsAsLarge im im')
         file = ap is_regular same ∙ was.file;
         whole = (λ i. (same i).size % large.size i) ∙ was.whole;
         filled = λ p low. filled p (subst (λ n. p < n) (λ i. (same i).size / large.size i) low);
-        headed = headed j d at;
+        readable = readable j d at;
       }
     where
       filled : (p : ℕ) → p < (ring_of (holding im o d)).places → content_block (holding im' o d) p ≢ 0
@@ -324,17 +324,14 @@ module _ (im im' : Image) (o : Owners) (l : Layout) (large : IsAsLarge im im')
 pub places_do_not_matter : PlacesDoNotMatter
 places_do_not_matter im im' o l t large bytes readable stands = (
   record {
-    laid = laid_still im im' o l large which headed stands.laid;
-    reads = reads_still im im' o l large which headed stands.laid t stands.reads;
+    laid = laid_still im im' o l large which readable stands.laid;
+    reads = reads_still im im' o l large which readable stands.laid t stands.reads;
   },
-  only_places im im' o l large which headed stands.laid,
+  only_places im im' o l large which readable stands.laid,
 )
   where
     which : (b : ℕ) → (im'.at b ≡ im.at b) ⊎ (((g : ℕ) × (o b ≡ Free g)) ⊎ IsRingPlace o l b)
     which b = elim (bytes b) [ inl e ↦ inl e | inr place ↦ inr (inr place) ]
-
-    headed : (j d : ℕ) → IsJournalAt l j d → (head : LogHeader) × (head_in (ring_of (holding im' o d)) ≡ Some head)
-    headed j d at = ((readable j d at).0, (readable j d at).1)
 
 free_cell : (im im' : Image) (o : Owners) (a b : ℕ) → (im'.at b ≡ im.at b) ⊎ ((g : ℕ) × (o b ≡ Free g)) → cell_in im' o a b ≡ cell_in im o a b
 unfolding cell_in
@@ -351,8 +348,8 @@ free_holding im im' o large bytes a = λ i. record { size = large.size i; count 
 pub free_blocks_do_not_matter : FreeBlocksDoNotMatter
 free_blocks_do_not_matter im im' o l t large bytes stands = (
   record {
-    laid = laid_still im im' o l large which headed stands.laid;
-    reads = reads_still im im' o l large which headed stands.laid t stands.reads;
+    laid = laid_still im im' o l large which readable stands.laid;
+    reads = reads_still im im' o l large which readable stands.laid t stands.reads;
   },
   free_holding im im' o large bytes,
 )
@@ -360,7 +357,6 @@ free_blocks_do_not_matter im im' o l t large bytes stands = (
     which : (b : ℕ) → (im'.at b ≡ im.at b) ⊎ (((g : ℕ) × (o b ≡ Free g)) ⊎ IsRingPlace o l b)
     which b = elim (bytes b) [ inl e ↦ inl e | inr free ↦ inr (inl free) ]
 
-    headed : (j d : ℕ) → IsJournalAt l j d → (head : LogHeader) × (head_in (ring_of (holding im' o d)) ≡ Some head)
-    headed j d at =
-        let was = (stands.laid.system.rings j d (stands.laid.system.journals j d at)).headed in
-        (was.0, ap (λ h. head_in (ring_of h)) (free_holding im im' o large bytes d) ∙ was.1)
+    readable : (j d : ℕ) → IsJournalAt l j d → IsReadable (ring_of (holding im' o d))
+    readable j d at =
+        subst (λ h. IsReadable (ring_of h)) (sym (free_holding im im' o large bytes d)) (stands.laid.system.rings j d (stands.laid.system.journals j d at)).readable

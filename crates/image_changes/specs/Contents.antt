@@ -4,7 +4,8 @@ use Rattle.std.specs.Prelude.{ℕ, ◌≡◌, ◌≢◌, ◌⊎◌, ◌<◌, tru
 use Rattle.file_tree.specs.Tree.{Tree}
 use Rattle.gfs2_layout.specs.Holding.{Pointed, Holding, part_at, bytes_at, Itself}
 use Rattle.gfs2_layout.specs.Inode.{dinode_in, content_block, IsInode}
-use Rattle.log_layout.specs.Journal.{Ring, ring_of, IsClean}
+use Rattle.log_layout.specs.Journal.{ring_of}
+use Rattle.log_layout.specs.Live.{IsReadable}
 use Rattle.gfs2_layout.specs.Structures.{is_regular}
 use Rattle.image_model.specs.Image.{Image}
 use Rattle.image_model.specs.Owners.{Owners, Free, holding}
@@ -40,11 +41,6 @@ pub record IsAsLarge (im im' : Image) : Type 0 where
 abbrev pub FreeBlocksDoNotMatter : Type 0
 FreeBlocksDoNotMatter = (im im' : Image) (o : Owners) (l : Layout) (t : Tree) → IsAsLarge im im' → ((b : ℕ) → (im'.at b ≡ im.at b) ⊎ ((g : ℕ) × (o b ≡ Free g)))
     → StandsBy im o l t → StandsBy im' o l t × ((a : ℕ) → holding im' o a ≡ holding im o a)
-
--- A journal that can be read: it has an accepted head, and no chunk from its tail to its head is bad. Of a clean head there is none,
--- and that is asked as long as only clean journals are read.
-abbrev pub IsReadable : Ring → Type 0
-IsReadable ring = IsClean ring
 
 -- each inode but the journals has what it had, and each place of a journal's ring is the block that it was
 pub record OnlyPlacesChange (im im' : Image) (o : Owners) (l : Layout) : Type 0 where

@@ -14,13 +14,14 @@ use Rattle.image_model.specs.Owners.{Owners, is_dinode, holding}
 use Rattle.gfs2_layout.specs.Device.{IsBlockSize}
 use Rattle.gfs2_layout.specs.Holding.{Itself, Pointed, bytes_at}
 use Rattle.gfs2_layout.specs.Inode.{dinode_in, height_in, is_directory_in, header_length, unit, pieces, carried, content_block, content_count, content_of, IsInode}
-use Rattle.log_layout.specs.Journal.{ring_of, best_from, head_in}
+use Rattle.log_layout.specs.Journal.{ring_of, head_in}
+use Rattle.log_layout.specs.Laws.{SaysTheSame}
 use Rattle.image_model.specs.Journals.{IsJournal}
 use Rattle.image_model.specs.Claims.{every}
 use Rattle.image_model.proofs.Members.{IsIn, from_range}
 use Rattle.image_model.proofs.Held.{own_part, block_same}
 use Rattle.image_model.proofs.Same.{IsReached, dinode_same, content_block_is}
-use Rattle.log_layout.proofs.BestHeaders.{best_same}
+use Rattle.log_layout.proofs.SamePlaces.{says_the_same}
 
 enough : (n e p r : ℕ) → p + r ≡ n + e - 1 → r < e → n ≤ p
 enough n e p r same low = omega (arith, same, low)
@@ -131,8 +132,12 @@ module _ (im : Image) (owners : Owners) (large : 512 ≤ im.size) (a : ℕ) (din
     places_same = ap (λ (d : Dinode). d.size / im.size) (dinode_same im owners a dinode sound)
 
 module _ (im : Image) (owners : Owners) (large : 512 ≤ im.size) (a : ℕ) (dinode : is_dinode (owners a) ≡ true) (sound : IsInode (holding im owners a)) (journal : IsJournal (holding im owners a)) where
+  pub rings_say_the_same : SaysTheSame (ring_of (holding im owners a)) (ring_of (every im a))
+  rings_say_the_same = says_the_same (ring_of (holding im owners a)) (ring_of (every im a)) (record {
+    size = refl;
+    places = places_same im owners large a dinode sound journal;
+    blocks = λ p low. (place_is im owners large a dinode sound journal p low).1;
+  })
+
   pub head_same : head_in (ring_of (holding im owners a)) ≡ head_in (ring_of (every im a))
-  unfolding head_in
-  head_same =
-      best_same (ring_of (holding im owners a)) (ring_of (every im a)) 0 (ring_of (holding im owners a)).places (λ q low high. (place_is im owners large a dinode sound journal q (omega (arith, high))).1)
-      ∙ ap (best_from (ring_of (every im a)) 0) (places_same im owners large a dinode sound journal)
+  head_same = rings_say_the_same.head

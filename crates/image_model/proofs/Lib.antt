@@ -21,3 +21,4 @@ pub mod Order
 pub mod Listing
 pub mod JournalNames
 pub mod Reached
+pub mod Replaying

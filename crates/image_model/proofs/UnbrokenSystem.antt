@@ -1,5 +1,5 @@
 -- An image that stands breaks none of the rules on system files, and none on long files and stray pointers.
-use Rattle.std.proofs.Common.{◌≡◌, ◌≢◌, ℕ, ◌-◌, ◌*◌, ◌/◌, ◌%◌, ◌^◌, ◌<◌, ◌≤◌, true, length, None, Some, sym, ap, ◌∙◌, subst, arith}
+use Rattle.std.proofs.Common.{◌≡◌, ◌≢◌, ℕ, ◌-◌, ◌*◌, ◌/◌, ◌%◌, ◌^◌, ◌<◌, ◌≤◌, true, length, None, Some, Result, Ok, Err, sym, ap, ◌∙◌, subst, arith}
 use Rattle.std.proofs.lemmas.Nat.{pow_pos}
 use Rattle.std.proofs.Math.Nat.{mul-div_cancel}
 use Rattle.file_tree.specs.Apply.{file_limit}
@@ -13,15 +13,17 @@ use Rattle.gfs2_layout.specs.Device.{superblock_place}
 use Rattle.gfs2_layout.specs.Holding.{InChain, part_at}
 use Rattle.gfs2_layout.specs.Inode.{dinode_in, is_hashed_in, content_block, content_of, table_count, entry, index_bits, first_hash, leaf_in}
 use Rattle.log_layout.specs.Journal.{ring_of, head_in}
+use Rattle.log_layout.specs.Transactions.{transactions_of}
+use Rattle.log_layout.specs.declared.log_header.LogHeader.{LogHeader}
 use Rattle.image_model.specs.Stands.{Layout, IsLaid}
 use Rattle.image_model.specs.Claims.{every, IsUnder, itself, by_name, IsRindex, HasGroup, HasJournal}
 use Rattle.image_model.specs.Rules.{IsHashedAt}
-use Rattle.image_model.proofs.Held.{none_some}
+use Rattle.image_model.proofs.Held.{none_some, some_same}
 use Rattle.image_model.proofs.Listing.{rising, few_groups, groups_count}
 use Rattle.image_model.proofs.Same.{entry_same}
 use Rattle.image_model.proofs.Rows.{sound, dinode_is, hashed_is, entry_part, first_hash_is}
 use Rattle.image_model.proofs.Facts.{has_dinode, under_path, leads_row, rindex_is, rindex_dinode, rindex_file, list_of, listed_group, journal_is}
-use Rattle.image_model.proofs.Lengths.{size_large, length_content, place_is, places_same, head_same}
+use Rattle.image_model.proofs.Lengths.{size_large, length_content, place_is, places_same, head_same, rings_say_the_same}
 
 module _ (im : Image) (owners : Owners) (l : Layout) (laid : IsLaid im owners l) where
   large : 512 ≤ im.size
@@ -59,7 +61,18 @@ module _ (im : Image) (owners : Owners) (l : Layout) (laid : IsLaid im owners l)
     pub journal_headed : head_in (ring_of (every im d)) ≡ None → ⊥
     journal_headed none =
         let is = journal_is im owners l laid j d has in
-        none_some (sym none ∙ sym (head_same im owners large d is.0 (sound im owners l laid d is.0) is.1) ∙ is.1.headed.1)
+        none_some (sym none ∙ sym (head_same im owners large d is.0 (sound im owners l laid d is.0) is.1) ∙ is.1.readable.headed)
+
+    -- the journal is read to its head
+    pub no_bad_chunk : (p : ℕ) (head : LogHeader) → head_in (ring_of (every im d)) ≡ Some head → transactions_of (ring_of (every im d)) head ≡ Err p → ⊥
+    no_bad_chunk p head headed bad =
+        let is = journal_is im owners l laid j d has in
+        let read = (rings_say_the_same im owners large d is.0 (sound im owners l laid d is.0) is.1).readable is.1.readable in
+        let same : read.head ≡ head = some_same (sym read.headed ∙ headed) in
+        ok_err (sym read.read ∙ ap (transactions_of (ring_of (every im d))) same ∙ bad)
+      where
+        ok_err : {A B : Type 0} {x : A} {y : B} → ◌≡◌ {A = Result A B} (Ok x) (Err y) → ⊥
+        ok_err e = cc
 
   -- ---- the list of groups
 

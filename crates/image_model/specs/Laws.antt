@@ -5,14 +5,16 @@ use Rattle.file_tree.specs.Tree.{Tree}
 use Rattle.image_model.specs.Image.{Image}
 use Rattle.image_model.specs.Claims.{every, Claims}
 use Rattle.image_model.specs.Journals.{IsJournal}
+use Rattle.image_model.specs.Replays.{IsLiveTwice, Replayed}
 use Rattle.image_model.specs.Rules.{Breaks, IsReached}
 use Rattle.gfs2_layout.specs.declared.dinode.Dinode.{Dinode}
-use Rattle.log_layout.specs.Journal.{ring_of, head_in}
+use Rattle.log_layout.specs.Journal.{IsClean, ring_of}
+use Rattle.log_layout.specs.Laws.{SaysTheSame}
 use Rattle.image_model.specs.Owners.{Owner, Owners, Below, Chained, is_dinode, IsUsed, holding}
 use Rattle.gfs2_layout.specs.Inode.{Head, content_block}
 use Rattle.gfs2_layout.specs.Holding.{Part, Itself, Pointed, InChain, bytes_at, part_at}
 use Rattle.gfs2_layout.specs.Records.{Record, child_named}
-use Rattle.image_model.specs.Stands.{Layout, IsLaid, IsDirectory, Stands}
+use Rattle.image_model.specs.Stands.{Layout, IsJournalAt, IsLaid, IsDirectory, Stands}
 
 -- an image stands for at most one tree
 abbrev pub OneTree : Type 0
@@ -51,12 +53,24 @@ abbrev pub OwnersClaim : Type 0
 OwnersClaim = (im : Image) (owners : Owners) (l : Layout) → IsLaid im owners l → (b : ℕ) (o : Owner)
     → ((by : ℕ) × Claims im by b o) ↔ ((owners b ≡ o) × IsUsed o)
 
--- a journal that is read block after block is that which is read from its own blocks: the head, the count of the places, and each place
+-- a journal that is read block after block is that which is read from its own blocks: what it says, the count of its places, and each place
 pub record ReadsAlike (im : Image) (owners : Owners) (a : ℕ) : Type 0 where
-  pub head : head_in (ring_of (holding im owners a)) ≡ head_in (ring_of (every im a))
+  pub says : SaysTheSame (ring_of (holding im owners a)) (ring_of (every im a))
   pub places : (ring_of (holding im owners a)).places ≡ (ring_of (every im a)).places
   pub blocks : (p : ℕ) → p < (ring_of (holding im owners a)).places → content_block (holding im owners a) p ≡ content_block (every im a) p
 
 -- so it is with each journal of an image that stands
 abbrev pub JournalsReadAlike : Type 0
 JournalsReadAlike = (im : Image) (owners : Owners) (l : Layout) → IsLaid im owners l → (a : ℕ) → is_dinode (owners a) ≡ true → IsJournal (holding im owners a) → ReadsAlike im owners a
+
+-- there is at most one replayed image
+abbrev pub OneReplay : Type 0
+OneReplay = (im a b : Image) (l : Layout) → Replayed im l a → Replayed im l b → a ≡ b
+
+-- an image whose journals are clean is its own replayed image
+abbrev pub CleanImagesStay : Type 0
+CleanImagesStay = (im : Image) (l : Layout) → ((j d : ℕ) → IsJournalAt l j d → IsClean (ring_of (every im d))) → Replayed im l im
+
+-- where a block is live in two journals there is no replayed image
+abbrev pub TwiceLiveIsNotReplayed : Type 0
+TwiceLiveIsNotReplayed = (im replayed : Image) (l : Layout) (block : ℕ) → IsLiveTwice im l block → Replayed im l replayed → ⊥

@@ -1,5 +1,5 @@
 //! What the definitions of images mean. The functions do nothing: their contracts are the laws.
-ghost use Rattle.image_model.specs.Laws.{AnyOrder, BrokenAreReached, HoldingsAreOwned, JournalsReadAlike, NothingBreaks, OneTable, OneTree, OwnersClaim};
+ghost use Rattle.image_model.specs.Laws.{AnyOrder, BrokenAreReached, CleanImagesStay, HoldingsAreOwned, JournalsReadAlike, NothingBreaks, OneReplay, OneTable, OneTree, OwnersClaim, TwiceLiveIsNotReplayed};
 
 /// A law: an image stands for at most one tree.
 pub fn images_stand_for_one_tree()
@@ -39,4 +39,15 @@ pub fn owners_claim_their_blocks()
 /// A law: in an image that stands a journal reads the same from its own blocks and block after block.
 pub fn journals_read_alike()
     ensures { JournalsReadAlike }
+{}
+
+/// A law: of an image there is at most one replayed image, and none where a block is live in two journals.
+pub fn images_have_one_replay()
+    ensures one { OneReplay }
+    ensures none { TwiceLiveIsNotReplayed }
+{}
+
+/// A law: an image whose journals are clean is its own replayed image.
+pub fn clean_images_stay()
+    ensures { CleanImagesStay }
 {}

@@ -4,3 +4,4 @@ pub mod HeaderBack
 pub mod BestHeaders
 pub mod CrcFits
 pub mod HeadersBack
+pub mod SamePlaces

@@ -1,5 +1,5 @@
-//! What the definitions of log headers mean. The function does nothing: its contract is the law.
-ghost use Rattle.log_layout.specs.Laws.{HeadersReadBack};
+//! What the definitions of log headers and of journals mean. The functions do nothing: their contracts are the laws.
+ghost use Rattle.log_layout.specs.Laws.{CleanHasNothingLive, HeadersReadBack, PlacesSayAll};
 
 use gfs2_layout::structures_read_back;
 
@@ -9,3 +9,14 @@ pub fn headers_read_back()
 {
     structures_read_back();
 }
+
+/// A law: a journal says what its places have. Of two with the same blocks at their places head, transactions and live blocks are the
+/// same.
+pub fn places_say_all()
+    ensures { PlacesSayAll }
+{}
+
+/// A law: in a clean journal nothing is live, and it can be read.
+pub fn clean_journals_have_nothing_live()
+    ensures { CleanHasNothingLive }
+{}

@@ -13,6 +13,6 @@ pub use due::Due;
 pub use heads::{
     accepted, best_headers_go_on, better, heads_are_accepted, next_place, places_between,
 };
-pub use laws::headers_read_back;
+pub use laws::{clean_journals_have_nothing_live, headers_read_back, places_say_all};
 pub use log_header::{Later, LogHeader};
 pub use numbers::{put_u32, put_u64, u32_at, u64_at};

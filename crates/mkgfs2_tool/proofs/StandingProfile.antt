@@ -87,7 +87,7 @@ module _ (p : Plan) (fit : IsFitting p) (known : Known p) (at : Blocks) (made : 
       some_blocks n some = omega (arith, some)
 
   journal_head : (j : ℕ) (ok : suc j ≤ p.journals) → head_in (ring_of (every (image p at) (spot p (suc j) 0))) ≡ Some (new_head p (image p at) j (spot p (suc j) 0))
-  journal_head j ok = sym (alike j ok).head ∙ ring_head p fit known at made j ok ∙ (λ i. Some (as_read (clean_header p.time j (block i) (dinode i)) (bytes i)))
+  journal_head j ok = sym (alike j ok).says.head ∙ ring_head p fit known at made j ok ∙ (λ i. Some (as_read (clean_header p.time j (block i) (dinode i)) (bytes i)))
     where
       block : data_address p (first_content p j) ≡ content_block (every (image p at) (spot p (suc j) 0)) 0
       block = sym (first_block p fit known at made j ok) ∙ journal_first j ok

@@ -11,6 +11,7 @@ use Rattle.gfs2_layout.specs.Bytes.{number_at, u32_at, u64_at}
 use Rattle.gfs2_layout.specs.Structures.{log_of, header_fault, hash_fault, or_else, answer, magic, dinode_length}
 use Rattle.log_layout.specs.Headers.{log_put, as_read, read_behind}
 use Rattle.log_layout.specs.Laws.{HasWidths}
+use Rattle.log_layout.proofs.SamePlaces.{nothing_live}
 use Rattle.log_layout.specs.declared.log_header.LogHeader.{LogHeader}
 use Rattle.gfs2_layout.specs.declared.fault.LayoutFault.TheVariants.{Magic}
 use Rattle.image_model.specs.Image.{Blocks}
@@ -210,6 +211,13 @@ read_sequence h bytes = each (u32_at 48 bytes == 0)
     each true = refl
     each false = refl
 
+read_clean : (h : LogHeader) (bytes : List ℕ) → (as_read h bytes).clean ≡ h.clean
+read_clean h bytes = each (u32_at 48 bytes == 0)
+  where
+    each : (b : Bool) → (if b then record h { later = None } else h).clean ≡ h.clean
+    each true = refl
+    each false = refl
+
 header_accepted : (given : Given) (size : ℕ) (h : LogHeader) → 512 ≤ size → HasWidths h → h.blkno ≡ 0 → accepted 0 (log_put h (replicate size 0)) ≡ Some (as_read h (log_put h (replicate size 0)))
 unfolding accepted
 header_accepted given size h large widths at =
@@ -340,5 +348,5 @@ module _ (p : Plan) (fit : IsFitting p) (known : Known p) (at : Blocks) (made : 
     file = file_regular p fit known at made (suc j) ok;
     whole = ap (λ n. n % p.size) (file_size p fit known at made (suc j) ok) ∙ mul-mod_left p.journal_blocks p.size;
     filled = λ q low. content_some p fit known at made (suc j) ok q journal_high (inside_content q (subst (λ n. q < n) places_are low));
-    headed = (as_read header (clean_block p j), ring_head);
+    readable = (nothing_live (ring_of hj) (as_read header (clean_block p j), ring_head, read_clean header (clean_block p j))).readable;
   }

@@ -1,0 +1,52 @@
+-- There is at most one replayed image, and an image whose journals are clean is its own.
+use Rattle.std.proofs.Common.{◌≡◌, ◌⊎◌, inl, inr, ℕ, zero, suc, List, [], ◌∷◌, Option, None, Some, refl, sym, subst, ◌∙◌}
+use Rattle.std.specs.Prelude.{slice_get}
+use Rattle.log_layout.proofs.SamePlaces.{nothing_live}
+use Rattle.image_model.specs.Image.{Image}
+use Rattle.image_model.specs.Laws.{CleanImagesStay, OneReplay}
+use Rattle.image_model.specs.Replays.{live_at}
+use Rattle.image_model.proofs.Held.{none_some, some_same}
+
+-- a block that is live in one of these journals
+record IsLiveIn (im : Image) (ds : List ℕ) (block : ℕ) : Type 0 where
+  journal : ℕ
+  dinode : ℕ
+  bytes : List ℕ
+  there : slice_get ds journal ≡ Some dinode
+  live : live_at im dinode block ≡ Some bytes
+
+some_or_none : (o : Option (List ℕ)) → ((bytes : List ℕ) × (o ≡ Some bytes)) ⊎ (o ≡ None)
+some_or_none None = inr refl
+some_or_none (Some bytes) = inl (bytes, refl)
+
+live_or_not : (im : Image) (ds : List ℕ) (block : ℕ) → IsLiveIn im ds block ⊎ ((j d : ℕ) → slice_get ds j ≡ Some d → live_at im d block ≡ None)
+live_or_not im [] block = inr (λ j d at. cc)
+live_or_not im (c ∷ ds) block = elim (some_or_none (live_at im c block)) [
+  | inl is ↦ inl (record { journal = 0; dinode = c; bytes = is.0; there = refl; live = is.1 })
+  | inr none ↦ elim (live_or_not im ds block) [
+    | inl more ↦ inl (record { journal = suc more.journal; dinode = more.dinode; bytes = more.bytes; there = more.there; live = more.live })
+    | inr nowhere ↦ inr (each none nowhere)
+  ]
+]
+  where
+    each : live_at im c block ≡ None → ((j d : ℕ) → slice_get ds j ≡ Some d → live_at im d block ≡ None) → (j d : ℕ) → slice_get (c ∷ ds) j ≡ Some d → live_at im d block ≡ None
+    each none nowhere zero d at = let same : c ≡ d = some_same at in subst (λ n. live_at im n block ≡ None) same none
+    each none nowhere (suc j) d at = nowhere j d at
+
+pub one_replay : OneReplay
+one_replay im a b l first second = λ i. record { size = (first.size ∙ sym second.size) i; count = (first.count ∙ sym second.count) i; at = λ block. same block i }
+  where
+    same : (block : ℕ) → a.at block ≡ b.at block
+    same block = elim (live_or_not im l.journals block) [
+      | inl is ↦ first.live is.journal is.dinode block is.bytes is.there is.live ∙ sym (second.live is.journal is.dinode block is.bytes is.there is.live)
+      | inr none ↦ first.others block none ∙ sym (second.others block none)
+    ]
+
+pub clean_stay : CleanImagesStay
+clean_stay im l clean = record {
+  once = λ i j block both. absurd (none_some (sym ((nothing_live _ (clean i both.first both.first_at)).none block) ∙ both.one_live));
+  size = refl;
+  count = refl;
+  live = λ j d block bytes at live. absurd (none_some (sym ((nothing_live _ (clean j d at)).none block) ∙ live));
+  others = λ block none. refl;
+}
