@@ -15,5 +15,4 @@ pub mod Holding
 pub mod Records
 pub mod Exchanges
 pub mod Inode
-pub mod Journal
 pub mod Laws
