@@ -3,3 +3,5 @@
 
 #[cfg(test)]
 mod dreads;
+#[cfg(test)]
+mod histories;

@@ -20,8 +20,19 @@ fn kind_size(room: u64, count: u64) -> u64
     (count + (room - 1)) / room + count
 }
 
-// How many blocks so many revokes take.
+/// How many further blocks so many revokes take, behind those that the descriptor's own block has.
 #[tactic(auto, using(crate::proofs::Arounds::division_is_less))]
+pub(crate) fn further_count(size: u64, count: u64) -> u64
+    requires size { IsBlockSize size }
+    requires few { count ≤ 131072 }
+    ensures count { result ≡ further_count_of size count }
+    ensures small { result ≤ count + 4096 }
+{
+    let room = (size - 24) / 8;
+    (count.saturating_sub((size - 72) / 8) + (room - 1)) / room
+}
+
+// How many blocks so many revokes take.
 fn revoke_size(size: u64, count: u64) -> u64
     requires size { IsBlockSize size }
     requires few { count ≤ 131072 }
@@ -31,8 +42,7 @@ fn revoke_size(size: u64, count: u64) -> u64
     if count == 0 {
         return 0;
     }
-    let room = (size - 24) / 8;
-    1 + (count.saturating_sub((size - 72) / 8) + (room - 1)) / room
+    1 + further_count(size, count)
 }
 
 // How many of these blocks are content of files.
