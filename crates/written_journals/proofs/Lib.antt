@@ -1,1 +1,4 @@
 mod NumbersBack
+mod Blocks
+mod DescriptorsBack
+mod Parts
