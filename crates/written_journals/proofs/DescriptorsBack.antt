@@ -90,10 +90,10 @@ module _ (size jid blocks entries : ℕ) (kind : ChunkKind) (numbers : List ℕ)
   put_read : descriptor_read (descriptor_put d (zeros size)) ≡ Ok d
   put_read = descriptor_back d (header_put h (zeros size)) (zeros size) (omega (arith, long, room)) head_long head_read widths
 
-  put_long : length (descriptor_put d (zeros size)) ≡ size
+  pub put_long : length (descriptor_put d (zeros size)) ≡ size
   put_long = descriptor_long d (header_put h (zeros size)) (zeros size) (omega (arith, long, room)) head_long head_read widths ∙ long
 
-  fits : 72 + 8 * length numbers ≤ length (descriptor_put d (zeros size))
+  pub fits : 72 + 8 * length numbers ≤ length (descriptor_put d (zeros size))
   fits = omega (arith, put_long, room)
 
   pub block_long : length (descriptor_block size jid kind blocks entries numbers) ≡ size

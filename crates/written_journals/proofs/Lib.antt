@@ -2,3 +2,4 @@ mod NumbersBack
 mod Blocks
 mod DescriptorsBack
 mod Parts
+mod ChunksRead

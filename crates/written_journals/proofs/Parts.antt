@@ -85,7 +85,7 @@ restored_again bytes long low is =
     ∙ ap (with_number w32 0 magic) (take-length bytes)
     ∙ put_again bytes long low is
 
-content_part : (e : Logged) → 4 ≤ length e.bytes → All (λ byte. byte < 256) e.bytes → e.plain ≡ true → part_of (due.Content e.block (begins_with_magic e.bytes)) (escaped e.bytes) ≡ Some (of_blocks (e ∷ []))
+pub content_part : (e : Logged) → 4 ≤ length e.bytes → All (λ byte. byte < 256) e.bytes → e.plain ≡ true → part_of (due.Content e.block (begins_with_magic e.bytes)) (escaped e.bytes) ≡ Some (of_blocks (e ∷ []))
 content_part e long low plain = by (begins_with_magic e.bytes) refl
   where
     whole : (bytes : List ℕ) → bytes ≡ e.bytes → one_block e.block true bytes ≡ of_blocks (e ∷ [])
@@ -99,5 +99,5 @@ content_part e long low plain = by (begins_with_magic e.bytes) refl
 
 -- ---- metadata
 
-metadata_part : (e : Logged) → e.plain ≡ false → u32_at 0 e.bytes ≡ magic → part_of (due.Metadata e.block) e.bytes ≡ Some (of_blocks (e ∷ []))
+pub metadata_part : (e : Logged) → e.plain ≡ false → u32_at 0 e.bytes ≡ magic → part_of (due.Metadata e.block) e.bytes ≡ Some (of_blocks (e ∷ []))
 metadata_part e plain is = cond-true _ (Some (one_block e.block false e.bytes)) None (eq-eqb (u32_at 0 e.bytes) magic is) ∙ (λ i. Some (of_blocks (record { block = e.block; plain = sym plain i; bytes = e.bytes } ∷ [])))
