@@ -3,3 +3,5 @@ mod Blocks
 mod DescriptorsBack
 mod Parts
 mod ChunksRead
+mod RevokesRead
+mod AllRead
