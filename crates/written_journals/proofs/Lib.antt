@@ -5,3 +5,4 @@ mod Parts
 mod ChunksRead
 mod RevokesRead
 mod AllRead
+mod Going
