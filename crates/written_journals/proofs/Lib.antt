@@ -6,3 +6,4 @@ mod ChunksRead
 mod RevokesRead
 mod AllRead
 mod Going
+mod RingsWritten
