@@ -7,3 +7,5 @@ mod RevokesRead
 mod AllRead
 mod Going
 mod RingsWritten
+mod HeadWritten
+mod NoHeads
