@@ -27,8 +27,9 @@ pub record IsLoggableAll (size : ℕ) (t : Transaction) : Type 0 where
   pub few : length t.blocks + length t.revokes ≤ 131072
   pub blocks : All (IsLoggable size) t.blocks
 
--- its numbers have the widths of their types
-pub record AreNumbers (t : Transaction) : Type 0 where
+-- its numbers, and that of the journal, have the widths of their types
+pub record AreNumbers (at : Place) (t : Transaction) : Type 0 where
+  pub jid : at.jid < 2 ^ 32
   pub bytes : All (λ (e : Logged). All (λ byte. byte < 256) e.bytes) t.blocks
   pub blocks : All (λ (e : Logged). e.block < 2 ^ 64) t.blocks
   pub revokes : All (λ b. b < 2 ^ 64) t.revokes

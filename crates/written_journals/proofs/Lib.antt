@@ -9,3 +9,4 @@ mod Going
 mod RingsWritten
 mod HeadWritten
 mod NoHeads
+mod LiveAfter

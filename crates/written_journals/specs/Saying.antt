@@ -43,13 +43,14 @@ pub record IsReady (ring : Ring) (at : Place) (t : Transaction) (count : ℕ) (b
   pub older : (h : LogHeader) → head_in ring ≡ Some h → h.sequence < at.sequence
   pub sequence : at.sequence < 2 ^ 64
 
+-- the entry of a block in a transaction where there is one, else nothing where it is revoked, and else what was before
+abbrev pub or_before : Option Logged → Bool → Option Logged → Option Logged
+or_before (Some e) revoked was = Some e
+or_before None revoked was = if revoked then None else was
+
 -- what is live of a block behind these transactions and this one: what this one has, else nothing where it revokes the block, else what was
 abbrev pub live_after : List Sequenced → Transaction → ℕ → Option Logged
 live_after before t block = or_before (find (λ (e : Logged). e.block == block) t.blocks) (list_any (λ r. r == block) t.revokes) (live_entry before block)
-  where
-    or_before : Option Logged → Bool → Option Logged → Option Logged
-    or_before (Some e) revoked was = Some e
-    or_before None revoked was = if revoked then None else was
 
 abbrev pub sequenced : Place → Transaction → Sequenced
 sequenced at t = record { sequence = at.sequence; transaction = as_written t }
@@ -63,5 +64,5 @@ pub record IsWritten (size : ℕ) (ring : Ring) (at : Place) (t : Transaction) (
 
 -- what is written to a journal that is ready is what the journal then says
 abbrev pub WhatIsWrittenIsSaid : Type 0
-WhatIsWrittenIsSaid = (ring : Ring) (at : Place) (t : Transaction) (count : ℕ) (before : List Sequenced) → IsLoggableAll ring.size t → AreNumbers t → IsPlaceFor ring.size at t
+WhatIsWrittenIsSaid = (ring : Ring) (at : Place) (t : Transaction) (count : ℕ) (before : List Sequenced) → IsLoggableAll ring.size t → AreNumbers at t → IsPlaceFor ring.size at t
     → IsReady ring at t count before → IsHeaderRead ring.size at t → IsWritten ring.size (with_blocks ring (encoded ring.size at t)) at t before
