@@ -1,15 +1,12 @@
 -- All chunks of a transaction are read as they were written.
-use Rattle.std.proofs.Common.{◌≡◌, ◌≢◌, ◌+◌, ◌-◌, ◌/◌, ◌<◌, ◌≤◌, ◌^◌, ◌++◌, ℕ, zero, suc, Bool, true, false, List, [], ◌∷◌, length, map, filter, take, drop, Option, None, Some, refl, sym, ap, ◌∙◌, inl, inr, arith, append_assoc, length-append, length-drop}
-use Rattle.std.specs.Prelude.{min, not}
-use Rattle.std.specs.List.{All, AllByRecursion, flat_map}
+use Rattle.std.proofs.Common.{◌≡◌, ◌<◌, ◌≤◌, ◌^◌, ◌++◌, ℕ, zero, suc, List, [], ◌∷◌, length, take, drop, Option, sym, ap, ◌∙◌, arith, append_assoc, length-append, length-drop}
+use Rattle.std.specs.List.{AllByRecursion, flat_map}
 use Rattle.std.proofs.lemmas.List.{append-nil, length-take, take-append-drop}
-use Rattle.gfs2_layout.specs.Bytes.{u32_at}
 use Rattle.gfs2_layout.specs.Device.{IsBlockSize}
-use Rattle.gfs2_layout.specs.Structures.{magic}
 use Rattle.log_layout.specs.Chunks.{Logged, Transaction, content_room, joined, nothing, numbers_room}
 use Rattle.log_layout.specs.Journal.{Placed}
 use Rattle.log_layout.specs.Transactions.{reading}
-use Rattle.node_journal.specs.Encoding.{chunks, content_chunk, content_of, metadata_chunk, metadata_of, pieces, revoke_chunk, revoke_chunks}
+use Rattle.node_journal.specs.Encoding.{chunks, content_chunk, content_of, metadata_chunk, metadata_of, pieces, revoke_chunks}
 use Rattle.node_journal.specs.Places.{place_on, placed_from}
 use Rattle.node_journal.proofs.Pieces.{none_in_pieces, pieces_go_on, rooms}
 use Rattle.node_journal.proofs.Placing.{placed_behind}
@@ -34,7 +31,7 @@ placed-long places p xs rest more = omega (arith, more, length-append (placed_fr
 -- of chunks that are read one by one, all are
 pub pieces_read : (size places : ℕ) (last : Option ℕ) (chunk : List Logged → List (List ℕ)) (P : Logged → Type 0) (n : ℕ) → 0 < n
     → ((p : ℕ) (begun : Transaction) (es : List Logged) (rest : List Placed) → length es ≤ n → AllByRecursion P es → 1 ≤ length rest
-        → reading size [] last begun (placed_from places p (chunk es) ++ rest) ≡ reading size [] last (joined begun (of_blocks es)) rest)
+    → reading size [] last begun (placed_from places p (chunk es) ++ rest) ≡ reading size [] last (joined begun (of_blocks es)) rest)
     → (most p : ℕ) (begun : Transaction) (es : List Logged) (rest : List Placed) → length es ≤ most → AllByRecursion P es → 1 ≤ length rest
     → reading size [] last begun (placed_from places p (flat_map chunk (pieces n es)) ++ rest) ≡ reading size [] last (joined begun (of_blocks es)) rest
 pieces_read size places last chunk P n some one most p begun [] rest h all more =

@@ -1,18 +1,15 @@
 -- Blocks of a chunk: none of them is a log header, and a descriptor is read as it was written.
-use Rattle.std.proofs.Common.{◌≡◌, ◌≢◌, ◌+◌, ◌*◌, ◌<◌, ◌≤◌, ◌^◌, ◌⊎◌, ℕ, List, [], ◌∷◌, length, replicate, Option, None, Some, Result, Ok, Err, refl, sym, ap, ◌∙◌, inl, inr, arith}
-use Rattle.std.specs.Prelude.{◌==◌, not, nat_lt, if◌then◌else◌}
-use Rattle.std.specs.Int.{w32}
+use Rattle.std.proofs.Common.{◌≡◌, ℕ, List, length, Option, None, Some, Result, Ok, Err, refl, sym, ◌∙◌, inl, inr}
+use Rattle.std.specs.Prelude.{nat_lt}
 use Rattle.std.proofs.lemmas.Bool.{cases_Bool, cond-true, cond-false}
 use Rattle.gfs2_layout.specs.Bytes.{u32_at}
-use Rattle.gfs2_layout.specs.Structures.{answer, hash_fault, header_fault, log_of, magic, or_else}
+use Rattle.gfs2_layout.specs.Structures.{hash_fault, header_fault, log_of, magic, or_else}
 use Rattle.gfs2_layout.specs.Structures.{log_read as front_read}
-use Rattle.gfs2_layout.specs.Writing.{header_fields, header_put}
 use Rattle.gfs2_layout.specs.declared.fault.LayoutFault.{LayoutFault}
-use Rattle.gfs2_layout.specs.declared.fault.LayoutFault.TheVariants.{Short, Magic, Kind, Format, Value}
-use Rattle.gfs2_layout.specs.declared.header.MetaHeader.{MetaHeader}
+use Rattle.gfs2_layout.specs.declared.fault.LayoutFault.TheVariants.{Short}
 use Rattle.gfs2_layout.specs.declared.log_header.LogHeader.{LogHeader as Front}
 use Rattle.gfs2_layout.proofs.HeaderLaws.{answer_ok, header_from, some_none}
-use Rattle.log_layout.specs.Headers.{crc_fault, later_of, log_read, read_behind, with_later}
+use Rattle.log_layout.specs.Headers.{log_read, read_behind}
 use Rattle.log_layout.specs.Journal.{accepted, if_at}
 use Rattle.log_layout.specs.declared.log_header.LogHeader.{LogHeader}
 

@@ -1,19 +1,18 @@
 -- A chunk of content or of metadata is read as it was written.
-use Rattle.std.proofs.Common.{◌≡◌, ◌≢◌, ◌+◌, ◌-◌, ◌*◌, ◌/◌, ◌<◌, ◌≤◌, ◌^◌, ◌++◌, ℕ, zero, suc, Bool, true, false, List, [], ◌∷◌, length, map, Option, None, Some, Result, Ok, refl, sym, ap, ◌∙◌, inl, inr, arith, append_assoc, length-append}
+use Rattle.std.proofs.Common.{◌≡◌, ◌+◌, ◌*◌, ◌<◌, ◌≤◌, ◌^◌, ◌++◌, ℕ, suc, Bool, true, false, List, [], ◌∷◌, length, map, Option, Some, Result, Ok, refl, sym, ap, ◌∙◌, arith, length-append}
 use Rattle.std.specs.Prelude.{◌==◌, ◌&&◌, nat_le, if◌then◌else◌}
-use Rattle.std.specs.List.{All, AllByRecursion, list_all, range_with_len}
+use Rattle.std.specs.List.{All, AllByRecursion, list_all}
 use Rattle.std.proofs.lemmas.Bool.{cond-true, eq-eqb}
 use Rattle.std.proofs.lemmas.Bool.Decides.{nat_tests}
 use Rattle.std.proofs.lemmas.List.{length-map}
-use Rattle.gfs2_layout.specs.Bytes.{u32_at, u64_at}
-use Rattle.gfs2_layout.specs.Device.{IsBlockSize}
+use Rattle.gfs2_layout.specs.Bytes.{u32_at}
 use Rattle.gfs2_layout.specs.Structures.{magic}
 use Rattle.gfs2_layout.specs.declared.fault.LayoutFault.{LayoutFault}
-use Rattle.log_layout.specs.Chunks.{Chunk, Logged, Transaction, are_entries, chunk_in, chunk_of, content_room, dues, first_revokes, if_descriptor, joined, nothing, numbers_at, numbers_room, part_of}
+use Rattle.log_layout.specs.Chunks.{Logged, Transaction, are_entries, chunk_in, content_room, dues, first_revokes, if_descriptor, joined, numbers_at, numbers_room}
 use Rattle.log_layout.specs.Descriptors.{descriptor_put, descriptor_read}
-use Rattle.log_layout.specs.Journal.{Placed, accepted, next}
-use Rattle.log_layout.specs.Transactions.{Sequenced, reading}
-use Rattle.log_layout.specs.declared.descriptor.ChunkKind.TheVariants.{Metadata, Revoke, Journaled}
+use Rattle.log_layout.specs.Journal.{Placed, next}
+use Rattle.log_layout.specs.Transactions.{reading}
+use Rattle.log_layout.specs.declared.descriptor.ChunkKind.TheVariants.{Metadata, Journaled}
 use Rattle.log_layout.specs.declared.descriptor.LogDescriptor.{LogDescriptor}
 use Rattle.log_layout.specs.declared.due.Due.{Due}
 use Rattle.log_layout.specs.declared.due.Due.TheVariants as due

@@ -1,5 +1,5 @@
 -- A descriptor with numbers behind it is read as it was written.
-use Rattle.std.proofs.Common.{◌≡◌, ◌+◌, ◌*◌, ◌<◌, ◌≤◌, ◌^◌, ℕ, List, [], ◌∷◌, length, replicate, Option, None, Some, Result, Ok, Err, refl, sym, ap, ◌∙◌, inl, inr, arith}
+use Rattle.std.proofs.Common.{◌≡◌, ◌+◌, ◌*◌, ◌<◌, ◌≤◌, ◌^◌, ℕ, List, length, Option, None, Some, Result, Ok, Err, refl, sym, ap, ◌∙◌, arith}
 use Rattle.std.proofs.lemmas.List.{length-replicate}
 use Rattle.std.specs.Prelude.{◌==◌, not, nat_lt, if◌then◌else◌}
 use Rattle.std.specs.Int.{w32}
@@ -9,17 +9,17 @@ use Rattle.gfs2_layout.specs.Writing.{header_put}
 use Rattle.gfs2_layout.specs.declared.fault.LayoutFault.{LayoutFault}
 use Rattle.gfs2_layout.specs.declared.fault.LayoutFault.TheVariants.{Short, Magic, Kind, Format, Value}
 use Rattle.gfs2_layout.specs.declared.header.MetaHeader.{MetaHeader}
-use Rattle.gfs2_layout.proofs.HeaderLaws.{answer_ok, header_from, some_none}
+use Rattle.gfs2_layout.proofs.HeaderLaws.{header_from}
 use Rattle.gfs2_layout.specs.Writing.{header_fields}
 use Rattle.gfs2_layout.proofs.FieldsInPlace.{length-fields}
-use Rattle.gfs2_layout.proofs.ReadBack.{header_back, no_header_fault}
-use Rattle.log_layout.specs.Descriptors.{descriptor_fields, descriptor_in, descriptor_put, descriptor_read, kind_number, kind_of, of_header, of_kind}
-use Rattle.log_layout.specs.Fields.{HaveWidths, with_fields}
+use Rattle.gfs2_layout.proofs.ReadBack.{header_back}
+use Rattle.log_layout.specs.Descriptors.{descriptor_fields, descriptor_put, descriptor_read, kind_number, kind_of, of_header, of_kind}
+use Rattle.log_layout.specs.Fields.{HaveWidths}
 use Rattle.log_layout.specs.declared.descriptor.ChunkKind.{ChunkKind}
 use Rattle.log_layout.specs.declared.descriptor.ChunkKind.TheVariants.{Metadata, Revoke, Journaled}
 use Rattle.log_layout.specs.declared.descriptor.LogDescriptor.{LogDescriptor}
 use Rattle.log_layout.proofs.DescriptorBack.{descriptor_back, descriptor_long}
-use Rattle.node_journal.specs.Encoding.{descriptor_block, with_numbers, zeros}
+use Rattle.node_journal.specs.Encoding.{descriptor_block, zeros}
 use Rattle.written_journals.proofs.NumbersBack.{length-numbers, numbers_below}
 
 -- ---- two blocks that begin alike
@@ -42,10 +42,10 @@ fault_same a b long same =
     let four = same 4 (omega arith) in
     let sixteen = same 16 (omega arith) in
     λ i. if nat_lt (long i) 72 then Some Short
-        else if not (zero_ i == magic) then Some Magic
-        else if not (four i == 9) then Some (Kind (four i))
-        else if not (sixteen i == 900) then Some (Format (sixteen i))
-        else None
+    else if not (zero_ i == magic) then Some Magic
+    else if not (four i == 9) then Some (Kind (four i))
+    else if not (sixteen i == 900) then Some (Format (sixteen i))
+    else None
 
 pub descriptor_same : (a b : List ℕ) → length a ≡ length b → ((k : ℕ) → k + 4 ≤ 72 → u32_at k a ≡ u32_at k b) → descriptor_read a ≡ descriptor_read b
 descriptor_same a b long same =

@@ -1,7 +1,7 @@
 -- Blocks that are whole transactions, and what is read behind them.
-use Rattle.std.proofs.Common.{◌≡◌, ◌+◌, ◌<◌, ◌≤◌, ◌++◌, ℕ, zero, suc, Bool, true, false, List, [], ◌∷◌, length, Option, None, Some, Result, Ok, Err, refl, sym, ap, subst, ◌∙◌, inl, inr, arith, length-append}
+use Rattle.std.proofs.Common.{◌≡◌, ◌+◌, ◌<◌, ◌≤◌, ◌++◌, ℕ, Bool, true, false, List, [], ◌∷◌, length, Option, None, Some, Result, Ok, Err, refl, sym, ap, ◌∙◌, arith, length-append}
 use Rattle.std.specs.Prelude.{◌==◌, ◌&&◌, nat_le, if◌then◌else◌}
-use Rattle.std.proofs.lemmas.Bool.{cases_Bool, cond-true, cond-false, eqb-true}
+use Rattle.std.proofs.lemmas.Bool.{cond-true, eqb-true}
 use Rattle.std.proofs.lemmas.Bool.Decides.{nat_tests}
 use Rattle.gfs2_layout.specs.declared.fault.LayoutFault.{LayoutFault}
 use Rattle.log_layout.specs.Chunks.{Chunk, Transaction, are_entries, chunk_in, chunk_of, dues, first_revokes, if_descriptor, joined, nothing, part_of}
@@ -19,7 +19,7 @@ abbrev pub last_of : Option ℕ → List Sequenced → Option ℕ
 last_of last [] = last
 last_of last (t ∷ ts) = last_of (Some t.sequence) ts
 
-ok_err : {A : Type 0} (x : A) (p : ℕ) → ◌≡◌ {A = Result A ℕ} (Err p) (Ok x) → ⊥
+pub ok_err : {A : Type 0} (x : A) (p : ℕ) → ◌≡◌ {A = Result A ℕ} (Err p) (Ok x) → ⊥
 ok_err x p e = cc
 
 -- ---- a chunk that fits before so many places fits before more
@@ -62,7 +62,7 @@ roomy size left bytes c is = by (descriptor_read bytes) refl
 
 -- ---- what is read behind whole transactions
 
-and_then_ok : (t : Sequenced) (r : Result (List Sequenced) ℕ) (ts : List Sequenced) → and_then t r ≡ Ok ts → (us : List Sequenced) × (r ≡ Ok us) × (ts ≡ t ∷ us)
+pub and_then_ok : (t : Sequenced) (r : Result (List Sequenced) ℕ) (ts : List Sequenced) → and_then t r ≡ Ok ts → (us : List Sequenced) × (r ≡ Ok us) × (ts ≡ t ∷ us)
 and_then_ok t (Ok us) ts e = (us, refl, cc)
 and_then_ok t (Err p) ts e = absurd (ok_err ts p e)
 
@@ -70,12 +70,12 @@ ok_same : {A : Type 0} {x y : A} → ◌≡◌ {A = Result A ℕ} (Ok x) (Ok y) 
 ok_same e = cc
 
 -- what is read of these blocks and more behind them
-abbrev Goes : ℕ → List Placed → List Placed → Type 0
+abbrev pub Goes : ℕ → List Placed → List Placed → Type 0
 Goes size ys bs = (due : List Due) (last : Option ℕ) (begun : Transaction) (us : List Sequenced) → length due < length bs → reading size due last begun bs ≡ Ok us
     → reading size due last begun (bs ++ ys) ≡ behind us (reading size [] (last_of last us) nothing ys)
 
 -- behind a header: there is nothing, or what goes on
-goes_behind : (size : ℕ) (ys bs : List Placed) (sequence : ℕ) (us : List Sequenced) → Goes size ys bs → reading size [] (Some sequence) nothing bs ≡ Ok us
+pub goes_behind : (size : ℕ) (ys bs : List Placed) (sequence : ℕ) (us : List Sequenced) → Goes size ys bs → reading size [] (Some sequence) nothing bs ≡ Ok us
     → reading size [] (Some sequence) nothing (bs ++ ys) ≡ behind us (reading size [] (last_of (Some sequence) us) nothing ys)
 goes_behind size ys [] sequence us rest is =
     let none : [] ≡ us = ok_same (sym (read_end size [] (Some sequence) nothing) ∙ is) in

@@ -1,6 +1,6 @@
 -- The head of a journal, by its accepted headers.
-use Rattle.std.proofs.Common.{◌≡◌, ◌≢◌, ◌⊎◌, ◌+◌, ◌<◌, ◌≤◌, ℕ, zero, suc, Bool, true, false, Option, None, Some, refl, sym, ap, ◌∙◌, inl, inr, arith}
-use Rattle.std.specs.Prelude.{nat_lt, if◌then◌else◌}
+use Rattle.std.proofs.Common.{◌≡◌, ◌≢◌, ◌⊎◌, ◌+◌, ◌<◌, ◌≤◌, ℕ, zero, suc, true, false, Option, None, Some, refl, sym, ap, ◌∙◌, inl, inr, arith}
+use Rattle.std.specs.Prelude.{nat_lt}
 use Rattle.std.proofs.lemmas.Bool.{cases_Bool, cases_lt, cond-true, cond-false}
 use Rattle.std.proofs.lemmas.Bool.Decides.{nat_tests}
 use Rattle.log_layout.specs.Journal.{Ring, accepted, best_from, better, head_in}
@@ -38,14 +38,22 @@ no_less None y h (inr e) = (h, e, omega arith)
 no_less (Some a) None h (inl e) = (h, e, omega arith)
 no_less (Some a) None h (inr e) = absurd (none_is e)
 no_less (Some a) (Some b) h which = elim (cases_Bool (nat_lt a.sequence b.sequence)) [
-  | inl t ↦ (b, cond-true _ (Some b) (Some a) t, elim which [
-    | inl e ↦ (let s : a.sequence ≡ h.sequence = ap (λ (g : LogHeader). g.sequence) (some_is e) in let less : a.sequence < b.sequence = grind (arith, nat_tests, t) in omega (arith, s, less))
-    | inr e ↦ (let s : b.sequence ≡ h.sequence = ap (λ (g : LogHeader). g.sequence) (some_is e) in omega (arith, s))
-  ])
-  | inr t ↦ (a, cond-false _ (Some b) (Some a) t, elim which [
-    | inl e ↦ (let s : a.sequence ≡ h.sequence = ap (λ (g : LogHeader). g.sequence) (some_is e) in omega (arith, s))
-    | inr e ↦ (let s : b.sequence ≡ h.sequence = ap (λ (g : LogHeader). g.sequence) (some_is e) in let less : b.sequence ≤ a.sequence = grind (arith, nat_tests, t) in omega (arith, s, less))
-  ])
+  | inl t ↦ (
+    b,
+    cond-true _ (Some b) (Some a) t,
+    elim which [
+      | inl e ↦ (let s : a.sequence ≡ h.sequence = ap (λ (g : LogHeader). g.sequence) (some_is e) in let less : a.sequence < b.sequence = grind (arith, nat_tests, t) in omega (arith, s, less))
+      | inr e ↦ (let s : b.sequence ≡ h.sequence = ap (λ (g : LogHeader). g.sequence) (some_is e) in omega (arith, s))
+    ],
+  )
+  | inr t ↦ (
+    a,
+    cond-false _ (Some b) (Some a) t,
+    elim which [
+      | inl e ↦ (let s : a.sequence ≡ h.sequence = ap (λ (g : LogHeader). g.sequence) (some_is e) in omega (arith, s))
+      | inr e ↦ (let s : b.sequence ≡ h.sequence = ap (λ (g : LogHeader). g.sequence) (some_is e) in let less : b.sequence ≤ a.sequence = grind (arith, nat_tests, t) in omega (arith, s, less))
+    ],
+  )
 ]
 
 best_accepted : (ring : Ring) (p n : ℕ) (g : LogHeader) → best_from ring p n ≡ Some g → IsAcceptedIn ring p n g

@@ -10,3 +10,6 @@ mod RingsWritten
 mod HeadWritten
 mod NoHeads
 mod LiveAfter
+mod Sorted
+mod LowSequences
+mod Assembled

@@ -1,19 +1,19 @@
 -- The blocks of a chunk add what they were written for.
-use Rattle.std.proofs.Common.{◌≡◌, ◌≢◌, ◌+◌, ◌-◌, ◌*◌, ◌/◌, ◌<◌, ◌≤◌, ◌^◌, ◌++◌, ℕ, zero, suc, Bool, true, false, List, [], ◌∷◌, length, map, get_or, take, drop, Option, None, Some, Ok, refl, sym, ap, ◌∙◌, inl, inr, arith, append_assoc}
-use Rattle.std.specs.Prelude.{◌==◌, ◌&&◌, nat_le, if◌then◌else◌}
+use Rattle.std.proofs.Common.{◌≡◌, ◌+◌, ◌<◌, ◌≤◌, ◌++◌, ℕ, Bool, true, false, List, [], ◌∷◌, length, get_or, take, drop, Option, None, Some, refl, sym, ap, ◌∙◌, inl, inr, arith, append_assoc}
+use Rattle.std.specs.Prelude.{if◌then◌else◌}
 use Rattle.std.specs.List.{All}
 use Rattle.std.specs.Int.{w32, to_be_bytes}
 use Rattle.std.proofs.lemmas.Nat.{be_bytes_4}
 use Rattle.std.proofs.lemmas.List.Elements.{All-take}
 use Rattle.std.proofs.Math.ListN.{get_or-eq_default}
-use Rattle.std.proofs.lemmas.Bool.{cases_Bool, cases_lt, cond-true, cond-false, eq-eqb, eqb-true}
+use Rattle.std.proofs.lemmas.Bool.{cases_lt, cond-true, eq-eqb, eqb-true}
 use Rattle.std.proofs.lemmas.List.{append-nil, length-take, take-append-drop}
 use Rattle.std.proofs.Math.Seq.{take-length}
 use Rattle.gfs2_layout.specs.Bytes.{number_at, u32_at, with_number}
 use Rattle.gfs2_layout.specs.Structures.{magic}
-use Rattle.gfs2_layout.proofs.InPlace.{is_width_32, length-with, number-with_same, with-again}
-use Rattle.log_layout.specs.Chunks.{Chunk, Logged, Transaction, chunk_in, joined, nothing, one_block, part_of, restored}
-use Rattle.log_layout.specs.Journal.{Placed, accepted, next}
+use Rattle.gfs2_layout.proofs.InPlace.{is_width_32, length-with, with-again}
+use Rattle.log_layout.specs.Chunks.{Logged, Transaction, joined, nothing, one_block, part_of, restored}
+use Rattle.log_layout.specs.Journal.{Placed, next}
 use Rattle.log_layout.specs.Transactions.{reading}
 use Rattle.log_layout.specs.declared.due.Due.{Due}
 use Rattle.log_layout.specs.declared.due.Due.TheVariants as due

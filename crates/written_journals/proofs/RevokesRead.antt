@@ -1,5 +1,5 @@
 -- The chunk of revokes is read as it was written.
-use Rattle.std.proofs.Common.{◌≡◌, ◌+◌, ◌-◌, ◌*◌, ◌/◌, ◌<◌, ◌≤◌, ◌^◌, ◌++◌, ℕ, zero, suc, Bool, true, false, List, [], ◌∷◌, length, map, take, drop, Option, None, Some, Result, Ok, refl, sym, ap, ◌∙◌, inl, inr, arith, length-drop, subst}
+use Rattle.std.proofs.Common.{◌≡◌, ◌+◌, ◌-◌, ◌*◌, ◌<◌, ◌≤◌, ◌^◌, ◌++◌, ℕ, zero, suc, List, [], ◌∷◌, length, map, take, drop, Option, None, Some, refl, sym, ap, ◌∙◌, inl, inr, arith, length-drop, subst}
 use Rattle.std.specs.Prelude.{◌==◌, min, nat_lt}
 use Rattle.std.specs.List.{range_with_len}
 use Rattle.std.specs.Int.{w32}
@@ -7,8 +7,7 @@ use Rattle.std.proofs.lemmas.Bool.{cases_Bool, cond-true, cond-false, eqb-true}
 use Rattle.std.proofs.lemmas.List.{length-map, length-replicate, length-take, take-append-drop}
 use Rattle.std.proofs.lemmas.List.FromFn.{length-map-range_with_len}
 use Rattle.gfs2_layout.specs.Bytes.{u32_at}
-use Rattle.gfs2_layout.specs.Device.{IsBlockSize}
-use Rattle.gfs2_layout.specs.Structures.{header_fault, header_of, header_read, length_fault, magic, magic_fault, or_else}
+use Rattle.gfs2_layout.specs.Structures.{header_fault, header_of, length_fault, magic, magic_fault, or_else}
 use Rattle.gfs2_layout.specs.Writing.{header_fields, header_put}
 use Rattle.gfs2_layout.specs.declared.fault.LayoutFault.{LayoutFault}
 use Rattle.gfs2_layout.specs.declared.fault.LayoutFault.TheVariants.{Short, Magic}
@@ -16,7 +15,7 @@ use Rattle.gfs2_layout.specs.declared.header.MetaHeader.{MetaHeader}
 use Rattle.gfs2_layout.proofs.FieldsInPlace.{length-fields}
 use Rattle.gfs2_layout.proofs.HeaderLaws.{answer_ok, some_none}
 use Rattle.gfs2_layout.proofs.ReadBack.{header_back, no_header_fault}
-use Rattle.log_layout.specs.Chunks.{Transaction, dues, first_revokes, further_count, further_part, further_room, if_headed, if_revokes, joined, numbers_at, numbers_room, part_of}
+use Rattle.log_layout.specs.Chunks.{Transaction, first_revokes, further_count, further_part, further_room, if_headed, if_revokes, joined, numbers_at, numbers_room, part_of}
 use Rattle.log_layout.specs.Descriptors.{descriptor_put}
 use Rattle.log_layout.specs.Journal.{Placed}
 use Rattle.log_layout.specs.Transactions.{reading}
@@ -24,7 +23,7 @@ use Rattle.log_layout.specs.declared.descriptor.ChunkKind.TheVariants.{Revoke}
 use Rattle.log_layout.specs.declared.descriptor.LogDescriptor.{LogDescriptor}
 use Rattle.log_layout.specs.declared.due.Due.{Due}
 use Rattle.log_layout.specs.declared.due.Due.TheVariants as due
-use Rattle.node_journal.specs.Encoding.{descriptor_block, further_block, piece_count, pieces, revoke_chunk, revoke_chunks, with_numbers, zeros}
+use Rattle.node_journal.specs.Encoding.{descriptor_block, further_block, piece_count, pieces, revoke_chunk, zeros}
 use Rattle.node_journal.specs.Places.{placed_from}
 use Rattle.node_journal.proofs.Arounds.{division_is_less}
 use Rattle.node_journal.proofs.Chunked.{map_map}
@@ -129,10 +128,10 @@ revokes_read size jid places p last begun rs rest big small low few numbers_low 
     let ds = map (λ i. due.Further (further_part size (length rs) i)) (range_with_len 0 many) in
     let each : (i : ℕ) → part_of (due.Further (further_part size (length rs) i)) (further_block size jid (piece i)) ≡ Some (of_revokes (piece i)) =
     (λ i.
-        let long : length (piece i) ≡ min room (length (drop (room * i) others)) = length-take room (drop (room * i) others) in
-        let left : length (drop (room * i) others) ≡ (length rs - numbers_room size) - room * i = length-drop (room * i) others ∙ ap (λ n. n - room * i) (length-drop (numbers_room size) rs) in
-        ap (λ n. part_of (due.Further n) (further_block size jid (piece i))) (sym (long ∙ ap (min room) left))
-        ∙ further_read size jid (piece i) (omega (arith, long, big)) low (low_take room (drop (room * i) others) (low_drop (room * i) others (low_drop (numbers_room size) rs numbers_low)))) in
+    let long : length (piece i) ≡ min room (length (drop (room * i) others)) = length-take room (drop (room * i) others) in
+    let left : length (drop (room * i) others) ≡ (length rs - numbers_room size) - room * i = length-drop (room * i) others ∙ ap (λ n. n - room * i) (length-drop (numbers_room size) rs) in
+    ap (λ n. part_of (due.Further n) (further_block size jid (piece i))) (sym (long ∙ ap (min room) left))
+    ∙ further_read size jid (piece i) (omega (arith, long, big)) low (low_take room (drop (room * i) others) (low_drop (room * i) others (low_drop (numbers_room size) rs numbers_low)))) in
     let parts = parts_of_range (λ i. due.Further (further_part size (length rs) i)) (λ i. further_block size jid (piece i)) (λ i. of_revokes (piece i)) each 0 many in
     let bs_is : map (λ i. further_block size jid (piece i)) (range_with_len 0 many) ≡ map (further_block size jid) (pieces room others) =
     ap (λ m. map (λ i. further_block size jid (piece i)) (range_with_len 0 m)) (sym count_is) ∙ sym (map_map (further_block size jid) piece (range_with_len 0 (piece_count room (length others)))) in
@@ -150,6 +149,6 @@ revokes_read size jid places p last begun rs rest big small low few numbers_low 
     refl refl (ap (λ n. 1 + n) (sym due_long)) (subst Q ps_is (subst P bs_is parts)) (due_long ∙ sym blocks_long) more
     ∙ ap (λ (t : Transaction). reading size [] last t rest)
     (ap (λ xs. all_joined (joined begun (of_revokes xs)) (map of_revokes (pieces room others))) told
-        ∙ pieces_joined room some (length others) (joined begun (of_revokes first)) others (omega arith)
-        ∙ joined_assoc begun (of_revokes first) (of_revokes others)
-        ∙ ap (λ xs. joined begun (of_revokes xs)) (take-append-drop (numbers_room size) rs))
+    ∙ pieces_joined room some (length others) (joined begun (of_revokes first)) others (omega arith)
+    ∙ joined_assoc begun (of_revokes first) (of_revokes others)
+    ∙ ap (λ xs. joined begun (of_revokes xs)) (take-append-drop (numbers_room size) rs))

@@ -1,7 +1,7 @@
 -- A ring with blocks that were written round it.
-use Rattle.std.proofs.Common.{◌≡◌, ◌≢◌, ◌⊎◌, ◌+◌, ◌-◌, ◌<◌, ◌≤◌, ◌++◌, ℕ, zero, suc, Bool, true, false, List, [], ◌∷◌, length, get_or, refl, sym, ap, ◌∙◌, inl, inr, arith}
+use Rattle.std.proofs.Common.{◌≡◌, ◌≢◌, ◌⊎◌, ◌+◌, ◌-◌, ◌<◌, ◌≤◌, ◌++◌, ℕ, zero, suc, true, false, List, [], ◌∷◌, length, get_or, refl, sym, ap, ◌∙◌, inl, inr, arith}
 use Rattle.std.specs.Prelude.{◌==◌, nat_le, nat_lt, if◌then◌else◌}
-use Rattle.std.proofs.lemmas.Bool.{cases_Bool, cases_lt, cond-true, cond-false, eq-eqb, ne_eqb}
+use Rattle.std.proofs.lemmas.Bool.{cases_lt, cond-true, cond-false, eq-eqb, ne_eqb}
 use Rattle.std.proofs.lemmas.Bool.Decides.{nat_tests}
 use Rattle.log_layout.specs.Journal.{Placed, Ring, blocks_from, next, way}
 use Rattle.node_journal.specs.Places.{place_on, placed_from}
@@ -51,6 +51,25 @@ way_back places p n inside few = elim (on_is places p n inside few) [
       let less : place_on places p n < p = omega (arith, a.1, few) in
       cond-false _ _ _ (let t : nat_le p (place_on places p n) ≡ false = grind (arith, nat_tests, less) in t)
       ∙ (let e : (place_on places p n + places) - p ≡ n = omega (arith, a.1) in e)
+]
+
+-- each place is so many places on
+pub way_on : (places p q : ℕ) → p < places → q < places → place_on places p (way places p q) ≡ q
+way_on places p q inside there = elim (cases_lt q p) [
+  | inl before ↦
+      let n = (q + places) - p in
+      let is : way places p q ≡ n = cond-false (nat_le p q) (q - p) n (let t : nat_le p q ≡ false = grind (arith, nat_tests, before) in t) in
+      ap (place_on places p) is ∙ elim (on_is places p n inside (omega (arith, before, inside))) [
+        | inl a ↦ absurd (omega (arith, a.0, before, inside))
+        | inr a ↦ (let e : place_on places p n ≡ q = omega (arith, a.1, before, inside) in e)
+      ]
+  | inr behind ↦
+      let n = q - p in
+      let is : way places p q ≡ n = cond-true (nat_le p q) n ((q + places) - p) (let t : nat_le p q ≡ true = grind (arith, nat_tests, behind) in t) in
+      ap (place_on places p) is ∙ elim (on_is places p n inside (omega (arith, there))) [
+        | inl a ↦ (let e : place_on places p n ≡ q = omega (arith, a.1, behind) in e)
+        | inr a ↦ absurd (omega (arith, a.0, behind, there))
+      ]
 ]
 
 pub next_of : (places p n : ℕ) → next places (place_on places p n) ≡ place_on places p (n + 1)
@@ -104,6 +123,6 @@ ring_written ring tail count bs inside few =
     let first_in : first < places = on_inside places tail count inside (omega (arith, few)) in
     let before = blocks_same new ring tail count refl
     (λ i less. untouched places first bs (place_on places tail i) (ring.at (place_on places tail i))
-        (λ j h e. let same : count + j ≡ i = on_apart places tail (count + j) i inside (omega (arith, few, h)) (omega (arith, few, less)) (sym (place_further places tail count j) ∙ e) in omega (arith, same, less))) in
+    (λ j h e. let same : count + j ≡ i = on_apart places tail (count + j) i inside (omega (arith, few, h)) (omega (arith, few, less)) (sym (place_further places tail count j) ∙ e) in omega (arith, same, less))) in
     let behind = blocks_are new first bs (λ i d less. touched places first bs i d (ring.at (place_on places first i)) first_in (omega (arith, few)) less) in
     blocks_further new tail count (length bs) ∙ (λ j. before j ++ behind j)

@@ -1,12 +1,8 @@
 -- What a journal says once a transaction was written to it.
-use Rattle.std.specs.Prelude.{ℕ, ◌≡◌, ◌≢◌, ◌+◌, ◌^◌, ◌==◌, ◌<◌, ◌≤◌, if◌then◌else◌, Bool, false, List, [], ◌∷◌, ◌++◌, length, map, Contains, find, Option, None, Some, Ok}
-use Rattle.std.specs.List.{All, list_any}
-use Rattle.std.specs.List.Sorted.{IsStrictlyIncreasing}
-use Rattle.gfs2_layout.specs.Bytes.{u32_at}
-use Rattle.gfs2_layout.specs.Device.{IsBlockSize}
-use Rattle.gfs2_layout.specs.Structures.{magic}
+use Rattle.std.specs.Prelude.{ℕ, ◌≡◌, ◌+◌, ◌^◌, ◌==◌, ◌<◌, if◌then◌else◌, Bool, List, [], ◌∷◌, ◌++◌, find, Option, None, Some, Ok}
+use Rattle.std.specs.List.{list_any}
 use Rattle.log_layout.specs.Chunks.{Logged, Transaction, nothing}
-use Rattle.log_layout.specs.Headers.{as_read, log_read}
+use Rattle.log_layout.specs.Headers.{as_read}
 use Rattle.log_layout.specs.Journal.{Ring, Placed, IsWhole, blocks_from, head_in}
 use Rattle.log_layout.specs.Live.{live_entry}
 use Rattle.log_layout.specs.Transactions.{Sequenced, after, reading, transactions_of}
