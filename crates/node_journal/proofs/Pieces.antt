@@ -25,7 +25,7 @@ one_more_counted n c some more =
 
 -- ---- the pieces
 
-shift : {A : Type 0} (g h : ℕ → A) → ((i : ℕ) → g (i + 1) ≡ h i) → (a m : ℕ) → map g (range_with_len (a + 1) m) ≡ map h (range_with_len a m)
+pub shift : {A : Type 0} (g h : ℕ → A) → ((i : ℕ) → g (i + 1) ≡ h i) → (a m : ℕ) → map g (range_with_len (a + 1) m) ≡ map h (range_with_len a m)
 shift g h e a zero = refl
 shift g h e a (suc m) = λ j. e a j ∷ shift g h e (a + 1) m j
 

@@ -1,0 +1,15 @@
+mod NumbersBack
+mod Blocks
+mod DescriptorsBack
+mod Parts
+mod ChunksRead
+mod RevokesRead
+mod AllRead
+mod Going
+mod RingsWritten
+mod HeadWritten
+mod NoHeads
+mod LiveAfter
+mod Sorted
+mod LowSequences
+mod Assembled
