@@ -72,7 +72,7 @@ module _ (im : Image) (owners : Owners) (l : Layout) (laid : IsLaid im owners l)
   laid_breaks_nothing _ _ (Rules.leads_back a hash x by by' place later claim other low) = absurd (omega (arith, low, inodes.chain_once im owners l laid a hash x by by' place later claim other))
   laid_breaks_nothing _ _ (Rules.no_jindex none) = none l.jindex (has_jindex im owners l laid) (jindex_directory im owners l laid)
   laid_breaks_nothing _ _ (Rules.headless j d has none) = system.journal_headed im owners l laid j d has none
-  laid_breaks_nothing _ _ (Rules.bad_chunk j d p head has headed bad) = system.no_bad_chunk im owners l laid j d has p head headed bad
+  laid_breaks_nothing _ _ (Rules.bad_chunk j d p head has headed bad there) = system.no_bad_chunk im owners l laid j d has p head headed bad
   laid_breaks_nothing _ _ (Rules.no_rindex none) = none l.rindex (has_rindex im owners l laid)
   laid_breaks_nothing _ _ (Rules.part_of_entry d is e) = e (system.list_whole im owners l laid d is)
   laid_breaks_nothing _ _ (Rules.too_many d is many) = absurd (omega (arith, many, system.list_short im owners l laid d is))

@@ -147,7 +147,7 @@ module _ (im : Image) where
   broken_reached _ _ (Rules.leads_back a hash x by by' place later claim other low) = claimer by' x (Chained a hash later) other
   broken_reached _ _ (Rules.no_jindex none) = by_claim _ _ Master master
   broken_reached _ _ (Rules.headless j d has none) = named has.0 d _ has.2
-  broken_reached _ _ (Rules.bad_chunk j d p head has headed bad) = of_content d p (_, record { by = has.2.0; claimed = has.2.1; dinode = refl })
+  broken_reached _ _ (Rules.bad_chunk j d p head has headed bad there) = of_content d p (_, record { by = has.2.0; claimed = has.2.1; dinode = refl })
   broken_reached _ _ (Rules.no_rindex none) = by_claim _ _ Master master
   broken_reached _ _ (Rules.part_of_entry d is e) = named _ d _ is
   broken_reached _ _ (Rules.too_many d is many) = named _ d _ is

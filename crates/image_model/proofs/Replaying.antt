@@ -1,10 +1,11 @@
 -- There is at most one replayed image, and an image whose journals are clean is its own.
-use Rattle.std.proofs.Common.{◌≡◌, ◌⊎◌, inl, inr, ℕ, zero, suc, List, [], ◌∷◌, Option, None, Some, refl, sym, subst, ◌∙◌}
+use Rattle.std.proofs.Common.{◌≡◌, ◌⊎◌, inl, inr, ℕ, zero, suc, List, [], ◌∷◌, Option, None, Some, refl, sym, subst, ◌∙◌, ap}
 use Rattle.std.specs.Prelude.{slice_get}
 use Rattle.log_layout.proofs.SamePlaces.{nothing_live}
 use Rattle.image_model.specs.Image.{Image}
-use Rattle.image_model.specs.Laws.{CleanImagesStay, OneReplay}
-use Rattle.image_model.specs.Replays.{live_at}
+use Rattle.image_model.specs.Laws.{CleanImagesStay, OneReplay, ReplayedIsThere}
+use Rattle.image_model.specs.Replays.{IsLiveInBoth, live_at}
+use Rattle.image_model.specs.Stands.{IsJournalAt}
 use Rattle.image_model.proofs.Held.{none_some, some_same}
 
 -- a block that is live in one of these journals
@@ -42,11 +43,54 @@ one_replay im a b l first second = λ i. record { size = (first.size ∙ sym sec
       | inr none ↦ first.others block none ∙ sym (second.others block none)
     ]
 
+pub replayed_is_there : ReplayedIsThere
+replayed_is_there im l may = (
+  there,
+  record {
+    replayable = may;
+    size = refl;
+    count = refl;
+    live = λ j d block bytes at live. taken block j d bytes at live (live_or_not im l.journals block);
+    others = λ block none. left block none (live_or_not im l.journals block);
+  },
+)
+  where
+    put : (block : ℕ) → IsLiveIn im l.journals block ⊎ ((j d : ℕ) → slice_get l.journals j ≡ Some d → live_at im d block ≡ None) → List ℕ
+    put block (inl is) = is.bytes
+    put block (inr none) = im.at block
+
+    there : Image
+    there = record { size = im.size; count = im.count; at = λ block. put block (live_or_not im l.journals block) }
+
+    taken : (block j d : ℕ) (bytes : List ℕ) → IsJournalAt l j d → live_at im d block ≡ Some bytes
+        → (known : IsLiveIn im l.journals block ⊎ ((j d : ℕ) → slice_get l.journals j ≡ Some d → live_at im d block ≡ None)) → put block known ≡ bytes
+    taken block j d bytes at live (inr none) = absurd (none_some (sym (none j d at) ∙ live))
+    taken block j d bytes at live (inl is) = some_same (sym is.live ∙ ap (λ n. live_at im n block) same_dinode ∙ live)
+      where
+        both : IsLiveInBoth im l is.journal j block
+        both = record { first = is.dinode; second = d; first_at = is.there; second_at = at; one = is.bytes; other = bytes; one_live = is.live; other_live = live }
+
+        same_dinode : is.dinode ≡ d
+        same_dinode = some_same (sym is.there ∙ ap (λ n. slice_get l.journals n) (may.once is.journal j block both) ∙ at)
+
+    left : (block : ℕ) → ((j d : ℕ) → IsJournalAt l j d → live_at im d block ≡ None)
+        → (known : IsLiveIn im l.journals block ⊎ ((j d : ℕ) → slice_get l.journals j ≡ Some d → live_at im d block ≡ None)) → put block known ≡ im.at block
+    left block none (inr nowhere) = refl
+    left block none (inl is) = absurd (none_some (sym (none is.journal is.dinode is.there) ∙ is.live))
+
 pub clean_stay : CleanImagesStay
-clean_stay im l clean = record {
-  once = λ i j block both. absurd (none_some (sym ((nothing_live _ (clean i both.first both.first_at)).none block) ∙ both.one_live));
+clean_stay im l journals clean = record {
+  replayable = record {
+    journals = journals;
+    readable = λ j d at. (nothing_live _ (clean j d at)).readable;
+    once = λ i j block both. absurd (nothing i both.first block both.one both.first_at both.one_live);
+    inside = λ j d block bytes at live. absurd (nothing j d block bytes at live);
+  };
   size = refl;
   count = refl;
-  live = λ j d block bytes at live. absurd (none_some (sym ((nothing_live _ (clean j d at)).none block) ∙ live));
+  live = λ j d block bytes at live. absurd (nothing j d block bytes at live);
   others = λ block none. refl;
 }
+  where
+    nothing : (j d block : ℕ) (bytes : List ℕ) → IsJournalAt l j d → live_at im d block ≡ Some bytes → ⊥
+    nothing j d block bytes at live = none_some (sym ((nothing_live _ (clean j d at)).none block) ∙ live)

@@ -5,7 +5,7 @@ use Rattle.file_tree.specs.Tree.{Tree}
 use Rattle.image_model.specs.Image.{Image}
 use Rattle.image_model.specs.Claims.{every, Claims}
 use Rattle.image_model.specs.Journals.{IsJournal}
-use Rattle.image_model.specs.Replays.{IsLiveTwice, Replayed}
+use Rattle.image_model.specs.Replays.{HasItsJournals, IsLiveTwice, IsReplayable, Replayed}
 use Rattle.image_model.specs.Rules.{Breaks, IsReached}
 use Rattle.gfs2_layout.specs.declared.dinode.Dinode.{Dinode}
 use Rattle.log_layout.specs.Journal.{IsClean, ring_of}
@@ -67,9 +67,13 @@ JournalsReadAlike = (im : Image) (owners : Owners) (l : Layout) → IsLaid im ow
 abbrev pub OneReplay : Type 0
 OneReplay = (im a b : Image) (l : Layout) → Replayed im l a → Replayed im l b → a ≡ b
 
+-- and there is one where the image can be replayed
+abbrev pub ReplayedIsThere : Type 0
+ReplayedIsThere = (im : Image) (l : Layout) → IsReplayable im l → (replayed : Image) × Replayed im l replayed
+
 -- an image whose journals are clean is its own replayed image
 abbrev pub CleanImagesStay : Type 0
-CleanImagesStay = (im : Image) (l : Layout) → ((j d : ℕ) → IsJournalAt l j d → IsClean (ring_of (every im d))) → Replayed im l im
+CleanImagesStay = (im : Image) (l : Layout) → HasItsJournals im l → ((j d : ℕ) → IsJournalAt l j d → IsClean (ring_of (every im d))) → Replayed im l im
 
 -- where a block is live in two journals there is no replayed image
 abbrev pub TwiceLiveIsNotReplayed : Type 0

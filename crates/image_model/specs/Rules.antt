@@ -1,5 +1,5 @@
 -- What breaks which rule at which block: of any image, without a table of owners.
--- Two rules come with the replay of journals: that of a bad chunk, 17, and that of a block that is live in two journals, 20.
+-- All speak of the image as it lies. That a block is live in two journals, the twentieth rule, stands with the replayed image.
 use Rattle.std.specs.Prelude.{ℕ, suc, ◌≡◌, ◌≢◌, ◌⊎◌, ◌+◌, ◌-◌, ◌*◌, ◌/◌, ◌%◌, ◌<◌, ◌≤◌, true, false, List, length, codes, slice_get, flat_map, Contains, None, Some, Err}
 use Rattle.std.specs.List.Sorted.{IsStrictlyIncreasing}
 use Rattle.file_tree.specs.Names.{IsName}
@@ -162,9 +162,9 @@ pub data Breaks (im : Image) : ℕ → ℕ → Type 0 where
   -- 16: a journal has no accepted header; or there is no directory of journals: nothing that has its name is a directory
   no_jindex : ((d : ℕ) → IsJindex im d → is_directory_in (every im d) ≡ true → ⊥) → Breaks im 16 (master_of im)
   headless : (j d : ℕ) → HasJournal im j d → head_in (ring_of (every im d)) ≡ None → Breaks im 16 d
-  -- 17: a journal has a bad chunk; the block is that place's
+  -- 17: a journal has a bad chunk; the block is that place's. A hole is no block: it breaks the eighth
   bad_chunk : (j d p : ℕ) (head : LogHeader) → HasJournal im j d → head_in (ring_of (every im d)) ≡ Some head
-      → transactions_of (ring_of (every im d)) head ≡ Err p → Breaks im 17 (content_block (every im d) p)
+      → transactions_of (ring_of (every im d)) head ≡ Err p → content_block (every im d) p ≢ 0 → Breaks im 17 (content_block (every im d) p)
   -- 18: the list of groups is missing, has a part of an entry or more entries than the device has blocks, groups don't fit, rise or lie apart, or a block above the superblock's is in none and isn't one of at most three behind one
   no_rindex : ((d : ℕ) → IsRindex im d → ⊥) → Breaks im 18 (master_of im)
   part_of_entry : (d : ℕ) → IsRindex im d → (dinode_in (every im d)).size % entry_length ≢ 0 → Breaks im 18 d

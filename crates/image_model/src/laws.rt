@@ -1,5 +1,5 @@
 //! What the definitions of images mean. The functions do nothing: their contracts are the laws.
-ghost use Rattle.image_model.specs.Laws.{AnyOrder, BrokenAreReached, CleanImagesStay, HoldingsAreOwned, JournalsReadAlike, NothingBreaks, OneReplay, OneTable, OneTree, OwnersClaim, TwiceLiveIsNotReplayed};
+ghost use Rattle.image_model.specs.Laws.{AnyOrder, BrokenAreReached, CleanImagesStay, HoldingsAreOwned, JournalsReadAlike, NothingBreaks, OneReplay, OneTable, OneTree, OwnersClaim, ReplayedIsThere, TwiceLiveIsNotReplayed};
 
 /// A law: an image stands for at most one tree.
 pub fn images_stand_for_one_tree()
@@ -41,9 +41,10 @@ pub fn journals_read_alike()
     ensures { JournalsReadAlike }
 {}
 
-/// A law: of an image there is at most one replayed image, and none where a block is live in two journals.
+/// A law: of an image that can be replayed there is one replayed image; of any other there is none, so where a block is live in two journals.
 pub fn images_have_one_replay()
     ensures one { OneReplay }
+    ensures there { ReplayedIsThere }
     ensures none { TwiceLiveIsNotReplayed }
 {}
 
