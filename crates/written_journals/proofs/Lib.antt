@@ -8,8 +8,10 @@ mod AllRead
 mod Going
 mod RingsWritten
 mod HeadWritten
+mod HeadFound
 mod NoHeads
 mod LiveAfter
 mod Sorted
 mod LowSequences
 mod Assembled
+mod Anew

@@ -1,10 +1,11 @@
 -- What a journal says once a transaction was written to it.
-use Rattle.std.specs.Prelude.{ℕ, ◌≡◌, ◌+◌, ◌^◌, ◌==◌, ◌<◌, if◌then◌else◌, Bool, List, [], ◌∷◌, ◌++◌, find, Option, None, Some, Ok}
+use Rattle.std.specs.Prelude.{ℕ, ◌≡◌, ◌+◌, ◌^◌, ◌==◌, ◌<◌, if◌then◌else◌, Bool, List, [], ◌∷◌, ◌++◌, length, find, Option, None, Some, Ok}
 use Rattle.std.specs.List.{list_any}
+use Rattle.gfs2_layout.specs.Device.{IsBlockSize}
 use Rattle.log_layout.specs.Chunks.{Logged, Transaction, nothing}
 use Rattle.log_layout.specs.Headers.{as_read}
-use Rattle.log_layout.specs.Journal.{Ring, Placed, IsWhole, blocks_from, head_in}
-use Rattle.log_layout.specs.Live.{live_entry}
+use Rattle.log_layout.specs.Journal.{Ring, Placed, blocks_from, head_in}
+use Rattle.log_layout.specs.Live.{live_entry, live_in}
 use Rattle.log_layout.specs.Transactions.{Sequenced, after, reading, transactions_of}
 use Rattle.log_layout.specs.declared.log_header.LogHeader.{LogHeader}
 use Rattle.node_journal.specs.Encoding.{encoded, content_of, metadata_of, header_of, header_place, header_block, size_of}
@@ -30,7 +31,6 @@ as_written t = record { blocks = content_of t ++ metadata_of t; revokes = t.revo
 -- The journal is ready for a transaction: from the tail that its header will tell, so many places have whole transactions, of which the
 -- last has the sequence before; the first place is behind them; a place is left free; and the head so far is older.
 pub record IsReady (ring : Ring) (at : Place) (t : Transaction) (count : ℕ) (before : List Sequenced) : Type 0 where
-  pub whole : IsWhole ring
   pub places : ring.places ≡ at.length
   pub read : reading ring.size [] None nothing (blocks_from ring at.tail count) ≡ Ok before
   pub follows : (ts : List Sequenced) (last : Sequenced) → before ≡ ts ++ last ∷ [] → after last.sequence ≡ at.sequence
@@ -62,3 +62,30 @@ pub record IsWritten (size : ℕ) (ring : Ring) (at : Place) (t : Transaction) (
 abbrev pub WhatIsWrittenIsSaid : Type 0
 WhatIsWrittenIsSaid = (ring : Ring) (at : Place) (t : Transaction) (count : ℕ) (before : List Sequenced) → IsLoggableAll ring.size t → AreNumbers at t → IsPlaceFor ring.size at t
     → IsReady ring at t count before → IsHeaderRead ring.size at t → IsWritten ring.size (with_blocks ring (encoded ring.size at t)) at t before
+
+-- ---- a header that is its own tail
+
+-- The journal is ready for a transaction whose header tells its own place as the tail, as where all that was live is home: the head so far
+-- is older.
+pub record IsReadyAnew (ring : Ring) (at : Place) (t : Transaction) : Type 0 where
+  pub places : ring.places ≡ at.length
+  pub own : at.tail ≡ header_place ring.size at t
+  pub older : (h : LogHeader) → head_in ring ≡ Some h → h.sequence < at.sequence
+  pub sequence : at.sequence < 2 ^ 64
+
+-- Once it was written, its head is the new header, which has nothing before it, and nothing is live.
+pub record IsBegunAnew (size : ℕ) (ring : Ring) (at : Place) (t : Transaction) : Type 0 where
+  pub headed : head_in ring ≡ Some (as_read (header_of at (header_place size at t)) (header_block size at t))
+  pub read : (head : LogHeader) → head_in ring ≡ Some head → transactions_of ring head ≡ Ok (record { sequence = at.sequence; transaction = nothing } ∷ [])
+  pub live : (b : ℕ) → live_in ring b ≡ None
+
+-- a journal whose header is its own tail begins anew
+abbrev pub OwnTailBeginsAnew : Type 0
+OwnTailBeginsAnew = (ring : Ring) (at : Place) (t : Transaction) → IsLoggableAll ring.size t → AreNumbers at t → IsPlaceFor ring.size at t
+    → IsReadyAnew ring at t → IsHeaderRead ring.size at t → IsBegunAnew ring.size (with_blocks ring (encoded ring.size at t)) at t
+
+-- ---- how much is written
+
+-- a transaction takes as many places as its size says
+abbrev pub SizeIsLength : Type 0
+SizeIsLength = (size : ℕ) (at : Place) (t : Transaction) → IsBlockSize size → length (encoded size at t) ≡ size_of size t
