@@ -1,0 +1,35 @@
+-- The plan of a journal in memory is that of the journal which it was read from.
+use Rattle.std.proofs.Common.{◌≡◌, ℕ, List, Option, Some, Ok, sym, ap, ◌∙◌}
+use Rattle.std.specs.Option.{option_map}
+use Rattle.log_layout.specs.Chunks.{Logged}
+use Rattle.log_layout.specs.Journal.{Ring, head_in}
+use Rattle.log_layout.specs.Laws.{HasSamePlaces}
+use Rattle.log_layout.specs.Live.{IsReadable, live_entry, live_in, live_read, live_under}
+use Rattle.log_layout.specs.Transactions.{Sequenced, transactions_of}
+use Rattle.log_layout.specs.declared.log_header.LogHeader.{LogHeader}
+use Rattle.log_layout.proofs.SamePlaces.{says_the_same}
+use Rattle.peer_replay.specs.Plans.{clean_header, put_home}
+use Rattle.peer_replay.specs.Plans as scanned
+use Rattle.peer_replay.specs.declared.planned.Plan.{Plan}
+use Rattle.journal_scan.specs.declared.fault.ScanFault.{ScanFault}
+use Rattle.journal_scan.specs.declared.fault.ScanFault.TheVariants.{NoHeader, BadChunk, NoMemory}
+use Rattle.journal_plans.specs.Plans.{IsPlanOf, IsWhyNot, of_scan}
+
+module _ (r s : Ring) (same : HasSamePlaces r s) where
+  -- what is live in a journal that can be read
+  live_told : (is : IsReadable r) (block : ℕ) → live_in r block ≡ option_map (λ (e : Logged). e.bytes) (live_entry is.transactions block)
+  live_told is block = ap (λ (h : Option LogHeader). live_under r h block) is.headed ∙ ap (λ ts. live_read ts block) is.read
+
+  pub plan_is : (p : Plan) → IsReadable r
+      → ((head : LogHeader) (ts : List Sequenced) → head_in r ≡ Some head → transactions_of r head ≡ Ok ts → (b : ℕ) → put_home p.home.items b ≡ live_entry ts b)
+      → ((head : LogHeader) × (head_in r ≡ Some head) × (p.clean ≡ clean_header r.places head)) → IsPlanOf s p
+  plan_is p is live clean = record {
+    readable = (says_the_same r s same).readable is;
+    live = λ block. ap (option_map (λ (e : Logged). e.bytes)) (live is.head is.transactions is.headed is.read block) ∙ sym (live_told is block) ∙ (says_the_same r s same).live block;
+    clean = (clean.0, sym (says_the_same r s same).head ∙ clean.1, clean.2 ∙ ap (λ n. clean_header n clean.0) same.places);
+  }
+
+  pub why_not : (fault : ScanFault) → scanned.IsWhyNot r fault → IsWhyNot s (of_scan fault)
+  why_not NoHeader is = sym (says_the_same r s same).head ∙ is
+  why_not (BadChunk place) is = (is.0, sym (says_the_same r s same).head ∙ is.1, sym ((says_the_same r s same).transactions is.0) ∙ is.2)
+  why_not NoMemory is = is
