@@ -1,9 +1,8 @@
 // The draft of a move.
-ghost use Rattle.std.specs.Prelude.{ℕ, ◌≡◌, ◌≢◌, ◌^◌, ◌<◌, ◌++◌, [], None, Contains, IfSome, IsSome};
+ghost use Rattle.std.specs.Prelude.{ℕ, List, ◌≡◌, ◌^◌, ◌<◌, ◌++◌, [], None, Some, Contains, IfSome, IsSome};
 ghost use Rattle.growth_drafts.specs.Taken.{IsDistinct};
 ghost use Rattle.file_tree.specs.Tree.{Tree};
 ghost use Rattle.gfs2_layout.specs.Holding.{Holding};
-ghost use Rattle.gfs2_layout.specs.Inode.{dinode_in};
 ghost use Rattle.glock_names.specs.Steps.{IfDamaged, IfIs, IfNeedBlock};
 ghost use Rattle.glock_names.specs.Views.{IsOfView};
 ghost use Rattle.image_model.specs.Flat.{Path};
@@ -11,16 +10,20 @@ ghost use Rattle.image_model.specs.Image.{Image};
 ghost use Rattle.image_model.specs.Owners.{Owners};
 ghost use Rattle.image_model.specs.Stands.{Layout};
 ghost use Rattle.image_changes.specs.Does.{IsOf};
-ghost use Rattle.directories.specs.Shown.{IsDirectoryIn, IsShown};
+ghost use Rattle.directories.specs.Shown.{IsShown, Says};
 ghost use Rattle.hash_dirs.specs.Shown.{IsSound};
-ghost use Rattle.name_inserts.specs.Need.{name_need};
 ghost use Rattle.resource_groups.specs.Putting.{HasDataBlock};
-ghost use Rattle.name_moves.specs.Becoming.{LosesAll};
-ghost use Rattle.name_moves.specs.Moving.{CanBeMoved, IsMoveIn, IsMoving, IsNeededIn, IsPlaceOfMove, IsWrongIn, freed_by, lost_there, move_of, parent_of};
+ghost use Rattle.name_moves.specs.Becoming.{NeedsAfter};
+ghost use Rattle.name_moves.specs.Moving.{AreApart, CanBeMoved, IsMoveIn, IsMoving, IsNeededIn, IsPlaceOfMove, IsWrongIn, freed_by, lost_there, move_of};
 
-use drafts::Change;
+use crate::joining::join;
+use crate::losing::{is_a_view, lose_names};
+use crate::saying::say_and_finish;
+use directories::look;
+use drafts::{Change, Draft};
 use file_tree::Name;
-use glock_names::{CallFault, Step, View};
+use glock_names::{CallFault, Entry, Step, View};
+use name_inserts::need_name;
 use path_walks::Place;
 use std::alloc::Global;
 
@@ -36,32 +39,62 @@ pub struct NameMove<'a> {
     pub replaced: Option<&'a [u64]>,
 }
 
+// The blocks that go with what stands at the new name.
+fn freed_blocks<'a>(m: &NameMove<'a>) -> &'a [u64]
+    ensures { result.now ≡ freed_by (move_of m.now) }
+{
+    match m.replaced {
+        Some(blocks) => blocks,
+        None => &[],
+    }
+}
+
+// Where the old name leads.
+fn old_entry<V: View>(view: &V, m: &NameMove<'_>) -> Result<Step<Entry>, CallFault>
+    requires can { CanBeMoved (V.seen view.now) (move_of m.now) }
+    ensures old { IfIs result (λ old. (h : Holding) → IsShown (V.seen view.now) m.now.from h → Says h m.now.name.now (Some old)) }
+    ensures needed { (blocks : List ℕ) → IfNeedBlock result (IsNeededIn (V.seen view.now) (move_of m.now) blocks) }
+    ensures damaged { (blocks : List ℕ) → IfDamaged result (IsWrongIn (V.seen view.now) (move_of m.now) blocks) }
+    ensures kept { IfDamaged result (IsOfView (V.seen view.now)) }
+{
+    is_a_view(view);
+    match look(view, m.from, m.name.bytes())? {
+        Step::Is(Some(old)) => Ok(Step::Is(old)),
+        Step::Is(None) => unreachable!(),
+        Step::NeedBlock(missing) => Ok(Step::NeedBlock(missing)),
+    }
+}
+
 /// How many blocks the directory takes for the new name, once what stands there and, where it is its own, the old name have gone. It costs what taking
-/// these in a draft costs that is thrown away, and what `need_name` costs there.
+/// these in a draft costs that is thrown away, and what `need_name` costs there. Of a directory that isn't sound some number is told.
 pub fn need_to_move<V: View>(
     alloc: Global,
     view: &V,
     m: &NameMove<'_>,
 ) -> Result<Step<u64>, CallFault>
     requires can { CanBeMoved (V.seen view.now) (move_of m.now) }
-    ensures need { (h k : Holding) → IsShown (V.seen view.now) m.now.to.inode h → IsSound h → LosesAll (lost_there (move_of m.now)) h k → IfIs result (λ need. need ≡ name_need k m.now.new_name.now) }
+    ensures need { (h : Holding) → IsShown (V.seen view.now) m.now.to.inode h → IsSound h → IfIs result (NeedsAfter (lost_there (move_of m.now)) h m.now.new_name.now) }
     ensures most { IfIs result (λ need. need < 2 ^ 42) }
     ensures needed { IfNeedBlock result (IsNeededIn (V.seen view.now) (move_of m.now) []) }
     ensures absent { IfNeedBlock result (λ missing. (V.seen view.now).block_at missing.block ≡ None) }
     ensures damaged { IfDamaged result (IsWrongIn (V.seen view.now) (move_of m.now) []) }
     ensures kept { IfDamaged result (IsOfView (V.seen view.now)) }
 {
-    let _size = view.block_size();
-    let _from = m.from;
-    let _vec: Vec<u8> = Vec::new(alloc);
-    Err(CallFault::NoMemory)
+    is_a_view(view);
+    let mut draft = Draft::new(alloc, view);
+    match lose_names(&mut draft, m)? {
+        Step::Is(true) => {}
+        Step::Is(false) => return Ok(Step::Is(0)),
+        Step::NeedBlock(missing) => return Ok(Step::NeedBlock(missing)),
+    }
+    need_name(alloc, &draft, m.to.inode, m.new_name.bytes())
 }
 
 /// What a draft changes that moves a name: what stands at the new name goes first, with all its blocks, then the old name, and then the new one comes, for
 /// which blocks are taken from the front of `room`, as many as `need_to_move` tells; a directory that gets another parent names it as `..`; and each directory
 /// that is touched gets the time. The blocks of `room` are data blocks of groups, each another one, and none is one of the directories' own or one of those that go.
 /// None isn't answered in an image that stands for a tree. It costs what taking the names and putting one costs, what `redirect` costs where there is another
-/// parent, what `take_blocks` and `free_blocks` cost, and two copies of each of three dinodes.
+/// parent, what `take_blocks` and `free_blocks` cost, two copies of each of three dinodes, and two more of each block that is put.
 pub fn moving<V: View>(
     alloc: Global,
     view: &V,
@@ -74,15 +107,25 @@ pub fn moving<V: View>(
     requires apart { (b : ℕ) → Contains room.now b → IsPlaceOfMove (move_of m.now) b → ⊥ }
     requires once { IsDistinct room.now }
     ensures moving { IfIs result (λ done. IfSome done (IsMoving (V.seen view.now) (move_of m.now) room.now time)) }
+    ensures able { (source target inode : Holding) → AreApart (V.seen view.now) (move_of m.now) room.now source target inode → IfIs result (λ done. IsSome done) }
     ensures done { (im : Image) (o : Owners) (l : Layout) (t : Tree) (path path' : Path) → IsOf (V.seen view.now) im o l t → IsMoveIn im o l path path' (move_of m.now) room.now → IfIs result (λ done. IsSome done) }
     ensures needed { IfNeedBlock result (IsNeededIn (V.seen view.now) (move_of m.now) (room.now ++ freed_by (move_of m.now))) }
     ensures damaged { IfDamaged result (IsWrongIn (V.seen view.now) (move_of m.now) (room.now ++ freed_by (move_of m.now))) }
     ensures kept { IfDamaged result (IsOfView (V.seen view.now)) }
 {
-    let _size = view.block_size();
-    let _from = m.from;
-    let _room = room.len();
-    let _time = time;
-    let _vec: Vec<u8> = Vec::new(alloc);
-    Err(CallFault::NoMemory)
+    is_a_view(view);
+    let old = match old_entry(view, m)? {
+        Step::Is(old) => old,
+        Step::NeedBlock(missing) => return Ok(Step::NeedBlock(missing)),
+    };
+    let mut draft = Draft::new(alloc, view);
+    let taken = match join(alloc, view, &mut draft, m, &old, room, time)? {
+        Step::Is(Some(taken)) => &room[..taken],
+        Step::Is(None) => return Ok(Step::Is(None)),
+        Step::NeedBlock(missing) => return Ok(Step::NeedBlock(missing)),
+    };
+    match say_and_finish(draft, taken, freed_blocks(m))? {
+        Step::Is(change) => Ok(Step::Is(Some(change))),
+        Step::NeedBlock(missing) => Ok(Step::NeedBlock(missing)),
+    }
 }

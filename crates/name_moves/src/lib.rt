@@ -2,7 +2,9 @@
 #![tactic(auto)]
 
 mod drafting;
-mod laws;
+mod joining;
+mod losing;
+mod parts;
+mod saying;
 
 pub use drafting::{NameMove, moving, need_to_move};
-pub use laws::names_fit_where_they_were;

@@ -1,0 +1,5 @@
+pub mod Losing
+pub mod Told
+pub mod Lost
+pub mod Named
+pub mod Given
