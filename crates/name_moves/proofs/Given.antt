@@ -27,13 +27,10 @@ use Rattle.name_inserts.specs.HashInserting.{MayChange, a_data_block, the_dinode
 use Rattle.name_redirects.specs.Leading.{record_led_to}
 use Rattle.name_redirects.specs.Redirects.{IsRedirected, PutsOne}
 use Rattle.name_drafts.proofs.Fates.{alike_seen, put_elsewhere, put_seen, put_there, seen_old, sees_more}
-use Rattle.name_moves.specs.Becoming.{GetsParent, GivesName, LosesAll, LosesName, of_none, of_one}
+use Rattle.name_moves.specs.Becoming.{GetsParent, GivesName}
 use Rattle.name_moves.specs.Steps.{AreLost, IsChangedIn, IsChangedThere, IsLostIn, LeavesOthers, PutsOf, left_of}
-use Rattle.name_moves.proofs.Losing.{leaf_there, named_sound, sound_lost}
+use Rattle.name_moves.proofs.Loses.{kept_over, leaf_there, named_sound, only_one}
 use Rattle.name_moves.proofs.Lost.{each_now, lost_none, puts_now}
-
-only_one : (name : List ℕ) (h g : Holding) → LosesAll (name ∷ []) h g → LosesName h g name
-only_one name h g (of_one _ _ _ k _ first (of_none _)) = first
 
 -- ---- the time is put over a draft
 
@@ -168,6 +165,7 @@ module _ {V : Type 0} (seen : V → Seen) (old mid : Drafted V) (new : old.fates
           old = (leads h shown sound).0;
           was = (leads h shown sound).1;
           led = left_of below mid.fates h;
+          kept = kept_over (seen_with below mid.fates) h;
           exchanged = exchanged h shown sound;
           touched = touched_over seen old.view mid last dir time led_view final put touched h (led_shown h shown sound);
         };

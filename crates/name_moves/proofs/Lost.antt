@@ -17,15 +17,15 @@ use Rattle.linear_dirs.specs.Shown.{holding_over}
 use Rattle.linear_dirs.proofs.Looked.{bytes_of}
 use Rattle.linear_dirs.proofs.Over.{over_over}
 use Rattle.hash_dirs.specs.Shown.{IsSound}
-use Rattle.directories.specs.Shown.{IsShown}
+use Rattle.directories.specs.Shown.{IsDirectoryIn, IsShown}
 use Rattle.directories.specs.Taking.{HasNameIn, IsWithoutName, PutsTwo}
-use Rattle.directories.proofs.Forms.{dinode_here}
+use Rattle.directories.proofs.Forms.{dinode_here, is_directory_here}
 use Rattle.resource_groups.specs.Putting.{HasDataBlock}
 use Rattle.name_inserts.specs.HashInserting.{MayChange, a_data_block, the_dinode}
-use Rattle.name_drafts.proofs.Fates.{alike_seen, put_seen, unchanged}
+use Rattle.name_drafts.proofs.Fates.{alike_seen, put_seen, seen_old, unchanged}
 use Rattle.name_moves.specs.Becoming.{CanTell, LosesAll, LosesName, of_none}
 use Rattle.name_moves.specs.Steps.{AreLost, IsLostIn, PutsOf, left_of}
-use Rattle.name_moves.proofs.Losing.{all_sound, can_tell, kept_cells, kept_over, leaf_there, loses_one, lost_more, over_seen, shown_over, sound_lost}
+use Rattle.name_moves.proofs.Loses.{all_directory, all_sound, can_tell, kept_cells, kept_over, leaf_there, loses_one, lost_more, over_seen, shown_over, sound_lost}
 
 -- none went from one in a new draft
 pub lost_none : (v : Seen) (dir : ℕ) → AreLost v dir [] empty
@@ -121,9 +121,38 @@ module _ {V : Type 0} (seen : V → Seen) (old new : Drafted V) (dir : ℕ) (nam
       others = λ b none. two.others b (not_dir b none) (not_leaf b none) ∙ before.others b none;
     }
 
+    -- its dinode is there then
+    pub able_then : IsDirectoryIn v dir → ((seen_in seen new).block_at dir ≡ Some two.bytes) × (HasHeader 4 400 two.bytes × (is_directory (dinode_of two.bytes) ≡ true))
+    able_then directory =
+        let there : u.block_at dir ≡ Some two.bytes = put_seen v new.fates dir (inode_lock dir) false two.bytes two.put in
+        let before_there : HasBlock v dir = lost.sees dir two.there in
+        let is : is_directory_in (left_of v new.fates h) ≡ true = all_directory (names ++ name ∷ []) h (left_of v new.fates h) each_now.lost ∙ is_directory_here v dir h directory before_there shown.inode in
+        (
+          ap (λ (x : Seen). x.block_at dir) new_is ∙ there,
+          headed_directory u dir (left_of v new.fates h) each_now.shown.inode (all_sound (names ++ name ∷ []) h (left_of v new.fates h) each_now.lost sound).inode is two.bytes there,
+        )
+
   pub are_lost : ((h : Holding) → CanTell (names ++ name ∷ []) h → IsSound h) → AreLost v dir (names ++ name ∷ []) new.fates
   are_lost tell = record {
     puts = puts_now;
     sees = sees_now;
     each = λ h shown t. each_now h shown (tell h t) (lost.each h shown (can_tell names h (tell h t)));
   }
+
+-- ---- the first name that goes
+
+module _ {V : Type 0} (seen : V → Seen) (old new : Drafted V) (dir : ℕ) (name : List ℕ) (leaf : ℕ) (fresh : old.fates ≡ empty) (without : IsWithoutName (seen_in seen old) (seen_in seen new) dir name leaf)
+    (two : PutsTwo seen old new dir leaf) (named : HasNameIn (seen old.view) dir name) where
+  none_before : AreLost (seen old.view) dir [] old.fates
+  none_before = subst (AreLost (seen old.view) dir []) (sym fresh) (lost_none (seen old.view) dir)
+
+  named_old : HasNameIn (seen_in seen old) dir name
+  named_old = subst (λ x. HasNameIn x dir name) (sym (seen_old seen old fresh)) named
+
+  pub first_lost : AreLost (seen old.view) dir (name ∷ []) new.fates
+  first_lost = are_lost seen old new dir [] name leaf none_before without two named_old (λ h sound. sound)
+
+  -- where it is sound it has its dinode then
+  pub first_able : (h : Holding) → IsShown (seen old.view) dir h → IsSound h → IsDirectoryIn (seen old.view) dir
+      → ((seen_in seen new).block_at dir ≡ Some two.bytes) × (HasHeader 4 400 two.bytes × (is_directory (dinode_of two.bytes) ≡ true))
+  first_able h shown sound directory = able_then seen old new dir [] name leaf none_before without two named_old h shown sound (none_before.each h shown tt) directory

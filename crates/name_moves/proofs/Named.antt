@@ -33,7 +33,7 @@ use Rattle.name_drafts.proofs.Grown.{counts_timed}
 use Rattle.name_drafts.proofs.Named.{front_is}
 use Rattle.name_moves.specs.Becoming.{LosesAll}
 use Rattle.name_moves.specs.Steps.{AreLost, IsLostIn, IsNamedIn, IsNamedThere, PutsOf, left_of}
-use Rattle.name_moves.proofs.Losing.{can_tell, kept_back, kept_cells, kept_over}
+use Rattle.name_moves.proofs.Loses.{can_tell, kept_back, kept_cells, kept_over}
 
 same_fronts : (xs ys rest : List ℕ) → xs ++ rest ≡ ys ++ rest → xs ≡ ys
 same_fronts xs ys rest e =

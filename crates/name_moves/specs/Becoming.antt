@@ -83,5 +83,6 @@ pub record GetsParent (h g : Holding) (parent : Inum) (time : ℕ) : Type 0 wher
   pub old : Record
   pub was : record_named (records_of h) (codes "..") ≡ Some old
   pub led : Holding
+  pub kept : HasItsBlocks h led
   pub exchanged : HasExchanged h led (old ∷ []) (record_led_to parent old ∷ [])
   pub touched : IsTouched led g time

@@ -159,9 +159,9 @@ pub record SaysMoved (at at' : ℕ → List ℕ) (taken freed : List ℕ) (g : G
 
 -- no block of the inode is one of these, nor has a group's header or bits
 pub record IsClearOf (v : Seen) (m : Move) (room : List ℕ) (h : Holding) : Type 0 where
-  pub room : (b : ℕ) → IsSome (h.cell b) → ¬ (Contains room b)
-  pub freed : (b : ℕ) → IsSome (h.cell b) → ¬ (Contains (freed_by m) b)
-  pub groups : (k : Group) (b : ℕ) → IsSome (h.cell b) → HasGroup v k → ¬ (IsHeaderOf k b)
+  pub not_taken : (b : ℕ) → IsSome (h.cell b) → ¬ (Contains room b)
+  pub not_freed : (b : ℕ) → IsSome (h.cell b) → ¬ (Contains (freed_by m) b)
+  pub not_header : (k : Group) (b : ℕ) → IsSome (h.cell b) → HasGroup v k → ¬ (IsHeaderOf k b)
 
 -- two inodes have no block in common
 abbrev pub ShareNone : Holding → Holding → Type 0
@@ -248,7 +248,8 @@ pub record IsMoving (v : Seen) (m : Move) (room : List ℕ) (time : ℕ) (change
 -- a directory of the move, a name that goes from it or is written in it, and the names that go before
 pub data IsOneOf (m : Move) : ℕ → List (List ℕ) → List ℕ → Type 0 where
   the_new : is_replacing m ≡ true → IsOneOf m m.to.inode [] m.new_name
-  the_old : IsOneOf m m.from (losses (is_replacing m && is_within m) false m.name m.new_name) m.name
+  the_old : IsOneOf m m.from [] m.name
+  the_old_then : is_replacing m ≡ true → is_within m ≡ true → IsOneOf m m.to.inode (m.new_name ∷ []) m.name
   the_parent : is_reparented m ≡ true → IsOneOf m m.moved.inode [] (codes "..")
 
 -- the view hasn't this block: one without which it isn't told how a name goes from a directory, or comes into one from which names went, or where `..` stands; or

@@ -113,6 +113,9 @@ pub all_kept : (names : List (List ℕ)) (h g : Holding) → LosesAll names h g 
 all_kept _ _ _ (of_none h) = record { size = refl; count = refl; own = refl; parts = λ b. refl }
 all_kept _ _ _ (of_one name names h k g first later) = kept_both h k g first.kept (all_kept names k g later)
 
+pub only_one : (name : List ℕ) (h g : Holding) → LosesAll (name ∷ []) h g → LosesName h g name
+only_one name h g (of_one _ _ _ k _ first (of_none _)) = first
+
 -- one more
 pub lost_more : (names : List (List ℕ)) (name : List ℕ) (h k g : Holding) → LosesAll names h k → LosesName k g name → LosesAll (names ++ name ∷ []) h g
 lost_more _ name _ _ g (of_none h) last = of_one name [] h g g last (of_none g)
