@@ -1,5 +1,5 @@
 -- What is told, or asked for, of a directory from which names went in a draft.
-use Rattle.std.proofs.Common.{◌≡◌, ◌≢◌, ℕ, true, List, [], ◌∷◌, None, Some}
+use Rattle.std.proofs.Common.{◌≡◌, ◌≢◌, ℕ, true, List, [], ◌∷◌, None, Some, sym, ◌∙◌}
 use Rattle.std.specs.Ordering.{nat_cmp}
 use Rattle.std.specs.FinMap.{FinMap}
 use Rattle.drafts.specs.Fates.{Drafted, seen_in, seen_with}
@@ -15,13 +15,14 @@ use Rattle.glock_names.specs.declared.steps.Missing.{Missing}
 use Rattle.hash_dirs.specs.Shown.{IsSound}
 use Rattle.directories.specs.Shown.{IsBroken, IsDirectoryIn, IsNeededFor, IsShown, Says}
 use Rattle.directories.specs.Taking.{HasNameIn, IsWithoutName, PutsTwo}
+use Rattle.directories.proofs.Forms.{is_directory_here}
 use Rattle.directories.proofs.Sound.{says_sound}
 use Rattle.path_walks.proofs.Faults.{tells_each, tells_so}
 use Rattle.path_walks.proofs.Images.{no_record}
 use Rattle.name_inserts.specs.Inserting.{IsNeededForName, IsWrongForName}
 use Rattle.name_moves.specs.Becoming.{IsAfter, of_none}
 use Rattle.name_moves.specs.Steps.{AreLost, left_of}
-use Rattle.name_moves.proofs.Loses.{all_sound, named_sound, only_one, still_named}
+use Rattle.name_moves.proofs.Loses.{all_directory, all_sound, named_sound, only_one, still_named}
 use Rattle.name_moves.proofs.Lost.{able_then, are_lost}
 use Rattle.name_moves.proofs.Told.{broken_below, name_needed_below, name_wrong_below, needed_below}
 
@@ -74,6 +75,10 @@ module _ {V : Type 0} (seen : V → Seen) (old : Drafted V) (dir : ℕ) (gone na
     pub second_lost : AreLost (seen old.view) dir (gone ∷ name ∷ []) new.fates
     second_lost = are_lost seen old new dir (gone ∷ []) name leaf lost_one without two named (λ h sound. sound)
 
-    pub second_able : (h : Holding) → IsShown (seen old.view) dir h → IsSound h → IsDirectoryIn (seen old.view) dir
+    pub second_able : (h : Holding) → IsShown (seen old.view) dir h → IsSound h → IsDirectoryIn (seen_in seen old) dir
         → ((seen_in seen new).block_at dir ≡ Some two.bytes) × (HasHeader 4 400 two.bytes × (is_directory (dinode_of two.bytes) ≡ true))
-    second_able h shown sound directory = able_then seen old new dir (gone ∷ []) name leaf lost_one without two named h shown sound (lost_one.each h shown sound) directory
+    second_able h shown sound directory =
+        let one = lost_one.each h shown sound in
+        let k = left_of (seen old.view) old.fates h in
+        able_then seen old new dir (gone ∷ []) name leaf lost_one without two named h shown sound one
+        (sym (all_directory (gone ∷ []) h k one.lost) ∙ is_directory_here (seen_in seen old) dir k directory two.there one.shown.inode)

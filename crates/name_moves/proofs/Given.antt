@@ -8,7 +8,9 @@ use Rattle.drafts.specs.Fates.{Drafted, seen_in, seen_with}
 use Rattle.drafts.specs.declared.fate.Fate.{Fate}
 use Rattle.drafts.specs.declared.fate.Fate.TheVariants.{Put}
 use Rattle.gfs2_layout.specs.Holding.{Holding, Itself, part_at}
-use Rattle.gfs2_layout.specs.Inode.{IsInode, records_of}
+use Rattle.gfs2_layout.specs.Headers.{HasHeader}
+use Rattle.gfs2_layout.specs.Inode.{Head, IsInode, is_directory_in, records_of}
+use Rattle.gfs2_layout.specs.Structures.{dinode_of, is_directory}
 use Rattle.gfs2_layout.specs.Records.{Record, record_named}
 use Rattle.gfs2_layout.specs.declared.inum.Inum.{Inum}
 use Rattle.glock_names.specs.Views.{Seen, HasBlock}
@@ -30,7 +32,7 @@ use Rattle.name_drafts.proofs.Fates.{alike_seen, put_elsewhere, put_seen, put_th
 use Rattle.name_moves.specs.Becoming.{GetsParent, GivesName}
 use Rattle.name_moves.specs.Steps.{AreLost, IsChangedIn, IsChangedThere, IsLostIn, LeavesOthers, PutsOf, left_of}
 use Rattle.name_moves.proofs.Loses.{kept_over, leaf_there, named_sound, only_one}
-use Rattle.name_moves.proofs.Lost.{each_now, lost_none, puts_now}
+use Rattle.name_moves.proofs.Lost.{each_now, headed_directory, lost_none, puts_now}
 
 -- ---- the time is put over a draft
 
@@ -148,6 +150,11 @@ module _ {V : Type 0} (seen : V → Seen) (old mid : Drafted V) (new : old.fates
     pub led_shown : inode.IsShown (seen_with below mid.fates) dir k
     led_shown = subst (λ a. inode.IsShown (seen_with below mid.fates) a k) shown.inode.own
         (sound_is_shown (seen_with below mid.fates) k led_inode (parts_stay (seen_with below mid.fates) h h.own ∙ sound.placed.own) shown.inode.size (as_seen (seen_with below mid.fates) h))
+
+    -- its dinode, once it was led elsewhere
+    pub led_able : is_directory_in h ≡ true → (bytes : List ℕ) → (seen_in seen mid).block_at dir ≡ Some bytes → HasHeader 4 400 bytes × (is_directory (dinode_of bytes) ≡ true)
+    led_able is bytes there =
+        headed_directory (seen_with below mid.fates) dir k led_shown led_inode (ap (λ (x : Head). x.is_dir) exchanged.head ∙ is) bytes (ap (λ (x : Seen). x.block_at dir) (sym mid_is) ∙ there)
 
     others_led : LeavesOthers h mid.fates
     others_led b none = apart b (λ same. none (subst (λ x. IsSome (h.cell x)) (sym same) (leaf_there below dir h (codes "..") block shown sound (redirected.from h shown))))

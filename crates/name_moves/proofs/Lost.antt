@@ -122,11 +122,10 @@ module _ {V : Type 0} (seen : V → Seen) (old new : Drafted V) (dir : ℕ) (nam
     }
 
     -- its dinode is there then
-    pub able_then : IsDirectoryIn v dir → ((seen_in seen new).block_at dir ≡ Some two.bytes) × (HasHeader 4 400 two.bytes × (is_directory (dinode_of two.bytes) ≡ true))
-    able_then directory =
+    pub able_then : is_directory_in h ≡ true → ((seen_in seen new).block_at dir ≡ Some two.bytes) × (HasHeader 4 400 two.bytes × (is_directory (dinode_of two.bytes) ≡ true))
+    able_then was =
         let there : u.block_at dir ≡ Some two.bytes = put_seen v new.fates dir (inode_lock dir) false two.bytes two.put in
-        let before_there : HasBlock v dir = lost.sees dir two.there in
-        let is : is_directory_in (left_of v new.fates h) ≡ true = all_directory (names ++ name ∷ []) h (left_of v new.fates h) each_now.lost ∙ is_directory_here v dir h directory before_there shown.inode in
+        let is : is_directory_in (left_of v new.fates h) ≡ true = all_directory (names ++ name ∷ []) h (left_of v new.fates h) each_now.lost ∙ was in
         (
           ap (λ (x : Seen). x.block_at dir) new_is ∙ there,
           headed_directory u dir (left_of v new.fates h) each_now.shown.inode (all_sound (names ++ name ∷ []) h (left_of v new.fates h) each_now.lost sound).inode is two.bytes there,
@@ -155,4 +154,5 @@ module _ {V : Type 0} (seen : V → Seen) (old new : Drafted V) (dir : ℕ) (nam
   -- where it is sound it has its dinode then
   pub first_able : (h : Holding) → IsShown (seen old.view) dir h → IsSound h → IsDirectoryIn (seen old.view) dir
       → ((seen_in seen new).block_at dir ≡ Some two.bytes) × (HasHeader 4 400 two.bytes × (is_directory (dinode_of two.bytes) ≡ true))
-  first_able h shown sound directory = able_then seen old new dir [] name leaf none_before without two named_old h shown sound (none_before.each h shown tt) directory
+  first_able h shown sound directory = able_then seen old new dir [] name leaf none_before without two named_old h shown sound (none_before.each h shown tt)
+      (is_directory_here (seen old.view) dir h directory (none_before.sees dir two.there) shown.inode)

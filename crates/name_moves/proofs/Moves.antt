@@ -60,10 +60,10 @@ use Rattle.directory_changes.proofs.Blocks.{child_at}
 use Rattle.path_walks.proofs.Images.{is_inode, says_records, shown_inode, its_own}
 use Rattle.name_inserts.specs.HashInserting.{MayChange}
 use Rattle.name_moves.specs.Becoming.{GetsParent, GivesName, LosesAll, LosesName, losses, of_none, of_one}
-use Rattle.name_moves.specs.Moving.{AreApart, Becomes, CanBeMoved, IsMoveIn, IsPlaceOfMove, Move, StandsThere, an_inode, blocks_or_none, entry_for, freed_by, is_reparented, is_within, lost_there, nothing, parent_of, then_of}
+use Rattle.name_moves.specs.Moving.{AreApart, Becomes, CanBeMoved, IsMoveIn, IsMoving, IsPlaceOfMove, Move, StandsThere, an_inode, blocks_or_none, entry_for, freed_by, is_reparented, is_within, lost_there, nothing, parent_of, then_of}
 use Rattle.name_moves.specs.Steps.{IsNamedIn}
 use Rattle.name_moves.proofs.Becomes as made
-use Rattle.name_moves.proofs.Done.{AreDone, last}
+use Rattle.name_moves.proofs.Done.{AreDone, frees, insides, last, locks}
 use Rattle.name_moves.proofs.Imaged.{apart_there, freed_of, moved_directory, source_directory, two_directories}
 use Rattle.name_moves.proofs.Joined.{inode_puts, source_puts}
 use Rattle.name_moves.proofs.Loses.{only_one}
@@ -419,3 +419,24 @@ module _ (v : Seen) (m : Move) (old : Entry) (room : List ℕ) (time : ℕ) (tak
 
   pub moves : (done : Becomes v m end old taken time source target inode) × ((removed : List ℕ) × MovesName im o l end m.from m.name path' m.to.inode m.new_name m.moved.inode done.after taken removed (freed_by m))
   moves = (becomes, (stood.removed, moves_name))
+
+-- ---- the change
+
+pub moving_is : (v : Seen) (m : Move) (old : Entry) (room : List ℕ) (time : ℕ) (taken : List ℕ) (change : Change) → AreDone v m old room time taken change → IsView v → CanBeMoved v m
+    → ((b : ℕ) → Contains taken b → HasDataBlock v b) → ((b : ℕ) → Contains room b → ¬ (Contains (freed_by m) b)) → ((h : Holding) → IsShown v m.from h → Says h m.name (Some old)) → IsMoving v m room time change
+moving_is v m old room time taken change is shows can rooms away old_is = record {
+  fates = is.said.fates;
+  finished = is.said.finished;
+  whole = is.said.whole;
+  taken = taken;
+  left = is.joined.named.left;
+  front = is.joined.named.front;
+  locks = locks v m old room time taken change is shows can.inside rooms;
+  frees = frees v m old room time taken change is shows can.inside rooms;
+  inside = insides v m old room time taken change is shows can.inside rooms;
+  says = is.said.says;
+  old = old;
+  old_is = old_is;
+  becomes = λ source target inode apart. made.becomes v m old room time taken change is shows can.inside rooms away source target inode apart;
+  moves = λ im o l t path path' of place. moves v m old room time taken change is shows can.inside rooms away old_is can im o l t path path' of place;
+}

@@ -10,8 +10,10 @@ use Rattle.drafts.specs.Fates.{Drafted, seen_in, seen_with}
 use Rattle.drafts.specs.declared.fate.Fate.{Fate}
 use Rattle.drafts.specs.declared.fate.Fate.TheVariants.{Put}
 use Rattle.gfs2_layout.specs.Exchanges.{IsCounted, IsExchanged}
+use Rattle.gfs2_layout.specs.Headers.{HasHeader}
 use Rattle.gfs2_layout.specs.Holding.{Cell, Holding, Itself, bytes_at, cell_bytes, cell_part, part_at}
-use Rattle.gfs2_layout.specs.Inode.{dinode_in, records_of}
+use Rattle.gfs2_layout.specs.Inode.{Head, dinode_in, is_directory_in, records_of}
+use Rattle.gfs2_layout.specs.Structures.{dinode_of, is_directory}
 use Rattle.glock_names.specs.Views.{Seen}
 use Rattle.glock_names.specs.declared.steps.Entry.{Entry}
 use Rattle.image_model.proofs.Held.{none_some}
@@ -33,7 +35,8 @@ use Rattle.name_drafts.proofs.Grown.{counts_timed}
 use Rattle.name_drafts.proofs.Named.{front_is}
 use Rattle.name_moves.specs.Becoming.{LosesAll}
 use Rattle.name_moves.specs.Steps.{AreLost, IsLostIn, IsNamedIn, IsNamedThere, PutsOf, left_of}
-use Rattle.name_moves.proofs.Loses.{can_tell, kept_back, kept_cells, kept_over}
+use Rattle.name_moves.proofs.Loses.{all_directory, can_tell, kept_back, kept_cells, kept_over}
+use Rattle.name_moves.proofs.Lost.{headed_directory}
 
 same_fronts : (xs ys rest : List ℕ) → xs ++ rest ≡ ys ++ rest → xs ≡ ys
 same_fronts xs ys rest e =
@@ -228,3 +231,10 @@ module _ {V : Type 0} (seen : V → Seen) (old mid last : Drafted V) (dir : ℕ)
     named_of whole n same long =
         subst (λ xs. IsNamedThere v dir names name e time xs (take n xs) last.fates) same
         (subst (λ xs. IsNamedThere v dir names name e time room xs last.fates) (sym (front_is room inside.taken left n inside.front (long ∙ ap length (sym same)))) named_there)
+
+-- ---- its dinode, once it got the name
+
+pub named_able : (w : Seen) (dir : ℕ) (names : List (List ℕ)) (h k m : Holding) (name : List ℕ) (e : Entry) (old mid : FinMap nat_cmp Fate) (room left : List ℕ) → LosesAll names h k → is_directory_in h ≡ true → IsShown w dir m
+    → PutsName old mid room left name e k m → (bytes : List ℕ) → w.block_at dir ≡ Some bytes → HasHeader 4 400 bytes × (is_directory (dinode_of bytes) ≡ true)
+named_able w dir names h k m name e old mid room left lost is shown puts bytes there =
+    headed_directory w dir m shown.inode puts.sound.inode (ap (λ (x : Head). x.is_dir) puts.exchanged.head ∙ all_directory names h k lost ∙ is) bytes there

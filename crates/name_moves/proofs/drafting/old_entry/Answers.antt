@@ -22,12 +22,12 @@ pub unreachable-requires : goal.unreachable-requires
 unreachable-requires g c =
     let v = g.V.View.seen c.args.view.now in
     let s = some_directory v c.args.m.now.from c.is_a_view.ensures in
-    let has = c.requires.named s.0 s.1 in
-    let says = subst (Says s.0 c.bytes.result.now) c.in-Is-None.field-0-is (answer_at _ _ _ c.in-Is-None.is (c.in_ok-look.ensures.found s.0 s.1)) in
+    let has = c.requires.can.named s.0 s.1 in
+    let says = subst (Says s.0 c.bytes.result.now) c.in-Is-None.field-0-is (answer_at _ _ _ c.in-Is-None.is (c.in_ok-old.ensures.found s.0 s.1)) in
     none_some (says_once s.0 c.args.m.now.name.now None (Some has.entry) (subst (λ n. Says s.0 n None) c.bytes.ensures.bytes says) has.says)
 
 pub returns-in-NeedBlock-clause-needed : goal.returns-in-NeedBlock-clause-needed
 returns-in-NeedBlock-clause-needed g c blocks =
     let v = g.V.View.seen c.args.view.now in
-    needed_old v (move_of c.args.m.now) blocks c.in-NeedBlock.missing (needed_at _ _ _ c.in-NeedBlock.is c.in_ok-look.ensures.absent)
-    (λ h shown. subst (λ n. IsNeededFor v h n c.in-NeedBlock.missing) c.bytes.ensures.bytes (needed_at _ _ _ c.in-NeedBlock.is (c.in_ok-look.ensures.needed h shown)))
+    needed_old v (move_of c.args.m.now) blocks c.in-NeedBlock.missing (needed_at _ _ _ c.in-NeedBlock.is c.in_ok-old.ensures.absent)
+    (λ h shown. subst (λ n. IsNeededFor v h n c.in-NeedBlock.missing) c.bytes.ensures.bytes (needed_at _ _ _ c.in-NeedBlock.is (c.in_ok-old.ensures.needed h shown)))
