@@ -1,9 +1,9 @@
-use Rattle.std.proofs.Common.{ℕ, List, [], ◌∷◌, true, false, sym, ap, ◌∙◌, subst}
+use Rattle.std.proofs.Common.{ℕ, List, [], ◌∷◌, true, false, sym, ap, ◌∙◌, ◌≡◌, None, subst}
 use Rattle.std.proofs.lemmas.Bool.{eq-eqb, ne_eqb}
 use Rattle.std.specs.Prelude.{not}
 use Rattle.drafts.specs.Fates.{seen_in}
 use Rattle.glock_names.proofs.StepLaws.{answer_at, needed_at}
-use Rattle.glock_names.specs.Steps.{IfDamaged}
+use Rattle.glock_names.specs.Steps.{IfDamaged, IfNeedBlock}
 use Rattle.directories.specs.Shown.{IsBroken, IsDirectoryIn, IsNeededFor}
 use Rattle.path_walks.proofs.Faults.{damaged_so, told_on, tells_so}
 use Rattle.name_drafts.proofs.Fates.{seen_old}
@@ -58,7 +58,8 @@ returns-then-within-2-clause-needed g c blocks =
     let m = move_of c.args.m.now in
     needed_two c.lose_another.result (λ n. IsAfter v m.to.inode (c.bytes-then-within-2.result.now ∷ []) (λ k. IsNeededFor v k c.bytes-then-within-2-2.result.now n)) _ (IsNeededIn v m blocks)
     (λ n is absent. needed_then_at v m (some_copied _ c.args.m.now.replaced ∙ c.is_none.ensures ∙ ap not c.if-is_none.false) (eq-eqb m.from m.to.inode c.if-within-2.true) c.bytes-then-within-2.result.now c.bytes-then-within-2-2.result.now c.bytes-then-within-2.ensures.bytes c.bytes-then-within-2-2.ensures.bytes blocks n absent is)
-    c.lose_another.ensures.needed c.lose_another.ensures.absent
+    (subst (λ w. IfNeedBlock c.lose_another.result (λ n. IsAfter (g.V.View.seen w) m.to.inode (c.bytes-then-within-2.result.now ∷ []) (λ k. IsNeededFor (g.V.View.seen w) k c.bytes-then-within-2-2.result.now n))) (answer_at _ _ _ c.in-Is-true.is c.in_ok-lose_one.ensures.view) c.lose_another.ensures.needed)
+    (subst (λ w. IfNeedBlock c.lose_another.result (λ n. (g.V.View.seen w).block_at n.block ≡ None)) (answer_at _ _ _ c.in-Is-true.is c.in_ok-lose_one.ensures.view) c.lose_another.ensures.absent)
 
 pub returns-then-within-2-clause-damaged : goal.returns-then-within-2-clause-damaged
 returns-then-within-2-clause-damaged g c blocks =
@@ -66,4 +67,5 @@ returns-then-within-2-clause-damaged g c blocks =
     let m = move_of c.args.m.now in
     damaged_so (λ rule b. IsAfter v m.to.inode (c.bytes-then-within-2.result.now ∷ []) (λ k. IsBroken v k rule b)) (IsWrongIn v m blocks)
     (λ rule b is. broken_then_at v m (some_copied _ c.args.m.now.replaced ∙ c.is_none.ensures ∙ ap not c.if-is_none.false) (eq-eqb m.from m.to.inode c.if-within-2.true) c.bytes-then-within-2.result.now c.bytes-then-within-2.ensures.bytes blocks rule b is)
-    c.lose_another.result c.lose_another.ensures.damaged
+    c.lose_another.result
+    (subst (λ w. IfDamaged c.lose_another.result (λ rule b. IsAfter (g.V.View.seen w) m.to.inode (c.bytes-then-within-2.result.now ∷ []) (λ k. IsBroken (g.V.View.seen w) k rule b))) (answer_at _ _ _ c.in-Is-true.is c.in_ok-lose_one.ensures.view) c.lose_another.ensures.damaged)
