@@ -1,6 +1,7 @@
 // What the directories of a move become, put into one draft.
 ghost use Rattle.std.specs.Prelude.{ℕ, List, ◌≡◌, ◌≤◌, Contains, IfSome, IsSome, OnOk, length, take};
 ghost use Rattle.std.specs.FinMap.{empty};
+ghost use Rattle.drafts.specs.Fates.{AreWhole};
 ghost use Rattle.gfs2_layout.specs.Holding.{Holding};
 ghost use Rattle.glock_names.specs.Steps.{IfDamaged, IfIs, IfNeedBlock};
 ghost use Rattle.glock_names.specs.Views.{IsOfView};
@@ -23,7 +24,8 @@ fn put_part<V: View>(
     part: Draft<'_, V>,
     dir: u64,
 ) -> Result<(), NoMemory>
-    requires { part.view ≡ draft.old.view }
+    requires view { part.view ≡ draft.old.view }
+    requires whole { AreWhole (V.seen part.view).size part.fates }
     ensures put { OnOk result (IsPutOver dir part.entry.fates draft.old.fates draft.new.fates) }
     ensures view { OnOk result (draft.new.view ≡ draft.old.view) }
 {

@@ -1,6 +1,9 @@
 use Rattle.std.proofs.Common.{◌≡◌, ℕ, true, false, List, None, Some, refl, sym, ap, ◌∙◌, subst}
-use Rattle.std.specs.FinMap.{empty}
-use Rattle.std.specs.Prelude.{take}
+use Rattle.std.specs.FinMap.{FinMap, empty}
+use Rattle.std.specs.Ordering.{nat_cmp}
+use Rattle.std.specs.Prelude.{IfSome, take}
+use Rattle.drafts.specs.Fates.{AreWhole, Drafted}
+use Rattle.drafts.specs.declared.fate.Fate.{Fate}
 use Rattle.glock_names.proofs.StepLaws.{answer_at, needed_at}
 use Rattle.glock_names.specs.Steps.{TellsOf}
 use Rattle.path_walks.proofs.Faults.{told_on}
@@ -47,4 +50,21 @@ returns-in-NeedBlock-3-clause-needed g c blocks =
     subst (λ x. IsNeededIn (g.V.View.seen x) (move_of c.args.m.now) blocks c.in-NeedBlock-3.missing) (ap (λ d. d.view) c.new-inode.ensures) (needed_at _ _ _ c.in-NeedBlock-3.is (c.in_ok-lead_up.ensures.needed blocks))
 
 pub returns-clause-joined : goal.returns-clause-joined
-returns-clause-joined g c = ?
+returns-clause-joined g c =
+    let m = move_of c.args.m.now in
+    let room = c.args.room.now in
+    let taken = take c.in-Is-Some.taken room in
+    record {
+      target = c.get_name.new.draft.fates;
+      named = subst (λ x. IsNamedThere (g.V.View.seen x) m.to.inode (lost_there m) m.new_name (entry_for m c.args.old.now) c.args.time room taken c.get_name.new.draft.fates) (ap (λ d. d.view) c.new-target.ensures)
+        (subst (λ o. IfSome o (λ n. IsNamedThere (g.V.View.seen c.new-target.result.view) m.to.inode (lost_there m) m.new_name (entry_for m c.args.old.now) c.args.time room (take n room) c.get_name.new.draft.fates)) c.in-Is-Some.field-0-is (answer_at _ _ _ c.in-Is-Some.is c.in_ok-taken.ensures.named));
+      source = c.give_name.new.draft.fates;
+      given = subst (λ x. GivesThere (g.V.View.seen x) m c.args.time c.give_name.new.draft.fates) (ap (λ d. d.view) c.new-source.ensures) (answer_at _ _ _ c.in-Is.is c.in_ok-give_name.ensures.given);
+      inode = c.lead_up.new.draft.fates;
+      led = subst (λ x. LeadsUp (g.V.View.seen x) m c.args.time c.lead_up.new.draft.fates) (ap (λ d. d.view) c.new-inode.ensures) (answer_at _ _ _ c.in-Is-true.is c.in_ok-lead_up.ensures.led c.in-Is-true.field-0-test);
+      first = c.put_part.new.draft.fates;
+      first_is = subst (λ (fates : FinMap nat_cmp Fate). IsPutOver m.to.inode c.get_name.new.draft.fates fates c.put_part.new.draft.fates) (ap (λ d. d.fates) c.requires.new) c.in_ok-put_part.ensures.put;
+      second = c.put_part-2.new.draft.fates;
+      second_is = c.in_ok-put_part-2.ensures.put;
+      joined = c.in_ok-put_part-3.ensures.put;
+    }
