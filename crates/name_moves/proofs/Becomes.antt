@@ -95,12 +95,12 @@ module _ (v : Seen) (m : Move) (old : Entry) (room : List ℕ) (time : ℕ) (tak
   source_over : is_within m ≡ false → then_of v end source ≡ left_of v is.joined.source source
   source_over between = over_alike (seen_with v end) (seen_with v is.joined.source) source (λ b some. alike_seen v is.joined.source end b (source_end between b some))
 
-  gives : is_within m ≡ false → GivesName source (then_of v end source) m.name time
+  pub gives : is_within m ≡ false → GivesName source (then_of v end source) m.name time
   gives between = subst (λ g. GivesName source g m.name time) (sym (source_over between)) ((is.joined.given.gives between).each source (apart.source_shown between) (apart.source_sound between)).becomes
 
   -- ---- of the inode
 
-  inode_away : (b : ℕ) → IsSome (inode.cell b) → get end b ≡ get is.joined.inode b
+  pub inode_away : (b : ℕ) → IsSome (inode.cell b) → get end b ≡ get is.joined.inode b
   inode_away b some =
       stays v m old room time taken change is shows inside rooms b (apart.inode_clear.not_freed b some) (λ g has own. apart.inode_clear.not_header g b some has own)
       ∙ as_inode v m old room time taken is.fates is.joined b (target_none b (λ its. not_inode b its some)) (source_none b (λ between its. apart.source_inode between b its some))
@@ -111,10 +111,10 @@ module _ (v : Seen) (m : Move) (old : Entry) (room : List ℕ) (time : ℕ) (tak
   inode_over : then_of v end inode ≡ left_of v is.joined.inode inode
   inode_over = over_alike (seen_with v end) (seen_with v is.joined.inode) inode (λ b some. alike_seen v is.joined.inode end b (inode_away b some))
 
-  parent : is_reparented m ≡ true → GetsParent inode (then_of v end inode) (parent_of m) time
+  pub parent : is_reparented m ≡ true → GetsParent inode (then_of v end inode) (parent_of m) time
   parent moves = subst (λ g. GetsParent inode g (parent_of m) time) (sym inode_over) ((is.joined.led.leads moves).each inode (apart.inode_shown moves) (apart.inode_sound moves)).becomes
 
-  pub becomes : Becomes v m end old taken time source target inode
+  abbrev pub becomes : Becomes v m end old taken time source target inode
   becomes = record {
     gives = gives;
     after = named.after;

@@ -57,7 +57,7 @@ use Rattle.directory_changes.specs.Growing.{IsPutOrLeft}
 use Rattle.directory_changes.specs.Moving.{AreRecordsMoved, IsInodeMoved, IsTargetOf, MovesName}
 use Rattle.directory_changes.specs.Moving as moved
 use Rattle.directory_changes.proofs.Blocks.{child_at}
-use Rattle.path_walks.proofs.Images.{is_inode, says_records, shown_inode, its_own}
+use Rattle.path_walks.proofs.Images.{is_inode, says_records, shown_inode}
 use Rattle.name_inserts.specs.HashInserting.{MayChange}
 use Rattle.name_moves.specs.Becoming.{GetsParent, GivesName, LosesAll, LosesName, losses, of_none, of_one}
 use Rattle.name_moves.specs.Moving.{AreApart, Becomes, CanBeMoved, IsMoveIn, IsMoving, IsPlaceOfMove, Move, StandsThere, an_inode, blocks_or_none, entry_for, freed_by, is_reparented, is_within, lost_there, nothing, parent_of, then_of}
@@ -125,7 +125,7 @@ own_bytes im o a b some = by (part_in a b (o b)) some
     by (Some part) some = refl
 
 -- what becomes of the records of the directory that gets the name, and what stood there
-record Stood (im : Image) (o : Owners) (l : Layout) (path' : Path) (m : Move) (g : Holding) (new : Record) : Type 0 where
+pub record Stood (im : Image) (o : Owners) (l : Layout) (path' : Path) (m : Move) (g : Holding) (new : Record) : Type 0 where
   pub removed : List ℕ
   pub target : List Record
   pub is : IsTargetOf im o l path' m.to.inode m.new_name removed target (freed_by m)
@@ -176,7 +176,7 @@ module _ (im : Image) (o : Owners) (l : Layout) (path' : Path) (m : Move) (k g :
         one = λ within. within_taken parts.0 parts.1 (subst (λ w. LosesAll (if_within w) parts.0 k) within parts.2);
       }
     where
-      abbrev if_within : Bool → List (List ℕ)
+      if_within : Bool → List (List ℕ)
       if_within w = if w then m.name ∷ [] else []
 
       none_after : (j : Holding) (first : LosesName h j m.new_name) → LosesAll [] j k → HasExchanged h k (first.gone ∷ []) []
@@ -200,16 +200,16 @@ module _ (v : Seen) (m : Move) (old : Entry) (room : List ℕ) (time : ℕ) (tak
   abbrev inode : Holding
   inode = holding im o m.moved.inode
 
-  apart : AreApart v m room source target inode
+  pub apart : AreApart v m room source target inode
   apart = apart_there v im o l t of shows m room path path' can place
 
   abbrev end : FinMap nat_cmp Fate
   end = last v m old room time taken change is shows inside rooms
 
-  named : IsNamedIn v m.to.inode (lost_there m) m.new_name (entry_for m old) time taken is.joined.target target
+  abbrev named : IsNamedIn v m.to.inode (lost_there m) m.new_name (entry_for m old) time taken is.joined.target target
   named = made.named v m old room time taken change is shows inside rooms away source target inode apart
 
-  becomes : Becomes v m end old taken time source target inode
+  abbrev becomes : Becomes v m end old taken time source target inode
   becomes = made.becomes v m old room time taken change is shows inside rooms away source target inode apart
 
   abbrev g : Holding
@@ -255,7 +255,7 @@ module _ (v : Seen) (m : Move) (old : Entry) (room : List ℕ) (time : ℕ) (tak
 
   -- ---- the directory that gets it
 
-  stood : Stood im o l path' m g new
+  pub stood : Stood im o l path' m g new
   stood = stood_there im o l path' m named.gets.without g new named.gets.lost named.exchanged place.stood
 
   in_room : (b : ℕ) → Contains taken b → Contains room b
@@ -317,7 +317,7 @@ module _ (v : Seen) (m : Move) (old : Entry) (room : List ℕ) (time : ℕ) (tak
     | inr between ↦
         let gives = becomes.gives between in
         let without = gives.without in
-        let own : part_at without without.own ≡ Some Itself = gives.lost.kept.parts without.own ∙ ap (part_at source) gives.lost.kept.own ∙ its_own v im o l t of m.from (is_inode v im o l t of path m.from place.source) in
+        let own : part_at without without.own ≡ Some Itself = gives.lost.kept.parts without.own ∙ ap (part_at source) gives.lost.kept.own ∙ (apart.source_sound between).placed.own in
         let went = timed source without (then_of v end source) time (gives.lost.gone ∷ []) [] own gives.lost.exchanged gives.touched in
         (
           gives.lost.gone,
@@ -362,7 +362,7 @@ module _ (v : Seen) (m : Move) (old : Entry) (room : List ℕ) (time : ℕ) (tak
     | inr stays ↦ moved.IsInodeMoved.left_alone (keeps_parent stays) (becomes.still stays)
     | inl moves ↦
         let got = becomes.parent moves in
-        let own : part_at got.led got.led.own ≡ Some Itself = got.kept.parts got.led.own ∙ ap (part_at inode) got.kept.own ∙ its_own v im o l t of m.moved.inode (is_inode v im o l t of (in_directory path m.name) m.moved.inode place.inode) in
+        let own : part_at got.led got.led.own ≡ Some Itself = got.kept.parts got.led.own ∙ ap (part_at inode) got.kept.own ∙ (apart.inode_sound moves).placed.own in
         moved.IsInodeMoved.gets_parent got.old (record_led_to (parent_of m) got.old) (moved_directory v im o l t of shows m room path path' can place moves)
         (subst (λ x. HasExchanged inode x (got.old ∷ []) (record_led_to (parent_of m) got.old ∷ [])) (shows_inodes v end im o m.moved.inode of.agrees)
         (timed inode got.led (then_of v end inode) time (got.old ∷ []) (record_led_to (parent_of m) got.old ∷ []) own got.exchanged got.touched))
@@ -415,7 +415,7 @@ module _ (v : Seen) (m : Move) (old : Entry) (room : List ℕ) (time : ℕ) (tak
   }
     where
       differs : (a b : ℕ) → a ≢ b → (a == b) ≡ false
-      differs a b other = elim (cases_Bool (a == b)) [ inl same ↦ absurd (other (equal a b same)) | inr no ↦ no ]
+      differs a b other = elim (cases_Bool (a == b)) [ inl same ↦ absurd (other (equal a b same)) | inr unlike ↦ unlike ]
 
   pub moves : (done : Becomes v m end old taken time source target inode) × ((removed : List ℕ) × MovesName im o l end m.from m.name path' m.to.inode m.new_name m.moved.inode done.after taken removed (freed_by m))
   moves = (becomes, (stood.removed, moves_name))
