@@ -1,11 +1,10 @@
 -- The draft of a move, whole: what becomes of each block in it.
-use Rattle.std.proofs.Common.{◌≡◌, ◌≢◌, ◌⊎◌, ◌↔◌, inl, inr, ℕ, ◌+◌, ◌-◌, ◌<◌, ◌≤◌, Bool, true, false, true≢false, List, [], ◌∷◌, ◌++◌, Option, None, Some, refl, sym, ap, ◌∙◌, subst, arith}
+use Rattle.std.proofs.Common.{◌≡◌, ◌⊎◌, ◌↔◌, inl, inr, ℕ, ◌+◌, ◌-◌, ◌<◌, ◌≤◌, Bool, true, false, true≢false, List, [], ◌∷◌, ◌++◌, None, Some, refl, sym, ap, ◌∙◌, subst, arith}
 use Rattle.std.proofs.lemmas.Bool.{cases_eq}
-use Rattle.std.proofs.lemmas.List.Elements.{Contains-append_cases, Contains-append_left, Contains-append_right}
+use Rattle.std.proofs.lemmas.List.Elements.{Contains-append_cases, Contains-append_right}
 use Rattle.std.specs.Prelude.{Contains}
 use Rattle.std.specs.Ordering.{nat_cmp}
 use Rattle.std.specs.FinMap.{FinMap, get}
-use Rattle.drafts.specs.Fates.{AreWhole}
 use Rattle.drafts.specs.declared.change.Change.{Change}
 use Rattle.drafts.specs.declared.fate.Fate.{Fate}
 use Rattle.drafts.specs.declared.fate.Fate.TheVariants.{Freed, Put}
@@ -13,12 +12,12 @@ use Rattle.glock_names.specs.Views.{Seen, HasGroup, IsView}
 use Rattle.glock_names.specs.declared.LockName.{LockName}
 use Rattle.glock_names.specs.declared.steps.Entry.{Entry}
 use Rattle.glock_names.specs.declared.views.Group.{Group}
-use Rattle.resource_groups.specs.Freeing.{HasSome, SaysStateOfSome}
+use Rattle.resource_groups.specs.Freeing.{SaysStateOfSome}
 use Rattle.resource_groups.specs.Putting.{HasDataBlock, SaysStateOf}
 use Rattle.resource_groups.specs.Shown.{IsDataOf, IsHeaderOf, first_place, group_lock}
 use Rattle.resource_groups.proofs.PutIn.{cases_data, not_data}
 use Rattle.resource_groups.proofs.Sets.{cases_has, only_has}
-use Rattle.image_model.proofs.Held.{none_some, some_same}
+use Rattle.image_model.proofs.Held.{none_some}
 use Rattle.image_model.proofs.Members.{IsIn, contained, is_in}
 use Rattle.image_changes.specs.Does.{AreInside, LiesInGroup}
 use Rattle.image_changes.specs.Drafted.{is_freed, is_gone}
@@ -28,7 +27,7 @@ use Rattle.name_drafts.proofs.Fates.{lock_put}
 use Rattle.name_moves.specs.Moving.{IsPlaceOfMove, IsPutUnder, Move, PutsUnder, freed_by}
 use Rattle.name_moves.specs.Moving as moving
 use Rattle.name_moves.specs.Steps.{AreJoined, AreSaidAndDone}
-use Rattle.name_moves.proofs.Joined.{IsPutSo, what_joined}
+use Rattle.name_moves.proofs.Joined.{what_joined}
 
 -- what was done over a view
 pub record AreDone (v : Seen) (m : Move) (old : Entry) (room : List ℕ) (time : ℕ) (taken : List ℕ) (change : Change) : Type 0 where

@@ -1,5 +1,5 @@
 -- A directory that loses a name, or whose `..` leads elsewhere, in a new draft, and then gets the time.
-use Rattle.std.proofs.Common.{◌≡◌, ◌≢◌, inl, inr, ℕ, true, false, List, [], ◌∷◌, None, Some, refl, sym, ap, ◌∙◌, subst}
+use Rattle.std.proofs.Common.{◌≡◌, ◌≢◌, inl, inr, ℕ, true, false, List, [], ◌∷◌, None, Some, sym, ap, ◌∙◌, subst}
 use Rattle.std.proofs.lemmas.Bool.{cases_eq}
 use Rattle.std.specs.Prelude.{IsSome, codes}
 use Rattle.std.specs.Ordering.{nat_cmp}
@@ -7,7 +7,7 @@ use Rattle.std.specs.FinMap.{FinMap, empty, get, get-empty, insert}
 use Rattle.drafts.specs.Fates.{Drafted, seen_in, seen_with}
 use Rattle.drafts.specs.declared.fate.Fate.{Fate}
 use Rattle.drafts.specs.declared.fate.Fate.TheVariants.{Put}
-use Rattle.gfs2_layout.specs.Holding.{Holding, Itself, part_at}
+use Rattle.gfs2_layout.specs.Holding.{Holding}
 use Rattle.gfs2_layout.specs.Headers.{HasHeader}
 use Rattle.gfs2_layout.specs.Inode.{Head, IsInode, is_directory_in, records_of}
 use Rattle.gfs2_layout.specs.Structures.{dinode_of, is_directory}
@@ -28,7 +28,7 @@ use Rattle.resource_groups.specs.Putting.{HasDataBlock}
 use Rattle.name_inserts.specs.HashInserting.{MayChange, a_data_block, the_dinode}
 use Rattle.name_redirects.specs.Leading.{record_led_to}
 use Rattle.name_redirects.specs.Redirects.{IsRedirected, PutsOne}
-use Rattle.name_drafts.proofs.Fates.{alike_seen, put_elsewhere, put_seen, put_there, seen_old, sees_more}
+use Rattle.name_drafts.proofs.Fates.{put_elsewhere, put_there, seen_old, sees_more}
 use Rattle.name_moves.specs.Becoming.{GetsParent, GivesName}
 use Rattle.name_moves.specs.Steps.{AreLost, IsChangedIn, IsChangedThere, IsLostIn, LeavesOthers, PutsOf, left_of}
 use Rattle.name_moves.proofs.Loses.{kept_over, leaf_there, named_sound, only_one}

@@ -1,22 +1,18 @@
 -- In an image that the view may be of: the directories and the inode of a move are apart, and the one that gets the name can do so.
-use Rattle.std.proofs.Common.{◌≡◌, ◌≢◌, ◌⊎◌, ◌↔◌, inl, inr, ℕ, ◌+◌, ◌^◌, ◌<◌, ◌≤◌, Bool, true, false, List, [], ◌∷◌, ◌++◌, length, Option, None, Some, refl, sym, ap, ◌∙◌, subst, arith, cond}
-use Rattle.std.proofs.lemmas.Bool.{cases_Bool}
+use Rattle.std.proofs.Common.{◌≡◌, ◌≢◌, ◌⊎◌, inl, inr, ℕ, ◌^◌, ◌<◌, ◌≤◌, Bool, true, false, List, [], ◌∷◌, ◌++◌, length, Option, None, Some, refl, sym, ap, ◌∙◌, subst, arith, cond}
 use Rattle.std.proofs.lemmas.List.Sums.{sum_by-cons}
 use Rattle.std.proofs.lemmas.List.Sorted.{Contains-permutation, IsPermutation-sym, sum_by-IsPermutation}
-use Rattle.std.proofs.lemmas.Slice.Eq.{bytes_eq-Decides}
-use Rattle.std.specs.Prelude.{Contains, IsSome, codes, count_by, is_some, option_map}
-use Rattle.std.specs.List.Sorted.{IsPermutation}
+use Rattle.std.specs.Prelude.{Contains, IsSome, count_by, is_some, option_map}
 use Rattle.std.specs.Str.{bytes_eq}
 use Rattle.file_tree.specs.Tree.{Tree}
 use Rattle.gfs2_layout.specs.Holding.{Cell, Holding}
 use Rattle.gfs2_layout.specs.Inode.{dinode_in, records_of}
 use Rattle.gfs2_layout.specs.Structures.{is_directory}
-use Rattle.gfs2_layout.specs.Records.{Record, child_named, record_named}
+use Rattle.gfs2_layout.specs.Records.{Record, record_named}
 use Rattle.glock_names.specs.Views.{Seen, IsView}
 use Rattle.growth_drafts.specs.Taken.{AreFreeFor}
 use Rattle.hash_dirs.specs.Shown.{IsSound}
 use Rattle.hash_dirs.proofs.Named.{find_none, find_some}
-use Rattle.directories.specs.Shown.{IsShown}
 use Rattle.directories.proofs.Counted.{differ}
 use Rattle.directories.proofs.Forms.{is_directory_here}
 use Rattle.image_model.specs.Flat.{Path}

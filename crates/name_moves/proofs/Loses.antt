@@ -1,34 +1,30 @@
 -- Directories from which names went: what they keep, and what a draft shows of them.
 use Rattle.std.proofs.Common.{◌≡◌, ◌≢◌, ℕ, ◌<◌, ◌≤◌, Bool, true, false, inl, inr, List, [], ◌∷◌, ◌++◌, Option, None, Some, refl, sym, ap, ◌∙◌, subst, arith, cond}
-use Rattle.std.proofs.lemmas.Bool.{cases_Bool}
 use Rattle.std.proofs.lemmas.List.Sums.{sum_by-cons}
 use Rattle.std.proofs.lemmas.List.Sorted.{Contains-permutation, IsPermutation-sym, sum_by-IsPermutation}
 use Rattle.std.proofs.lemmas.Slice.Eq.{bytes_eq-Decides}
-use Rattle.std.specs.Prelude.{Contains, IsSome, count_by, is_some, option_map}
+use Rattle.std.specs.Prelude.{Contains, IsSome, count_by, option_map}
 use Rattle.std.specs.Option.{option_map as mapped}
 use Rattle.std.specs.Str.{bytes_eq}
 use Rattle.std.specs.List.Sorted.{IsPermutation}
 use Rattle.gfs2_layout.specs.Device.{IsBlockSize}
 use Rattle.gfs2_layout.specs.Exchanges.{IsExchanged}
 use Rattle.gfs2_layout.specs.Holding.{Cell, Holding, cell_bytes, cell_part, part_at}
-use Rattle.gfs2_layout.specs.Inode.{Head, dinode_in, has_hash_flag, head_of, is_directory_in, is_hashed_in, records_of}
+use Rattle.gfs2_layout.specs.Inode.{Head, is_directory_in, records_of}
 use Rattle.gfs2_layout.specs.Records.{Record, record_named}
-use Rattle.gfs2_layout.specs.Structures.{is_directory}
-use Rattle.gfs2_layout.specs.declared.dinode.Dinode.{Dinode}
-use Rattle.glock_names.specs.Views.{Seen, HasBlock}
+use Rattle.glock_names.specs.Views.{Seen}
 use Rattle.glock_names.specs.declared.steps.Entry.{Entry}
 use Rattle.image_model.proofs.Held.{none_some, some_same}
 use Rattle.image_model.proofs.Members.{contained, is_in}
 use Rattle.dinode_tree.specs.Shown.{IsAsSeen}
 use Rattle.dinode_tree.specs.Shown as inode
 use Rattle.dinode_tree.proofs.Sound.{sound_is_shown, sound_is_whole}
-use Rattle.linear_dirs.specs.Exchanges.{HasExchanged}
 use Rattle.linear_dirs.specs.Shown.{bytes_over, entry_of, holding_over}
-use Rattle.linear_dirs.proofs.Over.{as_seen, over_over, parts_stay}
+use Rattle.linear_dirs.proofs.Over.{as_seen, parts_stay}
 use Rattle.hash_dirs.specs.Finding.{IsLeafOfName, in_none, in_this}
 use Rattle.hash_dirs.specs.Shown.{IsSound, index_for}
 use Rattle.hash_dirs.proofs.Chained.{cell_some, in_chain}
-use Rattle.hash_dirs.proofs.Named.{find_none, find_some}
+use Rattle.hash_dirs.proofs.Named.{find_some}
 use Rattle.directories.specs.Shown.{IsShown, Says}
 use Rattle.directories.specs.Taking.{HasRecordOf, IsWithoutName}
 use Rattle.directories.specs.Taking as taking
@@ -179,6 +175,6 @@ still_named h g gone name r lost other named none =
     let went = name_test gone (records_of h) lost.gone lost.named in
     let apart : r ≢ lost.gone = λ same. other (sym it.1 ∙ ap (λ (x : Record). x.name) same ∙ went.1) in
     let in_rest : Contains lost.exchanged.records.rest r = not_first lost.gone lost.exchanged.records.rest r
-        (Contains-permutation (records_of h) ((lost.gone ∷ []) ++ lost.exchanged.records.rest) r lost.exchanged.records.before it.0) apart in
+    (Contains-permutation (records_of h) ((lost.gone ∷ []) ++ lost.exchanged.records.rest) r lost.exchanged.records.before it.0) apart in
     let there : Contains (records_of g) r = Contains-permutation ([] ++ lost.exchanged.records.rest) (records_of g) r (IsPermutation-sym (records_of g) ([] ++ lost.exchanged.records.rest) lost.exchanged.records.after) in_rest in
     none_named (records_of g) name none r (is_in r (records_of g) there) it.1

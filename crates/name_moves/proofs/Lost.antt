@@ -1,11 +1,10 @@
 -- One name more that goes from a directory, in a draft in which others went.
-use Rattle.std.proofs.Common.{◌≡◌, ◌≢◌, inl, inr, ℕ, true, false, List, [], ◌∷◌, ◌++◌, None, Some, refl, sym, ap, ◌∙◌, subst, subst₂}
+use Rattle.std.proofs.Common.{◌≡◌, ◌≢◌, inl, inr, ℕ, true, false, List, [], ◌∷◌, ◌++◌, Some, sym, ap, ◌∙◌, subst, subst₂}
 use Rattle.std.proofs.lemmas.Bool.{cases_eq}
 use Rattle.std.specs.Prelude.{IsSome}
 use Rattle.std.specs.Ordering.{nat_cmp}
-use Rattle.std.specs.FinMap.{FinMap, empty, get, get-empty}
+use Rattle.std.specs.FinMap.{empty, get, get-empty}
 use Rattle.drafts.specs.Fates.{Drafted, seen_in, seen_with}
-use Rattle.drafts.specs.declared.fate.Fate.{Fate}
 use Rattle.gfs2_layout.specs.Headers.{HasHeader}
 use Rattle.gfs2_layout.specs.Holding.{Holding}
 use Rattle.gfs2_layout.specs.Inode.{IsInode, is_directory_in}
@@ -125,8 +124,7 @@ module _ {V : Type 0} (seen : V → Seen) (old new : Drafted V) (dir : ℕ) (nam
     pub able_then : is_directory_in h ≡ true → ((seen_in seen new).block_at dir ≡ Some two.bytes) × (HasHeader 4 400 two.bytes × (is_directory (dinode_of two.bytes) ≡ true))
     able_then was =
         let there : u.block_at dir ≡ Some two.bytes = put_seen v new.fates dir (inode_lock dir) false two.bytes two.put in
-        let is : is_directory_in (left_of v new.fates h) ≡ true = all_directory (names ++ name ∷ []) h (left_of v new.fates h) each_now.lost ∙ was in
-        (
+        let is : is_directory_in (left_of v new.fates h) ≡ true = all_directory (names ++ name ∷ []) h (left_of v new.fates h) each_now.lost ∙ was in (
           ap (λ (x : Seen). x.block_at dir) new_is ∙ there,
           headed_directory u dir (left_of v new.fates h) each_now.shown.inode (all_sound (names ++ name ∷ []) h (left_of v new.fates h) each_now.lost sound).inode is two.bytes there,
         )

@@ -1,33 +1,31 @@
 -- In an image that the view may be of: the draft of a move moves the name.
-use Rattle.std.proofs.Common.{◌≡◌, ◌≢◌, ◌⊎◌, inl, inr, ℕ, ◌==◌, ◌≤◌, Bool, true, false, true≢false, List, [], ◌∷◌, ◌++◌, length, Option, None, Some, refl, sym, ap, ap₂, ◌∙◌, subst, arith, cond}
-use Rattle.std.proofs.lemmas.Bool.{cases_Bool, cond-true}
+use Rattle.std.proofs.Common.{◌≡◌, ◌≢◌, ◌⊎◌, inl, inr, ℕ, ◌==◌, Bool, true, false, true≢false, List, [], ◌∷◌, ◌++◌, Option, None, Some, refl, sym, ap, ◌∙◌, subst, arith}
+use Rattle.std.proofs.lemmas.Bool.{cases_Bool}
 use Rattle.std.proofs.lemmas.List.Elements.{Contains-append_cases, Contains-append_left}
-use Rattle.std.proofs.lemmas.List.Sums.{sum_by-cons}
 use Rattle.std.proofs.lemmas.List.Sorted.{IsPermutation-append_comm, IsPermutation-append_left, IsPermutation-append_right, IsPermutation-sym, IsPermutation-trans}
 use Rattle.std.proofs.lemmas.Slice.Eq.{bytes_eq-Decides}
-use Rattle.std.specs.Prelude.{◌&&◌, not, if◌then◌else◌, Contains, IsSome, codes, is_some, option_map, unwrap_or}
+use Rattle.std.specs.Prelude.{◌&&◌, not, if◌then◌else◌, Contains, IsSome, codes, is_some, unwrap_or}
 use Rattle.std.specs.Option.{option_map as mapped}
 use Rattle.std.specs.Ordering.{nat_cmp}
 use Rattle.std.specs.FinMap.{FinMap, get}
 use Rattle.std.specs.Str.{bytes_eq}
 use Rattle.file_tree.specs.Tree.{Tree}
-use Rattle.drafts.specs.Fates.{AreWhole, block_with, seen_with}
+use Rattle.drafts.specs.Fates.{AreWhole, block_with}
 use Rattle.drafts.specs.declared.change.Change.{Change}
 use Rattle.drafts.specs.declared.fate.Fate.{Fate}
 use Rattle.drafts.specs.declared.fate.Fate.TheVariants.{Put}
-use Rattle.gfs2_layout.specs.Exchanges.{IsCounted, IsExchanged, directory_count}
+use Rattle.gfs2_layout.specs.Exchanges.{IsCounted, IsExchanged}
 use Rattle.gfs2_layout.specs.Holding.{Holding, Itself, Part, bytes_at, cell_bytes, part_at}
 use Rattle.gfs2_layout.specs.Inode.{Head, dinode_in, records_of}
 use Rattle.gfs2_layout.specs.Records.{Record, is_dots, record_named}
 use Rattle.gfs2_layout.specs.Structures.{is_directory}
 use Rattle.gfs2_layout.specs.declared.dinode.Dinode.{Dinode}
 use Rattle.gfs2_layout.specs.declared.rindex.Rindex.{Rindex}
-use Rattle.glock_names.specs.Views.{Seen, HasGroup, IsView, group_of_entry}
+use Rattle.glock_names.specs.Views.{Seen, IsView, group_of_entry}
 use Rattle.glock_names.specs.declared.steps.Entry.{Entry}
 use Rattle.dinode_tree.specs.Reading.{inode_lock}
 use Rattle.linear_dirs.specs.Exchanges.{HasExchanged}
 use Rattle.linear_dirs.specs.Shown.{entry_of, record_for}
-use Rattle.linear_dirs.proofs.Over.{parts_stay}
 use Rattle.hash_dirs.proofs.Named.{find_some, found_one}
 use Rattle.hash_steps.proofs.Joins.{joined as both_steps}
 use Rattle.directories.specs.Shown.{IsShown, Says}
@@ -41,15 +39,14 @@ use Rattle.image_model.specs.Flat.{Path}
 use Rattle.image_model.specs.Groups.{IsListed}
 use Rattle.image_model.specs.Groups as owned
 use Rattle.image_model.specs.Image.{Image}
-use Rattle.image_model.specs.Owners.{Named, Owner, Owners, cell_in, cell_of, holding, parent_of as parent_in, part_in}
+use Rattle.image_model.specs.Owners.{Named, Owners, cell_in, cell_of, holding, parent_of as parent_in, part_in}
 use Rattle.image_model.specs.Stands.{IsRecordOf, Layout, heads_of, kind_of}
 use Rattle.image_model.proofs.Held.{none_some, some_same}
 use Rattle.image_model.proofs.Members.{contained, is_in}
 use Rattle.image_changes.specs.Does.{IsOf}
 use Rattle.image_changes.specs.Drafted.{with_draft}
 use Rattle.image_changes.specs.Flats.{in_directory}
-use Rattle.image_changes.specs.Instances.{IsAt, is_directory_at}
-use Rattle.image_changes.proofs.Finishing.{drafts_show}
+use Rattle.image_changes.specs.Instances.{is_directory_at}
 use Rattle.image_changes.proofs.Laid.{child_rows}
 use Rattle.draft_changes.specs.Resizing.{HasExchangedBlocks, HasSomeOf, HoldsThere}
 use Rattle.draft_changes.proofs.Views.{groups_are_listed, shows_inodes}
@@ -58,13 +55,12 @@ use Rattle.directory_changes.specs.Moving.{AreRecordsMoved, IsInodeMoved, IsTarg
 use Rattle.directory_changes.specs.Moving as moved
 use Rattle.directory_changes.proofs.Blocks.{child_at}
 use Rattle.path_walks.proofs.Images.{is_inode, says_records, shown_inode}
-use Rattle.name_inserts.specs.HashInserting.{MayChange}
-use Rattle.name_moves.specs.Becoming.{GetsParent, GivesName, LosesAll, LosesName, losses, of_none, of_one}
+use Rattle.name_moves.specs.Becoming.{LosesAll, LosesName, losses, of_none, of_one}
 use Rattle.name_moves.specs.Moving.{AreApart, Becomes, CanBeMoved, IsMoveIn, IsMoving, IsPlaceOfMove, Move, StandsThere, an_inode, blocks_or_none, entry_for, freed_by, is_reparented, is_within, lost_there, nothing, parent_of, then_of}
 use Rattle.name_moves.specs.Steps.{IsNamedIn}
 use Rattle.name_moves.proofs.Becomes as made
 use Rattle.name_moves.proofs.Done.{AreDone, frees, insides, last, locks}
-use Rattle.name_moves.proofs.Imaged.{apart_there, freed_of, moved_directory, source_directory, two_directories}
+use Rattle.name_moves.proofs.Imaged.{apart_there, moved_directory, source_directory, two_directories}
 use Rattle.name_moves.proofs.Joined.{inode_puts, source_puts}
 use Rattle.name_moves.proofs.Loses.{only_one}
 use Rattle.name_moves.proofs.States.{states}
@@ -318,8 +314,7 @@ module _ (v : Seen) (m : Move) (old : Entry) (room : List ℕ) (time : ℕ) (tak
         let gives = becomes.gives between in
         let without = gives.without in
         let own : part_at without without.own ≡ Some Itself = gives.lost.kept.parts without.own ∙ ap (part_at source) gives.lost.kept.own ∙ (apart.source_sound between).placed.own in
-        let went = timed source without (then_of v end source) time (gives.lost.gone ∷ []) [] own gives.lost.exchanged gives.touched in
-        (
+        let went = timed source without (then_of v end source) time (gives.lost.gone ∷ []) [] own gives.lost.exchanged gives.touched in (
           gives.lost.gone,
           gone_named source without m.name gives.lost,
           moved.AreRecordsMoved.in_two (two_directories v im o l t of shows m room path path' can place between)

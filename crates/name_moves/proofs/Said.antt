@@ -17,7 +17,7 @@ use Rattle.resource_groups.proofs.PutIn.{puts_say, puts_to}
 use Rattle.resource_groups.proofs.Sets.{broken_before, groups_same, over_twice, shown_over, size_same}
 use Rattle.image_changes.specs.Drafted.{IsFinished}
 use Rattle.name_drafts.specs.Steps.{LeavesGroups}
-use Rattle.name_drafts.proofs.Faults.{kept_before, needed_before, needed_wide, own_header, sees_below, shown_then}
+use Rattle.name_drafts.proofs.Faults.{kept_before, needed_before, own_header, sees_below, shown_then}
 use Rattle.name_moves.specs.Moving.{SaysMoved}
 use Rattle.name_moves.specs.Steps.{AreSaidAndDone}
 

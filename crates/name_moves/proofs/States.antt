@@ -1,5 +1,5 @@
 -- In an image that the view may be of: what the groups say of a draft that takes blocks and frees others, as the states of their blocks.
-use Rattle.std.proofs.Common.{◌≡◌, ◌⊎◌, inl, inr, ℕ, ◌*◌, ◌≤◌, Bool, true, false, List, [], ◌∷◌, ◌++◌, length, refl, sym, ap, ◌∙◌, subst, arith, length-set}
+use Rattle.std.proofs.Common.{◌≡◌, inl, inr, ℕ, ◌*◌, ◌≤◌, Bool, true, false, List, [], ◌∷◌, ◌++◌, length, refl, sym, ap, ◌∙◌, subst, arith, length-set}
 use Rattle.std.proofs.lemmas.Bool.{cases_Bool, cond-true, cond-false}
 use Rattle.std.proofs.lemmas.List.Elements.{Contains-append_left, Contains-append_right}
 use Rattle.std.specs.Prelude.{Contains, if◌then◌else◌}
@@ -22,7 +22,7 @@ use Rattle.resource_groups.proofs.PutIn.{puts_say}
 use Rattle.resource_groups.proofs.Sets.{long_bitmap}
 use Rattle.image_model.specs.Groups.{IsGroup, IsListed, group_blocks, state_of, states_of}
 use Rattle.image_model.specs.Image.{Image}
-use Rattle.image_model.specs.Owners.{Below, Free, Owner, Owners}
+use Rattle.image_model.specs.Owners.{Below, Free, Owners}
 use Rattle.image_model.specs.Stands.{Layout}
 use Rattle.image_model.proofs.Members.{contained, is_in}
 use Rattle.image_changes.specs.Does.{IsOf}

@@ -1,5 +1,5 @@
 -- What is needed, or broken, over a draft, is so of the view below it.
-use Rattle.std.proofs.Common.{◌≡◌, ℕ, List, None}
+use Rattle.std.proofs.Common.{ℕ, List}
 use Rattle.std.specs.Ordering.{nat_cmp}
 use Rattle.std.specs.FinMap.{FinMap}
 use Rattle.drafts.specs.Fates.{seen_with}

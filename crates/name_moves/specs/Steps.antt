@@ -1,5 +1,5 @@
 -- The steps of a draft that moves a name: each directory changes in a new draft over the view, and what these put is put into one.
-use Rattle.std.specs.Prelude.{ℕ, ◌≡◌, ◌⊎◌, ◌↔◌, true, false, List, [], ◌∷◌, ◌++◌, codes, length, Contains, IsSome, None, Some}
+use Rattle.std.specs.Prelude.{ℕ, ◌≡◌, ◌⊎◌, ◌↔◌, true, false, List, [], ◌∷◌, ◌++◌, Contains, IsSome, None, Some}
 use Rattle.std.specs.Ordering.{nat_cmp}
 use Rattle.std.specs.FinMap.{FinMap, empty, entries, get}
 use Rattle.drafts.specs.Fates.{AreWhole, blocks_in, seen_with}
@@ -7,9 +7,6 @@ use Rattle.drafts.specs.declared.change.Change.{Change}
 use Rattle.drafts.specs.declared.fate.Fate.{Fate}
 use Rattle.drafts.specs.declared.fate.Fate.TheVariants.{Freed, Put}
 use Rattle.gfs2_layout.specs.Holding.{Holding, Itself, bytes_at, part_at}
-use Rattle.gfs2_layout.specs.Inode.{records_of}
-use Rattle.gfs2_layout.specs.Records.{Record, record_named}
-use Rattle.gfs2_layout.specs.declared.inum.Inum.{Inum}
 use Rattle.glock_names.specs.Views.{Seen, HasBlock, HasGroup}
 use Rattle.glock_names.specs.declared.steps.Entry.{Entry}
 use Rattle.glock_names.specs.declared.views.Group.{Group}
@@ -19,18 +16,15 @@ use Rattle.linear_dirs.specs.Exchanges.{HasExchanged}
 use Rattle.linear_dirs.specs.Shown.{holding_over, record_for}
 use Rattle.hash_dirs.specs.Shown.{IsSound}
 use Rattle.directories.specs.Shown.{IsShown}
-use Rattle.new_inodes.specs.Touched.{IsTouched}
 use Rattle.nested_drafts.specs.Nested.{with_blocks}
-use Rattle.name_redirects.specs.Leading.{record_led_to}
 use Rattle.name_inserts.specs.HashInserting.{IsPutUnder, MayChange}
-use Rattle.name_inserts.specs.Inserting.{CanGetName, IsNamed}
-use Rattle.name_inserts.specs.Need.{name_need}
+use Rattle.name_inserts.specs.Inserting.{CanGetName}
 use Rattle.resource_groups.specs.Freeing.{HasSome, SaysStateOfSome}
 use Rattle.resource_groups.specs.Putting.{overlaid}
 use Rattle.resource_groups.specs.Shown.{IsHeaderOf, group_lock}
 use Rattle.resource_groups.specs.Shown as group
 use Rattle.image_changes.specs.Drafted.{IsFinished}
-use Rattle.name_moves.specs.Becoming.{CanTell, GetsName, GetsParent, GivesName, LosesAll, losses}
+use Rattle.name_moves.specs.Becoming.{CanTell, GetsName, GetsParent, GivesName, LosesAll}
 use Rattle.name_moves.specs.Moving.{Move, SaysMoved, entry_for, is_reparented, is_within, lost_there, parent_of}
 
 -- ---- one directory, in a new draft over the view

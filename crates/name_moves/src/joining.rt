@@ -19,11 +19,7 @@ use no_memory::NoMemory;
 use std::alloc::Global;
 
 // Puts what was put in a draft over the same view, under a directory's lock.
-fn put_part<V: View>(
-    draft: &mut Draft<'_, V>,
-    part: Draft<'_, V>,
-    dir: u64,
-) -> Result<(), NoMemory>
+fn put_part<V: View>(draft: &mut Draft<'_, V>, part: Draft<'_, V>, dir: u64) -> Result<(), NoMemory>
     requires view { part.view ≡ draft.old.view }
     requires whole { AreWhole (V.seen part.view).size part.fates }
     ensures put { OnOk result (IsPutOver dir part.entry.fates draft.old.fates draft.new.fates) }

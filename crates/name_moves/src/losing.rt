@@ -45,7 +45,11 @@ pub(crate) fn has_directory<V: View>(view: &V, dir: u64) -> bool
 }
 
 // Takes a name that it has from a directory in a new draft. False where it is none then, and so wasn't sound.
-fn lose_one<V: View>(draft: &mut Draft<'_, V>, dir: u64, name: &[u8]) -> Result<Step<bool>, CallFault>
+fn lose_one<V: View>(
+    draft: &mut Draft<'_, V>,
+    dir: u64,
+    name: &[u8],
+) -> Result<Step<bool>, CallFault>
     requires new { draft.old.fates ≡ empty }
     requires directory { IsDirectoryIn (V.seen draft.old.view) dir }
     requires named { HasNameIn (V.seen draft.old.view) dir name.now }

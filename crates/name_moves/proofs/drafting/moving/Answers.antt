@@ -1,4 +1,4 @@
-use Rattle.std.proofs.Common.{inl, inr, ℕ, List, ◌++◌, take, refl, sym, ap, ◌∙◌, subst}
+use Rattle.std.proofs.Common.{inl, inr, ℕ, List, ◌++◌, take, sym, subst}
 use Rattle.std.proofs.lemmas.List.Elements.{Contains-append_cases, Contains-append_left, Contains-append_right}
 use Rattle.std.specs.Prelude.{Contains, IfSome, IsSome}
 use Rattle.glock_names.proofs.StepLaws.{answer_at, needed_at}
@@ -88,7 +88,7 @@ returns-in-Is-2-clause-moving g c =
     let view = answer_at _ _ _ c.in-Is-Some.is c.in_ok-taken.ensures.view in
     let joined = subst (λ x. IfSome x (λ n. AreJoined v m c.in-Is.old c.args.room.now c.args.time (take n c.args.room.now) d.fates)) c.in-Is-Some.field-0-is (answer_at _ _ _ c.in-Is-Some.is c.in_ok-taken.ensures.joined) in
     let said = subst (λ xs. AreSaidAndDone v d.fates taken xs c.in-Is-2.change) c.freed_blocks.ensures
-        (subst (λ x. AreSaidAndDone (g.V.View.seen x) d.fates taken c.freed_blocks.result.now c.in-Is-2.change) view (answer_at _ _ _ c.in-Is-2.is c.in_ok-change.ensures.said)) in
+    (subst (λ x. AreSaidAndDone (g.V.View.seen x) d.fates taken c.freed_blocks.result.now c.in-Is-2.change) view (answer_at _ _ _ c.in-Is-2.is c.in_ok-change.ensures.said)) in
     moving_is v m c.in-Is.old c.args.room.now c.args.time taken c.in-Is-2.change (record { fates = d.fates; joined = joined; said = said }) c.is_a_view.ensures c.requires.can
     (λ b there. c.requires.room b (take_has c.args.room.now c.in-Is-Some.taken b there)) (λ b there goes. c.requires.apart b there (of_replaced goes))
     (λ h shown. answer_at _ _ _ c.in-Is.is c.in_ok-old.ensures.old h shown)

@@ -1,5 +1,5 @@
-use Rattle.std.proofs.Common.{◌≡◌, ℕ, List, [], None, Result, Ok, Err, sym, ap, ◌∙◌, subst}
-use Rattle.drafts.specs.Fates.{Drafted, seen_in, seen_with}
+use Rattle.std.proofs.Common.{◌≡◌, ℕ, [], None, Result, Ok, Err, sym, ap, ◌∙◌, subst}
+use Rattle.drafts.specs.Fates.{seen_in}
 use Rattle.gfs2_layout.specs.Holding.{Holding}
 use Rattle.glock_names.proofs.StepLaws.{answer_at, answer_so, needed_at}
 use Rattle.glock_names.specs.Steps.{IfDamaged, IfNeedBlock, TellsOf}
@@ -10,7 +10,7 @@ use Rattle.glock_names.specs.declared.steps.Step.{Step}
 use Rattle.glock_names.specs.declared.steps.Step.TheVariants.{Is, NeedBlock}
 use Rattle.directories.specs.Shown.{IsShown}
 use Rattle.directories.proofs.Forms.{is_directory_here}
-use Rattle.path_walks.proofs.Faults.{damaged_so, told_on, tells_each, tells_so}
+use Rattle.path_walks.proofs.Faults.{damaged_so, told_on, tells_so}
 use Rattle.name_inserts.specs.Inserting.{IsNeededForName, IsWrongForName}
 use Rattle.name_inserts.specs.Need.{name_need}
 use Rattle.name_drafts.proofs.Fates.{absent_below, seen_over}

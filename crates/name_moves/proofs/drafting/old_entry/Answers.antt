@@ -1,13 +1,11 @@
-use Rattle.std.proofs.Common.{None, Some, [], sym, ap, ◌∙◌, subst}
+use Rattle.std.proofs.Common.{None, Some, subst}
 use Rattle.glock_names.proofs.StepLaws.{answer_at, needed_at}
 use Rattle.directories.specs.Shown.{IsBroken, IsNeededFor, Says}
 use Rattle.directories.proofs.Forms.{only_tells, some_directory}
 use Rattle.directories.proofs.Sound.{says_once}
 use Rattle.image_model.proofs.Held.{none_some}
-use Rattle.path_walks.proofs.Faults.{told_on, tells_so}
-use Rattle.name_moves.specs.Becoming.{IsAfter}
-use Rattle.name_moves.specs.Moving.{IsNeededIn, IsWrongIn, move_of}
-use Rattle.name_moves.specs.Moving as moving
+use Rattle.path_walks.proofs.Faults.{told_on}
+use Rattle.name_moves.specs.Moving.{IsWrongIn, move_of}
 use Rattle.name_moves.proofs.Ways.{broken_old, needed_old}
 use Rattle.name_moves.proofs.drafting.old_entry.Goals as goal
 

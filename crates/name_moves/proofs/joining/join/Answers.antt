@@ -1,8 +1,7 @@
-use Rattle.std.proofs.Common.{◌≡◌, ℕ, true, false, List, None, Some, refl, sym, ap, ◌∙◌, subst}
-use Rattle.std.specs.FinMap.{FinMap, empty}
+use Rattle.std.proofs.Common.{sym, ap, ◌∙◌, subst}
+use Rattle.std.specs.FinMap.{FinMap}
 use Rattle.std.specs.Ordering.{nat_cmp}
 use Rattle.std.specs.Prelude.{IfSome, take}
-use Rattle.drafts.specs.Fates.{AreWhole, Drafted}
 use Rattle.drafts.specs.declared.fate.Fate.{Fate}
 use Rattle.glock_names.proofs.StepLaws.{answer_at, needed_at}
 use Rattle.glock_names.specs.Steps.{TellsOf}
@@ -57,7 +56,7 @@ returns-clause-joined g c =
     record {
       target = c.get_name.new.draft.fates;
       named = subst (λ x. IsNamedThere (g.V.View.seen x) m.to.inode (lost_there m) m.new_name (entry_for m c.args.old.now) c.args.time room taken c.get_name.new.draft.fates) (ap (λ d. d.view) c.new-target.ensures)
-        (subst (λ o. IfSome o (λ n. IsNamedThere (g.V.View.seen c.new-target.result.view) m.to.inode (lost_there m) m.new_name (entry_for m c.args.old.now) c.args.time room (take n room) c.get_name.new.draft.fates)) c.in-Is-Some.field-0-is (answer_at _ _ _ c.in-Is-Some.is c.in_ok-taken.ensures.named));
+          (subst (λ o. IfSome o (λ n. IsNamedThere (g.V.View.seen c.new-target.result.view) m.to.inode (lost_there m) m.new_name (entry_for m c.args.old.now) c.args.time room (take n room) c.get_name.new.draft.fates)) c.in-Is-Some.field-0-is (answer_at _ _ _ c.in-Is-Some.is c.in_ok-taken.ensures.named));
       source = c.give_name.new.draft.fates;
       given = subst (λ x. GivesThere (g.V.View.seen x) m c.args.time c.give_name.new.draft.fates) (ap (λ d. d.view) c.new-source.ensures) (answer_at _ _ _ c.in-Is.is c.in_ok-give_name.ensures.given);
       inode = c.lead_up.new.draft.fates;

@@ -1,4 +1,4 @@
-use Rattle.std.proofs.Common.{ℕ, List, [], ◌∷◌, None, sym, subst}
+use Rattle.std.proofs.Common.{ℕ, List, [], ◌∷◌, subst}
 use Rattle.glock_names.proofs.StepLaws.{answer_at, needed_at}
 use Rattle.directories.specs.Shown.{IsBroken, Says}
 use Rattle.directories.proofs.Forms.{only_tells}
@@ -42,8 +42,8 @@ pub returns-in-Is-clause-able : goal.returns-in-Is-clause-able
 returns-in-Is-clause-able g c h shown sound =
     let two = answer_at _ _ _ c.in-Is.is c.in_ok-_leaf.ensures.two in
     let is = second_able g.V.View.seen c.args.draft.now c.args.dir c.args.gone.now c.args.name.now c.requires.lost c.remove.new.draft c.in-Is._leaf
-        (answer_at _ _ _ c.in-Is.is c.in_ok-_leaf.ensures.taken) two
-        (λ k seen. (c.in-Is-Some._entry, subst (Says k c.args.name.now) c.in-Is-Some.field-0-is (answer_at _ _ _ c.in-Is-Some.is (c.in_ok-_entry.ensures.found k seen)))) h shown sound c.requires.still in
+    (answer_at _ _ _ c.in-Is.is c.in_ok-_leaf.ensures.taken) two
+    (λ k seen. (c.in-Is-Some._entry, subst (Says k c.args.name.now) c.in-Is-Some.field-0-is (answer_at _ _ _ c.in-Is-Some.is (c.in_ok-_entry.ensures.found k seen)))) h shown sound c.requires.still in
     c.has_directory.ensures.all two.bytes is.0 is.1.0 is.1.1
 
 pub returns-in-NeedBlock-2-clause-needed : goal.returns-in-NeedBlock-2-clause-needed

@@ -1,14 +1,13 @@
-use Rattle.std.proofs.Common.{ℕ, List, [], ◌∷◌, true, false, sym, ap, ◌∙◌, ◌≡◌, None, subst}
+use Rattle.std.proofs.Common.{[], ◌∷◌, sym, ap, ◌∙◌, ◌≡◌, None, subst}
 use Rattle.std.proofs.lemmas.Bool.{eq-eqb, ne_eqb}
 use Rattle.std.specs.Prelude.{not}
-use Rattle.drafts.specs.Fates.{seen_in}
 use Rattle.glock_names.proofs.StepLaws.{answer_at, needed_at}
 use Rattle.glock_names.specs.Steps.{IfDamaged, IfNeedBlock}
 use Rattle.directories.specs.Shown.{IsBroken, IsDirectoryIn, IsNeededFor}
 use Rattle.path_walks.proofs.Faults.{damaged_so, told_on, tells_so}
 use Rattle.name_drafts.proofs.Fates.{seen_old}
 use Rattle.name_moves.specs.Becoming.{IsAfter}
-use Rattle.name_moves.specs.Moving.{IsNeededIn, IsWrongIn, is_replacing, is_within, lost_there, move_of}
+use Rattle.name_moves.specs.Moving.{IsNeededIn, IsWrongIn, move_of}
 use Rattle.name_moves.specs.Steps.{AreLost}
 use Rattle.name_moves.proofs.Lost.{lost_none}
 use Rattle.name_moves.proofs.Ways.{broken_new_at, broken_old_at, broken_then_at, needed_new_at, needed_old_at, needed_then_at, needed_two, no_losses, some_copied}

@@ -1,10 +1,9 @@
-use Rattle.std.proofs.Common.{refl, sym, ap, ◌∙◌, subst}
+use Rattle.std.proofs.Common.{sym, subst}
 use Rattle.glock_names.proofs.StepLaws.{answer_at, needed_at}
 use Rattle.glock_names.specs.Steps.{TellsOf}
 use Rattle.glock_names.specs.Views.{IsOfView}
 use Rattle.directories.specs.Shown.{IsBroken, IsDirectoryIn, IsNeededFor, IsShown}
 use Rattle.directories.specs.Taking.{HasNameIn}
-use Rattle.directories.proofs.Forms.{is_directory_here}
 use Rattle.path_walks.proofs.Faults.{told_on, tells_so, tells_each}
 use Rattle.gfs2_layout.specs.Holding.{Holding}
 use Rattle.name_drafts.proofs.Fates.{seen_old}
@@ -47,5 +46,5 @@ returns-in-Is-clause-able g c h shown sound =
     let two = answer_at _ _ _ c.in-Is.is c.in_ok-_leaf.ensures.two in
     let same = seen_old g.V.View.seen c.args.draft.now c.requires.new in
     let is = first_able g.V.View.seen c.args.draft.now c.remove.new.draft c.args.dir c.args.name.now c.in-Is._leaf c.requires.new
-        (answer_at _ _ _ c.in-Is.is c.in_ok-_leaf.ensures.taken) two c.requires.named h shown sound c.requires.directory in
+    (answer_at _ _ _ c.in-Is.is c.in_ok-_leaf.ensures.taken) two c.requires.named h shown sound c.requires.directory in
     c.has_directory.ensures.all two.bytes is.0 is.1.0 is.1.1

@@ -1,7 +1,7 @@
-use Rattle.std.proofs.Common.{◌≡◌, true, false, true≢false, Some, refl, sym, ap, ◌∙◌, subst}
+use Rattle.std.proofs.Common.{true≢false, refl, sym, ap, ◌∙◌, subst}
 use Rattle.std.specs.Prelude.{codes}
 use Rattle.drafts.specs.Fates.{seen_in}
-use Rattle.gfs2_layout.specs.Structures.{dinode_of, is_directory}
+use Rattle.gfs2_layout.specs.Structures.{dinode_of}
 use Rattle.gfs2_layout.specs.Writing.{dinode_put}
 use Rattle.glock_names.proofs.StepLaws.{answer_at, needed_at}
 use Rattle.glock_names.specs.Steps.{TellsOf}
@@ -13,7 +13,7 @@ use Rattle.path_walks.proofs.Faults.{told_on}
 use Rattle.path_walks.proofs.Steps.{directory_here, directory_so}
 use Rattle.name_drafts.proofs.Fates.{seen_old, still_there}
 use Rattle.name_drafts.proofs.Faults.{positive_block}
-use Rattle.name_moves.specs.Moving.{IsWrongIn, is_reparented, move_of, of_target, parent_of}
+use Rattle.name_moves.specs.Moving.{IsWrongIn, move_of, of_target, parent_of}
 use Rattle.name_moves.proofs.Given.{led_able, led_up, led_view}
 use Rattle.name_moves.proofs.Ways.{broken_parent, needed_parent, reparents}
 use Rattle.name_moves.proofs.parts.lead_up.Goals as goal
@@ -68,9 +68,9 @@ returns-then-not-has_directory-clause-able g c h so =
     let named = c.requires.can.parented moves in
     let is = so moves in
     let there : HasBlock (seen_in g.V.View.seen mid) dir = still_there (g.V.View.seen mid.view) mid.fates dir
-        (subst (λ x. HasBlock (g.V.View.seen x) dir) (sym (led_view g.V.View.seen c.args.draft.now mid c.requires.new dir c.in-Is._block (parent_of m) led one named)) c.requires.can.inode_there) in
+    (subst (λ x. HasBlock (g.V.View.seen x) dir) (sym (led_view g.V.View.seen c.args.draft.now mid c.requires.new dir c.in-Is._block (parent_of m) led one named)) c.requires.can.inode_there) in
     let has = led_able g.V.View.seen c.args.draft.now mid c.requires.new dir c.in-Is._block (parent_of m) led one named h is.0 is.1
-        (directory_so h m.moved.dinode (c.requires.can.inode_read h is.0.inode) (sym c.is_directory.ensures ∙ c.if-not-is_directory.false)) there.0 there.1 in
+    (directory_so h m.moved.dinode (c.requires.can.inode_read h is.0.inode) (sym c.is_directory.ensures ∙ c.if-not-is_directory.false)) there.0 there.1 in
     sym c.if-not-has_directory.true ∙ c.has_directory.ensures.all there.0 there.1 has.0 has.1
 
 pub returns-clause-led : goal.returns-clause-led
