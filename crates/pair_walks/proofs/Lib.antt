@@ -6,3 +6,4 @@ pub mod ComingIn
 pub mod Along
 pub mod Turning
 pub mod Telling
+pub mod Beginning

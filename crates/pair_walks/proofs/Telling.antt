@@ -1,5 +1,5 @@
 -- What a turn answers, from what going past an inode answers.
-use Rattle.std.proofs.Common.{◌≡◌, ℕ, ◌+◌, ◌-◌, ◌<◌, ◌≤◌, List, length, Option, None, Some, Result, Ok, Err, sym, ap, subst, arith}
+use Rattle.std.proofs.Common.{◌≡◌, ℕ, ◌+◌, ◌-◌, ◌<◌, ◌≤◌, List, length, Option, None, Some, Result, Ok, Err, refl, sym, ap, subst, arith}
 use Rattle.std.specs.Prelude.{IfNone, IfOk, IfSome, slice_get}
 use Rattle.glock_names.specs.Views.{Seen}
 use Rattle.glock_names.specs.declared.State.{State}
@@ -26,33 +26,48 @@ some_so P Q (Ok None) so p = tt
 some_so P Q (Ok (Some w)) so p = so w p
 some_so P Q (Err e) so p = tt
 
+-- ---- what is so of two paths and their wants is so of equal ones
+
+pub so_of : (P : Path → Path → List Want → List Want → Type 0) (p q p' q' : Path) (ws xs ws' xs' : List Want) → p ≡ p' → q ≡ q' → ws ≡ ws' → xs ≡ xs' → P p q ws xs → P p' q' ws' xs'
+so_of P p q p' q' ws xs ws' xs' e f g h is = subst (λ x. P p' q' ws' x) h (subst (λ w. P p' q' w xs) g (subst (λ y. P p' y ws xs) f (subst (λ y. P y q ws xs) e is)))
+
 -- ---- a way that went on
+
+on_first : (v : Seen) (one : Way) (p q : Path) (ws xs : List Want) (i j : ℕ) (m n : Next) → one.names.now ≡ p → one.wants.now ≡ ws → one.depth ≡ i → one.next ≡ m
+    → AreOnTheirWays v p q ws xs i j m n → AreOnTheirWays v one.names.now q one.wants.now xs one.depth j one.next n
+on_first v one p q ws xs i j m n e f g h on =
+    subst (λ y. AreOnTheirWays v y q one.wants.now xs one.depth j one.next n) (sym e)
+    (subst (λ y. AreOnTheirWays v p q y xs one.depth j one.next n) (sym f)
+    (subst (λ y. AreOnTheirWays v p q ws xs y j one.next n) (sym g)
+    (subst (λ y. AreOnTheirWays v p q ws xs i j y n) (sym h) on)))
+
+on_second : (v : Seen) (two : Way) (p q : Path) (ws xs : List Want) (i j : ℕ) (m n : Next) → two.names.now ≡ q → two.wants.now ≡ xs → two.depth ≡ j → two.next ≡ n
+    → AreOnTheirWays v p q ws xs i j m n → AreOnTheirWays v p two.names.now ws two.wants.now i two.depth m two.next
+on_second v two p q ws xs i j m n e f g h on =
+    subst (λ y. AreOnTheirWays v p y ws two.wants.now i two.depth m two.next) (sym e)
+    (subst (λ y. AreOnTheirWays v p q ws y i two.depth m two.next) (sym f)
+    (subst (λ y. AreOnTheirWays v p q ws xs i y m two.next) (sym g)
+    (subst (λ y. AreOnTheirWays v p q ws xs i j m y) (sym h) on)))
+
+pub both_on : (v : Seen) (one two : Way) (p q : Path) (ws xs : List Want) (i j : ℕ) (m n : Next) → one.names.now ≡ p → one.wants.now ≡ ws → one.depth ≡ i → one.next ≡ m
+    → two.names.now ≡ q → two.wants.now ≡ xs → two.depth ≡ j → two.next ≡ n → AreOnTheirWays v p q ws xs i j m n → AreUnderway v one two
+both_on v one two p q ws xs i j m n e f g h e' f' g' h' on =
+    on_first v one p two.names.now ws two.wants.now i two.depth m two.next e f g h (on_second v two p q ws xs i j m n e' f' g' h' on)
 
 module _ (v : Seen) (one two one' : Way) (same : IsSameWay one one') (deeper : one'.depth ≡ one.depth + 1) where
   pub first_went : AreOnTheirWays v one.names.now two.names.now one.wants.now two.wants.now (one.depth + 1) two.depth one'.next two.next → AreUnderway v one' two
-  first_went on =
-      subst (λ p. AreOnTheirWays v p two.names.now one'.wants.now two.wants.now one'.depth two.depth one'.next two.next) (sym same.names)
-      (subst (λ ws. AreOnTheirWays v one.names.now two.names.now ws two.wants.now one'.depth two.depth one'.next two.next) (sym same.wants)
-      (subst (λ d. AreOnTheirWays v one.names.now two.names.now one.wants.now two.wants.now d two.depth one'.next two.next) (sym deeper) on))
+  first_went = on_first v one' one.names.now two.names.now one.wants.now two.wants.now (one.depth + 1) two.depth one'.next two.next same.names same.wants deeper refl
 
   pub second_went : AreOnTheirWays v two.names.now one.names.now two.wants.now one.wants.now two.depth (one.depth + 1) two.next one'.next → AreUnderway v two one'
-  second_went on =
-      subst (λ p. AreOnTheirWays v two.names.now p two.wants.now one'.wants.now two.depth one'.depth two.next one'.next) (sym same.names)
-      (subst (λ ws. AreOnTheirWays v two.names.now one.names.now two.wants.now ws two.depth one'.depth two.next one'.next) (sym same.wants)
-      (subst (λ d. AreOnTheirWays v two.names.now one.names.now two.wants.now one.wants.now two.depth d two.next one'.next) (sym deeper) on))
+  second_went = on_second v one' two.names.now one.names.now two.wants.now one.wants.now two.depth (one.depth + 1) two.next one'.next same.names same.wants deeper refl
 
   pub less_left : one.depth ≤ length one.names.now → left_on one' < left_on one
   less_left low = omega (arith, low, deeper, ap length same.names)
 
 pub both_went : (v : Seen) (one two one' two' : Way) → IsSameWay one one' → IsSameWay two two' → one'.depth ≡ one.depth + 1 → two'.depth ≡ two.depth + 1
     → AreOnTheirWays v one.names.now two.names.now one.wants.now two.wants.now (one.depth + 1) (two.depth + 1) one'.next two'.next → AreUnderway v one' two'
-both_went v one two one' two' same same' deeper deeper' on =
-    subst (λ q. AreOnTheirWays v one'.names.now q one'.wants.now two'.wants.now one'.depth two'.depth one'.next two'.next) (sym same'.names)
-    (subst (λ xs. AreOnTheirWays v one'.names.now two.names.now one'.wants.now xs one'.depth two'.depth one'.next two'.next) (sym same'.wants)
-    (subst (λ e. AreOnTheirWays v one'.names.now two.names.now one'.wants.now two.wants.now one'.depth e one'.next two'.next) (sym deeper')
-    (subst (λ p. AreOnTheirWays v p two.names.now one'.wants.now two.wants.now one'.depth (two.depth + 1) one'.next two'.next) (sym same.names)
-    (subst (λ ws. AreOnTheirWays v one.names.now two.names.now ws two.wants.now one'.depth (two.depth + 1) one'.next two'.next) (sym same.wants)
-    (subst (λ d. AreOnTheirWays v one.names.now two.names.now one.wants.now two.wants.now d (two.depth + 1) one'.next two'.next) (sym deeper) on)))))
+both_went v one two one' two' same same' deeper deeper' =
+    both_on v one' two' one.names.now two.names.now one.wants.now two.wants.now (one.depth + 1) (two.depth + 1) one'.next two'.next same.names same.wants deeper refl same'.names same'.wants deeper' refl
 
 -- fewer on one way, or on both, are fewer in all
 pub sum_less : (a b a' b' : ℕ) → a' < a → b' < b → a' + b' < a + b
