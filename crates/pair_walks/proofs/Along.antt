@@ -1,16 +1,13 @@
 -- The locks of two paths as one list: which comes next, and what is left once it is held, in an image that the view may be of.
-use Rattle.std.proofs.Common.{◌≡◌, ◌≢◌, inl, inr, ℕ, suc, ◌+◌, ◌≤◌, ◌<◌, Bool, true, false, List, [], ◌∷◌, ◌++◌, length, take, slice_get, get_or, None, Some, refl, sym, ap, ap₂, subst, ◌∙◌, arith}
-use Rattle.std.proofs.lemmas.Bool.{cases_Bool}
+use Rattle.std.proofs.Common.{◌≡◌, ◌≢◌, inl, inr, ℕ, ◌+◌, ◌<◌, Bool, true, false, List, [], ◌∷◌, ◌++◌, length, take, slice_get, get_or, None, Some, refl, sym, ap, ap₂, subst, ◌∙◌, arith}
 use Rattle.std.proofs.lemmas.List.{append_assoc, append-nil}
 use Rattle.std.proofs.lemmas.List.Elements.{All-push}
 use Rattle.std.proofs.lemmas.Option.{slice_get-get_or}
 use Rattle.std.specs.Prelude.{◌||◌, is_none}
-use Rattle.file_tree.specs.Names.{leads_to, parent_of}
+use Rattle.file_tree.specs.Names.{leads_to}
 use Rattle.file_tree.specs.Tree.{Tree}
-use Rattle.file_tree.specs.Apply as tree
 use Rattle.file_tree.specs.declared.reply.Reply.TheVariants.{NotFound, NotDir}
-use Rattle.glock_names.specs.Views.{Seen, HasBlock}
-use Rattle.glock_names.specs.declared.LockName.{LockName}
+use Rattle.glock_names.specs.Views.{Seen}
 use Rattle.glock_names.specs.declared.State.{State}
 use Rattle.glock_names.specs.declared.State.TheVariants.{Un}
 use Rattle.glock_names.specs.declared.steps.Missing.{Missing}
@@ -24,12 +21,11 @@ use Rattle.image_changes.specs.Does.{IsOf}
 use Rattle.image_changes.specs.Instances.{IsAt}
 use Rattle.path_walks.specs.Holds.{Hold, AreHeld, IsAskedFor, IsFirstLack, hold_of, holds}
 use Rattle.path_walks.specs.Walks.{AreInOrder, IsNeededIn}
-use Rattle.path_walks.specs.declared.walk.Place.{Place}
 use Rattle.path_walks.proofs.Asked.{IsAmong, name_asked}
 use Rattle.path_walks.proofs.Images.{dinode_plain, dinode_used, is_inode, is_shown, lock_of_inode, shown_directory}
-use Rattle.pair_walks.specs.Orders.{ends_both, in_both, left_after, merged, pair_holds, stronger}
+use Rattle.pair_walks.specs.Orders.{ends_both, left_after, merged, pair_holds, stronger}
 use Rattle.pair_walks.specs.Turns.{IsBefore, IsHindered, IsNowhere, IsOver, LetsSecond, decides}
-use Rattle.pair_walks.specs.Walks.{IsEndIn, IsPairWalked}
+use Rattle.pair_walks.specs.Walks.{IsPairWalked}
 use Rattle.pair_walks.specs.Ways.{AreAlong, IsComeIn, IsLeft, holds_from, left_of}
 use Rattle.pair_walks.specs.declared.next.Next.{Next}
 use Rattle.pair_walks.specs.declared.next.Next.TheVariants as next
@@ -206,11 +202,11 @@ module _ (v : Seen) (im : Image) (o : Owners) (l : Layout) (t : Tree) (of : IsOf
         taken = along.left.taken;
         held = along.left.held;
         whole = along.left.whole ∙ ap (λ xs. along.left.taken ++ xs) (
-          ap₂ (λ xs ys. merged L xs ys)
-          (lock_next v im o l t of first p first_many first_order i w a at (subst (IsComeIn v im o l t first p i) is along.on_first).1)
-          (lock_next v im o l t of second q second_many second_order j x a at' (subst (IsComeIn v im o l t second q j) is' along.on_second).1)
-          ∙ both_next L (hold_of a w.state) (hold_of a x.state) (holds_from im o l p first (i + 1)) (holds_from im o l q second (j + 1)) refl
-        );
+            ap₂ (λ xs ys. merged L xs ys)
+            (lock_next v im o l t of first p first_many first_order i w a at (subst (IsComeIn v im o l t first p i) is along.on_first).1)
+            (lock_next v im o l t of second q second_many second_order j x a at' (subst (IsComeIn v im o l t second q j) is' along.on_second).1)
+            ∙ both_next L (hold_of a w.state) (hold_of a x.state) (holds_from im o l p first (i + 1)) (holds_from im o l q second (j + 1)) refl
+            );
       }
 
       -- ---- how the walk is over

@@ -1,14 +1,11 @@
 -- The inode that comes next on a path, and what comes behind it, as far as a view shows.
-use Rattle.std.proofs.Common.{◌≡◌, ◌≢◌, inl, inr, ℕ, suc, ◌+◌, ◌≤◌, ◌<◌, true, false, List, [], ◌∷◌, ◌++◌, length, take, drop, slice_get, None, Some, refl, sym, ap, ap₂, subst, subst₂, ◌∙◌, arith}
+use Rattle.std.proofs.Common.{◌≡◌, ◌≢◌, inl, inr, ℕ, suc, ◌+◌, ◌≤◌, false, List, [], ◌∷◌, ◌++◌, length, take, drop, slice_get, None, Some, refl, sym, ap, subst, subst₂, ◌∙◌, arith}
 use Rattle.std.proofs.lemmas.List.{length-append, take_all}
 use Rattle.file_tree.specs.Names.{IsName, last_of, parent_of}
-use Rattle.gfs2_layout.specs.Holding.{Holding}
-use Rattle.gfs2_layout.specs.Inode.{dinode_in}
 use Rattle.glock_names.specs.Views.{Seen, HasBlock}
 use Rattle.glock_names.specs.declared.State.{State}
 use Rattle.glock_names.specs.declared.steps.Missing.{Missing}
 use Rattle.call_locks.specs.declared.want.Want.{Want}
-use Rattle.dinode_tree.specs.Broken as inode
 use Rattle.dinode_tree.specs.Shown.{IsShown}
 use Rattle.dinode_tree.specs.Walking.{missing_dinode}
 use Rattle.image_model.specs.Flat.{Path}
@@ -18,14 +15,13 @@ use Rattle.path_walks.specs.Walks as path
 use Rattle.path_walks.specs.declared.walk.Place.{Place}
 use Rattle.path_walks.proofs.Lists.{parent_of_next, split_at}
 use Rattle.path_walks.proofs.Walking.{IsWantedAt}
-use Rattle.pair_walks.specs.Ahead.{IsAheadOf, IsDamageAhead, IsDamageOfName, IsNeededAhead, in_this, past_groups}
+use Rattle.pair_walks.specs.Ahead.{IsAheadOf, IsDamageOfName, IsNeededAhead, in_this, past_groups}
 use Rattle.pair_walks.specs.Turns.{IsDamagedAt, IsPassed}
-use Rattle.pair_walks.specs.Walks.{IsEndOf}
 use Rattle.pair_walks.specs.Ways.{IsCome, IsComing, the_root, the_child}
 use Rattle.pair_walks.specs.declared.next.Next.{Next}
 use Rattle.pair_walks.specs.declared.next.Next.TheVariants as next
 use Rattle.pair_walks.specs.declared.walk.End.TheVariants as end
-use Rattle.pair_walks.proofs.Paths.{before_last, ends_so, last_at, last_parent, long, name_at, take_front}
+use Rattle.pair_walks.proofs.Paths.{before_last, ends_so, last_parent, long, name_at, take_front}
 
 module _ (v : Seen) (wants : List Want) (names : Path) where
   pub is_low : (depth a above : ℕ) → IsComing v wants names depth a above → depth ≤ length names
@@ -66,16 +62,18 @@ module _ (v : Seen) (wants : List Want) (names : Path) where
     comes_at p state read (next.Ended (end.At q)) ahead =
         subst (IsSeenAt v wants names) (sym ahead.1) (seen_at p state read names (sym (take_all depth names (omega (arith, ahead.0)))))
     comes_at p state read (next.Ended end.NotDir) ahead =
-        let n = name_at names depth ahead.0 in
-        (p.inode, record {
-          front = take depth names;
-          back = drop (suc depth) names;
-          name = n.0;
-          on_path = split_at names depth n.0 n.1;
-          leads = subst (LeadsTo v wants (take depth names)) (sym read.inode) here;
-          there = subst (HasBlock v) (sym read.inode) read.there;
-          so = ahead.1;
-        })
+        let n = name_at names depth ahead.0 in (
+          p.inode,
+          record {
+            front = take depth names;
+            back = drop (suc depth) names;
+            name = n.0;
+            on_path = split_at names depth n.0 n.1;
+            leads = subst (LeadsTo v wants (take depth names)) (sym read.inode) here;
+            there = subst (HasBlock v) (sym read.inode) read.there;
+            so = ahead.1;
+          },
+        )
     comes_at p state read (next.Ended (end.Lacks q)) ahead =
         let last = last_parent names depth ahead.2.0 ahead.2.1.0 ahead.0 in
         let seen : IsSeenAt v wants (parent_of names) p = seen_at p state read (parent_of names) last.0 in (

@@ -1,5 +1,5 @@
 -- The inode that comes next on a path, and what comes behind it, in an image that the view may be of.
-use Rattle.std.proofs.Common.{◌≡◌, ◌≢◌, inl, inr, ℕ, suc, ◌+◌, ◌≤◌, true, false, List, [], ◌∷◌, ◌++◌, length, take, drop, slice_get, Option, None, Some, refl, sym, ap, subst, ◌∙◌, arith}
+use Rattle.std.proofs.Common.{◌≡◌, ◌≢◌, inl, inr, ℕ, suc, ◌+◌, true, List, [], ◌∷◌, ◌++◌, length, take, drop, slice_get, Option, None, Some, refl, sym, ap, subst, ◌∙◌, arith}
 use Rattle.std.proofs.lemmas.Bool.{cases_Bool, cond-true, cond-false}
 use Rattle.std.proofs.lemmas.List.{drop_all, take_all}
 use Rattle.std.proofs.lemmas.Option.{slice_get_within}
@@ -7,7 +7,7 @@ use Rattle.file_tree.specs.Names.{IsName, last_of, parent_of}
 use Rattle.file_tree.specs.Tree.{Tree}
 use Rattle.file_tree.specs.Apply as tree
 use Rattle.file_tree.specs.declared.reply.Reply.{Reply}
-use Rattle.file_tree.specs.declared.reply.Reply.TheVariants.{NotFound, NotDir}
+use Rattle.file_tree.specs.declared.reply.Reply.TheVariants.{NotFound}
 use Rattle.gfs2_layout.specs.Records.{child_named, is_dots}
 use Rattle.glock_names.specs.Views.{Seen, HasBlock}
 use Rattle.glock_names.specs.declared.State.{State}
@@ -21,12 +21,12 @@ use Rattle.image_model.specs.Stands.{Layout, flat_of}
 use Rattle.image_changes.specs.Does.{IsOf}
 use Rattle.image_changes.specs.Instances.{IsAt, is_directory_at, records_at}
 use Rattle.image_changes.proofs.Walks.{walks_end, walks_find}
-use Rattle.path_walks.specs.Holds.{Hold, hold_for, hold_of, holds_on}
+use Rattle.path_walks.specs.Holds.{hold_for, hold_of, holds_on}
 use Rattle.path_walks.specs.Walks.{AreInOrder, IsPlaceOf, IsReadAt, LacksName, Names}
 use Rattle.path_walks.specs.declared.walk.Place.{Place}
 use Rattle.path_walks.proofs.Images.{child_in_group, child_is_there, is_inode, is_shown, no_child_of_file, says_child, says_none, shown_directory, unbroken, unbroken_directory}
 use Rattle.path_walks.proofs.Lists.{nowhere, onward, parent_of_next, split_at, take_next}
-use Rattle.pair_walks.specs.Ahead.{IsAheadOf, IsDamageAhead, IsDamageOfName, in_this, past_groups}
+use Rattle.pair_walks.specs.Ahead.{IsAheadOf, IsDamageOfName, in_this, past_groups}
 use Rattle.pair_walks.specs.Turns.{IsDamagedAt}
 use Rattle.pair_walks.specs.Walks.{IsEndIn}
 use Rattle.pair_walks.specs.Ways.{IsAboveIn, IsComeIn, holds_from}

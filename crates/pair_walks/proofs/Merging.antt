@@ -1,5 +1,5 @@
 -- Two lists of locks as one, by which comes first.
-use Rattle.std.proofs.Common.{◌≡◌, ℕ, ◌<◌, true, false, List, [], ◌∷◌, refl, sym, ap, ◌∙◌, subst, arith}
+use Rattle.std.proofs.Common.{◌≡◌, ◌<◌, List, [], ◌∷◌, refl, sym, ◌∙◌, subst, arith}
 use Rattle.std.proofs.lemmas.Bool.{cond-true, cond-false, eq-eqb, lt-ltb, le-ltb}
 use Rattle.path_walks.specs.Holds.{Hold}
 use Rattle.path_walks.proofs.Steps.{differs}

@@ -1,11 +1,11 @@
 -- Paths and lists at one of their places.
-use Rattle.std.proofs.Common.{◌≡◌, ◌≢◌, ℕ, zero, suc, ◌+◌, ◌<◌, ◌≤◌, List, [], ◌∷◌, ◌++◌, length, take, drop, flat_map, slice_get, get_or, None, Some, refl, sym, ap, ap₂, ◌∙◌, subst, arith}
+use Rattle.std.proofs.Common.{◌≡◌, ◌≢◌, ℕ, zero, suc, ◌+◌, ◌<◌, ◌≤◌, List, [], ◌∷◌, ◌++◌, length, take, drop, flat_map, slice_get, get_or, Some, refl, ap, ap₂, ◌∙◌, arith}
 use Rattle.std.proofs.lemmas.List.{length-append, length-take-le}
 use Rattle.std.proofs.lemmas.Option.{slice_get-get_or, slice_get_within}
 use Rattle.file_tree.specs.Names.{last_of, parent_of}
 use Rattle.image_model.specs.Flat.{Path}
 use Rattle.image_model.proofs.Held.{some_same}
-use Rattle.path_walks.proofs.Lists.{parent_of_next, split_at, take_next}
+use Rattle.path_walks.proofs.Lists.{parent_of_next, split_at}
 
 pub name_at : (path : Path) (k : ℕ) → k < length path → (n : List ℕ) × (slice_get path k ≡ Some n)
 name_at path k low = (get_or path k [], slice_get-get_or path k [] low)

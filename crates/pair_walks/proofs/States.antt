@@ -1,5 +1,5 @@
 -- A lock that is held in the state that serves two is held as each wants it.
-use Rattle.std.proofs.Common.{◌≡◌, inl, inr, ℕ, true, false, refl, ap, ◌∙◌}
+use Rattle.std.proofs.Common.{◌≡◌, inl, inr, ℕ, true, refl, ap, ◌∙◌}
 use Rattle.std.proofs.lemmas.Bool.{cases_Bool, cond-true, cond-false}
 use Rattle.glock_names.specs.StateOrder.{leq}
 use Rattle.glock_names.specs.Views.{Seen}

@@ -1,5 +1,5 @@
 -- What a turn answers, from what going past an inode answers.
-use Rattle.std.proofs.Common.{◌≡◌, ℕ, ◌+◌, ◌-◌, ◌<◌, ◌≤◌, List, length, Option, None, Some, Result, Ok, Err, refl, sym, ap, subst, arith}
+use Rattle.std.proofs.Common.{◌≡◌, ℕ, ◌+◌, ◌<◌, ◌≤◌, List, length, Option, None, Some, Result, Ok, Err, refl, sym, ap, subst, arith}
 use Rattle.std.specs.Prelude.{IfNone, IfOk, IfSome, slice_get}
 use Rattle.glock_names.specs.Views.{Seen}
 use Rattle.glock_names.specs.declared.State.{State}

@@ -10,8 +10,8 @@ use Rattle.image_model.specs.Image.{Image}
 use Rattle.image_model.specs.Owners.{Owners}
 use Rattle.image_model.specs.Stands.{Layout}
 use Rattle.image_changes.specs.Does.{IsOf}
-use Rattle.path_walks.specs.Holds.{Hold, hold_of, holds}
-use Rattle.path_walks.specs.Walks.{IsDamage, IsHeldAt}
+use Rattle.path_walks.specs.Holds.{hold_of, holds}
+use Rattle.path_walks.specs.Walks.{IsHeldAt}
 use Rattle.path_walks.proofs.Walking.{IsWantedAt, held_at}
 use Rattle.pair_walks.specs.Orders.{pair_holds, stronger}
 use Rattle.pair_walks.specs.Turns.{IsBefore, IsDamagedAt, IsHindered, IsNowhere, IsOver, IsPassed, LetsSecond, decides}
@@ -23,7 +23,7 @@ use Rattle.pair_walks.specs.declared.walk.End.TheVariants as end
 use Rattle.pair_walks.specs.declared.walk.PairWalk.{PairWalk}
 use Rattle.pair_walks.specs.declared.walk.PairWalk.TheVariants as pair
 use Rattle.pair_walks.proofs.Along.{decided, hindered_in, none_left, on_both_next, on_first_next, on_second_next, one_held, over_in}
-use Rattle.pair_walks.proofs.Coming.{absent_last, absent_longer, comes, damaged, is_low, is_next, lacked, unread_ahead, unread_dinode}
+use Rattle.pair_walks.proofs.Coming.{absent_last, absent_longer, comes, damaged, is_next, lacked, unread_ahead, unread_dinode}
 use Rattle.pair_walks.proofs.ComingIn.{comes_in, is_sound}
 use Rattle.pair_walks.proofs.States.{held_first, held_second}
 

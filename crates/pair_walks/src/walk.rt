@@ -82,8 +82,9 @@ fn begin<'a>(names: &'a [Name], wants: &'a [Want], root: u64) -> Way<'a>
 }
 
 /// Walks along two paths from the root, and takes the locks of the inodes on the way as they are wanted, of the inodes that come next on the two
-/// always that with the least number, and one that is next on both once, in the stronger state. Where the first path leads nowhere, or the second is the same
-/// or goes on from it, the walk ends with the first path. It costs a look into the view for each inode, and what looking up each name costs. No memory.
+/// always that with the least number, and one that is next on both once, in the state that serves both. Where the first path leads nowhere, or the second is the
+/// same or goes on from it, the walk ends with the first path. It costs a look into the view for each inode of each path, and what looking up each name costs;
+/// an inode that is next on both is looked at twice. No memory.
 pub fn walk_pair<V: View>(
     view: &V,
     first: &[Name],

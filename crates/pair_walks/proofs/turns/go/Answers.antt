@@ -1,6 +1,6 @@
-use Rattle.std.proofs.Common.{◌≡◌, ℕ, ◌+◌, ◌<◌, sym, ap, subst, ◌∙◌, arith}
+use Rattle.std.proofs.Common.{◌≡◌, ◌+◌, ◌<◌, subst}
 use Rattle.path_walks.proofs.Steps.{damage_so}
-use Rattle.pair_walks.specs.Turns.{IsHindered, IsOver, IsPassed, LetsSecond}
+use Rattle.pair_walks.specs.Turns.{IsOver, IsPassed, LetsSecond}
 use Rattle.pair_walks.specs.Walks.{IsPairDamage, IsPairTold, IsPairWalked}
 use Rattle.pair_walks.specs.Ways.{AreUnderway, left_on}
 use Rattle.pair_walks.proofs.Telling.{first_went, less_left, low_at, none_so, second_went, some_so, sum_first, sum_second, wanted_next}
@@ -22,7 +22,7 @@ returns-in-First-clause-went g c =
     let wanted = wanted_next v ws p i c.in-First.block c.in-First.above m on.on_first c.in-First.ensures.0 c.state_of-state.result c.state_of-state.ensures in
     none_so _ _ (AreUnderway v c.go_past.new.way c.args.two.now) c.go_past.result
     (λ (deeper : c.go_past.new.way.depth ≡ i + 1) (passed : IsPassed v p i c.in-First.block c.in-First.above c.state_of-state.result c.go_past.new.way.next).
-        first_went v c.args.one.now c.args.two.now c.go_past.new.way c.go_past.ensures.same deeper (first_goes v p q ws xs i j m n on c.in-First.block c.in-First.above c.state_of-state.result c.in-First.ensures.0 wanted c.in-First.ensures.1 c.go_past.new.way.next passed))
+    first_went v c.args.one.now c.args.two.now c.go_past.new.way c.go_past.ensures.same deeper (first_goes v p q ws xs i j m n on c.in-First.block c.in-First.above c.state_of-state.result c.in-First.ensures.0 wanted c.in-First.ensures.1 c.go_past.new.way.next passed))
     c.go_past.ensures.deeper c.go_past.ensures.passed
 
 pub returns-in-First-clause-smaller : goal.returns-in-First-clause-smaller
@@ -40,7 +40,7 @@ returns-in-First-clause-smaller g c =
     let low = low_at v ws p i c.in-First.block c.in-First.above m on.on_first c.in-First.ensures.0 in
     none_so _ _ (left_on c.go_past.new.way + left_on c.args.two.now < left_on c.args.one.now + left_on c.args.two.now) c.go_past.result
     (λ (deeper : c.go_past.new.way.depth ≡ i + 1) (passed : IsPassed v p i c.in-First.block c.in-First.above c.state_of-state.result c.go_past.new.way.next).
-        sum_first (left_on c.args.one.now) (left_on c.args.two.now) (left_on c.go_past.new.way) (less_left v c.args.one.now c.args.two.now c.go_past.new.way c.go_past.ensures.same deeper low))
+    sum_first (left_on c.args.one.now) (left_on c.args.two.now) (left_on c.go_past.new.way) (less_left v c.args.one.now c.args.two.now c.go_past.new.way c.go_past.ensures.same deeper low))
     c.go_past.ensures.deeper c.go_past.ensures.passed
 
 pub returns-in-First-clause-told : goal.returns-in-First-clause-told
@@ -118,7 +118,7 @@ returns-in-Second-clause-went g c =
     let lets = subst (λ b. LetsSecond c.in-Second.block b m) c.requires.ends c.in-Second.ensures.1 in
     none_so _ _ (AreUnderway v c.args.one.now c.go_past-in-Second.new.way) c.go_past-in-Second.result
     (λ (deeper : c.go_past-in-Second.new.way.depth ≡ j + 1) (passed : IsPassed v q j c.in-Second.block c.in-Second.above c.state_of-state-in-Second.result c.go_past-in-Second.new.way.next).
-        second_went v c.args.two.now c.args.one.now c.go_past-in-Second.new.way c.go_past-in-Second.ensures.same deeper (second_goes v p q ws xs i j m n on c.in-Second.block c.in-Second.above c.state_of-state-in-Second.result c.in-Second.ensures.0 wanted lets c.go_past-in-Second.new.way.next passed))
+    second_went v c.args.two.now c.args.one.now c.go_past-in-Second.new.way c.go_past-in-Second.ensures.same deeper (second_goes v p q ws xs i j m n on c.in-Second.block c.in-Second.above c.state_of-state-in-Second.result c.in-Second.ensures.0 wanted lets c.go_past-in-Second.new.way.next passed))
     c.go_past-in-Second.ensures.deeper c.go_past-in-Second.ensures.passed
 
 pub returns-in-Second-clause-smaller : goal.returns-in-Second-clause-smaller
@@ -136,7 +136,7 @@ returns-in-Second-clause-smaller g c =
     let low = low_at v xs q j c.in-Second.block c.in-Second.above n on.on_second c.in-Second.ensures.0 in
     none_so _ _ (left_on c.args.one.now + left_on c.go_past-in-Second.new.way < left_on c.args.one.now + left_on c.args.two.now) c.go_past-in-Second.result
     (λ (deeper : c.go_past-in-Second.new.way.depth ≡ j + 1) (passed : IsPassed v q j c.in-Second.block c.in-Second.above c.state_of-state-in-Second.result c.go_past-in-Second.new.way.next).
-        sum_second (left_on c.args.one.now) (left_on c.args.two.now) (left_on c.go_past-in-Second.new.way) (less_left v c.args.two.now c.args.one.now c.go_past-in-Second.new.way c.go_past-in-Second.ensures.same deeper low))
+    sum_second (left_on c.args.one.now) (left_on c.args.two.now) (left_on c.go_past-in-Second.new.way) (less_left v c.args.two.now c.args.one.now c.go_past-in-Second.new.way c.go_past-in-Second.ensures.same deeper low))
     c.go_past-in-Second.ensures.deeper c.go_past-in-Second.ensures.passed
 
 pub returns-in-Second-clause-told : goal.returns-in-Second-clause-told

@@ -1,4 +1,4 @@
-use Rattle.std.proofs.Common.{◌≡◌, ℕ, ◌+◌, ◌<◌, sym, ap, subst, ◌∙◌, arith}
+use Rattle.std.proofs.Common.{◌≡◌, ◌+◌, ◌<◌, sym, ap, subst, ◌∙◌}
 use Rattle.std.specs.Prelude.{IfNone, IfSome}
 use Rattle.path_walks.proofs.Steps.{damage_so, fault_so, handed}
 use Rattle.pair_walks.specs.Orders.{stronger}
@@ -129,8 +129,8 @@ returns-clause-went g c =
     let deeper : c.go_past.new.way.depth ≡ i + 1 = subst (λ x. IfNone x (c.go_past.new.way.depth ≡ i + 1)) c.in_default.is c.in_ok-stop.ensures.deeper in
     none_so _ _ (AreUnderway v c.go_past.new.way c.go_past-2.new.way) c.go_past-2.result
     (λ (deeper' : c.go_past-2.new.way.depth ≡ j + 1) (passed' : IsPassed v q j c.args.block c.args.beside c.stronger-state.result c.go_past-2.new.way.next).
-        both_went v c.args.one.now c.args.two.now c.go_past.new.way c.go_past-2.new.way c.in_ok-stop.ensures.same c.go_past-2.ensures.same deeper deeper'
-        (both_go v p q ws xs i j m n on c.args.block c.args.above c.args.beside c.state_of.result c.state_of-2.result c.requires.first c.requires.second wanted wanted' c.go_past.new.way.next passed c.go_past-2.new.way.next (subst (λ s. IsPassed v q j c.args.block c.args.beside s c.go_past-2.new.way.next) c.stronger-state.ensures passed')))
+    both_went v c.args.one.now c.args.two.now c.go_past.new.way c.go_past-2.new.way c.in_ok-stop.ensures.same c.go_past-2.ensures.same deeper deeper'
+    (both_go v p q ws xs i j m n on c.args.block c.args.above c.args.beside c.state_of.result c.state_of-2.result c.requires.first c.requires.second wanted wanted' c.go_past.new.way.next passed c.go_past-2.new.way.next (subst (λ s. IsPassed v q j c.args.block c.args.beside s c.go_past-2.new.way.next) c.stronger-state.ensures passed')))
     c.go_past-2.ensures.deeper c.go_past-2.ensures.passed
 
 pub returns-clause-smaller : goal.returns-clause-smaller
@@ -150,7 +150,7 @@ returns-clause-smaller g c =
     let low' = low_at v xs q j c.args.block c.args.beside n on.on_second c.requires.second in
     none_so _ _ (left_on c.go_past.new.way + left_on c.go_past-2.new.way < left_on c.args.one.now + left_on c.args.two.now) c.go_past-2.result
     (λ (deeper' : c.go_past-2.new.way.depth ≡ j + 1) (passed' : IsPassed v q j c.args.block c.args.beside c.stronger-state.result c.go_past-2.new.way.next).
-        sum_less (left_on c.args.one.now) (left_on c.args.two.now) (left_on c.go_past.new.way) (left_on c.go_past-2.new.way) less (less_left v c.args.two.now c.args.one.now c.go_past-2.new.way c.go_past-2.ensures.same deeper' low'))
+    sum_less (left_on c.args.one.now) (left_on c.args.two.now) (left_on c.go_past.new.way) (left_on c.go_past-2.new.way) less (less_left v c.args.two.now c.args.one.now c.go_past-2.new.way c.go_past-2.ensures.same deeper' low'))
     c.go_past-2.ensures.deeper c.go_past-2.ensures.passed
 
 pub returns-clause-told : goal.returns-clause-told
