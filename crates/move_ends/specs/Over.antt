@@ -61,14 +61,14 @@ IsEndRead v e = Unit {0}
 
 -- what is found there
 abbrev pub IsApart : Seen → Place → End → Ends → Type 0
-IsApart v from (end.At at) (ends.Refused r) = IsAimOver v from at (aim.Refused r)
+IsApart v from (end.At at) (ends.Refused r) = (to : Place) × (IsDirectoryOf v at to × IsAimOver v from at (aim.Refused r))
 IsApart v from (end.At at) (ends.Moves f to (Some blocks)) = (f ≡ from) × IsDirectoryOf v at to × IsAimOver v from at aim.Taken × GoesWith v at.inode blocks.items
-IsApart v from (end.At at) (ends.NeedBlock m) = IsAimOver v from at aim.Taken × IsNeededOf v at.inode m
+IsApart v from (end.At at) (ends.NeedBlock m) = (to : Place) × (IsDirectoryOf v at to × IsAimOver v from at aim.Taken × IsNeededOf v at.inode m)
 IsApart v from (end.Lacks p) (ends.Moves f to None) = (f ≡ from) × (to ≡ p)
 IsApart v from end.NotFound (ends.Refused r) = r ≡ reply.NotFound
 IsApart v from end.NotDir (ends.Refused r) = r ≡ reply.NotDir
 IsApart v from e found = ⊥
 
 abbrev pub IsWrongApart : Seen → Place → End → ℕ → ℕ → Type 0
-IsWrongApart v from (end.At at) rule b = ((h : Holding) → IsShown v at.above h → IsBroken h rule b) ⊎ IsWrongOver v from at rule b
+IsWrongApart v from (end.At at) rule b = ((h : Holding) → IsShown v at.above h → IsBroken h rule b) ⊎ ((to : Place) × (IsDirectoryOf v at to × IsWrongOver v from at rule b))
 IsWrongApart v from e rule b = ⊥
