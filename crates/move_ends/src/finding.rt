@@ -1,5 +1,5 @@
 // The ends of the two paths of a call that moves a name.
-ghost use Rattle.std.specs.Prelude.{◌≡◌, ◌≢◌, ◌≤◌, [], IfOk, drop, length, take};
+ghost use Rattle.std.specs.Prelude.{◌≡◌, ◌≢◌, ◌≤◌, [], false, true, IfOk, drop, length, take};
 ghost use Rattle.file_tree.specs.Tree.{Tree};
 ghost use Rattle.glock_names.specs.Steps.{IfDamaged};
 ghost use Rattle.glock_names.specs.Views.{IsOfView, IsView};
