@@ -16,10 +16,10 @@ use Rattle.move_ends.specs.Ends.{IsKindAt, MayGo, a_directory, a_file}
 use Rattle.move_ends.specs.Over.{IsAimOver, by_directory, by_file}
 
 -- so it is refused, by the kinds of both and the count of names
-pub data RefusesOver (v : Seen) (from at : ℕ) : Reply → Type 0 where
-  is_directory_there : IsKindAt v from false → IsKindAt v at true → RefusesOver v from at reply.IsDir
-  is_file_there : IsKindAt v from true → IsKindAt v at false → RefusesOver v from at reply.NotDir
-  has_names : IsKindAt v from true → IsKindAt v at true → ((h : Holding) → IsShown v at h → ((dinode_in h).entries ≢ 2) × (is_hashed_in h ≡ false → CountsItsRecords h)) → RefusesOver v from at reply.NotEmpty
+pub data RefusesOver (v : Seen) (from at : ℕ) (r : Reply) : Type 0 where
+  is_directory_there : r ≡ reply.IsDir → IsKindAt v from false → IsKindAt v at true → RefusesOver v from at r
+  is_file_there : r ≡ reply.NotDir → IsKindAt v from true → IsKindAt v at false → RefusesOver v from at r
+  has_names : r ≡ reply.NotEmpty → IsKindAt v from true → IsKindAt v at true → ((h : Holding) → IsShown v at h → ((dinode_in h).entries ≢ 2) × (is_hashed_in h ≡ false → CountsItsRecords h)) → RefusesOver v from at r
 
 file_aim : (h : Holding) (r : Reply) → IsFileAim h (aim.Refused r) → r ≡ reply.IsDir
 file_aim h reply.IsDir is = refl
@@ -58,19 +58,19 @@ module _ (v : Seen) (from at : Place) (read : (h : Holding) → IsShown v from.i
   kind b is h shown = ap is_directory (sym (read h shown)) ∙ is
 
   pub refuses : (r : Reply) → IsAimOver v from at (aim.Refused r) → RefusesOver v from.inode at.inode r
-  refuses r (by_file file aims) =
+  refuses r (by_file plain aims) =
       let s = some_is_shown v at.inode in
       let is = file_aim s.0 r (aims s.0 s.1.0) in
-      subst (RefusesOver v from.inode at.inode) (sym is) (is_directory_there (kind false file) (λ h shown. subst (λ x. IsFileAim h (aim.Refused x)) is (aims h shown)))
+      is_directory_there is (kind false plain) (λ h shown. subst (λ x. IsFileAim h (aim.Refused x)) is (aims h shown))
   refuses r (by_directory directory aims) =
       let s = some_is_shown v at.inode in
       elim (directory_aim s.0 r (aims s.0 s.1.0)) [
-        | a_file_there is ↦ subst (RefusesOver v from.inode at.inode) (sym is) (is_file_there (kind true directory) (λ h shown. subst (λ x. IsDirectoryAim h (aim.Refused x)) is (aims h shown)))
-        | names_there is ↦ subst (RefusesOver v from.inode at.inode) (sym is)
-            (has_names (kind true directory) (λ h shown. (subst (λ x. IsDirectoryAim h (aim.Refused x)) is (aims h shown)).0)
-            (λ h shown. let so = subst (λ x. IsDirectoryAim h (aim.Refused x)) is (aims h shown) in (so.1, so.2)))
+        | a_file_there is ↦ is_file_there is (kind true directory) (λ h shown. subst (λ x. IsDirectoryAim h (aim.Refused x)) is (aims h shown))
+        | names_there is ↦
+            has_names is (kind true directory) (λ h shown. (subst (λ x. IsDirectoryAim h (aim.Refused x)) is (aims h shown)).0)
+            (λ h shown. let so = subst (λ x. IsDirectoryAim h (aim.Refused x)) is (aims h shown) in (so.1, so.2))
       ]
 
   pub may_go : IsAimOver v from at aim.Taken → MayGo v from at
-  may_go (by_file file aims) = a_file (kind false file) aims
+  may_go (by_file plain aims) = a_file (kind false plain) aims
   may_go (by_directory directory aims) = a_directory (kind true directory) (record { directory = λ h shown. (aims h shown).0; two = λ h shown. (aims h shown).1; counted = λ h shown. (aims h shown).2 })

@@ -102,7 +102,7 @@ module _ (v : Seen) (im : Image) (o : Owners) (l : Layout) (t : Tree) (of : IsOf
     is_parent : (c : ℕ) → IsAt im o l q c → is_directory_at im o a ≡ true
     is_parent c there = elim (cases_Bool (is_directory_at im o a)) [
       | inl is ↦ is
-      | inr file ↦ absurd (none_some (sym (at_last ∙ ap (option_and_then (λ b. Some b)) (no_child_of_file v im o l t of (parent_of q) a (last_of q) at file)) ∙ there))
+      | inr plain ↦ absurd (none_some (sym (at_last ∙ ap (option_and_then (λ b. Some b)) (no_child_of_file v im o l t of (parent_of q) a (last_of q) at plain)) ∙ there))
     ]
 
     look_none : (es : Entries) → walk t (parent_of q) ≡ Found (dir es) → is_directory_at im o a ≡ true → child_named (records_at im o a) (last_of q) ≡ None → look es (last_of q) ≡ None
@@ -143,7 +143,7 @@ module _ (v : Seen) (im : Image) (o : Owners) (l : Layout) (t : Tree) (of : IsOf
         subst (IsFoundIn v im o l t c) (sym (other apart)) (ap (λ (x : Answer). x.reply) (is_inside c t is begun.from begun.to f.tree f.walks (other_long p q apart) leads), list_held held)
 
     module _ (elsewhere : IsElsewhere c) (from : Place) (source : IsSeenAt v (first_wants c) p from) (place : IsPlaceOf v im o l p from) (held : AreHeld v (pair_holds im o l p q (first_wants c) (second_wants c))) where
-      moved : Tree
+      abbrev moved : Tree
       moved = (found p from.inode place.at).tree
 
       moved_walks : walk t p ≡ Found moved
@@ -177,16 +177,16 @@ module _ (v : Seen) (im : Image) (o : Owners) (l : Layout) (t : Tree) (of : IsOf
         refuses_with r w walks so = refused_over c t is begun.from begun.to moved moved_walks elsewhere above_tree.entries above_tree.walks w walks r so
 
         refused_in : (r : Reply) → RefusesOver v from.inode at.inode r → (apply c t).reply ≡ r
-        refused_in reply.IsDir (is_directory_there file other) =
+        refused_in r (is_directory_there so plain other) =
             let names = at_names other in
-            refuses_with reply.IsDir (dir names.entries) names.walks (file_over_directory moved names.entries (content_of (holding im o from.inode)) (from_file file))
-        refused_in reply.NotDir (is_file_there directory other) =
-            let plain = file_walked q at.inode there.at (other (holding im o at.inode) shown_at) in
-            refuses_with reply.NotDir (file plain.0) plain.1 (directory_over_file moved plain.0 (from_directory directory))
-        refused_in reply.NotEmpty (has_names directory other more) =
+            refuses_with reply.IsDir (dir names.entries) names.walks (file_over_directory moved names.entries (content_of (holding im o from.inode)) (from_file plain)) ∙ sym so
+        refused_in r (is_file_there so directory other) =
+            let there_is = file_walked q at.inode there.at (other (holding im o at.inode) shown_at) in
+            refuses_with reply.NotDir (file there_is.0) there_is.1 (directory_over_file moved there_is.0 (from_directory directory)) ∙ sym so
+        refused_in r (has_names so directory other more) =
             let names = at_names other in
             refuses_with reply.NotEmpty (dir names.entries) names.walks
-            (directory_over_full moved names.entries (from_directory directory) (λ none. (more (holding im o at.inode) shown_at).0 (omega (arith, names.counted, none))))
+            (directory_over_full moved names.entries (from_directory directory) (λ none. (more (holding im o at.inode) shown_at).0 (omega (arith, names.counted, none)))) ∙ sym so
 
         takes_with : (w : Tree) → walk t q ≡ Found w → refusal_over moved w ≡ None → TakesIt t c
         takes_with w walks so = record {
@@ -196,16 +196,16 @@ module _ (v : Seen) (im : Image) (o : Owners) (l : Layout) (t : Tree) (of : IsOf
         }
 
         takes_over : MayGo v from at → TakesIt t c
-        takes_over (a_file file other) =
-            let plain = file_walked q at.inode there.at (other (holding im o at.inode) shown_at) in
-            takes_with (file plain.0) plain.1 (file_over_file moved plain.0 (content_of (holding im o from.inode)) (from_file file))
+        takes_over (a_file plain other) =
+            let there_is = file_walked q at.inode there.at (other (holding im o at.inode) shown_at) in
+            takes_with (file there_is.0) there_is.1 (file_over_file moved there_is.0 (content_of (holding im o from.inode)) (from_file plain))
         takes_over (a_directory directory bare) =
             let names = at_names bare.directory in
             let two = bare.two (holding im o at.inode) shown_at in
             takes_with (dir names.entries) names.walks (directory_over_empty moved names.entries (from_directory directory) (omega (arith, names.counted, two)))
 
         is_childless : MayGo v from at → IsChildless im o at.inode
-        is_childless (a_file file other) directory = absurd (true≢false (sym directory ∙ other (holding im o at.inode) shown_at))
+        is_childless (a_file plain other) directory = absurd (true≢false (sym directory ∙ other (holding im o at.inode) shown_at))
         is_childless (a_directory directory bare) so = bare.two (holding im o at.inode) shown_at
 
         moves_over : (to : Place) (blocks : List ℕ) → IsDirectoryOf v at to → MayGo v from at → GoesWith v at.inode blocks → MovesIn v im o l t c from to (Some blocks)

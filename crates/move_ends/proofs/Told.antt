@@ -76,9 +76,9 @@ module _ (v : Seen) (c : Call) (begun : IsBegun v c) where
       stands to is = record { place = seen; above = sym is.inode }
 
       refused_at : (to : Place) → IsDirectoryOf v at to → (r : Reply) → RefusesOver v from.inode at.inode r → IsRefused v c r
-      refused_at to is reply.IsDir (is_directory_there file there) = IsRefused.over_directory from to at (are_ends to is) (stands to is) file there
-      refused_at to is reply.NotDir (is_file_there directory there) = IsRefused.over_file from to at (are_ends to is) (stands to is) directory there
-      refused_at to is reply.NotEmpty (has_names directory there more) = IsRefused.not_empty from to at (are_ends to is) (stands to is) directory there more
+      refused_at to is r (is_directory_there so plain there) = subst (IsRefused v c) (sym so) (IsRefused.over_directory from to at (are_ends to is) (stands to is) plain there)
+      refused_at to is r (is_file_there so directory there) = subst (IsRefused v c) (sym so) (IsRefused.over_file from to at (are_ends to is) (stands to is) directory there)
+      refused_at to is r (has_names so directory there more) = subst (IsRefused v c) (sym so) (IsRefused.not_empty from to at (are_ends to is) (stands to is) directory there more)
 
       at_told : (found : Ends) → IsApart v from (end.At at) found → IsTold v c found
       at_told (ends.Refused r) (to, so) = refused_at to so.0 r (refuses v from at source.dinode r so.1)
@@ -144,9 +144,9 @@ needed_absent v a m (IsNeededOf.in_tree needed) = let s = some_is_shown v a in (
 needed_absent v a m (IsNeededOf.in_leaves is needed absent) = absent
 
 refuses_so : (v : Seen) (from at : ℕ) (r : Reply) → RefusesOver v from at r → Refuses r
-refuses_so v from at reply.IsDir (is_directory_there file there) = (refl, tt)
-refuses_so v from at reply.NotDir (is_file_there directory there) = (refl, tt)
-refuses_so v from at reply.NotEmpty (has_names directory there more) = (refl, tt)
+refuses_so v from at r (is_directory_there so plain there) = subst Refuses (sym so) (refl, tt)
+refuses_so v from at r (is_file_there so directory there) = subst Refuses (sym so) (refl, tt)
+refuses_so v from at r (has_names so directory there more) = subst Refuses (sym so) (refl, tt)
 
 pub apart_absent : (v : Seen) (from : Place) (e : End) (found : Ends) → IsApart v from e found → IsAbsentBlock v found
 apart_absent v from (end.At at) (ends.NeedBlock m) (to, so) = needed_absent v at.inode m so.2
