@@ -1,22 +1,21 @@
 -- What is found at the ends, in an image that the view may be of.
-use Rattle.std.proofs.Common.{◌≡◌, ◌≢◌, ◌⊎◌, ◌↔◌, inl, inr, ℕ, suc, ◌+◌, Bool, true, false, true≢false, List, [], ◌∷◌, ◌++◌, length, Option, None, Some, refl, sym, ap, ◌∙◌, subst, arith}
+use Rattle.std.proofs.Common.{◌≡◌, ◌≢◌, ◌⊎◌, inl, inr, ℕ, suc, Bool, true, false, true≢false, List, [], ◌∷◌, length, Option, None, Some, refl, sym, ap, ◌∙◌, subst, arith}
 use Rattle.std.proofs.lemmas.Bool.{cases_Bool, cond-true, cond-false}
 use Rattle.std.specs.Prelude.{option_and_then}
 use Rattle.file_tree.specs.Apply.{Answer, Found, apply, refusal_over, walk}
-use Rattle.file_tree.specs.Names.{is_same_path, last_of, leads_to, parent_of}
-use Rattle.file_tree.specs.Tree.{Tree, Entries, file, dir, count_in, look}
+use Rattle.file_tree.specs.Names.{last_of, leads_to, parent_of}
+use Rattle.file_tree.specs.Tree.{Tree, Entries, file, dir, look}
 use Rattle.file_tree.specs.declared.call.Call.{Call}
 use Rattle.file_tree.specs.declared.reply.Reply.{Reply}
 use Rattle.file_tree.specs.declared.reply.Reply.TheVariants as reply
-use Rattle.gfs2_layout.specs.Holding.{Holding}
-use Rattle.gfs2_layout.specs.Inode.{content_of, dinode_in, is_directory_in}
+use Rattle.gfs2_layout.specs.Inode.{content_of}
 use Rattle.gfs2_layout.specs.Records.{child_named, is_dots}
 use Rattle.glock_names.specs.Views.{Seen}
 use Rattle.glock_names.specs.declared.steps.Missing.{Missing}
 use Rattle.dinode_tree.specs.Below.{AnyIndex}
 use Rattle.dinode_tree.specs.Shown.{IsShown}
 use Rattle.directories.specs.Shown as dirs
-use Rattle.image_model.specs.Flat.{ADir, AFile, Node, Path, ReadsAs, Thing, follow, no_node, thing_at, thing_from, thing_in, tree_at}
+use Rattle.image_model.specs.Flat.{ADir, AFile, Node, Path, follow, no_node, thing_at, thing_from, thing_in}
 use Rattle.image_model.specs.Image.{Image}
 use Rattle.image_model.specs.Nodes.{node_of}
 use Rattle.image_model.specs.Owners.{Owners, holding}
@@ -26,7 +25,7 @@ use Rattle.image_changes.specs.Does.{IsOf}
 use Rattle.image_changes.specs.Instances.{IsAt, IsChildless, dinode_at, is_directory_at, records_at}
 use Rattle.image_changes.specs.Walks.{FindsIt, ListsNames}
 use Rattle.image_changes.proofs.DirectoryNames.{directories_list}
-use Rattle.image_changes.proofs.FlatPaths.{after_some, follow-append}
+use Rattle.image_changes.proofs.FlatPaths.{follow-append}
 use Rattle.image_changes.proofs.Nodes.{dir_thing, file_thing}
 use Rattle.image_changes.proofs.Walks.{walks_find}
 use Rattle.path_walks.specs.Holds.{AreHeld, IsAskedFor}
@@ -39,8 +38,7 @@ use Rattle.pair_walks.specs.Walks.{IsEndIn}
 use Rattle.pair_walks.specs.declared.walk.End.{End}
 use Rattle.pair_walks.specs.declared.walk.End.TheVariants as end
 use Rattle.pair_walks.proofs.Paths.{ends_so}
-use Rattle.removing_calls.specs.Removing.{IsDirectoryAim, IsFileAim, IsNeededOf}
-use Rattle.removing_calls.specs.declared.aims.Aim.TheVariants as aim
+use Rattle.removing_calls.specs.Removing.{IsNeededOf}
 use Rattle.removing_calls.proofs.Found.{none_wrong_below, own_blocks}
 use Rattle.move_ends.specs.Ends.{IsBegun, IsElsewhere, IsFoundIn, IsKindAt, IsRenaming, MayGo, MovesIn, StoodIn, TakesIt, a_directory, a_file, first_wants, from_path, inode_holds, second_wants, to_path}
 use Rattle.move_ends.specs.Over.{GoesWith, IsApart, IsDirectoryOf, IsWrongApart}
@@ -48,7 +46,7 @@ use Rattle.move_ends.specs.declared.ends.Ends.{Ends}
 use Rattle.move_ends.specs.declared.ends.Ends.TheVariants as ends
 use Rattle.move_ends.proofs.Aims.{RefusesOver, has_names, is_directory_there, is_file_there, may_go, refuses}
 use Rattle.move_ends.proofs.Locks.{all_held, path_asks, second_among}
-use Rattle.move_ends.proofs.Trees.{by_parent, directory_over_empty, directory_over_file, directory_over_full, file_over_directory, file_over_file, file_parent, is_inside, no_parent, other_long, over_it, over_nothing, refused_over, same_long, stays}
+use Rattle.move_ends.proofs.Trees.{directory_over_empty, directory_over_file, directory_over_full, file_over_directory, file_over_file, file_parent, is_inside, no_parent, other_long, over_it, over_nothing, refused_over, same_long, stays}
 use Rattle.move_ends.proofs.Wanted.{in_order, many}
 
 -- ---- what stands at a path

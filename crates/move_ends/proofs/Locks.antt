@@ -1,12 +1,11 @@
 -- The list of the locks of a call that moves a name: that which puts renames in order, and those of the inodes on both paths.
-use Rattle.std.proofs.Common.{◌≡◌, ◌≢◌, inl, inr, ℕ, suc, true, false, List, [], ◌∷◌, ◌++◌, length, take, drop, flat_map, slice_get, get_or, Option, None, Some, refl, sym, ap, ◌∙◌, subst, arith}
+use Rattle.std.proofs.Common.{◌≡◌, ◌≢◌, inl, inr, ℕ, suc, true, false, List, [], ◌∷◌, ◌++◌, length, take, drop, slice_get, get_or, Option, None, Some, refl, sym, ap, ◌∙◌, subst, arith}
 use Rattle.std.proofs.lemmas.Bool.{cases_Bool, cond-true, cond-false}
 use Rattle.std.proofs.lemmas.List.Elements.{All-cons, All-head, All-nil, All-tail}
 use Rattle.std.proofs.lemmas.Option.{slice_get-get_or}
 use Rattle.std.proofs.Math.Seq.{take-length}
 use Rattle.std.specs.Prelude.{◌==◌, ◌||◌, is_none, nat_lt}
 use Rattle.file_tree.specs.Names.{leads_to}
-use Rattle.file_tree.specs.Tree.{Tree}
 use Rattle.glock_names.specs.Views.{Seen}
 use Rattle.glock_names.specs.declared.LockName.{LockName}
 use Rattle.glock_names.specs.declared.State.{State}
@@ -89,11 +88,11 @@ module _ (y : Hold) (kind : y.lock.kind ≡ 2) where
       → (front back : List Hold) → IsListed (beside x later (front ++ y ∷ back)) y.lock
   in_beside x its later so [] back = elim (cases_Bool (x.lock.number == y.lock.number)) [
     | inl same ↦ equal_so _ _ y.lock (cond-true _ _ _ same) (record {
-        state = (in_both x y).state;
-        front = [];
-        back = later back;
-        split = ap (λ k. record { lock = k; state = (in_both x y).state } ∷ later back) (same_lock x.lock y.lock its kind (eqb-true x.lock.number y.lock.number same));
-      })
+      state = (in_both x y).state;
+      front = [];
+      back = later back;
+      split = ap (λ k. record { lock = k; state = (in_both x y).state } ∷ later back) (same_lock x.lock y.lock its kind (eqb-true x.lock.number y.lock.number same));
+    })
     | inr other ↦ elim (cases_Bool (nat_lt x.lock.number y.lock.number)) [
       | inl low ↦ equal_so _ _ y.lock (cond-false _ _ _ other ∙ cond-true _ _ _ low) (one_more x (later (y ∷ back)) y.lock (so [] back))
       | inr high ↦ equal_so _ _ y.lock (cond-false _ _ _ other ∙ cond-false _ _ _ high) (record { state = y.state; front = []; back = beside x later back; split = refl })

@@ -23,7 +23,7 @@ use Rattle.pair_walks.specs.declared.walk.End.TheVariants as end
 use Rattle.pair_walks.proofs.Paths.{ends_so}
 use Rattle.removing_calls.specs.Removing.{IsNeededOf}
 use Rattle.removing_calls.proofs.Above.{above_names, inode_inside}
-use Rattle.move_ends.specs.Ends.{AreEnds, IsAbsentBlock, IsBegun, IsDamageAtEnds, IsElsewhere, IsNeededAtEnds, IsRefusal, IsRefused, IsTarget, IsTold, StandsAt, StaysWhere, first_wants, from_path, second_wants, to_path}
+use Rattle.move_ends.specs.Ends.{AreEnds, IsAbsentBlock, IsBegun, IsDamageAtEnds, IsElsewhere, IsNeededAtEnds, IsRefusal, IsRefused, IsTarget, IsTold, StandsAt, first_wants, from_path, second_wants, to_path}
 use Rattle.move_ends.specs.Over.{IsApart, IsDirectoryOf, IsEndRead, IsWrongApart}
 use Rattle.move_ends.specs.declared.ends.Ends.{Ends}
 use Rattle.move_ends.specs.declared.ends.Ends.TheVariants as ends

@@ -1,8 +1,7 @@
 -- What the tree answers a call that moves a name.
-use Rattle.std.proofs.Common.{◌≡◌, ◌≢◌, ℕ, ◌+◌, ◌≤◌, ◌&&◌, Bool, true, false, List, [], ◌∷◌, ◌++◌, length, Option, None, Some, refl, sym, ap, ◌∙◌, subst, arith}
+use Rattle.std.proofs.Common.{◌≡◌, ◌≢◌, ℕ, ◌≤◌, ◌&&◌, Bool, true, false, List, [], ◌∷◌, ◌++◌, length, Option, None, Some, refl, sym, ap, ◌∙◌, arith}
 use Rattle.std.proofs.lemmas.Bool.{cond-true, cond-false}
 use Rattle.std.proofs.lemmas.Slice.Eq.{bytes_eq-Decides}
-use Rattle.std.specs.Prelude.{option_and_then}
 use Rattle.std.specs.Str.{bytes_eq}
 use Rattle.file_tree.specs.Apply.{Answer, Walked, Found, Refused, apply, found_or, move_from, move_into, move_unless, put_at, refusal_at, refusal_over, refuse, remove_at, rename, step_to, walk, walk_from}
 use Rattle.file_tree.specs.Names.{is_same_path, last_of, leads_to, parent_of}

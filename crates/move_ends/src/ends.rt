@@ -18,7 +18,10 @@ pub enum Ends {
         replaced: Option<Vec<u64>>,
     },
     /// This lock isn't held so strongly.
-    NeedLock { lock: LockName, state: State },
+    NeedLock {
+        lock: LockName,
+        state: State,
+    },
     /// This block isn't in the view.
     NeedBlock(Missing),
 }

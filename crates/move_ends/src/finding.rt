@@ -107,10 +107,7 @@ fn walk<V: View>(alloc: Global, view: &V, call: &Call) -> Result<Ends, CallFault
     match walk_paths(alloc, view, call)? {
         PairWalk::NotFound => Ok(Ends::Refused(Reply::NotFound)),
         PairWalk::NotDir => Ok(Ends::Refused(Reply::NotDir)),
-        PairWalk::Within(_) => Ok(within(
-            from_of(call).names().len(),
-            to_of(call).names().len(),
-        )),
+        PairWalk::Within(_) => Ok(within(from_of(call).names().len(), to_of(call).names().len())),
         PairWalk::Apart { from, to } => apart(alloc, view, from, to),
         PairWalk::NeedLock { lock, state } => Ok(Ends::NeedLock { lock, state }),
         PairWalk::NeedBlock(missing) => Ok(Ends::NeedBlock(missing)),

@@ -1,4 +1,4 @@
-use Rattle.std.proofs.Common.{◌≡◌, ◌+◌, ◌≤◌, false, true, length, take, drop, refl, sym, ap, subst, ◌∙◌, arith}
+use Rattle.std.proofs.Common.{◌+◌, false, true, length, take, drop, sym, ap, subst, ◌∙◌, arith}
 use Rattle.path_walks.specs.Walks.{AreInOrder}
 use Rattle.path_walks.proofs.Faults.{only_so, told_on}
 use Rattle.pair_walks.specs.Walks.{IsPairDamage, IsPairTold, IsPairWalked}
@@ -53,7 +53,7 @@ returns-in_err-walk_pair-clause-damaged g c =
     c.from_residual-in_err-walk_pair.ensures.1
     (only_so _ (IsPairDamage v (from_path c.args.call.now) (to_path c.args.call.now) (first_wants c.args.call.now) (second_wants c.args.call.now))
     (λ rule b. so_of (λ p q ws xs. IsPairDamage v p q ws xs rule b) c.names-from.result.now c.names-to.result.now (from_path c.args.call.now) (to_path c.args.call.now) c.split.result.0.now
-        c.split.result.1.now (first_wants c.args.call.now) (second_wants c.args.call.now) path_is (c.names-to.ensures.names ∙ c.to_of.ensures) first second)
+    c.split.result.1.now (first_wants c.args.call.now) (second_wants c.args.call.now) path_is (c.names-to.ensures.names ∙ c.to_of.ensures) first second)
     c.in_err-walk_pair.field-0.0 c.in_err-walk_pair.ensures.damaged)
 
 pub returns-clause-walked : goal.returns-clause-walked
