@@ -1,5 +1,5 @@
 -- The draft that moves a name: two directories of any form, or one; the inode, where it gets another parent; what stood at the new name; and the groups.
-use Rattle.std.specs.Prelude.{ℕ, ◌≡◌, ◌≢◌, ◌⊎◌, ◌↔◌, ◌==◌, ◌&&◌, not, Bool, true, false, is_some, IsSome, List, [], ◌++◌, length, codes, Contains, Option, None, Some}
+use Rattle.std.specs.Prelude.{ℕ, ◌≡◌, ◌≢◌, ◌⊎◌, ◌↔◌, ◌==◌, ◌&&◌, not, Bool, true, false, is_some, IsSome, List, [], ◌∷◌, ◌++◌, length, codes, Contains, Option, None, Some}
 use Rattle.std.specs.Option.{option_copied}
 use Rattle.std.specs.Ordering.{nat_cmp}
 use Rattle.std.specs.FinMap.{FinMap, get}
@@ -11,7 +11,7 @@ use Rattle.file_tree.specs.Names.{IsName}
 use Rattle.file_tree.specs.Tree.{Tree}
 use Rattle.gfs2_layout.specs.Holding.{Holding}
 use Rattle.gfs2_layout.specs.Inode.{dinode_in, records_of}
-use Rattle.gfs2_layout.specs.Records.{Record, child_named, record_named}
+use Rattle.gfs2_layout.specs.Records.{child_named}
 use Rattle.gfs2_layout.specs.Structures.{is_directory}
 use Rattle.gfs2_layout.specs.declared.inum.Inum.{Inum}
 use Rattle.glock_names.specs.Views.{Seen, HasBlock, HasGroup}
@@ -20,20 +20,19 @@ use Rattle.glock_names.specs.declared.steps.Entry.{Entry}
 use Rattle.glock_names.specs.declared.steps.Missing.{Missing}
 use Rattle.glock_names.specs.declared.views.Group.{Group}
 use Rattle.dinode_tree.specs.Reading.{inode_lock}
-use Rattle.dinode_tree.specs.Shown as inode
+use Rattle.dinode_tree.specs.Shown.{IsAsSeen}
+use Rattle.dinode_tree.specs.Shown as inodes
 use Rattle.linear_dirs.specs.Shown.{holding_over}
 use Rattle.hash_dirs.specs.Shown.{IsSound}
 use Rattle.directories.specs.Shown.{HasName, IsBroken, IsDirectoryIn, IsShown, Says}
 use Rattle.directories.specs.Shown as dirs
-use Rattle.directories.specs.Taking.{HasNameIn, HasRecordOf}
-use Rattle.resource_groups.specs.Freeing.{BreaksSome}
+use Rattle.directories.specs.Taking.{HasNameIn}
+use Rattle.resource_groups.specs.Freeing.{BreaksSome, HasSome, SaysStateOfSome}
 use Rattle.resource_groups.specs.Freeing as freeing
-use Rattle.resource_groups.specs.Putting.{HasDataBlock, overlaid}
-use Rattle.resource_groups.specs.Shown.{group_lock}
+use Rattle.resource_groups.specs.Putting.{ArePutIn, HasDataBlock, overlaid}
+use Rattle.resource_groups.specs.Shown.{IsHeaderOf, group_lock}
 use Rattle.resource_groups.specs.Shown as group
 use Rattle.growth_drafts.specs.Taken.{IsDistinct}
-use Rattle.resource_groups.specs.Putting.{ArePutIn}
-use Rattle.resource_groups.specs.Freeing.{HasSome, SaysStateOfSome}
 use Rattle.image_model.specs.Flat.{Path}
 use Rattle.image_model.specs.Image.{Image}
 use Rattle.image_model.specs.Owners.{Owners, holding}
@@ -48,7 +47,7 @@ use Rattle.path_walks.specs.declared.walk.Place.{Place}
 use Rattle.name_inserts.specs.Inserting.{CanGetName, IsNeededForName, IsWrongForName}
 use Rattle.name_inserts.specs.Need.{name_need}
 use Rattle.name_moves.specs.declared.drafting.NameMove.{NameMove}
-use Rattle.name_moves.specs.Becoming.{GetsName, GetsParent, GivesName, LosesAll, losses}
+use Rattle.name_moves.specs.Becoming.{GetsName, GetsParent, GivesName, IsAfter, LosesAll, losses}
 
 -- ---- what is to be moved
 
@@ -72,6 +71,10 @@ move_of m = record {
   replaced = option_copied m.replaced;
 }
 
+-- something stands at the new name
+abbrev pub is_replacing : Move → Bool
+is_replacing m = is_some m.replaced
+
 -- both names are in one directory
 abbrev pub is_within : Move → Bool
 is_within m = m.from == m.to.inode
@@ -90,11 +93,11 @@ freed_by m = blocks_or_none m.replaced
 
 -- the names that go from the directory that gets the new one, before that comes
 abbrev pub lost_there : Move → List (List ℕ)
-lost_there m = losses (is_some m.replaced) (is_within m) m.name m.new_name
+lost_there m = losses (is_replacing m) (is_within m) m.name m.new_name
 
--- where the new name leads: to the inode, with the kind that the old record told
-abbrev pub entry_for : Move → Record → Entry
-entry_for m r = record { number = m.moved.dinode.num.number; addr = m.moved.inode; kind = r.kind }
+-- where the new name leads: to the inode, with the kind that the old name told
+abbrev pub entry_for : Move → Entry → Entry
+entry_for m old = record { number = m.moved.dinode.num.number; addr = m.moved.inode; kind = old.kind }
 
 -- where `..` of a directory that moves leads then
 abbrev pub parent_of : Move → Inum
@@ -109,20 +112,21 @@ pub data IsPlaceOfMove (m : Move) (b : ℕ) : Type 0 where
 
 -- what a dinode says in a block of the view is what the place tells
 abbrev pub IsRead : Seen → Place → Type 0
-IsRead v p = (h : Holding) → inode.IsShown v p.inode h → p.dinode ≡ dinode_in h
+IsRead v p = (h : Holding) → inodes.IsShown v p.inode h → p.dinode ≡ dinode_in h
 
 -- As the view shows it, the directories are some, and have the names that go: the old one, which leads to the inode, the new one where something stands there, and
--- `..` in one that gets another parent. All of them lie in groups, and so does what goes, which has none of the three dinodes. The inode is neither of
--- the directories. What was read is what the dinodes say, and these have numbers.
+-- `..` in one that gets another parent. All of them lie in groups, and so does what goes. The inode is neither of the directories, and a name isn't moved
+-- onto itself. What was read is what the dinodes say, and these have numbers.
 pub record CanBeMoved (v : Seen) (m : Move) : Type 0 where
   pub source_there : HasBlock v m.from
   pub source : IsDirectoryIn v m.from
   pub named : (h : Holding) → IsShown v m.from h → HasName h m.name m.moved.inode
   pub target_there : HasBlock v m.to.inode
   pub target : IsDirectoryIn v m.to.inode
-  pub taken : is_some m.replaced ≡ true → HasNameIn v m.to.inode m.new_name
-  pub lacks : is_some m.replaced ≡ false → (h : Holding) → IsShown v m.to.inode h → Says h m.new_name None
+  pub taken : is_replacing m ≡ true → HasNameIn v m.to.inode m.new_name
+  pub lacks : is_replacing m ≡ false → (h : Holding) → IsShown v m.to.inode h → Says h m.new_name None
   pub is_name : IsName m.new_name
+  pub other : is_within m ≡ true → m.name ≢ m.new_name
   pub inode_there : HasBlock v m.moved.inode
   pub parented : is_reparented m ≡ true → HasNameIn v m.moved.inode (codes "..")
   pub target_read : IsRead v m.to
@@ -139,7 +143,7 @@ pub record CanBeMoved (v : Seen) (m : Move) : Type 0 where
 -- the directory that loses the name, of that which gets it, or of the inode, each under its own lock.
 pub data IsPutUnder (v : Seen) (m : Move) (taken : List ℕ) (b : ℕ) (lock : LockName) : Type 0 where
   of_group : (g : Group) → HasGroup v g → HasSome g (taken ++ freed_by m) → SaysStateOfSome v.size g (taken ++ freed_by m) b → lock ≡ group_lock g → IsPutUnder v m taken b lock
-  of_source : (b ≡ m.from) ⊎ HasDataBlock v b → lock ≡ inode_lock m.from → IsPutUnder v m taken b lock
+  of_source : is_within m ≡ false → (b ≡ m.from) ⊎ HasDataBlock v b → lock ≡ inode_lock m.from → IsPutUnder v m taken b lock
   of_target : (b ≡ m.to.inode) ⊎ (Contains taken b ⊎ HasDataBlock v b) → lock ≡ inode_lock m.to.inode → IsPutUnder v m taken b lock
   of_inode : is_reparented m ≡ true → (b ≡ m.moved.inode) ⊎ HasDataBlock v b → lock ≡ inode_lock m.moved.inode → IsPutUnder v m taken b lock
 
@@ -153,13 +157,48 @@ pub record SaysMoved (at at' : ℕ → List ℕ) (taken freed : List ℕ) (g : G
   pub takes : ArePutIn at first g taken 1
   pub frees : ArePutIn first at' g freed 0
 
--- A directory as the draft sees it afterwards.
-abbrev pub IsThen : Seen → FinMap nat_cmp Fate → Holding → Holding → Type 0
-IsThen v fates h g = g ≡ holding_over (seen_with v fates) h
+-- no block of the inode is one of these, nor has a group's header or bits
+pub record IsClearOf (v : Seen) (m : Move) (room : List ℕ) (h : Holding) : Type 0 where
+  pub not_taken : (b : ℕ) → IsSome (h.cell b) → ¬ (Contains room b)
+  pub not_freed : (b : ℕ) → IsSome (h.cell b) → ¬ (Contains (freed_by m) b)
+  pub not_header : (k : Group) (b : ℕ) → IsSome (h.cell b) → HasGroup v k → ¬ (IsHeaderOf k b)
 
--- the record of the old name, as the view shows its directory
-abbrev pub IsOldRecord : Seen → Move → Record → Type 0
-IsOldRecord v m r = (h : Holding) → IsShown v m.from h → record_named (records_of h) m.name ≡ Some r
+-- two inodes have no block in common
+abbrev pub ShareNone : Holding → Holding → Type 0
+ShareNone h g = (b : ℕ) → IsSome (h.cell b) → IsSome (g.cell b) → ⊥
+
+-- The directory that has the name, the one that gets it, and the inode, as the view shows them: the directories, and the inode where it is one that gets another
+-- parent, are sound; none has a block of another, nor one that may be taken, that goes, or that is a group's; and the one that gets the name can do so.
+pub record AreApart (v : Seen) (m : Move) (room : List ℕ) (source target inode : Holding) : Type 0 where
+  pub source_shown : is_within m ≡ false → IsShown v m.from source
+  pub source_sound : is_within m ≡ false → IsSound source
+  pub source_clear : is_within m ≡ false → IsClearOf v m room source
+  pub target_shown : IsShown v m.to.inode target
+  pub target_sound : IsSound target
+  pub target_clear : IsClearOf v m room target
+  pub inode_shown : is_reparented m ≡ true → IsShown v m.moved.inode inode
+  pub inode_sound : is_reparented m ≡ true → IsSound inode
+  pub inode_clear : IsClearOf v m room inode
+  pub source_target : is_within m ≡ false → ShareNone source target
+  pub source_inode : is_within m ≡ false → ShareNone source inode
+  pub target_inode : ShareNone target inode
+  -- the directory can get the name once the records are gone
+  pub can : (k : Holding) → LosesAll (lost_there m) target k → CanGetName k m.new_name room
+
+-- what the draft leaves of a directory that keeps its blocks
+abbrev pub then_of : Seen → FinMap nat_cmp Fate → Holding → Holding
+then_of v fates h = holding_over (seen_with v fates) h
+
+-- The directories afterwards: one loses the name, where that moves to another one; the one that gets it has the blocks that it had and the taken ones; a
+-- directory that gets another parent names that; each has the time; and of an inode that keeps its parent nothing becomes.
+pub record Becomes (v : Seen) (m : Move) (fates : FinMap nat_cmp Fate) (old : Entry) (taken : List ℕ) (time : ℕ) (source target inode : Holding) : Type 0 where
+  pub gives : is_within m ≡ false → GivesName source (then_of v fates source) m.name time
+  pub after : Holding
+  pub gets : GetsName (lost_there m) target after m.new_name (entry_for m old) taken time
+  pub seen : IsAsSeen (seen_with v fates) after
+  pub blocks : (b : ℕ) → IsSome (after.cell b) ↔ (IsSome (target.cell b) ⊎ Contains taken b)
+  pub parent : is_reparented m ≡ true → GetsParent inode (then_of v fates inode) (parent_of m) time
+  pub still : is_reparented m ≡ false → (b : ℕ) → IsSome (inode.cell b) → get fates b ≡ None
 
 -- what stands at the new name: nothing; or an inode that names nothing, and goes with all its blocks
 pub data StandsThere (im : Image) (o : Owners) (l : Layout) (path' : Path) (m : Move) : Type 0 where
@@ -167,8 +206,8 @@ pub data StandsThere (im : Image) (o : Owners) (l : Layout) (path' : Path) (m : 
   an_inode : (c : ℕ) (blocks : List ℕ) → m.replaced ≡ Some blocks → IsAt im o l (in_directory path' m.new_name) c → IsChildless im o c
       → ((b : ℕ) → Contains blocks b ↔ IsSome ((holding im o c).cell b)) → StandsThere im o l path' m
 
--- In the image these are the places of the move, the tree being so that the second path doesn't go on from the first; what stands at the new name has these
--- blocks and names nothing; and the room is free, and enough for the name once the records are gone.
+-- In the image these are the places of the move; what stands at the new name has these blocks and names nothing; and the room is free, and as much as the
+-- name needs once the records are gone.
 pub record IsMoveIn (im : Image) (o : Owners) (l : Layout) (path path' : Path) (m : Move) (room : List ℕ) : Type 0 where
   pub source : IsAt im o l path m.from
   pub target : IsAt im o l path' m.to.inode
@@ -177,11 +216,9 @@ pub record IsMoveIn (im : Image) (o : Owners) (l : Layout) (path path' : Path) (
   pub target_dinode : m.to.dinode ≡ dinode_at im o m.to.inode
   pub inode_dinode : m.moved.dinode ≡ dinode_at im o m.moved.inode
   pub stood : StandsThere im o l path' m
-  pub without : Holding
-  pub lost : LosesAll (lost_there m) (holding im o m.to.inode) without
+  pub as_many : (without : Holding) → LosesAll (lost_there m) (holding im o m.to.inode) without → length room ≡ name_need without m.new_name
   pub free : (b : ℕ) → Contains room b → IsSaidFree im l b
   pub once : IsDistinct room
-  pub as_many : length room ≡ name_need without m.new_name
 
 -- The change is that of a draft that puts all under these locks and inside the view's groups, and frees the blocks of what stood at the new name and no others.
 -- From the front of the room it takes blocks for the directory. What stood at the new name goes first, then the old name, and then the new one comes; each
@@ -197,36 +234,32 @@ pub record IsMoving (v : Seen) (m : Move) (room : List ℕ) (time : ℕ) (change
   pub frees : (b : ℕ) → (is_freed fates b ≡ true) ↔ Contains (freed_by m) b
   pub inside : AreInside v change
   pub says : (at : ℕ → List ℕ) (g : Group) → HasGroup v g → group.IsShown v g at → SaysMoved at (overlaid (seen_with v fates) at) taken (freed_by m) g
-  -- the directories, each where it is sound and can do so
-  pub gives : is_within m ≡ false → (h : Holding) → IsShown v m.from h → IsSound h → (g : Holding) × IsThen v fates h g × GivesName h g m.name time
-  pub gets : (h k : Holding) (r : Record) → IsShown v m.to.inode h → IsSound h → LosesAll (lost_there m) h k → CanGetName k m.new_name room
-      → IsOldRecord v m r → (g : Holding) × IsShown (seen_with v fates) m.to.inode g × GetsName (lost_there m) h g m.new_name (entry_for m r) taken time
-  -- the inode: another parent, or nothing
-  pub parent : is_reparented m ≡ true → (h : Holding) → IsShown v m.moved.inode h → IsSound h → (g : Holding) × IsThen v fates h g × GetsParent h g (parent_of m) time
-  pub still : is_reparented m ≡ false → m.moved.inode ≢ m.from → m.moved.inode ≢ m.to.inode → get fates m.moved.inode ≡ None
-  -- in an image
+  -- where the old name led
+  pub old : Entry
+  pub old_is : (h : Holding) → IsShown v m.from h → Says h m.name (Some old)
+  -- the directories and the inode, where they are apart, as in each image
+  pub becomes : (source target inode : Holding) → AreApart v m room source target inode → Becomes v m fates old taken time source target inode
   pub moves : (im : Image) (o : Owners) (l : Layout) (t : Tree) (path path' : Path) → IsOf v im o l t → IsMoveIn im o l path path' m room
-      → (g : Holding) × (removed : List ℕ) × MovesName im o l fates m.from m.name path' m.to.inode m.new_name m.moved.inode g taken removed (freed_by m)
+      → (becomes : Becomes v m fates old taken time (holding im o m.from) (holding im o m.to.inode) (holding im o m.moved.inode))
+      × ((removed : List ℕ) × MovesName im o l fates m.from m.name path' m.to.inode m.new_name m.moved.inode becomes.after taken removed (freed_by m))
 
 -- ---- what stands in the way
 
--- a directory of the move, and a name that goes from it or is written in it
-pub data IsOneOf (m : Move) : ℕ → List ℕ → Type 0 where
-  the_old : IsOneOf m m.from m.name
-  the_new : is_some m.replaced ≡ true → IsOneOf m m.to.inode m.new_name
-  the_parent : is_reparented m ≡ true → IsOneOf m m.moved.inode (codes "..")
+-- a directory of the move, a name that goes from it or is written in it, and the names that go before
+pub data IsOneOf (m : Move) : ℕ → List (List ℕ) → List ℕ → Type 0 where
+  the_new : is_replacing m ≡ true → IsOneOf m m.to.inode [] m.new_name
+  the_old : IsOneOf m m.from (losses (is_replacing m && is_within m) false m.name m.new_name) m.name
+  the_parent : is_reparented m ≡ true → IsOneOf m m.moved.inode [] (codes "..")
 
 -- the view hasn't this block: one without which it isn't told how a name goes from a directory, or comes into one from which names went, or where `..` stands; or
 -- one with the header or bits of these blocks
 pub data IsNeededIn (v : Seen) (m : Move) (blocks : List ℕ) (n : Missing) : Type 0 where
-  to_go : (dir : ℕ) (name : List ℕ) → v.block_at n.block ≡ None → ((h : Holding) → IsShown v dir h → dirs.IsNeededFor v h name n) → IsOneOf m dir name → IsNeededIn v m blocks n
-  to_come : v.block_at n.block ≡ None → ((h k : Holding) → IsShown v m.to.inode h → LosesAll (lost_there m) h k → IsNeededForName v k m.new_name n) → IsNeededIn v m blocks n
+  to_go : (dir : ℕ) (names : List (List ℕ)) (name : List ℕ) → v.block_at n.block ≡ None → IsOneOf m dir names name → IsAfter v dir names (λ k. dirs.IsNeededFor v k name n) → IsNeededIn v m blocks n
+  to_come : v.block_at n.block ≡ None → IsAfter v m.to.inode (lost_there m) (λ k. IsNeededForName v k m.new_name n) → IsNeededIn v m blocks n
   in_group : freeing.IsNeededFor v blocks n → IsNeededIn v m blocks n
 
--- A directory breaks the rule, as a name goes from it or comes into it, or as its `..` is looked for; or a group that has some of these blocks does; or (3) a block
--- that a record goes from, or in which one is written, is one of those that are to go.
+-- A directory breaks the rule, as a name goes from it or comes into it, or as its `..` is looked for; or a group that has some of these blocks does.
 pub data IsWrongIn (v : Seen) (m : Move) (blocks : List ℕ) : ℕ → ℕ → Type 0 where
-  to_go : (dir rule b : ℕ) (name : List ℕ) → IsOneOf m dir name → ((h : Holding) → IsShown v dir h → IsBroken v h rule b) → IsWrongIn v m blocks rule b
-  to_come : (rule b : ℕ) → ((h k : Holding) → IsShown v m.to.inode h → LosesAll (lost_there m) h k → IsWrongForName v k rule b) → IsWrongIn v m blocks rule b
+  to_go : (dir rule b : ℕ) (names : List (List ℕ)) (name : List ℕ) → IsOneOf m dir names name → IsAfter v dir names (λ k. IsBroken v k rule b) → IsWrongIn v m blocks rule b
+  to_come : (rule b : ℕ) → IsAfter v m.to.inode (lost_there m) (λ k. IsWrongForName v k rule b) → IsWrongIn v m blocks rule b
   in_group : (rule b : ℕ) → BreaksSome v blocks rule b → IsWrongIn v m blocks rule b
-  shared : (dir b : ℕ) (name : List ℕ) → IsOneOf m dir name → ((h : Holding) → IsShown v dir h → HasRecordOf h name b) → Contains (freed_by m) b → IsWrongIn v m blocks 3 b

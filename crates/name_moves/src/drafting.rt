@@ -1,9 +1,8 @@
 // The draft of a move.
-ghost use Rattle.std.specs.Prelude.{ℕ, ◌≡◌, ◌≢◌, ◌^◌, ◌<◌, ◌++◌, [], None, Contains, IfSome, IsSome};
+ghost use Rattle.std.specs.Prelude.{ℕ, ◌≡◌, ◌^◌, ◌<◌, ◌++◌, [], None, Contains, IfSome, IsSome};
 ghost use Rattle.growth_drafts.specs.Taken.{IsDistinct};
 ghost use Rattle.file_tree.specs.Tree.{Tree};
 ghost use Rattle.gfs2_layout.specs.Holding.{Holding};
-ghost use Rattle.gfs2_layout.specs.Inode.{dinode_in};
 ghost use Rattle.glock_names.specs.Steps.{IfDamaged, IfIs, IfNeedBlock};
 ghost use Rattle.glock_names.specs.Views.{IsOfView};
 ghost use Rattle.image_model.specs.Flat.{Path};
@@ -11,12 +10,11 @@ ghost use Rattle.image_model.specs.Image.{Image};
 ghost use Rattle.image_model.specs.Owners.{Owners};
 ghost use Rattle.image_model.specs.Stands.{Layout};
 ghost use Rattle.image_changes.specs.Does.{IsOf};
-ghost use Rattle.directories.specs.Shown.{IsDirectoryIn, IsShown};
+ghost use Rattle.directories.specs.Shown.{IsShown};
 ghost use Rattle.hash_dirs.specs.Shown.{IsSound};
-ghost use Rattle.name_inserts.specs.Need.{name_need};
 ghost use Rattle.resource_groups.specs.Putting.{HasDataBlock};
-ghost use Rattle.name_moves.specs.Becoming.{LosesAll};
-ghost use Rattle.name_moves.specs.Moving.{CanBeMoved, IsMoveIn, IsMoving, IsNeededIn, IsPlaceOfMove, IsWrongIn, freed_by, lost_there, move_of, parent_of};
+ghost use Rattle.name_moves.specs.Becoming.{NeedsAfter};
+ghost use Rattle.name_moves.specs.Moving.{AreApart, CanBeMoved, IsMoveIn, IsMoving, IsNeededIn, IsPlaceOfMove, IsWrongIn, freed_by, lost_there, move_of};
 
 use drafts::Change;
 use file_tree::Name;
@@ -37,14 +35,14 @@ pub struct NameMove<'a> {
 }
 
 /// How many blocks the directory takes for the new name, once what stands there and, where it is its own, the old name have gone. It costs what taking
-/// these in a draft costs that is thrown away, and what `need_name` costs there.
+/// these in a draft costs that is thrown away, and what `need_name` costs there. Of a directory that isn't sound some number is told.
 pub fn need_to_move<V: View>(
     alloc: Global,
     view: &V,
     m: &NameMove<'_>,
 ) -> Result<Step<u64>, CallFault>
     requires can { CanBeMoved (V.seen view.now) (move_of m.now) }
-    ensures need { (h k : Holding) → IsShown (V.seen view.now) m.now.to.inode h → IsSound h → LosesAll (lost_there (move_of m.now)) h k → IfIs result (λ need. need ≡ name_need k m.now.new_name.now) }
+    ensures need { (h : Holding) → IsShown (V.seen view.now) m.now.to.inode h → IsSound h → IfIs result (NeedsAfter (lost_there (move_of m.now)) h m.now.new_name.now) }
     ensures most { IfIs result (λ need. need < 2 ^ 42) }
     ensures needed { IfNeedBlock result (IsNeededIn (V.seen view.now) (move_of m.now) []) }
     ensures absent { IfNeedBlock result (λ missing. (V.seen view.now).block_at missing.block ≡ None) }
@@ -61,7 +59,7 @@ pub fn need_to_move<V: View>(
 /// which blocks are taken from the front of `room`, as many as `need_to_move` tells; a directory that gets another parent names it as `..`; and each directory
 /// that is touched gets the time. The blocks of `room` are data blocks of groups, each another one, and none is one of the directories' own or one of those that go.
 /// None isn't answered in an image that stands for a tree. It costs what taking the names and putting one costs, what `redirect` costs where there is another
-/// parent, what `take_blocks` and `free_blocks` cost, and two copies of each of three dinodes.
+/// parent, what `take_blocks` and `free_blocks` cost, two copies of each of three dinodes, and two more of each block that is put.
 pub fn moving<V: View>(
     alloc: Global,
     view: &V,
@@ -74,6 +72,7 @@ pub fn moving<V: View>(
     requires apart { (b : ℕ) → Contains room.now b → IsPlaceOfMove (move_of m.now) b → ⊥ }
     requires once { IsDistinct room.now }
     ensures moving { IfIs result (λ done. IfSome done (IsMoving (V.seen view.now) (move_of m.now) room.now time)) }
+    ensures able { (source target inode : Holding) → AreApart (V.seen view.now) (move_of m.now) room.now source target inode → IfIs result (λ done. IsSome done) }
     ensures done { (im : Image) (o : Owners) (l : Layout) (t : Tree) (path path' : Path) → IsOf (V.seen view.now) im o l t → IsMoveIn im o l path path' (move_of m.now) room.now → IfIs result (λ done. IsSome done) }
     ensures needed { IfNeedBlock result (IsNeededIn (V.seen view.now) (move_of m.now) (room.now ++ freed_by (move_of m.now))) }
     ensures damaged { IfDamaged result (IsWrongIn (V.seen view.now) (move_of m.now) (room.now ++ freed_by (move_of m.now))) }

@@ -2,7 +2,5 @@
 #![tactic(auto)]
 
 mod drafting;
-mod laws;
 
 pub use drafting::{NameMove, moving, need_to_move};
-pub use laws::names_fit_where_they_were;
