@@ -1,6 +1,7 @@
 -- What is told of the ends, as far as a view shows.
 use Rattle.std.proofs.Common.{◌≡◌, ◌≢◌, inl, inr, ℕ, ◌⊎◌, ◌+◌, true, List, [], ◌∷◌, ◌++◌, length, None, Some, refl, sym, ◌∙◌, subst}
 use Rattle.std.proofs.lemmas.List.{append_assoc}
+use Rattle.std.specs.Prelude.{Contains}
 use Rattle.file_tree.specs.Names.{last_of, leads_to, parent_of}
 use Rattle.file_tree.specs.declared.call.Call.{Call}
 use Rattle.file_tree.specs.declared.reply.Reply.{Reply}
@@ -12,6 +13,7 @@ use Rattle.glock_names.specs.declared.steps.Missing.{Missing}
 use Rattle.call_locks.specs.declared.want.Want.{Want}
 use Rattle.dinode_tree.specs.Shown.{IsShown}
 use Rattle.dinode_tree.proofs.Sound.{some_is_shown}
+use Rattle.resource_groups.specs.Putting.{HasDataBlock}
 use Rattle.image_model.specs.Flat.{Path}
 use Rattle.path_walks.specs.Answers.{Refuses}
 use Rattle.path_walks.specs.Walks.{IsDamage, IsSeenAt, LacksName, IsWrongAt, LeadsTo, Names, at_root, by_name, on_path}
@@ -83,8 +85,8 @@ module _ (v : Seen) (c : Call) (begun : IsBegun v c) where
       at_told : (found : Ends) → IsApart v from (end.At at) found → IsTold v c found
       at_told (ends.Refused r) (to, so) = refused_at to so.0 r (refuses v from at source.dinode r so.1)
       at_told (ends.Moves f to (Some blocks)) so =
-          subst (λ x. AreEnds v c x to × IsTarget v c x to (Some blocks.items)) (sym so.0)
-          (are_ends to so.1, IsTarget.taken at blocks.items (stands to so.1) (may_go v from at source.dinode so.2) so.3.0 so.3.1)
+          subst (λ x. AreEnds v c x to × IsTarget v c x to (Some blocks.items) × ((b : ℕ) → Contains blocks.items b → HasDataBlock v b)) (sym so.0)
+          (are_ends to so.1, IsTarget.taken at blocks.items (stands to so.1) (may_go v from at source.dinode so.2) so.3.0 so.3.1, so.3.2)
       at_told (ends.Moves f to None) so = absurd so
       at_told (ends.NeedBlock m) (to, so) = IsNeededAtEnds.of_target from to at (are_ends to so.0) (stands to so.0) (may_go v from at source.dinode so.1) so.2
       at_told ends.Stays so = absurd so

@@ -21,6 +21,7 @@ use Rattle.call_locks.specs.declared.want.Want.{Want}
 use Rattle.dinode_tree.specs.Shown.{IsShown}
 use Rattle.directories.specs.Shown.{CountsItsLeaves}
 use Rattle.directories.specs.Shown as dirs
+use Rattle.resource_groups.specs.Putting.{HasDataBlock}
 use Rattle.image_model.specs.Flat.{Path, follow, tree_at}
 use Rattle.image_model.specs.Image.{Image}
 use Rattle.image_model.specs.Owners.{Owners, holding}
@@ -164,7 +165,7 @@ abbrev pub IsTold : Seen → Call → Ends → Type 0
 IsTold v call (ends.Refused r) = IsRefused v call r
 IsTold v call ends.Stays = StaysWhere v call
 IsTold v call (ends.Moves from to None) = AreEnds v call from to × IsTarget v call from to None
-IsTold v call (ends.Moves from to (Some blocks)) = AreEnds v call from to × IsTarget v call from to (Some blocks.items)
+IsTold v call (ends.Moves from to (Some blocks)) = AreEnds v call from to × IsTarget v call from to (Some blocks.items) × ((b : ℕ) → Contains blocks.items b → HasDataBlock v b)
 IsTold v call (ends.NeedLock lock state) = IsLackedOnPaths v call lock state
 IsTold v call (ends.NeedBlock n) = IsNeededAtEnds v call n
 

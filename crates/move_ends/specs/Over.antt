@@ -1,5 +1,5 @@
 -- What becomes of an inode over which another one is to move, and of the end of a second path.
-use Rattle.std.specs.Prelude.{ℕ, ◌≡◌, ◌⊎◌, true, false, List, None, Some}
+use Rattle.std.specs.Prelude.{ℕ, ◌≡◌, ◌⊎◌, true, false, List, Contains, None, Some}
 use Rattle.file_tree.specs.declared.reply.Reply.TheVariants as reply
 use Rattle.gfs2_layout.specs.Holding.{Holding}
 use Rattle.gfs2_layout.specs.Inode.{dinode_in, is_hashed_in}
@@ -28,9 +28,9 @@ pub data IsAimOver (v : Seen) (from at : Place) (a : Aim) : Type 0 where
   by_file : is_directory from.dinode ≡ false → ((h : Holding) → IsShown v at.inode h → IsFileAim h a) → IsAimOver v from at a
   by_directory : is_directory from.dinode ≡ true → ((h : Holding) → IsShown v at.inode h → IsDirectoryAim h a) → IsAimOver v from at a
 
--- it goes with these blocks, and a hashed directory has the records that its dinode counts
+-- it goes with these blocks, data blocks of groups, and a hashed directory has the records that its dinode counts
 abbrev pub GoesWith : Seen → ℕ → List ℕ → Type 0
-GoesWith v a blocks = AreAllOf v a blocks × ((h : Holding) → dirs.IsShown v a h → is_hashed_in h ≡ true → CountsItsLeaves h)
+GoesWith v a blocks = AreAllOf v a blocks × ((h : Holding) → dirs.IsShown v a h → is_hashed_in h ≡ true → CountsItsLeaves h) × ((b : ℕ) → Contains blocks b → HasDataBlock v b)
 
 abbrev pub IsToldOver : Seen → Place → Place → Replaced → Type 0
 IsToldOver v from at (replaced.Refused r) = IsAimOver v from at (aim.Refused r)
