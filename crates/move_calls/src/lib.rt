@@ -1,6 +1,6 @@
 //! The call that moves a name, over a view: `rename`.
 #![tactic(auto)]
 
-mod tries;
+mod checks;
 
-pub use tries::attempt;
+pub use checks::{can_move, freed_blocks};

@@ -1,4 +1,5 @@
 pub mod Orders
 pub mod Ahead
 pub mod Walks
+pub mod Turns
 pub mod Ways

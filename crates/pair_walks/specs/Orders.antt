@@ -3,6 +3,7 @@ use Rattle.std.specs.Prelude.{ℕ, ◌==◌, ◌||◌, Bool, true, false, nat_lt
 use Rattle.file_tree.specs.Names.{leads_to}
 use Rattle.glock_names.specs.StateOrder.{leq}
 use Rattle.glock_names.specs.declared.State.{State}
+use Rattle.glock_names.specs.declared.State.TheVariants.{Ex}
 use Rattle.call_locks.specs.declared.want.Want.{Want}
 use Rattle.image_model.specs.Flat.{Flat, Path, follow}
 use Rattle.image_model.specs.Image.{Image}
@@ -12,9 +13,10 @@ use Rattle.path_walks.specs.Holds.{Hold, holds_in}
 
 -- ---- two ways as one
 
--- the stronger of two states of one lock: of a shared and an exclusive one that is the exclusive one
+-- the least state of a lock that serves both who wants it in one state and who wants it in the other: of two of which one is stronger that one, and of a shared
+-- and a deferred one the exclusive
 abbrev pub stronger : State → State → State
-stronger a b = if leq a b then b else a
+stronger a b = if leq a b then b else if leq b a then a else Ex
 
 -- a lock that both ways take
 abbrev pub in_both : Hold → Hold → Hold

@@ -1,13 +1,13 @@
 -- Where a walk along two paths ends: as far as a view shows, and in an image that the view may be of.
-use Rattle.std.specs.Prelude.{ℕ, ◌≡◌, ◌≢◌, ◌⊎◌, ◌+◌, true, false, List, [], ◌∷◌, length, slice_get, None, Some}
+use Rattle.std.specs.Prelude.{ℕ, ◌≡◌, ◌≢◌, ◌⊎◌, true, false, List, [], slice_get, None, Some}
 use Rattle.file_tree.specs.Tree.{Tree}
-use Rattle.file_tree.specs.Names.{IsName, last_of, leads_to, parent_of}
+use Rattle.file_tree.specs.Names.{last_of, leads_to, parent_of}
 use Rattle.file_tree.specs.Apply.{Refused}
 use Rattle.file_tree.specs.Apply as tree
 use Rattle.file_tree.specs.declared.reply.Reply.TheVariants.{NotFound, NotDir}
 use Rattle.gfs2_layout.specs.Inode.{is_directory_in}
 use Rattle.gfs2_layout.specs.Records.{child_named}
-use Rattle.glock_names.specs.Views.{Seen, HasBlock}
+use Rattle.glock_names.specs.Views.{Seen}
 use Rattle.glock_names.specs.declared.LockName.{LockName}
 use Rattle.glock_names.specs.declared.State.{State}
 use Rattle.glock_names.specs.declared.steps.Missing.{Missing}

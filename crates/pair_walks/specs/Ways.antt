@@ -1,5 +1,5 @@
--- How far a walk along one of two paths came: as far as a view shows, and in an image that the view may be of.
-use Rattle.std.specs.Prelude.{ℕ, ◌≡◌, ◌+◌, ◌≤◌, List, [], ◌∷◌, ◌++◌, length, take, drop}
+-- How far a walk along each of two paths came: as far as a view shows, and in an image that the view may be of.
+use Rattle.std.specs.Prelude.{ℕ, ◌≡◌, ◌≢◌, ◌+◌, ◌-◌, ◌≤◌, List, [], ◌∷◌, ◌++◌, length, take, drop}
 use Rattle.file_tree.specs.Names.{IsName, parent_of}
 use Rattle.file_tree.specs.Tree.{Tree}
 use Rattle.glock_names.specs.Views.{Seen}
@@ -8,6 +8,7 @@ use Rattle.image_model.specs.Flat.{Path}
 use Rattle.image_model.specs.Image.{Image}
 use Rattle.image_model.specs.Owners.{Owners}
 use Rattle.image_model.specs.Stands.{Layout, flat_of}
+use Rattle.image_changes.specs.Does.{IsOf}
 use Rattle.image_changes.specs.Instances.{IsAt}
 use Rattle.resource_groups.specs.Putting.{HasDataBlock}
 use Rattle.path_walks.specs.Holds.{Hold, AreHeld, holds_in}
@@ -16,11 +17,12 @@ use Rattle.pair_walks.specs.Orders.{ends_both, left_after, merged, pair_holds}
 use Rattle.pair_walks.specs.Walks.{IsEndIn, IsEndOf}
 use Rattle.pair_walks.specs.declared.next.Next.{Next}
 use Rattle.pair_walks.specs.declared.next.Next.TheVariants as next
-use Rattle.pair_walks.specs.declared.walk.Way.{Way}
+use Rattle.pair_walks.specs.declared.turns.Way.{Way}
 
 -- ---- as far as a view shows
 
--- The inode in this block comes next on the path, behind so many names: the root, or that of the last of these names in a directory to which those before lead.
+-- The inode in this block comes next on the path, behind so many names, with the one above it: the root, which is above itself, or that of the last of these
+-- names in a directory to which those before lead.
 pub data IsComing (v : Seen) (wants : List Want) (path : Path) : ℕ → ℕ → ℕ → Type 0 where
   the_root : IsComing v wants path 0 v.root v.root
   the_child : (front back : Path) (dir b : ℕ) (name : List ℕ) → path ≡ front ++ name ∷ back → LeadsTo v wants front dir → IsName name → Names v dir name b → HasDataBlock v b
@@ -31,14 +33,21 @@ abbrev pub IsCome : Seen → List Want → Path → ℕ → Next → Type 0
 IsCome v wants path depth (next.Inode b above) = IsComing v wants path depth b above
 IsCome v wants path depth (next.Ended e) = IsEndOf v wants path e
 
--- a want for each inode of the path
-pub record HasWants (w : Way) : Type 0 where
-  pub as_many : length w.wants.now ≡ length w.names.now + 1
-  pub order : AreInOrder w.wants.now
+-- the walk along a path with a want for each inode, behind so many names
+pub record IsOnWay (v : Seen) (wants : List Want) (path : Path) (depth : ℕ) (n : Next) : Type 0 where
+  pub names : path ≢ []
+  pub as_many : length wants ≡ length path + 1
+  pub order : AreInOrder wants
+  pub come : IsCome v wants path depth n
 
-pub record IsWayOf (v : Seen) (w : Way) : Type 0 where
-  pub wanted : HasWants w
-  pub come : IsCome v w.wants.now w.names.now w.depth w.next
+-- the same names and wants
+pub record IsSameWay (w x : Way) : Type 0 where
+  pub names : x.names.now ≡ w.names.now
+  pub wants : x.wants.now ≡ w.wants.now
+
+-- the inodes that are yet to come on the way, at most
+abbrev pub left_on : Way → ℕ
+left_on w = length w.names.now + 1 - w.depth
 
 -- ---- in one image
 
@@ -55,11 +64,29 @@ abbrev pub IsComeIn : Seen → Image → Owners → Layout → Tree → List Wan
 IsComeIn v im o l t wants path depth (next.Inode b above) = (depth ≤ length path) × IsAt im o l (take depth path) b × IsAboveIn im o l path depth above
 IsComeIn v im o l t wants path depth (next.Ended e) = IsEndIn v im o l t path e × (holds_from im o l path wants depth ≡ [])
 
--- Of both ways the locks so far are held, and those that are yet to be taken make the list whole.
-pub record AreAlong (v : Seen) (im : Image) (o : Owners) (l : Layout) (t : Tree) (one two : Way) : Type 0 where
-  pub first : IsComeIn v im o l t one.wants.now one.names.now one.depth one.next
-  pub second : IsComeIn v im o l t two.wants.now two.names.now two.depth two.next
+-- this is what is left of the list of locks, once each before it is held
+pub record IsLeft (v : Seen) (list later : List Hold) : Type 0 where
   pub taken : List Hold
   pub held : AreHeld v taken
-  pub whole : pair_holds im o l one.names.now two.names.now one.wants.now two.wants.now
-      ≡ taken ++ merged (left_after (ends_both (flat_of im o) l.root one.names.now two.names.now)) (holds_from im o l one.names.now one.wants.now one.depth) (holds_from im o l two.names.now two.wants.now two.depth)
+  pub whole : list ≡ taken ++ later
+
+-- of two ways, with so many locks taken of each, those that are yet to be taken
+abbrev pub left_of : Image → Owners → Layout → Path → Path → List Want → List Want → ℕ → ℕ → List Hold
+left_of im o l p q first second i j = merged (left_after (ends_both (flat_of im o) l.root p q)) (holds_from im o l p first i) (holds_from im o l q second j)
+
+-- Both ways came so far, and that is what is left of their locks; where the first way's end decides, nothing is.
+pub record AreAlong (v : Seen) (im : Image) (o : Owners) (l : Layout) (t : Tree) (p q : Path) (first second : List Want) (i j : ℕ) (m n : Next) : Type 0 where
+  pub on_first : IsComeIn v im o l t first p i m
+  pub on_second : IsComeIn v im o l t second q j n
+  pub left : IsLeft v (pair_holds im o l p q first second) (left_of im o l p q first second i j)
+
+-- ---- how far both came
+
+-- as far as the view shows, and in each image that it may be of
+pub record AreOnTheirWays (v : Seen) (p q : Path) (first second : List Want) (i j : ℕ) (m n : Next) : Type 0 where
+  pub on_first : IsOnWay v first p i m
+  pub on_second : IsOnWay v second q j n
+  pub images : (im : Image) (o : Owners) (l : Layout) (t : Tree) → IsOf v im o l t → AreAlong v im o l t p q first second i j m n
+
+abbrev pub AreUnderway : Seen → Way → Way → Type 0
+AreUnderway v one two = AreOnTheirWays v one.names.now two.names.now one.wants.now two.wants.now one.depth two.depth one.next two.next

@@ -2,6 +2,7 @@
 #![tactic(auto)]
 
 mod next;
+mod turns;
 mod walk;
 
 pub use walk::{End, PairWalk, walk_pair};

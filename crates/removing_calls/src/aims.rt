@@ -15,7 +15,7 @@ use path_walks::Place;
 
 /// What is to become of an inode.
 #[derive(Drop)]
-pub(crate) enum Aim {
+pub enum Aim {
     /// It stays, and the call is answered so.
     Refused(Reply),
     /// It goes.
@@ -39,8 +39,8 @@ pub(crate) fn is_hashed_directory(dinode: &Dinode) -> bool
     is_hashed(dinode)
 }
 
-// Of an inode that is to be a file.
-fn file_aim(place: &Place) -> Aim
+/// What is to become of an inode that is to be a file, and go: it does, where it is one.
+pub fn file_aim(place: &Place) -> Aim
     ensures { (h : Holding) → place.now.dinode ≡ dinode_in h → IsFileAim h result }
 {
     if place.dinode.is_directory() {
@@ -50,9 +50,9 @@ fn file_aim(place: &Place) -> Aim
     }
 }
 
-// Of an inode that is to be a directory without names: `.` and `..` are counted in its dinode, and a linear directory's count is held against
-// its records; a hashed one's is held against its leaves when these are gathered.
-fn directory_aim<V: View>(view: &V, place: &Place) -> Result<Aim, CallFault>
+/// What is to become of an inode that is to be a directory without names, and go: `.` and `..` are counted in its dinode, and a linear directory's count is
+/// held against its records; a hashed one's is held against its leaves when these are gathered. It goes over a linear directory's records twice.
+pub fn directory_aim<V: View>(view: &V, place: &Place) -> Result<Aim, CallFault>
     requires there { HasBlock (V.seen view.now) place.now.inode }
     requires dinode { (h : Holding) → IsShown (V.seen view.now) place.now.inode h → place.now.dinode ≡ dinode_in h }
     ensures aim { (h : Holding) → IsShown (V.seen view.now) place.now.inode h → IfOk result (IsDirectoryAim h) }

@@ -68,7 +68,7 @@ fn tree_blocks<V: View>(alloc: Global, view: &V, inode: u64) -> Result<Step<Vec<
 
 /// The blocks of an inode, its dinode's among them, each a data block of a group; those of a hashed directory with its leaves, whose records its dinode
 /// counts. It costs what `blocks_below` costs, and for each block goes over the groups; of a hashed directory what `counted_leaves` costs.
-pub(crate) fn blocks_of<V: View>(
+pub fn blocks_of<V: View>(
     alloc: Global,
     view: &V,
     inode: u64,

@@ -8,4 +8,6 @@ mod drafting;
 mod finds;
 mod tries;
 
+pub use aims::{Aim, directory_aim, file_aim};
+pub use blocks::blocks_of;
 pub use tries::attempt;

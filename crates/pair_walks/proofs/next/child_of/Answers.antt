@@ -9,7 +9,6 @@ use Rattle.resource_groups.specs.Putting.{HasDataBlock}
 use Rattle.glock_names.proofs.StepLaws.{answer_at, needed_at}
 use Rattle.directories.specs.Shown.{Says}
 use Rattle.directories.specs.Shown as dirs
-use Rattle.path_walks.specs.Walks.{Names}
 use Rattle.path_walks.proofs.Steps.{directory_here, directory_all, none_so, inside_so, handed, fault_so, fault_of_all}
 use Rattle.pair_walks.specs.Ahead.{IsDamageOfName, in_this, past_groups}
 use Rattle.pair_walks.proofs.next.child_of.Goals as goal

@@ -1,0 +1,6 @@
+pub mod Wanted
+pub mod Trees
+pub mod Locks
+pub mod Aims
+pub mod Told
+pub mod Found
