@@ -1,2 +1,3 @@
 pub mod Becoming
 pub mod Moving
+pub mod Steps

@@ -248,7 +248,8 @@ pub record IsMoving (v : Seen) (m : Move) (room : List ℕ) (time : ℕ) (change
 -- a directory of the move, a name that goes from it or is written in it, and the names that go before
 pub data IsOneOf (m : Move) : ℕ → List (List ℕ) → List ℕ → Type 0 where
   the_new : is_replacing m ≡ true → IsOneOf m m.to.inode [] m.new_name
-  the_old : IsOneOf m m.from (losses (is_replacing m && is_within m) false m.name m.new_name) m.name
+  the_old : IsOneOf m m.from [] m.name
+  the_old_then : is_replacing m ≡ true → is_within m ≡ true → IsOneOf m m.to.inode (m.new_name ∷ []) m.name
   the_parent : is_reparented m ≡ true → IsOneOf m m.moved.inode [] (codes "..")
 
 -- the view hasn't this block: one without which it isn't told how a name goes from a directory, or comes into one from which names went, or where `..` stands; or

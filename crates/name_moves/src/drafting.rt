@@ -1,5 +1,5 @@
 // The draft of a move.
-ghost use Rattle.std.specs.Prelude.{ℕ, ◌≡◌, ◌^◌, ◌<◌, ◌++◌, [], None, Contains, IfSome, IsSome};
+ghost use Rattle.std.specs.Prelude.{ℕ, List, ◌≡◌, ◌^◌, ◌<◌, ◌++◌, [], None, Some, Contains, IfSome, IsSome};
 ghost use Rattle.growth_drafts.specs.Taken.{IsDistinct};
 ghost use Rattle.file_tree.specs.Tree.{Tree};
 ghost use Rattle.gfs2_layout.specs.Holding.{Holding};
@@ -10,15 +10,20 @@ ghost use Rattle.image_model.specs.Image.{Image};
 ghost use Rattle.image_model.specs.Owners.{Owners};
 ghost use Rattle.image_model.specs.Stands.{Layout};
 ghost use Rattle.image_changes.specs.Does.{IsOf};
-ghost use Rattle.directories.specs.Shown.{IsShown};
+ghost use Rattle.directories.specs.Shown.{IsShown, Says};
 ghost use Rattle.hash_dirs.specs.Shown.{IsSound};
 ghost use Rattle.resource_groups.specs.Putting.{HasDataBlock};
 ghost use Rattle.name_moves.specs.Becoming.{NeedsAfter};
 ghost use Rattle.name_moves.specs.Moving.{AreApart, CanBeMoved, IsMoveIn, IsMoving, IsNeededIn, IsPlaceOfMove, IsWrongIn, freed_by, lost_there, move_of};
 
-use drafts::Change;
+use crate::joining::join;
+use crate::losing::{is_a_view, lose_names};
+use crate::saying::say_and_finish;
+use directories::look;
+use drafts::{Change, Draft};
 use file_tree::Name;
-use glock_names::{CallFault, Step, View};
+use glock_names::{CallFault, Entry, Step, View};
+use name_inserts::need_name;
 use path_walks::Place;
 use std::alloc::Global;
 
@@ -32,6 +37,32 @@ pub struct NameMove<'a> {
     pub new_name: &'a Name,
     pub moved: Place,
     pub replaced: Option<&'a [u64]>,
+}
+
+// The blocks that go with what stands at the new name.
+fn freed_blocks<'a>(m: &NameMove<'a>) -> &'a [u64]
+    ensures { result.now ≡ freed_by (move_of m.now) }
+{
+    match m.replaced {
+        Some(blocks) => blocks,
+        None => &[],
+    }
+}
+
+// Where the old name leads.
+fn old_entry<V: View>(view: &V, m: &NameMove<'_>) -> Result<Step<Entry>, CallFault>
+    requires can { CanBeMoved (V.seen view.now) (move_of m.now) }
+    ensures old { IfIs result (λ old. (h : Holding) → IsShown (V.seen view.now) m.now.from h → Says h m.now.name.now (Some old)) }
+    ensures needed { (blocks : List ℕ) → IfNeedBlock result (IsNeededIn (V.seen view.now) (move_of m.now) blocks) }
+    ensures damaged { (blocks : List ℕ) → IfDamaged result (IsWrongIn (V.seen view.now) (move_of m.now) blocks) }
+    ensures kept { IfDamaged result (IsOfView (V.seen view.now)) }
+{
+    is_a_view(view);
+    match look(view, m.from, m.name.bytes())? {
+        Step::Is(Some(old)) => Ok(Step::Is(old)),
+        Step::Is(None) => unreachable!(),
+        Step::NeedBlock(missing) => Ok(Step::NeedBlock(missing)),
+    }
 }
 
 /// How many blocks the directory takes for the new name, once what stands there and, where it is its own, the old name have gone. It costs what taking
@@ -49,10 +80,14 @@ pub fn need_to_move<V: View>(
     ensures damaged { IfDamaged result (IsWrongIn (V.seen view.now) (move_of m.now) []) }
     ensures kept { IfDamaged result (IsOfView (V.seen view.now)) }
 {
-    let _size = view.block_size();
-    let _from = m.from;
-    let _vec: Vec<u8> = Vec::new(alloc);
-    Err(CallFault::NoMemory)
+    is_a_view(view);
+    let mut draft = Draft::new(alloc, view);
+    match lose_names(&mut draft, m)? {
+        Step::Is(true) => {}
+        Step::Is(false) => return Ok(Step::Is(0)),
+        Step::NeedBlock(missing) => return Ok(Step::NeedBlock(missing)),
+    }
+    need_name(alloc, &draft, m.to.inode, m.new_name.bytes())
 }
 
 /// What a draft changes that moves a name: what stands at the new name goes first, with all its blocks, then the old name, and then the new one comes, for
@@ -78,10 +113,19 @@ pub fn moving<V: View>(
     ensures damaged { IfDamaged result (IsWrongIn (V.seen view.now) (move_of m.now) (room.now ++ freed_by (move_of m.now))) }
     ensures kept { IfDamaged result (IsOfView (V.seen view.now)) }
 {
-    let _size = view.block_size();
-    let _from = m.from;
-    let _room = room.len();
-    let _time = time;
-    let _vec: Vec<u8> = Vec::new(alloc);
-    Err(CallFault::NoMemory)
+    is_a_view(view);
+    let old = match old_entry(view, m)? {
+        Step::Is(old) => old,
+        Step::NeedBlock(missing) => return Ok(Step::NeedBlock(missing)),
+    };
+    let mut draft = Draft::new(alloc, view);
+    let taken = match join(alloc, view, &mut draft, m, &old, room, time)? {
+        Step::Is(Some(taken)) => &room[..taken],
+        Step::Is(None) => return Ok(Step::Is(None)),
+        Step::NeedBlock(missing) => return Ok(Step::NeedBlock(missing)),
+    };
+    match say_and_finish(draft, taken, freed_blocks(m))? {
+        Step::Is(change) => Ok(Step::Is(Some(change))),
+        Step::NeedBlock(missing) => Ok(Step::NeedBlock(missing)),
+    }
 }

@@ -2,5 +2,9 @@
 #![tactic(auto)]
 
 mod drafting;
+mod joining;
+mod losing;
+mod parts;
+mod saying;
 
 pub use drafting::{NameMove, moving, need_to_move};

@@ -1,0 +1,15 @@
+pub mod Loses
+pub mod Told
+pub mod Lost
+pub mod After
+pub mod Ways
+pub mod Named
+pub mod Given
+pub mod Said
+pub mod Joined
+pub mod Done
+pub mod Becomes
+pub mod Few
+pub mod Imaged
+pub mod States
+pub mod Moves

@@ -1,0 +1,156 @@
+-- One name more that goes from a directory, in a draft in which others went.
+use Rattle.std.proofs.Common.{◌≡◌, ◌≢◌, inl, inr, ℕ, true, false, List, [], ◌∷◌, ◌++◌, Some, sym, ap, ◌∙◌, subst, subst₂}
+use Rattle.std.proofs.lemmas.Bool.{cases_eq}
+use Rattle.std.specs.Prelude.{IsSome}
+use Rattle.std.specs.Ordering.{nat_cmp}
+use Rattle.std.specs.FinMap.{empty, get, get-empty}
+use Rattle.drafts.specs.Fates.{Drafted, seen_in, seen_with}
+use Rattle.gfs2_layout.specs.Headers.{HasHeader}
+use Rattle.gfs2_layout.specs.Holding.{Holding}
+use Rattle.gfs2_layout.specs.Inode.{IsInode, is_directory_in}
+use Rattle.gfs2_layout.specs.Structures.{dinode_of, is_directory}
+use Rattle.glock_names.specs.Views.{Seen, HasBlock}
+use Rattle.dinode_tree.specs.Reading.{inode_lock}
+use Rattle.dinode_tree.specs.Shown as inode
+use Rattle.linear_dirs.specs.Shown.{holding_over}
+use Rattle.linear_dirs.proofs.Looked.{bytes_of}
+use Rattle.linear_dirs.proofs.Over.{over_over}
+use Rattle.hash_dirs.specs.Shown.{IsSound}
+use Rattle.directories.specs.Shown.{IsDirectoryIn, IsShown}
+use Rattle.directories.specs.Taking.{HasNameIn, IsWithoutName, PutsTwo}
+use Rattle.directories.proofs.Forms.{dinode_here, is_directory_here}
+use Rattle.resource_groups.specs.Putting.{HasDataBlock}
+use Rattle.name_inserts.specs.HashInserting.{MayChange, a_data_block, the_dinode}
+use Rattle.name_drafts.proofs.Fates.{alike_seen, put_seen, seen_old, unchanged}
+use Rattle.name_moves.specs.Becoming.{CanTell, LosesAll, LosesName, of_none}
+use Rattle.name_moves.specs.Steps.{AreLost, IsLostIn, PutsOf, left_of}
+use Rattle.name_moves.proofs.Loses.{all_directory, all_sound, can_tell, kept_cells, kept_over, leaf_there, loses_one, lost_more, over_seen, shown_over, sound_lost}
+
+-- none went from one in a new draft
+pub lost_none : (v : Seen) (dir : ℕ) → AreLost v dir [] empty
+lost_none v dir = record {
+  puts = λ b. inl (get-empty nat_cmp b);
+  sees = λ b has. subst (λ w. HasBlock w b) (unchanged v) has;
+  each = λ h shown any.
+      let left : left_of v empty h ≡ h = ap (λ x. holding_over x h) (unchanged v) ∙ over_seen v h shown.inode.same in
+      record {
+        lost = subst (LosesAll [] h) (sym left) (of_none h);
+        shown = subst₂ (λ x g. IsShown x dir g) (sym (unchanged v)) (sym left) shown;
+        others = λ b none. get-empty nat_cmp b;
+      };
+}
+
+-- the block of the dinode of a directory that is sound in itself
+pub headed_directory : (w : Seen) (dir : ℕ) (k : Holding) → inode.IsShown w dir k → IsInode k → is_directory_in k ≡ true → (bytes : List ℕ) → w.block_at dir ≡ Some bytes → HasHeader 4 400 bytes × (is_directory (dinode_of bytes) ≡ true)
+headed_directory w dir k shown sound is bytes there = (
+  subst (HasHeader 4 400) (bytes_of w k dir bytes shown there) sound.header,
+  ap is_directory (sym (dinode_here w dir k bytes shown there)) ∙ is,
+)
+
+module _ {V : Type 0} (seen : V → Seen) (old new : Drafted V) (dir : ℕ) (names : List (List ℕ)) (name : List ℕ) (leaf : ℕ) (lost : AreLost (seen old.view) dir names old.fates)
+    (without : IsWithoutName (seen_in seen old) (seen_in seen new) dir name leaf) (two : PutsTwo seen old new dir leaf) (named : HasNameIn (seen_in seen old) dir name) where
+  abbrev v : Seen
+  v = seen old.view
+
+  abbrev w : Seen
+  w = seen_with v old.fates
+
+  abbrev u : Seen
+  u = seen_with v new.fates
+
+  pub new_is : seen_in seen new ≡ u
+  new_is = ap (λ x. seen_with (seen x) new.fates) two.view
+
+  pub later : (b : ℕ) → HasBlock w b → HasBlock u b
+  later b has = elim (cases_eq b dir) [
+    | inl same ↦ (two.bytes, put_seen v new.fates b (inode_lock dir) false two.bytes (ap (get new.fates) same ∙ two.put))
+    | inr away ↦ elim (cases_eq b leaf) [
+      | inl same ↦ (two.leaf_put.0, put_seen v new.fates b (inode_lock dir) false two.leaf_put.0 (ap (get new.fates) same ∙ two.leaf_put.1))
+      | inr other ↦ (has.0, alike_seen v old.fates new.fates b (two.others b away other) ∙ has.1)
+    ]
+  ]
+
+  may_leaf : (b : ℕ) → b ≡ leaf → MayChange v dir [] b
+  may_leaf b same = elim two.inside [ inl own ↦ the_dinode (same ∙ own) | inr data_block ↦ a_data_block (subst (HasDataBlock v) (sym same) data_block) ]
+
+  pub puts_now : PutsOf v dir [] new.fates
+  puts_now b = elim (cases_eq b dir) [
+    | inl same ↦ inr (the_dinode same, (two.bytes, ap (get new.fates) same ∙ two.put))
+    | inr away ↦ elim (cases_eq b leaf) [
+      | inl same ↦ inr (may_leaf b same, (two.leaf_put.0, ap (get new.fates) same ∙ two.leaf_put.1))
+      | inr other ↦ elim (lost.puts b) [
+        | inl none ↦ inl (two.others b away other ∙ none)
+        | inr put ↦ inr (put.0, (put.1.0, two.others b away other ∙ put.1.1))
+      ]
+    ]
+  ]
+
+  pub sees_now : (b : ℕ) → HasBlock u b → HasBlock v b
+  sees_now b has = elim (cases_eq b dir) [
+    | inl same ↦ lost.sees b (subst (HasBlock w) (sym same) two.there)
+    | inr away ↦ elim (cases_eq b leaf) [
+      | inl same ↦ lost.sees b (subst (HasBlock w) (sym same) two.leaf_there)
+      | inr other ↦ lost.sees b (has.0, sym (alike_seen v old.fates new.fates b (two.others b away other)) ∙ has.1)
+    ]
+  ]
+
+  module _ (h : Holding) (shown : IsShown v dir h) (sound : IsSound h) (before : IsLostIn v dir names old.fates h) where
+    abbrev k : Holding
+    k = left_of v old.fates h
+
+    k_sound : IsSound k
+    k_sound = all_sound names h k before.lost sound
+
+    one : LosesName k (left_of v new.fates h) name
+    one =
+        let e = named k before.shown in
+        subst (λ g. LosesName k g name) (ap (λ x. holding_over x k) new_is ∙ over_over w u h later)
+        (loses_one w (seen_in seen new) dir name leaf without k before.shown k_sound e.0 e.1)
+
+    not_dir : (b : ℕ) → ¬ (IsSome (h.cell b)) → b ≢ dir
+    not_dir b none same = none (subst (λ x. IsSome (h.cell x)) (shown.inode.own ∙ sym same) shown.inode.dinode)
+
+    not_leaf : (b : ℕ) → ¬ (IsSome (h.cell b)) → b ≢ leaf
+    not_leaf b none same = none (kept_cells h k (kept_over w h) b (subst (λ x. IsSome (k.cell x)) (sym same) (leaf_there w dir k name leaf before.shown k_sound (without.from k before.shown))))
+
+    pub each_now : IsLostIn v dir (names ++ name ∷ []) new.fates h
+    each_now = record {
+      lost = lost_more names name h k (left_of v new.fates h) before.lost one;
+      shown = shown_over u h dir shown.inode.own (sound_lost k (left_of v new.fates h) name one k_sound) shown.inode.size;
+      others = λ b none. two.others b (not_dir b none) (not_leaf b none) ∙ before.others b none;
+    }
+
+    -- its dinode is there then
+    pub able_then : is_directory_in h ≡ true → ((seen_in seen new).block_at dir ≡ Some two.bytes) × (HasHeader 4 400 two.bytes × (is_directory (dinode_of two.bytes) ≡ true))
+    able_then was =
+        let there : u.block_at dir ≡ Some two.bytes = put_seen v new.fates dir (inode_lock dir) false two.bytes two.put in
+        let is : is_directory_in (left_of v new.fates h) ≡ true = all_directory (names ++ name ∷ []) h (left_of v new.fates h) each_now.lost ∙ was in (
+          ap (λ (x : Seen). x.block_at dir) new_is ∙ there,
+          headed_directory u dir (left_of v new.fates h) each_now.shown.inode (all_sound (names ++ name ∷ []) h (left_of v new.fates h) each_now.lost sound).inode is two.bytes there,
+        )
+
+  pub are_lost : ((h : Holding) → CanTell (names ++ name ∷ []) h → IsSound h) → AreLost v dir (names ++ name ∷ []) new.fates
+  are_lost tell = record {
+    puts = puts_now;
+    sees = sees_now;
+    each = λ h shown t. each_now h shown (tell h t) (lost.each h shown (can_tell names h (tell h t)));
+  }
+
+-- ---- the first name that goes
+
+module _ {V : Type 0} (seen : V → Seen) (old new : Drafted V) (dir : ℕ) (name : List ℕ) (leaf : ℕ) (fresh : old.fates ≡ empty) (without : IsWithoutName (seen_in seen old) (seen_in seen new) dir name leaf)
+    (two : PutsTwo seen old new dir leaf) (named : HasNameIn (seen old.view) dir name) where
+  none_before : AreLost (seen old.view) dir [] old.fates
+  none_before = subst (AreLost (seen old.view) dir []) (sym fresh) (lost_none (seen old.view) dir)
+
+  named_old : HasNameIn (seen_in seen old) dir name
+  named_old = subst (λ x. HasNameIn x dir name) (sym (seen_old seen old fresh)) named
+
+  pub first_lost : AreLost (seen old.view) dir (name ∷ []) new.fates
+  first_lost = are_lost seen old new dir [] name leaf none_before without two named_old (λ h sound. sound)
+
+  -- where it is sound it has its dinode then
+  pub first_able : (h : Holding) → IsShown (seen old.view) dir h → IsSound h → IsDirectoryIn (seen old.view) dir
+      → ((seen_in seen new).block_at dir ≡ Some two.bytes) × (HasHeader 4 400 two.bytes × (is_directory (dinode_of two.bytes) ≡ true))
+  first_able h shown sound directory = able_then seen old new dir [] name leaf none_before without two named_old h shown sound (none_before.each h shown tt)
+      (is_directory_here (seen old.view) dir h directory (none_before.sees dir two.there) shown.inode)
