@@ -1,5 +1,6 @@
 use Rattle.std.proofs.Common.{◌≡◌, ◌++◌, None, Some, sym, ap, ◌∙◌, subst}
 use Rattle.std.specs.Prelude.{IsSome}
+use Rattle.drafts.specs.declared.change.Change.{Change}
 use Rattle.gfs2_layout.specs.Holding.{Holding}
 use Rattle.glock_names.proofs.StepLaws.{answer_at, needed_at}
 use Rattle.directories.specs.Shown.{IsShown}
@@ -37,11 +38,11 @@ returns-in-Is-None-clause-carried g c = record {
   room = c.args.room.now;
   has = c.requires.room;
   off = answer_at _ _ _ c.in-Is.is c.in_ok-check_room.ensures.off;
-  not_apart = λ source target inode apart. none _ (subst IsSome c.in-Is-None.field-0-is (answer_at _ _ IsSome c.in-Is-None.is (c.in_ok-change.ensures.able source target inode apart)));
+  not_apart = λ source target inode apart. none (subst IsSome c.in-Is-None.field-0-is (answer_at _ _ IsSome c.in-Is-None.is (c.in_ok-change.ensures.able source target inode apart)));
 }
   where
-    none : (A : Type 0) → IsSome {T = A} None → ⊥
-    none A e = cc
+    none : IsSome {T = Change} None → ⊥
+    none e = cc
 
 pub returns-in-NeedBlock-2-clause-carried : goal.returns-in-NeedBlock-2-clause-carried
 returns-in-NeedBlock-2-clause-carried g c =
