@@ -1,3 +1,4 @@
 pub mod Checked
+pub mod Meant
 pub mod Room
 pub mod Doing

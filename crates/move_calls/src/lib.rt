@@ -1,8 +1,10 @@
 //! The call that moves a name, over a view: `rename`.
 #![tactic(auto)]
 
+mod answering;
 mod carrying;
 mod checks;
 
+pub use answering::answer;
 pub use carrying::carry;
 pub use checks::{can_move, freed_blocks};

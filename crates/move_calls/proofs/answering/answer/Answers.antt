@@ -1,0 +1,48 @@
+use Rattle.std.proofs.Common.{◌≡◌, subst}
+use Rattle.move_ends.specs.Ends.{IsFoundIn, IsTold}
+use Rattle.move_ends.specs.declared.ends.Ends.TheVariants as ends
+use Rattle.move_calls.specs.Answering.{IsAnswerAtEnds, IsAnswerOf, IsAtEnds}
+use Rattle.move_calls.proofs.Meant.{found_there, told_ends, told_inside}
+use Rattle.move_calls.proofs.answering.answer.Goals as goal
+
+pub move_name-requires-clause-ends : goal.move_name-requires-clause-ends
+move_name-requires-clause-ends g c =
+    let v = g.V.View.seen c.args.view.now in
+    told_ends v c.args.call.now c.in-Moves.from c.in-Moves.to c.in-Moves.replaced (subst (IsTold v c.args.call.now) c.in-Moves.is c.in_ok-reply.ensures.told)
+
+pub move_name-requires-clause-inside : goal.move_name-requires-clause-inside
+move_name-requires-clause-inside g c =
+    let v = g.V.View.seen c.args.view.now in
+    told_inside v c.args.call.now c.in-Moves.from c.in-Moves.to c.in-Moves.replaced (subst (IsTold v c.args.call.now) c.in-Moves.is c.in_ok-reply.ensures.told)
+
+pub move_name-requires-clause-images : goal.move_name-requires-clause-images
+move_name-requires-clause-images g c im o l t of =
+    let v = g.V.View.seen c.args.view.now in
+    found_there v c.args.call.now c.in-Moves.from c.in-Moves.to im o l t c.in-Moves.replaced (subst (IsFoundIn v im o l t c.args.call.now) c.in-Moves.is (c.in_ok-reply.ensures.found im o l t of))
+
+pub returns-in-Refused-clause-answer : goal.returns-in-Refused-clause-answer
+returns-in-Refused-clause-answer g c =
+    let e = c.in_ok-reply.ensures in
+    IsAnswerOf.by_ends (IsAnswerAtEnds.refused c.in-Refused.reply c.nothing.result
+    (subst (IsAtEnds (g.V.View.seen c.args.view.now) c.args.call.now) c.in-Refused.is (record { told = e.told; found = e.found; refusal = e.refusal; absent = e.absent }))
+    (record { blocks = c.nothing.ensures.blocks; locks = c.nothing.ensures.locks; freed = c.nothing.ensures.freed }))
+
+pub returns-in-Stays-clause-answer : goal.returns-in-Stays-clause-answer
+returns-in-Stays-clause-answer g c =
+    let e = c.in_ok-reply.ensures in
+    let n = c.nothing-in-Stays.ensures in
+    IsAnswerOf.by_ends (IsAnswerAtEnds.stays c.nothing-in-Stays.result
+    (subst (IsAtEnds (g.V.View.seen c.args.view.now) c.args.call.now) c.in-Stays.is (record { told = e.told; found = e.found; refusal = e.refusal; absent = e.absent }))
+    (record { blocks = n.blocks; locks = n.locks; freed = n.freed }))
+
+pub returns-in-NeedLock-clause-answer : goal.returns-in-NeedLock-clause-answer
+returns-in-NeedLock-clause-answer g c =
+    let e = c.in_ok-reply.ensures in
+    IsAnswerOf.by_ends (IsAnswerAtEnds.lacks c.in-NeedLock.lock c.in-NeedLock.state
+    (subst (IsAtEnds (g.V.View.seen c.args.view.now) c.args.call.now) c.in-NeedLock.is (record { told = e.told; found = e.found; refusal = e.refusal; absent = e.absent })))
+
+pub returns-in-NeedBlock-clause-answer : goal.returns-in-NeedBlock-clause-answer
+returns-in-NeedBlock-clause-answer g c =
+    let e = c.in_ok-reply.ensures in
+    IsAnswerOf.by_ends (IsAnswerAtEnds.needs c.in-NeedBlock.missing
+    (subst (IsAtEnds (g.V.View.seen c.args.view.now) c.args.call.now) c.in-NeedBlock.is (record { told = e.told; found = e.found; refusal = e.refusal; absent = e.absent })))
