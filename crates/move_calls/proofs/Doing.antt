@@ -193,17 +193,39 @@ module _ (v : Seen) (node need : ℕ) (m : Move) (room : List ℕ) (has : HasRoo
 abbrev pub move_by : Call → Place → Place → Option (List ℕ) → Move
 move_by c from to replaced = record { from = from.above; name = last_of (from_path c); to = to; new_name = last_of (to_path c); moved = from; replaced = replaced }
 
-module _ (v : Seen) (c : Call) (from to : Place) (replaced : Option (List ℕ)) (node time : ℕ) (change : Change) (view : IsView v) (ends : AreEnds v c from to) (target : IsTarget v c from to replaced)
-    (can : CanBeMoved v (move_by c from to replaced)) (hash : crc32_of (last_of (to_path c)) < 2 ^ 32) (images : (im : Image) (o : Owners) (l : Layout) (t : Tree) → IsOf v im o l t → MovesIn v im o l t c from to replaced)
-    (done : IsCarriedOut v node time (move_by c from to replaced) change) where
-  abbrev m : Move
-  m = move_by c from to replaced
-
+module _ (v : Seen) (c : Call) (from to : Place) (replaced : Option (List ℕ)) (ends : AreEnds v c from to) where
   from_so : from_path c ≡ in_directory (parent_of (from_path c)) (last_of (from_path c))
   from_so = ends_so (from_path c) ends.begun.from
 
   to_so : to_path c ≡ in_directory (parent_of (to_path c)) (last_of (to_path c))
   to_so = ends_so (to_path c) ends.begun.to
+
+  stood_in : (im : Image) (o : Owners) (l : Layout) (r : Option (List ℕ)) → StoodIn im o l c to.inode r → StandsThere im o l (parent_of (to_path c)) (move_by c from to r)
+  stood_in im o l _ (StoodIn.nothing child none) = StandsThere.nothing refl child
+  stood_in im o l _ (StoodIn.an_inode a blocks at childless own) = StandsThere.an_inode a blocks refl (subst (λ p. IsAt im o l p a) to_so at) childless own
+
+  -- the places of the move in the image, and the blocks that were found for it
+  pub place_in : crc32_of (last_of (to_path c)) < 2 ^ 32 → (im : Image) (o : Owners) (l : Layout) (t : Tree) → IsOf v im o l t → MovesIn v im o l t c from to replaced
+      → (node need : ℕ) (room : List ℕ) → HasRoom v node (move_by c from to replaced) need room
+      → IsMoveIn im o l (parent_of (from_path c)) (parent_of (to_path c)) (move_by c from to replaced) room
+  place_in hash im o l t of r node need room has = record {
+    source = r.source.above;
+    target = r.target;
+    inode = subst (λ p. IsAt im o l p from.inode) from_so r.source.at;
+    directory = r.directory;
+    target_dinode = r.dinode;
+    inode_dinode = r.source.dinode;
+    stood = stood_in im o l replaced r.stood;
+    as_many = as_many v node need (move_by c from to replaced) room has im o l t of (parent_of (to_path c)) r.target r.directory hash;
+    free = (room_in v node need (move_by c from to replaced) room has im o l t of).free;
+    once = room_once v node need (move_by c from to replaced) room has;
+  }
+
+module _ (v : Seen) (c : Call) (from to : Place) (replaced : Option (List ℕ)) (node time : ℕ) (change : Change) (view : IsView v) (ends : AreEnds v c from to) (target : IsTarget v c from to replaced)
+    (can : CanBeMoved v (move_by c from to replaced)) (hash : crc32_of (last_of (to_path c)) < 2 ^ 32) (images : (im : Image) (o : Owners) (l : Layout) (t : Tree) → IsOf v im o l t → MovesIn v im o l t c from to replaced)
+    (done : IsCarriedOut v node time (move_by c from to replaced) change) where
+  abbrev m : Move
+  m = move_by c from to replaced
 
   pub held : HoldsMove v m
   held = record {
@@ -215,10 +237,6 @@ module _ (v : Seen) (c : Call) (from to : Place) (replaced : Option (List ℕ)) 
   pub groups : GroupsAreHeld v (done.room ++ freed_by m)
   groups = all_groups v node done.need m done.room done.has view
 
-  stood_in : (im : Image) (o : Owners) (l : Layout) (r : Option (List ℕ)) → StoodIn im o l c to.inode r → StandsThere im o l (parent_of (to_path c)) (move_by c from to r)
-  stood_in im o l _ (StoodIn.nothing child none) = StandsThere.nothing refl child
-  stood_in im o l _ (StoodIn.an_inode a blocks at childless own) = StandsThere.an_inode a blocks refl (subst (λ p. IsAt im o l p a) to_so at) childless own
-
   -- what stands at the new name is held
   goes_held : (im : Image) (o : Owners) (l : Layout) (t : Tree) → IsOf v im o l t → (r : Option (List ℕ)) → IsTarget v c from to r → StoodIn im o l c to.inode r → (a : ℕ) → IsAt im o l (to_path c) a → v.state_of (inode_lock a) ≡ Ex
   goes_held im o l t of _ (IsTarget.free lacks) (StoodIn.nothing child none) a at = absurd (none_some (sym none ∙ at))
@@ -229,27 +247,15 @@ module _ (v : Seen) (c : Call) (from to : Place) (replaced : Option (List ℕ)) 
   moved_so : (im : Image) (o : Owners) (l : Layout) (t : Tree) → IsOf v im o l t → IsMovedSo v m done.room time change done.is held groups c im o l t
   moved_so im o l t of =
       let r = images im o l t of in
-      let found = room_in v node done.need m done.room done.has im o l t of in
       record {
         path = parent_of (from_path c);
         path' = parent_of (to_path c);
-        place = record {
-          source = r.source.above;
-          target = r.target;
-          inode = subst (λ p. IsAt im o l p from.inode) from_so r.source.at;
-          directory = r.directory;
-          target_dinode = r.dinode;
-          inode_dinode = r.source.dinode;
-          stood = stood_in im o l replaced r.stood;
-          as_many = as_many v node done.need m done.room done.has im o l t of (parent_of (to_path c)) r.target r.directory hash;
-          free = found.free;
-          once = room_once v node done.need m done.room done.has;
-        };
+        place = place_in v c from to replaced ends hash im o l t of r node done.need done.room done.has;
         tree = r.takes.moved;
-        there = subst (λ p. tree_at t p ≡ Some r.takes.moved) from_so r.takes.there;
-        beside = (λ i. leads_to (sym from_so i) (sym to_so i)) ∙ ends.elsewhere;
-        goes = λ a at. goes_held im o l t of replaced target r.stood a (subst (λ p. IsAt im o l p a) (sym to_so) at);
-        applies = r.takes.applies ∙ (λ i. record { reply = Ok; tree = put_at (to_so i) r.takes.moved (remove_at (from_so i) t) });
+        there = subst (λ p. tree_at t p ≡ Some r.takes.moved) (from_so v c from to replaced ends) r.takes.there;
+        beside = (λ i. leads_to (sym (from_so v c from to replaced ends) i) (sym (to_so v c from to replaced ends) i)) ∙ ends.elsewhere;
+        goes = λ a at. goes_held im o l t of replaced target r.stood a (subst (λ p. IsAt im o l p a) (sym (to_so v c from to replaced ends)) at);
+        applies = r.takes.applies ∙ (λ i. record { reply = Ok; tree = put_at (to_so v c from to replaced ends i) r.takes.moved (remove_at (from_so v c from to replaced ends i) t) });
       }
 
   -- so the change is what the call should make
