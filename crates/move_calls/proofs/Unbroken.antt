@@ -12,6 +12,7 @@ use Rattle.gfs2_layout.specs.Exchanges.{directory_count}
 use Rattle.gfs2_layout.specs.Holding.{Holding}
 use Rattle.gfs2_layout.specs.Inode.{dinode_in, is_directory_in, records_of}
 use Rattle.gfs2_layout.specs.Records.{Record, is_dots}
+use Rattle.gfs2_layout.specs.Structures.{is_directory}
 use Rattle.glock_names.specs.Views.{Seen, IsView}
 use Rattle.image_model.specs.Flat.{Path}
 use Rattle.image_model.specs.Image.{Image}
@@ -20,24 +21,25 @@ use Rattle.image_model.specs.Stands.{Layout}
 use Rattle.image_changes.specs.Changes.{inode_of}
 use Rattle.image_changes.specs.Does.{IsOf}
 use Rattle.image_changes.specs.Flats.{in_directory}
-use Rattle.image_changes.specs.Instances.{IsAt, is_directory_at}
+use Rattle.image_changes.specs.Instances.{IsAt, dinode_at, is_directory_at}
 use Rattle.dinode_tree.proofs.Sound.{part_of_led}
 use Rattle.hash_dirs.specs.Shown.{IsSound}
 use Rattle.hash_dirs.proofs.Chained.{cell_some}
 use Rattle.directories.specs.Shown.{IsBroken, IsShown}
 use Rattle.directories.specs.Shown as dirs
+use Rattle.directories.proofs.Forms.{is_directory_here}
 use Rattle.directories.proofs.Sound.{unbroken}
 use Rattle.resource_groups.specs.Putting.{HasDataBlock}
 use Rattle.name_inserts.specs.HashInserting as inserts
 use Rattle.name_inserts.specs.Inserting.{IsWrongForName}
 use Rattle.name_inserts.specs.Inserting as names
-use Rattle.path_walks.proofs.Images.{is_inode, own_inside, shown_inode, sound_directory}
+use Rattle.path_walks.proofs.Images.{is_inode, is_shown, own_inside, shown_inode, sound_directory}
 use Rattle.path_walks.specs.declared.walk.Place.{Place}
 use Rattle.removing_calls.proofs.Found.{its_inside, none_broken}
 use Rattle.move_ends.specs.Ends.{AreEnds, MovesIn, from_path, to_path}
 use Rattle.name_moves.specs.Becoming.{IsAfter, LosesAll, LosesName, of_none, of_one}
-use Rattle.name_moves.specs.Moving.{CanBeMoved, IsMoveIn, IsOneOf, IsWrongIn, Move, is_reparented, lost_there}
-use Rattle.name_moves.proofs.Imaged.{apart_there, moved_directory, source_directory}
+use Rattle.name_moves.specs.Moving.{CanBeMoved, IsOneOf, IsWrongIn, Move, is_reparented, lost_there}
+use Rattle.name_moves.proofs.Imaged.{apart_there}
 use Rattle.name_moves.proofs.Loses.{can_tell, directory_lost, kept_cells, sound_lost}
 use Rattle.move_calls.specs.Carrying.{IsStuck}
 use Rattle.move_calls.proofs.Doing.{move_by, place_in}
@@ -110,29 +112,47 @@ module _ (v : Seen) (im : Image) (o : Owners) (l : Layout) (t : Tree) (of : IsOf
       }
 
   -- nothing is wrong of a move
-  pub not_wrong : IsView v → (m : Move) (room : List ℕ) (path path' : Path) → CanBeMoved v m → IsMoveIn im o l path path' m room → (blocks : List ℕ) (rule b : ℕ) → IsWrongIn v m blocks rule b → ⊥
-  not_wrong view m room path path' can place blocks rule b (IsWrongIn.in_group r d broken) = none_broken v im o l t of blocks r d broken
-  not_wrong view m room path path' can place blocks rule b (IsWrongIn.to_come r d after) =
-      let k = after_fine v m.to.inode (lost_there m) _ (holding im o m.to.inode) (shown_inode v im o l t of path' m.to.inode place.target) (fine_in path' m.to.inode place.target place.directory) after in
-      not_wrong_for v k.0 k.1 r d k.2
-  not_wrong view m room path path' can place blocks rule b (IsWrongIn.to_go dir r d gone name one after) = by dir gone name one after
-    where
-      target_wrong : (xs : List (List ℕ)) → IsAfter v m.to.inode xs (λ k. IsBroken v k r d) → ⊥
-      target_wrong xs so =
-          let k = after_fine v m.to.inode xs _ (holding im o m.to.inode) (shown_inode v im o l t of path' m.to.inode place.target) (fine_in path' m.to.inode place.target place.directory) so in
-          not_broken v k.0 k.1 r d k.2
+  module _ (m : Move) (path path' : Path) (can : CanBeMoved v m) (source : IsAt im o l path m.from) (target : IsAt im o l path' m.to.inode) (inode : IsAt im o l (in_directory path m.name) m.moved.inode)
+      (directory : is_directory_at im o m.to.inode ≡ true) (read : m.moved.dinode ≡ dinode_at im o m.moved.inode) where
+    fine_source : IsFine v (holding im o m.from)
+    fine_source = fine_in path m.from source (is_directory_here v m.from (holding im o m.from) can.source can.source_there (is_shown v im o l t of path m.from source))
 
-      by : (x : ℕ) (xs : List (List ℕ)) (n : List ℕ) → IsOneOf m x xs n → IsAfter v x xs (λ k. IsBroken v k r d) → ⊥
-      by _ _ _ (IsOneOf.the_new replaces) so = target_wrong [] so
-      by _ _ _ (IsOneOf.the_old_then replaces within) so = target_wrong (m.new_name ∷ []) so
-      by _ _ _ IsOneOf.the_old so =
-          let k = after_fine v m.from [] _ (holding im o m.from) (shown_inode v im o l t of path m.from place.source) (fine_in path m.from place.source (source_directory v im o l t of view m room path path' can place)) so in
-          not_broken v k.0 k.1 r d k.2
-      by _ _ _ (IsOneOf.the_parent moves) so =
-          let front = in_directory path m.name in
-          let k = after_fine v m.moved.inode [] _ (holding im o m.moved.inode) (shown_inode v im o l t of front m.moved.inode place.inode)
-            (fine_in front m.moved.inode place.inode (moved_directory v im o l t of view m room path path' can place moves)) so in
-          not_broken v k.0 k.1 r d k.2
+    fine_target : IsFine v (holding im o m.to.inode)
+    fine_target = fine_in path' m.to.inode target directory
+
+    both : (d w : Bool) → d && w ≡ true → d ≡ true
+    both true w e = refl
+    both false w e = e
+
+    fine_moved : is_reparented m ≡ true → IsFine v (holding im o m.moved.inode)
+    fine_moved moves = fine_in (in_directory path m.name) m.moved.inode inode (ap is_directory (sym read) ∙ both (is_directory m.moved.dinode) _ moves)
+
+    target_shown : IsShown v m.to.inode (holding im o m.to.inode)
+    target_shown = shown_inode v im o l t of path' m.to.inode target
+
+    target_wrong : (xs : List (List ℕ)) (rule b : ℕ) → IsAfter v m.to.inode xs (λ k. IsBroken v k rule b) → ⊥
+    target_wrong xs rule b so = let k = after_fine v m.to.inode xs _ (holding im o m.to.inode) target_shown fine_target so in not_broken v k.0 k.1 rule b k.2
+
+    one_wrong : (rule b x : ℕ) (xs : List (List ℕ)) (n : List ℕ) → IsOneOf m x xs n → IsAfter v x xs (λ k. IsBroken v k rule b) → ⊥
+    one_wrong rule b _ _ _ (IsOneOf.the_new replaces) so = target_wrong [] rule b so
+    one_wrong rule b _ _ _ (IsOneOf.the_old_then replaces within) so = target_wrong (m.new_name ∷ []) rule b so
+    one_wrong rule b _ _ _ IsOneOf.the_old so =
+        let k = after_fine v m.from [] _ (holding im o m.from) (shown_inode v im o l t of path m.from source) fine_source so in
+        not_broken v k.0 k.1 rule b k.2
+    one_wrong rule b _ _ _ (IsOneOf.the_parent moves) so =
+        let k = after_fine v m.moved.inode [] _ (holding im o m.moved.inode) (shown_inode v im o l t of (in_directory path m.name) m.moved.inode inode) (fine_moved moves) so in
+        not_broken v k.0 k.1 rule b k.2
+
+    pub not_wrong : (blocks : List ℕ) (rule b : ℕ) → IsWrongIn v m blocks rule b → ⊥
+    not_wrong blocks rule b (IsWrongIn.in_group r d broken) = none_broken v im o l t of blocks r d broken
+    not_wrong blocks rule b (IsWrongIn.to_come r d after) =
+        let k = after_fine v m.to.inode (lost_there m) _ (holding im o m.to.inode) target_shown fine_target after in
+        not_wrong_for v k.0 k.1 r d k.2
+    not_wrong blocks rule b (IsWrongIn.to_go dir r d gone name one after) = one_wrong r d dir gone name one after
+
+    -- nor on the way to the new name
+    pub way_not_wrong : (rule b : ℕ) → ((h : Holding) → IsShown v m.to.inode h → IsWrongForName v h rule b) → ⊥
+    way_not_wrong rule b wrong = not_wrong_for v (holding im o m.to.inode) fine_target rule b (wrong (holding im o m.to.inode) target_shown)
 
   -- and none is stuck
   pub not_stuck : IsView v → (c : Call) (from to : Place) (replaced : Option (List ℕ)) → AreEnds v c from to → CanBeMoved v (move_by c from to replaced) → crc32_of (last_of (to_path c)) < 2 ^ 32
