@@ -289,7 +289,7 @@ module _ (v : Seen) (c : Call) (from to : Place) (replaced : Option (List ℕ)) 
       let lost : lost_there m ≡ lost_in im o l c from.above to.inode = λ i. losses (stood_or_not im o l replaced r.stood i) (from.above == to.inode) (last_of (from_path c)) (last_of (to_path c)) in
       let taken_all : done.room ≡ done.is.taken = none_left done.is.taken done.is.left done.room done.is.front (so.place.as_many b.gets.without b.gets.lost ∙ sym b.gets.few) in
       let entry : entry_for m done.is.old ≡ record { number = (dinode_at im o from.inode).num.number; addr = from.inode; kind = done.is.old.kind } =
-        λ i. record { number = (r.source.dinode i).num.number; addr = from.inode; kind = done.is.old.kind } in
+      λ i. record { number = (r.source.dinode i).num.number; addr = from.inode; kind = done.is.old.kind } in
       record {
         source = from.above;
         source_at = r.source.above;

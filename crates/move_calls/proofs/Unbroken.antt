@@ -63,8 +63,8 @@ fine_lost v h g name lost fine =
     let after = lost.exchanged.records.after in
     let counted = lost.exchanged.counted in
     let was : (r : Record) → Contains (records_of g) r → Contains (records_of h) r = λ r has.
-        Contains-permutation ((lost.gone ∷ []) ++ rest) (records_of h) r (IsPermutation-sym (records_of h) ((lost.gone ∷ []) ++ rest) before)
-        (Contains-append_right (lost.gone ∷ []) rest r (Contains-permutation (records_of g) ([] ++ rest) r after has)) in
+    Contains-permutation ((lost.gone ∷ []) ++ rest) (records_of h) r (IsPermutation-sym (records_of h) ((lost.gone ∷ []) ++ rest) before)
+    (Contains-append_right (lost.gone ∷ []) rest r (Contains-permutation (records_of g) ([] ++ rest) r after has)) in
     let h_long : length ((lost.gone ∷ []) ++ rest) ≡ length (records_of h) = length_permutation (records_of h) ((lost.gone ∷ []) ++ rest) before in
     let g_long : length ([] ++ rest) ≡ length (records_of g) = length_permutation (records_of g) ([] ++ rest) after in
     let ones : Record → ℕ = λ r. cond (not (is_dots r.name) && r.kind == 4) 1 0 in
