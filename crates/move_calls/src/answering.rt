@@ -1,6 +1,7 @@
 // A try of a call that moves a name, part by part.
-ghost use Rattle.std.specs.Prelude.{ℕ, List, ◌≡◌, ◌≢◌, ◌≤◌, [], None, Some, Contains, IfOk, Option, length};
+ghost use Rattle.std.specs.Prelude.{ℕ, List, ◌≡◌, ◌≢◌, ◌≤◌, ◌<◌, ◌^◌, [], None, Some, Contains, IfOk, Option, length};
 ghost use Rattle.std.specs.Option.{option_copied};
+ghost use Rattle.crc_words.specs.Remainder.{crc32_of};
 ghost use Rattle.file_tree.specs.Names.{IsName, last_of as the_last_of};
 ghost use Rattle.file_tree.specs.Tree.{Tree};
 ghost use Rattle.glock_names.specs.Steps.{IfDamaged};
@@ -8,14 +9,16 @@ ghost use Rattle.glock_names.specs.Views.{IsOfView, IsView};
 ghost use Rattle.image_model.specs.Image.{Image};
 ghost use Rattle.image_model.specs.Owners.{Owners};
 ghost use Rattle.image_model.specs.Stands.{Layout};
-ghost use Rattle.image_changes.specs.Does.{IsOf};
+ghost use Rattle.image_changes.specs.Does.{AreInside, Does, IsOf};
 ghost use Rattle.resource_groups.specs.Putting.{HasDataBlock};
+ghost use Rattle.path_walks.specs.Answers.{HasSpace, IfDone, IfNeedBlock, IfNoSpace};
 ghost use Rattle.path_walks.specs.Holds.{AreHeld};
 ghost use Rattle.move_ends.specs.Ends.{AreEnds, IsRenaming, IsTarget, MovesIn, from_path, inode_holds, to_path};
 ghost use Rattle.move_calls.specs.Answering.{IsAnswerOf, IsDamageFor, blocks_of_replaced};
 
 use crate::carrying::carry;
 use crate::checks::can_move;
+use crc_words::crc32;
 use drafts::{Attempt, Stamp};
 use file_tree::{Call, Name, Reply};
 use glock_names::{CallFault, Step, View};
@@ -42,6 +45,13 @@ fn last_name(names: &[Name]) -> &Name
     };
     let _bytes = last.bytes();
     last
+}
+
+// A law: the hash of a name has 32 bits.
+fn hash_fits(name: &Name)
+    ensures { crc32_of name.now < 2 ^ 32 }
+{
+    let _hash = crc32(name.bytes());
 }
 
 // The blocks that go, if something does.
@@ -73,15 +83,18 @@ fn move_name<V: View>(
     requires images { (im : Image) (o : Owners) (l : Layout) (t : Tree) → IsOf (V.seen view.now) im o l t
         → MovesIn (V.seen view.now) im o l t call.now from to (blocks_of_replaced replaced.now) × AreHeld (V.seen view.now) (inode_holds im o l call.now) }
     ensures answer { IfOk result (IsAnswerOf (V.seen view.now) call.now stamp.now.node stamp.now.time) }
+    ensures done { IfDone result (Does (V.seen view.now) call.now) }
     ensures damaged { IfDamaged result (IsDamageFor (V.seen view.now) call.now stamp.now.node) }
     ensures kept { IfDamaged result (IsOfView (V.seen view.now)) }
 {
     is_a_view(view);
+    let new_name = last_name(to_of(call).names());
+    hash_fits(new_name);
     let m = NameMove {
         from: from.above,
         name: last_name(from_of(call).names()),
         to,
-        new_name: last_name(to_of(call).names()),
+        new_name,
         moved: from,
         replaced: blocks_in(replaced),
     };
@@ -91,8 +104,8 @@ fn move_name<V: View>(
     }
 }
 
-/// Answers a call that moves a name, over a view, by the parts of the answer.
-pub fn answer<V: View>(
+// Answers a call that moves a name, by the parts of the answer.
+fn answer<V: View>(
     alloc: Global,
     view: &V,
     call: &Call,
@@ -102,6 +115,7 @@ pub fn answer<V: View>(
     requires groups { 1 ≤ length (V.seen view.now).groups }
     requires node { 1 ≤ stamp.now.node }
     ensures answer { IfOk result (IsAnswerOf (V.seen view.now) call.now stamp.now.node stamp.now.time) }
+    ensures done { IfDone result (Does (V.seen view.now) call.now) }
     ensures damaged { IfDamaged result (IsDamageFor (V.seen view.now) call.now stamp.now.node) }
     ensures kept { IfDamaged result (IsOfView (V.seen view.now)) }
 {
@@ -120,4 +134,28 @@ pub fn answer<V: View>(
         Ends::NeedLock { lock, state } => Ok(Attempt::NeedLock { lock, state }),
         Ends::NeedBlock(missing) => Ok(Attempt::NeedBlock(missing)),
     }
+}
+
+/// Tries a call that moves a name, over a view: its answer with what it changes, or the first lock that isn't held, the block that isn't there, or that too few blocks
+/// are free. What stands at the new name goes first, then the old name, and then the new one comes; blocks that go aren't taken again. It costs a walk along both
+/// paths, what `can_move` and `carry` cost, and what removing an inode costs where one goes.
+pub fn attempt<V: View>(
+    alloc: Global,
+    view: &V,
+    call: &Call,
+    stamp: &Stamp,
+) -> Result<Attempt, CallFault>
+    requires renaming { IsRenaming call.now }
+    requires groups { 1 ≤ length (V.seen view.now).groups }
+    requires node { 1 ≤ stamp.now.node }
+    ensures done { IfDone result (Does (V.seen view.now) call.now) }
+    ensures inside { IfDone result (λ reply change. AreInside (V.seen view.now) change) }
+    ensures spaceless { IfDone result (λ reply change. HasSpace reply) }
+    ensures absent { IfNeedBlock result (λ missing. (V.seen view.now).block_at missing.block ≡ None) }
+    ensures fewer { IfNoSpace result (λ need free. free < need) }
+    ensures answered { IfOk result (IsAnswerOf (V.seen view.now) call.now stamp.now.node stamp.now.time) }
+    ensures damaged { IfDamaged result (IsDamageFor (V.seen view.now) call.now stamp.now.node) }
+    ensures kept { IfDamaged result (IsOfView (V.seen view.now)) }
+{
+    answer(alloc, view, call, stamp)
 }

@@ -5,6 +5,6 @@ mod answering;
 mod carrying;
 mod checks;
 
-pub use answering::answer;
+pub use answering::attempt;
 pub use carrying::carry;
 pub use checks::{can_move, freed_blocks};

@@ -1,7 +1,12 @@
-use Rattle.std.proofs.Common.{◌≡◌, subst}
-use Rattle.move_ends.specs.Ends.{IsFoundIn, IsTold}
+use Rattle.std.proofs.Common.{◌≡◌, ap, subst}
+use Rattle.file_tree.specs.Apply.{Answer}
+use Rattle.file_tree.specs.declared.reply.Reply.TheVariants as reply
+use Rattle.image_changes.proofs.Doing.{nothing_does}
+use Rattle.path_walks.proofs.Refused.{no_change}
+use Rattle.move_ends.specs.Ends.{IsFoundIn, IsRefusal, IsTold}
 use Rattle.move_ends.specs.declared.ends.Ends.TheVariants as ends
 use Rattle.move_calls.specs.Answering.{IsAnswerAtEnds, IsAnswerOf, IsAtEnds}
+use Rattle.move_calls.proofs.Answered.{staying}
 use Rattle.move_calls.proofs.Meant.{found_there, told_ends, told_inside}
 use Rattle.move_calls.proofs.answering.answer.Goals as goal
 
@@ -26,6 +31,21 @@ returns-in-Refused-clause-answer g c =
     IsAnswerOf.by_ends (IsAnswerAtEnds.refused c.in-Refused.reply c.nothing.result
     (subst (IsAtEnds (g.V.View.seen c.args.view.now) c.args.call.now) c.in-Refused.is (record { told = e.told; found = e.found; refusal = e.refusal; absent = e.absent }))
     (record { blocks = c.nothing.ensures.blocks; locks = c.nothing.ensures.locks; freed = c.nothing.ensures.freed }))
+
+pub returns-in-Refused-clause-done : goal.returns-in-Refused-clause-done
+returns-in-Refused-clause-done g c =
+    let v = g.V.View.seen c.args.view.now in
+    nothing_does v c.args.call.now c.in-Refused.reply c.nothing.result c.nothing.ensures.blocks c.nothing.ensures.locks c.nothing.ensures.freed
+    (no_change c.args.call.now c.in-Refused.reply (subst IsRefusal c.in-Refused.is c.in_ok-reply.ensures.refusal).0)
+    (λ im o l t of. (subst (IsFoundIn v im o l t c.args.call.now) c.in-Refused.is (c.in_ok-reply.ensures.found im o l t of)).0)
+
+pub returns-in-Stays-clause-done : goal.returns-in-Stays-clause-done
+returns-in-Stays-clause-done g c =
+    let v = g.V.View.seen c.args.view.now in
+    let n = c.nothing-in-Stays.ensures in
+    nothing_does v c.args.call.now reply.Ok c.nothing-in-Stays.result n.blocks n.locks n.freed
+    (staying c.args.call.now c.requires.renaming (subst (IsTold v c.args.call.now) c.in-Stays.is c.in_ok-reply.ensures.told).same)
+    (λ im o l t of. ap (λ (a : Answer). a.reply) (subst (IsFoundIn v im o l t c.args.call.now) c.in-Stays.is (c.in_ok-reply.ensures.found im o l t of)).0)
 
 pub returns-in-Stays-clause-answer : goal.returns-in-Stays-clause-answer
 returns-in-Stays-clause-answer g c =
