@@ -3,3 +3,4 @@ pub mod Checked
 pub mod Meant
 pub mod Room
 pub mod Doing
+pub mod Unbroken
