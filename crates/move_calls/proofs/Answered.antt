@@ -24,22 +24,40 @@ use Rattle.image_changes.specs.Does.{AreInside, Does, IsInside, IsOf}
 use Rattle.path_walks.specs.Answers.{HasSpace, IfDone, IfNeedBlock, IfNoSpace}
 use Rattle.path_walks.specs.declared.walk.Place.{Place}
 use Rattle.move_ends.specs.Ends.{AreEnds, IsRenaming, IsTarget, MovesIn, StaysWhere, from_path, to_path}
-use Rattle.name_moves.specs.Moving.{IsNeededIn, Move}
+use Rattle.name_moves.specs.Moving.{CanBeMoved, IsNeededIn, Move}
 use Rattle.move_calls.specs.Answering.{IsAnswerAtEnds, IsAnswerOf, the_move}
 use Rattle.move_calls.specs.Carrying.{IsCarried, IsCarriedOut, NeedsBlock}
-use Rattle.move_calls.proofs.Doing.{does}
+use Rattle.move_calls.specs.Moved.{IsMovedIn}
+use Rattle.move_calls.proofs.Doing.{does, moved_in}
 
 -- ---- a name that is carried
 
 module _ (v : Seen) (c : Call) (from to : Place) (replaced : Option (List ℕ)) (node time : ℕ) (view : IsView v) (renaming : IsRenaming c) (ends : AreEnds v c from to) (target : IsTarget v c from to replaced)
-    (hash : crc32_of (last_of (to_path c)) < 2 ^ 32) (images : (im : Image) (o : Owners) (l : Layout) (t : Tree) → IsOf v im o l t → MovesIn v im o l t c from to replaced) where
+    (can : CanBeMoved v (the_move c from to replaced)) (hash : crc32_of (last_of (to_path c)) < 2 ^ 32) (images : (im : Image) (o : Owners) (l : Layout) (t : Tree) → IsOf v im o l t → MovesIn v im o l t c from to replaced) where
   pub carried_does : (r : Result Attempt CallFault) → IfOk r (IsCarried v node time (the_move c from to replaced)) → IfDone r (Does v c)
-  carried_does (Ok (Done r change)) (same, out) = subst (λ x. Does v c x change) (sym same) (does v c from to replaced node time change view ends target hash images out renaming)
+  carried_does (Ok (Done r change)) (same, out) = subst (λ x. Does v c x change) (sym same) (does v c from to replaced node time change view ends target can hash images out renaming)
   carried_does (Ok (NeedLock lock state)) is = tt
   carried_does (Ok (NeedBlock n)) is = tt
   carried_does (Ok (NoSpace need free)) is = tt
   carried_does (Ok NotBuilt) is = tt
   carried_does (Err f) is = tt
+
+  pub carried_moved : (im : Image) (o : Owners) (l : Layout) (t : Tree) → IsOf v im o l t → (r : Result Attempt CallFault) → IfOk r (IsCarried v node time (the_move c from to replaced))
+      → IfDone r (λ reply change. IsMovedIn im o l c node time change)
+  carried_moved im o l t of (Ok (Done r change)) (same, out) = moved_in v c from to replaced node time change view ends target can hash images out im o l t of
+  carried_moved im o l t of (Ok (NeedLock lock state)) is = tt
+  carried_moved im o l t of (Ok (NeedBlock n)) is = tt
+  carried_moved im o l t of (Ok (NoSpace need free)) is = tt
+  carried_moved im o l t of (Ok NotBuilt) is = tt
+  carried_moved im o l t of (Err f) is = tt
+
+pub done_so : (P Q : Reply → Change → Type 0) → ((r : Reply) (change : Change) → P r change → Q r change) → (r : Result Attempt CallFault) → IfDone r P → IfDone r Q
+done_so P Q so (Ok (Done r change)) is = so r change is
+done_so P Q so (Ok (NeedLock lock state)) is = tt
+done_so P Q so (Ok (NeedBlock n)) is = tt
+done_so P Q so (Ok (NoSpace need free)) is = tt
+done_so P Q so (Ok NotBuilt) is = tt
+done_so P Q so (Err f) is = tt
 
 -- a name that stays changes nothing
 pub staying : (c : Call) → IsRenaming c → is_same_path (from_path c) (to_path c) ≡ true → Changes (record { call = c; reply = reply.Ok }) ≡ false

@@ -1,8 +1,9 @@
 // A try of a call that moves a name, part by part.
-ghost use Rattle.std.specs.Prelude.{ℕ, List, ◌≡◌, ◌≢◌, ◌≤◌, ◌<◌, ◌^◌, [], None, Some, Contains, IfOk, Option, length};
+ghost use Rattle.std.specs.Prelude.{ℕ, List, false, true, ◌≡◌, ◌≢◌, ◌≤◌, ◌<◌, ◌^◌, [], None, Some, Contains, IfOk, Option, length};
 ghost use Rattle.std.specs.Option.{option_copied};
 ghost use Rattle.crc_words.specs.Remainder.{crc32_of};
-ghost use Rattle.file_tree.specs.Names.{IsName, last_of as the_last_of};
+ghost use Rattle.cluster_history.specs.Changes.{is_ok};
+ghost use Rattle.file_tree.specs.Names.{IsName, is_same_path, last_of as the_last_of};
 ghost use Rattle.file_tree.specs.Tree.{Tree};
 ghost use Rattle.glock_names.specs.Steps.{IfDamaged};
 ghost use Rattle.glock_names.specs.Views.{IsOfView, IsView};
@@ -14,6 +15,7 @@ ghost use Rattle.resource_groups.specs.Putting.{HasDataBlock};
 ghost use Rattle.path_walks.specs.Answers.{HasSpace, IfDone, IfNeedBlock, IfNoSpace};
 ghost use Rattle.path_walks.specs.Holds.{AreHeld};
 ghost use Rattle.move_ends.specs.Ends.{AreEnds, IsRenaming, IsTarget, MovesIn, from_path, inode_holds, to_path};
+ghost use Rattle.move_calls.specs.Moved.{IsMovedIn};
 ghost use Rattle.move_calls.specs.Answering.{IsAnswerOf, IsDamageFor, blocks_of_replaced};
 
 use crate::carrying::carry;
@@ -84,6 +86,7 @@ fn move_name<V: View>(
         → MovesIn (V.seen view.now) im o l t call.now from to (blocks_of_replaced replaced.now) × AreHeld (V.seen view.now) (inode_holds im o l call.now) }
     ensures answer { IfOk result (IsAnswerOf (V.seen view.now) call.now stamp.now.node stamp.now.time) }
     ensures done { IfDone result (Does (V.seen view.now) call.now) }
+    ensures moved { (im : Image) (o : Owners) (l : Layout) (t : Tree) → IsOf (V.seen view.now) im o l t → IfDone result (λ reply change. IsMovedIn im o l call.now stamp.now.node stamp.now.time change) }
     ensures damaged { IfDamaged result (IsDamageFor (V.seen view.now) call.now stamp.now.node) }
     ensures kept { IfDamaged result (IsOfView (V.seen view.now)) }
 {
@@ -116,6 +119,8 @@ fn answer<V: View>(
     requires node { 1 ≤ stamp.now.node }
     ensures answer { IfOk result (IsAnswerOf (V.seen view.now) call.now stamp.now.node stamp.now.time) }
     ensures done { IfDone result (Does (V.seen view.now) call.now) }
+    ensures moved { (im : Image) (o : Owners) (l : Layout) (t : Tree) → IsOf (V.seen view.now) im o l t
+        → IfDone result (λ reply change. is_ok reply ≡ true → is_same_path (from_path call.now) (to_path call.now) ≡ false → IsMovedIn im o l call.now stamp.now.node stamp.now.time change) }
     ensures damaged { IfDamaged result (IsDamageFor (V.seen view.now) call.now stamp.now.node) }
     ensures kept { IfDamaged result (IsOfView (V.seen view.now)) }
 {
@@ -149,6 +154,8 @@ pub fn attempt<V: View>(
     requires groups { 1 ≤ length (V.seen view.now).groups }
     requires node { 1 ≤ stamp.now.node }
     ensures done { IfDone result (Does (V.seen view.now) call.now) }
+    ensures moved { (im : Image) (o : Owners) (l : Layout) (t : Tree) → IsOf (V.seen view.now) im o l t
+        → IfDone result (λ reply change. is_ok reply ≡ true → is_same_path (from_path call.now) (to_path call.now) ≡ false → IsMovedIn im o l call.now stamp.now.node stamp.now.time change) }
     ensures inside { IfDone result (λ reply change. AreInside (V.seen view.now) change) }
     ensures spaceless { IfDone result (λ reply change. HasSpace reply) }
     ensures absent { IfNeedBlock result (λ missing. (V.seen view.now).block_at missing.block ≡ None) }

@@ -1,4 +1,4 @@
-use Rattle.std.proofs.Common.{◌≡◌, ap, subst}
+use Rattle.std.proofs.Common.{◌≡◌, true≢false, sym, ap, ◌∙◌, subst}
 use Rattle.file_tree.specs.Apply.{Answer}
 use Rattle.file_tree.specs.declared.reply.Reply.TheVariants as reply
 use Rattle.image_changes.proofs.Doing.{nothing_does}
@@ -6,7 +6,8 @@ use Rattle.path_walks.proofs.Refused.{no_change}
 use Rattle.move_ends.specs.Ends.{IsFoundIn, IsRefusal, IsTold}
 use Rattle.move_ends.specs.declared.ends.Ends.TheVariants as ends
 use Rattle.move_calls.specs.Answering.{IsAnswerAtEnds, IsAnswerOf, IsAtEnds}
-use Rattle.move_calls.proofs.Answered.{staying}
+use Rattle.move_calls.specs.Moved.{IsMovedIn}
+use Rattle.move_calls.proofs.Answered.{done_so, staying}
 use Rattle.move_calls.proofs.Meant.{found_there, told_ends, told_inside}
 use Rattle.move_calls.proofs.answering.answer.Goals as goal
 
@@ -46,6 +47,18 @@ returns-in-Stays-clause-done g c =
     nothing_does v c.args.call.now reply.Ok c.nothing-in-Stays.result n.blocks n.locks n.freed
     (staying c.args.call.now c.requires.renaming (subst (IsTold v c.args.call.now) c.in-Stays.is c.in_ok-reply.ensures.told).same)
     (λ im o l t of. ap (λ (a : Answer). a.reply) (subst (IsFoundIn v im o l t c.args.call.now) c.in-Stays.is (c.in_ok-reply.ensures.found im o l t of)).0)
+
+pub returns-in-Refused-clause-moved : goal.returns-in-Refused-clause-moved
+returns-in-Refused-clause-moved g c im o l t of ok other =
+    absurd (true≢false (sym ok ∙ (subst IsRefusal c.in-Refused.is c.in_ok-reply.ensures.refusal).0))
+
+pub returns-in-Stays-clause-moved : goal.returns-in-Stays-clause-moved
+returns-in-Stays-clause-moved g c im o l t of ok other =
+    absurd (true≢false (sym (subst (IsTold (g.V.View.seen c.args.view.now) c.args.call.now) c.in-Stays.is c.in_ok-reply.ensures.told).same ∙ other))
+
+pub returns-in-Moves-clause-moved : goal.returns-in-Moves-clause-moved
+returns-in-Moves-clause-moved g c im o l t of =
+    done_so (λ reply change. IsMovedIn im o l c.args.call.now c.args.stamp.now.node c.args.stamp.now.time change) _ (λ r change is ok other. is) c.move_name.result (c.move_name.ensures.moved im o l t of)
 
 pub returns-in-Stays-clause-answer : goal.returns-in-Stays-clause-answer
 returns-in-Stays-clause-answer g c =
