@@ -39,7 +39,7 @@ module _ (v : Seen) (call : Call) (from to : Place) (view : IsView v) (ends : Ar
       let s = some_directory v at.inode view in
       let own : Contains blocks at.inode = (all s.0 s.1 at.inode).1 (inl (sym s.1.inode.own)) in
       let named : Names v to.inode (last_of (to_path call)) at.inode =
-          subst (λ d. Names v d (last_of (to_path call)) at.inode) stands.above (above_names v (second_wants call) (to_path call) at (last_of (to_path call)) view stands.place to_last) in
+      subst (λ d. Names v d (last_of (to_path call)) at.inode) stands.above (above_names v (second_wants call) (to_path call) at (last_of (to_path call)) view stands.place to_last) in
       HasSeenThere.an_inode at.inode blocks refl named own (inside blocks refl)
 
   pub was_seen : (r : Option (List ℕ)) → IsTarget v call from to r → ((blocks : List ℕ) → r ≡ Some blocks → (b : ℕ) → Contains blocks b → HasDataBlock v b) → IsSeenMove v (the_move call from to r)

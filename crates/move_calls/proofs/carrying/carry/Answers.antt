@@ -48,7 +48,7 @@ returns-in-Is-TooFew-clause-carried g c =
     let v = g.V.View.seen c.args.view.now in (
       record { needs = λ h shown sound. answer_at _ _ _ c.in-Is.is (c.in_ok-need.ensures.need h shown sound); freed = subst (GroupsAreHeld v) c.freed_blocks.ensures c.in_default.ensures.none },
       searched_as v c.args.stamp.now.node c.in-Is.need c.in_ok-room.field-0 (locked.Is (taken.TooFew c.in-Is-TooFew.free)) (c.in-Is-TooFew.is ∙ ap locked.Is c.in-Is-TooFew.field-0-is)
-      (record { found = c.in_ok-room.ensures.found; image = c.in_ok-room.ensures.image; told = c.in_ok-room.ensures.told }),
+          (record { found = c.in_ok-room.ensures.found; image = c.in_ok-room.ensures.image; told = c.in_ok-room.ensures.told }),
     )
 
 pub returns-in-NeedLock-clause-carried : goal.returns-in-NeedLock-clause-carried
