@@ -1,9 +1,8 @@
 -- What follows of each answer, as it is told.
-use Rattle.std.proofs.Common.{◌≡◌, ◌^◌, ◌<◌, ℕ, Bool, true, false, List, [], Option, None, Result, Ok, Err, refl, sym, ap, ◌∙◌, subst}
+use Rattle.std.proofs.Common.{◌≡◌, ◌^◌, ◌<◌, ℕ, true, false, List, [], Option, None, Result, Ok, Err, sym, ap, subst}
 use Rattle.std.specs.List.{AllByRecursion}
 use Rattle.std.specs.Prelude.{not, IfOk}
 use Rattle.crc_words.specs.Remainder.{crc32_of}
-use Rattle.file_tree.specs.Apply.{apply}
 use Rattle.file_tree.specs.Names.{is_same_path, last_of}
 use Rattle.file_tree.specs.Tree.{Tree}
 use Rattle.file_tree.specs.declared.call.Call.{Call}
@@ -23,10 +22,10 @@ use Rattle.image_model.specs.Stands.{Layout}
 use Rattle.image_changes.specs.Does.{AreInside, Does, IsInside, IsOf}
 use Rattle.path_walks.specs.Answers.{HasSpace, IfDone, IfNeedBlock, IfNoSpace}
 use Rattle.path_walks.specs.declared.walk.Place.{Place}
-use Rattle.move_ends.specs.Ends.{AreEnds, IsRenaming, IsTarget, MovesIn, StaysWhere, from_path, to_path}
+use Rattle.move_ends.specs.Ends.{AreEnds, IsRenaming, IsTarget, MovesIn, from_path, to_path}
 use Rattle.name_moves.specs.Moving.{CanBeMoved, IsNeededIn, Move}
 use Rattle.move_calls.specs.Answering.{IsAnswerAtEnds, IsAnswerOf, the_move}
-use Rattle.move_calls.specs.Carrying.{IsCarried, IsCarriedOut, NeedsBlock}
+use Rattle.move_calls.specs.Carrying.{IsCarried, NeedsBlock}
 use Rattle.move_calls.specs.Moved.{IsMovedIn}
 use Rattle.move_calls.proofs.Doing.{does, moved_in}
 

@@ -1,5 +1,5 @@
 -- A move that is carried out does what the call should.
-use Rattle.std.proofs.Common.{◌≡◌, ◌≢◌, ◌⊎◌, inl, inr, ℕ, zero, suc, ◌+◌, ◌^◌, ◌<◌, Bool, true, false, List, [], ◌∷◌, ◌++◌, length, slice_get, Option, None, Some, refl, sym, ap, ◌∙◌, subst, append-nil, arith}
+use Rattle.std.proofs.Common.{◌≡◌, ◌≢◌, inl, inr, ℕ, zero, suc, ◌+◌, ◌^◌, ◌<◌, Bool, true, false, List, [], ◌∷◌, ◌++◌, length, slice_get, Option, None, Some, refl, sym, ap, ◌∙◌, subst, append-nil, arith}
 use Rattle.std.proofs.lemmas.List.{length-append}
 use Rattle.std.proofs.lemmas.List.Elements.{Contains-append_cases, Contains-append_left, Contains-append_right}
 use Rattle.std.specs.Prelude.{◌==◌, ◌&&◌, not, is_some, Contains, option_and_then, unwrap_or}
@@ -18,7 +18,7 @@ use Rattle.drafts.specs.declared.fate.Fate.TheVariants.{Put}
 use Rattle.gfs2_layout.specs.Holding.{Holding}
 use Rattle.gfs2_layout.specs.Records.{Record}
 use Rattle.gfs2_layout.specs.Structures.{is_directory}
-use Rattle.glock_names.specs.Views.{Seen, HasGroup, IsView}
+use Rattle.glock_names.specs.Views.{Seen, IsView}
 use Rattle.glock_names.specs.declared.LockName.{LockName}
 use Rattle.glock_names.specs.declared.State.TheVariants.{Ex, Sh}
 use Rattle.glock_names.specs.declared.views.Group.{Group}
@@ -45,7 +45,7 @@ use Rattle.hash_dirs.proofs.Gathered.{the_one}
 use Rattle.resource_groups.specs.Freeing.{HasSome}
 use Rattle.resource_groups.specs.Shown.{group_lock}
 use Rattle.group_locks.specs.Groups.{GroupsAreHeld}
-use Rattle.path_walks.specs.Walks.{LeadsTo, Names, at_root, by_name}
+use Rattle.path_walks.specs.Walks.{LeadsTo, at_root, by_name}
 use Rattle.path_walks.specs.declared.walk.Place.{Place}
 use Rattle.path_walks.proofs.Images.{child_is_there, is_shown, says_child, says_records, shown_directory, shown_inode, sound_directory}
 use Rattle.path_walks.proofs.Wants.{at_end, before_end, exclusive, leads_held}
@@ -56,14 +56,14 @@ use Rattle.room_search.specs.Searches as search
 use Rattle.room_search.specs.declared.search.Locked.TheVariants as locked
 use Rattle.room_search.specs.declared.search.Taken.{Taken}
 use Rattle.room_search.specs.declared.search.Taken.TheVariants as taken
-use Rattle.move_ends.specs.Ends.{AreEnds, IsElsewhere, IsRenaming, IsTarget, MovesIn, StoodIn, first_wants, from_path, second_wants, to_path}
+use Rattle.move_ends.specs.Ends.{AreEnds, IsElsewhere, IsRenaming, IsTarget, MovesIn, StoodIn, from_path, to_path}
 use Rattle.name_inserts.specs.Need.{name_need}
 use Rattle.name_moves.specs.Becoming.{GetsName, GetsParent, GivesName, LosesAll, NeedsAfter, losses}
 use Rattle.name_moves.specs.Moving.{CanBeMoved, IsMoveIn, IsMoving, IsPutUnder, Move, StandsThere, entry_for, freed_by, lost_there, of_group, of_inode, of_source, of_target}
 use Rattle.name_moves.specs.Moving as moving
 use Rattle.name_moves.proofs.Alike.{need_once}
 use Rattle.name_moves.proofs.Imaged.{source_directory}
-use Rattle.move_calls.specs.Carrying.{AreTaken, HasRoom, IsCarriedOut, IsSearched}
+use Rattle.move_calls.specs.Carrying.{AreTaken, HasRoom, IsCarriedOut}
 use Rattle.move_calls.specs.Moved.{IsMovedIn, lost_in, replaced_in}
 use Rattle.move_calls.proofs.Room.{all_groups, room_once}
 

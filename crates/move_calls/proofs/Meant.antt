@@ -1,5 +1,5 @@
 -- A name that is meant to move was seen by the walks.
-use Rattle.std.proofs.Common.{inl, ◌≡◌, ℕ, ◌-◌, true, List, [], ◌∷◌, length, Option, None, Some, Result, Ok, Err, Vec, Global, refl, sym, ap, ◌∙◌, subst, arith}
+use Rattle.std.proofs.Common.{inl, ◌≡◌, ℕ, ◌-◌, List, [], ◌∷◌, length, Option, None, Some, Result, Ok, Err, Vec, Global, refl, sym, ap, ◌∙◌, subst, arith}
 use Rattle.std.specs.List.{slice_get}
 use Rattle.std.specs.Prelude.{Contains, IfOk}
 use Rattle.file_tree.specs.Names.{IsName, last_of, parent_of}

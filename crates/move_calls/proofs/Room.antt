@@ -1,16 +1,14 @@
 -- The blocks that were found for a move.
-use Rattle.std.proofs.Common.{◌≡◌, ◌<◌, ◌⊎◌, inl, inr, ℕ, true, false, true≢false, List, [], ◌∷◌, ◌++◌, length, Option, None, Some, sym, ap, ◌∙◌, subst, arith}
+use Rattle.std.proofs.Common.{◌≡◌, ◌<◌, inl, inr, ℕ, true, true≢false, List, [], ◌∷◌, ◌++◌, Option, None, Some, sym, subst, arith}
 use Rattle.std.proofs.lemmas.List.Elements.{Contains-append_cases}
 use Rattle.std.specs.Prelude.{Contains, IfSome, is_some}
-use Rattle.glock_names.specs.Views.{Seen, IsView, HasGroup}
-use Rattle.glock_names.specs.declared.views.Group.{Group}
+use Rattle.glock_names.specs.Views.{Seen, IsView}
 use Rattle.growth_drafts.specs.Taken.{IsDistinct}
 use Rattle.group_locks.specs.Groups.{GroupsAreHeld}
 use Rattle.image_model.proofs.Counts.{all_in}
 use Rattle.image_model.proofs.Members.{is_in}
 use Rattle.image_model.proofs.Rising.{Rising, rising}
 use Rattle.path_walks.specs.Holds.{hold_of_group, holds}
-use Rattle.resource_groups.specs.Freeing.{HasSome}
 use Rattle.resource_groups.specs.Putting.{HasDataBlock}
 use Rattle.resource_groups.proofs.Apart.{one_group}
 use Rattle.room_search.specs.Searches.{AreHeldBlocks}

@@ -1,4 +1,4 @@
-use Rattle.std.proofs.Common.{◌≡◌, [], refl, sym, ap, ◌∙◌, subst}
+use Rattle.std.proofs.Common.{[], ap, ◌∙◌, subst}
 use Rattle.glock_names.proofs.StepLaws.{answer_at, needed_at}
 use Rattle.group_locks.specs.Groups.{GroupsAreHeld}
 use Rattle.path_walks.proofs.Faults.{tells_so, told_on}

@@ -1,9 +1,7 @@
-use Rattle.std.proofs.Common.{◌≡◌, ◌++◌, None, Some, sym, ap, ◌∙◌, subst}
+use Rattle.std.proofs.Common.{◌++◌, None, subst}
 use Rattle.std.specs.Prelude.{IsSome}
 use Rattle.drafts.specs.declared.change.Change.{Change}
-use Rattle.gfs2_layout.specs.Holding.{Holding}
 use Rattle.glock_names.proofs.StepLaws.{answer_at, needed_at}
-use Rattle.directories.specs.Shown.{IsShown}
 use Rattle.path_walks.proofs.Faults.{tells_so, told_on}
 use Rattle.name_inserts.specs.Inserting.{IsNeededForName}
 use Rattle.name_moves.specs.Moving.{IsNeededIn, IsWrongIn, freed_by, move_of}

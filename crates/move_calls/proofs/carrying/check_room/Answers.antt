@@ -1,5 +1,5 @@
-use Rattle.std.proofs.Common.{◌≡◌, ◌≢◌, inl, inr, ℕ, [], None, Some, refl, sym, ap, ◌∙◌, subst}
-use Rattle.std.specs.Prelude.{Contains, IfNone, IfSome}
+use Rattle.std.proofs.Common.{◌≢◌, ℕ, [], sym, ◌∙◌, subst}
+use Rattle.std.specs.Prelude.{Contains, IfNone}
 use Rattle.gfs2_layout.specs.Holding.{Holding}
 use Rattle.glock_names.proofs.StepLaws.{answer_at, needed_at}
 use Rattle.directories.specs.Shown.{IsShown}

@@ -1,5 +1,4 @@
-use Rattle.std.proofs.Common.{◌≡◌, inl, inr, refl, sym, ap, ◌∙◌, subst}
-use Rattle.std.specs.Prelude.{IfNone, IfSome}
+use Rattle.std.proofs.Common.{inl, inr, refl}
 use Rattle.dinode_tree.specs.Broken as inodes
 use Rattle.path_walks.proofs.Faults.{only_so, told_on}
 use Rattle.path_walks.proofs.Steps.{fault_all}

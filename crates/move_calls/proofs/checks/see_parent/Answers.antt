@@ -1,5 +1,5 @@
-use Rattle.std.proofs.Common.{◌≡◌, ◌&&◌, Bool, true, false, Some, refl, sym, ap, ◌∙◌, subst}
-use Rattle.std.specs.Prelude.{None, codes}
+use Rattle.std.proofs.Common.{◌≡◌, ◌&&◌, Bool, true, false, refl, sym, ◌∙◌, subst}
+use Rattle.std.specs.Prelude.{codes}
 use Rattle.gfs2_layout.specs.Structures.{is_directory}
 use Rattle.glock_names.proofs.StepLaws.{answer_at, needed_at}
 use Rattle.directories.specs.Shown.{IsBroken, IsNeededFor, IsShown, Says}
