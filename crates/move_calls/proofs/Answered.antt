@@ -20,7 +20,7 @@ use Rattle.image_model.specs.Image.{Image}
 use Rattle.image_model.specs.Owners.{Owners}
 use Rattle.image_model.specs.Stands.{Layout}
 use Rattle.image_changes.specs.Does.{AreInside, Does, IsInside, IsOf}
-use Rattle.path_walks.specs.Answers.{HasSpace, IfDone, IfNeedBlock, IfNoSpace}
+use Rattle.path_walks.specs.Answers.{HasSpace, IfDone, IfNeedBlock, IfNoSpace, IfNotBuilt}
 use Rattle.path_walks.specs.declared.walk.Place.{Place}
 use Rattle.move_ends.specs.Ends.{AreEnds, IsRenaming, IsTarget, MovesIn, from_path, to_path}
 use Rattle.name_moves.specs.Moving.{CanBeMoved, IsNeededIn, Move}
@@ -28,6 +28,7 @@ use Rattle.move_calls.specs.Answering.{IsAnswerAtEnds, IsAnswerOf, the_move}
 use Rattle.move_calls.specs.Carrying.{IsCarried, NeedsBlock}
 use Rattle.move_calls.specs.Moved.{IsMovedIn}
 use Rattle.move_calls.proofs.Doing.{does, moved_in}
+use Rattle.move_calls.proofs.Unbroken.{not_stuck}
 
 -- ---- a name that is carried
 
@@ -49,6 +50,14 @@ module _ (v : Seen) (c : Call) (from to : Place) (replaced : Option (List ℕ)) 
   carried_moved im o l t of (Ok (NoSpace need free)) is = tt
   carried_moved im o l t of (Ok NotBuilt) is = tt
   carried_moved im o l t of (Err f) is = tt
+
+  pub carried_built : (im : Image) (o : Owners) (l : Layout) (t : Tree) → IsOf v im o l t → (r : Result Attempt CallFault) → IfOk r (IsCarried v node time (the_move c from to replaced)) → IfNotBuilt r ⊥
+  carried_built im o l t of (Ok (Done r change)) is = tt
+  carried_built im o l t of (Ok (NeedLock lock state)) is = tt
+  carried_built im o l t of (Ok (NeedBlock n)) is = tt
+  carried_built im o l t of (Ok (NoSpace need free)) is = tt
+  carried_built im o l t of (Ok NotBuilt) stuck = not_stuck v im o l t of view c from to replaced ends can hash (images im o l t of) node stuck
+  carried_built im o l t of (Err f) is = tt
 
 pub done_so : (P Q : Reply → Change → Type 0) → ((r : Reply) (change : Change) → P r change → Q r change) → (r : Result Attempt CallFault) → IfDone r P → IfDone r Q
 done_so P Q so (Ok (Done r change)) is = so r change is

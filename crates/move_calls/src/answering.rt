@@ -12,7 +12,7 @@ ghost use Rattle.image_model.specs.Owners.{Owners};
 ghost use Rattle.image_model.specs.Stands.{Layout};
 ghost use Rattle.image_changes.specs.Does.{AreInside, Does, IsOf};
 ghost use Rattle.resource_groups.specs.Putting.{HasDataBlock};
-ghost use Rattle.path_walks.specs.Answers.{HasSpace, IfDone, IfNeedBlock, IfNoSpace};
+ghost use Rattle.path_walks.specs.Answers.{HasSpace, IfDone, IfNeedBlock, IfNoSpace, IfNotBuilt};
 ghost use Rattle.path_walks.specs.Holds.{AreHeld};
 ghost use Rattle.move_ends.specs.Ends.{AreEnds, IsRenaming, IsTarget, MovesIn, from_path, inode_holds, to_path};
 ghost use Rattle.move_calls.specs.Moved.{IsMovedIn};
@@ -87,6 +87,7 @@ fn move_name<V: View>(
     ensures answer { IfOk result (IsAnswerOf (V.seen view.now) call.now stamp.now.node stamp.now.time) }
     ensures done { IfDone result (Does (V.seen view.now) call.now) }
     ensures moved { (im : Image) (o : Owners) (l : Layout) (t : Tree) → IsOf (V.seen view.now) im o l t → IfDone result (λ reply change. IsMovedIn im o l call.now stamp.now.node stamp.now.time change) }
+    ensures built { (im : Image) (o : Owners) (l : Layout) (t : Tree) → IsOf (V.seen view.now) im o l t → IfNotBuilt result ⊥ }
     ensures damaged { IfDamaged result (IsDamageFor (V.seen view.now) call.now stamp.now.node) }
     ensures kept { IfDamaged result (IsOfView (V.seen view.now)) }
 {
@@ -121,6 +122,7 @@ fn answer<V: View>(
     ensures done { IfDone result (Does (V.seen view.now) call.now) }
     ensures moved { (im : Image) (o : Owners) (l : Layout) (t : Tree) → IsOf (V.seen view.now) im o l t
         → IfDone result (λ reply change. is_ok reply ≡ true → is_same_path (from_path call.now) (to_path call.now) ≡ false → IsMovedIn im o l call.now stamp.now.node stamp.now.time change) }
+    ensures built { (im : Image) (o : Owners) (l : Layout) (t : Tree) → IsOf (V.seen view.now) im o l t → IfNotBuilt result ⊥ }
     ensures damaged { IfDamaged result (IsDamageFor (V.seen view.now) call.now stamp.now.node) }
     ensures kept { IfDamaged result (IsOfView (V.seen view.now)) }
 {
@@ -161,6 +163,7 @@ pub fn attempt<V: View>(
     ensures absent { IfNeedBlock result (λ missing. (V.seen view.now).block_at missing.block ≡ None) }
     ensures fewer { IfNoSpace result (λ need free. free < need) }
     ensures answered { IfOk result (IsAnswerOf (V.seen view.now) call.now stamp.now.node stamp.now.time) }
+    ensures built { (im : Image) (o : Owners) (l : Layout) (t : Tree) → IsOf (V.seen view.now) im o l t → IfNotBuilt result ⊥ }
     ensures damaged { IfDamaged result (IsDamageFor (V.seen view.now) call.now stamp.now.node) }
     ensures kept { IfDamaged result (IsOfView (V.seen view.now)) }
 {

@@ -9,7 +9,7 @@ use Rattle.name_moves.specs.Moving.{CanBeMoved}
 use Rattle.move_calls.specs.Answering.{IsAnswerOf, IsDamageFor, IsMeant, blocks_of_replaced}
 use Rattle.move_calls.specs.Carrying.{IsCarried, IsDamageOf}
 use Rattle.move_calls.specs.Checks.{IsNeededToSee, IsSeenMove, IsWrongMove}
-use Rattle.move_calls.proofs.Answered.{carried_does, carried_moved}
+use Rattle.move_calls.proofs.Answered.{carried_built, carried_does, carried_moved}
 use Rattle.move_calls.proofs.Meant.{is_meant, ok_so, same_move, was_seen, written}
 use Rattle.move_calls.proofs.answering.move_name.Goals as goal
 
@@ -86,6 +86,23 @@ returns-in-Is-clause-moved g c im o l t of =
     let m = written from to c.last_name.result.now c.last_name-new_name.result.now (option_copied c.blocks_in.result) in
     let can : CanBeMoved v m = answer_at c.in_ok-can_move.field-0 c.in-Is.field-0 (λ done. CanBeMoved v m) c.in-Is.is c.in_ok-can_move.ensures.can in
     carried_moved v call from to r node time c.is_a_view.ensures c.requires.renaming c.requires.ends c.requires.target (subst (CanBeMoved v) (same_move call from to _ _ _ r first second c.blocks_in.ensures) can) (subst (λ n. crc32_of n < 2 ^ 32) second c.hash_fits.ensures)
+    (λ im o l t of. (c.requires.images im o l t of).0) im o l t of c.carry.result
+    (subst (λ m. IfOk c.carry.result (IsCarried v node time m)) (same_move call from to _ _ _ r first second c.blocks_in.ensures) c.carry.ensures.carried)
+
+pub returns-in-Is-clause-built : goal.returns-in-Is-clause-built
+returns-in-Is-clause-built g c im o l t of =
+    let v = g.V.View.seen c.args.view.now in
+    let call = c.args.call.now in
+    let from = c.args.from in
+    let to = c.args.to in
+    let node = c.args.stamp.now.node in
+    let time = c.args.stamp.now.time in
+    let r = blocks_of_replaced c.args.replaced.now in
+    let first = c.last_name.ensures.last ∙ ap last_of (c.names-2.ensures.names ∙ c.from_of.ensures) in
+    let second = c.last_name-new_name.ensures.last ∙ ap last_of (c.names.ensures.names ∙ c.to_of.ensures) in
+    let m = written from to c.last_name.result.now c.last_name-new_name.result.now (option_copied c.blocks_in.result) in
+    let can : CanBeMoved v m = answer_at c.in_ok-can_move.field-0 c.in-Is.field-0 (λ done. CanBeMoved v m) c.in-Is.is c.in_ok-can_move.ensures.can in
+    carried_built v call from to r node time c.is_a_view.ensures c.requires.renaming c.requires.ends c.requires.target (subst (CanBeMoved v) (same_move call from to _ _ _ r first second c.blocks_in.ensures) can) (subst (λ n. crc32_of n < 2 ^ 32) second c.hash_fits.ensures)
     (λ im o l t of. (c.requires.images im o l t of).0) im o l t of c.carry.result
     (subst (λ m. IfOk c.carry.result (IsCarried v node time m)) (same_move call from to _ _ _ r first second c.blocks_in.ensures) c.carry.ensures.carried)
 
