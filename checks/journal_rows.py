@@ -9,17 +9,11 @@ import os
 import sys
 import zlib
 
+sys.dont_write_bytecode = True
+from new_image import crc32c_raw
+
 TOP = os.path.join(os.path.dirname(os.path.abspath(__file__)), "..", "crates", "journal_rows")
 MAGIC = bytes.fromhex("01161970")
-
-
-def crc32c_raw(data):
-    crc = 0xFFFFFFFF
-    for byte in data:
-        crc ^= byte
-        for _ in range(8):
-            crc = (crc >> 1) ^ (0x82F63B78 if crc & 1 else 0)
-    return crc
 
 
 def u32(n):

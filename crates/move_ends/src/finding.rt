@@ -116,7 +116,7 @@ fn walk<V: View>(alloc: Global, view: &V, call: &Call) -> Result<Ends, CallFault
 
 /// What a call that moves a name finds at the ends of its paths, over a view: how it is refused, that it stays, or what is to move where; or the first lock that
 /// isn't held, or a block that isn't there. The lock that puts renames in order comes first, then those of the inodes on both paths. It costs a walk along both, and
-/// where an inode is to go what its blocks cost, and two passes over the records of a linear directory.
+/// where an inode stands at the new name a further look at its directory's dinode, what its blocks cost, and two passes over the records of a linear directory.
 pub fn ends_of<V: View>(alloc: Global, view: &V, call: &Call) -> Result<Ends, CallFault>
     requires { IsRenaming call.now }
     ensures told { IfOk result (IsTold (V.seen view.now) call.now) }

@@ -78,7 +78,7 @@ pub record GetsName (names : List (List ℕ)) (h g : Holding) (new_name : List �
   pub few : length taken ≡ name_need without new_name
   pub touched : IsTouched named g time
 
--- a directory that moves to another parent: its `..` leads there, in its place, and it gets the time
+-- a directory that moves to another parent: its `..` leads there, and it gets the time; of its records the others are as they were, in whatever order
 pub record GetsParent (h g : Holding) (parent : Inum) (time : ℕ) : Type 0 where
   pub old : Record
   pub was : record_named (records_of h) (codes "..") ≡ Some old

@@ -92,8 +92,8 @@ pub fn need_to_move<V: View>(
 
 /// What a draft changes that moves a name: what stands at the new name goes first, with all its blocks, then the old name, and then the new one comes, for
 /// which blocks are taken from the front of `room`, as many as `need_to_move` tells; a directory that gets another parent names it as `..`; and each directory
-/// that is touched gets the time. The blocks of `room` are data blocks of groups, each another one, and none is one of the directories' own or one of those that go.
-/// None isn't answered in an image that stands for a tree. It costs what taking the names and putting one costs, what `redirect` costs where there is another
+/// that is touched gets the time. The blocks of `room` are data blocks of groups, each another one, and none is a dinode's of the move or one of those that go.
+/// In an image that stands for a tree None isn't answered, where the room is free and as much as the name needs. It costs what taking the names and putting one costs, what `redirect` costs where there is another
 /// parent, what `take_blocks` and `free_blocks` cost, two copies of each of three dinodes, and two more of each block that is put.
 pub fn moving<V: View>(
     alloc: Global,

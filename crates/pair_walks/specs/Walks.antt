@@ -47,7 +47,7 @@ pub data IsPairLacked (v : Seen) (p q : Path) (first second : List Want) : LockN
 abbrev pub IsPairUnread : Seen → Path → Path → List Want → List Want → Missing → Type 0
 IsPairUnread v p q first second m = IsUnread v first p m ⊎ IsUnread v second q m
 
--- what is told of two walks; of the second nothing where the first one's end decides
+-- what is told of two walks; of where the second ends nothing where the first one's end decides, but a block on it may be asked for before
 abbrev pub IsPairTold : Seen → Path → Path → List Want → List Want → PairWalk → Type 0
 IsPairTold v p q first second pair.NotFound = IsAbsent v first p
 IsPairTold v p q first second pair.NotDir = (a : ℕ) × IsOnTheWay v first p a (λ h. is_directory_in h ≡ false)
