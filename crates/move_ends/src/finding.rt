@@ -22,8 +22,8 @@ use std::alloc::Global;
 // The lock that puts all renames in order.
 const ORDER: LockName = LockName { kind: 1, number: 3 };
 
-// The path of what moves.
-fn from_of(call: &Call) -> &Path
+/// The path of what moves.
+pub fn from_of(call: &Call) -> &Path
     requires { IsRenaming call.now }
     ensures { result.now ≡ path_of call.now false }
 {
@@ -33,8 +33,8 @@ fn from_of(call: &Call) -> &Path
     }
 }
 
-// The path to which it moves.
-fn to_of(call: &Call) -> &Path
+/// The path to which it moves.
+pub fn to_of(call: &Call) -> &Path
     requires { IsRenaming call.now }
     ensures { result.now ≡ path_of call.now true }
 {

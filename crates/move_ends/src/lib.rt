@@ -6,4 +6,4 @@ mod finding;
 mod over;
 
 pub use ends::Ends;
-pub use finding::ends_of;
+pub use finding::{ends_of, from_of, to_of};

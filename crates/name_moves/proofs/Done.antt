@@ -2,9 +2,10 @@
 use Rattle.std.proofs.Common.{◌≡◌, ◌⊎◌, ◌↔◌, inl, inr, ℕ, ◌+◌, ◌-◌, ◌<◌, ◌≤◌, Bool, true, false, true≢false, List, [], ◌∷◌, ◌++◌, None, Some, refl, sym, ap, ◌∙◌, subst, arith}
 use Rattle.std.proofs.lemmas.Bool.{cases_eq}
 use Rattle.std.proofs.lemmas.List.Elements.{Contains-append_cases, Contains-append_right}
-use Rattle.std.specs.Prelude.{Contains}
+use Rattle.std.specs.Prelude.{Contains, is_some}
 use Rattle.std.specs.Ordering.{nat_cmp}
 use Rattle.std.specs.FinMap.{FinMap, get}
+use Rattle.drafts.specs.Fates.{block_with}
 use Rattle.drafts.specs.declared.change.Change.{Change}
 use Rattle.drafts.specs.declared.fate.Fate.{Fate}
 use Rattle.drafts.specs.declared.fate.Fate.TheVariants.{Freed, Put}
@@ -20,14 +21,15 @@ use Rattle.resource_groups.proofs.Sets.{cases_has, only_has}
 use Rattle.image_model.proofs.Held.{none_some}
 use Rattle.image_model.proofs.Members.{IsIn, contained, is_in}
 use Rattle.image_changes.specs.Does.{AreInside, LiesInGroup}
-use Rattle.image_changes.specs.Drafted.{is_freed, is_gone}
+use Rattle.image_changes.specs.Drafted.{is_freed, is_gone, is_put}
 use Rattle.image_changes.proofs.Inside.{stay_inside}
 use Rattle.path_walks.proofs.Lying.{data_lies, header_lies}
 use Rattle.name_drafts.proofs.Fates.{lock_put}
+use Rattle.name_drafts.proofs.Faults.{data_apart}
 use Rattle.name_moves.specs.Moving.{IsPlaceOfMove, IsPutUnder, Move, PutsUnder, freed_by}
 use Rattle.name_moves.specs.Moving as moving
 use Rattle.name_moves.specs.Steps.{AreJoined, AreSaidAndDone}
-use Rattle.name_moves.proofs.Joined.{what_joined}
+use Rattle.name_moves.proofs.Joined.{target_put, what_joined}
 
 -- what was done over a view
 pub record AreDone (v : Seen) (m : Move) (old : Entry) (room : List ℕ) (time : ℕ) (taken : List ℕ) (change : Change) : Type 0 where
@@ -111,6 +113,12 @@ module _ (v : Seen) (m : Move) (old : Entry) (room : List ℕ) (time : ℕ) (tak
   -- a block that neither goes nor is a group's is as it was before the groups were told
   pub stays : (b : ℕ) → ¬ (Contains (freed_by m) b) → ((g : Group) → HasGroup v g → ¬ (IsHeaderOf g b)) → get last b ≡ get is.fates b
   stays b left far = is.said.others b left (λ g has some own. far g has own)
+
+  -- the dinode of the directory that gets the name is put
+  pub puts_target : ¬ (Contains (freed_by m) m.to.inode) → is_put last m.to.inode ≡ true
+  puts_target left =
+      let put = target_put v m old room time taken is.fates is.joined in
+      ap (λ f. is_some (block_with f None)) (stays m.to.inode left (λ g has own. data_apart v g m.to.inode m.to.inode shows has (inside m.to.inode (moving.IsPlaceOfMove.of_target refl)) own refl) ∙ put.2)
 
   -- a block goes, or is put under one of the locks, in a group, or nothing becomes of it
   abbrev IsPutThere : ℕ → Type 0

@@ -98,6 +98,18 @@ module _ (v : Seen) (m : Move) (old : Entry) (room : List ℕ) (time : ℕ) (tak
       by (left none same) = same ∙ second_at b source ∙ target ∙ sym none
       by (put bytes may part now) = now ∙ sym part
 
+  -- the dinode of the directory that gets the name is put
+  pub target_put : (lock : LockName) × (bytes : List ℕ) × (get fates to ≡ Some (Put lock false bytes))
+  target_put = by (inode_what to)
+    where
+      by_source : WhatPut v m.from [] is.source is.first is.second to → (lock : LockName) × (bytes : List ℕ) × (get is.second to ≡ Some (Put lock false bytes))
+      by_source (left none same) = (inode_lock to, is.named.here.0, same ∙ first_at to ∙ is.named.here.1)
+      by_source (put bytes may part now) = (inode_lock m.from, bytes, now)
+
+      by : WhatPut v m.moved.inode [] is.inode is.second fates to → (lock : LockName) × (bytes : List ℕ) × (get fates to ≡ Some (Put lock false bytes))
+      by (left none same) = let before = by_source (source_what to) in (before.0, before.1, same ∙ before.2)
+      by (put bytes may part now) = (inode_lock m.moved.inode, bytes, now)
+
   -- where one of them has no part
   pub source_nothing : is_within m ≡ true → (b : ℕ) → get is.source b ≡ None
   source_nothing within = nothing_at is.source (is.given.nothing within)

@@ -12,4 +12,5 @@ pub mod Becomes
 pub mod Few
 pub mod Imaged
 pub mod States
+pub mod Alike
 pub mod Moves

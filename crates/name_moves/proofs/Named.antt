@@ -223,7 +223,7 @@ module _ {V : Type 0} (seen : V → Seen) (old mid last : Drafted V) (dir : ℕ)
       }
 
     named_there : IsNamedThere v dir names name e time room inside.taken last.fates
-    named_there = record { left = left; front = inside.front; puts = puts_named; each = named_in }
+    named_there = record { left = left; front = inside.front; puts = puts_named; here = (final, last_here); each = named_in }
 
     -- as many as it took, of the same room
     pub named_of : (whole : List ℕ) (n : ℕ) → room ≡ whole → n + length left ≡ length whole → IsNamedThere v dir names name e time whole (take n whole) last.fates

@@ -38,7 +38,7 @@ use Rattle.image_model.specs.Image.{Image}
 use Rattle.image_model.specs.Owners.{Owners, holding}
 use Rattle.image_model.specs.Stands.{Layout}
 use Rattle.image_changes.specs.Does.{AreInside, IsOf}
-use Rattle.image_changes.specs.Drafted.{IsFinished, is_freed}
+use Rattle.image_changes.specs.Drafted.{IsFinished, is_freed, is_put}
 use Rattle.image_changes.specs.Flats.{in_directory}
 use Rattle.image_changes.specs.Instances.{IsAt, IsChildless, dinode_at, is_directory_at}
 use Rattle.draft_changes.specs.Resizing.{IsSaidFree}
@@ -232,6 +232,8 @@ pub record IsMoving (v : Seen) (m : Move) (room : List ℕ) (time : ℕ) (change
   pub front : room ≡ taken ++ left
   pub locks : PutsUnder v fates m taken
   pub frees : (b : ℕ) → (is_freed fates b ≡ true) ↔ Contains (freed_by m) b
+  -- the dinode of the directory that gets the name is put
+  pub puts : is_put fates m.to.inode ≡ true
   pub inside : AreInside v change
   pub says : (at : ℕ → List ℕ) (g : Group) → HasGroup v g → group.IsShown v g at → SaysMoved at (overlaid (seen_with v fates) at) taken (freed_by m) g
   -- where the old name led

@@ -70,6 +70,7 @@ pub record IsNamedThere (v : Seen) (dir : ℕ) (names : List (List ℕ)) (new_na
   pub left : List ℕ
   pub front : room ≡ taken ++ left
   pub puts : PutsOf v dir taken fates
+  pub here : (bytes : List ℕ) × (get fates dir ≡ Some (Put (inode_lock dir) false bytes))
   pub each : (h : Holding) → IsShown v dir h → IsSound h → ((k : Holding) → LosesAll names h k → CanGetName k new_name room) → IsNamedIn v dir names new_name e time taken fates h
 
 -- the directory became this, in the blocks that it had

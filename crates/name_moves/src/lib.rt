@@ -3,8 +3,10 @@
 
 mod drafting;
 mod joining;
+mod laws;
 mod losing;
 mod parts;
 mod saying;
 
 pub use drafting::{NameMove, moving, need_to_move};
+pub use laws::a_move_needs_one_number;

@@ -1,0 +1,4 @@
+pub mod Checks
+pub mod Carrying
+pub mod Moved
+pub mod Answering

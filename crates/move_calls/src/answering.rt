@@ -1,0 +1,171 @@
+// A try of a call that moves a name, part by part.
+ghost use Rattle.std.specs.Prelude.{ℕ, List, false, true, ◌≡◌, ◌≢◌, ◌≤◌, ◌<◌, ◌^◌, [], None, Some, Contains, IfOk, Option, length};
+ghost use Rattle.std.specs.Option.{option_copied};
+ghost use Rattle.crc_words.specs.Remainder.{crc32_of};
+ghost use Rattle.cluster_history.specs.Changes.{is_ok};
+ghost use Rattle.file_tree.specs.Names.{IsName, is_same_path, last_of as the_last_of};
+ghost use Rattle.file_tree.specs.Tree.{Tree};
+ghost use Rattle.glock_names.specs.Steps.{IfDamaged};
+ghost use Rattle.glock_names.specs.Views.{IsOfView, IsView};
+ghost use Rattle.image_model.specs.Image.{Image};
+ghost use Rattle.image_model.specs.Owners.{Owners};
+ghost use Rattle.image_model.specs.Stands.{Layout};
+ghost use Rattle.image_changes.specs.Does.{AreInside, Does, IsOf};
+ghost use Rattle.resource_groups.specs.Putting.{HasDataBlock};
+ghost use Rattle.path_walks.specs.Answers.{HasSpace, IfDone, IfNeedBlock, IfNoSpace, IfNotBuilt};
+ghost use Rattle.path_walks.specs.Holds.{AreHeld};
+ghost use Rattle.move_ends.specs.Ends.{AreEnds, IsRenaming, IsTarget, MovesIn, from_path, inode_holds, to_path};
+ghost use Rattle.move_calls.specs.Moved.{IsMovedIn};
+ghost use Rattle.move_calls.specs.Answering.{IsAnswerOf, IsDamageFor, blocks_of_replaced};
+
+use crate::carrying::carry;
+use crate::checks::can_move;
+use crc_words::crc32;
+use drafts::{Attempt, Stamp};
+use file_tree::{Call, Name, Reply};
+use glock_names::{CallFault, Step, View};
+use move_ends::{Ends, ends_of, from_of, to_of};
+use name_moves::NameMove;
+use path_walks::{Place, nothing};
+use std::alloc::Global;
+
+// A law: what a node has of the file system is a view of it.
+fn is_a_view<V: View>(view: &V)
+    ensures { IsView (V.seen view.now) }
+{
+    let _size = view.block_size();
+}
+
+// The last of these names.
+fn last_name(names: &[Name]) -> &Name
+    requires { names.now ≢ [] }
+    ensures last { result.now ≡ the_last_of names.now }
+    ensures named { IsName result.now }
+{
+    let Some(last) = names.last() else {
+        unreachable!()
+    };
+    let _bytes = last.bytes();
+    last
+}
+
+// A law: the hash of a name has 32 bits.
+fn hash_fits(name: &Name)
+    ensures { crc32_of name.now < 2 ^ 32 }
+{
+    let _hash = crc32(name.bytes());
+}
+
+// The blocks that go, if something does.
+fn blocks_in(replaced: &Option<Vec<u64>>) -> Option<&[u64]>
+    ensures { option_copied result ≡ blocks_of_replaced replaced.now }
+{
+    match replaced {
+        Some(blocks) => Some(blocks.as_slice()),
+        None => None,
+    }
+}
+
+// Moves the name, as the walks have seen it.
+fn move_name<V: View>(
+    alloc: Global,
+    view: &V,
+    call: &Call,
+    from: Place,
+    to: Place,
+    replaced: &Option<Vec<u64>>,
+    stamp: &Stamp,
+) -> Result<Attempt, CallFault>
+    requires renaming { IsRenaming call.now }
+    requires groups { 1 ≤ length (V.seen view.now).groups }
+    requires node { 1 ≤ stamp.now.node }
+    requires ends { AreEnds (V.seen view.now) call.now from to }
+    requires target { IsTarget (V.seen view.now) call.now from to (blocks_of_replaced replaced.now) }
+    requires inside { (blocks : List ℕ) → blocks_of_replaced replaced.now ≡ Some blocks → (b : ℕ) → Contains blocks b → HasDataBlock (V.seen view.now) b }
+    requires images { (im : Image) (o : Owners) (l : Layout) (t : Tree) → IsOf (V.seen view.now) im o l t
+        → MovesIn (V.seen view.now) im o l t call.now from to (blocks_of_replaced replaced.now) × AreHeld (V.seen view.now) (inode_holds im o l call.now) }
+    ensures answer { IfOk result (IsAnswerOf (V.seen view.now) call.now stamp.now.node stamp.now.time) }
+    ensures done { IfDone result (Does (V.seen view.now) call.now) }
+    ensures moved { (im : Image) (o : Owners) (l : Layout) (t : Tree) → IsOf (V.seen view.now) im o l t → IfDone result (λ reply change. IsMovedIn im o l call.now stamp.now.node stamp.now.time change) }
+    ensures built { (im : Image) (o : Owners) (l : Layout) (t : Tree) → IsOf (V.seen view.now) im o l t → IfNotBuilt result ⊥ }
+    ensures damaged { IfDamaged result (IsDamageFor (V.seen view.now) call.now stamp.now.node) }
+    ensures kept { IfDamaged result (IsOfView (V.seen view.now)) }
+{
+    is_a_view(view);
+    let new_name = last_name(to_of(call).names());
+    hash_fits(new_name);
+    let m = NameMove {
+        from: from.above,
+        name: last_name(from_of(call).names()),
+        to,
+        new_name,
+        moved: from,
+        replaced: blocks_in(replaced),
+    };
+    match can_move(view, &m)? {
+        Step::Is(()) => carry(alloc, view, &m, stamp),
+        Step::NeedBlock(missing) => Ok(Attempt::NeedBlock(missing)),
+    }
+}
+
+// Answers a call that moves a name, by the parts of the answer.
+fn answer<V: View>(
+    alloc: Global,
+    view: &V,
+    call: &Call,
+    stamp: &Stamp,
+) -> Result<Attempt, CallFault>
+    requires renaming { IsRenaming call.now }
+    requires groups { 1 ≤ length (V.seen view.now).groups }
+    requires node { 1 ≤ stamp.now.node }
+    ensures answer { IfOk result (IsAnswerOf (V.seen view.now) call.now stamp.now.node stamp.now.time) }
+    ensures done { IfDone result (Does (V.seen view.now) call.now) }
+    ensures moved { (im : Image) (o : Owners) (l : Layout) (t : Tree) → IsOf (V.seen view.now) im o l t
+        → IfDone result (λ reply change. is_ok reply ≡ true → is_same_path (from_path call.now) (to_path call.now) ≡ false → IsMovedIn im o l call.now stamp.now.node stamp.now.time change) }
+    ensures built { (im : Image) (o : Owners) (l : Layout) (t : Tree) → IsOf (V.seen view.now) im o l t → IfNotBuilt result ⊥ }
+    ensures damaged { IfDamaged result (IsDamageFor (V.seen view.now) call.now stamp.now.node) }
+    ensures kept { IfDamaged result (IsOfView (V.seen view.now)) }
+{
+    match ends_of(alloc, view, call)? {
+        Ends::Refused(reply) => Ok(Attempt::Done {
+            reply,
+            change: nothing(alloc),
+        }),
+        Ends::Stays => Ok(Attempt::Done {
+            reply: Reply::Ok,
+            change: nothing(alloc),
+        }),
+        Ends::Moves { from, to, replaced } => {
+            move_name(alloc, view, call, from, to, &replaced, stamp)
+        }
+        Ends::NeedLock { lock, state } => Ok(Attempt::NeedLock { lock, state }),
+        Ends::NeedBlock(missing) => Ok(Attempt::NeedBlock(missing)),
+    }
+}
+
+/// Tries a call that moves a name, over a view: its answer with what it changes, or the first lock that isn't held, the block that isn't there, or that too few blocks
+/// are free. What stands at the new name goes first, then the old name, and then the new one comes; blocks that go aren't taken again. It costs a walk along both
+/// paths, what `can_move` and `carry` cost, and what removing an inode costs where one goes.
+pub fn attempt<V: View>(
+    alloc: Global,
+    view: &V,
+    call: &Call,
+    stamp: &Stamp,
+) -> Result<Attempt, CallFault>
+    requires renaming { IsRenaming call.now }
+    requires groups { 1 ≤ length (V.seen view.now).groups }
+    requires node { 1 ≤ stamp.now.node }
+    ensures done { IfDone result (Does (V.seen view.now) call.now) }
+    ensures moved { (im : Image) (o : Owners) (l : Layout) (t : Tree) → IsOf (V.seen view.now) im o l t
+        → IfDone result (λ reply change. is_ok reply ≡ true → is_same_path (from_path call.now) (to_path call.now) ≡ false → IsMovedIn im o l call.now stamp.now.node stamp.now.time change) }
+    ensures inside { IfDone result (λ reply change. AreInside (V.seen view.now) change) }
+    ensures spaceless { IfDone result (λ reply change. HasSpace reply) }
+    ensures absent { IfNeedBlock result (λ missing. (V.seen view.now).block_at missing.block ≡ None) }
+    ensures fewer { IfNoSpace result (λ need free. free < need) }
+    ensures answered { IfOk result (IsAnswerOf (V.seen view.now) call.now stamp.now.node stamp.now.time) }
+    ensures built { (im : Image) (o : Owners) (l : Layout) (t : Tree) → IsOf (V.seen view.now) im o l t → IfNotBuilt result ⊥ }
+    ensures damaged { IfDamaged result (IsDamageFor (V.seen view.now) call.now stamp.now.node) }
+    ensures kept { IfDamaged result (IsOfView (V.seen view.now)) }
+{
+    answer(alloc, view, call, stamp)
+}

@@ -1,0 +1,177 @@
+// A move that can be made is carried out.
+ghost use Rattle.std.specs.Prelude.{ℕ, ◌≡◌, ◌≢◌, ◌⊎◌, ◌≤◌, [], length, Contains, IfNone, IfOk, IfSome};
+ghost use Rattle.gfs2_layout.specs.Holding.{Holding};
+ghost use Rattle.glock_names.specs.Steps.{IfDamaged, IfIs, IfNeedBlock};
+ghost use Rattle.glock_names.specs.Views.{HasBlock, IsOfView, IsView};
+ghost use Rattle.directories.specs.Shown as dirs;
+ghost use Rattle.name_inserts.specs.Inserting.{IsNeededForName, IsWrongForName};
+ghost use Rattle.name_inserts.specs.Way.{IsOnWay, IsRightWay};
+ghost use Rattle.name_moves.specs.Moving.{CanBeMoved, freed_by, move_of};
+ghost use Rattle.move_calls.specs.Carrying.{HasRoom, IsCarried, IsCounted, IsDamageOf, IsOffWay};
+
+use crate::checks::freed_blocks;
+use drafts::{Attempt, Stamp};
+use file_tree::Reply;
+use glock_names::{CallFault, State, Step, View};
+use group_locks::lacked_group;
+use name_inserts::block_on_way;
+use name_moves::{NameMove, moving, need_to_move};
+use room_search::{Locked, Taken, find_room};
+use std::alloc::Global;
+
+// A law: what a node has of the file system is a view of it.
+fn is_a_view<V: View>(view: &V)
+    ensures { IsView (V.seen view.now) }
+{
+    let _size = view.block_size();
+}
+
+// The first of the dinodes of a move that is one of these blocks.
+fn taken_dinode(m: &NameMove<'_>, room: &[u64]) -> Option<u64>
+    ensures some { IfSome result (λ b. Contains room.now b × ((b ≡ m.now.from) ⊎ ((b ≡ m.now.to.inode) ⊎ (b ≡ m.now.moved.inode)))) }
+    ensures none { IfNone result ((b : ℕ) → Contains room.now b → (b ≢ m.now.from) × (b ≢ m.now.to.inode) × (b ≢ m.now.moved.inode)) }
+{
+    if room.contains(&m.from) {
+        return Some(m.from);
+    }
+    if room.contains(&m.to.inode) {
+        return Some(m.to.inode);
+    }
+    if room.contains(&m.moved.inode) {
+        return Some(m.moved.inode);
+    }
+    None
+}
+
+// The first of these blocks that goes with what stands at the new name.
+fn taken_that_goes(m: &NameMove<'_>, room: &[u64]) -> Option<u64>
+    ensures some { IfSome result (λ b. Contains room.now b × Contains (freed_by (move_of m.now)) b) }
+    ensures none { IfNone result ((b : ℕ) → Contains room.now b → Contains (freed_by (move_of m.now)) b → ⊥) }
+{
+    let freed = freed_blocks(m);
+    for block in room {
+        if freed.contains(block) {
+            return Some(*block);
+        }
+    }
+    None
+}
+
+// The first of these blocks that is on the way to the new name. Where there are some and none is, the way is right.
+fn taken_on_way<V: View>(
+    view: &V,
+    m: &NameMove<'_>,
+    room: &[u64],
+) -> Result<Step<Option<u64>>, CallFault>
+    requires { CanBeMoved (V.seen view.now) (move_of m.now) }
+    ensures some { (h : Holding) → dirs.IsShown (V.seen view.now) m.now.to.inode h → IfIs result (λ found. IfSome found (λ b. Contains room.now b × IsOnWay h m.now.new_name.now b)) }
+    ensures there { IfIs result (λ found. IfSome found (HasBlock (V.seen view.now))) }
+    ensures none { (h : Holding) → dirs.IsShown (V.seen view.now) m.now.to.inode h → IfIs result (λ found. IfNone found (room.now ≢ [] → IsRightWay (V.seen view.now) h m.now.new_name.now room.now)) }
+    ensures needed { (h : Holding) → dirs.IsShown (V.seen view.now) m.now.to.inode h → IfNeedBlock result (IsNeededForName (V.seen view.now) h m.now.new_name.now) }
+    ensures absent { IfNeedBlock result (λ missing. (V.seen view.now).block_at missing.block ≡ None) }
+    ensures damaged { (h : Holding) → dirs.IsShown (V.seen view.now) m.now.to.inode h → IfDamaged result (IsWrongForName (V.seen view.now) h) }
+    ensures kept { IfDamaged result (IsOfView (V.seen view.now)) }
+{
+    let Some((first, rest)) = room.split_first() else {
+        return Ok(Step::Is(None));
+    };
+    block_on_way(view, m.to.inode, m.new_name.bytes(), *first, rest)
+}
+
+// Looks that the blocks which were found for a move may be taken.
+fn check_room<V: View>(
+    view: &V,
+    m: &NameMove<'_>,
+    room: &[u64],
+    need: u64,
+    node: u8,
+) -> Result<Step<()>, CallFault>
+    requires can { CanBeMoved (V.seen view.now) (move_of m.now) }
+    requires room { HasRoom (V.seen view.now) node (move_of m.now) need room.now }
+    ensures off { IfIs result (λ done. IsOffWay (V.seen view.now) (move_of m.now) room.now) }
+    ensures needed { (h : Holding) → dirs.IsShown (V.seen view.now) m.now.to.inode h → IfNeedBlock result (IsNeededForName (V.seen view.now) h m.now.new_name.now) }
+    ensures absent { IfNeedBlock result (λ missing. (V.seen view.now).block_at missing.block ≡ None) }
+    ensures damaged { IfDamaged result (IsDamageOf (V.seen view.now) node (move_of m.now)) }
+    ensures kept { IfDamaged result (IsOfView (V.seen view.now)) }
+{
+    is_a_view(view);
+    let _need = (need, node);
+    if let Some(block) = taken_dinode(m, room) {
+        return Err(CallFault::Damaged { block, rule: 5 });
+    }
+    if taken_that_goes(m, room).is_some() {
+        return Err(CallFault::Damaged {
+            block: m.to.inode,
+            rule: 5,
+        });
+    }
+    match taken_on_way(view, m, room)? {
+        Step::Is(Some(block)) => Err(CallFault::Damaged { block, rule: 5 }),
+        Step::Is(None) => Ok(Step::Is(())),
+        Step::NeedBlock(missing) => Ok(Step::NeedBlock(missing)),
+    }
+}
+
+// Carries out a move in these blocks.
+fn carry_in<V: View>(
+    alloc: Global,
+    view: &V,
+    m: &NameMove<'_>,
+    room: &[u64],
+    need: u64,
+    stamp: &Stamp,
+) -> Result<Attempt, CallFault>
+    requires can { CanBeMoved (V.seen view.now) (move_of m.now) }
+    requires room { HasRoom (V.seen view.now) stamp.now.node (move_of m.now) need room.now }
+    ensures carried { IfOk result (IsCarried (V.seen view.now) stamp.now.node stamp.now.time (move_of m.now)) }
+    ensures damaged { IfDamaged result (IsDamageOf (V.seen view.now) stamp.now.node (move_of m.now)) }
+    ensures kept { IfDamaged result (IsOfView (V.seen view.now)) }
+{
+    is_a_view(view);
+    match check_room(view, m, room, need, stamp.node)? {
+        Step::Is(()) => {}
+        Step::NeedBlock(missing) => return Ok(Attempt::NeedBlock(missing)),
+    }
+    match moving(alloc, view, m, room, stamp.time)? {
+        Step::Is(Some(change)) => Ok(Attempt::Done {
+            reply: Reply::Ok,
+            change,
+        }),
+        Step::Is(None) => Ok(Attempt::NotBuilt),
+        Step::NeedBlock(missing) => Ok(Attempt::NeedBlock(missing)),
+    }
+}
+
+/// Carries out a move that can be made: the blocks that it needs are counted, the locks of the groups of what goes are looked at, and then those under which
+/// blocks are found. It costs what `need_to_move`, `find_room` and `moving` cost, and passes over the blocks.
+pub fn carry<V: View>(
+    alloc: Global,
+    view: &V,
+    m: &NameMove<'_>,
+    stamp: &Stamp,
+) -> Result<Attempt, CallFault>
+    requires can { CanBeMoved (V.seen view.now) (move_of m.now) }
+    requires groups { 1 ≤ length (V.seen view.now).groups }
+    requires node { 1 ≤ stamp.now.node }
+    ensures carried { IfOk result (IsCarried (V.seen view.now) stamp.now.node stamp.now.time (move_of m.now)) }
+    ensures damaged { IfDamaged result (IsDamageOf (V.seen view.now) stamp.now.node (move_of m.now)) }
+    ensures kept { IfDamaged result (IsOfView (V.seen view.now)) }
+{
+    is_a_view(view);
+    let need = match need_to_move(alloc, view, m)? {
+        Step::Is(need) => need,
+        Step::NeedBlock(missing) => return Ok(Attempt::NeedBlock(missing)),
+    };
+    if let Some(lock) = lacked_group(view, freed_blocks(m)) {
+        return Ok(Attempt::NeedLock {
+            lock,
+            state: State::Ex,
+        });
+    }
+    match find_room(alloc, view, stamp.node, need)? {
+        Locked::Is(Taken::Is(room)) => carry_in(alloc, view, m, &room, need, stamp),
+        Locked::Is(Taken::TooFew(free)) => Ok(Attempt::NoSpace { need, free }),
+        Locked::NeedLock { lock, state } => Ok(Attempt::NeedLock { lock, state }),
+        Locked::NeedBlock(missing) => Ok(Attempt::NeedBlock(missing)),
+    }
+}

@@ -1,0 +1,10 @@
+//! The call that moves a name, over a view: `rename`.
+#![tactic(auto)]
+
+mod answering;
+mod carrying;
+mod checks;
+
+pub use answering::attempt;
+pub use carrying::carry;
+pub use checks::{can_move, freed_blocks};
