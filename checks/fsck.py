@@ -367,7 +367,7 @@ def is_progress(line):
 
 # ---- random scripts
 
-WORDS = ["create"] * 5 + ["mkdir"] * 3 + ["unlink"] * 2 + ["rmdir"] * 2 + ["write"] * 7 + ["truncate"] * 2 + ["read"] * 3 + ["stat"] * 3 + ["list"] * 2 + ["sync"]
+WORDS = ["create"] * 5 + ["mkdir"] * 3 + ["unlink"] * 2 + ["rmdir"] * 2 + ["write"] * 7 + ["truncate"] * 2 + ["rename"] * 4 + ["read"] * 3 + ["stat"] * 3 + ["list"] * 2 + ["sync"]
 
 
 def new_image(random, folder):
@@ -418,6 +418,8 @@ def some_call(random, paths, size):
     word, path = random.choice(WORDS), some_path(random, paths)
     if word == "sync":
         return word
+    if word == "rename":
+        return "rename %s %s" % (path, some_path(random, paths))
     if word == "read":
         return "read %s %d %d" % (path, some_place(random, size), random.choice((0, 1, 7, 16384)))
     if word == "truncate":
@@ -440,7 +442,11 @@ def crowded_call(random, place, crowd):
         name = alike(40)[number // 4 % 40]
     else:
         name = "%d%s" % (number, "n" * (number * 37 % 250 if number % 3 else 0))
-    return "%s %s/%s" % (random.choice(["create"] * 12 + ["mkdir"] * 4 + ["unlink"] * 5 + ["rmdir", "stat", "stat"]), place.rstrip("/"), name)
+    word, path = random.choice(["create"] * 12 + ["mkdir"] * 4 + ["unlink"] * 5 + ["rename"] * 5 + ["rmdir", "stat", "stat"]), place.rstrip("/") + "/" + name
+    if word == "rename":
+        other = random.choice((place.rstrip("/"), "", "/a")) + "/" + random.choice((name, "%d" % random.randrange(crowd), name[:-1] + "z"))
+        return "rename %s %s" % random.choice(((path, other), (other, path)))
+    return "%s %s" % (word, path)
 
 
 @lru_cache
@@ -465,11 +471,13 @@ def some_script(random, disk):
         else:
             call = some_call(random, paths, disk.size)
         reply = disk.answer(call)[0]
-        word, path = (call.split(" ") + [""])[:2]
+        word, path, other = (call.split(" ") + ["", ""])[:3]
         if reply == "ok" and word in ("create", "mkdir"):
             paths += [path] * (4 if word == "mkdir" else 1)
         elif reply == "ok" and word in ("unlink", "rmdir"):
             paths = [it for it in paths if it != path]
+        elif reply == "ok" and word == "rename" and path != other:
+            paths = [other + it[len(path):] if (it + "/").startswith(path + "/") else it for it in paths if it != other]
         lines.append("%s: %s" % (random.choice("pq"), call))
         if random.randrange(20) == 0:
             lines.append("wait")

@@ -614,18 +614,79 @@ class Disk:
             raise Refused("notdir" if is_directory else "isdir")
         if is_directory and self.names(inode):
             raise Refused("notempty")
-        below = [block for block, _ in self.blocks_under(inode, 232, self.field(inode, 138, 2))] if self.field(inode, 138, 2) else []
-        for block in below + (self.leaves(inode) if is_directory and self.is_hashed(inode) else []):
-            self.set_state(block, 0)
-            self.count(block, 1, 0)
-        self.set_state(inode, 0)
-        self.count(inode, 1, -1)
+        self.free(inode)
         self.remove(parent, names[-1])
         self.put(parent, 148, self.field(parent, 148, 4) - 1, 4)
         if is_directory:
             self.put(parent, 52, self.field(parent, 52, 4) - 1, 4)
         self.stamp(parent)
         return "ok"
+
+    def free(self, inode):
+        """Frees an inode with all its blocks, which keep their bytes."""
+        height = self.field(inode, 138, 2)
+        below = [block for block, _ in self.blocks_under(inode, 232, height)] if height else []
+        for block in below + (self.leaves(inode) if self.is_directory(inode) and self.is_hashed(inode) else []):
+            self.set_state(block, 0)
+            self.count(block, 1, 0)
+        self.set_state(inode, 0)
+        self.count(inode, 1, -1)
+
+    def rename(self, old, new):
+        if not old:
+            raise Refused("inside")
+        if not new:
+            raise Refused("exists")
+        above, inode = self.walk(old)[-2:]
+        if new == old:
+            return "ok"
+        if new[:len(old)] == old:
+            raise Refused("inside")
+        parent = self.walk(new[:-1])[-1]
+        if not self.is_directory(parent):
+            raise Refused("notdir")
+        found, is_directory = self.look(parent, new[-1]), self.is_directory(inode)
+        if found and self.is_directory(found[2]) != is_directory:
+            raise Refused("notdir" if is_directory else "isdir")
+        if found and is_directory and self.names(found[2]):
+            raise Refused("notempty")
+        self.move(above, old[-1], inode, parent, new[-1], found and found[2])
+        return "ok"
+
+    def move(self, above, name, inode, parent, new_name, replaced):
+        """What stands at the new name goes first, then the old name, and then the new one comes. Blocks that go aren't taken."""
+        before, free, is_directory = self.data[:], self.free_count(), self.is_directory(inode)
+        if replaced:
+            self.remove(parent, new_name)
+        self.remove(above, name)
+        need = self.need(parent, new_name)
+        if need > free:
+            self.data = before
+            raise Refused("nospace", need)
+        self.insert(parent, new_name, self.field(inode, 24, 8), inode, 4 if is_directory else 8)
+        if self.free_count() != free - need:
+            raise ValueError("%d blocks were needed, not %d" % (free - self.free_count(), need))
+        if replaced:
+            self.free(replaced)
+        gone = 1 if replaced else 0
+        self.put(above, 148, self.field(above, 148, 4) - 1, 4)
+        self.put(parent, 148, self.field(parent, 148, 4) + 1 - gone, 4)
+        if is_directory:
+            self.put(above, 52, self.field(above, 52, 4) - 1, 4)
+            self.put(parent, 52, self.field(parent, 52, 4) + 1 - gone, 4)
+        if is_directory and parent != above:
+            self.lead_up(inode, parent)
+            self.stamp(inode)
+        for directory in {above, parent}:
+            self.stamp(directory)
+
+    def lead_up(self, directory, parent):
+        """Has the directory's `..` lead to another one."""
+        for block, place in self.areas_for(directory, b".."):
+            for at, used, _ in self.slots(block, place):
+                start = block * self.size + at
+                if used and bytes(self.data[start + 40:start + 40 + self.word(start + 22, 2)]) == b"..":
+                    self.put(block, at, pack(">QQ", self.field(parent, 24, 8), parent))
 
     def write(self, names, at, content):
         inode = self.file_at(names, at + len(content))
@@ -676,6 +737,8 @@ class Disk:
                 return self.make(names, word == "mkdir"), None
             if word in ("unlink", "rmdir"):
                 return self.drop(names, word == "rmdir"), None
+            if word == "rename":
+                return self.rename(names, names_of(others[1])), None
             if word == "write":
                 return self.write(names, int(others[1]), content_of(others[2])), None
             if word == "truncate":

@@ -1,8 +1,8 @@
 -- What a call of the run tells as damage is so of the image as it then is.
-use Rattle.std.proofs.Common.{◌≡◌, ◌⊎◌, inl, inr, ℕ, ◌<◌, false, List, sym, subst}
+use Rattle.std.proofs.Common.{◌≡◌, ◌⊎◌, inl, inr, ℕ, ◌<◌, List, sym, subst}
 use Rattle.std.specs.Prelude.{Contains}
-use Rattle.call_locks.specs.Wants.{wanted}
-use Rattle.call_locks.specs.WantLaws.{path_of}
+use Rattle.call_locks.specs.declared.want.Want.{Want}
+use Rattle.image_model.specs.Flat.{Path}
 use Rattle.file_tree.specs.declared.call.Call.{Call}
 use Rattle.gfs2_layout.specs.Device.{superblock_place}
 use Rattle.glock_names.specs.Views.{HasBlock}
@@ -13,7 +13,7 @@ use Rattle.image_mount.specs.Mounted.{MountedValue, IsMounted}
 use Rattle.shared_disk.specs.Disk.{DiskState}
 use Rattle.lone_view.specs.Seeing.{Lone, seen_alone}
 use Rattle.lone_node.specs.Answering.{IsDamagedFor, IsDamagedOn, as_shown, leads_out, source_of}
-use Rattle.damage_laws.specs.Telling.{CallsTellExactly, IsTold, NeedsTell, MountedAreRead, HasRootInside, HasWholeGroups, IsOfMounted, IsReadFrom}
+use Rattle.damage_laws.specs.Telling.{CallsTellExactly, IsPathOf, IsTold, IsToldOn, NeedsTell, MountedAreRead, HasRootInside, HasWholeGroups, IsOfMounted, IsReadFrom}
 use Rattle.damage_laws.specs.Telling as telling
 use Rattle.cluster_program.specs.Mounting.{OfImage}
 use Rattle.cluster_program.specs.Runs.{IsToldBroken, as_mounted, beyond, itself}
@@ -37,13 +37,17 @@ told calls needs read given left m call b rule image inside damaged tells mounte
     there x (inl is) = subst (λ y. y < left.count) (sym is) mounted.found.groups.list.master.format.super.inside
     there x (inr has) = damaged.later.on.inside x has.0 has.1
 
-    shown : (rule b : ℕ) → HasBlock (seen_alone damaged.view) b → IsTold (seen_alone damaged.view) (image_of left) (wanted call) (path_of call false) rule b → IsToldBroken (seen_alone damaged.view) (image_of left) call rule b
-    shown _ _ has (telling.itself rule b breaks) = itself (record { breaks = breaks; there = inl (there b (inr has)) })
-    shown _ _ has (telling.astray rule b out) = beyond out
+    shown : (wants : List Want) (names : Path) → IsPathOf call wants names → (rule b : ℕ) → HasBlock (seen_alone damaged.view) b → IsTold (seen_alone damaged.view) (image_of left) wants names rule b
+        → IsToldBroken (seen_alone damaged.view) (image_of left) call rule b
+    shown wants names on _ _ has (telling.itself rule b breaks) = itself (record { breaks = breaks; there = inl (there b (inr has)) })
+    shown wants names on _ _ has (telling.astray rule b out) = beyond (record { wants = wants; names = names; on = on; astray = out })
+
+    on_path : (rule b : ℕ) → HasBlock (seen_alone damaged.view) b → IsToldOn (seen_alone damaged.view) (image_of left) call rule b → IsToldBroken (seen_alone damaged.view) (image_of left) call rule b
+    on_path rule b has is = shown is.wants is.names is.on rule b has is.told
 
     by_view : (b rule : ℕ) → IsDamagedFor left (seen_alone damaged.view) call b rule → IsToldBroken (seen_alone damaged.view) (image_of left) call rule b
     by_view _ _ (as_shown b rule has damage) =
-        shown rule b has (calls (seen_alone damaged.view) (image_of left) call rule b from.0 from.1 (inside_yet (as_mounted given m) damaged.view damaged.later.same.root damaged.later.same.groups inside) damage)
+        on_path rule b has (calls (seen_alone damaged.view) (image_of left) call rule b from.0 from.1 (inside_yet (as_mounted given m) damaged.view damaged.later.same.root damaged.later.same.groups inside) damage)
     by_view _ _ (leads_out m needed out) = elim (needs (seen_alone damaged.view) (image_of left) call m from.0 from.1 needed out) [
       | inl source ↦ itself (record { breaks = source.breaks; there = inl (there (source_of left.size m) source.there) })
       | inr astray ↦ beyond astray

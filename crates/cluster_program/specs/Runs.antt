@@ -2,8 +2,6 @@
 use Rattle.std.specs.Prelude.{ℕ, ◌≡◌, ◌≢◌, ◌+◌, ◌<◌, ⊤, true, false, IfSome, IsSome, List, [], length, slice_get, Option, None, Some}
 use Rattle.std.specs.FinMap.{empty}
 use Rattle.fault_counts.specs.Causes.{WentUp}
-use Rattle.call_locks.specs.WantLaws.{path_of}
-use Rattle.call_locks.specs.Wants.{wanted}
 use Rattle.file_tree.specs.Tree.{Tree}
 use Rattle.file_tree.specs.declared.call.Call.{Call}
 use Rattle.cluster_history.specs.History.{Legal, NoneLost, tree_of}
@@ -17,7 +15,7 @@ use Rattle.run_rules.specs.Follows.{history_of}
 use Rattle.run_rules.specs.History.{HoldsHistory, NoneStopped, AllAnswered}
 use Rattle.shared_disk.specs.Disk.{DiskState, IsIdle}
 use Rattle.lone_view.specs.Seeing.{Lone, seen_alone}
-use Rattle.damage_laws.specs.Telling.{HasAstray, HasRootInside}
+use Rattle.damage_laws.specs.Telling.{HasAstrayOn, HasRootInside}
 use Rattle.lone_node.specs.Answering.{IsDamagedOn, IsSameDisk, IsUnbuiltOn}
 use Rattle.lone_node.specs.Course.{IsCourse, moment}
 use Rattle.lone_node.specs.Run.{EndsAt, EndsAtCall, HasChangedNothing, IsFailedOn, IsRunOf, IsWholeRun}
@@ -43,11 +41,11 @@ AtPlace given s items place P = EndsAt place P s.clients s.lines items (IsImageO
 abbrev pub first_line : ScriptValue → ℕ
 first_line s = 2 + length s.clients + length s.armed
 
--- What this call tells as damage: a block that breaks this rule. But where a hashed directory on its path, as the view shows this, has a block that is beyond
+-- What this call tells as damage: a block that breaks this rule. But where a hashed directory on a path of it, as the view shows this, has a block that is beyond
 -- the device, that is broken, and what is told may be another block.
 pub data IsToldBroken (v : Seen) (im : Image) (call : Call) (rule block : ℕ) : Type 0 where
   itself : IsBrokenBlock im rule block → IsToldBroken v im call rule block
-  beyond : HasAstray v im (wanted call) (path_of call false) → IsToldBroken v im call rule block
+  beyond : HasAstrayOn v im call → IsToldBroken v im call rule block
 
 -- The call meets a block that breaks this rule, as what the node may have read by then shows it; and that is so of the image as it then was, if this still has
 -- what was mounted of it.

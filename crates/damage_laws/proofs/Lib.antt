@@ -5,7 +5,10 @@ pub mod Owned
 pub mod Leaves
 pub mod Gone
 pub mod Paths
+pub mod Inodes
 pub mod Calls
+pub mod Moves
+pub mod AllCalls
 pub mod Standing
 pub mod Mounted
 pub mod Needed

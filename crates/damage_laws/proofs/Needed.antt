@@ -40,10 +40,10 @@ use Rattle.file_calls.specs.Removing as removing
 use Rattle.file_calls.specs.Writing as writing
 use Rattle.file_calls.specs.FileDrafting.{IsNeededAt, of_any, of_group, of_inode}
 use Rattle.growth_drafts.specs.Taken.{IsCutAt, IsLookedAt}
-use Rattle.damage_laws.specs.Telling.{IsReadFrom, HasWholeGroups, HasAstray, IsAstray, IsBrokenSource, NeedsTell, source_of}
+use Rattle.damage_laws.specs.Telling.{IsReadFrom, HasWholeGroups, HasAstray, HasAstrayOn, IsAstray, IsBrokenSource, NeedsTell, its_own, source_of}
 use Rattle.damage_laws.proofs.Astray.{led_beyond, whole_or_out}
 use Rattle.damage_laws.proofs.Claimed.{shown, root_claimed, is_directory, directory_or, led_there, astray_at, further}
-use Rattle.damage_laws.proofs.Calls.{led_inside}
+use Rattle.damage_laws.proofs.Inodes.{led_inside}
 use Rattle.damage_laws.proofs.Owned.{from_parent}
 
 -- the view has the block, or hasn't
@@ -293,22 +293,26 @@ module _ (v : Seen) (im : Image) (read : IsReadFrom v im) (whole : HasWholeGroup
   writing_out call m (writing.of_freed a size time freed fates changes cuts draft held needs) out = file_out (wanted call) (path_of call false) a (λ h i. ⊥) freed m changes.at.leads needs out
   writing_out call m (writing.of_room a at new need changes puts has needed) out = absurd (omega (arith, out, whole.headers needed.group m.block needed.has needed.missing.own))
 
+-- what is so on the call's one path
+own_source : (v : Seen) (im : Image) (call : Call) (m : Missing) → IsBrokenSource v im (source_of im.size m) ⊎ HasAstray v im (wanted call) (path_of call false) → IsBrokenSource v im (source_of im.size m) ⊎ HasAstrayOn v im call
+own_source v im call m (inl source) = inl source
+own_source v im call m (inr ahead) = inr (record { wants = wanted call; names = path_of call false; on = its_own; astray = ahead })
+
 pub needs_tell : NeedsTell
-needs_tell v im (calls.Create p) m read whole needs out = making_out v im read whole (calls.Create p) m needs out
-needs_tell v im (calls.Mkdir p) m read whole needs out = making_out v im read whole (calls.Mkdir p) m needs out
-needs_tell v im (calls.Unlink p) m read whole needs out = removal_out v im read whole (calls.Unlink p) m needs out
-needs_tell v im (calls.Rmdir p) m read whole needs out = removal_out v im read whole (calls.Rmdir p) m needs out
-needs_tell v im (calls.Read p at n) m read whole (reading.on_path unread) out = unread_out v im read whole (wanted (calls.Read p at n)) (path_of (calls.Read p at n) false) m unread out
-needs_tell v im (calls.Read p at n) m read whole (reading.at_end a leads asked) out = needed_out v im read whole (wanted (calls.Read p at n)) (path_of (calls.Read p at n) false) a m leads (λ h. IsInRange h at n) 0 (λ h shown. (asked h shown).1) out
-needs_tell v im (calls.Dread p at n) m read whole (reading.on_path unread) out = unread_out v im read whole (wanted (calls.Dread p at n)) (path_of (calls.Dread p at n) false) m unread out
-needs_tell v im (calls.Dread p at n) m read whole (reading.at_end a leads asked) out = needed_out v im read whole (wanted (calls.Dread p at n)) (path_of (calls.Dread p at n) false) a m leads (λ h. IsInRange h at n) 0 (λ h shown. (asked h shown).1) out
-needs_tell v im (calls.Write p at bytes) m read whole needs out = writing_out v im read whole (calls.Write p at bytes) m needs out
-needs_tell v im (calls.Truncate p n) m read whole needs out = writing_out v im read whole (calls.Truncate p n) m needs out
-needs_tell v im (calls.Stat p) m read whole (reading.on_path unread) out = unread_out v im read whole (wanted (calls.Stat p)) (path_of (calls.Stat p) false) m unread out
-needs_tell v im (calls.Stat p) m read whole (reading.at_end a leads asked) out = directory_out v im read whole (wanted (calls.Stat p)) (path_of (calls.Stat p) false) a m leads asked.0 asked.2 (λ h seen. all_way v im read whole h m out (asked.1 h seen).2) out
-needs_tell v im (calls.List p) m read whole (reading.on_path unread) out = unread_out v im read whole (wanted (calls.List p)) (path_of (calls.List p) false) m unread out
-needs_tell v im (calls.List p) m read whole (reading.at_end a leads asked) out = directory_out v im read whole (wanted (calls.List p)) (path_of (calls.List p) false) a m leads asked.0 asked.2 (λ h seen. all_way v im read whole h m out (asked.1 h seen)) out
-needs_tell v im (calls.Rename p q) m read whole (reading.on_path unread) out = unread_out v im read whole (wanted (calls.Rename p q)) (path_of (calls.Rename p q) false) m unread out
-needs_tell v im (calls.Rename p q) m read whole (reading.at_end a leads asked) out = absurd asked
-needs_tell v im calls.Sync m read whole (reading.on_path unread) out = unread_out v im read whole (wanted calls.Sync) (path_of calls.Sync false) m unread out
+needs_tell v im (calls.Create p) m read whole needs out = own_source v im (calls.Create p) m (making_out v im read whole (calls.Create p) m needs out)
+needs_tell v im (calls.Mkdir p) m read whole needs out = own_source v im (calls.Mkdir p) m (making_out v im read whole (calls.Mkdir p) m needs out)
+needs_tell v im (calls.Unlink p) m read whole needs out = own_source v im (calls.Unlink p) m (removal_out v im read whole (calls.Unlink p) m needs out)
+needs_tell v im (calls.Rmdir p) m read whole needs out = own_source v im (calls.Rmdir p) m (removal_out v im read whole (calls.Rmdir p) m needs out)
+needs_tell v im (calls.Read p at n) m read whole (reading.on_path unread) out = own_source v im (calls.Read p at n) m (unread_out v im read whole (wanted (calls.Read p at n)) (path_of (calls.Read p at n) false) m unread out)
+needs_tell v im (calls.Read p at n) m read whole (reading.at_end a leads asked) out = own_source v im (calls.Read p at n) m (needed_out v im read whole (wanted (calls.Read p at n)) (path_of (calls.Read p at n) false) a m leads (λ h. IsInRange h at n) 0 (λ h shown. (asked h shown).1) out)
+needs_tell v im (calls.Dread p at n) m read whole (reading.on_path unread) out = own_source v im (calls.Dread p at n) m (unread_out v im read whole (wanted (calls.Dread p at n)) (path_of (calls.Dread p at n) false) m unread out)
+needs_tell v im (calls.Dread p at n) m read whole (reading.at_end a leads asked) out = own_source v im (calls.Dread p at n) m (needed_out v im read whole (wanted (calls.Dread p at n)) (path_of (calls.Dread p at n) false) a m leads (λ h. IsInRange h at n) 0 (λ h shown. (asked h shown).1) out)
+needs_tell v im (calls.Write p at bytes) m read whole needs out = own_source v im (calls.Write p at bytes) m (writing_out v im read whole (calls.Write p at bytes) m needs out)
+needs_tell v im (calls.Truncate p n) m read whole needs out = own_source v im (calls.Truncate p n) m (writing_out v im read whole (calls.Truncate p n) m needs out)
+needs_tell v im (calls.Stat p) m read whole (reading.on_path unread) out = own_source v im (calls.Stat p) m (unread_out v im read whole (wanted (calls.Stat p)) (path_of (calls.Stat p) false) m unread out)
+needs_tell v im (calls.Stat p) m read whole (reading.at_end a leads asked) out = own_source v im (calls.Stat p) m (directory_out v im read whole (wanted (calls.Stat p)) (path_of (calls.Stat p) false) a m leads asked.0 asked.2 (λ h seen. all_way v im read whole h m out (asked.1 h seen).2) out)
+needs_tell v im (calls.List p) m read whole (reading.on_path unread) out = own_source v im (calls.List p) m (unread_out v im read whole (wanted (calls.List p)) (path_of (calls.List p) false) m unread out)
+needs_tell v im (calls.List p) m read whole (reading.at_end a leads asked) out = own_source v im (calls.List p) m (directory_out v im read whole (wanted (calls.List p)) (path_of (calls.List p) false) a m leads asked.0 asked.2 (λ h seen. all_way v im read whole h m out (asked.1 h seen)) out)
+needs_tell v im (calls.Rename p q) m read whole needs out = moves_out v im read whole p q m needs out
+needs_tell v im calls.Sync m read whole (reading.on_path unread) out = own_source v im calls.Sync m (unread_out v im read whole (wanted calls.Sync) (path_of calls.Sync false) m unread out)
 needs_tell v im calls.Sync m read whole (reading.at_end a leads asked) out = absurd asked

@@ -111,7 +111,7 @@ module _ (v : Seen) (im : Image) (read : IsReadFrom v im) (is_image : IsImage im
       ]
 
   -- a name in a directory that leads to this itself
-  named_twice : (path : Path) (a : ℕ) → LeadsTo v wants path a → path ≢ [] → LeadsTo v wants (parent_of path) a → Breaks im 3 a ⊎ IsAhead path
+  pub named_twice : (path : Path) (a : ℕ) → LeadsTo v wants path a → path ≢ [] → LeadsTo v wants (parent_of path) a → Breaks im 3 a ⊎ IsAhead path
   named_twice path a (at_root held) some above = absurd (some refl)
   named_twice path a (by_name front dir b last leads is names inside held) some above =
       let up : HasAstray v im wants front → HasAstray v im wants (front ++ last ∷ []) = λ astray. further v im read is_image wants front (last ∷ []) (front ++ last ∷ []) refl astray in

@@ -1,11 +1,12 @@
 -- What a call tells of a view as damage, in each image that the view may have been read from.
-use Rattle.std.specs.Prelude.{ℕ, ◌≡◌, ◌⊎◌, ◌↔◌, ◌==◌, ◌<◌, ◌≤◌, false, true, if◌then◌else◌, List, ◌++◌}
+use Rattle.std.specs.Prelude.{ℕ, Bool, ◌≡◌, ◌⊎◌, ◌↔◌, ◌==◌, ◌<◌, ◌≤◌, false, true, if◌then◌else◌, List, ◌++◌}
 use Rattle.draft_changes.specs.Shown.{AgreesWith}
 use Rattle.call_locks.specs.declared.want.Want.{Want}
-use Rattle.call_locks.specs.Wants.{wanted}
+use Rattle.call_locks.specs.Wants.{at_old_name, wanted}
 use Rattle.call_locks.specs.WantLaws.{path_of}
 use Rattle.file_calls.specs.Calls as calls
 use Rattle.file_tree.specs.declared.call.Call.{Call}
+use Rattle.file_tree.specs.declared.call.Call.TheVariants.{Rename}
 use Rattle.file_tree.specs.Tree.{Tree}
 use Rattle.gfs2_layout.specs.Device.{superblock_place}
 use Rattle.gfs2_layout.specs.Inode.{is_hashed_in}
@@ -80,9 +81,28 @@ pub data IsTold (v : Seen) (im : Image) (wants : List Want) (names : Path) : ℕ
   itself : (rule b : ℕ) → Breaks im rule b → IsTold v im wants names rule b
   astray : (rule b : ℕ) → HasAstray v im wants names → IsTold v im wants names rule b
 
--- The same of a call; and (2) the root is told, where that is in no group: the superblock, which has its number, breaks the rule.
+-- A path of the call, and the inodes that it takes on it: its one path; or of one that moves a name the path to the old name, or to the new one.
+pub data IsPathOf (call : Call) : List Want → Path → Type 0 where
+  its_own : IsPathOf call (wanted call) (path_of call false)
+  of_move : (from to : Path) (second : Bool) → call ≡ Rename from to → IsPathOf call (at_old_name second (path_of call second)) (path_of call second)
+
+-- a hashed directory on a path of the call, or at its end, has a block that is beyond the device
+pub record HasAstrayOn (v : Seen) (im : Image) (call : Call) : Type 0 where
+  pub wants : List Want
+  pub names : Path
+  pub on : IsPathOf call wants names
+  pub astray : HasAstray v im wants names
+
+-- what is told as damage on a path of the call
+pub record IsToldOn (v : Seen) (im : Image) (call : Call) (rule b : ℕ) : Type 0 where
+  pub wants : List Want
+  pub names : Path
+  pub on : IsPathOf call wants names
+  pub told : IsTold v im wants names rule b
+
+-- The same; and (2) the root is told, where that is in no group: the superblock, which has its number, breaks the rule.
 pub data IsToldOf (v : Seen) (im : Image) (call : Call) : ℕ → ℕ → Type 0 where
-  on_path : (rule b : ℕ) → IsTold v im (wanted call) (path_of call false) rule b → IsToldOf v im call rule b
+  on_path : (rule b : ℕ) → IsToldOn v im call rule b → IsToldOf v im call rule b
   by_root : ¬ (HasRootInside v) → Breaks im 2 (superblock_place im.size) → IsToldOf v im call 2 v.root
 
 -- ---- laws
@@ -109,28 +129,35 @@ WritesTell = (v : Seen) (im : Image) (call : Call) (rule b : ℕ) → IsReadFrom
 
 -- and where the root is in a group, without that exception
 abbrev pub WritesTellExactly : Type 0
-WritesTellExactly = (v : Seen) (im : Image) (call : Call) (rule b : ℕ) → IsReadFrom v im → HasWholeGroups v im → HasRootInside v → writing.IsDamage v call rule b → IsTold v im (wanted call) (path_of call false) rule b
+WritesTellExactly = (v : Seen) (im : Image) (call : Call) (rule b : ℕ) → IsReadFrom v im → HasWholeGroups v im → HasRootInside v → writing.IsDamage v call rule b → IsToldOn v im call rule b
 
 -- damage that the removal of a name meets
 abbrev pub RemovalsTell : Type 0
 RemovalsTell = (v : Seen) (im : Image) (call : Call) (rule b : ℕ) → IsReadFrom v im → HasWholeGroups v im → removing.IsDamage v call rule b → IsToldOf v im call rule b
 
 abbrev pub RemovalsTellExactly : Type 0
-RemovalsTellExactly = (v : Seen) (im : Image) (call : Call) (rule b : ℕ) → IsReadFrom v im → HasWholeGroups v im → HasRootInside v → removing.IsDamage v call rule b → IsTold v im (wanted call) (path_of call false) rule b
+RemovalsTellExactly = (v : Seen) (im : Image) (call : Call) (rule b : ℕ) → IsReadFrom v im → HasWholeGroups v im → HasRootInside v → removing.IsDamage v call rule b → IsToldOn v im call rule b
 
 -- damage that making a name meets, the same
 abbrev pub MakingsTell : Type 0
 MakingsTell = (v : Seen) (im : Image) (call : Call) (rule b : ℕ) → IsReadFrom v im → HasWholeGroups v im → making.IsDamage v call rule b → IsToldOf v im call rule b
 
 abbrev pub MakingsTellExactly : Type 0
-MakingsTellExactly = (v : Seen) (im : Image) (call : Call) (rule b : ℕ) → IsReadFrom v im → HasWholeGroups v im → HasRootInside v → making.IsDamage v call rule b → IsTold v im (wanted call) (path_of call false) rule b
+MakingsTellExactly = (v : Seen) (im : Image) (call : Call) (rule b : ℕ) → IsReadFrom v im → HasWholeGroups v im → HasRootInside v → making.IsDamage v call rule b → IsToldOn v im call rule b
+
+-- damage that moving a name meets, the same
+abbrev pub MovesTell : Type 0
+MovesTell = (v : Seen) (im : Image) (call : Call) (rule b : ℕ) → IsReadFrom v im → HasWholeGroups v im → moving.IsRenaming call → moving.IsDamage v call rule b → IsToldOf v im call rule b
+
+abbrev pub MovesTellExactly : Type 0
+MovesTellExactly = (v : Seen) (im : Image) (call : Call) (rule b : ℕ) → IsReadFrom v im → HasWholeGroups v im → HasRootInside v → moving.IsRenaming call → moving.IsDamage v call rule b → IsToldOn v im call rule b
 
 -- damage that any call meets of those that `file_calls` answers
 abbrev pub CallsTell : Type 0
 CallsTell = (v : Seen) (im : Image) (call : Call) (rule b : ℕ) → IsReadFrom v im → HasWholeGroups v im → calls.IsDamage v call rule b → IsToldOf v im call rule b
 
 abbrev pub CallsTellExactly : Type 0
-CallsTellExactly = (v : Seen) (im : Image) (call : Call) (rule b : ℕ) → IsReadFrom v im → HasWholeGroups v im → HasRootInside v → calls.IsDamage v call rule b → IsTold v im (wanted call) (path_of call false) rule b
+CallsTellExactly = (v : Seen) (im : Image) (call : Call) (rule b : ℕ) → IsReadFrom v im → HasWholeGroups v im → HasRootInside v → calls.IsDamage v call rule b → IsToldOn v im call rule b
 
 -- the block in which the number of one that is needed stands: the superblock has that of the root, which is asked for by itself
 abbrev pub source_of : ℕ → Missing → ℕ
@@ -141,7 +168,7 @@ pub record IsBrokenSource (v : Seen) (im : Image) (b : ℕ) : Type 0 where
   pub breaks : Breaks im 2 b
   pub there : (b ≡ superblock_place im.size) ⊎ HasBlock v b
 
--- a number that any such call needs, and that leads out of the device; but where a block of a hashed directory on the path is beyond it
+-- a number that any such call needs, and that leads out of the device; but where a block of a hashed directory on a path of it is beyond it
 abbrev pub NeedsTell : Type 0
 NeedsTell = (v : Seen) (im : Image) (call : Call) (m : Missing) → IsReadFrom v im → HasWholeGroups v im → calls.IsNeededFor v call m → im.count ≤ m.block
-    → IsBrokenSource v im (source_of im.size m) ⊎ HasAstray v im (wanted call) (path_of call false)
+    → IsBrokenSource v im (source_of im.size m) ⊎ HasAstrayOn v im call

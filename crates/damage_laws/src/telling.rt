@@ -1,5 +1,5 @@
 //! What is told as damage.
-ghost use Rattle.damage_laws.specs.Telling.{CallsTell, CallsTellExactly, InodesAreThere, MakingsTell, MakingsTellExactly, MountedAreRead, NeedsTell, PathsTell, RemovalsTell, RemovalsTellExactly, StandingAreRead, WritesTell, WritesTellExactly};
+ghost use Rattle.damage_laws.specs.Telling.{CallsTell, CallsTellExactly, InodesAreThere, MakingsTell, MakingsTellExactly, MountedAreRead, MovesTell, MovesTellExactly, NeedsTell, PathsTell, RemovalsTell, RemovalsTellExactly, StandingAreRead, WritesTell, WritesTellExactly};
 
 /// A law: a view that may be of an image that stands may have been read from it, and has the root and the groups that the laws below
 /// ask for.
@@ -39,7 +39,13 @@ pub fn makings_tell_broken_blocks()
     ensures exact { MakingsTellExactly }
 {}
 
-/// A law: so does what each call tells that is built, with no other exceptions.
+/// A law: so does what a call tells that moves a name, on either of its paths; but for the root's block, so.
+pub fn moves_tell_broken_blocks()
+    ensures broken { MovesTell }
+    ensures exact { MovesTellExactly }
+{}
+
+/// A law: so does what each call tells, with no other exceptions.
 pub fn calls_tell_broken_blocks()
     ensures broken { CallsTell }
     ensures exact { CallsTellExactly }

@@ -17,7 +17,7 @@ use Rattle.image_changes.specs.Changes.{cover}
 use Rattle.image_changes.specs.Does.{Does, IsFormed, IsInside, frees, is_empty, is_nothing, AreInside}
 use Rattle.drafts.specs.declared.change.Change.{Change}
 use Rattle.writing_calls.specs.Writing as writing
-use Rattle.file_calls.specs.Calls.{IsTooFew, call_holds}
+use Rattle.file_calls.specs.Calls.{IsCallList, IsTooFew}
 use Rattle.read_calls.specs.Reading.{IsReading, IsNeededFor, on_path, at_end}
 use Rattle.call_locks.specs.WantLaws.{path_of}
 use Rattle.call_locks.specs.Wants.{wanted}
@@ -111,48 +111,69 @@ module _ (change : Change) (is : is_nothing change ≡ true) where
 
 -- ---- the lists of locks
 
+-- this list is so, and no other is
+abbrev IsJust : (List Hold → Type 0) → List Hold → Type 0
+IsJust P holds = P holds × ((list : List Hold) → P list → list ≡ holds)
+
 module _ (im : Image) (o : Owners) (l : Layout) (t : Tree) (node : ℕ) where
-  pub reading_holds : (c : Call) → IsReading c → call_holds im o l t c node ≡ holds_in im o l (path_of c false) (wanted c)
-  reading_holds (call.Read p at count) is = refl
-  reading_holds (call.Dread p at count) is = refl
-  reading_holds (call.Stat p) is = refl
-  reading_holds (call.List p) is = refl
-  reading_holds (call.Create p) is = absurd is
-  reading_holds (call.Mkdir p) is = absurd is
-  reading_holds (call.Unlink p) is = absurd is
-  reading_holds (call.Rmdir p) is = absurd is
-  reading_holds (call.Write p at new) is = absurd is
-  reading_holds (call.Truncate p size) is = absurd is
-  reading_holds (call.Rename p q) is = absurd is
-  reading_holds call.Sync is = absurd is
+  abbrev IsTheList : Call → List Hold → Type 0
+  IsTheList c holds = IsJust (IsCallList im o l t c node) holds
 
-  pub writing_holds : (c : Call) → writing.IsWriting c → call_holds im o l t c node ≡ writing.call_holds im o l t c node
-  writing_holds (call.Write p at new) is = refl
-  writing_holds (call.Truncate p size) is = refl
-  writing_holds call.Sync is = refl
-  writing_holds (call.Read p at count) is = absurd is
-  writing_holds (call.Stat p) is = absurd is
-  writing_holds (call.List p) is = absurd is
-  writing_holds (call.Create p) is = absurd is
-  writing_holds (call.Mkdir p) is = absurd is
-  writing_holds (call.Unlink p) is = absurd is
-  writing_holds (call.Rmdir p) is = absurd is
-  writing_holds (call.Dread p at count) is = absurd is
-  writing_holds (call.Rename p q) is = absurd is
+  pub reading_list : (c : Call) → IsReading c → IsTheList c (holds_in im o l (path_of c false) (wanted c))
+  reading_list (call.Create p) is = absurd is
+  reading_list (call.Mkdir p) is = absurd is
+  reading_list (call.Unlink p) is = absurd is
+  reading_list (call.Rmdir p) is = absurd is
+  reading_list (call.Read p at count) is = (refl, λ list e. e)
+  reading_list (call.Dread p at count) is = (refl, λ list e. e)
+  reading_list (call.Write p at new) is = absurd is
+  reading_list (call.Truncate p size) is = absurd is
+  reading_list (call.Stat p) is = (refl, λ list e. e)
+  reading_list (call.List p) is = (refl, λ list e. e)
+  reading_list (call.Rename p q) is = absurd is
+  reading_list call.Sync is = absurd is
 
-  pub removing_holds : (c : Call) → IsRemoving c → call_holds im o l t c node ≡ holds_for im o l t c
-  removing_holds (call.Unlink p) is = refl
-  removing_holds (call.Rmdir p) is = refl
-  removing_holds (call.Read p at count) is = absurd is
-  removing_holds (call.Stat p) is = absurd is
-  removing_holds (call.List p) is = absurd is
-  removing_holds (call.Create p) is = absurd is
-  removing_holds (call.Mkdir p) is = absurd is
-  removing_holds (call.Dread p at count) is = absurd is
-  removing_holds (call.Write p at new) is = absurd is
-  removing_holds (call.Truncate p size) is = absurd is
-  removing_holds (call.Rename p q) is = absurd is
-  removing_holds call.Sync is = absurd is
+  pub making_list : (c : Call) → making.IsMaking c → IsTheList c (making.call_holds im o l t c node)
+  making_list (call.Create p) is = (refl, λ list e. e)
+  making_list (call.Mkdir p) is = (refl, λ list e. e)
+  making_list (call.Unlink p) is = absurd is
+  making_list (call.Rmdir p) is = absurd is
+  making_list (call.Read p at count) is = absurd is
+  making_list (call.Dread p at count) is = absurd is
+  making_list (call.Write p at new) is = absurd is
+  making_list (call.Truncate p size) is = absurd is
+  making_list (call.Stat p) is = absurd is
+  making_list (call.List p) is = absurd is
+  making_list (call.Rename p q) is = absurd is
+  making_list call.Sync is = absurd is
+
+  pub writing_list : (c : Call) → writing.IsWriting c → IsTheList c (writing.call_holds im o l t c node)
+  writing_list (call.Create p) is = absurd is
+  writing_list (call.Mkdir p) is = absurd is
+  writing_list (call.Unlink p) is = absurd is
+  writing_list (call.Rmdir p) is = absurd is
+  writing_list (call.Read p at count) is = absurd is
+  writing_list (call.Dread p at count) is = absurd is
+  writing_list (call.Write p at new) is = (refl, λ list e. e)
+  writing_list (call.Truncate p size) is = (refl, λ list e. e)
+  writing_list (call.Stat p) is = absurd is
+  writing_list (call.List p) is = absurd is
+  writing_list (call.Rename p q) is = absurd is
+  writing_list call.Sync is = (refl, λ list e. e)
+
+  pub removing_list : (c : Call) → IsRemoving c → IsTheList c (holds_for im o l t c)
+  removing_list (call.Create p) is = absurd is
+  removing_list (call.Mkdir p) is = absurd is
+  removing_list (call.Unlink p) is = (refl, λ list e. e)
+  removing_list (call.Rmdir p) is = (refl, λ list e. e)
+  removing_list (call.Read p at count) is = absurd is
+  removing_list (call.Dread p at count) is = absurd is
+  removing_list (call.Write p at new) is = absurd is
+  removing_list (call.Truncate p size) is = absurd is
+  removing_list (call.Stat p) is = absurd is
+  removing_list (call.List p) is = absurd is
+  removing_list (call.Rename p q) is = absurd is
+  removing_list call.Sync is = absurd is
 
 -- ---- a call that removes a name
 
@@ -210,21 +231,6 @@ module _ (v : Seen) (im : Image) (o : Owners) (l : Layout) (t : Tree) (need free
   writing_few (call.Rename p q) is few = absurd is
 
 -- ---- a call that makes a name
-
-module _ (im : Image) (o : Owners) (l : Layout) (t : Tree) (node : ℕ) where
-  pub making_holds : (c : Call) → making.IsMaking c → call_holds im o l t c node ≡ making.call_holds im o l t c node
-  making_holds (call.Create p) is = refl
-  making_holds (call.Mkdir p) is = refl
-  making_holds (call.Read p at count) is = absurd is
-  making_holds (call.Stat p) is = absurd is
-  making_holds (call.List p) is = absurd is
-  making_holds (call.Unlink p) is = absurd is
-  making_holds (call.Rmdir p) is = absurd is
-  making_holds (call.Dread p at count) is = absurd is
-  making_holds (call.Write p at new) is = absurd is
-  making_holds (call.Truncate p size) is = absurd is
-  making_holds (call.Rename p q) is = absurd is
-  making_holds call.Sync is = absurd is
 
 -- its want of space is the one that is told of every call
 pub making_few : (v : Seen) (im : Image) (o : Owners) (l : Layout) (t : Tree) (c : Call) → making.IsMaking c → (need free : ℕ) → making.IsTooFew v im o l t c need free → IsTooFew v im o l t c need free

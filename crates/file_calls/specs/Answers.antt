@@ -1,5 +1,5 @@
 -- How a file call is answered, and what its change makes.
-use Rattle.std.specs.Prelude.{ℕ, ◌≡◌, ⊤, true}
+use Rattle.std.specs.Prelude.{ℕ, ◌≡◌, ⊤, true, false}
 use Rattle.cluster_history.specs.Changes.{is_ok}
 use Rattle.drafts.specs.declared.change.Change.{Change}
 use Rattle.file_tree.specs.declared.call.Call.{Call}
@@ -9,7 +9,10 @@ use Rattle.glock_names.specs.Views.{Seen}
 use Rattle.image_model.specs.Image.{Image}
 use Rattle.image_model.specs.Owners.{Owners}
 use Rattle.image_model.specs.Stands.{Layout}
+use Rattle.file_tree.specs.Names.{is_same_path}
 use Rattle.making_calls.specs.Making as making
+use Rattle.move_calls.specs.Answering as moving
+use Rattle.move_calls.specs.Moved.{IsMovedIn}
 use Rattle.read_calls.specs.Reading as reading
 use Rattle.removing_calls.specs.Removing as removing
 use Rattle.writing_calls.specs.Writing as writing
@@ -25,26 +28,30 @@ IsAnswered seen view (calls.Rmdir path) node time reply change = removing.IsAnsw
 IsAnswered seen view (calls.Write path at new) node time reply change = writing.IsAnswered (seen view) (calls.Write path at new) node time reply change
 IsAnswered seen view (calls.Truncate path size) node time reply change = writing.IsAnswered (seen view) (calls.Truncate path size) node time reply change
 IsAnswered seen view calls.Sync node time reply change = writing.IsAnswered (seen view) calls.Sync node time reply change
+IsAnswered seen view (calls.Rename from to) node time reply change = moving.IsAnswered (seen view) (calls.Rename from to) node time reply change
 IsAnswered seen view call node time reply change = reading.IsAnswered (seen view) call reply
 
 -- too few blocks are free for the call, as far as the view shows: `create` and `mkdir` take one for the new inode and what the directory does, `write` and `truncate` what the file's content
--- does
+-- does, and `rename` what the directory does that gets the name, once what goes from it has gone
 abbrev pub IsFullFor : Seen → Call → ℕ → ℕ → Type 0
 IsFullFor v (calls.Create path) need free = making.IsFullFor v (calls.Create path) need free
 IsFullFor v (calls.Mkdir path) need free = making.IsFullFor v (calls.Mkdir path) need free
 IsFullFor v (calls.Write path at new) need free = writing.IsFullFor v (calls.Write path at new) need free
 IsFullFor v (calls.Truncate path size) need free = writing.IsFullFor v (calls.Truncate path size) need free
+IsFullFor v (calls.Rename from to) need free = moving.IsFullFor v (calls.Rename from to) need free
 IsFullFor v call need free = ⊥
 
 -- ---- in an image that the view may be of
 
 -- what the change of such a call makes of the image: `create` and `mkdir` the new inode and the name's record, at this time; of `unlink` and
--- `rmdir` the directory has the time and lacks the name's record
+-- `rmdir` the directory has the time and lacks the name's record; of `rename` to another path one directory lacks the old name, another has the new one, and a directory that moved to another one
+-- names that as its parent
 abbrev pub IsMadeOf : Image → Owners → Layout → Call → ℕ → ℕ → Change → Type 0
 IsMadeOf im o l (calls.Create path) node time change = making.IsMade im o l (calls.Create path) node time change × making.IsStamped im o l (calls.Create path) time change
 IsMadeOf im o l (calls.Mkdir path) node time change = making.IsMade im o l (calls.Mkdir path) node time change × making.IsStamped im o l (calls.Mkdir path) time change
 IsMadeOf im o l (calls.Unlink path) node time change = removing.IsStamped im o l (calls.Unlink path) time change
 IsMadeOf im o l (calls.Rmdir path) node time change = removing.IsStamped im o l (calls.Rmdir path) time change
+IsMadeOf im o l (calls.Rename from to) node time change = is_same_path from to ≡ false → IsMovedIn im o l (calls.Rename from to) node time change
 IsMadeOf im o l call node time change = ⊤
 
 -- it does so where the call is answered ok

@@ -1,5 +1,5 @@
 // A try of a file call.
-ghost use Rattle.std.specs.Prelude.{ℕ, ◌≡◌, ◌≢◌, ◌≤◌, ◌<◌, None, false, length};
+ghost use Rattle.std.specs.Prelude.{ℕ, List, ◌≡◌, ◌≢◌, ◌≤◌, ◌<◌, None, false, length};
 ghost use Rattle.file_tree.specs.Apply.{TakesSpace};
 ghost use Rattle.file_tree.specs.Tree.{Tree};
 ghost use Rattle.file_tree.specs.declared.reply.Reply.TheVariants.{NoSpace};
@@ -10,10 +10,10 @@ ghost use Rattle.image_model.specs.Owners.{Owners};
 ghost use Rattle.image_model.specs.Stands.{Layout};
 ghost use Rattle.image_changes.specs.Does.{IsOf, Does, AreInside};
 ghost use Rattle.read_calls.specs.Answers.{IfDone, IfNeedLock, IfNeedBlock, IfNoSpace, IfNotBuilt};
-ghost use Rattle.read_calls.specs.Holds.{AreHeld, IsAskedFor, IsFirstLack, IsUnder, holds};
+ghost use Rattle.read_calls.specs.Holds.{Hold, IsAskedFor, IsFirstLack, holds};
 ghost use Rattle.writing_calls.specs.Writing.{IfSync, IsSynced};
 ghost use Rattle.file_calls.specs.Answers.{IsAnswered, IsFullFor, IsMadeIn};
-ghost use Rattle.file_calls.specs.Calls.{IsBuilt, IsDamage, IsLackedFor, IsNeededFor, IsTooFew, IsUnbuilt, call_holds};
+ghost use Rattle.file_calls.specs.Calls.{IsCallList, IsDamage, IsLackedFor, IsNeededFor, IsTooFew, IsUnbuilt, IsUnderItsLocks};
 
 use dinode_tree::every_view_shows_an_inode;
 use drafts::{Attempt, Stamp};
@@ -22,22 +22,20 @@ use glock_names::{CallFault, View};
 use std::alloc::Global;
 
 /// Tries a file call over a view: its answer with what it changes, or the first lock that isn't held, a block that isn't there, that too
-/// few blocks are free, or that the call isn't built for what stands there. It costs what the call's crate says.
+/// few blocks are free, or that the call can't be carried out on what stands there. It costs what the call's crate says.
 pub fn attempt<V: View>(
     alloc: Global,
     view: &V,
     call: &Call,
     stamp: &Stamp,
 ) -> Result<Attempt, CallFault>
-    requires built { IsBuilt call.now }
     requires groups { 1 ≤ length (V.seen view.now).groups }
     requires node { 1 ≤ stamp.now.node }
     ensures done { IfDone result (Does (V.seen view.now) call.now) }
     ensures inside { IfDone result (λ reply change. AreInside (V.seen view.now) change) }
-    ensures held { (im : Image) (o : Owners) (l : Layout) (t : Tree) → IsOf (V.seen view.now) im o l t → IfDone result (λ reply change. AreHeld (V.seen view.now) (call_holds im o l t call.now stamp.now.node)) }
-    ensures under { (im : Image) (o : Owners) (l : Layout) (t : Tree) → IsOf (V.seen view.now) im o l t → IfDone result (λ reply change. IsUnder o (call_holds im o l t call.now stamp.now.node) change) }
-    ensures lock { (im : Image) (o : Owners) (l : Layout) (t : Tree) → IsOf (V.seen view.now) im o l t → IfNeedLock result (IsFirstLack (V.seen view.now) (call_holds im o l t call.now stamp.now.node)) }
-    ensures block { (im : Image) (o : Owners) (l : Layout) (t : Tree) → IsOf (V.seen view.now) im o l t → IfNeedBlock result (IsAskedFor (V.seen view.now) im o l (call_holds im o l t call.now stamp.now.node)) }
+    ensures under { (im : Image) (o : Owners) (l : Layout) (t : Tree) → IsOf (V.seen view.now) im o l t → IfDone result (λ reply change. IsUnderItsLocks (V.seen view.now) im o l t call.now stamp.now.node change) }
+    ensures lock { (im : Image) (o : Owners) (l : Layout) (t : Tree) (list : List Hold) → IsOf (V.seen view.now) im o l t → IsCallList im o l t call.now stamp.now.node list → IfNeedLock result (IsFirstLack (V.seen view.now) list) }
+    ensures block { (im : Image) (o : Owners) (l : Layout) (t : Tree) (list : List Hold) → IsOf (V.seen view.now) im o l t → IsCallList im o l t call.now stamp.now.node list → IfNeedBlock result (IsAskedFor (V.seen view.now) im o l list) }
     ensures on_device { (im : Image) (o : Owners) (l : Layout) (t : Tree) → IsOf (V.seen view.now) im o l t → IfNeedBlock result (λ m. m.block < im.count) }
     ensures space { (im : Image) (o : Owners) (l : Layout) (t : Tree) → IsOf (V.seen view.now) im o l t → IfNoSpace result (IsTooFew (V.seen view.now) im o l t call.now) }
     ensures full { IfNoSpace result (IsFullFor (V.seen view.now) call.now) }
@@ -68,6 +66,6 @@ pub fn attempt<V: View>(
         Call::Write(_, _, _) | Call::Truncate(_, _) | Call::Sync => {
             writing_calls::attempt(alloc, view, call, stamp)
         }
-        _ => unreachable!(),
+        Call::Rename(_, _) => move_calls::attempt(alloc, view, call, stamp),
     }
 }

@@ -34,9 +34,8 @@ use Rattle.lone_view.specs.Seeing.{Lone, seen_alone}
 use Rattle.drafts.specs.declared.attempt.Attempt.{Attempt}
 use Rattle.drafts.specs.declared.attempt.Attempt.TheVariants as attempts
 use Rattle.file_calls.specs.AnswerParts.{IfDone}
-use Rattle.file_calls.specs.Holds.{IsUnder}
 use Rattle.file_calls.specs.Answers.{IsAnswered, IsMadeIn}
-use Rattle.file_calls.specs.Calls.{IsDamage, IsTooFew, call_holds}
+use Rattle.file_calls.specs.Calls.{IsDamage, IsTooFew, IsUnderItsLocks}
 use Rattle.lone_node.specs.Course.{IsDoneBy}
 use Rattle.lone_node.specs.Answering.{IsAnsweredFrom, IsDamagedFor, as_shown}
 use Rattle.lone_node.specs.Ends.{IfDamaged, end_at}
@@ -210,13 +209,13 @@ shown_damage d v call fault.NoMemory has is = tt
 -- a call is answered by this change
 pub is_done : (view : Lone) (node time : ℕ) (call : Call) (a : Attempt) (r : Reply) (change : Change) → a ≡ attempts.Done r change → node ≡ 1
     → IfDone (Ok a) (Does (seen_alone view) call) → IfDone (Ok a) (λ reply change. AreInside (seen_alone view) change)
-    → ((im : Image) (o : Owners) (l : Layout) (t : Tree) → IsOf (seen_alone view) im o l t → IfDone (Ok a) (λ reply change. IsUnder o (call_holds im o l t call node) change))
+    → ((im : Image) (o : Owners) (l : Layout) (t : Tree) → IsOf (seen_alone view) im o l t → IfDone (Ok a) (λ reply change. IsUnderItsLocks (seen_alone view) im o l t call node change))
     → IfDone (Ok a) (λ answer change. answer ≢ reply.NoSpace) → IfDone (Ok a) (IsAnswered seen_alone view call node time)
     → ((im : Image) (o : Owners) (l : Layout) (t : Tree) → IsOf (seen_alone view) im o l t → IfDone (Ok a) (IsMadeIn im o l call node time)) → IsDoneBy view time call r change
 is_done view node time call a r change is one does inside under spaced answered made = record {
   does = subst (λ x. IfDone (Ok x) (Does (seen_alone view) call)) is does;
   inside = subst (λ x. IfDone (Ok x) (λ reply change. AreInside (seen_alone view) change)) is inside;
-  under = λ im o l t of. subst (λ k. IsUnder o (call_holds im o l t call k) change) one (subst (λ x. IfDone (Ok x) (λ reply change. IsUnder o (call_holds im o l t call node) change)) is (under im o l t of));
+  under = λ im o l t of. subst (λ k. IsUnderItsLocks (seen_alone view) im o l t call k change) one (subst (λ x. IfDone (Ok x) (λ reply change. IsUnderItsLocks (seen_alone view) im o l t call node change)) is (under im o l t of));
   spaced = subst (λ x. IfDone (Ok x) (λ answer change. answer ≢ reply.NoSpace)) is spaced;
   answered = subst (λ k. IsAnswered seen_alone view call k time r change) one (subst (λ x. IfDone (Ok x) (IsAnswered seen_alone view call node time)) is answered);
   made = λ im o l t of. subst (λ k. IsMadeIn im o l call k time r change) one (subst (λ x. IfDone (Ok x) (IsMadeIn im o l call node time)) is (made im o l t of));

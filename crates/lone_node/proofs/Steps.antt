@@ -21,9 +21,8 @@ use Rattle.trace_text.specs.declared.item.TraceItem.TheVariants as trace
 use Rattle.script_lang.specs.declared.script.Client.{Client}
 use Rattle.script_lang.specs.declared.script.Line.{Line}
 use Rattle.script_lang.specs.declared.script.Line.TheVariants as line
-use Rattle.script_lang.specs.OneNode.{IsOwnCall, IsOwnLine}
+use Rattle.script_lang.specs.OneNode.{IsOwnLine}
 use Rattle.shared_disk.specs.Disk.{DiskState, Operation}
-use Rattle.file_calls.specs.Calls.{IsBuilt}
 use Rattle.lone_view.specs.Seeing.{Lone}
 use Rattle.lone_node.specs.Answering.{IsToldFull}
 use Rattle.lone_node.specs.Course.{AreSteps, Moment, moment}
@@ -88,21 +87,6 @@ history_end clients n (r ∷ rs) =
 
 -- ---- steps
 
--- a call that one node takes is built
-own_is_built : (call : Call) → IsOwnCall call → IsBuilt call
-own_is_built (variant.Create path) own = tt
-own_is_built (variant.Mkdir path) own = tt
-own_is_built (variant.Unlink path) own = tt
-own_is_built (variant.Rmdir path) own = tt
-own_is_built (variant.Read path at count) own = tt
-own_is_built (variant.Dread path at count) own = tt
-own_is_built (variant.Write path at new) own = tt
-own_is_built (variant.Truncate path size) own = tt
-own_is_built (variant.Stat path) own = tt
-own_is_built (variant.List path) own = tt
-own_is_built (variant.Rename from to) own = own
-own_is_built variant.Sync own = tt
-
 module _ (clients : List Client) (lines : List Line) (IsStart : Tree → Type 0) where
   -- the tree behind a run is that after its calls
   pub tree_is : (count : ℕ) (items : List TraceItem) (so : IsRunUpTo clients lines count items IsStart) (t : Tree) → tree_of (history_of clients items) t ≡ tree_after (map its_answer so.answered) t
@@ -166,10 +150,6 @@ module _ (clients : List Client) (lines : List Line) (IsStart : Tree → Type 0)
 
       its_client : (get_or clients place c).name ≡ name_at clients place
       its_client = name_is clients place c (all_at (IsOwnLine (length clients)) lines i (line.Call place call) form it_stands).0
-
-      -- it is built
-      pub its_call : IsBuilt call
-      its_call = own_is_built call (all_at (IsOwnLine (length clients)) lines i (line.Call place call) form it_stands).1
 
       -- the run ends at this call
       pub ends_at : (P : Call → Type 0) (more : List TraceItem) → more ≡ items → P call → EndsAt i P clients lines more IsStart

@@ -12,9 +12,8 @@ use Rattle.image_model.specs.Image.{Image}
 use Rattle.image_model.specs.Owners.{Owners}
 use Rattle.image_model.specs.Stands.{Layout}
 use Rattle.image_changes.specs.Does.{AreInside, Does, IsOf}
-use Rattle.file_calls.specs.Holds.{IsUnder}
 use Rattle.file_calls.specs.Answers.{IsAnswered, IsFullFor, IsMadeIn}
-use Rattle.file_calls.specs.Calls.{IsTooFew, call_holds}
+use Rattle.file_calls.specs.Calls.{IsTooFew, IsUnderItsLocks}
 use Rattle.shared_disk.specs.Disk.{DiskState, Operation, Write, Barrier, Gains}
 use Rattle.script_lang.specs.declared.script.Client.{Client}
 use Rattle.trace_text.specs.declared.item.TraceItem.{TraceItem}
@@ -42,11 +41,11 @@ pub record IsLaterView (d : DiskState) (n n' : Lone) : Type 0 where
 
 -- The call is answered so from this view, as node 1's at this time. On every view the reply and the change are as the view shows, and whole
 -- blocks of groups are written; in each image that the view may be of the change is the one that leaves it standing for the tree's answer, all under
--- locks of the call's list.
+-- locks of the call's list, each of which is held.
 pub record IsDoneBy (view : Lone) (time : ℕ) (call : Call) (reply : Reply) (change : Change) : Type 0 where
   pub does : Does (seen_alone view) call reply change
   pub inside : AreInside (seen_alone view) change
-  pub under : (im : Image) (o : Owners) (l : Layout) (t : Tree) → IsOf (seen_alone view) im o l t → IsUnder o (call_holds im o l t call 1) change
+  pub under : (im : Image) (o : Owners) (l : Layout) (t : Tree) → IsOf (seen_alone view) im o l t → IsUnderItsLocks (seen_alone view) im o l t call 1 change
   pub spaced : reply ≢ replies.NoSpace
   pub answered : IsAnswered seen_alone view call 1 time reply change
   pub made : (im : Image) (o : Owners) (l : Layout) (t : Tree) → IsOf (seen_alone view) im o l t → IsMadeIn im o l call 1 time reply change

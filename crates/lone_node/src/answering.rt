@@ -4,7 +4,7 @@ ghost use Rattle.file_tree.specs.Tree.{Tree};
 ghost use Rattle.cluster_history.specs.Changes.{Changes};
 ghost use Rattle.gfs2_layout.specs.Device.{IsBlockSize};
 ghost use Rattle.shared_disk.specs.Disk.{Gains, IsIdle, Operation};
-ghost use Rattle.file_calls.specs.Calls.{IsBuilt, IsUnbuilt};
+ghost use Rattle.file_calls.specs.Calls.{IsUnbuilt};
 ghost use Rattle.lone_view.specs.Seeing.{seen_alone};
 ghost use Rattle.lone_node.specs.Answering.{IsAnsweredFrom, IsDamagedFor, IsDamagedOn, IsFailedAt, IsFailedFor, IsSameDisk, IsToldFull, IsUnbuiltOn};
 ghost use Rattle.lone_node.specs.Course.{AreBrought, HasStopped, IsStep, moment};
@@ -88,7 +88,6 @@ fn try_once<D: SharedDisk>(
     requires size { IsBlockSize (D.state disk.old).size }
     requires on { IsOn (D.state disk.old) view.old }
     requires node { stamp.now.node ≡ 1 }
-    requires built { IsBuilt call.now }
     ensures answered { IfOk result (λ r. IfSome r (λ a. IsAnsweredFrom (D.state disk.old) (D.state disk.new) view.old call.now a.reply)) }
     ensures untouched { IfOk result (λ r. IfSome r (λ a. Changes (record { call = call.now; reply = a.reply }) ≡ false → (D.state disk.new ≡ D.state disk.old) × (D.list disk.new ≡ D.list disk.old))) }
     ensures full { IfOk result (λ r. IfSome r (λ a. IsToldFull a.reply a.full)) }
@@ -144,7 +143,6 @@ pub(crate) fn answer_call<D: SharedDisk>(
     requires size { IsBlockSize (D.state disk.old).size }
     requires on { IsOn (D.state disk.old) view.old }
     requires node { stamp.now.node ≡ 1 }
-    requires built { IsBuilt call.now }
     ensures answered { IfOk result (λ a. IsAnsweredFrom (D.state disk.old) (D.state disk.new) view.old call.now a.reply) }
     ensures untouched { IfOk result (λ a. Changes (record { call = call.now; reply = a.reply }) ≡ false → (D.state disk.new ≡ D.state disk.old) × (D.list disk.new ≡ D.list disk.old)) }
     ensures full { IfOk result (λ a. IsToldFull a.reply a.full) }

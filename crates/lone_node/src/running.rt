@@ -8,7 +8,6 @@ ghost use Rattle.gfs2_layout.specs.Device.{IsBlockSize};
 ghost use Rattle.run_rules.specs.Follows.{history_of};
 ghost use Rattle.run_rules.specs.History.{HoldsHistory, NoneStopped, AllAnswered};
 ghost use Rattle.shared_disk.specs.Disk.{IsIdle};
-ghost use Rattle.file_calls.specs.Calls.{IsBuilt};
 ghost use Rattle.script_lang.specs.OneNode.{IsOneNode, IsOwnLine};
 ghost use Rattle.lone_node.specs.Answering.{IsDamagedOn, IsFailedAt, IsSameDisk, IsUnbuiltOn};
 ghost use Rattle.lone_node.specs.Course.{HasTaken, IsCourse, moment};
@@ -99,7 +98,6 @@ fn take_call<D: SharedDisk>(
     requires size { IsBlockSize (D.state disk.old).size }
     requires on { IsOn (D.state disk.old) view.old }
     requires node { stamp.now.node ≡ 1 }
-    requires built { IsBuilt call.now }
     ensures taken { OnOk result (IsTakenCall client.now number stamp.now.time call.now items.old.items items.new.items (moment (D.state disk.old) (D.list disk.old)) (moment (D.state disk.new) (D.list disk.new)) view.old) }
     ensures kept { OnErr result (items.new.items ≡ items.old.items) }
     ensures idle { OnOk result (IsIdle (D.state disk.new)) }

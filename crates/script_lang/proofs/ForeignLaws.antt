@@ -44,7 +44,7 @@ first_not-none {A} f n (x ∷ xs) rest is = by_test (first_not-none f (n + 1) xs
 pub built_call : (call : Call) → is_own_call call ≡ true → IsOwnCall call
 built_call (calls.Dread path at count) is = cc
 built_call (calls.Truncate path size) is = tt
-built_call (calls.Rename from to) is = cc
+built_call (calls.Rename from to) is = tt
 built_call (calls.Read path at count) is = tt
 built_call (calls.List path) is = tt
 built_call (calls.Create path) is = tt
@@ -58,7 +58,7 @@ built_call calls.Sync is = tt
 own_call : (call : Call) → IsOwnCall call → is_own_call call ≡ true
 own_call (calls.Dread path at count) is = absurd is
 own_call (calls.Truncate path size) is = refl
-own_call (calls.Rename from to) is = absurd is
+own_call (calls.Rename from to) is = refl
 own_call (calls.Read path at count) is = refl
 own_call (calls.List path) is = refl
 own_call (calls.Create path) is = refl

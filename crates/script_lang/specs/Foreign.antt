@@ -11,7 +11,6 @@ use Rattle.script_lang.specs.Script.{ScriptValue}
 -- one node takes calls that are built, and waits
 abbrev pub is_own_call : Call → Bool
 is_own_call (calls.Dread path at count) = false
-is_own_call (calls.Rename from to) = false
 is_own_call _ = true
 
 abbrev pub is_own_line : Line → Bool

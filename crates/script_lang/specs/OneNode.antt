@@ -8,10 +8,9 @@ use Rattle.script_lang.specs.Script.{ScriptValue}
 use Rattle.file_tree.specs.declared.call.Call.{Call}
 use Rattle.file_tree.specs.declared.call.Call.TheVariants as calls
 
--- a call that is built: today each but those that read past the node's copies, or move a name
+-- a call that is built: today each but those that read past the node's copies
 abbrev pub IsOwnCall : Call → Type 0
 IsOwnCall (calls.Dread path at count) = ⊥
-IsOwnCall (calls.Rename from to) = ⊥
 IsOwnCall _ = ⊤
 
 -- where there are so many clients: a call of one of them that is built, or a wait

@@ -10,7 +10,7 @@ fn runs_call(call: &Call) -> bool
     ensures { result ≡ is_own_call call.now }
 {
     match call {
-        Call::Dread(_, _, _) | Call::Rename(_, _) => false,
+        Call::Dread(_, _, _) => false,
         _ => true,
     }
 }
@@ -41,8 +41,8 @@ fn first_among(lines: &[Line], first: u32) -> Option<u32>
 }
 
 /// The number, from 1 as in its text, of the first line of a script that one node alone cannot run; `None` where
-/// it can run the whole. One node has clients of its own, whose calls are all but `dread` and `rename`, and which wait. It
-/// goes over the script once.
+/// it can run the whole. One node has clients of its own, whose calls are all but `dread`, and which wait. It goes over the script
+/// once.
 pub fn first_foreign_line(script: &Script) -> Option<u32>
     requires { IsWellFormed script.now }
     ensures first { result ≡ first_foreign script.now }

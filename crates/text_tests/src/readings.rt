@@ -418,11 +418,11 @@ const FOREIGN: [(&[u8], Option<u32>); 26] = [
     (b"nodes 1\nclient c on 1\njoin 1\n", Some(3)),
     (b"nodes 1\nclient c on 1\nwait\njoin 1\nc: sync\n", Some(4)),
     (
-        b"nodes 1\nclient c on 1\nwait\nc: list /\nc: rename /a /b\nwait\n",
+        b"nodes 1\nclient c on 1\nwait\nc: rename /a /b\nc: dread /b 0 1\nwait\n",
         Some(5),
     ),
     (
-        b"nodes 1\nclient c on 1\nclient d on 1\nd: sync\nc: rename /a /b\n",
+        b"nodes 1\nclient c on 1\nclient d on 1\nd: sync\nc: dread / 0 1\n",
         Some(5),
     ),
     (b"nodes 1\nclient c on 1\nc: list /a/b\n", None),
@@ -435,7 +435,7 @@ const FOREIGN: [(&[u8], Option<u32>); 26] = [
     (b"nodes 1\nclient c on 1\nc: rmdir /a\n", None),
     (b"nodes 1\nclient c on 1\nc: write /a 0 00\n", None),
     (b"nodes 1\nclient c on 1\nc: truncate /a 0\n", None),
-    (b"nodes 1\nclient c on 1\nc: rename /a /b\n", Some(3)),
+    (b"nodes 1\nclient c on 1\nc: rename /a /b\n", None),
     (b"nodes 1\nclient c on 1\nc: sync\n", None),
     (b"nodes 8\nclient c on 8\nc: list /\n", Some(1)),
 ];

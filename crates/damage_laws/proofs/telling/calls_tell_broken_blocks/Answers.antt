@@ -1,4 +1,4 @@
-use Rattle.damage_laws.proofs.Calls.{calls_tell, calls_tell_exactly}
+use Rattle.damage_laws.proofs.AllCalls.{calls_tell, calls_tell_exactly}
 use Rattle.damage_laws.proofs.telling.calls_tell_broken_blocks.Goals as goal
 
 pub returns-clause-broken : goal.returns-clause-broken

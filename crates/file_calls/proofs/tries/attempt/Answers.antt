@@ -70,56 +70,46 @@ returns-in-Read-clause-absent g c =
     let v = g.V.View.seen c.args.view.now in
     mapped c.attempt-in-Read.result _ _ (λ m needed. needed_absent v c.args.call.now m (λ a. let s = c.every_view_shows_an_inode.ensures v a in (s.0, s.1.0)) needed) c.attempt-in-Read.ensures.needed
 
-pub returns-in-Read-clause-held : goal.returns-in-Read-clause-held
-returns-in-Read-clause-held g c im o l t of =
-    let is : IsReading c.args.call.now = search rules in
-    subst (λ list. IfDone c.attempt-in-Read.result (λ reply change. AreHeld (g.V.View.seen c.args.view.now) list)) (sym (reading_holds im o l t c.args.stamp.now.node c.args.call.now is)) (c.attempt-in-Read.ensures.held im o l t of)
-
 pub returns-in-Read-clause-under : goal.returns-in-Read-clause-under
 returns-in-Read-clause-under g c im o l t of =
     let is : IsReading c.args.call.now = search rules in
-    done_so c.attempt-in-Read.result (Does (g.V.View.seen c.args.view.now) c.args.call.now) _
-    (λ x change does. nothing_under change (does.tells ∙ ap not (no_change c.args.call.now x is)) o (call_holds im o l t c.args.call.now c.args.stamp.now.node) does.form) c.attempt-in-Read.ensures.done
-
-pub returns-in-Write-clause-held : goal.returns-in-Write-clause-held
-returns-in-Write-clause-held g c im o l t of =
-    let is : IsWriting c.args.call.now = search rules in
-    subst (λ list. IfDone c.attempt.result (λ reply change. AreHeld (g.V.View.seen c.args.view.now) list)) (sym (writing_holds im o l t c.args.stamp.now.node c.args.call.now is)) (c.attempt.ensures.held im o l t of)
+    let of_list = reading_list im o l t c.args.stamp.now.node c.args.call.now is in
+    done_so c.attempt-in-Read.result _ _
+    (λ x change all. record { list = holds_in im o l (path_of c.args.call.now false) (wanted c.args.call.now); is = of_list.0; held = all.0; under = nothing_under change (all.1.tells ∙ ap not (no_change c.args.call.now x is)) o (holds_in im o l (path_of c.args.call.now false) (wanted c.args.call.now)) all.1.form })
+    (done_two c.attempt-in-Read.result _ _ (c.attempt-in-Read.ensures.held im o l t of) c.attempt-in-Read.ensures.done)
 
 pub returns-in-Write-clause-under : goal.returns-in-Write-clause-under
 returns-in-Write-clause-under g c im o l t of =
     let is : IsWriting c.args.call.now = search rules in
-    subst (λ list. IfDone c.attempt.result (λ reply change. IsUnder o list change)) (sym (writing_holds im o l t c.args.stamp.now.node c.args.call.now is)) (c.attempt.ensures.under im o l t of)
+    let of_list = writing_list im o l t c.args.stamp.now.node c.args.call.now is in
+    done_so c.attempt.result _ _
+    (λ x change all. record { list = writing.call_holds im o l t c.args.call.now c.args.stamp.now.node; is = of_list.0; held = all.0; under = all.1 })
+    (done_two c.attempt.result _ _ (c.attempt.ensures.held im o l t of) (c.attempt.ensures.under im o l t of))
 
 pub returns-in-Write-clause-lock : goal.returns-in-Write-clause-lock
-returns-in-Write-clause-lock g c im o l t of =
+returns-in-Write-clause-lock g c im o l t list of listed =
     let is : IsWriting c.args.call.now = search rules in
-    subst (λ list. IfNeedLock c.attempt.result (IsFirstLack (g.V.View.seen c.args.view.now) list)) (sym (writing_holds im o l t c.args.stamp.now.node c.args.call.now is)) (c.attempt.ensures.lock im o l t of)
+    subst (λ list. IfNeedLock c.attempt.result (IsFirstLack (g.V.View.seen c.args.view.now) list)) (sym ((writing_list im o l t c.args.stamp.now.node c.args.call.now is).1 list listed)) (c.attempt.ensures.lock im o l t of)
 
 pub returns-in-Write-clause-block : goal.returns-in-Write-clause-block
-returns-in-Write-clause-block g c im o l t of =
+returns-in-Write-clause-block g c im o l t list of listed =
     let is : IsWriting c.args.call.now = search rules in
-    subst (λ list. IfNeedBlock c.attempt.result (IsAskedFor (g.V.View.seen c.args.view.now) im o l list)) (sym (writing_holds im o l t c.args.stamp.now.node c.args.call.now is)) (c.attempt.ensures.block im o l t of)
+    subst (λ list. IfNeedBlock c.attempt.result (IsAskedFor (g.V.View.seen c.args.view.now) im o l list)) (sym ((writing_list im o l t c.args.stamp.now.node c.args.call.now is).1 list listed)) (c.attempt.ensures.block im o l t of)
 
 pub returns-in-Write-clause-absent : goal.returns-in-Write-clause-absent
 returns-in-Write-clause-absent g c =
     let v = g.V.View.seen c.args.view.now in
     mapped c.attempt.result _ _ (λ m needed. writing_absent v c.args.call.now m (λ a. let s = c.every_view_shows_an_inode.ensures v a in (s.0, s.1.0)) needed) c.attempt.ensures.needed
 
-pub returns-in-Unlink-clause-held : goal.returns-in-Unlink-clause-held
-returns-in-Unlink-clause-held g c im o l t of =
-    let is : IsRemoving c.args.call.now = search rules in
-    subst (λ list. IfDone c.attempt-in-Unlink.result (λ reply change. AreHeld (g.V.View.seen c.args.view.now) list)) (sym (removing_holds im o l t c.args.stamp.now.node c.args.call.now is)) (c.attempt-in-Unlink.ensures.held im o l t of)
-
 pub returns-in-Unlink-clause-lock : goal.returns-in-Unlink-clause-lock
-returns-in-Unlink-clause-lock g c im o l t of =
+returns-in-Unlink-clause-lock g c im o l t list of listed =
     let is : IsRemoving c.args.call.now = search rules in
-    subst (λ list. IfNeedLock c.attempt-in-Unlink.result (IsFirstLack (g.V.View.seen c.args.view.now) list)) (sym (removing_holds im o l t c.args.stamp.now.node c.args.call.now is)) (c.attempt-in-Unlink.ensures.lock im o l t of)
+    subst (λ list. IfNeedLock c.attempt-in-Unlink.result (IsFirstLack (g.V.View.seen c.args.view.now) list)) (sym ((removing_list im o l t c.args.stamp.now.node c.args.call.now is).1 list listed)) (c.attempt-in-Unlink.ensures.lock im o l t of)
 
 pub returns-in-Unlink-clause-block : goal.returns-in-Unlink-clause-block
-returns-in-Unlink-clause-block g c im o l t of =
+returns-in-Unlink-clause-block g c im o l t list of listed =
     let is : IsRemoving c.args.call.now = search rules in
-    subst (λ list. IfNeedBlock c.attempt-in-Unlink.result (IsAskedFor (g.V.View.seen c.args.view.now) im o l list)) (sym (removing_holds im o l t c.args.stamp.now.node c.args.call.now is)) (c.attempt-in-Unlink.ensures.block im o l t of)
+    subst (λ list. IfNeedBlock c.attempt-in-Unlink.result (IsAskedFor (g.V.View.seen c.args.view.now) im o l list)) (sym ((removing_list im o l t c.args.stamp.now.node c.args.call.now is).1 list listed)) (c.attempt-in-Unlink.ensures.block im o l t of)
 
 pub returns-in-Unlink-clause-on_device : goal.returns-in-Unlink-clause-on_device
 returns-in-Unlink-clause-on_device g c im o l t of = mapped c.attempt-in-Unlink.result _ _ (λ m asked. covered_low im o l of.stands.laid m.block m.lock asked.covered) (c.attempt-in-Unlink.ensures.block im o l t of)
@@ -131,12 +121,13 @@ returns-in-Unlink-clause-absent g c =
 
 pub returns-in-Unlink-clause-under : goal.returns-in-Unlink-clause-under
 returns-in-Unlink-clause-under g c im o l t of =
-    let v = g.V.View.seen c.args.view.now in
     let is : IsRemoving c.args.call.now = search rules in
-    let list = call_holds im o l t c.args.call.now c.args.stamp.now.node in
-    let under = subst (λ list. IfDone c.attempt-in-Unlink.result (λ reply change. is_ok reply ≡ true → IsUnder o list change)) (sym (removing_holds im o l t c.args.stamp.now.node c.args.call.now is)) (c.attempt-in-Unlink.ensures.under im o l t of) in
-    done_so c.attempt-in-Unlink.result _ (λ reply change. IsUnder o list change)
-    (λ x change all. removing_under v o list c.args.call.now x change all.0 all.1) (done_two c.attempt-in-Unlink.result _ _ c.attempt-in-Unlink.ensures.done under)
+    let v = g.V.View.seen c.args.view.now in
+    let list = holds_for im o l t c.args.call.now in
+    let of_list = removing_list im o l t c.args.stamp.now.node c.args.call.now is in
+    done_so c.attempt-in-Unlink.result _ _
+    (λ x change all. record { list = list; is = of_list.0; held = all.0; under = removing_under v o list c.args.call.now x change all.1 all.2 })
+    (done_three c.attempt-in-Unlink.result _ _ _ (c.attempt-in-Unlink.ensures.held im o l t of) c.attempt-in-Unlink.ensures.done (c.attempt-in-Unlink.ensures.under im o l t of))
 
 pub returns-in-Unlink-clause-inside : goal.returns-in-Unlink-clause-inside
 returns-in-Unlink-clause-inside g c =
@@ -144,20 +135,15 @@ returns-in-Unlink-clause-inside g c =
     done_so c.attempt-in-Unlink.result _ (λ reply change. AreInside v change)
     (λ x change all. removing_inside v c.args.call.now x change all.0 all.1) (done_two c.attempt-in-Unlink.result _ _ c.attempt-in-Unlink.ensures.done c.attempt-in-Unlink.ensures.inside)
 
-pub returns-in-Create-clause-held : goal.returns-in-Create-clause-held
-returns-in-Create-clause-held g c im o l t of =
-    let is : IsMaking c.args.call.now = search rules in
-    subst (λ list. IfDone c.attempt-in-Create.result (λ reply change. AreHeld (g.V.View.seen c.args.view.now) list)) (sym (making_holds im o l t c.args.stamp.now.node c.args.call.now is)) (c.attempt-in-Create.ensures.held im o l t of)
-
 pub returns-in-Create-clause-lock : goal.returns-in-Create-clause-lock
-returns-in-Create-clause-lock g c im o l t of =
+returns-in-Create-clause-lock g c im o l t list of listed =
     let is : IsMaking c.args.call.now = search rules in
-    subst (λ list. IfNeedLock c.attempt-in-Create.result (IsFirstLack (g.V.View.seen c.args.view.now) list)) (sym (making_holds im o l t c.args.stamp.now.node c.args.call.now is)) (c.attempt-in-Create.ensures.lock im o l t of)
+    subst (λ list. IfNeedLock c.attempt-in-Create.result (IsFirstLack (g.V.View.seen c.args.view.now) list)) (sym ((making_list im o l t c.args.stamp.now.node c.args.call.now is).1 list listed)) (c.attempt-in-Create.ensures.lock im o l t of)
 
 pub returns-in-Create-clause-block : goal.returns-in-Create-clause-block
-returns-in-Create-clause-block g c im o l t of =
+returns-in-Create-clause-block g c im o l t list of listed =
     let is : IsMaking c.args.call.now = search rules in
-    subst (λ list. IfNeedBlock c.attempt-in-Create.result (IsAskedFor (g.V.View.seen c.args.view.now) im o l list)) (sym (making_holds im o l t c.args.stamp.now.node c.args.call.now is)) (c.attempt-in-Create.ensures.block im o l t of)
+    subst (λ list. IfNeedBlock c.attempt-in-Create.result (IsAskedFor (g.V.View.seen c.args.view.now) im o l list)) (sym ((making_list im o l t c.args.stamp.now.node c.args.call.now is).1 list listed)) (c.attempt-in-Create.ensures.block im o l t of)
 
 pub returns-in-Create-clause-on_device : goal.returns-in-Create-clause-on_device
 returns-in-Create-clause-on_device g c im o l t of = mapped c.attempt-in-Create.result _ _ (λ m asked. covered_low im o l of.stands.laid m.block m.lock asked.covered) (c.attempt-in-Create.ensures.block im o l t of)
@@ -165,7 +151,10 @@ returns-in-Create-clause-on_device g c im o l t of = mapped c.attempt-in-Create.
 pub returns-in-Create-clause-under : goal.returns-in-Create-clause-under
 returns-in-Create-clause-under g c im o l t of =
     let is : IsMaking c.args.call.now = search rules in
-    subst (λ list. IfDone c.attempt-in-Create.result (λ reply change. IsUnder o list change)) (sym (making_holds im o l t c.args.stamp.now.node c.args.call.now is)) (c.attempt-in-Create.ensures.under im o l t of)
+    let of_list = making_list im o l t c.args.stamp.now.node c.args.call.now is in
+    done_so c.attempt-in-Create.result _ _
+    (λ x change all. record { list = making.call_holds im o l t c.args.call.now c.args.stamp.now.node; is = of_list.0; held = all.0; under = all.1 })
+    (done_two c.attempt-in-Create.result _ _ (c.attempt-in-Create.ensures.held im o l t of) (c.attempt-in-Create.ensures.under im o l t of))
 
 few_so : (r : Result Attempt CallFault) (P Q : ℕ → ℕ → Type 0) → ((need free : ℕ) → P need free → Q need free) → IfNoSpace r P → IfNoSpace r Q
 few_so (Ok (NeedBlock m)) P Q f is = tt

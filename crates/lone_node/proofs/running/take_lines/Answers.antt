@@ -12,7 +12,7 @@ use Rattle.lone_node.specs.Run.{EndsAt, EndsAtCall, HasChangedNothing, IsFailedO
 use Rattle.lone_node.specs.Standing.{LeavesStanding, StandsFor}
 use Rattle.lone_node.proofs.Endings.{damaged_before, damaged_so, damaged_with, failed_before, failed_so, unbuilt_before, unbuilt_so, unbuilt_with, unless_so}
 use Rattle.lone_node.proofs.Leaving.{leaves_none, stands_on}
-use Rattle.lone_node.proofs.Steps.{ends_at, goes_on, its_call, no_more_calls, run_none, tree_is, wait_more}
+use Rattle.lone_node.proofs.Steps.{ends_at, goes_on, no_more_calls, run_none, tree_is, wait_more}
 use Rattle.lone_node.proofs.running.take_lines.Given.{Over}
 use Rattle.lone_node.proofs.running.take_lines.Goals as goal
 
@@ -63,12 +63,6 @@ overflow_add-number g c =
     let few = no_more_calls c.args.clients.now c.args.lines.now (StandsFor (g.D.SharedDisk.state c.args.disk.now) c.args.view.now) c.loop-place.place c.loop-place.items.items
     c.loop-place-test.true so.run in
     omega (arith, few, so.number, c.loop-place-test.true, c.well_formed)
-
-pub take_call-requires-clause-built : goal.take_call-requires-clause-built
-take_call-requires-clause-built g c =
-    its_call c.args.clients.now c.args.lines.now (StandsFor (g.D.SharedDisk.state c.args.disk.now) c.args.view.now) c.loop-place.place c.loop-place.items.items c.loop-place-test.true
-    c.loop-place.invariant.run c.in-Call.client c.in-Call.call
-    c.index-lines-place.result c.index-lines-place.result c.index-clients-client.result c.index-lines-place.is c.in-Call.is c.requires.form
 
 pub loop-place-preserved : goal.loop-place-preserved
 loop-place-preserved g c =

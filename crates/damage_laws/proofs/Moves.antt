@@ -1,0 +1,173 @@
+-- Damage that a call meets which moves a name: on either of its paths, at their ends, and as the move is looked at and carried out.
+use Rattle.std.proofs.Common.{◌≡◌, ℕ, ◌⊎◌, inl, inr, List, [], ◌++◌, Option, None, Some, true, false, refl, sym, ap, ◌∙◌, subst}
+use Rattle.std.specs.Prelude.{◌≢◌, Contains, codes}
+use Rattle.call_locks.specs.declared.want.Want.{Want}
+use Rattle.call_locks.specs.Wants.{at_old_name}
+use Rattle.call_locks.specs.WantLaws.{path_of}
+use Rattle.directories.specs.Shown as dirs
+use Rattle.file_tree.specs.Names.{parent_of}
+use Rattle.file_tree.specs.declared.call.Call.{Call}
+use Rattle.file_tree.specs.declared.call.Call.TheVariants as calls
+use Rattle.gfs2_layout.specs.Holding.{Holding}
+use Rattle.glock_names.specs.Views.{Seen}
+use Rattle.dinode_tree.specs.Shown.{IsShown}
+use Rattle.image_model.specs.Claims.{every}
+use Rattle.image_model.specs.Flat.{Path}
+use Rattle.image_model.specs.Image.{Image, IsImage}
+use Rattle.path_walks.specs.Walks.{IsDirectoryAt, IsWrongAt, LeadsTo}
+use Rattle.path_walks.specs.Walks as path
+use Rattle.file_calls.specs.Removing.{Goes}
+use Rattle.file_calls.specs.Removing as removing
+use Rattle.file_calls.specs.Moving as moving
+use Rattle.file_calls.specs.Moving.{IsMeant, IsToMove}
+use Rattle.file_calls.specs.MoveCarrying as carrying
+use Rattle.file_calls.specs.MoveCarrying.{HasRoom, IsInTheWay}
+use Rattle.file_calls.specs.MoveChecks as checks
+use Rattle.file_calls.specs.MoveEnds as ends
+use Rattle.file_calls.specs.NameMoving as drafted
+use Rattle.file_calls.specs.NameMoving.{Move, freed_by, is_reparented, lost_there}
+use Rattle.damage_laws.specs.Telling.{HasWholeGroups, IsReadFrom, IsTold, itself, astray, IsToldOf, on_path, of_move, MovesTell, MovesTellExactly}
+use Rattle.damage_laws.proofs.Claimed.{led_there, shown}
+use Rattle.damage_laws.proofs.Inodes.{free_on_way_told, free_told, group_told, inode_told, inside_told, longer, name_told, root_told, some_told, stray_told, told_or}
+use Rattle.damage_laws.proofs.Owned.{from_parent, named_twice, shared_told}
+use Rattle.damage_laws.proofs.Paths.{paths_tell}
+
+module _ (v : Seen) (im : Image) (p q : Path) (read : IsReadFrom v im) (whole : HasWholeGroups v im) where
+  abbrev call : Call
+  call = calls.Rename p q
+
+  -- what is told on one of its paths
+  abbrev names : (second : _) → Path
+  names second = path_of call second
+
+  on : (second : _) (rule b : ℕ) → IsTold v im (at_old_name second (names second)) (names second) rule b → IsToldOf v im call rule b
+  on second rule b told = on_path rule b (record { wants = at_old_name second (names second); names = names second; on = of_move p q second refl; told = told })
+
+  -- or above its end
+  on_parent : (second : _) (rule b : ℕ) → IsTold v im (at_old_name second (names second)) (parent_of (names second)) rule b → IsToldOf v im call rule b
+  on_parent second rule b told =
+      let f = from_parent (names second) in
+      on second rule b (longer v im read whole.image (at_old_name second (names second)) (parent_of (names second)) f.0 (names second) f.1 rule b told)
+
+  on_either : (rule b : ℕ) → (path.IsDamage v (at_old_name false p) p rule b) ⊎ (path.IsDamage v (at_old_name true q) q rule b) → IsToldOf v im call rule b
+  on_either rule b (inl broken) = on false rule b (paths_tell v im (at_old_name false p) p rule b read whole.image broken)
+  on_either rule b (inr broken) = on true rule b (paths_tell v im (at_old_name true q) q rule b read whole.image broken)
+
+  -- an inode at the end of a path
+  at_end : (second : _) (a : ℕ) → LeadsTo v (at_old_name second (names second)) (names second) a → (rule b : ℕ) → IsWrongAt v a rule b → IsToldOf v im call rule b
+  at_end second a leads rule b wrong = on second rule b (inode_told v im read whole (at_old_name second (names second)) (names second) a leads rule b wrong)
+
+  above_end : (second : _) (a : ℕ) → LeadsTo v (at_old_name second (names second)) (parent_of (names second)) a → (rule b : ℕ) → IsWrongAt v a rule b → IsToldOf v im call rule b
+  above_end second a leads rule b wrong = on_parent second rule b (inode_told v im read whole (at_old_name second (names second)) (parent_of (names second)) a leads rule b wrong)
+
+  -- below what stands at the new name
+  below_told : (a : ℕ) → LeadsTo v (at_old_name true q) q a → (rule b : ℕ) → removing.IsWrongBelow v a rule b → IsToldOf v im call rule b
+  below_told a leads rule b (removing.IsWrongBelow.of_leaves r x directory wrong) = at_end true a leads r x (path.in_directory r x directory wrong)
+  below_told a leads rule b (removing.IsWrongBelow.in_inode r x broken) = at_end true a leads r x (path.in_inode r x broken)
+  below_told a leads rule b (removing.IsWrongBelow.stray from x led out) =
+      on true 2 from (told_or v im (at_old_name true q) q 2 from (stray_told v im read whole.image (at_old_name true q) q a from x leads (led (every im a) (shown v im read whole.image a)) out))
+
+  -- at the ends of the paths
+  ended_told : (rule b : ℕ) → ends.IsDamageAtEnds v call rule b → IsToldOf v im call rule b
+  ended_told _ _ (ends.IsDamageAtEnds.on_paths rule b begun broken) = on_either rule b broken
+  ended_told _ _ (ends.IsDamageAtEnds.count from to at rule b are stands kind broken) =
+      at_end true at.inode stands.place.leads rule b
+      (path.in_directory rule b kind (λ h s. let c = broken h s.inode in dirs.in_linear (kind h s.inode) c.0.linear c.1))
+  ended_told _ _ (ends.IsDamageAtEnds.of_target from to at rule b are stands may wrong) = below_told at.inode stands.place.leads rule b wrong
+
+  -- what stands at the new name goes with a block
+  goes_of : (from to : _) (blocks : Option (List ℕ)) → ends.IsTarget v call from to blocks → (b : ℕ) → Contains (drafted.blocks_or_none blocks) b
+      → (c : ℕ) × LeadsTo v (at_old_name true q) q c × ((h : Holding) → dirs.IsShown v c h → Goes h b)
+  goes_of from to _ (ends.IsTarget.free lacks) b there = absurd (none_in b there)
+    where
+      none_in : (b : ℕ) → Contains {A = ℕ} [] b → ⊥
+      none_in b (k, low, is) = omega (arith, low)
+  goes_of from to _ (ends.IsTarget.taken at blocks stands may goes leaves) b there = (at.inode, stands.place.leads, λ h s. (goes h s b).0 there)
+
+  module _ (m : Move) (meant : IsMeant v call m) where
+    moved_leads : LeadsTo v (at_old_name false p) p m.moved.inode
+    moved_leads = meant.ends.source.leads
+
+    from_leads : LeadsTo v (at_old_name false p) (parent_of p) m.from
+    from_leads = subst (LeadsTo v (at_old_name false p) (parent_of p)) (sym (ap (λ (x : Move). x.from) meant.is)) meant.ends.source.above
+
+    to_leads : LeadsTo v (at_old_name true q) (parent_of q) m.to.inode
+    to_leads = meant.ends.target
+
+    to_directory : IsDirectoryAt v m.to.inode
+    to_directory = meant.ends.directory
+
+    -- a directory that gets another parent is one
+    moved_directory : is_reparented m ≡ true → IsDirectoryAt v m.moved.inode
+    moved_directory is h s = sym (ap is_directory (meant.ends.source.dinode h s)) ∙ first (is_directory m.moved.dinode) (not (m.from == m.to.inode)) is
+
+    -- before it is carried out
+    seen_told : (rule b : ℕ) → checks.IsWrongMove v m rule b → IsToldOf v im call rule b
+    seen_told _ _ (checks.no_data_block a (inl is) out) =
+        root_told v im read call (at_old_name false p) (parent_of p) a whole.image (subst (LeadsTo v (at_old_name false p) (parent_of p)) (sym is) from_leads) out
+    seen_told _ _ (checks.no_data_block a (inr is) out) =
+        root_told v im read call (at_old_name true q) (parent_of q) a whole.image (subst (LeadsTo v (at_old_name true q) (parent_of q)) (sym is) to_leads) out
+    seen_told _ _ (checks.its_own is) =
+        on false 3 m.moved.inode (told_or v im (at_old_name false p) p 3 m.moved.inode
+        (named_twice v im read whole.image (at_old_name false p) p m.moved.inode moved_leads meant.ends.begun.from (subst (LeadsTo v (at_old_name false p) (parent_of p)) (sym is) from_leads)))
+    seen_told _ _ (checks.shared goes) =
+        let at = goes_of m.moved m.to m.replaced meant.target m.to.inode goes in
+        on true 3 m.to.inode (told_or v im (at_old_name true q) q 3 m.to.inode (shared_told v im read whole.image (at_old_name true q) q at.0 m.to.inode meant.ends.begun.to at.1 to_leads at.2))
+    seen_told _ _ (checks.in_inode a rule b (inl is) broken) = above_end true a (subst (LeadsTo v (at_old_name true q) (parent_of q)) (sym is) to_leads) rule b (path.in_inode rule b broken)
+    seen_told _ _ (checks.in_inode a rule b (inr is) broken) = at_end false a (subst (LeadsTo v (at_old_name false p) p) (sym is) moved_leads) rule b (path.in_inode rule b broken)
+    seen_told _ _ (checks.in_directory rule b is broken) = at_end false m.moved.inode moved_leads rule b (path.in_directory rule b (moved_directory is) broken)
+    seen_told _ _ (checks.no_parent is linear none) = at_end false m.moved.inode moved_leads 10 m.moved.inode (path.no_dots (moved_directory is) linear none)
+
+    -- in a directory of the move as the view shows it, or in a group
+    drafted_told : (from_directory : IsDirectoryAt v m.from) (blocks : List ℕ) (rule b : ℕ) → drafted.IsWrongIn v m blocks rule b → IsToldOf v im call rule b
+    drafted_told from_directory blocks _ _ (drafted.IsWrongIn.to_go dir rule b name one broken) = by one broken
+      where
+        by : drafted.IsOneOf m dir name → ((h : Holding) → dirs.IsShown v dir h → dirs.IsBroken v h rule b) → IsToldOf v im call rule b
+        by (drafted.IsOneOf.the_new is) broken = above_end true m.to.inode to_leads rule b (path.in_directory rule b to_directory broken)
+        by drafted.IsOneOf.the_old broken = above_end false m.from from_leads rule b (path.in_directory rule b from_directory broken)
+        by (drafted.IsOneOf.the_parent is) broken = at_end false m.moved.inode moved_leads rule b (path.in_directory rule b (moved_directory is) broken)
+    drafted_told from_directory blocks _ _ (drafted.IsWrongIn.to_come rule b none broken) =
+        on_parent true rule b (name_told v im read whole (at_old_name true q) (parent_of q) m.to.inode to_leads to_directory rule b broken)
+    drafted_told from_directory blocks _ _ (drafted.IsWrongIn.in_group rule b breaks) = on true rule b (itself rule b (some_told v im read whole blocks rule b breaks))
+
+    -- blocks that were found are called free
+    found_free : (node need : ℕ) (room : List ℕ) → HasRoom v node m need room → (b : ℕ) → Contains room b → IsSaidToBeFree v im b
+    found_free node need room has b there = let free = (has.are im.at (group_shown v im read whole)).each b there in (free.group, free.has, free.data_block, free.free)
+
+    -- as it is carried out
+    carried_told : (from_directory : IsDirectoryAt v m.from) (node rule b : ℕ) → carrying.IsDamageOf v node m rule b → IsToldOf v im call rule b
+    carried_told dir node _ _ (carrying.to_count rule b wrong) = drafted_told dir [] rule b wrong
+    carried_told dir node _ _ (carrying.of_room need rule b counted broken) = on true rule b (itself rule b (group_told v im read whole broken.group broken.has rule b broken.broken))
+    carried_told dir node _ _ (carrying.on_way need room rule b has wrong) =
+        on_parent true rule b (name_told v im read whole (at_old_name true q) (parent_of q) m.to.inode to_leads to_directory rule b wrong)
+    carried_told dir node _ _ (carrying.called_free need b room has there way) = by way (found_free node need room has b there)
+      where
+        by : IsInTheWay v m b → IsSaidToBeFree v im b → IsToldOf v im call 5 b
+        by (carrying.a_dinode (inl is)) free = on_parent false 5 b (free_told v im read whole (at_old_name false p) (parent_of p) b (subst (LeadsTo v (at_old_name false p) (parent_of p)) (sym is) from_leads) free)
+        by (carrying.a_dinode (inr (inl is))) free = on_parent true 5 b (free_told v im read whole (at_old_name true q) (parent_of q) b (subst (LeadsTo v (at_old_name true q) (parent_of q)) (sym is) to_leads) free)
+        by (carrying.a_dinode (inr (inr is))) free = on false 5 b (free_told v im read whole (at_old_name false p) p b (subst (LeadsTo v (at_old_name false p) p) (sym is) moved_leads) free)
+        by (carrying.on_way on_it) free =
+            on_parent true 5 b (free_on_way_told v im read whole (at_old_name true q) (parent_of q) m.to.inode to_leads to_directory m.new_name b on_it free)
+    carried_told dir node _ _ (carrying.to_draft need room rule b has wrong) = drafted_told dir (room ++ freed_by m) rule b wrong
+
+  moved_told : (rule b : ℕ) → moving.IsDamage v call rule b → IsToldOf v im call rule b
+  moved_told rule b (moving.at_ends at) = ended_told rule b at
+  moved_told rule b (moving.to_see m meant wrong) = seen_told m meant rule b wrong
+  moved_told rule b (moving.to_move node m to wrong) = carried_told m to.meant to.can.source node rule b wrong
+
+pub moves_tell : MovesTell
+moves_tell v im (calls.Rename p q) rule b read whole is told = moved_told v im p q read whole rule b told
+moves_tell v im (calls.Create p) rule b read whole is told = absurd is
+moves_tell v im (calls.Mkdir p) rule b read whole is told = absurd is
+moves_tell v im (calls.Unlink p) rule b read whole is told = absurd is
+moves_tell v im (calls.Rmdir p) rule b read whole is told = absurd is
+moves_tell v im (calls.Read p at n) rule b read whole is told = absurd is
+moves_tell v im (calls.Dread p at n) rule b read whole is told = absurd is
+moves_tell v im (calls.Write p at bytes) rule b read whole is told = absurd is
+moves_tell v im (calls.Truncate p n) rule b read whole is told = absurd is
+moves_tell v im (calls.Stat p) rule b read whole is told = absurd is
+moves_tell v im (calls.List p) rule b read whole is told = absurd is
+moves_tell v im calls.Sync rule b read whole is told = absurd is
+
+pub moves_tell_exactly : MovesTellExactly
+moves_tell_exactly v im call rule b read whole inside is told = inside_told v im call inside rule b (moves_tell v im call rule b read whole is told)
