@@ -18,6 +18,8 @@ use Rattle.image_changes.specs.Does.{Does, IsFormed, IsInside, frees, is_empty, 
 use Rattle.drafts.specs.declared.change.Change.{Change}
 use Rattle.writing_calls.specs.Writing as writing
 use Rattle.file_calls.specs.Calls.{IsCallList, IsTooFew}
+use Rattle.move_calls.specs.Locks as move_locks
+use Rattle.move_calls.specs.MoveEnds.{IsRenaming}
 use Rattle.read_calls.specs.Reading.{IsReading, IsNeededFor, on_path, at_end}
 use Rattle.call_locks.specs.WantLaws.{path_of}
 use Rattle.call_locks.specs.Wants.{wanted}
@@ -175,6 +177,35 @@ module _ (im : Image) (o : Owners) (l : Layout) (t : Tree) (node : ℕ) where
   removing_list (call.Rename p q) is = absurd is
   removing_list call.Sync is = absurd is
 
+  -- of a call that moves a name there is one for each number of blocks that it needs, which is one number
+  pub moving_list : (c : Call) → IsRenaming c → (list : List Hold) → IsCallList im o l t c node list → (need : ℕ) × move_locks.IsNeed im o l t c need × (list ≡ move_locks.call_holds im o l t c node need)
+  moving_list (call.Create p) is list listed = absurd is
+  moving_list (call.Mkdir p) is list listed = absurd is
+  moving_list (call.Unlink p) is list listed = absurd is
+  moving_list (call.Rmdir p) is list listed = absurd is
+  moving_list (call.Read p at count) is list listed = absurd is
+  moving_list (call.Dread p at count) is list listed = absurd is
+  moving_list (call.Write p at new) is list listed = absurd is
+  moving_list (call.Truncate p size) is list listed = absurd is
+  moving_list (call.Stat p) is list listed = absurd is
+  moving_list (call.List p) is list listed = absurd is
+  moving_list (call.Rename p q) is list listed = listed
+  moving_list call.Sync is list listed = absurd is
+
+  pub list_of_move : (c : Call) → IsRenaming c → (need : ℕ) → move_locks.IsNeed im o l t c need → IsCallList im o l t c node (move_locks.call_holds im o l t c node need)
+  list_of_move (call.Create p) is need needs = absurd is
+  list_of_move (call.Mkdir p) is need needs = absurd is
+  list_of_move (call.Unlink p) is need needs = absurd is
+  list_of_move (call.Rmdir p) is need needs = absurd is
+  list_of_move (call.Read p at count) is need needs = absurd is
+  list_of_move (call.Dread p at count) is need needs = absurd is
+  list_of_move (call.Write p at new) is need needs = absurd is
+  list_of_move (call.Truncate p size) is need needs = absurd is
+  list_of_move (call.Stat p) is need needs = absurd is
+  list_of_move (call.List p) is need needs = absurd is
+  list_of_move (call.Rename p q) is need needs = (need, needs, refl)
+  list_of_move call.Sync is need needs = absurd is
+
 -- ---- a call that removes a name
 
 pub removing_absent : (v : Seen) (c : Call) (m : Missing) → ShowsEach v → removing.IsNeededFor v c m → v.block_at m.block ≡ None
@@ -246,3 +277,18 @@ making_few v im o l t (call.Write p at new) is need free few = absurd is
 making_few v im o l t (call.Truncate p size) is need free few = absurd is
 making_few v im o l t (call.Rename p q) is need free few = absurd is
 making_few v im o l t call.Sync is need free few = absurd is
+
+-- its want of space is the one that is told of every call
+pub moving_few : (v : Seen) (im : Image) (o : Owners) (l : Layout) (t : Tree) (c : Call) → IsRenaming c → (need free : ℕ) → move_locks.IsTooFew v im o l t c need free → IsTooFew v im o l t c need free
+moving_few v im o l t (call.Create p) is need free few = absurd is
+moving_few v im o l t (call.Mkdir p) is need free few = absurd is
+moving_few v im o l t (call.Unlink p) is need free few = absurd is
+moving_few v im o l t (call.Rmdir p) is need free few = absurd is
+moving_few v im o l t (call.Read p at count) is need free few = absurd is
+moving_few v im o l t (call.Dread p at count) is need free few = absurd is
+moving_few v im o l t (call.Write p at new) is need free few = absurd is
+moving_few v im o l t (call.Truncate p size) is need free few = absurd is
+moving_few v im o l t (call.Stat p) is need free few = absurd is
+moving_few v im o l t (call.List p) is need free few = absurd is
+moving_few v im o l t (call.Rename p q) is need free few = few
+moving_few v im o l t call.Sync is need free few = absurd is

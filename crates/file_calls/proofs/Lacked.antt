@@ -18,6 +18,11 @@ use Rattle.read_calls.specs.Answers.{IfNeedLock}
 use Rattle.read_calls.specs.Holds.{holds}
 use Rattle.read_calls.specs.Walks.{IsLacked}
 use Rattle.making_calls.specs.Making as making
+use Rattle.move_calls.specs.Answering as moving
+use Rattle.move_calls.specs.Carrying as carrying
+use Rattle.move_calls.specs.MoveEnds as ends
+use Rattle.move_calls.specs.PairWalks as pairs
+use Rattle.move_calls.specs.PairWalks.{IsPairLacked}
 use Rattle.removing_calls.specs.Removing as removing
 use Rattle.writing_calls.specs.Writing as writing
 use Rattle.file_calls.specs.Calls.{IsLackedFor}
@@ -42,6 +47,19 @@ write_lacks v call node lock state (writing.of_room a at new need own changes pu
 write_lacks v call node lock state (writing.of_freed a size time freed fates changes cuts draft is exclusive) =
     ap (λ (s : State). holds v (record { lock = lock; state = s })) exclusive ∙ ap (λ (l : LockName). holds v (record { lock = l; state = Ex })) is.is ∙ is.lacks
 
+pair_lacks : (v : Seen) (p q : Path) (first second : List Want) (lock : LockName) (state : State) → IsPairLacked v p q first second lock state → IsNotHeld v lock state
+pair_lacks v p q first second _ _ (pairs.on_first lock state is) = walk_lacks v first p lock state is
+pair_lacks v p q first second _ _ (pairs.on_second lock state is) = walk_lacks v second q lock state is
+pair_lacks v p q first second _ _ (pairs.on_both i j a w x one other is as lacks) = lacks
+
+move_lacks : (v : Seen) (call : Call) (node : ℕ) (lock : LockName) (state : State) → moving.IsLackedFor v call node lock state → IsNotHeld v lock state
+move_lacks v call node lock state (moving.on_paths (ends.of_order some other is exclusive lacks)) =
+    ap (λ (s : State). holds v (record { lock = lock; state = s })) exclusive ∙ ap (λ (l : LockName). holds v (record { lock = l; state = Ex })) is ∙ lacks
+move_lacks v call node lock state (moving.on_paths (ends.on_paths begun is)) = pair_lacks v (ends.from_path call) (ends.to_path call) (ends.first_wants call) (ends.second_wants call) lock state is
+move_lacks v call node lock state (moving.of_group m to (carrying.of_first need needs first exclusive)) =
+    ap (λ (s : State). holds v (record { lock = lock; state = s })) exclusive ∙ ap (λ (l : LockName). holds v (record { lock = l; state = Ex })) first.lacks.is ∙ first.lacks.lacks
+move_lacks v call node lock state (moving.of_group m to (carrying.of_room need counted lacks first)) = lacks
+
 lacks_by : (v : Seen) (call : Call) (node : ℕ) (lock : LockName) (state : State) → IsLackedFor v call node lock state → IsNotHeld v lock state
 lacks_by v (calls.Create path) node lock state is = make_lacks v (calls.Create path) node lock state is
 lacks_by v (calls.Mkdir path) node lock state is = make_lacks v (calls.Mkdir path) node lock state is
@@ -53,7 +71,7 @@ lacks_by v (calls.Write path at new) node lock state is = write_lacks v (calls.W
 lacks_by v (calls.Truncate path size) node lock state is = write_lacks v (calls.Truncate path size) node lock state is
 lacks_by v (calls.Stat path) node lock state is = walk_lacks v (wanted (calls.Stat path)) path lock state is
 lacks_by v (calls.List path) node lock state is = walk_lacks v (wanted (calls.List path)) path lock state is
-lacks_by v (calls.Rename path to) node lock state is = walk_lacks v (wanted (calls.Rename path to)) (path_of (calls.Rename path to) false) lock state is
+lacks_by v (calls.Rename path to) node lock state is = move_lacks v (calls.Rename path to) node lock state is
 lacks_by v calls.Sync node lock state is = walk_lacks v (wanted calls.Sync) (path_of calls.Sync false) lock state is
 
 pub lacked_lacks : (v : Seen) (call : Call) (node : ℕ) (result : Result Attempt CallFault) → IfNeedLock result (IsLackedFor v call node) → IfNeedLock result (IsNotHeld v)

@@ -1,6 +1,7 @@
 -- What a call that makes or removes a name is told, and makes of an image that the view may be of.
-use Rattle.std.proofs.Common.{ℕ}
+use Rattle.std.proofs.Common.{◌≡◌, ℕ, false}
 use Rattle.drafts.specs.declared.change.Change.{Change}
+use Rattle.file_tree.specs.Names.{is_same_path}
 use Rattle.file_tree.specs.declared.call.Call.{Call}
 use Rattle.file_tree.specs.declared.call.Call.TheVariants as call
 use Rattle.glock_names.specs.Views.{Seen}
@@ -8,6 +9,9 @@ use Rattle.image_model.specs.Image.{Image}
 use Rattle.image_model.specs.Owners.{Owners}
 use Rattle.image_model.specs.Stands.{Layout}
 use Rattle.making_calls.specs.Making as making
+use Rattle.move_calls.specs.Answering as moving
+use Rattle.move_calls.specs.Moved.{IsMovedIn}
+use Rattle.move_calls.specs.MoveEnds.{IsRenaming, from_path, to_path}
 use Rattle.removing_calls.specs.Removing as removing
 use Rattle.writing_calls.specs.Writing as writing
 use Rattle.file_calls.specs.Answers.{IsFullFor, IsMadeOf}
@@ -40,6 +44,20 @@ writing_full v need free (call.Unlink p) is full = absurd is
 writing_full v need free (call.Rmdir p) is full = absurd is
 writing_full v need free (call.Rename p q) is full = absurd is
 
+pub moving_full : (v : Seen) (c : Call) → IsRenaming c → (need free : ℕ) → moving.IsFullFor v c need free → IsFullFor v c need free
+moving_full v (call.Create p) is need free full = absurd is
+moving_full v (call.Mkdir p) is need free full = absurd is
+moving_full v (call.Unlink p) is need free full = absurd is
+moving_full v (call.Rmdir p) is need free full = absurd is
+moving_full v (call.Read p at count) is need free full = absurd is
+moving_full v (call.Dread p at count) is need free full = absurd is
+moving_full v (call.Write p at new) is need free full = absurd is
+moving_full v (call.Truncate p size) is need free full = absurd is
+moving_full v (call.Stat p) is need free full = absurd is
+moving_full v (call.List p) is need free full = absurd is
+moving_full v (call.Rename p q) is need free full = full
+moving_full v call.Sync is need free full = absurd is
+
 module _ (im : Image) (o : Owners) (l : Layout) (node time : ℕ) (change : Change) where
   pub making_made : (c : Call) → making.IsMaking c → making.IsMade im o l c node time change → making.IsStamped im o l c time change → IsMadeOf im o l c node time change
   making_made (call.Create p) is made stamped = (made, stamped)
@@ -68,3 +86,17 @@ module _ (im : Image) (o : Owners) (l : Layout) (node time : ℕ) (change : Chan
   removing_made (call.Truncate p size) is stamped = absurd is
   removing_made (call.Rename p q) is stamped = absurd is
   removing_made call.Sync is stamped = absurd is
+
+  pub moving_made : (c : Call) → IsRenaming c → (is_same_path (from_path c) (to_path c) ≡ false → IsMovedIn im o l c node time change) → IsMadeOf im o l c node time change
+  moving_made (call.Create p) is made = absurd is
+  moving_made (call.Mkdir p) is made = absurd is
+  moving_made (call.Unlink p) is made = absurd is
+  moving_made (call.Rmdir p) is made = absurd is
+  moving_made (call.Read p at count) is made = absurd is
+  moving_made (call.Dread p at count) is made = absurd is
+  moving_made (call.Write p at new) is made = absurd is
+  moving_made (call.Truncate p size) is made = absurd is
+  moving_made (call.Stat p) is made = absurd is
+  moving_made (call.List p) is made = absurd is
+  moving_made (call.Rename p q) is made = made
+  moving_made call.Sync is made = absurd is

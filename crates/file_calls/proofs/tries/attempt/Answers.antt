@@ -6,9 +6,15 @@ use Rattle.glock_names.specs.declared.steps.CallFault.{CallFault}
 use Rattle.glock_names.specs.declared.steps.Missing.{Missing}
 use Rattle.cluster_history.specs.Changes.{is_ok}
 use Rattle.read_calls.specs.Answers.{IfDone, IfNeedBlock, IfNeedLock, IfNoSpace, IfNotBuilt, HasSpace}
-use Rattle.read_calls.specs.Holds.{AreHeld, IsAskedFor, IsFirstLack, IsUnder}
+use Rattle.call_locks.specs.WantLaws.{path_of}
+use Rattle.call_locks.specs.Wants.{wanted}
+use Rattle.read_calls.specs.Holds.{AreHeld, IsAskedFor, IsFirstLack, IsUnder, holds_in}
+use Rattle.making_calls.specs.Making as making
 use Rattle.making_calls.specs.Making.{IsMaking}
-use Rattle.removing_calls.specs.Removing.{IsRemoving}
+use Rattle.move_calls.specs.Locks.{IsNeed, call_holds}
+use Rattle.move_calls.specs.MoveEnds.{IsRenaming}
+use Rattle.removing_calls.specs.Removing.{IsRemoving, holds_for}
+use Rattle.writing_calls.specs.Writing as writing
 use Rattle.writing_calls.specs.Writing.{IsWriting}
 use Rattle.file_tree.specs.Apply.{apply}
 use Rattle.file_tree.specs.Tree.{Tree}
@@ -20,10 +26,10 @@ use Rattle.image_changes.specs.Does.{Does, AreInside}
 use Rattle.read_calls.specs.Reading.{IsReading}
 use Rattle.read_calls.proofs.Lists.{no_change}
 use Rattle.file_calls.specs.Answers.{IsMadeIn}
-use Rattle.file_calls.specs.Calls.{IsLackedFor, call_holds}
+use Rattle.file_calls.specs.Calls.{IsLackedFor}
 use Rattle.file_calls.proofs.Lacked.{lacked_lacks}
-use Rattle.file_calls.proofs.Made.{making_full, making_made, removing_made, writing_full}
-use Rattle.file_calls.proofs.Blocks.{needed_absent, covered_low, making_few, making_holds, nothing_under, reading_holds, removing_absent, removing_holds, removing_inside, removing_under, writing_absent, writing_few, writing_holds}
+use Rattle.file_calls.proofs.Made.{making_full, making_made, moving_full, moving_made, removing_made, writing_full}
+use Rattle.file_calls.proofs.Blocks.{needed_absent, covered_low, list_of_move, making_few, making_list, moving_few, moving_list, nothing_under, reading_list, removing_absent, removing_inside, removing_list, removing_under, writing_absent, writing_few, writing_list}
 use Rattle.file_calls.proofs.tries.attempt.Goals as goal
 
 mapped : (r : Result Attempt CallFault) (P Q : Missing → Type 0) → ((m : Missing) → P m → Q m) → IfNeedBlock r P → IfNeedBlock r Q
@@ -266,3 +272,56 @@ returns-in-Write-clause-lacks g c =
     let v = g.V.View.seen c.args.view.now in
     let lacked : IfNeedLock c.attempt.result (IsLackedFor v c.args.call.now c.args.stamp.now.node) = search rules in
     lacked_lacks v c.args.call.now c.args.stamp.now.node c.attempt.result lacked
+
+-- ---- a call that moves a name
+
+-- what is held and touched, for one number of blocks that are needed
+under_so : (r : Result Attempt CallFault) (N H : ℕ → Type 0) (U : ℕ → Change → Type 0) → IfDone r (λ x change. (need : ℕ) × (N need × H need)) → ((need : ℕ) → N need → IfDone r (λ x change. U need change))
+    → IfDone r (λ x change. (need : ℕ) × N need × H need × U need change)
+under_so (Ok (NeedBlock m)) N H U held under = tt
+under_so (Ok (Done reply change)) N H U held under = (held.0, held.1.0, held.1.1, under held.0 held.1.0)
+under_so (Ok (NeedLock lock state)) N H U held under = tt
+under_so (Ok (NoSpace need free)) N H U held under = tt
+under_so (Ok NotBuilt) N H U held under = tt
+under_so (Err e) N H U held under = tt
+
+pub returns-in-Rename-clause-under : goal.returns-in-Rename-clause-under
+returns-in-Rename-clause-under g c im o l t of =
+    let is : IsRenaming c.args.call.now = search rules in
+    let v = g.V.View.seen c.args.view.now in
+    let list = λ need. call_holds im o l t c.args.call.now c.args.stamp.now.node need in
+    done_so c.attempt-in-Rename.result _ _
+    (λ x change all. record { list = list all.0; is = list_of_move im o l t c.args.stamp.now.node c.args.call.now is all.0 all.1; held = all.2; under = all.3 })
+    (under_so c.attempt-in-Rename.result (IsNeed im o l t c.args.call.now) (λ need. AreHeld v (list need)) (λ need change. IsUnder o (list need) change) (c.attempt-in-Rename.ensures.held im o l t of)
+    (λ need needs. c.attempt-in-Rename.ensures.under im o l t need of needs))
+
+pub returns-in-Rename-clause-lock : goal.returns-in-Rename-clause-lock
+returns-in-Rename-clause-lock g c im o l t list of listed =
+    let is : IsRenaming c.args.call.now = search rules in
+    let needs = moving_list im o l t c.args.stamp.now.node c.args.call.now is list listed in
+    subst (λ list. IfNeedLock c.attempt-in-Rename.result (IsFirstLack (g.V.View.seen c.args.view.now) list)) (sym needs.2) (c.attempt-in-Rename.ensures.lock im o l t needs.0 of needs.1)
+
+pub returns-in-Rename-clause-block : goal.returns-in-Rename-clause-block
+returns-in-Rename-clause-block g c im o l t list of listed =
+    let is : IsRenaming c.args.call.now = search rules in
+    let needs = moving_list im o l t c.args.stamp.now.node c.args.call.now is list listed in
+    subst (λ list. IfNeedBlock c.attempt-in-Rename.result (IsAskedFor (g.V.View.seen c.args.view.now) im o l list)) (sym needs.2) (c.attempt-in-Rename.ensures.block im o l t needs.0 of needs.1)
+
+pub returns-in-Rename-clause-space : goal.returns-in-Rename-clause-space
+returns-in-Rename-clause-space g c im o l t of =
+    let is : IsRenaming c.args.call.now = search rules in
+    few_so c.attempt-in-Rename.result _ _ (moving_few (g.V.View.seen c.args.view.now) im o l t c.args.call.now is) (c.attempt-in-Rename.ensures.space im o l t of)
+
+pub returns-in-Rename-clause-full : goal.returns-in-Rename-clause-full
+returns-in-Rename-clause-full g c =
+    let is : IsRenaming c.args.call.now = search rules in
+    few_so c.attempt-in-Rename.result _ _ (moving_full (g.V.View.seen c.args.view.now) c.args.call.now is) c.attempt-in-Rename.ensures.full
+
+pub returns-in-Rename-clause-spaceless : goal.returns-in-Rename-clause-spaceless
+returns-in-Rename-clause-spaceless g c = done_so c.attempt-in-Rename.result _ _ (λ x change has. space_so x has) c.attempt-in-Rename.ensures.spaceless
+
+pub returns-in-Rename-clause-made : goal.returns-in-Rename-clause-made
+returns-in-Rename-clause-made g c im o l t of =
+    let is : IsRenaming c.args.call.now = search rules in
+    done_so c.attempt-in-Rename.result _ (IsMadeIn im o l c.args.call.now c.args.stamp.now.node c.args.stamp.now.time)
+    (λ x change moved ok. moving_made im o l c.args.stamp.now.node c.args.stamp.now.time change c.args.call.now is (moved ok)) (c.attempt-in-Rename.ensures.moved im o l t of)

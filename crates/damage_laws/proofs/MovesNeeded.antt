@@ -1,0 +1,1 @@
+-- A block that a call needs which moves a name lies out of the device: its number stands in a block that is wrong.
