@@ -200,8 +200,7 @@ module _ (v : Seen) (im : Image) (o : Owners) (l : Layout) (t : Tree) (of : IsOf
           let test : comes_first im o l c node need b ≡ (goes_with im o (replaced_in im o l c) b || (b == own.first)) =
           ap (λ x. goes_with im o (replaced_in im o l c) b || (not x && is_first_of (group_of_node (map group_of_entry l.groups) node) b)) some
           ∙ ap (λ x. goes_with im o (replaced_in im o l c) b || is_first_of x b) own_there in
-          let blocks : first_blocks own need (freed_by m) ≡ own.first ∷ freed_by m = cond-false (need == 0) (freed_by m) (own.first ∷ freed_by m) some in
-          (
+          let blocks : first_blocks own need (freed_by m) ≡ own.first ∷ freed_by m = cond-false (need == 0) (freed_by m) (own.first ∷ freed_by m) some in (
             (λ there. test ∙ passes (is_in b (own.first ∷ freed_by m) (subst (λ xs. Contains xs b) blocks there))),
             (λ so. subst (λ xs. Contains xs b) (sym blocks) (contained b (own.first ∷ freed_by m) (there_so (sym test ∙ so)))),
           )

@@ -37,6 +37,14 @@ pub one_there : {A : Type 0} (P : A → Type 0) (x : Option A) → is_some x ≡
 one_there P None some is = absurd (true≢false (sym some))
 one_there P (Some a) some is = (a, is)
 
+pub some_map : {A : Type 0} (P Q : A → Type 0) (x : Option A) → ((a : A) → P a → Q a) → IfSome x P → IfSome x Q
+some_map P Q None so is = tt
+some_map P Q (Some a) so is = so a is
+
+pub none_map : {A : Type 0} (P Q : Type 0) (x : Option A) → (P → Q) → IfNone x P → IfNone x Q
+none_map P Q None so is = so is
+none_map P Q (Some a) so is = tt
+
 pub at_some : {A : Type 0} (P : A → Type 0) (x : Option A) (a : A) → x ≡ Some a → IfSome x P → P a
 at_some P x a is some = subst (λ y. IfSome y P) is some
 
