@@ -1,9 +1,9 @@
 -- What follows of each answer in an image that the view may be of: the locks, and that too few blocks are free.
-use Rattle.std.proofs.Common.{◌≡◌, ◌≢◌, ◌&&◌, ◌^◌, ◌<◌, ℕ, Bool, true, false, true≢false, List, [], ◌++◌, Option, None, Result, Ok, Err, append-nil, refl, sym, ap, ◌∙◌, subst}
+use Rattle.std.proofs.Common.{◌≡◌, ◌≢◌, ◌&&◌, ◌^◌, ◌<◌, ℕ, Bool, true, false, true≢false, List, [], Result, Ok, Err, append-nil, refl, sym, ap, ◌∙◌, subst}
 use Rattle.std.specs.List.{list_any}
 use Rattle.std.specs.Prelude.{Contains, IfOk, if◌then◌else◌, not, ◌==◌}
 use Rattle.crc_words.specs.Remainder.{crc32_of}
-use Rattle.file_tree.specs.Apply.{Answer, apply}
+use Rattle.file_tree.specs.Apply.{apply}
 use Rattle.file_tree.specs.Names.{is_same_path, last_of}
 use Rattle.file_tree.specs.Tree.{Tree}
 use Rattle.file_tree.specs.declared.call.Call.{Call}

@@ -1,10 +1,10 @@
 -- The locks of a name that moves, in an image that the view may be of.
-use Rattle.std.proofs.Common.{◌≡◌, ◌↔◌, ◌==◌, ◌&&◌, ◌||◌, ◌^◌, ◌<◌, inl, inr, ℕ, Bool, true, false, true≢false, List, [], ◌∷◌, ◌++◌, Option, None, Some, get_or, length, map, refl, sym, ap, ◌∙◌, subst, arith}
+use Rattle.std.proofs.Common.{◌≡◌, ◌↔◌, ◌==◌, ◌&&◌, ◌||◌, ◌^◌, ◌<◌, inl, inr, ℕ, Bool, true, false, true≢false, List, [], ◌∷◌, ◌++◌, Option, Some, get_or, length, map, refl, sym, ap, ◌∙◌, subst, arith}
 use Rattle.std.proofs.lemmas.Bool.{cases_Bool, cond-false, cond-true, eq-eqb, eqb-true}
 use Rattle.std.proofs.lemmas.List.{append_assoc}
 use Rattle.std.proofs.lemmas.List.Elements.{All-append, Contains-append_cases, Contains-append_left}
 use Rattle.std.proofs.lemmas.Option.{slice_get-get_or}
-use Rattle.std.specs.Prelude.{Contains, IsSome, is_some, not}
+use Rattle.std.specs.Prelude.{Contains, not}
 use Rattle.std.specs.Ordering.{nat_cmp}
 use Rattle.std.specs.FinMap.{FinMap, get}
 use Rattle.crc_words.specs.Remainder.{crc32_of}
@@ -12,26 +12,22 @@ use Rattle.file_tree.specs.Apply.{Answer, apply}
 use Rattle.file_tree.specs.Names.{is_same_path, last_of, leads_to, parent_of}
 use Rattle.file_tree.specs.Tree.{Tree}
 use Rattle.file_tree.specs.declared.call.Call.{Call}
-use Rattle.file_tree.specs.declared.reply.Reply.TheVariants as reply
 use Rattle.cluster_history.specs.Changes.{is_ok}
 use Rattle.drafts.specs.declared.change.Change.{Change}
 use Rattle.drafts.specs.declared.change.Written.{Written}
 use Rattle.drafts.specs.declared.fate.Fate.{Fate}
 use Rattle.drafts.specs.declared.fate.Fate.TheVariants.{Put}
-use Rattle.gfs2_layout.specs.declared.rindex.Rindex.{Rindex}
 use Rattle.glock_names.specs.Views.{Seen, HasGroup, IsView, group_of_entry}
 use Rattle.glock_names.specs.declared.LockName.{LockName}
 use Rattle.glock_names.specs.declared.State.{State}
 use Rattle.glock_names.specs.declared.State.TheVariants.{Ex}
 use Rattle.glock_names.specs.declared.steps.Missing.{Missing}
 use Rattle.glock_names.specs.declared.views.Group.{Group}
-use Rattle.dinode_tree.specs.Reading.{inode_lock}
-use Rattle.image_model.specs.Groups.{IsListed}
 use Rattle.image_model.specs.Groups as listed
 use Rattle.image_model.specs.Image.{Image}
 use Rattle.image_model.specs.Owners.{Owners, holding}
 use Rattle.image_model.specs.Stands.{Layout}
-use Rattle.image_model.proofs.Held.{none_some, some_same}
+use Rattle.image_model.proofs.Held.{some_same}
 use Rattle.image_model.proofs.Members.{IsIn, contained, in_left, in_right, is_in}
 use Rattle.image_changes.specs.Changes.{inode_of}
 use Rattle.image_changes.specs.Does.{IsOf, frees}
@@ -47,9 +43,9 @@ use Rattle.path_walks.proofs.Images.{shown_inode, sound_directory}
 use Rattle.pair_walks.proofs.Paths.{ends_so}
 use Rattle.path_walks.proofs.Longer.{asked_before, asked_behind, lack_before, lack_behind}
 use Rattle.resource_groups.specs.Freeing as freeing
-use Rattle.resource_groups.specs.Shown.{IsDataOf, group_lock, said}
+use Rattle.resource_groups.specs.Shown.{IsDataOf, said}
 use Rattle.resource_groups.proofs.Apart.{one_group}
-use Rattle.group_locks.specs.Groups.{GroupsAreHeld, holds_of_groups}
+use Rattle.group_locks.specs.Groups.{holds_of_groups}
 use Rattle.group_locks.specs.Laws.{AreThose}
 use Rattle.group_locks.proofs.Listed.{held_upto}
 use Rattle.group_locks.proofs.Locks.{blocks_of_groups_are_asked_for, first_group_lacks_are_first, groups_with_blocks_are_listed, held_groups_hold_the_list}
@@ -62,7 +58,7 @@ use Rattle.move_ends.proofs.Listed.{inode_listed, replaced_listed, source_listed
 use Rattle.name_moves.specs.Becoming.{NeedsAfter}
 use Rattle.name_moves.specs.Moving.{CanBeMoved, IsNeededIn, IsPutUnder, Move, blocks_or_none, freed_by, lost_there}
 use Rattle.name_moves.proofs.Alike.{need_once}
-use Rattle.move_calls.specs.Carrying.{FirstAreHeld, HasRoom, IsCarriedOut, IsCounted, IsFull, IsOwnGroup, LacksLock, NeedsBlock, NeedsFor, first_blocks}
+use Rattle.move_calls.specs.Carrying.{FirstAreHeld, HasRoom, IsCarriedOut, IsFull, IsOwnGroup, LacksLock, NeedsBlock, NeedsFor, first_blocks}
 use Rattle.move_calls.specs.Locks.{IsNeed, IsTooFew, call_holds, comes_first, goes_with, is_first_of, lost_in, moves_in, replaced_in}
 use Rattle.move_calls.proofs.Asked.{move_asked, way_asked}
 use Rattle.move_calls.proofs.Doing.{lost_same, move_by}

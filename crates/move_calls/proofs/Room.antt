@@ -1,5 +1,5 @@
 -- The blocks that were found for a move.
-use Rattle.std.proofs.Common.{◌≡◌, ◌<◌, ◌==◌, inl, inr, ℕ, true, true≢false, List, [], ◌∷◌, ◌++◌, Option, None, Some, Vec, Global, map, sym, subst, arith}
+use Rattle.std.proofs.Common.{◌≡◌, ◌<◌, ◌==◌, inl, inr, ℕ, true, true≢false, List, [], ◌∷◌, ◌++◌, Option, None, Some, Vec, Global, sym, subst, arith}
 use Rattle.std.proofs.lemmas.Bool.{cases_Bool, cond-true, cond-false}
 use Rattle.std.proofs.lemmas.List.Elements.{Contains-append_cases, Contains-append_right}
 use Rattle.std.specs.Prelude.{Contains, IfNone, IfSome, is_some}
@@ -13,7 +13,7 @@ use Rattle.group_locks.specs.Groups.{GroupsAreHeld}
 use Rattle.image_model.proofs.Counts.{all_in}
 use Rattle.image_model.proofs.Members.{is_in}
 use Rattle.image_model.proofs.Rising.{Rising, rising}
-use Rattle.path_walks.specs.Holds.{AreHeld, hold_of_group, holds}
+use Rattle.path_walks.specs.Holds.{hold_of_group, holds}
 use Rattle.resource_groups.specs.Putting.{HasDataBlock}
 use Rattle.resource_groups.specs.Shown.{said}
 use Rattle.resource_groups.proofs.Apart.{one_group}

@@ -1,16 +1,14 @@
 -- In an image that stands for a tree nothing is told as damage of a call that moves a name.
-use Rattle.std.proofs.Common.{◌≡◌, ◌≢◌, ◌⊎◌, ◌&&◌, ◌^◌, ◌<◌, ◌+◌, inl, inr, ℕ, Bool, true, false, true≢false, List, [], ◌∷◌, ◌++◌, length, Option, None, Some, append-nil, refl, sym, ap, ap₂, ◌∙◌, subst, arith}
+use Rattle.std.proofs.Common.{◌≡◌, ◌≢◌, ◌⊎◌, ◌&&◌, ◌<◌, ◌+◌, inl, inr, ℕ, true, true≢false, List, [], ◌∷◌, ◌++◌, length, Option, None, Some, append-nil, refl, sym, ap, ap₂, ◌∙◌, subst, arith}
 use Rattle.std.proofs.lemmas.List.{length-append}
 use Rattle.std.proofs.lemmas.Slice.Eq.{bytes_eq-Decides}
-use Rattle.std.specs.Prelude.{Contains, IsSome, codes, is_some, option_and_then}
-use Rattle.std.specs.Str.{bytes_eq}
-use Rattle.crc_words.specs.Remainder.{crc32_of}
+use Rattle.std.specs.Prelude.{Contains, IsSome, is_some, option_and_then}
 use Rattle.file_tree.specs.Names.{last_of, leads_to, parent_of}
 use Rattle.file_tree.specs.Tree.{Tree}
 use Rattle.file_tree.specs.declared.call.Call.{Call}
 use Rattle.gfs2_layout.specs.Holding.{Holding}
 use Rattle.gfs2_layout.specs.Structures.{is_directory}
-use Rattle.glock_names.specs.Views.{Seen, IsView}
+use Rattle.glock_names.specs.Views.{Seen}
 use Rattle.dinode_tree.specs.Broken as broken
 use Rattle.dinode_tree.specs.Shown as inodes
 use Rattle.image_model.specs.Flat.{Path, follow}
@@ -28,7 +26,6 @@ use Rattle.image_changes.proofs.Laid.{root_named}
 use Rattle.image_changes.proofs.Standing.{childless}
 use Rattle.draft_changes.proofs.Rows.{cell_its, its_cell}
 use Rattle.draft_changes.proofs.Saying.{free_blocks_are_new}
-use Rattle.directories.specs.Shown as dirs
 use Rattle.hash_dirs.specs.Shown.{index_for}
 use Rattle.resource_groups.specs.Putting.{HasDataBlock}
 use Rattle.path_walks.specs.declared.walk.Place.{Place}

@@ -1,5 +1,5 @@
 -- A move that can be made is carried out: the blocks that it needs are counted, the locks of groups are looked at, blocks are found, and then all is drafted.
-use Rattle.std.specs.Prelude.{ℕ, ◌≡◌, ◌≢◌, ◌⊎◌, ◌==◌, ◌<◌, true, false, if◌then◌else◌, List, [], ◌∷◌, ◌++◌, length, map, Contains, None, Some}
+use Rattle.std.specs.Prelude.{ℕ, ◌≡◌, ◌≢◌, ◌⊎◌, ◌==◌, ◌<◌, false, if◌then◌else◌, List, [], ◌∷◌, ◌++◌, length, map, Contains, None, Some}
 use Rattle.drafts.specs.declared.attempt.Attempt.{Attempt}
 use Rattle.drafts.specs.declared.attempt.Attempt.TheVariants as attempt
 use Rattle.drafts.specs.declared.change.Change.{Change}
@@ -16,7 +16,7 @@ use Rattle.hash_dirs.specs.Shown.{IsSound}
 use Rattle.group_locks.specs.Groups.{GroupsAreHeld, IsFirstGroupLack}
 use Rattle.path_walks.specs.Holds.{AreHeld, IsFirstLack, hold_of_group, holds}
 use Rattle.resource_groups.specs.Shown.{said}
-use Rattle.room_search.specs.Blocks.{free_in, free_in_all, group_holds, group_of_node}
+use Rattle.room_search.specs.Blocks.{free_in_all, group_holds, group_of_node}
 use Rattle.room_search.specs.Searches.{AreHeldBlocks, AreShown, IsGroupBlock, IsGroupBroken, IsGroupNeeded, IsRoom}
 use Rattle.name_inserts.specs.Inserting.{IsNeededForName, IsWrongForName}
 use Rattle.name_inserts.specs.Way.{IsOnWay, IsRightWay}

@@ -3,9 +3,8 @@ use Rattle.glock_names.proofs.StepLaws.{answer_at, needed_at}
 use Rattle.path_walks.proofs.Faults.{tells_so, told_on}
 use Rattle.room_search.specs.Searches.{IsGroupBroken}
 use Rattle.room_search.specs.declared.search.Locked.TheVariants as locked
-use Rattle.room_search.specs.declared.search.Taken.TheVariants as taken
 use Rattle.name_moves.specs.Moving.{IsNeededIn, IsWrongIn, move_of}
-use Rattle.move_calls.specs.Carrying.{FirstAreHeld, IsCounted, IsDamageOf, LacksFirst, LacksLock, NeedsBlock, NeedsFor}
+use Rattle.move_calls.specs.Carrying.{FirstAreHeld, IsCounted, IsDamageOf, LacksFirst, LacksLock, NeedsBlock}
 use Rattle.move_calls.proofs.Room.{at_none, at_some, block_found, lock_found, room_found, too_few_found}
 use Rattle.move_calls.proofs.carrying.carry.Goals as goal
 
