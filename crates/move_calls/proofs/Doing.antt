@@ -29,7 +29,7 @@ use Rattle.image_model.specs.Image.{Image}
 use Rattle.image_model.specs.Owners.{Owners, holding}
 use Rattle.image_model.specs.Stands.{Layout, flat_of}
 use Rattle.image_model.proofs.Held.{none_some, some_same}
-use Rattle.draft_changes.specs.Resizing.{HoldsThere}
+use Rattle.draft_changes.specs.Resizing.{HoldsThere, IsSaidFree}
 use Rattle.draft_changes.proofs.Views.{shows_inodes}
 use Rattle.image_changes.specs.Does.{Does, IsOf, with_change}
 use Rattle.image_changes.specs.Drafted.{with_draft}
@@ -43,19 +43,15 @@ use Rattle.directory_changes.specs.Moving as moved
 use Rattle.directory_changes.proofs.Moved.{moving_makes}
 use Rattle.hash_dirs.proofs.Gathered.{the_one}
 use Rattle.resource_groups.specs.Freeing.{HasSome}
-use Rattle.resource_groups.specs.Shown.{group_lock}
+use Rattle.resource_groups.specs.Shown.{group_lock, said}
 use Rattle.group_locks.specs.Groups.{GroupsAreHeld}
 use Rattle.path_walks.specs.Walks.{LeadsTo, at_root, by_name}
 use Rattle.path_walks.specs.declared.walk.Place.{Place}
 use Rattle.path_walks.proofs.Images.{child_is_there, is_shown, says_child, says_records, shown_directory, shown_inode, sound_directory}
 use Rattle.path_walks.proofs.Wants.{at_end, before_end, exclusive, leads_held}
 use Rattle.pair_walks.proofs.Paths.{ends_so}
-use Rattle.room_search.specs.Blocks.{room_blocks}
-use Rattle.room_search.specs.Searches.{IsRoomIn}
-use Rattle.room_search.specs.Searches as search
-use Rattle.room_search.specs.declared.search.Locked.TheVariants as locked
-use Rattle.room_search.specs.declared.search.Taken.{Taken}
-use Rattle.room_search.specs.declared.search.Taken.TheVariants as taken
+use Rattle.room_search.specs.Blocks.{group_holds, room_blocks}
+use Rattle.room_search.proofs.InImage.{are_shown, room_blocks_are, said_free}
 use Rattle.move_ends.specs.Ends.{AreEnds, IsElsewhere, IsRenaming, IsTarget, MovesIn, StoodIn, from_path, to_path}
 use Rattle.name_inserts.specs.Need.{name_need}
 use Rattle.name_moves.specs.Becoming.{GetsName, GetsParent, GivesName, LosesAll, NeedsAfter, losses}
@@ -63,8 +59,9 @@ use Rattle.name_moves.specs.Moving.{CanBeMoved, IsMoveIn, IsMoving, IsPutUnder, 
 use Rattle.name_moves.specs.Moving as moving
 use Rattle.name_moves.proofs.Alike.{need_once}
 use Rattle.name_moves.proofs.Imaged.{source_directory}
-use Rattle.move_calls.specs.Carrying.{AreTaken, HasRoom, IsCarriedOut}
-use Rattle.move_calls.specs.Moved.{IsMovedIn, lost_in, replaced_in}
+use Rattle.move_calls.specs.Carrying.{HasRoom, IsCarriedOut}
+use Rattle.move_calls.specs.Locks.{lost_in, replaced_in}
+use Rattle.move_calls.specs.Moved.{IsMovedIn}
 use Rattle.move_calls.proofs.Room.{all_groups, room_once}
 
 -- ---- the locks of the inodes that a move changes
@@ -173,13 +170,23 @@ changes (call.Stat p) is elsewhere = absurd is
 changes (call.List p) is elsewhere = absurd is
 changes call.Sync is elsewhere = absurd is
 
+-- the blocks that are taken are those of the node in the image, as many as are needed, and free there
+pub record IsRoomThere (im : Image) (o : Owners) (l : Layout) (node need : ℕ) (room : List ℕ) : Type 0 where
+  pub are : room ≡ room_blocks o l node need
+  pub many : length room ≡ need
+  pub free : (b : ℕ) → Contains room b → IsSaidFree im l b
+
 module _ (v : Seen) (node need : ℕ) (m : Move) (room : List ℕ) (has : HasRoom v node m need room) (im : Image) (o : Owners) (l : Layout) (t : Tree) (of : IsOf v im o l t) where
-  pub room_in : IsRoomIn im o l node need room
-  room_in = by has.taken has.are (has.searched.image im o l t of)
-    where
-      by : (x : Taken) → AreTaken x room → search.IsFoundIn v im o l node need (locked.Is x) → IsRoomIn im o l node need room
-      by (taken.Is blocks) are found = subst (IsRoomIn im o l node need) (sym are) found.1
-      by (taken.TooFew free) are found = absurd are
+  pub room_in : IsRoomThere im o l node need room
+  room_in =
+      let own = has.counted.first.own in
+      let is = has.counted.first.of_node in
+      let found = has.are im.at (are_shown v im o l t of) in
+      record {
+        are = found.are ∙ room_blocks_are v im o l t of node own need is.of_node is.has;
+        many = found.many;
+        free = λ b there. said_free v im o l t of (group_holds (said im.at) v.groups own need) b (found.each b there);
+      }
 
   -- it is as many as the name needs once others went, however they go
   as_many : (path : Path) → IsAt im o l path m.to.inode → is_directory_at im o m.to.inode ≡ true → crc32_of m.new_name < 2 ^ 32 → (without : Holding) → LosesAll (lost_there m) (holding im o m.to.inode) without
@@ -203,6 +210,14 @@ module _ (v : Seen) (c : Call) (from to : Place) (replaced : Option (List ℕ)) 
   stood_in : (im : Image) (o : Owners) (l : Layout) (r : Option (List ℕ)) → StoodIn im o l c to.inode r → StandsThere im o l (parent_of (to_path c)) (move_by c from to r)
   stood_in im o l _ (StoodIn.nothing child none) = StandsThere.nothing refl child
   stood_in im o l _ (StoodIn.an_inode a blocks at childless own) = StandsThere.an_inode a blocks refl (subst (λ p. IsAt im o l p a) to_so at) childless own
+
+  pub stood_or_not : (im : Image) (o : Owners) (l : Layout) (r : Option (List ℕ)) → StoodIn im o l c to.inode r → is_some r ≡ is_some (replaced_in im o l c)
+  stood_or_not im o l _ (StoodIn.nothing child none) = sym (ap is_some none)
+  stood_or_not im o l _ (StoodIn.an_inode a blocks at childless own) = sym (ap is_some at)
+
+  -- the names that go there
+  pub lost_same : (im : Image) (o : Owners) (l : Layout) (t : Tree) → MovesIn v im o l t c from to replaced → lost_there (move_by c from to replaced) ≡ lost_in im o l c from.above to.inode
+  lost_same im o l t r = λ i. losses (stood_or_not im o l replaced r.stood i) (from.above == to.inode) (last_of (from_path c)) (last_of (to_path c))
 
   -- the places of the move in the image, and the blocks that were found for it
   pub place_in : crc32_of (last_of (to_path c)) < 2 ^ 32 → (im : Image) (o : Owners) (l : Layout) (t : Tree) → IsOf v im o l t → MovesIn v im o l t c from to replaced
@@ -264,10 +279,6 @@ module _ (v : Seen) (c : Call) (from to : Place) (replaced : Option (List ℕ)) 
 
   -- ---- and the directories are so then
 
-  stood_or_not : (im : Image) (o : Owners) (l : Layout) (r : Option (List ℕ)) → StoodIn im o l c to.inode r → is_some r ≡ is_some (replaced_in im o l c)
-  stood_or_not im o l _ (StoodIn.nothing child none) = sym (ap is_some none)
-  stood_or_not im o l _ (StoodIn.an_inode a blocks at childless own) = sym (ap is_some at)
-
   none_left : (xs ys zs : List ℕ) → zs ≡ xs ++ ys → length zs ≡ length xs → zs ≡ xs
   none_left xs [] zs same long = same ∙ append-nil xs
   none_left xs (y ∷ ys) zs same long = absurd (omega (arith, long, ap length same, length-append xs (y ∷ ys)))
@@ -286,7 +297,7 @@ module _ (v : Seen) (c : Call) (from to : Place) (replaced : Option (List ℕ)) 
       let target_sound = sound_directory v im o l t of path' to.inode r.target r.directory in
       let source_shown = shown_inode v im o l t of path from.above r.source.above in
       let is_dir : is_directory_at im o from.above ≡ true = source_directory v im o l t of view m done.room so.path so.path' can so.place in
-      let lost : lost_there m ≡ lost_in im o l c from.above to.inode = λ i. losses (stood_or_not im o l replaced r.stood i) (from.above == to.inode) (last_of (from_path c)) (last_of (to_path c)) in
+      let lost : lost_there m ≡ lost_in im o l c from.above to.inode = lost_same v c from to replaced ends im o l t r in
       let taken_all : done.room ≡ done.is.taken = none_left done.is.taken done.is.left done.room done.is.front (so.place.as_many b.gets.without b.gets.lost ∙ sym b.gets.few) in
       let entry : entry_for m done.is.old ≡ record { number = (dinode_at im o from.inode).num.number; addr = from.inode; kind = done.is.old.kind } =
       λ i. record { number = (r.source.dinode i).num.number; addr = from.inode; kind = done.is.old.kind } in

@@ -1,6 +1,10 @@
 pub mod Answered
+pub mod Asked
 pub mod Checked
+pub mod Doing
+pub mod Images
+pub mod Locking
 pub mod Meant
 pub mod Room
-pub mod Doing
+pub mod Sound
 pub mod Unbroken

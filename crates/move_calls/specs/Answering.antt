@@ -1,4 +1,4 @@
--- What a call that moves a name is answered, part by part: by the ends of its paths, by what is looked at before the move, or by what carrying it out answers.
+-- What a call that moves a name is answered: by the ends of its paths, by what is looked at before the move, or by what carrying it out answers.
 use Rattle.std.specs.Prelude.{ℕ, ◌≡◌, List, [], Contains, Option, None, Some, Vec}
 use Rattle.std.specs.Global.{Global}
 use Rattle.drafts.specs.declared.attempt.Attempt.{Attempt}
@@ -20,12 +20,11 @@ use Rattle.image_changes.specs.Does.{IsOf}
 use Rattle.resource_groups.specs.Putting.{HasDataBlock}
 use Rattle.path_walks.specs.Holds.{AreHeld}
 use Rattle.path_walks.specs.declared.walk.Place.{Place}
-use Rattle.move_ends.specs.Ends.{AreEnds, IsDamageAtEnds, IsFoundIn, IsRefusal, IsTarget, IsTold, MovesIn, from_path, inode_holds, to_path}
-use Rattle.move_ends.specs.Ends as at_ends
+use Rattle.move_ends.specs.Ends.{AreEnds, IsAbsentBlock, IsDamageAtEnds, IsFoundIn, IsLackedOnPaths, IsNeededAtEnds, IsRefusal, IsRefused, IsTarget, IsTold, MovesIn, StaysWhere, from_path, inode_holds, to_path}
 use Rattle.move_ends.specs.declared.ends.Ends.{Ends}
 use Rattle.move_ends.specs.declared.ends.Ends.TheVariants as ends
 use Rattle.name_moves.specs.Moving.{CanBeMoved, Move, freed_by}
-use Rattle.move_calls.specs.Carrying.{IsCarried, IsDamageOf}
+use Rattle.move_calls.specs.Carrying.{IsCarried, IsCarriedOut, IsDamageOf, IsFull, IsStuck, LacksLock, NeedsBlock}
 use Rattle.move_calls.specs.Checks.{IsNeededToSee, IsWrongMove}
 
 -- ---- what is to move
@@ -51,7 +50,7 @@ pub record IsToMove (v : Seen) (call : Call) (m : Move) : Type 0 where
   pub meant : IsMeant v call m
   pub can : CanBeMoved v m
 
--- ---- the answer
+-- ---- as far as the view shows
 
 -- the change is empty
 pub record IsNothing (change : Change) : Type 0 where
@@ -59,12 +58,51 @@ pub record IsNothing (change : Change) : Type 0 where
   pub locks : change.locks.items ≡ []
   pub freed : change.freed.items ≡ []
 
+-- The call is answered so: it is refused at the ends of its paths, or the name stays where it is, and nothing changes; or the name moved.
+pub data IsAnswered (v : Seen) (call : Call) (node time : ℕ) : Reply → Change → Type 0 where
+  refused : (r : Reply) (change : Change) → IsRefused v call r → IsNothing change → IsAnswered v call node time r change
+  stays : (change : Change) → StaysWhere v call → IsNothing change → IsAnswered v call node time reply.Ok change
+  moved : (m : Move) (change : Change) → IsToMove v call m → IsCarriedOut v node time m change → IsAnswered v call node time reply.Ok change
+
+-- This lock isn't held so strongly: that which puts renames in order, or that of the next inode on the paths; or, where a name is to move, that of the next group.
+pub data IsLackedFor (v : Seen) (call : Call) (node : ℕ) (lock : LockName) (state : State) : Type 0 where
+  on_paths : IsLackedOnPaths v call lock state → IsLackedFor v call node lock state
+  of_group : (m : Move) → IsToMove v call m → LacksLock v node m lock state → IsLackedFor v call node lock state
+
+-- A block without which the call isn't answered: one on the paths, or of what stands at the new name; one without which it isn't told whether a directory that gets another parent
+-- has `..`; or one that is needed to move the name.
+pub data IsNeededFor (v : Seen) (call : Call) (n : Missing) : Type 0 where
+  at_ends : IsNeededAtEnds v call n → IsNeededFor v call n
+  to_see : (m : Move) → IsMeant v call m → IsNeededToSee v m n → IsNeededFor v call n
+  to_move : (node : ℕ) (m : Move) → IsToMove v call m → NeedsBlock v node m n → IsNeededFor v call n
+
+-- a name is to move, and fewer blocks are free than that needs
+pub record IsFullFor (v : Seen) (call : Call) (need free : ℕ) : Type 0 where
+  pub node : ℕ
+  pub move : Move
+  pub moves : IsToMove v call move
+  pub full : IsFull v node move need free
+
+-- The call isn't built for what stands there: the name is to move, and can't, though nothing that was looked at breaks a rule. In an image that stands for a tree none is such a one.
+pub record IsUnbuilt (v : Seen) (call : Call) (node : ℕ) : Type 0 where
+  pub move : Move
+  pub moves : IsToMove v call move
+  pub stuck : IsStuck v node move
+
+-- the block breaks this rule: at the ends of the paths; as a move that can't be made; or where the name is to move
+pub data IsDamage (v : Seen) (call : Call) (rule b : ℕ) : Type 0 where
+  at_ends : IsDamageAtEnds v call rule b → IsDamage v call rule b
+  to_see : (m : Move) → IsMeant v call m → IsWrongMove v m rule b → IsDamage v call rule b
+  to_move : (node : ℕ) (m : Move) → IsToMove v call m → IsDamageOf v node m rule b → IsDamage v call rule b
+
+-- ---- part by part
+
 -- what the ends of the paths tell, over the view and in each image that it may be of, is this
 pub record IsAtEnds (v : Seen) (call : Call) (e : Ends) : Type 0 where
   pub told : IsTold v call e
   pub found : (im : Image) (o : Owners) (l : Layout) (t : Tree) → IsOf v im o l t → IsFoundIn v im o l t call e
   pub refusal : IsRefusal e
-  pub absent : at_ends.IsAbsentBlock v e
+  pub absent : IsAbsentBlock v e
 
 -- the answer is one by the ends
 pub data IsAnswerAtEnds (v : Seen) (call : Call) : Attempt → Type 0 where
@@ -78,10 +116,3 @@ pub data IsAnswerOf (v : Seen) (call : Call) (node time : ℕ) (a : Attempt) : T
   by_ends : IsAnswerAtEnds v call a → IsAnswerOf v call node time a
   to_see : (m : Move) (n : Missing) → IsMeant v call m → IsNeededToSee v m n → a ≡ attempt.NeedBlock n → IsAnswerOf v call node time a
   carried : (m : Move) → IsToMove v call m → IsCarried v node time m a → IsAnswerOf v call node time a
-
--- ---- damage
-
-pub data IsDamageFor (v : Seen) (call : Call) (node rule b : ℕ) : Type 0 where
-  by_ends : IsDamageAtEnds v call rule b → IsDamageFor v call node rule b
-  to_see : (m : Move) → IsMeant v call m → IsWrongMove v m rule b → IsDamageFor v call node rule b
-  carried : (m : Move) → IsToMove v call m → IsDamageOf v node m rule b → IsDamageFor v call node rule b

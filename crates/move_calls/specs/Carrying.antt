@@ -1,9 +1,8 @@
--- A move that can be made is carried out: the blocks that it needs are counted, the groups of what goes and of these are looked at, and then all is drafted.
-use Rattle.std.specs.Prelude.{ℕ, ◌≡◌, ◌≢◌, ◌⊎◌, true, List, [], Contains, None, Some}
+-- A move that can be made is carried out: the blocks that it needs are counted, the locks of groups are looked at, blocks are found, and then all is drafted.
+use Rattle.std.specs.Prelude.{ℕ, ◌≡◌, ◌≢◌, ◌⊎◌, ◌==◌, ◌<◌, false, if◌then◌else◌, List, [], ◌∷◌, ◌++◌, length, map, Contains, None, Some}
 use Rattle.drafts.specs.declared.attempt.Attempt.{Attempt}
 use Rattle.drafts.specs.declared.attempt.Attempt.TheVariants as attempt
 use Rattle.drafts.specs.declared.change.Change.{Change}
-use Rattle.file_tree.specs.Tree.{Tree}
 use Rattle.file_tree.specs.declared.reply.Reply.TheVariants as reply
 use Rattle.gfs2_layout.specs.Holding.{Holding}
 use Rattle.glock_names.specs.Views.{Seen, HasGroup}
@@ -14,39 +13,54 @@ use Rattle.glock_names.specs.declared.steps.Missing.{Missing}
 use Rattle.glock_names.specs.declared.views.Group.{Group}
 use Rattle.directories.specs.Shown as dirs
 use Rattle.hash_dirs.specs.Shown.{IsSound}
-use Rattle.image_model.specs.Image.{Image}
-use Rattle.image_model.specs.Owners.{Owners}
-use Rattle.image_model.specs.Stands.{Layout}
-use Rattle.image_changes.specs.Does.{IsOf}
 use Rattle.group_locks.specs.Groups.{GroupsAreHeld, IsFirstGroupLack}
-use Rattle.path_walks.specs.Holds.{hold_of_group, holds}
-use Rattle.resource_groups.specs.Shown.{IsDataOf, said}
-use Rattle.room_search.specs.Blocks.{group_holds, group_of_node}
-use Rattle.room_search.specs.Searches.{AreShown, IsFoundIn, IsGroupBroken, IsTaken, IsUnder}
-use Rattle.room_search.specs.Searches as search
-use Rattle.room_search.specs.declared.search.Locked.{Locked}
-use Rattle.room_search.specs.declared.search.Locked.TheVariants as locked
-use Rattle.room_search.specs.declared.search.Taken.{Taken}
-use Rattle.room_search.specs.declared.search.Taken.TheVariants as taken
+use Rattle.path_walks.specs.Holds.{AreHeld, IsFirstLack, hold_of_group, holds}
+use Rattle.resource_groups.specs.Shown.{said}
+use Rattle.room_search.specs.Blocks.{free_in_all, group_holds, group_of_node}
+use Rattle.room_search.specs.Searches.{AreHeldBlocks, AreShown, IsGroupBlock, IsGroupBroken, IsGroupNeeded, IsRoom}
 use Rattle.name_inserts.specs.Inserting.{IsNeededForName, IsWrongForName}
 use Rattle.name_inserts.specs.Way.{IsOnWay, IsRightWay}
 use Rattle.name_moves.specs.Becoming.{NeedsAfter}
 use Rattle.name_moves.specs.Moving.{AreApart, IsMoving, IsNeededIn, IsPlaceOfMove, IsWrongIn, Move, freed_by, lost_there}
 
+-- ---- what is needed
+
 -- so many blocks are needed: of a sound directory as many as the new name takes once the others have gone
 abbrev pub NeedsFor : Seen → Move → ℕ → Type 0
 NeedsFor v m need = (h : Holding) → dirs.IsShown v m.to.inode h → IsSound h → NeedsAfter (lost_there m) h m.new_name need
 
--- what a search for so many blocks tells, over the view and in each image that it may be of
-pub record IsSearched (v : Seen) (node need : ℕ) (r : Locked Taken) : Type 0 where
-  pub found : (at : ℕ → List ℕ) (own : Group) → AreShown v at → group_of_node v.groups node ≡ Some own → IsUnder v (group_holds (said at) v.groups own need) (IsTaken v (said at) v.groups own need) r
-  pub image : (im : Image) (o : Owners) (l : Layout) (t : Tree) → IsOf v im o l t → IsFoundIn v im o l node need r
-  pub told : search.IsTold v need r
+-- this is the node's own group, one of the view's
+pub record IsOwnGroup (v : Seen) (node : ℕ) (own : Group) : Type 0 where
+  pub of_node : group_of_node v.groups node ≡ Some own
+  pub has : HasGroup v own
 
--- the move needs so many blocks, and each group that has some of what goes is held
-pub record IsCounted (v : Seen) (m : Move) (need : ℕ) : Type 0 where
+-- the blocks whose groups are held first: those that go, and where some are needed the first of the node's own group
+abbrev pub first_blocks : Group → ℕ → List ℕ → List ℕ
+first_blocks own need freed = if need == 0 then freed else own.first ∷ freed
+
+-- the groups are held that come first
+pub record FirstAreHeld (v : Seen) (node : ℕ) (m : Move) (need : ℕ) : Type 0 where
+  pub own : Group
+  pub of_node : IsOwnGroup v node own
+  pub held : GroupsAreHeld v (first_blocks own need (freed_by m))
+
+-- this is the lock of the first of them that isn't held
+pub record LacksFirst (v : Seen) (node : ℕ) (m : Move) (need : ℕ) (lock : LockName) : Type 0 where
+  pub own : Group
+  pub of_node : IsOwnGroup v node own
+  pub lacks : IsFirstGroupLack v (first_blocks own need (freed_by m)) lock
+
+-- So many blocks are needed, and the groups are held that come first.
+pub record IsCounted (v : Seen) (node : ℕ) (m : Move) (need : ℕ) : Type 0 where
   pub needs : NeedsFor v m need
-  pub freed : GroupsAreHeld v (freed_by m)
+  pub first : FirstAreHeld v node m need
+
+-- These are the blocks that the node takes, as many as are needed, as far as the view's groups say; and every lock under which they are found is held.
+pub record HasRoom (v : Seen) (node : ℕ) (m : Move) (need : ℕ) (room : List ℕ) : Type 0 where
+  pub counted : IsCounted v node m need
+  pub blocks : AreHeldBlocks v need room
+  pub are : (at : ℕ → List ℕ) → AreShown v at → IsRoom v (said at) v.groups counted.first.own need room
+  pub held : (at : ℕ → List ℕ) → AreShown v at → AreHeld v (group_holds (said at) v.groups counted.first.own need)
 
 -- a block that can't be taken: the dinode of one of the directories or of the inode, or one on the way to the new name
 pub data IsInTheWay (v : Seen) (m : Move) (b : ℕ) : Type 0 where
@@ -58,21 +72,9 @@ pub record IsOffWay (v : Seen) (m : Move) (room : List ℕ) : Type 0 where
   pub apart : (b : ℕ) → Contains room b → IsPlaceOfMove m b → ⊥
   pub way : room ≢ [] → (h : Holding) → dirs.IsShown v m.to.inode h → IsRightWay v h m.new_name room
 
--- these blocks were taken
-abbrev pub AreTaken : Taken → List ℕ → Type 0
-AreTaken (taken.Is blocks) room = room ≡ blocks.items
-AreTaken (taken.TooFew free) room = ⊥
-
--- the blocks that were found for a move
-pub record HasRoom (v : Seen) (node : ℕ) (m : Move) (need : ℕ) (room : List ℕ) : Type 0 where
-  pub counted : IsCounted v m need
-  pub taken : Taken
-  pub are : AreTaken taken room
-  pub searched : IsSearched v node need (locked.Is taken)
-
 -- ---- what is answered
 
--- the name moved: the change is that of the draft that moves it, in the blocks that were found
+-- the name moved: the change is that of the draft that moves it, in the blocks that the node takes
 pub record IsCarriedOut (v : Seen) (node time : ℕ) (m : Move) (change : Change) : Type 0 where
   pub need : ℕ
   pub room : List ℕ
@@ -80,7 +82,8 @@ pub record IsCarriedOut (v : Seen) (node time : ℕ) (m : Move) (change : Change
   pub off : IsOffWay v m room
   pub is : IsMoving v m room time change
 
--- it can't be made in the blocks that were found, though the way to the new name is right
+-- It can't be made in the blocks that the node takes: the directories and the inode aren't sound and apart, or the one that is to get the name can't. The way to the new name is right
+-- all the same. In an image that stands for a tree no move is such a one.
 pub record IsStuck (v : Seen) (node : ℕ) (m : Move) : Type 0 where
   pub need : ℕ
   pub room : List ℕ
@@ -88,39 +91,43 @@ pub record IsStuck (v : Seen) (node : ℕ) (m : Move) : Type 0 where
   pub off : IsOffWay v m room
   pub not_apart : (source target inode : Holding) → AreApart v m room source target inode → ⊥
 
--- this lock isn't held so strongly: of the first group that has some of the blocks that go, or of those under which blocks are found
-pub data LacksLock (v : Seen) (node : ℕ) (m : Move) (lock : LockName) (state : State) : Type 0 where
-  of_freed : IsFirstGroupLack v (freed_by m) lock → state ≡ Ex → LacksLock v node m lock state
-  of_room : (need : ℕ) → IsCounted v m need → IsSearched v node need (locked.NeedLock lock state) → LacksLock v node m lock state
+-- so many blocks are needed, and fewer are free, in all groups, whose locks are held, as far as the view shows them
+pub record IsFull (v : Seen) (node : ℕ) (m : Move) (need free : ℕ) : Type 0 where
+  pub counted : IsCounted v node m need
+  pub held : AreHeld v (map hold_of_group v.groups)
+  pub free_are : (at : ℕ → List ℕ) → AreShown v at → free ≡ length (free_in_all (said at) v.groups)
+  pub fewer : free < need
 
--- this block is needed: to move the name, where groups of blocks are held; of a group, to find blocks; or on the way to the new name
+-- this lock isn't held so strongly: of the first group that comes first; or, once these are held, the first of those under which the node finds the blocks
+pub data LacksLock (v : Seen) (node : ℕ) (m : Move) (lock : LockName) (state : State) : Type 0 where
+  of_first : (need : ℕ) → NeedsFor v m need → LacksFirst v node m need lock → state ≡ Ex → LacksLock v node m lock state
+  of_room : (need : ℕ) (counted : IsCounted v node m need) → holds v (record { lock = lock; state = state }) ≡ false
+      → ((at : ℕ → List ℕ) → AreShown v at → IsFirstLack v (group_holds (said at) v.groups counted.first.own need) lock state) → LacksLock v node m lock state
+
+-- this block is needed: to count the blocks that the name needs; of a group, to find them; on the way to the new name; or to draft the move
 pub data NeedsBlock (v : Seen) (node : ℕ) (m : Move) (n : Missing) : Type 0 where
-  to_move : (blocks : List ℕ) → GroupsAreHeld v blocks → IsNeededIn v m blocks n → NeedsBlock v node m n
-  of_room : (need : ℕ) → IsCounted v m need → IsSearched v node need (locked.NeedBlock n) → NeedsBlock v node m n
-  on_way : v.block_at n.block ≡ None → ((h : Holding) → dirs.IsShown v m.to.inode h → IsNeededForName v h m.new_name n) → NeedsBlock v node m n
+  to_count : IsNeededIn v m [] n → NeedsBlock v node m n
+  of_room : (need : ℕ) (counted : IsCounted v node m need) → IsGroupNeeded v n → ((at : ℕ → List ℕ) → AreShown v at → IsGroupBlock v (group_holds (said at) v.groups counted.first.own need) n)
+      → NeedsBlock v node m n
+  on_way : (need : ℕ) (room : List ℕ) → HasRoom v node m need room → v.block_at n.block ≡ None → ((h : Holding) → dirs.IsShown v m.to.inode h → IsNeededForName v h m.new_name n) → NeedsBlock v node m n
+  to_draft : (need : ℕ) (room : List ℕ) → HasRoom v node m need room → IsNeededIn v m (room ++ freed_by m) n → NeedsBlock v node m n
 
 abbrev pub IsCarried : Seen → ℕ → ℕ → Move → Attempt → Type 0
 IsCarried v node time m (attempt.Done r change) = (r ≡ reply.Ok) × IsCarriedOut v node time m change
 IsCarried v node time m (attempt.NeedLock lock state) = LacksLock v node m lock state
 IsCarried v node time m (attempt.NeedBlock n) = NeedsBlock v node m n
-IsCarried v node time m (attempt.NoSpace need free) = IsCounted v m need × IsSearched v node need (locked.Is (taken.TooFew free))
+IsCarried v node time m (attempt.NoSpace need free) = IsFull v node m need free
 IsCarried v node time m attempt.NotBuilt = IsStuck v node m
 
 -- ---- damage
 
--- A data block of a group whose lock is held, whose bits call it free, as far as the view's groups say.
-pub record IsCalledFree (v : Seen) (b : ℕ) : Type 0 where
-  pub group : Group
-  pub has : HasGroup v group
-  pub data_block : IsDataOf group b
-  pub held : holds v (hold_of_group group) ≡ true
-  pub free : (at : ℕ → List ℕ) → AreShown v at → said at group b ≡ 0
-
--- The block breaks this rule: of a directory of the move, or a group of blocks that are held; of a group that is looked through for blocks; on the way to the new name; or (5) the bits
--- of a group call a block free that is a dinode of the move, or on the way; or, told at the directory, one that goes with what stands at the new name.
+-- The block breaks this rule: of a directory of the move, as the blocks are counted or as all is drafted, when it may also be one of a group that has blocks which are taken or go; of a
+-- group that is looked through for blocks; on the way to the new name; or (5) the bits of a group call a block free that is a dinode of the move or on the way, or, told at the
+-- directory, one that goes with what stands at the new name.
 pub data IsDamageOf (v : Seen) (node : ℕ) (m : Move) : ℕ → ℕ → Type 0 where
-  to_move : (blocks : List ℕ) (rule b : ℕ) → GroupsAreHeld v blocks → IsWrongIn v m blocks rule b → IsDamageOf v node m rule b
-  of_group : (rule b : ℕ) → IsGroupBroken v rule b → IsDamageOf v node m rule b
-  on_way : (rule b : ℕ) → ((h : Holding) → dirs.IsShown v m.to.inode h → IsWrongForName v h rule b) → IsDamageOf v node m rule b
+  to_count : (rule b : ℕ) → IsWrongIn v m [] rule b → IsDamageOf v node m rule b
+  of_room : (need rule b : ℕ) → IsCounted v node m need → IsGroupBroken v rule b → IsDamageOf v node m rule b
+  on_way : (need : ℕ) (room : List ℕ) (rule b : ℕ) → HasRoom v node m need room → ((h : Holding) → dirs.IsShown v m.to.inode h → IsWrongForName v h rule b) → IsDamageOf v node m rule b
   called_free : (need b : ℕ) (room : List ℕ) → HasRoom v node m need room → Contains room b → IsInTheWay v m b → IsDamageOf v node m 5 b
   goes_free : (need b : ℕ) (room : List ℕ) → HasRoom v node m need room → Contains room b → Contains (freed_by m) b → IsDamageOf v node m 5 m.to.inode
+  to_draft : (need : ℕ) (room : List ℕ) (rule b : ℕ) → HasRoom v node m need room → IsWrongIn v m (room ++ freed_by m) rule b → IsDamageOf v node m rule b

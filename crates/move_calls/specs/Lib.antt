@@ -1,4 +1,5 @@
 pub mod Checks
 pub mod Carrying
+pub mod Locks
 pub mod Moved
 pub mod Answering

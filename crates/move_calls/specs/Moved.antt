@@ -1,5 +1,5 @@
 -- A name that moved, in an image.
-use Rattle.std.specs.Prelude.{ℕ, ◌≡◌, ◌==◌, ◌&&◌, not, true, false, is_some, IsSome, List, Option, Some}
+use Rattle.std.specs.Prelude.{ℕ, ◌≡◌, ◌==◌, ◌&&◌, not, true, false, IsSome, Some}
 use Rattle.std.specs.Option.{option_map}
 use Rattle.file_tree.specs.Names.{last_of, parent_of}
 use Rattle.file_tree.specs.declared.call.Call.{Call}
@@ -9,24 +9,16 @@ use Rattle.gfs2_layout.specs.Records.{record_named}
 use Rattle.gfs2_layout.specs.Structures.{is_directory}
 use Rattle.glock_names.specs.declared.steps.Entry.{Entry}
 use Rattle.linear_dirs.specs.Shown.{entry_of}
-use Rattle.image_model.specs.Flat.{follow}
 use Rattle.image_model.specs.Image.{Image}
 use Rattle.image_model.specs.Owners.{Owners, holding}
-use Rattle.image_model.specs.Stands.{Layout, flat_of}
+use Rattle.image_model.specs.Stands.{Layout}
 use Rattle.image_changes.specs.Does.{with_change}
 use Rattle.image_changes.specs.Instances.{IsAt, dinode_at, records_at}
 use Rattle.draft_changes.specs.Resizing.{HoldsThere}
 use Rattle.room_search.specs.Blocks.{room_blocks}
 use Rattle.move_ends.specs.Ends.{from_path, to_path}
-use Rattle.name_moves.specs.Becoming.{GetsName, GetsParent, GivesName, NeedsAfter, losses}
-
--- what stands at the new name
-abbrev pub replaced_in : Image → Owners → Layout → Call → Option ℕ
-replaced_in im o l call = follow (flat_of im o) l.root (to_path call)
-
--- the names that go from the directory of the new name: what stands there, and the moved one where that is its own
-abbrev pub lost_in : Image → Owners → Layout → Call → ℕ → ℕ → List (List ℕ)
-lost_in im o l call source target = losses (is_some (replaced_in im o l call)) (source == target) (last_of (from_path call)) (last_of (to_path call))
+use Rattle.name_moves.specs.Becoming.{GetsName, GetsParent, GivesName, NeedsAfter}
+use Rattle.move_calls.specs.Locks.{lost_in}
 
 -- In the image with the change: the directory that had the name lacks it, where that moved to another one, which has got it, in the blocks that the node takes, exactly as many as it
 -- needs, after what stood there went; a directory that moved to another one names that as its parent; and each of these has the time. An inode that keeps its parent, and a file, has what it had.

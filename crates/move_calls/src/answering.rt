@@ -12,17 +12,18 @@ ghost use Rattle.image_model.specs.Owners.{Owners};
 ghost use Rattle.image_model.specs.Stands.{Layout};
 ghost use Rattle.image_changes.specs.Does.{AreInside, Does, IsOf};
 ghost use Rattle.resource_groups.specs.Putting.{HasDataBlock};
-ghost use Rattle.path_walks.specs.Answers.{HasSpace, IfDone, IfNeedBlock, IfNoSpace, IfNotBuilt};
-ghost use Rattle.path_walks.specs.Holds.{AreHeld};
+ghost use Rattle.path_walks.specs.Answers.{HasSpace, IfDone, IfNeedBlock, IfNeedLock, IfNoSpace, IfNotBuilt};
+ghost use Rattle.path_walks.specs.Holds.{AreHeld, IsAskedFor, IsFirstLack, IsUnder, holds};
 ghost use Rattle.move_ends.specs.Ends.{AreEnds, IsRenaming, IsTarget, MovesIn, from_path, inode_holds, to_path};
+ghost use Rattle.move_calls.specs.Locks.{IsNeed, IsTooFew, call_holds};
 ghost use Rattle.move_calls.specs.Moved.{IsMovedIn};
-ghost use Rattle.move_calls.specs.Answering.{IsAnswerOf, IsDamageFor, blocks_of_replaced};
+ghost use Rattle.move_calls.specs.Answering.{IsAnswerOf, IsAnswered, IsDamage, IsFullFor, IsLackedFor, IsNeededFor, IsUnbuilt, blocks_of_replaced};
 
 use crate::carrying::carry;
 use crate::checks::can_move;
 use crc_words::crc32;
 use drafts::{Attempt, Stamp};
-use file_tree::{Call, Name, Reply};
+use file_tree::{Call, Name, Path, Reply};
 use glock_names::{CallFault, Step, View};
 use move_ends::{Ends, ends_of, from_of, to_of};
 use name_moves::NameMove;
@@ -56,6 +57,15 @@ fn hash_fits(name: &Name)
     let _hash = crc32(name.bytes());
 }
 
+// A law: so has that of a path's last name.
+fn last_hash_fits(path: &Path)
+    ensures { path.now ≢ [] → crc32_of (the_last_of path.now) < 2 ^ 32 }
+{
+    if let Some(name) = path.names().last() {
+        hash_fits(name);
+    }
+}
+
 // The blocks that go, if something does.
 fn blocks_in(replaced: &Option<Vec<u64>>) -> Option<&[u64]>
     ensures { option_copied result ≡ blocks_of_replaced replaced.now }
@@ -79,6 +89,7 @@ fn move_name<V: View>(
     requires renaming { IsRenaming call.now }
     requires groups { 1 ≤ length (V.seen view.now).groups }
     requires node { 1 ≤ stamp.now.node }
+    requires hash { to_path call.now ≢ [] → crc32_of (the_last_of (to_path call.now)) < 2 ^ 32 }
     requires ends { AreEnds (V.seen view.now) call.now from to }
     requires target { IsTarget (V.seen view.now) call.now from to (blocks_of_replaced replaced.now) }
     requires inside { (blocks : List ℕ) → blocks_of_replaced replaced.now ≡ Some blocks → (b : ℕ) → Contains blocks b → HasDataBlock (V.seen view.now) b }
@@ -88,12 +99,12 @@ fn move_name<V: View>(
     ensures done { IfDone result (Does (V.seen view.now) call.now) }
     ensures moved { (im : Image) (o : Owners) (l : Layout) (t : Tree) → IsOf (V.seen view.now) im o l t → IfDone result (λ reply change. IsMovedIn im o l call.now stamp.now.node stamp.now.time change) }
     ensures built { (im : Image) (o : Owners) (l : Layout) (t : Tree) → IsOf (V.seen view.now) im o l t → IfNotBuilt result ⊥ }
-    ensures damaged { IfDamaged result (IsDamageFor (V.seen view.now) call.now stamp.now.node) }
+    ensures sound { (im : Image) (o : Owners) (l : Layout) (t : Tree) → IsOf (V.seen view.now) im o l t → IfDamaged result (λ rule block. ⊥) }
+    ensures damaged { IfDamaged result (IsDamage (V.seen view.now) call.now) }
     ensures kept { IfDamaged result (IsOfView (V.seen view.now)) }
 {
     is_a_view(view);
     let new_name = last_name(to_of(call).names());
-    hash_fits(new_name);
     let m = NameMove {
         from: from.above,
         name: last_name(from_of(call).names()),
@@ -118,12 +129,14 @@ fn answer<V: View>(
     requires renaming { IsRenaming call.now }
     requires groups { 1 ≤ length (V.seen view.now).groups }
     requires node { 1 ≤ stamp.now.node }
+    requires hash { to_path call.now ≢ [] → crc32_of (the_last_of (to_path call.now)) < 2 ^ 32 }
     ensures answer { IfOk result (IsAnswerOf (V.seen view.now) call.now stamp.now.node stamp.now.time) }
     ensures done { IfDone result (Does (V.seen view.now) call.now) }
     ensures moved { (im : Image) (o : Owners) (l : Layout) (t : Tree) → IsOf (V.seen view.now) im o l t
         → IfDone result (λ reply change. is_ok reply ≡ true → is_same_path (from_path call.now) (to_path call.now) ≡ false → IsMovedIn im o l call.now stamp.now.node stamp.now.time change) }
     ensures built { (im : Image) (o : Owners) (l : Layout) (t : Tree) → IsOf (V.seen view.now) im o l t → IfNotBuilt result ⊥ }
-    ensures damaged { IfDamaged result (IsDamageFor (V.seen view.now) call.now stamp.now.node) }
+    ensures sound { (im : Image) (o : Owners) (l : Layout) (t : Tree) → IsOf (V.seen view.now) im o l t → IfDamaged result (λ rule block. ⊥) }
+    ensures damaged { IfDamaged result (IsDamage (V.seen view.now) call.now) }
     ensures kept { IfDamaged result (IsOfView (V.seen view.now)) }
 {
     match ends_of(alloc, view, call)? {
@@ -144,8 +157,9 @@ fn answer<V: View>(
 }
 
 /// Tries a call that moves a name, over a view: its answer with what it changes, or the first lock that isn't held, the block that isn't there, or that too few blocks
-/// are free. What stands at the new name goes first, then the old name, and then the new one comes; blocks that go aren't taken again. It costs a walk along both
-/// paths, what `can_move` and `carry` cost, and what removing an inode costs where one goes.
+/// are free. The lock that puts renames in order comes first, then those of the inodes on both paths, then those of the groups of what goes from the new name and, where blocks are
+/// needed, those under which they are found. What stands at the new name goes first, then the old name, and then the new one comes; blocks that go aren't taken again. It costs a walk
+/// along both paths, what `can_move` and `carry` cost, and what removing an inode costs where one goes.
 pub fn attempt<V: View>(
     alloc: Global,
     view: &V,
@@ -156,16 +170,33 @@ pub fn attempt<V: View>(
     requires groups { 1 ≤ length (V.seen view.now).groups }
     requires node { 1 ≤ stamp.now.node }
     ensures done { IfDone result (Does (V.seen view.now) call.now) }
+    ensures inside { IfDone result (λ reply change. AreInside (V.seen view.now) change) }
+    ensures under { (im : Image) (o : Owners) (l : Layout) (t : Tree) (need : ℕ) → IsOf (V.seen view.now) im o l t → IsNeed im o l t call.now need
+        → IfDone result (λ reply change. IsUnder o (call_holds im o l t call.now stamp.now.node need) change) }
     ensures moved { (im : Image) (o : Owners) (l : Layout) (t : Tree) → IsOf (V.seen view.now) im o l t
         → IfDone result (λ reply change. is_ok reply ≡ true → is_same_path (from_path call.now) (to_path call.now) ≡ false → IsMovedIn im o l call.now stamp.now.node stamp.now.time change) }
-    ensures inside { IfDone result (λ reply change. AreInside (V.seen view.now) change) }
-    ensures spaceless { IfDone result (λ reply change. HasSpace reply) }
-    ensures absent { IfNeedBlock result (λ missing. (V.seen view.now).block_at missing.block ≡ None) }
+    ensures held { (im : Image) (o : Owners) (l : Layout) (t : Tree) → IsOf (V.seen view.now) im o l t
+        → IfDone result (λ reply change. (need : ℕ) × (IsNeed im o l t call.now need × AreHeld (V.seen view.now) (call_holds im o l t call.now stamp.now.node need))) }
+    ensures lock { (im : Image) (o : Owners) (l : Layout) (t : Tree) (need : ℕ) → IsOf (V.seen view.now) im o l t → IsNeed im o l t call.now need
+        → IfNeedLock result (IsFirstLack (V.seen view.now) (call_holds im o l t call.now stamp.now.node need)) }
+    ensures block { (im : Image) (o : Owners) (l : Layout) (t : Tree) (need : ℕ) → IsOf (V.seen view.now) im o l t → IsNeed im o l t call.now need
+        → IfNeedBlock result (IsAskedFor (V.seen view.now) im o l (call_holds im o l t call.now stamp.now.node need)) }
+    ensures space { (im : Image) (o : Owners) (l : Layout) (t : Tree) → IsOf (V.seen view.now) im o l t → IfNoSpace result (IsTooFew (V.seen view.now) im o l t call.now) }
+    ensures full { IfNoSpace result (IsFullFor (V.seen view.now) call.now) }
     ensures fewer { IfNoSpace result (λ need free. free < need) }
-    ensures answered { IfOk result (IsAnswerOf (V.seen view.now) call.now stamp.now.node stamp.now.time) }
+    ensures spaceless { IfDone result (λ reply change. HasSpace reply) }
+    ensures answered { IfDone result (IsAnswered (V.seen view.now) call.now stamp.now.node stamp.now.time) }
+    ensures lacked { IfNeedLock result (IsLackedFor (V.seen view.now) call.now stamp.now.node) }
+    ensures lacks { IfNeedLock result (λ lock state. holds (V.seen view.now) (record { lock = lock; state = state }) ≡ false) }
+    ensures needed { IfNeedBlock result (IsNeededFor (V.seen view.now) call.now) }
+    ensures absent { IfNeedBlock result (λ missing. (V.seen view.now).block_at missing.block ≡ None) }
+    ensures unbuilt { IfNotBuilt result (IsUnbuilt (V.seen view.now) call.now stamp.now.node) }
     ensures built { (im : Image) (o : Owners) (l : Layout) (t : Tree) → IsOf (V.seen view.now) im o l t → IfNotBuilt result ⊥ }
-    ensures damaged { IfDamaged result (IsDamageFor (V.seen view.now) call.now stamp.now.node) }
+    ensures sound { (im : Image) (o : Owners) (l : Layout) (t : Tree) → IsOf (V.seen view.now) im o l t → IfDamaged result (λ rule block. ⊥) }
+    ensures damaged { IfDamaged result (IsDamage (V.seen view.now) call.now) }
     ensures kept { IfDamaged result (IsOfView (V.seen view.now)) }
 {
+    is_a_view(view);
+    last_hash_fits(to_of(call));
     answer(alloc, view, call, stamp)
 }

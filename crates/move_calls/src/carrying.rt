@@ -1,18 +1,19 @@
 // A move that can be made is carried out.
-ghost use Rattle.std.specs.Prelude.{ℕ, ◌≡◌, ◌≢◌, ◌⊎◌, ◌≤◌, [], length, Contains, IfNone, IfOk, IfSome};
+ghost use Rattle.std.specs.Prelude.{ℕ, ◌≡◌, ◌≢◌, ◌⊎◌, ◌≤◌, [], ◌∷◌, length, Contains, IfNone, IfOk, IfSome};
 ghost use Rattle.gfs2_layout.specs.Holding.{Holding};
 ghost use Rattle.glock_names.specs.Steps.{IfDamaged, IfIs, IfNeedBlock};
 ghost use Rattle.glock_names.specs.Views.{HasBlock, IsOfView, IsView};
+ghost use Rattle.glock_names.specs.declared.views.Group.{Group as GroupValue};
 ghost use Rattle.directories.specs.Shown as dirs;
 ghost use Rattle.name_inserts.specs.Inserting.{IsNeededForName, IsWrongForName};
 ghost use Rattle.name_inserts.specs.Way.{IsOnWay, IsRightWay};
 ghost use Rattle.name_moves.specs.Moving.{CanBeMoved, freed_by, move_of};
-ghost use Rattle.move_calls.specs.Carrying.{HasRoom, IsCarried, IsCounted, IsDamageOf, IsOffWay};
+ghost use Rattle.move_calls.specs.Carrying.{FirstAreHeld, HasRoom, IsCarried, IsDamageOf, IsOffWay, IsOwnGroup, LacksFirst};
 
 use crate::checks::freed_blocks;
 use drafts::{Attempt, Stamp};
 use file_tree::Reply;
-use glock_names::{CallFault, State, Step, View};
+use glock_names::{CallFault, LockName, State, Step, View};
 use group_locks::lacked_group;
 use name_inserts::block_on_way;
 use name_moves::{NameMove, moving, need_to_move};
@@ -142,8 +143,54 @@ fn carry_in<V: View>(
     }
 }
 
-/// Carries out a move that can be made: the blocks that it needs are counted, the locks of the groups of what goes are looked at, and then those under which
-/// blocks are found. It costs what `need_to_move`, `find_room` and `moving` cost, and passes over the blocks.
+// The first data block of the group to which a node goes first.
+fn own_block<V: View>(view: &V, node: u8) -> u64
+    requires some { 1 ≤ length (V.seen view.now).groups }
+    requires node { 1 ≤ node }
+    ensures { (own : GroupValue) × (IsOwnGroup (V.seen view.now) node own × (result ≡ own.first)) }
+{
+    let groups = view.groups();
+    let own = groups[(node as usize - 1) % groups.len()];
+    own.first
+}
+
+// A block, and those that go.
+fn with_freed(alloc: Global, own: u64, freed: &[u64]) -> Result<Vec<u64>, CallFault>
+    ensures blocks { IfOk result (λ blocks. blocks.items ≡ own ∷ freed.now) }
+    ensures unharmed { IfDamaged result (λ rule block. ⊥) }
+{
+    let mut blocks = Vec::new(alloc);
+    blocks.push(own)?;
+    blocks.extend_from_slice(freed)?;
+    Ok(blocks)
+}
+
+// Of the groups that come first, those that have some of what goes and where blocks are needed the node's own, the lock of the first that isn't held.
+fn lacked_first<V: View>(
+    alloc: Global,
+    view: &V,
+    m: &NameMove<'_>,
+    node: u8,
+    need: u64,
+) -> Result<Option<LockName>, CallFault>
+    requires groups { 1 ≤ length (V.seen view.now).groups }
+    requires node { 1 ≤ node }
+    ensures some { IfOk result (λ found. IfSome found (LacksFirst (V.seen view.now) node (move_of m.now) need)) }
+    ensures none { IfOk result (λ found. IfNone found (FirstAreHeld (V.seen view.now) node (move_of m.now) need)) }
+    ensures unharmed { IfDamaged result (λ rule block. ⊥) }
+{
+    let own = own_block(view, node);
+    let freed = freed_blocks(m);
+    if need == 0 {
+        return Ok(lacked_group(view, freed));
+    }
+    let blocks = with_freed(alloc, own, freed)?;
+    Ok(lacked_group(view, &blocks))
+}
+
+/// Carries out a move that can be made: the blocks that it needs are counted, then the locks of the groups that have some of what goes are looked at, and where blocks are needed
+/// with these, by rising number, that of the node's own group; and then those under which blocks are found. It costs what `need_to_move`, `find_room` and `moving` cost, and
+/// passes over the blocks; where blocks are needed memory for a copy of those that go.
 pub fn carry<V: View>(
     alloc: Global,
     view: &V,
@@ -162,11 +209,14 @@ pub fn carry<V: View>(
         Step::Is(need) => need,
         Step::NeedBlock(missing) => return Ok(Attempt::NeedBlock(missing)),
     };
-    if let Some(lock) = lacked_group(view, freed_blocks(m)) {
-        return Ok(Attempt::NeedLock {
-            lock,
-            state: State::Ex,
-        });
+    match lacked_first(alloc, view, m, stamp.node, need)? {
+        Some(lock) => {
+            return Ok(Attempt::NeedLock {
+                lock,
+                state: State::Ex,
+            });
+        }
+        None => {}
     }
     match find_room(alloc, view, stamp.node, need)? {
         Locked::Is(Taken::Is(room)) => carry_in(alloc, view, m, &room, need, stamp),

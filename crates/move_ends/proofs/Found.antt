@@ -246,7 +246,7 @@ module _ (v : Seen) (im : Image) (o : Owners) (l : Layout) (t : Tree) (of : IsOf
             unbroken v im o l t of (parent_of q) at.above rule b there.above (broken (holding im o at.above) (is_shown v im o l t of (parent_of q) at.above there.above))
         at_sound rule b (inr (to, so)) = elim so.1 [
           | inl counts ↦
-              let linear = counts (holding im o at.inode) shown_at in
+              let linear = counts.1 (holding im o at.inode) shown_at in
               unbroken_directory v im o l t of q at.inode rule b there.at linear.0.directory (dirs.IsBroken.in_linear linear.0.directory linear.0.linear linear.1)
           | inr below ↦ none_wrong_below v im o l t of q at.inode there.at rule b below.1
         ]

@@ -76,11 +76,11 @@ equal_so : (xs ys : List Hold) (lock : LockName) → xs ≡ ys → IsListed ys l
 equal_so xs ys lock e = subst (λ zs. IsListed zs lock) (sym e)
 
 -- the locks of inodes with the same number are one
-abbrev AreInodes : List Hold → Type 0
+abbrev pub AreInodes : List Hold → Type 0
 AreInodes [] = Unit {0}
 AreInodes (x ∷ xs) = (x.lock.kind ≡ 2) × AreInodes xs
 
-same_lock : (a b : LockName) → a.kind ≡ 2 → b.kind ≡ 2 → a.number ≡ b.number → a ≡ b
+pub same_lock : (a b : LockName) → a.kind ≡ 2 → b.kind ≡ 2 → a.number ≡ b.number → a ≡ b
 same_lock a b e f g = λ i. record { kind = (e ∙ sym f) i; number = g i }
 
 module _ (y : Hold) (kind : y.lock.kind ≡ 2) where
@@ -110,7 +110,7 @@ module _ (y : Hold) (kind : y.lock.kind ≡ 2) where
   in_merged [] are front back = record { state = y.state; front = front; back = back; split = refl }
   in_merged (x ∷ xs) are front back = in_beside x are.0 (λ zs. merged (left_after false) xs zs) (in_merged xs are.1) front back
 
-are_inodes : (f : Flat) (root : ℕ) (path : Path) (wants : List Want) → AreInodes (holds_on f root path wants)
+pub are_inodes : (f : Flat) (root : ℕ) (path : Path) (wants : List Want) → AreInodes (holds_on f root path wants)
 are_inodes f root path [] = tt
 are_inodes f root path (w ∷ ws) = each (follow f root (take w.depth path)) (are_inodes f root path ws)
   where

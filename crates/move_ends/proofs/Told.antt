@@ -1,5 +1,5 @@
 -- What is told of the ends, as far as a view shows.
-use Rattle.std.proofs.Common.{◌≡◌, ◌≢◌, inl, inr, ℕ, ◌⊎◌, ◌+◌, true, List, [], ◌∷◌, ◌++◌, length, None, Some, refl, sym, ◌∙◌, subst}
+use Rattle.std.proofs.Common.{◌≡◌, ◌≢◌, inl, inr, ℕ, ◌⊎◌, ◌+◌, true, List, [], ◌∷◌, ◌++◌, length, None, Some, refl, sym, ap, ◌∙◌, subst}
 use Rattle.std.proofs.lemmas.List.{append_assoc}
 use Rattle.std.specs.Prelude.{Contains}
 use Rattle.file_tree.specs.Names.{last_of, leads_to, parent_of}
@@ -8,6 +8,7 @@ use Rattle.file_tree.specs.declared.reply.Reply.{Reply}
 use Rattle.file_tree.specs.declared.reply.Reply.TheVariants as reply
 use Rattle.gfs2_layout.specs.Holding.{Holding}
 use Rattle.gfs2_layout.specs.Inode.{dinode_in}
+use Rattle.gfs2_layout.specs.Structures.{is_directory}
 use Rattle.glock_names.specs.Views.{Seen, HasBlock, IsView}
 use Rattle.glock_names.specs.declared.steps.Missing.{Missing}
 use Rattle.call_locks.specs.declared.want.Want.{Want}
@@ -97,7 +98,7 @@ module _ (v : Seen) (c : Call) (begun : IsBegun v c) where
           IsDamageAtEnds.on_paths rule b begun (inr (wrong_on_way v (second_wants c) (parent_of (to_path c)) at.above seen.above (to_path c) (last_of (to_path c) ∷ []) (ends_so (to_path c) begun.to) rule b
           (IsWrongAt.in_inode rule b broken)))
       at_damage rule b (inr (to, so)) = elim so.1 [
-        | inl counts ↦ IsDamageAtEnds.count from to at rule b (are_ends to so.0) (stands to so.0) counts
+        | inl counts ↦ IsDamageAtEnds.count from to at rule b (are_ends to so.0) (stands to so.0) (λ h shown. ap is_directory (sym (source.dinode h shown)) ∙ counts.0) counts.1
         | inr below ↦ IsDamageAtEnds.of_target from to at rule b (are_ends to so.0) (stands to so.0) (may_go v from at source.dinode below.0) below.1
       ]
 

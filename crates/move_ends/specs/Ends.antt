@@ -154,11 +154,11 @@ pub data IsNeededAtEnds (v : Seen) (call : Call) (n : Missing) : Type 0 where
   on_paths : IsBegun v call → IsPairUnread v (from_path call) (to_path call) (first_wants call) (second_wants call) n → IsNeededAtEnds v call n
   of_target : (from to at : Place) → AreEnds v call from to → StandsAt v call to at → MayGo v from at → IsNeededOf v at.inode n → IsNeededAtEnds v call n
 
--- the block breaks this rule: on the paths; what stands at the new name, as a directory that counts other records than it has, or in a pointer that leads past
--- the groups
+-- the block breaks this rule: on the paths; what stands at the new name where a directory is to move, as one that counts other records than it has; or what may go, in a
+-- pointer that leads past the groups
 pub data IsDamageAtEnds (v : Seen) (call : Call) : ℕ → ℕ → Type 0 where
   on_paths : (rule b : ℕ) → IsBegun v call → IsPairDamage v (from_path call) (to_path call) (first_wants call) (second_wants call) rule b → IsDamageAtEnds v call rule b
-  count : (from to at : Place) (rule b : ℕ) → AreEnds v call from to → StandsAt v call to at → ((h : Holding) → IsShown v at.inode h → BreaksAsLinear h rule b) → IsDamageAtEnds v call rule b
+  count : (from to at : Place) (rule b : ℕ) → AreEnds v call from to → StandsAt v call to at → IsKindAt v from.inode true → ((h : Holding) → IsShown v at.inode h → BreaksAsLinear h rule b) → IsDamageAtEnds v call rule b
   of_target : (from to at : Place) (rule b : ℕ) → AreEnds v call from to → StandsAt v call to at → MayGo v from at → IsWrongBelow v at.inode rule b → IsDamageAtEnds v call rule b
 
 abbrev pub IsTold : Seen → Call → Ends → Type 0

@@ -37,9 +37,9 @@ IsToldOver v from at (replaced.Refused r) = IsAimOver v from at (aim.Refused r)
 IsToldOver v from at (replaced.Goes blocks) = IsAimOver v from at aim.Taken × GoesWith v at.inode blocks.items
 IsToldOver v from at (replaced.NeedBlock m) = IsAimOver v from at aim.Taken × IsNeededOf v at.inode m
 
--- it is a directory that counts other records than it has; or it is to go, and something is wrong with its blocks
+-- a directory is to move, and this is one that counts other records than it has; or it is to go, and something is wrong with its blocks
 abbrev pub IsWrongOver : Seen → Place → Place → ℕ → ℕ → Type 0
-IsWrongOver v from at rule b = ((h : Holding) → IsShown v at.inode h → BreaksAsLinear h rule b) ⊎ (IsAimOver v from at aim.Taken × IsWrongBelow v at.inode rule b)
+IsWrongOver v from at rule b = ((is_directory from.dinode ≡ true) × ((h : Holding) → IsShown v at.inode h → BreaksAsLinear h rule b)) ⊎ (IsAimOver v from at aim.Taken × IsWrongBelow v at.inode rule b)
 
 -- the directory above an inode, as its dinode says it
 pub record IsDirectoryOf (v : Seen) (at to : Place) : Type 0 where

@@ -38,6 +38,7 @@ fn aim_over<V: View>(view: &V, from: &Place, at: &Place) -> Result<Aim, CallFaul
     ensures by_file { (h : Holding) → is_directory from.now.dinode ≡ false → IsShown (V.seen view.now) at.now.inode h → IfOk result (IsFileAim h) }
     ensures by_directory { (h : Holding) → is_directory from.now.dinode ≡ true → IsShown (V.seen view.now) at.now.inode h → IfOk result (IsDirectoryAim h) }
     ensures damaged { (h : Holding) → IsShown (V.seen view.now) at.now.inode h → IfDamaged result (BreaksAsLinear h) }
+    ensures of_directory { IfDamaged result (λ rule b. is_directory from.now.dinode ≡ true) }
     ensures kept { IfDamaged result (IsOfView (V.seen view.now)) }
 {
     if from.dinode.is_directory() {

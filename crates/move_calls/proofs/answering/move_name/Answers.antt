@@ -1,15 +1,15 @@
-use Rattle.std.proofs.Common.{◌<◌, ◌^◌, refl, sym, ap, ◌∙◌, subst}
+use Rattle.std.proofs.Common.{refl, sym, ap, ◌∙◌, subst}
 use Rattle.std.specs.Option.{option_copied}
 use Rattle.std.specs.Prelude.{IfOk}
-use Rattle.crc_words.specs.Remainder.{crc32_of}
 use Rattle.file_tree.specs.Names.{IsName, last_of}
 use Rattle.glock_names.proofs.StepLaws.{answer_at, needed_at}
 use Rattle.path_walks.proofs.Faults.{damaged_so, tells_so, told_on}
 use Rattle.name_moves.specs.Moving.{CanBeMoved}
-use Rattle.move_calls.specs.Answering.{IsAnswerOf, IsDamageFor, IsMeant, blocks_of_replaced}
+use Rattle.move_calls.specs.Answering.{IsAnswerOf, IsDamage, IsMeant, blocks_of_replaced}
 use Rattle.move_calls.specs.Carrying.{IsCarried, IsDamageOf}
 use Rattle.move_calls.specs.Checks.{IsNeededToSee, IsSeenMove, IsWrongMove}
 use Rattle.move_calls.proofs.Answered.{carried_built, carried_does, carried_moved}
+use Rattle.move_calls.proofs.Sound.{carry_sound, move_sound}
 use Rattle.move_calls.proofs.Meant.{is_meant, ok_so, same_move, was_seen, written}
 use Rattle.move_calls.proofs.answering.move_name.Goals as goal
 
@@ -36,8 +36,8 @@ returns-in_err-can_move-clause-damaged g c =
     let first = c.last_name.ensures.last ∙ ap last_of (c.names-2.ensures.names ∙ c.from_of.ensures) in
     let second = c.last_name-new_name.ensures.last ∙ ap last_of (c.names.ensures.names ∙ c.to_of.ensures) in
     let meant : IsMeant v call m = subst (IsMeant v call) (sym (same_move call from to _ _ _ r first second c.blocks_in.ensures)) (is_meant v call from to c.requires.ends r c.requires.target c.requires.inside c.requires.images) in
-    told_on (IsDamageFor v call c.args.stamp.now.node) c.from_residual.result _ c.from_residual.ensures.1
-    (tells_so (IsWrongMove v m) (IsDamageFor v call c.args.stamp.now.node) (λ rule b wrong. IsDamageFor.to_see m meant wrong) c.in_err-can_move.field-0.0 c.in_err-can_move.ensures.damaged)
+    told_on (IsDamage v call) c.from_residual.result _ c.from_residual.ensures.1
+    (tells_so (IsWrongMove v m) (IsDamage v call) (λ rule b wrong. IsDamage.to_see m meant wrong) c.in_err-can_move.field-0.0 c.in_err-can_move.ensures.damaged)
 
 pub returns-in-Is-clause-answer : goal.returns-in-Is-clause-answer
 returns-in-Is-clause-answer g c =
@@ -68,7 +68,7 @@ returns-in-Is-clause-done g c =
     let second = c.last_name-new_name.ensures.last ∙ ap last_of (c.names.ensures.names ∙ c.to_of.ensures) in
     let m = written from to c.last_name.result.now c.last_name-new_name.result.now (option_copied c.blocks_in.result) in
     let can : CanBeMoved v m = answer_at c.in_ok-can_move.field-0 c.in-Is.field-0 (λ done. CanBeMoved v m) c.in-Is.is c.in_ok-can_move.ensures.can in
-    carried_does v call from to r node time c.is_a_view.ensures c.requires.renaming c.requires.ends c.requires.target (subst (CanBeMoved v) (same_move call from to _ _ _ r first second c.blocks_in.ensures) can) (subst (λ n. crc32_of n < 2 ^ 32) second c.hash_fits.ensures)
+    carried_does v call from to r node time c.is_a_view.ensures c.requires.renaming c.requires.ends c.requires.target (subst (CanBeMoved v) (same_move call from to _ _ _ r first second c.blocks_in.ensures) can) (c.requires.hash c.requires.ends.begun.to)
     (λ im o l t of. (c.requires.images im o l t of).0) c.carry.result
     (subst (λ m. IfOk c.carry.result (IsCarried v node time m)) (same_move call from to _ _ _ r first second c.blocks_in.ensures) c.carry.ensures.carried)
 
@@ -85,7 +85,7 @@ returns-in-Is-clause-moved g c im o l t of =
     let second = c.last_name-new_name.ensures.last ∙ ap last_of (c.names.ensures.names ∙ c.to_of.ensures) in
     let m = written from to c.last_name.result.now c.last_name-new_name.result.now (option_copied c.blocks_in.result) in
     let can : CanBeMoved v m = answer_at c.in_ok-can_move.field-0 c.in-Is.field-0 (λ done. CanBeMoved v m) c.in-Is.is c.in_ok-can_move.ensures.can in
-    carried_moved v call from to r node time c.is_a_view.ensures c.requires.renaming c.requires.ends c.requires.target (subst (CanBeMoved v) (same_move call from to _ _ _ r first second c.blocks_in.ensures) can) (subst (λ n. crc32_of n < 2 ^ 32) second c.hash_fits.ensures)
+    carried_moved v call from to r node time c.is_a_view.ensures c.requires.renaming c.requires.ends c.requires.target (subst (CanBeMoved v) (same_move call from to _ _ _ r first second c.blocks_in.ensures) can) (c.requires.hash c.requires.ends.begun.to)
     (λ im o l t of. (c.requires.images im o l t of).0) im o l t of c.carry.result
     (subst (λ m. IfOk c.carry.result (IsCarried v node time m)) (same_move call from to _ _ _ r first second c.blocks_in.ensures) c.carry.ensures.carried)
 
@@ -102,7 +102,7 @@ returns-in-Is-clause-built g c im o l t of =
     let second = c.last_name-new_name.ensures.last ∙ ap last_of (c.names.ensures.names ∙ c.to_of.ensures) in
     let m = written from to c.last_name.result.now c.last_name-new_name.result.now (option_copied c.blocks_in.result) in
     let can : CanBeMoved v m = answer_at c.in_ok-can_move.field-0 c.in-Is.field-0 (λ done. CanBeMoved v m) c.in-Is.is c.in_ok-can_move.ensures.can in
-    carried_built v call from to r node time c.is_a_view.ensures c.requires.renaming c.requires.ends c.requires.target (subst (CanBeMoved v) (same_move call from to _ _ _ r first second c.blocks_in.ensures) can) (subst (λ n. crc32_of n < 2 ^ 32) second c.hash_fits.ensures)
+    carried_built v call from to r node time c.is_a_view.ensures c.requires.renaming c.requires.ends c.requires.target (subst (CanBeMoved v) (same_move call from to _ _ _ r first second c.blocks_in.ensures) can) (c.requires.hash c.requires.ends.begun.to)
     (λ im o l t of. (c.requires.images im o l t of).0) im o l t of c.carry.result
     (subst (λ m. IfOk c.carry.result (IsCarried v node time m)) (same_move call from to _ _ _ r first second c.blocks_in.ensures) c.carry.ensures.carried)
 
@@ -119,7 +119,7 @@ returns-in-Is-clause-damaged g c =
     let second = c.last_name-new_name.ensures.last ∙ ap last_of (c.names.ensures.names ∙ c.to_of.ensures) in
     let meant : IsMeant v call m = subst (IsMeant v call) (sym (same_move call from to _ _ _ r first second c.blocks_in.ensures)) (is_meant v call from to c.requires.ends r c.requires.target c.requires.inside c.requires.images) in
     let can : CanBeMoved v m = answer_at c.in_ok-can_move.field-0 c.in-Is.field-0 (λ done. CanBeMoved v m) c.in-Is.is c.in_ok-can_move.ensures.can in
-    damaged_so (IsDamageOf v node m) (IsDamageFor v call node) (λ rule b wrong. IsDamageFor.carried m (record { meant = meant; can = can }) wrong) c.carry.result c.carry.ensures.damaged
+    damaged_so (IsDamageOf v node m) (IsDamage v call) (λ rule b wrong. IsDamage.to_move node m (record { meant = meant; can = can }) wrong) c.carry.result c.carry.ensures.damaged
 
 pub returns-in-NeedBlock-clause-answer : goal.returns-in-NeedBlock-clause-answer
 returns-in-NeedBlock-clause-answer g c =
@@ -133,3 +133,35 @@ returns-in-NeedBlock-clause-answer g c =
     let second = c.last_name-new_name.ensures.last ∙ ap last_of (c.names.ensures.names ∙ c.to_of.ensures) in
     let meant : IsMeant v call m = subst (IsMeant v call) (sym (same_move call from to _ _ _ r first second c.blocks_in.ensures)) (is_meant v call from to c.requires.ends r c.requires.target c.requires.inside c.requires.images) in
     IsAnswerOf.to_see m c.in-NeedBlock.missing meant (needed_at _ _ (IsNeededToSee v m) c.in-NeedBlock.is c.in_ok-can_move.ensures.needed) refl
+
+pub returns-in_err-can_move-clause-sound : goal.returns-in_err-can_move-clause-sound
+returns-in_err-can_move-clause-sound g c im o l t of =
+    let v = g.V.View.seen c.args.view.now in
+    let call = c.args.call.now in
+    let from = c.args.from in
+    let to = c.args.to in
+    let r = blocks_of_replaced c.args.replaced.now in
+    let first = c.last_name.ensures.last ∙ ap last_of (c.names-2.ensures.names ∙ c.from_of.ensures) in
+    let second = c.last_name-new_name.ensures.last ∙ ap last_of (c.names.ensures.names ∙ c.to_of.ensures) in
+    let m = written from to c.last_name.result.now c.last_name-new_name.result.now (option_copied c.blocks_in.result) in
+    told_on (λ rule b. ⊥) c.from_residual.result _ c.from_residual.ensures.1
+    (tells_so (IsWrongMove v m) (λ rule b. ⊥)
+    (λ rule b wrong. move_sound v im o l t of call from to r c.requires.ends (c.requires.images im o l t of).0 rule b (subst (λ x. IsWrongMove v x rule b) (same_move call from to _ _ _ r first second c.blocks_in.ensures) wrong))
+    c.in_err-can_move.field-0.0 c.in_err-can_move.ensures.damaged)
+
+pub returns-in-Is-clause-sound : goal.returns-in-Is-clause-sound
+returns-in-Is-clause-sound g c im o l t of =
+    let v = g.V.View.seen c.args.view.now in
+    let call = c.args.call.now in
+    let from = c.args.from in
+    let to = c.args.to in
+    let node = c.args.stamp.now.node in
+    let r = blocks_of_replaced c.args.replaced.now in
+    let first = c.last_name.ensures.last ∙ ap last_of (c.names-2.ensures.names ∙ c.from_of.ensures) in
+    let second = c.last_name-new_name.ensures.last ∙ ap last_of (c.names.ensures.names ∙ c.to_of.ensures) in
+    let m = written from to c.last_name.result.now c.last_name-new_name.result.now (option_copied c.blocks_in.result) in
+    let same = same_move call from to c.last_name.result.now c.last_name-new_name.result.now (option_copied c.blocks_in.result) r first second c.blocks_in.ensures in
+    let can : CanBeMoved v m = answer_at c.in_ok-can_move.field-0 c.in-Is.field-0 (λ done. CanBeMoved v m) c.in-Is.is c.in_ok-can_move.ensures.can in
+    damaged_so (IsDamageOf v node m) (λ rule b. ⊥)
+    (λ rule b wrong. carry_sound v im o l t of call from to r c.requires.ends (c.requires.images im o l t of).0 (subst (CanBeMoved v) same can) node rule b (subst (λ x. IsDamageOf v node x rule b) same wrong))
+    c.carry.result c.carry.ensures.damaged

@@ -26,7 +26,7 @@ pub returns-in_err-block-clause-damaged : goal.returns-in_err-block-clause-damag
 returns-in_err-block-clause-damaged g c =
     let v = g.V.View.seen c.args.view.now in
     told_on (IsDamageOf v c.args.node (move_of c.args.m.now)) c.from_residual.result _ c.from_residual.ensures.1
-    (tells_so _ (IsDamageOf v c.args.node (move_of c.args.m.now)) (λ rule b wrong. IsDamageOf.on_way rule b wrong) c.in_err-block.field-0.0
+    (tells_so _ (IsDamageOf v c.args.node (move_of c.args.m.now)) (λ rule b wrong. IsDamageOf.on_way c.args.need c.args.room.now rule b c.requires.room wrong) c.in_err-block.field-0.0
     (tells_each (IsShown v c.args.m.now.to.inode) (IsWrongForName v) c.in_err-block.field-0.0 c.in_err-block.ensures.damaged))
 
 pub returns-in-Is-Some-clause-damaged : goal.returns-in-Is-Some-clause-damaged

@@ -1,0 +1,396 @@
+-- The locks of a name that moves, in an image that the view may be of.
+use Rattle.std.proofs.Common.{◌≡◌, ◌↔◌, ◌==◌, ◌&&◌, ◌||◌, ◌^◌, ◌<◌, inl, inr, ℕ, Bool, true, false, true≢false, List, [], ◌∷◌, ◌++◌, Option, Some, get_or, length, map, refl, sym, ap, ◌∙◌, subst, arith}
+use Rattle.std.proofs.lemmas.Bool.{cases_Bool, cond-false, cond-true, eq-eqb, eqb-true}
+use Rattle.std.proofs.lemmas.List.{append_assoc}
+use Rattle.std.proofs.lemmas.List.Elements.{All-append, Contains-append_cases, Contains-append_left}
+use Rattle.std.proofs.lemmas.Option.{slice_get-get_or}
+use Rattle.std.specs.Prelude.{Contains, not}
+use Rattle.std.specs.Ordering.{nat_cmp}
+use Rattle.std.specs.FinMap.{FinMap, get}
+use Rattle.crc_words.specs.Remainder.{crc32_of}
+use Rattle.file_tree.specs.Apply.{Answer, apply}
+use Rattle.file_tree.specs.Names.{is_same_path, last_of, leads_to, parent_of}
+use Rattle.file_tree.specs.Tree.{Tree}
+use Rattle.file_tree.specs.declared.call.Call.{Call}
+use Rattle.cluster_history.specs.Changes.{is_ok}
+use Rattle.drafts.specs.declared.change.Change.{Change}
+use Rattle.drafts.specs.declared.change.Written.{Written}
+use Rattle.drafts.specs.declared.fate.Fate.{Fate}
+use Rattle.drafts.specs.declared.fate.Fate.TheVariants.{Put}
+use Rattle.glock_names.specs.Views.{Seen, HasGroup, IsView, group_of_entry}
+use Rattle.glock_names.specs.declared.LockName.{LockName}
+use Rattle.glock_names.specs.declared.State.{State}
+use Rattle.glock_names.specs.declared.State.TheVariants.{Ex}
+use Rattle.glock_names.specs.declared.steps.Missing.{Missing}
+use Rattle.glock_names.specs.declared.views.Group.{Group}
+use Rattle.image_model.specs.Groups as listed
+use Rattle.image_model.specs.Image.{Image}
+use Rattle.image_model.specs.Owners.{Owners, holding}
+use Rattle.image_model.specs.Stands.{Layout}
+use Rattle.image_model.proofs.Held.{some_same}
+use Rattle.image_model.proofs.Members.{IsIn, contained, in_left, in_right, is_in}
+use Rattle.image_changes.specs.Changes.{inode_of}
+use Rattle.image_changes.specs.Does.{IsOf, frees}
+use Rattle.image_changes.specs.Drafted.{IsFinished}
+use Rattle.image_changes.specs.Instances.{IsAt}
+use Rattle.image_changes.proofs.Finishing.{finish_makes}
+use Rattle.draft_changes.proofs.Rows.{cell_its}
+use Rattle.draft_changes.proofs.Views.{groups_are_listed}
+use Rattle.path_walks.specs.Holds.{Hold, AreHeld, IsAskedFor, IsFirstLack, IsUnder, hold_of, hold_of_group, holds}
+use Rattle.path_walks.specs.declared.walk.Place.{Place}
+use Rattle.path_walks.proofs.Asked.{IsAmong}
+use Rattle.path_walks.proofs.Images.{shown_inode, sound_directory}
+use Rattle.pair_walks.proofs.Paths.{ends_so}
+use Rattle.path_walks.proofs.Longer.{asked_before, asked_behind, lack_before, lack_behind}
+use Rattle.resource_groups.specs.Freeing as freeing
+use Rattle.resource_groups.specs.Shown.{IsDataOf, said}
+use Rattle.resource_groups.proofs.Apart.{one_group}
+use Rattle.group_locks.specs.Groups.{holds_of_groups}
+use Rattle.group_locks.specs.Laws.{AreThose}
+use Rattle.group_locks.proofs.Listed.{held_upto}
+use Rattle.group_locks.proofs.Locks.{blocks_of_groups_are_asked_for, first_group_lacks_are_first, groups_with_blocks_are_listed, held_groups_hold_the_list}
+use Rattle.room_search.specs.Blocks.{free_in_all, group_holds, group_of_node, room_holds}
+use Rattle.room_search.specs.Searches.{AreShown, IsGroupBlock}
+use Rattle.room_search.proofs.Holds.{block_under}
+use Rattle.room_search.proofs.InImage.{all_said, are_shown, group_asked, room_holds_are}
+use Rattle.move_ends.specs.Ends.{AreEnds, MovesIn, StoodIn, from_path, inode_holds, to_path}
+use Rattle.move_ends.proofs.Listed.{inode_listed, replaced_listed, source_listed, target_listed}
+use Rattle.name_moves.specs.Becoming.{NeedsAfter}
+use Rattle.name_moves.specs.Moving.{CanBeMoved, IsNeededIn, IsPutUnder, Move, blocks_or_none, freed_by, lost_there}
+use Rattle.name_moves.proofs.Alike.{need_once}
+use Rattle.move_calls.specs.Carrying.{FirstAreHeld, HasRoom, IsCarriedOut, IsFull, IsOwnGroup, LacksLock, NeedsBlock, NeedsFor, first_blocks}
+use Rattle.move_calls.specs.Locks.{IsNeed, IsTooFew, call_holds, comes_first, goes_with, is_first_of, lost_in, moves_in, replaced_in}
+use Rattle.move_calls.proofs.Asked.{move_asked, way_asked}
+use Rattle.move_calls.proofs.Doing.{lost_same, move_by}
+use Rattle.move_calls.proofs.Room.{freed_first}
+
+-- ---- tests
+
+or_false : (x : Bool) → (x || false) ≡ x
+or_false true = refl
+or_false false = refl
+
+or_left : (x y : Bool) → x ≡ true → (x || y) ≡ true
+or_left x y is = ap (λ z. z || y) is
+
+or_right : (x y : Bool) → y ≡ true → (x || y) ≡ true
+or_right true y is = refl
+or_right false y is = is
+
+none_in : (b : ℕ) → Contains [] b → ⊥
+none_in b there = omega (arith, there.1)
+
+-- ---- a lock of a list that is held
+
+split_in : (x : Hold) (list : List Hold) → IsIn x list → (front back : List Hold) × (list ≡ front ++ x ∷ back)
+split_in x [] here = elim here [ ]
+split_in x (y ∷ list) (inl e) = ([], list, ap (λ z. z ∷ list) (sym e))
+split_in x (y ∷ list) (inr later) = let r = split_in x list later in (y ∷ r.0, r.1, ap (λ zs. y ∷ zs) r.2)
+
+pub among_held : (v : Seen) (list : List Hold) (a : ℕ) → IsIn (hold_of a Ex) list → AreHeld v list → IsAmong v list a
+among_held v list a at held =
+    let r = split_in (hold_of a Ex) list at in
+    record { state = Ex; front = r.0; back = r.1; split = r.2; held = held_upto v r.0 r.1 (hold_of a Ex) (subst (AreHeld v) r.2 held) }
+
+among_more : (v : Seen) (list more : List Hold) (a : ℕ) → IsAmong v list a → IsAmong v (list ++ more) a
+among_more v list more a is = record {
+  state = is.state;
+  front = is.front;
+  back = is.back ++ more;
+  split = ap (λ xs. xs ++ more) is.split ∙ append_assoc is.front (hold_of a is.state ∷ is.back) more;
+  held = is.held;
+}
+
+-- each lock of a change is one with which its draft put a block
+each_lock : (fates : FinMap nat_cmp Fate) (change : Change) → IsFinished fates change → (P : LockName → Type 0)
+    → ((b : ℕ) (lock : LockName) (plain : Bool) (bytes : List ℕ) → get fates b ≡ Some (Put lock plain bytes) → P lock) → (lock : LockName) → Contains change.locks.items lock → P lock
+each_lock fates change finished P puts lock has =
+    let d = finish_makes fates change finished in
+    let nothing : Written = record { block = 0; plain = false; bytes = [] } in
+    let w : Written = get_or change.blocks.items has.0 nothing in
+    puts w.block lock w.plain w.bytes
+    (d.told has.0 w lock (slice_get-get_or change.blocks.items has.0 nothing (omega (arith, has.1, d.form.locks))) (slice_get-get_or change.locks.items has.0 lock has.1 ∙ ap Some has.2))
+
+-- ---- the list
+
+pub not_moving : (im : Image) (o : Owners) (l : Layout) (t : Tree) (c : Call) (node need : ℕ) → moves_in t c ≡ false → call_holds im o l t c node need ≡ inode_holds im o l c ++ []
+not_moving im o l t c node need stays = ap (λ x. inode_holds im o l c ++ x) (cond-false (moves_in t c) _ [] stays)
+
+module _ (v : Seen) (im : Image) (o : Owners) (l : Layout) (t : Tree) (of : IsOf v im o l t) (c : Call) (from to : Place) (replaced : Option (List ℕ)) (ends : AreEnds v c from to)
+    (hash : crc32_of (last_of (to_path c)) < 2 ^ 32) (moves : MovesIn v im o l t c from to replaced) (inodes : AreHeld v (inode_holds im o l c)) (node : ℕ) where
+  abbrev m : Move
+  m = move_by c from to replaced
+
+  abbrev inode_list : List Hold
+  inode_list = inode_holds im o l c
+
+  abbrev first_list : ℕ → List Hold
+  first_list need = holds_of_groups (comes_first im o l c node need) l.groups
+
+  abbrev room_list : ℕ → List Hold
+  room_list need = room_holds o l node need
+
+  ok : is_ok (apply c t).reply ≡ true
+  ok = ap (λ (a : Answer). is_ok a.reply) moves.takes.applies
+
+  pub moving : moves_in t c ≡ true
+  moving = (λ i. ok i && not (is_same_path (from_path c) (to_path c))) ∙ ap (λ b. not (b && leads_to (to_path c) (from_path c))) ends.elsewhere
+
+  list_is : (need : ℕ) → call_holds im o l t c node need ≡ inode_list ++ (first_list need ++ room_list need)
+  list_is need = ap (λ x. inode_list ++ x) (cond-true (moves_in t c) (first_list need ++ room_list need) [] moving)
+
+  list_then : (need : ℕ) → call_holds im o l t c node need ≡ (inode_list ++ first_list need) ++ room_list need
+  list_then need = list_is need ∙ sym (append_assoc inode_list (first_list need) (room_list need))
+
+  -- ---- the need is one
+
+  needs_there : (need : ℕ) → NeedsFor v m need → NeedsAfter (lost_there m) (holding im o to.inode) (last_of (to_path c)) need
+  needs_there need needs =
+      needs (holding im o to.inode) (shown_inode v im o l t of (parent_of (to_path c)) to.inode moves.target) (sound_directory v im o l t of (parent_of (to_path c)) to.inode moves.target moves.directory)
+
+  pub is_need : (need : ℕ) → NeedsFor v m need → IsNeed im o l t c need
+  is_need need needs =
+      IsNeed.moves from.above to.inode need ok ends.elsewhere moves.source.above moves.target
+      (subst (λ names. NeedsAfter names (holding im o to.inode) (last_of (to_path c)) need) (lost_same v c from to replaced ends im o l t moves) (needs_there need needs))
+
+  pub one_need : (need other : ℕ) → NeedsFor v m need → IsNeed im o l t c other → need ≡ other
+  one_need need _ needs (IsNeed.refused other_reply) = absurd (true≢false (sym ok ∙ other_reply))
+  one_need need _ needs (IsNeed.stays same) = absurd (true≢false (sym same ∙ ap (λ b. b && leads_to (to_path c) (from_path c)) ends.elsewhere))
+  one_need need other needs (IsNeed.moves source target _ taken elsewhere source_at target_at after) =
+      let from_same : source ≡ from.above = some_same (sym source_at ∙ moves.source.above) in
+      let to_same : target ≡ to.inode = some_same (sym target_at ∙ moves.target) in
+      let here : NeedsAfter (lost_in im o l c from.above to.inode) (holding im o to.inode) (last_of (to_path c)) other =
+      subst (λ x. NeedsAfter (lost_in im o l c x to.inode) (holding im o to.inode) (last_of (to_path c)) other) from_same
+      (subst (λ x. NeedsAfter (lost_in im o l c source x) (holding im o x) (last_of (to_path c)) other) to_same after) in
+      need_once (lost_there m) (holding im o to.inode) (last_of (to_path c)) need other
+      (sound_directory v im o l t of (parent_of (to_path c)) to.inode moves.target moves.directory) hash (needs_there need needs)
+      (subst (λ names. NeedsAfter names (holding im o to.inode) (last_of (to_path c)) other) (sym (lost_same v c from to replaced ends im o l t moves)) here)
+
+  -- ---- the groups that come first
+
+  freed_goes : (b : ℕ) → Contains (freed_by m) b ↔ (goes_with im o (replaced_in im o l c) b ≡ true)
+  freed_goes b = by replaced moves.stood
+    where
+      by : (r : Option (List ℕ)) → StoodIn im o l c to.inode r → Contains (blocks_or_none r) b ↔ (goes_with im o (replaced_in im o l c) b ≡ true)
+      by _ (StoodIn.nothing child none) = (
+        (λ there. absurd (none_in b there)),
+        (λ goes. absurd (true≢false (sym goes ∙ ap (λ x. goes_with im o x b) none))),
+      )
+      by _ (StoodIn.an_inode a blocks at childless own) = (
+        (λ there. ap (λ x. goes_with im o x b) at ∙ (own b).0 there),
+        (λ goes. (own b).1 (sym (ap (λ x. goes_with im o x b) at) ∙ goes)),
+      )
+
+  module _ (need : ℕ) (own : Group) (is_own : IsOwnGroup v node own) where
+    own_there : group_of_node (map group_of_entry l.groups) node ≡ Some own
+    own_there = ap (λ gs. group_of_node gs node) of.groups ∙ is_own.of_node
+
+    pub those : AreThose (comes_first im o l c node need) (first_blocks own need (freed_by m))
+    those b = elim (cases_Bool (need == 0)) [
+      | inl none ↦
+          let test : comes_first im o l c node need b ≡ goes_with im o (replaced_in im o l c) b =
+          ap (λ x. goes_with im o (replaced_in im o l c) b || (not x && is_first_of (group_of_node (map group_of_entry l.groups) node) b)) none ∙ or_false (goes_with im o (replaced_in im o l c) b) in
+          let blocks : first_blocks own need (freed_by m) ≡ freed_by m = cond-true (need == 0) (freed_by m) (own.first ∷ freed_by m) none in
+          ((λ there. test ∙ (freed_goes b).0 (subst (λ xs. Contains xs b) blocks there)), (λ passes. subst (λ xs. Contains xs b) (sym blocks) ((freed_goes b).1 (sym test ∙ passes))))
+      | inr some ↦
+          let test : comes_first im o l c node need b ≡ (goes_with im o (replaced_in im o l c) b || (b == own.first)) =
+          ap (λ x. goes_with im o (replaced_in im o l c) b || (not x && is_first_of (group_of_node (map group_of_entry l.groups) node) b)) some
+          ∙ ap (λ x. goes_with im o (replaced_in im o l c) b || is_first_of x b) own_there in
+          let blocks : first_blocks own need (freed_by m) ≡ own.first ∷ freed_by m = cond-false (need == 0) (freed_by m) (own.first ∷ freed_by m) some in (
+            (λ there. test ∙ passes (is_in b (own.first ∷ freed_by m) (subst (λ xs. Contains xs b) blocks there))),
+            (λ so. subst (λ xs. Contains xs b) (sym blocks) (contained b (own.first ∷ freed_by m) (there_so (sym test ∙ so)))),
+          )
+    ]
+      where
+        passes : IsIn b (own.first ∷ freed_by m) → (goes_with im o (replaced_in im o l c) b || (b == own.first)) ≡ true
+        passes (inl e) = or_right (goes_with im o (replaced_in im o l c) b) (b == own.first) (eq-eqb b own.first e)
+        passes (inr more) = or_left (goes_with im o (replaced_in im o l c) b) (b == own.first) ((freed_goes b).0 (contained b (freed_by m) more))
+
+        there_so : (goes_with im o (replaced_in im o l c) b || (b == own.first)) ≡ true → IsIn b (own.first ∷ freed_by m)
+        there_so so = elim (cases_Bool (goes_with im o (replaced_in im o l c) b)) [
+          | inl goes ↦ inr (is_in b (freed_by m) ((freed_goes b).1 goes))
+          | inr stays ↦ inl (eqb-true b own.first (sym (ap (λ x. x || (b == own.first)) stays) ∙ so))
+        ]
+
+    -- the locks under which blocks are found
+    pub room_is : group_holds (said im.at) v.groups own need ≡ room_list need
+    room_is = room_holds_are v im o l t of node own need is_own.of_node is_own.has
+
+  shown : AreShown v im.at
+  shown = are_shown v im o l t of
+
+  first_held : (need : ℕ) → FirstAreHeld v node m need → AreHeld v (inode_list ++ first_list need)
+  first_held need first =
+      held_groups_hold_the_list v im o l t (comes_first im o l c node need) (first_blocks first.own need (freed_by m)) inode_list of (those need first.own first.of_node) inodes first.held
+
+  -- ---- the first lock that isn't held
+
+  pub lock_lacks : (lock : LockName) (state : State) (other : ℕ) → LacksLock v node m lock state → IsNeed im o l t c other → IsFirstLack v (call_holds im o l t c node other) lock state
+  lock_lacks lock state other (LacksLock.of_first need needs lacks strong) is =
+      subst (λ n. IsFirstLack v (call_holds im o l t c node n) lock state) (one_need need other needs is)
+      (subst (λ list. IsFirstLack v list lock state) (sym (list_then need))
+      (lack_before v (inode_list ++ first_list need) (room_list need) lock state
+      (subst (IsFirstLack v (inode_list ++ first_list need) lock) (sym strong)
+      (first_group_lacks_are_first v im o l t (comes_first im o l c node need) (first_blocks lacks.own need (freed_by m)) inode_list lock of (those need lacks.own lacks.of_node) inodes lacks.lacks))))
+  lock_lacks lock state other (LacksLock.of_room need counted lacks first) is =
+      subst (λ n. IsFirstLack v (call_holds im o l t c node n) lock state) (one_need need other counted.needs is)
+      (subst (λ list. IsFirstLack v list lock state) (sym (list_then need))
+      (lack_behind v (inode_list ++ first_list need) (room_list need) lock state (first_held need counted.first)
+      (subst (λ list. IsFirstLack v list lock state) (room_is need counted.first.own counted.first.of_node) (first im.at shown))))
+
+  -- ---- too few blocks
+
+  pub full_there : (need free : ℕ) → IsFull v node m need free → IsTooFew v im o l t c need free
+  full_there need free full = record {
+    taken = ap (λ (a : Answer). a.reply) moves.takes.applies;
+    on_paths = inodes;
+    groups = subst (λ gs. AreHeld v (map hold_of_group gs)) (sym of.groups) full.held;
+    needs = is_need need full.counted.needs;
+    free_are = full.free_are im.at shown ∙ ap (λ gs. length (free_in_all (said im.at) gs)) (sym of.groups) ∙ ap length (all_said v im o l t of);
+    fewer = full.fewer;
+  }
+
+  -- ---- a block that is asked for
+
+  among_source : IsAmong v inode_list from.above
+  among_source = among_held v inode_list from.above (source_listed v im o l c ends.begun.from ends.begun.to ends.elsewhere from.inode moves.source.at from.above moves.source.above) inodes
+
+  among_target : IsAmong v inode_list to.inode
+  among_target = among_held v inode_list to.inode (target_listed v im o l c ends.begun.from ends.begun.to ends.elsewhere from.inode moves.source.at to.inode moves.target) inodes
+
+  pub among_inode : IsAmong v inode_list from.inode
+  among_inode = among_held v inode_list from.inode (inode_listed v im o l c ends.begun.from ends.begun.to ends.elsewhere from.inode moves.source.at) inodes
+
+  module _ (view : IsView v) (can : CanBeMoved v m) where
+    inode_there : IsAt im o l (parent_of (from_path c) ++ last_of (from_path c) ∷ []) from.inode
+    inode_there = subst (λ p. IsAt im o l p from.inode) (ends_so (from_path c) ends.begun.from) moves.source.at
+
+    -- of the directories and the inode
+    asked_on : (list : List Hold) → IsAmong v list from.above → IsAmong v list to.inode → IsAmong v list from.inode → (blocks : List ℕ) (n : Missing) → (freeing.IsNeededFor v blocks n → IsAskedFor v im o l list n)
+        → IsNeededIn v m blocks n → IsAskedFor v im o l list n
+    asked_on list first second third =
+        move_asked v im o l t of list m (parent_of (from_path c)) (parent_of (to_path c)) can moves.source.above moves.target inode_there moves.directory moves.source.dinode first second third
+
+    -- where blocks are found and all is held
+    module _ (need : ℕ) (room : List ℕ) (has : HasRoom v node m need room) where
+      abbrev own : Group
+      own = has.counted.first.own
+
+      abbrev whole : List Hold
+      whole = (inode_list ++ first_list need) ++ room_list need
+
+      front_held : AreHeld v (inode_list ++ first_list need)
+      front_held = first_held need has.counted.first
+
+      room_held : AreHeld v (room_list need)
+      room_held = subst (AreHeld v) (room_is need own has.counted.first.of_node) (has.held im.at shown)
+
+      pub whole_held : AreHeld v (call_holds im o l t c node need)
+      whole_held = subst (AreHeld v) (sym (list_then need)) (All-append (λ h. holds v h ≡ true) (inode_list ++ first_list need) (room_list need) front_held room_held)
+
+      -- the lock of a group that has some of the blocks
+      room_listed : (g : Group) (b : ℕ) → HasGroup v g → Contains room b → IsDataOf g b → Contains (room_list need) (hold_of_group g)
+      room_listed g b has_it there lies =
+          let e = (has.are im.at shown).each b there in
+          subst (λ list. Contains list (hold_of_group g)) (room_is need own has.counted.first.of_node)
+          (subst (λ k. Contains (group_holds (said im.at) v.groups own need) (hold_of_group k)) (one_group v b e.group g view e.has e.data_block has_it lies) e.listed)
+
+      -- or of what goes
+      freed_listed : (g : Group) (b : ℕ) → HasGroup v g → Contains (freed_by m) b → IsDataOf g b → Contains (inode_list ++ first_list need) (hold_of_group g)
+      freed_listed g b has_it goes lies =
+          let f = (groups_are_listed v im o l t g of).0 has_it in
+          let first = ap (λ (k : Group). k.first) f.2 in
+          let count = ap (λ (k : Group). k.count) f.2 in
+          let within : listed.IsDataOf f.0 b = record { low = omega (arith, lies.low, first); high = omega (arith, lies.high, first, count) } in
+          subst (λ k. Contains (inode_list ++ first_list need) (hold_of_group k)) (sym f.2)
+          (groups_with_blocks_are_listed (comes_first im o l c node need) l.groups f.0 b inode_list f.1 within
+          ((those need own has.counted.first.of_node b).0 (freed_first own need (freed_by m) b goes)))
+
+      group_asks : (n : Missing) → freeing.IsNeededFor v (room ++ freed_by m) n → IsAskedFor v im o l whole n
+      group_asks n needs = elim (Contains-append_cases room (freed_by m) needs.2.0 needs.2.1) [
+        | inl taken ↦
+            asked_behind v im o l (inode_list ++ first_list need) (room_list need) n front_held
+            (group_asked v im o l t of (room_list need) n (block_under v (room_list need) needs.0 n room_held (room_listed needs.0 needs.2.0 needs.1 taken needs.2.2) needs.1 needs.2.3.block))
+        | inr goes ↦
+            asked_before v im o l (inode_list ++ first_list need) (room_list need) n
+            (blocks_of_groups_are_asked_for v im o l t (comes_first im o l c node need) (first_blocks own need (freed_by m)) inode_list n of (those need own has.counted.first.of_node) inodes has.counted.first.held
+            (needs.0, needs.1, (needs.2.0, freed_first own need (freed_by m) needs.2.0 goes, needs.2.2, needs.2.3)))
+      ]
+
+      draft_asks : (n : Missing) → IsNeededIn v m (room ++ freed_by m) n → IsAskedFor v im o l (call_holds im o l t c node need) n
+      draft_asks n needs =
+          let more = λ (a : ℕ) (is : IsAmong v inode_list a). among_more v (inode_list ++ first_list need) (room_list need) a (among_more v inode_list (first_list need) a is) in
+          subst (λ list. IsAskedFor v im o l list n) (sym (list_then need))
+          (asked_on whole (more from.above among_source) (more to.inode among_target) (more from.inode among_inode) (room ++ freed_by m) n (group_asks n) needs)
+
+    no_group : (n : Missing) → freeing.IsNeededFor v [] n → IsAskedFor v im o l inode_list n
+    no_group n needs = absurd (none_in needs.2.0 needs.2.1)
+
+    pub block_asks : (n : Missing) (other : ℕ) → NeedsBlock v node m n → IsNeed im o l t c other → IsAskedFor v im o l (call_holds im o l t c node other) n
+    block_asks n other (NeedsBlock.to_count needs) is =
+        subst (λ list. IsAskedFor v im o l list n) (sym (list_is other))
+        (asked_before v im o l inode_list (first_list other ++ room_list other) n (asked_on inode_list among_source among_target among_inode [] n (no_group n) needs))
+    block_asks n other (NeedsBlock.of_room need counted needed blocks) is =
+        subst (λ k. IsAskedFor v im o l (call_holds im o l t c node k) n) (one_need need other counted.needs is)
+        (subst (λ list. IsAskedFor v im o l list n) (sym (list_then need))
+        (asked_behind v im o l (inode_list ++ first_list need) (room_list need) n (first_held need counted.first)
+        (group_asked v im o l t of (room_list need) n (subst (λ list. IsGroupBlock v list n) (room_is need counted.first.own counted.first.of_node) (blocks im.at shown)))))
+    block_asks n other (NeedsBlock.on_way need room has absent needs) is =
+        subst (λ list. IsAskedFor v im o l list n) (sym (list_is other))
+        (asked_before v im o l inode_list (first_list other ++ room_list other) n
+        (way_asked v im o l t of inode_list m (parent_of (from_path c)) (parent_of (to_path c)) can moves.source.above moves.target inode_there moves.directory moves.source.dinode among_source among_target among_inode n needs))
+    block_asks n other (NeedsBlock.to_draft need room has needs) is =
+        subst (λ k. IsAskedFor v im o l (call_holds im o l t c node k) n) (one_need need other has.counted.needs is) (draft_asks need room has n needs)
+
+    -- ---- the change
+
+    module _ (time : ℕ) (change : Change) (done : IsCarriedOut v node time m change) where
+      pub done_held : (need : ℕ) × (IsNeed im o l t c need × AreHeld v (call_holds im o l t c node need))
+      done_held = (done.need, (is_need done.need done.has.counted.needs, whole_held done.need done.room done.has))
+
+      abbrev list : List Hold
+      list = (inode_list ++ first_list done.need) ++ room_list done.need
+
+      in_inodes : (h : Hold) → IsIn h inode_list → IsIn h list
+      in_inodes h at = in_left h (inode_list ++ first_list done.need) (room_list done.need) (in_left h inode_list (first_list done.need) at)
+
+      put_listed : (b : ℕ) (lock : LockName) → IsPutUnder v m done.is.taken b lock → IsIn (record { lock = lock; state = Ex }) list
+      put_listed b lock (IsPutUnder.of_group g has some says same) =
+          subst (λ k. IsIn (record { lock = k; state = Ex }) list) (sym same) (elim (Contains-append_cases done.is.taken (freed_by m) some.0 some.1) [
+            | inl taken ↦
+                in_right (hold_of_group g) (inode_list ++ first_list done.need) (room_list done.need) (is_in (hold_of_group g) (room_list done.need)
+                (room_listed done.need done.room done.has g some.0 has
+                (subst (λ xs. Contains xs some.0) (sym done.is.front) (Contains-append_left done.is.taken done.is.left some.0 taken)) some.2))
+            | inr goes ↦
+                in_left (hold_of_group g) (inode_list ++ first_list done.need) (room_list done.need) (is_in (hold_of_group g) (inode_list ++ first_list done.need)
+                (freed_listed done.need done.room done.has g some.0 has goes some.2))
+          ])
+      put_listed b lock (IsPutUnder.of_source within place same) =
+          subst (λ k. IsIn (record { lock = k; state = Ex }) list) (sym same) (in_inodes (hold_of from.above Ex)
+          (source_listed v im o l c ends.begun.from ends.begun.to ends.elsewhere from.inode moves.source.at from.above moves.source.above))
+      put_listed b lock (IsPutUnder.of_target place same) =
+          subst (λ k. IsIn (record { lock = k; state = Ex }) list) (sym same) (in_inodes (hold_of to.inode Ex)
+          (target_listed v im o l c ends.begun.from ends.begun.to ends.elsewhere from.inode moves.source.at to.inode moves.target))
+      put_listed b lock (IsPutUnder.of_inode moved place same) =
+          subst (λ k. IsIn (record { lock = k; state = Ex }) list) (sym same) (in_inodes (hold_of from.inode Ex)
+          (inode_listed v im o l c ends.begun.from ends.begun.to ends.elsewhere from.inode moves.source.at))
+
+      -- what goes is the inode's that stands at the new name
+      goes_listed : (b a : ℕ) → Contains (freed_by m) b → inode_of b (o b) ≡ Some a → IsIn (hold_of a Ex) list
+      goes_listed b a there its = by replaced moves.stood there
+        where
+          by : (r : Option (List ℕ)) → StoodIn im o l c to.inode r → Contains (blocks_or_none r) b → IsIn (hold_of a Ex) list
+          by _ (StoodIn.nothing child none) there = absurd (none_in b there)
+          by _ (StoodIn.an_inode d blocks at childless own) there =
+              let same : a ≡ d = some_same (sym its ∙ cell_its im o d b ((own b).0 there)) in
+              subst (λ x. IsIn (hold_of x Ex) list) (sym same) (in_inodes (hold_of d Ex) (replaced_listed v im o l c ends.begun.from ends.begun.to ends.elsewhere from.inode moves.source.at d at))
+
+      pub done_under : (other : ℕ) → IsNeed im o l t c other → IsUnder o (call_holds im o l t c node other) change
+      done_under other is =
+          subst (λ k. IsUnder o (call_holds im o l t c node k) change) (one_need done.need other done.has.counted.needs is)
+          (subst (λ xs. IsUnder o xs change) (sym (list_then done.need)) (record {
+            written = each_lock done.is.fates change done.is.finished (λ lock. Contains list (record { lock = lock; state = Ex }))
+                (λ b lock plain bytes put. contained (record { lock = lock; state = Ex }) list (put_listed b lock (done.is.locks b lock plain bytes put)));
+            freed = λ b a gone its.
+                contained (hold_of a Ex) list (goes_listed b a ((done.is.frees b).0 (sym ((finish_makes done.is.fates change done.is.finished).gone b) ∙ gone)) its);
+          }))
