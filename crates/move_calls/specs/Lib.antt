@@ -3,3 +3,7 @@ pub mod Carrying
 pub mod Locks
 pub mod Moved
 pub mod Answering
+-- Passed on to the crates above.
+pub use Rattle.move_ends.specs.Ends as MoveEnds
+pub use Rattle.name_moves.specs.Moving as NameMoving
+pub use Rattle.pair_walks.specs.Walks as PairWalks
