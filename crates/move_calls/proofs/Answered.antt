@@ -27,7 +27,7 @@ use Rattle.image_changes.specs.Does.{AreInside, Does, IsInside, IsOf}
 use Rattle.path_walks.specs.Answers.{HasSpace, IfDone, IfNeedBlock, IfNeedLock, IfNoSpace, IfNotBuilt}
 use Rattle.path_walks.specs.Holds.{holds}
 use Rattle.path_walks.specs.declared.walk.Place.{Place}
-use Rattle.pair_walks.specs.Walks.{IsPairLacked}
+use Rattle.move_ends.specs.PairWalks.{IsPairLacked}
 use Rattle.move_ends.specs.Ends.{AreEnds, IsLackedOnPaths, IsRenaming, IsTarget, MovesIn, first_wants, from_path, second_wants, to_path}
 use Rattle.name_moves.specs.Moving.{CanBeMoved, IsNeededIn, Move, freed_by}
 use Rattle.move_calls.specs.Answering.{IsAnswerAtEnds, IsAnswerOf, IsAnswered, IsFullFor, IsLackedFor, IsNeededFor, IsUnbuilt, the_move}

@@ -21,7 +21,7 @@ use Rattle.image_model.proofs.Held.{none_some, some_same}
 use Rattle.resource_groups.specs.Putting.{HasDataBlock}
 use Rattle.path_walks.specs.Walks.{Names}
 use Rattle.path_walks.specs.declared.walk.Place.{Place}
-use Rattle.removing_calls.proofs.Above.{directory_block, names_it}
+use Rattle.move_ends.proofs.Above.{directory_block, names_it}
 use Rattle.name_moves.specs.Moving.{CanBeMoved, IsPlaceOfMove, IsRead, Move, blocks_or_none, freed_by, is_reparented, is_replacing, is_within}
 use Rattle.move_calls.specs.Checks.{HasSeenThere, IsSeenMove}
 

@@ -49,7 +49,7 @@ use Rattle.path_walks.specs.Walks.{LeadsTo, at_root, by_name}
 use Rattle.path_walks.specs.declared.walk.Place.{Place}
 use Rattle.path_walks.proofs.Images.{child_is_there, is_shown, says_child, says_records, shown_directory, shown_inode, sound_directory}
 use Rattle.path_walks.proofs.Wants.{at_end, before_end, exclusive, leads_held}
-use Rattle.pair_walks.proofs.Paths.{ends_so}
+use Rattle.move_ends.proofs.Paths.{ends_so}
 use Rattle.room_search.specs.Blocks.{group_holds, room_blocks}
 use Rattle.room_search.proofs.InImage.{are_shown, room_blocks_are, said_free}
 use Rattle.move_ends.specs.Ends.{AreEnds, IsElsewhere, IsRenaming, IsTarget, MovesIn, StoodIn, from_path, to_path}

@@ -40,7 +40,7 @@ use Rattle.path_walks.specs.Holds.{Hold, AreHeld, IsAskedFor, IsFirstLack, IsUnd
 use Rattle.path_walks.specs.declared.walk.Place.{Place}
 use Rattle.path_walks.proofs.Asked.{IsAmong}
 use Rattle.path_walks.proofs.Images.{shown_inode, sound_directory}
-use Rattle.pair_walks.proofs.Paths.{ends_so}
+use Rattle.move_ends.proofs.Paths.{ends_so}
 use Rattle.path_walks.proofs.Longer.{asked_before, asked_behind, lack_before, lack_behind}
 use Rattle.resource_groups.specs.Freeing as freeing
 use Rattle.resource_groups.specs.Shown.{IsDataOf, said}

@@ -18,8 +18,8 @@ use Rattle.resource_groups.specs.Putting.{HasDataBlock}
 use Rattle.path_walks.specs.Holds.{AreHeld}
 use Rattle.path_walks.specs.Walks.{IsLastOf, Names}
 use Rattle.path_walks.specs.declared.walk.Place.{Place}
-use Rattle.pair_walks.proofs.Paths.{ends_so}
-use Rattle.removing_calls.proofs.Above.{above_names, inode_inside}
+use Rattle.move_ends.proofs.Paths.{ends_so}
+use Rattle.move_ends.proofs.Above.{above_names, inode_inside}
 use Rattle.move_ends.specs.Ends.{AreEnds, IsFoundIn, IsTarget, IsTold, MovesIn, first_wants, from_path, inode_holds, second_wants, to_path}
 use Rattle.move_ends.specs.declared.ends.Ends.TheVariants as tells
 use Rattle.name_moves.specs.Moving.{Move}

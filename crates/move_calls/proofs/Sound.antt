@@ -30,7 +30,7 @@ use Rattle.hash_dirs.specs.Shown.{index_for}
 use Rattle.resource_groups.specs.Putting.{HasDataBlock}
 use Rattle.path_walks.specs.declared.walk.Place.{Place}
 use Rattle.path_walks.proofs.Images.{has_dots, is_inode, is_shown, own_inside, shown_inode, unbroken, unbroken_directory}
-use Rattle.pair_walks.proofs.Paths.{ends_so}
+use Rattle.move_ends.proofs.Paths.{ends_so}
 use Rattle.room_search.proofs.InImage.{group_sound}
 use Rattle.move_ends.specs.Ends.{AreEnds, MovesIn, StoodIn, from_path, to_path}
 use Rattle.name_inserts.specs.Way.{IsOnWay, its_dinode, its_leaf, its_pointer}

@@ -35,7 +35,7 @@ use Rattle.name_inserts.specs.Inserting.{IsWrongForName}
 use Rattle.name_inserts.specs.Inserting as names
 use Rattle.path_walks.proofs.Images.{is_inode, is_shown, own_inside, shown_inode, sound_directory}
 use Rattle.path_walks.specs.declared.walk.Place.{Place}
-use Rattle.removing_calls.proofs.Found.{its_inside, none_broken}
+use Rattle.move_ends.proofs.RemovedFound.{its_inside, none_broken}
 use Rattle.move_ends.specs.Ends.{AreEnds, MovesIn, from_path, to_path}
 use Rattle.name_moves.specs.Becoming.{IsAfter, LosesAll, LosesName, of_none, of_one}
 use Rattle.name_moves.specs.Moving.{CanBeMoved, IsOneOf, IsWrongIn, Move, is_reparented, lost_there}

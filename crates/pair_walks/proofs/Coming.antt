@@ -10,13 +10,14 @@ use Rattle.dinode_tree.specs.Shown.{IsShown}
 use Rattle.dinode_tree.specs.Walking.{missing_dinode}
 use Rattle.image_model.specs.Flat.{Path}
 use Rattle.path_walks.specs.Holds.{hold_of, holds}
-use Rattle.path_walks.specs.Walks.{IsAbsent, IsDamage, IsHeldAt, IsLacked, IsNext, IsOnTheWay, IsReadAt, IsSeenAt, IsUnread, IsWrongAt, LacksName, LeadsTo, at_root, by_name}
+use Rattle.path_walks.specs.Walks.{IsAbsent, IsDamage, IsHeldAt, IsLacked, IsNext, IsOnTheWay, IsReadAt, IsSeenAt, IsWrongAt, LacksName, LeadsTo, at_root, by_name}
 use Rattle.path_walks.specs.Walks as path
 use Rattle.path_walks.specs.declared.walk.Place.{Place}
 use Rattle.path_walks.proofs.Lists.{parent_of_next, split_at}
 use Rattle.path_walks.proofs.Walking.{IsWantedAt}
 use Rattle.pair_walks.specs.Ahead.{IsAheadOf, IsDamageOfName, IsNeededAhead, in_this, past_groups}
 use Rattle.pair_walks.specs.Turns.{IsDamagedAt, IsPassed}
+use Rattle.pair_walks.specs.Walks.{IsUnreadOf}
 use Rattle.pair_walks.specs.Ways.{IsCome, IsComing, the_root, the_child}
 use Rattle.pair_walks.specs.declared.next.Next.{Next}
 use Rattle.pair_walks.specs.declared.next.Next.TheVariants as next
@@ -105,13 +106,13 @@ module _ (v : Seen) (wants : List Want) (names : Path) where
 
     -- ---- what stands in the way
 
-    pub unread_dinode : v.block_at a ≡ None → IsUnread v wants names (missing_dinode a)
-    unread_dinode absent = IsUnread.a_dinode depth (is_next depth a above coming) held absent refl
+    pub unread_dinode : v.block_at a ≡ None → IsUnreadOf v wants names a (missing_dinode a)
+    unread_dinode absent = IsUnreadOf.a_dinode depth (is_next depth a above coming) held absent refl
 
-    pub unread_ahead : (m : Missing) → HasBlock v a → IsNeededAhead v a names depth m → IsUnread v wants names m
+    pub unread_ahead : (m : Missing) → HasBlock v a → IsNeededAhead v a names depth m → IsUnreadOf v wants names a m
     unread_ahead m there needed =
         let n = needed.0 in
-        IsUnread.in_directory (take depth names) (drop (suc depth) names) a n (split_at names depth n needed.1.0) here there needed.1.2.directory needed.1.2.needed needed.1.2.absent
+        IsUnreadOf.in_directory depth (take depth names) (drop (suc depth) names) n (is_next depth a above coming) (split_at names depth n needed.1.0) here there needed.1.2
 
     wrong_name : (n : List ℕ) (rule b : ℕ) → slice_get names depth ≡ Some n → IsName n → IsDamageOfName v a n rule b → IsDamage v wants names rule b
     wrong_name n rule b at is_name (in_this r c is broken) = IsDamage.on_path depth a r c (is_next depth a above coming) held (IsWrongAt.in_directory r c is broken)

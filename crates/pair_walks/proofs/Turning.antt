@@ -1,5 +1,5 @@
 -- One turn: past the inode that comes next on the first way, on the second, or on both.
-use Rattle.std.proofs.Common.{◌≡◌, inl, inr, ℕ, ◌+◌, true, false, List, [], ◌∷◌, refl, sym, ap, subst, ◌∙◌}
+use Rattle.std.proofs.Common.{◌≡◌, inl, inr, ℕ, ◌+◌, arith, true, false, List, [], ◌∷◌, refl, sym, ap, subst, ◌∙◌}
 use Rattle.file_tree.specs.Names.{leads_to}
 use Rattle.file_tree.specs.Tree.{Tree}
 use Rattle.glock_names.specs.Views.{Seen}
@@ -16,6 +16,7 @@ use Rattle.path_walks.proofs.Walking.{IsWantedAt, held_at}
 use Rattle.pair_walks.specs.Orders.{pair_holds, stronger}
 use Rattle.pair_walks.specs.Turns.{IsBefore, IsDamagedAt, IsHindered, IsNowhere, IsOver, IsPassed, LetsSecond, decides}
 use Rattle.pair_walks.specs.Walks.{IsPairDamage, IsPairLacked, IsPairTold, IsPairUnread, IsPairWalked}
+use Rattle.pair_walks.specs.Walks as walks
 use Rattle.pair_walks.specs.Ways.{AreAlong, AreOnTheirWays, IsCome, IsComeIn, IsComing, IsLeft, IsOnWay, left_of}
 use Rattle.pair_walks.specs.declared.next.Next.{Next}
 use Rattle.pair_walks.specs.declared.next.Next.TheVariants as next
@@ -43,6 +44,25 @@ module _ (v : Seen) (p q : Path) (first second : List Want) (i j : ℕ) (m n : N
 
   coming_second : (a above : ℕ) → n ≡ next.Inode a above → IsComing v second q j a above
   coming_second a above is = subst (IsCome v second q j) is on.on_second.come
+
+  -- ---- which way lets the other go on
+
+  lets_first : (a : ℕ) → IsBefore a n → walks.LetsFirst v q second a
+  lets_first a = by n on.on_second.come
+    where
+      by : (x : Next) → IsCome v second q j x → IsBefore a x → walks.LetsFirst v q second a
+      by (next.Inode c up) come before = walks.LetsFirst.not_yet j c (is_next v second q j c up come) (omega (arith, before))
+      by (next.Ended e) come before = walks.LetsFirst.ended e come
+
+  lets_second : (a : ℕ) → LetsSecond a (leads_to p q) m → walks.LetsSecond v p q first a
+  lets_second a = by m on.on_first.come
+    where
+      by : (x : Next) → IsCome v first p i x → LetsSecond a (leads_to p q) x → walks.LetsSecond v p q first a
+      by (next.Inode c up) come lets = walks.LetsSecond.not_yet i c (is_next v first p i c up come) (omega (arith, lets))
+      by (next.Ended (end.At r)) come lets = walks.LetsSecond.at_end r come lets
+      by (next.Ended (end.Lacks r)) come lets = absurd lets
+      by (next.Ended end.NotFound) come lets = absurd lets
+      by (next.Ended end.NotDir) come lets = absurd lets
 
   -- ---- over
 
@@ -105,17 +125,19 @@ module _ (v : Seen) (p q : Path) (first second : List Want) (i j : ℕ) (m n : N
     pub first_damaged : (rule b : ℕ) → IsDamagedAt v p i a s rule b → IsPairDamage v p q first second rule b
     first_damaged rule b hurt = inl (damaged v first p i a above (coming_first a above is) (held_at v first i a s wanted hurt.0) s rule b hurt)
 
-    pub first_told : (w : PairWalk) → IsHindered v p i a s w → IsPairTold v p q first second w
-    first_told (pair.NeedLock lock x) (same, same', lacks) =
+    pub first_told : IsBefore a n → (w : PairWalk) → IsHindered v p i a s w → IsPairTold v p q first second w
+    first_told before (pair.NeedLock lock x) (same, same', lacks) =
         subst (λ k. IsPairLacked v p q first second k x) same (subst (IsPairLacked v p q first second (record { kind = 2; number = a })) same'
         (IsPairLacked.on_first (record { kind = 2; number = a }) s (lacked v first p i a above (coming_first a above is) s wanted lacks)))
-    first_told (pair.NeedBlock x) (held, inl dinode) =
-        subst (IsPairUnread v p q first second) (sym dinode.0) (inl (unread_dinode v first p i a above (coming_first a above is) (held_at v first i a s wanted held) dinode.1))
-    first_told (pair.NeedBlock x) (held, inr ahead) = inl (unread_ahead v first p i a above (coming_first a above is) (held_at v first i a s wanted held) x ahead.0 ahead.1)
-    first_told pair.NotFound none = absurd none
-    first_told pair.NotDir none = absurd none
-    first_told (pair.Within from) none = absurd none
-    first_told (pair.Apart from to) none = absurd none
+    first_told before (pair.NeedBlock x) (held, inl dinode) =
+        subst (IsPairUnread v p q first second) (sym dinode.0)
+        (IsPairUnread.on_first a (unread_dinode v first p i a above (coming_first a above is) (held_at v first i a s wanted held) dinode.1) (lets_first a before))
+    first_told before (pair.NeedBlock x) (held, inr ahead) =
+        IsPairUnread.on_first a (unread_ahead v first p i a above (coming_first a above is) (held_at v first i a s wanted held) x ahead.0 ahead.1) (lets_first a before)
+    first_told before pair.NotFound none = absurd none
+    first_told before pair.NotDir none = absurd none
+    first_told before (pair.Within from) none = absurd none
+    first_told before (pair.Apart from to) none = absurd none
 
     pub first_walked : IsBefore a n → (w : PairWalk) → IsHindered v p i a s w → (im : Image) (o : Owners) (l : Layout) (t : Tree) → IsOf v im o l t → IsPairWalked v im o l t p q first second w
     first_walked before w hindered im o l t of =
@@ -139,17 +161,19 @@ module _ (v : Seen) (p q : Path) (first second : List Want) (i j : ℕ) (m n : N
     pub second_damaged : (rule b : ℕ) → IsDamagedAt v q j a s rule b → IsPairDamage v p q first second rule b
     second_damaged rule b hurt = inr (damaged v second q j a above (coming_second a above is) (held_at v second j a s wanted hurt.0) s rule b hurt)
 
-    pub second_told : (w : PairWalk) → IsHindered v q j a s w → IsPairTold v p q first second w
-    second_told (pair.NeedLock lock x) (same, same', lacks) =
+    pub second_told : LetsSecond a (leads_to p q) m → (w : PairWalk) → IsHindered v q j a s w → IsPairTold v p q first second w
+    second_told lets (pair.NeedLock lock x) (same, same', lacks) =
         subst (λ k. IsPairLacked v p q first second k x) same (subst (IsPairLacked v p q first second (record { kind = 2; number = a })) same'
         (IsPairLacked.on_second (record { kind = 2; number = a }) s (lacked v second q j a above (coming_second a above is) s wanted lacks)))
-    second_told (pair.NeedBlock x) (held, inl dinode) =
-        subst (IsPairUnread v p q first second) (sym dinode.0) (inr (unread_dinode v second q j a above (coming_second a above is) (held_at v second j a s wanted held) dinode.1))
-    second_told (pair.NeedBlock x) (held, inr ahead) = inr (unread_ahead v second q j a above (coming_second a above is) (held_at v second j a s wanted held) x ahead.0 ahead.1)
-    second_told pair.NotFound none = absurd none
-    second_told pair.NotDir none = absurd none
-    second_told (pair.Within from) none = absurd none
-    second_told (pair.Apart from to) none = absurd none
+    second_told lets (pair.NeedBlock x) (held, inl dinode) =
+        subst (IsPairUnread v p q first second) (sym dinode.0)
+        (IsPairUnread.on_second a (unread_dinode v second q j a above (coming_second a above is) (held_at v second j a s wanted held) dinode.1) (lets_second a lets))
+    second_told lets (pair.NeedBlock x) (held, inr ahead) =
+        IsPairUnread.on_second a (unread_ahead v second q j a above (coming_second a above is) (held_at v second j a s wanted held) x ahead.0 ahead.1) (lets_second a lets)
+    second_told lets pair.NotFound none = absurd none
+    second_told lets pair.NotDir none = absurd none
+    second_told lets (pair.Within from) none = absurd none
+    second_told lets (pair.Apart from to) none = absurd none
 
     pub second_walked : LetsSecond a (leads_to p q) m → (w : PairWalk) → IsHindered v q j a s w → (im : Image) (o : Owners) (l : Layout) (t : Tree) → IsOf v im o l t → IsPairWalked v im o l t p q first second w
     second_walked lets w hindered im o l t of =
@@ -189,12 +213,18 @@ module _ (v : Seen) (p q : Path) (first second : List Want) (i j : ℕ) (m n : N
         (IsPairLacked.on_both i j a wanted.want wanted'.want (is_next v first p i a above (coming_first a above is)) (is_next v second q j a beside (coming_second a beside is')) wanted.at wanted'.at
         (ap (λ x. holds v (hold_of a (stronger x wanted'.want.state))) wanted.is ∙ ap (λ y. holds v (hold_of a (stronger r y))) wanted'.is ∙ lacks)))
 
+    beside_first : walks.LetsFirst v q second a
+    beside_first = walks.LetsFirst.not_yet j a (is_next v second q j a beside (coming_second a beside is')) (omega arith)
+
+    beside_second : walks.LetsSecond v p q first a
+    beside_second = walks.LetsSecond.not_yet i a (is_next v first p i a above (coming_first a above is)) (omega arith)
+
     pub both_told : (w : PairWalk) → IsHindered v p i a (stronger r s) w → IsPairTold v p q first second w
     both_told (pair.NeedLock lock x) (same, same', lacks) =
         subst (λ k. IsPairLacked v p q first second k x) same (subst (IsPairLacked v p q first second (record { kind = 2; number = a })) same' (lacked_on_both lacks))
     both_told (pair.NeedBlock x) (held, inl dinode) =
-        subst (IsPairUnread v p q first second) (sym dinode.0) (inl (unread_dinode v first p i a above (coming_first a above is) (first_held held) dinode.1))
-    both_told (pair.NeedBlock x) (held, inr ahead) = inl (unread_ahead v first p i a above (coming_first a above is) (first_held held) x ahead.0 ahead.1)
+        subst (IsPairUnread v p q first second) (sym dinode.0) (IsPairUnread.on_first a (unread_dinode v first p i a above (coming_first a above is) (first_held held) dinode.1) beside_first)
+    both_told (pair.NeedBlock x) (held, inr ahead) = IsPairUnread.on_first a (unread_ahead v first p i a above (coming_first a above is) (first_held held) x ahead.0 ahead.1) beside_first
     both_told pair.NotFound none = absurd none
     both_told pair.NotDir none = absurd none
     both_told (pair.Within from) none = absurd none
@@ -204,8 +234,8 @@ module _ (v : Seen) (p q : Path) (first second : List Want) (i j : ℕ) (m n : N
     both_told_beside (pair.NeedLock lock x) (same, same', lacks) =
         subst (λ k. IsPairLacked v p q first second k x) same (subst (IsPairLacked v p q first second (record { kind = 2; number = a })) same' (lacked_on_both lacks))
     both_told_beside (pair.NeedBlock x) (held, inl dinode) =
-        subst (IsPairUnread v p q first second) (sym dinode.0) (inr (unread_dinode v second q j a beside (coming_second a beside is') (second_held held) dinode.1))
-    both_told_beside (pair.NeedBlock x) (held, inr ahead) = inr (unread_ahead v second q j a beside (coming_second a beside is') (second_held held) x ahead.0 ahead.1)
+        subst (IsPairUnread v p q first second) (sym dinode.0) (IsPairUnread.on_second a (unread_dinode v second q j a beside (coming_second a beside is') (second_held held) dinode.1) beside_second)
+    both_told_beside (pair.NeedBlock x) (held, inr ahead) = IsPairUnread.on_second a (unread_ahead v second q j a beside (coming_second a beside is') (second_held held) x ahead.0 ahead.1) beside_second
     both_told_beside pair.NotFound none = absurd none
     both_told_beside pair.NotDir none = absurd none
     both_told_beside (pair.Within from) none = absurd none

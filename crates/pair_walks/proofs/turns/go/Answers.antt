@@ -56,7 +56,7 @@ returns-in-First-clause-told g c =
     let n = c.args.two.now.next in
     let on = c.requires.underway in
     let wanted = wanted_next v ws p i c.in-First.block c.in-First.above m on.on_first c.in-First.ensures.0 c.state_of-state.result c.state_of-state.ensures in
-    some_so _ (IsPairTold v p q ws xs) c.go_past.result (first_told v p q ws xs i j m n on c.in-First.block c.in-First.above c.state_of-state.result c.in-First.ensures.0 wanted) c.go_past.ensures.hindered
+    some_so _ (IsPairTold v p q ws xs) c.go_past.result (first_told v p q ws xs i j m n on c.in-First.block c.in-First.above c.state_of-state.result c.in-First.ensures.0 wanted c.in-First.ensures.1) c.go_past.ensures.hindered
 
 pub returns-in-First-clause-walked : goal.returns-in-First-clause-walked
 returns-in-First-clause-walked g c im o l t of =
@@ -152,7 +152,8 @@ returns-in-Second-clause-told g c =
     let n = c.args.two.now.next in
     let on = c.requires.underway in
     let wanted = wanted_next v xs q j c.in-Second.block c.in-Second.above n on.on_second c.in-Second.ensures.0 c.state_of-state-in-Second.result c.state_of-state-in-Second.ensures in
-    some_so _ (IsPairTold v p q ws xs) c.go_past-in-Second.result (second_told v p q ws xs i j m n on c.in-Second.block c.in-Second.above c.state_of-state-in-Second.result c.in-Second.ensures.0 wanted) c.go_past-in-Second.ensures.hindered
+    let lets = subst (λ b. LetsSecond c.in-Second.block b m) c.requires.ends c.in-Second.ensures.1 in
+    some_so _ (IsPairTold v p q ws xs) c.go_past-in-Second.result (second_told v p q ws xs i j m n on c.in-Second.block c.in-Second.above c.state_of-state-in-Second.result c.in-Second.ensures.0 wanted lets) c.go_past-in-Second.ensures.hindered
 
 pub returns-in-Second-clause-walked : goal.returns-in-Second-clause-walked
 returns-in-Second-clause-walked g c im o l t of =
