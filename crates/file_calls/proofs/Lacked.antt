@@ -50,7 +50,7 @@ write_lacks v call node lock state (writing.of_freed a size time freed fates cha
 pair_lacks : (v : Seen) (p q : Path) (first second : List Want) (lock : LockName) (state : State) → IsPairLacked v p q first second lock state → IsNotHeld v lock state
 pair_lacks v p q first second _ _ (pairs.on_first lock state is) = walk_lacks v first p lock state is
 pair_lacks v p q first second _ _ (pairs.on_second lock state is) = walk_lacks v second q lock state is
-pair_lacks v p q first second _ _ (pairs.on_both i j a w x one other is as lacks) = lacks
+pair_lacks v p q first second _ _ (pairs.on_both i j a w x one other is also lacks) = lacks
 
 move_lacks : (v : Seen) (call : Call) (node : ℕ) (lock : LockName) (state : State) → moving.IsLackedFor v call node lock state → IsNotHeld v lock state
 move_lacks v call node lock state (moving.on_paths (ends.of_order some other is exclusive lacks)) =

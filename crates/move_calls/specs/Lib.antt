@@ -6,4 +6,4 @@ pub mod Answering
 -- Passed on to the crates above.
 pub use Rattle.move_ends.specs.Ends as MoveEnds
 pub use Rattle.name_moves.specs.Moving as NameMoving
-pub use Rattle.pair_walks.specs.Walks as PairWalks
+pub use Rattle.move_ends.specs.PairWalks
