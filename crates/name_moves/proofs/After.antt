@@ -20,7 +20,7 @@ use Rattle.directories.proofs.Sound.{says_sound}
 use Rattle.path_walks.proofs.Faults.{tells_each, tells_so}
 use Rattle.path_walks.proofs.Images.{no_record}
 use Rattle.name_inserts.specs.Inserting.{IsNeededForName, IsWrongForName}
-use Rattle.name_moves.specs.Becoming.{IsAfter, of_none}
+use Rattle.name_moves.specs.Becoming.{IsAfter, of_none, of_sound}
 use Rattle.name_moves.specs.Steps.{AreLost, left_of}
 use Rattle.name_moves.proofs.Loses.{all_directory, all_sound, named_sound, only_one, still_named}
 use Rattle.name_moves.proofs.Lost.{able_then, are_lost}
@@ -65,7 +65,7 @@ module _ {V : Type 0} (seen : V → Seen) (old : Drafted V) (dir : ℕ) (gone na
   pub second_there : name ≢ gone → HasNameIn (seen old.view) dir name → (h : Holding) → IsShown (seen old.view) dir h → IsSound h → ((k : Holding) → IsShown (seen_in seen old) dir k → Says k name None) → ⊥
   second_there other named h shown sound nowhere =
       let k = left_of (seen old.view) old.fates h in
-      let one = lost_one.each h shown sound in
+      let one = lost_one.each h shown (of_sound sound) in
       let e = named h shown in
       let r = named_sound h name e.0 sound e.1 in
       still_named h k gone name r.0 (only_one gone h k one.lost) other r.1
@@ -73,12 +73,12 @@ module _ {V : Type 0} (seen : V → Seen) (old : Drafted V) (dir : ℕ) (gone na
 
   module _ (new : Drafted V) (leaf : ℕ) (without : IsWithoutName (seen_in seen old) (seen_in seen new) dir name leaf) (two : PutsTwo seen old new dir leaf) (named : HasNameIn (seen_in seen old) dir name) where
     pub second_lost : AreLost (seen old.view) dir (gone ∷ name ∷ []) new.fates
-    second_lost = are_lost seen old new dir (gone ∷ []) name leaf lost_one without two named (λ h sound. sound)
+    second_lost = are_lost seen old new dir (gone ∷ []) name leaf lost_one without two named
 
     pub second_able : (h : Holding) → IsShown (seen old.view) dir h → IsSound h → IsDirectoryIn (seen_in seen old) dir
         → ((seen_in seen new).block_at dir ≡ Some two.bytes) × (HasHeader 4 400 two.bytes × (is_directory (dinode_of two.bytes) ≡ true))
     second_able h shown sound directory =
-        let one = lost_one.each h shown sound in
+        let one = lost_one.each h shown (of_sound sound) in
         let k = left_of (seen old.view) old.fates h in
         able_then seen old new dir (gone ∷ []) name leaf lost_one without two named h shown sound one
         (sym (all_directory (gone ∷ []) h k one.lost) ∙ is_directory_here (seen_in seen old) dir k directory two.there one.shown.inode)

@@ -12,7 +12,7 @@ ghost use Rattle.hash_dirs.specs.Shown.{IsSound};
 ghost use Rattle.directories.specs.Shown.{IsBroken, IsDirectoryIn, IsNeededFor, IsShown};
 ghost use Rattle.directories.specs.Taking.{HasNameIn};
 ghost use Rattle.name_moves.specs.Becoming.{IsAfter};
-ghost use Rattle.name_moves.specs.Moving.{CanBeMoved, IsNeededIn, IsWrongIn, lost_there, move_of};
+ghost use Rattle.name_moves.specs.Moving.{CanBeMoved, IsAskedUnder, IsNeededThere, IsWrongThere, lost_there, move_of};
 ghost use Rattle.name_moves.specs.Steps.{AreLost};
 
 use crate::drafting::NameMove;
@@ -51,6 +51,7 @@ fn lose_one<V: View>(
     name: &[u8],
 ) -> Result<Step<bool>, CallFault>
     requires new { draft.old.fates ≡ empty }
+    requires there { HasBlock (V.seen draft.old.view) dir }
     requires directory { IsDirectoryIn (V.seen draft.old.view) dir }
     requires named { HasNameIn (V.seen draft.old.view) dir name.now }
     ensures lost { IfIs result (λ done. AreLost (V.seen draft.old.view) dir (name.now ∷ []) draft.new.fates) }
@@ -58,7 +59,7 @@ fn lose_one<V: View>(
     ensures able { (h : Holding) → IsShown (V.seen draft.old.view) dir h → IsSound h → IfIs result (λ done. done ≡ true) }
     ensures view { IfIs result (λ done. draft.new.view ≡ draft.old.view) }
     ensures needed { IfNeedBlock result (λ missing. IsAfter (V.seen draft.old.view) dir [] (λ k. IsNeededFor (V.seen draft.old.view) k name.now missing)) }
-    ensures absent { IfNeedBlock result (λ missing. (V.seen draft.old.view).block_at missing.block ≡ None) }
+    ensures under { IfNeedBlock result (IsAskedUnder (V.seen draft.old.view) dir) }
     ensures damaged { IfDamaged result (λ rule block. IsAfter (V.seen draft.old.view) dir [] (λ k. IsBroken (V.seen draft.old.view) k rule block)) }
     ensures kept { IfDamaged result (IsOfView (V.seen draft.old.view)) }
 {
@@ -77,6 +78,7 @@ fn lose_another<V: View>(
     name: &[u8],
 ) -> Result<Step<bool>, CallFault>
     requires lost { AreLost (V.seen draft.old.view) dir (gone.now ∷ []) draft.old.fates }
+    requires there { HasBlock (V.seen draft.old.view) dir }
     requires still { IsDirectoryIn (seen_in V.seen draft.old) dir }
     requires named { HasNameIn (V.seen draft.old.view) dir name.now }
     requires other { name.now ≢ gone.now }
@@ -85,7 +87,7 @@ fn lose_another<V: View>(
     ensures able { (h : Holding) → IsShown (V.seen draft.old.view) dir h → IsSound h → IfIs result (λ done. done ≡ true) }
     ensures view { IfIs result (λ done. draft.new.view ≡ draft.old.view) }
     ensures needed { IfNeedBlock result (λ missing. IsAfter (V.seen draft.old.view) dir (gone.now ∷ []) (λ k. IsNeededFor (V.seen draft.old.view) k name.now missing)) }
-    ensures absent { IfNeedBlock result (λ missing. (V.seen draft.old.view).block_at missing.block ≡ None) }
+    ensures under { IfNeedBlock result (IsAskedUnder (V.seen draft.old.view) dir) }
     ensures damaged { IfDamaged result (λ rule block. IsAfter (V.seen draft.old.view) dir (gone.now ∷ []) (λ k. IsBroken (V.seen draft.old.view) k rule block)) }
     ensures kept { IfDamaged result (IsOfView (V.seen draft.old.view)) }
 {
@@ -113,9 +115,8 @@ pub(crate) fn lose_names<V: View>(
     ensures still { IfIs result (λ done. done ≡ true → IsDirectoryIn (seen_in V.seen draft.new) m.now.to.inode) }
     ensures able { (h : Holding) → IsShown (V.seen draft.old.view) m.now.to.inode h → IsSound h → IfIs result (λ done. done ≡ true) }
     ensures view { IfIs result (λ done. draft.new.view ≡ draft.old.view) }
-    ensures needed { (blocks : List ℕ) → IfNeedBlock result (IsNeededIn (V.seen draft.old.view) (move_of m.now) blocks) }
-    ensures absent { IfNeedBlock result (λ missing. (V.seen draft.old.view).block_at missing.block ≡ None) }
-    ensures damaged { (blocks : List ℕ) → IfDamaged result (IsWrongIn (V.seen draft.old.view) (move_of m.now) blocks) }
+    ensures needed { IfNeedBlock result (IsNeededThere (V.seen draft.old.view) (move_of m.now)) }
+    ensures damaged { IfDamaged result (IsWrongThere (V.seen draft.old.view) (move_of m.now)) }
     ensures kept { IfDamaged result (IsOfView (V.seen draft.old.view)) }
 {
     let to = m.to.inode;
