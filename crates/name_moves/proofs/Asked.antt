@@ -1,21 +1,20 @@
 -- In an image that stands for a tree: what a move asks for is a block of one of its directories, under that directory's lock.
-use Rattle.std.proofs.Common.{◌≡◌, ◌&&◌, ◌==◌, ℕ, Bool, true, false, List, [], ◌∷◌, None, Some, inl, refl, sym, ap, ◌∙◌}
+use Rattle.std.proofs.Common.{◌≡◌, ℕ, true, false, List, [], ◌∷◌, Some, inl, sym, ap, ◌∙◌}
 use Rattle.file_tree.specs.Tree.{Tree}
 use Rattle.gfs2_layout.specs.Holding.{Holding, Part, part_at}
-use Rattle.gfs2_layout.specs.Inode.{dinode_in, first_hash, is_directory_in, is_hashed_in}
+use Rattle.gfs2_layout.specs.Inode.{first_hash, is_hashed_in}
 use Rattle.glock_names.specs.Views.{Seen}
 use Rattle.glock_names.specs.declared.steps.Missing.{Missing}
-use Rattle.dinode_tree.specs.Reading.{IsNeeded, IsOnWay, inode_lock, led_to, the_dinode}
-use Rattle.dinode_tree.specs.Walking.{missing_dinode}
+use Rattle.dinode_tree.specs.Reading.{IsNeeded, IsOnWay, led_to, the_dinode}
 use Rattle.dinode_tree.proofs.Sound.{part_of_led}
 use Rattle.image_model.specs.Flat.{Path}
 use Rattle.image_model.specs.Image.{Image}
-use Rattle.image_model.specs.Owners.{Owner, Owners, holding}
+use Rattle.image_model.specs.Owners.{Owners, holding}
 use Rattle.image_model.specs.Stands.{Layout}
 use Rattle.image_model.proofs.Held.{chained_owner, pointed_owner}
 use Rattle.image_changes.specs.Changes.{cover, inode_of, is_free}
 use Rattle.image_changes.specs.Changes as changes
-use Rattle.image_changes.specs.Does.{IsOf, is_content_of}
+use Rattle.image_changes.specs.Does.{IsOf}
 use Rattle.image_changes.specs.Flats.{in_directory}
 use Rattle.image_changes.specs.Instances.{IsAt, dinode_at, is_directory_at}
 use Rattle.image_changes.proofs.Drafting.{own_locks}

@@ -34,7 +34,7 @@ use Rattle.directories.specs.Taking.{HasRecordOf, IsWithoutName}
 use Rattle.directories.specs.Taking as taking
 use Rattle.directories.proofs.Sound.{says_sound}
 use Rattle.path_walks.proofs.Images.{none_named}
-use Rattle.name_moves.specs.Becoming.{CanTell, HasItsBlocks, IsAtRecord, IsLostAt, LosesAll, LosesName, of_none, of_one, of_sound}
+use Rattle.name_moves.specs.Becoming.{CanTell, HasItsBlocks, IsAtRecord, IsLostAt, LosesAll, LosesName, none_went, of_linear, of_none, of_one, of_sound}
 
 -- ---- what a draft leaves of what is shown
 
@@ -147,6 +147,18 @@ lost_one_at name h b is = by is.before is.name is.later is.parts is.without is.l
 
 -- ---- names that a sound directory can lose
 
+-- what is told once some names went is told whatever their names are
+pub tell_as : (name : List ℕ) (names others : List (List ℕ)) (h : Holding) → CanTell (name ∷ names) h → CanTell others h
+tell_as name names others h (none_went none) = absurd (no none)
+  where
+    no : name ∷ names ≡ [] → ⊥
+    no e = cc
+tell_as name names others h (of_sound sound) = of_sound sound
+tell_as name names others h (of_linear plain flat) = of_linear plain flat
+
+pub none_left : (h k : Holding) → LosesAll [] h k → k ≡ h
+none_left h _ (of_none _) = refl
+
 pub can_tell : (names : List (List ℕ)) (h : Holding) → IsSound h → CanTell names h
 can_tell names h sound = of_sound sound
 
@@ -191,13 +203,16 @@ all_plain _ _ _ (of_one name names h k g first later) plain =
     let rest = all_plain names k g later one.0 in
     (rest.0, rest.1 ∙ one.1)
 
-plain_says : (h : Holding) (name : List ℕ) (found : Option Entry) → is_hashed_in h ≡ false → Says h name found → found ≡ mapped entry_of (record_named (records_of h) name)
+pub plain_says : (h : Holding) (name : List ℕ) (found : Option Entry) → is_hashed_in h ≡ false → Says h name found → found ≡ mapped entry_of (record_named (records_of h) name)
 plain_says h name _ plain (dirs.Says.in_linear so) = refl
 plain_says h name found plain (dirs.Says.in_hashed _ hashed fits leads) = absurd (true≢false (sym hashed ∙ plain))
 
+pub named_plain : (h : Holding) (name : List ℕ) (e : Entry) → is_hashed_in h ≡ false → Says h name (Some e) → (r : Record) × (record_named (records_of h) name ≡ Some r)
+named_plain h name e plain says = record_of_entry (record_named (records_of h) name) e (plain_says h name (Some e) plain says)
+
 pub loses_plain : (v w : Seen) (dir : ℕ) (name : List ℕ) (leaf : ℕ) → IsWithoutName v w dir name leaf → (h : Holding) → IsShown v dir h → is_hashed_in h ≡ false → (e : Entry) → Says h name (Some e) → LosesName h (holding_over w h) name
 loses_plain v w dir name leaf without h shown plain e says =
-    let r = record_of_entry (record_named (records_of h) name) e (plain_says h name (Some e) plain says) in
+    let r = named_plain h name e plain says in
     record {
       gone = r.0;
       named = r.1;

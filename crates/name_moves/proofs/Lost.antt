@@ -1,5 +1,5 @@
 -- One name more that goes from a directory, in a draft in which others went.
-use Rattle.std.proofs.Common.{◌≡◌, ◌≢◌, ◌⊎◌, inl, inr, ℕ, true, false, List, [], ◌∷◌, ◌++◌, length, None, Some, refl, sym, ap, ◌∙◌, subst, subst₂, arith, length-append}
+use Rattle.std.proofs.Common.{◌≡◌, ◌≢◌, ◌⊎◌, inl, inr, ℕ, true, false, List, [], ◌∷◌, ◌++◌, length, None, Some, sym, ap, ◌∙◌, subst, subst₂, arith, length-append}
 use Rattle.std.proofs.lemmas.Bool.{cases_eq}
 use Rattle.std.specs.Prelude.{IsSome}
 use Rattle.std.specs.Ordering.{nat_cmp}
@@ -8,7 +8,8 @@ use Rattle.drafts.specs.Fates.{Drafted, seen_in, seen_with}
 use Rattle.gfs2_layout.specs.Headers.{HasHeader}
 use Rattle.gfs2_layout.specs.Holding.{Holding}
 use Rattle.gfs2_layout.specs.Inode.{IsInode, height_in, is_directory_in, is_hashed_in}
-use Rattle.gfs2_layout.specs.Structures.{dinode_of, is_directory}
+use Rattle.gfs2_layout.specs.Structures.{dinode_length, dinode_of, header_fault, is_directory}
+use Rattle.gfs2_layout.proofs.HeaderLaws.{answer_ok, header_from}
 use Rattle.glock_names.specs.Views.{Seen, HasBlock}
 use Rattle.dinode_tree.specs.Reading.{inode_lock}
 use Rattle.dinode_tree.specs.Shown as inode
@@ -154,15 +155,6 @@ module _ {V : Type 0} (seen : V → Seen) (old new : Drafted V) (dir : ℕ) (nam
     each_now = lost_now h shown before one (leaf_there w dir (left_of v old.fates h) name leaf before.shown k_sound (without.from (left_of v old.fates h) before.shown))
         (shown_over u h dir shown.inode.own (sound_lost (left_of v old.fates h) (left_of v new.fates h) name one k_sound) shown.inode.size)
 
-    -- its dinode is there then
-    pub able_then : is_directory_in h ≡ true → ((seen_in seen new).block_at dir ≡ Some two.bytes) × (HasHeader 4 400 two.bytes × (is_directory (dinode_of two.bytes) ≡ true))
-    able_then was =
-        let there : u.block_at dir ≡ Some two.bytes = put_seen v new.fates dir (inode_lock dir) false two.bytes two.put in
-        let is : is_directory_in (left_of v new.fates h) ≡ true = all_directory (names ++ name ∷ []) h (left_of v new.fates h) each_now.lost ∙ was in (
-          ap (λ (x : Seen). x.block_at dir) new_is ∙ there,
-          headed_directory u dir (left_of v new.fates h) each_now.shown.inode (all_sound (names ++ name ∷ []) h (left_of v new.fates h) each_now.lost sound).inode is two.bytes there,
-        )
-
   pub are_lost : AreLost v dir (names ++ name ∷ []) new.fates
   are_lost = record { puts = puts_now; sees = sees_now; each = each_told }
     where
@@ -170,6 +162,19 @@ module _ {V : Type 0} (seen : V → Seen) (old new : Drafted V) (dir : ℕ) (nam
       each_told h shown (none_went none) = absurd (omega (arith, ap length none, length-append names (name ∷ [])))
       each_told h shown (of_sound sound) = each_now h shown sound (lost.each h shown (of_sound sound))
       each_told h shown (of_linear plain flat) = plain_now h shown (lost.each h shown (of_linear plain flat)) plain flat
+
+  -- its dinode is there then, where it is told what it is
+  pub able_then : (h : Holding) → IsShown v dir h → CanTell (names ++ name ∷ []) h → is_directory_in h ≡ true
+      → ((seen_in seen new).block_at dir ≡ Some two.bytes) × (HasHeader 4 400 two.bytes × (is_directory (dinode_of two.bytes) ≡ true))
+  able_then h shown told was =
+      let left = left_of v new.fates h in
+      let one = are_lost.each h shown told in
+      let there : u.block_at dir ≡ Some two.bytes = put_seen v new.fates dir (inode_lock dir) false two.bytes two.put in
+      let is : is_directory_in left ≡ true = all_directory (names ++ name ∷ []) h left one.lost ∙ was in
+      let read = answer_ok (header_fault dinode_length 4 400 two.bytes) (dinode_of two.bytes) two.dinode two.read in (
+        ap (λ (x : Seen). x.block_at dir) new_is ∙ there,
+        (header_from dinode_length 4 400 two.bytes read.0, ap is_directory (sym (dinode_here u dir left two.bytes one.shown.inode there)) ∙ is),
+      )
 
 -- ---- the first name that goes
 
@@ -184,8 +189,8 @@ module _ {V : Type 0} (seen : V → Seen) (old new : Drafted V) (dir : ℕ) (nam
   pub first_lost : AreLost (seen old.view) dir (name ∷ []) new.fates
   first_lost = are_lost seen old new dir [] name leaf none_before without two named_old
 
-  -- where it is sound it has its dinode then
-  pub first_able : (h : Holding) → IsShown (seen old.view) dir h → IsSound h → IsDirectoryIn (seen old.view) dir
+  -- it has its dinode then
+  pub first_able : (h : Holding) → IsShown (seen old.view) dir h → CanTell (name ∷ []) h → IsDirectoryIn (seen old.view) dir
       → ((seen_in seen new).block_at dir ≡ Some two.bytes) × (HasHeader 4 400 two.bytes × (is_directory (dinode_of two.bytes) ≡ true))
-  first_able h shown sound directory = able_then seen old new dir [] name leaf none_before without two named_old h shown sound (none_before.each h shown (none_went refl))
+  first_able h shown told directory = able_then seen old new dir [] name leaf none_before without two named_old h shown told
       (is_directory_here (seen old.view) dir h directory (none_before.sees dir two.there) shown.inode)

@@ -429,6 +429,7 @@ moving_is v m old room time taken change is shows can rooms away old_is = record
   locks = locks v m old room time taken change is shows can.inside rooms;
   journaled = journaled v m old room time taken change is shows can.inside rooms;
   frees = frees v m old room time taken change is shows can.inside rooms;
+  gone = λ b goes. ap (λ f. is_some (block_with f None)) (is.said.gone b goes);
   puts = puts_target v m old room time taken change is shows can.inside rooms (λ goes. (can.others m.to.inode goes).1 refl);
   inside = insides v m old room time taken change is shows can.inside rooms;
   says = is.said.says;

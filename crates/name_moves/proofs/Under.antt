@@ -2,9 +2,7 @@
 use Rattle.std.proofs.Common.{◌≡◌, ◌==◌, ◌&&◌, ℕ, Bool, true, false, List, None, refl, ap, ◌∙◌}
 use Rattle.gfs2_layout.specs.Holding.{Holding}
 use Rattle.gfs2_layout.specs.Inode.{dinode_in, is_directory_in}
-use Rattle.gfs2_layout.specs.Structures.{is_regular}
 use Rattle.glock_names.specs.Views.{Seen, HasBlock, IsView}
-use Rattle.glock_names.specs.declared.LockName.{LockName}
 use Rattle.glock_names.specs.declared.steps.Missing.{Missing}
 use Rattle.dinode_tree.specs.Reading.{IsNeeded, IsOnWay, inode_lock, led_to, the_dinode}
 use Rattle.dinode_tree.specs.Walking.{missing_dinode}

@@ -1,7 +1,7 @@
 -- What stands in the way of a move, by what is told of one directory of it.
-use Rattle.std.proofs.Common.{◌≡◌, ◌&&◌, ℕ, Bool, true, false, true≢false, List, [], ◌∷◌, Option, None, Some, Result, Ok, Err, refl, sym, ap, ap₂, subst, subst₂}
+use Rattle.std.proofs.Common.{◌≡◌, ◌&&◌, ℕ, Bool, true, false, true≢false, List, [], ◌∷◌, Option, None, Some, Result, Ok, Err, refl, sym, ap, ap₂, subst}
 use Rattle.std.proofs.lemmas.Bool.{ne_eqb}
-use Rattle.std.specs.Prelude.{codes, is_some, not, option_map}
+use Rattle.std.specs.Prelude.{codes, if◌then◌else◌, is_some, not, option_map}
 use Rattle.gfs2_layout.specs.Holding.{Holding}
 use Rattle.gfs2_layout.specs.Structures.{is_directory}
 use Rattle.glock_names.specs.Steps.{IfNeedBlock, TellsOf}
@@ -82,6 +82,12 @@ some_copied f (Some x) = refl
 
 pub no_losses : (m : Move) → is_replacing m ≡ false → is_within m ≡ false → lost_there m ≡ []
 no_losses m replaces within = ap₂ (λ r w. losses r w m.name m.new_name) replaces within
+
+pub one_loss : (m : Move) → is_replacing m ≡ false → is_within m ≡ true → lost_there m ≡ m.name ∷ []
+one_loss m replaces within = ap₂ (λ r w. losses r w m.name m.new_name) replaces within
+
+pub first_loss : (m : Move) → is_replacing m ≡ true → lost_there m ≡ m.new_name ∷ (if is_within m then m.name ∷ [] else [])
+first_loss m replaces = ap (λ r. losses r (is_within m) m.name m.new_name) replaces
 
 -- a directory that moves to another one gets another parent
 pub reparents : (m : Move) → is_directory m.moved.dinode ≡ true → (m.from ≡ m.to.inode → ⊥) → is_reparented m ≡ true

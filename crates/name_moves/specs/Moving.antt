@@ -270,6 +270,8 @@ pub record IsMoving (v : Seen) (m : Move) (room : List ℕ) (time : ℕ) (change
   pub locks : PutsUnder v fates m taken
   pub journaled : AreJournaled fates
   pub frees : (b : ℕ) → (is_freed fates b ≡ true) ↔ Contains (freed_by m) b
+  -- what goes isn't put, whatever a step made of it
+  pub gone : (b : ℕ) → Contains (freed_by m) b → is_put fates b ≡ false
   -- the dinode of the directory that gets the name is put
   pub puts : is_put fates m.to.inode ≡ true
   pub inside : AreInside v change

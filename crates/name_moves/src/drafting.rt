@@ -1,9 +1,10 @@
 // The draft of a move.
-ghost use Rattle.std.specs.Prelude.{ℕ, List, ◌≡◌, ◌^◌, ◌<◌, ◌++◌, [], None, Some, Contains, IfSome, IsSome};
+ghost use Rattle.std.specs.Prelude.{ℕ, List, ◌≡◌, ◌^◌, ◌<◌, ◌++◌, [], true, false, None, Some, Contains, IfSome, IsSome};
 ghost use Rattle.crc_words.specs.Remainder.{crc32_of};
 ghost use Rattle.growth_drafts.specs.Taken.{IsDistinct};
 ghost use Rattle.file_tree.specs.Tree.{Tree};
 ghost use Rattle.gfs2_layout.specs.Holding.{Holding};
+ghost use Rattle.gfs2_layout.specs.Inode.{height_in, is_hashed_in};
 ghost use Rattle.glock_names.specs.Steps.{IfDamaged, IfIs, IfNeedBlock};
 ghost use Rattle.glock_names.specs.Views.{IsOfView};
 ghost use Rattle.image_model.specs.Flat.{Path};
@@ -14,6 +15,7 @@ ghost use Rattle.image_changes.specs.Does.{IsOf};
 ghost use Rattle.directories.specs.Shown.{IsShown, Says};
 ghost use Rattle.hash_dirs.specs.Shown.{IsSound};
 ghost use Rattle.resource_groups.specs.Putting.{HasDataBlock};
+ghost use Rattle.name_inserts.specs.Needing.{TakesBlocks};
 ghost use Rattle.name_moves.specs.Becoming.{NeedsAfter, NeedsJust};
 ghost use Rattle.name_moves.specs.Moving.{AreApart, ArePlacesIn, CanBeMoved, IsAskedIn, IsAskedOf, IsMoveIn, IsMoving, IsNeededIn, IsNeededThere, IsPlaceOfMove, IsWrongIn, IsWrongThere, freed_by, lost_there, move_of};
 
@@ -68,13 +70,11 @@ fn old_entry<V: View>(view: &V, m: &NameMove<'_>) -> Result<Step<Entry>, CallFau
 }
 
 // How many blocks the directory takes for the new name, once the others have gone.
-fn count_need<V: View>(
-    alloc: Global,
-    view: &V,
-    m: &NameMove<'_>,
-) -> Result<Step<u64>, CallFault>
+fn count_need<V: View>(alloc: Global, view: &V, m: &NameMove<'_>) -> Result<Step<u64>, CallFault>
     requires can { CanBeMoved (V.seen view.now) (move_of m.now) }
     ensures need { (h : Holding) → IsShown (V.seen view.now) m.now.to.inode h → IsSound h → IfIs result (NeedsAfter (lost_there (move_of m.now)) h m.now.new_name.now) }
+    ensures linear { (h : Holding) → IsShown (V.seen view.now) m.now.to.inode h → is_hashed_in h ≡ false → height_in h ≡ 0 → IfIs result (NeedsAfter (lost_there (move_of m.now)) h m.now.new_name.now) }
+    ensures hashed { (h : Holding) → IsShown (V.seen view.now) m.now.to.inode h → is_hashed_in h ≡ true → lost_there (move_of m.now) ≡ [] → IfIs result (TakesBlocks h m.now.new_name.now) }
     ensures most { IfIs result (λ need. need < 2 ^ 42) }
     ensures needed { IfNeedBlock result (IsNeededThere (V.seen view.now) (move_of m.now)) }
     ensures damaged { IfDamaged result (IsWrongThere (V.seen view.now) (move_of m.now)) }
@@ -99,7 +99,7 @@ fn hash_fits(name: &Name)
 }
 
 /// How many blocks the directory takes for the new name, once what stands there and, where it is its own, the old name have gone. It costs what taking
-/// these in a draft costs that is thrown away, and what `need_name` costs there. Of a directory that isn't sound some number is told.
+/// these in a draft costs that is thrown away, and what `need_name` costs there. Of a hashed directory that isn't sound, from which names went, some number is told.
 pub fn need_to_move<V: View>(
     alloc: Global,
     view: &V,
@@ -110,6 +110,8 @@ pub fn need_to_move<V: View>(
     ensures just { (h : Holding) → IsShown (V.seen view.now) m.now.to.inode h → IsSound h → IfIs result (NeedsJust (lost_there (move_of m.now)) h m.now.new_name.now) }
     ensures image { (im : Image) (o : Owners) (l : Layout) (t : Tree) (path path' : Path) → IsOf (V.seen view.now) im o l t → ArePlacesIn im o l path path' (move_of m.now)
         → IfIs result (NeedsJust (lost_there (move_of m.now)) (holding im o m.now.to.inode) m.now.new_name.now) }
+    ensures linear { (h : Holding) → IsShown (V.seen view.now) m.now.to.inode h → is_hashed_in h ≡ false → height_in h ≡ 0 → IfIs result (NeedsAfter (lost_there (move_of m.now)) h m.now.new_name.now) }
+    ensures hashed { (h : Holding) → IsShown (V.seen view.now) m.now.to.inode h → is_hashed_in h ≡ true → lost_there (move_of m.now) ≡ [] → IfIs result (TakesBlocks h m.now.new_name.now) }
     ensures most { IfIs result (λ need. need < 2 ^ 42) }
     ensures needed { IfNeedBlock result (IsNeededIn (V.seen view.now) (move_of m.now) []) }
     ensures there { IfNeedBlock result (IsNeededThere (V.seen view.now) (move_of m.now)) }

@@ -8,10 +8,9 @@ ghost use Rattle.gfs2_layout.specs.Structures.{dinode_of, dinode_read, is_direct
 ghost use Rattle.gfs2_layout.specs.declared.dinode.Dinode.{Dinode as DinodeValue};
 ghost use Rattle.glock_names.specs.Steps.{IfDamaged, IfIs, IfNeedBlock};
 ghost use Rattle.glock_names.specs.Views.{HasBlock, IsOfView, IsView};
-ghost use Rattle.hash_dirs.specs.Shown.{IsSound};
 ghost use Rattle.directories.specs.Shown.{IsBroken, IsDirectoryIn, IsNeededFor, IsShown};
 ghost use Rattle.directories.specs.Taking.{HasNameIn};
-ghost use Rattle.name_moves.specs.Becoming.{IsAfter};
+ghost use Rattle.name_moves.specs.Becoming.{CanTell, IsAfter};
 ghost use Rattle.name_moves.specs.Moving.{CanBeMoved, IsAskedUnder, IsNeededThere, IsWrongThere, lost_there, move_of};
 ghost use Rattle.name_moves.specs.Steps.{AreLost};
 
@@ -44,7 +43,7 @@ pub(crate) fn has_directory<V: View>(view: &V, dir: u64) -> bool
     }
 }
 
-// Takes a name that it has from a directory in a new draft. False where it is none then, and so wasn't sound.
+// Takes a name that it has from a directory in a new draft. False where it is none then, and so it wasn't told what it was.
 fn lose_one<V: View>(
     draft: &mut Draft<'_, V>,
     dir: u64,
@@ -56,7 +55,7 @@ fn lose_one<V: View>(
     requires named { HasNameIn (V.seen draft.old.view) dir name.now }
     ensures lost { IfIs result (λ done. AreLost (V.seen draft.old.view) dir (name.now ∷ []) draft.new.fates) }
     ensures still { IfIs result (λ done. done ≡ true → IsDirectoryIn (seen_in V.seen draft.new) dir) }
-    ensures able { (h : Holding) → IsShown (V.seen draft.old.view) dir h → IsSound h → IfIs result (λ done. done ≡ true) }
+    ensures able { (h : Holding) → IsShown (V.seen draft.old.view) dir h → CanTell (name.now ∷ []) h → IfIs result (λ done. done ≡ true) }
     ensures view { IfIs result (λ done. draft.new.view ≡ draft.old.view) }
     ensures needed { IfNeedBlock result (λ missing. IsAfter (V.seen draft.old.view) dir [] (λ k. IsNeededFor (V.seen draft.old.view) k name.now missing)) }
     ensures under { IfNeedBlock result (IsAskedUnder (V.seen draft.old.view) dir) }
@@ -84,7 +83,7 @@ fn lose_another<V: View>(
     requires other { name.now ≢ gone.now }
     ensures lost { IfIs result (λ done. done ≡ true → AreLost (V.seen draft.old.view) dir (gone.now ∷ name.now ∷ []) draft.new.fates) }
     ensures still { IfIs result (λ done. done ≡ true → IsDirectoryIn (seen_in V.seen draft.new) dir) }
-    ensures able { (h : Holding) → IsShown (V.seen draft.old.view) dir h → IsSound h → IfIs result (λ done. done ≡ true) }
+    ensures able { (h : Holding) → IsShown (V.seen draft.old.view) dir h → CanTell (gone.now ∷ name.now ∷ []) h → IfIs result (λ done. done ≡ true) }
     ensures view { IfIs result (λ done. draft.new.view ≡ draft.old.view) }
     ensures needed { IfNeedBlock result (λ missing. IsAfter (V.seen draft.old.view) dir (gone.now ∷ []) (λ k. IsNeededFor (V.seen draft.old.view) k name.now missing)) }
     ensures under { IfNeedBlock result (IsAskedUnder (V.seen draft.old.view) dir) }
@@ -113,7 +112,7 @@ pub(crate) fn lose_names<V: View>(
     requires can { CanBeMoved (V.seen draft.old.view) (move_of m.now) }
     ensures lost { IfIs result (λ done. done ≡ true → AreLost (V.seen draft.old.view) m.now.to.inode (lost_there (move_of m.now)) draft.new.fates) }
     ensures still { IfIs result (λ done. done ≡ true → IsDirectoryIn (seen_in V.seen draft.new) m.now.to.inode) }
-    ensures able { (h : Holding) → IsShown (V.seen draft.old.view) m.now.to.inode h → IsSound h → IfIs result (λ done. done ≡ true) }
+    ensures able { (h : Holding) → IsShown (V.seen draft.old.view) m.now.to.inode h → CanTell (lost_there (move_of m.now)) h → IfIs result (λ done. done ≡ true) }
     ensures view { IfIs result (λ done. draft.new.view ≡ draft.old.view) }
     ensures needed { IfNeedBlock result (IsNeededThere (V.seen draft.old.view) (move_of m.now)) }
     ensures damaged { IfDamaged result (IsWrongThere (V.seen draft.old.view) (move_of m.now)) }

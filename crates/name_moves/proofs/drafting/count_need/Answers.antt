@@ -1,6 +1,8 @@
-use Rattle.std.proofs.Common.{◌≡◌, ℕ, [], None, Result, Ok, Err, sym, ap, ◌∙◌, subst}
+use Rattle.std.proofs.Common.{◌≡◌, ℕ, true, false, true≢false, None, Result, Ok, Err, sym, ap, ◌∙◌, subst}
+use Rattle.std.proofs.lemmas.Bool.{cond-false}
 use Rattle.drafts.specs.Fates.{seen_in}
 use Rattle.gfs2_layout.specs.Holding.{Holding}
+use Rattle.gfs2_layout.specs.Inode.{is_hashed_in}
 use Rattle.glock_names.proofs.StepLaws.{answer_at, answer_so, needed_at}
 use Rattle.glock_names.specs.Steps.{IfDamaged, IfNeedBlock, TellsOf}
 use Rattle.glock_names.specs.Views.{Seen, HasBlock, IsOfView}
@@ -12,14 +14,15 @@ use Rattle.directories.specs.Shown.{IsShown}
 use Rattle.directories.proofs.Forms.{is_directory_here}
 use Rattle.path_walks.proofs.Faults.{damaged_so, told_on, tells_so}
 use Rattle.name_inserts.specs.Inserting.{IsNeededForName, IsWrongForName}
-use Rattle.name_inserts.specs.Need.{name_need}
+use Rattle.name_inserts.specs.Need.{name_need, need_in_hashed, need_in_linear}
+use Rattle.name_inserts.specs.Needing.{TakesBlocks}
 use Rattle.name_drafts.proofs.Fates.{absent_below, seen_over, still_there}
-use Rattle.name_moves.specs.Becoming.{IsAfter, NeedsAfter}
+use Rattle.name_moves.specs.Becoming.{IsAfter, LosesAll, NeedsAfter, none_went, of_linear, of_sound}
 use Rattle.name_moves.specs.Moving.{IsNeededThere, IsWrongThere, lost_there, move_of}
 use Rattle.name_moves.specs.Moving as moving
 use Rattle.name_moves.specs.Steps.{AreLost, left_of}
 use Rattle.name_moves.proofs.After.{after_needed_name, after_wrong_name}
-use Rattle.name_moves.proofs.Loses.{all_directory, all_sound, can_tell}
+use Rattle.name_moves.proofs.Loses.{all_directory, all_plain, all_sound, can_tell, none_left}
 use Rattle.name_moves.proofs.Ways.{needed_two}
 use Rattle.name_moves.proofs.Under.{asked_to_come}
 use Rattle.name_moves.proofs.drafting.count_need.Goals as goal
@@ -42,6 +45,61 @@ returns-in_err-lose_names-clause-damaged g c =
 pub returns-in-NeedBlock-clause-needed : goal.returns-in-NeedBlock-clause-needed
 returns-in-NeedBlock-clause-needed g c =
     subst (λ x. IsNeededThere (g.V.View.seen x) (move_of c.args.m.now) c.in-NeedBlock.missing) (ap (λ d. d.view) c.new-draft.ensures) (needed_at _ _ _ c.in-NeedBlock.is c.in_ok-lose_names.ensures.needed)
+
+pub returns-in-Is-false-clause-need : goal.returns-in-Is-false-clause-need
+returns-in-Is-false-clause-need g c h shown sound =
+    let to = c.args.m.now.to.inode in
+    let no : false ≡ true = sym c.in-Is-false.field-0-test ∙ answer_at _ _ _ c.in-Is-false.is
+    (c.in_ok-lose_names.ensures.able h (subst (λ x. IsShown (g.V.View.seen x) to h) (sym (ap (λ d. d.view) c.new-draft.ensures)) shown) (of_sound sound)) in
+    absurd (true≢false (sym no))
+
+pub returns-in-Is-false-clause-linear : goal.returns-in-Is-false-clause-linear
+returns-in-Is-false-clause-linear g c h shown plain flat =
+    let to = c.args.m.now.to.inode in
+    let no : false ≡ true = sym c.in-Is-false.field-0-test ∙ answer_at _ _ _ c.in-Is-false.is
+    (c.in_ok-lose_names.ensures.able h (subst (λ x. IsShown (g.V.View.seen x) to h) (sym (ap (λ d. d.view) c.new-draft.ensures)) shown) (of_linear plain flat)) in
+    absurd (true≢false (sym no))
+
+pub returns-in-Is-false-clause-hashed : goal.returns-in-Is-false-clause-hashed
+returns-in-Is-false-clause-hashed g c h shown hashed none =
+    let to = c.args.m.now.to.inode in
+    let no : false ≡ true = sym c.in-Is-false.field-0-test ∙ answer_at _ _ _ c.in-Is-false.is
+    (c.in_ok-lose_names.ensures.able h (subst (λ x. IsShown (g.V.View.seen x) to h) (sym (ap (λ d. d.view) c.new-draft.ensures)) shown) (none_went none)) in
+    absurd (true≢false (sym no))
+
+pub returns-clause-linear : goal.returns-clause-linear
+returns-clause-linear g c h shown plain flat =
+    let v = g.V.View.seen c.args.view.now in
+    let m = move_of c.args.m.now in
+    let to = m.to.inode in
+    let names = lost_there m in
+    let d = c.lose_names.new.draft in
+    let over = ap (λ x. x.view) c.new-draft.ensures in
+    let seen_d = seen_over g.V.View.seen c.args.view.now d (answer_at _ _ _ c.in-Is-true.is c.in_ok-lose_names.ensures.view ∙ over) in
+    let lost = subst (λ x. AreLost (g.V.View.seen x) to names d.fates) over (answer_at _ _ _ c.in-Is-true.is c.in_ok-lose_names.ensures.lost c.in-Is-true.field-0-test) in
+    let is = lost.each h shown (of_linear plain flat) in
+    let k = left_of v d.fates h in
+    let k_plain = (all_plain names h k is.lost plain).0 in
+    answer_so c.need_name.result (λ need. need ≡ need_in_linear k c.bytes.result.now) (NeedsAfter names h m.new_name)
+    (λ need e. record { without = k; lost = is.lost; is = e ∙ ap (need_in_linear k) c.bytes.ensures.bytes ∙ sym (cond-false (is_hashed_in k) (need_in_hashed k m.new_name) (need_in_linear k m.new_name) k_plain) })
+    (c.need_name.ensures.linear k (subst (λ w. IsShown w to k) (sym seen_d) is.shown) k_plain)
+
+pub returns-clause-hashed : goal.returns-clause-hashed
+returns-clause-hashed g c h shown hashed none =
+    let v = g.V.View.seen c.args.view.now in
+    let m = move_of c.args.m.now in
+    let to = m.to.inode in
+    let names = lost_there m in
+    let d = c.lose_names.new.draft in
+    let over = ap (λ x. x.view) c.new-draft.ensures in
+    let seen_d = seen_over g.V.View.seen c.args.view.now d (answer_at _ _ _ c.in-Is-true.is c.in_ok-lose_names.ensures.view ∙ over) in
+    let lost = subst (λ x. AreLost (g.V.View.seen x) to names d.fates) over (answer_at _ _ _ c.in-Is-true.is c.in_ok-lose_names.ensures.lost c.in-Is-true.field-0-test) in
+    let is = lost.each h shown (none_went none) in
+    let k = left_of v d.fates h in
+    let same : k ≡ h = none_left h k (subst (λ xs. LosesAll xs h k) none is.lost) in
+    answer_so c.need_name.result (TakesBlocks k c.bytes.result.now) (TakesBlocks h m.new_name)
+    (λ need takes. subst (λ x. TakesBlocks x m.new_name need) same (subst (λ n. TakesBlocks k n need) c.bytes.ensures.bytes takes))
+    (c.need_name.ensures.hashed k (subst (λ w. IsShown w to k) (sym seen_d) is.shown) (ap is_hashed_in same ∙ hashed))
 
 pub returns-clause-need : goal.returns-clause-need
 returns-clause-need g c h shown sound =

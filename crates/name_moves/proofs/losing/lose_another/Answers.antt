@@ -6,6 +6,7 @@ use Rattle.directories.proofs.Forms.{only_tells}
 use Rattle.path_walks.proofs.Faults.{told_on}
 use Rattle.name_moves.specs.Becoming.{IsAfter}
 use Rattle.name_drafts.proofs.Fates.{absent_below, still_there}
+use Rattle.name_moves.proofs.Loses.{tell_as}
 use Rattle.name_moves.proofs.Under.{asked_to_go}
 use Rattle.name_moves.proofs.After.{after_broken, after_needed, second_able, second_lost, second_there}
 use Rattle.name_moves.proofs.losing.lose_another.Goals as goal
@@ -20,7 +21,7 @@ returns-in_err-_entry-clause-damaged g c =
 
 pub returns-in-Is-None-clause-able : goal.returns-in-Is-None-clause-able
 returns-in-Is-None-clause-able g c h shown sound =
-    absurd (second_there g.V.View.seen c.args.draft.now c.args.dir c.args.gone.now c.args.name.now c.requires.lost c.requires.other c.requires.named h shown sound
+    absurd (second_there g.V.View.seen c.args.draft.now c.args.dir c.args.gone.now c.args.name.now c.requires.lost c.requires.other c.requires.named h shown (tell_as c.args.gone.now (c.args.name.now ∷ []) (c.args.gone.now ∷ []) h sound)
     (λ k seen. subst (Says k c.args.name.now) c.in-Is-None.field-0-is (answer_at _ _ _ c.in-Is-None.is (c.in_ok-_entry.ensures.found k seen))))
 
 pub returns-in-NeedBlock-clause-needed : goal.returns-in-NeedBlock-clause-needed

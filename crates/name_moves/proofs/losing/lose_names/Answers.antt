@@ -1,16 +1,17 @@
-use Rattle.std.proofs.Common.{[], ◌∷◌, refl, sym, ap, ◌∙◌, ◌≡◌, subst}
+use Rattle.std.proofs.Common.{[], ◌∷◌, sym, ap, ◌∙◌, subst}
 use Rattle.std.proofs.lemmas.Bool.{eq-eqb, ne_eqb}
 use Rattle.std.specs.Prelude.{not}
 use Rattle.glock_names.proofs.StepLaws.{answer_at, needed_at}
 use Rattle.glock_names.specs.Steps.{IfDamaged, IfNeedBlock}
-use Rattle.directories.specs.Shown.{IsBroken, IsDirectoryIn, IsNeededFor}
+use Rattle.directories.specs.Shown.{IsBroken, IsDirectoryIn, IsNeededFor, IsShown}
 use Rattle.path_walks.proofs.Faults.{damaged_so, told_on, tells_so}
 use Rattle.name_drafts.proofs.Fates.{seen_old}
-use Rattle.name_moves.specs.Becoming.{IsAfter}
+use Rattle.name_moves.specs.Becoming.{CanTell, IsAfter}
 use Rattle.name_moves.specs.Moving.{IsAskedUnder, IsNeededThere, IsWrongThere, move_of, new_first, old_first, old_then}
 use Rattle.name_moves.specs.Steps.{AreLost}
+use Rattle.name_moves.proofs.Loses.{tell_as}
 use Rattle.name_moves.proofs.Lost.{lost_none}
-use Rattle.name_moves.proofs.Ways.{broken_there, needed_there, needed_two, no_losses, some_copied}
+use Rattle.name_moves.proofs.Ways.{broken_there, first_loss, needed_there, needed_two, no_losses, one_loss, some_copied}
 use Rattle.name_moves.proofs.losing.lose_names.Goals as goal
 
 pub returns-then-within-clause-needed : goal.returns-then-within-clause-needed
@@ -20,6 +21,25 @@ returns-then-within-clause-needed g c =
     let goes = old_first (some_copied _ c.args.m.now.replaced ∙ c.is_none.ensures ∙ ap not c.if-is_none.true) (eq-eqb m.from m.to.inode c.if-within.true) in
     needed_two c.lose_one.result (λ n. IsAfter v m.to.inode [] (λ k. IsNeededFor v k c.bytes.result.now n)) (IsAskedUnder v m.to.inode) (IsNeededThere v m)
     (λ n is under. needed_there v m [] m.name c.bytes.result.now n goes c.bytes.ensures.bytes under is) c.lose_one.ensures.needed c.lose_one.ensures.under
+
+pub returns-then-within-clause-able : goal.returns-then-within-clause-able
+returns-then-within-clause-able g c h shown told =
+    let m = move_of c.args.m.now in
+    c.lose_one.ensures.able h shown (tell_as m.name [] (c.bytes.result.now ∷ []) h (subst (λ names. CanTell names h)
+    (one_loss m (some_copied _ c.args.m.now.replaced ∙ c.is_none.ensures ∙ ap not c.if-is_none.true) (eq-eqb m.from m.to.inode c.if-within.true)) told))
+
+pub returns-in-Is-false-clause-able : goal.returns-in-Is-false-clause-able
+returns-in-Is-false-clause-able g c h shown told =
+    let m = move_of c.args.m.now in
+    let first = first_loss m (some_copied _ c.args.m.now.replaced ∙ c.is_none.ensures ∙ ap not c.if-is_none.false) in
+    sym c.in-Is-false.field-0-test ∙ answer_at _ _ _ c.in-Is-false.is (c.in_ok-lose_one.ensures.able h shown (tell_as m.new_name _ (c.bytes-2.result.now ∷ []) h (subst (λ names. CanTell names h) first told)))
+
+pub returns-then-within-2-clause-able : goal.returns-then-within-2-clause-able
+returns-then-within-2-clause-able g c h shown told =
+    let m = move_of c.args.m.now in
+    let first = first_loss m (some_copied _ c.args.m.now.replaced ∙ c.is_none.ensures ∙ ap not c.if-is_none.false) in
+    c.lose_another.ensures.able h (subst (λ w. IsShown (g.V.View.seen w) m.to.inode h) (sym (answer_at _ _ _ c.in-Is-true.is c.in_ok-lose_one.ensures.view)) shown)
+    (tell_as m.new_name _ (c.bytes-then-within-2.result.now ∷ c.bytes-then-within-2-2.result.now ∷ []) h (subst (λ names. CanTell names h) first told))
 
 pub returns-then-within-clause-damaged : goal.returns-then-within-clause-damaged
 returns-then-within-clause-damaged g c =
