@@ -1,5 +1,5 @@
-use Rattle.std.proofs.Common.{rules, ℕ, ◌≡◌, ◌≢◌, true, Result, Ok, Err, sym, ap, ◌∙◌, subst}
-use Rattle.std.specs.Prelude.{not}
+use Rattle.std.proofs.Common.{rules, ℕ, ◌≡◌, ◌≢◌, false, true, Result, Ok, Err, sym, ap, ◌∙◌, subst}
+use Rattle.std.specs.Prelude.{List, not}
 use Rattle.drafts.specs.declared.attempt.Attempt.{Attempt}
 use Rattle.drafts.specs.declared.attempt.Attempt.TheVariants.{Done, NeedLock, NeedBlock, NoSpace, NotBuilt}
 use Rattle.glock_names.specs.declared.steps.CallFault.{CallFault}
@@ -8,7 +8,7 @@ use Rattle.cluster_history.specs.Changes.{is_ok}
 use Rattle.read_calls.specs.Answers.{IfDone, IfNeedBlock, IfNeedLock, IfNoSpace, IfNotBuilt, HasSpace}
 use Rattle.call_locks.specs.WantLaws.{path_of}
 use Rattle.call_locks.specs.Wants.{wanted}
-use Rattle.read_calls.specs.Holds.{AreHeld, IsAskedFor, IsFirstLack, IsUnder, holds_in}
+use Rattle.read_calls.specs.Holds.{AreHeld, Hold, IsAskedFor, IsFirstLack, IsUnder, holds_in}
 use Rattle.making_calls.specs.Making as making
 use Rattle.making_calls.specs.Making.{IsMaking}
 use Rattle.move_calls.specs.Locks.{IsNeed, call_holds}
@@ -69,7 +69,7 @@ pub returns-in-Read-clause-on_device : goal.returns-in-Read-clause-on_device
 returns-in-Read-clause-on_device g c im o l t of = mapped c.attempt-in-Read.result _ _ (λ m asked. covered_low im o l of.stands.laid m.block m.lock asked.covered) (c.attempt-in-Read.ensures.block im o l t of)
 
 pub returns-in-Write-clause-on_device : goal.returns-in-Write-clause-on_device
-returns-in-Write-clause-on_device g c im o l t of = mapped c.attempt.result _ _ (λ m asked. covered_low im o l of.stands.laid m.block m.lock asked.covered) (c.attempt.ensures.block im o l t of)
+returns-in-Write-clause-on_device g c im o l t of = mapped c.attempt-in-Write.result _ _ (λ m asked. covered_low im o l of.stands.laid m.block m.lock asked.covered) (c.attempt-in-Write.ensures.block im o l t of)
 
 pub returns-in-Read-clause-absent : goal.returns-in-Read-clause-absent
 returns-in-Read-clause-absent g c =
@@ -88,24 +88,24 @@ pub returns-in-Write-clause-under : goal.returns-in-Write-clause-under
 returns-in-Write-clause-under g c im o l t of =
     let is : IsWriting c.args.call.now = search rules in
     let of_list = writing_list im o l t c.args.stamp.now.node c.args.call.now is in
-    done_so c.attempt.result _ _
+    done_so c.attempt-in-Write.result _ _
     (λ x change all. record { list = writing.call_holds im o l t c.args.call.now c.args.stamp.now.node; is = of_list.0; held = all.0; under = all.1 })
-    (done_two c.attempt.result _ _ (c.attempt.ensures.held im o l t of) (c.attempt.ensures.under im o l t of))
+    (done_two c.attempt-in-Write.result _ _ (c.attempt-in-Write.ensures.held im o l t of) (c.attempt-in-Write.ensures.under im o l t of))
 
 pub returns-in-Write-clause-lock : goal.returns-in-Write-clause-lock
 returns-in-Write-clause-lock g c im o l t list of listed =
     let is : IsWriting c.args.call.now = search rules in
-    subst (λ list. IfNeedLock c.attempt.result (IsFirstLack (g.V.View.seen c.args.view.now) list)) (sym ((writing_list im o l t c.args.stamp.now.node c.args.call.now is).1 list listed)) (c.attempt.ensures.lock im o l t of)
+    subst (λ list. IfNeedLock c.attempt-in-Write.result (IsFirstLack (g.V.View.seen c.args.view.now) list)) (sym ((writing_list im o l t c.args.stamp.now.node c.args.call.now is).1 list listed)) (c.attempt-in-Write.ensures.lock im o l t of)
 
 pub returns-in-Write-clause-block : goal.returns-in-Write-clause-block
 returns-in-Write-clause-block g c im o l t list of listed =
     let is : IsWriting c.args.call.now = search rules in
-    subst (λ list. IfNeedBlock c.attempt.result (IsAskedFor (g.V.View.seen c.args.view.now) im o l list)) (sym ((writing_list im o l t c.args.stamp.now.node c.args.call.now is).1 list listed)) (c.attempt.ensures.block im o l t of)
+    subst (λ list. IfNeedBlock c.attempt-in-Write.result (IsAskedFor (g.V.View.seen c.args.view.now) im o l list)) (sym ((writing_list im o l t c.args.stamp.now.node c.args.call.now is).1 list listed)) (c.attempt-in-Write.ensures.block im o l t of)
 
 pub returns-in-Write-clause-absent : goal.returns-in-Write-clause-absent
 returns-in-Write-clause-absent g c =
     let v = g.V.View.seen c.args.view.now in
-    mapped c.attempt.result _ _ (λ m needed. writing_absent v c.args.call.now m (λ a. let s = c.every_view_shows_an_inode.ensures v a in (s.0, s.1.0)) needed) c.attempt.ensures.needed
+    mapped c.attempt-in-Write.result _ _ (λ m needed. writing_absent v c.args.call.now m (λ a. let s = c.every_view_shows_an_inode.ensures v a in (s.0, s.1.0)) needed) c.attempt-in-Write.ensures.needed
 
 pub returns-in-Unlink-clause-lock : goal.returns-in-Unlink-clause-lock
 returns-in-Unlink-clause-lock g c im o l t list of listed =
@@ -210,15 +210,15 @@ pub returns-in-Unlink-clause-fewer : goal.returns-in-Unlink-clause-fewer
 returns-in-Unlink-clause-fewer g c = few_so c.attempt-in-Unlink.result _ _ (λ need free never. absurd never) c.attempt-in-Unlink.ensures.space
 
 pub returns-in-Write-clause-spaceless : goal.returns-in-Write-clause-spaceless
-returns-in-Write-clause-spaceless g c = done_so c.attempt.result _ _ (λ x change has. space_so x has) c.attempt.ensures.spaceless
+returns-in-Write-clause-spaceless g c = done_so c.attempt-in-Write.result _ _ (λ x change has. space_so x has) c.attempt-in-Write.ensures.spaceless
 
 pub returns-in-Write-clause-space : goal.returns-in-Write-clause-space
 returns-in-Write-clause-space g c im o l t of =
     let is : IsWriting c.args.call.now = search rules in
-    few_so c.attempt.result _ _ (λ need free. writing_few (g.V.View.seen c.args.view.now) im o l t need free c.args.call.now is) (c.attempt.ensures.space im o l t of)
+    few_so c.attempt-in-Write.result _ _ (λ need free. writing_few (g.V.View.seen c.args.view.now) im o l t need free c.args.call.now is) (c.attempt-in-Write.ensures.space im o l t of)
 
 pub returns-in-Write-clause-fewer : goal.returns-in-Write-clause-fewer
-returns-in-Write-clause-fewer g c = few_so c.attempt.result _ _ (λ need free full. full.fewer) c.attempt.ensures.full
+returns-in-Write-clause-fewer g c = few_so c.attempt-in-Write.result _ _ (λ need free full. full.fewer) c.attempt-in-Write.ensures.full
 
 pub returns-in-Create-clause-made : goal.returns-in-Create-clause-made
 returns-in-Create-clause-made g c im o l t of =
@@ -247,7 +247,7 @@ returns-in-Unlink-clause-full g c = few_so c.attempt-in-Unlink.result _ _ (λ ne
 pub returns-in-Write-clause-full : goal.returns-in-Write-clause-full
 returns-in-Write-clause-full g c =
     let is : IsWriting c.args.call.now = search rules in
-    few_so c.attempt.result _ _ (λ need free. writing_full (g.V.View.seen c.args.view.now) need free c.args.call.now is) c.attempt.ensures.full
+    few_so c.attempt-in-Write.result _ _ (λ need free. writing_full (g.V.View.seen c.args.view.now) need free c.args.call.now is) c.attempt-in-Write.ensures.full
 
 pub returns-in-Read-clause-lacks : goal.returns-in-Read-clause-lacks
 returns-in-Read-clause-lacks g c =
@@ -270,8 +270,8 @@ returns-in-Unlink-clause-lacks g c =
 pub returns-in-Write-clause-lacks : goal.returns-in-Write-clause-lacks
 returns-in-Write-clause-lacks g c =
     let v = g.V.View.seen c.args.view.now in
-    let lacked : IfNeedLock c.attempt.result (IsLackedFor v c.args.call.now c.args.stamp.now.node) = search rules in
-    lacked_lacks v c.args.call.now c.args.stamp.now.node c.attempt.result lacked
+    let lacked : IfNeedLock c.attempt-in-Write.result (IsLackedFor v c.args.call.now c.args.stamp.now.node) = search rules in
+    lacked_lacks v c.args.call.now c.args.stamp.now.node c.attempt-in-Write.result lacked
 
 -- ---- a call that moves a name
 
@@ -289,39 +289,39 @@ pub returns-in-Rename-clause-under : goal.returns-in-Rename-clause-under
 returns-in-Rename-clause-under g c im o l t of =
     let is : IsRenaming c.args.call.now = search rules in
     let v = g.V.View.seen c.args.view.now in
-    let list = λ need. call_holds im o l t c.args.call.now c.args.stamp.now.node need in
-    done_so c.attempt-in-Rename.result _ _
+    let list : ℕ → List Hold = λ need. call_holds im o l t c.args.call.now c.args.stamp.now.node need in
+    done_so c.attempt.result _ _
     (λ x change all. record { list = list all.0; is = list_of_move im o l t c.args.stamp.now.node c.args.call.now is all.0 all.1; held = all.2; under = all.3 })
-    (under_so c.attempt-in-Rename.result (IsNeed im o l t c.args.call.now) (λ need. AreHeld v (list need)) (λ need change. IsUnder o (list need) change) (c.attempt-in-Rename.ensures.held im o l t of)
-    (λ need needs. c.attempt-in-Rename.ensures.under im o l t need of needs))
+    (under_so c.attempt.result (IsNeed im o l t c.args.call.now) (λ need. AreHeld v (list need)) (λ need change. IsUnder o (list need) change) (c.attempt.ensures.held im o l t of)
+    (λ need needs. c.attempt.ensures.under im o l t need of needs))
 
 pub returns-in-Rename-clause-lock : goal.returns-in-Rename-clause-lock
 returns-in-Rename-clause-lock g c im o l t list of listed =
     let is : IsRenaming c.args.call.now = search rules in
     let needs = moving_list im o l t c.args.stamp.now.node c.args.call.now is list listed in
-    subst (λ list. IfNeedLock c.attempt-in-Rename.result (IsFirstLack (g.V.View.seen c.args.view.now) list)) (sym needs.2) (c.attempt-in-Rename.ensures.lock im o l t needs.0 of needs.1)
+    subst (λ list. IfNeedLock c.attempt.result (IsFirstLack (g.V.View.seen c.args.view.now) list)) (sym needs.2) (c.attempt.ensures.lock im o l t needs.0 of needs.1)
 
 pub returns-in-Rename-clause-block : goal.returns-in-Rename-clause-block
 returns-in-Rename-clause-block g c im o l t list of listed =
     let is : IsRenaming c.args.call.now = search rules in
     let needs = moving_list im o l t c.args.stamp.now.node c.args.call.now is list listed in
-    subst (λ list. IfNeedBlock c.attempt-in-Rename.result (IsAskedFor (g.V.View.seen c.args.view.now) im o l list)) (sym needs.2) (c.attempt-in-Rename.ensures.block im o l t needs.0 of needs.1)
+    subst (λ list. IfNeedBlock c.attempt.result (IsAskedFor (g.V.View.seen c.args.view.now) im o l list)) (sym needs.2) (c.attempt.ensures.block im o l t needs.0 of needs.1)
 
 pub returns-in-Rename-clause-space : goal.returns-in-Rename-clause-space
 returns-in-Rename-clause-space g c im o l t of =
     let is : IsRenaming c.args.call.now = search rules in
-    few_so c.attempt-in-Rename.result _ _ (moving_few (g.V.View.seen c.args.view.now) im o l t c.args.call.now is) (c.attempt-in-Rename.ensures.space im o l t of)
+    few_so c.attempt.result _ _ (moving_few (g.V.View.seen c.args.view.now) im o l t c.args.call.now is) (c.attempt.ensures.space im o l t of)
 
 pub returns-in-Rename-clause-full : goal.returns-in-Rename-clause-full
 returns-in-Rename-clause-full g c =
     let is : IsRenaming c.args.call.now = search rules in
-    few_so c.attempt-in-Rename.result _ _ (moving_full (g.V.View.seen c.args.view.now) c.args.call.now is) c.attempt-in-Rename.ensures.full
+    few_so c.attempt.result _ _ (moving_full (g.V.View.seen c.args.view.now) c.args.call.now is) c.attempt.ensures.full
 
 pub returns-in-Rename-clause-spaceless : goal.returns-in-Rename-clause-spaceless
-returns-in-Rename-clause-spaceless g c = done_so c.attempt-in-Rename.result _ _ (λ x change has. space_so x has) c.attempt-in-Rename.ensures.spaceless
+returns-in-Rename-clause-spaceless g c = done_so c.attempt.result _ _ (λ x change has. space_so x has) c.attempt.ensures.spaceless
 
 pub returns-in-Rename-clause-made : goal.returns-in-Rename-clause-made
 returns-in-Rename-clause-made g c im o l t of =
     let is : IsRenaming c.args.call.now = search rules in
-    done_so c.attempt-in-Rename.result _ (IsMadeIn im o l c.args.call.now c.args.stamp.now.node c.args.stamp.now.time)
-    (λ x change moved ok. moving_made im o l c.args.stamp.now.node c.args.stamp.now.time change c.args.call.now is (moved ok)) (c.attempt-in-Rename.ensures.moved im o l t of)
+    done_so c.attempt.result _ (IsMadeIn im o l c.args.call.now c.args.stamp.now.node c.args.stamp.now.time)
+    (λ x change moved ok. moving_made im o l c.args.stamp.now.node c.args.stamp.now.time change c.args.call.now is (moved ok)) (c.attempt.ensures.moved im o l t of)
