@@ -36,7 +36,7 @@ use Rattle.file_calls.specs.Making as making
 use Rattle.path_walks.specs.Walks as path
 use Rattle.file_calls.specs.Removing as removing
 use Rattle.file_calls.specs.Writing as writing
-use Rattle.damage_laws.specs.Telling.{IsAstray, IsReadFrom, HasRootInside, HasWholeGroups, HasAstray, IsTold, itself, astray, IsToldOf, its_own, on_path, by_root, WritesTell, WritesTellExactly, RemovalsTell, RemovalsTellExactly, MakingsTell, MakingsTellExactly, CallsTell, CallsTellExactly}
+use Rattle.damage_laws.specs.Telling.{IsAstray, IsReadFrom, HasRootInside, HasWholeGroups, HasAstray, IsTold, itself, astray, IsToldOf, IsToldOn, its_own, on_path, by_root, WritesTell, WritesTellExactly, RemovalsTell, RemovalsTellExactly, MakingsTell, MakingsTellExactly, CallsTell, CallsTellExactly}
 use Rattle.damage_laws.proofs.Claimed.{chain_claims, shown, root_claimed, directory_or, is_directory, led_there, outside, astray_at, further}
 use Rattle.damage_laws.proofs.Owned.{dinode_state}
 use Rattle.damage_laws.proofs.Paths.{broken_directory_told, broken_inode, paths_tell, wrong_at}

@@ -7,8 +7,11 @@ pub mod Gone
 pub mod Paths
 pub mod Inodes
 pub mod Calls
+pub mod Goings
 pub mod Moves
 pub mod AllCalls
 pub mod Standing
 pub mod Mounted
 pub mod Needed
+pub mod MovesNeeded
+pub mod AllNeeded

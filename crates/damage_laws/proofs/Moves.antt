@@ -1,6 +1,6 @@
 -- Damage that a call meets which moves a name: on either of its paths, at their ends, and as the move is looked at and carried out.
-use Rattle.std.proofs.Common.{◌≡◌, ℕ, ◌⊎◌, inl, inr, List, [], ◌++◌, Option, None, Some, true, false, refl, sym, ap, ◌∙◌, subst}
-use Rattle.std.specs.Prelude.{◌≢◌, Contains, codes}
+use Rattle.std.proofs.Common.{◌≡◌, ℕ, ◌==◌, ◌⊎◌, inl, inr, Bool, List, [], ◌++◌, Option, true, false, refl, sym, ap, ◌∙◌, subst, arith}
+use Rattle.std.specs.Prelude.{◌&&◌, not, Contains}
 use Rattle.call_locks.specs.declared.want.Want.{Want}
 use Rattle.call_locks.specs.Wants.{at_old_name}
 use Rattle.call_locks.specs.WantLaws.{path_of}
@@ -9,13 +9,16 @@ use Rattle.file_tree.specs.Names.{parent_of}
 use Rattle.file_tree.specs.declared.call.Call.{Call}
 use Rattle.file_tree.specs.declared.call.Call.TheVariants as calls
 use Rattle.gfs2_layout.specs.Holding.{Holding}
+use Rattle.gfs2_layout.specs.Structures.{is_directory}
 use Rattle.glock_names.specs.Views.{Seen}
 use Rattle.dinode_tree.specs.Shown.{IsShown}
 use Rattle.image_model.specs.Claims.{every}
 use Rattle.image_model.specs.Flat.{Path}
-use Rattle.image_model.specs.Image.{Image, IsImage}
+use Rattle.image_model.specs.Image.{Image}
+use Rattle.image_model.proofs.Rows.{and_left}
 use Rattle.path_walks.specs.Walks.{IsDirectoryAt, IsWrongAt, LeadsTo}
 use Rattle.path_walks.specs.Walks as path
+use Rattle.path_walks.specs.declared.walk.Place.{Place}
 use Rattle.file_calls.specs.Removing.{Goes}
 use Rattle.file_calls.specs.Removing as removing
 use Rattle.file_calls.specs.Moving as moving
@@ -24,11 +27,14 @@ use Rattle.file_calls.specs.MoveCarrying as carrying
 use Rattle.file_calls.specs.MoveCarrying.{HasRoom, IsInTheWay}
 use Rattle.file_calls.specs.MoveChecks as checks
 use Rattle.file_calls.specs.MoveEnds as ends
+use Rattle.file_calls.specs.NameBecoming.{IsAfter}
+use Rattle.file_calls.specs.NameInserting as names_in
 use Rattle.file_calls.specs.NameMoving as drafted
 use Rattle.file_calls.specs.NameMoving.{Move, freed_by, is_reparented, lost_there}
 use Rattle.damage_laws.specs.Telling.{HasWholeGroups, IsReadFrom, IsTold, itself, astray, IsToldOf, on_path, of_move, MovesTell, MovesTellExactly}
 use Rattle.damage_laws.proofs.Claimed.{led_there, shown}
-use Rattle.damage_laws.proofs.Inodes.{free_on_way_told, free_told, group_told, inode_told, inside_told, longer, name_told, root_told, some_told, stray_told, told_or}
+use Rattle.damage_laws.proofs.Goings.{after_none, some_lost}
+use Rattle.damage_laws.proofs.Inodes.{IsSaidToBeFree, free_on_way_told, free_told, group_shown, group_told, inode_told, inside_told, longer, name_told, root_told, some_told, stray_told, told_or}
 use Rattle.damage_laws.proofs.Owned.{from_parent, named_twice, shared_told}
 use Rattle.damage_laws.proofs.Paths.{paths_tell}
 
@@ -37,14 +43,14 @@ module _ (v : Seen) (im : Image) (p q : Path) (read : IsReadFrom v im) (whole : 
   call = calls.Rename p q
 
   -- what is told on one of its paths
-  abbrev names : (second : _) → Path
+  abbrev names : (second : Bool) → Path
   names second = path_of call second
 
-  on : (second : _) (rule b : ℕ) → IsTold v im (at_old_name second (names second)) (names second) rule b → IsToldOf v im call rule b
+  on : (second : Bool) (rule b : ℕ) → IsTold v im (at_old_name second (names second)) (names second) rule b → IsToldOf v im call rule b
   on second rule b told = on_path rule b (record { wants = at_old_name second (names second); names = names second; on = of_move p q second refl; told = told })
 
   -- or above its end
-  on_parent : (second : _) (rule b : ℕ) → IsTold v im (at_old_name second (names second)) (parent_of (names second)) rule b → IsToldOf v im call rule b
+  on_parent : (second : Bool) (rule b : ℕ) → IsTold v im (at_old_name second (names second)) (parent_of (names second)) rule b → IsToldOf v im call rule b
   on_parent second rule b told =
       let f = from_parent (names second) in
       on second rule b (longer v im read whole.image (at_old_name second (names second)) (parent_of (names second)) f.0 (names second) f.1 rule b told)
@@ -54,10 +60,10 @@ module _ (v : Seen) (im : Image) (p q : Path) (read : IsReadFrom v im) (whole : 
   on_either rule b (inr broken) = on true rule b (paths_tell v im (at_old_name true q) q rule b read whole.image broken)
 
   -- an inode at the end of a path
-  at_end : (second : _) (a : ℕ) → LeadsTo v (at_old_name second (names second)) (names second) a → (rule b : ℕ) → IsWrongAt v a rule b → IsToldOf v im call rule b
+  at_end : (second : Bool) (a : ℕ) → LeadsTo v (at_old_name second (names second)) (names second) a → (rule b : ℕ) → IsWrongAt v a rule b → IsToldOf v im call rule b
   at_end second a leads rule b wrong = on second rule b (inode_told v im read whole (at_old_name second (names second)) (names second) a leads rule b wrong)
 
-  above_end : (second : _) (a : ℕ) → LeadsTo v (at_old_name second (names second)) (parent_of (names second)) a → (rule b : ℕ) → IsWrongAt v a rule b → IsToldOf v im call rule b
+  above_end : (second : Bool) (a : ℕ) → LeadsTo v (at_old_name second (names second)) (parent_of (names second)) a → (rule b : ℕ) → IsWrongAt v a rule b → IsToldOf v im call rule b
   above_end second a leads rule b wrong = on_parent second rule b (inode_told v im read whole (at_old_name second (names second)) (parent_of (names second)) a leads rule b wrong)
 
   -- below what stands at the new name
@@ -76,7 +82,7 @@ module _ (v : Seen) (im : Image) (p q : Path) (read : IsReadFrom v im) (whole : 
   ended_told _ _ (ends.IsDamageAtEnds.of_target from to at rule b are stands may wrong) = below_told at.inode stands.place.leads rule b wrong
 
   -- what stands at the new name goes with a block
-  goes_of : (from to : _) (blocks : Option (List ℕ)) → ends.IsTarget v call from to blocks → (b : ℕ) → Contains (drafted.blocks_or_none blocks) b
+  goes_of : (from to : Place) (blocks : Option (List ℕ)) → ends.IsTarget v call from to blocks → (b : ℕ) → Contains (drafted.blocks_or_none blocks) b
       → (c : ℕ) × LeadsTo v (at_old_name true q) q c × ((h : Holding) → dirs.IsShown v c h → Goes h b)
   goes_of from to _ (ends.IsTarget.free lacks) b there = absurd (none_in b there)
     where
@@ -85,21 +91,21 @@ module _ (v : Seen) (im : Image) (p q : Path) (read : IsReadFrom v im) (whole : 
   goes_of from to _ (ends.IsTarget.taken at blocks stands may goes leaves) b there = (at.inode, stands.place.leads, λ h s. (goes h s b).0 there)
 
   module _ (m : Move) (meant : IsMeant v call m) where
-    moved_leads : LeadsTo v (at_old_name false p) p m.moved.inode
+    pub moved_leads : LeadsTo v (at_old_name false p) p m.moved.inode
     moved_leads = meant.ends.source.leads
 
-    from_leads : LeadsTo v (at_old_name false p) (parent_of p) m.from
+    pub from_leads : LeadsTo v (at_old_name false p) (parent_of p) m.from
     from_leads = subst (LeadsTo v (at_old_name false p) (parent_of p)) (sym (ap (λ (x : Move). x.from) meant.is)) meant.ends.source.above
 
-    to_leads : LeadsTo v (at_old_name true q) (parent_of q) m.to.inode
+    pub to_leads : LeadsTo v (at_old_name true q) (parent_of q) m.to.inode
     to_leads = meant.ends.target
 
-    to_directory : IsDirectoryAt v m.to.inode
+    pub to_directory : IsDirectoryAt v m.to.inode
     to_directory = meant.ends.directory
 
     -- a directory that gets another parent is one
-    moved_directory : is_reparented m ≡ true → IsDirectoryAt v m.moved.inode
-    moved_directory is h s = sym (ap is_directory (meant.ends.source.dinode h s)) ∙ first (is_directory m.moved.dinode) (not (m.from == m.to.inode)) is
+    pub moved_directory : is_reparented m ≡ true → IsDirectoryAt v m.moved.inode
+    moved_directory is h s = sym (ap is_directory (meant.ends.source.dinode h s)) ∙ and_left (is_directory m.moved.dinode) (not (m.from == m.to.inode)) is
 
     -- before it is carried out
     seen_told : (rule b : ℕ) → checks.IsWrongMove v m rule b → IsToldOf v im call rule b
@@ -119,16 +125,18 @@ module _ (v : Seen) (im : Image) (p q : Path) (read : IsReadFrom v im) (whole : 
     seen_told _ _ (checks.no_parent is linear none) = at_end false m.moved.inode moved_leads 10 m.moved.inode (path.no_dots (moved_directory is) linear none)
 
     -- in a directory of the move as the view shows it, or in a group
-    drafted_told : (from_directory : IsDirectoryAt v m.from) (blocks : List ℕ) (rule b : ℕ) → drafted.IsWrongIn v m blocks rule b → IsToldOf v im call rule b
-    drafted_told from_directory blocks _ _ (drafted.IsWrongIn.to_go dir rule b name one broken) = by one broken
+    drafted_told : (from_directory : IsDirectoryAt v m.from) (blocks : List ℕ) → lost_there m ≡ [] → (rule b : ℕ) → drafted.IsWrongIn v m blocks rule b → IsToldOf v im call rule b
+    drafted_told from_directory blocks none _ _ (drafted.IsWrongIn.to_go dir rule b names name one after) = by names name one after
       where
-        by : drafted.IsOneOf m dir name → ((h : Holding) → dirs.IsShown v dir h → dirs.IsBroken v h rule b) → IsToldOf v im call rule b
-        by (drafted.IsOneOf.the_new is) broken = above_end true m.to.inode to_leads rule b (path.in_directory rule b to_directory broken)
-        by drafted.IsOneOf.the_old broken = above_end false m.from from_leads rule b (path.in_directory rule b from_directory broken)
-        by (drafted.IsOneOf.the_parent is) broken = at_end false m.moved.inode moved_leads rule b (path.in_directory rule b (moved_directory is) broken)
-    drafted_told from_directory blocks _ _ (drafted.IsWrongIn.to_come rule b none broken) =
-        on_parent true rule b (name_told v im read whole (at_old_name true q) (parent_of q) m.to.inode to_leads to_directory rule b broken)
-    drafted_told from_directory blocks _ _ (drafted.IsWrongIn.in_group rule b breaks) = on true rule b (itself rule b (some_told v im read whole blocks rule b breaks))
+        by : (names : List (List ℕ)) (name : List ℕ) → drafted.IsOneOf m dir names name → IsAfter v dir names (λ k. dirs.IsBroken v k rule b) → IsToldOf v im call rule b
+        by _ _ (drafted.IsOneOf.the_new is) after = above_end true m.to.inode to_leads rule b (path.in_directory rule b to_directory (after_none v m.to.inode (λ k. dirs.IsBroken v k rule b) after))
+        by _ _ drafted.IsOneOf.the_old after = above_end false m.from from_leads rule b (path.in_directory rule b from_directory (after_none v m.from (λ k. dirs.IsBroken v k rule b) after))
+        by _ _ (drafted.IsOneOf.the_old_then is within) after = absurd (some_lost m is none)
+        by _ _ (drafted.IsOneOf.the_parent is) after = at_end false m.moved.inode moved_leads rule b (path.in_directory rule b (moved_directory is) (after_none v m.moved.inode (λ k. dirs.IsBroken v k rule b) after))
+    drafted_told from_directory blocks none _ _ (drafted.IsWrongIn.to_come rule b after) =
+        on_parent true rule b (name_told v im read whole (at_old_name true q) (parent_of q) m.to.inode to_leads to_directory rule b
+        (after_none v m.to.inode (λ k. names_in.IsWrongForName v k rule b) (subst (λ names. IsAfter v m.to.inode names (λ k. names_in.IsWrongForName v k rule b)) none after)))
+    drafted_told from_directory blocks none _ _ (drafted.IsWrongIn.in_group rule b breaks) = on true rule b (itself rule b (some_told v im read whole blocks rule b breaks))
 
     -- blocks that were found are called free
     found_free : (node need : ℕ) (room : List ℕ) → HasRoom v node m need room → (b : ℕ) → Contains room b → IsSaidToBeFree v im b
@@ -136,7 +144,7 @@ module _ (v : Seen) (im : Image) (p q : Path) (read : IsReadFrom v im) (whole : 
 
     -- as it is carried out
     carried_told : (from_directory : IsDirectoryAt v m.from) (node rule b : ℕ) → carrying.IsDamageOf v node m rule b → IsToldOf v im call rule b
-    carried_told dir node _ _ (carrying.to_count rule b wrong) = drafted_told dir [] rule b wrong
+    carried_told dir node _ _ (carrying.to_count rule b none wrong) = drafted_told dir [] none rule b wrong
     carried_told dir node _ _ (carrying.of_room need rule b counted broken) = on true rule b (itself rule b (group_told v im read whole broken.group broken.has rule b broken.broken))
     carried_told dir node _ _ (carrying.on_way need room rule b has wrong) =
         on_parent true rule b (name_told v im read whole (at_old_name true q) (parent_of q) m.to.inode to_leads to_directory rule b wrong)
@@ -148,7 +156,9 @@ module _ (v : Seen) (im : Image) (p q : Path) (read : IsReadFrom v im) (whole : 
         by (carrying.a_dinode (inr (inr is))) free = on false 5 b (free_told v im read whole (at_old_name false p) p b (subst (LeadsTo v (at_old_name false p) p) (sym is) moved_leads) free)
         by (carrying.on_way on_it) free =
             on_parent true 5 b (free_on_way_told v im read whole (at_old_name true q) (parent_of q) m.to.inode to_leads to_directory m.new_name b on_it free)
-    carried_told dir node _ _ (carrying.to_draft need room rule b has wrong) = drafted_told dir (room ++ freed_by m) rule b wrong
+    carried_told dir node _ _ (carrying.to_draft need room rule b has none wrong) = drafted_told dir (room ++ freed_by m) none rule b wrong
+    carried_told dir node _ _ (carrying.of_freed rule b breaks) = on true rule b (itself rule b (some_told v im read whole (freed_by m) rule b breaks))
+    carried_told dir node _ _ (carrying.to_look rule b wrong) = on_parent true rule b (name_told v im read whole (at_old_name true q) (parent_of q) m.to.inode to_leads to_directory rule b wrong)
 
   moved_told : (rule b : ℕ) → moving.IsDamage v call rule b → IsToldOf v im call rule b
   moved_told rule b (moving.at_ends at) = ended_told rule b at

@@ -206,7 +206,7 @@ module _ (v : Seen) (im : Image) (read : IsReadFrom v im) (whole : HasWholeGroup
             beyond_device m.from m.block (Below a m.from led.0 led.1 led.2) (below has.1.by a has.0 m.from led.0 led.1 led.2 m.block has.1.claimed has.1.dinode led.3) out
 
     -- a block of an inode to which a path leads
-    needed_out : (a : ℕ) (m : Missing) → LeadsTo v wants path a → (W : Holding → ℕ → Type 0) (least : ℕ)
+    pub needed_out : (a : ℕ) (m : Missing) → LeadsTo v wants path a → (W : Holding → ℕ → Type 0) (least : ℕ)
         → ((h : Holding) → IsShown v a h → IsNeeded v h (W h) least m) → im.count ≤ m.block → Source m
     needed_out a m leads W least needs out = elim (led_there v im read whole.image wants path a leads) [
       | inr ahead ↦ inr ahead
@@ -216,7 +216,7 @@ module _ (v : Seen) (im : Image) (read : IsReadFrom v im) (whole : HasWholeGroup
     ]
 
     -- the same of a directory
-    directory_out : (a : ℕ) (m : Missing) → LeadsTo v wants path a → IsDirectoryAt v a → v.block_at m.block ≡ None → ((h : Holding) → dirs.IsShown v a h → IsWay h m) → im.count ≤ m.block → Source m
+    pub directory_out : (a : ℕ) (m : Missing) → LeadsTo v wants path a → IsDirectoryAt v a → v.block_at m.block ≡ None → ((h : Holding) → dirs.IsShown v a h → IsWay h m) → im.count ≤ m.block → Source m
     directory_out a m leads directory absent ways out = elim (led_there v im read whole.image wants path a leads) [
       | inr ahead ↦ inr ahead
       | inl has ↦ elim (directory_or v im read whole.image a (is_directory v im read whole.image a has directory)) [
@@ -237,15 +237,15 @@ module _ (v : Seen) (im : Image) (read : IsReadFrom v im) (whole : HasWholeGroup
   own_way : (h : Holding) (m : Missing) → m ≡ missing_dinode h.own → IsWay h m
   own_way h m is = inl (ap (λ (x : Missing). x.block) is, ap (λ (x : Missing). x.from) is)
 
-  name_way : (h : Holding) (name : List ℕ) (m : Missing) → im.count ≤ m.block → dirs.IsNeededFor v h name m → IsWay h m
+  pub name_way : (h : Holding) (name : List ℕ) (m : Missing) → im.count ≤ m.block → dirs.IsNeededFor v h name m → IsWay h m
   name_way h name m out (dirs.IsNeededFor.the_dinode is absent) = own_way h m is
   name_way h name m out (dirs.IsNeededFor.in_hashed is needs) = hashed_way h _ m out needs
 
-  all_way : (h : Holding) (m : Missing) → im.count ≤ m.block → dirs.IsNeededForAll v h m → IsWay h m
+  pub all_way : (h : Holding) (m : Missing) → im.count ≤ m.block → dirs.IsNeededForAll v h m → IsWay h m
   all_way h m out (dirs.IsNeededForAll.the_dinode is absent) = own_way h m is
   all_way h m out (dirs.IsNeededForAll.in_hashed is needs) = hashed_way h _ m out needs
 
-  unread_out : (wants : List Want) (path : Path) (m : Missing) → IsUnread v wants path m → im.count ≤ m.block → Source wants path m
+  pub unread_out : (wants : List Want) (path : Path) (m : Missing) → IsUnread v wants path m → im.count ≤ m.block → Source wants path m
   unread_out wants path m (a_dinode depth next held absent is) out = inl (at_superblock m (ap (λ (x : Missing). x.from) is) (next_out wants path depth m.block next out))
   unread_out wants path m (in_directory front back dir name on leads there directory needs absent) out =
       elim (directory_out wants front dir m leads directory absent (λ h seen. name_way h name m out (needs h seen)) out) [
@@ -253,7 +253,7 @@ module _ (v : Seen) (im : Image) (read : IsReadFrom v im) (whole : HasWholeGroup
         | inr ahead ↦ inr (further v im read whole.image wants front (name ∷ back) path on ahead)
       ]
 
-  removal_out : (call : Call) (m : Missing) → removing.IsNeededFor v call m → im.count ≤ m.block → Source (wanted call) (path_of call false) m
+  pub removal_out : (call : Call) (m : Missing) → removing.IsNeededFor v call m → im.count ≤ m.block → Source (wanted call) (path_of call false) m
   removal_out call m (removing.on_path unread) out = unread_out (wanted call) (path_of call false) m unread out
   removal_out call m (removing.of_inode a taken (removing.IsNeededOf.in_tree needs)) out = needed_out (wanted call) (path_of call false) a m taken.leads (λ h. AnyIndex) 1 needs out
   removal_out call m (removing.of_inode a taken (removing.IsNeededOf.in_leaves directory needs absent)) out =
@@ -261,7 +261,7 @@ module _ (v : Seen) (im : Image) (read : IsReadFrom v im) (whole : HasWholeGroup
   removal_out call m (removing.of_group a blocks taken all held needs) out =
       absurd (omega (arith, out, whole.headers needs.0 m.block needs.1 needs.2.3.block.own))
 
-  insert_way : (h : Holding) (name : List ℕ) (m : Missing) → im.count ≤ m.block → names.IsNeededForName v h name m → IsWay h m
+  pub insert_way : (h : Holding) (name : List ℕ) (m : Missing) → im.count ≤ m.block → names.IsNeededForName v h name m → IsWay h m
   insert_way h name m out (names.IsNeededForName.the_dinode is absent) = own_way h m is
   insert_way h name m out (names.IsNeededForName.in_hashed is (inserts.IsNeededToInsert.of_chain needs)) = hashed_way h _ m out needs
   insert_way h name m out (names.IsNeededForName.in_hashed is (inserts.IsNeededToInsert.of_table full one needs)) = way_of h _ 0 m needs.way
@@ -271,7 +271,7 @@ module _ (v : Seen) (im : Image) (read : IsReadFrom v im) (whole : HasWholeGroup
   above_out call m (inl source) = inl source
   above_out call m (inr ahead) = let f = from_parent (path_of call false) in inr (further v im read whole.image (wanted call) (making.directory_path call) f.0 (path_of call false) f.1 ahead)
 
-  making_out : (call : Call) (m : Missing) → making.IsNeededFor v call m → im.count ≤ m.block → Source (wanted call) (path_of call false) m
+  pub making_out : (call : Call) (m : Missing) → making.IsNeededFor v call m → im.count ≤ m.block → Source (wanted call) (path_of call false) m
   making_out call m (making.on_path unread) out = above_out call m (unread_out (wanted call) (making.directory_path call) m unread out)
   making_out call m (making.to_look a named leads there directory absent needs) out =
       above_out call m (directory_out (wanted call) (making.directory_path call) a m leads directory absent (λ h seen. name_way h (making.name_in call) m out (needs h seen)) out)
@@ -284,7 +284,7 @@ module _ (v : Seen) (im : Image) (read : IsReadFrom v im) (whole : HasWholeGroup
   file_out wants path a W blocks m leads (of_any needs) out = needed_out wants path a m leads (λ h. AnyIndex) 1 needs out
   file_out wants path a W blocks m leads (of_group needs) out = absurd (omega (arith, out, whole.headers needs.0 m.block needs.1 needs.2.3.block.own))
 
-  writing_out : (call : Call) (m : Missing) → writing.IsNeededFor v call m → im.count ≤ m.block → Source (wanted call) (path_of call false) m
+  pub writing_out : (call : Call) (m : Missing) → writing.IsNeededFor v call m → im.count ≤ m.block → Source (wanted call) (path_of call false) m
   writing_out call m (writing.on_path unread) out = unread_out (wanted call) (path_of call false) m unread out
   writing_out call m (writing.of_write a at new changes puts needs) out = file_out (wanted call) (path_of call false) a (λ h. IsLookedAt h at (at + length new)) [] m changes.at.leads needs out
   writing_out call m (writing.of_taken node a at new need room changes puts has is_room needs) out =
@@ -292,27 +292,3 @@ module _ (v : Seen) (im : Image) (read : IsReadFrom v im) (whole : HasWholeGroup
   writing_out call m (writing.of_cut a size changes cuts needs) out = file_out (wanted call) (path_of call false) a (λ h. IsCutAt h size) [] m changes.at.leads needs out
   writing_out call m (writing.of_freed a size time freed fates changes cuts draft held needs) out = file_out (wanted call) (path_of call false) a (λ h i. ⊥) freed m changes.at.leads needs out
   writing_out call m (writing.of_room a at new need changes puts has needed) out = absurd (omega (arith, out, whole.headers needed.group m.block needed.has needed.missing.own))
-
--- what is so on the call's one path
-own_source : (v : Seen) (im : Image) (call : Call) (m : Missing) → IsBrokenSource v im (source_of im.size m) ⊎ HasAstray v im (wanted call) (path_of call false) → IsBrokenSource v im (source_of im.size m) ⊎ HasAstrayOn v im call
-own_source v im call m (inl source) = inl source
-own_source v im call m (inr ahead) = inr (record { wants = wanted call; names = path_of call false; on = its_own; astray = ahead })
-
-pub needs_tell : NeedsTell
-needs_tell v im (calls.Create p) m read whole needs out = own_source v im (calls.Create p) m (making_out v im read whole (calls.Create p) m needs out)
-needs_tell v im (calls.Mkdir p) m read whole needs out = own_source v im (calls.Mkdir p) m (making_out v im read whole (calls.Mkdir p) m needs out)
-needs_tell v im (calls.Unlink p) m read whole needs out = own_source v im (calls.Unlink p) m (removal_out v im read whole (calls.Unlink p) m needs out)
-needs_tell v im (calls.Rmdir p) m read whole needs out = own_source v im (calls.Rmdir p) m (removal_out v im read whole (calls.Rmdir p) m needs out)
-needs_tell v im (calls.Read p at n) m read whole (reading.on_path unread) out = own_source v im (calls.Read p at n) m (unread_out v im read whole (wanted (calls.Read p at n)) (path_of (calls.Read p at n) false) m unread out)
-needs_tell v im (calls.Read p at n) m read whole (reading.at_end a leads asked) out = own_source v im (calls.Read p at n) m (needed_out v im read whole (wanted (calls.Read p at n)) (path_of (calls.Read p at n) false) a m leads (λ h. IsInRange h at n) 0 (λ h shown. (asked h shown).1) out)
-needs_tell v im (calls.Dread p at n) m read whole (reading.on_path unread) out = own_source v im (calls.Dread p at n) m (unread_out v im read whole (wanted (calls.Dread p at n)) (path_of (calls.Dread p at n) false) m unread out)
-needs_tell v im (calls.Dread p at n) m read whole (reading.at_end a leads asked) out = own_source v im (calls.Dread p at n) m (needed_out v im read whole (wanted (calls.Dread p at n)) (path_of (calls.Dread p at n) false) a m leads (λ h. IsInRange h at n) 0 (λ h shown. (asked h shown).1) out)
-needs_tell v im (calls.Write p at bytes) m read whole needs out = own_source v im (calls.Write p at bytes) m (writing_out v im read whole (calls.Write p at bytes) m needs out)
-needs_tell v im (calls.Truncate p n) m read whole needs out = own_source v im (calls.Truncate p n) m (writing_out v im read whole (calls.Truncate p n) m needs out)
-needs_tell v im (calls.Stat p) m read whole (reading.on_path unread) out = own_source v im (calls.Stat p) m (unread_out v im read whole (wanted (calls.Stat p)) (path_of (calls.Stat p) false) m unread out)
-needs_tell v im (calls.Stat p) m read whole (reading.at_end a leads asked) out = own_source v im (calls.Stat p) m (directory_out v im read whole (wanted (calls.Stat p)) (path_of (calls.Stat p) false) a m leads asked.0 asked.2 (λ h seen. all_way v im read whole h m out (asked.1 h seen).2) out)
-needs_tell v im (calls.List p) m read whole (reading.on_path unread) out = own_source v im (calls.List p) m (unread_out v im read whole (wanted (calls.List p)) (path_of (calls.List p) false) m unread out)
-needs_tell v im (calls.List p) m read whole (reading.at_end a leads asked) out = own_source v im (calls.List p) m (directory_out v im read whole (wanted (calls.List p)) (path_of (calls.List p) false) a m leads asked.0 asked.2 (λ h seen. all_way v im read whole h m out (asked.1 h seen)) out)
-needs_tell v im (calls.Rename p q) m read whole needs out = moves_out v im read whole p q m needs out
-needs_tell v im calls.Sync m read whole (reading.on_path unread) out = own_source v im calls.Sync m (unread_out v im read whole (wanted calls.Sync) (path_of calls.Sync false) m unread out)
-needs_tell v im calls.Sync m read whole (reading.at_end a leads asked) out = absurd asked

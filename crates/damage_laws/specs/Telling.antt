@@ -24,6 +24,8 @@ use Rattle.image_model.specs.Rules.{Breaks}
 use Rattle.image_model.specs.Stands.{Layout}
 use Rattle.image_mount.specs.Mounted.{IsMounted, MountedValue}
 use Rattle.file_calls.specs.Making as making
+use Rattle.file_calls.specs.MoveEnds.{IsRenaming}
+use Rattle.file_calls.specs.Moving as moving
 use Rattle.path_walks.specs.Walks as path
 use Rattle.file_calls.specs.Removing as removing
 use Rattle.resource_groups.specs.Putting.{HasDataBlock}
@@ -147,10 +149,10 @@ MakingsTellExactly = (v : Seen) (im : Image) (call : Call) (rule b : ℕ) → Is
 
 -- damage that moving a name meets, the same
 abbrev pub MovesTell : Type 0
-MovesTell = (v : Seen) (im : Image) (call : Call) (rule b : ℕ) → IsReadFrom v im → HasWholeGroups v im → moving.IsRenaming call → moving.IsDamage v call rule b → IsToldOf v im call rule b
+MovesTell = (v : Seen) (im : Image) (call : Call) (rule b : ℕ) → IsReadFrom v im → HasWholeGroups v im → IsRenaming call → moving.IsDamage v call rule b → IsToldOf v im call rule b
 
 abbrev pub MovesTellExactly : Type 0
-MovesTellExactly = (v : Seen) (im : Image) (call : Call) (rule b : ℕ) → IsReadFrom v im → HasWholeGroups v im → HasRootInside v → moving.IsRenaming call → moving.IsDamage v call rule b → IsToldOn v im call rule b
+MovesTellExactly = (v : Seen) (im : Image) (call : Call) (rule b : ℕ) → IsReadFrom v im → HasWholeGroups v im → HasRootInside v → IsRenaming call → moving.IsDamage v call rule b → IsToldOn v im call rule b
 
 -- damage that any call meets of those that `file_calls` answers
 abbrev pub CallsTell : Type 0
