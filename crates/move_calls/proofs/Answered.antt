@@ -148,8 +148,8 @@ module _ (v : Seen) (c : Call) (node time : ℕ) where
   needed_of NotBuilt (IsAnswerOf.carried m moves is) n e = cc
 
   absent_in : (m : Move) (blocks : List ℕ) (n : Missing) → IsNeededIn v m blocks n → v.block_at n.block ≡ None
-  absent_in m blocks n (IsNeededIn.to_go dir names name absent one needed) = absent
-  absent_in m blocks n (IsNeededIn.to_come absent needed) = absent
+  absent_in m blocks n (IsNeededIn.to_go dir names name absent one needed) = absent.absent
+  absent_in m blocks n (IsNeededIn.to_come absent needed) = absent.absent
   absent_in m blocks n (IsNeededIn.in_group (g, has, some)) = some.3.block.absent
 
   absent_so : (m : Move) (n : Missing) → NeedsBlock v node m n → v.block_at n.block ≡ None

@@ -12,7 +12,6 @@ use Rattle.glock_names.specs.Steps.{TellsOf}
 use Rattle.glock_names.specs.Views.{Seen}
 use Rattle.glock_names.specs.declared.steps.CallFault.{CallFault}
 use Rattle.glock_names.specs.declared.steps.Missing.{Missing}
-use Rattle.hash_dirs.specs.Shown.{IsSound}
 use Rattle.directories.specs.Shown.{IsBroken, IsDirectoryIn, IsNeededFor, IsShown, Says}
 use Rattle.directories.specs.Taking.{HasNameIn, IsWithoutName, PutsTwo}
 use Rattle.directories.proofs.Forms.{is_directory_here}
@@ -20,9 +19,9 @@ use Rattle.directories.proofs.Sound.{says_sound}
 use Rattle.path_walks.proofs.Faults.{tells_each, tells_so}
 use Rattle.path_walks.proofs.Images.{no_record}
 use Rattle.name_inserts.specs.Inserting.{IsNeededForName, IsWrongForName}
-use Rattle.name_moves.specs.Becoming.{IsAfter, of_none}
+use Rattle.name_moves.specs.Becoming.{CanTell, IsAfter, none_went, of_linear, of_none, of_sound}
 use Rattle.name_moves.specs.Steps.{AreLost, left_of}
-use Rattle.name_moves.proofs.Loses.{all_directory, all_sound, named_sound, only_one, still_named}
+use Rattle.name_moves.proofs.Loses.{all_directory, all_plain, all_sound, named_plain, named_sound, only_one, plain_says, still_named, tell_as}
 use Rattle.name_moves.proofs.Lost.{able_then, are_lost}
 use Rattle.name_moves.proofs.Told.{broken_below, name_needed_below, name_wrong_below, needed_below}
 
@@ -61,24 +60,38 @@ module _ (v : Seen) (dir : ℕ) (names : List (List ℕ)) (fates : FinMap nat_cm
 -- ---- a second name that goes
 
 module _ {V : Type 0} (seen : V → Seen) (old : Drafted V) (dir : ℕ) (gone name : List ℕ) (lost_one : AreLost (seen old.view) dir (gone ∷ []) old.fates) where
-  -- it is still there, where the directory is sound
-  pub second_there : name ≢ gone → HasNameIn (seen old.view) dir name → (h : Holding) → IsShown (seen old.view) dir h → IsSound h → ((k : Holding) → IsShown (seen_in seen old) dir k → Says k name None) → ⊥
-  second_there other named h shown sound nowhere =
-      let k = left_of (seen old.view) old.fates h in
-      let one = lost_one.each h shown sound in
-      let e = named h shown in
-      let r = named_sound h name e.0 sound e.1 in
-      still_named h k gone name r.0 (only_one gone h k one.lost) other r.1
-      (no_record (records_of k) name (says_sound k name None (all_sound (gone ∷ []) h k one.lost sound) (nowhere k one.shown)))
+  -- it is still there, where it is told what the directory is
+  pub second_there : name ≢ gone → HasNameIn (seen old.view) dir name → (h : Holding) → IsShown (seen old.view) dir h → CanTell (gone ∷ []) h → ((k : Holding) → IsShown (seen_in seen old) dir k → Says k name None) → ⊥
+  second_there other named h shown told nowhere = by told
+    where
+      by : CanTell (gone ∷ []) h → ⊥
+      by (none_went none) = absurd (no none)
+        where
+          no : gone ∷ [] ≡ [] → ⊥
+          no e = cc
+      by (of_sound sound) =
+          let one = lost_one.each h shown (of_sound sound) in
+          let e = named h shown in
+          let r = named_sound h name e.0 sound e.1 in
+          still_named h (left_of (seen old.view) old.fates h) gone name r.0 (only_one gone h (left_of (seen old.view) old.fates h) one.lost) other r.1
+          (no_record (records_of (left_of (seen old.view) old.fates h)) name
+          (says_sound (left_of (seen old.view) old.fates h) name None (all_sound (gone ∷ []) h (left_of (seen old.view) old.fates h) one.lost sound) (nowhere (left_of (seen old.view) old.fates h) one.shown)))
+      by (of_linear plain flat) =
+          let one = lost_one.each h shown (of_linear plain flat) in
+          let e = named h shown in
+          let r = named_plain h name e.0 plain e.1 in
+          still_named h (left_of (seen old.view) old.fates h) gone name r.0 (only_one gone h (left_of (seen old.view) old.fates h) one.lost) other r.1
+          (no_record (records_of (left_of (seen old.view) old.fates h)) name
+          (plain_says (left_of (seen old.view) old.fates h) name None (all_plain (gone ∷ []) h (left_of (seen old.view) old.fates h) one.lost plain).0 (nowhere (left_of (seen old.view) old.fates h) one.shown)))
 
   module _ (new : Drafted V) (leaf : ℕ) (without : IsWithoutName (seen_in seen old) (seen_in seen new) dir name leaf) (two : PutsTwo seen old new dir leaf) (named : HasNameIn (seen_in seen old) dir name) where
     pub second_lost : AreLost (seen old.view) dir (gone ∷ name ∷ []) new.fates
-    second_lost = are_lost seen old new dir (gone ∷ []) name leaf lost_one without two named (λ h sound. sound)
+    second_lost = are_lost seen old new dir (gone ∷ []) name leaf lost_one without two named
 
-    pub second_able : (h : Holding) → IsShown (seen old.view) dir h → IsSound h → IsDirectoryIn (seen_in seen old) dir
+    pub second_able : (h : Holding) → IsShown (seen old.view) dir h → CanTell (gone ∷ name ∷ []) h → IsDirectoryIn (seen_in seen old) dir
         → ((seen_in seen new).block_at dir ≡ Some two.bytes) × (HasHeader 4 400 two.bytes × (is_directory (dinode_of two.bytes) ≡ true))
-    second_able h shown sound directory =
-        let one = lost_one.each h shown sound in
+    second_able h shown told directory =
+        let one = lost_one.each h shown (tell_as gone (name ∷ []) (gone ∷ []) h told) in
         let k = left_of (seen old.view) old.fates h in
-        able_then seen old new dir (gone ∷ []) name leaf lost_one without two named h shown sound one
+        able_then seen old new dir (gone ∷ []) name leaf lost_one without two named h shown told
         (sym (all_directory (gone ∷ []) h k one.lost) ∙ is_directory_here (seen_in seen old) dir k directory two.there one.shown.inode)

@@ -32,7 +32,7 @@ use Rattle.hash_dirs.proofs.Chained.{in_chain, index_low}
 use Rattle.hash_dirs.proofs.Named.{find_some}
 use Rattle.hash_steps.specs.Leaves.{has_room_for, leaf_depth}
 use Rattle.name_inserts.specs.Need.{chain_of, first_depth, leaves_from, most_steps, name_need, need_in_hashed, need_in_linear, need_within}
-use Rattle.name_moves.specs.Becoming.{HasItsBlocks, LosesAll, LosesName, NeedsAfter, of_none, of_one}
+use Rattle.name_moves.specs.Becoming.{HasItsBlocks, LosesAll, LosesName, NeedsAfter, NeedsJust, of_none, of_one}
 use Rattle.name_moves.proofs.Loses.{all_sound, sound_lost}
 
 -- ---- the first that passes a test parts a list in one way
@@ -318,3 +318,10 @@ pub need_once : (names : List (List ℕ)) (h : Holding) (name : List ℕ) (a b :
 need_once names h name a b sound hash one two =
     let same = all_alike names h h one.without two.without (alike_self h) sound sound one.lost two.lost in
     one.is ∙ sym (need_same one.without two.without same (all_sound names h one.without one.lost sound) name hash) ∙ sym two.is
+
+-- so many, neither more nor fewer
+pub need_just : (names : List (List ℕ)) (h : Holding) (name : List ℕ) (need : ℕ) → IsSound h → crc32_of name < 2 ^ 32 → NeedsAfter names h name need → NeedsJust names h name need
+need_just names h name need sound hash needs = record {
+  needs = needs;
+  each = λ without lost. need_once names h name need (name_need without name) sound hash needs (record { without = without; lost = lost; is = refl });
+}

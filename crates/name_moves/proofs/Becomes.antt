@@ -1,5 +1,5 @@
 -- What the draft of a move makes of the directories and the inode where these are apart.
-use Rattle.std.proofs.Common.{◌≡◌, ◌⊎◌, inl, inr, ℕ, true, false, List, None, refl, sym, ◌∙◌, subst}
+use Rattle.std.proofs.Common.{◌≡◌, ◌≢◌, ◌⊎◌, inl, inr, ℕ, true, false, List, None, refl, sym, ◌∙◌, subst}
 use Rattle.std.proofs.lemmas.Bool.{cases_Bool}
 use Rattle.std.proofs.lemmas.List.Elements.{Contains-append_left}
 use Rattle.std.specs.Prelude.{Contains, IsSome}
@@ -15,14 +15,15 @@ use Rattle.glock_names.specs.declared.views.Group.{Group}
 use Rattle.dinode_tree.specs.Shown.{IsAsSeen}
 use Rattle.resource_groups.specs.Putting.{HasDataBlock}
 use Rattle.resource_groups.specs.Shown.{IsHeaderOf}
+use Rattle.name_inserts.specs.Inserting.{IsNamedAt}
 use Rattle.name_drafts.proofs.Fates.{alike_seen}
 use Rattle.name_drafts.proofs.Faults.{data_apart}
 use Rattle.name_drafts.proofs.Grown.{over_alike}
-use Rattle.name_moves.specs.Becoming.{GetsParent, GivesName}
-use Rattle.name_moves.specs.Moving.{AreApart, Becomes, IsPlaceOfMove, Move, entry_for, freed_by, is_reparented, is_within, lost_there, parent_of, then_of}
+use Rattle.name_moves.specs.Becoming.{GetsParent, GivesName, IsLostAt, IsStamped}
+use Rattle.name_moves.specs.Moving.{AreApart, Becomes, IsMovedAt, IsPlaceOfMove, Move, entry_for, freed_by, is_reparented, is_within, it_gets, it_gives, it_loses, its_parent, its_time, lost_there, parent_of, then_of}
 use Rattle.name_moves.specs.Steps.{IsNamedIn, left_of}
 use Rattle.name_moves.proofs.Done.{AreDone, last, stays}
-use Rattle.name_moves.proofs.Joined.{as_inode, as_source, as_target, inode_nothing, source_nothing}
+use Rattle.name_moves.proofs.Joined.{Whose, as_inode, as_source, as_target, inode_nothing, source_nothing, whose}
 
 module _ (v : Seen) (m : Move) (old : Entry) (room : List ℕ) (time : ℕ) (taken : List ℕ) (change : Change) (is : AreDone v m old room time taken change) (shows : IsView v)
     (inside : (b : ℕ) → IsPlaceOfMove m b → HasDataBlock v b) (rooms : (b : ℕ) → Contains taken b → HasDataBlock v b) (away : (b : ℕ) → Contains room b → ¬ (Contains (freed_by m) b))
@@ -114,15 +115,82 @@ module _ (v : Seen) (m : Move) (old : Entry) (room : List ℕ) (time : ℕ) (tak
   pub parent : is_reparented m ≡ true → GetsParent inode (then_of v end inode) (parent_of m) time
   parent moves = subst (λ g. GetsParent inode g (parent_of m) time) (sym inode_over) ((is.joined.led.leads moves).each inode (apart.inode_shown moves) (apart.inode_sound moves)).becomes
 
+  -- ---- the times
+
+  pub target_time : IsStamped end m.to.inode time
+  target_time =
+      let stamped = is.joined.named.stamped in
+      let own = subst (λ b. IsSome (target.cell b)) apart.target_shown.inode.own apart.target_shown.inode.dinode in
+      record { bytes = stamped.bytes; put = target_end m.to.inode (inl own) ∙ stamped.put; times = stamped.times }
+
+  pub source_time : is_within m ≡ false → IsStamped end m.from time
+  source_time between =
+      let stamped = (is.joined.given.gives between).stamped in
+      let shown = apart.source_shown between in
+      let own = subst (λ b. IsSome (source.cell b)) shown.inode.own shown.inode.dinode in
+      record { bytes = stamped.bytes; put = source_end between m.from own ∙ stamped.put; times = stamped.times }
+
+  pub inode_time : is_reparented m ≡ true → IsStamped end m.moved.inode time
+  inode_time moves =
+      let stamped = (is.joined.led.leads moves).stamped in
+      let shown = apart.inode_shown moves in
+      let own = subst (λ b. IsSome (inode.cell b)) shown.inode.own shown.inode.dinode in
+      record { bytes = stamped.bytes; put = inode_away m.moved.inode own ∙ stamped.put; times = stamped.times }
+
+  -- ---- nothing is put that need not be
+
+  abbrev pub IsAt : ℕ → Type 0
+  IsAt b = IsMovedAt m source target inode named.gets.without named.gets.named taken b
+
+  target_at : (b : ℕ) → get is.joined.target b ≢ None → IsAt b
+  target_at b put = by (named.changes b)
+    where
+      by : (get is.joined.target b ≡ None) ⊎ (IsLostAt (lost_there m) target b ⊎ (IsNamedAt named.gets.without named.gets.named m.new_name taken b ⊎ (b ≡ target.own))) → IsAt b
+      by (inl none) = absurd (put none)
+      by (inr (inl lost)) = it_loses lost
+      by (inr (inr (inl at))) = it_gets at
+      by (inr (inr (inr own))) = its_time own
+
+  source_at : is_within m ≡ false → (b : ℕ) → get is.joined.source b ≢ None → IsAt b
+  source_at between b put = elim (((is.joined.given.gives between).each source (apart.source_shown between) (apart.source_sound between)).changes b) [
+    | inl none ↦ absurd (put none)
+    | inr at ↦ it_gives between at
+  ]
+
+  inode_at : is_reparented m ≡ true → (b : ℕ) → get is.joined.inode b ≢ None → IsAt b
+  inode_at moves b put = elim (((is.joined.led.leads moves).each inode (apart.inode_shown moves) (apart.inode_sound moves)).changes b) [
+    | inl none ↦ absurd (put none)
+    | inr at ↦ its_parent moves at
+  ]
+
+  pub changes : (b : ℕ) → ((k : Group) → HasGroup v k → ¬ (IsHeaderOf k b)) → ¬ (Contains (freed_by m) b) → (get end b ≡ None) ⊎ IsAt b
+  changes b far left = by (whose v m old room time taken is.fates is.joined b)
+    where
+      by : Whose v m old room time taken is.fates is.joined b → (get end b ≡ None) ⊎ IsAt b
+      by (inl none) = inl (stays v m old room time taken change is shows inside rooms b left far ∙ none)
+      by (inr (inl put)) = inr (target_at b put)
+      by (inr (inr (inl put))) = inr (source_at put.0 b put.1)
+      by (inr (inr (inr put))) = inr (inode_at put.0 b put.1)
+
   abbrev pub becomes : Becomes v m end old taken time source target inode
   becomes = record {
     gives = gives;
     after = named.after;
     gets = named.gets;
+    size = named.size;
+    count = named.count;
+    own = named.own;
+    itself = named.itself;
+    exchanged = named.exchanged;
     seen = after_seen;
+    left = λ b none some. named.unseen b (sym (target_end b ((named.blocks b).0 some)) ∙ none) some;
     blocks = named.blocks;
     parent = parent;
     still = λ stays_put b some. inode_away b some ∙ inode_nothing v m old room time taken is.fates is.joined stays_put b;
+    source_time = source_time;
+    target_time = target_time;
+    inode_time = inode_time;
+    changes = changes;
   }
 
   -- what none of them puts, and is no group's, is left

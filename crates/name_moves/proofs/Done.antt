@@ -26,7 +26,7 @@ use Rattle.image_changes.proofs.Inside.{stay_inside}
 use Rattle.path_walks.proofs.Lying.{data_lies, header_lies}
 use Rattle.name_drafts.proofs.Fates.{lock_put}
 use Rattle.name_drafts.proofs.Faults.{data_apart}
-use Rattle.name_moves.specs.Moving.{IsPlaceOfMove, IsPutUnder, Move, PutsUnder, freed_by}
+use Rattle.name_moves.specs.Moving.{AreJournaled, IsPlaceOfMove, IsPutUnder, Move, PutsUnder, freed_by}
 use Rattle.name_moves.specs.Moving as moving
 use Rattle.name_moves.specs.Steps.{AreJoined, AreSaidAndDone}
 use Rattle.name_moves.proofs.Joined.{target_put, what_joined}
@@ -97,6 +97,9 @@ says_or_not size g (b ∷ blocks) c = elim (says_or_not size g blocks c) [
 put_or_freed : (lock : LockName) (plain : Bool) (bytes : List ℕ) → Some (Put lock plain bytes) ≡ Some Freed → ⊥
 put_or_freed lock plain bytes e = cc
 
+plain_put : (x y : LockName) (plain : Bool) (m n : List ℕ) → Some (Put x false m) ≡ Some (Put y plain n) → plain ≡ false
+plain_put x y plain m n e = cc
+
 -- ---- what becomes of each block
 
 module _ (v : Seen) (m : Move) (old : Entry) (room : List ℕ) (time : ℕ) (taken : List ℕ) (change : Change) (is : AreDone v m old room time taken change) (shows : IsView v)
@@ -152,6 +155,15 @@ module _ (v : Seen) (m : Move) (old : Entry) (room : List ℕ) (time : ℕ) (tak
     | inr rest ↦ elim rest.1 [
       | inl none ↦ absurd (none_some (sym none ∙ put))
       | inr so ↦ subst (IsPutUnder v m taken b) (lock_put so.0 lock false plain so.1 bytes (sym so.2 ∙ put)) so.3
+    ]
+  ]
+
+  pub journaled : AreJournaled last
+  journaled b lock plain bytes put = elim (what b) [
+    | inl goes ↦ absurd (put_or_freed lock plain bytes (sym put ∙ is.said.gone b goes))
+    | inr rest ↦ elim rest.1 [
+      | inl none ↦ absurd (none_some (sym none ∙ put))
+      | inr so ↦ plain_put so.0 lock plain so.1 bytes (sym so.2 ∙ put)
     ]
   ]
 

@@ -1,5 +1,5 @@
 -- What becomes of each block where the drafts of three directories are put into one.
-use Rattle.std.proofs.Common.{◌≡◌, ◌⊎◌, inl, inr, ℕ, true, false, List, [], None, Some, refl, sym, ap, ◌∙◌, subst, arith}
+use Rattle.std.proofs.Common.{◌≡◌, ◌≢◌, ◌⊎◌, inl, inr, ℕ, true, false, List, [], None, Some, refl, sym, ap, ◌∙◌, subst, arith}
 use Rattle.std.proofs.lemmas.Bool.{cases_Bool}
 use Rattle.std.specs.Prelude.{Contains}
 use Rattle.std.specs.Ordering.{nat_cmp}
@@ -103,7 +103,7 @@ module _ (v : Seen) (m : Move) (old : Entry) (room : List ℕ) (time : ℕ) (tak
   target_put = by (inode_what to)
     where
       by_source : WhatPut v m.from [] is.source is.first is.second to → (lock : LockName) × (bytes : List ℕ) × (get is.second to ≡ Some (Put lock false bytes))
-      by_source (left none same) = (inode_lock to, is.named.here.0, same ∙ first_at to ∙ is.named.here.1)
+      by_source (left none same) = (inode_lock to, is.named.stamped.bytes, same ∙ first_at to ∙ is.named.stamped.put)
       by_source (put bytes may part now) = (inode_lock m.from, bytes, now)
 
       by : WhatPut v m.moved.inode [] is.inode is.second fates to → (lock : LockName) × (bytes : List ℕ) × (get fates to ≡ Some (Put lock false bytes))
@@ -122,6 +122,25 @@ module _ (v : Seen) (m : Move) (old : Entry) (room : List ℕ) (time : ℕ) (tak
 
   reparents : (b : ℕ) (bytes : List ℕ) → get is.inode b ≡ Some (Put (inode_lock m.moved.inode) false bytes) → is_reparented m ≡ true
   reparents b bytes now = elim (cases_Bool (is_reparented m)) [ inl moves ↦ moves | inr stays ↦ absurd (none_some (sym (inode_nothing stays b) ∙ now)) ]
+
+  -- what becomes of a block is what one of the three makes of it, or nothing
+  abbrev pub Whose : ℕ → Type 0
+  Whose b = (get fates b ≡ None) ⊎ ((get is.target b ≢ None) ⊎ (((is_within m ≡ false) × (get is.source b ≢ None)) ⊎ ((is_reparented m ≡ true) × (get is.inode b ≢ None))))
+
+  pub whose : (b : ℕ) → Whose b
+  whose b = by_inode (inode_what b)
+    where
+      by_target : WhatPut v to taken is.target empty is.first b → get fates b ≡ get is.first b → Whose b
+      by_target (left none same) so = inl (so ∙ same ∙ get-empty nat_cmp b)
+      by_target (put bytes may part now) so = inr (inl (λ none. none_some (sym none ∙ part)))
+
+      by_source : WhatPut v m.from [] is.source is.first is.second b → get fates b ≡ get is.second b → Whose b
+      by_source (left none same) so = by_target (target_what b) (so ∙ same)
+      by_source (put bytes may part now) so = inr (inr (inl (not_within b bytes part, λ none. none_some (sym none ∙ part))))
+
+      by_inode : WhatPut v m.moved.inode [] is.inode is.second fates b → Whose b
+      by_inode (left none same) = by_source (source_what b) same
+      by_inode (put bytes may part now) = inr (inr (inr (reparents b bytes part, λ none. none_some (sym none ∙ part))))
 
   -- ---- each block that is put is a data block of a group, and under one of the three locks
 

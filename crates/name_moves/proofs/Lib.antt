@@ -1,5 +1,6 @@
 pub mod Loses
 pub mod Told
+pub mod Under
 pub mod Lost
 pub mod After
 pub mod Ways
@@ -14,3 +15,5 @@ pub mod Imaged
 pub mod States
 pub mod Alike
 pub mod Moves
+pub mod Unbroken
+pub mod Asked

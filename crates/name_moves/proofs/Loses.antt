@@ -1,5 +1,5 @@
 -- Directories from which names went: what they keep, and what a draft shows of them.
-use Rattle.std.proofs.Common.{◌≡◌, ◌≢◌, ℕ, ◌<◌, ◌≤◌, Bool, true, false, inl, inr, List, [], ◌∷◌, ◌++◌, Option, None, Some, refl, sym, ap, ◌∙◌, subst, arith, cond}
+use Rattle.std.proofs.Common.{◌≡◌, ◌≢◌, ◌&&◌, ℕ, suc, ◌<◌, ◌≤◌, Bool, true, false, true≢false, inl, inr, List, [], ◌∷◌, ◌++◌, length, Option, None, Some, refl, sym, ap, ◌∙◌, subst, arith, append_assoc, length-append, cond}
 use Rattle.std.proofs.lemmas.List.Sums.{sum_by-cons}
 use Rattle.std.proofs.lemmas.List.Sorted.{Contains-permutation, IsPermutation-sym, sum_by-IsPermutation}
 use Rattle.std.proofs.lemmas.Slice.Eq.{bytes_eq-Decides}
@@ -10,8 +10,10 @@ use Rattle.std.specs.List.Sorted.{IsPermutation}
 use Rattle.gfs2_layout.specs.Device.{IsBlockSize}
 use Rattle.gfs2_layout.specs.Exchanges.{IsExchanged}
 use Rattle.gfs2_layout.specs.Holding.{Cell, Holding, cell_bytes, cell_part, part_at}
-use Rattle.gfs2_layout.specs.Inode.{Head, is_directory_in, records_of}
+use Rattle.gfs2_layout.specs.Inode.{Head, Leads, from_block, from_dinode, has_hash_flag, height_in, is_directory_in, is_hashed_in, records_of}
 use Rattle.gfs2_layout.specs.Records.{Record, record_named}
+use Rattle.gfs2_layout.specs.Structures.{is_directory}
+use Rattle.gfs2_layout.specs.declared.dinode.Dinode.{Dinode}
 use Rattle.glock_names.specs.Views.{Seen}
 use Rattle.glock_names.specs.declared.steps.Entry.{Entry}
 use Rattle.image_model.proofs.Held.{none_some, some_same}
@@ -21,20 +23,22 @@ use Rattle.dinode_tree.specs.Shown as inode
 use Rattle.dinode_tree.proofs.Sound.{sound_is_shown, sound_is_whole}
 use Rattle.linear_dirs.specs.Shown.{bytes_over, entry_of, holding_over}
 use Rattle.linear_dirs.proofs.Over.{as_seen, parts_stay}
+use Rattle.linear_dirs.proofs.Rewritten.{over_there}
 use Rattle.hash_dirs.specs.Finding.{IsLeafOfName, in_none, in_this}
 use Rattle.hash_dirs.specs.Shown.{IsSound, index_for}
 use Rattle.hash_dirs.proofs.Chained.{cell_some, in_chain}
 use Rattle.hash_dirs.proofs.Named.{find_some}
 use Rattle.directories.specs.Shown.{IsShown, Says}
+use Rattle.directories.specs.Shown as dirs
 use Rattle.directories.specs.Taking.{HasRecordOf, IsWithoutName}
 use Rattle.directories.specs.Taking as taking
 use Rattle.directories.proofs.Sound.{says_sound}
 use Rattle.path_walks.proofs.Images.{none_named}
-use Rattle.name_moves.specs.Becoming.{CanTell, HasItsBlocks, LosesAll, LosesName, of_none, of_one}
+use Rattle.name_moves.specs.Becoming.{CanTell, HasItsBlocks, IsAtRecord, IsLostAt, LosesAll, LosesName, none_went, of_linear, of_none, of_one, of_sound}
 
 -- ---- what a draft leaves of what is shown
 
-over_cell : (o : Option (List ℕ)) (c : Option Cell) → ((bytes : List ℕ) → IsSome c → o ≡ Some bytes → cell_bytes c ≡ bytes) → option_map (bytes_over o) c ≡ c
+pub over_cell : (o : Option (List ℕ)) (c : Option Cell) → ((bytes : List ℕ) → IsSome c → o ≡ Some bytes → cell_bytes c ≡ bytes) → option_map (bytes_over o) c ≡ c
 over_cell o None same = refl
 over_cell None (Some c) same = refl
 over_cell (Some bytes) (Some c) same = λ i. Some (record c { bytes = sym (same bytes refl refl) i })
@@ -117,9 +121,46 @@ pub lost_more : (names : List (List ℕ)) (name : List ℕ) (h k g : Holding) �
 lost_more _ name _ _ g (of_none h) last = of_one name [] h g g last (of_none g)
 lost_more _ name _ _ g (of_one first names h m k one later) last = of_one first (names ++ name ∷ []) h m g one (lost_more names name m k g later last)
 
+-- ---- the blocks to which something is done as names go
+
+pub last_lost : (names : List (List ℕ)) (name : List ℕ) (h k : Holding) (b : ℕ) → LosesAll names h k → IsAtRecord k name b → IsLostAt (names ++ name ∷ []) h b
+last_lost names name h k b lost at = record { before = names; name = name; later = []; parts = refl; without = k; lost = lost; at = at }
+
+pub lost_more_at : (names : List (List ℕ)) (name : List ℕ) (h : Holding) (b : ℕ) → IsLostAt names h b → IsLostAt (names ++ name ∷ []) h b
+lost_more_at names name h b is = record {
+  before = is.before;
+  name = is.name;
+  later = is.later ++ name ∷ [];
+  parts = ap (λ xs. xs ++ name ∷ []) is.parts ∙ append_assoc is.before (is.name ∷ is.later) (name ∷ []);
+  without = is.without;
+  lost = is.lost;
+  at = is.at;
+}
+
+-- where one name goes
+pub lost_one_at : (name : List ℕ) (h : Holding) (b : ℕ) → IsLostAt (name ∷ []) h b → IsAtRecord h name b
+lost_one_at name h b is = by is.before is.name is.later is.parts is.without is.lost is.at
+  where
+    by : (before : List (List ℕ)) (n : List ℕ) (later : List (List ℕ)) → name ∷ [] ≡ before ++ n ∷ later → (k : Holding) → LosesAll before h k → IsAtRecord k n b → IsAtRecord h name b
+    by [] n later e _ (of_none _) at = let same : name ≡ n = cc in subst (λ x. IsAtRecord h x b) (sym same) at
+    by (x ∷ before) n later e k lost at = absurd (omega (arith, ap length e, length-append before (n ∷ later)))
+
+-- ---- names that a sound directory can lose
+
+-- what is told once some names went is told whatever their names are
+pub tell_as : (name : List ℕ) (names others : List (List ℕ)) (h : Holding) → CanTell (name ∷ names) h → CanTell others h
+tell_as name names others h (none_went none) = absurd (no none)
+  where
+    no : name ∷ names ≡ [] → ⊥
+    no e = cc
+tell_as name names others h (of_sound sound) = of_sound sound
+tell_as name names others h (of_linear plain flat) = of_linear plain flat
+
+pub none_left : (h k : Holding) → LosesAll [] h k → k ≡ h
+none_left h _ (of_none _) = refl
+
 pub can_tell : (names : List (List ℕ)) (h : Holding) → IsSound h → CanTell names h
-can_tell [] h sound = tt
-can_tell (name ∷ names) h sound = sound
+can_tell names h sound = of_sound sound
 
 -- ---- what a draft shows of a sound one
 
@@ -150,7 +191,62 @@ loses_one v w dir name leaf without h shown sound e says =
       in_hashed = λ hashed. (leaf, without.in_hashed h shown hashed sound);
     }
 
--- the block with its record is one of the directory
+-- ---- of a linear one, whatever else it is
+
+pub plain_lost : (h g : Holding) (name : List ℕ) → LosesName h g name → is_hashed_in h ≡ false → (is_hashed_in g ≡ false) × (height_in g ≡ height_in h)
+plain_lost h g name lost plain = let cut = lost.in_linear plain in (ap (λ (d : Dinode). is_directory d && has_hash_flag d) cut.dinode ∙ plain, ap (λ (d : Dinode). d.height) cut.dinode)
+
+pub all_plain : (names : List (List ℕ)) (h g : Holding) → LosesAll names h g → is_hashed_in h ≡ false → (is_hashed_in g ≡ false) × (height_in g ≡ height_in h)
+all_plain _ _ _ (of_none h) plain = (plain, refl)
+all_plain _ _ _ (of_one name names h k g first later) plain =
+    let one = plain_lost h k name first plain in
+    let rest = all_plain names k g later one.0 in
+    (rest.0, rest.1 ∙ one.1)
+
+pub plain_says : (h : Holding) (name : List ℕ) (found : Option Entry) → is_hashed_in h ≡ false → Says h name found → found ≡ mapped entry_of (record_named (records_of h) name)
+plain_says h name _ plain (dirs.Says.in_linear so) = refl
+plain_says h name found plain (dirs.Says.in_hashed _ hashed fits leads) = absurd (true≢false (sym hashed ∙ plain))
+
+pub named_plain : (h : Holding) (name : List ℕ) (e : Entry) → is_hashed_in h ≡ false → Says h name (Some e) → (r : Record) × (record_named (records_of h) name ≡ Some r)
+named_plain h name e plain says = record_of_entry (record_named (records_of h) name) e (plain_says h name (Some e) plain says)
+
+pub loses_plain : (v w : Seen) (dir : ℕ) (name : List ℕ) (leaf : ℕ) → IsWithoutName v w dir name leaf → (h : Holding) → IsShown v dir h → is_hashed_in h ≡ false → (e : Entry) → Says h name (Some e) → LosesName h (holding_over w h) name
+loses_plain v w dir name leaf without h shown plain e says =
+    let r = named_plain h name e plain says in
+    record {
+      gone = r.0;
+      named = r.1;
+      exchanged = without.removed h r.0 shown (λ hashed. absurd (true≢false (sym hashed ∙ plain))) r.1;
+      kept = kept_over w h;
+      in_linear = λ so. without.in_linear h shown so;
+      in_hashed = λ hashed. absurd (true≢false (sym hashed ∙ plain));
+    }
+
+pub leaf_plain : (v : Seen) (dir : ℕ) (h : Holding) (name : List ℕ) (x : ℕ) → IsShown v dir h → is_hashed_in h ≡ false → HasRecordOf h name x → IsSome (h.cell x)
+leaf_plain v dir h name _ shown plain (taking.HasRecordOf.in_linear so) = shown.inode.dinode
+leaf_plain v dir h name x shown plain (taking.HasRecordOf.in_hashed y hashed leaf) = absurd (true≢false (sym hashed ∙ plain))
+
+-- one whose content is the rest of its dinode's block has no pointers
+no_leads : (h : Holding) → height_in h ≡ 0 → (b k level first c : ℕ) → Leads h b k level first c → ⊥
+no_leads h flat _ _ _ _ _ (from_dinode k level high low some) = omega (arith, flat, high)
+no_leads h flat _ _ _ _ _ (from_block b k level first c j leads low some) = no_leads h flat b k (suc level) first c leads
+
+pub plain_shown : (w : Seen) (h : Holding) (dir : ℕ) → h.own ≡ dir → IsSome (h.cell h.own) → h.size ≡ w.size → is_hashed_in (holding_over w h) ≡ false → height_in (holding_over w h) ≡ 0 → IsShown w dir (holding_over w h)
+plain_shown w h dir own some size plain flat = record {
+  inode = record {
+    own = own;
+    size = size;
+    dinode = over_there (w.block_at h.own) (h.cell h.own) ∙ some;
+    led_to = λ b k level first c leads. absurd (no_leads (holding_over w h) flat b k level first c leads);
+    same = as_seen w h;
+  };
+  leaves = λ hashed i place x chain more. absurd (true≢false (sym hashed ∙ plain));
+  whole = λ hashed at. absurd (true≢false (sym hashed ∙ plain));
+}
+
+-- ---- the block with the record
+
+-- it is one of the directory
 pub leaf_there : (v : Seen) (dir : ℕ) (h : Holding) (name : List ℕ) (x : ℕ) → IsShown v dir h → IsSound h → HasRecordOf h name x → IsSome (h.cell x)
 leaf_there v dir h name _ shown sound (taking.HasRecordOf.in_linear plain) = shown.inode.dinode
 leaf_there v dir h name x shown sound (taking.HasRecordOf.in_hashed y hashed leaf) = by (Some x) leaf x refl

@@ -59,7 +59,7 @@ use Rattle.name_moves.specs.Becoming.{LosesAll, LosesName, losses, of_none, of_o
 use Rattle.name_moves.specs.Moving.{AreApart, Becomes, CanBeMoved, IsMoveIn, IsMoving, IsPlaceOfMove, Move, StandsThere, an_inode, blocks_or_none, entry_for, freed_by, is_reparented, is_within, lost_there, nothing, parent_of, then_of}
 use Rattle.name_moves.specs.Steps.{IsNamedIn}
 use Rattle.name_moves.proofs.Becomes as made
-use Rattle.name_moves.proofs.Done.{AreDone, frees, insides, last, locks, puts_target}
+use Rattle.name_moves.proofs.Done.{AreDone, frees, insides, journaled, last, locks, puts_target}
 use Rattle.name_moves.proofs.Imaged.{apart_there, moved_directory, source_directory, two_directories}
 use Rattle.name_moves.proofs.Joined.{inode_puts, source_puts}
 use Rattle.name_moves.proofs.Loses.{only_one}
@@ -427,7 +427,9 @@ moving_is v m old room time taken change is shows can rooms away old_is = record
   left = is.joined.named.left;
   front = is.joined.named.front;
   locks = locks v m old room time taken change is shows can.inside rooms;
+  journaled = journaled v m old room time taken change is shows can.inside rooms;
   frees = frees v m old room time taken change is shows can.inside rooms;
+  gone = λ b goes. ap (λ f. is_some (block_with f None)) (is.said.gone b goes);
   puts = puts_target v m old room time taken change is shows can.inside rooms (λ goes. (can.others m.to.inode goes).1 refl);
   inside = insides v m old room time taken change is shows can.inside rooms;
   says = is.said.says;

@@ -28,11 +28,12 @@ use Rattle.directories.specs.Shown.{IsShown}
 use Rattle.new_inodes.specs.Touched.{IsTouched}
 use Rattle.resource_groups.proofs.Fits.{big_of}
 use Rattle.name_inserts.specs.HashInserting.{MayChange, StaysInside, a_data_block, a_taken_one, the_dinode}
-use Rattle.name_inserts.specs.Inserting.{CanGetName, IsNamed, PutsName}
+use Rattle.name_inserts.specs.Inserting.{CanGetName, IsNamed, IsNamedAt, PutsName}
+use Rattle.name_drafts.specs.Drafting.{HasTimes}
 use Rattle.name_drafts.proofs.Fates.{left_seen, put_elsewhere, put_there}
 use Rattle.name_drafts.proofs.Grown.{counts_timed}
 use Rattle.name_drafts.proofs.Named.{front_is}
-use Rattle.name_moves.specs.Becoming.{LosesAll}
+use Rattle.name_moves.specs.Becoming.{IsLostAt, LosesAll}
 use Rattle.name_moves.specs.Steps.{AreLost, IsLostIn, IsNamedIn, IsNamedThere, PutsOf, left_of}
 use Rattle.name_moves.proofs.Loses.{all_directory, can_tell, kept_back, kept_cells, kept_over}
 use Rattle.name_moves.proofs.Lost.{headed_directory}
@@ -194,6 +195,19 @@ module _ {V : Type 0} (seen : V → Seen) (old mid last : Drafted V) (dir : ℕ)
         counted = subst (λ d. IsCounted (dinode_in k) d [] (record_for name e ∷ [])) (sym touched.dinode) (counts_timed (dinode_in k) (dinode_in m) time (record_for name e ∷ []) puts.exchanged.counted);
       }
 
+      -- something is done to a block for the names that went, for the one that came, or for the time
+      changes : (b : ℕ) → (get last.fates b ≡ None) ⊎ (IsLostAt names h b ⊎ (IsNamedAt k m name inside.taken b ⊎ (b ≡ h.own)))
+      changes b = elim (cases_eq b dir) [
+        | inl same ↦ inr (inr (inr (same ∙ sym shown.inode.own)))
+        | inr away ↦ elim (puts.changes b) [
+          | inl stays ↦ elim (is.changes b) [
+            | inl none ↦ inl (last_away b away ∙ stays ∙ none)
+            | inr at ↦ inr (inl at)
+          ]
+          | inr at ↦ inr (inr (inl (subst (λ xs. IsNamedAt k m name xs b) same_taken at)))
+        ]
+      ]
+
       named_in : IsNamedIn v dir names name e time inside.taken last.fates h
       named_in = record {
         after = g;
@@ -220,16 +234,17 @@ module _ {V : Type 0} (seen : V → Seen) (old mid last : Drafted V) (dir : ℕ)
             last_away b (λ same. none (subst (λ x. IsSome (g.cell x)) (sym same) own_there))
             ∙ puts.drafted.others b (λ some. none (in_g b some))
             ∙ is.others b (λ some. none (in_g b ((puts.has.blocks b).1 (inl (kept_back h k (kept_over w h) b some)))));
+        changes = changes;
       }
 
-    named_there : IsNamedThere v dir names name e time room inside.taken last.fates
-    named_there = record { left = left; front = inside.front; puts = puts_named; here = (final, last_here); each = named_in }
+    named_there : HasTimes (dinode_of final) time → IsNamedThere v dir names name e time room inside.taken last.fates
+    named_there times = record { left = left; front = inside.front; puts = puts_named; stamped = record { bytes = final; put = last_here; times = times }; each = named_in }
 
     -- as many as it took, of the same room
-    pub named_of : (whole : List ℕ) (n : ℕ) → room ≡ whole → n + length left ≡ length whole → IsNamedThere v dir names name e time whole (take n whole) last.fates
-    named_of whole n same long =
+    pub named_of : HasTimes (dinode_of final) time → (whole : List ℕ) (n : ℕ) → room ≡ whole → n + length left ≡ length whole → IsNamedThere v dir names name e time whole (take n whole) last.fates
+    named_of times whole n same long =
         subst (λ xs. IsNamedThere v dir names name e time xs (take n xs) last.fates) same
-        (subst (λ xs. IsNamedThere v dir names name e time room xs last.fates) (sym (front_is room inside.taken left n inside.front (long ∙ ap length (sym same)))) named_there)
+        (subst (λ xs. IsNamedThere v dir names name e time room xs last.fates) (sym (front_is room inside.taken left n inside.front (long ∙ ap length (sym same)))) (named_there times))
 
 -- ---- its dinode, once it got the name
 

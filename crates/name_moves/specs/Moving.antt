@@ -9,7 +9,7 @@ use Rattle.drafts.specs.declared.fate.Fate.{Fate}
 use Rattle.drafts.specs.declared.fate.Fate.TheVariants.{Put}
 use Rattle.file_tree.specs.Names.{IsName}
 use Rattle.file_tree.specs.Tree.{Tree}
-use Rattle.gfs2_layout.specs.Holding.{Holding}
+use Rattle.gfs2_layout.specs.Holding.{Holding, Itself, bytes_at, part_at}
 use Rattle.gfs2_layout.specs.Inode.{dinode_in, records_of}
 use Rattle.gfs2_layout.specs.Records.{child_named}
 use Rattle.gfs2_layout.specs.Structures.{is_directory}
@@ -22,7 +22,8 @@ use Rattle.glock_names.specs.declared.views.Group.{Group}
 use Rattle.dinode_tree.specs.Reading.{inode_lock}
 use Rattle.dinode_tree.specs.Shown.{IsAsSeen}
 use Rattle.dinode_tree.specs.Shown as inodes
-use Rattle.linear_dirs.specs.Shown.{holding_over}
+use Rattle.linear_dirs.specs.Exchanges.{HasExchanged}
+use Rattle.linear_dirs.specs.Shown.{holding_over, record_for}
 use Rattle.hash_dirs.specs.Shown.{IsSound}
 use Rattle.directories.specs.Shown.{HasName, IsBroken, IsDirectoryIn, IsShown, Says}
 use Rattle.directories.specs.Shown as dirs
@@ -37,17 +38,18 @@ use Rattle.image_model.specs.Flat.{Path}
 use Rattle.image_model.specs.Image.{Image}
 use Rattle.image_model.specs.Owners.{Owners, holding}
 use Rattle.image_model.specs.Stands.{Layout}
-use Rattle.image_changes.specs.Does.{AreInside, IsOf}
+use Rattle.image_changes.specs.Changes.{cover, is_free}
+use Rattle.image_changes.specs.Does.{AreInside, IsOf, is_content_of}
 use Rattle.image_changes.specs.Drafted.{IsFinished, is_freed, is_put}
 use Rattle.image_changes.specs.Flats.{in_directory}
 use Rattle.image_changes.specs.Instances.{IsAt, IsChildless, dinode_at, is_directory_at}
 use Rattle.draft_changes.specs.Resizing.{IsSaidFree}
 use Rattle.directory_changes.specs.Moving.{MovesName}
 use Rattle.path_walks.specs.declared.walk.Place.{Place}
-use Rattle.name_inserts.specs.Inserting.{CanGetName, IsNeededForName, IsWrongForName}
+use Rattle.name_inserts.specs.Inserting.{CanGetName, IsNamedAt, IsNeededForName, IsWrongForName}
 use Rattle.name_inserts.specs.Need.{name_need}
 use Rattle.name_moves.specs.declared.drafting.NameMove.{NameMove}
-use Rattle.name_moves.specs.Becoming.{GetsName, GetsParent, GivesName, IsAfter, LosesAll, losses}
+use Rattle.name_moves.specs.Becoming.{GetsName, GetsParent, GivesName, IsAfter, IsAtRecord, IsLostAt, IsStamped, LosesAll, losses}
 
 -- ---- what is to be moved
 
@@ -150,6 +152,10 @@ pub data IsPutUnder (v : Seen) (m : Move) (taken : List ℕ) (b : ℕ) (lock : L
 abbrev pub PutsUnder : Seen → FinMap nat_cmp Fate → Move → List ℕ → Type 0
 PutsUnder v fates m taken = (b : ℕ) (lock : LockName) (plain : Bool) (bytes : List ℕ) → get fates b ≡ Some (Put lock plain bytes) → IsPutUnder v m taken b lock
 
+-- whatever is put is journaled, since it is metadata
+abbrev pub AreJournaled : FinMap nat_cmp Fate → Type 0
+AreJournaled fates = (b : ℕ) (lock : LockName) (plain : Bool) (bytes : List ℕ) → get fates b ≡ Some (Put lock plain bytes) → plain ≡ false
+
 -- Of a group's blocks: the bits say of the taken ones that they are in use, then of the freed ones that they are free, of each other block what they said, and
 -- the header's counts follow.
 pub record SaysMoved (at at' : ℕ → List ℕ) (taken freed : List ℕ) (g : Group) : Type 0 where
@@ -189,16 +195,47 @@ pub record AreApart (v : Seen) (m : Move) (room : List ℕ) (source target inode
 abbrev pub then_of : Seen → FinMap nat_cmp Fate → Holding → Holding
 then_of v fates h = holding_over (seen_with v fates) h
 
--- The directories afterwards: one loses the name, where that moves to another one; the one that gets it has the blocks that it had and the taken ones; a
--- directory that gets another parent names that; each has the time; and of an inode that keeps its parent nothing becomes.
+-- A block to which something is done, that is none of a group's and doesn't go: one of the directory that loses the name, for that; one of the directory that gets
+-- it, for the names that go from it, for the new one, or for the time; one of a directory that gets another parent, for its `..`.
+pub data IsMovedAt (m : Move) (source target inode without named : Holding) (taken : List ℕ) (b : ℕ) : Type 0 where
+  it_gives : is_within m ≡ false → IsAtRecord source m.name b → IsMovedAt m source target inode without named taken b
+  it_loses : IsLostAt (lost_there m) target b → IsMovedAt m source target inode without named taken b
+  it_gets : IsNamedAt without named m.new_name taken b → IsMovedAt m source target inode without named taken b
+  its_time : b ≡ target.own → IsMovedAt m source target inode without named taken b
+  its_parent : is_reparented m ≡ true → IsAtRecord inode (codes "..") b → IsMovedAt m source target inode without named taken b
+
+-- The directories afterwards: one loses the name, where that moves to another one; the one that gets it has the blocks that it had and the taken ones, and one
+-- that is left has the bytes that it had; a directory that gets another parent names that; the dinode of each is put with the time; of an inode that keeps its
+-- parent nothing becomes; and nothing is put that need not be.
 pub record Becomes (v : Seen) (m : Move) (fates : FinMap nat_cmp Fate) (old : Entry) (taken : List ℕ) (time : ℕ) (source target inode : Holding) : Type 0 where
   pub gives : is_within m ≡ false → GivesName source (then_of v fates source) m.name time
   pub after : Holding
   pub gets : GetsName (lost_there m) target after m.new_name (entry_for m old) taken time
+  pub size : after.size ≡ target.size
+  pub count : after.count ≡ target.count
+  pub own : after.own ≡ target.own
+  pub itself : (b : ℕ) → (part_at after b ≡ Some Itself) ↔ (b ≡ after.own)
+  pub exchanged : HasExchanged gets.without after [] (record_for m.new_name (entry_for m old) ∷ [])
   pub seen : IsAsSeen (seen_with v fates) after
+  pub left : (b : ℕ) → get fates b ≡ None → IsSome (after.cell b) → IsSome (target.cell b) × (bytes_at after b ≡ bytes_at target b)
   pub blocks : (b : ℕ) → IsSome (after.cell b) ↔ (IsSome (target.cell b) ⊎ Contains taken b)
   pub parent : is_reparented m ≡ true → GetsParent inode (then_of v fates inode) (parent_of m) time
   pub still : is_reparented m ≡ false → (b : ℕ) → IsSome (inode.cell b) → get fates b ≡ None
+  pub source_time : is_within m ≡ false → IsStamped fates m.from time
+  pub target_time : IsStamped fates m.to.inode time
+  pub inode_time : is_reparented m ≡ true → IsStamped fates m.moved.inode time
+  pub changes : (b : ℕ) → ((k : Group) → HasGroup v k → ¬ (IsHeaderOf k b)) → ¬ (Contains (freed_by m) b)
+      → (get fates b ≡ None) ⊎ IsMovedAt m source target inode gets.without gets.named taken b
+
+-- ---- in an image
+
+-- In the image these are the places of the move: the directories, and the inode to which the name leads, of which this is what its dinode says.
+pub record ArePlacesIn (im : Image) (o : Owners) (l : Layout) (path path' : Path) (m : Move) : Type 0 where
+  pub source : IsAt im o l path m.from
+  pub target : IsAt im o l path' m.to.inode
+  pub inode : IsAt im o l (in_directory path m.name) m.moved.inode
+  pub directory : is_directory_at im o m.to.inode ≡ true
+  pub inode_dinode : m.moved.dinode ≡ dinode_at im o m.moved.inode
 
 -- what stands at the new name: nothing; or an inode that names nothing, and goes with all its blocks
 pub data StandsThere (im : Image) (o : Owners) (l : Layout) (path' : Path) (m : Move) : Type 0 where
@@ -231,7 +268,10 @@ pub record IsMoving (v : Seen) (m : Move) (room : List ℕ) (time : ℕ) (change
   pub left : List ℕ
   pub front : room ≡ taken ++ left
   pub locks : PutsUnder v fates m taken
+  pub journaled : AreJournaled fates
   pub frees : (b : ℕ) → (is_freed fates b ≡ true) ↔ Contains (freed_by m) b
+  -- what goes isn't put, whatever a step made of it
+  pub gone : (b : ℕ) → Contains (freed_by m) b → is_put fates b ≡ false
   -- the dinode of the directory that gets the name is put
   pub puts : is_put fates m.to.inode ≡ true
   pub inside : AreInside v change
@@ -247,6 +287,12 @@ pub record IsMoving (v : Seen) (m : Move) (room : List ℕ) (time : ℕ) (change
 
 -- ---- what stands in the way
 
+-- The view hasn't this block, which is asked for under the lock of the directory in block dir, whatever that is, and isn't content of a file.
+pub record IsAskedUnder (v : Seen) (dir : ℕ) (n : Missing) : Type 0 where
+  pub absent : v.block_at n.block ≡ None
+  pub lock : n.lock ≡ inode_lock dir
+  pub plain : n.plain ≡ false
+
 -- a directory of the move, a name that goes from it or is written in it, and the names that go before
 pub data IsOneOf (m : Move) : ℕ → List (List ℕ) → List ℕ → Type 0 where
   the_new : is_replacing m ≡ true → IsOneOf m m.to.inode [] m.new_name
@@ -257,8 +303,8 @@ pub data IsOneOf (m : Move) : ℕ → List (List ℕ) → List ℕ → Type 0 wh
 -- the view hasn't this block: one without which it isn't told how a name goes from a directory, or comes into one from which names went, or where `..` stands; or
 -- one with the header or bits of these blocks
 pub data IsNeededIn (v : Seen) (m : Move) (blocks : List ℕ) (n : Missing) : Type 0 where
-  to_go : (dir : ℕ) (names : List (List ℕ)) (name : List ℕ) → v.block_at n.block ≡ None → IsOneOf m dir names name → IsAfter v dir names (λ k. dirs.IsNeededFor v k name n) → IsNeededIn v m blocks n
-  to_come : v.block_at n.block ≡ None → IsAfter v m.to.inode (lost_there m) (λ k. IsNeededForName v k m.new_name n) → IsNeededIn v m blocks n
+  to_go : (dir : ℕ) (names : List (List ℕ)) (name : List ℕ) → IsAskedUnder v dir n → IsOneOf m dir names name → IsAfter v dir names (λ k. dirs.IsNeededFor v k name n) → IsNeededIn v m blocks n
+  to_come : IsAskedUnder v m.to.inode n → IsAfter v m.to.inode (lost_there m) (λ k. IsNeededForName v k m.new_name n) → IsNeededIn v m blocks n
   in_group : freeing.IsNeededFor v blocks n → IsNeededIn v m blocks n
 
 -- A directory breaks the rule, as a name goes from it or comes into it, or as its `..` is looked for; or a group that has some of these blocks does.
@@ -266,3 +312,37 @@ pub data IsWrongIn (v : Seen) (m : Move) (blocks : List ℕ) : ℕ → ℕ → T
   to_go : (dir rule b : ℕ) (names : List (List ℕ)) (name : List ℕ) → IsOneOf m dir names name → IsAfter v dir names (λ k. IsBroken v k rule b) → IsWrongIn v m blocks rule b
   to_come : (rule b : ℕ) → IsAfter v m.to.inode (lost_there m) (λ k. IsWrongForName v k rule b) → IsWrongIn v m blocks rule b
   in_group : (rule b : ℕ) → BreaksSome v blocks rule b → IsWrongIn v m blocks rule b
+
+-- ---- what stands in the way as the blocks are counted that the name takes
+
+-- a name that goes from the directory that gets the new one, and those that go before it
+pub data GoesThere (m : Move) : List (List ℕ) → List ℕ → Type 0 where
+  new_first : is_replacing m ≡ true → GoesThere m [] m.new_name
+  old_first : is_replacing m ≡ false → is_within m ≡ true → GoesThere m [] m.name
+  old_then : is_replacing m ≡ true → is_within m ≡ true → GoesThere m (m.new_name ∷ []) m.name
+
+-- the view hasn't this block, without which it isn't told how a name goes from the directory that gets the new one, or how that comes in then
+pub data IsNeededThere (v : Seen) (m : Move) (n : Missing) : Type 0 where
+  to_go : (before : List (List ℕ)) (name : List ℕ) → IsAskedUnder v m.to.inode n → GoesThere m before name → IsAfter v m.to.inode before (λ k. dirs.IsNeededFor v k name n) → IsNeededThere v m n
+  to_come : IsAskedUnder v m.to.inode n → IsAfter v m.to.inode (lost_there m) (λ k. IsNeededForName v k m.new_name n) → IsNeededThere v m n
+
+-- that directory breaks the rule, as a name goes from it, or as the new one comes in then
+pub data IsWrongThere (v : Seen) (m : Move) : ℕ → ℕ → Type 0 where
+  to_go : (rule b : ℕ) (before : List (List ℕ)) (name : List ℕ) → GoesThere m before name → IsAfter v m.to.inode before (λ k. IsBroken v k rule b) → IsWrongThere v m rule b
+  to_come : (rule b : ℕ) → IsAfter v m.to.inode (lost_there m) (λ k. IsWrongForName v k rule b) → IsWrongThere v m rule b
+
+-- ---- what is asked for in an image
+
+-- The view hasn't this block of the directory, for which the directory's lock is told: in the image that covers it, and it isn't free, nor content of a file.
+pub record IsAskedOf (v : Seen) (im : Image) (o : Owners) (l : Layout) (dir : ℕ) (n : Missing) : Type 0 where
+  pub under : IsAskedUnder v dir n
+  pub covered : cover l n.block (o n.block) ≡ Some n.lock
+  pub used : is_free (o n.block) ≡ false
+  pub plain : n.plain ≡ is_content_of im o (o n.block)
+
+-- so of one of the directories, or of the inode where that gets another parent; or it is needed of a group that has some of these blocks
+pub data IsAskedIn (v : Seen) (im : Image) (o : Owners) (l : Layout) (m : Move) (blocks : List ℕ) (n : Missing) : Type 0 where
+  the_source : IsAskedOf v im o l m.from n → IsAskedIn v im o l m blocks n
+  the_target : IsAskedOf v im o l m.to.inode n → IsAskedIn v im o l m blocks n
+  the_inode : is_reparented m ≡ true → IsAskedOf v im o l m.moved.inode n → IsAskedIn v im o l m blocks n
+  a_group : freeing.IsNeededFor v blocks n → IsAskedIn v im o l m blocks n

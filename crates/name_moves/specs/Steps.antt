@@ -1,5 +1,5 @@
 -- The steps of a draft that moves a name: each directory changes in a new draft over the view, and what these put is put into one.
-use Rattle.std.specs.Prelude.{ℕ, ◌≡◌, ◌⊎◌, ◌↔◌, true, false, List, [], ◌∷◌, ◌++◌, Contains, IsSome, None, Some}
+use Rattle.std.specs.Prelude.{ℕ, ◌≡◌, ◌⊎◌, ◌↔◌, true, false, List, [], ◌∷◌, ◌++◌, codes, Contains, IsSome, None, Some}
 use Rattle.std.specs.Ordering.{nat_cmp}
 use Rattle.std.specs.FinMap.{FinMap, empty, entries, get}
 use Rattle.drafts.specs.Fates.{AreWhole, blocks_in, seen_with}
@@ -18,13 +18,13 @@ use Rattle.hash_dirs.specs.Shown.{IsSound}
 use Rattle.directories.specs.Shown.{IsShown}
 use Rattle.nested_drafts.specs.Nested.{with_blocks}
 use Rattle.name_inserts.specs.HashInserting.{IsPutUnder, MayChange}
-use Rattle.name_inserts.specs.Inserting.{CanGetName}
+use Rattle.name_inserts.specs.Inserting.{CanGetName, IsNamedAt}
 use Rattle.resource_groups.specs.Freeing.{HasSome, SaysStateOfSome}
 use Rattle.resource_groups.specs.Putting.{overlaid}
 use Rattle.resource_groups.specs.Shown.{IsHeaderOf, group_lock}
 use Rattle.resource_groups.specs.Shown as group
 use Rattle.image_changes.specs.Drafted.{IsFinished}
-use Rattle.name_moves.specs.Becoming.{CanTell, GetsName, GetsParent, GivesName, LosesAll}
+use Rattle.name_moves.specs.Becoming.{CanTell, GetsName, GetsParent, GivesName, IsAtRecord, IsLostAt, IsStamped, LosesAll}
 use Rattle.name_moves.specs.Moving.{Move, SaysMoved, entry_for, is_reparented, is_within, lost_there, parent_of}
 
 -- ---- one directory, in a new draft over the view
@@ -46,6 +46,7 @@ pub record IsLostIn (v : Seen) (dir : ℕ) (names : List (List ℕ)) (fates : Fi
   pub lost : LosesAll names h (left_of v fates h)
   pub shown : IsShown (seen_with v fates) dir (left_of v fates h)
   pub others : LeavesOthers h fates
+  pub changes : (b : ℕ) → (get fates b ≡ None) ⊎ IsLostAt names h b
 
 pub record AreLost (v : Seen) (dir : ℕ) (names : List (List ℕ)) (fates : FinMap nat_cmp Fate) : Type 0 where
   pub puts : PutsOf v dir [] fates
@@ -65,34 +66,37 @@ pub record IsNamedIn (v : Seen) (dir : ℕ) (names : List (List ℕ)) (new_name 
   pub exchanged : HasExchanged gets.without after [] (record_for new_name e ∷ [])
   pub blocks : (b : ℕ) → IsSome (after.cell b) ↔ (IsSome (h.cell b) ⊎ Contains taken b)
   pub others : LeavesOthers after fates
+  pub changes : (b : ℕ) → (get fates b ≡ None) ⊎ (IsLostAt names h b ⊎ (IsNamedAt gets.without gets.named new_name taken b ⊎ (b ≡ h.own)))
 
 pub record IsNamedThere (v : Seen) (dir : ℕ) (names : List (List ℕ)) (new_name : List ℕ) (e : Entry) (time : ℕ) (room taken : List ℕ) (fates : FinMap nat_cmp Fate) : Type 0 where
   pub left : List ℕ
   pub front : room ≡ taken ++ left
   pub puts : PutsOf v dir taken fates
-  pub here : (bytes : List ℕ) × (get fates dir ≡ Some (Put (inode_lock dir) false bytes))
+  pub stamped : IsStamped fates dir time
   pub each : (h : Holding) → IsShown v dir h → IsSound h → ((k : Holding) → LosesAll names h k → CanGetName k new_name room) → IsNamedIn v dir names new_name e time taken fates h
 
--- the directory became this, in the blocks that it had
-pub record IsChangedIn (v : Seen) (fates : FinMap nat_cmp Fate) (P : Holding → Holding → Type 0) (h : Holding) : Type 0 where
+-- The directory became this, in the blocks that it had, and something was done to those of them alone that need it.
+pub record IsChangedIn (v : Seen) (fates : FinMap nat_cmp Fate) (P : Holding → Holding → Type 0) (name : List ℕ) (h : Holding) : Type 0 where
   pub becomes : P h (left_of v fates h)
   pub others : LeavesOthers h fates
+  pub changes : (b : ℕ) → (get fates b ≡ None) ⊎ IsAtRecord h name b
 
-pub record IsChangedThere (v : Seen) (dir : ℕ) (fates : FinMap nat_cmp Fate) (P : Holding → Holding → Type 0) : Type 0 where
+pub record IsChangedThere (v : Seen) (dir : ℕ) (fates : FinMap nat_cmp Fate) (P : Holding → Holding → Type 0) (name : List ℕ) (time : ℕ) : Type 0 where
   pub puts : PutsOf v dir [] fates
-  pub each : (h : Holding) → IsShown v dir h → IsSound h → IsChangedIn v fates P h
+  pub stamped : IsStamped fates dir time
+  pub each : (h : Holding) → IsShown v dir h → IsSound h → IsChangedIn v fates P name h
 
 -- ---- the three
 
 -- the directory from which the name moves to another one, and nothing where both names are in one
 pub record GivesThere (v : Seen) (m : Move) (time : ℕ) (fates : FinMap nat_cmp Fate) : Type 0 where
   pub nothing : is_within m ≡ true → fates ≡ empty
-  pub gives : is_within m ≡ false → IsChangedThere v m.from fates (λ h g. GivesName h g m.name time)
+  pub gives : is_within m ≡ false → IsChangedThere v m.from fates (λ h g. GivesName h g m.name time) m.name time
 
 -- the inode, where it is a directory that gets another parent, and else nothing
 pub record LeadsUp (v : Seen) (m : Move) (time : ℕ) (fates : FinMap nat_cmp Fate) : Type 0 where
   pub nothing : is_reparented m ≡ false → fates ≡ empty
-  pub leads : is_reparented m ≡ true → IsChangedThere v m.moved.inode fates (λ h g. GetsParent h g (parent_of m) time)
+  pub leads : is_reparented m ≡ true → IsChangedThere v m.moved.inode fates (λ h g. GetsParent h g (parent_of m) time) (codes "..") time
 
 -- what was put in a draft over the view is put into this one
 abbrev pub IsPutOver : ℕ → FinMap nat_cmp Fate → FinMap nat_cmp Fate → FinMap nat_cmp Fate → Type 0

@@ -8,11 +8,10 @@ ghost use Rattle.gfs2_layout.specs.Structures.{dinode_of, dinode_read, is_direct
 ghost use Rattle.gfs2_layout.specs.declared.dinode.Dinode.{Dinode as DinodeValue};
 ghost use Rattle.glock_names.specs.Steps.{IfDamaged, IfIs, IfNeedBlock};
 ghost use Rattle.glock_names.specs.Views.{HasBlock, IsOfView, IsView};
-ghost use Rattle.hash_dirs.specs.Shown.{IsSound};
 ghost use Rattle.directories.specs.Shown.{IsBroken, IsDirectoryIn, IsNeededFor, IsShown};
 ghost use Rattle.directories.specs.Taking.{HasNameIn};
-ghost use Rattle.name_moves.specs.Becoming.{IsAfter};
-ghost use Rattle.name_moves.specs.Moving.{CanBeMoved, IsNeededIn, IsWrongIn, lost_there, move_of};
+ghost use Rattle.name_moves.specs.Becoming.{CanTell, IsAfter};
+ghost use Rattle.name_moves.specs.Moving.{CanBeMoved, IsAskedUnder, IsNeededThere, IsWrongThere, lost_there, move_of};
 ghost use Rattle.name_moves.specs.Steps.{AreLost};
 
 use crate::drafting::NameMove;
@@ -44,21 +43,22 @@ pub(crate) fn has_directory<V: View>(view: &V, dir: u64) -> bool
     }
 }
 
-// Takes a name that it has from a directory in a new draft. False where it is none then, and so wasn't sound.
+// Takes a name that it has from a directory in a new draft. False where it is none then, and so it wasn't told what it was.
 fn lose_one<V: View>(
     draft: &mut Draft<'_, V>,
     dir: u64,
     name: &[u8],
 ) -> Result<Step<bool>, CallFault>
     requires new { draft.old.fates ≡ empty }
+    requires there { HasBlock (V.seen draft.old.view) dir }
     requires directory { IsDirectoryIn (V.seen draft.old.view) dir }
     requires named { HasNameIn (V.seen draft.old.view) dir name.now }
     ensures lost { IfIs result (λ done. AreLost (V.seen draft.old.view) dir (name.now ∷ []) draft.new.fates) }
     ensures still { IfIs result (λ done. done ≡ true → IsDirectoryIn (seen_in V.seen draft.new) dir) }
-    ensures able { (h : Holding) → IsShown (V.seen draft.old.view) dir h → IsSound h → IfIs result (λ done. done ≡ true) }
+    ensures able { (h : Holding) → IsShown (V.seen draft.old.view) dir h → CanTell (name.now ∷ []) h → IfIs result (λ done. done ≡ true) }
     ensures view { IfIs result (λ done. draft.new.view ≡ draft.old.view) }
     ensures needed { IfNeedBlock result (λ missing. IsAfter (V.seen draft.old.view) dir [] (λ k. IsNeededFor (V.seen draft.old.view) k name.now missing)) }
-    ensures absent { IfNeedBlock result (λ missing. (V.seen draft.old.view).block_at missing.block ≡ None) }
+    ensures under { IfNeedBlock result (IsAskedUnder (V.seen draft.old.view) dir) }
     ensures damaged { IfDamaged result (λ rule block. IsAfter (V.seen draft.old.view) dir [] (λ k. IsBroken (V.seen draft.old.view) k rule block)) }
     ensures kept { IfDamaged result (IsOfView (V.seen draft.old.view)) }
 {
@@ -77,15 +77,16 @@ fn lose_another<V: View>(
     name: &[u8],
 ) -> Result<Step<bool>, CallFault>
     requires lost { AreLost (V.seen draft.old.view) dir (gone.now ∷ []) draft.old.fates }
+    requires there { HasBlock (V.seen draft.old.view) dir }
     requires still { IsDirectoryIn (seen_in V.seen draft.old) dir }
     requires named { HasNameIn (V.seen draft.old.view) dir name.now }
     requires other { name.now ≢ gone.now }
     ensures lost { IfIs result (λ done. done ≡ true → AreLost (V.seen draft.old.view) dir (gone.now ∷ name.now ∷ []) draft.new.fates) }
     ensures still { IfIs result (λ done. done ≡ true → IsDirectoryIn (seen_in V.seen draft.new) dir) }
-    ensures able { (h : Holding) → IsShown (V.seen draft.old.view) dir h → IsSound h → IfIs result (λ done. done ≡ true) }
+    ensures able { (h : Holding) → IsShown (V.seen draft.old.view) dir h → CanTell (gone.now ∷ name.now ∷ []) h → IfIs result (λ done. done ≡ true) }
     ensures view { IfIs result (λ done. draft.new.view ≡ draft.old.view) }
     ensures needed { IfNeedBlock result (λ missing. IsAfter (V.seen draft.old.view) dir (gone.now ∷ []) (λ k. IsNeededFor (V.seen draft.old.view) k name.now missing)) }
-    ensures absent { IfNeedBlock result (λ missing. (V.seen draft.old.view).block_at missing.block ≡ None) }
+    ensures under { IfNeedBlock result (IsAskedUnder (V.seen draft.old.view) dir) }
     ensures damaged { IfDamaged result (λ rule block. IsAfter (V.seen draft.old.view) dir (gone.now ∷ []) (λ k. IsBroken (V.seen draft.old.view) k rule block)) }
     ensures kept { IfDamaged result (IsOfView (V.seen draft.old.view)) }
 {
@@ -111,11 +112,10 @@ pub(crate) fn lose_names<V: View>(
     requires can { CanBeMoved (V.seen draft.old.view) (move_of m.now) }
     ensures lost { IfIs result (λ done. done ≡ true → AreLost (V.seen draft.old.view) m.now.to.inode (lost_there (move_of m.now)) draft.new.fates) }
     ensures still { IfIs result (λ done. done ≡ true → IsDirectoryIn (seen_in V.seen draft.new) m.now.to.inode) }
-    ensures able { (h : Holding) → IsShown (V.seen draft.old.view) m.now.to.inode h → IsSound h → IfIs result (λ done. done ≡ true) }
+    ensures able { (h : Holding) → IsShown (V.seen draft.old.view) m.now.to.inode h → CanTell (lost_there (move_of m.now)) h → IfIs result (λ done. done ≡ true) }
     ensures view { IfIs result (λ done. draft.new.view ≡ draft.old.view) }
-    ensures needed { (blocks : List ℕ) → IfNeedBlock result (IsNeededIn (V.seen draft.old.view) (move_of m.now) blocks) }
-    ensures absent { IfNeedBlock result (λ missing. (V.seen draft.old.view).block_at missing.block ≡ None) }
-    ensures damaged { (blocks : List ℕ) → IfDamaged result (IsWrongIn (V.seen draft.old.view) (move_of m.now) blocks) }
+    ensures needed { IfNeedBlock result (IsNeededThere (V.seen draft.old.view) (move_of m.now)) }
+    ensures damaged { IfDamaged result (IsWrongThere (V.seen draft.old.view) (move_of m.now)) }
     ensures kept { IfDamaged result (IsOfView (V.seen draft.old.view)) }
 {
     let to = m.to.inode;

@@ -12,7 +12,7 @@ ghost use Rattle.directories.specs.Shown.{IsDirectoryIn, IsShown};
 ghost use Rattle.name_inserts.specs.Inserting.{CanGetName};
 ghost use Rattle.resource_groups.specs.Putting.{HasDataBlock};
 ghost use Rattle.name_moves.specs.Becoming.{LosesAll};
-ghost use Rattle.name_moves.specs.Moving.{CanBeMoved, IsNeededIn, IsWrongIn, entry_for, is_reparented, is_within, lost_there, move_of};
+ghost use Rattle.name_moves.specs.Moving.{CanBeMoved, IsNeededIn, IsNeededThere, IsWrongIn, IsWrongThere, entry_for, is_reparented, is_within, lost_there, move_of};
 ghost use Rattle.name_moves.specs.Steps.{AreLost, GivesThere, IsNamedThere, LeadsUp};
 
 use crate::drafting::NameMove;
@@ -45,8 +45,8 @@ fn put_new<V: View>(
     ensures few { IfIs result (λ done. IfSome done (λ n. n ≤ length room.now)) }
     ensures able { (h : Holding) → IsShown (V.seen draft.old.view) m.now.to.inode h → IsSound h → ((k : Holding) → LosesAll (lost_there (move_of m.now)) h k → CanGetName k m.now.new_name.now room.now) → IfIs result (λ done. IsSome done) }
     ensures view { IfIs result (λ done. draft.new.view ≡ draft.old.view) }
-    ensures needed { (blocks : List ℕ) → IfNeedBlock result (IsNeededIn (V.seen draft.old.view) (move_of m.now) blocks) }
-    ensures damaged { (blocks : List ℕ) → IfDamaged result (IsWrongIn (V.seen draft.old.view) (move_of m.now) blocks) }
+    ensures needed { IfNeedBlock result (IsNeededThere (V.seen draft.old.view) (move_of m.now)) }
+    ensures damaged { IfDamaged result (IsWrongThere (V.seen draft.old.view) (move_of m.now)) }
     ensures kept { IfDamaged result (IsOfView (V.seen draft.old.view)) }
 {
     is_a_view(&*draft);
@@ -86,8 +86,8 @@ pub(crate) fn get_name<V: View>(
     ensures few { IfIs result (λ done. IfSome done (λ n. n ≤ length room.now)) }
     ensures able { (h : Holding) → IsShown (V.seen draft.old.view) m.now.to.inode h → IsSound h → ((k : Holding) → LosesAll (lost_there (move_of m.now)) h k → CanGetName k m.now.new_name.now room.now) → IfIs result (λ done. IsSome done) }
     ensures view { IfIs result (λ done. draft.new.view ≡ draft.old.view) }
-    ensures needed { (blocks : List ℕ) → IfNeedBlock result (IsNeededIn (V.seen draft.old.view) (move_of m.now) blocks) }
-    ensures damaged { (blocks : List ℕ) → IfDamaged result (IsWrongIn (V.seen draft.old.view) (move_of m.now) blocks) }
+    ensures needed { IfNeedBlock result (IsNeededThere (V.seen draft.old.view) (move_of m.now)) }
+    ensures damaged { IfDamaged result (IsWrongThere (V.seen draft.old.view) (move_of m.now)) }
     ensures kept { IfDamaged result (IsOfView (V.seen draft.old.view)) }
 {
     match lose_names(draft, m)? {

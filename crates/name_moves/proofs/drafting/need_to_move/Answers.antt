@@ -1,103 +1,54 @@
-use Rattle.std.proofs.Common.{◌≡◌, ℕ, [], None, Result, Ok, Err, sym, ap, ◌∙◌, subst}
-use Rattle.drafts.specs.Fates.{seen_in}
-use Rattle.gfs2_layout.specs.Holding.{Holding}
-use Rattle.glock_names.proofs.StepLaws.{answer_at, answer_so, needed_at}
-use Rattle.glock_names.specs.Steps.{IfDamaged, IfNeedBlock, TellsOf}
-use Rattle.glock_names.specs.Views.{Seen, HasBlock, IsOfView}
-use Rattle.glock_names.specs.declared.steps.CallFault.{CallFault}
-use Rattle.glock_names.specs.declared.steps.Missing.{Missing}
-use Rattle.glock_names.specs.declared.steps.Step.{Step}
-use Rattle.glock_names.specs.declared.steps.Step.TheVariants.{Is, NeedBlock}
-use Rattle.directories.specs.Shown.{IsShown}
-use Rattle.directories.proofs.Forms.{is_directory_here}
-use Rattle.path_walks.proofs.Faults.{damaged_so, told_on, tells_so}
-use Rattle.name_inserts.specs.Inserting.{IsNeededForName, IsWrongForName}
-use Rattle.name_inserts.specs.Need.{name_need}
-use Rattle.name_drafts.proofs.Fates.{absent_below, seen_over}
-use Rattle.name_moves.specs.Becoming.{IsAfter, NeedsAfter}
-use Rattle.name_moves.specs.Moving.{IsNeededIn, IsWrongIn, lost_there, move_of}
-use Rattle.name_moves.specs.Moving as moving
-use Rattle.name_moves.specs.Steps.{AreLost, left_of}
-use Rattle.name_moves.proofs.After.{after_needed_name, after_wrong_name}
-use Rattle.name_moves.proofs.Loses.{all_directory, all_sound, can_tell}
-use Rattle.name_moves.proofs.Ways.{needed_two}
+use Rattle.std.proofs.Common.{[]}
+use Rattle.glock_names.proofs.StepLaws.{answer_so}
+use Rattle.image_model.specs.Owners.{holding}
+use Rattle.path_walks.proofs.Faults.{damaged_so}
+use Rattle.path_walks.proofs.Images.{shown_inode, sound_directory}
+use Rattle.name_moves.specs.Becoming.{NeedsAfter, NeedsJust}
+use Rattle.name_moves.specs.Moving.{IsAskedOf, IsNeededIn, IsNeededThere, IsWrongIn, IsWrongThere, lost_there, move_of}
+use Rattle.name_moves.proofs.Alike.{need_just}
+use Rattle.name_moves.proofs.Asked.{there_asked}
+use Rattle.name_moves.proofs.Unbroken.{not_wrong}
+use Rattle.name_moves.proofs.Ways.{needed_as, needed_of_move, there_absent, wrong_of_move}
 use Rattle.name_moves.proofs.drafting.need_to_move.Goals as goal
 
-needed_each : {A : Type 0} (r : Result (Step A) CallFault) (S : Holding → Type 0) (P : Holding → Missing → Type 0) → ((h : Holding) → S h → IfNeedBlock r (P h)) → IfNeedBlock r (λ n. (h : Holding) → S h → P h n)
-needed_each (Ok (Is x)) S P each = tt
-needed_each (Ok (NeedBlock n)) S P each = each
-needed_each (Err f) S P each = tt
-
-damaged_each : {A : Type 0} (r : Result A CallFault) (Q : ℕ → ℕ → Type 0) (S : Holding → Type 0) (P : Holding → ℕ → ℕ → Type 0) → ((f : CallFault) → ((h : Holding) → S h → TellsOf (P h) f) → TellsOf Q f)
-    → ((h : Holding) → S h → IfDamaged r (P h)) → IfDamaged r Q
-damaged_each (Ok x) Q S P so each = tt
-damaged_each (Err f) Q S P so each = so f each
-
-pub returns-in_err-lose_names-clause-damaged : goal.returns-in_err-lose_names-clause-damaged
-returns-in_err-lose_names-clause-damaged g c =
-    told_on (IsWrongIn (g.V.View.seen c.args.view.now) (move_of c.args.m.now) []) _ _ c.from_residual.ensures.1
-    (subst (λ x. TellsOf (IsWrongIn (g.V.View.seen x) (move_of c.args.m.now) []) c.in_err-lose_names.field-0.0) (ap (λ d. d.view) c.new-draft.ensures) (c.in_err-lose_names.ensures.damaged []))
-
-pub returns-in-NeedBlock-clause-needed : goal.returns-in-NeedBlock-clause-needed
-returns-in-NeedBlock-clause-needed g c =
-    subst (λ x. IsNeededIn (g.V.View.seen x) (move_of c.args.m.now) [] c.in-NeedBlock.missing) (ap (λ d. d.view) c.new-draft.ensures) (needed_at _ _ _ c.in-NeedBlock.is (c.in_ok-lose_names.ensures.needed []))
-
-pub returns-clause-need : goal.returns-clause-need
-returns-clause-need g c h shown sound =
-    let v = g.V.View.seen c.args.view.now in
+pub returns-clause-just : goal.returns-clause-just
+returns-clause-just g c h shown sound =
     let m = move_of c.args.m.now in
-    let to = m.to.inode in
-    let names = lost_there m in
-    let d = c.lose_names.new.draft in
-    let over = ap (λ x. x.view) c.new-draft.ensures in
-    let seen_d = seen_over g.V.View.seen c.args.view.now d (answer_at _ _ _ c.in-Is-true.is c.in_ok-lose_names.ensures.view ∙ over) in
-    let lost = subst (λ x. AreLost (g.V.View.seen x) to names d.fates) over (answer_at _ _ _ c.in-Is-true.is c.in_ok-lose_names.ensures.lost c.in-Is-true.field-0-test) in
-    let is = lost.each h shown (can_tell names h sound) in
-    let k = left_of v d.fates h in
-    answer_so c.need_name.result (λ need. need ≡ name_need k c.bytes.result.now) (NeedsAfter names h m.new_name)
-    (λ need e. record { without = k; lost = is.lost; is = e ∙ ap (name_need k) c.bytes.ensures.bytes })
-    (c.need_name.ensures.need k (subst (λ w. IsShown w to k) (sym seen_d) is.shown) (all_sound names h k is.lost sound)
-    (all_directory names h k is.lost ∙ is_directory_here v to h c.requires.can.target c.requires.can.target_there shown.inode))
+    answer_so c.count_need.result (NeedsAfter (lost_there m) h m.new_name) (NeedsJust (lost_there m) h m.new_name)
+    (λ need is. need_just (lost_there m) h m.new_name need sound c.hash_fits.ensures is) (c.count_need.ensures.need h shown sound)
+
+pub returns-clause-image : goal.returns-clause-image
+returns-clause-image g c im o l t path path' of places =
+    let v = g.V.View.seen c.args.view.now in
+    let to = c.args.m.now.to.inode in
+    returns-clause-just g c (holding im o to) (shown_inode v im o l t of path' to places.target) (sound_directory v im o l t of path' to places.target places.directory)
 
 pub returns-clause-needed : goal.returns-clause-needed
 returns-clause-needed g c =
     let v = g.V.View.seen c.args.view.now in
     let m = move_of c.args.m.now in
-    let to = m.to.inode in
-    let names = lost_there m in
-    let d = c.lose_names.new.draft in
-    let w = seen_in g.V.View.seen d in
-    let over = ap (λ x. x.view) c.new-draft.ensures in
-    let seen_d = seen_over g.V.View.seen c.args.view.now d (answer_at _ _ _ c.in-Is-true.is c.in_ok-lose_names.ensures.view ∙ over) in
-    let lost = subst (λ x. AreLost (g.V.View.seen x) to names d.fates) over (answer_at _ _ _ c.in-Is-true.is c.in_ok-lose_names.ensures.lost c.in-Is-true.field-0-test) in
-    needed_two c.need_name.result (λ n. (h : Holding) → IsShown w to h → IsNeededForName w h c.bytes.result.now n) (λ n. w.block_at n.block ≡ None) (IsNeededIn v m [])
-    (λ n each absent. moving.IsNeededIn.to_come (absent_below v d.fates n.block (ap (λ (x : Seen). x.block_at n.block) (sym seen_d) ∙ absent))
-    (after_needed_name v to names d.fates lost m.new_name n (λ k seen. subst (λ x. IsNeededForName x k m.new_name n) seen_d (subst (λ x. IsNeededForName w k x n) c.bytes.ensures.bytes (each k (subst (λ x. IsShown x to k) (sym seen_d) seen))))))
-    (needed_each c.need_name.result (IsShown w to) (λ h n. IsNeededForName w h c.bytes.result.now n) (λ h seen. c.need_name.ensures.needed h seen)) c.need_name.ensures.absent
+    needed_as c.count_need.result (IsNeededThere v m) (IsNeededIn v m []) (needed_of_move v m []) c.count_need.ensures.needed
+
+pub returns-clause-absent : goal.returns-clause-absent
+returns-clause-absent g c =
+    let v = g.V.View.seen c.args.view.now in
+    let m = move_of c.args.m.now in
+    needed_as c.count_need.result (IsNeededThere v m) _ (there_absent v m) c.count_need.ensures.needed
+
+pub returns-clause-asked : goal.returns-clause-asked
+returns-clause-asked g c im o l t path path' of places =
+    let v = g.V.View.seen c.args.view.now in
+    let m = move_of c.args.m.now in
+    needed_as c.count_need.result (IsNeededThere v m) (IsAskedOf v im o l m.to.inode) (there_asked v im o l t of m path path' c.requires.can places) c.count_need.ensures.needed
 
 pub returns-clause-damaged : goal.returns-clause-damaged
 returns-clause-damaged g c =
     let v = g.V.View.seen c.args.view.now in
     let m = move_of c.args.m.now in
-    let to = m.to.inode in
-    let names = lost_there m in
-    let d = c.lose_names.new.draft in
-    let w = seen_in g.V.View.seen d in
-    let over = ap (λ x. x.view) c.new-draft.ensures in
-    let seen_d = seen_over g.V.View.seen c.args.view.now d (answer_at _ _ _ c.in-Is-true.is c.in_ok-lose_names.ensures.view ∙ over) in
-    let lost = subst (λ x. AreLost (g.V.View.seen x) to names d.fates) over (answer_at _ _ _ c.in-Is-true.is c.in_ok-lose_names.ensures.lost c.in-Is-true.field-0-test) in
-    damaged_each c.need_name.result (IsWrongIn v m []) (IsShown w to) (IsWrongForName w)
-    (λ f each. tells_so (λ rule b. IsAfter v to names (λ k. IsWrongForName v k rule b)) (IsWrongIn v m []) (λ rule b is. moving.IsWrongIn.to_come rule b is) f
-    (after_wrong_name v to names d.fates lost f (λ k seen. subst (λ x. TellsOf (IsWrongForName x k) f) seen_d (each k (subst (λ x. IsShown x to k) (sym seen_d) seen)))))
-    (λ h seen. c.need_name.ensures.damaged h seen)
+    damaged_so (IsWrongThere v m) (IsWrongIn v m []) (wrong_of_move v m []) c.count_need.result c.count_need.ensures.damaged
 
-pub returns-clause-kept : goal.returns-clause-kept
-returns-clause-kept g c =
+pub returns-clause-sound : goal.returns-clause-sound
+returns-clause-sound g c im o l t path path' of places =
     let v = g.V.View.seen c.args.view.now in
     let m = move_of c.args.m.now in
-    let d = c.lose_names.new.draft in
-    let w = seen_in g.V.View.seen d in
-    let over = ap (λ x. x.view) c.new-draft.ensures in
-    let seen_d = seen_over g.V.View.seen c.args.view.now d (answer_at _ _ _ c.in-Is-true.is c.in_ok-lose_names.ensures.view ∙ over) in
-    let lost = subst (λ x. AreLost (g.V.View.seen x) m.to.inode (lost_there m) d.fates) over (answer_at _ _ _ c.in-Is-true.is c.in_ok-lose_names.ensures.lost c.in-Is-true.field-0-test) in
-    damaged_so (IsOfView w) (IsOfView v) (λ rule b has. lost.sees b (subst (λ x. HasBlock x b) seen_d has)) c.need_name.result c.need_name.ensures.kept
+    damaged_so (IsWrongThere v m) (λ rule b. ⊥) (λ rule b wrong. not_wrong v im o l t of m path path' c.requires.can places [] rule b (wrong_of_move v m [] rule b wrong)) c.count_need.result c.count_need.ensures.damaged

@@ -7,6 +7,7 @@ use Rattle.image_model.proofs.Held.{none_some}
 use Rattle.path_walks.proofs.Faults.{told_on}
 use Rattle.name_moves.specs.Moving.{IsWrongIn, move_of}
 use Rattle.name_moves.proofs.Ways.{broken_old, needed_old}
+use Rattle.name_moves.proofs.Under.{asked_to_go}
 use Rattle.name_moves.proofs.drafting.old_entry.Goals as goal
 
 pub returns-in_err-old-clause-damaged : goal.returns-in_err-old-clause-damaged
@@ -27,5 +28,7 @@ unreachable-requires g c =
 pub returns-in-NeedBlock-clause-needed : goal.returns-in-NeedBlock-clause-needed
 returns-in-NeedBlock-clause-needed g c blocks =
     let v = g.V.View.seen c.args.view.now in
-    needed_old v (move_of c.args.m.now) blocks c.in-NeedBlock.missing (needed_at _ _ _ c.in-NeedBlock.is c.in_ok-old.ensures.absent)
+    needed_old v (move_of c.args.m.now) blocks c.in-NeedBlock.missing
+    (asked_to_go v v c.is_a_view.ensures c.args.m.now.from c.requires.can.source c.requires.can.source_there c.in-NeedBlock.missing (needed_at _ _ _ c.in-NeedBlock.is c.in_ok-old.ensures.absent) c.bytes.result.now
+    (λ h shown. needed_at _ _ _ c.in-NeedBlock.is (c.in_ok-old.ensures.needed h shown)))
     (λ h shown. subst (λ n. IsNeededFor v h n c.in-NeedBlock.missing) c.bytes.ensures.bytes (needed_at _ _ _ c.in-NeedBlock.is (c.in_ok-old.ensures.needed h shown)))

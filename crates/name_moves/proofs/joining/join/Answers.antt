@@ -5,11 +5,12 @@ use Rattle.std.specs.Prelude.{IfSome, take}
 use Rattle.drafts.specs.declared.fate.Fate.{Fate}
 use Rattle.glock_names.proofs.StepLaws.{answer_at, needed_at}
 use Rattle.glock_names.specs.Steps.{TellsOf}
-use Rattle.path_walks.proofs.Faults.{told_on}
+use Rattle.path_walks.proofs.Faults.{tells_so, told_on}
 use Rattle.resource_groups.specs.Putting.{HasDataBlock}
 use Rattle.directories.specs.Shown.{IsShown}
-use Rattle.name_moves.specs.Moving.{IsNeededIn, IsWrongIn, entry_for, lost_there, move_of}
+use Rattle.name_moves.specs.Moving.{IsNeededIn, IsNeededThere, IsWrongIn, IsWrongThere, entry_for, lost_there, move_of}
 use Rattle.name_moves.specs.Steps.{GivesThere, IsNamedThere, IsPutOver, LeadsUp}
+use Rattle.name_moves.proofs.Ways.{needed_of_move, wrong_of_move}
 use Rattle.name_moves.proofs.joining.join.Goals as goal
 
 pub get_name-requires-clause-room : goal.get_name-requires-clause-room
@@ -17,12 +18,16 @@ get_name-requires-clause-room g c b there = subst (λ x. HasDataBlock (g.V.View.
 
 pub returns-in_err-taken-clause-damaged : goal.returns-in_err-taken-clause-damaged
 returns-in_err-taken-clause-damaged g c blocks =
-    told_on (IsWrongIn (g.V.View.seen c.args.view.now) (move_of c.args.m.now) blocks) _ _ c.from_residual.ensures.1
-    (subst (λ x. TellsOf (IsWrongIn (g.V.View.seen x) (move_of c.args.m.now) blocks) c.in_err-taken.field-0.0) (ap (λ d. d.view) c.new-target.ensures) (c.in_err-taken.ensures.damaged blocks))
+    let v = g.V.View.seen c.args.view.now in
+    let m = move_of c.args.m.now in
+    told_on (IsWrongIn v m blocks) _ _ c.from_residual.ensures.1
+    (tells_so (IsWrongThere v m) (IsWrongIn v m blocks) (wrong_of_move v m blocks) c.in_err-taken.field-0.0
+    (subst (λ x. TellsOf (IsWrongThere (g.V.View.seen x) m) c.in_err-taken.field-0.0) (ap (λ d. d.view) c.new-target.ensures) c.in_err-taken.ensures.damaged))
 
 pub returns-in-NeedBlock-clause-needed : goal.returns-in-NeedBlock-clause-needed
 returns-in-NeedBlock-clause-needed g c blocks =
-    subst (λ x. IsNeededIn (g.V.View.seen x) (move_of c.args.m.now) blocks c.in-NeedBlock.missing) (ap (λ d. d.view) c.new-target.ensures) (needed_at _ _ _ c.in-NeedBlock.is (c.in_ok-taken.ensures.needed blocks))
+    needed_of_move (g.V.View.seen c.args.view.now) (move_of c.args.m.now) blocks c.in-NeedBlock.missing
+    (subst (λ x. IsNeededThere (g.V.View.seen x) (move_of c.args.m.now) c.in-NeedBlock.missing) (ap (λ d. d.view) c.new-target.ensures) (needed_at _ _ _ c.in-NeedBlock.is c.in_ok-taken.ensures.needed))
 
 pub returns-in_err-give_name-clause-damaged : goal.returns-in_err-give_name-clause-damaged
 returns-in_err-give_name-clause-damaged g c blocks =

@@ -1,9 +1,13 @@
 use Rattle.std.proofs.Common.{ℕ, List, [], ◌∷◌, subst}
+use Rattle.drafts.specs.Fates.{seen_in}
 use Rattle.glock_names.proofs.StepLaws.{answer_at, needed_at}
 use Rattle.directories.specs.Shown.{IsBroken, Says}
 use Rattle.directories.proofs.Forms.{only_tells}
 use Rattle.path_walks.proofs.Faults.{told_on}
 use Rattle.name_moves.specs.Becoming.{IsAfter}
+use Rattle.name_drafts.proofs.Fates.{absent_below, still_there}
+use Rattle.name_moves.proofs.Loses.{tell_as}
+use Rattle.name_moves.proofs.Under.{asked_to_go}
 use Rattle.name_moves.proofs.After.{after_broken, after_needed, second_able, second_lost, second_there}
 use Rattle.name_moves.proofs.losing.lose_another.Goals as goal
 
@@ -17,7 +21,7 @@ returns-in_err-_entry-clause-damaged g c =
 
 pub returns-in-Is-None-clause-able : goal.returns-in-Is-None-clause-able
 returns-in-Is-None-clause-able g c h shown sound =
-    absurd (second_there g.V.View.seen c.args.draft.now c.args.dir c.args.gone.now c.args.name.now c.requires.lost c.requires.other c.requires.named h shown sound
+    absurd (second_there g.V.View.seen c.args.draft.now c.args.dir c.args.gone.now c.args.name.now c.requires.lost c.requires.other c.requires.named h shown (tell_as c.args.gone.now (c.args.name.now ∷ []) (c.args.gone.now ∷ []) h sound)
     (λ k seen. subst (Says k c.args.name.now) c.in-Is-None.field-0-is (answer_at _ _ _ c.in-Is-None.is (c.in_ok-_entry.ensures.found k seen))))
 
 pub returns-in-NeedBlock-clause-needed : goal.returns-in-NeedBlock-clause-needed
@@ -45,6 +49,22 @@ returns-in-Is-clause-able g c h shown sound =
     (answer_at _ _ _ c.in-Is.is c.in_ok-_leaf.ensures.taken) two
     (λ k seen. (c.in-Is-Some._entry, subst (Says k c.args.name.now) c.in-Is-Some.field-0-is (answer_at _ _ _ c.in-Is-Some.is (c.in_ok-_entry.ensures.found k seen)))) h shown sound c.requires.still in
     c.has_directory.ensures.all two.bytes is.0 is.1.0 is.1.1
+
+pub returns-in-NeedBlock-clause-under : goal.returns-in-NeedBlock-clause-under
+returns-in-NeedBlock-clause-under g c =
+    let v = g.V.View.seen c.args.draft.now.view in
+    let w = seen_in g.V.View.seen c.args.draft.now in
+    let n = c.in-NeedBlock.missing in
+    asked_to_go w v c.is_a_view.ensures c.args.dir c.requires.still (still_there v c.args.draft.now.fates c.args.dir c.requires.there) n
+    (absent_below v c.args.draft.now.fates n.block (needed_at _ _ _ c.in-NeedBlock.is c.in_ok-_entry.ensures.absent)) c.args.name.now (λ h shown. needed_at _ _ _ c.in-NeedBlock.is (c.in_ok-_entry.ensures.needed h shown))
+
+pub returns-in-NeedBlock-2-clause-under : goal.returns-in-NeedBlock-2-clause-under
+returns-in-NeedBlock-2-clause-under g c =
+    let v = g.V.View.seen c.args.draft.now.view in
+    let w = seen_in g.V.View.seen c.args.draft.now in
+    let n = c.in-NeedBlock-2.missing in
+    asked_to_go w v c.is_a_view.ensures c.args.dir c.requires.still (still_there v c.args.draft.now.fates c.args.dir c.requires.there) n
+    (absent_below v c.args.draft.now.fates n.block (needed_at _ _ _ c.in-NeedBlock-2.is c.in_ok-_leaf.ensures.absent)) c.args.name.now (λ h shown. needed_at _ _ _ c.in-NeedBlock-2.is (c.in_ok-_leaf.ensures.needed h shown))
 
 pub returns-in-NeedBlock-2-clause-needed : goal.returns-in-NeedBlock-2-clause-needed
 returns-in-NeedBlock-2-clause-needed g c =

@@ -1,7 +1,8 @@
-use Rattle.std.proofs.Common.{sym, subst}
+use Rattle.std.proofs.Common.{sym, ap, ◌∙◌, subst}
+use Rattle.drafts.specs.Fates.{seen_in}
 use Rattle.glock_names.proofs.StepLaws.{answer_at, needed_at}
 use Rattle.glock_names.specs.Steps.{TellsOf}
-use Rattle.glock_names.specs.Views.{IsOfView}
+use Rattle.glock_names.specs.Views.{HasBlock, IsOfView}
 use Rattle.directories.specs.Shown.{IsBroken, IsDirectoryIn, IsNeededFor, IsShown}
 use Rattle.directories.specs.Taking.{HasNameIn}
 use Rattle.path_walks.proofs.Faults.{told_on, tells_so, tells_each}
@@ -9,6 +10,7 @@ use Rattle.gfs2_layout.specs.Holding.{Holding}
 use Rattle.name_drafts.proofs.Fates.{seen_old}
 use Rattle.name_moves.specs.Becoming.{IsAfter, of_none}
 use Rattle.name_moves.proofs.Lost.{first_able, first_lost}
+use Rattle.name_moves.proofs.Under.{asked_to_go}
 use Rattle.name_moves.proofs.losing.lose_one.Goals as goal
 
 pub remove-requires-clause-directory : goal.remove-requires-clause-directory
@@ -35,6 +37,15 @@ pub returns-in-NeedBlock-clause-needed : goal.returns-in-NeedBlock-clause-needed
 returns-in-NeedBlock-clause-needed g c h shown any =
     let same = seen_old g.V.View.seen c.args.draft.now c.requires.new in
     (h, of_none h, subst (λ w. IsNeededFor w h c.args.name.now c.in-NeedBlock.missing) same (needed_at _ _ _ c.in-NeedBlock.is (c.in_ok-_leaf.ensures.needed h (subst (λ w. IsShown w c.args.dir h) (sym same) shown))))
+
+pub returns-in-NeedBlock-clause-under : goal.returns-in-NeedBlock-clause-under
+returns-in-NeedBlock-clause-under g c =
+    let v = g.V.View.seen c.args.draft.now.view in
+    let w = seen_in g.V.View.seen c.args.draft.now in
+    let same = seen_old g.V.View.seen c.args.draft.now c.requires.new in
+    let n = c.in-NeedBlock.missing in
+    asked_to_go w v c.is_a_view.ensures c.args.dir (subst (λ x. IsDirectoryIn x c.args.dir) (sym same) c.requires.directory) (subst (λ x. HasBlock x c.args.dir) (sym same) c.requires.there) n
+    (ap (λ x. x.block_at n.block) (sym same) ∙ needed_at _ _ _ c.in-NeedBlock.is c.in_ok-_leaf.ensures.absent) c.args.name.now (λ h shown. needed_at _ _ _ c.in-NeedBlock.is (c.in_ok-_leaf.ensures.needed h shown))
 
 pub returns-in-Is-clause-lost : goal.returns-in-Is-clause-lost
 returns-in-Is-clause-lost g c =

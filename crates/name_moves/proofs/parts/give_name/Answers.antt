@@ -4,7 +4,7 @@ use Rattle.gfs2_layout.specs.Structures.{dinode_of}
 use Rattle.gfs2_layout.specs.Writing.{dinode_put}
 use Rattle.glock_names.proofs.StepLaws.{answer_at, needed_at}
 use Rattle.glock_names.specs.Steps.{TellsOf}
-use Rattle.glock_names.specs.Views.{IsOfView}
+use Rattle.glock_names.specs.Views.{HasBlock, IsOfView}
 use Rattle.directories.specs.Shown.{IsBroken, IsDirectoryIn, IsNeededFor, IsShown}
 use Rattle.directories.specs.Taking.{HasNameIn}
 use Rattle.directories.proofs.Counted.{equal}
@@ -14,8 +14,9 @@ use Rattle.name_drafts.proofs.Fates.{seen_old}
 use Rattle.name_moves.specs.Becoming.{GivesName}
 use Rattle.name_moves.specs.Moving.{IsWrongIn, move_of}
 use Rattle.name_moves.specs.Steps.{IsChangedThere}
-use Rattle.name_moves.proofs.Given.{given}
+use Rattle.name_moves.proofs.Given.{given, times_read}
 use Rattle.name_moves.proofs.Ways.{broken_old, needed_old}
+use Rattle.name_moves.proofs.Under.{asked_to_go}
 use Rattle.name_moves.proofs.parts.give_name.Goals as goal
 
 pub remove-requires-clause-directory : goal.remove-requires-clause-directory
@@ -44,7 +45,11 @@ returns-in-NeedBlock-clause-needed g c blocks =
     let v = g.V.View.seen c.args.draft.now.view in
     let same = seen_old g.V.View.seen c.args.draft.now c.requires.new in
     let n = c.in-NeedBlock.missing in
-    needed_old v (move_of c.args.m.now) blocks n (ap (λ w. w.block_at n.block) (sym same) ∙ needed_at _ _ _ c.in-NeedBlock.is c.in_ok-_leaf.ensures.absent)
+    let w = seen_in g.V.View.seen c.args.draft.now in
+    let from = c.args.m.now.from in
+    needed_old v (move_of c.args.m.now) blocks n
+    (asked_to_go w v c.is_a_view.ensures from (subst (λ x. IsDirectoryIn x from) (sym same) c.requires.can.source) (subst (λ x. HasBlock x from) (sym same) c.requires.can.source_there) n
+    (ap (λ x. x.block_at n.block) (sym same) ∙ needed_at _ _ _ c.in-NeedBlock.is c.in_ok-_leaf.ensures.absent) c.bytes.result.now (λ h shown. needed_at _ _ _ c.in-NeedBlock.is (c.in_ok-_leaf.ensures.needed h shown)))
     (λ h shown. subst (λ x. IsNeededFor v h x n) c.bytes.ensures.bytes (subst (λ w. IsNeededFor w h c.bytes.result.now n) same
     (needed_at _ _ _ c.in-NeedBlock.is (c.in_ok-_leaf.ensures.needed h (subst (λ w. IsShown w c.args.m.now.from h) (sym same) shown)))))
 
@@ -57,9 +62,10 @@ returns-clause-given g c =
     let there : (seen_in g.V.View.seen mid).block_at m.from ≡ Some two.bytes = ap (λ f. block_with f ((g.V.View.seen mid.view).block_at m.from)) two.put in
     record {
       nothing = λ within. absurd (c.if-m.false (equal m.from m.to.inode within));
-      gives = λ between. subst (λ n. IsChangedThere v m.from c.stamp.new.draft.fates (λ h k. GivesName h k n c.args.time)) c.bytes.ensures.bytes
+      gives = λ between. subst (λ n. IsChangedThere v m.from c.stamp.new.draft.fates (λ h k. GivesName h k n c.args.time) n c.args.time) c.bytes.ensures.bytes
           (given g.V.View.seen c.args.draft.now mid c.stamp.new.draft c.requires.new m.from c.bytes.result.now c.args.time c.in-Is._leaf (answer_at _ _ _ c.in-Is.is c.in_ok-_leaf.ensures.taken) two
           (subst (λ w. HasNameIn w m.from c.bytes.result.now) (sym (seen_old g.V.View.seen c.args.draft.now c.requires.new))
           (subst (HasNameIn v m.from) (sym c.bytes.ensures.bytes) (λ h shown. let has = c.requires.can.named h shown in (has.entry, has.says))))
-          (dinode_put (with_times (dinode_of two.bytes) c.args.time) two.bytes) (c.in_ok-stamp.ensures.put two.bytes there) (λ h shown. c.in_ok-stamp.ensures.touched h shown));
+          (dinode_put (with_times (dinode_of two.bytes) c.args.time) two.bytes) (c.in_ok-stamp.ensures.put two.bytes there) (λ h shown. c.in_ok-stamp.ensures.touched h shown)
+          (times_read (dinode_put (with_times (dinode_of two.bytes) c.args.time) two.bytes) (dinode_of two.bytes) c.args.time (c.in_ok-stamp.ensures.read two.bytes there)));
     }

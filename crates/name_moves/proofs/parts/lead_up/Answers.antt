@@ -14,8 +14,9 @@ use Rattle.path_walks.proofs.Steps.{directory_here, directory_so}
 use Rattle.name_drafts.proofs.Fates.{seen_old, still_there}
 use Rattle.name_drafts.proofs.Faults.{positive_block}
 use Rattle.name_moves.specs.Moving.{IsWrongIn, move_of, of_target, parent_of}
-use Rattle.name_moves.proofs.Given.{led_able, led_up, led_view}
+use Rattle.name_moves.proofs.Given.{led_able, led_up, led_view, times_read}
 use Rattle.name_moves.proofs.Ways.{broken_parent, needed_parent, reparents}
+use Rattle.name_moves.proofs.Under.{asked_to_go}
 use Rattle.name_moves.proofs.parts.lead_up.Goals as goal
 
 pub redirect-requires-clause-directory : goal.redirect-requires-clause-directory
@@ -53,7 +54,13 @@ returns-in-NeedBlock-clause-needed g c blocks =
     let same = seen_old g.V.View.seen c.args.draft.now c.requires.new in
     let moves = reparents m (sym c.is_directory.ensures ∙ c.if-not-is_directory.false) c.if-m.false in
     let n = c.in-NeedBlock.missing in
-    needed_parent v m moves blocks n (ap (λ w. w.block_at n.block) (sym same) ∙ needed_at _ _ _ c.in-NeedBlock.is c.in_ok-_block.ensures.absent)
+    let w = seen_in g.V.View.seen c.args.draft.now in
+    let dir = m.moved.inode in
+    needed_parent v m moves blocks n
+    (asked_to_go w v c.is_a_view.ensures dir
+    (subst (λ x. IsDirectoryIn x dir) (sym same) (directory_here v dir c.args.m.now.moved.dinode c.requires.can.inode_read (sym c.is_directory.ensures ∙ c.if-not-is_directory.false)))
+    (subst (λ x. HasBlock x dir) (sym same) c.requires.can.inode_there) n
+    (ap (λ x. x.block_at n.block) (sym same) ∙ needed_at _ _ _ c.in-NeedBlock.is c.in_ok-_block.ensures.absent) (codes "..") (λ h shown. needed_at _ _ _ c.in-NeedBlock.is (c.in_ok-_block.ensures.needed h shown)))
     (λ h shown. subst (λ w. IsNeededFor w h (codes "..") n) same (needed_at _ _ _ c.in-NeedBlock.is (c.in_ok-_block.ensures.needed h (subst (λ w. IsShown w m.moved.inode h) (sym same) shown))))
 
 pub returns-then-not-has_directory-clause-able : goal.returns-then-not-has_directory-clause-able
@@ -86,5 +93,6 @@ returns-clause-led g c done =
     record {
       nothing = λ stays. absurd (true≢false (sym moves ∙ stays));
       leads = λ so. led_up g.V.View.seen c.args.draft.now mid c.requires.new dir c.in-Is._block (parent_of m) led one (c.requires.can.parented moves) c.stamp.new.draft c.args.time
-          (dinode_put (with_times (dinode_of there.0) c.args.time) there.0) (c.in_ok-stamp.ensures.put there.0 there.1) (λ h shown. c.in_ok-stamp.ensures.touched h shown);
+          (dinode_put (with_times (dinode_of there.0) c.args.time) there.0) (c.in_ok-stamp.ensures.put there.0 there.1) (λ h shown. c.in_ok-stamp.ensures.touched h shown)
+          (times_read (dinode_put (with_times (dinode_of there.0) c.args.time) there.0) (dinode_of there.0) c.args.time (c.in_ok-stamp.ensures.read there.0 there.1));
     }
