@@ -10,7 +10,7 @@ use Rattle.dinode_tree.specs.Shown.{IsShown}
 use Rattle.dinode_tree.specs.Walking.{missing_dinode}
 use Rattle.image_model.specs.Flat.{Path}
 use Rattle.path_walks.specs.Holds.{hold_of, holds}
-use Rattle.path_walks.specs.Walks.{IsAbsent, IsDamage, IsHeldAt, IsLacked, IsNext, IsOnTheWay, IsReadAt, IsSeenAt, IsWrongAt, LacksName, LeadsTo, at_root, by_name}
+use Rattle.path_walks.specs.Walks.{IsAbsent, IsDamage, IsHeldAt, IsLacked, IsNext, IsReadAt, IsSeenAt, IsWrongAt, LacksName, LeadsTo, at_root, by_name}
 use Rattle.path_walks.specs.Walks as path
 use Rattle.path_walks.specs.declared.walk.Place.{Place}
 use Rattle.path_walks.proofs.Lists.{parent_of_next, split_at}
