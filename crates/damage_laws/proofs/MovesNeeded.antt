@@ -1,9 +1,11 @@
 -- A block that a call needs which moves a name lies out of the device: its number stands in a block that is wrong.
-use Rattle.std.proofs.Common.{◌≡◌, ℕ, ◌≤◌, ◌⊎◌, inl, inr, Bool, List, [], ◌++◌, None, true, false, refl, sym, subst, arith}
+use Rattle.std.proofs.Common.{◌≡◌, ℕ, ◌≤◌, ◌⊎◌, inl, inr, Bool, List, [], ◌++◌, None, true, false, refl, sym, ap, ◌∙◌, subst, arith}
 use Rattle.std.specs.Prelude.{codes}
+use Rattle.call_locks.specs.declared.want.Want.{Want}
 use Rattle.call_locks.specs.Wants.{at_old_name}
 use Rattle.call_locks.specs.WantLaws.{path_of}
 use Rattle.dinode_tree.specs.Below.{AnyIndex}
+use Rattle.dinode_tree.specs.Walking.{missing_dinode}
 use Rattle.directories.specs.Shown as dirs
 use Rattle.file_tree.specs.Names.{parent_of}
 use Rattle.file_tree.specs.declared.call.Call.{Call}
@@ -13,7 +15,7 @@ use Rattle.glock_names.specs.Views.{Seen}
 use Rattle.glock_names.specs.declared.steps.Missing.{Missing}
 use Rattle.image_model.specs.Flat.{Path}
 use Rattle.image_model.specs.Image.{Image}
-use Rattle.path_walks.specs.Walks.{IsDirectoryAt, LeadsTo}
+use Rattle.path_walks.specs.Walks.{IsDirectoryAt, IsHeldAt, IsNext, IsUnread, LeadsTo}
 use Rattle.resource_groups.specs.Freeing as freeing
 use Rattle.file_calls.specs.Moving as moving
 use Rattle.file_calls.specs.Moving.{IsMeant, IsToMove}
@@ -24,6 +26,7 @@ use Rattle.file_calls.specs.NameBecoming.{IsAfter}
 use Rattle.file_calls.specs.NameInserting as names_in
 use Rattle.file_calls.specs.NameMoving as drafted
 use Rattle.file_calls.specs.NameMoving.{Move, freed_by, lost_there}
+use Rattle.file_calls.specs.PairWalks as pairs
 use Rattle.file_calls.specs.Removing as removing
 use Rattle.damage_laws.specs.Telling.{HasAstray, HasAstrayOn, HasWholeGroups, IsBrokenSource, IsReadFrom, of_move, source_of}
 use Rattle.damage_laws.proofs.Claimed.{further}
@@ -31,6 +34,13 @@ use Rattle.damage_laws.proofs.Goings.{after_none, some_lost}
 use Rattle.damage_laws.proofs.Moves.{from_leads, moved_directory, moved_leads, to_directory, to_leads}
 use Rattle.damage_laws.proofs.Needed.{all_way, directory_out, insert_way, name_way, needed_out, unread_out}
 use Rattle.damage_laws.proofs.Owned.{from_parent}
+
+-- a block of one of two ways is one of that way
+of_way : (v : Seen) (wants : List Want) (path : Path) (a : ℕ) (n : Missing) → pairs.IsUnreadOf v wants path a n → IsUnread v wants path n
+of_way v wants path a n (pairs.IsUnreadOf.a_dinode depth next held absent is) =
+    let same : n.block ≡ a = ap (λ (x : Missing). x.block) is in
+    IsUnread.a_dinode depth (subst (IsNext v wants path depth) (sym same) next) (subst (IsHeldAt v wants depth) (sym same) held) (subst (λ b. v.block_at b ≡ None) (sym same) absent) (is ∙ ap missing_dinode (sym same))
+of_way v wants path a n (pairs.IsUnreadOf.in_directory depth front back name next on leads there needs) = IsUnread.in_directory front back a name on leads there needs.directory needs.needed needs.absent
 
 module _ (v : Seen) (im : Image) (p q : Path) (read : IsReadFrom v im) (whole : HasWholeGroups v im) where
   abbrev call : Call
@@ -62,8 +72,8 @@ module _ (v : Seen) (im : Image) (p q : Path) (read : IsReadFrom v im) (whole : 
       on true n (directory_out v im read whole (at_old_name true q) q a n leads directory absent (λ h seen. all_way v im read whole h n out (needs h seen)) out)
 
   ended_out : (n : Missing) → ends.IsNeededAtEnds v call n → im.count ≤ n.block → Source n
-  ended_out n (ends.IsNeededAtEnds.on_paths begun (inl unread)) out = on false n (unread_out v im read whole (at_old_name false p) p n unread out)
-  ended_out n (ends.IsNeededAtEnds.on_paths begun (inr unread)) out = on true n (unread_out v im read whole (at_old_name true q) q n unread out)
+  ended_out n (ends.IsNeededAtEnds.on_paths begun (pairs.IsPairUnread.on_first a unread lets)) out = on false n (unread_out v im read whole (at_old_name false p) p n (of_way v (at_old_name false p) p a n unread) out)
+  ended_out n (ends.IsNeededAtEnds.on_paths begun (pairs.IsPairUnread.on_second a unread lets)) out = on true n (unread_out v im read whole (at_old_name true q) q n (of_way v (at_old_name true q) q a n unread) out)
   ended_out n (ends.IsNeededAtEnds.of_target from to at are stands may needs) out = target_out at.inode n stands.place.leads needs out
 
   module _ (m : Move) (meant : IsMeant v call m) where
@@ -98,11 +108,12 @@ module _ (v : Seen) (im : Image) (p q : Path) (read : IsReadFrom v im) (whole : 
     carried_out : IsDirectoryAt v m.from → (node : ℕ) (n : Missing) → carrying.NeedsBlock v node m n → im.count ≤ n.block → Source n
     carried_out dir node n (carrying.NeedsBlock.to_look absent needs) out = to_out n absent needs out
     carried_out dir node n (carrying.NeedsBlock.to_count none needs) out = drafted_out dir [] none n needs out
-    carried_out dir node n (carrying.NeedsBlock.of_freed needs) out = group_out (freed_by m) n needs out
+    carried_out dir node n (carrying.NeedsBlock.of_freed need counted needs) out = group_out (freed_by m) n needs out
     carried_out dir node n (carrying.NeedsBlock.of_room need counted needed under) out = absurd (omega (arith, out, whole.headers needed.group n.block needed.has needed.missing.own))
     carried_out dir node n (carrying.NeedsBlock.on_way need room has absent needs) out = to_out n absent needs out
     carried_out dir node n (carrying.NeedsBlock.to_draft need room has none needs) out = drafted_out dir (room ++ freed_by m) none n needs out
-    carried_out dir node n (carrying.NeedsBlock.once_gone some inside needs) out = absurd (omega (arith, out, whole.data_blocks n.block inside))
+    carried_out dir node n (carrying.NeedsBlock.to_say need room has needs) out = group_out (room ++ freed_by m) n needs out
+    carried_out dir node n (carrying.NeedsBlock.once_gone some needs inside) out = absurd (omega (arith, out, whole.data_blocks n.block inside))
 
   pub moves_out : (n : Missing) → moving.IsNeededFor v call n → im.count ≤ n.block → Source n
   moves_out n (moving.IsNeededFor.at_ends needs) out = ended_out n needs out
