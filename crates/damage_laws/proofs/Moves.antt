@@ -1,9 +1,10 @@
 -- Damage that a call meets which moves a name: on either of its paths, at their ends, and as the move is looked at and carried out.
-use Rattle.std.proofs.Common.{◌≡◌, ℕ, ◌==◌, ◌⊎◌, inl, inr, Bool, List, [], ◌++◌, Option, true, false, refl, sym, ap, ◌∙◌, subst, arith}
+use Rattle.std.proofs.Common.{◌≡◌, ℕ, ◌==◌, ◌⊎◌, inl, inr, Bool, List, [], ◌++◌, Option, None, true, false, refl, sym, ap, ◌∙◌, subst, arith}
 use Rattle.std.specs.Prelude.{◌&&◌, not, Contains}
 use Rattle.call_locks.specs.declared.want.Want.{Want}
 use Rattle.call_locks.specs.Wants.{at_old_name}
 use Rattle.call_locks.specs.WantLaws.{path_of}
+use Rattle.directories.proofs.Forms.{is_directory_here}
 use Rattle.directories.specs.Shown as dirs
 use Rattle.file_tree.specs.Names.{parent_of}
 use Rattle.file_tree.specs.declared.call.Call.{Call}
@@ -78,7 +79,7 @@ module _ (v : Seen) (im : Image) (p q : Path) (read : IsReadFrom v im) (whole : 
   ended_told _ _ (ends.IsDamageAtEnds.on_paths rule b begun broken) = on_either rule b broken
   ended_told _ _ (ends.IsDamageAtEnds.count from to at rule b are stands kind broken) =
       at_end true at.inode stands.place.leads rule b
-      (path.in_directory rule b kind (λ h s. let c = broken h s.inode in dirs.in_linear (kind h s.inode) c.0.linear c.1))
+      (path.in_directory rule b (λ h s. (broken h s).0.directory) (λ h s. let c = broken h s.inode in dirs.in_linear c.0.directory c.0.linear c.1))
   ended_told _ _ (ends.IsDamageAtEnds.of_target from to at rule b are stands may wrong) = below_told at.inode stands.place.leads rule b wrong
 
   -- what stands at the new name goes with a block
@@ -86,7 +87,7 @@ module _ (v : Seen) (im : Image) (p q : Path) (read : IsReadFrom v im) (whole : 
       → (c : ℕ) × LeadsTo v (at_old_name true q) q c × ((h : Holding) → dirs.IsShown v c h → Goes h b)
   goes_of from to _ (ends.IsTarget.free lacks) b there = absurd (none_in b there)
     where
-      none_in : (b : ℕ) → Contains {A = ℕ} [] b → ⊥
+      none_in : (b : ℕ) → Contains (drafted.blocks_or_none None) b → ⊥
       none_in b (k, low, is) = omega (arith, low)
   goes_of from to _ (ends.IsTarget.taken at blocks stands may goes leaves) b there = (at.inode, stands.place.leads, λ h s. (goes h s b).0 there)
 
@@ -126,13 +127,13 @@ module _ (v : Seen) (im : Image) (p q : Path) (read : IsReadFrom v im) (whole : 
 
     -- in a directory of the move as the view shows it, or in a group
     drafted_told : (from_directory : IsDirectoryAt v m.from) (blocks : List ℕ) → lost_there m ≡ [] → (rule b : ℕ) → drafted.IsWrongIn v m blocks rule b → IsToldOf v im call rule b
-    drafted_told from_directory blocks none _ _ (drafted.IsWrongIn.to_go dir rule b names name one after) = by names name one after
+    drafted_told from_directory blocks none _ _ (drafted.IsWrongIn.to_go dir rule b names name one after) = by dir names name one after
       where
-        by : (names : List (List ℕ)) (name : List ℕ) → drafted.IsOneOf m dir names name → IsAfter v dir names (λ k. dirs.IsBroken v k rule b) → IsToldOf v im call rule b
-        by _ _ (drafted.IsOneOf.the_new is) after = above_end true m.to.inode to_leads rule b (path.in_directory rule b to_directory (after_none v m.to.inode (λ k. dirs.IsBroken v k rule b) after))
-        by _ _ drafted.IsOneOf.the_old after = above_end false m.from from_leads rule b (path.in_directory rule b from_directory (after_none v m.from (λ k. dirs.IsBroken v k rule b) after))
-        by _ _ (drafted.IsOneOf.the_old_then is within) after = absurd (some_lost m is none)
-        by _ _ (drafted.IsOneOf.the_parent is) after = at_end false m.moved.inode moved_leads rule b (path.in_directory rule b (moved_directory is) (after_none v m.moved.inode (λ k. dirs.IsBroken v k rule b) after))
+        by : (dir : ℕ) (names : List (List ℕ)) (name : List ℕ) → drafted.IsOneOf m dir names name → IsAfter v dir names (λ k. dirs.IsBroken v k rule b) → IsToldOf v im call rule b
+        by _ _ _ (drafted.IsOneOf.the_new is) after = above_end true m.to.inode to_leads rule b (path.in_directory rule b to_directory (after_none v m.to.inode (λ k. dirs.IsBroken v k rule b) after))
+        by _ _ _ drafted.IsOneOf.the_old after = above_end false m.from from_leads rule b (path.in_directory rule b from_directory (after_none v m.from (λ k. dirs.IsBroken v k rule b) after))
+        by _ _ _ (drafted.IsOneOf.the_old_then is within) after = absurd (some_lost m is none)
+        by _ _ _ (drafted.IsOneOf.the_parent is) after = at_end false m.moved.inode moved_leads rule b (path.in_directory rule b (moved_directory is) (after_none v m.moved.inode (λ k. dirs.IsBroken v k rule b) after))
     drafted_told from_directory blocks none _ _ (drafted.IsWrongIn.to_come rule b after) =
         on_parent true rule b (name_told v im read whole (at_old_name true q) (parent_of q) m.to.inode to_leads to_directory rule b
         (after_none v m.to.inode (λ k. names_in.IsWrongForName v k rule b) (subst (λ names. IsAfter v m.to.inode names (λ k. names_in.IsWrongForName v k rule b)) none after)))
@@ -163,7 +164,7 @@ module _ (v : Seen) (im : Image) (p q : Path) (read : IsReadFrom v im) (whole : 
   moved_told : (rule b : ℕ) → moving.IsDamage v call rule b → IsToldOf v im call rule b
   moved_told rule b (moving.at_ends at) = ended_told rule b at
   moved_told rule b (moving.to_see m meant wrong) = seen_told m meant rule b wrong
-  moved_told rule b (moving.to_move node m to wrong) = carried_told m to.meant to.can.source node rule b wrong
+  moved_told rule b (moving.to_move node m to wrong) = carried_told m to.meant (λ h s. is_directory_here v m.from h to.can.source to.can.source_there s) node rule b wrong
 
 pub moves_tell : MovesTell
 moves_tell v im (calls.Rename p q) rule b read whole is told = moved_told v im p q read whole rule b told

@@ -6,6 +6,7 @@ use Rattle.call_locks.specs.Wants.{at_old_name}
 use Rattle.call_locks.specs.WantLaws.{path_of}
 use Rattle.dinode_tree.specs.Below.{AnyIndex}
 use Rattle.dinode_tree.specs.Walking.{missing_dinode}
+use Rattle.directories.proofs.Forms.{is_directory_here}
 use Rattle.directories.specs.Shown as dirs
 use Rattle.file_tree.specs.Names.{parent_of}
 use Rattle.file_tree.specs.declared.call.Call.{Call}
@@ -88,17 +89,17 @@ module _ (v : Seen) (im : Image) (p q : Path) (read : IsReadFrom v im) (whole : 
         (λ h seen. name_way v im read whole h (codes "..") n out (needs.needed h seen)) out)
 
     drafted_out : IsDirectoryAt v m.from → (blocks : List ℕ) → lost_there m ≡ [] → (n : Missing) → drafted.IsNeededIn v m blocks n → im.count ≤ n.block → Source n
-    drafted_out dir blocks none n (drafted.IsNeededIn.to_go a names name asked one after) out = by names name one after
+    drafted_out dir blocks none n (drafted.IsNeededIn.to_go a names name asked one after) out = by a names name one after
       where
-        by : (names : List (List ℕ)) (name : List ℕ) → drafted.IsOneOf m a names name → IsAfter v a names (λ k. dirs.IsNeededFor v k name n) → Source n
-        by _ name (drafted.IsOneOf.the_new is) after =
+        by : (a : ℕ) (names : List (List ℕ)) (name : List ℕ) → drafted.IsOneOf m a names name → IsAfter v a names (λ k. dirs.IsNeededFor v k name n) → Source n
+        by _ _ name (drafted.IsOneOf.the_new is) after =
             on_parent true n (directory_out v im read whole (at_old_name true q) (parent_of q) m.to.inode n (to_leads v im p q read whole m meant) (to_directory v im p q read whole m meant) asked.absent
             (λ h seen. name_way v im read whole h name n out (after_none v m.to.inode (λ k. dirs.IsNeededFor v k name n) after h seen)) out)
-        by _ name drafted.IsOneOf.the_old after =
+        by _ _ name drafted.IsOneOf.the_old after =
             on_parent false n (directory_out v im read whole (at_old_name false p) (parent_of p) m.from n (from_leads v im p q read whole m meant) dir asked.absent
             (λ h seen. name_way v im read whole h name n out (after_none v m.from (λ k. dirs.IsNeededFor v k name n) after h seen)) out)
-        by _ name (drafted.IsOneOf.the_old_then is within) after = absurd (some_lost m is none)
-        by _ name (drafted.IsOneOf.the_parent is) after =
+        by _ _ name (drafted.IsOneOf.the_old_then is within) after = absurd (some_lost m is none)
+        by _ _ name (drafted.IsOneOf.the_parent is) after =
             on false n (directory_out v im read whole (at_old_name false p) p m.moved.inode n (moved_leads v im p q read whole m meant) (moved_directory v im p q read whole m meant is) asked.absent
             (λ h seen. name_way v im read whole h name n out (after_none v m.moved.inode (λ k. dirs.IsNeededFor v k name n) after h seen)) out)
     drafted_out dir blocks none n (drafted.IsNeededIn.to_come asked after) out =
@@ -118,4 +119,4 @@ module _ (v : Seen) (im : Image) (p q : Path) (read : IsReadFrom v im) (whole : 
   pub moves_out : (n : Missing) → moving.IsNeededFor v call n → im.count ≤ n.block → Source n
   moves_out n (moving.IsNeededFor.at_ends needs) out = ended_out n needs out
   moves_out n (moving.IsNeededFor.to_see m meant needs) out = seen_out m meant n needs out
-  moves_out n (moving.IsNeededFor.to_move node m to needs) out = carried_out m to.meant to.can.source node n needs out
+  moves_out n (moving.IsNeededFor.to_move node m to needs) out = carried_out m to.meant (λ h s. is_directory_here v m.from h to.can.source to.can.source_there s) node n needs out
