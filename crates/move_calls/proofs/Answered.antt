@@ -29,12 +29,13 @@ use Rattle.path_walks.specs.Holds.{holds}
 use Rattle.path_walks.specs.declared.walk.Place.{Place}
 use Rattle.move_ends.specs.PairWalks.{IsPairLacked}
 use Rattle.move_ends.specs.Ends.{AreEnds, IsLackedOnPaths, IsRenaming, IsTarget, MovesIn, first_wants, from_path, second_wants, to_path}
+use Rattle.resource_groups.specs.Freeing as freeing
 use Rattle.name_moves.specs.Moving.{CanBeMoved, IsNeededIn, Move, freed_by}
 use Rattle.move_calls.specs.Answering.{IsAnswerAtEnds, IsAnswerOf, IsAnswered, IsFullFor, IsLackedFor, IsNeededFor, IsUnbuilt, the_move}
 use Rattle.move_calls.specs.Carrying.{IsCarried, LacksLock, NeedsBlock}
 use Rattle.move_calls.specs.Moved.{IsMovedIn}
 use Rattle.move_calls.proofs.Doing.{does, moved_in}
-use Rattle.move_calls.proofs.Unbroken.{not_stuck}
+use Rattle.move_calls.proofs.Sound.{not_stuck}
 
 -- ---- a name that is carried
 
@@ -62,7 +63,7 @@ module _ (v : Seen) (c : Call) (from to : Place) (replaced : Option (List ℕ)) 
   carried_built im o l t of (Ok (NeedLock lock state)) is = tt
   carried_built im o l t of (Ok (NeedBlock n)) is = tt
   carried_built im o l t of (Ok (NoSpace need free)) is = tt
-  carried_built im o l t of (Ok NotBuilt) stuck = not_stuck v im o l t of view c from to replaced ends can hash (images im o l t of) node stuck
+  carried_built im o l t of (Ok NotBuilt) stuck = not_stuck v im o l t of c from to replaced ends (images im o l t of) can node view hash stuck
   carried_built im o l t of (Err f) is = tt
 
 pub done_so : (P Q : Reply → Change → Type 0) → ((r : Reply) (change : Change) → P r change → Q r change) → (r : Result Attempt CallFault) → IfDone r P → IfDone r Q
@@ -103,17 +104,20 @@ module _ (v : Seen) (c : Call) (node time : ℕ) where
   answered_of _ _ (IsAnswerOf.by_ends (IsAnswerAtEnds.refused r change at none)) = IsAnswered.refused r change at.told none
   answered_of _ _ (IsAnswerOf.by_ends (IsAnswerAtEnds.stays change at none)) = IsAnswered.stays change at.told none
   answered_of r change (IsAnswerOf.to_see m n meant needed e) = absurd (let same : Done r change ≡ NeedBlock n = e in cc)
+  answered_of r change (IsAnswerOf.unfit m meant fit e) = absurd (let same : Done r change ≡ NotBuilt = e in cc)
   answered_of r change (IsAnswerOf.carried m moves (same, out)) = subst (λ x. IsAnswered v c node time x change) (sym same) (IsAnswered.moved m change moves out)
 
   spaceless_of : (r : Reply) (change : Change) → IsAnswerOf v c node time (Done r change) → HasSpace r
   spaceless_of r change (IsAnswerOf.by_ends (IsAnswerAtEnds.refused _ _ at none)) = at.refusal.1
   spaceless_of r change (IsAnswerOf.by_ends (IsAnswerAtEnds.stays _ at none)) = tt
   spaceless_of r change (IsAnswerOf.to_see m n meant needed e) = absurd (let same : Done r change ≡ NeedBlock n = e in cc)
+  spaceless_of r change (IsAnswerOf.unfit m meant fit e) = absurd (let same : Done r change ≡ NotBuilt = e in cc)
   spaceless_of r change (IsAnswerOf.carried m moves (same, out)) = subst HasSpace (sym same) tt
 
   lacked_of : (lock : LockName) (state : State) → IsAnswerOf v c node time (NeedLock lock state) → IsLackedFor v c node lock state
   lacked_of _ _ (IsAnswerOf.by_ends (IsAnswerAtEnds.lacks lock state at)) = IsLackedFor.on_paths at.told
   lacked_of lock state (IsAnswerOf.to_see m n meant needed e) = absurd (let same : NeedLock lock state ≡ NeedBlock n = e in cc)
+  lacked_of lock state (IsAnswerOf.unfit m meant fit e) = absurd (let same : NeedLock lock state ≡ NotBuilt = e in cc)
   lacked_of lock state (IsAnswerOf.carried m moves lacks) = IsLackedFor.of_group m moves lacks
 
   -- the lock that is told isn't held so strongly
@@ -137,6 +141,7 @@ module _ (v : Seen) (c : Call) (node time : ℕ) where
 
   needed_of : (a : Attempt) → IsAnswerOf v c node time a → (n : Missing) → a ≡ NeedBlock n → IsNeededFor v c n
   needed_of a (IsAnswerOf.to_see m k meant needed is) n e = subst (IsNeededFor v c) (let same : NeedBlock k ≡ NeedBlock n = sym is ∙ e in cc) (IsNeededFor.to_see m meant needed)
+  needed_of a (IsAnswerOf.unfit m meant fit is) n e = absurd (let same : NotBuilt ≡ NeedBlock n = sym is ∙ e in cc)
   needed_of _ (IsAnswerOf.by_ends (IsAnswerAtEnds.needs k at)) n e = subst (IsNeededFor v c) (let same : NeedBlock k ≡ NeedBlock n = e in cc) (IsNeededFor.at_ends at.told)
   needed_of _ (IsAnswerOf.by_ends (IsAnswerAtEnds.refused r change at none)) n e = cc
   needed_of _ (IsAnswerOf.by_ends (IsAnswerAtEnds.stays change at none)) n e = cc
@@ -152,14 +157,22 @@ module _ (v : Seen) (c : Call) (node time : ℕ) where
   absent_in m blocks n (IsNeededIn.to_come absent needed) = absent.absent
   absent_in m blocks n (IsNeededIn.in_group (g, has, some)) = some.3.block.absent
 
+  group_absent : (blocks : List ℕ) (n : Missing) → freeing.IsNeededFor v blocks n → v.block_at n.block ≡ None
+  group_absent blocks n (g, has, some) = some.3.block.absent
+
   absent_so : (m : Move) (n : Missing) → NeedsBlock v node m n → v.block_at n.block ≡ None
-  absent_so m n (NeedsBlock.to_count needed) = absent_in m [] n needed
+  absent_so m n (NeedsBlock.to_look absent needed) = absent
+  absent_so m n (NeedsBlock.to_count none needed) = absent_in m [] n needed
+  absent_so m n (NeedsBlock.of_freed need counted needed) = group_absent (freed_by m) n needed
   absent_so m n (NeedsBlock.of_room need counted needed blocks) = needed.missing.absent
   absent_so m n (NeedsBlock.on_way need room has absent needed) = absent
-  absent_so m n (NeedsBlock.to_draft need room has needed) = absent_in m (room ++ freed_by m) n needed
+  absent_so m n (NeedsBlock.to_draft need room has none needed) = absent_in m (room ++ freed_by m) n needed
+  absent_so m n (NeedsBlock.to_say need room has needed) = group_absent (room ++ freed_by m) n needed
+  absent_so m n (NeedsBlock.once_gone gone needed inside) = absent_in m [] n needed
 
   absent_of : (a : Attempt) → IsAnswerOf v c node time a → IfNeedBlock (Ok a) (λ n. v.block_at n.block ≡ None)
   absent_of a (IsAnswerOf.to_see m n meant needed e) = subst (λ x. IfNeedBlock (Ok x) (λ n. v.block_at n.block ≡ None)) (sym e) needed.absent
+  absent_of a (IsAnswerOf.unfit m meant fit e) = subst (λ x. IfNeedBlock (Ok x) (λ n. v.block_at n.block ≡ None)) (sym e) tt
   absent_of _ (IsAnswerOf.by_ends (IsAnswerAtEnds.needs n at)) = at.absent
   absent_of _ (IsAnswerOf.by_ends (IsAnswerAtEnds.refused r change at none)) = tt
   absent_of _ (IsAnswerOf.by_ends (IsAnswerAtEnds.stays change at none)) = tt
@@ -173,12 +186,14 @@ module _ (v : Seen) (c : Call) (node time : ℕ) where
   full_of : (need free : ℕ) → IsAnswerOf v c node time (NoSpace need free) → IsFullFor v c need free
   full_of need free (IsAnswerOf.by_ends at) = elim at [ ]
   full_of need free (IsAnswerOf.to_see m n meant needed e) = absurd (let same : NoSpace need free ≡ NeedBlock n = e in cc)
+  full_of need free (IsAnswerOf.unfit m meant fit e) = absurd (let same : NoSpace need free ≡ NotBuilt = e in cc)
   full_of need free (IsAnswerOf.carried m moves full) = record { node = node; move = m; moves = moves; full = full }
 
   unbuilt_of : IsAnswerOf v c node time NotBuilt → IsUnbuilt v c node
   unbuilt_of (IsAnswerOf.by_ends at) = elim at [ ]
   unbuilt_of (IsAnswerOf.to_see m n meant needed e) = absurd (let same : NotBuilt ≡ NeedBlock n = e in cc)
-  unbuilt_of (IsAnswerOf.carried m moves stuck) = record { move = m; moves = moves; stuck = stuck }
+  unbuilt_of (IsAnswerOf.unfit m meant fit e) = IsUnbuilt.unfit m meant fit
+  unbuilt_of (IsAnswerOf.carried m moves stuck) = IsUnbuilt.stuck m moves stuck
 
   -- ---- of a result
 

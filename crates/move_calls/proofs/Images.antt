@@ -114,21 +114,25 @@ module _ (v : Seen) (c : Call) (node time : ℕ) (view : IsView v) (hash : to_pa
   held_of _ _ (IsAnswerOf.by_ends (IsAnswerAtEnds.stays change at none)) =
       (0, (IsNeed.stays at.told.same, held_alone 0 (stays_not at.told.same) (at.found im o l t of).1))
   held_of r change (IsAnswerOf.to_see m n meant needed e) = absurd (let same : Done r change ≡ NeedBlock n = e in cc)
+  held_of r change (IsAnswerOf.unfit m meant fit e) = absurd (let same : Done r change ≡ NotBuilt = e in cc)
   held_of r change (IsAnswerOf.carried m moves (same, out)) = held_in m moves change out
 
   under_of : (r : Reply) (change : Change) (need : ℕ) → IsNeed im o l t c need → IsAnswerOf v c node time (Done r change) → IsUnder o (call_holds im o l t c node need) change
   under_of _ _ need is (IsAnswerOf.by_ends (IsAnswerAtEnds.refused r change at none)) = nothing_under o (call_holds im o l t c node need) change none
   under_of _ _ need is (IsAnswerOf.by_ends (IsAnswerAtEnds.stays change at none)) = nothing_under o (call_holds im o l t c node need) change none
   under_of r change need is (IsAnswerOf.to_see m n meant needed e) = absurd (let same : Done r change ≡ NeedBlock n = e in cc)
+  under_of r change need is (IsAnswerOf.unfit m meant fit e) = absurd (let same : Done r change ≡ NotBuilt = e in cc)
   under_of r change need is (IsAnswerOf.carried m moves (same, out)) = under_in m moves change need out is
 
   lock_of : (lock : LockName) (state : State) (need : ℕ) → IsNeed im o l t c need → IsAnswerOf v c node time (NeedLock lock state) → IsFirstLack v (call_holds im o l t c node need) lock state
   lock_of _ _ need is (IsAnswerOf.by_ends (IsAnswerAtEnds.lacks lock state at)) = lack_before v (inode_holds im o l c) (rest need) lock state (at.found im o l t of)
   lock_of lock state need is (IsAnswerOf.to_see m n meant needed e) = absurd (let same : NeedLock lock state ≡ NeedBlock n = e in cc)
+  lock_of lock state need is (IsAnswerOf.unfit m meant fit e) = absurd (let same : NeedLock lock state ≡ NotBuilt = e in cc)
   lock_of lock state need is (IsAnswerOf.carried m moves lacks) = lock_there m moves lock state need lacks is
 
   block_of : (a : Attempt) (need : ℕ) → IsNeed im o l t c need → IsAnswerOf v c node time a → IfNeedBlock (Ok a) (IsAskedFor v im o l (call_holds im o l t c node need))
   block_of a need is (IsAnswerOf.to_see m n meant needed e) = subst (λ x. IfNeedBlock (Ok x) (IsAskedFor v im o l (call_holds im o l t c node need))) (sym e) (see_there m meant n need needed)
+  block_of a need is (IsAnswerOf.unfit m meant fit e) = subst (λ x. IfNeedBlock (Ok x) (IsAskedFor v im o l (call_holds im o l t c node need))) (sym e) tt
   block_of _ need is (IsAnswerOf.by_ends (IsAnswerAtEnds.needs n at)) = asked_before v im o l (inode_holds im o l c) (rest need) n (at.found im o l t of)
   block_of _ need is (IsAnswerOf.by_ends (IsAnswerAtEnds.refused r change at none)) = tt
   block_of _ need is (IsAnswerOf.by_ends (IsAnswerAtEnds.stays change at none)) = tt
@@ -142,6 +146,7 @@ module _ (v : Seen) (c : Call) (node time : ℕ) (view : IsView v) (hash : to_pa
   space_of : (need free : ℕ) → IsAnswerOf v c node time (NoSpace need free) → IsTooFew v im o l t c need free
   space_of need free (IsAnswerOf.by_ends at) = elim at [ ]
   space_of need free (IsAnswerOf.to_see m n meant needed e) = absurd (let same : NoSpace need free ≡ NeedBlock n = e in cc)
+  space_of need free (IsAnswerOf.unfit m meant fit e) = absurd (let same : NoSpace need free ≡ NotBuilt = e in cc)
   space_of need free (IsAnswerOf.carried m moves full) = full_in m moves need free full
 
   -- ---- of a result

@@ -3,8 +3,8 @@ pub mod Asked
 pub mod Checked
 pub mod Doing
 pub mod Images
+pub mod Gone
 pub mod Locking
 pub mod Meant
 pub mod Room
 pub mod Sound
-pub mod Unbroken

@@ -14,6 +14,9 @@ use Rattle.file_tree.specs.Tree.{Tree}
 use Rattle.file_tree.specs.declared.call.Call.{Call}
 use Rattle.cluster_history.specs.Changes.{is_ok}
 use Rattle.drafts.specs.declared.change.Change.{Change}
+use Rattle.gfs2_layout.specs.Holding.{Holding}
+use Rattle.directories.specs.Shown as dirs
+use Rattle.name_inserts.specs.Inserting.{IsNeededForName}
 use Rattle.drafts.specs.declared.change.Written.{Written}
 use Rattle.drafts.specs.declared.fate.Fate.{Fate}
 use Rattle.drafts.specs.declared.fate.Fate.TheVariants.{Put}
@@ -326,21 +329,44 @@ module _ (v : Seen) (im : Image) (o : Owners) (l : Layout) (t : Tree) (of : IsOf
     no_group : (n : Missing) → freeing.IsNeededFor v [] n → IsAskedFor v im o l inode_list n
     no_group n needs = absurd (none_in needs.2.0 needs.2.1)
 
-    pub block_asks : (n : Missing) (other : ℕ) → NeedsBlock v node m n → IsNeed im o l t c other → IsAskedFor v im o l (call_holds im o l t c node other) n
-    block_asks n other (NeedsBlock.to_count needs) is =
+    -- of a directory or the inode, under the locks of the inodes
+    inode_asks : (n : Missing) (other : ℕ) → IsNeededIn v m [] n → IsAskedFor v im o l (call_holds im o l t c node other) n
+    inode_asks n other needs =
         subst (λ list. IsAskedFor v im o l list n) (sym (list_is other))
         (asked_before v im o l inode_list (first_list other ++ room_list other) n (asked_on inode_list among_source among_target among_inode [] n (no_group n) needs))
+
+    -- on the way to the new name
+    way_asks : (n : Missing) (other : ℕ) → ((h : Holding) → dirs.IsShown v to.inode h → IsNeededForName v h (last_of (to_path c)) n) → IsAskedFor v im o l (call_holds im o l t c node other) n
+    way_asks n other needs =
+        subst (λ list. IsAskedFor v im o l list n) (sym (list_is other))
+        (asked_before v im o l inode_list (first_list other ++ room_list other) n
+        (way_asked v im o l t of inode_list m (parent_of (from_path c)) (parent_of (to_path c)) can moves.source.above moves.target inode_there moves.directory moves.source.dinode among_source among_target among_inode n needs))
+
+    -- of a group that has some of what goes
+    freed_asks : (need : ℕ) (n : Missing) → FirstAreHeld v node m need → freeing.IsNeededFor v (freed_by m) n → IsAskedFor v im o l (inode_list ++ first_list need) n
+    freed_asks need n first needs =
+        blocks_of_groups_are_asked_for v im o l t (comes_first im o l c node need) (first_blocks first.own need (freed_by m)) inode_list n of (those need first.own first.of_node) inodes first.held
+        (needs.0, needs.1, (needs.2.0, freed_first first.own need (freed_by m) needs.2.0 needs.2.1, needs.2.2, needs.2.3))
+
+    pub block_asks : (n : Missing) (other : ℕ) → NeedsBlock v node m n → IsNeed im o l t c other → IsAskedFor v im o l (call_holds im o l t c node other) n
+    block_asks n other (NeedsBlock.to_look absent needs) is = way_asks n other needs
+    block_asks n other (NeedsBlock.to_count none needs) is = inode_asks n other needs
+    block_asks n other (NeedsBlock.once_gone gone needs inside) is = inode_asks n other needs
+    block_asks n other (NeedsBlock.of_freed need counted needs) is =
+        subst (λ k. IsAskedFor v im o l (call_holds im o l t c node k) n) (one_need need other counted.needs is)
+        (subst (λ list. IsAskedFor v im o l list n) (sym (list_then need))
+        (asked_before v im o l (inode_list ++ first_list need) (room_list need) n (freed_asks need n counted.first needs)))
     block_asks n other (NeedsBlock.of_room need counted needed blocks) is =
         subst (λ k. IsAskedFor v im o l (call_holds im o l t c node k) n) (one_need need other counted.needs is)
         (subst (λ list. IsAskedFor v im o l list n) (sym (list_then need))
         (asked_behind v im o l (inode_list ++ first_list need) (room_list need) n (first_held need counted.first)
         (group_asked v im o l t of (room_list need) n (subst (λ list. IsGroupBlock v list n) (room_is need counted.first.own counted.first.of_node) (blocks im.at shown)))))
-    block_asks n other (NeedsBlock.on_way need room has absent needs) is =
-        subst (λ list. IsAskedFor v im o l list n) (sym (list_is other))
-        (asked_before v im o l inode_list (first_list other ++ room_list other) n
-        (way_asked v im o l t of inode_list m (parent_of (from_path c)) (parent_of (to_path c)) can moves.source.above moves.target inode_there moves.directory moves.source.dinode among_source among_target among_inode n needs))
-    block_asks n other (NeedsBlock.to_draft need room has needs) is =
+    block_asks n other (NeedsBlock.on_way need room has absent needs) is = way_asks n other needs
+    block_asks n other (NeedsBlock.to_draft need room has none needs) is =
         subst (λ k. IsAskedFor v im o l (call_holds im o l t c node k) n) (one_need need other has.counted.needs is) (draft_asks need room has n needs)
+    block_asks n other (NeedsBlock.to_say need room has needs) is =
+        subst (λ k. IsAskedFor v im o l (call_holds im o l t c node k) n) (one_need need other has.counted.needs is)
+        (subst (λ list. IsAskedFor v im o l list n) (sym (list_then need)) (group_asks need room has n needs))
 
     -- ---- the change
 

@@ -1,23 +1,28 @@
--- In an image that stands for a tree nothing is told as damage of a call that moves a name.
-use Rattle.std.proofs.Common.{◌≡◌, ◌≢◌, ◌⊎◌, ◌&&◌, ◌<◌, ◌+◌, inl, inr, ℕ, true, true≢false, List, [], ◌∷◌, ◌++◌, length, Option, None, Some, append-nil, refl, sym, ap, ap₂, ◌∙◌, subst, arith}
+-- In an image that stands for a tree nothing is told as damage of a call that moves a name, and none is stuck.
+use Rattle.std.proofs.Common.{◌≡◌, ◌≢◌, ◌⊎◌, ◌&&◌, ◌<◌, ◌+◌, ◌^◌, inl, inr, ℕ, false, true, true≢false, List, [], ◌∷◌, ◌++◌, length, Option, None, Some, append-nil, refl, sym, ap, ap₂, ◌∙◌, subst, arith}
 use Rattle.std.proofs.lemmas.List.{length-append}
 use Rattle.std.proofs.lemmas.Slice.Eq.{bytes_eq-Decides}
 use Rattle.std.specs.Prelude.{Contains, IsSome, is_some, option_and_then}
+use Rattle.crc_words.specs.Remainder.{crc32_of}
 use Rattle.file_tree.specs.Names.{last_of, leads_to, parent_of}
 use Rattle.file_tree.specs.Tree.{Tree}
 use Rattle.file_tree.specs.declared.call.Call.{Call}
 use Rattle.gfs2_layout.specs.Holding.{Holding}
 use Rattle.gfs2_layout.specs.Structures.{is_directory}
-use Rattle.glock_names.specs.Views.{Seen}
+use Rattle.glock_names.specs.Views.{Seen, IsView}
+use Rattle.glock_names.specs.declared.LockName.{LockName}
+use Rattle.glock_names.specs.declared.steps.Missing.{Missing}
 use Rattle.dinode_tree.specs.Broken as broken
+use Rattle.dinode_tree.specs.Reading.{inode_lock}
 use Rattle.dinode_tree.specs.Shown as inodes
+use Rattle.dinode_tree.proofs.Sound.{part_of_led}
 use Rattle.image_model.specs.Flat.{Path, follow}
 use Rattle.image_model.specs.Image.{Image}
-use Rattle.image_model.specs.Owners.{Owners, holding, up_of}
+use Rattle.image_model.specs.Owners.{Owner, Owners, Below, Chained, Free, InGroup, Master, Named, Nobody, Root, Super, holding, up_of}
 use Rattle.image_model.specs.Stands.{Layout, flat_of}
 use Rattle.image_model.proofs.Held.{none_some, some_same}
 use Rattle.image_model.proofs.Rows.{and_left}
-use Rattle.image_changes.specs.Changes.{inode_of}
+use Rattle.image_changes.specs.Changes.{cover, inode_of, is_free}
 use Rattle.image_changes.specs.Does.{IsOf}
 use Rattle.image_changes.specs.Instances.{IsAt, dinode_at, is_directory_at}
 use Rattle.image_changes.proofs.FlatPaths.{follow-append, one_path}
@@ -27,18 +32,38 @@ use Rattle.image_changes.proofs.Standing.{childless}
 use Rattle.draft_changes.proofs.Rows.{cell_its, its_cell}
 use Rattle.draft_changes.proofs.Saying.{free_blocks_are_new}
 use Rattle.hash_dirs.specs.Shown.{index_for}
+use Rattle.hash_dirs.proofs.Chained.{cell_some}
+use Rattle.directories.specs.Shown as dirs
 use Rattle.resource_groups.specs.Putting.{HasDataBlock}
 use Rattle.path_walks.specs.declared.walk.Place.{Place}
-use Rattle.path_walks.proofs.Images.{has_dots, is_inode, is_shown, own_inside, shown_inode, unbroken, unbroken_directory}
+use Rattle.path_walks.proofs.Images.{has_dots, is_inode, is_shown, own_inside, shown_inode, sound_directory, unbroken, unbroken_directory}
 use Rattle.move_ends.proofs.Paths.{ends_so}
 use Rattle.room_search.proofs.InImage.{group_sound}
+use Rattle.group_locks.proofs.Locks.{groups_break_nothing}
 use Rattle.move_ends.specs.Ends.{AreEnds, MovesIn, StoodIn, from_path, to_path}
+use Rattle.name_inserts.specs.HashInserting as inserting
+use Rattle.name_inserts.specs.Inserting.{IsWrongForName}
+use Rattle.name_inserts.specs.Inserting as naming
 use Rattle.name_inserts.specs.Way.{IsOnWay, its_dinode, its_leaf, its_pointer}
-use Rattle.name_moves.specs.Moving.{CanBeMoved, IsWrongIn, Move, blocks_or_none, freed_by, is_reparented}
-use Rattle.move_calls.specs.Carrying.{HasRoom, IsDamageOf, IsInTheWay}
-use Rattle.move_calls.specs.Checks.{IsDirectoryOf, IsWrongMove}
-use Rattle.move_calls.proofs.Doing.{move_by, room_in}
-use Rattle.move_calls.proofs.Unbroken.{not_wrong, way_not_wrong}
+use Rattle.name_moves.specs.Moving.{ArePlacesIn, CanBeMoved, IsAskedIn, IsAskedOf, IsNeededIn, IsWrongIn, Move, blocks_or_none, freed_by, is_reparented}
+use Rattle.name_moves.proofs.Asked.{move_asked}
+use Rattle.name_moves.proofs.Imaged.{apart_there}
+use Rattle.name_moves.proofs.Unbroken.{not_wrong}
+use Rattle.move_calls.specs.Carrying.{HasRoom, IsDamageOf, IsInTheWay, IsStuck}
+use Rattle.move_calls.specs.Checks.{IsDirectoryOf, IsUnfit, IsWrongMove}
+use Rattle.move_calls.proofs.Doing.{move_by, place_in, room_in}
+
+-- what an inode's lock covers is a block of an inode
+its_by_cover : (l : Layout) (b d : ℕ) (x : Owner) → cover l b x ≡ Some (inode_lock d) → is_free x ≡ false → (a : ℕ) × (inode_of b x ≡ Some a)
+its_by_cover l b d Super covered used = absurd (none_some covered)
+its_by_cover l b d (InGroup g) covered used = absurd (let other : 3 ≡ 2 = ap (λ (k : LockName). k.kind) (some_same covered) in cc)
+its_by_cover l b d (Free g) covered used = absurd (true≢false used)
+its_by_cover l b d Nobody covered used = absurd (none_some covered)
+its_by_cover l b d Root covered used = (b, refl)
+its_by_cover l b d Master covered used = (b, refl)
+its_by_cover l b d (Named parent name) covered used = (b, refl)
+its_by_cover l b d (Below a parent k level first) covered used = (a, refl)
+its_by_cover l b d (Chained a hash place) covered used = (a, refl)
 
 -- ---- paths
 
@@ -135,13 +160,23 @@ module _ (v : Seen) (im : Image) (o : Owners) (l : Layout) (t : Tree) (of : IsOf
     -- the move can be made
     pub move_sound : (rule b : ℕ) → IsWrongMove v m rule b → ⊥
     move_sound _ _ (IsWrongMove.no_data_block a dir outside) = outside (directory_inside a dir)
-    move_sound _ _ (IsWrongMove.its_own dir) = not_its_own dir
-    move_sound _ _ (IsWrongMove.shared b which there) = not_shared b which there
+    move_sound _ _ (IsWrongMove.its_own dir) = not_its_own (inl dir)
+    move_sound _ _ (IsWrongMove.shared there) = not_shared to.inode (inl (inr refl)) there
     move_sound rule b (IsWrongMove.in_inode a r d which wrong) = inode_right a r d which wrong
     move_sound rule b (IsWrongMove.in_directory r d moved wrong) =
         unbroken_directory v im o l t of p from.inode r d moves.source.at (moved_directory moved) (wrong (holding im o from.inode) (shown_inode v im o l t of p from.inode moves.source.at))
-    move_sound _ _ (IsWrongMove.no_parent moved says) =
+    move_sound _ _ (IsWrongMove.no_parent moved linear says) =
         has_dots v im o l t of p from.inode moves.source.at (moved_directory moved) (says (holding im o from.inode) (shown_inode v im o l t of p from.inode moves.source.at))
+
+    pub move_fit : IsUnfit v m → ⊥
+    move_fit (IsUnfit.into_itself same) = not_its_own (inr same)
+    move_fit (IsUnfit.goes_too b which there) = not_shared b (source_or_inode which) there
+      where
+        source_or_inode : (b ≡ from.above) ⊎ (b ≡ from.inode) → IsDirectoryOf m b ⊎ (b ≡ from.inode)
+        source_or_inode (inl e) = inl (inl e)
+        source_or_inode (inr e) = inr e
+    move_fit (IsUnfit.finds_no_parent moved says) =
+        has_dots v im o l t of p from.inode moves.source.at (moved_directory moved) (says (holding im o from.inode) (shown_inode v im o l t of p from.inode moves.source.at)).1
 
     -- and nothing is wrong as it is carried out
     module _ (can : CanBeMoved v m) (node : ℕ) where
@@ -178,15 +213,59 @@ module _ (v : Seen) (im : Image) (o : Owners) (l : Layout) (t : Tree) (of : IsOf
           by _ (StoodIn.nothing child none) goes = none_in b goes
           by _ (StoodIn.an_inode d blocks at bare own) goes = no_cell need room has b there d ((own b).0 goes)
 
+      places : ArePlacesIn im o l (parent_of p) (parent_of q) m
+      places = record {
+        source = moves.source.above;
+        target = moves.target;
+        inode = inode_there;
+        directory = moves.directory;
+        inode_dinode = moves.source.dinode;
+      }
+
       move_wrong : (blocks : List ℕ) (rule b : ℕ) → IsWrongIn v m blocks rule b → ⊥
-      move_wrong blocks rule b =
-          not_wrong v im o l t of m (parent_of p) (parent_of q) can moves.source.above moves.target inode_there moves.directory moves.source.dinode blocks rule b
+      move_wrong = not_wrong v im o l t of m (parent_of p) (parent_of q) can places
+
+      -- nor on the way to the new name
+      way_wrong : (rule b : ℕ) → IsWrongForName v (holding im o to.inode) rule b → ⊥
+      way_wrong rule b (naming.IsWrongForName.of_directory broken) = unbroken_directory v im o l t of (parent_of q) to.inode rule b moves.target moves.directory broken
+      way_wrong rule b (naming.IsWrongForName.in_hashed hashed (inserting.IsWrongToInsert.in_directory r d broken)) =
+          unbroken_directory v im o l t of (parent_of q) to.inode r d moves.target moves.directory (dirs.IsBroken.in_hashed hashed broken)
+      way_wrong rule b (naming.IsWrongForName.in_hashed hashed (inserting.IsWrongToInsert.stray_pointer first d led outside)) =
+          let h = holding im o to.inode in
+          let sound = sound_directory v im o l t of (parent_of q) to.inode moves.target moves.directory in
+          outside (own_inside v im o l t of to.inode d (cell_some (h.cell d) _ (part_of_led h first led.0 led.1 led.2 d sound.inode.tree led.3)))
+
+      way_not_wrong : (rule b : ℕ) → ((h : Holding) → dirs.IsShown v to.inode h → IsWrongForName v h rule b) → ⊥
+      way_not_wrong rule b wrong = way_wrong rule b (wrong (holding im o to.inode) (shown_inode v im o l t of (parent_of q) to.inode moves.target))
 
       pub carry_sound : (rule b : ℕ) → IsDamageOf v node m rule b → ⊥
-      carry_sound rule b (IsDamageOf.to_count r d wrong) = move_wrong [] r d wrong
+      carry_sound rule b (IsDamageOf.to_look r d wrong) = way_not_wrong r d wrong
+      carry_sound rule b (IsDamageOf.to_count r d none wrong) = move_wrong [] r d wrong
+      carry_sound rule b (IsDamageOf.of_freed r d wrong) = groups_break_nothing v im o l t (freed_by m) r d of wrong
       carry_sound rule b (IsDamageOf.of_room need r d counted wrong) = group_sound v im o l t of r d wrong
-      carry_sound rule b (IsDamageOf.on_way need room r d has wrong) =
-          way_not_wrong v im o l t of m (parent_of p) (parent_of q) can moves.source.above moves.target inode_there moves.directory moves.source.dinode r d wrong
+      carry_sound rule b (IsDamageOf.on_way need room r d has wrong) = way_not_wrong r d wrong
       carry_sound _ _ (IsDamageOf.called_free need b room has there way) = not_in_the_way need room has b there way
-      carry_sound _ _ (IsDamageOf.goes_free need b room has there goes) = not_both need room has b there goes
-      carry_sound rule b (IsDamageOf.to_draft need room r d has wrong) = move_wrong (room ++ freed_by m) r d wrong
+      carry_sound rule b (IsDamageOf.to_draft need room r d has none wrong) = move_wrong (room ++ freed_by m) r d wrong
+
+      -- and none is stuck: what is asked for lies in a group
+      asked_inside : (a : ℕ) (n : Missing) → IsAskedOf v im o l a n → HasDataBlock v n.block
+      asked_inside a n asked =
+          let its = its_by_cover l n.block a (o n.block) (asked.covered ∙ ap Some asked.under.lock) asked.used in
+          own_inside v im o l t of its.0 n.block (its_cell im o its.0 n.block its.1)
+
+      needed_inside : (n : Missing) → IsNeededIn v m [] n → HasDataBlock v n.block
+      needed_inside n needs = by (move_asked v im o l t of m (parent_of p) (parent_of q) can places [] n needs)
+        where
+          by : IsAskedIn v im o l m [] n → HasDataBlock v n.block
+          by (IsAskedIn.the_source asked) = asked_inside m.from n asked
+          by (IsAskedIn.the_target asked) = asked_inside m.to.inode n asked
+          by (IsAskedIn.the_inode moved asked) = asked_inside m.moved.inode n asked
+          by (IsAskedIn.a_group needed) = absurd (none_in needed.2.0 needed.2.1)
+
+      pub not_stuck : IsView v → crc32_of (last_of (to_path c)) < 2 ^ 32 → IsStuck v node m → ⊥
+      not_stuck view hash (IsStuck.goes_free need b room has there goes) = not_both need room has b there goes
+      not_stuck view hash (IsStuck.goes_wrong blocks rule b gone wrong) = move_wrong blocks rule b wrong
+      not_stuck view hash (IsStuck.leads_astray n gone needs astray) = astray (needed_inside n needs)
+      not_stuck view hash (IsStuck.not_apart need room has off not) =
+          not (holding im o from.above) (holding im o to.inode) (holding im o from.inode)
+          (apart_there v im o l t of view m room (parent_of p) (parent_of q) can (place_in v c from to replaced ends hash im o l t of moves node need room has))

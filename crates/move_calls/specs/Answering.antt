@@ -25,7 +25,7 @@ use Rattle.move_ends.specs.declared.ends.Ends.{Ends}
 use Rattle.move_ends.specs.declared.ends.Ends.TheVariants as ends
 use Rattle.name_moves.specs.Moving.{CanBeMoved, Move, freed_by}
 use Rattle.move_calls.specs.Carrying.{IsCarried, IsCarriedOut, IsDamageOf, IsFull, IsStuck, LacksLock, NeedsBlock}
-use Rattle.move_calls.specs.Checks.{IsNeededToSee, IsWrongMove}
+use Rattle.move_calls.specs.Checks.{IsNeededToSee, IsUnfit, IsWrongMove}
 
 -- ---- what is to move
 
@@ -83,11 +83,10 @@ pub record IsFullFor (v : Seen) (call : Call) (need free : ℕ) : Type 0 where
   pub moves : IsToMove v call move
   pub full : IsFull v node move need free
 
--- The call isn't built for what stands there: the name is to move, and can't, though nothing that was looked at breaks a rule. In an image that stands for a tree none is such a one.
-pub record IsUnbuilt (v : Seen) (call : Call) (node : ℕ) : Type 0 where
-  pub move : Move
-  pub moves : IsToMove v call move
-  pub stuck : IsStuck v node move
+-- The call isn't built for what stands there: the name is to move, and can't, though it isn't told which block is wrong. In an image that stands for a tree none is such a one.
+pub data IsUnbuilt (v : Seen) (call : Call) (node : ℕ) : Type 0 where
+  unfit : (m : Move) → IsMeant v call m → IsUnfit v m → IsUnbuilt v call node
+  stuck : (m : Move) → IsToMove v call m → IsStuck v node m → IsUnbuilt v call node
 
 -- the block breaks this rule: at the ends of the paths; as a move that can't be made; or where the name is to move
 pub data IsDamage (v : Seen) (call : Call) (rule b : ℕ) : Type 0 where
@@ -111,8 +110,9 @@ pub data IsAnswerAtEnds (v : Seen) (call : Call) : Attempt → Type 0 where
   lacks : (lock : LockName) (state : State) → IsAtEnds v call (ends.NeedLock lock state) → IsAnswerAtEnds v call (attempt.NeedLock lock state)
   needs : (n : Missing) → IsAtEnds v call (ends.NeedBlock n) → IsAnswerAtEnds v call (attempt.NeedBlock n)
 
--- the answer is so: by the ends; a block that is needed to see that the move can be made; or what carrying it out answers
+-- the answer is so: by the ends; a block that is needed to see that the move can be made; that it can't; or what carrying it out answers
 pub data IsAnswerOf (v : Seen) (call : Call) (node time : ℕ) (a : Attempt) : Type 0 where
   by_ends : IsAnswerAtEnds v call a → IsAnswerOf v call node time a
   to_see : (m : Move) (n : Missing) → IsMeant v call m → IsNeededToSee v m n → a ≡ attempt.NeedBlock n → IsAnswerOf v call node time a
+  unfit : (m : Move) → IsMeant v call m → IsUnfit v m → a ≡ attempt.NotBuilt → IsAnswerOf v call node time a
   carried : (m : Move) → IsToMove v call m → IsCarried v node time m a → IsAnswerOf v call node time a

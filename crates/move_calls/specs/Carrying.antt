@@ -16,6 +16,9 @@ use Rattle.hash_dirs.specs.Shown.{IsSound}
 use Rattle.group_locks.specs.Groups.{GroupsAreHeld, IsFirstGroupLack}
 use Rattle.path_walks.specs.Holds.{AreHeld, IsFirstLack, hold_of_group, holds}
 use Rattle.resource_groups.specs.Shown.{said}
+use Rattle.resource_groups.specs.Freeing.{BreaksSome}
+use Rattle.resource_groups.specs.Freeing as freeing
+use Rattle.resource_groups.specs.Putting.{HasDataBlock}
 use Rattle.room_search.specs.Blocks.{free_in_all, group_holds, group_of_node}
 use Rattle.room_search.specs.Searches.{AreHeldBlocks, AreShown, IsGroupBlock, IsGroupBroken, IsGroupNeeded, IsRoom}
 use Rattle.name_inserts.specs.Inserting.{IsNeededForName, IsWrongForName}
@@ -82,14 +85,15 @@ pub record IsCarriedOut (v : Seen) (node time : ℕ) (m : Move) (change : Change
   pub off : IsOffWay v m room
   pub is : IsMoving v m room time change
 
--- It can't be made in the blocks that the node takes: the directories and the inode aren't sound and apart, or the one that is to get the name can't. The way to the new name is right
--- all the same. In an image that stands for a tree no move is such a one.
-pub record IsStuck (v : Seen) (node : ℕ) (m : Move) : Type 0 where
-  pub need : ℕ
-  pub room : List ℕ
-  pub has : HasRoom v node m need room
-  pub off : IsOffWay v m room
-  pub not_apart : (source target inode : Holding) → AreApart v m room source target inode → ⊥
+-- It can't be made. Some of the blocks that the node takes goes with what stands at the new name, though the bits call it free. Once names have gone from the directory that gets the new
+-- one, as blocks are counted or all is drafted, a rule is broken there, or that leads to a block that is no data block of a group: so that directory wasn't sound before. Or in the blocks
+-- that the node takes the directories and the inode aren't sound and apart, or the one that is to get the name can't, though the way to it is right. In an image that stands for a
+-- tree no move is such a one.
+pub data IsStuck (v : Seen) (node : ℕ) (m : Move) : Type 0 where
+  goes_free : (need b : ℕ) (room : List ℕ) → HasRoom v node m need room → Contains room b → Contains (freed_by m) b → IsStuck v node m
+  goes_wrong : (blocks : List ℕ) (rule b : ℕ) → lost_there m ≢ [] → IsWrongIn v m blocks rule b → IsStuck v node m
+  leads_astray : (n : Missing) → lost_there m ≢ [] → IsNeededIn v m [] n → ¬ (HasDataBlock v n.block) → IsStuck v node m
+  not_apart : (need : ℕ) (room : List ℕ) → HasRoom v node m need room → IsOffWay v m room → ((source target inode : Holding) → AreApart v m room source target inode → ⊥) → IsStuck v node m
 
 -- so many blocks are needed, and fewer are free, in all groups, whose locks are held, as far as the view shows them
 pub record IsFull (v : Seen) (node : ℕ) (m : Move) (need free : ℕ) : Type 0 where
@@ -104,13 +108,19 @@ pub data LacksLock (v : Seen) (node : ℕ) (m : Move) (lock : LockName) (state :
   of_room : (need : ℕ) (counted : IsCounted v node m need) → holds v (record { lock = lock; state = state }) ≡ false
       → ((at : ℕ → List ℕ) → AreShown v at → IsFirstLack v (group_holds (said at) v.groups counted.first.own need) lock state) → LacksLock v node m lock state
 
--- this block is needed: to count the blocks that the name needs; of a group, to find them; on the way to the new name; or to draft the move
+-- This block is needed. Before names go: on the way to the new name as that is; where none go to count the blocks that it needs, or to draft the move; of a group that has some of what
+-- goes; of a group, to find blocks; on the way to the new name, to see that none of these is there; or of a group that has some of these or of what goes. Once names have gone from the
+-- directory that gets the new one: of a directory, and it is a data block of a group.
 pub data NeedsBlock (v : Seen) (node : ℕ) (m : Move) (n : Missing) : Type 0 where
-  to_count : IsNeededIn v m [] n → NeedsBlock v node m n
+  to_look : v.block_at n.block ≡ None → ((h : Holding) → dirs.IsShown v m.to.inode h → IsNeededForName v h m.new_name n) → NeedsBlock v node m n
+  to_count : lost_there m ≡ [] → IsNeededIn v m [] n → NeedsBlock v node m n
+  of_freed : (need : ℕ) → IsCounted v node m need → freeing.IsNeededFor v (freed_by m) n → NeedsBlock v node m n
   of_room : (need : ℕ) (counted : IsCounted v node m need) → IsGroupNeeded v n → ((at : ℕ → List ℕ) → AreShown v at → IsGroupBlock v (group_holds (said at) v.groups counted.first.own need) n)
       → NeedsBlock v node m n
   on_way : (need : ℕ) (room : List ℕ) → HasRoom v node m need room → v.block_at n.block ≡ None → ((h : Holding) → dirs.IsShown v m.to.inode h → IsNeededForName v h m.new_name n) → NeedsBlock v node m n
-  to_draft : (need : ℕ) (room : List ℕ) → HasRoom v node m need room → IsNeededIn v m (room ++ freed_by m) n → NeedsBlock v node m n
+  to_draft : (need : ℕ) (room : List ℕ) → HasRoom v node m need room → lost_there m ≡ [] → IsNeededIn v m (room ++ freed_by m) n → NeedsBlock v node m n
+  to_say : (need : ℕ) (room : List ℕ) → HasRoom v node m need room → freeing.IsNeededFor v (room ++ freed_by m) n → NeedsBlock v node m n
+  once_gone : lost_there m ≢ [] → IsNeededIn v m [] n → HasDataBlock v n.block → NeedsBlock v node m n
 
 abbrev pub IsCarried : Seen → ℕ → ℕ → Move → Attempt → Type 0
 IsCarried v node time m (attempt.Done r change) = (r ≡ reply.Ok) × IsCarriedOut v node time m change
@@ -121,13 +131,14 @@ IsCarried v node time m attempt.NotBuilt = IsStuck v node m
 
 -- ---- damage
 
--- The block breaks this rule: of a directory of the move, as the blocks are counted or as all is drafted, when it may also be one of a group that has blocks which are taken or go; of a
--- group that is looked through for blocks; on the way to the new name; or (5) the bits of a group call a block free that is a dinode of the move or on the way, or, told at the
--- directory, one that goes with what stands at the new name.
+-- The block breaks this rule, as the view shows it before any name goes: on the way to the new name; where no name goes from the directory that gets it, in a directory of the move, as the
+-- blocks are counted or as all is drafted, when it may also be one of a group that has blocks which are taken; in a group that has some of what goes, or that is looked through for
+-- blocks; or (5) the bits of a group call a block free that is a dinode of the move or on the way.
 pub data IsDamageOf (v : Seen) (node : ℕ) (m : Move) : ℕ → ℕ → Type 0 where
-  to_count : (rule b : ℕ) → IsWrongIn v m [] rule b → IsDamageOf v node m rule b
+  to_look : (rule b : ℕ) → ((h : Holding) → dirs.IsShown v m.to.inode h → IsWrongForName v h rule b) → IsDamageOf v node m rule b
+  to_count : (rule b : ℕ) → lost_there m ≡ [] → IsWrongIn v m [] rule b → IsDamageOf v node m rule b
+  of_freed : (rule b : ℕ) → BreaksSome v (freed_by m) rule b → IsDamageOf v node m rule b
   of_room : (need rule b : ℕ) → IsCounted v node m need → IsGroupBroken v rule b → IsDamageOf v node m rule b
   on_way : (need : ℕ) (room : List ℕ) (rule b : ℕ) → HasRoom v node m need room → ((h : Holding) → dirs.IsShown v m.to.inode h → IsWrongForName v h rule b) → IsDamageOf v node m rule b
   called_free : (need b : ℕ) (room : List ℕ) → HasRoom v node m need room → Contains room b → IsInTheWay v m b → IsDamageOf v node m 5 b
-  goes_free : (need b : ℕ) (room : List ℕ) → HasRoom v node m need room → Contains room b → Contains (freed_by m) b → IsDamageOf v node m 5 m.to.inode
-  to_draft : (need : ℕ) (room : List ℕ) (rule b : ℕ) → HasRoom v node m need room → IsWrongIn v m (room ++ freed_by m) rule b → IsDamageOf v node m rule b
+  to_draft : (need : ℕ) (room : List ℕ) (rule b : ℕ) → HasRoom v node m need room → lost_there m ≡ [] → IsWrongIn v m (room ++ freed_by m) rule b → IsDamageOf v node m rule b

@@ -114,7 +114,8 @@ fn move_name<V: View>(
         replaced: blocks_in(replaced),
     };
     match can_move(view, &m)? {
-        Step::Is(()) => carry(alloc, view, &m, stamp),
+        Step::Is(true) => carry(alloc, view, &m, stamp),
+        Step::Is(false) => Ok(Attempt::NotBuilt),
         Step::NeedBlock(missing) => Ok(Attempt::NeedBlock(missing)),
     }
 }

@@ -1,5 +1,5 @@
 // A move that can be made is carried out.
-ghost use Rattle.std.specs.Prelude.{ℕ, ◌≡◌, ◌≢◌, ◌⊎◌, ◌≤◌, [], ◌∷◌, length, Contains, IfNone, IfOk, IfSome};
+ghost use Rattle.std.specs.Prelude.{ℕ, ◌≡◌, ◌≢◌, ◌⊎◌, ◌≤◌, [], ◌∷◌, length, Contains, IfNone, IfOk, IfSome, false, true};
 ghost use Rattle.gfs2_layout.specs.Holding.{Holding};
 ghost use Rattle.glock_names.specs.Steps.{IfDamaged, IfIs, IfNeedBlock};
 ghost use Rattle.glock_names.specs.Views.{HasBlock, IsOfView, IsView};
@@ -8,15 +8,16 @@ ghost use Rattle.directories.specs.Shown as dirs;
 ghost use Rattle.name_inserts.specs.Inserting.{IsNeededForName, IsWrongForName};
 ghost use Rattle.name_inserts.specs.Way.{IsOnWay, IsRightWay};
 ghost use Rattle.name_moves.specs.Moving.{CanBeMoved, freed_by, move_of};
-ghost use Rattle.move_calls.specs.Carrying.{FirstAreHeld, HasRoom, IsCarried, IsDamageOf, IsOffWay, IsOwnGroup, LacksFirst};
+ghost use Rattle.move_calls.specs.Carrying.{FirstAreHeld, HasRoom, IsCarried, IsCounted, IsDamageOf, IsOffWay, IsOwnGroup, IsStuck, LacksFirst, NeedsFor};
 
 use crate::checks::freed_blocks;
+use crate::looking::{count_blocks, draft_in, look_ahead, look_at_freed};
 use drafts::{Attempt, Stamp};
 use file_tree::Reply;
 use glock_names::{CallFault, LockName, State, Step, View};
 use group_locks::lacked_group;
 use name_inserts::block_on_way;
-use name_moves::{NameMove, moving, need_to_move};
+use name_moves::NameMove;
 use room_search::{Locked, Taken, find_room};
 use std::alloc::Global;
 
@@ -79,17 +80,18 @@ fn taken_on_way<V: View>(
     block_on_way(view, m.to.inode, m.new_name.bytes(), *first, rest)
 }
 
-// Looks that the blocks which were found for a move may be taken.
+// Looks that the blocks which were found for a move may be taken. False where one of them goes with what stands at the new name.
 fn check_room<V: View>(
     view: &V,
     m: &NameMove<'_>,
     room: &[u64],
     need: u64,
     node: u8,
-) -> Result<Step<()>, CallFault>
+) -> Result<Step<bool>, CallFault>
     requires can { CanBeMoved (V.seen view.now) (move_of m.now) }
     requires room { HasRoom (V.seen view.now) node (move_of m.now) need room.now }
-    ensures off { IfIs result (λ done. IsOffWay (V.seen view.now) (move_of m.now) room.now) }
+    ensures off { IfIs result (λ off. off ≡ true → IsOffWay (V.seen view.now) (move_of m.now) room.now) }
+    ensures goes { IfIs result (λ off. off ≡ false → IsStuck (V.seen view.now) node (move_of m.now)) }
     ensures needed { (h : Holding) → dirs.IsShown (V.seen view.now) m.now.to.inode h → IfNeedBlock result (IsNeededForName (V.seen view.now) h m.now.new_name.now) }
     ensures absent { IfNeedBlock result (λ missing. (V.seen view.now).block_at missing.block ≡ None) }
     ensures damaged { IfDamaged result (IsDamageOf (V.seen view.now) node (move_of m.now)) }
@@ -101,14 +103,11 @@ fn check_room<V: View>(
         return Err(CallFault::Damaged { block, rule: 5 });
     }
     if taken_that_goes(m, room).is_some() {
-        return Err(CallFault::Damaged {
-            block: m.to.inode,
-            rule: 5,
-        });
+        return Ok(Step::Is(false));
     }
     match taken_on_way(view, m, room)? {
         Step::Is(Some(block)) => Err(CallFault::Damaged { block, rule: 5 }),
-        Step::Is(None) => Ok(Step::Is(())),
+        Step::Is(None) => Ok(Step::Is(true)),
         Step::NeedBlock(missing) => Ok(Step::NeedBlock(missing)),
     }
 }
@@ -130,10 +129,11 @@ fn carry_in<V: View>(
 {
     is_a_view(view);
     match check_room(view, m, room, need, stamp.node)? {
-        Step::Is(()) => {}
+        Step::Is(true) => {}
+        Step::Is(false) => return Ok(Attempt::NotBuilt),
         Step::NeedBlock(missing) => return Ok(Attempt::NeedBlock(missing)),
     }
-    match moving(alloc, view, m, room, stamp.time)? {
+    match draft_in(alloc, view, m, room, need, stamp)? {
         Step::Is(Some(change)) => Ok(Attempt::Done {
             reply: Reply::Ok,
             change,
@@ -188,9 +188,63 @@ fn lacked_first<V: View>(
     Ok(lacked_group(view, &blocks))
 }
 
-/// Carries out a move that can be made: the blocks that it needs are counted, then the locks of the groups that have some of what goes are looked at, and where blocks are needed
-/// with these, by rising number, that of the node's own group; and then those under which blocks are found. It costs what `need_to_move`, `find_room` and `moving` cost, and
-/// passes over the blocks; where blocks are needed memory for a copy of those that go.
+// Finds the blocks that a move needs, of which the groups are held that come first, and carries it out in them.
+fn carry_held<V: View>(
+    alloc: Global,
+    view: &V,
+    m: &NameMove<'_>,
+    need: u64,
+    stamp: &Stamp,
+) -> Result<Attempt, CallFault>
+    requires can { CanBeMoved (V.seen view.now) (move_of m.now) }
+    requires counted { IsCounted (V.seen view.now) stamp.now.node (move_of m.now) need }
+    requires node { 1 ≤ stamp.now.node }
+    ensures carried { IfOk result (IsCarried (V.seen view.now) stamp.now.node stamp.now.time (move_of m.now)) }
+    ensures damaged { IfDamaged result (IsDamageOf (V.seen view.now) stamp.now.node (move_of m.now)) }
+    ensures kept { IfDamaged result (IsOfView (V.seen view.now)) }
+{
+    is_a_view(view);
+    match look_at_freed(alloc, view, m)? {
+        Step::Is(()) => {}
+        Step::NeedBlock(missing) => return Ok(Attempt::NeedBlock(missing)),
+    }
+    match find_room(alloc, view, stamp.node, need)? {
+        Locked::Is(Taken::Is(room)) => carry_in(alloc, view, m, &room, need, stamp),
+        Locked::Is(Taken::TooFew(free)) => Ok(Attempt::NoSpace { need, free }),
+        Locked::NeedLock { lock, state } => Ok(Attempt::NeedLock { lock, state }),
+        Locked::NeedBlock(missing) => Ok(Attempt::NeedBlock(missing)),
+    }
+}
+
+// Carries out a move that needs so many blocks.
+fn carry_counted<V: View>(
+    alloc: Global,
+    view: &V,
+    m: &NameMove<'_>,
+    need: u64,
+    stamp: &Stamp,
+) -> Result<Attempt, CallFault>
+    requires can { CanBeMoved (V.seen view.now) (move_of m.now) }
+    requires needs { NeedsFor (V.seen view.now) (move_of m.now) need }
+    requires groups { 1 ≤ length (V.seen view.now).groups }
+    requires node { 1 ≤ stamp.now.node }
+    ensures carried { IfOk result (IsCarried (V.seen view.now) stamp.now.node stamp.now.time (move_of m.now)) }
+    ensures damaged { IfDamaged result (IsDamageOf (V.seen view.now) stamp.now.node (move_of m.now)) }
+    ensures kept { IfDamaged result (IsOfView (V.seen view.now)) }
+{
+    match lacked_first(alloc, view, m, stamp.node, need)? {
+        Some(lock) => Ok(Attempt::NeedLock {
+            lock,
+            state: State::Ex,
+        }),
+        None => carry_held(alloc, view, m, need, stamp),
+    }
+}
+
+/// Carries out a move that can be made. Where names go from the directory that gets the new one, the way to that is looked at as it is. The blocks that are needed are counted, then the
+/// locks of the groups that have some of what goes are looked at, and where blocks are needed with these, by rising number, that of the node's own group; then the groups of what
+/// goes are looked at; and then the locks under which blocks are found. It costs what `need_name`, `need_to_move`, `find_room` and `moving` cost, and freeing what goes in a draft
+/// that is thrown away, and passes over the blocks; where blocks are needed memory for a copy of those that go.
 pub fn carry<V: View>(
     alloc: Global,
     view: &V,
@@ -205,23 +259,13 @@ pub fn carry<V: View>(
     ensures kept { IfDamaged result (IsOfView (V.seen view.now)) }
 {
     is_a_view(view);
-    let need = match need_to_move(alloc, view, m)? {
-        Step::Is(need) => need,
+    match look_ahead(alloc, view, m)? {
+        Step::Is(()) => {}
         Step::NeedBlock(missing) => return Ok(Attempt::NeedBlock(missing)),
-    };
-    match lacked_first(alloc, view, m, stamp.node, need)? {
-        Some(lock) => {
-            return Ok(Attempt::NeedLock {
-                lock,
-                state: State::Ex,
-            });
-        }
-        None => {}
     }
-    match find_room(alloc, view, stamp.node, need)? {
-        Locked::Is(Taken::Is(room)) => carry_in(alloc, view, m, &room, need, stamp),
-        Locked::Is(Taken::TooFew(free)) => Ok(Attempt::NoSpace { need, free }),
-        Locked::NeedLock { lock, state } => Ok(Attempt::NeedLock { lock, state }),
-        Locked::NeedBlock(missing) => Ok(Attempt::NeedBlock(missing)),
+    match count_blocks(alloc, view, m)? {
+        Step::Is(Some(need)) => carry_counted(alloc, view, m, need, stamp),
+        Step::Is(None) => Ok(Attempt::NotBuilt),
+        Step::NeedBlock(missing) => Ok(Attempt::NeedBlock(missing)),
     }
 }

@@ -9,10 +9,10 @@ ghost use Rattle.dinode_tree.specs.Shown.{IsShown};
 ghost use Rattle.directories.specs.Taking.{HasNameIn};
 ghost use Rattle.resource_groups.specs.Putting.{HasDataBlock};
 ghost use Rattle.name_moves.specs.Moving.{CanBeMoved, freed_by, is_reparented, is_within, move_of};
-ghost use Rattle.move_calls.specs.Checks.{IsDirectoryOf, IsNeededToSee, IsSeenMove, IsWrongMove};
+ghost use Rattle.move_calls.specs.Checks.{IsDirectoryOf, IsNeededToSee, IsSeenMove, IsUnfit, IsWrongMove};
 
 use dinode_tree::read_dinode;
-use directories::look;
+use directories::{is_hashed, look};
 use glock_names::{CallFault, Step, View};
 use name_moves::NameMove;
 use resource_groups::group_of;
@@ -48,30 +48,13 @@ fn stray_directory<V: View>(view: &V, m: &NameMove<'_>) -> Option<u64>
     None
 }
 
-// The first of the two directories and the inode that is one of the blocks that go.
-fn shared_block(m: &NameMove<'_>) -> Option<u64>
-    ensures some { IfSome result (λ b. (IsDirectoryOf (move_of m.now) b ⊎ (b ≡ m.now.moved.inode)) × Contains (freed_by (move_of m.now)) b) }
-    ensures none { IfNone result ((b : ℕ) → Contains (freed_by (move_of m.now)) b → (b ≢ m.now.from) × (b ≢ m.now.to.inode) × (b ≢ m.now.moved.inode)) }
+// Whether the inode is the directory that is to get its name, or the directory that has the name or the inode is one of the blocks that go.
+fn is_in_its_way(m: &NameMove<'_>) -> bool
+    ensures unfit { result ≡ true → (m.now.moved.inode ≡ m.now.to.inode) ⊎ (Contains (freed_by (move_of m.now)) m.now.from ⊎ Contains (freed_by (move_of m.now)) m.now.moved.inode) }
+    ensures apart { result ≡ false → (m.now.moved.inode ≢ m.now.to.inode) × ((b : ℕ) → Contains (freed_by (move_of m.now)) b → (b ≢ m.now.from) × (b ≢ m.now.moved.inode)) }
 {
     let freed = freed_blocks(m);
-    if freed.contains(&m.from) {
-        return Some(m.from);
-    }
-    if freed.contains(&m.to.inode) {
-        return Some(m.to.inode);
-    }
-    if freed.contains(&m.moved.inode) {
-        return Some(m.moved.inode);
-    }
-    None
-}
-
-// Whether the inode is one of the two directories.
-fn is_its_own(m: &NameMove<'_>) -> bool
-    ensures its_own { result ≡ true → IsDirectoryOf (move_of m.now) m.now.moved.inode }
-    ensures apart { result ≡ false → (m.now.moved.inode ≢ m.now.from) × (m.now.moved.inode ≢ m.now.to.inode) }
-{
-    m.moved.inode == m.from || m.moved.inode == m.to.inode
+    m.moved.inode == m.to.inode || freed.contains(&m.from) || freed.contains(&m.moved.inode)
 }
 
 // An inode that the view has is right in itself, so that it has a number.
@@ -94,33 +77,41 @@ fn gets_parent(m: &NameMove<'_>) -> bool
     m.moved.dinode.is_directory() && m.from != m.to.inode
 }
 
-// Looks that a directory which gets another parent has `..`.
-fn see_parent<V: View>(view: &V, m: &NameMove<'_>) -> Result<Step<()>, CallFault>
+// Looks that a directory which gets another parent has `..`. False where it isn't found in a hashed one.
+fn see_parent<V: View>(view: &V, m: &NameMove<'_>) -> Result<Step<bool>, CallFault>
     requires { IsSeenMove (V.seen view.now) (move_of m.now) }
-    ensures parented { IfIs result (λ done. is_reparented (move_of m.now) ≡ true → HasNameIn (V.seen view.now) m.now.moved.inode (codes "..")) }
+    ensures parented { IfIs result (λ sees. sees ≡ true → is_reparented (move_of m.now) ≡ true → HasNameIn (V.seen view.now) m.now.moved.inode (codes "..")) }
+    ensures unfit { IfIs result (λ sees. sees ≡ false → IsUnfit (V.seen view.now) (move_of m.now)) }
     ensures needed { IfNeedBlock result (IsNeededToSee (V.seen view.now) (move_of m.now)) }
     ensures damaged { IfDamaged result (IsWrongMove (V.seen view.now) (move_of m.now)) }
     ensures kept { IfDamaged result (IsOfView (V.seen view.now)) }
 {
+    is_a_view(view);
     if !gets_parent(m) {
-        return Ok(Step::Is(()));
+        return Ok(Step::Is(true));
     }
     match look(view, m.moved.inode, b"..")? {
-        Step::Is(Some(_)) => Ok(Step::Is(())),
-        Step::Is(None) => Err(CallFault::Damaged {
-            block: m.moved.inode,
-            rule: 10,
-        }),
+        Step::Is(Some(_)) => Ok(Step::Is(true)),
+        Step::Is(None) => {
+            if is_hashed(&m.moved.dinode) {
+                return Ok(Step::Is(false));
+            }
+            Err(CallFault::Damaged {
+                block: m.moved.inode,
+                rule: 10,
+            })
+        }
         Step::NeedBlock(missing) => Ok(Step::NeedBlock(missing)),
     }
 }
 
-/// Looks at what the walks of a call have seen of a move, that it can be made: the directories lie in groups, the inode is none of them, none of the three goes with
+/// Looks at what the walks of a call have seen of a move, whether it can be made: the directories lie in groups, the inode is none of them, none of the three goes with
 /// what stands at the new name, and a directory that gets another parent has `..`. It costs a pass over the blocks that go for each of the three, two dinodes,
 /// and what looking up `..` costs.
-pub fn can_move<V: View>(view: &V, m: &NameMove<'_>) -> Result<Step<()>, CallFault>
+pub fn can_move<V: View>(view: &V, m: &NameMove<'_>) -> Result<Step<bool>, CallFault>
     requires { IsSeenMove (V.seen view.now) (move_of m.now) }
-    ensures can { IfIs result (λ done. CanBeMoved (V.seen view.now) (move_of m.now)) }
+    ensures can { IfIs result (λ can. can ≡ true → CanBeMoved (V.seen view.now) (move_of m.now)) }
+    ensures unfit { IfIs result (λ can. can ≡ false → IsUnfit (V.seen view.now) (move_of m.now)) }
     ensures needed { IfNeedBlock result (IsNeededToSee (V.seen view.now) (move_of m.now)) }
     ensures damaged { IfDamaged result (IsWrongMove (V.seen view.now) (move_of m.now)) }
     ensures kept { IfDamaged result (IsOfView (V.seen view.now)) }
@@ -129,14 +120,20 @@ pub fn can_move<V: View>(view: &V, m: &NameMove<'_>) -> Result<Step<()>, CallFau
     if let Some(block) = stray_directory(view, m) {
         return Err(CallFault::Damaged { block, rule: 2 });
     }
-    if is_its_own(m) {
+    if m.moved.inode == m.from {
         return Err(CallFault::Damaged {
             block: m.moved.inode,
             rule: 3,
         });
     }
-    if let Some(block) = shared_block(m) {
-        return Err(CallFault::Damaged { block, rule: 3 });
+    if freed_blocks(m).contains(&m.to.inode) {
+        return Err(CallFault::Damaged {
+            block: m.to.inode,
+            rule: 3,
+        });
+    }
+    if is_in_its_way(m) {
+        return Ok(Step::Is(false));
     }
     check_inode(view, m.to.inode)?;
     check_inode(view, m.moved.inode)?;

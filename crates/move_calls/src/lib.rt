@@ -4,6 +4,7 @@
 mod answering;
 mod carrying;
 mod checks;
+mod looking;
 
 pub use answering::attempt;
 pub use carrying::carry;
