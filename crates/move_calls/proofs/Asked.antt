@@ -42,7 +42,7 @@ use Rattle.name_moves.proofs.Loses.{all_directory, all_kept, all_sound, can_tell
 use Rattle.move_calls.specs.Checks.{IsNeededToSee}
 use Rattle.image_model.proofs.Rows.{and_left}
 
-never_plain : (x y : Bool) → y ≡ false → (x && y) ≡ false
+pub never_plain : (x y : Bool) → y ≡ false → (x && y) ≡ false
 never_plain true y is = is
 never_plain false y is = refl
 

@@ -25,11 +25,6 @@ use Rattle.move_ends.proofs.Above.{directory_block, names_it}
 use Rattle.name_moves.specs.Moving.{CanBeMoved, IsPlaceOfMove, IsRead, Move, blocks_or_none, freed_by, is_reparented, is_replacing, is_within}
 use Rattle.move_calls.specs.Checks.{HasSeenThere, IsSeenMove}
 
-pub is_so : {A : Type 0} (P Q : Type 0) (r : Result (Step A) CallFault) → (P → Q) → IfIs r (λ done. P) → IfIs r (λ done. Q)
-is_so P Q (Ok (Is done)) so p = so p
-is_so P Q (Ok (NeedBlock m)) so p = tt
-is_so P Q (Err f) so p = tt
-
 pub numbered : (v : Seen) (p : Place) → IsRead v p → ((h : Holding) → inodes.IsShown v p.inode h → IsRightDinode h) → p.dinode.num.number ≢ 0
 numbered v p read right none =
     let s = some_is_shown v p.inode in

@@ -65,6 +65,7 @@ use Rattle.move_calls.specs.Carrying.{FirstAreHeld, HasRoom, IsCarriedOut, IsFul
 use Rattle.move_calls.specs.Locks.{IsNeed, IsTooFew, call_holds, comes_first, goes_with, is_first_of, lost_in, moves_in, replaced_in}
 use Rattle.move_calls.proofs.Asked.{move_asked, way_asked}
 use Rattle.move_calls.proofs.Doing.{lost_same, move_by}
+use Rattle.move_calls.proofs.Gone.{none_in}
 use Rattle.move_calls.proofs.Room.{freed_first}
 
 -- ---- tests
@@ -79,9 +80,6 @@ or_left x y is = ap (λ z. z || y) is
 or_right : (x y : Bool) → y ≡ true → (x || y) ≡ true
 or_right true y is = refl
 or_right false y is = is
-
-none_in : (b : ℕ) → Contains [] b → ⊥
-none_in b there = omega (arith, there.1)
 
 -- ---- a lock of a list that is held
 

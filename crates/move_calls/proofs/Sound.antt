@@ -52,6 +52,7 @@ use Rattle.name_moves.proofs.Unbroken.{not_wrong}
 use Rattle.move_calls.specs.Carrying.{HasRoom, IsDamageOf, IsInTheWay, IsStuck}
 use Rattle.move_calls.specs.Checks.{IsDirectoryOf, IsUnfit, IsWrongMove}
 use Rattle.move_calls.proofs.Doing.{move_by, place_in, room_in}
+use Rattle.move_calls.proofs.Gone.{none_in}
 
 -- what an inode's lock covers is a block of an inode
 its_by_cover : (l : Layout) (b d : ℕ) (x : Owner) → cover l b x ≡ Some (inode_lock d) → is_free x ≡ false → (a : ℕ) × (inode_of b x ≡ Some a)
@@ -78,9 +79,6 @@ not_own_parent : (p : Path) → p ≢ [] → p ≡ parent_of p → ⊥
 not_own_parent p some same =
     let longer : length p ≡ length (parent_of p) + 1 = ap length (ends_so p some) ∙ length-append (parent_of p) (last_of p ∷ []) in
     omega (arith, longer, ap length same)
-
-none_in : (b : ℕ) → Contains [] b → ⊥
-none_in b there = omega (arith, there.1)
 
 not_some : {A : Type 0} (x : Option A) → x ≡ None → IsSome x → ⊥
 not_some x none some = true≢false (sym some ∙ ap is_some none)

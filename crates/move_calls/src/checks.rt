@@ -48,6 +48,22 @@ fn stray_directory<V: View>(view: &V, m: &NameMove<'_>) -> Option<u64>
     None
 }
 
+// Whether the inode is the directory that has its name.
+fn is_its_own(m: &NameMove<'_>) -> bool
+    ensures its_own { result ≡ true → m.now.moved.inode ≡ m.now.from }
+    ensures apart { result ≡ false → m.now.moved.inode ≢ m.now.from }
+{
+    m.moved.inode == m.from
+}
+
+// Whether the directory that is to get the name is one of the blocks that go.
+fn frees_target(m: &NameMove<'_>) -> bool
+    ensures goes { result ≡ true → Contains (freed_by (move_of m.now)) m.now.to.inode }
+    ensures stays { result ≡ false → (b : ℕ) → Contains (freed_by (move_of m.now)) b → b ≢ m.now.to.inode }
+{
+    freed_blocks(m).contains(&m.to.inode)
+}
+
 // Whether the inode is the directory that is to get its name, or the directory that has the name or the inode is one of the blocks that go.
 fn is_in_its_way(m: &NameMove<'_>) -> bool
     ensures unfit { result ≡ true → (m.now.moved.inode ≡ m.now.to.inode) ⊎ (Contains (freed_by (move_of m.now)) m.now.from ⊎ Contains (freed_by (move_of m.now)) m.now.moved.inode) }
@@ -120,13 +136,13 @@ pub fn can_move<V: View>(view: &V, m: &NameMove<'_>) -> Result<Step<bool>, CallF
     if let Some(block) = stray_directory(view, m) {
         return Err(CallFault::Damaged { block, rule: 2 });
     }
-    if m.moved.inode == m.from {
+    if is_its_own(m) {
         return Err(CallFault::Damaged {
             block: m.moved.inode,
             rule: 3,
         });
     }
-    if freed_blocks(m).contains(&m.to.inode) {
+    if frees_target(m) {
         return Err(CallFault::Damaged {
             block: m.to.inode,
             rule: 3,
