@@ -32,11 +32,11 @@ returns-in-Is-Some-clause-carried g c =
         room = c.args.room.now;
         has = c.requires.room;
         off = answer_at _ _ (λ off. off ≡ true → IsOffWay v m c.args.room.now) c.in-Is-true.is c.in_ok-check_room.ensures.off c.in-Is-true.field-0-test;
-        is = found_at c.in_ok-draft_in.field-0 c.in-Is-Some.field-0 c.in-Is-Some.change (IsMoving v m c.args.room.now c.args.stamp.now.time) c.in-Is-Some.is c.in-Is-Some.field-0-is c.in_ok-draft_in.ensures.moving;
+        is = found_at c.in_ok-change.field-0 c.in-Is-Some.field-0 c.in-Is-Some.change (IsMoving v m c.args.room.now c.args.stamp.now.time) c.in-Is-Some.is c.in-Is-Some.field-0-is c.in_ok-change.ensures.moving;
       },
     )
 
 pub returns-in-Is-None-clause-carried : goal.returns-in-Is-None-clause-carried
 returns-in-Is-None-clause-carried g c =
     let stuck = IsStuck (g.V.View.seen c.args.view.now) c.args.stamp.now.node (move_of c.args.m.now) in
-    at_none stuck c.in-Is-None.field-0 c.in-Is-None.field-0-is (answer_at _ _ (λ done. IfNone done stuck) c.in-Is-None.is c.in_ok-draft_in.ensures.stuck)
+    at_none stuck c.in-Is-None.field-0 c.in-Is-None.field-0-is (answer_at _ _ (λ done. IfNone done stuck) c.in-Is-None.is c.in_ok-change.ensures.stuck)

@@ -1,6 +1,7 @@
 use Rattle.std.proofs.Common.{◌≡◌, ◌&&◌, Bool, true, false, refl, sym, ◌∙◌, subst}
 use Rattle.std.specs.Prelude.{codes}
-use Rattle.gfs2_layout.specs.Structures.{has_hash_flag, is_directory}
+use Rattle.gfs2_layout.specs.Inode.{has_hash_flag}
+use Rattle.gfs2_layout.specs.Structures.{is_directory}
 use Rattle.glock_names.proofs.StepLaws.{answer_at, needed_at}
 use Rattle.directories.specs.Shown.{IsBroken, IsNeededFor, IsShown, Says}
 use Rattle.path_walks.proofs.Faults.{only_so, told_on}
