@@ -1,5 +1,5 @@
 -- A move that was seen, and can be made once all is looked at.
-use Rattle.std.proofs.Common.{◌≡◌, ◌≢◌, ℕ, true, false, true≢false, List, [], Option, None, Some, Result, Ok, Err, refl, sym, ap, ◌∙◌, subst, arith}
+use Rattle.std.proofs.Common.{◌≡◌, ◌≢◌, ◌&&◌, Bool, ℕ, true, false, true≢false, List, [], Option, None, Some, Result, Ok, Err, refl, sym, ap, ◌∙◌, subst, arith}
 use Rattle.std.proofs.lemmas.Bool.{eqb-true}
 use Rattle.std.specs.Prelude.{Contains, codes, is_some}
 use Rattle.gfs2_layout.specs.Holding.{Holding}
@@ -24,6 +24,10 @@ use Rattle.path_walks.specs.declared.walk.Place.{Place}
 use Rattle.move_ends.proofs.Above.{directory_block, names_it}
 use Rattle.name_moves.specs.Moving.{CanBeMoved, IsPlaceOfMove, IsRead, Move, blocks_or_none, freed_by, is_reparented, is_replacing, is_within}
 use Rattle.move_calls.specs.Checks.{HasSeenThere, IsSeenMove}
+
+pub and_never : (x y : Bool) → y ≡ false → (x && y) ≡ false
+and_never true y is = is
+and_never false y is = refl
 
 pub numbered : (v : Seen) (p : Place) → IsRead v p → ((h : Holding) → inodes.IsShown v p.inode h → IsRightDinode h) → p.dinode.num.number ≢ 0
 numbered v p read right none =

@@ -8,7 +8,7 @@ use Rattle.path_walks.proofs.Faults.{only_so, told_on}
 use Rattle.path_walks.proofs.Steps.{directory_here, fault_of_all}
 use Rattle.name_moves.specs.Moving.{move_of}
 use Rattle.move_calls.specs.Checks.{IsWrongMove}
-use Rattle.move_calls.proofs.Asked.{never_plain}
+use Rattle.move_calls.proofs.Checked.{and_never}
 use Rattle.move_calls.proofs.checks.see_parent.Goals as goal
 
 left_of : (a b : Bool) → (a && b) ≡ true → a ≡ true
@@ -31,7 +31,7 @@ returns-in_err-look-clause-damaged g c =
 pub returns-else-is_hashed-clause-damaged : goal.returns-else-is_hashed-clause-damaged
 returns-else-is_hashed-clause-damaged g c =
     IsWrongMove.no_parent (sym c.gets_parent.ensures ∙ c.if-not-gets_parent.false)
-    (λ h shown. subst (λ d. (is_directory d && has_hash_flag d) ≡ false) (c.requires.inode_read h shown.inode) (never_plain _ _ (sym c.is_hashed.ensures ∙ c.if-is_hashed.false)))
+    (λ h shown. subst (λ d. (is_directory d && has_hash_flag d) ≡ false) (c.requires.inode_read h shown.inode) (and_never _ _ (sym c.is_hashed.ensures ∙ c.if-is_hashed.false)))
     (λ h shown. subst (Says h (codes "..")) c.in-Is-None.field-0-is (answer_at _ _ (Says h (codes "..")) c.in-Is-None.is (c.in_ok-look.ensures.found h shown)))
 
 pub returns-in-NeedBlock-clause-needed : goal.returns-in-NeedBlock-clause-needed
