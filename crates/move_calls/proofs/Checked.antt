@@ -1,15 +1,11 @@
 -- A move that was seen, and can be made once all is looked at.
-use Rattle.std.proofs.Common.{◌≡◌, ◌≢◌, ◌&&◌, Bool, ℕ, true, false, true≢false, List, [], Option, None, Some, Result, Ok, Err, refl, sym, ap, ◌∙◌, subst, arith}
+use Rattle.std.proofs.Common.{◌≡◌, ◌≢◌, ◌&&◌, Bool, ℕ, true, false, true≢false, List, [], Option, None, Some, refl, sym, ap, ◌∙◌, subst, arith}
 use Rattle.std.proofs.lemmas.Bool.{eqb-true}
 use Rattle.std.specs.Prelude.{Contains, codes, is_some}
 use Rattle.gfs2_layout.specs.Holding.{Holding}
 use Rattle.gfs2_layout.specs.declared.dinode.Dinode.{Dinode}
-use Rattle.glock_names.specs.Steps.{IfIs}
 use Rattle.glock_names.specs.Views.{Seen, IsView}
-use Rattle.glock_names.specs.declared.steps.CallFault.{CallFault}
 use Rattle.glock_names.specs.declared.steps.Entry.{Entry}
-use Rattle.glock_names.specs.declared.steps.Step.{Step}
-use Rattle.glock_names.specs.declared.steps.Step.TheVariants.{Is, NeedBlock}
 use Rattle.dinode_tree.specs.Reading.{IsRightDinode}
 use Rattle.dinode_tree.specs.Shown as inodes
 use Rattle.dinode_tree.proofs.Sound.{some_is_shown}

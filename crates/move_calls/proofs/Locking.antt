@@ -35,7 +35,6 @@ use Rattle.image_model.proofs.Members.{IsIn, contained, in_left, in_right, is_in
 use Rattle.image_changes.specs.Changes.{inode_of}
 use Rattle.image_changes.specs.Does.{IsOf, frees}
 use Rattle.image_changes.specs.Drafted.{IsFinished}
-use Rattle.image_changes.specs.Instances.{IsAt}
 use Rattle.image_changes.proofs.Finishing.{finish_makes}
 use Rattle.draft_changes.proofs.Rows.{cell_its}
 use Rattle.draft_changes.proofs.Views.{groups_are_listed}
@@ -43,7 +42,6 @@ use Rattle.path_walks.specs.Holds.{Hold, AreHeld, IsAskedFor, IsFirstLack, IsUnd
 use Rattle.path_walks.specs.declared.walk.Place.{Place}
 use Rattle.path_walks.proofs.Asked.{IsAmong}
 use Rattle.path_walks.proofs.Images.{shown_inode, sound_directory}
-use Rattle.move_ends.proofs.Paths.{ends_so}
 use Rattle.path_walks.proofs.Longer.{asked_before, asked_behind, lack_before, lack_behind}
 use Rattle.resource_groups.specs.Freeing as freeing
 use Rattle.resource_groups.specs.Shown.{IsDataOf, said}
@@ -271,6 +269,12 @@ module _ (v : Seen) (im : Image) (o : Owners) (l : Layout) (t : Tree) (of : IsOf
         in_asked v im o l t of list m blocks n first second third groups
         (move_asked v im o l t of m (parent_of (from_path c)) (parent_of (to_path c)) can (are_places v c from to replaced ends im o l t moves) blocks n needs)
 
+    -- of a group that has some of what goes
+    freed_asks : (need : ℕ) (n : Missing) → FirstAreHeld v node m need → freeing.IsNeededFor v (freed_by m) n → IsAskedFor v im o l (inode_list ++ first_list need) n
+    freed_asks need n first needs =
+        blocks_of_groups_are_asked_for v im o l t (comes_first im o l c node need) (first_blocks first.own need (freed_by m)) inode_list n of (those need first.own first.of_node) inodes first.held
+        (needs.0, needs.1, (needs.2.0, freed_first first.own need (freed_by m) needs.2.0 needs.2.1, needs.2.2, needs.2.3))
+
     -- where blocks are found and all is held
     module _ (need : ℕ) (room : List ℕ) (has : HasRoom v node m need room) where
       abbrev own : Group
@@ -312,9 +316,7 @@ module _ (v : Seen) (im : Image) (o : Owners) (l : Layout) (t : Tree) (of : IsOf
             asked_behind v im o l (inode_list ++ first_list need) (room_list need) n front_held
             (group_asked v im o l t of (room_list need) n (block_under v (room_list need) needs.0 n room_held (room_listed needs.0 needs.2.0 needs.1 taken needs.2.2) needs.1 needs.2.3.block))
         | inr goes ↦
-            asked_before v im o l (inode_list ++ first_list need) (room_list need) n
-            (blocks_of_groups_are_asked_for v im o l t (comes_first im o l c node need) (first_blocks own need (freed_by m)) inode_list n of (those need own has.counted.first.of_node) inodes has.counted.first.held
-            (needs.0, needs.1, (needs.2.0, freed_first own need (freed_by m) needs.2.0 goes, needs.2.2, needs.2.3)))
+            asked_before v im o l (inode_list ++ first_list need) (room_list need) n (freed_asks need n has.counted.first (needs.0, needs.1, (needs.2.0, goes, needs.2.2, needs.2.3)))
       ]
 
       draft_asks : (n : Missing) → IsNeededIn v m (room ++ freed_by m) n → IsAskedFor v im o l (call_holds im o l t c node need) n
@@ -339,12 +341,6 @@ module _ (v : Seen) (im : Image) (o : Owners) (l : Layout) (t : Tree) (of : IsOf
         subst (λ list. IsAskedFor v im o l list n) (sym (list_is other))
         (asked_before v im o l inode_list (first_list other ++ room_list other) n
         (way_asked v im o l t of inode_list (parent_of (to_path c)) to.inode moves.target moves.directory among_target (last_of (to_path c)) n absent needs))
-
-    -- of a group that has some of what goes
-    freed_asks : (need : ℕ) (n : Missing) → FirstAreHeld v node m need → freeing.IsNeededFor v (freed_by m) n → IsAskedFor v im o l (inode_list ++ first_list need) n
-    freed_asks need n first needs =
-        blocks_of_groups_are_asked_for v im o l t (comes_first im o l c node need) (first_blocks first.own need (freed_by m)) inode_list n of (those need first.own first.of_node) inodes first.held
-        (needs.0, needs.1, (needs.2.0, freed_first first.own need (freed_by m) needs.2.0 needs.2.1, needs.2.2, needs.2.3))
 
     pub block_asks : (n : Missing) (other : ℕ) → NeedsBlock v node m n → IsNeed im o l t c other → IsAskedFor v im o l (call_holds im o l t c node other) n
     block_asks n other (NeedsBlock.to_look absent needs) is = way_asks n other absent needs

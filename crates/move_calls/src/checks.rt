@@ -8,7 +8,7 @@ ghost use Rattle.dinode_tree.specs.Reading.{IsRightDinode};
 ghost use Rattle.dinode_tree.specs.Shown.{IsShown};
 ghost use Rattle.directories.specs.Taking.{HasNameIn};
 ghost use Rattle.resource_groups.specs.Putting.{HasDataBlock};
-ghost use Rattle.name_moves.specs.Moving.{CanBeMoved, freed_by, is_reparented, is_within, move_of};
+ghost use Rattle.name_moves.specs.Moving.{CanBeMoved, freed_by, is_reparented, move_of};
 ghost use Rattle.move_calls.specs.Checks.{IsDirectoryOf, IsNeededToSee, IsSeenMove, IsUnfit, IsWrongMove};
 
 use dinode_tree::read_dinode;

@@ -1,5 +1,4 @@
-use Rattle.std.proofs.Common.{Ok, subst}
-use Rattle.glock_names.specs.Steps.{IfNeedBlock}
+use Rattle.std.proofs.Common.{subst}
 use Rattle.glock_names.proofs.StepLaws.{needed_at}
 use Rattle.name_inserts.specs.Inserting.{IsNeededForName}
 use Rattle.move_calls.proofs.looking.look_ahead.Goals as goal
