@@ -1,15 +1,11 @@
 -- A move that was seen, and can be made once all is looked at.
-use Rattle.std.proofs.Common.{◌≡◌, ◌≢◌, ℕ, true, false, true≢false, List, [], Option, None, Some, Result, Ok, Err, refl, sym, ap, ◌∙◌, subst, arith}
+use Rattle.std.proofs.Common.{◌≡◌, ◌≢◌, ◌&&◌, Bool, ℕ, true, false, true≢false, List, [], Option, None, Some, refl, sym, ap, ◌∙◌, subst, arith}
 use Rattle.std.proofs.lemmas.Bool.{eqb-true}
 use Rattle.std.specs.Prelude.{Contains, codes, is_some}
 use Rattle.gfs2_layout.specs.Holding.{Holding}
 use Rattle.gfs2_layout.specs.declared.dinode.Dinode.{Dinode}
-use Rattle.glock_names.specs.Steps.{IfIs}
 use Rattle.glock_names.specs.Views.{Seen, IsView}
-use Rattle.glock_names.specs.declared.steps.CallFault.{CallFault}
 use Rattle.glock_names.specs.declared.steps.Entry.{Entry}
-use Rattle.glock_names.specs.declared.steps.Step.{Step}
-use Rattle.glock_names.specs.declared.steps.Step.TheVariants.{Is, NeedBlock}
 use Rattle.dinode_tree.specs.Reading.{IsRightDinode}
 use Rattle.dinode_tree.specs.Shown as inodes
 use Rattle.dinode_tree.proofs.Sound.{some_is_shown}
@@ -25,10 +21,9 @@ use Rattle.move_ends.proofs.Above.{directory_block, names_it}
 use Rattle.name_moves.specs.Moving.{CanBeMoved, IsPlaceOfMove, IsRead, Move, blocks_or_none, freed_by, is_reparented, is_replacing, is_within}
 use Rattle.move_calls.specs.Checks.{HasSeenThere, IsSeenMove}
 
-pub is_so : {A : Type 0} (P Q : Type 0) (r : Result (Step A) CallFault) → (P → Q) → IfIs r (λ done. P) → IfIs r (λ done. Q)
-is_so P Q (Ok (Is done)) so p = so p
-is_so P Q (Ok (NeedBlock m)) so p = tt
-is_so P Q (Err f) so p = tt
+pub and_never : (x y : Bool) → y ≡ false → (x && y) ≡ false
+and_never true y is = is
+and_never false y is = refl
 
 pub numbered : (v : Seen) (p : Place) → IsRead v p → ((h : Holding) → inodes.IsShown v p.inode h → IsRightDinode h) → p.dinode.num.number ≢ 0
 numbered v p read right none =

@@ -55,7 +55,7 @@ use Rattle.room_search.proofs.InImage.{are_shown, room_blocks_are, said_free}
 use Rattle.move_ends.specs.Ends.{AreEnds, IsElsewhere, IsRenaming, IsTarget, MovesIn, StoodIn, from_path, to_path}
 use Rattle.name_inserts.specs.Need.{name_need}
 use Rattle.name_moves.specs.Becoming.{GetsName, GetsParent, GivesName, LosesAll, NeedsAfter, losses}
-use Rattle.name_moves.specs.Moving.{CanBeMoved, IsMoveIn, IsMoving, IsPutUnder, Move, StandsThere, entry_for, freed_by, lost_there, of_group, of_inode, of_source, of_target}
+use Rattle.name_moves.specs.Moving.{ArePlacesIn, CanBeMoved, IsMoveIn, IsMoving, IsPutUnder, Move, StandsThere, entry_for, freed_by, lost_there, of_group, of_inode, of_source, of_target}
 use Rattle.name_moves.specs.Moving as moving
 use Rattle.name_moves.proofs.Alike.{need_once}
 use Rattle.name_moves.proofs.Imaged.{source_directory}
@@ -220,6 +220,15 @@ module _ (v : Seen) (c : Call) (from to : Place) (replaced : Option (List ℕ)) 
   lost_same im o l t r = λ i. losses (stood_or_not im o l replaced r.stood i) (from.above == to.inode) (last_of (from_path c)) (last_of (to_path c))
 
   -- the places of the move in the image, and the blocks that were found for it
+  pub are_places : (im : Image) (o : Owners) (l : Layout) (t : Tree) → MovesIn v im o l t c from to replaced → ArePlacesIn im o l (parent_of (from_path c)) (parent_of (to_path c)) (move_by c from to replaced)
+  are_places im o l t r = record {
+    source = r.source.above;
+    target = r.target;
+    inode = subst (λ p. IsAt im o l p from.inode) from_so r.source.at;
+    directory = r.directory;
+    inode_dinode = r.source.dinode;
+  }
+
   pub place_in : crc32_of (last_of (to_path c)) < 2 ^ 32 → (im : Image) (o : Owners) (l : Layout) (t : Tree) → IsOf v im o l t → MovesIn v im o l t c from to replaced
       → (node need : ℕ) (room : List ℕ) → HasRoom v node (move_by c from to replaced) need room
       → IsMoveIn im o l (parent_of (from_path c)) (parent_of (to_path c)) (move_by c from to replaced) room

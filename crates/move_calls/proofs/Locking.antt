@@ -1,5 +1,5 @@
 -- The locks of a name that moves, in an image that the view may be of.
-use Rattle.std.proofs.Common.{◌≡◌, ◌↔◌, ◌==◌, ◌&&◌, ◌||◌, ◌^◌, ◌<◌, inl, inr, ℕ, Bool, true, false, true≢false, List, [], ◌∷◌, ◌++◌, Option, Some, get_or, length, map, refl, sym, ap, ◌∙◌, subst, arith}
+use Rattle.std.proofs.Common.{◌≡◌, ◌↔◌, ◌==◌, ◌&&◌, ◌||◌, ◌^◌, ◌<◌, inl, inr, ℕ, Bool, true, false, true≢false, List, [], ◌∷◌, ◌++◌, Option, None, Some, get_or, length, map, refl, sym, ap, ◌∙◌, subst, arith}
 use Rattle.std.proofs.lemmas.Bool.{cases_Bool, cond-false, cond-true, eq-eqb, eqb-true}
 use Rattle.std.proofs.lemmas.List.{append_assoc}
 use Rattle.std.proofs.lemmas.List.Elements.{All-append, Contains-append_cases, Contains-append_left}
@@ -35,7 +35,6 @@ use Rattle.image_model.proofs.Members.{IsIn, contained, in_left, in_right, is_in
 use Rattle.image_changes.specs.Changes.{inode_of}
 use Rattle.image_changes.specs.Does.{IsOf, frees}
 use Rattle.image_changes.specs.Drafted.{IsFinished}
-use Rattle.image_changes.specs.Instances.{IsAt}
 use Rattle.image_changes.proofs.Finishing.{finish_makes}
 use Rattle.draft_changes.proofs.Rows.{cell_its}
 use Rattle.draft_changes.proofs.Views.{groups_are_listed}
@@ -43,7 +42,6 @@ use Rattle.path_walks.specs.Holds.{Hold, AreHeld, IsAskedFor, IsFirstLack, IsUnd
 use Rattle.path_walks.specs.declared.walk.Place.{Place}
 use Rattle.path_walks.proofs.Asked.{IsAmong}
 use Rattle.path_walks.proofs.Images.{shown_inode, sound_directory}
-use Rattle.move_ends.proofs.Paths.{ends_so}
 use Rattle.path_walks.proofs.Longer.{asked_before, asked_behind, lack_before, lack_behind}
 use Rattle.resource_groups.specs.Freeing as freeing
 use Rattle.resource_groups.specs.Shown.{IsDataOf, said}
@@ -61,10 +59,12 @@ use Rattle.move_ends.proofs.Listed.{inode_listed, replaced_listed, source_listed
 use Rattle.name_moves.specs.Becoming.{NeedsAfter}
 use Rattle.name_moves.specs.Moving.{CanBeMoved, IsNeededIn, IsPutUnder, Move, blocks_or_none, freed_by, lost_there}
 use Rattle.name_moves.proofs.Alike.{need_once}
+use Rattle.name_moves.proofs.Asked.{move_asked}
 use Rattle.move_calls.specs.Carrying.{FirstAreHeld, HasRoom, IsCarriedOut, IsFull, IsOwnGroup, LacksLock, NeedsBlock, NeedsFor, first_blocks}
 use Rattle.move_calls.specs.Locks.{IsNeed, IsTooFew, call_holds, comes_first, goes_with, is_first_of, lost_in, moves_in, replaced_in}
-use Rattle.move_calls.proofs.Asked.{move_asked, way_asked}
-use Rattle.move_calls.proofs.Doing.{lost_same, move_by}
+use Rattle.move_calls.proofs.Asked.{in_asked, way_asked}
+use Rattle.move_calls.proofs.Doing.{are_places, lost_same, move_by}
+use Rattle.move_calls.proofs.Gone.{none_in}
 use Rattle.move_calls.proofs.Room.{freed_first}
 
 -- ---- tests
@@ -79,9 +79,6 @@ or_left x y is = ap (λ z. z || y) is
 or_right : (x y : Bool) → y ≡ true → (x || y) ≡ true
 or_right true y is = refl
 or_right false y is = is
-
-none_in : (b : ℕ) → Contains [] b → ⊥
-none_in b there = omega (arith, there.1)
 
 -- ---- a lock of a list that is held
 
@@ -265,14 +262,18 @@ module _ (v : Seen) (im : Image) (o : Owners) (l : Layout) (t : Tree) (of : IsOf
   among_inode = among_held v inode_list from.inode (inode_listed v im o l c ends.begun.from ends.begun.to ends.elsewhere from.inode moves.source.at) inodes
 
   module _ (view : IsView v) (can : CanBeMoved v m) where
-    inode_there : IsAt im o l (parent_of (from_path c) ++ last_of (from_path c) ∷ []) from.inode
-    inode_there = subst (λ p. IsAt im o l p from.inode) (ends_so (from_path c) ends.begun.from) moves.source.at
-
     -- of the directories and the inode
     asked_on : (list : List Hold) → IsAmong v list from.above → IsAmong v list to.inode → IsAmong v list from.inode → (blocks : List ℕ) (n : Missing) → (freeing.IsNeededFor v blocks n → IsAskedFor v im o l list n)
         → IsNeededIn v m blocks n → IsAskedFor v im o l list n
-    asked_on list first second third =
-        move_asked v im o l t of list m (parent_of (from_path c)) (parent_of (to_path c)) can moves.source.above moves.target inode_there moves.directory moves.source.dinode first second third
+    asked_on list first second third blocks n groups needs =
+        in_asked v im o l t of list m blocks n first second third groups
+        (move_asked v im o l t of m (parent_of (from_path c)) (parent_of (to_path c)) can (are_places v c from to replaced ends im o l t moves) blocks n needs)
+
+    -- of a group that has some of what goes
+    freed_asks : (need : ℕ) (n : Missing) → FirstAreHeld v node m need → freeing.IsNeededFor v (freed_by m) n → IsAskedFor v im o l (inode_list ++ first_list need) n
+    freed_asks need n first needs =
+        blocks_of_groups_are_asked_for v im o l t (comes_first im o l c node need) (first_blocks first.own need (freed_by m)) inode_list n of (those need first.own first.of_node) inodes first.held
+        (needs.0, needs.1, (needs.2.0, freed_first first.own need (freed_by m) needs.2.0 needs.2.1, needs.2.2, needs.2.3))
 
     -- where blocks are found and all is held
     module _ (need : ℕ) (room : List ℕ) (has : HasRoom v node m need room) where
@@ -315,9 +316,7 @@ module _ (v : Seen) (im : Image) (o : Owners) (l : Layout) (t : Tree) (of : IsOf
             asked_behind v im o l (inode_list ++ first_list need) (room_list need) n front_held
             (group_asked v im o l t of (room_list need) n (block_under v (room_list need) needs.0 n room_held (room_listed needs.0 needs.2.0 needs.1 taken needs.2.2) needs.1 needs.2.3.block))
         | inr goes ↦
-            asked_before v im o l (inode_list ++ first_list need) (room_list need) n
-            (blocks_of_groups_are_asked_for v im o l t (comes_first im o l c node need) (first_blocks own need (freed_by m)) inode_list n of (those need own has.counted.first.of_node) inodes has.counted.first.held
-            (needs.0, needs.1, (needs.2.0, freed_first own need (freed_by m) needs.2.0 goes, needs.2.2, needs.2.3)))
+            asked_before v im o l (inode_list ++ first_list need) (room_list need) n (freed_asks need n has.counted.first (needs.0, needs.1, (needs.2.0, goes, needs.2.2, needs.2.3)))
       ]
 
       draft_asks : (n : Missing) → IsNeededIn v m (room ++ freed_by m) n → IsAskedFor v im o l (call_holds im o l t c node need) n
@@ -336,20 +335,15 @@ module _ (v : Seen) (im : Image) (o : Owners) (l : Layout) (t : Tree) (of : IsOf
         (asked_before v im o l inode_list (first_list other ++ room_list other) n (asked_on inode_list among_source among_target among_inode [] n (no_group n) needs))
 
     -- on the way to the new name
-    way_asks : (n : Missing) (other : ℕ) → ((h : Holding) → dirs.IsShown v to.inode h → IsNeededForName v h (last_of (to_path c)) n) → IsAskedFor v im o l (call_holds im o l t c node other) n
-    way_asks n other needs =
+    way_asks : (n : Missing) (other : ℕ) → v.block_at n.block ≡ None → ((h : Holding) → dirs.IsShown v to.inode h → IsNeededForName v h (last_of (to_path c)) n)
+        → IsAskedFor v im o l (call_holds im o l t c node other) n
+    way_asks n other absent needs =
         subst (λ list. IsAskedFor v im o l list n) (sym (list_is other))
         (asked_before v im o l inode_list (first_list other ++ room_list other) n
-        (way_asked v im o l t of inode_list m (parent_of (from_path c)) (parent_of (to_path c)) can moves.source.above moves.target inode_there moves.directory moves.source.dinode among_source among_target among_inode n needs))
-
-    -- of a group that has some of what goes
-    freed_asks : (need : ℕ) (n : Missing) → FirstAreHeld v node m need → freeing.IsNeededFor v (freed_by m) n → IsAskedFor v im o l (inode_list ++ first_list need) n
-    freed_asks need n first needs =
-        blocks_of_groups_are_asked_for v im o l t (comes_first im o l c node need) (first_blocks first.own need (freed_by m)) inode_list n of (those need first.own first.of_node) inodes first.held
-        (needs.0, needs.1, (needs.2.0, freed_first first.own need (freed_by m) needs.2.0 needs.2.1, needs.2.2, needs.2.3))
+        (way_asked v im o l t of inode_list (parent_of (to_path c)) to.inode moves.target moves.directory among_target (last_of (to_path c)) n absent needs))
 
     pub block_asks : (n : Missing) (other : ℕ) → NeedsBlock v node m n → IsNeed im o l t c other → IsAskedFor v im o l (call_holds im o l t c node other) n
-    block_asks n other (NeedsBlock.to_look absent needs) is = way_asks n other needs
+    block_asks n other (NeedsBlock.to_look absent needs) is = way_asks n other absent needs
     block_asks n other (NeedsBlock.to_count none needs) is = inode_asks n other needs
     block_asks n other (NeedsBlock.once_gone gone needs inside) is = inode_asks n other needs
     block_asks n other (NeedsBlock.of_freed need counted needs) is =
@@ -361,7 +355,7 @@ module _ (v : Seen) (im : Image) (o : Owners) (l : Layout) (t : Tree) (of : IsOf
         (subst (λ list. IsAskedFor v im o l list n) (sym (list_then need))
         (asked_behind v im o l (inode_list ++ first_list need) (room_list need) n (first_held need counted.first)
         (group_asked v im o l t of (room_list need) n (subst (λ list. IsGroupBlock v list n) (room_is need counted.first.own counted.first.of_node) (blocks im.at shown)))))
-    block_asks n other (NeedsBlock.on_way need room has absent needs) is = way_asks n other needs
+    block_asks n other (NeedsBlock.on_way need room has absent needs) is = way_asks n other absent needs
     block_asks n other (NeedsBlock.to_draft need room has none needs) is =
         subst (λ k. IsAskedFor v im o l (call_holds im o l t c node k) n) (one_need need other has.counted.needs is) (draft_asks need room has n needs)
     block_asks n other (NeedsBlock.to_say need room has needs) is =

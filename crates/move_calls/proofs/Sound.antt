@@ -51,7 +51,8 @@ use Rattle.name_moves.proofs.Imaged.{apart_there}
 use Rattle.name_moves.proofs.Unbroken.{not_wrong}
 use Rattle.move_calls.specs.Carrying.{HasRoom, IsDamageOf, IsInTheWay, IsStuck}
 use Rattle.move_calls.specs.Checks.{IsDirectoryOf, IsUnfit, IsWrongMove}
-use Rattle.move_calls.proofs.Doing.{move_by, place_in, room_in}
+use Rattle.move_calls.proofs.Doing.{are_places, move_by, place_in, room_in}
+use Rattle.move_calls.proofs.Gone.{none_in}
 
 -- what an inode's lock covers is a block of an inode
 its_by_cover : (l : Layout) (b d : ℕ) (x : Owner) → cover l b x ≡ Some (inode_lock d) → is_free x ≡ false → (a : ℕ) × (inode_of b x ≡ Some a)
@@ -78,9 +79,6 @@ not_own_parent : (p : Path) → p ≢ [] → p ≡ parent_of p → ⊥
 not_own_parent p some same =
     let longer : length p ≡ length (parent_of p) + 1 = ap length (ends_so p some) ∙ length-append (parent_of p) (last_of p ∷ []) in
     omega (arith, longer, ap length same)
-
-none_in : (b : ℕ) → Contains [] b → ⊥
-none_in b there = omega (arith, there.1)
 
 not_some : {A : Type 0} (x : Option A) → x ≡ None → IsSome x → ⊥
 not_some x none some = true≢false (sym some ∙ ap is_some none)
@@ -180,9 +178,6 @@ module _ (v : Seen) (im : Image) (o : Owners) (l : Layout) (t : Tree) (of : IsOf
 
     -- and nothing is wrong as it is carried out
     module _ (can : CanBeMoved v m) (node : ℕ) where
-      inode_there : IsAt im o l (parent_of p ++ last_of p ∷ []) from.inode
-      inode_there = subst (λ x. IsAt im o l x from.inode) (ends_so p ends.begun.from) moves.source.at
-
       -- a block that is taken is no inode's
       new_block : (need : ℕ) (room : List ℕ) → HasRoom v node m need room → (b : ℕ) → Contains room b → ((a : ℕ) → (holding im o a).cell b ≡ None) × (b ≢ 0) × (b < im.count)
       new_block need room has b there = free_blocks_are_new im o l b of.stands.laid ((room_in v node need m room has im o l t of).free b there)
@@ -214,13 +209,7 @@ module _ (v : Seen) (im : Image) (o : Owners) (l : Layout) (t : Tree) (of : IsOf
           by _ (StoodIn.an_inode d blocks at bare own) goes = no_cell need room has b there d ((own b).0 goes)
 
       places : ArePlacesIn im o l (parent_of p) (parent_of q) m
-      places = record {
-        source = moves.source.above;
-        target = moves.target;
-        inode = inode_there;
-        directory = moves.directory;
-        inode_dinode = moves.source.dinode;
-      }
+      places = are_places v c from to replaced ends im o l t moves
 
       move_wrong : (blocks : List ℕ) (rule b : ℕ) → IsWrongIn v m blocks rule b → ⊥
       move_wrong = not_wrong v im o l t of m (parent_of p) (parent_of q) can places

@@ -8,7 +8,7 @@ ghost use Rattle.dinode_tree.specs.Reading.{IsRightDinode};
 ghost use Rattle.dinode_tree.specs.Shown.{IsShown};
 ghost use Rattle.directories.specs.Taking.{HasNameIn};
 ghost use Rattle.resource_groups.specs.Putting.{HasDataBlock};
-ghost use Rattle.name_moves.specs.Moving.{CanBeMoved, freed_by, is_reparented, is_within, move_of};
+ghost use Rattle.name_moves.specs.Moving.{CanBeMoved, freed_by, is_reparented, move_of};
 ghost use Rattle.move_calls.specs.Checks.{IsDirectoryOf, IsNeededToSee, IsSeenMove, IsUnfit, IsWrongMove};
 
 use dinode_tree::read_dinode;
@@ -46,6 +46,22 @@ fn stray_directory<V: View>(view: &V, m: &NameMove<'_>) -> Option<u64>
         return Some(m.to.inode);
     }
     None
+}
+
+// Whether the inode is the directory that has its name.
+fn is_its_own(m: &NameMove<'_>) -> bool
+    ensures its_own { result ≡ true → m.now.moved.inode ≡ m.now.from }
+    ensures apart { result ≡ false → m.now.moved.inode ≢ m.now.from }
+{
+    m.moved.inode == m.from
+}
+
+// Whether the directory that is to get the name is one of the blocks that go.
+fn frees_target(m: &NameMove<'_>) -> bool
+    ensures goes { result ≡ true → Contains (freed_by (move_of m.now)) m.now.to.inode }
+    ensures stays { result ≡ false → (b : ℕ) → Contains (freed_by (move_of m.now)) b → b ≢ m.now.to.inode }
+{
+    freed_blocks(m).contains(&m.to.inode)
 }
 
 // Whether the inode is the directory that is to get its name, or the directory that has the name or the inode is one of the blocks that go.
@@ -120,13 +136,13 @@ pub fn can_move<V: View>(view: &V, m: &NameMove<'_>) -> Result<Step<bool>, CallF
     if let Some(block) = stray_directory(view, m) {
         return Err(CallFault::Damaged { block, rule: 2 });
     }
-    if m.moved.inode == m.from {
+    if is_its_own(m) {
         return Err(CallFault::Damaged {
             block: m.moved.inode,
             rule: 3,
         });
     }
-    if freed_blocks(m).contains(&m.to.inode) {
+    if frees_target(m) {
         return Err(CallFault::Damaged {
             block: m.to.inode,
             rule: 3,

@@ -45,11 +45,7 @@ fn is_in_groups<V: View>(view: &V, missing: &Missing) -> bool
 }
 
 /// Where names go from the directory that gets the new one, looks at the way to that as it is. It costs what `need_name` costs.
-pub fn look_ahead<V: View>(
-    alloc: Global,
-    view: &V,
-    m: &NameMove<'_>,
-) -> Result<Step<()>, CallFault>
+pub fn look_ahead<V: View>(alloc: Global, view: &V, m: &NameMove<'_>) -> Result<Step<()>, CallFault>
     requires can { CanBeMoved (V.seen view.now) (move_of m.now) }
     ensures needed { (h : Holding) → dirs.IsShown (V.seen view.now) m.now.to.inode h → IfNeedBlock result (IsNeededForName (V.seen view.now) h m.now.new_name.now) }
     ensures absent { IfNeedBlock result (λ missing. (V.seen view.now).block_at missing.block ≡ None) }

@@ -10,17 +10,17 @@ use Rattle.path_walks.proofs.Steps.{none_so}
 use Rattle.name_inserts.specs.Inserting.{IsNeededForName, IsWrongForName}
 use Rattle.name_inserts.specs.Way.{IsOnWay, IsRightWay}
 use Rattle.name_moves.specs.Moving.{IsPlaceOfMove, freed_by, move_of}
-use Rattle.move_calls.specs.Carrying.{IsDamageOf, IsInTheWay}
+use Rattle.move_calls.specs.Carrying.{IsDamageOf, IsInTheWay, IsStuck}
 use Rattle.move_calls.proofs.Room.{one_there}
 use Rattle.move_calls.proofs.carrying.check_room.Goals as goal
 
 pub returns-in-Some-clause-damaged : goal.returns-in-Some-clause-damaged
 returns-in-Some-clause-damaged g c = IsDamageOf.called_free c.args.need c.in-Some.block c.args.room.now c.requires.room c.in-Some.ensures.some.0 (IsInTheWay.a_dinode c.in-Some.ensures.some.1)
 
-pub returns-then-is_some-clause-damaged : goal.returns-then-is_some-clause-damaged
-returns-then-is_some-clause-damaged g c =
+pub returns-then-is_some-clause-goes : goal.returns-then-is_some-clause-goes
+returns-then-is_some-clause-goes g c e =
     let b = one_there (λ b. Contains c.args.room.now b × Contains (freed_by (move_of c.args.m.now)) b) c.taken_that_goes.result (sym c.is_some.ensures ∙ c.if-is_some.true) c.taken_that_goes.ensures.some in
-    IsDamageOf.goes_free c.args.need b.0 c.args.room.now c.requires.room b.1.0 b.1.1
+    IsStuck.goes_free c.args.need b.0 c.args.room.now c.requires.room b.1.0 b.1.1
 
 pub returns-in_err-block-clause-damaged : goal.returns-in_err-block-clause-damaged
 returns-in_err-block-clause-damaged g c =
@@ -38,7 +38,7 @@ returns-in-Is-Some-clause-damaged g c =
     IsDamageOf.called_free c.args.need c.in-Is-Some.block c.args.room.now c.requires.room (found some.0 some.1).0 (IsInTheWay.on_way (λ h shown. (found h shown).1))
 
 pub returns-in-Is-None-clause-off : goal.returns-in-Is-None-clause-off
-returns-in-Is-None-clause-off g c =
+returns-in-Is-None-clause-off g c e =
     let v = g.V.View.seen c.args.view.now in
     let name = c.args.m.now.new_name.now in
     record {

@@ -1,10 +1,13 @@
-use Rattle.std.proofs.Common.{inl, inr, refl}
+use Rattle.std.proofs.Common.{◌≡◌, inl, inr, true, refl}
+use Rattle.std.specs.Prelude.{codes}
+use Rattle.glock_names.proofs.StepLaws.{answer_so}
+use Rattle.directories.specs.Taking.{HasNameIn}
 use Rattle.dinode_tree.specs.Broken as inodes
 use Rattle.path_walks.proofs.Faults.{only_so, told_on}
 use Rattle.path_walks.proofs.Steps.{fault_all}
-use Rattle.name_moves.specs.Moving.{CanBeMoved, move_of}
-use Rattle.move_calls.specs.Checks.{IsWrongMove}
-use Rattle.move_calls.proofs.Checked.{can, is_so}
+use Rattle.name_moves.specs.Moving.{CanBeMoved, is_reparented, move_of}
+use Rattle.move_calls.specs.Checks.{IsUnfit, IsWrongMove}
+use Rattle.move_calls.proofs.Checked.{can}
 use Rattle.move_calls.proofs.checks.can_move.Goals as goal
 
 pub returns-in-Some-clause-damaged : goal.returns-in-Some-clause-damaged
@@ -13,8 +16,14 @@ returns-in-Some-clause-damaged g c = IsWrongMove.no_data_block c.in-Some.block c
 pub returns-then-is_its_own-clause-damaged : goal.returns-then-is_its_own-clause-damaged
 returns-then-is_its_own-clause-damaged g c = IsWrongMove.its_own (c.is_its_own.ensures.its_own c.if-is_its_own.true)
 
-pub returns-in-Some-shared_block-clause-damaged : goal.returns-in-Some-shared_block-clause-damaged
-returns-in-Some-shared_block-clause-damaged g c = IsWrongMove.shared c.in-Some-shared_block.block c.in-Some-shared_block.ensures.some.0 c.in-Some-shared_block.ensures.some.1
+pub returns-then-frees_target-clause-damaged : goal.returns-then-frees_target-clause-damaged
+returns-then-frees_target-clause-damaged g c = IsWrongMove.shared (c.frees_target.ensures.goes c.if-frees_target.true)
+
+pub returns-then-is_in_its_way-clause-unfit : goal.returns-then-is_in_its_way-clause-unfit
+returns-then-is_in_its_way-clause-unfit g c e = elim (c.is_in_its_way.ensures.unfit c.if-is_in_its_way.true) [
+  | inl same ↦ IsUnfit.into_itself same
+  | inr rest ↦ elim rest [ inl goes ↦ IsUnfit.goes_too c.args.m.now.from (inl refl) goes | inr goes ↦ IsUnfit.goes_too c.args.m.now.moved.inode (inr refl) goes ]
+]
 
 pub returns-in_err-check_inode-clause-damaged : goal.returns-in_err-check_inode-clause-damaged
 returns-in_err-check_inode-clause-damaged g c =
@@ -33,7 +42,9 @@ returns-in_err-check_inode-2-clause-damaged g c =
 pub returns-clause-can : goal.returns-clause-can
 returns-clause-can g c =
     let v = g.V.View.seen c.args.view.now in
-    is_so _ (CanBeMoved v (move_of c.args.m.now)) c.see_parent.result
-    (can v (move_of c.args.m.now) c.is_a_view.ensures c.requires c.in_default-shared_block.ensures.none c.in_default.ensures.none (c.is_its_own.ensures.apart c.if-is_its_own.false)
-    c.in_ok-check_inode.ensures.right c.in_ok-check_inode-2.ensures.right)
+    let m = move_of c.args.m.now in
+    let way = c.is_in_its_way.ensures.apart c.if-is_in_its_way.false in
+    answer_so c.see_parent.result (λ sees. sees ≡ true → is_reparented m ≡ true → HasNameIn v m.moved.inode (codes "..")) (λ can. can ≡ true → CanBeMoved v m)
+    (λ sees so is. can v m c.is_a_view.ensures c.requires (λ b goes. ((way.1 b goes).0, c.frees_target.ensures.stays c.if-frees_target.false b goes, (way.1 b goes).1)) c.in_default.ensures.none
+    (c.is_its_own.ensures.apart c.if-is_its_own.false, way.0) c.in_ok-check_inode.ensures.right c.in_ok-check_inode-2.ensures.right (so is))
     c.see_parent.ensures.parented

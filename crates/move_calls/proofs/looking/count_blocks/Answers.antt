@@ -1,0 +1,38 @@
+use Rattle.std.proofs.Common.{[], subst}
+use Rattle.glock_names.specs.Steps.{TellsOf}
+use Rattle.glock_names.proofs.StepLaws.{needed_at}
+use Rattle.name_moves.specs.Moving.{IsNeededIn, IsWrongIn, move_of}
+use Rattle.move_calls.specs.Carrying.{IsDamageOf, IsStuck, NeedsBlock}
+use Rattle.move_calls.proofs.Gone.{astray, none_in, within}
+use Rattle.move_calls.proofs.looking.count_blocks.Goals.{else-gone-via-then-gone+else-not-is_in_groups, else-gone-via-else-gone}
+use Rattle.move_calls.proofs.looking.count_blocks.Goals as goal
+
+pub returns-then-not-is_in_groups-clause-stuck : goal.returns-then-not-is_in_groups-clause-stuck
+returns-then-not-is_in_groups-clause-stuck g c node =
+    let v = g.V.View.seen c.args.view.now in
+    let m = move_of c.args.m.now in
+    astray v node m c.in-Ok-NeedBlock.missing (c.loses_names-gone.ensures.some c.if-gone.true) [] (needed_at _ _ (IsNeededIn v m []) c.in-Ok-NeedBlock.field-0-is c.in-Ok-NeedBlock.ensures.needed)
+    (c.is_in_groups.ensures.astray c.if-not-is_in_groups.true)
+
+pub returns-then-gone-2-clause-stuck : goal.returns-then-gone-2-clause-stuck
+returns-then-gone-2-clause-stuck g c node =
+    let v = g.V.View.seen c.args.view.now in
+    IsStuck.goes_wrong [] c.in-Err-Damaged.rule c.in-Err-Damaged.block (c.loses_names-gone.ensures.some c.if-gone-2.true)
+    (subst (TellsOf (IsWrongIn v (move_of c.args.m.now) [])) c.in-Err-Damaged.field-0-is c.in-Err-Damaged.ensures.damaged)
+
+pub returns-else-gone-clause-needed : goal.returns-else-gone-clause-needed
+returns-else-gone-clause-needed g c node =
+    let v = g.V.View.seen c.args.view.now in
+    let m = move_of c.args.m.now in
+    let needed : IsNeededIn v m [] c.in-Ok-NeedBlock.missing = needed_at _ _ (IsNeededIn v m []) c.in-Ok-NeedBlock.field-0-is c.in-Ok-NeedBlock.ensures.needed in
+    elim c.else-gone.branch [
+      | else-gone-via-then-gone+else-not-is_in_groups w ↦
+          within v node m c.in-Ok-NeedBlock.missing (c.loses_names-gone.ensures.some w.if-gone.true) [] (λ some. absurd (none_in some.2.0 some.2.1)) needed (w.is_in_groups.ensures.within w.if-not-is_in_groups.false)
+      | else-gone-via-else-gone w ↦ NeedsBlock.to_count (c.loses_names-gone.ensures.none w.if-gone.false) needed
+    ]
+
+pub returns-else-gone-2-clause-damaged : goal.returns-else-gone-2-clause-damaged
+returns-else-gone-2-clause-damaged g c node =
+    let v = g.V.View.seen c.args.view.now in
+    IsDamageOf.to_count c.in-Err-Damaged.rule c.in-Err-Damaged.block (c.loses_names-gone.ensures.none c.if-gone-2.false)
+    (subst (TellsOf (IsWrongIn v (move_of c.args.m.now) [])) c.in-Err-Damaged.field-0-is c.in-Err-Damaged.ensures.damaged)
