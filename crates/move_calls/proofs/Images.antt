@@ -1,5 +1,5 @@
 -- What follows of each answer in an image that the view may be of: the locks, and that too few blocks are free.
-use Rattle.std.proofs.Common.{◌≡◌, ◌≢◌, ◌&&◌, ◌^◌, ◌<◌, ℕ, Bool, true, false, true≢false, List, [], Result, Ok, Err, append-nil, refl, sym, ap, ◌∙◌, subst}
+use Rattle.std.proofs.Common.{◌≡◌, ◌≢◌, ◌&&◌, ◌^◌, ◌<◌, ℕ, Bool, true, false, true≢false, List, [], Some, Result, Ok, Err, append-nil, refl, sym, ap, ◌∙◌, subst}
 use Rattle.std.specs.List.{list_any}
 use Rattle.std.specs.Prelude.{Contains, IfOk, if◌then◌else◌, not, ◌==◌}
 use Rattle.crc_words.specs.Remainder.{crc32_of}
@@ -21,6 +21,7 @@ use Rattle.image_model.specs.Image.{Image}
 use Rattle.image_model.specs.Owners.{Owners}
 use Rattle.image_model.specs.Stands.{Layout}
 use Rattle.image_model.proofs.Members.{is_in}
+use Rattle.image_changes.specs.Changes.{cover}
 use Rattle.image_changes.specs.Does.{IsOf}
 use Rattle.path_walks.specs.Answers.{IfDone, IfNeedBlock, IfNeedLock, IfNoSpace}
 use Rattle.path_walks.specs.Holds.{Hold, AreHeld, IsAskedFor, IsFirstLack, IsUnder}
@@ -32,7 +33,7 @@ use Rattle.move_calls.specs.Carrying.{IsCarriedOut, IsFull, LacksLock, NeedsBloc
 use Rattle.move_calls.specs.Checks.{IsNeededToSee}
 use Rattle.move_calls.specs.Locks.{IsNeed, IsTooFew, block_holds, call_holds, moves_in}
 use Rattle.move_calls.proofs.Asked.{see_asked}
-use Rattle.move_calls.proofs.Locking.{among_inode, block_asks, done_held, done_under, full_there, lock_lacks, not_moving}
+use Rattle.move_calls.proofs.Locking.{among_inode, block_asks, block_covered, done_held, done_under, full_there, lock_lacks, not_moving}
 
 stays_false : (x : Bool) → (x && false) ≡ false
 stays_false true = refl
@@ -84,6 +85,12 @@ module _ (v : Seen) (c : Call) (node time : ℕ) (view : IsView v) (hash : to_pa
         let meant = moves.meant in
         let r = meant.images im o l t of in
         block_asks v im o l t of c m.moved m.to m.replaced meant.ends (hash meant.ends.begun.to) r.0 r.1 node view (subst (CanBeMoved v) meant.is moves.can) n need (subst (λ x. NeedsBlock v node x n) meant.is needs)
+
+    covered_there : (n : Missing) → NeedsBlock v node m n → cover l n.block (o n.block) ≡ Some n.lock
+    covered_there n needs =
+        let meant = moves.meant in
+        let r = meant.images im o l t of in
+        block_covered v im o l t of c m.moved m.to m.replaced meant.ends (hash meant.ends.begun.to) r.0 r.1 node view (subst (CanBeMoved v) meant.is moves.can) n (subst (λ x. NeedsBlock v node x n) meant.is needs)
 
     full_in : (need free : ℕ) → IsFull v node m need free → IsTooFew v im o l t c need free
     full_in need free full =
@@ -174,6 +181,23 @@ module _ (v : Seen) (c : Call) (node time : ℕ) (view : IsView v) (hash : to_pa
   lock need so (Ok (NoSpace wants free)) is = tt
   lock need so (Ok NotBuilt) is = tt
   lock need so (Err f) is = tt
+
+  covered_of : (a : Attempt) → IsAnswerOf v c node time a → IfNeedBlock (Ok a) (λ n. cover l n.block (o n.block) ≡ Some n.lock)
+  covered_of a (IsAnswerOf.to_see m n meant needed e) = subst (λ x. IfNeedBlock (Ok x) (λ n. cover l n.block (o n.block) ≡ Some n.lock)) (sym e) (see_there m meant n 0 needed).covered
+  covered_of a (IsAnswerOf.unfit m meant fit e) = subst (λ x. IfNeedBlock (Ok x) (λ n. cover l n.block (o n.block) ≡ Some n.lock)) (sym e) tt
+  covered_of _ (IsAnswerOf.by_ends (IsAnswerAtEnds.needs n at)) = (at.found im o l t of).covered
+  covered_of _ (IsAnswerOf.by_ends (IsAnswerAtEnds.refused r change at none)) = tt
+  covered_of _ (IsAnswerOf.by_ends (IsAnswerAtEnds.stays change at none)) = tt
+  covered_of _ (IsAnswerOf.by_ends (IsAnswerAtEnds.lacks lock state at)) = tt
+  covered_of (NeedBlock n) (IsAnswerOf.carried m moves needs) = covered_there m moves n needs
+  covered_of (Done r change) (IsAnswerOf.carried m moves so) = tt
+  covered_of (NeedLock lock state) (IsAnswerOf.carried m moves so) = tt
+  covered_of (NoSpace wants free) (IsAnswerOf.carried m moves so) = tt
+  covered_of NotBuilt (IsAnswerOf.carried m moves so) = tt
+
+  pub covered : (r : Result Attempt CallFault) → IfOk r (IsAnswerOf v c node time) → IfNeedBlock r (λ n. cover l n.block (o n.block) ≡ Some n.lock)
+  covered (Ok a) is = covered_of a is
+  covered (Err f) is = tt
 
   pub block : (need : ℕ) → IsNeed im o l t c need → (r : Result Attempt CallFault) → IfOk r (IsAnswerOf v c node time) → IfNeedBlock r (IsAskedFor v im o l (call_holds im o l t c node need))
   block need so (Ok a) is = block_of a need so is

@@ -32,7 +32,7 @@ use Rattle.image_model.specs.Owners.{Owners, holding}
 use Rattle.image_model.specs.Stands.{Layout}
 use Rattle.image_model.proofs.Held.{some_same}
 use Rattle.image_model.proofs.Members.{IsIn, contained, in_left, in_right, is_in}
-use Rattle.image_changes.specs.Changes.{inode_of}
+use Rattle.image_changes.specs.Changes.{cover, inode_of}
 use Rattle.image_changes.specs.Does.{IsOf, frees}
 use Rattle.image_changes.specs.Drafted.{IsFinished}
 use Rattle.image_changes.proofs.Finishing.{finish_makes}
@@ -361,6 +361,17 @@ module _ (v : Seen) (im : Image) (o : Owners) (l : Layout) (t : Tree) (of : IsOf
     block_asks n other (NeedsBlock.to_say need room has needs) is =
         subst (λ k. IsAskedFor v im o l (call_holds im o l t c node k) n) (one_need need other has.counted.needs is)
         (subst (λ list. IsAskedFor v im o l list n) (sym (list_then need)) (group_asks need room has n needs))
+
+    -- so its lock covers it, whatever was counted by then
+    pub block_covered : (n : Missing) → NeedsBlock v node m n → cover l n.block (o n.block) ≡ Some n.lock
+    block_covered n (NeedsBlock.to_look absent needs) = (way_asks n 0 absent needs).covered
+    block_covered n (NeedsBlock.to_count none needs) = (inode_asks n 0 needs).covered
+    block_covered n (NeedsBlock.once_gone gone needs inside) = (inode_asks n 0 needs).covered
+    block_covered n (NeedsBlock.of_freed need counted needs) = (block_asks n need (NeedsBlock.of_freed need counted needs) (is_need need counted.needs)).covered
+    block_covered n (NeedsBlock.of_room need counted needed blocks) = (block_asks n need (NeedsBlock.of_room need counted needed blocks) (is_need need counted.needs)).covered
+    block_covered n (NeedsBlock.on_way need room has absent needs) = (way_asks n 0 absent needs).covered
+    block_covered n (NeedsBlock.to_draft need room has none needs) = (block_asks n need (NeedsBlock.to_draft need room has none needs) (is_need need has.counted.needs)).covered
+    block_covered n (NeedsBlock.to_say need room has needs) = (block_asks n need (NeedsBlock.to_say need room has needs) (is_need need has.counted.needs)).covered
 
     -- ---- the change
 

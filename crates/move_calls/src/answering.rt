@@ -10,6 +10,7 @@ ghost use Rattle.glock_names.specs.Views.{IsOfView, IsView};
 ghost use Rattle.image_model.specs.Image.{Image};
 ghost use Rattle.image_model.specs.Owners.{Owners};
 ghost use Rattle.image_model.specs.Stands.{Layout};
+ghost use Rattle.image_changes.specs.Changes.{cover};
 ghost use Rattle.image_changes.specs.Does.{AreInside, Does, IsOf};
 ghost use Rattle.resource_groups.specs.Putting.{HasDataBlock};
 ghost use Rattle.path_walks.specs.Answers.{HasSpace, IfDone, IfNeedBlock, IfNeedLock, IfNoSpace, IfNotBuilt};
@@ -182,6 +183,7 @@ pub fn attempt<V: View>(
         → IfNeedLock result (IsFirstLack (V.seen view.now) (call_holds im o l t call.now stamp.now.node need)) }
     ensures block { (im : Image) (o : Owners) (l : Layout) (t : Tree) (need : ℕ) → IsOf (V.seen view.now) im o l t → IsNeed im o l t call.now need
         → IfNeedBlock result (IsAskedFor (V.seen view.now) im o l (call_holds im o l t call.now stamp.now.node need)) }
+    ensures covered { (im : Image) (o : Owners) (l : Layout) (t : Tree) → IsOf (V.seen view.now) im o l t → IfNeedBlock result (λ missing. cover l missing.block (o missing.block) ≡ Some missing.lock) }
     ensures space { (im : Image) (o : Owners) (l : Layout) (t : Tree) → IsOf (V.seen view.now) im o l t → IfNoSpace result (IsTooFew (V.seen view.now) im o l t call.now) }
     ensures full { IfNoSpace result (IsFullFor (V.seen view.now) call.now) }
     ensures fewer { IfNoSpace result (λ need free. free < need) }

@@ -17,3 +17,5 @@ pub mod Alike
 pub mod Moves
 pub mod Unbroken
 pub mod Asked
+-- Passed on to the crates above.
+pub use Rattle.name_drafts.proofs.Fates

@@ -325,3 +325,6 @@ returns-in-Rename-clause-made g c im o l t of =
     let is : IsRenaming c.args.call.now = search rules in
     done_so c.attempt.result _ (IsMadeIn im o l c.args.call.now c.args.stamp.now.node c.args.stamp.now.time)
     (λ x change moved ok. moving_made im o l c.args.stamp.now.node c.args.stamp.now.time change c.args.call.now is (moved ok)) (c.attempt.ensures.moved im o l t of)
+
+pub returns-in-Rename-clause-on_device : goal.returns-in-Rename-clause-on_device
+returns-in-Rename-clause-on_device g c im o l t of = mapped c.attempt.result _ _ (λ m covered. covered_low im o l of.stands.laid m.block m.lock covered) (c.attempt.ensures.covered im o l t of)

@@ -5,7 +5,7 @@ use Rattle.glock_names.specs.Views.{IsOfView}
 use Rattle.drafts.specs.Fates.{seen_in}
 use Rattle.resource_groups.specs.Freeing.{BreaksSome, IsNeededFor}
 use Rattle.resource_groups.specs.Putting.{HasDataBlock}
-use Rattle.name_drafts.proofs.Fates.{seen_new}
+use Rattle.name_moves.proofs.Fates.{seen_new}
 use Rattle.name_moves.specs.Moving.{IsPlaceOfMove, freed_by, move_of}
 use Rattle.move_calls.proofs.looking.look_at_freed.Goals as goal
 
