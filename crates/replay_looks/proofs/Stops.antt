@@ -1,5 +1,5 @@
 -- Why a journal isn't replayed, from why it has no plan and from what its marks say.
-use Rattle.std.proofs.Common.{◌≡◌, ◌≤◌, ℕ, true, false, List, [], ◌∷◌, Some, get_or, sym, ap, ◌∙◌, inl, inr, arith}
+use Rattle.std.proofs.Common.{◌≡◌, ◌<◌, length, ◌≤◌, ℕ, true, false, List, [], ◌∷◌, Some, get_or, sym, ap, ◌∙◌, inl, inr, arith}
 use Rattle.std.specs.Prelude.{◌==◌, ◌||◌, find}
 use Rattle.std.specs.Option.{option_map}
 use Rattle.std.proofs.lemmas.Bool.{cases_Bool, cond-true, cond-false}
@@ -21,11 +21,11 @@ use Rattle.replay_looks.specs.Looks.{Breaks, HasCause, IsHindered, IsStopped, al
 use Rattle.replay_looks.specs.declared.faults.LookFault.{LookFault}
 use Rattle.replay_looks.specs.declared.faults.LookFault.TheVariants.{Damaged, DiskFailed, NoMemory}
 
-pub stopped_told : (ring : Ring) (dinode : ℕ) (blocks : List ℕ) (marks : List Mark) (fault : PlanFault) → IsWhyNot ring fault → IsStopped ring dinode blocks marks (told_of dinode blocks fault)
-stopped_told ring dinode blocks marks (plan.DiskFailed block rise) is = tt
-stopped_told ring dinode blocks marks plan.NoHeader is = alone 16 dinode (headless is)
-stopped_told ring dinode blocks marks (plan.BadChunk place) is = alone 17 (get_or blocks place 0) (bad_chunk is.0 place is.1 is.2)
-stopped_told ring dinode blocks marks plan.NoMemory is = tt
+pub stopped_told : (ring : Ring) (dinode : ℕ) (blocks : List ℕ) (marks : List Mark) (fault : PlanFault) → IfBadChunk (λ place. place < length blocks) fault → IsWhyNot ring fault → IsStopped ring dinode blocks marks (told_of dinode blocks fault)
+stopped_told ring dinode blocks marks (plan.DiskFailed block rise) low is = tt
+stopped_told ring dinode blocks marks plan.NoHeader low is = alone 16 dinode (headless is)
+stopped_told ring dinode blocks marks (plan.BadChunk place) low is = alone 17 (get_or blocks place 0) (bad_chunk is.0 place is.1 is.2 low)
+stopped_told ring dinode blocks marks plan.NoMemory low is = tt
 
 pub cause_told : (before now dinode : ℕ) (blocks : List ℕ) (fault : PlanFault) → planned.HasCause before now fault → HasCause before now (told_of dinode blocks fault)
 cause_told before now dinode blocks (plan.DiskFailed block rise) is = is
@@ -59,6 +59,3 @@ stopped_twice ring dinode blocks marks p b of is live = let bytes = home_is_live
 pub hindered_stray : (ring : Ring) (dinode : ℕ) (blocks : List ℕ) (number place : ℕ) (bytes : List ℕ) → live_in ring number ≡ Some bytes → IsNumberAt ring number place
     → IsHindered ring dinode blocks number (Damaged (get_or blocks place 0) 2)
 hindered_stray ring dinode blocks number place bytes live at marks barred = by_live 2 (get_or blocks place 0) (stray number place bytes live barred at)
-
-pub hindered_told : (ring : Ring) (dinode : ℕ) (blocks : List ℕ) (number : ℕ) (fault : PlanFault) → IsWhyNot ring fault → IsHindered ring dinode blocks number (told_of dinode blocks fault)
-hindered_told ring dinode blocks number fault is marks barred = stopped_told ring dinode blocks marks fault is

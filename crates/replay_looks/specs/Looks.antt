@@ -1,5 +1,5 @@
 -- Why a journal on a disk isn't replayed.
-use Rattle.std.specs.Prelude.{ℕ, ◌≡◌, ⊤, List, None, Some, Err, get_or}
+use Rattle.std.specs.Prelude.{ℕ, ◌≡◌, ◌<◌, ⊤, List, length, None, Some, Err, get_or}
 use Rattle.fault_counts.specs.Causes.{WentUp}
 use Rattle.journal_plans.specs.declared.faults.PlanFault.{PlanFault}
 use Rattle.journal_plans.specs.declared.faults.PlanFault.TheVariants as plan
@@ -17,7 +17,7 @@ use Rattle.replay_looks.specs.declared.faults.LookFault.TheVariants.{Damaged, Di
 -- The journal, with its dinode in this block and these blocks at its places, breaks a rule by itself: it has no header, or a bad chunk.
 pub data BreaksAlone (ring : Ring) (dinode : ℕ) (blocks : List ℕ) : ℕ → ℕ → Type 0 where
   headless : head_in ring ≡ None → BreaksAlone ring dinode blocks 16 dinode
-  bad_chunk : (head : LogHeader) (place : ℕ) → head_in ring ≡ Some head → transactions_of ring head ≡ Err place → BreaksAlone ring dinode blocks 17 (get_or blocks place 0)
+  bad_chunk : (head : LogHeader) (place : ℕ) → head_in ring ≡ Some head → transactions_of ring head ≡ Err place → place < length blocks → BreaksAlone ring dinode blocks 17 (get_or blocks place 0)
 
 -- Or it breaks one by what is live: a block that may not be written, told at the block of the journal that has its number; or one that is live in a
 -- journal before.

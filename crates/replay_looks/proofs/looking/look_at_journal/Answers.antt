@@ -12,7 +12,7 @@ use Rattle.replay_looks.proofs.looking.look_at_journal.Goals as goal
 pub returns-in-Err-clause-why : goal.returns-in-Err-clause-why
 returns-in-Err-clause-why g c tells =
     subst (IsStopped (ring_read (g.D.SharedDisk.state c.args.disk.now) c.args.node c.args.blocks.now) c.args.dinode c.args.blocks.now c.args.marks.now) (sym c.told.ensures)
-    (stopped_told (ring_read (g.D.SharedDisk.state c.args.disk.now) c.args.node c.args.blocks.now) c.args.dinode c.args.blocks.now c.args.marks.now c.in-Err.fault (c.in-Err.ensures.why tells))
+    (stopped_told (ring_read (g.D.SharedDisk.state c.args.disk.now) c.args.node c.args.blocks.now) c.args.dinode c.args.blocks.now c.args.marks.now c.in-Err.fault c.in-Err.ensures.inside (c.in-Err.ensures.why tells))
 
 pub returns-in-Err-Twice-clause-why : goal.returns-in-Err-Twice-clause-why
 returns-in-Err-Twice-clause-why g c tells =
