@@ -1,3 +1,4 @@
 pub mod FirstBlocks
 pub mod Behind
 pub mod Answered
+pub mod Over

@@ -4,6 +4,8 @@
 mod blocks;
 mod faults;
 mod reading;
+mod replayed;
 
 pub use faults::TreeFault;
 pub use reading::read_disk_tree;
+pub use replayed::read_replayed_tree;

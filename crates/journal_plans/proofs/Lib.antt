@@ -1,2 +1,4 @@
+mod BadPlaces
 mod Planned
 mod WholeBlocks
+pub mod Numbered

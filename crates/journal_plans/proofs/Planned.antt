@@ -1,8 +1,8 @@
 -- The plan of a journal in memory is that of the journal which it was read from.
-use Rattle.std.proofs.Common.{◌≡◌, ℕ, List, Option, Some, Ok, sym, ap, ◌∙◌}
+use Rattle.std.proofs.Common.{◌≡◌, ◌<◌, ℕ, List, Option, Some, Ok, sym, ap, subst, ◌∙◌}
 use Rattle.std.specs.Option.{option_map}
 use Rattle.log_layout.specs.Chunks.{Logged}
-use Rattle.log_layout.specs.Journal.{Ring, head_in}
+use Rattle.log_layout.specs.Journal.{Ring, accepted, head_in}
 use Rattle.log_layout.specs.Laws.{HasSamePlaces}
 use Rattle.log_layout.specs.Live.{IsReadable, live_entry, live_in, live_read, live_under}
 use Rattle.log_layout.specs.Transactions.{Sequenced, transactions_of}
@@ -13,11 +13,12 @@ use Rattle.peer_replay.specs.Plans as scanned
 use Rattle.peer_replay.specs.declared.planned.Plan.{Plan}
 use Rattle.journal_scan.specs.declared.fault.ScanFault.{ScanFault}
 use Rattle.journal_scan.specs.declared.fault.ScanFault.TheVariants.{NoHeader, BadChunk, NoMemory}
-use Rattle.journal_plans.specs.Plans.{IsPlanOf, IsWhyNot, of_scan}
+use Rattle.journal_plans.specs.Plans.{IfBadChunk, IsPlanOf, IsWhyNot, of_scan}
+use Rattle.journal_plans.proofs.BadPlaces.{bad_is_inside}
 
 module _ (r s : Ring) (same : HasSamePlaces r s) where
   -- what is live in a journal that can be read
-  live_told : (is : IsReadable r) (block : ℕ) → live_in r block ≡ option_map (λ (e : Logged). e.bytes) (live_entry is.transactions block)
+  pub live_told : (is : IsReadable r) (block : ℕ) → live_in r block ≡ option_map (λ (e : Logged). e.bytes) (live_entry is.transactions block)
   live_told is block = ap (λ (h : Option LogHeader). live_under r h block) is.headed ∙ ap (λ ts. live_read ts block) is.read
 
   pub plan_is : (p : Plan) → IsReadable r
@@ -33,3 +34,10 @@ module _ (r s : Ring) (same : HasSamePlaces r s) where
   why_not NoHeader is = sym (says_the_same r s same).head ∙ is
   why_not (BadChunk place) is = (is.0, sym (says_the_same r s same).head ∙ is.1, sym ((says_the_same r s same).transactions is.0) ∙ is.2)
   why_not NoMemory is = is
+
+-- a bad place is one of the journal's
+pub inside_told : (r : Ring) (count : ℕ) → r.places ≡ count → ((head : LogHeader) → head_in r ≡ Some head → (head.blkno < r.places) × (accepted head.blkno (r.at head.blkno) ≡ Some head))
+    → (fault : ScanFault) → scanned.IsWhyNot r fault → IfBadChunk (λ place. place < count) (of_scan fault)
+inside_told r count long heads NoHeader is = tt
+inside_told r count long heads (BadChunk place) is = subst (λ n. place < n) long (bad_is_inside r is.0 place (heads is.0 is.1).0 is.2)
+inside_told r count long heads NoMemory is = tt

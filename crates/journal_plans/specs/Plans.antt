@@ -38,6 +38,11 @@ abbrev pub HasCause : (before now : ℕ) → PlanFault → Type 0
 HasCause before now (DiskFailed block rise) = WentUp before now rise.before rise.after
 HasCause before now _ = ⊤
 
+-- a fact for the place of a bad chunk
+abbrev pub IfBadChunk : (ℕ → Type 0) → PlanFault → Type 0
+IfBadChunk P (BadChunk place) = P place
+IfBadChunk P _ = ⊤
+
 -- the faults of reading and of planning, as those of both
 abbrev pub of_read : ReadFault → PlanFault
 of_read (reading.DiskFailed block rise) = DiskFailed block rise

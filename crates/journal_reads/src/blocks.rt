@@ -82,6 +82,8 @@ pub fn read_journal<D: SharedDisk>(
     requires few { length blocks.now < 2 ^ 32 }
     requires size { IsBlockSize (D.state disk.old).size }
     ensures image { IfOk result IsImage }
+    ensures size { IfOk result (λ journal. journal.block_size ≡ (D.state disk.old).size) }
+    ensures long { IfOk result (λ journal. journal.length ≡ length blocks.now) }
     ensures says { IfOk result (λ journal. IsTrue (D.state disk.old).tells → HasSamePlaces (ring_of journal) (ring_read (D.state disk.old) node blocks.now)) }
     ensures reads { ReadsOnly (D.state disk.old) (D.state disk.new) (D.list disk.old) (D.list disk.new) (D.faults disk.old) (D.faults disk.new) }
     ensures cause { IfErr result (HasCause (D.faults disk.old node) (D.faults disk.new node)) }

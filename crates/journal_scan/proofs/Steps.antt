@@ -72,7 +72,7 @@ pub record IsOn (j : JournalImage) (tail count place taken : ℕ) (scan : Scan) 
   pub fit : All (IsFit j.block_size) scan.due.items
   pub same : makes j.block_size scan (blocks_from (ring_of j) place ((count + 1) - taken)) ≡ reading j.block_size [] None nothing (blocks_from (ring_of j) tail (count + 1))
 
-length-blocks : (ring : Ring) (p n : ℕ) → length (blocks_from ring p n) ≡ n
+pub length-blocks : (ring : Ring) (p n : ℕ) → length (blocks_from ring p n) ≡ n
 length-blocks ring p zero = refl
 length-blocks ring p (suc n) = ap suc (length-blocks ring (next ring.places p) n)
 

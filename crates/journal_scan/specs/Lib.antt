@@ -1,3 +1,4 @@
 pub mod Images
 pub mod Said
 pub mod Course
+pub mod Numbers

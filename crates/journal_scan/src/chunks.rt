@@ -44,8 +44,8 @@ fn further_count(size: usize, entries: u32) -> usize
     ((entries as usize).saturating_sub(numbers_room(size)) + (room - 1)) / room
 }
 
-// How many blocks come behind the descriptor of a chunk with so many entries.
-fn due_count(kind: ChunkKind, size: usize, entries: u32) -> usize
+/// How many blocks come behind the descriptor of a chunk with so many entries.
+pub(crate) fn due_count(kind: ChunkKind, size: usize, entries: u32) -> usize
     requires low { 72 ≤ size }
     requires high { size ≤ 4096 }
     ensures { (bytes : List ℕ) → result ≡ length (dues kind size entries bytes) }
@@ -82,8 +82,8 @@ fn are_entries(kind: ChunkKind, block: &[u8], entries: u32) -> bool
     }
 }
 
-// The descriptor that begins a chunk here, where so many places are left before the head.
-fn descriptor_at(block: &[u8], left: u32) -> Option<LogDescriptor>
+/// The descriptor that begins a chunk here, where so many places are left before the head.
+pub(crate) fn descriptor_at(block: &[u8], left: u32) -> Option<LogDescriptor>
     requires low { 72 ≤ length block.now }
     requires high { length block.now ≤ 4096 }
     ensures { MatchOption result (chunk_in (length block.now) left block.now ≡ None) (λ d. (are_entries_of d.kind (length block.now) d.entries block.now ≡ true) × (chunk_in (length block.now) left block.now

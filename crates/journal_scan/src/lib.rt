@@ -2,6 +2,7 @@
 #![tactic(auto)]
 
 mod chunks;
+mod entries;
 mod fault;
 mod heads;
 mod image;
@@ -9,6 +10,7 @@ mod numbers;
 mod parts;
 mod scanning;
 
+pub use entries::{find_number, live_blocks_have_numbers};
 pub use fault::ScanFault;
 pub use heads::{HeadSearch, find_head};
 pub use image::JournalImage;

@@ -1,0 +1,5 @@
+pub mod Lists
+pub mod SoFar
+pub mod System
+pub mod Replay
+pub mod Stopped
