@@ -70,8 +70,8 @@ fn plan_journal<D: SharedDisk>(
     look_at_journal(alloc, disk, node, journal.dinode, &journal.blocks, marks)
 }
 
-/// What a replay of a mounted image writes on an idle disk, journal by journal, as a node reads it; or the first block, in the order of the journals,
-/// that breaks a rule by which it is stopped. Nothing is written. It costs what `look_at_journal` costs for each journal that isn't clean, and a
+/// What a replay of a mounted image writes on an idle disk, journal by journal, as a node reads it; or a block, with its rule, by
+/// which it is stopped. Nothing is written. It costs what `look_at_journal` costs for each journal that isn't clean, and a
 /// byte a block of the device.
 pub fn plan_replay<D: SharedDisk>(
     alloc: Global,
