@@ -1,11 +1,13 @@
 -- There is at most one replayed image, and an image whose journals are clean is its own.
-use Rattle.std.proofs.Common.{◌≡◌, ◌⊎◌, inl, inr, ℕ, zero, suc, List, [], ◌∷◌, Option, None, Some, refl, sym, subst, ◌∙◌, ap}
-use Rattle.std.specs.Prelude.{slice_get}
+use Rattle.std.proofs.Common.{◌≡◌, ◌<◌, ◌⊎◌, inl, inr, ℕ, zero, suc, List, [], ◌∷◌, length, Option, None, Some, refl, sym, subst, ◌∙◌, ap, arith}
+use Rattle.std.specs.Prelude.{get_or, slice_get}
+use Rattle.std.proofs.lemmas.Bool.{cases_lt}
+use Rattle.std.proofs.lemmas.Option.{slice_get-get_or, slice_get_within}
 use Rattle.log_layout.proofs.SamePlaces.{nothing_live}
 use Rattle.image_model.specs.Image.{Image}
 use Rattle.image_model.specs.Laws.{CleanImagesStay, OneReplay, ReplayedIsThere}
-use Rattle.image_model.specs.Replays.{IsLiveInBoth, live_at}
-use Rattle.image_model.specs.Stands.{IsJournalAt}
+use Rattle.image_model.specs.Replays.{HasItsJournals, IsLiveInBoth, live_at}
+use Rattle.image_model.specs.Stands.{IsJournalAt, Layout}
 use Rattle.image_model.proofs.Held.{none_some, some_same}
 
 -- a block that is live in one of these journals
@@ -34,13 +36,37 @@ live_or_not im (c ∷ ds) block = elim (some_or_none (live_at im c block)) [
     each none nowhere zero d at = let same : c ≡ d = some_same at in subst (λ n. live_at im n block ≡ None) same none
     each none nowhere (suc j) d at = nowhere j d at
 
+-- ---- the journals of an image are the same, whatever layout has them
+
+module _ (im : Image) (l m : Layout) (one : HasItsJournals im l) (other : HasItsJournals im m) where
+  -- one journal more in the first would be one of the second
+  no_more : length m.journals < length l.journals → ⊥
+  no_more low =
+      let d = get_or l.journals (length m.journals) 0 in
+      let there = other.all (length m.journals) d (one.there (length m.journals) d (slice_get-get_or l.journals (length m.journals) 0 low)) (omega arith) in
+      let below = slice_get_within m.journals (length m.journals) d there in
+      omega (arith, below)
+
+  same_journals : (j d : ℕ) → IsJournalAt l j d → IsJournalAt m j d
+  same_journals j d at =
+      other.all j d (one.there j d at) (elim (cases_lt (length m.journals) (length l.journals)) [
+        | inl less ↦ absurd (no_more less)
+        | inr more ↦ let low = slice_get_within l.journals j d at in omega (arith, low, more)
+      ])
+
 pub one_replay : OneReplay
-one_replay im a b l first second = λ i. record { size = (first.size ∙ sym second.size) i; count = (first.count ∙ sym second.count) i; at = λ block. same block i }
+one_replay im a b l m first second = λ i. record { size = (first.size ∙ sym second.size) i; count = (first.count ∙ sym second.count) i; at = λ block. same block i }
   where
+    there : (j d : ℕ) → IsJournalAt l j d → IsJournalAt m j d
+    there = same_journals im l m first.replayable.journals second.replayable.journals
+
+    back : (j d : ℕ) → IsJournalAt m j d → IsJournalAt l j d
+    back = same_journals im m l second.replayable.journals first.replayable.journals
+
     same : (block : ℕ) → a.at block ≡ b.at block
     same block = elim (live_or_not im l.journals block) [
-      | inl is ↦ first.live is.journal is.dinode block is.bytes is.there is.live ∙ sym (second.live is.journal is.dinode block is.bytes is.there is.live)
-      | inr none ↦ first.others block none ∙ sym (second.others block none)
+      | inl is ↦ first.live is.journal is.dinode block is.bytes is.there is.live ∙ sym (second.live is.journal is.dinode block is.bytes (there is.journal is.dinode is.there) is.live)
+      | inr none ↦ first.others block none ∙ sym (second.others block (λ j d at. none j d (back j d at)))
     ]
 
 pub replayed_is_there : ReplayedIsThere

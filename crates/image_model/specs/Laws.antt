@@ -63,9 +63,9 @@ pub record ReadsAlike (im : Image) (owners : Owners) (a : ℕ) : Type 0 where
 abbrev pub JournalsReadAlike : Type 0
 JournalsReadAlike = (im : Image) (owners : Owners) (l : Layout) → IsLaid im owners l → (a : ℕ) → is_dinode (owners a) ≡ true → IsJournal (holding im owners a) → ReadsAlike im owners a
 
--- there is at most one replayed image
+-- there is at most one replayed image, whatever layout is found
 abbrev pub OneReplay : Type 0
-OneReplay = (im a b : Image) (l : Layout) → Replayed im l a → Replayed im l b → a ≡ b
+OneReplay = (im a b : Image) (l m : Layout) → Replayed im l a → Replayed im m b → a ≡ b
 
 -- and there is one where the image can be replayed
 abbrev pub ReplayedIsThere : Type 0

@@ -1,5 +1,6 @@
 -- The image that a replay of every journal leaves.
 use Rattle.std.specs.Prelude.{ℕ, ◌≡◌, ◌≢◌, ◌⊎◌, ◌<◌, ◌≤◌, List, length, Option, None, Some}
+use Rattle.file_tree.specs.Tree.{Tree}
 use Rattle.gfs2_layout.specs.declared.rindex.Rindex.{Rindex}
 use Rattle.gfs2_layout.specs.Inode.{content_block}
 use Rattle.log_layout.specs.Journal.{ring_of}
@@ -7,7 +8,7 @@ use Rattle.log_layout.specs.Live.{IsReadable, live_in}
 use Rattle.image_model.specs.Claims.{every, HasGroup, HasJournal}
 use Rattle.image_model.specs.Groups.{IsHeaderOf, IsDataOf}
 use Rattle.image_model.specs.Image.{Image}
-use Rattle.image_model.specs.Stands.{Layout, IsJournalAt}
+use Rattle.image_model.specs.Stands.{Layout, IsJournalAt, Stands}
 
 -- what is live of a block in the journal with its dinode in block d
 abbrev pub live_at : Image → ℕ → ℕ → Option (List ℕ)
@@ -49,6 +50,13 @@ pub record Replayed (im : Image) (l : Layout) (replayed : Image) : Type 0 where
   pub count : replayed.count ≡ im.count
   pub live : (j d block : ℕ) (bytes : List ℕ) → IsJournalAt l j d → live_at im d block ≡ Some bytes → replayed.at block ≡ bytes
   pub others : (block : ℕ) → ((j d : ℕ) → IsJournalAt l j d → live_at im d block ≡ None) → replayed.at block ≡ im.at block
+
+-- The image, its journals replayed, stands for the tree.
+pub record StandsReplayed (im : Image) (t : Tree) : Type 0 where
+  pub layout : Layout
+  pub replayed : Image
+  pub is : Replayed im layout replayed
+  pub stands : Stands replayed t
 
 -- Rule 20: a block is live in two journals. It speaks of the journals of an image as it lies, and where it is broken there is no replayed image.
 pub record IsLiveTwice (im : Image) (l : Layout) (block : ℕ) : Type 0 where
