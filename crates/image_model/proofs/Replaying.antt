@@ -1,13 +1,17 @@
 -- There is at most one replayed image, and an image whose journals are clean is its own.
-use Rattle.std.proofs.Common.{◌≡◌, ◌<◌, ◌⊎◌, inl, inr, ℕ, zero, suc, List, [], ◌∷◌, length, Option, None, Some, refl, sym, subst, ◌∙◌, ap, arith}
-use Rattle.std.specs.Prelude.{get_or, slice_get}
+use Rattle.std.proofs.Common.{◌≡◌, ◌<◌, ◌≤◌, ◌⊎◌, inl, inr, ℕ, zero, suc, List, [], ◌∷◌, length, Option, None, Some, refl, sym, subst, ◌∙◌, ap, arith}
+use Rattle.std.specs.Prelude.{codes, get_or, slice_get}
 use Rattle.std.proofs.lemmas.Bool.{cases_lt}
 use Rattle.std.proofs.lemmas.Option.{slice_get-get_or, slice_get_within}
 use Rattle.log_layout.proofs.SamePlaces.{nothing_live}
 use Rattle.image_model.specs.Image.{Image}
-use Rattle.image_model.specs.Laws.{CleanImagesStay, OneReplay, ReplayedIsThere}
+use Rattle.image_model.specs.Laws.{CleanImagesStand, CleanImagesStay, OneReplay, OneReplayedTree, OneTree, ReplayedIsThere}
 use Rattle.image_model.specs.Replays.{HasItsJournals, IsLiveInBoth, live_at}
-use Rattle.image_model.specs.Stands.{IsJournalAt, Layout}
+use Rattle.image_model.specs.Claims.{HasJournal, IsJindex, LeadsTo}
+use Rattle.image_model.specs.Journals.{journal_name}
+use Rattle.image_model.specs.Owners.{Owners}
+use Rattle.image_model.specs.Stands.{IsJournalAt, IsLaid, Layout, Stands, flat_of}
+use Rattle.image_model.proofs.Facts.{child_leads, jindex_is, leads_child_of}
 use Rattle.image_model.proofs.Held.{none_some, some_same}
 
 -- a block that is live in one of these journals
@@ -120,3 +124,41 @@ clean_stay im l journals clean = record {
   where
     nothing : (j d block : ℕ) (bytes : List ℕ) → IsJournalAt l j d → live_at im d block ≡ Some bytes → ⊥
     nothing j d block bytes at live = none_some (sym ((nothing_live _ (clean j d at)).none block) ∙ live)
+
+-- an image that stands has the journals of its layout
+pub journals_of_standing : (im : Image) (o : Owners) (l : Layout) → IsLaid im o l → HasItsJournals im l
+journals_of_standing im o l laid = record { there = there; all = all }
+  where
+    of_master : (d : ℕ) → LeadsTo im l.master (codes "jindex") d → IsJindex im d
+    of_master d way = subst (λ a. LeadsTo im a (codes "jindex") d) (sym laid.super.master) way
+
+    there : (j d : ℕ) → IsJournalAt l j d → HasJournal im j d
+    there j d at =
+        let way = child_leads im o l laid l.master (codes "jindex") l.jindex laid.system.jindex in
+        (l.jindex, of_master l.jindex way, child_leads im o l laid l.jindex (journal_name j) d (laid.system.journals j d at))
+
+    all : (j d : ℕ) → HasJournal im j d → j ≤ length l.journals → IsJournalAt l j d
+    all j d has most = elim (cases_lt j (length l.journals)) [
+      | inl low ↦
+          let at = slice_get-get_or l.journals j 0 low in
+          let same : get_or l.journals j 0 ≡ d = some_same (sym (laid.system.journals j (get_or l.journals j 0) at) ∙ child) in
+          at ∙ ap Some same
+      | inr high ↦
+          let last : length l.journals ≡ j = omega (arith, most, high) in
+          absurd (none_some (sym (ap (λ n. (flat_of im o l.jindex).child (journal_name n)) (sym last) ∙ laid.system.last) ∙ child))
+    ]
+      where
+        child : (flat_of im o l.jindex).child (journal_name j) ≡ Some d
+        child = leads_child_of im o l laid l.jindex (journal_name j) d (subst (λ a. LeadsTo im a (journal_name j) d) (jindex_is im o l laid has.0 has.1) has.2)
+
+pub clean_stand : CleanImagesStand
+clean_stand im t s clean = record {
+  layout = s.layout;
+  replayed = im;
+  is = clean_stay im s.layout (journals_of_standing im s.owners s.layout s.laid) clean;
+  stands = s;
+}
+
+pub one_replayed_tree : OneTree → OneReplayedTree
+one_replayed_tree one im t u first second =
+    one second.replayed t u (subst (λ r. Stands r t) (one_replay im first.replayed second.replayed first.layout second.layout first.is second.is) first.stands) second.stands

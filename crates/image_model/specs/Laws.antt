@@ -5,7 +5,7 @@ use Rattle.file_tree.specs.Tree.{Tree}
 use Rattle.image_model.specs.Image.{Image}
 use Rattle.image_model.specs.Claims.{every, Claims}
 use Rattle.image_model.specs.Journals.{IsJournal}
-use Rattle.image_model.specs.Replays.{HasItsJournals, IsLiveTwice, IsReplayable, Replayed}
+use Rattle.image_model.specs.Replays.{HasItsJournals, IsLiveTwice, IsReplayable, Replayed, StandsReplayed}
 use Rattle.image_model.specs.Rules.{Breaks, IsReached}
 use Rattle.gfs2_layout.specs.declared.dinode.Dinode.{Dinode}
 use Rattle.log_layout.specs.Journal.{IsClean, ring_of}
@@ -74,6 +74,14 @@ ReplayedIsThere = (im : Image) (l : Layout) → IsReplayable im l → (replayed 
 -- an image whose journals are clean is its own replayed image
 abbrev pub CleanImagesStay : Type 0
 CleanImagesStay = (im : Image) (l : Layout) → HasItsJournals im l → ((j d : ℕ) → IsJournalAt l j d → IsClean (ring_of (every im d))) → Replayed im l im
+
+-- an image that stands as it lies, with all its journals clean, stands for that tree
+abbrev pub CleanImagesStand : Type 0
+CleanImagesStand = (im : Image) (t : Tree) (s : Stands im t) → ((j d : ℕ) → IsJournalAt s.layout j d → IsClean (ring_of (every im d))) → StandsReplayed im t
+
+-- and the tree for which an image stands, its journals replayed, is one
+abbrev pub OneReplayedTree : Type 0
+OneReplayedTree = (im : Image) (t u : Tree) → StandsReplayed im t → StandsReplayed im u → t ≡ u
 
 -- where a block is live in two journals there is no replayed image
 abbrev pub TwiceLiveIsNotReplayed : Type 0

@@ -14,8 +14,6 @@ use Rattle.gfs2_layout.specs.Inode.{content_block}
 use Rattle.image_model.specs.Claims.{every}
 use Rattle.image_model.specs.Image.{image_of}
 use Rattle.image_model.specs.Replays.{MayChange}
-use Rattle.image_model.specs.Rules.{Breaks}
-use Rattle.image_model.specs.Rules as rules_of
 use Rattle.image_model.specs.Stands.{IsJournalAt}
 use Rattle.image_mount.specs.Looks.{IsInGroups}
 use Rattle.image_mount.specs.Mounted.{IsJournalOf, IsMounted, Journal, MountedValue}
@@ -40,7 +38,7 @@ use Rattle.image_replays.proofs.Lists.{any_is, barred_live, false_true, home_all
 use Rattle.image_replays.proofs.SoFar.{IsSoFar, so_far_more}
 use Rattle.journal_plans.specs.Plans.{IsPlanOf}
 use Rattle.image_replays.proofs.Replay.{plan_at}
-use Rattle.image_replays.proofs.System.{block_at_place, has_group_in, has_journal, same_ring, some_at}
+use Rattle.image_replays.proofs.System.{block_at_place, has_group_in, same_ring, some_at}
 
 -- ---- what a look at a journal gives
 
@@ -172,8 +170,7 @@ module _ (s : DiskState) (node : ℕ) (idle : IsIdle s) (tells : IsTrue s.tells)
         let group = in_group place low in
         let facts = group_low (content_block (every (image_of s) d) place) group.1 in
         subst (Told 17) (sym group.0) (
-          stops.as_it_lies 17 (content_block (every (image_of s) d) place)
-              (rules_of.bad_chunk n d place head (has_journal (image_of s) m is n d d_there.1) (sym says.head ∙ headed) (sym (says.transactions head) ∙ bad) facts.1),
+          stops.bad_chunk n d place head d_there.1 (sym says.head ∙ headed) (sym (says.transactions head) ∙ bad),
           facts.0,
         )
 

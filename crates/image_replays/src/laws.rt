@@ -1,7 +1,7 @@
 //! What the definitions of replays mean. The functions do nothing: their contracts are the laws.
 ghost use Rattle.image_replays.specs.Laws.{StoppedAreNotReplayed};
 
-/// A law: an image in which a live block may not be changed, or is live in two journals, has no replayed image.
+/// A law: an image of which something stops the replay has no replayed image.
 pub fn stopped_images_have_no_replay()
     ensures { StoppedAreNotReplayed }
 {}
