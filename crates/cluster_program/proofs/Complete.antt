@@ -14,9 +14,10 @@ use Rattle.cluster_program.specs.declared.status.Status.TheVariants as status
 use Rattle.cluster_program.specs.declared.status.Which.{Which}
 use Rattle.cluster_program.specs.World.{Inputs, Outputs}
 use Rattle.cluster_program.specs.Course.{Course, RefusesWords, MakesImage, NoScript, Makes, IsTooLarge, IsTooSmall, LacksMemory, HasFailed, HasMade, plan_for, RunsScript, LacksScript, SourceFailed, Refused, RefusedEarly, NotBuiltYet, NoRoom, Shows, HasShown, ShowsNone, TreeFailed, TreeDamaged, NothingHeld, ShowsImage}
-use Rattle.cluster_program.specs.Mounting.{IsMountable, MountEnds, DiskFails, LiesOutside, IsDamaged, IsDirty, LacksRoom}
+use Rattle.cluster_program.specs.Mounting as mounting
+use Rattle.cluster_program.specs.Mounting.{BeginEnds, IsMountable, IsMountableClean, MountEnds, DiskFails, LiesOutside, IsDamaged, IsDirty, LacksRoom}
 use Rattle.cluster_program.specs.Runs as runs
-use Rattle.cluster_program.specs.Runs.{RunEnds, IsDone, NotMounted, CallFailed, CallUnbuilt, CallDamaged}
+use Rattle.cluster_program.specs.Runs.{RunEnds, IsDone, NotBegun, CallFailed, CallUnbuilt, CallDamaged}
 use Rattle.cluster_program.specs.declared.status.Part.TheVariants as part
 use Rattle.cluster_program.specs.Report.{Becomes, Stays, WithoutMemory, Fails, Reports}
 use Rattle.cluster_program.specs.Command.{NoneRose, IsRunnable, IsShowable, IsMakeable, IsWhole, IsComplete}
@@ -67,24 +68,28 @@ module _ (words : List (List ℕ)) (given left : Inputs) (sinks sinks_now : Outp
   of_mount may own (DiskFails block x y up inside reached) = absurd (none.disk 0 (rose (given.disk_faults 0) (left.disk_faults 0) x y up))
   of_mount may own (LiesOutside what value outside never) = absurd (never may.is.tells may.profile)
   of_mount may own (IsDamaged block rule breaks never) = absurd (never may.is.tells may.tree may.is.stands)
-  of_mount may own (IsDirty block dirty) =
-      let it = dirty may.is.tells in
-      let both : true ≡ false = sym (may.clean it.0 it.1 it.2.place it.2.journal it.2.there) ∙ it.2.dirty in cc
   of_mount may own LacksRoom = inr refl
 
   of_show : IsMountable given.disk → (lines : List ℕ) (own : Status) → Shows given.disk given.disk_faults left.disk_faults lines own → IsWhole own
   of_show may lines own (HasShown m tree lines' mounted is are) = inl refl
   of_show may lines own (ShowsNone own' ends) = of_mount may own ends
   of_show may lines own (TreeFailed block x y clean up within) = absurd (none.disk 0 (rose (given.disk_faults 0) (left.disk_faults 0) x y up))
-  of_show may lines own (TreeDamaged block rule clean never breaks) = absurd (never may.is.tells may.tree may.is.stands)
+  of_show may lines own (TreeDamaged block rule why never) = absurd (never may.is.tells may.tree may.is.stands)
   of_show may lines own NothingHeld = inr refl
 
-  of_run : IsMountable given.disk → (s : ScriptValue) (time : ℕ) (items : List TraceItem) (what : Option MountedValue) (own : Status) → RunEnds given left s time items what own → IsWhole own
+  -- with all its journals clean
+  of_begin : IsMountableClean given.disk → (own : Status) → BeginEnds given.disk given.disk_faults left.disk_faults own → IsWhole own
+  of_begin may own (mounting.NotMounted own' ends) = of_mount may.mountable own ends
+  of_begin may own (IsDirty block dirty) =
+      let it = dirty may.mountable.is.tells in
+      let both : true ≡ false = sym (may.clean it.0 it.1 it.2.place it.2.journal it.2.there) ∙ it.2.dirty in cc
+
+  of_run : IsMountableClean given.disk → (s : ScriptValue) (time : ℕ) (items : List TraceItem) (what : Option MountedValue) (own : Status) → RunEnds given left s time items what own → IsWhole own
   of_run may s time items what own (IsDone m all whole) = inl refl
-  of_run may s time items what own (NotMounted own' none_yet same ends) = of_mount may own ends
+  of_run may s time items what own (NotBegun own' none_yet same ends) = of_begin may own ends
   of_run may s time items what own (CallFailed m block x y for root up within at) = absurd (none.disk 1 (rose (given.disk_faults 1) (left.disk_faults 1) x y up))
-  of_run may s time items what own (CallUnbuilt m place for never at) = absurd (never may.is.tells may.tree may.is.stands)
-  of_run may s time items what own (CallDamaged m block rule for never at) = absurd (never may.is.tells may.tree may.is.stands)
+  of_run may s time items what own (CallUnbuilt m place for never at) = absurd (never may.mountable.is.tells may.mountable.tree may.mountable.is.stands)
+  of_run may s time items what own (CallDamaged m block rule for never at) = absurd (never may.mountable.is.tells may.mountable.tree may.mountable.is.stands)
   of_run may s time items what own (runs.NoRoom what') = inr refl
 
   -- an image that fits its device

@@ -15,9 +15,10 @@ use Rattle.cluster_program.specs.declared.status.Which.{Which}
 use Rattle.cluster_program.specs.declared.status.Which.TheVariants as which
 use Rattle.cluster_program.specs.World.{Inputs, Outputs}
 use Rattle.cluster_program.specs.Course.{Course, RefusesWords, MakesImage, NoScript, Makes, IsTooLarge, IsTooSmall, LacksMemory, HasFailed, HasMade, RunsScript, LacksScript, SourceFailed, Refused, RefusedEarly, NotBuiltYet, NoRoom, Shows, HasShown, ShowsNone, TreeFailed, TreeDamaged, NothingHeld, ShowsImage, words_refusal, refusal_of, is_built}
-use Rattle.cluster_program.specs.Mounting.{MountEnds, DiskFails, LiesOutside, IsDamaged, IsDirty, LacksRoom}
+use Rattle.cluster_program.specs.Mounting as mounting
+use Rattle.cluster_program.specs.Mounting.{BeginEnds, MountEnds, DiskFails, LiesOutside, IsDamaged, IsDirty, LacksRoom}
 use Rattle.cluster_program.specs.Runs as runs
-use Rattle.cluster_program.specs.Runs.{RunEnds, IsDone, NotMounted, CallFailed, CallUnbuilt, CallDamaged}
+use Rattle.cluster_program.specs.Runs.{RunEnds, IsDone, NotBegun, CallFailed, CallUnbuilt, CallDamaged}
 use Rattle.cluster_program.specs.Report.{Becomes, Stays, WithoutMemory, Fails, Reports}
 use Rattle.cluster_program.specs.Command.{FaultHasCause}
 
@@ -50,19 +51,22 @@ module _ (given left : Inputs) (sinks sinks_now : Outputs) where
   mount_fault own (DiskFails block x y up inside reached) = up
   mount_fault own (LiesOutside what value outside never) = tt
   mount_fault own (IsDamaged block rule breaks never) = tt
-  mount_fault own (IsDirty block dirty) = tt
   mount_fault own LacksRoom = tt
+
+  begin_fault : (own : Status) → BeginEnds given.disk given.disk_faults left.disk_faults own → FaultHasCause given left sinks sinks_now own
+  begin_fault own (mounting.NotMounted own' ends) = mount_fault own ends
+  begin_fault own (IsDirty block dirty) = tt
 
   show_fault : (lines : List ℕ) (own : Status) → Shows given.disk given.disk_faults left.disk_faults lines own → FaultHasCause given left sinks sinks_now own
   show_fault lines own (HasShown m tree lines' mounted is are) = tt
   show_fault lines own (ShowsNone own' ends) = mount_fault own ends
   show_fault lines own (TreeFailed block x y clean up within) = up
-  show_fault lines own (TreeDamaged block rule clean never breaks) = tt
+  show_fault lines own (TreeDamaged block rule why never) = tt
   show_fault lines own NothingHeld = tt
 
   run_fault : (s : ScriptValue) (time : ℕ) (items : List TraceItem) (what : Option MountedValue) (own : Status) → RunEnds given left s time items what own → FaultHasCause given left sinks sinks_now own
   run_fault s time items what own (IsDone m all whole) = tt
-  run_fault s time items what own (NotMounted own' none same ends) = mount_fault own ends
+  run_fault s time items what own (NotBegun own' none same ends) = begin_fault own ends
   run_fault s time items what own (CallFailed m block x y for root up within at) = up
   run_fault s time items what own (CallUnbuilt m place for none at) = tt
   run_fault s time items what own (CallDamaged m block rule for never at) = tt

@@ -3,7 +3,7 @@ use Rattle.std.proofs.Common.{◌≡◌, ◌⊎◌, inl, inr, ℕ, zero, suc, �
 use Rattle.std.specs.Prelude.{slice_get}
 use Rattle.gfs2_layout.specs.Device.{IsBlockSize}
 use Rattle.gfs2_layout.specs.Holding.{Holding}
-use Rattle.log_layout.specs.Journal.{ring_of, head_in}
+use Rattle.log_layout.specs.Journal.{IsClean, ring_of, head_in}
 use Rattle.image_model.specs.Claims.{every, LeadsTo}
 use Rattle.image_model.specs.Image.{Image}
 use Rattle.image_model.specs.Journals.{journal_name}
@@ -94,6 +94,12 @@ module _ (im im' : Image) (o o' : Owners) (l : Layout) (laid : IsLaid im o l) (l
         ap is_clean_head (ap (λ (a : ℕ). head_in (ring_of (every im' a))) is.dinode ∙ head_kept j it.0 (of_layout im o l laid m mounted j it.0 it.1) ∙ is.head) ∙ clean
     | inr past ↦ let low = below_end m.journals j journal there in absurd (omega (arith, low, past, mounted.count))
   ]
+
+  -- so are the journals of the layout
+  pub rings_clean : (m : MountedValue) → IsMounted im m → IsLeftClean m → (j d : ℕ) → IsJournalAt l j d → IsClean (ring_of (every im' d))
+  rings_clean m mounted clean j d at =
+      let was = of_mounted im o l laid m mounted j d at in
+      (was.1.head, head_kept j d at ∙ was.3.head, clean was.0 was.1 was.2)
 
   -- and so is each journal that is mounted from the image that was left
   pub clean_again : (m : MountedValue) → IsMounted im m → IsLeftClean m → AreClean im'

@@ -7,9 +7,14 @@ use Rattle.std.proofs.lemmas.List.{length-map}
 use Rattle.gfs2_layout.specs.Device.{IsBlockSize, superblock_place}
 use Rattle.glock_names.specs.Views.{group_of_entry}
 use Rattle.image_model.specs.Claims.{Claims, root}
-use Rattle.image_model.specs.Image.{IsImage, image_of, superblock_in}
-use Rattle.image_model.specs.Laws.{NothingBreaks}
-use Rattle.image_model.specs.Owners.{Root}
+use Rattle.file_tree.specs.Tree.{Tree}
+use Rattle.disk_trees.specs.ReplayLaws.{CleanMountsStay}
+use Rattle.image_model.specs.Image.{Image, IsImage, image_of, superblock_in}
+use Rattle.image_model.specs.Laws.{NothingBreaks, ReplaysKeepSystem}
+use Rattle.image_model.specs.Owners.{Owners, Root}
+use Rattle.image_model.specs.Replays.{StandsReplayed}
+use Rattle.image_model.specs.Stands.{IsLaid, Layout, Stands}
+use Rattle.image_model.specs.SystemFiles.{HasSameSystem}
 use Rattle.image_model.specs.Rules.{Breaks, beyond_groups}
 use Rattle.image_mount.specs.Found.{HasFormat}
 use Rattle.image_mount.specs.Mounted.{MountedValue, IsMounted, IsOfProfile, GroupsAreAsSeen}
@@ -22,19 +27,32 @@ use Rattle.lone_view.specs.Seeing.{seen_alone}
 use Rattle.lone_node.specs.Standing.{IsOn}
 use Rattle.damage_laws.specs.Telling.{HasRootInside, IsOfMounted, MountedAreRead}
 use Rattle.cluster_program.specs.EndStatuses.{status_of_mount}
-use Rattle.cluster_program.specs.Mounting.{OfImage, IsMountedFor, MountEnds, DiskFails, LiesOutside, IsDamaged, IsDirty, LacksRoom}
+use Rattle.cluster_program.specs.Mounting.{OfImage, IsMountedFor, BeginEnds, MountEnds, DiskFails, LiesOutside, IsDamaged, IsDirty, LacksRoom, NotMounted}
 use Rattle.cluster_program.specs.Report.{IsSinkFault}
 use Rattle.cluster_program.specs.declared.status.Status.{Status}
 use Rattle.cluster_program.specs.Runs.{as_mounted}
 use Rattle.cluster_program.specs.declared.status.Status.TheVariants as status
 
-pub mount_end : (d : DiskState) (first now : ℕ → ℕ) (f : MountFault) → NothingBreaks → OfImage d (λ im. RefusesRightly im f) → OfImage d (λ im. IsOfProfile im → IsExcused f) → HasRisen first now f → LiesWithin d.count f
-    → MountEnds d first now (status_of_mount f)
-mount_end d first now (fault.NotProfile what value) law right excused risen within = LiesOutside what value right excused
-mount_end d first now (fault.Damaged block rule) law right excused risen within =
-    IsDamaged block rule right (λ tells tree stands. law (image_of d) tree stands rule block (right tells).0.breaks)
-mount_end d first now (fault.DeviceFault block x y) law right excused risen within = DiskFails block x y risen within right
-mount_end d first now fault.NoMemory law right excused risen within = LacksRoom
+-- what a mount that fails tells of each image with the same system files
+pub record IsToldRightly (d : DiskState) (f : MountFault) : Type 0 where
+  pub right : OfImage d (λ im. RefusesRightly im f)
+  pub alike : OfImage d (λ im. (other : Image) (o : Owners) (l : Layout) → HasSameSystem im other → IsLaid other o l → RefusesRightly other f)
+  pub excused : OfImage d (λ im. (other : Image) → HasSameSystem im other → IsOfProfile other → IsExcused f)
+
+pub mount_end : (d : DiskState) (first now : ℕ → ℕ) (f : MountFault) → NothingBreaks → ReplaysKeepSystem → IsToldRightly d f → HasRisen first now f → LiesWithin d.count f → MountEnds d first now (status_of_mount f)
+mount_end d first now (fault.NotProfile what value) law keeps told risen within =
+    LiesOutside what value told.right (λ tells has. told.excused tells has.replayed (keeps (image_of d) has.replayed has.layout has.is) has.profile)
+mount_end d first now (fault.Damaged block rule) law keeps told risen within =
+    IsDamaged block rule told.right (λ tells tree is.
+        let alike = told.alike tells is.replayed is.stands.owners is.stands.layout (keeps (image_of d) is.replayed is.layout is.is) is.stands.laid in
+        law is.replayed tree is.stands rule block alike.0.breaks)
+mount_end d first now (fault.DeviceFault block x y) law keeps told risen within = DiskFails block x y risen within told.right
+mount_end d first now fault.NoMemory law keeps told risen within = LacksRoom
+
+-- an image that was mounted, its journals clean, stands as it lies for the tree for which it stands once replayed
+pub stands_clean : (d : DiskState) (m : MountedValue) → CleanMountsStay → IsMountedFor d m → IsTrue d.tells → (tree : Tree) → StandsReplayed (image_of d) tree → Stands (image_of d) tree
+stands_clean d m stay for tells tree it =
+    subst (λ im. Stands im tree) (stay (image_of d) it.replayed m it.layout (for.mounted tells) for.clean it.is) it.stands
 
 -- ---- what the node has of the image as it begins
 
@@ -67,7 +85,11 @@ some_groups d m mounted =
     let same : length m.groups ≡ length mounted.layout.groups = ap length mounted.groups ∙ length-map mounted.layout.groups group_of_entry in
     let some = mounted.profile.groups.0 in omega (arith, same, some)
 
-module _ (d : DiskState) (m : MountedValue) (law : NothingBreaks) (is : OfImage d IsImage) (for : IsMountedFor d m) where
+module _ (d : DiskState) (m : MountedValue) (law : NothingBreaks) (stay : CleanMountsStay) (is : OfImage d IsImage) (for : IsMountedFor d m) where
+  -- so the image stands as it lies for a tree for which it stands once replayed
+  as_it_lies : IsTrue d.tells → (tree : Tree) → StandsReplayed (image_of d) tree → Stands (image_of d) tree
+  as_it_lies tells tree it = stands_clean d m stay for tells tree it
+
   -- groups such as no node can work with are not those of a disk that tells its blocks
   pub odd_groups : GroupsAreAsSeen → ¬ (AreGroupsOn d.size d.count m.groups) → (first now : ℕ → ℕ) → MountEnds d first now (status.Damaged (superblock_place d.size) 18)
   odd_groups seen odd first now = IsDamaged (superblock_place d.size) 18 (λ tells. absurd (never tells)) (λ tells tree stands. never tells)
@@ -79,7 +101,7 @@ module _ (d : DiskState) (m : MountedValue) (law : NothingBreaks) (is : OfImage 
 
   -- a root that is in no group is told at the superblock
   pub stray_root : MountedAreRead → ¬ (HasRootInside (seen_alone (as_mounted d m))) → (first now : ℕ → ℕ) → MountEnds d first now (status.Damaged (superblock_place d.size) 2)
-  stray_root read stray first now = IsDamaged (superblock_place d.size) 2 told (λ tells tree stands. law (image_of d) tree stands 2 (superblock_place d.size) (told tells).0.breaks)
+  stray_root read stray first now = IsDamaged (superblock_place d.size) 2 told (λ tells tree stands. law (image_of d) tree (as_it_lies tells tree stands) 2 (superblock_place d.size) (told tells).0.breaks)
     where
       breaks : IsTrue d.tells → Breaks (image_of d) 2 (superblock_place d.size)
       breaks tells =
@@ -99,12 +121,18 @@ pub mount_never_done : (disk : DiskState) (first now : ℕ → ℕ) (own : Statu
 mount_never_done disk first now own (DiskFails block x y up inside reached) is = cc
 mount_never_done disk first now own (LiesOutside what value outside never) is = cc
 mount_never_done disk first now own (IsDamaged block rule breaks never) is = cc
-mount_never_done disk first now own (IsDirty block dirty) is = cc
 mount_never_done disk first now own LacksRoom is = cc
 
 pub no_mount_fault : (d : DiskState) (first now : ℕ → ℕ) (own : Status) → MountEnds d first now own → IsSinkFault own → ⊥
 no_mount_fault d first now own (DiskFails block x y up inside reached) never = never
 no_mount_fault d first now own (LiesOutside what value outside none) never = never
 no_mount_fault d first now own (IsDamaged block rule breaks none) never = never
-no_mount_fault d first now own (IsDirty block dirty) never = never
 no_mount_fault d first now own LacksRoom never = never
+
+pub begin_never_done : (disk : DiskState) (first now : ℕ → ℕ) (own : Status) → BeginEnds disk first now own → own ≡ status.Done → ⊥
+begin_never_done disk first now own (NotMounted own' ends) is = mount_never_done disk first now own ends is
+begin_never_done disk first now own (IsDirty block dirty) is = cc
+
+pub no_begin_fault : (d : DiskState) (first now : ℕ → ℕ) (own : Status) → BeginEnds d first now own → IsSinkFault own → ⊥
+no_begin_fault d first now own (NotMounted own' ends) never = no_mount_fault d first now own ends never
+no_begin_fault d first now own (IsDirty block dirty) never = never

@@ -17,7 +17,10 @@ use Rattle.run_rules.specs.History.{HoldsHistory, NoneStopped, AllAnswered}
 use Rattle.run_rules.proofs.Nothing.{nothing_follows, nothing_is_legal}
 use Rattle.shared_disk.specs.Disk.{DiskState, IsIdle, IsSound, Operation}
 use Rattle.gfs2_layout.specs.Device.{IsBlockSize}
-use Rattle.image_model.specs.Stands.{IsLaid}
+use Rattle.disk_trees.specs.ReplayLaws.{CleanMountsStay}
+use Rattle.image_model.specs.Flat.{ReadsAs}
+use Rattle.image_model.specs.Laws.{CleanImagesStand}
+use Rattle.image_model.specs.Stands.{IsLaid, Layout, flat_of}
 use Rattle.script_lang.specs.WellFormed.{IsWellFormed}
 use Rattle.lone_view.specs.Seeing.{Lone, seen_alone}
 use Rattle.lone_node.specs.Answering.{IsDamagedOn, IsUnbuiltOn, IsSameDisk}
@@ -29,16 +32,16 @@ use Rattle.lone_node.specs.declared.ends.RunEnd.{RunEnd}
 use Rattle.lone_node.specs.declared.ends.RunEnd.TheVariants as end
 use Rattle.damage_laws.specs.Telling.{CallsTellExactly, NeedsTell, MountedAreRead, HasRootInside}
 use Rattle.cluster_program.specs.EndStatuses.{status_of_end}
-use Rattle.cluster_program.specs.Mounting.{OfImage, IsImageOf, IsMountable, IsMountedFor, MountEnds}
-use Rattle.cluster_program.specs.Runs.{Runs, RunEnds, IsDone, NotMounted, CallFailed, CallUnbuilt, CallDamaged, NoRoom, UnlessFault, AreCleanAtEnd, HasCourse, as_mounted, first_line}
+use Rattle.cluster_program.specs.Mounting.{OfImage, IsImageOf, IsMountableClean, IsMountedFor, BeginEnds}
+use Rattle.cluster_program.specs.Runs.{Runs, RunEnds, IsDone, NotBegun, CallFailed, CallUnbuilt, CallDamaged, NoRoom, UnlessFault, AreCleanAtEnd, HasCourse, as_mounted, first_line}
 use Rattle.cluster_program.specs.World.{Inputs, KeepsDisk}
 use Rattle.cluster_program.specs.declared.status.Status.{Status}
 use Rattle.cluster_program.specs.declared.status.Status.TheVariants as status
 use Rattle.cluster_program.proofs.Damage.{told}
-use Rattle.cluster_program.proofs.Heads.{below_end, clean_yet}
+use Rattle.cluster_program.proofs.Heads.{below_end, clean_yet, rings_clean}
 use Rattle.cluster_program.proofs.Still.{mountable_still}
 use Rattle.cluster_program.specs.Report.{IsSinkFault}
-use Rattle.cluster_program.proofs.Mounts.{image_there, no_mount_fault}
+use Rattle.cluster_program.proofs.Mounts.{image_there, no_begin_fault, stands_clean}
 
 -- a count went up within a longer time too
 pub longer : (first before now x y : ℕ) → first ≤ before → WentUp before now x y → WentUp first now x y
@@ -46,19 +49,28 @@ longer first before now x y earlier up = record { from = omega (arith, earlier, 
 
 -- ---- the tree for which the image stands
 
-pub stands_for : (d : DiskState) (m : MountedValue) → StandsAsMounted → OfImage d (λ im. IsMounted im m) → (t : Tree) → IsImageOf d t → StandsFor d (as_mounted d m) t
-stands_for d m law mounted t is =
-    let same = law (image_of d) m is.stands.owners is.stands.layout (mounted is.tells) is.stands.laid in record {
+pub stands_for : (d : DiskState) (m : MountedValue) → StandsAsMounted → CleanMountsStay → IsMountedFor d m → (t : Tree) → IsImageOf d t → StandsFor d (as_mounted d m) t
+stands_for d m law stay for t is =
+    let stands = stands_clean d m stay for is.tells t is.stands in
+    let same = law (image_of d) m stands.owners stands.layout (for.mounted is.tells) stands.laid in record {
       tells = is.tells;
-      owners = is.stands.owners;
-      layout = is.stands.layout;
+      owners = stands.owners;
+      layout = stands.layout;
       root = sym same.0;
       groups = sym same.1;
-      stands = record { laid = is.stands.laid; reads = is.stands.reads };
+      stands = record { laid = stands.laid; reads = stands.reads };
     }
 
-image_of_tree : (d : DiskState) (n : Lone) (t : Tree) → StandsFor d n t → IsImageOf d t
-image_of_tree d n t s = record { tells = s.tells; stands = record { owners = s.owners; layout = s.layout; laid = s.stands.laid; reads = s.stands.reads } }
+-- where a disk stood for a tree and was mounted, its journals clean, and stands now for one by the same layout, that is the tree of its image
+pub image_left : CleanImagesStand → (d d' : DiskState) (n : Lone) (t t' : Tree) (m : MountedValue) → IsMountedFor d m → (at : StandsFor d n t) → LeavesStanding d d' n t t' at → IsImageOf d' t'
+image_left stand d d' n t t' m for at left = record {
+  tells = left.now.tells;
+  stands = stand (image_of d') t' (record { owners = left.now.owners; layout = at.layout; laid = laid; reads = subst (λ (l : Layout). ReadsAs (flat_of (image_of d') left.now.owners) l.root t') left.layout left.now.stands.reads })
+      (rings_clean (image_of d) (image_of d') at.owners left.now.owners at.layout at.stands.laid laid left.system m (for.mounted at.tells) for.clean);
+}
+  where
+    laid : IsLaid (image_of d') left.now.owners at.layout
+    laid = subst (IsLaid (image_of d') left.now.owners) left.layout left.now.stands.laid
 
 -- ---- a run from fewer trees
 
@@ -131,12 +143,12 @@ anyway (status.Stuck waits) p = p
 anyway (status.TooSmall needed found) p = p
 anyway (status.NotBuilt part) p = p
 
-module _ (given left : Inputs) (m : MountedValue) (s : ScriptValue) (time : ℕ) (items : List TraceItem) (before : ℕ → ℕ) (law : StandsAsMounted) (for : IsMountedFor given.disk m) (earlier : (j : ℕ) → given.disk_faults j ≤ before j) where
+module _ (given left : Inputs) (m : MountedValue) (s : ScriptValue) (time : ℕ) (items : List TraceItem) (before : ℕ → ℕ) (law : StandsAsMounted) (stay : CleanMountsStay) (stand : CleanImagesStand) (for : IsMountedFor given.disk m) (earlier : (j : ℕ) → given.disk_faults j ≤ before j) where
   abbrev n : Lone
   n = as_mounted given.disk m
 
   from : (t : Tree) → IsImageOf given.disk t → StandsFor given.disk n t
-  from = stands_for given.disk m law for.mounted
+  from = stands_for given.disk m law stay for
 
   -- an end in a call
   module _ (calls : CallsTellExactly) (needs : NeedsTell) (read : MountedAreRead) (inside : HasRootInside (seen_alone n)) where
@@ -155,7 +167,7 @@ module _ (given left : Inputs) (m : MountedValue) (s : ScriptValue) (time : ℕ)
     -- what holds of the image that is left
     left_tree : ((t : Tree) (at : StandsFor given.disk n t) → LeavesStanding given.disk left.disk n t (tree_of (history_of s.clients items) t) at)
         → (t : Tree) → IsImageOf given.disk t → IsImageOf left.disk (tree_of (history_of s.clients items) t)
-    left_tree leaves t is = image_of_tree left.disk n (tree_of (history_of s.clients items) t) (leaves t (from t is)).now
+    left_tree leaves t is = image_left stand given.disk left.disk n t (tree_of (history_of s.clients items) t) m for (from t is) (leaves t (from t is))
 
     left_course : IsCourse n time s.clients (moment given.disk given.disk_list) (moment left.disk left.disk_list) items → items ≢ [] → HasCourse given left s time items m
     left_course course some = record { mounted = for; root = inside; course = course }
@@ -182,10 +194,12 @@ module _ (given left : Inputs) (m : MountedValue) (s : ScriptValue) (time : ℕ)
         laid = subst (IsLaid (image_of left.disk) now.now.owners) now.layout now.now.stands.laid
 
     left_still : ((t : Tree) (at : StandsFor given.disk n t) → LeavesStanding given.disk left.disk n t (tree_of (history_of s.clients items) t) at)
-        → IsMountable given.disk → IsMountable left.disk
+        → IsMountableClean given.disk → IsMountableClean left.disk
     left_still leaves may =
-        let at = from may.tree may.is in
-        mountable_still given.disk left.disk n may.tree (tree_of (history_of s.clients items) may.tree) m for at (leaves may.tree at) may
+        let tree = may.mountable.tree in
+        let at = from tree may.mountable.is in
+        let now = leaves tree at in
+        mountable_still given.disk left.disk n tree (tree_of (history_of s.clients items) tree) m stay for at now may (image_left stand given.disk left.disk n tree (tree_of (history_of s.clients items) tree) m for at now)
 
     pub done : HasRun given.disk left.disk given.disk_list left.disk_list n before left.disk_faults s time items (Ok tt) → Runs given left s time items status.Done
     done r = record {
@@ -251,7 +265,7 @@ small_number end.NoMemory s items P start well at = tt
 
 -- ---- a run that didn't begin
 
-pub not_begun : (given left : Inputs) (s : ScriptValue) (time : ℕ) (items : List TraceItem) (own : Status) → IsIdle given.disk → items ≡ [] → KeepsDisk given left → MountEnds given.disk given.disk_faults left.disk_faults own
+pub not_begun : (given left : Inputs) (s : ScriptValue) (time : ℕ) (items : List TraceItem) (own : Status) → IsIdle given.disk → items ≡ [] → KeepsDisk given left → BeginEnds given.disk given.disk_faults left.disk_faults own
     → Runs given left s time items own
 not_begun given left s time items own idle none same ends = record {
   value = None;
@@ -268,8 +282,8 @@ not_begun given left s time items own idle none same ends = record {
   idle = anyway own (subst IsIdle (sym same.state_is) idle);
   mounted = λ some. absurd (some none);
   clean = anyway own (λ some. absurd (some none));
-  still = anyway own (subst (λ d. IsMountable given.disk → IsMountable d) (sym same.state_is) (λ may. may));
-  ends = NotMounted own none same ends;
+  still = anyway own (subst (λ d. IsMountableClean given.disk → IsMountableClean d) (sym same.state_is) (λ may. may));
+  ends = NotBegun own none same ends;
 }
   where
     none_is_lost : NoneLost []
@@ -285,7 +299,7 @@ never_done first end.NoMemory is = cc
 
 pub no_run_fault : (given left : Inputs) (s : ScriptValue) (time : ℕ) (items : List TraceItem) (what : Option MountedValue) (own : Status) → RunEnds given left s time items what own → IsSinkFault own → ⊥
 no_run_fault given left s time items what own (IsDone m all whole) never = never
-no_run_fault given left s time items what own (NotMounted own' none same ends) never = no_mount_fault given.disk given.disk_faults left.disk_faults own ends never
+no_run_fault given left s time items what own (NotBegun own' none same ends) never = no_begin_fault given.disk given.disk_faults left.disk_faults own ends never
 no_run_fault given left s time items what own (CallFailed m block x y for root up within at) never = never
 no_run_fault given left s time items what own (CallUnbuilt m place for none at) never = never
 no_run_fault given left s time items what own (CallDamaged m block rule for none at) never = never

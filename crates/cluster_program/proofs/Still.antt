@@ -13,16 +13,18 @@ use Rattle.image_model.specs.Journals.{journal_name}
 use Rattle.image_model.specs.Owners.{Owners}
 use Rattle.image_model.specs.Profile.{IsInProfile}
 use Rattle.image_model.specs.Stands.{Layout, IsLaid, flat_of}
+use Rattle.disk_trees.specs.ReplayLaws.{CleanMountsStay}
 use Rattle.image_model.proofs.Facts.{child_leads, leads_child_of}
+use Rattle.image_model.proofs.Replaying.{clean_stay, journals_of_standing, one_replay}
 use Rattle.image_changes.specs.Changes.{SystemStays}
 use Rattle.image_changes.proofs.Layouts.{one_layout}
 use Rattle.image_changes.proofs.System.{system_flat}
-use Rattle.image_mount.specs.Mounted.{MountedValue}
+use Rattle.image_mount.specs.Mounted.{IsOfProfile, MountedValue}
 use Rattle.shared_disk.specs.Disk.{DiskState}
 use Rattle.lone_view.specs.Seeing.{Lone}
 use Rattle.lone_node.specs.Standing.{LeavesStanding, StandsFor}
-use Rattle.cluster_program.specs.Mounting.{IsMountable, IsMountedFor}
-use Rattle.cluster_program.proofs.Heads.{clean_again, head_kept, places_kept}
+use Rattle.cluster_program.specs.Mounting.{AreClean, IsImageOf, IsMountableClean, IsMountedFor}
+use Rattle.cluster_program.proofs.Heads.{clean_again, head_kept, places_kept, rings_clean}
 
 module _ (im im' : Image) (o o' : Owners) (l : Layout) (laid : IsLaid im o l) (laid' : IsLaid im' o' l) (stay : SystemStays im im' o o' l) where
   superblock_same : superblock_in im' ≡ superblock_in im
@@ -56,17 +58,33 @@ module _ (im im' : Image) (o o' : Owners) (l : Layout) (laid : IsLaid im o l) (l
     sequence = λ j d head at is. was.sequence j d head at (sym (head_kept im im' o o' l laid laid' stay j d at) ∙ is);
   }
 
--- where a disk stood for a tree and was mounted, and stands now for one by the same layout, it can be mounted if it could
-pub mountable_still : (d d' : DiskState) (n : Lone) (t t' : Tree) (m : MountedValue) → IsMountedFor d m → (at : StandsFor d n t) → LeavesStanding d d' n t t' at → IsMountable d → IsMountable d'
-mountable_still d d' n t t' m for at left may = record {
-  tree = t';
-  is = record { tells = left.now.tells; stands = record { owners = left.now.owners; layout = left.now.layout; laid = left.now.stands.laid; reads = left.now.stands.reads } };
-  profile = record { owners = left.now.owners; layout = at.layout; laid = laid; profile = profile_stays (image_of d) (image_of d') at.owners left.now.owners at.layout at.stands.laid laid left.system profile };
-  clean = clean_again (image_of d) (image_of d') at.owners left.now.owners at.layout at.stands.laid laid left.system m (for.mounted at.tells) for.clean;
+-- where a disk stood for a tree and was mounted, its journals clean, and stands now for one by the same layout, it can be mounted if it could
+pub mountable_still : (d d' : DiskState) (n : Lone) (t t' : Tree) (m : MountedValue) → CleanMountsStay → IsMountedFor d m → (at : StandsFor d n t) → LeavesStanding d d' n t t' at → IsMountableClean d → IsImageOf d' t'
+    → IsMountableClean d'
+mountable_still d d' n t t' m stay for at left may now = record {
+  mountable = record {
+    tree = t';
+    is = now;
+    profile = record { layout = now.stands.layout; replayed = now.stands.replayed; is = now.stands.is; profile = subst IsOfProfile (sym itself) of_profile };
+  };
+  clean = clean;
 }
   where
     laid : IsLaid (image_of d') left.now.owners at.layout
     laid = subst (IsLaid (image_of d') left.now.owners) left.layout left.now.stands.laid
 
+    was : IsOfProfile (image_of d)
+    was = subst IsOfProfile (stay (image_of d) may.mountable.profile.replayed m may.mountable.profile.layout (for.mounted at.tells) for.clean may.mountable.profile.is) may.mountable.profile.profile
+
     profile : IsInProfile (image_of d) at.layout
-    profile = subst (IsInProfile (image_of d)) (one_layout (image_of d) may.profile.owners at.owners may.profile.layout at.layout may.profile.laid at.stands.laid) may.profile.profile
+    profile = subst (IsInProfile (image_of d)) (one_layout (image_of d) was.owners at.owners was.layout at.layout was.laid at.stands.laid) was.profile
+
+    of_profile : IsOfProfile (image_of d')
+    of_profile = record { owners = left.now.owners; layout = at.layout; laid = laid; profile = profile_stays (image_of d) (image_of d') at.owners left.now.owners at.layout at.stands.laid laid left.system profile }
+
+    clean : AreClean (image_of d')
+    clean = clean_again (image_of d) (image_of d') at.owners left.now.owners at.layout at.stands.laid laid left.system m (for.mounted at.tells) for.clean
+
+    itself : now.stands.replayed ≡ image_of d'
+    itself = one_replay (image_of d') now.stands.replayed (image_of d') now.stands.layout at.layout now.stands.is
+        (clean_stay (image_of d') at.layout (journals_of_standing (image_of d') left.now.owners at.layout laid) (rings_clean (image_of d) (image_of d') at.owners left.now.owners at.layout at.stands.laid laid left.system m (for.mounted at.tells) for.clean))

@@ -10,7 +10,7 @@ use Rattle.cluster_program.specs.World.{Inputs, Outputs}
 use Rattle.cluster_program.specs.Report.{Reports}
 use Rattle.cluster_program.specs.Course.{Course, AsksToRun, AsksToShow, AsksToMake, plan_for}
 use Rattle.cluster_program.specs.Dirty.{IsDirtyCount}
-use Rattle.cluster_program.specs.Mounting.{IsMountable}
+use Rattle.cluster_program.specs.Mounting.{IsMountable, IsMountableClean}
 use Rattle.command_words.specs.declared.command.MakeWords.{MakeWords}
 use Rattle.mkgfs2_tool.specs.Order.{fits}
 use Rattle.cluster_program.specs.declared.status.Status.{Status}
@@ -46,7 +46,7 @@ pub record NoneRose (given left : Inputs) (sinks sinks_now : Outputs) : Type 0 w
   pub trace : Rose sinks.trace_faults sinks_now.trace_faults → ⊥
   pub output : Rose sinks.output_faults sinks_now.output_faults → ⊥
 
--- the words are a run, the source tells its text, which is a script without a line that is not built, and the image can be mounted
+-- the words are a run, the source tells its text, which is a script without a line that is not built, and the image can be mounted, its journals clean
 pub record IsRunnable (words : List (List ℕ)) (given : Inputs) : Type 0 where
   pub run : AsksToRun given.disk.size words
   pub text : List ℕ
@@ -54,9 +54,9 @@ pub record IsRunnable (words : List (List ℕ)) (given : Inputs) : Type 0 where
   pub script : ScriptValue
   pub is_script : script_read text ≡ Script script
   pub built : first_foreign script ≡ None
-  pub mountable : IsMountable given.disk
+  pub mountable : IsMountableClean given.disk
 
--- the words ask for an image to be shown, and it can be mounted
+-- the words ask for an image to be shown, and it can be mounted, whether its journals are clean or not
 pub record IsShowable (words : List (List ℕ)) (given : Inputs) : Type 0 where
   pub show : AsksToShow given.disk.size words
   pub mountable : IsMountable given.disk

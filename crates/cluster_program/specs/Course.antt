@@ -20,11 +20,11 @@ use Rattle.mkgfs2_tool.specs.Making.{plan_of}
 use Rattle.mkgfs2_tool.specs.Order.{fits, IsNeeded}
 use Rattle.mkgfs2_tool.specs.Outcomes.{IsBegun, IsMade}
 use Rattle.shared_disk.specs.Disk.{DiskState}
-use Rattle.image_model.specs.Rules.{IsBrokenBlock}
-use Rattle.disk_trees.specs.Reading.{ending}
-use Rattle.image_mount.specs.Mounted.{Journal, MountedValue}
+use Rattle.image_model.specs.Image.{Image}
+use Rattle.disk_trees.specs.Reading.{IsUnreadable}
+use Rattle.image_mount.specs.Mounted.{IsMounted, Journal, MountedValue}
 use Rattle.show_text.specs.Show.{journal_lines, tree_lines}
-use Rattle.cluster_program.specs.Mounting.{OfImage, IsImageOf, IsMountable, NeverStands, MountEnds, IsMountedClean, IsMountedFor}
+use Rattle.cluster_program.specs.Mounting.{OfImage, IsImageOf, IsMountableClean, NeverStands, MountEnds, IsMountedOn}
 use Rattle.cluster_program.specs.Runs.{Runs}
 use Rattle.cluster_program.specs.World.{Inputs, KeepsScript, KeepsDisk}
 use Rattle.cluster_program.specs.declared.status.Status.{Status}
@@ -88,7 +88,7 @@ pub data Makes (words : MakeWords) (before now : Inputs) : Status → Type 0 whe
       → IfSome block (λ b. b < before.disk.count) → IsBegun (plan_for before.disk words) before.disk now.disk before.disk_list now.disk_list
       → KeepsScript before now → Makes words before now (status.DeviceFault 0 block x y)
   HasMade : before.disk.count ≤ most_blocks → fits (plan_for before.disk words) ≡ true
-      → IsMade (plan_for before.disk words) before.disk now.disk before.disk_list now.disk_list → (IsTrue before.disk.tells → IsMountable now.disk)
+      → IsMade (plan_for before.disk words) before.disk now.disk before.disk_list now.disk_list → (IsTrue before.disk.tells → IsMountableClean now.disk)
       → KeepsScript before now → Makes words before now status.Done
 
 -- ---- the script
@@ -116,17 +116,26 @@ pub data LacksScript (before now : Option (List ℕ)) (faults faults_now : ℕ) 
 abbrev pub clean_of : MountedValue → List Bool
 clean_of m = map (λ (j : Journal). j.head.clean) m.journals
 
--- What `show` prints, and how it ends: the image was mounted, and its journals were left clean; a line for each of them, and behind these the
--- lines of a tree, which is that for which the image stands, if it stands for one; or nothing, since the image was not mounted, or there was
--- no memory, or, of an image that was mounted with clean journals, the disk failed at one of its blocks, or a block breaks a rule.
+-- the image was mounted
+abbrev pub HasMounted : Image → Type 0
+HasMounted im = (m : MountedValue) × IsMounted im m
+
+-- it was, and block b stops the replay of its journals, or breaks this rule once they are replayed
+pub record IsUnreadableAt (im : Image) (b rule : ℕ) : Type 0 where
+  pub value : MountedValue
+  pub mounted : IsMounted im value
+  pub why : IsUnreadable im mounted.layout b rule
+
+-- What `show` prints, and how it ends: the image was mounted; a line for each of its journals, clean or not, and behind these the lines of a tree, which is that for
+-- which the image stands, its journals replayed, if it stands for one; or nothing, since the image was not mounted, or there was no memory, or, of an image that was
+-- mounted, the disk failed at one of its blocks, or a block stops the replay of its journals or breaks a rule once they are replayed.
 pub data Shows (disk : DiskState) (faults faults_now : ℕ → ℕ) : List ℕ → Status → Type 0 where
-  HasShown : (m : MountedValue) (tree : Tree) (lines : List ℕ) → IsMountedFor disk m → ((t : Tree) → IsImageOf disk t → tree ≡ t)
+  HasShown : (m : MountedValue) (tree : Tree) (lines : List ℕ) → IsMountedOn disk m → ((t : Tree) → IsImageOf disk t → tree ≡ t)
       → lines ≡ journal_lines 0 (clean_of m) ++ tree_lines [] tree → Shows disk faults faults_now lines status.Done
   ShowsNone : (own : Status) → MountEnds disk faults faults_now own → Shows disk faults faults_now [] own
-  TreeFailed : (block x y : ℕ) → OfImage disk IsMountedClean → WentUp (faults 0) (faults_now 0) x y → block < disk.count
+  TreeFailed : (block x y : ℕ) → OfImage disk HasMounted → WentUp (faults 0) (faults_now 0) x y → block < disk.count
       → Shows disk faults faults_now [] (status.DeviceFault 0 (Some block) x y)
-  TreeDamaged : (block rule : ℕ) → OfImage disk IsMountedClean → OfImage disk NeverStands → OfImage disk (λ im. IsBrokenBlock (ending im) rule block)
-      → Shows disk faults faults_now [] (status.Damaged block rule)
+  TreeDamaged : (block rule : ℕ) → OfImage disk (λ im. IsUnreadableAt im block rule) → OfImage disk NeverStands → Shows disk faults faults_now [] (status.Damaged block rule)
   NothingHeld : Shows disk faults faults_now [] status.NoMemory
 
 -- ---- the command: refusals come in this order, each before anything that follows it is touched; its items are those of a run, its lines those of a show

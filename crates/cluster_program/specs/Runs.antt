@@ -19,7 +19,7 @@ use Rattle.damage_laws.specs.Telling.{HasAstrayOn, HasRootInside}
 use Rattle.lone_node.specs.Answering.{IsDamagedOn, IsSameDisk, IsUnbuiltOn}
 use Rattle.lone_node.specs.Course.{IsCourse, moment}
 use Rattle.lone_node.specs.Run.{EndsAt, EndsAtCall, HasChangedNothing, IsFailedOn, IsRunOf, IsWholeRun}
-use Rattle.cluster_program.specs.Mounting.{OfImage, IsImageOf, IsMountable, NeverStands, IsMountedClean, IsMountedFor, MountEnds, is_clean_in}
+use Rattle.cluster_program.specs.Mounting.{OfImage, IsImageOf, IsMountableClean, NeverStands, IsMountedClean, IsMountedFor, BeginEnds, is_clean_in}
 use Rattle.cluster_program.specs.World.{Inputs, KeepsDisk}
 use Rattle.cluster_program.specs.declared.status.Status.{Status}
 use Rattle.cluster_program.specs.declared.status.Status.TheVariants as status
@@ -53,12 +53,12 @@ pub record MeetsDamage (given left : DiskState) (m : MountedValue) (block rule :
   pub shown : IsDamagedOn left (as_mounted given m) call block rule
   pub told : OfImage left (λ im. IsMounted im m → IsToldBroken (seen_alone shown.view) im call rule block)
 
--- How a run of what was mounted ends, if anything was: each line is answered and the node has unmounted; the image was not mounted, before the first item; or, in a call
+-- How a run of what was mounted ends, if anything was: each line is answered and the node has unmounted; the run didn't begin, before the first item; or, in a call
 -- behind the lines above it: the disk failed as its blocks were read or written; the call isn't built for what stands there, in an image that stands for no
 -- tree; or, in such an image too, a block is met that is told as broken (`MeetsDamage`); or there was no memory.
 pub data RunEnds (given left : Inputs) (s : ScriptValue) (time : ℕ) (items : List TraceItem) : Option MountedValue → Status → Type 0 where
   IsDone : (m : MountedValue) → AllAnswered items s → IsWholeRun s.clients s.lines items (IsImageOf given.disk) → RunEnds given left s time items (Some m) status.Done
-  NotMounted : (own : Status) → items ≡ [] → KeepsDisk given left → MountEnds given.disk given.disk_faults left.disk_faults own → RunEnds given left s time items None own
+  NotBegun : (own : Status) → items ≡ [] → KeepsDisk given left → BeginEnds given.disk given.disk_faults left.disk_faults own → RunEnds given left s time items None own
   CallFailed : (m : MountedValue) (block : Option ℕ) (x y : ℕ) → IsMountedFor given.disk m → HasRootInside (seen_alone (as_mounted given.disk m))
       → WentUp (given.disk_faults 1) (left.disk_faults 1) x y → IfSome block (λ b. b < given.disk.count)
       → AtCall given s items (λ call. IsFailedOn (moment given.disk given.disk_list) (moment left.disk left.disk_list) (as_mounted given.disk m) time s.clients items call block) → RunEnds given left s time items (Some m) (status.DeviceFault 1 block x y)
@@ -110,6 +110,6 @@ pub record Runs (given left : Inputs) (s : ScriptValue) (time : ℕ) (items : Li
   -- no item stands before the image was mounted and each of its journals was found clean; where it stands for a tree, they are clean yet
   pub mounted : items ≢ [] → OfImage given.disk IsMountedClean
   pub clean : UnlessFault own (items ≢ [] → (tree : Tree) → IsImageOf given.disk tree → AreCleanAtEnd given.disk left.disk)
-  -- an image that could be mounted can be mounted again, unless the disk failed
-  pub still : UnlessFault own (IsMountable given.disk → IsMountable left.disk)
+  -- an image that could be mounted, its journals clean, can be mounted so again, unless the disk failed
+  pub still : UnlessFault own (IsMountableClean given.disk → IsMountableClean left.disk)
   pub ends : RunEnds given left s time items value own

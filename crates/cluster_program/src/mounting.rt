@@ -7,14 +7,15 @@ ghost use Rattle.shared_disk.specs.Disk.{IsIdle};
 ghost use Rattle.shared_disk.specs.Disk.{ReadsOnly};
 ghost use Rattle.damage_laws.specs.Telling.{HasRootInside};
 ghost use Rattle.lone_view.specs.Seeing.{seen_alone};
-ghost use Rattle.cluster_program.specs.Mounting.{MountEnds, OfImage, IsFirstDirty, IsMountedFor};
+ghost use Rattle.cluster_program.specs.Mounting.{BeginEnds, MountEnds, OfImage, IsFirstDirty, IsMountedFor, IsMountedOn};
 ghost use Rattle.cluster_program.specs.Runs.{as_mounted};
 
 use crate::end_status::{not_built, not_mounted};
 use crate::status::Status;
 use damage_laws::views_may_be_read_from_mounted_images;
+use disk_trees::clean_mounts_stay;
 use gfs2_layout::superblock_block;
-use image_model::what_stands_breaks_nothing;
+use image_model::{replays_keep_system_files, what_stands_breaks_nothing};
 use image_mount::{JournalMap, Mounted, mount_image, mounted_groups_are_as_seen};
 use lone_view::{LoneView, are_groups};
 use resource_groups::group_of;
@@ -34,18 +35,33 @@ fn dirty_journal(journals: &[JournalMap]) -> Option<u64>
     None
 }
 
+/// Mounts the image of an idle disk. It costs what mounting costs.
+pub(crate) fn mount<D: SharedDisk>(alloc: Global, disk: &mut D) -> Result<Mounted, Status>
+    requires idle { IsIdle (D.state disk.old) }
+    requires size { IsBlockSize (D.state disk.old).size }
+    ensures mounted { IfOk result (IsMountedOn (D.state disk.old)) }
+    ensures ends { IfErr result (MountEnds (D.state disk.old) (D.faults disk.old) (D.faults disk.new)) }
+    ensures reads { ReadsOnly (D.state disk.old) (D.state disk.new) (D.list disk.old) (D.list disk.new) (D.faults disk.old) (D.faults disk.new) }
+{
+    replays_keep_system_files();
+    what_stands_breaks_nothing();
+    match mount_image(alloc, disk) {
+        Ok(mounted) => Ok(mounted),
+        Err(fault) => Err(not_mounted(fault)),
+    }
+}
+
 /// Mounts the image of an idle disk, whose journals are clean. It costs what mounting costs.
 pub(crate) fn mount_clean<D: SharedDisk>(alloc: Global, disk: &mut D) -> Result<Mounted, Status>
     requires idle { IsIdle (D.state disk.old) }
     requires size { IsBlockSize (D.state disk.old).size }
     ensures mounted { IfOk result (IsMountedFor (D.state disk.old)) }
-    ensures ends { IfErr result (MountEnds (D.state disk.old) (D.faults disk.old) (D.faults disk.new)) }
+    ensures ends { IfErr result (BeginEnds (D.state disk.old) (D.faults disk.old) (D.faults disk.new)) }
     ensures reads { ReadsOnly (D.state disk.old) (D.state disk.new) (D.list disk.old) (D.list disk.new) (D.faults disk.old) (D.faults disk.new) }
 {
-    what_stands_breaks_nothing();
-    let mounted = match mount_image(alloc, disk) {
+    let mounted = match mount(alloc, disk) {
         Ok(mounted) => mounted,
-        Err(fault) => return Err(not_mounted(fault)),
+        Err(own) => return Err(own),
     };
     match dirty_journal(&mounted.journals) {
         Some(block) => Err(not_built(block)),
@@ -71,6 +87,7 @@ pub(crate) fn view_of<D: SharedDisk>(
     mounted_groups_are_as_seen();
     views_may_be_read_from_mounted_images();
     what_stands_breaks_nothing();
+    clean_mounts_stay();
     let size = disk.block_size();
     let superblock = superblock_block(size);
     if !are_groups(&mounted.groups, size, disk.blocks()) {

@@ -14,6 +14,8 @@ use damage_laws::{
     calls_tell_broken_blocks, needs_out_of_the_device_tell_broken_blocks,
     views_may_be_read_from_mounted_images,
 };
+use disk_trees::clean_mounts_stay;
+use image_model::clean_images_stay;
 use image_mount::mounted_images_stand_as_mounted;
 use lone_node::run_script;
 use script_lang::Script;
@@ -49,6 +51,8 @@ pub(crate) fn mount_and_run<D: SharedDisk>(
 {
     views_may_be_read_from_mounted_images();
     mounted_images_stand_as_mounted();
+    clean_images_stay();
+    clean_mounts_stay();
     calls_tell_broken_blocks();
     needs_out_of_the_device_tell_broken_blocks();
     let mounted = match mount_clean(alloc, disk) {

@@ -5,8 +5,8 @@ use Rattle.std.proofs.lemmas.Bool.{cases_lt}
 use Rattle.std.proofs.lemmas.Option.{slice_get-get_or, slice_get_within}
 use Rattle.log_layout.proofs.SamePlaces.{nothing_live}
 use Rattle.image_model.specs.Image.{Image}
-use Rattle.image_model.specs.Laws.{CleanImagesStand, CleanImagesStay, OneReplay, OneReplayedTree, OneTree, ReplayedIsThere}
-use Rattle.image_model.specs.Replays.{HasItsJournals, IsLiveInBoth, live_at}
+use Rattle.image_model.specs.Laws.{CleanImagesStand, CleanImagesStay, OneReplay, OneReplayedTree, OneTree, ReplayedByAny, ReplayedIsThere}
+use Rattle.image_model.specs.Replays.{HasItsJournals, IsLiveInBoth, MayChange, live_at}
 use Rattle.image_model.specs.Claims.{HasJournal, IsJindex, LeadsTo}
 use Rattle.image_model.specs.Journals.{journal_name}
 use Rattle.image_model.specs.Owners.{Owners}
@@ -51,7 +51,7 @@ module _ (im : Image) (l m : Layout) (one : HasItsJournals im l) (other : HasIts
       let below = slice_get_within m.journals (length m.journals) d there in
       omega (arith, below)
 
-  same_journals : (j d : ℕ) → IsJournalAt l j d → IsJournalAt m j d
+  pub same_journals : (j d : ℕ) → IsJournalAt l j d → IsJournalAt m j d
   same_journals j d at =
       other.all j d (one.there j d at) (elim (cases_lt (length m.journals) (length l.journals)) [
         | inl less ↦ absurd (no_more less)
@@ -72,6 +72,38 @@ one_replay im a b l m first second = λ i. record { size = (first.size ∙ sym s
       | inl is ↦ first.live is.journal is.dinode block is.bytes is.there is.live ∙ sym (second.live is.journal is.dinode block is.bytes (there is.journal is.dinode is.there) is.live)
       | inr none ↦ first.others block none ∙ sym (second.others block (λ j d at. none j d (back j d at)))
     ]
+
+pub replayed_by_any : ReplayedByAny
+replayed_by_any im replayed l m journals is = record {
+  replayable = record {
+    journals = journals;
+    readable = λ j d at. is.replayable.readable j d (there j d at);
+    once = λ i j block both. is.replayable.once i j block (record {
+      first = both.first;
+      second = both.second;
+      first_at = there i both.first both.first_at;
+      second_at = there j both.second both.second_at;
+      one = both.one;
+      other = both.other;
+      one_live = both.one_live;
+      other_live = both.other_live;
+    });
+    inside = λ j d block bytes at live. may_change block (is.replayable.inside j d block bytes (there j d at) live);
+  };
+  size = is.size;
+  count = is.count;
+  live = λ j d block bytes at live. is.live j d block bytes (there j d at) live;
+  others = λ block none. is.others block (λ j d at. none j d (back j d at));
+}
+  where
+    there : (j d : ℕ) → IsJournalAt l j d → IsJournalAt m j d
+    there = same_journals im l m journals is.replayable.journals
+
+    back : (j d : ℕ) → IsJournalAt m j d → IsJournalAt l j d
+    back = same_journals im m l is.replayable.journals journals
+
+    may_change : (block : ℕ) → MayChange im m block → MayChange im l block
+    may_change block may = record { there = may.there; group = may.group; no_place = λ j d p at low. may.no_place j d p (there j d at) low }
 
 pub replayed_is_there : ReplayedIsThere
 replayed_is_there im l may = (

@@ -67,6 +67,10 @@ JournalsReadAlike = (im : Image) (owners : Owners) (l : Layout) → IsLaid im ow
 abbrev pub OneReplay : Type 0
 OneReplay = (im a b : Image) (l m : Layout) → Replayed im l a → Replayed im m b → a ≡ b
 
+-- and it is that by any layout that has the image's journals
+abbrev pub ReplayedByAny : Type 0
+ReplayedByAny = (im replayed : Image) (l m : Layout) → HasItsJournals im l → Replayed im m replayed → Replayed im l replayed
+
 -- and there is one where the image can be replayed
 abbrev pub ReplayedIsThere : Type 0
 ReplayedIsThere = (im : Image) (l : Layout) → IsReplayable im l → (replayed : Image) × Replayed im l replayed

@@ -1,5 +1,5 @@
 //! What the definitions of images mean. The functions do nothing: their contracts are the laws.
-ghost use Rattle.image_model.specs.Laws.{AnyOrder, BrokenAreReached, CleanImagesStand, CleanImagesStay, HoldingsAreOwned, JournalsReadAlike, NothingBreaks, OneReplay, OneReplayedTree, OneTable, OneTree, OwnersClaim, ReplayedIsThere, TwiceLiveIsNotReplayed};
+ghost use Rattle.image_model.specs.Laws.{AnyOrder, BrokenAreReached, CleanImagesStand, CleanImagesStay, HoldingsAreOwned, JournalsReadAlike, NothingBreaks, OneReplay, OneReplayedTree, OneTable, OneTree, OwnersClaim, ReplayedByAny, ReplayedIsThere, TwiceLiveIsNotReplayed};
 
 /// A law: an image stands for at most one tree.
 pub fn images_stand_for_one_tree()
@@ -44,6 +44,7 @@ pub fn journals_read_alike()
 /// A law: of an image that can be replayed there is one replayed image; of any other there is none, so where a block is live in two journals.
 pub fn images_have_one_replay()
     ensures one { OneReplay }
+    ensures any { ReplayedByAny }
     ensures there { ReplayedIsThere }
     ensures none { TwiceLiveIsNotReplayed }
 {}

@@ -1,10 +1,16 @@
 -- Laws of replays.
-use Rattle.std.specs.Prelude.{ℕ}
+use Rattle.std.specs.Prelude.{ℕ, ◌≡◌, true, slice_get, Some}
 use Rattle.image_model.specs.Image.{Image}
 use Rattle.image_model.specs.Replays.{Replayed}
 use Rattle.image_model.specs.Stands.{Layout}
+use Rattle.image_mount.specs.Mounted.{IsMounted, Journal, MountedValue}
 use Rattle.image_replays.specs.Replays.{Stops}
 
 -- where something stops the replay there is no replayed image
 abbrev pub StoppedAreNotReplayed : Type 0
 StoppedAreNotReplayed = (im replayed : Image) (l : Layout) (rule b : ℕ) → Stops im l rule b → Replayed im l replayed → ⊥
+
+-- an image that was mounted, all its journals clean, is its own replayed image
+abbrev pub CleanMountsStay : Type 0
+CleanMountsStay = (im replayed : Image) (m : MountedValue) (l : Layout) → IsMounted im m → ((j : ℕ) (journal : Journal) → slice_get m.journals j ≡ Some journal → journal.head.clean ≡ true)
+    → Replayed im l replayed → replayed ≡ im

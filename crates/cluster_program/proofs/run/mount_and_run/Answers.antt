@@ -8,11 +8,11 @@ use Rattle.lone_node.specs.Answering.{IsUnbuiltOn}
 use Rattle.lone_node.specs.Ends.{IfNotBuilt}
 use Rattle.lone_node.specs.Standing.{StandsFor}
 use Rattle.cluster_program.specs.EndStatuses.{status_of_end}
-use Rattle.cluster_program.specs.Mounting.{MountEnds}
+use Rattle.cluster_program.specs.Mounting.{MountEnds, NotMounted}
 use Rattle.cluster_program.specs.Runs.{Runs, as_mounted, first_line}
 use Rattle.cluster_program.specs.World.{inputs}
 use Rattle.cluster_program.specs.declared.status.Status.TheVariants as status
-use Rattle.cluster_program.proofs.Mounts.{mount_never_done}
+use Rattle.cluster_program.proofs.Mounts.{begin_never_done, mount_never_done}
 use Rattle.cluster_program.proofs.Quiet.{quiet, NoItems, answers_of_run}
 use Rattle.cluster_program.proofs.Runs.{HasRun, not_begun, done, ended, has_run, never_done, small_number, whole_blocks}
 use Rattle.cluster_program.proofs.run.mount_and_run.Given.{Over}
@@ -26,7 +26,7 @@ returns-in-Err-clause-runs g c left left_now failed failed_now =
 
 pub returns-in-Err-clause-quiet : goal.returns-in-Err-clause-quiet
 returns-in-Err-clause-quiet g c told is_done =
-    quiet c.args.script.now c.args.items.now.items told c.requires.form.nodes (NoItems c.requires.none) (λ is. absurd (mount_never_done _ _ _ c.in-Err.own c.in-Err.ensures.ends (is_done is)))
+    quiet c.args.script.now c.args.items.now.items told c.requires.form.nodes (NoItems c.requires.none) (λ is. absurd (begin_never_done _ _ _ c.in-Err.own c.in-Err.ensures.ends (is_done is)))
 
 -- ---- there are no groups to work with, or no root in them
 
@@ -36,7 +36,7 @@ module _ (g : Over) (c : goal.In-Err-view_of g) where
 
 pub returns-in-Err-view_of-clause-runs : goal.returns-in-Err-view_of-clause-runs
 returns-in-Err-view_of-clause-runs g c left left_now failed failed_now =
-    not_begun _ _ c.args.script.now c.args.time c.args.items.now.items c.in-Err-view_of.own c.requires.idle c.requires.none (record { state_is = c.in-Ok.ensures.reads.same; list_is = c.in-Ok.ensures.reads.list }) (ends g c)
+    not_begun _ _ c.args.script.now c.args.time c.args.items.now.items c.in-Err-view_of.own c.requires.idle c.requires.none (record { state_is = c.in-Ok.ensures.reads.same; list_is = c.in-Ok.ensures.reads.list }) (NotMounted c.in-Err-view_of.own (ends g c))
 
 pub returns-in-Err-view_of-clause-quiet : goal.returns-in-Err-view_of-clause-quiet
 returns-in-Err-view_of-clause-quiet g c told is_done =
@@ -76,7 +76,7 @@ module _ (g : Over) (c : goal.After-drop-view-inside-in-Ok-run_script g) (left l
   runs : Runs (inputs (g.D.SharedDisk.state c.args.disk.now) (g.D.SharedDisk.list c.args.disk.now) (g.D.SharedDisk.faults c.args.disk.now) left failed)
       (inputs (g.D.SharedDisk.state c.run_script.new.disk) (g.D.SharedDisk.list c.run_script.new.disk) (g.D.SharedDisk.faults c.run_script.new.disk) left_now failed_now) c.args.script.now c.args.time c.run_script.new.items.items status.Done
   runs =
-      done _ _ c.in-Ok.mounted c.args.script.now c.args.time c.run_script.new.items.items (g.D.SharedDisk.faults c.mount_clean.new.disk) c.mounted_images_stand_as_mounted.ensures c.in-Ok.ensures.mounted c.in-Ok.ensures.reads.later
+      done _ _ c.in-Ok.mounted c.args.script.now c.args.time c.run_script.new.items.items (g.D.SharedDisk.faults c.mount_clean.new.disk) c.mounted_images_stand_as_mounted.ensures c.clean_mounts_stay.ensures c.clean_images_stay.ensures.stand c.in-Ok.ensures.mounted c.in-Ok.ensures.reads.later
       c.calls_tell_broken_blocks.ensures.exact c.needs_out_of_the_device_tell_broken_blocks.ensures c.views_may_be_read_from_mounted_images.ensures inside
       (has_run _ (g.D.SharedDisk.state c.mount_clean.new.disk) _ _ (g.D.SharedDisk.list c.mount_clean.new.disk) _ c.in-Ok.mounted c.in-Ok-view_of.view _ _ c.args.script.now c.args.time c.run_script.new.items.items _ c.in-Ok.ensures.reads.same c.in-Ok.ensures.reads.list c.in-Ok-view_of.ensures.is ran)
 
@@ -114,7 +114,7 @@ module _ (g : Over) (c : goal.After-drop-view-inside-3 g) (left left_now : Optio
   early_runs : Runs (inputs (g.D.SharedDisk.state c.args.disk.now) (g.D.SharedDisk.list c.args.disk.now) (g.D.SharedDisk.faults c.args.disk.now) left failed)
       (inputs (g.D.SharedDisk.state c.run_script.new.disk) (g.D.SharedDisk.list c.run_script.new.disk) (g.D.SharedDisk.faults c.run_script.new.disk) left_now failed_now) c.args.script.now c.args.time c.run_script.new.items.items (status_of_end (first_line c.args.script.now) c.in-Err-run_script.end)
   early_runs =
-      ended _ _ c.in-Ok.mounted c.args.script.now c.args.time c.run_script.new.items.items (g.D.SharedDisk.faults c.mount_clean.new.disk) c.mounted_images_stand_as_mounted.ensures c.in-Ok.ensures.mounted c.in-Ok.ensures.reads.later
+      ended _ _ c.in-Ok.mounted c.args.script.now c.args.time c.run_script.new.items.items (g.D.SharedDisk.faults c.mount_clean.new.disk) c.mounted_images_stand_as_mounted.ensures c.clean_mounts_stay.ensures c.clean_images_stay.ensures.stand c.in-Ok.ensures.mounted c.in-Ok.ensures.reads.later
       c.calls_tell_broken_blocks.ensures.exact c.needs_out_of_the_device_tell_broken_blocks.ensures c.views_may_be_read_from_mounted_images.ensures early_inside
       c.in-Err-run_script.end (whole_blocks c.in-Err-run_script.end (g.D.SharedDisk.state c.mount_clean.new.disk) _ c.blocks-count.ensures.sound (subst (λ (d : DiskState). IsBlockSize d.size) (sym c.in-Ok.ensures.reads.same) c.requires.size) c.in-Err-run_script.ensures.disk)
       (has_run _ (g.D.SharedDisk.state c.mount_clean.new.disk) _ _ (g.D.SharedDisk.list c.mount_clean.new.disk) _ c.in-Ok.mounted c.in-Ok-view_of.view _ _ c.args.script.now c.args.time c.run_script.new.items.items _ c.in-Ok.ensures.reads.same c.in-Ok.ensures.reads.list c.in-Ok-view_of.ensures.is early_ran)
