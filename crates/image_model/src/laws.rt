@@ -1,5 +1,5 @@
 //! What the definitions of images mean. The functions do nothing: their contracts are the laws.
-ghost use Rattle.image_model.specs.Laws.{AnyOrder, BrokenAreReached, CleanImagesStay, HoldingsAreOwned, JournalsReadAlike, NothingBreaks, OneReplay, OneTable, OneTree, OwnersClaim, ReplayedIsThere, TwiceLiveIsNotReplayed};
+ghost use Rattle.image_model.specs.Laws.{AnyOrder, BrokenAreReached, CleanImagesStay, HoldingsAreOwned, JournalsReadAlike, NothingBreaks, OneReplay, OneTable, OneTree, OwnersClaim, ReplayedIsThere, ReplaysKeepSystem, SystemIsTheSame, TwiceLiveIsNotReplayed};
 
 /// A law: an image stands for at most one tree.
 pub fn images_stand_for_one_tree()
@@ -51,4 +51,10 @@ pub fn images_have_one_replay()
 /// A law: an image whose journals are clean is its own replayed image.
 pub fn clean_images_stay()
     ensures { CleanImagesStay }
+{}
+
+/// A law: a replay changes no block of the system files; and who has these blocks of an image has the same system files.
+pub fn replays_keep_system_files()
+    ensures kept { ReplaysKeepSystem }
+    ensures same { SystemIsTheSame }
 {}

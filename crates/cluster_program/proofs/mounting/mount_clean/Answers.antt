@@ -1,4 +1,5 @@
-use Rattle.std.proofs.Common.{◌≡◌, ℕ, List, true, Some, slice_get, sym, ap, ◌∙◌, subst}
+use Rattle.std.proofs.Common.{◌≡◌, ℕ, List, true, Some, slice_get, refl, sym, ap, ◌∙◌, subst}
+use Rattle.image_model.specs.Image.{image_of}
 use Rattle.image_mount.specs.Mounted.{Journal, MountedValue}
 use Rattle.cluster_program.specs.Mounting.{MountEnds, IsDirty, IsFirstDirty}
 use Rattle.cluster_program.proofs.Mounts.{mount_end}
@@ -12,7 +13,8 @@ left_clean same clean = subst (λ (js : List Journal). (j : ℕ) (journal : Jour
 pub returns-in-Err-clause-ends : goal.returns-in-Err-clause-ends
 returns-in-Err-clause-ends g c =
     subst (MountEnds _ _ _) (sym c.not_mounted.ensures)
-    (mount_end (g.D.SharedDisk.state c.args.disk.now) (g.D.SharedDisk.faults c.args.disk.now) (g.D.SharedDisk.faults c.mount_image.new.disk) c.in-Err.fault c.what_stands_breaks_nothing.ensures c.in-Err.ensures.refused c.in-Err.ensures.accepts c.in-Err.ensures.risen c.in-Err.ensures.within)
+    (mount_end (g.D.SharedDisk.state c.args.disk.now) (g.D.SharedDisk.faults c.args.disk.now) (g.D.SharedDisk.faults c.mount_image.new.disk) c.in-Err.fault c.what_stands_breaks_nothing.ensures c.in-Err.ensures.refused
+    (λ tells of. c.in-Err.ensures.accepts tells (image_of (g.D.SharedDisk.state c.args.disk.now)) (record { size = refl; count = refl; same = λ b is. refl }) of) c.in-Err.ensures.risen c.in-Err.ensures.within)
 
 pub returns-in-Some-clause-ends : goal.returns-in-Some-clause-ends
 returns-in-Some-clause-ends g c =
