@@ -103,7 +103,7 @@ replayed_by_any im replayed l m journals is = record {
     back = same_journals im m l is.replayable.journals journals
 
     may_change : (block : ℕ) → MayChange im m block → MayChange im l block
-    may_change block may = record { there = may.there; group = may.group; no_place = λ j d p at low. may.no_place j d p (there j d at) low }
+    may_change block may = record { there = may.there; group = may.group; no_place = λ j d p at low. may.no_place j d p (there j d at) low; apart = may.apart }
 
 pub replayed_is_there : ReplayedIsThere
 replayed_is_there im l may = (

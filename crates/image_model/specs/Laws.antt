@@ -1,5 +1,5 @@
 -- Laws of images.
-use Rattle.std.specs.Prelude.{ℕ, ◌≡◌, ◌<◌, ◌↔◌, true, List, Some}
+use Rattle.std.specs.Prelude.{ℕ, ◌≡◌, ◌⊎◌, ◌<◌, ◌↔◌, true, List, Some}
 use Rattle.std.specs.List.Sorted.{IsPermutation}
 use Rattle.file_tree.specs.Tree.{Tree}
 use Rattle.image_model.specs.Image.{Image}
@@ -11,10 +11,11 @@ use Rattle.gfs2_layout.specs.declared.dinode.Dinode.{Dinode}
 use Rattle.log_layout.specs.Journal.{IsClean, ring_of}
 use Rattle.log_layout.specs.Laws.{SaysTheSame}
 use Rattle.image_model.specs.Owners.{Owner, Owners, Below, Chained, is_dinode, IsUsed, holding}
-use Rattle.gfs2_layout.specs.Inode.{Head, content_block}
+use Rattle.gfs2_layout.specs.Inode.{Fits, Head, content_block}
 use Rattle.gfs2_layout.specs.Holding.{Part, Itself, Pointed, InChain, bytes_at, part_at}
 use Rattle.gfs2_layout.specs.Records.{Record, child_named}
 use Rattle.image_model.specs.Stands.{Layout, IsJournalAt, IsLaid, IsDirectory, Stands}
+use Rattle.image_model.specs.SystemFiles.{HasSameSystem, IsSystemBlock, IsSystemFile}
 
 -- an image stands for at most one tree
 abbrev pub OneTree : Type 0
@@ -90,3 +91,12 @@ OneReplayedTree = (im : Image) (t u : Tree) → StandsReplayed im t → StandsRe
 -- where a block is live in two journals there is no replayed image
 abbrev pub TwiceLiveIsNotReplayed : Type 0
 TwiceLiveIsNotReplayed = (im replayed : Image) (l : Layout) (block : ℕ) → IsLiveTwice im l block → Replayed im l replayed → ⊥
+
+-- a replay leaves the blocks of the system files as they are
+abbrev pub ReplaysKeepSystem : Type 0
+ReplaysKeepSystem = (im replayed : Image) (l : Layout) → Replayed im l replayed → HasSameSystem im replayed
+
+-- an image that has the blocks of another's system files has the same system files, where these fit their dinodes in one of the two
+abbrev pub SystemIsTheSame : Type 0
+SystemIsTheSame = (im other : Image) → HasSameSystem im other → ((d : ℕ) → IsSystemFile im d → IsSystemFile other d → Fits (every im d) ⊎ Fits (every other d))
+    → (b : ℕ) → IsSystemBlock im b ↔ IsSystemBlock other b

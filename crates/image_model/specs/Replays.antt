@@ -9,6 +9,7 @@ use Rattle.image_model.specs.Claims.{every, HasGroup, HasJournal}
 use Rattle.image_model.specs.Groups.{IsHeaderOf, IsDataOf}
 use Rattle.image_model.specs.Image.{Image}
 use Rattle.image_model.specs.Stands.{Layout, IsJournalAt, Stands}
+use Rattle.image_model.specs.SystemFiles.{IsSystemBlock}
 
 -- what is live of a block in the journal with its dinode in block d
 abbrev pub live_at : Image → ℕ → ℕ → Option (List ℕ)
@@ -30,11 +31,12 @@ pub record HasItsJournals (im : Image) (l : Layout) : Type 0 where
   pub there : (j d : ℕ) → IsJournalAt l j d → HasJournal im j d
   pub all : (j d : ℕ) → HasJournal im j d → j ≤ length l.journals → IsJournalAt l j d
 
--- a block that a replay may change: a group's header, a block of its bitmap or a data block, and no journal's place
+-- a block that a replay may change: a group's header, a block of its bitmap or a data block, and neither a journal's place nor a block by which the journals and groups are found
 pub record MayChange (im : Image) (l : Layout) (block : ℕ) : Type 0 where
   pub there : block < im.count
   pub group : (g : Rindex) × HasGroup im g × (IsHeaderOf g block ⊎ IsDataOf g block)
   pub no_place : (j d p : ℕ) → IsJournalAt l j d → p < (ring_of (every im d)).places → content_block (every im d) p ≢ block
+  pub apart : ¬ (IsSystemBlock im block)
 
 -- The image can be replayed: each of its journals can be read, no block is live in two of them, and what is live may be changed.
 pub record IsReplayable (im : Image) (l : Layout) : Type 0 where

@@ -1,5 +1,5 @@
 //! What the definitions of images mean. The functions do nothing: their contracts are the laws.
-ghost use Rattle.image_model.specs.Laws.{AnyOrder, BrokenAreReached, CleanImagesStand, CleanImagesStay, HoldingsAreOwned, JournalsReadAlike, NothingBreaks, OneReplay, OneReplayedTree, OneTable, OneTree, OwnersClaim, ReplayedByAny, ReplayedIsThere, TwiceLiveIsNotReplayed};
+ghost use Rattle.image_model.specs.Laws.{AnyOrder, BrokenAreReached, CleanImagesStand, CleanImagesStay, HoldingsAreOwned, JournalsReadAlike, NothingBreaks, OneReplay, OneReplayedTree, OneTable, OneTree, OwnersClaim, ReplayedByAny, ReplayedIsThere, ReplaysKeepSystem, SystemIsTheSame, TwiceLiveIsNotReplayed};
 
 /// A law: an image stands for at most one tree.
 pub fn images_stand_for_one_tree()
@@ -58,4 +58,10 @@ pub fn clean_images_stay()
 /// A law: an image stands for at most one tree, its journals replayed.
 pub fn replayed_images_stand_for_one_tree()
     ensures { OneReplayedTree }
+{}
+
+/// A law: a replay changes no block of the system files; and who has these blocks of an image has the same system files.
+pub fn replays_keep_system_files()
+    ensures kept { ReplaysKeepSystem }
+    ensures same { SystemIsTheSame }
 {}

@@ -1,15 +1,18 @@
 ghost use Rattle.std.specs.Prelude.{◌≡◌, ◌≤◌, ℕ, [], map, IsTrue, OnOk, IfOk, IfErr};
+ghost use Rattle.std.specs.List.Sorted.{IsStrictlyIncreasing};
 ghost use Rattle.shared_disk.specs.Disk.{IsIdle};
 ghost use Rattle.shared_disk.specs.Disk.{ReadsOnly};
 ghost use Rattle.glock_names.specs.Views.{group_of_entry};
 ghost use Rattle.gfs2_layout.specs.Device.{IsBlockSize};
+ghost use Rattle.image_model.specs.Claims.{every};
 ghost use Rattle.image_model.specs.Image.{Image, image_of};
-ghost use Rattle.image_mount.specs.Mounted.{IsMounted, IsOfProfile};
-ghost use Rattle.image_mount.specs.Marked.{IsGrown, IsKept};
+ghost use Rattle.image_model.specs.SystemFiles.{HasSameSystem};
+ghost use Rattle.image_mount.specs.Mounted.{HasSameBlocks, IsMounted, IsOfProfile};
+ghost use Rattle.image_mount.specs.Marked.{HasKeptContent, IsGrown, IsKept};
 ghost use Rattle.image_mount.specs.Refusals.{HasRisen, IsExcused, LiesWithin, RefusesRightly};
 ghost use Rattle.image_mount.specs.Rings.{IsSearched};
-ghost use Rattle.image_mount.specs.Searching.{IsSteady, IsWorking};
-ghost use Rattle.image_mount.specs.System.{HasDinodes, IsGroundOf, IsMasterOf, IsNamedBy, IsSystemOf};
+ghost use Rattle.image_mount.specs.Searching.{IsSteady, IsWorking, ShowsSystem};
+ghost use Rattle.image_mount.specs.System.{HasDinodes, HasReadSystem, IsGroundOf, IsMasterOf, IsNamedBy, IsSystemOf};
 ghost use Rattle.profile_limits.specs.Limits.{most_blocks};
 
 use crate::fault::MountFault;
@@ -56,9 +59,10 @@ fn search_groundwork<D: SharedDisk>(
     ensures jindex { IfOk result (λ g. IsKept table.new g.jindex.block) }
     ensures work { OnOk result (IsWorking (D.state disk.new) table.new) }
     ensures grown { OnOk result (IsGrown table.old table.new) }
-    ensures found { IfOk result (λ g. IsTrue (D.state disk.old).tells → IsMasterOf (image_of (D.state disk.old)) master.now → IsNamedBy (image_of (D.state disk.old)) master.now names.now → IsGroundOf (image_of (D.state disk.old)) g) }
-    ensures searched { OnOk result (IsTrue (D.state disk.old).tells → IsMasterOf (image_of (D.state disk.old)) master.now → IsNamedBy (image_of (D.state disk.old)) master.now names.now → IsSearched (image_of (D.state disk.old)) [] 0 0 table.old → IsSearched (image_of (D.state disk.old)) [] 0 0 table.new) }
-    ensures refused { IsTrue (D.state disk.old).tells → IsMasterOf (image_of (D.state disk.old)) master.now → IsNamedBy (image_of (D.state disk.old)) master.now names.now → IsSearched (image_of (D.state disk.old)) [] 0 0 table.old → IfErr result (RefusesRightly (image_of (D.state disk.old))) }
+    ensures found { IfOk result (λ g. (im : Image) → ShowsSystem (D.state disk.old) im → IsMasterOf im master.now → IsNamedBy im master.now names.now → IsSearched im [] 0 0 table.old → IsGroundOf im g) }
+    ensures content { IfOk result (λ g. (im : Image) → ShowsSystem (D.state disk.old) im → IsMasterOf im master.now → IsNamedBy im master.now names.now → IsSearched im [] 0 0 table.old → HasKeptContent table.new (every im g.rindex)) }
+    ensures searched { OnOk result ((im : Image) → ShowsSystem (D.state disk.old) im → IsMasterOf im master.now → IsNamedBy im master.now names.now → IsSearched im [] 0 0 table.old → IsSearched im [] 0 0 table.new) }
+    ensures refused { (im : Image) → ShowsSystem (D.state disk.old) im → IsMasterOf im master.now → IsNamedBy im master.now names.now → IsSearched im [] 0 0 table.old → IfErr result (RefusesRightly im) }
     ensures risen { IfErr result (HasRisen (D.faults disk.old) (D.faults disk.new)) }
     ensures within { IfErr result (LiesWithin (D.state disk.old).count) }
     ensures reads { ReadsOnly (D.state disk.old) (D.state disk.new) (D.list disk.old) (D.list disk.new) (D.faults disk.old) (D.faults disk.new) }
@@ -80,12 +84,13 @@ fn search_system<D: SharedDisk>(
 ) -> Result<System, MountFault>
     requires work { IsWorking (D.state disk.old) table.old }
     requires few { (D.state disk.old).count ≤ most_blocks }
-    ensures dinodes { IfOk result (λ system. IsTrue (D.state disk.old).tells → IsSearched (image_of (D.state disk.old)) [] 0 0 table.old → HasDinodes (image_of (D.state disk.old)) table.new system) }
+    ensures dinodes { IfOk result (λ system. (im : Image) → ShowsSystem (D.state disk.old) im → IsSearched im [] 0 0 table.old → HasDinodes im table.new system) }
+    ensures read { IfOk result (λ system. (im : Image) → ShowsSystem (D.state disk.old) im → IsSearched im [] 0 0 table.old → HasReadSystem im table.new system) }
     ensures work { OnOk result (IsWorking (D.state disk.new) table.new) }
     ensures grown { OnOk result (IsGrown table.old table.new) }
-    ensures found { IfOk result (λ system. IsTrue (D.state disk.old).tells → IsSearched (image_of (D.state disk.old)) [] 0 0 table.old → IsSystemOf (image_of (D.state disk.old)) system) }
-    ensures searched { OnOk result (IsTrue (D.state disk.old).tells → IsSearched (image_of (D.state disk.old)) [] 0 0 table.old → IsSearched (image_of (D.state disk.old)) [] 0 0 table.new) }
-    ensures refused { IsTrue (D.state disk.old).tells → IsSearched (image_of (D.state disk.old)) [] 0 0 table.old → IfErr result (RefusesRightly (image_of (D.state disk.old))) }
+    ensures found { IfOk result (λ system. (im : Image) → ShowsSystem (D.state disk.old) im → IsSearched im [] 0 0 table.old → IsSystemOf im system) }
+    ensures searched { OnOk result ((im : Image) → ShowsSystem (D.state disk.old) im → IsSearched im [] 0 0 table.old → IsSearched im [] 0 0 table.new) }
+    ensures refused { (im : Image) → ShowsSystem (D.state disk.old) im → IsSearched im [] 0 0 table.old → IfErr result (RefusesRightly im) }
     ensures risen { IfErr result (HasRisen (D.faults disk.old) (D.faults disk.new)) }
     ensures within { IfErr result (LiesWithin (D.state disk.old).count) }
     ensures reads { ReadsOnly (D.state disk.old) (D.state disk.new) (D.list disk.old) (D.list disk.new) (D.faults disk.old) (D.faults disk.new) }
@@ -129,8 +134,10 @@ pub fn mount_image<D: SharedDisk>(alloc: Global, disk: &mut D) -> Result<Mounted
     requires idle { IsIdle (D.state disk.old) }
     requires size { IsBlockSize (D.state disk.old).size }
     ensures mounted { IfOk result (λ m. IsTrue (D.state disk.old).tells → IsMounted (image_of (D.state disk.old)) m) }
+    ensures alike { IfOk result (λ m. (im : Image) → HasSameBlocks (D.state disk.old) m.system im → IsMounted im m) }
+    ensures rise { IfOk result (λ m. IsStrictlyIncreasing m.system) }
     ensures refused { IfErr result (λ fault. IsTrue (D.state disk.old).tells → RefusesRightly (image_of (D.state disk.old)) fault) }
-    ensures accepts { IfErr result (λ fault. IsTrue (D.state disk.old).tells → IsOfProfile (image_of (D.state disk.old)) → IsExcused fault) }
+    ensures accepts { IfErr result (λ fault. IsTrue (D.state disk.old).tells → (im : Image) → HasSameSystem (image_of (D.state disk.old)) im → IsOfProfile im → IsExcused fault) }
     ensures risen { IfErr result (HasRisen (D.faults disk.old) (D.faults disk.new)) }
     ensures within { IfErr result (LiesWithin (D.state disk.old).count) }
     ensures reads { ReadsOnly (D.state disk.old) (D.state disk.new) (D.list disk.old) (D.list disk.new) (D.faults disk.old) (D.faults disk.new) }
@@ -144,5 +151,6 @@ pub fn mount_image<D: SharedDisk>(alloc: Global, disk: &mut D) -> Result<Mounted
         sb: system.superblock,
         groups: map_groups(alloc, &system.groups)?,
         journals,
+        system: table.taken(alloc)?,
     })
 }

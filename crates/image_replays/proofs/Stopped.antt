@@ -38,7 +38,7 @@ use Rattle.image_replays.proofs.Lists.{any_is, barred_live, false_true, home_all
 use Rattle.image_replays.proofs.SoFar.{IsSoFar, so_far_more}
 use Rattle.journal_plans.specs.Plans.{IsPlanOf}
 use Rattle.image_replays.proofs.Replay.{plan_at}
-use Rattle.image_replays.proofs.System.{block_at_place, has_group_in, same_ring, some_at}
+use Rattle.image_replays.proofs.System.{among_system, block_at_place, has_group_in, same_ring, some_at}
 
 -- ---- what a look at a journal gives
 
@@ -69,7 +69,7 @@ why_of T P Q R (Err f) why = λ tells few inside. why tells
 -- ---- what the marks say of a block
 
 module _ (s : DiskState) (node : ℕ) (idle : IsIdle s) (tells : IsTrue s.tells) (m : MountedValue) (is : IsMounted (image_of s) m) (first : List Mark)
-    (marked : (b : ℕ) → b < s.count → mark_of first b ≡ first_mark m.groups m.journals b) (n : ℕ) (plans : List Plan) (marks : List Mark) (so : IsSoFar s node first m.journals n plans marks) where
+    (marked : (b : ℕ) → b < s.count → mark_of first b ≡ first_mark m.groups m.journals m.system b) (n : ℕ) (plans : List Plan) (marks : List Mark) (so : IsSoFar s node first m.journals n plans marks) where
   -- a place of a mounted journal is one of the image's
   place_of : (b : ℕ) → is_place m.journals b ≡ true → (j d p : ℕ) × IsJournalAt is.layout j d × (p < (ring_of (every (image_of s) d)).places) × (content_block (every (image_of s) d) p ≡ b)
   place_of b e =
@@ -98,9 +98,13 @@ module _ (s : DiskState) (node : ℕ) (idle : IsIdle s) (tells : IsTrue s.tells)
       by_place true e closed = let at = place_of b e in may.no_place at.0 at.1 at.2 at.3 at.4 at.5
       by_place false e closed = by_group (is_in_groups m.groups b) refl closed
 
+      by_system : (t : Bool) → is_among m.system b ≡ t → (if t then Barred else if is_place m.journals b then Barred else if is_in_groups m.groups b then Open else Barred) ≡ Barred → ⊥
+      by_system true e closed = may.apart (among_system (image_of s) m is b e)
+      by_system false e closed = by_place (is_place m.journals b) refl closed
+
       by_plan : (t : Bool) → is_planned plans b ≡ t → ⊥
       by_plan true e = live_barred (sym (so.are b ∙ cond-true _ _ _ e) ∙ mark)
-      by_plan false e = by_place (is_place m.journals b) refl (sym (marked b may.there) ∙ sym (so.are b ∙ cond-false _ _ _ e) ∙ mark)
+      by_plan false e = by_system (is_among m.system b) refl (sym (marked b may.there) ∙ sym (so.are b ∙ cond-false _ _ _ e) ∙ mark)
 
   -- a live one is in a plan before
   live_is_planned : (b : ℕ) → mark_of marks b ≡ Live → is_planned plans b ≡ true
@@ -115,14 +119,15 @@ module _ (s : DiskState) (node : ℕ) (idle : IsIdle s) (tells : IsTrue s.tells)
               let high : s.count ≤ b = grind (arith, nat_tests, e) in
               absurd (barred_live (sym (get_or-eq_default marks Barred (subst (λ k. k ≤ b) (sym so.long) high)) ∙ mark))
 
-      never_live : (t u : Bool) → (if t then Barred else if u then Open else Barred) ≡ Live → ⊥
-      never_live true u e = barred_live e
-      never_live false true e = open_live e
-      never_live false false e = barred_live e
+      never_live : (r t u : Bool) → (if r then Barred else if t then Barred else if u then Open else Barred) ≡ Live → ⊥
+      never_live true t u e = barred_live e
+      never_live false true u e = barred_live e
+      never_live false false true e = open_live e
+      never_live false false false e = barred_live e
 
       by_plan : (t : Bool) → is_planned plans b ≡ t → is_planned plans b ≡ true
       by_plan true e = e
-      by_plan false e = absurd (never_live (is_place m.journals b) (is_in_groups m.groups b) (sym (marked b inside) ∙ sym (so.are b ∙ cond-false _ _ _ e) ∙ mark))
+      by_plan false e = absurd (never_live (is_among m.system b) (is_place m.journals b) (is_in_groups m.groups b) (sym (marked b inside) ∙ sym (so.are b ∙ cond-false _ _ _ e) ∙ mark))
 
   -- ---- the next journal
 
@@ -245,7 +250,7 @@ so_on s t same node first journals n plans news marks new so x p at long writabl
 
 -- what stops the look at a journal, as the disk then is
 pub stopped_on : (s t : DiskState) → t ≡ s → (node : ℕ) → IsIdle s → IsTrue s.tells → (m : MountedValue) (is : IsMounted (image_of s) m) (first : List Mark)
-    → ((b : ℕ) → b < s.count → mark_of first b ≡ first_mark m.groups m.journals b) → (n : ℕ) (plans : List Plan) (marks : List Mark) → IsSoFar s node first m.journals n plans marks
+    → ((b : ℕ) → b < s.count → mark_of first b ≡ first_mark m.groups m.journals m.system b) → (n : ℕ) (plans : List Plan) (marks : List Mark) → IsSoFar s node first m.journals n plans marks
     → (x : Journal) → slice_get m.journals n ≡ Some x → (fault : LookFault)
     → (IsTrue t.tells → length x.blocks < 2 ^ 32 → All (λ b. b < t.count) x.blocks → IsStopped (ring_read t node x.blocks) x.dinode x.blocks marks fault)
     → IfDamaged fault (λ block rule. Stops (image_of s) is.layout rule block × (block < s.count))

@@ -1,4 +1,5 @@
-use Rattle.std.proofs.Common.{◌≡◌, ℕ, List, true, Some, slice_get, sym, ap, ◌∙◌, subst}
+use Rattle.std.proofs.Common.{◌≡◌, ℕ, List, true, Some, slice_get, refl, sym, ap, ◌∙◌, subst}
+use Rattle.image_model.specs.Image.{image_of}
 use Rattle.image_mount.specs.Mounted.{Journal, MountedValue}
 use Rattle.cluster_program.specs.Mounting.{BeginEnds, IsDirty, IsFirstDirty, NotMounted}
 use Rattle.cluster_program.proofs.mounting.mount_clean.Goals as goal
