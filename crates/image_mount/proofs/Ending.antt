@@ -12,7 +12,8 @@ use Rattle.gfs2_layout.specs.Inode.{content_block}
 use Rattle.log_layout.specs.Journal.{ring_of}
 use Rattle.image_model.specs.Claims.{every}
 use Rattle.image_model.specs.Image.{Image, image_of}
-use Rattle.image_model.specs.Stands.{Layout, IsJournalAt}
+use Rattle.image_model.specs.Owners.{Owners}
+use Rattle.image_model.specs.Stands.{IsLaid, Layout, IsJournalAt}
 use Rattle.image_model.specs.SystemFiles.{HasSameSystem}
 use Rattle.image_mount.specs.Found.{HasFormat, HasNames}
 use Rattle.image_model.specs.Journals.{journal_name}
@@ -35,18 +36,25 @@ use Rattle.image_mount.proofs.Marked.{places_apart}
 use Rattle.image_mount.proofs.Names.{all_at, mapped_at, from_mapped}
 use Rattle.image_mount.proofs.Places.{block_there}
 use Rattle.image_mount.proofs.Stops.{handed}
-use Rattle.image_mount.proofs.SystemRead.{block_taken, profile_fits, shows_own, shows_same, taken_block}
+use Rattle.image_mount.proofs.SystemRead.{block_taken, laid_fits, shows_own, shows_same, taken_block}
 
 -- a refusal that is handed on, where the disk tells: of its own image
 pub refused_where : {T : Type 0} (s : DiskState) (r : Result T MountFault) (f : MountFault) → IsErrAnd r (λ g. g ≡ f) → ((im : Image) → ShowsSystem s im → RefusesRightly im f) → IfErr r (λ g. IsTrue s.tells → RefusesRightly (image_of s) g)
 refused_where {T} s r f is right = handed {T = T} r (λ g. g ≡ f) (λ g. IsTrue s.tells → RefusesRightly (image_of s) g) is (λ g e tells. subst (RefusesRightly (image_of s)) (sym e) (right (image_of s) (shows_own s tells)))
 
--- and of one of the profile that has its system files
+-- and of one that stands and has its system files
+pub standing_where : {T : Type 0} (s : DiskState) (r : Result T MountFault) (f : MountFault) → IsErrAnd r (λ g. g ≡ f) → ((im : Image) → ShowsSystem s im → RefusesRightly im f)
+    → IfErr r (λ g. IsTrue s.tells → (im : Image) (o : Owners) (l : Layout) → HasSameSystem (image_of s) im → IsLaid im o l → RefusesRightly im g)
+standing_where {T} s r f is right =
+    handed {T = T} r (λ g. g ≡ f) (λ g. IsTrue s.tells → (im : Image) (o : Owners) (l : Layout) → HasSameSystem (image_of s) im → IsLaid im o l → RefusesRightly im g) is
+    (λ g e tells im o l same laid. subst (RefusesRightly im) (sym e) (right im (shows_same s im tells same (λ d is is'. inr (laid_fits im o l laid d is')))))
+
+-- so one of the profile is refused only for want of memory, or where the disk failed
 pub excused_where : {T : Type 0} (s : DiskState) (r : Result T MountFault) (f : MountFault) → IsErrAnd r (λ g. g ≡ f) → ((im : Image) → ShowsSystem s im → RefusesRightly im f)
     → IfErr r (λ g. IsTrue s.tells → (im : Image) → HasSameSystem (image_of s) im → IsOfProfile im → IsExcused g)
 excused_where {T} s r f is right =
     handed {T = T} r (λ g. g ≡ f) (λ g. IsTrue s.tells → (im : Image) → HasSameSystem (image_of s) im → IsOfProfile im → IsExcused g) is
-    (λ g e tells im same of. subst IsExcused (sym e) (excused im f (right im (shows_same s im tells same (λ d is is'. inr (profile_fits im of d is')))) of))
+    (λ g e tells im same of. subst IsExcused (sym e) (excused im f (right im (shows_same s im tells same (λ d is is'. inr (laid_fits im of.owners of.layout of.laid d is')))) of))
 
 same_some : {X : Type 0} (x y : X) → Some x ≡ Some y → x ≡ y
 same_some x y e = cc

@@ -13,7 +13,8 @@ use Rattle.gfs2_layout.specs.declared.superblock.SuperBlock.{SuperBlock}
 use Rattle.image_model.specs.Claims.{every, Claims, HasDirectory, LeadsTo, master_of}
 use Rattle.image_model.specs.Image.{Image, image_of}
 use Rattle.image_model.specs.Journals.{journal_name}
-use Rattle.image_model.specs.Owners.{Chained}
+use Rattle.image_model.specs.Owners.{Chained, Owners}
+use Rattle.image_model.specs.Stands.{IsLaid, Layout}
 use Rattle.image_model.specs.Rules.{Breaks, HasRecords, from_dinode_block, from_leaves, too_high, too_large_for_dinode, too_large_for_height}
 use Rattle.image_model.specs.SystemFiles.{HasSameSystem, IsSystemBlock, IsSystemFile, is_jindex, is_journal, is_master, is_rindex, of_content, of_dinode, of_leaf, of_superblock}
 use Rattle.image_model.proofs.Nothing.{laid_breaks_nothing}
@@ -25,7 +26,7 @@ use Rattle.image_mount.specs.Kept.{Kept, seen_of}
 use Rattle.image_mount.specs.Leaves.{HasReadDirectory}
 use Rattle.image_mount.specs.Looks.{IsLookedAt, IsSoundDirectory}
 use Rattle.image_mount.specs.Marked.{AreMarked, IsKept, IsTaken, marks_of, of_kept, of_leaf as read_as_leaf, of_place, one_if}
-use Rattle.image_mount.specs.Mounted.{HasSameBlocks, IsMounted, IsOfProfile, MountedValue}
+use Rattle.image_mount.specs.Mounted.{HasSameBlocks, IsMounted, MountedValue}
 use Rattle.image_mount.specs.Rings.{AreKeptWays, AreRings, HasPlaces, IsRingOf, IsSearched, all_places}
 use Rattle.image_mount.specs.Searching.{ShowsSystem}
 use Rattle.image_mount.specs.System.{HasDinodes, HasReadSystem, IsSystemOf}
@@ -233,8 +234,8 @@ pub shows_same : (s : DiskState) (im : Image) → IsTrue s.tells → HasSameSyst
 shows_same s im tells same fits = record { tells = tells; size = same.size; count = same.count; same = λ b is. same.same b (system_back (image_of s) im same fits b is) }
 
 -- the system files of an image that stands fit their dinodes
-pub profile_fits : (im : Image) → IsOfProfile im → (d : ℕ) → IsSystemFile im d → Fits (every im d)
-profile_fits im of d file = record {
+pub laid_fits : (im : Image) (o : Owners) (l : Layout) → IsLaid im o l → (d : ℕ) → IsSystemFile im d → Fits (every im d)
+laid_fits im o l laid d file = record {
   low = elim (cases_lt 10 (height_in (every im d))) [ inl high ↦ absurd (nothing 8 d (too_high d (file_inode im d file) high)) | inr low ↦ low ];
   stuffed = λ none. elim (cases_lt im.size (dinode_length + (dinode_in (every im d)).size)) [
     | inl large ↦ absurd (nothing 8 d (too_large_for_dinode d (file_inode im d file) none large))
@@ -247,7 +248,7 @@ profile_fits im of d file = record {
 }
   where
     nothing : (rule b : ℕ) → Breaks im rule b → ⊥
-    nothing = laid_breaks_nothing im of.owners of.layout of.laid
+    nothing = laid_breaks_nothing im o l laid
 
 -- what is mounted of each image of which the disk shows the system files
 module _ (s : DiskState) (m : MountedValue) (all : (im : Image) → ShowsSystem s im → IsMounted im m × ((d : ℕ) → IsSystemFile im d → Fits (every im d))) where

@@ -6,6 +6,8 @@ ghost use Rattle.glock_names.specs.Views.{group_of_entry};
 ghost use Rattle.gfs2_layout.specs.Device.{IsBlockSize};
 ghost use Rattle.image_model.specs.Claims.{every};
 ghost use Rattle.image_model.specs.Image.{Image, image_of};
+ghost use Rattle.image_model.specs.Owners.{Owners};
+ghost use Rattle.image_model.specs.Stands.{IsLaid, Layout};
 ghost use Rattle.image_model.specs.SystemFiles.{HasSameSystem};
 ghost use Rattle.image_mount.specs.Mounted.{HasSameBlocks, IsMounted, IsOfProfile};
 ghost use Rattle.image_mount.specs.Marked.{HasKeptContent, IsGrown, IsKept};
@@ -137,6 +139,7 @@ pub fn mount_image<D: SharedDisk>(alloc: Global, disk: &mut D) -> Result<Mounted
     ensures alike { IfOk result (λ m. (im : Image) → HasSameBlocks (D.state disk.old) m.system im → IsMounted im m) }
     ensures rise { IfOk result (λ m. IsStrictlyIncreasing m.system) }
     ensures refused { IfErr result (λ fault. IsTrue (D.state disk.old).tells → RefusesRightly (image_of (D.state disk.old)) fault) }
+    ensures standing { IfErr result (λ fault. IsTrue (D.state disk.old).tells → (im : Image) (o : Owners) (l : Layout) → HasSameSystem (image_of (D.state disk.old)) im → IsLaid im o l → RefusesRightly im fault) }
     ensures accepts { IfErr result (λ fault. IsTrue (D.state disk.old).tells → (im : Image) → HasSameSystem (image_of (D.state disk.old)) im → IsOfProfile im → IsExcused fault) }
     ensures risen { IfErr result (HasRisen (D.faults disk.old) (D.faults disk.new)) }
     ensures within { IfErr result (LiesWithin (D.state disk.old).count) }

@@ -6,5 +6,5 @@ use Rattle.cluster_program.proofs.mounting.mount.Goals as goal
 pub returns-clause-ends : goal.returns-clause-ends
 returns-clause-ends g c =
     subst (MountEnds _ _ _) (sym c.not_mounted.ensures)
-    (mount_end (g.D.SharedDisk.state c.args.disk.now) (g.D.SharedDisk.faults c.args.disk.now) (g.D.SharedDisk.faults c.mount_image.new.disk) c.in-Err.fault c.what_stands_breaks_nothing.ensures c.replays_keep_system_files.ensures
-    (record { right = c.in-Err.ensures.refused; alike = c.in-Err.ensures.alike; excused = c.in-Err.ensures.accepts }) c.in-Err.ensures.risen c.in-Err.ensures.within)
+    (mount_end (g.D.SharedDisk.state c.args.disk.now) (g.D.SharedDisk.faults c.args.disk.now) (g.D.SharedDisk.faults c.mount_image.new.disk) c.in-Err.fault c.what_stands_breaks_nothing.ensures c.replays_keep_system_files.ensures.kept
+    (record { right = c.in-Err.ensures.refused; alike = c.in-Err.ensures.standing; excused = c.in-Err.ensures.accepts }) c.in-Err.ensures.risen c.in-Err.ensures.within)

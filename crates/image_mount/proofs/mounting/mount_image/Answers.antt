@@ -9,7 +9,7 @@ use Rattle.image_mount.specs.System.{layout_of}
 use Rattle.image_mount.proofs.Marked.{marked_once, place_unkept, unkept_new}
 use Rattle.image_mount.proofs.Marks.{searched_new, shows_now}
 use Rattle.image_mount.proofs.Moved.{stay_kept}
-use Rattle.image_mount.proofs.Ending.{refused_where, excused_where, mounted}
+use Rattle.image_mount.proofs.Ending.{refused_where, excused_where, standing_where, mounted}
 use Rattle.image_mount.proofs.SystemRead.{files_fit, is_alike, is_mounted}
 use Rattle.image_mount.proofs.Systems.{read_on}
 use Rattle.image_mount.proofs.Working.{working_new}
@@ -25,6 +25,11 @@ returns-in_err-check_device-clause-accepts g c =
     excused_where (g.D.SharedDisk.state c.args.disk.now) _ _ c.from_residual.ensures.1
     (λ (im : Image) (shows : ShowsSystem (g.D.SharedDisk.state c.args.disk.now) im). c.in_err-check_device.ensures.refused im (c.blocks-2.ensures.value ∙ sym shows.count))
 
+pub returns-in_err-check_device-clause-standing : goal.returns-in_err-check_device-clause-standing
+returns-in_err-check_device-clause-standing g c =
+    standing_where (g.D.SharedDisk.state c.args.disk.now) _ _ c.from_residual.ensures.1
+    (λ (im : Image) (shows : ShowsSystem (g.D.SharedDisk.state c.args.disk.now) im). c.in_err-check_device.ensures.refused im (c.blocks-2.ensures.value ∙ sym shows.count))
+
 pub returns-in_err-table-clause-refused : goal.returns-in_err-table-clause-refused
 returns-in_err-table-clause-refused g c =
     refused_where (g.D.SharedDisk.state c.args.disk.now) _ _ c.from_residual-in_err-table.ensures.1
@@ -33,6 +38,11 @@ returns-in_err-table-clause-refused g c =
 pub returns-in_err-table-clause-accepts : goal.returns-in_err-table-clause-accepts
 returns-in_err-table-clause-accepts g c =
     excused_where (g.D.SharedDisk.state c.args.disk.now) _ _ c.from_residual-in_err-table.ensures.1
+    (λ (im : Image) (shows : ShowsSystem (g.D.SharedDisk.state c.args.disk.now) im). subst (RefusesRightly im) (sym c.in_err-table.ensures.memory) tt)
+
+pub returns-in_err-table-clause-standing : goal.returns-in_err-table-clause-standing
+returns-in_err-table-clause-standing g c =
+    standing_where (g.D.SharedDisk.state c.args.disk.now) _ _ c.from_residual-in_err-table.ensures.1
     (λ (im : Image) (shows : ShowsSystem (g.D.SharedDisk.state c.args.disk.now) im). subst (RefusesRightly im) (sym c.in_err-table.ensures.memory) tt)
 
 pub search_system-requires : goal.search_system-requires
@@ -46,6 +56,11 @@ returns-in_err-system-clause-refused g c =
 pub returns-in_err-system-clause-accepts : goal.returns-in_err-system-clause-accepts
 returns-in_err-system-clause-accepts g c =
     excused_where (g.D.SharedDisk.state c.args.disk.now) _ _ c.from_residual-in_err-system.ensures.1
+    (λ (im : Image) (shows : ShowsSystem (g.D.SharedDisk.state c.args.disk.now) im). c.in_err-system.ensures.refused im shows (searched_new im c.in_ok-table.table c.in_ok-table.ensures.empty c.in_ok-table.ensures.places c.in_ok-table.ensures.leaves))
+
+pub returns-in_err-system-clause-standing : goal.returns-in_err-system-clause-standing
+returns-in_err-system-clause-standing g c =
+    standing_where (g.D.SharedDisk.state c.args.disk.now) _ _ c.from_residual-in_err-system.ensures.1
     (λ (im : Image) (shows : ShowsSystem (g.D.SharedDisk.state c.args.disk.now) im). c.in_err-system.ensures.refused im shows (searched_new im c.in_ok-table.table c.in_ok-table.ensures.empty c.in_ok-table.ensures.places c.in_ok-table.ensures.leaves))
 
 pub returns-in_err-rings-clause-refused : goal.returns-in_err-rings-clause-refused
@@ -68,6 +83,16 @@ returns-in_err-rings-clause-accepts g c =
     let shows1 = shows_now _ _ im c.in_ok-system.ensures.reads.same shows in
     c.in_err-rings.ensures.refused im shows1 looked searched)
 
+pub returns-in_err-rings-clause-standing : goal.returns-in_err-rings-clause-standing
+returns-in_err-rings-clause-standing g c =
+    standing_where (g.D.SharedDisk.state c.args.disk.now) _ _ c.from_residual-in_err-rings.ensures.1
+    (λ (im : Image) (shows : ShowsSystem (g.D.SharedDisk.state c.args.disk.now) im).
+    let known = (searched_new im c.in_ok-table.table c.in_ok-table.ensures.empty c.in_ok-table.ensures.places c.in_ok-table.ensures.leaves) in
+    let looked = c.in_ok-system.ensures.found im shows known in
+    let searched = c.in_ok-system.ensures.searched im shows known in
+    let shows1 = shows_now _ _ im c.in_ok-system.ensures.reads.same shows in
+    c.in_err-rings.ensures.refused im shows1 looked searched)
+
 pub returns-in_err-journals-clause-refused : goal.returns-in_err-journals-clause-refused
 returns-in_err-journals-clause-refused g c =
     refused_where (g.D.SharedDisk.state c.args.disk.now) _ _ c.from_residual-in_err-journals.ensures.1
@@ -83,6 +108,18 @@ returns-in_err-journals-clause-refused g c =
 pub returns-in_err-journals-clause-accepts : goal.returns-in_err-journals-clause-accepts
 returns-in_err-journals-clause-accepts g c =
     excused_where (g.D.SharedDisk.state c.args.disk.now) _ _ c.from_residual-in_err-journals.ensures.1
+    (λ (im : Image) (shows : ShowsSystem (g.D.SharedDisk.state c.args.disk.now) im).
+    let known = (searched_new im c.in_ok-table.table c.in_ok-table.ensures.empty c.in_ok-table.ensures.places c.in_ok-table.ensures.leaves) in
+    let looked = c.in_ok-system.ensures.found im shows known in
+    let searched = c.in_ok-system.ensures.searched im shows known in
+    let shows1 = shows_now _ _ im c.in_ok-system.ensures.reads.same shows in
+    let rings = c.in_ok-rings.ensures.found im shows1 looked searched in
+    let shows2 = shows_now _ _ im (c.in_ok-rings.ensures.reads.same ∙ c.in_ok-system.ensures.reads.same) shows in
+    c.in_err-journals.ensures.refused (layout_of c.in_ok-system.system) im shows2 looked.names rings.dinodes rings.each)
+
+pub returns-in_err-journals-clause-standing : goal.returns-in_err-journals-clause-standing
+returns-in_err-journals-clause-standing g c =
+    standing_where (g.D.SharedDisk.state c.args.disk.now) _ _ c.from_residual-in_err-journals.ensures.1
     (λ (im : Image) (shows : ShowsSystem (g.D.SharedDisk.state c.args.disk.now) im).
     let known = (searched_new im c.in_ok-table.table c.in_ok-table.ensures.empty c.in_ok-table.ensures.places c.in_ok-table.ensures.leaves) in
     let looked = c.in_ok-system.ensures.found im shows known in
