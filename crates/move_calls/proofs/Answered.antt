@@ -123,8 +123,8 @@ module _ (v : Seen) (c : Call) (node time : ℕ) where
   -- the lock that is told isn't held so strongly
 
   pair_lacks : (p q : Path) (first second : List Want) (lock : LockName) (state : State) → IsPairLacked v p q first second lock state → holds v (record { lock = lock; state = state }) ≡ false
-  pair_lacks p q first second _ _ (IsPairLacked.on_first lock state is) = ap (holds v) is.is ∙ is.lacks
-  pair_lacks p q first second _ _ (IsPairLacked.on_second lock state is) = ap (holds v) is.is ∙ is.lacks
+  pair_lacks p q first second _ _ (IsPairLacked.on_first lock state is alone) = ap (holds v) is.is ∙ is.lacks
+  pair_lacks p q first second _ _ (IsPairLacked.on_second lock state is alone) = ap (holds v) is.is ∙ is.lacks
   pair_lacks p q first second _ _ (IsPairLacked.on_both i j a w x on_first on_second wanted wanted' lacks) = lacks
 
   path_lacks : (lock : LockName) (state : State) → IsLackedOnPaths v c lock state → holds v (record { lock = lock; state = state }) ≡ false
