@@ -47,7 +47,7 @@ fn plan_journal<D: SharedDisk>(
     ensures why { IfErr result (λ fault. IsTrue (D.state disk.old).tells → length journal.now.blocks < 2 ^ 32 → All (λ b. b < (D.state disk.old).count) journal.now.blocks
         → IsStopped (ring_read (D.state disk.old) node journal.now.blocks) journal.now.dinode journal.now.blocks marks.old fault) }
     ensures reads { ReadsOnly (D.state disk.old) (D.state disk.new) (D.list disk.old) (D.list disk.new) (D.faults disk.old) (D.faults disk.new) }
-    ensures cause { IfErr result (HasCause (D.faults disk.old node) (D.faults disk.new node)) }
+    ensures cause { IfErr result (HasCause (D.state disk.old).count (D.faults disk.old node) (D.faults disk.new node)) }
 {
     if journal.head.clean {
         return Ok(Plan {
@@ -87,7 +87,7 @@ pub fn plan_replay<D: SharedDisk>(
     ensures stopped { IfErr result (λ fault. IsTrue (D.state disk.old).tells → (is : IsMounted (image_of (D.state disk.old)) mounted.now)
         → IfDamaged fault (λ block rule. Stops (image_of (D.state disk.old)) is.layout rule block × (block < (D.state disk.old).count))) }
     ensures reads { ReadsOnly (D.state disk.old) (D.state disk.new) (D.list disk.old) (D.list disk.new) (D.faults disk.old) (D.faults disk.new) }
-    ensures cause { IfErr result (HasCause (D.faults disk.old node) (D.faults disk.new node)) }
+    ensures cause { IfErr result (HasCause (D.state disk.old).count (D.faults disk.old node) (D.faults disk.new node)) }
 {
     let count = disk.blocks();
     if count >= 1u64 << 63 {

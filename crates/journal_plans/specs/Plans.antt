@@ -1,7 +1,7 @@
 -- What a replay does with a journal on a disk.
 use Rattle.std.specs.Prelude.{ℕ, ◌≡◌, ⊤, List, Option, None, Some, Err}
 use Rattle.std.specs.Option.{option_map}
-use Rattle.fault_counts.specs.Causes.{WentUp}
+use Rattle.journal_reads.specs.Reading.{HasFailedAt}
 use Rattle.journal_reads.specs.declared.faults.ReadFault.{ReadFault}
 use Rattle.journal_reads.specs.declared.faults.ReadFault.TheVariants as reading
 use Rattle.journal_scan.specs.declared.fault.ScanFault.{ScanFault}
@@ -33,10 +33,10 @@ IsWhyNot ring (BadChunk place) = (head : LogHeader) × (head_in ring ≡ Some he
 IsWhyNot ring (DiskFailed block rise) = ⊤
 IsWhyNot ring NoMemory = ⊤
 
--- a failing disk is told only where the node's count rose so
-abbrev pub HasCause : (before now : ℕ) → PlanFault → Type 0
-HasCause before now (DiskFailed block rise) = WentUp before now rise.before rise.after
-HasCause before now _ = ⊤
+-- a failing disk is told only with a block of it, where the node's count rose so
+abbrev pub HasCause : (count before now : ℕ) → PlanFault → Type 0
+HasCause count before now (DiskFailed block rise) = HasFailedAt count before now block rise
+HasCause count before now _ = ⊤
 
 -- a fact for the place of a bad chunk
 abbrev pub IfBadChunk : (ℕ → Type 0) → PlanFault → Type 0

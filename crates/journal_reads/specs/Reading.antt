@@ -1,6 +1,7 @@
 -- A journal on a disk, read into memory.
 use Rattle.std.specs.Prelude.{ℕ, ◌≡◌, ◌*◌, ◌<◌, IsTrue, List, length, get_or, ⊤}
 use Rattle.fault_counts.specs.Causes.{WentUp}
+use Rattle.fault_counts.specs.declared.Rise.{Rise}
 use Rattle.log_layout.specs.Journal.{Ring}
 use Rattle.shared_disk.specs.Blocks.{block_in}
 use Rattle.shared_disk.specs.Disk.{DiskState, read_gives}
@@ -16,7 +17,11 @@ pub record AreFirstPlaces (s : DiskState) (node : ℕ) (blocks : List ℕ) (coun
   pub long : length bytes ≡ count * s.size
   pub each : IsTrue s.tells → (p : ℕ) → p < count → block_in s.size bytes p ≡ (ring_read s node blocks).at p
 
--- a failing disk is told only where the node's count rose so
-abbrev pub HasCause : (before now : ℕ) → ReadFault → Type 0
-HasCause before now (DiskFailed block rise) = WentUp before now rise.before rise.after
-HasCause before now NoMemory = ⊤
+-- the disk, of so many blocks, failed at one of them, and while the node's count went from `before` to `now` it rose so
+abbrev pub HasFailedAt : (count before now block : ℕ) → Rise → Type 0
+HasFailedAt count before now block rise = WentUp before now rise.before rise.after × (block < count)
+
+-- a failing disk is told only with a block of it, where the node's count rose so
+abbrev pub HasCause : (count before now : ℕ) → ReadFault → Type 0
+HasCause count before now (DiskFailed block rise) = HasFailedAt count before now block rise
+HasCause count before now NoMemory = ⊤

@@ -1,6 +1,6 @@
 -- Why a journal on a disk isn't replayed.
 use Rattle.std.specs.Prelude.{ℕ, ◌≡◌, ◌<◌, ⊤, List, length, None, Some, Err, get_or}
-use Rattle.fault_counts.specs.Causes.{WentUp}
+use Rattle.journal_reads.specs.Reading.{HasFailedAt}
 use Rattle.journal_plans.specs.declared.faults.PlanFault.{PlanFault}
 use Rattle.journal_plans.specs.declared.faults.PlanFault.TheVariants as plan
 use Rattle.journal_scan.specs.Numbers.{IsNumberAt}
@@ -40,10 +40,10 @@ IsStopped ring dinode blocks marks NoMemory = ⊤
 abbrev pub IsHindered : Ring → ℕ → List ℕ → ℕ → LookFault → Type 0
 IsHindered ring dinode blocks number fault = (marks : List Mark) → mark_of marks number ≡ Barred → IsStopped ring dinode blocks marks fault
 
--- a failing disk is told only where the node's count rose so
-abbrev pub HasCause : (before now : ℕ) → LookFault → Type 0
-HasCause before now (DiskFailed block rise) = WentUp before now rise.before rise.after
-HasCause before now _ = ⊤
+-- a failing disk is told only with a block of it, where the node's count rose so
+abbrev pub HasCause : (count before now : ℕ) → LookFault → Type 0
+HasCause count before now (DiskFailed block rise) = HasFailedAt count before now block rise
+HasCause count before now _ = ⊤
 
 -- the fault of a journal without a plan
 abbrev pub told_of : ℕ → List ℕ → PlanFault → LookFault
