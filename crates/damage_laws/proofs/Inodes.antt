@@ -35,9 +35,10 @@ use Rattle.path_walks.specs.Walks.{IsDirectoryAt, LeadsTo, at_root, by_name}
 use Rattle.file_calls.specs.Making as making
 use Rattle.path_walks.specs.Walks as path
 use Rattle.file_calls.specs.Removing as removing
+use Rattle.file_calls.specs.Removing.{Goes}
 use Rattle.file_calls.specs.Writing as writing
 use Rattle.damage_laws.specs.Telling.{IsAstray, IsReadFrom, HasRootInside, HasWholeGroups, HasAstray, IsTold, itself, astray, IsToldOf, IsToldOn, its_own, on_path, by_root, WritesTell, WritesTellExactly, RemovalsTell, RemovalsTellExactly, MakingsTell, MakingsTellExactly, CallsTell, CallsTellExactly}
-use Rattle.damage_laws.proofs.Claimed.{chain_claims, shown, root_claimed, directory_or, is_directory, led_there, outside, astray_at, further}
+use Rattle.damage_laws.proofs.Claimed.{chain_claims, shown, root_claimed, directory_or, inode_or, is_directory, led_there, outside, astray_at, further}
 use Rattle.damage_laws.proofs.Owned.{dinode_state}
 use Rattle.damage_laws.proofs.Paths.{broken_directory_told, broken_inode, paths_tell, wrong_at}
 
@@ -133,6 +134,15 @@ module _ (v : Seen) (im : Image) (read : IsReadFrom v im) where
         let claim = chain_claims im a has hashed (index_for (every im a) name) place x chain in
         owned_free_told x claim.0 (Chained a (first_hash (every im a) (index_for (every im a) name)) place) claim.1 (λ none. absurd (let one : 1 ≡ 0 = none in omega (arith, one))) free
 
+    -- one of an inode's
+    goes_free_told : (a : ℕ) → HasInode im a → (x : ℕ) → Goes (every im a) x → IsSaidToBeFree v im x → Breaks im 5 x
+    goes_free_told a has x (inl is) free = subst (Breaks im 5) (sym is) (dinode_free_told a has (subst (IsSaidToBeFree v im) is free))
+    goes_free_told a has x (inr (inl led)) free =
+        owned_free_told x led.0 (Below a led.0 led.1 led.2 led.3) (below has.1.by a has.0 led.0 led.1 led.2 led.3 x has.1.claimed has.1.dinode led.4) (λ none. absurd (let one : 1 ≡ 0 = none in omega (arith, one))) free
+    goes_free_told a has x (inr (inr leaf)) free =
+        let claim = chain_claims im a has leaf.0 leaf.1.0 leaf.1.1 x leaf.1.2 in
+        owned_free_told x claim.0 (Chained a (first_hash (every im a) leaf.1.0) leaf.1.1) claim.1 (λ none. absurd (let one : 1 ≡ 0 = none in omega (arith, one))) free
+
     -- ---- an inode to which a path leads
 
     module _ (wants : List Want) (way : Path) (a : ℕ) (leads : LeadsTo v wants way a) where
@@ -159,6 +169,13 @@ module _ (v : Seen) (im : Image) (read : IsReadFrom v im) where
       -- a dinode that the bits call free
       pub free_told : IsSaidToBeFree v im a → IsTold v im wants way 5 a
       free_told free = there_told 5 a (λ has. itself 5 a (dinode_free_told a has free))
+
+      -- or a block of the inode
+      pub free_below_told : (x : ℕ) → ((h : Holding) → dirs.IsShown v a h → Goes h x) → IsSaidToBeFree v im x → IsTold v im wants way 5 x
+      free_below_told x goes free = there_told 5 x (λ has. elim (inode_or v im read whole.image a has) [
+        | inr out ↦ astray 5 x (up out)
+        | inl seen ↦ itself 5 x (goes_free_told a has x (goes (every im a) seen) free)
+      ])
 
       pub free_on_way_told : IsDirectoryAt v a → (name : List ℕ) (x : ℕ) → ((h : Holding) → dirs.IsShown v a h → IsOnWay h name x) → IsSaidToBeFree v im x → IsTold v im wants way 5 x
       free_on_way_told directory name x on free = seen_told 5 x directory (λ has seen. itself 5 x (way_free_told a has.inode name x (on (every im a) seen) free))

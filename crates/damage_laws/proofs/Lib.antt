@@ -7,7 +7,6 @@ pub mod Gone
 pub mod Paths
 pub mod Inodes
 pub mod Calls
-pub mod Goings
 pub mod Moves
 pub mod AllCalls
 pub mod Standing

@@ -21,7 +21,7 @@ use Rattle.resource_groups.specs.Freeing as freeing
 use Rattle.file_calls.specs.Moving as moving
 use Rattle.file_calls.specs.Moving.{IsMeant, IsToMove}
 use Rattle.file_calls.specs.MoveCarrying as carrying
-use Rattle.file_calls.specs.MoveChecks.{IsNeededToSee}
+use Rattle.file_calls.specs.MoveChecks as checks
 use Rattle.file_calls.specs.MoveEnds as ends
 use Rattle.file_calls.specs.NameBecoming.{IsAfter}
 use Rattle.file_calls.specs.NameInserting as names_in
@@ -31,7 +31,7 @@ use Rattle.file_calls.specs.PairWalks as pairs
 use Rattle.file_calls.specs.Removing as removing
 use Rattle.damage_laws.specs.Telling.{HasAstray, HasAstrayOn, HasWholeGroups, IsBrokenSource, IsReadFrom, of_move, source_of}
 use Rattle.damage_laws.proofs.Claimed.{further}
-use Rattle.damage_laws.proofs.Goings.{after_none, some_lost}
+use Rattle.file_calls.proofs.MoveGoings.{after_none, some_lost}
 use Rattle.damage_laws.proofs.Moves.{from_leads, moved_directory, moved_leads, to_directory, to_leads}
 use Rattle.damage_laws.proofs.Needed.{all_way, directory_out, insert_way, name_way, needed_out, unread_out}
 use Rattle.damage_laws.proofs.Owned.{from_parent}
@@ -83,10 +83,26 @@ module _ (v : Seen) (im : Image) (p q : Path) (read : IsReadFrom v im) (whole : 
         on_parent true n (directory_out v im read whole (at_old_name true q) (parent_of q) m.to.inode n (to_leads v im p q read whole m meant) (to_directory v im p q read whole m meant) absent
         (λ h seen. insert_way v im read whole h m.new_name n out (needs h seen)) out)
 
-    seen_out : (n : Missing) → IsNeededToSee v m n → im.count ≤ n.block → Source n
-    seen_out n needs out =
-        on false n (directory_out v im read whole (at_old_name false p) p m.moved.inode n (moved_leads v im p q read whole m meant) (moved_directory v im p q read whole m meant needs.reparented) needs.absent
-        (λ h seen. name_way v im read whole h (codes "..") n out (needs.needed h seen)) out)
+    -- on a way of the move
+    ways_out : (n : Missing) → checks.IsNeededOnWays v m n → im.count ≤ n.block → Source n
+    ways_out n on_it out = by on_it.directory on_it.name on_it.way on_it.needed
+      where
+        by : (dir : ℕ) (name : List ℕ) → checks.IsWayOf v m dir name → ((h : Holding) → dirs.IsShown v dir h → names_in.IsNeededForName v h name n) → Source n
+        by _ name (checks.IsWayOf.to_old is) needs =
+            on_parent false n (directory_out v im read whole (at_old_name false p) (parent_of p) m.from n (from_leads v im p q read whole m meant) is on_it.absent
+            (λ h seen. insert_way v im read whole h name n out (needs h seen)) out)
+        by _ name (checks.IsWayOf.to_new is) needs =
+            on_parent true n (directory_out v im read whole (at_old_name true q) (parent_of q) m.to.inode n (to_leads v im p q read whole m meant) is on_it.absent
+            (λ h seen. insert_way v im read whole h name n out (needs h seen)) out)
+        by _ name (checks.IsWayOf.to_parent moves is) needs =
+            on false n (directory_out v im read whole (at_old_name false p) p m.moved.inode n (moved_leads v im p q read whole m meant) is on_it.absent
+            (λ h seen. insert_way v im read whole h name n out (needs h seen)) out)
+
+    seen_out : (n : Missing) → checks.IsNeededToSee v m n → im.count ≤ n.block → Source n
+    seen_out n (checks.IsNeededToSee.for_parent moves needs absent) out =
+        on false n (directory_out v im read whole (at_old_name false p) p m.moved.inode n (moved_leads v im p q read whole m meant) (moved_directory v im p q read whole m meant moves) absent
+        (λ h seen. name_way v im read whole h (codes "..") n out (needs h seen)) out)
+    seen_out n (checks.IsNeededToSee.on_way on_it) out = ways_out n on_it out
 
     drafted_out : IsDirectoryAt v m.from → (blocks : List ℕ) → lost_there m ≡ [] → (n : Missing) → drafted.IsNeededIn v m blocks n → im.count ≤ n.block → Source n
     drafted_out dir blocks none n (drafted.IsNeededIn.to_go a names name asked one after) out = by a names name one after
@@ -108,10 +124,9 @@ module _ (v : Seen) (im : Image) (p q : Path) (read : IsReadFrom v im) (whole : 
 
     carried_out : IsDirectoryAt v m.from → (node : ℕ) (n : Missing) → carrying.NeedsBlock v node m n → im.count ≤ n.block → Source n
     carried_out dir node n (carrying.NeedsBlock.to_look absent needs) out = to_out n absent needs out
-    carried_out dir node n (carrying.NeedsBlock.to_count none needs) out = drafted_out dir [] none n needs out
     carried_out dir node n (carrying.NeedsBlock.of_freed need counted needs) out = group_out (freed_by m) n needs out
     carried_out dir node n (carrying.NeedsBlock.of_room need counted needed under) out = absurd (omega (arith, out, whole.headers needed.group n.block needed.has needed.missing.own))
-    carried_out dir node n (carrying.NeedsBlock.on_way need room has absent needs) out = to_out n absent needs out
+    carried_out dir node n (carrying.NeedsBlock.on_way need room has on_it) out = ways_out n on_it out
     carried_out dir node n (carrying.NeedsBlock.to_draft need room has none needs) out = drafted_out dir (room ++ freed_by m) none n needs out
     carried_out dir node n (carrying.NeedsBlock.to_say need room has needs) out = group_out (room ++ freed_by m) n needs out
     carried_out dir node n (carrying.NeedsBlock.once_gone some needs inside) out = absurd (omega (arith, out, whole.data_blocks n.block inside))

@@ -1,5 +1,5 @@
 -- A block with two owners: the directory above an inode that is to go, where it is one of the blocks that go with it.
-use Rattle.std.proofs.Common.{◌≡◌, ◌≢◌, ◌⊎◌, inl, inr, ℕ, true, true≢false, List, [], ◌∷◌, ◌++◌, Option, Some, refl, sym, ap, ◌∙◌, subst}
+use Rattle.std.proofs.Common.{◌≡◌, ◌≢◌, ◌⊎◌, inl, inr, ℕ, true, false, true≢false, List, [], ◌∷◌, ◌++◌, Option, Some, refl, sym, ap, ◌∙◌, subst}
 use Rattle.std.proofs.lemmas.Bool.{cases_eq}
 use Rattle.call_locks.specs.declared.want.Want.{Want}
 use Rattle.directories.proofs.Sound.{says_once}
@@ -13,12 +13,13 @@ use Rattle.image_model.specs.Claims.{every, Claims, below, HasInode}
 use Rattle.image_model.specs.Flat.{Path}
 use Rattle.image_model.specs.Groups.{state_of}
 use Rattle.image_model.specs.Image.{Image, IsImage}
-use Rattle.image_model.specs.Owners.{Owner, Super, InGroup, Free, Nobody, Root, Master, Named, Below, Chained, is_dinode}
+use Rattle.image_model.specs.Owners.{Owner, Super, InGroup, Free, Nobody, Root, Master, Named, Below, Chained, IsWithin, is_dinode}
 use Rattle.image_model.specs.Rules.{Breaks, two_owners}
 use Rattle.image_model.proofs.Held.{none_some, some_same}
 use Rattle.path_walks.specs.Walks.{LeadsTo, Names, at_root, by_name}
 use Rattle.path_walks.proofs.Leads.{no_end}
 use Rattle.path_walks.proofs.Lists.{parent_of_next}
+use Rattle.file_calls.specs.NameWay.{IsOnWay, its_dinode, its_leaf, its_pointer}
 use Rattle.file_calls.specs.Removing.{Goes}
 use Rattle.directories.specs.Taking.{HasRecordOf}
 use Rattle.directories.specs.Taking as taking
@@ -41,6 +42,26 @@ dinode_state Master e = refl
 dinode_state (Named parent name) e = refl
 dinode_state (Below d b k level first) e = cc
 dinode_state (Chained d hash place) e = cc
+
+within_no_dinode : (dir : ℕ) (o : Owner) → IsWithin dir o → is_dinode o ≡ false
+within_no_dinode dir (Below d b k level first) within = refl
+within_no_dinode dir (Chained d hash place) within = refl
+within_no_dinode dir Super within = absurd within
+within_no_dinode dir (InGroup g) within = absurd within
+within_no_dinode dir (Free g) within = absurd within
+within_no_dinode dir Nobody within = absurd within
+within_no_dinode dir Root within = absurd within
+within_no_dinode dir Master within = absurd within
+within_no_dinode dir (Named parent name) within = absurd within
+
+named_below : (dir a b k level first : ℕ) (name : List ℕ) → Named dir name ≡ Below a b k level first → ⊥
+named_below dir a b k level first name e = cc
+
+named_chained : (dir a hash place : ℕ) (name : List ℕ) → Named dir name ≡ Chained a hash place → ⊥
+named_chained dir a hash place name e = cc
+
+one_name : (dir other : ℕ) (name last : List ℕ) → Named dir name ≡ Named other last → name ≡ last
+one_name dir other name last e = cc
 
 root_other : (dir : ℕ) (name : List ℕ) → Root ≡ Named dir name → ⊥
 root_other dir name e = cc
@@ -159,28 +180,21 @@ module _ (v : Seen) (im : Image) (read : IsReadFrom v im) (is_image : IsImage im
     ]
   ]
 
+  -- a block of one inode, beside its dinode, is one of another's
+  within_told : (a dir x by : ℕ) (first : Owner) → a ≢ dir → HasInode im a → IsWithin dir first → Claims im by x first → Goes (every im a) x → Breaks im 3 x
+  within_told a dir x by first apart has within claimed (inl own) =
+      two_owners x by has.1.by first has.0 claimed (subst (λ b. Claims im has.1.by b has.0) (sym own) has.1.claimed) (λ e. true≢false (sym has.1.dinode ∙ ap is_dinode (sym e) ∙ within_no_dinode dir first within))
+  within_told a dir x by first apart has within claimed (inr (inl led)) =
+      two_owners x by led.0 first (Below a led.0 led.1 led.2 led.3) claimed (below has.1.by a has.0 led.0 led.1 led.2 led.3 x has.1.claimed has.1.dinode led.4) (λ e. apart (subst (IsWithin dir) e within))
+  within_told a dir x by first apart has within claimed (inr (inr leaf)) =
+      let c = chain_claims im a has leaf.0 leaf.1.0 leaf.1.1 x leaf.1.2 in
+      two_owners x by c.0 first (Chained a (first_hash (every im a) leaf.1.0) leaf.1.1) claimed c.1 (λ e. apart (subst (IsWithin dir) e within))
+
   -- a leaf of the directory above is one of the inode's blocks, which is another one
   leaf_told : (a dir i place x : ℕ) → a ≢ dir → HasInode im a → HasInode im dir → is_hashed_in (every im dir) ≡ true → IsInChain (every im dir) i place x → Goes (every im a) x → Breaks im 3 x
-  leaf_told a dir i place x apart has top hashed chain goes = by goes
-    where
-      first : (by : ℕ) × Claims im by x (Chained dir (first_hash (every im dir) i) place)
-      first = chain_claims im dir top hashed i place x chain
-
-      other_kind : (hash n b k level begin : ℕ) → Chained dir hash n ≡ Below a b k level begin → ⊥
-      other_kind hash n b k level begin e = cc
-
-      other_directory : (hash n hash' n' : ℕ) → Chained dir hash n ≡ Chained a hash' n' → dir ≡ a
-      other_directory hash n hash' n' e = cc
-
-      by : Goes (every im a) x → Breaks im 3 x
-      by (inl own) = two_owners x first.0 has.1.by (Chained dir (first_hash (every im dir) i) place) has.0 first.1 (subst (λ b. Claims im has.1.by b has.0) (sym own) has.1.claimed)
-          (λ e. true≢false (sym has.1.dinode ∙ ap is_dinode (sym e)))
-      by (inr (inl led)) = two_owners x first.0 led.0 (Chained dir (first_hash (every im dir) i) place) (Below a led.0 led.1 led.2 led.3) first.1
-          (below has.1.by a has.0 led.0 led.1 led.2 led.3 x has.1.claimed has.1.dinode led.4) (other_kind (first_hash (every im dir) i) place led.0 led.1 led.2 led.3)
-      by (inr (inr leaf)) =
-          let c = chain_claims im a has leaf.0 leaf.1.0 leaf.1.1 x leaf.1.2 in
-          two_owners x first.0 c.0 (Chained dir (first_hash (every im dir) i) place) (Chained a (first_hash (every im a) leaf.1.0) leaf.1.1) first.1 c.1
-          (λ e. apart (sym (other_directory (first_hash (every im dir) i) place (first_hash (every im a) leaf.1.0) leaf.1.1 e)))
+  leaf_told a dir i place x apart has top hashed chain goes =
+      let first = chain_claims im dir top hashed i place x chain in
+      within_told a dir x first.0 (Chained dir (first_hash (every im dir) i) place) apart has refl first.1 goes
 
   -- the block that has a name's record in the directory above is one of the inode's blocks
   pub record_told : (path : Path) (a dir b : ℕ) (name : List ℕ) → a ≢ dir → path ≢ [] → LeadsTo v wants path a → LeadsTo v wants (parent_of path) dir
@@ -201,3 +215,90 @@ module _ (v : Seen) (im : Image) (read : IsReadFrom v im) (is_image : IsImage im
       by : (b : ℕ) → HasRecordOf (every im dir) name b → Goes (every im a) b → HasInode im a → HasInode im dir → Breaks im 3 b ⊎ IsAhead path
       by _ (taking.HasRecordOf.in_linear plain) goes has top = goes_told path a dir some leads above has top goes
       by b (taking.HasRecordOf.in_hashed x hashed leaf) goes has top = inl (in_leaf x (Some x) leaf refl hashed goes has top)
+
+  -- ---- the name by which a path leads to its inode
+
+  pub record IsNamedBy (path : Path) (b : ℕ) : Type 0 where
+    pub directory : ℕ
+    pub name : List ℕ
+    pub last : path ≡ parent_of path ++ name ∷ []
+    pub by : ℕ
+    pub claims : Claims im by b (Named directory name)
+    pub above : LeadsTo v wants (parent_of path) directory
+
+  pub named_by : (path : Path) (b : ℕ) → path ≢ [] → LeadsTo v wants path b → IsNamedBy path b ⊎ IsAhead path
+  named_by path b some (at_root held) = absurd (some refl)
+  named_by path b some (by_name front dir _ last leads is names inside held) =
+      let up = sym (parent_of_next front last) in
+      elim (named_there v im read is_image wants front dir b last leads is names) [
+        | inr astray ↦ inr (further v im read is_image wants front (last ∷ []) (front ++ last ∷ []) refl astray)
+        | inl named ↦ inl (record {
+          directory = dir;
+          name = last;
+          last = ap (λ p. p ++ last ∷ []) up;
+          by = named.by;
+          claims = named.claims;
+          above = subst (λ p. LeadsTo v wants p dir) up leads;
+        })
+      ]
+
+  -- the directory above is the one to which the path leads
+  pub one_above : (path : Path) (dir other : ℕ) → LeadsTo v wants (parent_of path) dir → LeadsTo v wants (parent_of path) other → (dir ≡ other) ⊎ IsAhead path
+  one_above path dir other leads leads' = elim (led_once (parent_of path) (parent_of path) dir other leads leads' refl) [ inl same ↦ inl same | inr astray ↦ inr (from_above path astray) ]
+
+-- ---- two paths
+
+module _ (v : Seen) (im : Image) (read : IsReadFrom v im) (is_image : IsImage im) (first second : List Want) where
+  abbrev EitherAhead : Path → Path → Type 0
+  EitherAhead p q = HasAstray v im first p ⊎ HasAstray v im second q
+
+  -- an inode at the end of one path is one of the blocks of that at the end of another; but where both have one name in one directory
+  pub inode_shared_told : (p q : Path) (a b from to : ℕ) → p ≢ [] → q ≢ [] → LeadsTo v first p b → LeadsTo v first (parent_of p) from → LeadsTo v second q a → LeadsTo v second (parent_of q) to
+      → ((h : Holding) → dirs.IsShown v a h → Goes h b) → (from ≡ to → (name : List ℕ) → p ≡ parent_of p ++ name ∷ [] → q ≡ parent_of q ++ name ∷ [] → ⊥) → Breaks im 3 b ⊎ EitherAhead p q
+  inode_shared_told p q a b from to some some' leads above leads' above' goes two = elim (shown_at v im read is_image second q a leads') [
+    | inr astray ↦ inr (inr astray)
+    | inl here ↦ elim (named_by v im read is_image first p b some leads) [
+      | inr astray ↦ inr (inl astray)
+      | inl named ↦ by here.0 named (goes (every im a) here.1)
+    ]
+  ]
+    where
+      by : HasInode im a → IsNamedBy v im read is_image first p b → Goes (every im a) b → Breaks im 3 b ⊎ EitherAhead p q
+      by has named (inr (inl led)) =
+          inl (two_owners b named.by led.0 (Named named.directory named.name) (Below a led.0 led.1 led.2 led.3) named.claims
+          (below has.1.by a has.0 led.0 led.1 led.2 led.3 b has.1.claimed has.1.dinode led.4) (named_below named.directory a led.0 led.1 led.2 led.3 named.name))
+      by has named (inr (inr leaf)) =
+          let c = chain_claims im a has leaf.0 leaf.1.0 leaf.1.1 b leaf.1.2 in
+          inl (two_owners b named.by c.0 (Named named.directory named.name) (Chained a (first_hash (every im a) leaf.1.0) leaf.1.1) named.claims c.1
+          (named_chained named.directory a (first_hash (every im a) leaf.1.0) leaf.1.1 named.name))
+      by has named (inl own) = elim (named_by v im read is_image second q a some' leads') [
+        | inr astray ↦ inr (inr astray)
+        | inl other ↦ elim (one_above v im read is_image first p named.directory from named.above above) [
+          | inr astray ↦ inr (inl astray)
+          | inl up ↦ elim (one_above v im read is_image second q other.directory to other.above above') [
+            | inr astray ↦ inr (inr astray)
+            | inl up' ↦
+                inl (two_owners b named.by other.by (Named named.directory named.name) (Named other.directory other.name) named.claims
+                (subst (λ x. Claims im other.by x (Named other.directory other.name)) (sym own) other.claims)
+                (λ e. two (sym up ∙ same_directory named.directory other.directory named.name other.name e ∙ up') named.name named.last
+                (subst (λ n. q ≡ parent_of q ++ n ∷ []) (sym (one_name named.directory other.directory named.name other.name e)) other.last)))
+          ]
+        ]
+      ]
+
+  -- a block on the way to a name of the inode at the end of one path is one of the blocks of that at the end of another
+  pub way_shared_told : (p q : Path) (a dir b : ℕ) (name : List ℕ) → LeadsTo v first p dir → LeadsTo v second q a → (P : ℕ → Type 0) → ((h : Holding) → dirs.IsShown v a h → P a) → P b → ¬ (P dir)
+      → ((h : Holding) → dirs.IsShown v a h → Goes h b) → ((h : Holding) → dirs.IsShown v dir h → IsOnWay h name b) → Breaks im 3 b ⊎ EitherAhead p q
+  way_shared_told p q a dir b name leads leads' P itself there stays goes on = elim (shown_at v im read is_image second q a leads') [
+    | inr astray ↦ inr (inr astray)
+    | inl here ↦ elim (shown_at v im read is_image first p dir leads) [
+      | inr astray ↦ inr (inl astray)
+      | inl top ↦ inl (by (λ same. stays (subst P same (itself (every im a) here.1))) here.0 top.0 (goes (every im a) here.1) (on (every im dir) top.1))
+    ]
+  ]
+    where
+      by : a ≢ dir → HasInode im a → HasInode im dir → Goes (every im a) b → IsOnWay (every im dir) name b → Breaks im 3 b
+      by apart has top goes (its_dinode is) = absurd (stays (subst P is there))
+      by apart has top goes (its_pointer hashed led is) =
+          within_told v im read is_image first a dir b led.0 (Below dir led.0 led.1 led.2 led.3) apart has refl (below top.1.by dir top.0 led.0 led.1 led.2 led.3 b top.1.claimed top.1.dinode led.4) goes
+      by apart has top goes (its_leaf place hashed chain) = leaf_told v im read is_image first a dir (index_for (every im dir) name) place b apart has top hashed chain goes

@@ -17,7 +17,7 @@ use Rattle.image_changes.specs.Changes.{cover}
 use Rattle.image_changes.specs.Does.{Does, IsFormed, IsInside, frees, is_empty, is_nothing, AreInside}
 use Rattle.drafts.specs.declared.change.Change.{Change}
 use Rattle.writing_calls.specs.Writing as writing
-use Rattle.file_calls.specs.Calls.{IsCallList, IsTooFew}
+use Rattle.file_calls.specs.Calls.{IsCallList, IsSoOfList, IsTooFew}
 use Rattle.move_calls.specs.Locks as move_locks
 use Rattle.move_calls.specs.MoveEnds.{IsRenaming}
 use Rattle.read_calls.specs.Reading.{IsReading, IsNeededFor, on_path, at_end}
@@ -120,6 +120,36 @@ IsJust P holds = P holds × ((list : List Hold) → P list → list ≡ holds)
 module _ (im : Image) (o : Owners) (l : Layout) (t : Tree) (node : ℕ) where
   abbrev IsTheList : Call → List Hold → Type 0
   IsTheList c holds = IsJust (IsCallList im o l t c node) holds
+
+  -- what is so of the list of a call that moves no name
+  pub so_of_list : (c : Call) → (IsRenaming c → ⊥) → (P : List Hold → Type 0) (list : List Hold) → IsCallList im o l t c node list → P list → IsSoOfList im o l t c node P
+  so_of_list (call.Create p) other P list is so = (list, is, so)
+  so_of_list (call.Mkdir p) other P list is so = (list, is, so)
+  so_of_list (call.Unlink p) other P list is so = (list, is, so)
+  so_of_list (call.Rmdir p) other P list is so = (list, is, so)
+  so_of_list (call.Read p at count) other P list is so = (list, is, so)
+  so_of_list (call.Dread p at count) other P list is so = (list, is, so)
+  so_of_list (call.Write p at new) other P list is so = (list, is, so)
+  so_of_list (call.Truncate p size) other P list is so = (list, is, so)
+  so_of_list (call.Stat p) other P list is so = (list, is, so)
+  so_of_list (call.List p) other P list is so = (list, is, so)
+  so_of_list (call.Rename p q) other P list is so = absurd (other tt)
+  so_of_list call.Sync other P list is so = (list, is, so)
+
+  -- and of one that does
+  pub moving_so : (c : Call) → IsRenaming c → (P : List Hold → Type 0) → move_locks.IsSoOfList im o l t c node P → IsSoOfList im o l t c node P
+  moving_so (call.Create p) is P so = absurd is
+  moving_so (call.Mkdir p) is P so = absurd is
+  moving_so (call.Unlink p) is P so = absurd is
+  moving_so (call.Rmdir p) is P so = absurd is
+  moving_so (call.Read p at count) is P so = absurd is
+  moving_so (call.Dread p at count) is P so = absurd is
+  moving_so (call.Write p at new) is P so = absurd is
+  moving_so (call.Truncate p size) is P so = absurd is
+  moving_so (call.Stat p) is P so = absurd is
+  moving_so (call.List p) is P so = absurd is
+  moving_so (call.Rename p q) is P so = so
+  moving_so call.Sync is P so = absurd is
 
   pub reading_list : (c : Call) → IsReading c → IsTheList c (holds_in im o l (path_of c false) (wanted c))
   reading_list (call.Create p) is = absurd is
@@ -292,3 +322,61 @@ moving_few v im o l t (call.Stat p) is need free few = absurd is
 moving_few v im o l t (call.List p) is need free few = absurd is
 moving_few v im o l t (call.Rename p q) is need free few = few
 moving_few v im o l t call.Sync is need free few = absurd is
+
+-- ---- where a call's kind is known it moves no name
+
+pub reads_move_none : (c : Call) → IsReading c → IsRenaming c → ⊥
+reads_move_none (call.Create p) is moves = moves
+reads_move_none (call.Mkdir p) is moves = moves
+reads_move_none (call.Unlink p) is moves = moves
+reads_move_none (call.Rmdir p) is moves = moves
+reads_move_none (call.Read p at count) is moves = moves
+reads_move_none (call.Dread p at count) is moves = moves
+reads_move_none (call.Write p at new) is moves = moves
+reads_move_none (call.Truncate p size) is moves = moves
+reads_move_none (call.Stat p) is moves = moves
+reads_move_none (call.List p) is moves = moves
+reads_move_none (call.Rename p q) is moves = is
+reads_move_none call.Sync is moves = moves
+
+pub makings_move_none : (c : Call) → making.IsMaking c → IsRenaming c → ⊥
+makings_move_none (call.Create p) is moves = moves
+makings_move_none (call.Mkdir p) is moves = moves
+makings_move_none (call.Unlink p) is moves = moves
+makings_move_none (call.Rmdir p) is moves = moves
+makings_move_none (call.Read p at count) is moves = moves
+makings_move_none (call.Dread p at count) is moves = moves
+makings_move_none (call.Write p at new) is moves = moves
+makings_move_none (call.Truncate p size) is moves = moves
+makings_move_none (call.Stat p) is moves = moves
+makings_move_none (call.List p) is moves = moves
+makings_move_none (call.Rename p q) is moves = is
+makings_move_none call.Sync is moves = moves
+
+pub removals_move_none : (c : Call) → IsRemoving c → IsRenaming c → ⊥
+removals_move_none (call.Create p) is moves = moves
+removals_move_none (call.Mkdir p) is moves = moves
+removals_move_none (call.Unlink p) is moves = moves
+removals_move_none (call.Rmdir p) is moves = moves
+removals_move_none (call.Read p at count) is moves = moves
+removals_move_none (call.Dread p at count) is moves = moves
+removals_move_none (call.Write p at new) is moves = moves
+removals_move_none (call.Truncate p size) is moves = moves
+removals_move_none (call.Stat p) is moves = moves
+removals_move_none (call.List p) is moves = moves
+removals_move_none (call.Rename p q) is moves = is
+removals_move_none call.Sync is moves = moves
+
+pub writes_move_none : (c : Call) → writing.IsWriting c → IsRenaming c → ⊥
+writes_move_none (call.Create p) is moves = moves
+writes_move_none (call.Mkdir p) is moves = moves
+writes_move_none (call.Unlink p) is moves = moves
+writes_move_none (call.Rmdir p) is moves = moves
+writes_move_none (call.Read p at count) is moves = moves
+writes_move_none (call.Dread p at count) is moves = moves
+writes_move_none (call.Write p at new) is moves = moves
+writes_move_none (call.Truncate p size) is moves = moves
+writes_move_none (call.Stat p) is moves = moves
+writes_move_none (call.List p) is moves = moves
+writes_move_none (call.Rename p q) is moves = is
+writes_move_none call.Sync is moves = moves

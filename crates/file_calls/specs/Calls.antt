@@ -41,6 +41,12 @@ IsCallList im o l t (calls.Rename from to) node list =
     (need : ℕ) × move_locks.IsNeed im o l t (calls.Rename from to) need × (list ≡ move_locks.call_holds im o l t (calls.Rename from to) node need)
 IsCallList im o l t call node list = list ≡ holds_in im o l (path_of call false) (wanted call)
 
+-- Of the locks that the call takes this is so: of its list; of `rename`, whose list ends with the groups for the blocks that it needs, of those of the inodes alone, with which it begins however
+-- many these are, or of the list, and so many it needs.
+abbrev pub IsSoOfList : Image → Owners → Layout → Tree → Call → ℕ → (List Hold → Type 0) → Type 0
+IsSoOfList im o l t (calls.Rename from to) node P = move_locks.IsSoOfList im o l t (calls.Rename from to) node P
+IsSoOfList im o l t call node P = (list : List Hold) × IsCallList im o l t call node list × P list
+
 -- every lock of the call's list is held, and what the change writes and frees is under these
 pub record IsUnderItsLocks (v : Seen) (im : Image) (o : Owners) (l : Layout) (t : Tree) (call : Call) (node : ℕ) (change : Change) : Type 0 where
   pub list : List Hold
@@ -93,8 +99,9 @@ IsDamage v (calls.Rmdir path) rule b = removing.IsDamage v (calls.Rmdir path) ru
 IsDamage v (calls.Rename from to) rule b = moving.IsDamage v (calls.Rename from to) rule b
 IsDamage v call rule b = path.IsDamage v (wanted call) (path_of call false) rule b
 
--- The call isn't built for what stands there: it would make or move a name in a directory, or change a file, that isn't sound in itself, or move an inode that is on both its paths, though
--- no look of the call told a rule. In an image that stands for a tree none is so.
+-- The call isn't built for what stands there: it would make or move a name in a directory, or change a file, that isn't sound in itself; or move an inode that is on both its paths by two ways,
+-- or whose directory goes with what it replaces. Each crate's definition says what it is that can't be done, not that the view shows no broken rule. In an image that stands for a tree none
+-- is so.
 abbrev pub IsUnbuilt : Seen → Call → ℕ → Type 0
 IsUnbuilt v (calls.Create path) node = making.IsUnbuilt v (calls.Create path) node
 IsUnbuilt v (calls.Mkdir path) node = making.IsUnbuilt v (calls.Mkdir path) node

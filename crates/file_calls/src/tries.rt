@@ -13,7 +13,7 @@ ghost use Rattle.read_calls.specs.Answers.{IfDone, IfNeedLock, IfNeedBlock, IfNo
 ghost use Rattle.read_calls.specs.Holds.{Hold, IsAskedFor, IsFirstLack, holds};
 ghost use Rattle.writing_calls.specs.Writing.{IfSync, IsSynced};
 ghost use Rattle.file_calls.specs.Answers.{IsAnswered, IsFullFor, IsMadeIn};
-ghost use Rattle.file_calls.specs.Calls.{IsCallList, IsDamage, IsLackedFor, IsNeededFor, IsTooFew, IsUnbuilt, IsUnderItsLocks};
+ghost use Rattle.file_calls.specs.Calls.{IsCallList, IsDamage, IsLackedFor, IsNeededFor, IsSoOfList, IsTooFew, IsUnbuilt, IsUnderItsLocks};
 
 use dinode_tree::every_view_shows_an_inode;
 use drafts::{Attempt, Stamp};
@@ -36,6 +36,8 @@ pub fn attempt<V: View>(
     ensures under { (im : Image) (o : Owners) (l : Layout) (t : Tree) → IsOf (V.seen view.now) im o l t → IfDone result (λ reply change. IsUnderItsLocks (V.seen view.now) im o l t call.now stamp.now.node change) }
     ensures lock { (im : Image) (o : Owners) (l : Layout) (t : Tree) (list : List Hold) → IsOf (V.seen view.now) im o l t → IsCallList im o l t call.now stamp.now.node list → IfNeedLock result (IsFirstLack (V.seen view.now) list) }
     ensures block { (im : Image) (o : Owners) (l : Layout) (t : Tree) (list : List Hold) → IsOf (V.seen view.now) im o l t → IsCallList im o l t call.now stamp.now.node list → IfNeedBlock result (IsAskedFor (V.seen view.now) im o l list) }
+    ensures first { (im : Image) (o : Owners) (l : Layout) (t : Tree) → IsOf (V.seen view.now) im o l t → IfNeedLock result (λ lock state. IsSoOfList im o l t call.now stamp.now.node (λ list. IsFirstLack (V.seen view.now) list lock state)) }
+    ensures asked { (im : Image) (o : Owners) (l : Layout) (t : Tree) → IsOf (V.seen view.now) im o l t → IfNeedBlock result (λ m. IsSoOfList im o l t call.now stamp.now.node (λ list. IsAskedFor (V.seen view.now) im o l list m)) }
     ensures on_device { (im : Image) (o : Owners) (l : Layout) (t : Tree) → IsOf (V.seen view.now) im o l t → IfNeedBlock result (λ m. m.block < im.count) }
     ensures space { (im : Image) (o : Owners) (l : Layout) (t : Tree) → IsOf (V.seen view.now) im o l t → IfNoSpace result (IsTooFew (V.seen view.now) im o l t call.now) }
     ensures full { IfNoSpace result (IsFullFor (V.seen view.now) call.now) }

@@ -1,14 +1,16 @@
 -- The plan of a journal in memory is that of the journal which it was read from.
-use Rattle.std.proofs.Common.{◌≡◌, ◌<◌, ℕ, List, Option, Some, Ok, sym, ap, subst, ◌∙◌}
+use Rattle.std.proofs.Common.{◌≡◌, ◌<◌, ℕ, Bool, true, false, List, Option, None, Some, Ok, sym, ap, subst, ◌∙◌, arith}
+use Rattle.std.specs.Prelude.{IfSome, if◌then◌else◌}
+use Rattle.std.proofs.lemmas.Bool.Decides.{nat_tests}
 use Rattle.std.specs.Option.{option_map}
 use Rattle.log_layout.specs.Chunks.{Logged}
-use Rattle.log_layout.specs.Journal.{Ring, accepted, head_in}
+use Rattle.log_layout.specs.Journal.{Ring, accepted, head_in, next}
 use Rattle.log_layout.specs.Laws.{HasSamePlaces}
 use Rattle.log_layout.specs.Live.{IsReadable, live_entry, live_in, live_read, live_under}
 use Rattle.log_layout.specs.Transactions.{Sequenced, transactions_of}
 use Rattle.log_layout.specs.declared.log_header.LogHeader.{LogHeader}
 use Rattle.log_layout.proofs.SamePlaces.{says_the_same}
-use Rattle.peer_replay.specs.Plans.{clean_header, put_home}
+use Rattle.peer_replay.specs.Plans.{clean_after, clean_header, put_home}
 use Rattle.peer_replay.specs.Plans as scanned
 use Rattle.peer_replay.specs.declared.planned.Plan.{Plan}
 use Rattle.journal_scan.specs.declared.fault.ScanFault.{ScanFault}
@@ -41,3 +43,20 @@ pub inside_told : (r : Ring) (count : ℕ) → r.places ≡ count → ((head : L
 inside_told r count long heads NoHeader is = tt
 inside_told r count long heads (BadChunk place) is = subst (λ n. place < n) long (bad_is_inside r is.0 place (heads is.0 is.1).0 is.2)
 inside_told r count long heads NoMemory is = tt
+
+-- the header that comes last has a place of the journal
+place_behind : (places : ℕ) (head : LogHeader) → head.blkno < places → IfSome (clean_header places head) (λ (h : LogHeader). h.blkno < places)
+place_behind places head low = by head.clean
+  where
+    inside : next places head.blkno < places
+    inside = grind (arith, nat_tests)
+
+    by : (b : Bool) → IfSome (if b then None else Some (clean_after places head)) (λ (h : LogHeader). h.blkno < places)
+    by true = tt
+    by false = inside
+
+pub place_told : (r : Ring) (count : ℕ) → r.places ≡ count → ((head : LogHeader) → head_in r ≡ Some head → (head.blkno < r.places) × (accepted head.blkno (r.at head.blkno) ≡ Some head))
+    → (clean : Option LogHeader) → ((head : LogHeader) × (head_in r ≡ Some head) × (clean ≡ clean_header r.places head)) → IfSome clean (λ (h : LogHeader). h.blkno < count)
+place_told r count long heads clean is =
+    subst (λ (c : Option LogHeader). IfSome c (λ (h : LogHeader). h.blkno < count)) (sym is.2)
+    (subst (λ n. IfSome (clean_header r.places is.0) (λ (h : LogHeader). h.blkno < n)) long (place_behind r.places is.0 (heads is.0 is.1).0))

@@ -1,11 +1,12 @@
 // A journal on a disk, and its plan.
-ghost use Rattle.std.specs.Prelude.{◌≡◌, ◌^◌, ◌<◌, ◌≤◌, IsTrue, IfOk, IfErr, false, length, map};
+ghost use Rattle.std.specs.Prelude.{◌≡◌, ◌^◌, ◌<◌, ◌≤◌, IsTrue, IfOk, IfErr, IfSome, false, length, map};
 ghost use Rattle.std.specs.List.{All, AllByRecursion};
 ghost use Rattle.std.specs.List.Sorted.{IsStrictlyIncreasing};
 ghost use Rattle.drafts.specs.declared.change.Written.{Written as WrittenValue};
 ghost use Rattle.gfs2_layout.specs.Device.{IsBlockSize};
 ghost use Rattle.journal_plans.specs.Plans.{HasCause, IfBadChunk, IsPlanOf, IsWhyNot};
 ghost use Rattle.journal_reads.specs.Reading.{ring_read};
+ghost use Rattle.log_layout.specs.declared.log_header.LogHeader.{LogHeader as LogHeaderValue};
 ghost use Rattle.shared_disk.specs.Disk.{ReadsOnly};
 
 use crate::PlanFault;
@@ -31,6 +32,7 @@ pub fn read_plan<D: SharedDisk>(
     requires size { IsBlockSize (D.state disk.old).size }
     ensures rising { IfOk result (λ p. IsStrictlyIncreasing (map (λ (w : WrittenValue). w.block) p.home.items)) }
     ensures whole { IfOk result (λ p. AllByRecursion (λ (w : WrittenValue). length w.bytes ≡ (D.state disk.old).size) p.home.items) }
+    ensures place { IfOk result (λ p. IfSome p.clean (λ (h : LogHeaderValue). h.blkno < length blocks.now)) }
     ensures plan { IfOk result (λ p. IsTrue (D.state disk.old).tells → IsPlanOf (ring_read (D.state disk.old) node blocks.now) p) }
     ensures inside { IfErr result (IfBadChunk (λ place. place < length blocks.now)) }
     ensures why { IfErr result (λ fault. IsTrue (D.state disk.old).tells → IsWhyNot (ring_read (D.state disk.old) node blocks.now) fault) }

@@ -33,6 +33,7 @@ use Rattle.resource_groups.specs.Freeing as freeing
 use Rattle.name_moves.specs.Moving.{CanBeMoved, IsNeededIn, Move, freed_by}
 use Rattle.move_calls.specs.Answering.{IsAnswerAtEnds, IsAnswerOf, IsAnswered, IsFullFor, IsLackedFor, IsNeededFor, IsUnbuilt, the_move}
 use Rattle.move_calls.specs.Carrying.{IsCarried, LacksLock, NeedsBlock}
+use Rattle.move_calls.specs.Checks.{IsNeededToSee}
 use Rattle.move_calls.specs.Moved.{IsMovedIn}
 use Rattle.move_calls.proofs.Doing.{does, moved_in}
 use Rattle.move_calls.proofs.Sound.{not_stuck}
@@ -123,8 +124,8 @@ module _ (v : Seen) (c : Call) (node time : ℕ) where
   -- the lock that is told isn't held so strongly
 
   pair_lacks : (p q : Path) (first second : List Want) (lock : LockName) (state : State) → IsPairLacked v p q first second lock state → holds v (record { lock = lock; state = state }) ≡ false
-  pair_lacks p q first second _ _ (IsPairLacked.on_first lock state is) = ap (holds v) is.is ∙ is.lacks
-  pair_lacks p q first second _ _ (IsPairLacked.on_second lock state is) = ap (holds v) is.is ∙ is.lacks
+  pair_lacks p q first second _ _ (IsPairLacked.on_first lock state is alone) = ap (holds v) is.is ∙ is.lacks
+  pair_lacks p q first second _ _ (IsPairLacked.on_second lock state is alone) = ap (holds v) is.is ∙ is.lacks
   pair_lacks p q first second _ _ (IsPairLacked.on_both i j a w x on_first on_second wanted wanted' lacks) = lacks
 
   path_lacks : (lock : LockName) (state : State) → IsLackedOnPaths v c lock state → holds v (record { lock = lock; state = state }) ≡ false
@@ -162,16 +163,19 @@ module _ (v : Seen) (c : Call) (node time : ℕ) where
 
   absent_so : (m : Move) (n : Missing) → NeedsBlock v node m n → v.block_at n.block ≡ None
   absent_so m n (NeedsBlock.to_look absent needed) = absent
-  absent_so m n (NeedsBlock.to_count none needed) = absent_in m [] n needed
   absent_so m n (NeedsBlock.of_freed need counted needed) = group_absent (freed_by m) n needed
   absent_so m n (NeedsBlock.of_room need counted needed blocks) = needed.missing.absent
-  absent_so m n (NeedsBlock.on_way need room has absent needed) = absent
+  absent_so m n (NeedsBlock.on_way need room has on) = on.absent
   absent_so m n (NeedsBlock.to_draft need room has none needed) = absent_in m (room ++ freed_by m) n needed
   absent_so m n (NeedsBlock.to_say need room has needed) = group_absent (room ++ freed_by m) n needed
   absent_so m n (NeedsBlock.once_gone gone needed inside) = absent_in m [] n needed
 
+  see_absent : (m : Move) (n : Missing) → IsNeededToSee v m n → v.block_at n.block ≡ None
+  see_absent m n (IsNeededToSee.for_parent moved needs absent) = absent
+  see_absent m n (IsNeededToSee.on_way on) = on.absent
+
   absent_of : (a : Attempt) → IsAnswerOf v c node time a → IfNeedBlock (Ok a) (λ n. v.block_at n.block ≡ None)
-  absent_of a (IsAnswerOf.to_see m n meant needed e) = subst (λ x. IfNeedBlock (Ok x) (λ n. v.block_at n.block ≡ None)) (sym e) needed.absent
+  absent_of a (IsAnswerOf.to_see m n meant needed e) = subst (λ x. IfNeedBlock (Ok x) (λ n. v.block_at n.block ≡ None)) (sym e) (see_absent m n needed)
   absent_of a (IsAnswerOf.unfit m meant fit e) = subst (λ x. IfNeedBlock (Ok x) (λ n. v.block_at n.block ≡ None)) (sym e) tt
   absent_of _ (IsAnswerOf.by_ends (IsAnswerAtEnds.needs n at)) = at.absent
   absent_of _ (IsAnswerOf.by_ends (IsAnswerAtEnds.refused r change at none)) = tt

@@ -23,7 +23,6 @@ use Rattle.name_moves.specs.Becoming.{LosesAll}
 use Rattle.name_moves.specs.Moving.{IsAskedIn, IsAskedOf, Move, a_group, is_reparented, the_inode, the_source, the_target}
 use Rattle.name_moves.proofs.Asked.{come_asked, go_asked}
 use Rattle.name_moves.proofs.Under.{come_under, go_under}
-use Rattle.move_calls.specs.Checks.{IsNeededToSee}
 
 -- a directory that gets another parent is one
 moved_directory : (m : Move) (im : Image) (o : Owners) → m.moved.dinode ≡ dinode_at im o m.moved.inode → is_reparented m ≡ true → is_directory_at im o m.moved.inode ≡ true
@@ -53,14 +52,14 @@ module _ (v : Seen) (im : Image) (o : Owners) (l : Layout) (t : Tree) (of : IsOf
   in_asked m blocks n first second third groups (a_group needed) = groups needed
 
   -- to see whether a directory that gets another parent has `..`
-  pub see_asked : (m : Move) (path : Path) → IsAt im o l path m.moved.inode → m.moved.dinode ≡ dinode_at im o m.moved.inode → IsAmong v list m.moved.inode → (n : Missing) → IsNeededToSee v m n
-      → IsAskedFor v im o l list n
-  see_asked m path at read among n needs =
+  pub see_asked : (m : Move) (path : Path) → IsAt im o l path m.moved.inode → m.moved.dinode ≡ dinode_at im o m.moved.inode → IsAmong v list m.moved.inode → (n : Missing) → is_reparented m ≡ true
+      → ((h : Holding) → IsShown v m.moved.inode h → IsNeededFor v h (codes "..") n) → v.block_at n.block ≡ None → IsAskedFor v im o l list n
+  see_asked m path at read among n moves needs absent =
       let a = m.moved.inode in
       let h = holding im o a in
-      let dir = moved_directory m im o read needs.reparented in
-      let needed : IsNeededFor v h (codes "..") n = needs.needed h (shown_inode v im o l t of path a at) in
-      asked_among a n (go_asked v im o l t of path a at dir [] h (LosesAll.of_none h) n (go_under v v h a refl dir n needs.absent (codes "..") needed) (codes "..") needed) among
+      let dir = moved_directory m im o read moves in
+      let needed : IsNeededFor v h (codes "..") n = needs h (shown_inode v im o l t of path a at) in
+      asked_among a n (go_asked v im o l t of path a at dir [] h (LosesAll.of_none h) n (go_under v v h a refl dir n absent (codes "..") needed) (codes "..") needed) among
 
   -- on the way to a name
   pub way_asked : (path : Path) (a : ℕ) → IsAt im o l path a → is_directory_at im o a ≡ true → IsAmong v list a → (name : List ℕ) (n : Missing) → v.block_at n.block ≡ None

@@ -194,7 +194,7 @@ module _ (v : Seen) (node need : ℕ) (m : Move) (room : List ℕ) (has : HasRoo
   as_many path at dir hash without lost =
       let sound = sound_directory v im o l t of path m.to.inode at dir in
       room_in.many
-      ∙ need_once (lost_there m) (holding im o m.to.inode) m.new_name need (name_need without m.new_name) sound hash (has.counted.needs (holding im o m.to.inode) (shown_inode v im o l t of path m.to.inode at) sound)
+      ∙ need_once (lost_there m) (holding im o m.to.inode) m.new_name need (name_need without m.new_name) sound hash (has.counted.needs.in_sound (holding im o m.to.inode) (shown_inode v im o l t of path m.to.inode at) sound)
       (record { without = without; lost = lost; is = refl })
 
 abbrev pub move_by : Call → Place → Place → Option (List ℕ) → Move
@@ -318,7 +318,7 @@ module _ (v : Seen) (c : Call) (from to : Place) (replaced : Option (List ℕ)) 
         inode = from.inode;
         inode_at = r.source.at;
         need = done.need;
-        needs = subst (λ names. NeedsAfter names (holding im o to.inode) (last_of (to_path c)) done.need) lost (done.has.counted.needs (holding im o to.inode) target_shown target_sound);
+        needs = subst (λ names. NeedsAfter names (holding im o to.inode) (last_of (to_path c)) done.need) lost (done.has.counted.needs.in_sound (holding im o to.inode) target_shown target_sound);
         old = done.is.old;
         old_is = sym (says_records v im o l t of path from.above (last_of (from_path c)) (Some done.is.old) r.source.above is_dir (done.is.old_is (holding im o from.above) source_shown));
         gives = λ between. subst (λ g. GivesName (holding im o from.above) g (last_of (from_path c)) time) (shows_inodes v done.is.fates im o from.above of.agrees ∙ ap (λ x. holding x o from.above) (sym image)) (b.gives between);

@@ -30,10 +30,10 @@ use Rattle.move_ends.specs.Ends.{from_path, inode_holds, to_path}
 use Rattle.name_moves.specs.Moving.{CanBeMoved, Move}
 use Rattle.move_calls.specs.Answering.{IsAnswerAtEnds, IsAnswerOf, IsMeant, IsNothing, IsToMove}
 use Rattle.move_calls.specs.Carrying.{IsCarriedOut, IsFull, LacksLock, NeedsBlock}
-use Rattle.move_calls.specs.Checks.{IsNeededToSee}
-use Rattle.move_calls.specs.Locks.{IsNeed, IsTooFew, block_holds, call_holds, moves_in}
+use Rattle.move_calls.specs.Checks.{IsNeededOnWays, IsNeededToSee}
+use Rattle.move_calls.specs.Locks.{IsNeed, IsSoOfList, IsTooFew, block_holds, call_holds, moves_in}
 use Rattle.move_calls.proofs.Asked.{see_asked}
-use Rattle.move_calls.proofs.Locking.{among_inode, block_asks, block_covered, done_held, done_under, full_there, lock_lacks, not_moving}
+use Rattle.move_calls.proofs.Locking.{among_inode, block_asks, block_listed, done_held, done_under, full_there, lock_lacks, lock_listed, not_moving, ways_asked}
 
 stays_false : (x : Bool) → (x && false) ≡ false
 stays_false true = refl
@@ -66,12 +66,17 @@ module _ (v : Seen) (c : Call) (node time : ℕ) (view : IsView v) (hash : to_pa
     n_hash : crc32_of (last_of (to_path c)) < 2 ^ 32
     n_hash = hash meant.ends.begun.to
 
-    see_there : (n : Missing) (need : ℕ) → IsNeededToSee v m n → IsAskedFor v im o l (call_holds im o l t c node need) n
-    see_there n need needs =
+    see_inodes : (n : Missing) → IsNeededToSee v m n → IsAskedFor v im o l (inode_holds im o l c) n
+    see_inodes n (IsNeededToSee.for_parent moved needs absent) =
         let r = meant.images im o l t of in
-        asked_before v im o l (inode_holds im o l c) (rest need) n
-        (see_asked v im o l t of (inode_holds im o l c) m (from_path c) r.0.source.at r.0.source.dinode
-        (among_inode v im o l t of c m.moved m.to m.replaced meant.ends n_hash r.0 r.1 node) n needs)
+        see_asked v im o l t of (inode_holds im o l c) m (from_path c) r.0.source.at r.0.source.dinode
+        (among_inode v im o l t of c m.moved m.to m.replaced meant.ends n_hash r.0 r.1 node) n moved needs absent
+    see_inodes n (IsNeededToSee.on_way on) =
+        let r = meant.images im o l t of in
+        ways_asked v im o l t of c m.moved m.to m.replaced meant.ends n_hash r.0 r.1 node n (subst (λ x. IsNeededOnWays v x n) meant.is on)
+
+    see_there : (n : Missing) (need : ℕ) → IsNeededToSee v m n → IsAskedFor v im o l (call_holds im o l t c node need) n
+    see_there n need needs = asked_before v im o l (inode_holds im o l c) (rest need) n (see_inodes n needs)
 
   module _ (m : Move) (moves : IsToMove v c m) where
     lock_there : (lock : LockName) (state : State) (need : ℕ) → LacksLock v node m lock state → IsNeed im o l t c need → IsFirstLack v (call_holds im o l t c node need) lock state
@@ -86,11 +91,17 @@ module _ (v : Seen) (c : Call) (node time : ℕ) (view : IsView v) (hash : to_pa
         let r = meant.images im o l t of in
         block_asks v im o l t of c m.moved m.to m.replaced meant.ends (hash meant.ends.begun.to) r.0 r.1 node view (subst (CanBeMoved v) meant.is moves.can) n need (subst (λ x. NeedsBlock v node x n) meant.is needs)
 
-    covered_there : (n : Missing) → NeedsBlock v node m n → cover l n.block (o n.block) ≡ Some n.lock
-    covered_there n needs =
+    lock_where : (lock : LockName) (state : State) → LacksLock v node m lock state → IsSoOfList im o l t c node (λ list. IsFirstLack v list lock state)
+    lock_where lock state lacks =
         let meant = moves.meant in
         let r = meant.images im o l t of in
-        block_covered v im o l t of c m.moved m.to m.replaced meant.ends (hash meant.ends.begun.to) r.0 r.1 node view (subst (CanBeMoved v) meant.is moves.can) n (subst (λ x. NeedsBlock v node x n) meant.is needs)
+        lock_listed v im o l t of c m.moved m.to m.replaced meant.ends (hash meant.ends.begun.to) r.0 r.1 node lock state (subst (λ x. LacksLock v node x lock state) meant.is lacks)
+
+    block_where : (n : Missing) → NeedsBlock v node m n → IsSoOfList im o l t c node (λ list. IsAskedFor v im o l list n)
+    block_where n needs =
+        let meant = moves.meant in
+        let r = meant.images im o l t of in
+        block_listed v im o l t of c m.moved m.to m.replaced meant.ends (hash meant.ends.begun.to) r.0 r.1 node view (subst (CanBeMoved v) meant.is moves.can) n (subst (λ x. NeedsBlock v node x n) meant.is needs)
 
     full_in : (need free : ℕ) → IsFull v node m need free → IsTooFew v im o l t c need free
     full_in need free full =
@@ -150,6 +161,29 @@ module _ (v : Seen) (c : Call) (node time : ℕ) (view : IsView v) (hash : to_pa
   block_of (NoSpace wants free) need is (IsAnswerOf.carried m moves so) = tt
   block_of NotBuilt need is (IsAnswerOf.carried m moves so) = tt
 
+  first_of : (lock : LockName) (state : State) → IsAnswerOf v c node time (NeedLock lock state) → IsSoOfList im o l t c node (λ list. IsFirstLack v list lock state)
+  first_of _ _ (IsAnswerOf.by_ends (IsAnswerAtEnds.lacks lock state at)) = IsSoOfList.of_inodes (at.found im o l t of)
+  first_of lock state (IsAnswerOf.to_see m n meant needed e) = absurd (let same : NeedLock lock state ≡ NeedBlock n = e in cc)
+  first_of lock state (IsAnswerOf.unfit m meant fit e) = absurd (let same : NeedLock lock state ≡ NotBuilt = e in cc)
+  first_of lock state (IsAnswerOf.carried m moves lacks) = lock_where m moves lock state lacks
+
+  -- where a block stands in the list that is asked for
+  abbrev Stands : Missing → Type 0
+  Stands n = IsSoOfList im o l t c node (λ list. IsAskedFor v im o l list n)
+
+  asked_of : (a : Attempt) → IsAnswerOf v c node time a → IfNeedBlock (Ok a) Stands
+  asked_of a (IsAnswerOf.to_see m n meant needed e) = subst (λ x. IfNeedBlock (Ok x) Stands) (sym e) (IsSoOfList.of_inodes (see_inodes m meant n needed))
+  asked_of a (IsAnswerOf.unfit m meant fit e) = subst (λ x. IfNeedBlock (Ok x) Stands) (sym e) tt
+  asked_of _ (IsAnswerOf.by_ends (IsAnswerAtEnds.needs n at)) = IsSoOfList.of_inodes (at.found im o l t of)
+  asked_of _ (IsAnswerOf.by_ends (IsAnswerAtEnds.refused r change at none)) = tt
+  asked_of _ (IsAnswerOf.by_ends (IsAnswerAtEnds.stays change at none)) = tt
+  asked_of _ (IsAnswerOf.by_ends (IsAnswerAtEnds.lacks lock state at)) = tt
+  asked_of (NeedBlock n) (IsAnswerOf.carried m moves needs) = block_where m moves n needs
+  asked_of (Done r change) (IsAnswerOf.carried m moves so) = tt
+  asked_of (NeedLock lock state) (IsAnswerOf.carried m moves so) = tt
+  asked_of (NoSpace need free) (IsAnswerOf.carried m moves so) = tt
+  asked_of NotBuilt (IsAnswerOf.carried m moves so) = tt
+
   space_of : (need free : ℕ) → IsAnswerOf v c node time (NoSpace need free) → IsTooFew v im o l t c need free
   space_of need free (IsAnswerOf.by_ends at) = elim at [ ]
   space_of need free (IsAnswerOf.to_see m n meant needed e) = absurd (let same : NoSpace need free ≡ NeedBlock n = e in cc)
@@ -182,21 +216,28 @@ module _ (v : Seen) (c : Call) (node time : ℕ) (view : IsView v) (hash : to_pa
   lock need so (Ok NotBuilt) is = tt
   lock need so (Err f) is = tt
 
-  covered_of : (a : Attempt) → IsAnswerOf v c node time a → IfNeedBlock (Ok a) (λ n. cover l n.block (o n.block) ≡ Some n.lock)
-  covered_of a (IsAnswerOf.to_see m n meant needed e) = subst (λ x. IfNeedBlock (Ok x) (λ n. cover l n.block (o n.block) ≡ Some n.lock)) (sym e) (see_there m meant n 0 needed).covered
-  covered_of a (IsAnswerOf.unfit m meant fit e) = subst (λ x. IfNeedBlock (Ok x) (λ n. cover l n.block (o n.block) ≡ Some n.lock)) (sym e) tt
-  covered_of _ (IsAnswerOf.by_ends (IsAnswerAtEnds.needs n at)) = (at.found im o l t of).covered
-  covered_of _ (IsAnswerOf.by_ends (IsAnswerAtEnds.refused r change at none)) = tt
-  covered_of _ (IsAnswerOf.by_ends (IsAnswerAtEnds.stays change at none)) = tt
-  covered_of _ (IsAnswerOf.by_ends (IsAnswerAtEnds.lacks lock state at)) = tt
-  covered_of (NeedBlock n) (IsAnswerOf.carried m moves needs) = covered_there m moves n needs
-  covered_of (Done r change) (IsAnswerOf.carried m moves so) = tt
-  covered_of (NeedLock lock state) (IsAnswerOf.carried m moves so) = tt
-  covered_of (NoSpace wants free) (IsAnswerOf.carried m moves so) = tt
-  covered_of NotBuilt (IsAnswerOf.carried m moves so) = tt
+  pub first : (r : Result Attempt CallFault) → IfOk r (IsAnswerOf v c node time) → IfNeedLock r (λ lock state. IsSoOfList im o l t c node (λ list. IsFirstLack v list lock state))
+  first (Ok (NeedLock name state)) is = first_of name state is
+  first (Ok (Done r change)) is = tt
+  first (Ok (NeedBlock n)) is = tt
+  first (Ok (NoSpace wants free)) is = tt
+  first (Ok NotBuilt) is = tt
+  first (Err f) is = tt
+
+  pub asked : (r : Result Attempt CallFault) → IfOk r (IsAnswerOf v c node time) → IfNeedBlock r Stands
+  asked (Ok a) is = asked_of a is
+  asked (Err f) is = tt
+
+  covers : (n : Missing) → Stands n → cover l n.block (o n.block) ≡ Some n.lock
+  covers n (IsSoOfList.of_inodes asked) = asked.covered
+  covers n (IsSoOfList.of_all need is asked) = asked.covered
 
   pub covered : (r : Result Attempt CallFault) → IfOk r (IsAnswerOf v c node time) → IfNeedBlock r (λ n. cover l n.block (o n.block) ≡ Some n.lock)
-  covered (Ok a) is = covered_of a is
+  covered (Ok (NeedBlock n)) is = covers n (asked_of (NeedBlock n) is)
+  covered (Ok (Done r change)) is = tt
+  covered (Ok (NeedLock lock state)) is = tt
+  covered (Ok (NoSpace wants free)) is = tt
+  covered (Ok NotBuilt) is = tt
   covered (Err f) is = tt
 
   pub block : (need : ℕ) → IsNeed im o l t c need → (r : Result Attempt CallFault) → IfOk r (IsAnswerOf v c node time) → IfNeedBlock r (IsAskedFor v im o l (call_holds im o l t c node need))

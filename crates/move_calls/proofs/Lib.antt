@@ -3,8 +3,10 @@ pub mod Asked
 pub mod Checked
 pub mod Doing
 pub mod Images
+pub mod Goings
 pub mod Gone
 pub mod Locking
 pub mod Meant
 pub mod Room
 pub mod Sound
+pub mod OnWays

@@ -4,7 +4,7 @@ use Rattle.std.proofs.lemmas.Bool.{cases_Bool, cond-false, cond-true, eq-eqb, eq
 use Rattle.std.proofs.lemmas.List.{append_assoc}
 use Rattle.std.proofs.lemmas.List.Elements.{All-append, Contains-append_cases, Contains-append_left}
 use Rattle.std.proofs.lemmas.Option.{slice_get-get_or}
-use Rattle.std.specs.Prelude.{Contains, not}
+use Rattle.std.specs.Prelude.{Contains, codes, not}
 use Rattle.std.specs.Ordering.{nat_cmp}
 use Rattle.std.specs.FinMap.{FinMap, get}
 use Rattle.crc_words.specs.Remainder.{crc32_of}
@@ -41,7 +41,7 @@ use Rattle.draft_changes.proofs.Views.{groups_are_listed}
 use Rattle.path_walks.specs.Holds.{Hold, AreHeld, IsAskedFor, IsFirstLack, IsUnder, hold_of, hold_of_group, holds}
 use Rattle.path_walks.specs.declared.walk.Place.{Place}
 use Rattle.path_walks.proofs.Asked.{IsAmong}
-use Rattle.path_walks.proofs.Images.{shown_inode, sound_directory}
+use Rattle.path_walks.proofs.Images.{is_shown, shown_inode, sound_directory}
 use Rattle.path_walks.proofs.Longer.{asked_before, asked_behind, lack_before, lack_behind}
 use Rattle.resource_groups.specs.Freeing as freeing
 use Rattle.resource_groups.specs.Shown.{IsDataOf, said}
@@ -61,7 +61,8 @@ use Rattle.name_moves.specs.Moving.{CanBeMoved, IsNeededIn, IsPutUnder, Move, bl
 use Rattle.name_moves.proofs.Alike.{need_once}
 use Rattle.name_moves.proofs.Asked.{move_asked}
 use Rattle.move_calls.specs.Carrying.{FirstAreHeld, HasRoom, IsCarriedOut, IsFull, IsOwnGroup, LacksLock, NeedsBlock, NeedsFor, first_blocks}
-use Rattle.move_calls.specs.Locks.{IsNeed, IsTooFew, call_holds, comes_first, goes_with, is_first_of, lost_in, moves_in, replaced_in}
+use Rattle.move_calls.specs.Checks.{IsNeededOnWays, IsWayOf}
+use Rattle.move_calls.specs.Locks.{IsNeed, IsSoOfList, IsTooFew, call_holds, comes_first, goes_with, is_first_of, lost_in, moves_in, replaced_in}
 use Rattle.move_calls.proofs.Asked.{in_asked, way_asked}
 use Rattle.move_calls.proofs.Doing.{are_places, lost_same, move_by}
 use Rattle.move_calls.proofs.Gone.{none_in}
@@ -146,7 +147,7 @@ module _ (v : Seen) (im : Image) (o : Owners) (l : Layout) (t : Tree) (of : IsOf
 
   needs_there : (need : ℕ) → NeedsFor v m need → NeedsAfter (lost_there m) (holding im o to.inode) (last_of (to_path c)) need
   needs_there need needs =
-      needs (holding im o to.inode) (shown_inode v im o l t of (parent_of (to_path c)) to.inode moves.target) (sound_directory v im o l t of (parent_of (to_path c)) to.inode moves.target moves.directory)
+      needs.in_sound (holding im o to.inode) (shown_inode v im o l t of (parent_of (to_path c)) to.inode moves.target) (sound_directory v im o l t of (parent_of (to_path c)) to.inode moves.target moves.directory)
 
   pub is_need : (need : ℕ) → NeedsFor v m need → IsNeed im o l t c need
   is_need need needs =
@@ -238,6 +239,14 @@ module _ (v : Seen) (im : Image) (o : Owners) (l : Layout) (t : Tree) (of : IsOf
       (lack_behind v (inode_list ++ first_list need) (room_list need) lock state (first_held need counted.first)
       (subst (λ list. IsFirstLack v list lock state) (room_is need counted.first.own counted.first.of_node) (first im.at shown))))
 
+  pub lock_listed : (lock : LockName) (state : State) → LacksLock v node m lock state → IsSoOfList im o l t c node (λ list. IsFirstLack v list lock state)
+  lock_listed lock state (LacksLock.of_first need needs lacks strong) =
+      let is = is_need need needs in
+      IsSoOfList.of_all need is (lock_lacks lock state need (LacksLock.of_first need needs lacks strong) is)
+  lock_listed lock state (LacksLock.of_room need counted lacks first) =
+      let is = is_need need counted.needs in
+      IsSoOfList.of_all need is (lock_lacks lock state need (LacksLock.of_room need counted lacks first) is)
+
   -- ---- too few blocks
 
   pub full_there : (need free : ℕ) → IsFull v node m need free → IsTooFew v im o l t c need free
@@ -260,6 +269,18 @@ module _ (v : Seen) (im : Image) (o : Owners) (l : Layout) (t : Tree) (of : IsOf
 
   pub among_inode : IsAmong v inode_list from.inode
   among_inode = among_held v inode_list from.inode (inode_listed v im o l c ends.begun.from ends.begun.to ends.elsewhere from.inode moves.source.at) inodes
+
+  -- on a way of the move
+  pub ways_asked : (n : Missing) → IsNeededOnWays v m n → IsAskedFor v im o l inode_list n
+  ways_asked n on = by on.directory on.name on.way on.needed
+    where
+      by : (dir : ℕ) (name : List ℕ) → IsWayOf v m dir name → ((h : Holding) → dirs.IsShown v dir h → IsNeededForName v h name n) → IsAskedFor v im o l inode_list n
+      by _ _ (IsWayOf.to_old is) needs =
+          way_asked v im o l t of inode_list (parent_of (from_path c)) from.above moves.source.above (is (holding im o from.above) (is_shown v im o l t of (parent_of (from_path c)) from.above moves.source.above)) among_source
+          (last_of (from_path c)) n on.absent needs
+      by _ _ (IsWayOf.to_new is) needs = way_asked v im o l t of inode_list (parent_of (to_path c)) to.inode moves.target moves.directory among_target (last_of (to_path c)) n on.absent needs
+      by _ _ (IsWayOf.to_parent moved is) needs =
+          way_asked v im o l t of inode_list (from_path c) from.inode moves.source.at (is (holding im o from.inode) (is_shown v im o l t of (from_path c) from.inode moves.source.at)) among_inode (codes "..") n on.absent needs
 
   module _ (view : IsView v) (can : CanBeMoved v m) where
     -- of the directories and the inode
@@ -328,24 +349,22 @@ module _ (v : Seen) (im : Image) (o : Owners) (l : Layout) (t : Tree) (of : IsOf
     no_group : (n : Missing) → freeing.IsNeededFor v [] n → IsAskedFor v im o l inode_list n
     no_group n needs = absurd (none_in needs.2.0 needs.2.1)
 
-    -- of a directory or the inode, under the locks of the inodes
-    inode_asks : (n : Missing) (other : ℕ) → IsNeededIn v m [] n → IsAskedFor v im o l (call_holds im o l t c node other) n
-    inode_asks n other needs =
-        subst (λ list. IsAskedFor v im o l list n) (sym (list_is other))
-        (asked_before v im o l inode_list (first_list other ++ room_list other) n (asked_on inode_list among_source among_target among_inode [] n (no_group n) needs))
+    -- under a lock of the inodes it is under one of the whole list
+    whole_asks : (n : Missing) (other : ℕ) → IsAskedFor v im o l inode_list n → IsAskedFor v im o l (call_holds im o l t c node other) n
+    whole_asks n other asked = subst (λ list. IsAskedFor v im o l list n) (sym (list_is other)) (asked_before v im o l inode_list (first_list other ++ room_list other) n asked)
+
+    -- of a directory or the inode
+    inode_asks : (n : Missing) → IsNeededIn v m [] n → IsAskedFor v im o l inode_list n
+    inode_asks n needs = asked_on inode_list among_source among_target among_inode [] n (no_group n) needs
 
     -- on the way to the new name
-    way_asks : (n : Missing) (other : ℕ) → v.block_at n.block ≡ None → ((h : Holding) → dirs.IsShown v to.inode h → IsNeededForName v h (last_of (to_path c)) n)
-        → IsAskedFor v im o l (call_holds im o l t c node other) n
-    way_asks n other absent needs =
-        subst (λ list. IsAskedFor v im o l list n) (sym (list_is other))
-        (asked_before v im o l inode_list (first_list other ++ room_list other) n
-        (way_asked v im o l t of inode_list (parent_of (to_path c)) to.inode moves.target moves.directory among_target (last_of (to_path c)) n absent needs))
+    way_asks : (n : Missing) → v.block_at n.block ≡ None → ((h : Holding) → dirs.IsShown v to.inode h → IsNeededForName v h (last_of (to_path c)) n) → IsAskedFor v im o l inode_list n
+    way_asks n absent needs = way_asked v im o l t of inode_list (parent_of (to_path c)) to.inode moves.target moves.directory among_target (last_of (to_path c)) n absent needs
 
     pub block_asks : (n : Missing) (other : ℕ) → NeedsBlock v node m n → IsNeed im o l t c other → IsAskedFor v im o l (call_holds im o l t c node other) n
-    block_asks n other (NeedsBlock.to_look absent needs) is = way_asks n other absent needs
-    block_asks n other (NeedsBlock.to_count none needs) is = inode_asks n other needs
-    block_asks n other (NeedsBlock.once_gone gone needs inside) is = inode_asks n other needs
+    block_asks n other (NeedsBlock.to_look absent needs) is = whole_asks n other (way_asks n absent needs)
+    block_asks n other (NeedsBlock.once_gone gone needs inside) is = whole_asks n other (inode_asks n needs)
+    block_asks n other (NeedsBlock.on_way need room has on) is = whole_asks n other (ways_asked n on)
     block_asks n other (NeedsBlock.of_freed need counted needs) is =
         subst (λ k. IsAskedFor v im o l (call_holds im o l t c node k) n) (one_need need other counted.needs is)
         (subst (λ list. IsAskedFor v im o l list n) (sym (list_then need))
@@ -355,23 +374,29 @@ module _ (v : Seen) (im : Image) (o : Owners) (l : Layout) (t : Tree) (of : IsOf
         (subst (λ list. IsAskedFor v im o l list n) (sym (list_then need))
         (asked_behind v im o l (inode_list ++ first_list need) (room_list need) n (first_held need counted.first)
         (group_asked v im o l t of (room_list need) n (subst (λ list. IsGroupBlock v list n) (room_is need counted.first.own counted.first.of_node) (blocks im.at shown)))))
-    block_asks n other (NeedsBlock.on_way need room has absent needs) is = way_asks n other absent needs
     block_asks n other (NeedsBlock.to_draft need room has none needs) is =
         subst (λ k. IsAskedFor v im o l (call_holds im o l t c node k) n) (one_need need other has.counted.needs is) (draft_asks need room has n needs)
     block_asks n other (NeedsBlock.to_say need room has needs) is =
         subst (λ k. IsAskedFor v im o l (call_holds im o l t c node k) n) (one_need need other has.counted.needs is)
         (subst (λ list. IsAskedFor v im o l list n) (sym (list_then need)) (group_asks need room has n needs))
 
-    -- so its lock covers it, whatever was counted by then
-    pub block_covered : (n : Missing) → NeedsBlock v node m n → cover l n.block (o n.block) ≡ Some n.lock
-    block_covered n (NeedsBlock.to_look absent needs) = (way_asks n 0 absent needs).covered
-    block_covered n (NeedsBlock.to_count none needs) = (inode_asks n 0 needs).covered
-    block_covered n (NeedsBlock.once_gone gone needs inside) = (inode_asks n 0 needs).covered
-    block_covered n (NeedsBlock.of_freed need counted needs) = (block_asks n need (NeedsBlock.of_freed need counted needs) (is_need need counted.needs)).covered
-    block_covered n (NeedsBlock.of_room need counted needed blocks) = (block_asks n need (NeedsBlock.of_room need counted needed blocks) (is_need need counted.needs)).covered
-    block_covered n (NeedsBlock.on_way need room has absent needs) = (way_asks n 0 absent needs).covered
-    block_covered n (NeedsBlock.to_draft need room has none needs) = (block_asks n need (NeedsBlock.to_draft need room has none needs) (is_need need has.counted.needs)).covered
-    block_covered n (NeedsBlock.to_say need room has needs) = (block_asks n need (NeedsBlock.to_say need room has needs) (is_need need has.counted.needs)).covered
+    -- of the locks of the inodes, or of the whole list once the blocks are counted
+    pub block_listed : (n : Missing) → NeedsBlock v node m n → IsSoOfList im o l t c node (λ list. IsAskedFor v im o l list n)
+    block_listed n (NeedsBlock.to_look absent needs) = IsSoOfList.of_inodes (way_asks n absent needs)
+    block_listed n (NeedsBlock.once_gone gone needs inside) = IsSoOfList.of_inodes (inode_asks n needs)
+    block_listed n (NeedsBlock.on_way need room has on) = IsSoOfList.of_inodes (ways_asked n on)
+    block_listed n (NeedsBlock.of_freed need counted needs) =
+        let is = is_need need counted.needs in
+        IsSoOfList.of_all need is (block_asks n need (NeedsBlock.of_freed need counted needs) is)
+    block_listed n (NeedsBlock.of_room need counted needed blocks) =
+        let is = is_need need counted.needs in
+        IsSoOfList.of_all need is (block_asks n need (NeedsBlock.of_room need counted needed blocks) is)
+    block_listed n (NeedsBlock.to_draft need room has none needs) =
+        let is = is_need need has.counted.needs in
+        IsSoOfList.of_all need is (block_asks n need (NeedsBlock.to_draft need room has none needs) is)
+    block_listed n (NeedsBlock.to_say need room has needs) =
+        let is = is_need need has.counted.needs in
+        IsSoOfList.of_all need is (block_asks n need (NeedsBlock.to_say need room has needs) is)
 
     -- ---- the change
 

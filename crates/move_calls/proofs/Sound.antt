@@ -45,12 +45,13 @@ use Rattle.name_inserts.specs.HashInserting as inserting
 use Rattle.name_inserts.specs.Inserting.{IsWrongForName}
 use Rattle.name_inserts.specs.Inserting as naming
 use Rattle.name_inserts.specs.Way.{IsOnWay, its_dinode, its_leaf, its_pointer}
-use Rattle.name_moves.specs.Moving.{ArePlacesIn, CanBeMoved, IsAskedIn, IsAskedOf, IsNeededIn, IsWrongIn, Move, blocks_or_none, freed_by, is_reparented}
+use Rattle.name_moves.specs.Moving.{ArePlacesIn, CanBeMoved, IsAskedIn, IsAskedOf, IsNeededIn, IsPlaceOfMove, IsWrongIn, Move, blocks_or_none, freed_by, is_reparented}
 use Rattle.name_moves.proofs.Asked.{move_asked}
 use Rattle.name_moves.proofs.Imaged.{apart_there}
 use Rattle.name_moves.proofs.Unbroken.{not_wrong}
+use Rattle.name_moves.proofs.Ways.{wrong_of_move}
 use Rattle.move_calls.specs.Carrying.{HasRoom, IsDamageOf, IsInTheWay, IsStuck}
-use Rattle.move_calls.specs.Checks.{IsDirectoryOf, IsUnfit, IsWrongMove}
+use Rattle.move_calls.specs.Checks.{IsDirectoryOf, IsOnItsWay, IsUnfit, IsWayOf, IsWrongMove, IsWrongOnWays}
 use Rattle.move_calls.proofs.Doing.{are_places, move_by, place_in, room_in}
 use Rattle.move_calls.proofs.Gone.{none_in}
 
@@ -92,6 +93,26 @@ module _ (v : Seen) (im : Image) (o : Owners) (l : Layout) (t : Tree) (of : IsOf
 
   own_cell : (p : Path) (a : ℕ) → IsAt im o l p a → IsSome ((holding im o a).cell a)
   own_cell p a at = its_cell im o a a (own_its p a at)
+
+  -- the first block is no inode's
+  not_zero : (a b : ℕ) → IsSome ((holding im o a).cell b) → b ≢ 0
+  not_zero a b some zero =
+      none_some (sym (ap (inode_of 0) (of.stands.laid.zoned.low 0 (omega arith))) ∙ subst (λ x. inode_of x (o x) ≡ Some a) zero (cell_its im o a b some))
+
+  -- a block on the way to a name is the directory's
+  way_cell : (r : Path) (a : ℕ) → IsAt im o l r a → (name : List ℕ) (b : ℕ) → IsOnWay (holding im o a) name b → b ≢ 0 → IsSome ((holding im o a).cell b)
+  way_cell r a at name b (its_dinode is) some = subst (λ x. IsSome ((holding im o a).cell x)) (sym is) (own_cell r a at)
+  way_cell r a at name b (its_pointer hashed below is) some = (shown_inode v im o l t of r a at).inode.led_to below.0 below.1 below.2 below.3 b below.4
+  way_cell r a at name b (its_leaf place hashed chain) some = (shown_inode v im o l t of r a at).leaves hashed (index_for (holding im o a) name) place b chain some
+
+  -- nothing is wrong on it
+  way_wrong : (r : Path) (a : ℕ) → IsAt im o l r a → is_directory_at im o a ≡ true → (rule b : ℕ) → IsWrongForName v (holding im o a) rule b → ⊥
+  way_wrong r a at dir rule b (naming.IsWrongForName.of_directory broken) = unbroken_directory v im o l t of r a rule b at dir broken
+  way_wrong r a at dir rule b (naming.IsWrongForName.in_hashed hashed (inserting.IsWrongToInsert.in_directory x d broken)) = unbroken_directory v im o l t of r a x d at dir (dirs.IsBroken.in_hashed hashed broken)
+  way_wrong r a at dir rule b (naming.IsWrongForName.in_hashed hashed (inserting.IsWrongToInsert.stray_pointer first d led outside)) =
+      let h = holding im o a in
+      let sound = sound_directory v im o l t of r a at dir in
+      outside (own_inside v im o l t of a d (cell_some (h.cell d) _ (part_of_led h first led.0 led.1 led.2 d sound.inode.tree led.3)))
 
   module _ (c : Call) (from to : Place) (replaced : Option (List ℕ)) (ends : AreEnds v c from to) (moves : MovesIn v im o l t c from to replaced) where
     abbrev m : Move
@@ -155,24 +176,59 @@ module _ (v : Seen) (im : Image) (o : Owners) (l : Layout) (t : Tree) (of : IsOf
     moved_directory : is_reparented m ≡ true → is_directory_at im o from.inode ≡ true
     moved_directory moved = ap is_directory (sym moves.source.dinode) ∙ and_left (is_directory from.dinode) _ moved
 
-    -- the move can be made
+    -- ---- the ways
+
+    -- each is in a directory to which a path leads
+    way_at : (dir : ℕ) (name : List ℕ) → IsWayOf v m dir name → (r : Path) × IsAt im o l r dir × (is_directory_at im o dir ≡ true)
+    way_at _ _ (IsWayOf.to_old is) = (parent_of p, moves.source.above, is (holding im o from.above) (is_shown v im o l t of (parent_of p) from.above moves.source.above))
+    way_at _ _ (IsWayOf.to_new is) = (parent_of q, moves.target, moves.directory)
+    way_at _ _ (IsWayOf.to_parent moved is) = (p, moves.source.at, moved_directory moved)
+
+    on_way_cell : (b : ℕ) (on : IsOnItsWay v m b) → b ≢ 0 → IsSome ((holding im o on.directory).cell b)
+    on_way_cell b on some =
+        let w = way_at on.directory on.name on.way in
+        way_cell w.0 on.directory w.1 on.name b (on.on (holding im o on.directory) (shown_inode v im o l t of w.0 on.directory w.1)) some
+
+    ways_right : (rule b : ℕ) → IsWrongOnWays v m rule b → ⊥
+    ways_right rule b on =
+        let w = way_at on.directory on.name on.way in
+        way_wrong w.0 on.directory w.1 w.2 rule b (on.wrong (holding im o on.directory) (shown_inode v im o l t of w.0 on.directory w.1))
+
+    -- what goes is of no inode that doesn't go
+    shares_none : (b : ℕ) → Contains (freed_by m) b → (b ≢ 0) × ((a : ℕ) → (Contains (freed_by m) a → ⊥) → IsSome ((holding im o a).cell b) → ⊥)
+    shares_none b there = by replaced moves.stood there
+      where
+        by : (r : Option (List ℕ)) → StoodIn im o l c to.inode r → Contains (blocks_or_none r) b → (b ≢ 0) × ((a : ℕ) → (Contains (blocks_or_none r) a → ⊥) → IsSome ((holding im o a).cell b) → ⊥)
+        by _ (StoodIn.nothing child none) there = absurd (none_in b there)
+        by _ (StoodIn.an_inode d blocks at bare own) there = (
+          not_zero d b ((own b).0 there),
+          λ a apart some.
+              let same : d ≡ a = some_same (sym (cell_its im o d b ((own b).0 there)) ∙ cell_its im o a b some) in
+              apart ((own a).1 (subst (λ x. IsSome ((holding im o d).cell x)) same (own_cell q d at))),
+        )
+
+    not_on_way : (b : ℕ) (on : IsOnItsWay v m b) → (Contains (freed_by m) on.directory → ⊥) → Contains (freed_by m) b → ⊥
+    not_on_way b on apart there = (shares_none b there).1 on.directory apart (on_way_cell b on (shares_none b there).0)
+
+    -- ---- the move can be made
+
     pub move_sound : (rule b : ℕ) → IsWrongMove v m rule b → ⊥
     move_sound _ _ (IsWrongMove.no_data_block a dir outside) = outside (directory_inside a dir)
     move_sound _ _ (IsWrongMove.its_own dir) = not_its_own (inl dir)
     move_sound _ _ (IsWrongMove.shared there) = not_shared to.inode (inl (inr refl)) there
+    move_sound _ _ (IsWrongMove.shared_inode there two) = not_shared from.inode (inr refl) there
+    move_sound _ _ (IsWrongMove.shared_way b on apart there) = not_on_way b on apart there
     move_sound rule b (IsWrongMove.in_inode a r d which wrong) = inode_right a r d which wrong
     move_sound rule b (IsWrongMove.in_directory r d moved wrong) =
         unbroken_directory v im o l t of p from.inode r d moves.source.at (moved_directory moved) (wrong (holding im o from.inode) (shown_inode v im o l t of p from.inode moves.source.at))
     move_sound _ _ (IsWrongMove.no_parent moved linear says) =
         has_dots v im o l t of p from.inode moves.source.at (moved_directory moved) (says (holding im o from.inode) (shown_inode v im o l t of p from.inode moves.source.at))
+    move_sound rule b (IsWrongMove.on_way r d wrong) = ways_right r d wrong
 
     pub move_fit : IsUnfit v m → ⊥
     move_fit (IsUnfit.into_itself same) = not_its_own (inr same)
-    move_fit (IsUnfit.goes_too b which there) = not_shared b (source_or_inode which) there
-      where
-        source_or_inode : (b ≡ from.above) ⊎ (b ≡ from.inode) → IsDirectoryOf m b ⊎ (b ≡ from.inode)
-        source_or_inode (inl e) = inl (inl e)
-        source_or_inode (inr e) = inr e
+    move_fit (IsUnfit.goes_too there) = not_shared from.above (inl (inl refl)) there
+    move_fit (IsUnfit.onto_itself there within same) = not_shared from.inode (inr refl) there
     move_fit (IsUnfit.finds_no_parent moved says) =
         has_dots v im o l t of p from.inode moves.source.at (moved_directory moved) (says (holding im o from.inode) (shown_inode v im o l t of p from.inode moves.source.at)).1
 
@@ -185,22 +241,6 @@ module _ (v : Seen) (im : Image) (o : Owners) (l : Layout) (t : Tree) (of : IsOf
       no_cell : (need : ℕ) (room : List ℕ) → HasRoom v node m need room → (b : ℕ) → Contains room b → (a : ℕ) → IsSome ((holding im o a).cell b) → ⊥
       no_cell need room has b there a some = not_some ((holding im o a).cell b) ((new_block need room has b there).0 a) some
 
-      way_cell : (b : ℕ) → IsOnWay (holding im o to.inode) (last_of (to_path c)) b → b ≢ 0 → IsSome ((holding im o to.inode).cell b)
-      way_cell b (its_dinode is) some = subst (λ x. IsSome ((holding im o to.inode).cell x)) (sym is) (own_cell (parent_of q) to.inode moves.target)
-      way_cell b (its_pointer hashed below is) some = (shown_inode v im o l t of (parent_of q) to.inode moves.target).inode.led_to below.0 below.1 below.2 below.3 b below.4
-      way_cell b (its_leaf place hashed chain) some = (shown_inode v im o l t of (parent_of q) to.inode moves.target).leaves hashed (index_for (holding im o to.inode) (last_of (to_path c))) place b chain some
-
-      not_in_the_way : (need : ℕ) (room : List ℕ) → HasRoom v node m need room → (b : ℕ) → Contains room b → IsInTheWay v m b → ⊥
-      not_in_the_way need room has b there (IsInTheWay.a_dinode which) = elim which [
-        | inl e ↦ no_cell need room has b there from.above (subst (λ x. IsSome ((holding im o from.above).cell x)) (sym e) (own_cell (parent_of p) from.above moves.source.above))
-        | inr rest ↦ elim rest [
-          | inl e ↦ no_cell need room has b there to.inode (subst (λ x. IsSome ((holding im o to.inode).cell x)) (sym e) (own_cell (parent_of q) to.inode moves.target))
-          | inr e ↦ no_cell need room has b there from.inode (subst (λ x. IsSome ((holding im o from.inode).cell x)) (sym e) (own_cell p from.inode moves.source.at))
-        ]
-      ]
-      not_in_the_way need room has b there (IsInTheWay.on_way on) =
-          no_cell need room has b there to.inode (way_cell b (on (holding im o to.inode) (shown_inode v im o l t of (parent_of q) to.inode moves.target)) (new_block need room has b there).1)
-
       not_both : (need : ℕ) (room : List ℕ) → HasRoom v node m need room → (b : ℕ) → Contains room b → Contains (freed_by m) b → ⊥
       not_both need room has b there goes = by replaced moves.stood goes
         where
@@ -208,31 +248,27 @@ module _ (v : Seen) (im : Image) (o : Owners) (l : Layout) (t : Tree) (of : IsOf
           by _ (StoodIn.nothing child none) goes = none_in b goes
           by _ (StoodIn.an_inode d blocks at bare own) goes = no_cell need room has b there d ((own b).0 goes)
 
+      not_in_the_way : (need : ℕ) (room : List ℕ) → HasRoom v node m need room → (b : ℕ) → Contains room b → IsInTheWay v m b → ⊥
+      not_in_the_way need room has b there (IsInTheWay.a_place (IsPlaceOfMove.of_source e)) =
+          no_cell need room has b there from.above (subst (λ x. IsSome ((holding im o from.above).cell x)) (sym e) (own_cell (parent_of p) from.above moves.source.above))
+      not_in_the_way need room has b there (IsInTheWay.a_place (IsPlaceOfMove.of_target e)) =
+          no_cell need room has b there to.inode (subst (λ x. IsSome ((holding im o to.inode).cell x)) (sym e) (own_cell (parent_of q) to.inode moves.target))
+      not_in_the_way need room has b there (IsInTheWay.a_place (IsPlaceOfMove.of_inode e)) =
+          no_cell need room has b there from.inode (subst (λ x. IsSome ((holding im o from.inode).cell x)) (sym e) (own_cell p from.inode moves.source.at))
+      not_in_the_way need room has b there (IsInTheWay.a_place (IsPlaceOfMove.of_replaced goes)) = not_both need room has b there goes
+      not_in_the_way need room has b there (IsInTheWay.on_way on) = no_cell need room has b there on.directory (on_way_cell b on (new_block need room has b there).1)
+
       places : ArePlacesIn im o l (parent_of p) (parent_of q) m
       places = are_places v c from to replaced ends im o l t moves
 
       move_wrong : (blocks : List ℕ) (rule b : ℕ) → IsWrongIn v m blocks rule b → ⊥
       move_wrong = not_wrong v im o l t of m (parent_of p) (parent_of q) can places
 
-      -- nor on the way to the new name
-      way_wrong : (rule b : ℕ) → IsWrongForName v (holding im o to.inode) rule b → ⊥
-      way_wrong rule b (naming.IsWrongForName.of_directory broken) = unbroken_directory v im o l t of (parent_of q) to.inode rule b moves.target moves.directory broken
-      way_wrong rule b (naming.IsWrongForName.in_hashed hashed (inserting.IsWrongToInsert.in_directory r d broken)) =
-          unbroken_directory v im o l t of (parent_of q) to.inode r d moves.target moves.directory (dirs.IsBroken.in_hashed hashed broken)
-      way_wrong rule b (naming.IsWrongForName.in_hashed hashed (inserting.IsWrongToInsert.stray_pointer first d led outside)) =
-          let h = holding im o to.inode in
-          let sound = sound_directory v im o l t of (parent_of q) to.inode moves.target moves.directory in
-          outside (own_inside v im o l t of to.inode d (cell_some (h.cell d) _ (part_of_led h first led.0 led.1 led.2 d sound.inode.tree led.3)))
-
-      way_not_wrong : (rule b : ℕ) → ((h : Holding) → dirs.IsShown v to.inode h → IsWrongForName v h rule b) → ⊥
-      way_not_wrong rule b wrong = way_wrong rule b (wrong (holding im o to.inode) (shown_inode v im o l t of (parent_of q) to.inode moves.target))
-
       pub carry_sound : (rule b : ℕ) → IsDamageOf v node m rule b → ⊥
-      carry_sound rule b (IsDamageOf.to_look r d wrong) = way_not_wrong r d wrong
-      carry_sound rule b (IsDamageOf.to_count r d none wrong) = move_wrong [] r d wrong
-      carry_sound rule b (IsDamageOf.of_freed r d wrong) = groups_break_nothing v im o l t (freed_by m) r d of wrong
+      carry_sound rule b (IsDamageOf.to_look r d wrong) = way_wrong (parent_of q) to.inode moves.target moves.directory r d (wrong (holding im o to.inode) (shown_inode v im o l t of (parent_of q) to.inode moves.target))
+      carry_sound rule b (IsDamageOf.of_freed need r d counted wrong) = groups_break_nothing v im o l t (freed_by m) r d of wrong
       carry_sound rule b (IsDamageOf.of_room need r d counted wrong) = group_sound v im o l t of r d wrong
-      carry_sound rule b (IsDamageOf.on_way need room r d has wrong) = way_not_wrong r d wrong
+      carry_sound rule b (IsDamageOf.on_way need room r d has wrong) = ways_right r d wrong
       carry_sound _ _ (IsDamageOf.called_free need b room has there way) = not_in_the_way need room has b there way
       carry_sound rule b (IsDamageOf.to_draft need room r d has none wrong) = move_wrong (room ++ freed_by m) r d wrong
 
@@ -252,8 +288,9 @@ module _ (v : Seen) (im : Image) (o : Owners) (l : Layout) (t : Tree) (of : IsOf
           by (IsAskedIn.a_group needed) = absurd (none_in needed.2.0 needed.2.1)
 
       pub not_stuck : IsView v → crc32_of (last_of (to_path c)) < 2 ^ 32 → IsStuck v node m → ⊥
-      not_stuck view hash (IsStuck.goes_free need b room has there goes) = not_both need room has b there goes
-      not_stuck view hash (IsStuck.goes_wrong blocks rule b gone wrong) = move_wrong blocks rule b wrong
+      not_stuck view hash (IsStuck.goes_free need b room has there goes absent) = not_both need room has b there goes
+      not_stuck view hash (IsStuck.counts_wrong rule b gone wrong) = move_wrong [] rule b (wrong_of_move v m [] rule b wrong)
+      not_stuck view hash (IsStuck.drafts_wrong need room rule b has gone wrong) = move_wrong (room ++ freed_by m) rule b wrong
       not_stuck view hash (IsStuck.leads_astray n gone needs astray) = astray (needed_inside n needs)
       not_stuck view hash (IsStuck.not_apart need room has off not) =
           not (holding im o from.above) (holding im o to.inode) (holding im o from.inode)

@@ -25,7 +25,7 @@ use Rattle.move_ends.specs.declared.ends.Ends.{Ends}
 use Rattle.move_ends.specs.declared.ends.Ends.TheVariants as ends
 use Rattle.name_moves.specs.Moving.{CanBeMoved, Move, freed_by}
 use Rattle.move_calls.specs.Carrying.{IsCarried, IsCarriedOut, IsDamageOf, IsFull, IsStuck, LacksLock, NeedsBlock}
-use Rattle.move_calls.specs.Checks.{IsNeededToSee, IsUnfit, IsWrongMove}
+use Rattle.move_calls.specs.Checks.{IsClear, IsNeededToSee, IsUnfit, IsWrongMove}
 
 -- ---- what is to move
 
@@ -45,10 +45,11 @@ pub record IsMeant (v : Seen) (call : Call) (m : Move) : Type 0 where
   pub is : m ≡ the_move call m.moved m.to m.replaced
   pub images : (im : Image) (o : Owners) (l : Layout) (t : Tree) → IsOf v im o l t → MovesIn v im o l t call m.moved m.to m.replaced × AreHeld v (inode_holds im o l call)
 
--- and it can be
+-- and it can be, and nothing that goes is on the way to a name of it
 pub record IsToMove (v : Seen) (call : Call) (m : Move) : Type 0 where
   pub meant : IsMeant v call m
   pub can : CanBeMoved v m
+  pub clear : IsClear v m
 
 -- ---- as far as the view shows
 
@@ -70,7 +71,7 @@ pub data IsLackedFor (v : Seen) (call : Call) (node : ℕ) (lock : LockName) (st
   of_group : (m : Move) → IsToMove v call m → LacksLock v node m lock state → IsLackedFor v call node lock state
 
 -- A block without which the call isn't answered: one on the paths, or of what stands at the new name; one without which it isn't told whether a directory that gets another parent
--- has `..`; or one that is needed to move the name.
+-- has `..`, or whether something that goes is on the way to a name; or one that is needed to move the name.
 pub data IsNeededFor (v : Seen) (call : Call) (n : Missing) : Type 0 where
   at_ends : IsNeededAtEnds v call n → IsNeededFor v call n
   to_see : (m : Move) → IsMeant v call m → IsNeededToSee v m n → IsNeededFor v call n

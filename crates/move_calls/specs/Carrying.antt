@@ -1,10 +1,11 @@
 -- A move that can be made is carried out: the blocks that it needs are counted, the locks of groups are looked at, blocks are found, and then all is drafted.
-use Rattle.std.specs.Prelude.{ℕ, ◌≡◌, ◌≢◌, ◌⊎◌, ◌==◌, ◌<◌, false, if◌then◌else◌, List, [], ◌∷◌, ◌++◌, length, map, Contains, None, Some}
+use Rattle.std.specs.Prelude.{ℕ, ◌≡◌, ◌≢◌, ◌==◌, ◌<◌, false, true, if◌then◌else◌, List, [], ◌∷◌, ◌++◌, length, map, Contains, None, Some}
 use Rattle.drafts.specs.declared.attempt.Attempt.{Attempt}
 use Rattle.drafts.specs.declared.attempt.Attempt.TheVariants as attempt
 use Rattle.drafts.specs.declared.change.Change.{Change}
 use Rattle.file_tree.specs.declared.reply.Reply.TheVariants as reply
 use Rattle.gfs2_layout.specs.Holding.{Holding}
+use Rattle.gfs2_layout.specs.Inode.{height_in, is_hashed_in}
 use Rattle.glock_names.specs.Views.{Seen, HasGroup}
 use Rattle.glock_names.specs.declared.LockName.{LockName}
 use Rattle.glock_names.specs.declared.State.{State}
@@ -22,15 +23,20 @@ use Rattle.resource_groups.specs.Putting.{HasDataBlock}
 use Rattle.room_search.specs.Blocks.{free_in_all, group_holds, group_of_node}
 use Rattle.room_search.specs.Searches.{AreHeldBlocks, AreShown, IsGroupBlock, IsGroupBroken, IsGroupNeeded, IsRoom}
 use Rattle.name_inserts.specs.Inserting.{IsNeededForName, IsWrongForName}
-use Rattle.name_inserts.specs.Way.{IsOnWay, IsRightWay}
+use Rattle.name_inserts.specs.Needing.{TakesBlocks}
+use Rattle.name_inserts.specs.Way.{IsRightWay}
 use Rattle.name_moves.specs.Becoming.{NeedsAfter}
-use Rattle.name_moves.specs.Moving.{AreApart, IsMoving, IsNeededIn, IsPlaceOfMove, IsWrongIn, Move, freed_by, lost_there}
+use Rattle.name_moves.specs.Moving.{AreApart, IsMoving, IsNeededIn, IsPlaceOfMove, IsWrongIn, IsWrongThere, Move, freed_by, lost_there}
+use Rattle.move_calls.specs.Checks.{IsNeededOnWays, IsOnItsWay, IsWrongOnWays}
 
 -- ---- what is needed
 
--- so many blocks are needed: of a sound directory as many as the new name takes once the others have gone
-abbrev pub NeedsFor : Seen → Move → ℕ → Type 0
-NeedsFor v m need = (h : Holding) → dirs.IsShown v m.to.inode h → IsSound h → NeedsAfter (lost_there m) h m.new_name need
+-- So many blocks are needed: of a sound directory as many as the new name takes once the others have gone, and so of a linear one whatever else is wrong in it, where its content is the rest of its
+-- dinode's block; of a hashed one that isn't sound, from which no name goes, as many as what its chain tells. Of any other directory it is some number.
+pub record NeedsFor (v : Seen) (m : Move) (need : ℕ) : Type 0 where
+  pub in_sound : (h : Holding) → dirs.IsShown v m.to.inode h → IsSound h → NeedsAfter (lost_there m) h m.new_name need
+  pub in_linear : (h : Holding) → dirs.IsShown v m.to.inode h → is_hashed_in h ≡ false → height_in h ≡ 0 → NeedsAfter (lost_there m) h m.new_name need
+  pub in_hashed : (h : Holding) → dirs.IsShown v m.to.inode h → is_hashed_in h ≡ true → lost_there m ≡ [] → TakesBlocks h m.new_name need
 
 -- this is the node's own group, one of the view's
 pub record IsOwnGroup (v : Seen) (node : ℕ) (own : Group) : Type 0 where
@@ -65,14 +71,14 @@ pub record HasRoom (v : Seen) (node : ℕ) (m : Move) (need : ℕ) (room : List 
   pub are : (at : ℕ → List ℕ) → AreShown v at → IsRoom v (said at) v.groups counted.first.own need room
   pub held : (at : ℕ → List ℕ) → AreShown v at → AreHeld v (group_holds (said at) v.groups counted.first.own need)
 
--- a block that can't be taken: the dinode of one of the directories or of the inode, or one on the way to the new name
+-- a block that can't be taken: the dinode of one of the directories or of the inode, one that goes with what stands at the new name, or one on the way to a name of the move
 pub data IsInTheWay (v : Seen) (m : Move) (b : ℕ) : Type 0 where
-  a_dinode : (b ≡ m.from) ⊎ ((b ≡ m.to.inode) ⊎ (b ≡ m.moved.inode)) → IsInTheWay v m b
-  on_way : ((h : Holding) → dirs.IsShown v m.to.inode h → IsOnWay h m.new_name b) → IsInTheWay v m b
+  a_place : IsPlaceOfMove m b → IsInTheWay v m b
+  on_way : IsOnItsWay v m b → IsInTheWay v m b
 
--- none of the blocks is one of the move's own, nor on the way to the new name, which is right
+-- none of the blocks is in the move's way, and the way to the new name is right
 pub record IsOffWay (v : Seen) (m : Move) (room : List ℕ) : Type 0 where
-  pub apart : (b : ℕ) → Contains room b → IsPlaceOfMove m b → ⊥
+  pub apart : (b : ℕ) → Contains room b → IsInTheWay v m b → ⊥
   pub way : room ≢ [] → (h : Holding) → dirs.IsShown v m.to.inode h → IsRightWay v h m.new_name room
 
 -- ---- what is answered
@@ -85,13 +91,13 @@ pub record IsCarriedOut (v : Seen) (node time : ℕ) (m : Move) (change : Change
   pub off : IsOffWay v m room
   pub is : IsMoving v m room time change
 
--- It can't be made. Some of the blocks that the node takes goes with what stands at the new name, though the bits call it free. Once names have gone from the directory that gets the new
--- one, as blocks are counted or all is drafted, a rule is broken there, or that leads to a block that is no data block of a group: so that directory wasn't sound before. Or in the blocks
--- that the node takes the directories and the inode aren't sound and apart, or the one that is to get the name can't, though the way to it is right. In an image that stands for a
--- tree no move is such a one.
+-- It can't be made. A block that goes is one that the node takes, as the bits call it free, and the view hasn't it. Once names have gone from the directory that gets the new one, a rule is broken there as blocks are counted, or there or elsewhere as all is drafted, or that leads to a block
+-- that is no data block of a group: so that directory wasn't sound before. Or in the blocks that the node takes the directories and the inode aren't sound and apart, or the one that is to get
+-- the name can't, though the way to it is right. In an image that stands for a tree no move is such a one.
 pub data IsStuck (v : Seen) (node : ℕ) (m : Move) : Type 0 where
-  goes_free : (need b : ℕ) (room : List ℕ) → HasRoom v node m need room → Contains room b → Contains (freed_by m) b → IsStuck v node m
-  goes_wrong : (blocks : List ℕ) (rule b : ℕ) → lost_there m ≢ [] → IsWrongIn v m blocks rule b → IsStuck v node m
+  goes_free : (need b : ℕ) (room : List ℕ) → HasRoom v node m need room → Contains room b → Contains (freed_by m) b → v.block_at b ≡ None → IsStuck v node m
+  counts_wrong : (rule b : ℕ) → lost_there m ≢ [] → IsWrongThere v m rule b → IsStuck v node m
+  drafts_wrong : (need : ℕ) (room : List ℕ) (rule b : ℕ) → HasRoom v node m need room → lost_there m ≢ [] → IsWrongIn v m (room ++ freed_by m) rule b → IsStuck v node m
   leads_astray : (n : Missing) → lost_there m ≢ [] → IsNeededIn v m [] n → ¬ (HasDataBlock v n.block) → IsStuck v node m
   not_apart : (need : ℕ) (room : List ℕ) → HasRoom v node m need room → IsOffWay v m room → ((source target inode : Holding) → AreApart v m room source target inode → ⊥) → IsStuck v node m
 
@@ -108,16 +114,15 @@ pub data LacksLock (v : Seen) (node : ℕ) (m : Move) (lock : LockName) (state :
   of_room : (need : ℕ) (counted : IsCounted v node m need) → holds v (record { lock = lock; state = state }) ≡ false
       → ((at : ℕ → List ℕ) → AreShown v at → IsFirstLack v (group_holds (said at) v.groups counted.first.own need) lock state) → LacksLock v node m lock state
 
--- This block is needed. Before names go: on the way to the new name as that is; where none go to count the blocks that it needs, or to draft the move; of a group that has some of what
--- goes; of a group, to find blocks; on the way to the new name, to see that none of these is there; or of a group that has some of these or of what goes. Once names have gone from the
--- directory that gets the new one: of a directory, and it is a data block of a group.
+-- This block is needed. On the way to the new name as that is before any name goes; of a group that has some of what goes; of a group, to find blocks; on the way to a name of the move, to see that
+-- none of these is there; where no name goes from the directory that gets the new one, to draft the move; or of a group that has some of these or of what goes. Once names have gone
+-- from that directory: of a directory, and it is a data block of a group. A group's is needed only where the groups are held that come first.
 pub data NeedsBlock (v : Seen) (node : ℕ) (m : Move) (n : Missing) : Type 0 where
   to_look : v.block_at n.block ≡ None → ((h : Holding) → dirs.IsShown v m.to.inode h → IsNeededForName v h m.new_name n) → NeedsBlock v node m n
-  to_count : lost_there m ≡ [] → IsNeededIn v m [] n → NeedsBlock v node m n
   of_freed : (need : ℕ) → IsCounted v node m need → freeing.IsNeededFor v (freed_by m) n → NeedsBlock v node m n
   of_room : (need : ℕ) (counted : IsCounted v node m need) → IsGroupNeeded v n → ((at : ℕ → List ℕ) → AreShown v at → IsGroupBlock v (group_holds (said at) v.groups counted.first.own need) n)
       → NeedsBlock v node m n
-  on_way : (need : ℕ) (room : List ℕ) → HasRoom v node m need room → v.block_at n.block ≡ None → ((h : Holding) → dirs.IsShown v m.to.inode h → IsNeededForName v h m.new_name n) → NeedsBlock v node m n
+  on_way : (need : ℕ) (room : List ℕ) → HasRoom v node m need room → IsNeededOnWays v m n → NeedsBlock v node m n
   to_draft : (need : ℕ) (room : List ℕ) → HasRoom v node m need room → lost_there m ≡ [] → IsNeededIn v m (room ++ freed_by m) n → NeedsBlock v node m n
   to_say : (need : ℕ) (room : List ℕ) → HasRoom v node m need room → freeing.IsNeededFor v (room ++ freed_by m) n → NeedsBlock v node m n
   once_gone : lost_there m ≢ [] → IsNeededIn v m [] n → HasDataBlock v n.block → NeedsBlock v node m n
@@ -131,14 +136,13 @@ IsCarried v node time m attempt.NotBuilt = IsStuck v node m
 
 -- ---- damage
 
--- The block breaks this rule, as the view shows it before any name goes: on the way to the new name; where no name goes from the directory that gets it, in a directory of the move, as the
--- blocks are counted or as all is drafted, when it may also be one of a group that has blocks which are taken; in a group that has some of what goes, or that is looked through for
--- blocks; or (5) the bits of a group call a block free that is a dinode of the move or on the way.
+-- The block breaks this rule, as the view shows it before any name goes: on the way to the new name; where no name goes from the directory that gets it, in a directory of the move, or in a group
+-- that has some of what goes or is taken, as all is drafted; in a group that has some of what goes, those being held that come first, or that is looked through for blocks; on the way to a
+-- name of the move, as it is looked whether a block that was found is there; or (5) the bits of a group call a block free that is in the move's way.
 pub data IsDamageOf (v : Seen) (node : ℕ) (m : Move) : ℕ → ℕ → Type 0 where
   to_look : (rule b : ℕ) → ((h : Holding) → dirs.IsShown v m.to.inode h → IsWrongForName v h rule b) → IsDamageOf v node m rule b
-  to_count : (rule b : ℕ) → lost_there m ≡ [] → IsWrongIn v m [] rule b → IsDamageOf v node m rule b
-  of_freed : (rule b : ℕ) → BreaksSome v (freed_by m) rule b → IsDamageOf v node m rule b
+  of_freed : (need rule b : ℕ) → IsCounted v node m need → BreaksSome v (freed_by m) rule b → IsDamageOf v node m rule b
   of_room : (need rule b : ℕ) → IsCounted v node m need → IsGroupBroken v rule b → IsDamageOf v node m rule b
-  on_way : (need : ℕ) (room : List ℕ) (rule b : ℕ) → HasRoom v node m need room → ((h : Holding) → dirs.IsShown v m.to.inode h → IsWrongForName v h rule b) → IsDamageOf v node m rule b
+  on_way : (need : ℕ) (room : List ℕ) (rule b : ℕ) → HasRoom v node m need room → IsWrongOnWays v m rule b → IsDamageOf v node m rule b
   called_free : (need b : ℕ) (room : List ℕ) → HasRoom v node m need room → Contains room b → IsInTheWay v m b → IsDamageOf v node m 5 b
   to_draft : (need : ℕ) (room : List ℕ) (rule b : ℕ) → HasRoom v node m need room → lost_there m ≡ [] → IsWrongIn v m (room ++ freed_by m) rule b → IsDamageOf v node m rule b

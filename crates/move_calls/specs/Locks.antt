@@ -66,6 +66,11 @@ moves_in t call = is_ok (apply call t).reply && not (is_same_path (from_path cal
 abbrev pub call_holds : Image → Owners → Layout → Tree → Call → ℕ → ℕ → List Hold
 call_holds im o l t call node need = inode_holds im o l call ++ (if moves_in t call then block_holds im o l call node need else [])
 
+-- Of the locks that the call takes this is so: of those of the inodes alone, with which its list begins however many blocks it needs; or of the whole list, and so many it needs.
+pub data IsSoOfList (im : Image) (o : Owners) (l : Layout) (t : Tree) (call : Call) (node : ℕ) (P : List Hold → Type 0) : Type 0 where
+  of_inodes : P (inode_holds im o l call) → IsSoOfList im o l t call node P
+  of_all : (need : ℕ) → IsNeed im o l t call need → P (call_holds im o l t call node need) → IsSoOfList im o l t call node P
+
 -- ---- too few blocks
 
 -- The tree would take the call, but fewer blocks are free, in all groups, than it needs. Each lock of the inodes and of each group is held. What the call frees isn't counted.

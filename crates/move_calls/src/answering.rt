@@ -6,7 +6,7 @@ ghost use Rattle.cluster_history.specs.Changes.{is_ok};
 ghost use Rattle.file_tree.specs.Names.{IsName, is_same_path, last_of as the_last_of};
 ghost use Rattle.file_tree.specs.Tree.{Tree};
 ghost use Rattle.glock_names.specs.Steps.{IfDamaged};
-ghost use Rattle.glock_names.specs.Views.{IsOfView, IsView};
+ghost use Rattle.glock_names.specs.Views.{IsOfView};
 ghost use Rattle.image_model.specs.Image.{Image};
 ghost use Rattle.image_model.specs.Owners.{Owners};
 ghost use Rattle.image_model.specs.Stands.{Layout};
@@ -16,12 +16,13 @@ ghost use Rattle.resource_groups.specs.Putting.{HasDataBlock};
 ghost use Rattle.path_walks.specs.Answers.{HasSpace, IfDone, IfNeedBlock, IfNeedLock, IfNoSpace, IfNotBuilt};
 ghost use Rattle.path_walks.specs.Holds.{AreHeld, IsAskedFor, IsFirstLack, IsUnder, holds};
 ghost use Rattle.move_ends.specs.Ends.{AreEnds, IsRenaming, IsTarget, MovesIn, from_path, inode_holds, to_path};
-ghost use Rattle.move_calls.specs.Locks.{IsNeed, IsTooFew, call_holds};
+ghost use Rattle.move_calls.specs.Locks.{IsNeed, IsSoOfList, IsTooFew, call_holds};
 ghost use Rattle.move_calls.specs.Moved.{IsMovedIn};
 ghost use Rattle.move_calls.specs.Answering.{IsAnswerOf, IsAnswered, IsDamage, IsFullFor, IsLackedFor, IsNeededFor, IsUnbuilt, blocks_of_replaced};
 
 use crate::carrying::carry;
 use crate::checks::can_move;
+use crate::ways::is_a_view;
 use crc_words::crc32;
 use drafts::{Attempt, Stamp};
 use file_tree::{Call, Name, Path, Reply};
@@ -30,13 +31,6 @@ use move_ends::{Ends, ends_of, from_of, to_of};
 use name_moves::NameMove;
 use path_walks::{Place, nothing};
 use std::alloc::Global;
-
-// A law: what a node has of the file system is a view of it.
-fn is_a_view<V: View>(view: &V)
-    ensures { IsView (V.seen view.now) }
-{
-    let _size = view.block_size();
-}
 
 // The last of these names.
 fn last_name(names: &[Name]) -> &Name
@@ -183,6 +177,10 @@ pub fn attempt<V: View>(
         → IfNeedLock result (IsFirstLack (V.seen view.now) (call_holds im o l t call.now stamp.now.node need)) }
     ensures block { (im : Image) (o : Owners) (l : Layout) (t : Tree) (need : ℕ) → IsOf (V.seen view.now) im o l t → IsNeed im o l t call.now need
         → IfNeedBlock result (IsAskedFor (V.seen view.now) im o l (call_holds im o l t call.now stamp.now.node need)) }
+    ensures first { (im : Image) (o : Owners) (l : Layout) (t : Tree) → IsOf (V.seen view.now) im o l t
+        → IfNeedLock result (λ lock state. IsSoOfList im o l t call.now stamp.now.node (λ list. IsFirstLack (V.seen view.now) list lock state)) }
+    ensures asked { (im : Image) (o : Owners) (l : Layout) (t : Tree) → IsOf (V.seen view.now) im o l t
+        → IfNeedBlock result (λ missing. IsSoOfList im o l t call.now stamp.now.node (λ list. IsAskedFor (V.seen view.now) im o l list missing)) }
     ensures covered { (im : Image) (o : Owners) (l : Layout) (t : Tree) → IsOf (V.seen view.now) im o l t → IfNeedBlock result (λ missing. cover l missing.block (o missing.block) ≡ Some missing.lock) }
     ensures space { (im : Image) (o : Owners) (l : Layout) (t : Tree) → IsOf (V.seen view.now) im o l t → IfNoSpace result (IsTooFew (V.seen view.now) im o l t call.now) }
     ensures full { IfNoSpace result (IsFullFor (V.seen view.now) call.now) }

@@ -1,32 +1,22 @@
 // A move that can be made is carried out.
-ghost use Rattle.std.specs.Prelude.{ℕ, ◌≡◌, ◌≢◌, ◌⊎◌, ◌≤◌, [], ◌∷◌, length, Contains, IfNone, IfOk, IfSome, false, true};
-ghost use Rattle.gfs2_layout.specs.Holding.{Holding};
+ghost use Rattle.std.specs.Prelude.{ℕ, ◌≡◌, ◌≢◌, ◌⊎◌, ◌≤◌, ◌∷◌, length, Contains, IfNone, IfOk, IfSome, false, true};
 ghost use Rattle.glock_names.specs.Steps.{IfDamaged, IfIs, IfNeedBlock};
-ghost use Rattle.glock_names.specs.Views.{HasBlock, IsOfView, IsView};
+ghost use Rattle.glock_names.specs.Views.{IsOfView};
 ghost use Rattle.glock_names.specs.declared.views.Group.{Group as GroupValue};
-ghost use Rattle.directories.specs.Shown as dirs;
-ghost use Rattle.name_inserts.specs.Inserting.{IsNeededForName, IsWrongForName};
-ghost use Rattle.name_inserts.specs.Way.{IsOnWay, IsRightWay};
 ghost use Rattle.name_moves.specs.Moving.{CanBeMoved, freed_by, move_of};
 ghost use Rattle.move_calls.specs.Carrying.{FirstAreHeld, HasRoom, IsCarried, IsCounted, IsDamageOf, IsOffWay, IsOwnGroup, IsStuck, LacksFirst, NeedsFor};
+ghost use Rattle.move_calls.specs.Checks.{IsNeededOnWays};
 
 use crate::checks::freed_blocks;
 use crate::looking::{count_blocks, draft_in, look_ahead, look_at_freed};
+use crate::ways::{block_on_ways, is_a_view};
 use drafts::{Attempt, Stamp};
 use file_tree::Reply;
-use glock_names::{CallFault, LockName, State, Step, View};
+use glock_names::{CallFault, LockName, State, Step, View, block_of};
 use group_locks::lacked_group;
-use name_inserts::block_on_way;
 use name_moves::NameMove;
 use room_search::{Locked, Taken, find_room};
 use std::alloc::Global;
-
-// A law: what a node has of the file system is a view of it.
-fn is_a_view<V: View>(view: &V)
-    ensures { IsView (V.seen view.now) }
-{
-    let _size = view.block_size();
-}
 
 // The first of the dinodes of a move that is one of these blocks.
 fn taken_dinode(m: &NameMove<'_>, room: &[u64]) -> Option<u64>
@@ -59,55 +49,31 @@ fn taken_that_goes(m: &NameMove<'_>, room: &[u64]) -> Option<u64>
     None
 }
 
-// The first of these blocks that is on the way to the new name. Where there are some and none is, the way is right.
-fn taken_on_way<V: View>(
-    view: &V,
-    m: &NameMove<'_>,
-    room: &[u64],
-) -> Result<Step<Option<u64>>, CallFault>
+// Looks that the blocks which were found for a move may be taken. False where one of them goes with what stands at the new name, and the view hasn't it.
+fn check_room<V: View>(view: &V, m: &NameMove<'_>, room: &[u64]) -> Result<Step<bool>, CallFault>
     requires { CanBeMoved (V.seen view.now) (move_of m.now) }
-    ensures some { (h : Holding) → dirs.IsShown (V.seen view.now) m.now.to.inode h → IfIs result (λ found. IfSome found (λ b. Contains room.now b × IsOnWay h m.now.new_name.now b)) }
-    ensures there { IfIs result (λ found. IfSome found (HasBlock (V.seen view.now))) }
-    ensures none { (h : Holding) → dirs.IsShown (V.seen view.now) m.now.to.inode h → IfIs result (λ found. IfNone found (room.now ≢ [] → IsRightWay (V.seen view.now) h m.now.new_name.now room.now)) }
-    ensures needed { (h : Holding) → dirs.IsShown (V.seen view.now) m.now.to.inode h → IfNeedBlock result (IsNeededForName (V.seen view.now) h m.now.new_name.now) }
-    ensures absent { IfNeedBlock result (λ missing. (V.seen view.now).block_at missing.block ≡ None) }
-    ensures damaged { (h : Holding) → dirs.IsShown (V.seen view.now) m.now.to.inode h → IfDamaged result (IsWrongForName (V.seen view.now) h) }
-    ensures kept { IfDamaged result (IsOfView (V.seen view.now)) }
-{
-    let Some((first, rest)) = room.split_first() else {
-        return Ok(Step::Is(None));
-    };
-    block_on_way(view, m.to.inode, m.new_name.bytes(), *first, rest)
-}
-
-// Looks that the blocks which were found for a move may be taken. False where one of them goes with what stands at the new name.
-fn check_room<V: View>(
-    view: &V,
-    m: &NameMove<'_>,
-    room: &[u64],
-    need: u64,
-    node: u8,
-) -> Result<Step<bool>, CallFault>
-    requires can { CanBeMoved (V.seen view.now) (move_of m.now) }
-    requires room { HasRoom (V.seen view.now) node (move_of m.now) need room.now }
     ensures off { IfIs result (λ off. off ≡ true → IsOffWay (V.seen view.now) (move_of m.now) room.now) }
-    ensures goes { IfIs result (λ off. off ≡ false → IsStuck (V.seen view.now) node (move_of m.now)) }
-    ensures needed { (h : Holding) → dirs.IsShown (V.seen view.now) m.now.to.inode h → IfNeedBlock result (IsNeededForName (V.seen view.now) h m.now.new_name.now) }
-    ensures absent { IfNeedBlock result (λ missing. (V.seen view.now).block_at missing.block ≡ None) }
-    ensures damaged { IfDamaged result (IsDamageOf (V.seen view.now) node (move_of m.now)) }
+    ensures goes { (node need : ℕ) → HasRoom (V.seen view.now) node (move_of m.now) need room.now → IfIs result (λ off. off ≡ false → IsStuck (V.seen view.now) node (move_of m.now)) }
+    ensures needed { IfNeedBlock result (IsNeededOnWays (V.seen view.now) (move_of m.now)) }
+    ensures damaged { (node need : ℕ) → HasRoom (V.seen view.now) node (move_of m.now) need room.now → IfDamaged result (IsDamageOf (V.seen view.now) node (move_of m.now)) }
     ensures kept { IfDamaged result (IsOfView (V.seen view.now)) }
 {
     is_a_view(view);
-    let _need = (need, node);
     if let Some(block) = taken_dinode(m, room) {
         return Err(CallFault::Damaged { block, rule: 5 });
     }
-    if taken_that_goes(m, room).is_some() {
-        return Ok(Step::Is(false));
+    if let Some(freed) = taken_that_goes(m, room) {
+        if block_of(view, freed).is_none() {
+            return Ok(Step::Is(false));
+        }
+        return Err(CallFault::Damaged {
+            block: freed,
+            rule: 5,
+        });
     }
-    match taken_on_way(view, m, room)? {
-        Step::Is(Some(block)) => Err(CallFault::Damaged { block, rule: 5 }),
+    match block_on_ways(view, m, room)? {
         Step::Is(None) => Ok(Step::Is(true)),
+        Step::Is(Some(block)) => Err(CallFault::Damaged { block, rule: 5 }),
         Step::NeedBlock(missing) => Ok(Step::NeedBlock(missing)),
     }
 }
@@ -118,22 +84,21 @@ fn carry_in<V: View>(
     view: &V,
     m: &NameMove<'_>,
     room: &[u64],
-    need: u64,
     stamp: &Stamp,
 ) -> Result<Attempt, CallFault>
     requires can { CanBeMoved (V.seen view.now) (move_of m.now) }
-    requires room { HasRoom (V.seen view.now) stamp.now.node (move_of m.now) need room.now }
+    requires room { (need : ℕ) × HasRoom (V.seen view.now) stamp.now.node (move_of m.now) need room.now }
     ensures carried { IfOk result (IsCarried (V.seen view.now) stamp.now.node stamp.now.time (move_of m.now)) }
     ensures damaged { IfDamaged result (IsDamageOf (V.seen view.now) stamp.now.node (move_of m.now)) }
     ensures kept { IfDamaged result (IsOfView (V.seen view.now)) }
 {
     is_a_view(view);
-    match check_room(view, m, room, need, stamp.node)? {
+    match check_room(view, m, room)? {
         Step::Is(true) => {}
         Step::Is(false) => return Ok(Attempt::NotBuilt),
         Step::NeedBlock(missing) => return Ok(Attempt::NeedBlock(missing)),
     }
-    match draft_in(alloc, view, m, room, need, stamp)? {
+    match draft_in(alloc, view, m, room, stamp)? {
         Step::Is(Some(change)) => Ok(Attempt::Done {
             reply: Reply::Ok,
             change,
@@ -209,7 +174,7 @@ fn carry_held<V: View>(
         Step::NeedBlock(missing) => return Ok(Attempt::NeedBlock(missing)),
     }
     match find_room(alloc, view, stamp.node, need)? {
-        Locked::Is(Taken::Is(room)) => carry_in(alloc, view, m, &room, need, stamp),
+        Locked::Is(Taken::Is(room)) => carry_in(alloc, view, m, &room, stamp),
         Locked::Is(Taken::TooFew(free)) => Ok(Attempt::NoSpace { need, free }),
         Locked::NeedLock { lock, state } => Ok(Attempt::NeedLock { lock, state }),
         Locked::NeedBlock(missing) => Ok(Attempt::NeedBlock(missing)),

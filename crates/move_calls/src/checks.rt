@@ -2,27 +2,21 @@
 ghost use Rattle.std.specs.Prelude.{ℕ, ◌≡◌, ◌≢◌, ◌⊎◌, false, true, codes, Contains, IfNone, IfOk, IfSome, None, Some};
 ghost use Rattle.gfs2_layout.specs.Holding.{Holding};
 ghost use Rattle.glock_names.specs.Steps.{IfDamaged, IfIs, IfNeedBlock, OnlyDamaged};
-ghost use Rattle.glock_names.specs.Views.{HasBlock, IsOfView, IsView};
+ghost use Rattle.glock_names.specs.Views.{HasBlock, IsOfView};
 ghost use Rattle.dinode_tree.specs.Broken.{IsBroken};
 ghost use Rattle.dinode_tree.specs.Reading.{IsRightDinode};
 ghost use Rattle.dinode_tree.specs.Shown.{IsShown};
 ghost use Rattle.directories.specs.Taking.{HasNameIn};
 ghost use Rattle.resource_groups.specs.Putting.{HasDataBlock};
-ghost use Rattle.name_moves.specs.Moving.{CanBeMoved, freed_by, is_reparented, move_of};
-ghost use Rattle.move_calls.specs.Checks.{IsDirectoryOf, IsNeededToSee, IsSeenMove, IsUnfit, IsWrongMove};
+ghost use Rattle.name_moves.specs.Moving.{CanBeMoved, freed_by, is_reparented, is_within, move_of};
+ghost use Rattle.move_calls.specs.Checks.{IsClear, IsDirectoryOf, IsNeededToSee, IsSeenMove, IsUnfit, IsWrongMove};
 
+use crate::ways::{block_on_ways, gets_parent, is_a_view};
 use dinode_tree::read_dinode;
 use directories::{is_hashed, look};
 use glock_names::{CallFault, Step, View};
 use name_moves::NameMove;
 use resource_groups::group_of;
-
-// A law: what a node has of the file system is a view of it.
-fn is_a_view<V: View>(view: &V)
-    ensures { IsView (V.seen view.now) }
-{
-    let _size = view.block_size();
-}
 
 /// The blocks that go with what stands at the new name.
 pub fn freed_blocks<'a>(m: &NameMove<'a>) -> &'a [u64]
@@ -64,13 +58,28 @@ fn frees_target(m: &NameMove<'_>) -> bool
     freed_blocks(m).contains(&m.to.inode)
 }
 
-// Whether the inode is the directory that is to get its name, or the directory that has the name or the inode is one of the blocks that go.
+// Whether the inode is the directory that is to get its name, or the directory that has the name is one of the blocks that go.
 fn is_in_its_way(m: &NameMove<'_>) -> bool
-    ensures unfit { result ≡ true → (m.now.moved.inode ≡ m.now.to.inode) ⊎ (Contains (freed_by (move_of m.now)) m.now.from ⊎ Contains (freed_by (move_of m.now)) m.now.moved.inode) }
-    ensures apart { result ≡ false → (m.now.moved.inode ≢ m.now.to.inode) × ((b : ℕ) → Contains (freed_by (move_of m.now)) b → (b ≢ m.now.from) × (b ≢ m.now.moved.inode)) }
+    ensures unfit { result ≡ true → (m.now.moved.inode ≡ m.now.to.inode) ⊎ Contains (freed_by (move_of m.now)) m.now.from }
+    ensures apart { result ≡ false → (m.now.moved.inode ≢ m.now.to.inode) × ((b : ℕ) → Contains (freed_by (move_of m.now)) b → b ≢ m.now.from) }
 {
-    let freed = freed_blocks(m);
-    m.moved.inode == m.to.inode || freed.contains(&m.from) || freed.contains(&m.moved.inode)
+    m.moved.inode == m.to.inode || freed_blocks(m).contains(&m.from)
+}
+
+// Whether the inode is one of the blocks that go.
+fn frees_inode(m: &NameMove<'_>) -> bool
+    ensures goes { result ≡ true → Contains (freed_by (move_of m.now)) m.now.moved.inode }
+    ensures stays { result ≡ false → (b : ℕ) → Contains (freed_by (move_of m.now)) b → b ≢ m.now.moved.inode }
+{
+    freed_blocks(m).contains(&m.moved.inode)
+}
+
+// Whether the old name is the new one, of one directory.
+fn is_one_name(m: &NameMove<'_>) -> bool
+    ensures one { result ≡ true → (is_within (move_of m.now) ≡ true) × (m.now.name.now ≡ m.now.new_name.now) }
+    ensures two { result ≡ false → is_within (move_of m.now) ≡ true → m.now.name.now ≢ m.now.new_name.now }
+{
+    m.from == m.to.inode && m.name.bytes() == m.new_name.bytes()
 }
 
 // An inode that the view has is right in itself, so that it has a number.
@@ -84,13 +93,6 @@ fn check_inode<V: View>(view: &V, inode: u64) -> Result<(), CallFault>
         Step::Is(_) => Ok(()),
         Step::NeedBlock(_) => unreachable!(),
     }
-}
-
-// Whether the inode is a directory that gets another parent.
-fn gets_parent(m: &NameMove<'_>) -> bool
-    ensures { result ≡ is_reparented (move_of m.now) }
-{
-    m.moved.dinode.is_directory() && m.from != m.to.inode
 }
 
 // Looks that a directory which gets another parent has `..`. False where it isn't found in a hashed one.
@@ -121,13 +123,11 @@ fn see_parent<V: View>(view: &V, m: &NameMove<'_>) -> Result<Step<bool>, CallFau
     }
 }
 
-/// Looks at what the walks of a call have seen of a move, whether it can be made: the directories lie in groups, the inode is none of them, none of the three goes with
-/// what stands at the new name, and a directory that gets another parent has `..`. It costs a pass over the blocks that go for each of the three, two dinodes,
-/// and what looking up `..` costs.
-pub fn can_move<V: View>(view: &V, m: &NameMove<'_>) -> Result<Step<bool>, CallFault>
+// Whether a move can be made, as the walks of a call have seen it, so that it is asked what is on its ways.
+fn is_fit<V: View>(view: &V, m: &NameMove<'_>) -> Result<Step<bool>, CallFault>
     requires { IsSeenMove (V.seen view.now) (move_of m.now) }
-    ensures can { IfIs result (λ can. can ≡ true → CanBeMoved (V.seen view.now) (move_of m.now)) }
-    ensures unfit { IfIs result (λ can. can ≡ false → IsUnfit (V.seen view.now) (move_of m.now)) }
+    ensures fit { IfIs result (λ fit. fit ≡ true → CanBeMoved (V.seen view.now) (move_of m.now)) }
+    ensures unfit { IfIs result (λ fit. fit ≡ false → IsUnfit (V.seen view.now) (move_of m.now)) }
     ensures needed { IfNeedBlock result (IsNeededToSee (V.seen view.now) (move_of m.now)) }
     ensures damaged { IfDamaged result (IsWrongMove (V.seen view.now) (move_of m.now)) }
     ensures kept { IfDamaged result (IsOfView (V.seen view.now)) }
@@ -151,7 +151,55 @@ pub fn can_move<V: View>(view: &V, m: &NameMove<'_>) -> Result<Step<bool>, CallF
     if is_in_its_way(m) {
         return Ok(Step::Is(false));
     }
+    if frees_inode(m) {
+        if is_one_name(m) {
+            return Ok(Step::Is(false));
+        }
+        return Err(CallFault::Damaged {
+            block: m.moved.inode,
+            rule: 3,
+        });
+    }
     check_inode(view, m.to.inode)?;
     check_inode(view, m.moved.inode)?;
     see_parent(view, m)
+}
+
+// Looks that nothing which goes is on a way of a move.
+fn clear_ways<V: View>(view: &V, m: &NameMove<'_>) -> Result<Step<()>, CallFault>
+    requires { CanBeMoved (V.seen view.now) (move_of m.now) }
+    ensures clear { IfIs result (λ done. IsClear (V.seen view.now) (move_of m.now)) }
+    ensures needed { IfNeedBlock result (IsNeededToSee (V.seen view.now) (move_of m.now)) }
+    ensures damaged { IfDamaged result (IsWrongMove (V.seen view.now) (move_of m.now)) }
+    ensures kept { IfDamaged result (IsOfView (V.seen view.now)) }
+{
+    is_a_view(view);
+    match block_on_ways(view, m, freed_blocks(m))? {
+        Step::Is(None) => Ok(Step::Is(())),
+        Step::Is(Some(block)) => Err(CallFault::Damaged { block, rule: 3 }),
+        Step::NeedBlock(missing) => Ok(Step::NeedBlock(missing)),
+    }
+}
+
+/// Looks at what the walks of a call have seen of a move, whether it can be made: the directories lie in groups, the inode is none of them, none of the three goes with
+/// what stands at the new name, a directory that gets another parent has `..`, and nothing that goes is on the way to a name of the move. It costs a pass over the blocks that go for each of
+/// the three, two dinodes, what looking up `..` costs, and where something goes a walk to each of the names.
+pub fn can_move<V: View>(view: &V, m: &NameMove<'_>) -> Result<Step<bool>, CallFault>
+    requires { IsSeenMove (V.seen view.now) (move_of m.now) }
+    ensures can { IfIs result (λ can. can ≡ true → CanBeMoved (V.seen view.now) (move_of m.now)) }
+    ensures clear { IfIs result (λ can. can ≡ true → IsClear (V.seen view.now) (move_of m.now)) }
+    ensures unfit { IfIs result (λ can. can ≡ false → IsUnfit (V.seen view.now) (move_of m.now)) }
+    ensures needed { IfNeedBlock result (IsNeededToSee (V.seen view.now) (move_of m.now)) }
+    ensures damaged { IfDamaged result (IsWrongMove (V.seen view.now) (move_of m.now)) }
+    ensures kept { IfDamaged result (IsOfView (V.seen view.now)) }
+{
+    match is_fit(view, m)? {
+        Step::Is(true) => {}
+        Step::Is(false) => return Ok(Step::Is(false)),
+        Step::NeedBlock(missing) => return Ok(Step::NeedBlock(missing)),
+    }
+    match clear_ways(view, m)? {
+        Step::Is(()) => Ok(Step::Is(true)),
+        Step::NeedBlock(missing) => Ok(Step::NeedBlock(missing)),
+    }
 }

@@ -5,6 +5,7 @@ mod answering;
 mod carrying;
 mod checks;
 mod looking;
+mod ways;
 
 pub use answering::attempt;
 pub use carrying::carry;

@@ -1,8 +1,9 @@
 // What a move needs, and its draft: a directory from which names go is looked at as it is first, and no block is called wrong for what it is once they have gone.
-ghost use Rattle.std.specs.Prelude.{ℕ, ◌≡◌, ◌≢◌, ◌⊎◌, [], false, true, IfNone, IfSome, None};
+ghost use Rattle.std.specs.Prelude.{ℕ, ◌≡◌, ◌≢◌, ◌⊎◌, [], false, true, Contains, IfNone, IfSome, None};
+ghost use Rattle.growth_drafts.specs.Taken.{IsDistinct};
 ghost use Rattle.gfs2_layout.specs.Holding.{Holding};
 ghost use Rattle.glock_names.specs.Steps.{IfDamaged, IfIs, IfNeedBlock};
-ghost use Rattle.glock_names.specs.Views.{IsOfView, IsView};
+ghost use Rattle.glock_names.specs.Views.{IsOfView};
 ghost use Rattle.directories.specs.Shown as dirs;
 ghost use Rattle.resource_groups.specs.Freeing.{BreaksSome, IsNeededFor};
 ghost use Rattle.resource_groups.specs.Putting.{HasDataBlock};
@@ -20,13 +21,6 @@ use std::alloc::Global;
 
 // The kind of the locks of groups.
 const OF_GROUP: u8 = 3;
-
-// A law: what a node has of the file system is a view of it.
-fn is_a_view<V: View>(view: &V)
-    ensures { IsView (V.seen view.now) }
-{
-    let _size = view.block_size();
-}
 
 // Whether names go from the directory that gets the new one.
 fn loses_names(m: &NameMove<'_>) -> bool
@@ -115,19 +109,18 @@ pub fn draft_in<V: View>(
     view: &V,
     m: &NameMove<'_>,
     room: &[u64],
-    need: u64,
     stamp: &Stamp,
 ) -> Result<Step<Option<Change>>, CallFault>
     requires can { CanBeMoved (V.seen view.now) (move_of m.now) }
-    requires room { HasRoom (V.seen view.now) stamp.now.node (move_of m.now) need room.now }
+    requires room { (b : ℕ) → Contains room.now b → HasDataBlock (V.seen view.now) b }
+    requires once { IsDistinct room.now }
     requires off { IsOffWay (V.seen view.now) (move_of m.now) room.now }
     ensures moving { IfIs result (λ done. IfSome done (IsMoving (V.seen view.now) (move_of m.now) room.now stamp.now.time)) }
-    ensures stuck { IfIs result (λ done. IfNone done (IsStuck (V.seen view.now) stamp.now.node (move_of m.now))) }
-    ensures needed { IfNeedBlock result (NeedsBlock (V.seen view.now) stamp.now.node (move_of m.now)) }
-    ensures damaged { IfDamaged result (IsDamageOf (V.seen view.now) stamp.now.node (move_of m.now)) }
+    ensures stuck { (node need : ℕ) → HasRoom (V.seen view.now) node (move_of m.now) need room.now → IfIs result (λ done. IfNone done (IsStuck (V.seen view.now) node (move_of m.now))) }
+    ensures needed { (node need : ℕ) → HasRoom (V.seen view.now) node (move_of m.now) need room.now → IfNeedBlock result (NeedsBlock (V.seen view.now) node (move_of m.now)) }
+    ensures damaged { (node need : ℕ) → HasRoom (V.seen view.now) node (move_of m.now) need room.now → IfDamaged result (IsDamageOf (V.seen view.now) node (move_of m.now)) }
     ensures kept { IfDamaged result (IsOfView (V.seen view.now)) }
 {
-    let _need = need;
     let gone = loses_names(m);
     match moving(alloc, view, m, room, stamp.time) {
         Ok(Step::Is(change)) => Ok(Step::Is(change)),

@@ -64,6 +64,25 @@ module _ (v : Seen) (p q : Path) (first second : List Want) (i j : ℕ) (m n : N
       by (next.Ended end.NotFound) come lets = absurd lets
       by (next.Ended end.NotDir) come lets = absurd lets
 
+  -- ---- and which is taken alone
+
+  first_alone : (a : ℕ) → IsBefore a n → walks.IsFirstAlone v q second a
+  first_alone a = by n on.on_second.come
+    where
+      by : (x : Next) → IsCome v second q j x → IsBefore a x → walks.IsFirstAlone v q second a
+      by (next.Inode c up) come before = walks.IsFirstAlone.comes_later j c (is_next v second q j c up come) before
+      by (next.Ended e) come before = walks.IsFirstAlone.ended e come
+
+  second_alone : (a : ℕ) → LetsSecond a (leads_to p q) m → walks.IsSecondAlone v p q first a
+  second_alone a = by m on.on_first.come
+    where
+      by : (x : Next) → IsCome v first p i x → LetsSecond a (leads_to p q) x → walks.IsSecondAlone v p q first a
+      by (next.Inode c up) come lets = walks.IsSecondAlone.comes_later i c (is_next v first p i c up come) lets
+      by (next.Ended (end.At r)) come lets = walks.IsSecondAlone.at_end r come lets
+      by (next.Ended (end.Lacks r)) come lets = absurd lets
+      by (next.Ended end.NotFound) come lets = absurd lets
+      by (next.Ended end.NotDir) come lets = absurd lets
+
   -- ---- over
 
   pub over_told : (e : PairWalk) → IsOver m n (leads_to p q) e → IsPairTold v p q first second e
@@ -128,7 +147,7 @@ module _ (v : Seen) (p q : Path) (first second : List Want) (i j : ℕ) (m n : N
     pub first_told : IsBefore a n → (w : PairWalk) → IsHindered v p i a s w → IsPairTold v p q first second w
     first_told before (pair.NeedLock lock x) (same, same', lacks) =
         subst (λ k. IsPairLacked v p q first second k x) same (subst (IsPairLacked v p q first second (record { kind = 2; number = a })) same'
-        (IsPairLacked.on_first (record { kind = 2; number = a }) s (lacked v first p i a above (coming_first a above is) s wanted lacks)))
+        (IsPairLacked.on_first (record { kind = 2; number = a }) s (lacked v first p i a above (coming_first a above is) s wanted lacks) (first_alone a before)))
     first_told before (pair.NeedBlock x) (held, inl dinode) =
         subst (IsPairUnread v p q first second) (sym dinode.0)
         (IsPairUnread.on_first a (unread_dinode v first p i a above (coming_first a above is) (held_at v first i a s wanted held) dinode.1) (lets_first a before))
@@ -164,7 +183,7 @@ module _ (v : Seen) (p q : Path) (first second : List Want) (i j : ℕ) (m n : N
     pub second_told : LetsSecond a (leads_to p q) m → (w : PairWalk) → IsHindered v q j a s w → IsPairTold v p q first second w
     second_told lets (pair.NeedLock lock x) (same, same', lacks) =
         subst (λ k. IsPairLacked v p q first second k x) same (subst (IsPairLacked v p q first second (record { kind = 2; number = a })) same'
-        (IsPairLacked.on_second (record { kind = 2; number = a }) s (lacked v second q j a above (coming_second a above is) s wanted lacks)))
+        (IsPairLacked.on_second (record { kind = 2; number = a }) s (lacked v second q j a above (coming_second a above is) s wanted lacks) (second_alone a lets)))
     second_told lets (pair.NeedBlock x) (held, inl dinode) =
         subst (IsPairUnread v p q first second) (sym dinode.0)
         (IsPairUnread.on_second a (unread_dinode v second q j a above (coming_second a above is) (held_at v second j a s wanted held) dinode.1) (lets_second a lets))

@@ -1,5 +1,5 @@
 -- Where a walk along two paths ends: as far as a view shows, and in an image that the view may be of.
-use Rattle.std.specs.Prelude.{ℕ, ◌≡◌, ◌≢◌, ◌⊎◌, ◌≤◌, true, false, List, [], ◌∷◌, ◌++◌, slice_get, None, Some}
+use Rattle.std.specs.Prelude.{ℕ, ◌≡◌, ◌≢◌, ◌⊎◌, ◌≤◌, ◌<◌, true, false, List, [], ◌∷◌, ◌++◌, slice_get, None, Some}
 use Rattle.file_tree.specs.Tree.{Tree}
 use Rattle.file_tree.specs.Names.{last_of, leads_to, parent_of}
 use Rattle.file_tree.specs.Apply.{Refused}
@@ -38,10 +38,21 @@ IsEndOf v wants q (end.Lacks p) = (q ≢ []) × IsSeenAt v wants (parent_of q) p
 IsEndOf v wants q end.NotFound = IsAbsent v wants (parent_of q)
 IsEndOf v wants q end.NotDir = (a : ℕ) × IsOnTheWay v wants q a (λ h. is_directory_in h ≡ false)
 
--- this lock isn't held so strongly: that of the inode that comes next on one of the paths, as it is wanted there; or on both, in the stronger of the states
+-- The lock of an inode of the first way is taken for that way alone: what comes next on the second one has a greater number, or it has ended.
+pub data IsFirstAlone (v : Seen) (q : Path) (second : List Want) (a : ℕ) : Type 0 where
+  comes_later : (j c : ℕ) → IsNext v second q j c → a < c → IsFirstAlone v q second a
+  ended : (e : End) → IsEndOf v second q e → IsFirstAlone v q second a
+
+-- So of an inode of the second way: what comes next on the first one has a greater number, or it has led to its inode, and the second path doesn't go on from there. So once the first path is
+-- seen to lead nowhere, no lock of the second is asked for.
+pub data IsSecondAlone (v : Seen) (p q : Path) (first : List Want) (a : ℕ) : Type 0 where
+  comes_later : (i c : ℕ) → IsNext v first p i c → a < c → IsSecondAlone v p q first a
+  at_end : (from : Place) → IsSeenAt v first p from → leads_to p q ≡ false → IsSecondAlone v p q first a
+
+-- this lock isn't held so strongly: that of the inode that comes next on one of the paths alone, as it is wanted there; or on both, in the stronger of the states
 pub data IsPairLacked (v : Seen) (p q : Path) (first second : List Want) : LockName → State → Type 0 where
-  on_first : (lock : LockName) (state : State) → IsLacked v first p lock state → IsPairLacked v p q first second lock state
-  on_second : (lock : LockName) (state : State) → IsLacked v second q lock state → IsPairLacked v p q first second lock state
+  on_first : (lock : LockName) (state : State) → IsLacked v first p lock state → IsFirstAlone v q second lock.number → IsPairLacked v p q first second lock state
+  on_second : (lock : LockName) (state : State) → IsLacked v second q lock state → IsSecondAlone v p q first lock.number → IsPairLacked v p q first second lock state
   on_both : (i j a : ℕ) (w x : Want) → IsNext v first p i a → IsNext v second q j a → slice_get first i ≡ Some w → slice_get second j ≡ Some x
       → holds v (hold_of a (stronger w.state x.state)) ≡ false → IsPairLacked v p q first second (record { kind = 2; number = a }) (stronger w.state x.state)
 

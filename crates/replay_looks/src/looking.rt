@@ -1,5 +1,5 @@
 // A journal's plan, and whether all that it writes may be written.
-ghost use Rattle.std.specs.Prelude.{◌≡◌, ◌^◌, ◌<◌, ◌≤◌, ℕ, List, Some, IsTrue, IfOk, IfErr, false, if◌then◌else◌, length, map};
+ghost use Rattle.std.specs.Prelude.{◌≡◌, ◌^◌, ◌<◌, ◌≤◌, ℕ, List, Some, IsTrue, IfOk, IfErr, IfSome, false, if◌then◌else◌, length, map};
 ghost use Rattle.std.specs.List.{All, AllByRecursion};
 ghost use Rattle.std.specs.List.Sorted.{IsStrictlyIncreasing};
 ghost use Rattle.drafts.specs.declared.change.Written.{Written as WrittenValue};
@@ -7,6 +7,7 @@ ghost use Rattle.gfs2_layout.specs.Device.{IsBlockSize};
 ghost use Rattle.journal_plans.specs.Plans.{IsPlanOf};
 ghost use Rattle.journal_reads.specs.Reading.{ring_read};
 ghost use Rattle.log_layout.specs.Live.{IsReadable, live_in};
+ghost use Rattle.log_layout.specs.declared.log_header.LogHeader.{LogHeader as LogHeaderValue};
 ghost use Rattle.replay_looks.specs.Looks.{HasCause, IsHindered, IsStopped};
 ghost use Rattle.replay_marks.specs.Marking.{has_block, mark_of};
 ghost use Rattle.replay_marks.specs.declared.marks.Mark.TheVariants as variant;
@@ -65,6 +66,7 @@ pub fn look_at_journal<D: SharedDisk>(
     ensures rising { IfOk result (λ p. IsStrictlyIncreasing (map (λ (w : WrittenValue). w.block) p.home.items)) }
     ensures whole { IfOk result (λ p. AllByRecursion (λ (w : WrittenValue). length w.bytes ≡ (D.state disk.old).size) p.home.items) }
     ensures free { IfOk result (λ p. AllByRecursion (λ (w : WrittenValue). (w.block < length marks.old) × (mark_of marks.old w.block ≡ variant.Open)) p.home.items) }
+    ensures place { IfOk result (λ p. IfSome p.clean (λ (h : LogHeaderValue). h.blkno < length blocks.now)) }
     ensures plan { IfOk result (λ p. IsTrue (D.state disk.old).tells → IsPlanOf (ring_read (D.state disk.old) node blocks.now) p) }
     ensures length { length marks.new ≡ length marks.old }
     ensures marks { IfOk result (λ p. (block : ℕ) → mark_of marks.new block ≡ (if has_block p.home.items block then variant.Live else mark_of marks.old block)) }

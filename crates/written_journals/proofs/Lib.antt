@@ -7,7 +7,7 @@ mod RevokesRead
 mod AllRead
 mod Going
 mod RingsWritten
-mod HeadWritten
+pub mod HeadWritten
 mod HeadFound
 mod NoHeads
 mod LiveAfter

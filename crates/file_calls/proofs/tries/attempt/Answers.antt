@@ -2,6 +2,8 @@ use Rattle.std.proofs.Common.{rules, ℕ, ◌≡◌, ◌≢◌, false, true, Res
 use Rattle.std.specs.Prelude.{List, not}
 use Rattle.drafts.specs.declared.attempt.Attempt.{Attempt}
 use Rattle.drafts.specs.declared.attempt.Attempt.TheVariants.{Done, NeedLock, NeedBlock, NoSpace, NotBuilt}
+use Rattle.glock_names.specs.declared.LockName.{LockName}
+use Rattle.glock_names.specs.declared.State.{State}
 use Rattle.glock_names.specs.declared.steps.CallFault.{CallFault}
 use Rattle.glock_names.specs.declared.steps.Missing.{Missing}
 use Rattle.cluster_history.specs.Changes.{is_ok}
@@ -26,10 +28,10 @@ use Rattle.image_changes.specs.Does.{Does, AreInside}
 use Rattle.read_calls.specs.Reading.{IsReading}
 use Rattle.read_calls.proofs.Lists.{no_change}
 use Rattle.file_calls.specs.Answers.{IsMadeIn}
-use Rattle.file_calls.specs.Calls.{IsLackedFor}
+use Rattle.file_calls.specs.Calls.{IsLackedFor, IsSoOfList}
 use Rattle.file_calls.proofs.Lacked.{lacked_lacks}
 use Rattle.file_calls.proofs.Made.{making_full, making_made, moving_full, moving_made, removing_made, writing_full}
-use Rattle.file_calls.proofs.Blocks.{needed_absent, covered_low, list_of_move, making_few, making_list, moving_few, moving_list, nothing_under, reading_list, removing_absent, removing_inside, removing_list, removing_under, writing_absent, writing_few, writing_list}
+use Rattle.file_calls.proofs.Blocks.{needed_absent, covered_low, list_of_move, making_few, making_list, makings_move_none, moving_few, moving_list, moving_so, reads_move_none, removals_move_none, so_of_list, nothing_under, reading_list, removing_absent, removing_inside, removing_list, removing_under, writing_absent, writes_move_none, writing_few, writing_list}
 use Rattle.file_calls.proofs.tries.attempt.Goals as goal
 
 mapped : (r : Result Attempt CallFault) (P Q : Missing → Type 0) → ((m : Missing) → P m → Q m) → IfNeedBlock r P → IfNeedBlock r Q
@@ -39,6 +41,15 @@ mapped (Ok (NeedLock lock state)) P Q f is = tt
 mapped (Ok (NoSpace need free)) P Q f is = tt
 mapped (Ok NotBuilt) P Q f is = tt
 mapped (Err e) P Q f is = tt
+
+-- and of a lock that is asked for
+lock_so : (r : Result Attempt CallFault) (P Q : LockName → State → Type 0) → ((lock : LockName) (state : State) → P lock state → Q lock state) → IfNeedLock r P → IfNeedLock r Q
+lock_so (Ok (NeedLock lock state)) P Q f is = f lock state is
+lock_so (Ok (NeedBlock m)) P Q f is = tt
+lock_so (Ok (Done reply change)) P Q f is = tt
+lock_so (Ok (NoSpace need free)) P Q f is = tt
+lock_so (Ok NotBuilt) P Q f is = tt
+lock_so (Err e) P Q f is = tt
 
 -- and of what is done
 done_so : (r : Result Attempt CallFault) (P Q : Reply → Change → Type 0) → ((x : Reply) (change : Change) → P x change → Q x change) → IfDone r P → IfDone r Q
@@ -328,3 +339,79 @@ returns-in-Rename-clause-made g c im o l t of =
 
 pub returns-in-Rename-clause-on_device : goal.returns-in-Rename-clause-on_device
 returns-in-Rename-clause-on_device g c im o l t of = mapped c.attempt.result _ _ (λ m covered. covered_low im o l of.stands.laid m.block m.lock covered) (c.attempt.ensures.covered im o l t of)
+
+pub returns-in-Read-clause-first : goal.returns-in-Read-clause-first
+returns-in-Read-clause-first g c im o l t of =
+    let is : IsReading c.args.call.now = search rules in
+    let v = g.V.View.seen c.args.view.now in
+    let node = c.args.stamp.now.node in
+    lock_so c.attempt-in-Read.result _ (λ lock state. IsSoOfList im o l t c.args.call.now node (λ list. IsFirstLack v list lock state))
+    (λ lock state so. so_of_list im o l t node c.args.call.now (reads_move_none c.args.call.now is) (λ list. IsFirstLack v list lock state) _ (reading_list im o l t node c.args.call.now is).0 so) (c.attempt-in-Read.ensures.lock im o l t of)
+
+pub returns-in-Read-clause-asked : goal.returns-in-Read-clause-asked
+returns-in-Read-clause-asked g c im o l t of =
+    let is : IsReading c.args.call.now = search rules in
+    let v = g.V.View.seen c.args.view.now in
+    let node = c.args.stamp.now.node in
+    mapped c.attempt-in-Read.result _ (λ m. IsSoOfList im o l t c.args.call.now node (λ list. IsAskedFor v im o l list m))
+    (λ m so. so_of_list im o l t node c.args.call.now (reads_move_none c.args.call.now is) (λ list. IsAskedFor v im o l list m) _ (reading_list im o l t node c.args.call.now is).0 so) (c.attempt-in-Read.ensures.block im o l t of)
+
+pub returns-in-Create-clause-first : goal.returns-in-Create-clause-first
+returns-in-Create-clause-first g c im o l t of =
+    let is : IsMaking c.args.call.now = search rules in
+    let v = g.V.View.seen c.args.view.now in
+    let node = c.args.stamp.now.node in
+    lock_so c.attempt-in-Create.result _ (λ lock state. IsSoOfList im o l t c.args.call.now node (λ list. IsFirstLack v list lock state))
+    (λ lock state so. so_of_list im o l t node c.args.call.now (makings_move_none c.args.call.now is) (λ list. IsFirstLack v list lock state) _ (making_list im o l t node c.args.call.now is).0 so) (c.attempt-in-Create.ensures.lock im o l t of)
+
+pub returns-in-Create-clause-asked : goal.returns-in-Create-clause-asked
+returns-in-Create-clause-asked g c im o l t of =
+    let is : IsMaking c.args.call.now = search rules in
+    let v = g.V.View.seen c.args.view.now in
+    let node = c.args.stamp.now.node in
+    mapped c.attempt-in-Create.result _ (λ m. IsSoOfList im o l t c.args.call.now node (λ list. IsAskedFor v im o l list m))
+    (λ m so. so_of_list im o l t node c.args.call.now (makings_move_none c.args.call.now is) (λ list. IsAskedFor v im o l list m) _ (making_list im o l t node c.args.call.now is).0 so) (c.attempt-in-Create.ensures.block im o l t of)
+
+pub returns-in-Unlink-clause-first : goal.returns-in-Unlink-clause-first
+returns-in-Unlink-clause-first g c im o l t of =
+    let is : IsRemoving c.args.call.now = search rules in
+    let v = g.V.View.seen c.args.view.now in
+    let node = c.args.stamp.now.node in
+    lock_so c.attempt-in-Unlink.result _ (λ lock state. IsSoOfList im o l t c.args.call.now node (λ list. IsFirstLack v list lock state))
+    (λ lock state so. so_of_list im o l t node c.args.call.now (removals_move_none c.args.call.now is) (λ list. IsFirstLack v list lock state) _ (removing_list im o l t node c.args.call.now is).0 so) (c.attempt-in-Unlink.ensures.lock im o l t of)
+
+pub returns-in-Unlink-clause-asked : goal.returns-in-Unlink-clause-asked
+returns-in-Unlink-clause-asked g c im o l t of =
+    let is : IsRemoving c.args.call.now = search rules in
+    let v = g.V.View.seen c.args.view.now in
+    let node = c.args.stamp.now.node in
+    mapped c.attempt-in-Unlink.result _ (λ m. IsSoOfList im o l t c.args.call.now node (λ list. IsAskedFor v im o l list m))
+    (λ m so. so_of_list im o l t node c.args.call.now (removals_move_none c.args.call.now is) (λ list. IsAskedFor v im o l list m) _ (removing_list im o l t node c.args.call.now is).0 so) (c.attempt-in-Unlink.ensures.block im o l t of)
+
+pub returns-in-Write-clause-first : goal.returns-in-Write-clause-first
+returns-in-Write-clause-first g c im o l t of =
+    let is : IsWriting c.args.call.now = search rules in
+    let v = g.V.View.seen c.args.view.now in
+    let node = c.args.stamp.now.node in
+    lock_so c.attempt-in-Write.result _ (λ lock state. IsSoOfList im o l t c.args.call.now node (λ list. IsFirstLack v list lock state))
+    (λ lock state so. so_of_list im o l t node c.args.call.now (writes_move_none c.args.call.now is) (λ list. IsFirstLack v list lock state) _ (writing_list im o l t node c.args.call.now is).0 so) (c.attempt-in-Write.ensures.lock im o l t of)
+
+pub returns-in-Write-clause-asked : goal.returns-in-Write-clause-asked
+returns-in-Write-clause-asked g c im o l t of =
+    let is : IsWriting c.args.call.now = search rules in
+    let v = g.V.View.seen c.args.view.now in
+    let node = c.args.stamp.now.node in
+    mapped c.attempt-in-Write.result _ (λ m. IsSoOfList im o l t c.args.call.now node (λ list. IsAskedFor v im o l list m))
+    (λ m so. so_of_list im o l t node c.args.call.now (writes_move_none c.args.call.now is) (λ list. IsAskedFor v im o l list m) _ (writing_list im o l t node c.args.call.now is).0 so) (c.attempt-in-Write.ensures.block im o l t of)
+
+pub returns-in-Rename-clause-first : goal.returns-in-Rename-clause-first
+returns-in-Rename-clause-first g c im o l t of =
+    let is : IsRenaming c.args.call.now = search rules in
+    let v = g.V.View.seen c.args.view.now in
+    lock_so c.attempt.result _ _ (λ lock state so. moving_so im o l t c.args.stamp.now.node c.args.call.now is (λ list. IsFirstLack v list lock state) so) (c.attempt.ensures.first im o l t of)
+
+pub returns-in-Rename-clause-asked : goal.returns-in-Rename-clause-asked
+returns-in-Rename-clause-asked g c im o l t of =
+    let is : IsRenaming c.args.call.now = search rules in
+    let v = g.V.View.seen c.args.view.now in
+    mapped c.attempt.result _ _ (λ m so. moving_so im o l t c.args.stamp.now.node c.args.call.now is (λ list. IsAskedFor v im o l list m) so) (c.attempt.ensures.asked im o l t of)

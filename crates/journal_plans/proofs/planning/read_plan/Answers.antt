@@ -4,7 +4,7 @@ use Rattle.drafts.specs.declared.change.Written.{Written}
 use Rattle.journal_reads.specs.Reading.{ring_read}
 use Rattle.journal_scan.specs.Images.{ring_of}
 use Rattle.journal_plans.specs.Plans.{IfBadChunk, IsWhyNot}
-use Rattle.journal_plans.proofs.Planned.{inside_told}
+use Rattle.journal_plans.proofs.Planned.{inside_told, place_told}
 use Rattle.journal_plans.proofs.Numbered.{big_size, home_whole, image_whole}
 use Rattle.journal_plans.proofs.Planned.{plan_is, why_not}
 use Rattle.journal_plans.proofs.planning.read_plan.Goals as goal
@@ -30,3 +30,7 @@ pub returns-clause-inside : goal.returns-clause-inside
 returns-clause-inside g c =
     subst (IfBadChunk (λ place. place < length c.args.blocks.now)) (sym c.of_scan.ensures)
     (inside_told (ring_of c.in-Ok.journal) (length c.args.blocks.now) c.in-Ok.ensures.long (c.heads_are_accepted.ensures (ring_of c.in-Ok.journal)) c.in-Err-plan.fault c.in-Err-plan.ensures.why)
+
+pub returns-in-Ok-plan-clause-place : goal.returns-in-Ok-plan-clause-place
+returns-in-Ok-plan-clause-place g c =
+    place_told (ring_of c.in-Ok.journal) (length c.args.blocks.now) c.in-Ok.ensures.long (c.heads_are_accepted.ensures (ring_of c.in-Ok.journal)) c.in-Ok-plan.planned.clean c.in-Ok-plan.ensures.clean

@@ -2,7 +2,7 @@ use Rattle.std.proofs.Common.{◌≢◌, ◌<◌, ◌^◌, [], subst}
 use Rattle.crc_words.specs.Remainder.{crc32_of}
 use Rattle.file_tree.specs.Names.{last_of}
 use Rattle.move_calls.proofs.Answered.{absent, answered, fewer, full, inside, lacked, lacks, needed, spaceless, unbuilt}
-use Rattle.move_calls.proofs.Images.{block, covered, held, lock, space, under}
+use Rattle.move_calls.proofs.Images.{asked, block, covered, first, held, lock, space, under}
 use Rattle.move_calls.proofs.answering.attempt.Goals as goal
 
 pub returns-clause-answered : goal.returns-clause-answered
@@ -49,6 +49,12 @@ returns-clause-lock g c im o l t need of so = lock (g.V.View.seen c.args.view.no
 
 pub returns-clause-block : goal.returns-clause-block
 returns-clause-block g c im o l t need of so = block (g.V.View.seen c.args.view.now) c.args.call.now c.args.stamp.now.node c.args.stamp.now.time c.is_a_view.ensures (subst (λ p. p ≢ [] → crc32_of (last_of p) < 2 ^ 32) c.to_of.ensures c.last_hash_fits.ensures) im o l t of need so c.answer.result c.answer.ensures.answer
+
+pub returns-clause-first : goal.returns-clause-first
+returns-clause-first g c im o l t of = first (g.V.View.seen c.args.view.now) c.args.call.now c.args.stamp.now.node c.args.stamp.now.time c.is_a_view.ensures (subst (λ p. p ≢ [] → crc32_of (last_of p) < 2 ^ 32) c.to_of.ensures c.last_hash_fits.ensures) im o l t of c.answer.result c.answer.ensures.answer
+
+pub returns-clause-asked : goal.returns-clause-asked
+returns-clause-asked g c im o l t of = asked (g.V.View.seen c.args.view.now) c.args.call.now c.args.stamp.now.node c.args.stamp.now.time c.is_a_view.ensures (subst (λ p. p ≢ [] → crc32_of (last_of p) < 2 ^ 32) c.to_of.ensures c.last_hash_fits.ensures) im o l t of c.answer.result c.answer.ensures.answer
 
 pub returns-clause-covered : goal.returns-clause-covered
 returns-clause-covered g c im o l t of = covered (g.V.View.seen c.args.view.now) c.args.call.now c.args.stamp.now.node c.args.stamp.now.time c.is_a_view.ensures (subst (λ p. p ≢ [] → crc32_of (last_of p) < 2 ^ 32) c.to_of.ensures c.last_hash_fits.ensures) im o l t of c.answer.result c.answer.ensures.answer

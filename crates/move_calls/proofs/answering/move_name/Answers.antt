@@ -7,7 +7,7 @@ use Rattle.path_walks.proofs.Faults.{damaged_so, tells_so, told_on}
 use Rattle.name_moves.specs.Moving.{CanBeMoved}
 use Rattle.move_calls.specs.Answering.{IsAnswerOf, IsDamage, IsMeant, blocks_of_replaced}
 use Rattle.move_calls.specs.Carrying.{IsCarried, IsDamageOf}
-use Rattle.move_calls.specs.Checks.{IsNeededToSee, IsSeenMove, IsUnfit, IsWrongMove}
+use Rattle.move_calls.specs.Checks.{IsClear, IsNeededToSee, IsSeenMove, IsUnfit, IsWrongMove}
 use Rattle.move_calls.proofs.Answered.{carried_built, carried_does, carried_moved}
 use Rattle.move_calls.proofs.Sound.{carry_sound, move_fit, move_sound}
 use Rattle.move_calls.proofs.Meant.{is_meant, ok_so, same_move, was_seen, written}
@@ -53,7 +53,8 @@ returns-in-Is-true-clause-answer g c =
     let second = c.last_name-new_name.ensures.last ∙ ap last_of (c.names.ensures.names ∙ c.to_of.ensures) in
     let meant : IsMeant v call m = subst (IsMeant v call) (sym (same_move call from to _ _ _ r first second c.blocks_in.ensures)) (is_meant v call from to c.requires.ends r c.requires.target c.requires.inside c.requires.images) in
     let can : CanBeMoved v m = answer_at _ _ (λ can. can ≡ true → CanBeMoved v m) c.in-Is-true.is c.in_ok-can_move.ensures.can c.in-Is-true.field-0-test in
-    ok_so (IsCarried v node time m) (IsAnswerOf v call node time) (λ a is. IsAnswerOf.carried m (record { meant = meant; can = can }) is) c.carry.result c.carry.ensures.carried
+    let clear : IsClear v m = answer_at _ _ (λ can. can ≡ true → IsClear v m) c.in-Is-true.is c.in_ok-can_move.ensures.clear c.in-Is-true.field-0-test in
+    ok_so (IsCarried v node time m) (IsAnswerOf v call node time) (λ a is. IsAnswerOf.carried m (record { meant = meant; can = can; clear = clear }) is) c.carry.result c.carry.ensures.carried
 
 pub returns-in-Is-true-clause-done : goal.returns-in-Is-true-clause-done
 returns-in-Is-true-clause-done g c =
@@ -119,7 +120,8 @@ returns-in-Is-true-clause-damaged g c =
     let second = c.last_name-new_name.ensures.last ∙ ap last_of (c.names.ensures.names ∙ c.to_of.ensures) in
     let meant : IsMeant v call m = subst (IsMeant v call) (sym (same_move call from to _ _ _ r first second c.blocks_in.ensures)) (is_meant v call from to c.requires.ends r c.requires.target c.requires.inside c.requires.images) in
     let can : CanBeMoved v m = answer_at _ _ (λ can. can ≡ true → CanBeMoved v m) c.in-Is-true.is c.in_ok-can_move.ensures.can c.in-Is-true.field-0-test in
-    damaged_so (IsDamageOf v node m) (IsDamage v call) (λ rule b wrong. IsDamage.to_move node m (record { meant = meant; can = can }) wrong) c.carry.result c.carry.ensures.damaged
+    let clear : IsClear v m = answer_at _ _ (λ can. can ≡ true → IsClear v m) c.in-Is-true.is c.in_ok-can_move.ensures.clear c.in-Is-true.field-0-test in
+    damaged_so (IsDamageOf v node m) (IsDamage v call) (λ rule b wrong. IsDamage.to_move node m (record { meant = meant; can = can; clear = clear }) wrong) c.carry.result c.carry.ensures.damaged
 
 pub returns-in-NeedBlock-clause-answer : goal.returns-in-NeedBlock-clause-answer
 returns-in-NeedBlock-clause-answer g c =

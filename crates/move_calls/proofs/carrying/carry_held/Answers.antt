@@ -14,7 +14,7 @@ returns-in_err-look_at_freed-clause-damaged g c =
     let v = g.V.View.seen c.args.view.now in
     let m = move_of c.args.m.now in
     told_on (IsDamageOf v c.args.stamp.now.node m) c.from_residual.result _ c.from_residual.ensures.1
-    (tells_so (BreaksSome v (freed_by m)) (IsDamageOf v c.args.stamp.now.node m) (λ rule b broken. IsDamageOf.of_freed rule b broken) c.in_err-look_at_freed.field-0.0 c.in_err-look_at_freed.ensures.damaged)
+    (tells_so (BreaksSome v (freed_by m)) (IsDamageOf v c.args.stamp.now.node m) (λ rule b broken. IsDamageOf.of_freed c.args.need rule b c.requires.counted broken) c.in_err-look_at_freed.field-0.0 c.in_err-look_at_freed.ensures.damaged)
 
 pub returns-in-NeedBlock-clause-carried : goal.returns-in-NeedBlock-clause-carried
 returns-in-NeedBlock-clause-carried g c =
@@ -30,9 +30,11 @@ returns-in_err-room-clause-damaged g c =
     (tells_so (IsGroupBroken v) (IsDamageOf v node m) (λ rule b broken. IsDamageOf.of_room c.args.need rule b c.requires.counted broken) c.in_err-room.field-0.0 c.in_err-room.ensures.damaged)
 
 pub carry_in-requires-clause-room : goal.carry_in-requires-clause-room
-carry_in-requires-clause-room g c =
-    room_found (g.V.View.seen c.args.view.now) c.args.stamp.now.node c.args.need (move_of c.args.m.now) c.requires.counted c.in_ok-room.field-0 c.in_ok-room.ensures.found c.in_ok-room.ensures.told
-    c.in-Is-Is.room _ c.deref.ensures.value (c.in-Is-Is.is ∙ ap locked.Is c.in-Is-Is.field-0-is)
+carry_in-requires-clause-room g c = (
+  c.args.need,
+  room_found (g.V.View.seen c.args.view.now) c.args.stamp.now.node c.args.need (move_of c.args.m.now) c.requires.counted c.in_ok-room.field-0 c.in_ok-room.ensures.found c.in_ok-room.ensures.told
+      c.in-Is-Is.room _ c.deref.ensures.value (c.in-Is-Is.is ∙ ap locked.Is c.in-Is-Is.field-0-is),
+)
 
 pub returns-in-Is-TooFew-clause-carried : goal.returns-in-Is-TooFew-clause-carried
 returns-in-Is-TooFew-clause-carried g c =

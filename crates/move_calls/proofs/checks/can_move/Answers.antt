@@ -1,50 +1,14 @@
-use Rattle.std.proofs.Common.{◌≡◌, inl, inr, true, refl}
-use Rattle.std.specs.Prelude.{codes}
-use Rattle.glock_names.proofs.StepLaws.{answer_so}
-use Rattle.directories.specs.Taking.{HasNameIn}
-use Rattle.dinode_tree.specs.Broken as inodes
-use Rattle.path_walks.proofs.Faults.{only_so, told_on}
-use Rattle.path_walks.proofs.Steps.{fault_all}
-use Rattle.name_moves.specs.Moving.{CanBeMoved, is_reparented, move_of}
-use Rattle.move_calls.specs.Checks.{IsUnfit, IsWrongMove}
-use Rattle.move_calls.proofs.Checked.{can}
+use Rattle.std.proofs.Common.{◌≡◌, false, true}
+use Rattle.glock_names.proofs.StepLaws.{answer_at}
+use Rattle.name_moves.specs.Moving.{CanBeMoved, move_of}
+use Rattle.move_calls.specs.Checks.{IsUnfit}
 use Rattle.move_calls.proofs.checks.can_move.Goals as goal
 
-pub returns-in-Some-clause-damaged : goal.returns-in-Some-clause-damaged
-returns-in-Some-clause-damaged g c = IsWrongMove.no_data_block c.in-Some.block c.in-Some.ensures.some.0 c.in-Some.ensures.some.1
+pub clear_ways-requires : goal.clear_ways-requires
+clear_ways-requires g c = answer_at _ _ (λ fit. fit ≡ true → CanBeMoved (g.V.View.seen c.args.view.now) (move_of c.args.m.now)) c.in-Is-true.is c.in_ok-is_fit.ensures.fit c.in-Is-true.field-0-test
 
-pub returns-then-is_its_own-clause-damaged : goal.returns-then-is_its_own-clause-damaged
-returns-then-is_its_own-clause-damaged g c = IsWrongMove.its_own (c.is_its_own.ensures.its_own c.if-is_its_own.true)
+pub returns-in-Is-clause-can : goal.returns-in-Is-clause-can
+returns-in-Is-clause-can g c e = answer_at _ _ (λ fit. fit ≡ true → CanBeMoved (g.V.View.seen c.args.view.now) (move_of c.args.m.now)) c.in-Is-true.is c.in_ok-is_fit.ensures.fit c.in-Is-true.field-0-test
 
-pub returns-then-frees_target-clause-damaged : goal.returns-then-frees_target-clause-damaged
-returns-then-frees_target-clause-damaged g c = IsWrongMove.shared (c.frees_target.ensures.goes c.if-frees_target.true)
-
-pub returns-then-is_in_its_way-clause-unfit : goal.returns-then-is_in_its_way-clause-unfit
-returns-then-is_in_its_way-clause-unfit g c e = elim (c.is_in_its_way.ensures.unfit c.if-is_in_its_way.true) [
-  | inl same ↦ IsUnfit.into_itself same
-  | inr rest ↦ elim rest [ inl goes ↦ IsUnfit.goes_too c.args.m.now.from (inl refl) goes | inr goes ↦ IsUnfit.goes_too c.args.m.now.moved.inode (inr refl) goes ]
-]
-
-pub returns-in_err-check_inode-clause-damaged : goal.returns-in_err-check_inode-clause-damaged
-returns-in_err-check_inode-clause-damaged g c =
-    let v = g.V.View.seen c.args.view.now in
-    told_on (IsWrongMove v (move_of c.args.m.now)) c.from_residual.result _ c.from_residual.ensures.1
-    (only_so _ (IsWrongMove v (move_of c.args.m.now)) (λ rule b broken. IsWrongMove.in_inode c.args.m.now.to.inode rule b (inl refl) broken) c.in_err-check_inode.field-0.0
-    (fault_all v c.args.m.now.to.inode inodes.IsBroken c.in_err-check_inode.field-0.0 c.in_err-check_inode.ensures.damaged))
-
-pub returns-in_err-check_inode-2-clause-damaged : goal.returns-in_err-check_inode-2-clause-damaged
-returns-in_err-check_inode-2-clause-damaged g c =
-    let v = g.V.View.seen c.args.view.now in
-    told_on (IsWrongMove v (move_of c.args.m.now)) c.from_residual-in_err-check_inode-2.result _ c.from_residual-in_err-check_inode-2.ensures.1
-    (only_so _ (IsWrongMove v (move_of c.args.m.now)) (λ rule b broken. IsWrongMove.in_inode c.args.m.now.moved.inode rule b (inr refl) broken) c.in_err-check_inode-2.field-0.0
-    (fault_all v c.args.m.now.moved.inode inodes.IsBroken c.in_err-check_inode-2.field-0.0 c.in_err-check_inode-2.ensures.damaged))
-
-pub returns-clause-can : goal.returns-clause-can
-returns-clause-can g c =
-    let v = g.V.View.seen c.args.view.now in
-    let m = move_of c.args.m.now in
-    let way = c.is_in_its_way.ensures.apart c.if-is_in_its_way.false in
-    answer_so c.see_parent.result (λ sees. sees ≡ true → is_reparented m ≡ true → HasNameIn v m.moved.inode (codes "..")) (λ can. can ≡ true → CanBeMoved v m)
-    (λ sees so is. can v m c.is_a_view.ensures c.requires (λ b goes. ((way.1 b goes).0, c.frees_target.ensures.stays c.if-frees_target.false b goes, (way.1 b goes).1)) c.in_default.ensures.none
-    (c.is_its_own.ensures.apart c.if-is_its_own.false, way.0) c.in_ok-check_inode.ensures.right c.in_ok-check_inode-2.ensures.right (so is))
-    c.see_parent.ensures.parented
+pub returns-in-Is-false-clause-unfit : goal.returns-in-Is-false-clause-unfit
+returns-in-Is-false-clause-unfit g c e = answer_at _ _ (λ fit. fit ≡ false → IsUnfit (g.V.View.seen c.args.view.now) (move_of c.args.m.now)) c.in-Is-false.is c.in_ok-is_fit.ensures.unfit c.in-Is-false.field-0-test

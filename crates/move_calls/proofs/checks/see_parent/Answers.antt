@@ -7,7 +7,7 @@ use Rattle.directories.specs.Shown.{IsBroken, IsNeededFor, IsShown, Says}
 use Rattle.path_walks.proofs.Faults.{only_so, told_on}
 use Rattle.path_walks.proofs.Steps.{directory_here, fault_of_all}
 use Rattle.name_moves.specs.Moving.{move_of}
-use Rattle.move_calls.specs.Checks.{IsWrongMove}
+use Rattle.move_calls.specs.Checks.{IsNeededToSee, IsWrongMove}
 use Rattle.move_calls.proofs.Checked.{and_never}
 use Rattle.move_calls.proofs.checks.see_parent.Goals as goal
 
@@ -37,8 +37,5 @@ returns-else-is_hashed-clause-damaged g c =
 pub returns-in-NeedBlock-clause-needed : goal.returns-in-NeedBlock-clause-needed
 returns-in-NeedBlock-clause-needed g c =
     let v = g.V.View.seen c.args.view.now in
-    record {
-      reparented = sym c.gets_parent.ensures ∙ c.if-not-gets_parent.false;
-      needed = λ h shown. needed_at _ _ (IsNeededFor v h (codes "..")) c.in-NeedBlock.is (c.in_ok-look.ensures.needed h shown);
-      absent = needed_at _ _ _ c.in-NeedBlock.is c.in_ok-look.ensures.absent;
-    }
+    IsNeededToSee.for_parent (sym c.gets_parent.ensures ∙ c.if-not-gets_parent.false) (λ h shown. needed_at _ _ (IsNeededFor v h (codes "..")) c.in-NeedBlock.is (c.in_ok-look.ensures.needed h shown))
+    (needed_at _ _ _ c.in-NeedBlock.is c.in_ok-look.ensures.absent)

@@ -1,8 +1,11 @@
 use Rattle.std.proofs.Common.{[], subst}
 use Rattle.glock_names.specs.Steps.{TellsOf}
-use Rattle.glock_names.proofs.StepLaws.{needed_at}
-use Rattle.name_moves.specs.Moving.{IsNeededIn, IsWrongIn, move_of}
+use Rattle.glock_names.proofs.StepLaws.{answer_at, needed_at}
+use Rattle.name_inserts.specs.Needing.{TakesBlocks}
+use Rattle.name_moves.specs.Becoming.{NeedsAfter}
+use Rattle.name_moves.specs.Moving.{IsNeededIn, IsNeededThere, IsWrongThere, lost_there, move_of}
 use Rattle.move_calls.specs.Carrying.{IsDamageOf, IsStuck, NeedsBlock}
+use Rattle.move_calls.proofs.Goings.{needed_now, wrong_now}
 use Rattle.move_calls.proofs.Gone.{astray, none_in, within}
 use Rattle.move_calls.proofs.looking.count_blocks.Goals.{else-gone-via-then-gone+else-not-is_in_groups, else-gone-via-else-gone}
 use Rattle.move_calls.proofs.looking.count_blocks.Goals as goal
@@ -14,11 +17,20 @@ returns-then-not-is_in_groups-clause-stuck g c node =
     astray v node m c.in-Ok-NeedBlock.missing (c.loses_names-gone.ensures.some c.if-gone.true) [] (needed_at _ _ (IsNeededIn v m []) c.in-Ok-NeedBlock.field-0-is c.in-Ok-NeedBlock.ensures.needed)
     (c.is_in_groups.ensures.astray c.if-not-is_in_groups.true)
 
+pub returns-in-Ok-Is-clause-need : goal.returns-in-Ok-Is-clause-need
+returns-in-Ok-Is-clause-need g c =
+    let m = move_of c.args.m.now in
+    record {
+      in_sound = λ h shown sound. answer_at c.in-Ok-Is.field-0 c.in-Ok-Is.need (NeedsAfter (lost_there m) h m.new_name) c.in-Ok-Is.field-0-is (c.in-Ok-Is.ensures.need h shown sound);
+      in_linear = λ h shown plain flat. answer_at c.in-Ok-Is.field-0 c.in-Ok-Is.need (NeedsAfter (lost_there m) h m.new_name) c.in-Ok-Is.field-0-is (c.in-Ok-Is.ensures.linear h shown plain flat);
+      in_hashed = λ h shown hashed none. answer_at c.in-Ok-Is.field-0 c.in-Ok-Is.need (TakesBlocks h m.new_name) c.in-Ok-Is.field-0-is (c.in-Ok-Is.ensures.hashed h shown hashed none);
+    }
+
 pub returns-then-gone-2-clause-stuck : goal.returns-then-gone-2-clause-stuck
 returns-then-gone-2-clause-stuck g c node =
     let v = g.V.View.seen c.args.view.now in
-    IsStuck.goes_wrong [] c.in-Err-Damaged.rule c.in-Err-Damaged.block (c.loses_names-gone.ensures.some c.if-gone-2.true)
-    (subst (TellsOf (IsWrongIn v (move_of c.args.m.now) [])) c.in-Err-Damaged.field-0-is c.in-Err-Damaged.ensures.damaged)
+    IsStuck.counts_wrong c.in-Err-Damaged.rule c.in-Err-Damaged.block (c.loses_names-gone.ensures.some c.if-gone-2.true)
+    (subst (TellsOf (IsWrongThere v (move_of c.args.m.now))) c.in-Err-Damaged.field-0-is c.in-Err-Damaged.ensures.wrong)
 
 pub returns-else-gone-clause-needed : goal.returns-else-gone-clause-needed
 returns-else-gone-clause-needed g c node =
@@ -28,11 +40,14 @@ returns-else-gone-clause-needed g c node =
     elim c.else-gone.branch [
       | else-gone-via-then-gone+else-not-is_in_groups w ↦
           within v node m c.in-Ok-NeedBlock.missing (c.loses_names-gone.ensures.some w.if-gone.true) [] (λ some. absurd (none_in some.2.0 some.2.1)) needed (w.is_in_groups.ensures.within w.if-not-is_in_groups.false)
-      | else-gone-via-else-gone w ↦ NeedsBlock.to_count (c.loses_names-gone.ensures.none w.if-gone.false) needed
+      | else-gone-via-else-gone w ↦
+          NeedsBlock.to_look (needed_at _ _ _ c.in-Ok-NeedBlock.field-0-is c.in-Ok-NeedBlock.ensures.absent)
+          (needed_now v m (c.loses_names-gone.ensures.none w.if-gone.false) c.in-Ok-NeedBlock.missing (needed_at _ _ (IsNeededThere v m) c.in-Ok-NeedBlock.field-0-is c.in-Ok-NeedBlock.ensures.there))
     ]
 
 pub returns-else-gone-2-clause-damaged : goal.returns-else-gone-2-clause-damaged
 returns-else-gone-2-clause-damaged g c node =
     let v = g.V.View.seen c.args.view.now in
-    IsDamageOf.to_count c.in-Err-Damaged.rule c.in-Err-Damaged.block (c.loses_names-gone.ensures.none c.if-gone-2.false)
-    (subst (TellsOf (IsWrongIn v (move_of c.args.m.now) [])) c.in-Err-Damaged.field-0-is c.in-Err-Damaged.ensures.damaged)
+    let m = move_of c.args.m.now in
+    IsDamageOf.to_look c.in-Err-Damaged.rule c.in-Err-Damaged.block
+    (wrong_now v m (c.loses_names-gone.ensures.none c.if-gone-2.false) c.in-Err-Damaged.rule c.in-Err-Damaged.block (subst (TellsOf (IsWrongThere v m)) c.in-Err-Damaged.field-0-is c.in-Err-Damaged.ensures.wrong))

@@ -1,0 +1,4 @@
+pub mod Rising
+pub mod Gaining
+pub mod Flying
+pub mod Stopping

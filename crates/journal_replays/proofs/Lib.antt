@@ -1,0 +1,5 @@
+pub mod Inverted
+pub mod Told
+pub mod Cut
+pub mod Brought
+pub mod Replayed

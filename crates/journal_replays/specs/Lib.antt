@@ -1,0 +1,5 @@
+pub mod Headers
+pub mod Items
+pub mod Replays
+pub mod Bringing
+pub mod Faults
