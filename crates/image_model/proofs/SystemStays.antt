@@ -1,5 +1,5 @@
 -- Images that have the same blocks of their system files have the same system files.
-use Rattle.std.proofs.Common.{◌≡◌, ◌≢◌, ℕ, zero, suc, ◌+◌, ◌-◌, ◌*◌, ◌/◌, ◌%◌, ◌^◌, ◌<◌, ◌≤◌, ◌==◌, ◌⊎◌, inl, inr, true, false, List, drop, take, Option, None, Some, refl, sym, ap, ap₂, ◌∙◌, subst, arith}
+use Rattle.std.proofs.Common.{◌≡◌, ℕ, zero, suc, ◌+◌, ◌-◌, ◌*◌, ◌/◌, ◌%◌, ◌^◌, ◌<◌, ◌≤◌, ◌==◌, ◌⊎◌, inl, inr, true, false, List, drop, take, Option, None, Some, refl, sym, ap, ap₂, ◌∙◌, subst, arith}
 use Rattle.std.proofs.lemmas.Bool.{cases_eq, cond-true, cond-false, eq-eqb, ne_eqb}
 use Rattle.std.proofs.lemmas.Nat.{div_below}
 use Rattle.std.proofs.Math.Nat.{div-add-mod, mul_comm}
@@ -8,12 +8,12 @@ use Rattle.std.specs.List.{range_with_len}
 use Rattle.gfs2_layout.specs.Bytes.{u64_at}
 use Rattle.gfs2_layout.specs.Device.{superblock_place}
 use Rattle.gfs2_layout.specs.Holding.{Holding, bytes_at}
-use Rattle.gfs2_layout.specs.Inode.{Fits, Leads, from_dinode, from_block, dinode_in, height_in, has_hash_flag, is_directory_in, is_hashed_in, header_length, fan, span, pointer, descend, content_block, unit, carried, pieces, content_count, content_of, depth_in, table_count, entry, entry_block, first_hash, leaf_in, leaf_area, linear_area}
+use Rattle.gfs2_layout.specs.Inode.{Fits, Leads, from_dinode, from_block, dinode_in, height_in, has_hash_flag, is_directory_in, is_hashed_in, header_length, fan, span, pointer, descend, content_block, unit, carried, pieces, content_count, content_of, depth_in, entry, entry_block, first_hash, leaf_in}
 use Rattle.gfs2_layout.specs.Records.{records_in}
 use Rattle.gfs2_layout.specs.Structures.{dinode_of, dinode_length, is_directory, leaf_of, superblock_of}
 use Rattle.gfs2_layout.specs.declared.dinode.Dinode.{Dinode}
 use Rattle.gfs2_layout.specs.declared.leaf.Leaf.{Leaf}
-use Rattle.image_model.specs.Claims.{every, Claims, master, first_leaf, next_leaf, in_dinode, in_leaf, HasInode, HasJournal, IsJindex, IsRindex, LeadsTo, master_of}
+use Rattle.image_model.specs.Claims.{every, Claims, master, first_leaf, next_leaf, in_dinode, in_leaf, HasInode, LeadsTo, master_of}
 use Rattle.image_model.specs.Image.{Blocks, Image}
 use Rattle.image_model.specs.Journals.{journal_name}
 use Rattle.image_model.specs.Owners.{Chained, Master, Named}

@@ -1,5 +1,5 @@
 -- What mounting tells in the end.
-use Rattle.std.proofs.Common.{inr, refl, ◌≡◌, ℕ, ◌^◌, ◌<◌, ◌≤◌, List, [], length, Some, IsTrue, sym, ap, subst, ◌∙◌}
+use Rattle.std.proofs.Common.{inr, refl, ◌≡◌, ℕ, ◌^◌, ◌<◌, ◌≤◌, List, length, Some, IsTrue, sym, ap, subst, ◌∙◌}
 use Rattle.std.specs.Prelude.{◌↔◌, map, slice_get, Contains, Result, IfErr, IsErrAnd}
 use Rattle.std.specs.List.{All}
 use Rattle.std.proofs.lemmas.List.{length-map}
@@ -15,7 +15,7 @@ use Rattle.image_model.specs.Image.{Image, image_of}
 use Rattle.image_model.specs.Owners.{Owners}
 use Rattle.image_model.specs.Stands.{IsLaid, Layout, IsJournalAt}
 use Rattle.image_model.specs.SystemFiles.{HasSameSystem}
-use Rattle.image_mount.specs.Found.{HasFormat, HasNames}
+use Rattle.image_mount.specs.Found.{HasFormat}
 use Rattle.image_model.specs.Journals.{journal_name}
 use Rattle.image_mount.specs.Looks.{HasTrueRecord, IsInGroups, IsPlaceOf, IsSoundDirectory, IsSystemDinode, IsTrueEntry, of_journal, of_jindex, of_master, of_rindex}
 use Rattle.image_mount.specs.Marked.{AreMarked, IsKept, IsKeptWay, IsTaken, times_in}

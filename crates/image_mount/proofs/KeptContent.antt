@@ -1,5 +1,5 @@
 -- The blocks below a file's dinode are kept, where its content was read from those that are.
-use Rattle.std.proofs.Common.{◌≡◌, ◌≢◌, inl, inr, ℕ, zero, suc, ◌+◌, ◌-◌, ◌*◌, ◌/◌, ◌%◌, ◌<◌, ◌≤◌, ◌==◌, if◌then◌else◌, true, false, List, [], ◌∷◌, length, drop, take, Option, None, Some, refl, sym, ap, ap₂, subst, ◌∙◌, arith, length-append}
+use Rattle.std.proofs.Common.{◌≡◌, ◌≢◌, inl, inr, ℕ, zero, suc, ◌+◌, ◌-◌, ◌*◌, ◌/◌, ◌%◌, ◌<◌, ◌≤◌, if◌then◌else◌, true, List, [], ◌∷◌, length, drop, take, Option, None, Some, refl, sym, ap, ap₂, subst, ◌∙◌, arith, length-append}
 use Rattle.std.specs.Prelude.{⊤, flat_map, min, nat_lt, replicate, unwrap_or}
 use Rattle.std.specs.List.{range_with_len}
 use Rattle.std.proofs.lemmas.Bool.{cases_Bool, cases_eq, cond-true, cond-false, eq-eqb, ne_eqb}
@@ -7,7 +7,7 @@ use Rattle.std.proofs.lemmas.Bool.Decides.{nat_tests}
 use Rattle.std.proofs.lemmas.List.{length-take, length-drop, length-replicate}
 use Rattle.std.proofs.lemmas.Nat.{div-mul-add, mod-mul-add}
 use Rattle.std.proofs.Math.Nat.{div-mul-le_self, mul-le-mul_right}
-use Rattle.dinode_tree.specs.Reading.{AreHeaded, IsHeadedAt, IsHeadedDown, IsHeadedWay, block_at, content_range, reach, target}
+use Rattle.dinode_tree.specs.Reading.{AreHeaded, IsHeadedDown, block_at, content_range, reach, target}
 use Rattle.dinode_tree.specs.Shown.{IsShown}
 use Rattle.gfs2_layout.specs.Bytes.{number_at, u32_at, u64_at}
 use Rattle.gfs2_layout.specs.Headers.{HasHeader}

@@ -42,7 +42,6 @@ use Rattle.image_mount.specs.Looks.{HasSoundLeaves, IsInRun, LeadsToLeaf}
 use Rattle.image_mount.specs.Refusals.{IsOutside, RefusesRightly, of_image}
 use Rattle.image_mount.specs.Refusals as outside
 use Rattle.image_mount.specs.Kept.{Kept}
-use Rattle.image_mount.specs.Rings.{IsSearched}
 use Rattle.image_mount.specs.System.{ArePlainRecords}
 use Rattle.image_mount.specs.declared.fault.MountFault.{MountFault}
 use Rattle.image_mount.specs.declared.fault.MountFault.TheVariants as fault
@@ -50,7 +49,6 @@ use Rattle.image_mount.specs.declared.field.Field.TheVariants as field
 use Rattle.image_mount.specs.declared.inodes.Inode.{Inode}
 use Rattle.image_mount.specs.declared.leaf.LeafAt.{LeafAt}
 use Rattle.image_mount.specs.declared.leaf.LeafWalk.{LeafWalk}
-use Rattle.image_mount.specs.declared.leaf.Names.{Names}
 use Rattle.image_mount.specs.declared.leaf.Names.TheVariants.{Files}
 use Rattle.image_mount.specs.declared.listing.Named.{Named}
 use Rattle.image_mount.proofs.Adding.{kept_at, new_at, said_added, which_at}

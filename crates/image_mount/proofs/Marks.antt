@@ -12,7 +12,7 @@ use Rattle.gfs2_layout.specs.declared.rindex.Rindex.{Rindex}
 use Rattle.image_model.specs.Claims.{every, Claims, below}
 use Rattle.image_model.specs.Groups.{groups_in, IsDataOf}
 use Rattle.shared_disk.specs.Disk.{DiskState}
-use Rattle.image_model.specs.Image.{Image, image_of}
+use Rattle.image_model.specs.Image.{Image}
 use Rattle.image_model.specs.Owners.{Below, Named}
 use Rattle.image_model.specs.Rules.{Breaks, no_superblock, beyond_device, beyond_groups, two_owners, IsOutside}
 use Rattle.image_model.specs.Journals.{journal_name}

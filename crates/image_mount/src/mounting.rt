@@ -131,7 +131,8 @@ fn map_groups(alloc: Global, entries: &[Rindex]) -> Result<Vec<Group>, NoMemory>
 /// the directory of journals and each journal, and looks at every field of the profile. Nothing is written, and, as rows
 /// show, no block is read twice, but a leaf to which something else leads. It costs a read for each block that the system
 /// files have, memory for those of them that lead on, but for leaves, and for an entry a block of the device, or two where
-/// the master directory or that of journals is a hashed one. A look at each of its pointers and leaves comes on top then.
+/// the master directory or that of journals is a hashed one. A look at each of its pointers and leaves comes on top then. The blocks
+/// of the system files are told by a pass over these entries at the end.
 pub fn mount_image<D: SharedDisk>(alloc: Global, disk: &mut D) -> Result<Mounted, MountFault>
     requires idle { IsIdle (D.state disk.old) }
     requires size { IsBlockSize (D.state disk.old).size }

@@ -1,4 +1,4 @@
-use Rattle.std.proofs.Common.{◌≡◌, [], false, true, sym, ◌∙◌, arith}
+use Rattle.std.proofs.Common.{◌≡◌, false, sym, ◌∙◌, arith}
 use Rattle.std.proofs.lemmas.Bool.{both_ways}
 use Rattle.gfs2_layout.specs.Inode.{is_hashed_in}
 use Rattle.image_model.specs.Claims.{every}

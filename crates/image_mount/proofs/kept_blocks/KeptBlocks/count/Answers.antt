@@ -1,4 +1,4 @@
-use Rattle.std.proofs.Common.{◌≡◌, ◌<◌, length, sym, subst, arith}
+use Rattle.std.proofs.Common.{sym, subst, arith}
 use Rattle.image_mount.specs.Kept.{Kept}
 use Rattle.image_mount.specs.Marked.{IsTaken}
 use Rattle.image_mount.proofs.Taken.{taken_inside}
