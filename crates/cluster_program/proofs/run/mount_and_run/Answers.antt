@@ -54,7 +54,7 @@ returns-in-Err-join-clause-quiet g c told is_done =
 
 -- ---- the run was whole
 
-module _ (g : Over) (c : goal.After-drop-view-inside-in-Ok-run_script g) (left left_now : Option (List ℕ)) (failed failed_now : ℕ) where
+module _ (g : Over) (c : goal.After-drop-view-inside-in-Ok-run_script-2 g) (left left_now : Option (List ℕ)) (failed failed_now : ℕ) where
   ran : HasRun (g.D.SharedDisk.state c.mount_clean.new.disk) (g.D.SharedDisk.state c.run_script.new.disk) (g.D.SharedDisk.list c.mount_clean.new.disk) (g.D.SharedDisk.list c.run_script.new.disk) c.in-Ok-view_of.view
       (g.D.SharedDisk.faults c.mount_clean.new.disk) (g.D.SharedDisk.faults c.run_script.new.disk) c.args.script.now c.args.time c.run_script.new.items.items (Ok tt)
   ran = record {
