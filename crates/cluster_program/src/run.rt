@@ -15,7 +15,7 @@ use damage_laws::{
     views_may_be_read_from_mounted_images,
 };
 use image_mount::mounted_images_stand_as_mounted;
-use lone_node::run_script;
+use lone_node::{join, run_script};
 use script_lang::Script;
 use shared_disk::SharedDisk;
 use std::alloc::Global;
@@ -59,6 +59,10 @@ pub(crate) fn mount_and_run<D: SharedDisk>(
         Ok(view) => view,
         Err(own) => return own,
     };
+    match join(items) {
+        Ok(()) => {}
+        Err(_) => return Status::NoMemory,
+    }
     match run_script(alloc, disk, &mut view, script, time, items) {
         Ok(()) => Status::Done,
         Err(end) => {
