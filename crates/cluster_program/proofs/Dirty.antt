@@ -1,13 +1,13 @@
 -- No journal is left dirty by a run of one node, which commits nothing.
 use Rattle.std.proofs.Common.{◌≡◌, ◌⊎◌, inl, inr, ℕ, suc, ◌+◌, List, [], ◌∷◌, ◌++◌, Bool, true, false, cond, Option, None, Some, refl, sym, ap, ◌∙◌, subst, arith}
-use Rattle.std.specs.Prelude.{◌≢◌, count_by, not, slice_get}
-use Rattle.std.specs.List.{range_with_len}
+use Rattle.std.specs.Prelude.{◌≢◌, ◌==◌, count_by, if◌then◌else◌, not, slice_get}
+use Rattle.std.specs.List.{AllByRecursion, range_with_len}
 use Rattle.std.proofs.lemmas.Bool.{cond-false}
 use Rattle.std.proofs.lemmas.List.Sums.{sum_by-cons}
 use Rattle.image_mount.specs.Mounted.{Journal, MountedValue}
 use Rattle.script_lang.specs.Script.{ScriptValue}
 use Rattle.script_lang.specs.declared.script.Client.{Client}
-use Rattle.lone_node.specs.Items.{AnsweredCall, full_item, items_from, name_at}
+use Rattle.lone_node.specs.Items.{AnsweredCall, IsOfReplay, full_item, items_from, name_at}
 use Rattle.lone_node.specs.declared.answering.Full.{Full}
 use Rattle.image_model.specs.Image.{Image, image_of}
 use Rattle.file_tree.specs.Tree.{Tree}
@@ -50,9 +50,21 @@ module _ (clients : List Client) (end : List TraceItem) (is : IsEnd end) where
       by_full None rest = rest
       by_full (Some f) rest = rest
 
+-- nor does a replay leave one
+clean_replays : (node : ℕ) (is rs : List TraceItem) → AllByRecursion IsOfReplay rs → is_left_dirty node false (rs ++ is) ≡ is_left_dirty node false is
+clean_replays node is [] of = refl
+clean_replays node is (trace.WriteReplay n block ∷ rs) of = clean_replays node is rs of.1
+clean_replays node is (trace.Barrier n ∷ rs) of = clean_replays node is rs of.1
+clean_replays node is (trace.Recovered n by ∷ rs) of = same (n == node) ∙ clean_replays node is rs of.1
+  where
+    same : (b : Bool) → is_left_dirty node (if b then false else false) (rs ++ is) ≡ is_left_dirty node false (rs ++ is)
+    same true = refl
+    same false = refl
+clean_replays node is (_ ∷ rs) of = absurd of.0
+
 clean_after : (clients : List Client) (items : List TraceItem) (node : ℕ) → IsAnswers clients items → is_left_dirty node false items ≡ false
 clean_after clients items node (NoItems none) = ap (is_left_dirty node false) none
-clean_after clients items node (Joined calls end is are) = ap (is_left_dirty node false) are ∙ clean_rest clients end is node 1 calls
+clean_after clients items node (Joined replays calls end of is are) = ap (is_left_dirty node false) are ∙ clean_replays node (items_from clients 1 calls ++ end) replays of ∙ clean_rest clients end is node 1 calls
 
 done_or_not : (told : Status) → (told ≡ status.Done) ⊎ (is_done told ≡ false)
 done_or_not status.Done = inl refl
@@ -60,7 +72,7 @@ done_or_not _ = inr refl
 
 some_items : (clients : List Client) (items : List TraceItem) → IsAnswers clients items → (items ≡ []) ⊎ (items ≢ [])
 some_items clients items (NoItems none) = inl none
-some_items clients items (Joined calls end is are) = inr (λ none. let both : trace.Join 1 ∷ (items_from clients 1 calls ++ end) ≡ [] = sym are ∙ none in cc)
+some_items clients items (Joined replays calls end of is are) = inr (λ none. let both : trace.Join 1 ∷ (replays ++ (items_from clients 1 calls ++ end)) ≡ [] = sym are ∙ none in cc)
 
 module _ (given left : Inputs) (s : ScriptValue) (time : ℕ) (items : List TraceItem) (own told : Status) (runs : Runs given left s time items own) (done : told ≡ status.Done → own ≡ status.Done) where
   are : IsAnswers s.clients items

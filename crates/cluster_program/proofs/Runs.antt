@@ -77,7 +77,7 @@ image_left stand d d' n t t' m for at left = record {
 
 module _ (clients : List Client) (lines : List Line) (items : List TraceItem) (P Q : Tree → Type 0) (from : (t : Tree) → Q t → P t) where
   up_to : (count : ℕ) (items : List TraceItem) → IsRunUpTo clients lines count items P → IsRunUpTo clients lines count items Q
-  up_to count items r = record { answered = r.answered; are = r.are; calls = r.calls; answers = λ t q. r.answers t (from t q); full = r.full }
+  up_to count items r = record { begun = r.begun; begins = r.begins; answered = r.answered; are = r.are; calls = r.calls; answers = λ t q. r.answers t (from t q); full = r.full }
 
   pub whole_from : IsWholeRun clients lines items P → IsWholeRun clients lines items Q
   whole_from r = record { before = r.before; taken = up_to (length lines) r.before r.taken; are = r.are }

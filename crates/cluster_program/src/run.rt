@@ -17,7 +17,7 @@ use damage_laws::{
 use disk_trees::clean_mounts_stay;
 use image_model::clean_images_stay;
 use image_mount::mounted_images_stand_as_mounted;
-use lone_node::run_script;
+use lone_node::{join, run_script};
 use script_lang::Script;
 use shared_disk::SharedDisk;
 use std::alloc::Global;
@@ -63,6 +63,10 @@ pub(crate) fn mount_and_run<D: SharedDisk>(
         Ok(view) => view,
         Err(own) => return own,
     };
+    match join(items) {
+        Ok(()) => {}
+        Err(_) => return Status::NoMemory,
+    }
     match run_script(alloc, disk, &mut view, script, time, items) {
         Ok(()) => Status::Done,
         Err(end) => {

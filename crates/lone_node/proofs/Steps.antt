@@ -27,7 +27,7 @@ use Rattle.lone_view.specs.Seeing.{Lone}
 use Rattle.lone_node.specs.Answering.{IsToldFull}
 use Rattle.disk_turns.specs.Turns.{Moment, moment}
 use Rattle.lone_node.specs.Course.{AreSteps}
-use Rattle.lone_node.specs.Items.{AnsweredCall, full_item, is_call_line, items_from, its_answer, its_line, name_at}
+use Rattle.lone_node.specs.Items.{AnsweredCall, IsBegun, IsOfReplay, full_item, is_call_line, items_from, its_answer, its_line, name_at}
 use Rattle.lone_node.specs.Run.{EndsAt, EndsAtCall, HasChangedNothing, IsRunUpTo, IsTakenCall}
 use Rattle.lone_node.specs.Standing.{IsSameSystem, LeavesStanding, StandsFor}
 use Rattle.lone_node.specs.declared.answering.Full.{Full}
@@ -86,24 +86,39 @@ history_end clients n (r ∷ rs) =
     ∙ ap (λ (h : List Item). item.Call 1 (place_of clients (name_at clients r.client)) n r.call r.reply ∷ h) (history_end clients (n + 1) rs)
     ∙ sym (history_past clients r.full (first ∷ items_from clients (n + 1) rs))
 
+-- nor are those with which a run begins
+pub past_replays : (clients : List Client) (replays is : List TraceItem) → AllByRecursion IsOfReplay replays → history_of clients (replays ++ is) ≡ history_of clients is
+past_replays clients [] is of = refl
+past_replays clients (trace.WriteReplay node block ∷ rs) is of = past_replays clients rs is of.1
+past_replays clients (trace.Barrier node ∷ rs) is of = past_replays clients rs is of.1
+past_replays clients (trace.Recovered node by ∷ rs) is of = past_replays clients rs is of.1
+past_replays clients (_ ∷ rs) is of = absurd of.0
+
+pub past_begun : (clients : List Client) (begun is : List TraceItem) → IsBegun begun → history_of clients (begun ++ is) ≡ history_of clients is
+past_begun clients begun is begins = ap (λ (xs : List TraceItem). history_of clients (xs ++ is)) begins.are ∙ past_replays clients begins.replays is begins.of_replay
+
 -- ---- steps
 
 module _ (clients : List Client) (lines : List Line) (IsStart : Tree → Type 0) where
   -- the tree behind a run is that after its calls
   pub tree_is : (count : ℕ) (items : List TraceItem) (so : IsRunUpTo clients lines count items IsStart) (t : Tree) → tree_of (history_of clients items) t ≡ tree_after (map its_answer so.answered) t
-  tree_is count items so t = ap (λ (is : List TraceItem). tree_of (history_of clients is) t) so.are ∙ ap (λ (ss : List Replied). tree_after ss t) (alive_in clients 1 so.answered)
+  tree_is count items so t = ap (λ (is : List TraceItem). tree_of (history_of clients is) t) so.are ∙ ap (λ (h : List Item). tree_of h t) (past_begun clients so.begun (items_from clients 1 so.answered) so.begins)
+      ∙ ap (λ (ss : List Replied). tree_after ss t) (alive_in clients 1 so.answered)
 
   pub alive_is : (count : ℕ) (items : List TraceItem) (so : IsRunUpTo clients lines count items IsStart) → alive (history_of clients items) ≡ map its_answer so.answered
-  alive_is count items so = ap (λ (is : List TraceItem). alive (history_of clients is)) so.are ∙ alive_in clients 1 so.answered
+  alive_is count items so = ap (λ (is : List TraceItem). alive (history_of clients is)) so.are ∙ ap alive (past_begun clients so.begun (items_from clients 1 so.answered) so.begins) ∙ alive_in clients 1 so.answered
 
   -- it stays at the unmount
   pub unmounted : (count : ℕ) (items more : List TraceItem) → IsRunUpTo clients lines count items IsStart → more ≡ items ++ trace.Unmount 1 ∷ [] → history_of clients items ≡ history_of clients more
   unmounted count items more so are =
-      ap (history_of clients) so.are ∙ sym (history_end clients 1 so.answered) ∙ ap (λ (is : List TraceItem). history_of clients (is ++ trace.Unmount 1 ∷ [])) (sym so.are) ∙ ap (history_of clients) (sym are)
+      ap (history_of clients) so.are ∙ past_begun clients so.begun (items_from clients 1 so.answered) so.begins ∙ sym (history_end clients 1 so.answered)
+      ∙ sym (past_begun clients so.begun (items_from clients 1 so.answered ++ trace.Unmount 1 ∷ []) so.begins)
+      ∙ ap (history_of clients) (sym (append_assoc so.begun (items_from clients 1 so.answered) (trace.Unmount 1 ∷ [])))
+      ∙ ap (λ (is : List TraceItem). history_of clients (is ++ trace.Unmount 1 ∷ [])) (sym so.are) ∙ ap (history_of clients) (sym are)
 
-  -- node 1 has joined, and taken no line
-  abbrev pub run_none : (items : List TraceItem) → items ≡ trace.Join 1 ∷ [] → IsRunUpTo clients lines 0 items IsStart
-  run_none items is = record { answered = []; are = is; calls = refl; answers = λ t start. tt; full = tt }
+  -- the run has begun, and no line was taken
+  abbrev pub run_none : (items : List TraceItem) → IsBegun items → IsRunUpTo clients lines 0 items IsStart
+  run_none items begins = record { begun = items; begins = begins; answered = []; are = sym (append-nil items); calls = refl; answers = λ t start. tt; full = tt }
 
   module _ (i : ℕ) (items : List TraceItem) (below : i < length lines) (so : IsRunUpTo clients lines i items IsStart) where
     -- the calls among one more line
@@ -130,6 +145,8 @@ module _ (clients : List Client) (lines : List Line) (IsStart : Tree → Type 0)
         → (run : IsRunUpTo clients lines (i + 1) items IsStart) × (number ≡ 1 + length run.answered) × (run.answered ≡ so.answered)
     wait_more number d l is other same = (
       record {
+        begun = so.begun;
+        begins = so.begins;
         answered = so.answered;
         are = so.are;
         calls =
@@ -164,6 +181,14 @@ module _ (clients : List Client) (lines : List Line) (IsStart : Tree → Type 0)
       pub ends_here : (P : Call → Type 0) (more : List TraceItem) → more ≡ items → P call → EndsAtCall P clients lines more IsStart
       ends_here P more kept holds = record { count = i; ends = ends_at P more kept holds }
 
+-- its items come behind all that were there
+pub kept_more : (name : List ℕ) (number time : ℕ) (call : Call) (first more before items : List TraceItem) (d d' : Moment) (n : Lone) → IsTakenCall name number time call before items d d' n → before ≡ first ++ more
+    → (later : List TraceItem) × (items ≡ first ++ later)
+kept_more name number time call first more before items d d' n taken kept = (more ++ added, taken.are ∙ ap (λ (is : List TraceItem). is ++ added) kept ∙ append_assoc first more added)
+  where
+    added : List TraceItem
+    added = full_item taken.full ++ trace.Call 1 name number call taken.reply ∷ []
+
 -- ---- one more call is answered
 
 module _ (clients : List Client) (lines : List Line) (start : DiskState) (first : Lone) (i : ℕ) (items : List TraceItem) (below : i < length lines)
@@ -187,10 +212,13 @@ module _ (clients : List Client) (lines : List Line) (start : DiskState) (first 
 
   run_more : IsRunUpTo clients lines (i + 1) more (StandsFor start first)
   run_more = record {
+    begun = so.begun;
+    begins = so.begins;
     answered = so.answered ++ one ∷ [];
     are =
         taken.are ∙ (λ k. so.are k ++ (full_item taken.full ++ trace.Call 1 (its_client clients lines (StandsFor start first) i items below so place call l d c is is_call form k) (number_is k) call taken.reply ∷ []))
-        ∙ ap (λ (is : List TraceItem). trace.Join 1 ∷ is) (sym (items_more clients 1 so.answered one));
+        ∙ append_assoc so.begun (items_from clients 1 so.answered) (full_item taken.full ++ trace.Call 1 (name_at clients place) (1 + length so.answered) call taken.reply ∷ [])
+        ∙ ap (λ (is : List TraceItem). so.begun ++ is) (sym (items_more clients 1 so.answered one));
     calls =
         map_push its_line so.answered one ∙ ap (λ (ls : List Line). ls ++ line.Call place call ∷ []) so.calls
         ∙ sym (calls_more clients lines (StandsFor start first) i items below so (line.Call place call) d (sym is_call ∙ is));

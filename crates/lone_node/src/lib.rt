@@ -9,4 +9,4 @@ mod running;
 
 pub use answering::{Answer, Full};
 pub use ends::RunEnd;
-pub use running::run_script;
+pub use running::{join, run_script};

@@ -1,4 +1,4 @@
-use Rattle.std.proofs.Common.{◌+◌, ◌<◌, ℕ, List, Option, sym, ap, ◌∙◌, subst}
+use Rattle.std.proofs.Common.{◌≡◌, ◌+◌, ◌<◌, ℕ, List, Option, sym, ap, ◌∙◌, subst}
 use Rattle.std.specs.Prelude.{Ok, Err}
 use Rattle.gfs2_layout.specs.Device.{IsBlockSize}
 use Rattle.shared_disk.specs.Disk.{DiskState}
@@ -8,7 +8,7 @@ use Rattle.lone_node.specs.Answering.{IsUnbuiltOn}
 use Rattle.lone_node.specs.Ends.{IfNotBuilt}
 use Rattle.lone_node.specs.Standing.{StandsFor}
 use Rattle.cluster_program.specs.EndStatuses.{status_of_end}
-use Rattle.cluster_program.specs.Mounting.{MountEnds, NotMounted}
+use Rattle.cluster_program.specs.Mounting.{LacksRoom, MountEnds, NotMounted}
 use Rattle.cluster_program.specs.Runs.{Runs, as_mounted, first_line}
 use Rattle.cluster_program.specs.World.{inputs}
 use Rattle.cluster_program.specs.declared.status.Status.TheVariants as status
@@ -42,9 +42,19 @@ pub returns-in-Err-view_of-clause-quiet : goal.returns-in-Err-view_of-clause-qui
 returns-in-Err-view_of-clause-quiet g c told is_done =
     quiet c.args.script.now c.args.items.now.items told c.requires.form.nodes (NoItems c.requires.none) (λ is. absurd (mount_never_done _ _ _ c.in-Err-view_of.own (ends g c) (is_done is)))
 
+-- ---- there was no room for the join
+
+pub returns-in-Err-join-clause-runs : goal.returns-in-Err-join-clause-runs
+returns-in-Err-join-clause-runs g c left left_now failed failed_now =
+    not_begun _ _ c.args.script.now c.args.time c.join.new.items.items status.NoMemory c.requires.idle c.in-Err-join.ensures.none (record { state_is = c.in-Ok.ensures.reads.same; list_is = c.in-Ok.ensures.reads.list }) (NotMounted status.NoMemory LacksRoom)
+
+pub returns-in-Err-join-clause-quiet : goal.returns-in-Err-join-clause-quiet
+returns-in-Err-join-clause-quiet g c told is_done =
+    quiet c.args.script.now c.join.new.items.items told c.requires.form.nodes (NoItems c.in-Err-join.ensures.none) (λ is. absurd (let no : status.NoMemory ≡ status.Done = is_done is in cc))
+
 -- ---- the run was whole
 
-module _ (g : Over) (c : goal.After-drop-view-inside-in-Ok-run_script g) (left left_now : Option (List ℕ)) (failed failed_now : ℕ) where
+module _ (g : Over) (c : goal.After-drop-view-inside-in-Ok-run_script-2 g) (left left_now : Option (List ℕ)) (failed failed_now : ℕ) where
   ran : HasRun (g.D.SharedDisk.state c.mount_clean.new.disk) (g.D.SharedDisk.state c.run_script.new.disk) (g.D.SharedDisk.list c.mount_clean.new.disk) (g.D.SharedDisk.list c.run_script.new.disk) c.in-Ok-view_of.view
       (g.D.SharedDisk.faults c.mount_clean.new.disk) (g.D.SharedDisk.faults c.run_script.new.disk) c.args.script.now c.args.time c.run_script.new.items.items (Ok tt)
   ran = record {

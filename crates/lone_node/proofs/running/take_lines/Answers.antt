@@ -1,4 +1,5 @@
-use Rattle.std.proofs.Common.{◌≡◌, List, refl, rules, sym, ◌∙◌, subst, arith}
+use Rattle.std.proofs.Common.{◌≡◌, List, [], refl, rules, sym, ◌∙◌, subst, arith}
+use Rattle.std.proofs.lemmas.List.{append-nil}
 use Rattle.file_tree.specs.Tree.{Tree}
 use Rattle.file_tree.specs.declared.call.Call.{Call}
 use Rattle.cluster_history.specs.History.{tree_of}
@@ -13,7 +14,7 @@ use Rattle.lone_node.specs.Run.{EndsAt, EndsAtCall, HasChangedNothing, IsFailedO
 use Rattle.lone_node.specs.Standing.{LeavesStanding, StandsFor}
 use Rattle.lone_node.proofs.Endings.{damaged_before, damaged_so, damaged_with, failed_before, failed_so, unbuilt_before, unbuilt_so, unbuilt_with, unless_so}
 use Rattle.lone_node.proofs.Leaving.{leaves_none, stands_on}
-use Rattle.lone_node.proofs.Steps.{ends_at, goes_on, no_more_calls, run_none, tree_is, wait_more}
+use Rattle.lone_node.proofs.Steps.{ends_at, goes_on, kept_more, no_more_calls, run_none, tree_is, wait_more}
 use Rattle.lone_node.proofs.running.take_lines.Given.{Over}
 use Rattle.lone_node.proofs.running.take_lines.Goals as goal
 
@@ -21,7 +22,7 @@ pub loop-place-init : goal.loop-place-init
 loop-place-init g c =
     let disk = g.D.SharedDisk.state c.args.disk.now in
     let start = StandsFor disk c.args.view.now in
-    let run = run_none c.args.clients.now c.args.lines.now start c.args.items.now.items c.requires.joined in
+    let run = run_none c.args.clients.now c.args.lines.now start c.args.items.now.items c.requires.begun in
     record {
       run = run;
       number = refl;
@@ -34,6 +35,7 @@ loop-place-init g c =
       same = record { size = refl; count = refl; tells = refl; fenced = refl };
       system = record { size = refl; root = refl; groups = refl };
       later = λ i. omega arith;
+      kept = ([], sym (append-nil c.args.items.now.items));
     }
 
 pub loop-place-preserved-in_default : goal.loop-place-preserved-in_default
@@ -56,6 +58,7 @@ loop-place-preserved-in_default g c =
       same = so.same;
       system = so.system;
       later = so.later;
+      kept = so.kept;
     }
 
 pub overflow_add-number : goal.overflow_add-number
@@ -88,6 +91,7 @@ loop-place-preserved g c =
       same = search rules;
       system = search rules;
       later = λ i. let before = so.later i in let more = c.in-Ok.ensures.later i in omega (arith, before, more);
+      kept = kept_more _ _ _ _ c.args.items.now.items so.kept.0 c.loop-place.items.items c.take_call.new.items.items _ _ _ c.in-Ok.ensures.taken so.kept.1;
     }
 
 -- what the disk stood for before the call that wasn't answered, where its items are those before
@@ -107,7 +111,7 @@ module _ (g : Over) (c : goal.In-Err g) where
 
   -- the steps up to it
   course_before : HasTaken c.args.view.now c.args.stamp.now.time c.args.clients.now first_of before_of c.take_call.new.items.items
-  course_before = record { answered = c.loop-place.invariant.run.answered; are = c.in-Err.ensures.kept ∙ c.loop-place.invariant.run.are; steps = c.loop-place.invariant.steps }
+  course_before = record { begun = c.loop-place.invariant.run.begun; begins = c.loop-place.invariant.run.begins; answered = c.loop-place.invariant.run.answered; are = c.in-Err.ensures.kept ∙ c.loop-place.invariant.run.are; steps = c.loop-place.invariant.steps }
 
   abbrev start : Tree → Type 0
   start = StandsFor (g.D.SharedDisk.state c.args.disk.now) c.args.view.now
@@ -194,4 +198,10 @@ returns-in-Err-clause-course g c =
     c.in-Err.ensures.before
 
 pub returns-clause-course : goal.returns-clause-course
-returns-clause-course g c = record { answered = c.loop-place.invariant.run.answered; are = c.loop-place.invariant.run.are; steps = c.loop-place.invariant.steps }
+returns-clause-course g c = record { begun = c.loop-place.invariant.run.begun; begins = c.loop-place.invariant.run.begins; answered = c.loop-place.invariant.run.answered; are = c.loop-place.invariant.run.are; steps = c.loop-place.invariant.steps }
+
+pub returns-in-Err-clause-kept : goal.returns-in-Err-clause-kept
+returns-in-Err-clause-kept g c = (c.loop-place.invariant.kept.0, c.in-Err.ensures.kept ∙ c.loop-place.invariant.kept.1)
+
+pub returns-clause-kept : goal.returns-clause-kept
+returns-clause-kept g c = c.loop-place.invariant.kept
