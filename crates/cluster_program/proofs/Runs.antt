@@ -21,7 +21,8 @@ use Rattle.image_model.specs.Stands.{IsLaid}
 use Rattle.script_lang.specs.WellFormed.{IsWellFormed}
 use Rattle.lone_view.specs.Seeing.{Lone, seen_alone}
 use Rattle.lone_node.specs.Answering.{IsDamagedOn, IsUnbuiltOn, IsSameDisk}
-use Rattle.lone_node.specs.Course.{IsCourse, moment}
+use Rattle.lone_node.specs.Course.{IsCourse}
+use Rattle.lone_node.specs.Turns.{moment}
 use Rattle.lone_node.specs.Ends.{HasCause, IfDamaged, IfDiskFailed, IfNotBuilt, UnlessDiskFailed, UnlessFailed}
 use Rattle.lone_node.specs.Run.{EndsAt, EndsAtCall, HasChangedNothing, IsCallThat, IsFailedOn, IsRunOf, IsRunUpTo, IsWholeRun, NotJoined, Taken, Unmounted}
 use Rattle.lone_node.specs.Standing.{StandsFor, LeavesStanding}

@@ -17,7 +17,8 @@ use Rattle.shared_disk.specs.Disk.{DiskState, IsIdle}
 use Rattle.lone_view.specs.Seeing.{Lone, seen_alone}
 use Rattle.damage_laws.specs.Telling.{HasAstrayOn, HasRootInside}
 use Rattle.lone_node.specs.Answering.{IsDamagedOn, IsSameDisk, IsUnbuiltOn}
-use Rattle.lone_node.specs.Course.{IsCourse, moment}
+use Rattle.lone_node.specs.Course.{IsCourse}
+use Rattle.lone_node.specs.Turns.{moment}
 use Rattle.lone_node.specs.Run.{EndsAt, EndsAtCall, HasChangedNothing, IsFailedOn, IsRunOf, IsWholeRun}
 use Rattle.cluster_program.specs.Mounting.{OfImage, IsImageOf, IsMountable, NeverStands, IsMountedClean, IsMountedFor, MountEnds, is_clean_in}
 use Rattle.cluster_program.specs.World.{Inputs, KeepsDisk}

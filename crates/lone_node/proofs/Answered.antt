@@ -40,10 +40,11 @@ use Rattle.lone_node.specs.Course.{IsDoneBy}
 use Rattle.lone_node.specs.Answering.{IsAnsweredFrom, IsDamagedFor, as_shown}
 use Rattle.lone_node.specs.Ends.{IfDamaged, end_at}
 use Rattle.lone_node.specs.Standing.{IsOn, IsSameSystem, LeavesStanding, StandsFor, is_none, lacked_count}
-use Rattle.lone_node.specs.Writing.{AreOfDisk, AreWritten, RiseFrom, with_blocks}
-use Rattle.lone_node.proofs.Keeping.{got, over}
+use Rattle.disk_turns.specs.Writing.{AreOfDisk, AreWritten, RiseFrom}
+use Rattle.lone_node.specs.Keeping.{with_blocks}
+use Rattle.lone_node.proofs.Keeping.{flight_is, got, over}
 use Rattle.lone_node.proofs.Leaving.{leaves_as, leaves_none, stands_on}
-use Rattle.lone_node.proofs.Rising.{sorted_rise, none_low}
+use Rattle.disk_turns.proofs.Rising.{sorted_rise, none_low}
 
 -- the image on the disk is one that the view may be of
 pub of_view : (d : DiskState) (n : Lone) (t : Tree) → IsOn d n → (s : StandsFor d n t) → IsOf (seen_alone n) (image_of d) s.owners s.layout t
@@ -76,9 +77,13 @@ module _ (d d' : DiskState) (n : Lone) (change : Change) (on : IsOn d n) (form :
   rise : RiseFrom 0 change.blocks.items
   rise = sorted_rise 0 change.blocks.items (none_low change.blocks.items) form.blocks
 
+  -- the disk holds what is written over what it held
+  holds : IsTrue d.tells → (b : ℕ) → d'.block_at b ≡ unwrap_or (bytes_for change.blocks.items b) (d.block_at b)
+  holds tells b = written.blocks_are tells b ∙ ap (λ o. unwrap_or o (d.block_at b)) (flight_is change.blocks.items b)
+
   -- the image with the change is that on the disk
   same_image : IsTrue d.tells → with_change (image_of d) change ≡ image_of d'
-  same_image tells = λ i. record { size = sym written.size i; count = sym written.count i; at = λ b. sym (written.blocks_are tells b) i }
+  same_image tells = λ i. record { size = sym written.size i; count = sym written.count i; at = λ b. sym (holds tells b) i }
 
   -- what the disk stands for then
   leaves_so : OthersLeaveTheTree → (call : Call) (r : Reply) → Does (seen_alone n) call r change → (t : Tree) (s : StandsFor d n t)
@@ -122,8 +127,8 @@ module _ (d d' : DiskState) (n : Lone) (change : Change) (on : IsOn d n) (form :
       low b bytes None is e = on.inside b bytes (ap (λ o. over o (get n.blocks b)) (sym is) ∙ e)
 
       by : IsTrue d.tells → (b : ℕ) (bytes : List ℕ) (o : Option (List ℕ)) → bytes_for change.blocks.items b ≡ o → over (bytes_for change.blocks.items b) (get n.blocks b) ≡ Some bytes → d'.block_at b ≡ bytes
-      by tells b bytes (Some x) is e = written.blocks_are tells b ∙ ap (λ o. unwrap_or o (d.block_at b)) is ∙ some_is (ap (λ o. over o (get n.blocks b)) (sym is) ∙ e)
-      by tells b bytes None is e = written.blocks_are tells b ∙ ap (λ o. unwrap_or o (d.block_at b)) is ∙ on.agrees tells b bytes (ap (λ o. over o (get n.blocks b)) (sym is) ∙ e)
+      by tells b bytes (Some x) is e = holds tells b ∙ ap (λ o. unwrap_or o (d.block_at b)) is ∙ some_is (ap (λ o. over o (get n.blocks b)) (sym is) ∙ e)
+      by tells b bytes None is e = holds tells b ∙ ap (λ o. unwrap_or o (d.block_at b)) is ∙ on.agrees tells b bytes (ap (λ o. over o (get n.blocks b)) (sym is) ∙ e)
 
 -- what a call writes are blocks of the disk
 pub of_disk : (d : DiskState) (n : Lone) (change : Change) → IsOn d n → IsFormed change → AllByRecursion (IsInside (seen_alone n)) change.blocks.items → AreOfDisk d change.blocks.items

@@ -4,7 +4,8 @@ use Rattle.file_tree.specs.declared.call.Call.{Call}
 use Rattle.file_tree.specs.declared.reply.Reply.{Reply}
 use Rattle.shared_disk.specs.Disk.{DiskState}
 use Rattle.lone_view.specs.Seeing.{Lone}
-use Rattle.lone_node.specs.Course.{AreSteps, IsLaterView, IsStep, Moment, done, spaceless}
+use Rattle.disk_turns.specs.Turns.{Moment}
+use Rattle.lone_node.specs.Course.{AreSteps, IsLaterView, IsStep, done, spaceless}
 use Rattle.lone_node.specs.Items.{AnsweredCall}
 use Rattle.lone_node.specs.Standing.{IsSameSystem}
 use Rattle.lone_node.specs.declared.answering.Full.{Full}

@@ -4,7 +4,8 @@ use Rattle.file_tree.specs.declared.call.Call.{Call}
 use Rattle.shared_disk.specs.Disk.{DiskState}
 use Rattle.lone_view.specs.Seeing.{Lone, seen_alone}
 use Rattle.lone_node.specs.Answering.{IsDamagedFor, IsDamagedOn, IsFailedAt, IsUnbuiltOn}
-use Rattle.lone_node.specs.Course.{IsLaterView, Moment}
+use Rattle.disk_turns.specs.Turns.{Moment}
+use Rattle.lone_node.specs.Course.{IsLaterView}
 use Rattle.lone_node.specs.Ends.{IfDamaged, IfDiskFailed, IfNotBuilt, UnlessFailed}
 use Rattle.lone_node.specs.declared.ends.RunEnd.{RunEnd}
 use Rattle.lone_node.specs.declared.ends.RunEnd.TheVariants as end

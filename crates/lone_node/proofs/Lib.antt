@@ -1,11 +1,7 @@
-pub mod Rising
-pub mod Flying
-pub mod Stopping
 pub mod Keeping
 pub mod Leaving
 pub mod Answered
 pub mod Courses
-pub mod Gaining
 pub mod Calls
 pub mod Clients
 pub mod Steps

@@ -25,7 +25,8 @@ use Rattle.script_lang.specs.OneNode.{IsOwnLine}
 use Rattle.shared_disk.specs.Disk.{DiskState, Operation}
 use Rattle.lone_view.specs.Seeing.{Lone}
 use Rattle.lone_node.specs.Answering.{IsToldFull}
-use Rattle.lone_node.specs.Course.{AreSteps, Moment, moment}
+use Rattle.disk_turns.specs.Turns.{Moment, moment}
+use Rattle.lone_node.specs.Course.{AreSteps}
 use Rattle.lone_node.specs.Items.{AnsweredCall, full_item, is_call_line, items_from, its_answer, its_line, name_at}
 use Rattle.lone_node.specs.Run.{EndsAt, EndsAtCall, HasChangedNothing, IsRunUpTo, IsTakenCall}
 use Rattle.lone_node.specs.Standing.{IsSameSystem, LeavesStanding, StandsFor}

@@ -11,9 +11,10 @@ use Rattle.glock_names.specs.Views.{Seen, HasBlock}
 use Rattle.glock_names.specs.declared.steps.Missing.{Missing}
 use Rattle.drafts.specs.declared.change.Change.{Change}
 use Rattle.shared_disk.specs.Disk.{DiskState}
+use Rattle.disk_turns.specs.Turns.{HasStopped, Moment}
 use Rattle.file_calls.specs.Calls.{IsDamage, IsNeededFor, IsUnbuilt}
 use Rattle.lone_view.specs.Seeing.{Lone, seen_alone}
-use Rattle.lone_node.specs.Course.{HasStopped, IsDoneBy, IsLaterView, Moment}
+use Rattle.lone_node.specs.Course.{IsDoneBy, IsLaterView}
 use Rattle.lone_node.specs.declared.answering.Full.{Full}
 use Rattle.lone_node.specs.Standing.{LeavesStanding, StandsFor}
 
@@ -61,7 +62,7 @@ pub record IsDamagedOn (d : DiskState) (n : Lone) (call : Call) (b rule : ℕ) :
 -- call, answered from what is seen, changes it, or (no block) in a barrier behind such writes.
 pub data IsFailedFor (before after : Moment) (view : Lone) (time : ℕ) (call : Call) : Option ℕ → Type 0 where
   in_a_read : (m : Missing) → IsNeededFor (seen_alone view) call m → after ≡ before → IsFailedFor before after view time call (Some m.block)
-  in_a_write : (block : Option ℕ) (reply : Reply) (change : Change) → IsDoneBy view time call reply change → HasStopped before after change.blocks.items block
+  in_a_write : (block : Option ℕ) (reply : Reply) (change : Change) → IsDoneBy view time call reply change → HasStopped 1 before after change.blocks.items block
       → IsFailedFor before after view time call block
 
 pub record IsFailedAt (before after : Moment) (n : Lone) (time : ℕ) (call : Call) (block : Option ℕ) : Type 0 where

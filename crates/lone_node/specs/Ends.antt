@@ -11,11 +11,6 @@ abbrev pub HasCause : ℕ → ℕ → (before now : ℕ → ℕ) → RunEnd → 
 HasCause node count before now (end.DiskFailed block rise) = WentUp (before node) (now node) rise.before rise.after × IfSome block (λ b. b < count)
 HasCause node count before now e = ⊤
 
--- the same, and there is no other end
-abbrev pub FailsAlone : ℕ → ℕ → (before now : ℕ → ℕ) → RunEnd → Type 0
-FailsAlone node count before now (end.DiskFailed block rise) = WentUp (before node) (now node) rise.before rise.after × IfSome block (λ b. b < count)
-FailsAlone node count before now e = ⊥
-
 -- a fact for the end at a failed disk: of the block, or that of a barrier
 abbrev pub IfDiskFailed : RunEnd → (Option ℕ → Type 0) → Type 0
 IfDiskFailed (end.DiskFailed block rise) P = P block

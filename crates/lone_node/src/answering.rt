@@ -7,15 +7,18 @@ ghost use Rattle.shared_disk.specs.Disk.{Gains, IsIdle, Operation};
 ghost use Rattle.file_calls.specs.Calls.{IsUnbuilt};
 ghost use Rattle.lone_view.specs.Seeing.{seen_alone};
 ghost use Rattle.lone_node.specs.Answering.{IsAnsweredFrom, IsDamagedFor, IsDamagedOn, IsFailedAt, IsFailedFor, IsSameDisk, IsToldFull, IsUnbuiltOn};
-ghost use Rattle.lone_node.specs.Course.{AreBrought, HasStopped, IsStep, moment};
+ghost use Rattle.disk_turns.specs.Turns.{AreBrought, HasStopped, moment};
+ghost use Rattle.disk_turns.specs.Writing.{AreOfDisk, AreWritten};
+ghost use Rattle.lone_node.specs.Course.{IsStep};
 ghost use Rattle.lone_node.specs.Ends.{HasCause, IfDamaged, IfDiskFailed, IfNotBuilt, UnlessFailed, end_at};
 ghost use Rattle.lone_node.specs.Standing.{IsOn, IsSameSystem, StandsFor, lacked_count};
-ghost use Rattle.lone_node.specs.Writing.{AreOfDisk, AreWritten, with_blocks};
+ghost use Rattle.lone_node.specs.Keeping.{with_blocks};
 
 use crate::RunEnd;
 use crate::fetching::fetch;
-use crate::writing::{keep_all, write_all};
+use crate::kept_blocks::keep_all;
 use cluster_history::other_calls_leave_the_tree;
+use disk_turns::write_in_turns;
 use drafts::{Attempt, Change, Stamp};
 use file_calls::attempt;
 use file_tree::{Call, Reply};
@@ -58,20 +61,23 @@ fn carry_out<D: SharedDisk>(
     requires size { view.old.size ≡ (D.state disk.old).size }
     requires of_disk { AreOfDisk (D.state disk.old) change.now.blocks.items }
     ensures written { OnOk result (AreWritten (D.state disk.old) (D.state disk.new) change.now.blocks.items) }
-    ensures brought { OnOk result ((ops : List Operation) × AreBrought change.now.blocks.items ops × Gains (D.list disk.old) (D.list disk.new) ops) }
+    ensures brought { OnOk result ((ops : List Operation) × AreBrought 1 change.now.blocks.items ops × Gains (D.list disk.old) (D.list disk.new) ops) }
     ensures none { change.now.blocks.items ≡ [] → OnOk result ((D.state disk.new ≡ D.state disk.old) × (D.list disk.new ≡ D.list disk.old)) }
     ensures kept { OnOk result (view.new ≡ record view.old { blocks = with_blocks view.old.blocks change.now.blocks.items }) }
     ensures before { IfErr result (λ end. UnlessFailed end ((D.state disk.new ≡ D.state disk.old) × (D.list disk.new ≡ D.list disk.old))) }
-    ensures stopped { IfErr result (λ end. IfDiskFailed end (HasStopped (moment (D.state disk.old) (D.list disk.old)) (moment (D.state disk.new) (D.list disk.new)) change.now.blocks.items)) }
+    ensures stopped { IfErr result (λ end. IfDiskFailed end (HasStopped 1 (moment (D.state disk.old) (D.list disk.old)) (moment (D.state disk.new) (D.list disk.new)) change.now.blocks.items)) }
     ensures built { IfErr result (λ end. IfNotBuilt end (λ line. ⊥)) }
     ensures sound { IfErr result (λ end. IfDamaged end (λ b rule. ⊥)) }
     ensures later { (i : ℕ) → D.faults disk.old i ≤ D.faults disk.new i }
     ensures cause { IfErr result (HasCause 1 (D.state disk.old).count (D.faults disk.old) (D.faults disk.new)) }
 {
     keep_all(view, &change.blocks)?;
-    match write_all(disk, &change.blocks) {
+    match write_in_turns(disk, 1, &change.blocks) {
         Ok(()) => Ok(()),
-        Err(end) => Err(end),
+        Err(fault) => Err(RunEnd::DiskFailed {
+            block: fault.block,
+            rise: fault.rise,
+        }),
     }
 }
 

@@ -4,8 +4,8 @@
 mod answering;
 mod ends;
 mod fetching;
+mod kept_blocks;
 mod running;
-mod writing;
 
 pub use answering::{Answer, Full};
 pub use ends::RunEnd;

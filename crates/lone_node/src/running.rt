@@ -10,7 +10,8 @@ ghost use Rattle.run_rules.specs.History.{HoldsHistory, NoneStopped, AllAnswered
 ghost use Rattle.shared_disk.specs.Disk.{IsIdle};
 ghost use Rattle.script_lang.specs.OneNode.{IsOneNode, IsOwnLine};
 ghost use Rattle.lone_node.specs.Answering.{IsDamagedOn, IsFailedAt, IsSameDisk, IsUnbuiltOn};
-ghost use Rattle.lone_node.specs.Course.{HasTaken, IsCourse, moment};
+ghost use Rattle.disk_turns.specs.Turns.{moment};
+ghost use Rattle.lone_node.specs.Course.{HasTaken, IsCourse};
 ghost use Rattle.lone_node.specs.Ends.{HasCause, IfDamaged, IfDiskFailed, IfNotBuilt, UnlessDiskFailed, UnlessFailed};
 ghost use Rattle.lone_node.specs.Items.{full_item};
 ghost use Rattle.lone_node.specs.Run.{EndsAt, EndsAtCall, HasChangedNothing, IsFailedOn, IsRunOf, IsRunUpTo, IsTakenCall, IsWholeRun};

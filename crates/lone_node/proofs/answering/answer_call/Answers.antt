@@ -4,7 +4,8 @@ use Rattle.file_tree.specs.Tree.{Tree}
 use Rattle.cluster_history.specs.Changes.{Changes}
 use Rattle.lone_view.specs.Seeing.{seen_alone}
 use Rattle.lone_node.specs.Answering.{IsAnsweredFrom, IsDamagedFor, IsDamagedOn, IsFailedAt, IsFailedFor, IsToldFull, IsUnbuiltOn}
-use Rattle.lone_node.specs.Course.{IsStep, Moment, moment}
+use Rattle.disk_turns.specs.Turns.{Moment, moment}
+use Rattle.lone_node.specs.Course.{IsStep}
 use Rattle.lone_node.specs.Standing.{StandsFor}
 use Rattle.lone_node.specs.declared.answering.Answer.{Answer}
 use Rattle.lone_node.proofs.Answered.{answered_from}

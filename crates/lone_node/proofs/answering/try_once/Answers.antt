@@ -13,7 +13,8 @@ use Rattle.file_tree.specs.Apply.{TakesSpace}
 use Rattle.file_calls.specs.Answers.{IsFullFor}
 use Rattle.file_calls.specs.Calls.{IsNeededFor, IsTooFew}
 use Rattle.lone_node.specs.Answering.{IsDamagedFor, IsFailedFor, in_a_read, in_a_write, leads_out, source_of}
-use Rattle.lone_node.specs.Course.{done, moment, spaceless}
+use Rattle.disk_turns.specs.Turns.{moment}
+use Rattle.lone_node.specs.Course.{done, spaceless}
 use Rattle.lone_node.specs.Ends.{IfDamaged, end_at}
 use Rattle.lone_node.specs.Standing.{IsOn, StandsFor, lacked_count}
 use Rattle.lone_node.proofs.Answered.{answered, answered_full, fetched_on, fewer, is_done, of_disk, of_view, on_again, shown_damage, writes_none}

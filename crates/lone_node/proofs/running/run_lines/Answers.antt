@@ -6,7 +6,8 @@ use Rattle.cluster_history.specs.History.{Replied, alive, tree_of}
 use Rattle.run_rules.specs.Follows.{history_of}
 use Rattle.trace_text.specs.declared.item.TraceItem.{TraceItem}
 use Rattle.lone_node.specs.Course as ends
-use Rattle.lone_node.specs.Course.{moment, not_joined, taken}
+use Rattle.disk_turns.specs.Turns.{moment}
+use Rattle.lone_node.specs.Course.{not_joined, taken}
 use Rattle.lone_node.specs.Run.{HasChangedNothing, IsRunOf, Taken}
 use Rattle.lone_node.specs.Standing.{LeavesStanding, StandsFor}
 use Rattle.lone_node.proofs.Endings.{unless_so}

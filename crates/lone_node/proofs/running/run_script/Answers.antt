@@ -8,7 +8,8 @@ use Rattle.script_lang.specs.declared.script.Client.{Client}
 use Rattle.script_lang.specs.declared.script.Line.{Line}
 use Rattle.lone_node.specs.declared.ends.RunEnd.{RunEnd}
 use Rattle.lone_node.specs.Ends.{UnlessDiskFailed}
-use Rattle.lone_node.specs.Course.{IsCourse, moment}
+use Rattle.disk_turns.specs.Turns.{moment}
+use Rattle.lone_node.specs.Course.{IsCourse}
 use Rattle.lone_node.specs.Run.{HasChangedNothing, IsRunOf, IsWholeRun}
 use Rattle.lone_node.specs.Standing.{LeavesStanding, StandsFor}
 use Rattle.lone_node.proofs.Endings.{unless_so}

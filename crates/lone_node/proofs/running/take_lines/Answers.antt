@@ -6,7 +6,8 @@ use Rattle.run_rules.specs.Follows.{history_of}
 use Rattle.shared_disk.specs.Disk.{DiskState}
 use Rattle.trace_text.specs.declared.item.TraceItem.{TraceItem}
 use Rattle.lone_node.specs.Answering.{IsDamagedOn, IsFailedAt, IsUnbuiltOn}
-use Rattle.lone_node.specs.Course.{AreSteps, HasTaken, Moment, moment}
+use Rattle.disk_turns.specs.Turns.{Moment, moment}
+use Rattle.lone_node.specs.Course.{AreSteps, HasTaken}
 use Rattle.lone_node.specs.Items.{AnsweredCall}
 use Rattle.lone_node.specs.Run.{EndsAt, EndsAtCall, HasChangedNothing, IsFailedOn}
 use Rattle.lone_node.specs.Standing.{LeavesStanding, StandsFor}

@@ -1,6 +1,6 @@
 use Rattle.std.proofs.Common.{◌≡◌, take}
-use Rattle.lone_node.specs.Writing.{with_blocks}
-use Rattle.lone_node.proofs.writing.keep_all.Given as goal
+use Rattle.lone_node.specs.Keeping.{with_blocks}
+use Rattle.lone_node.proofs.kept_blocks.keep_all.Given as goal
 
 abbrev pub invariant-loop-written : goal.invariant-loop-written
 invariant-loop-written l = record {

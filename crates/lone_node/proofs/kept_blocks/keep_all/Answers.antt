@@ -2,7 +2,7 @@ use Rattle.std.proofs.Common.{◌<◌, length, sym, ap, ◌∙◌, arith}
 use Rattle.std.specs.FinMap.{insert}
 use Rattle.drafts.specs.declared.change.Written.{Written}
 use Rattle.lone_node.proofs.Keeping.{with_next}
-use Rattle.lone_node.proofs.writing.keep_all.Goals as goal
+use Rattle.lone_node.proofs.kept_blocks.keep_all.Goals as goal
 
 pub loop-written-preserved : goal.loop-written-preserved
 loop-written-preserved c =

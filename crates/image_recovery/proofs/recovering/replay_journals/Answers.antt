@@ -1,0 +1,116 @@
+use Rattle.std.proofs.Common.{◌≡◌, ◌+◌, ◌<◌, List, length, take, vec_len, rules, refl, sym, ap, subst, subst₂, ◌∙◌, arith}
+use Rattle.std.proofs.lemmas.List.{take_all}
+use Rattle.image_mount.specs.Mounted.{Journal, MountedValue}
+use Rattle.disk_items.specs.Deeds.{AreTold}
+use Rattle.disk_turns.specs.Turns.{Moment, moment}
+use Rattle.journal_replays.specs.Headers.{IsHeaderRead}
+use Rattle.journal_replays.specs.Replays.{CanReplay, HasFailed, HasReplayed}
+use Rattle.image_recovery.specs.Recoveries.{AreHeadersRead, AreReplays, HaveReplayed}
+use Rattle.image_recovery.proofs.Recovered.{as_many, at_item, below_all, can_at, can_same, failed_next, headers_next, replayed_next, same_on, starved_next}
+use Rattle.image_recovery.proofs.recovering.replay_journals.Goals as goal
+
+pub index-journal-requires : goal.index-journal-requires
+index-journal-requires g c =
+    let low = below_all (g.D.SharedDisk.state c.args.disk.now) c.args.mounted.now.journals c.args.plans.now c.loop-place.place c.requires.can c.loop-place-test.true in
+    let there : c.loop-place.place < length c.mounted.inside.journals.items = subst (λ (js : List Journal). c.loop-place.place < length js) (sym (ap (λ (m : MountedValue). m.journals) c.mounted.view_is)) low in
+    let long : length c.mounted.inside.journals.items ≡ vec_len c.mounted.inside.journals = search rules in
+    subst (λ n. c.loop-place.place < n) long there
+
+pub replay_journal-requires-clause-can : goal.replay_journal-requires-clause-can
+replay_journal-requires-clause-can g c =
+    let d = g.D.SharedDisk.state c.args.disk.now in
+    let now = g.D.SharedDisk.state c.loop-place.disk in
+    let journals = c.args.mounted.now.journals in
+    let low = below_all d journals c.args.plans.now c.loop-place.place c.requires.can c.loop-place-test.true in
+    let at_journal = at_item c.mounted.inside.journals.items journals c.loop-place.place c.index-journal.result.now (ap (λ (m : MountedValue). m.journals) c.mounted.view_is) low c.index-journal.ensures in
+    let at_plan = at_item c.args.plans.now c.args.plans.now c.loop-place.place c.index-plans-place.result refl c.loop-place-test.true c.index-plans-place.is in
+    let blocks = c.deref.ensures.value ∙ ap (λ (j : Journal). j.blocks) c.journal.view_is in
+    subst (λ bs. CanReplay now bs c.index-plans-place.result) (sym blocks)
+    (can_same d now c.index-journal.result.now.blocks c.index-plans-place.result c.loop-place.invariant.same (can_at d journals c.args.plans.now c.loop-place.place c.index-journal.result.now c.index-plans-place.result c.requires.can at_journal at_plan))
+
+pub returns-in-Err-clause-failed : goal.returns-in-Err-clause-failed
+returns-in-Err-clause-failed g c =
+    let d = g.D.SharedDisk.state c.args.disk.now in
+    let now = moment (g.D.SharedDisk.state c.loop-place.disk) (g.D.SharedDisk.list c.loop-place.disk) in
+    let next = moment (g.D.SharedDisk.state c.replay_journal.new.disk) (g.D.SharedDisk.list c.replay_journal.new.disk) in
+    let journals = c.args.mounted.now.journals in
+    let journal = c.index-journal.result.now in
+    let low = below_all d journals c.args.plans.now c.loop-place.place c.requires.can c.loop-place-test.true in
+    let at_journal = at_item c.mounted.inside.journals.items journals c.loop-place.place journal (ap (λ (m : MountedValue). m.journals) c.mounted.view_is) low c.index-journal.ensures in
+    let at_plan = at_item c.args.plans.now c.args.plans.now c.loop-place.place c.index-plans-place.result refl c.loop-place-test.true c.index-plans-place.is in
+    let blocks = c.deref.ensures.value ∙ ap (λ (j : Journal). j.blocks) c.journal.view_is in
+    let dinode = ap (λ (j : Journal). j.dinode) c.journal.view_is in
+    failed_next c.in-Err.fault _ _
+    (λ block is. record {
+      count = c.loop-place.place;
+      between = now;
+      its_items = c.loop-place.items.items;
+      replayed = c.loop-place.invariant.replayed;
+      journal = journal;
+      plan = c.index-plans-place.result;
+      at_journal = at_journal;
+      at_plan = at_plan;
+      failed = subst (λ bs. HasFailed c.args.node journal.dinode bs c.args.time now next c.index-plans-place.result c.loop-place.items.items c.replay_journal.new.items.items block) blocks
+          (subst (λ n. HasFailed c.args.node n c.deref.result.now c.args.time now next c.index-plans-place.result c.loop-place.items.items c.replay_journal.new.items.items block) dinode is);
+    })
+    c.in-Err.ensures.failed
+
+pub returns-in-Err-clause-some : goal.returns-in-Err-clause-some
+returns-in-Err-clause-some g c =
+    let first = moment (g.D.SharedDisk.state c.args.disk.now) (g.D.SharedDisk.list c.args.disk.now) in
+    let journals = c.args.mounted.now.journals in
+    starved_next c.in-Err.fault
+    (λ still. record {
+      count = c.loop-place.place;
+      replayed = let so = c.loop-place.invariant.replayed in
+          record {
+            added = so.added;
+            are = still.2 ∙ so.are;
+            replays = subst (λ (m : Moment). AreReplays c.args.node 1 c.args.time first (take c.loop-place.place journals) (take c.loop-place.place c.args.plans.now) m so.added) (λ i. moment (sym still.0 i) (sym still.1 i)) so.replays;
+            told = subst (λ o. AreTold first.list o so.added) (sym still.1) so.told;
+          };
+    })
+    c.in-Err.ensures.untouched
+
+pub loop-place-preserved : goal.loop-place-preserved
+loop-place-preserved g c =
+    let d = g.D.SharedDisk.state c.args.disk.now in
+    let first = moment d (g.D.SharedDisk.list c.args.disk.now) in
+    let now = moment (g.D.SharedDisk.state c.loop-place.disk) (g.D.SharedDisk.list c.loop-place.disk) in
+    let next = moment (g.D.SharedDisk.state c.replay_journal.new.disk) (g.D.SharedDisk.list c.replay_journal.new.disk) in
+    let so = c.loop-place.invariant in
+    let journals = c.args.mounted.now.journals in
+    let journal = c.index-journal.result.now in
+    let plan = c.index-plans-place.result in
+    let low = below_all d journals c.args.plans.now c.loop-place.place c.requires.can c.loop-place-test.true in
+    let at_journal = at_item c.mounted.inside.journals.items journals c.loop-place.place journal (ap (λ (m : MountedValue). m.journals) c.mounted.view_is) low c.index-journal.ensures in
+    let at_plan = at_item c.args.plans.now c.args.plans.now c.loop-place.place plan refl c.loop-place-test.true c.index-plans-place.is in
+    let blocks = c.deref.ensures.value ∙ ap (λ (j : Journal). j.blocks) c.journal.view_is in
+    let dinode = ap (λ (j : Journal). j.dinode) c.journal.view_is in
+    record {
+      replayed = replayed_next journals c.args.plans.now c.loop-place.place journal plan at_journal at_plan c.args.node c.args.time first now next (c.loop-place.place + 1) c.args.items.now.items c.loop-place.items.items
+          c.replay_journal.new.items.items refl so.replayed
+          (subst (λ bs. HasReplayed c.args.node (c.loop-place.place + 1) journal.dinode bs c.args.time now next plan c.loop-place.items.items c.replay_journal.new.items.items) blocks
+          (subst (λ n. HasReplayed c.args.node (c.loop-place.place + 1) n c.deref.result.now c.args.time now next plan c.loop-place.items.items c.replay_journal.new.items.items) dinode c.in-Ok.ensures.replayed));
+      headers = headers_next journals c.args.plans.now c.loop-place.place journal plan at_journal at_plan d.size c.args.time so.headers
+          (subst (λ n. IsHeaderRead n journal.dinode journal.blocks c.args.time plan.clean) so.same.size
+          (subst (λ bs. IsHeaderRead now.disk.size journal.dinode bs c.args.time plan.clean) blocks (subst (λ n. IsHeaderRead now.disk.size n c.deref.result.now c.args.time plan.clean) dinode c.in-Ok.ensures.header)));
+      same = same_on d now.disk next.disk so.same c.in-Ok.ensures.disk;
+      idle = c.in-Ok.ensures.idle;
+      later = λ i. let before = so.later i in let more = c.in-Ok.ensures.later i in omega (arith, before, more);
+    }
+
+pub returns-clause-replayed : goal.returns-clause-replayed
+returns-clause-replayed g c =
+    let first = moment (g.D.SharedDisk.state c.args.disk.now) (g.D.SharedDisk.list c.args.disk.now) in
+    let now = moment (g.D.SharedDisk.state c.loop-place.disk) (g.D.SharedDisk.list c.loop-place.disk) in
+    let many = as_many first.disk c.args.mounted.now.journals c.args.plans.now c.requires.can in
+    subst₂ (λ js ps. HaveReplayed c.args.node c.args.time first now js ps c.args.items.now.items c.loop-place.items.items)
+    (take_all c.loop-place.place c.args.mounted.now.journals (omega (arith, many, c.loop-place-test.false))) (take_all c.loop-place.place c.args.plans.now (omega (arith, c.loop-place-test.false))) c.loop-place.invariant.replayed
+
+pub returns-clause-headers : goal.returns-clause-headers
+returns-clause-headers g c =
+    let d = g.D.SharedDisk.state c.args.disk.now in
+    let many = as_many d c.args.mounted.now.journals c.args.plans.now c.requires.can in
+    subst₂ (AreHeadersRead d.size c.args.time)
+    (take_all c.loop-place.place c.args.mounted.now.journals (omega (arith, many, c.loop-place-test.false))) (take_all c.loop-place.place c.args.plans.now (omega (arith, c.loop-place-test.false))) c.loop-place.invariant.headers

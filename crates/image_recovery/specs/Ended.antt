@@ -1,0 +1,37 @@
+-- What the journals of an image say once all are replayed.
+use Rattle.std.specs.Prelude.{ℕ, ◌≡◌, ◌≢◌, ◌+◌, ◌^◌, ◌<◌, IsTrue, List, [], slice_get, length, get_or, None, Some}
+use Rattle.disk_turns.specs.Turns.{Moment}
+use Rattle.image_mount.specs.Mounted.{Journal}
+use Rattle.journal_plans.specs.Plans.{IsPlanOf, bytes_put}
+use Rattle.journal_reads.specs.Reading.{ring_read}
+use Rattle.log_layout.specs.Journal.{IsClean, head_in}
+use Rattle.log_layout.specs.Laws.{HasNothingLive}
+use Rattle.log_layout.specs.declared.log_header.LogHeader.{LogHeader}
+use Rattle.peer_replay.specs.declared.planned.Plan.{Plan}
+use Rattle.shared_disk.specs.Disk.{DiskState}
+use Rattle.trace_text.specs.declared.item.TraceItem.{TraceItem}
+use Rattle.image_recovery.specs.Recoveries.{AreHeadersRead, AreReplays, CanReplayAll}
+
+-- The places of journals are in different blocks, those of one and those of two; and no plan puts a block home where one is.
+pub record AreApart (journals : List Journal) (plans : List Plan) : Type 0 where
+  pub own : (i p q : ℕ) (j : Journal) → slice_get journals i ≡ Some j → p < length j.blocks → q < length j.blocks → get_or j.blocks p 0 ≡ get_or j.blocks q 0 → p ≡ q
+  pub others : (i k p q : ℕ) (j l : Journal) → i ≢ k → slice_get journals i ≡ Some j → slice_get journals k ≡ Some l → p < length j.blocks → q < length l.blocks
+      → get_or j.blocks p 0 ≢ get_or l.blocks q 0
+  pub homes : (i k p : ℕ) (j : Journal) (plan : Plan) → slice_get journals i ≡ Some j → slice_get plans k ≡ Some plan → p < length j.blocks → bytes_put plan (get_or j.blocks p 0) ≡ None
+
+-- each plan is that of its journal on the disk, whose head has not the last sequence that there is
+pub record AreTheirs (d : DiskState) (node : ℕ) (journals : List Journal) (plans : List Plan) : Type 0 where
+  pub plan : (i : ℕ) (j : Journal) (p : Plan) → slice_get journals i ≡ Some j → slice_get plans i ≡ Some p → IsPlanOf (ring_read d node j.blocks) p
+  pub low : (i : ℕ) (j : Journal) (head : LogHeader) → slice_get journals i ≡ Some j → head_in (ring_read d node j.blocks) ≡ Some head → head.sequence + 1 < 2 ^ 64
+
+-- its head is clean, it can be read, and nothing is live in it
+pub record HasEnded (d : DiskState) (node : ℕ) (j : Journal) : Type 0 where
+  pub clean : IsClean (ring_read d node j.blocks)
+  pub nothing : HasNothingLive (ring_read d node j.blocks)
+
+-- Once all journals of a disk that tells its blocks are replayed by their plans, each of them has ended.
+abbrev pub ReplayedHaveEnded : Type 0
+ReplayedHaveEnded =
+    (node time : ℕ) (before after : Moment) (journals : List Journal) (plans : List Plan) (items : List TraceItem) → IsTrue before.disk.tells → before.disk.in_flight node ≡ []
+    → CanReplayAll before.disk journals plans → AreTheirs before.disk node journals plans → AreApart journals plans → AreHeadersRead before.disk.size time journals plans
+    → AreReplays node 1 time before journals plans after items → (i : ℕ) (j : Journal) → slice_get journals i ≡ Some j → HasEnded after.disk node j

@@ -1,0 +1,3 @@
+pub mod Recoveries
+pub mod Laws
+pub mod Ended
