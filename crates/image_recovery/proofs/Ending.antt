@@ -29,7 +29,7 @@ use Rattle.image_recovery.proofs.Recovered.{can_at}
 
 -- ---- what is put home, as writes in flight
 
-flies_put : (ws : List Written) (b : ℕ) → flight_to (flights_of ws) b ≡ option_map (λ (e : Logged). e.bytes) (option_map logged (find (λ (w : Written). w.block == b) ws))
+pub flies_put : (ws : List Written) (b : ℕ) → flight_to (flights_of ws) b ≡ option_map (λ (e : Logged). e.bytes) (option_map logged (find (λ (w : Written). w.block == b) ws))
 flies_put [] b = refl
 flies_put (w ∷ ws) b = by (w.block == b) (flies_put ws b)
   where
@@ -64,7 +64,7 @@ module _ (node slot dinode : ℕ) (blocks : List ℕ) (time : ℕ) (before after
   size_one None items is = ap (λ (m : Moment). m.disk.size) is.0
   size_one (Some h) items is = is.headed.written.size ∙ is.homes.written.size
 
-  tells_one : (c : Option LogHeader) (items : List TraceItem) → IsReplayWith node slot dinode blocks time before after home c items → after.disk.tells ≡ before.disk.tells
+  pub tells_one : (c : Option LogHeader) (items : List TraceItem) → IsReplayWith node slot dinode blocks time before after home c items → after.disk.tells ≡ before.disk.tells
   tells_one None items is = ap (λ (m : Moment). m.disk.tells) is.0
   tells_one (Some h) items is = is.headed.written.tells ∙ is.homes.written.tells
 

@@ -1,2 +1,3 @@
 pub mod Recovered
 pub mod Ending
+pub mod Left

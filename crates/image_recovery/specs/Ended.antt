@@ -1,7 +1,8 @@
 -- What the journals of an image say once all are replayed.
-use Rattle.std.specs.Prelude.{ℕ, ◌≡◌, ◌≢◌, ◌+◌, ◌^◌, ◌<◌, IsTrue, List, [], slice_get, length, get_or, None, Some}
+use Rattle.std.specs.Prelude.{ℕ, ◌≡◌, ◌≢◌, ◌+◌, ◌^◌, ◌<◌, IsTrue, List, [], slice_get, length, get_or, unwrap_or, None, Some}
 use Rattle.disk_turns.specs.Turns.{Moment}
 use Rattle.image_mount.specs.Mounted.{Journal}
+use Rattle.image_replays.specs.Replays.{put_by}
 use Rattle.journal_plans.specs.Plans.{IsPlanOf, bytes_put}
 use Rattle.journal_reads.specs.Reading.{ring_read}
 use Rattle.log_layout.specs.Journal.{IsClean, head_in}
@@ -35,3 +36,19 @@ ReplayedHaveEnded =
     (node time : ℕ) (before after : Moment) (journals : List Journal) (plans : List Plan) (items : List TraceItem) → IsTrue before.disk.tells → before.disk.in_flight node ≡ []
     → CanReplayAll before.disk journals plans → AreTheirs before.disk node journals plans → AreApart journals plans → AreHeadersRead before.disk.size time journals plans
     → AreReplays node 1 time before journals plans after items → (i : ℕ) (j : Journal) → slice_get journals i ≡ Some j → HasEnded after.disk node j
+
+-- ---- and each other block
+
+-- no block is put home by two of these plans
+abbrev pub AreOnce : List Plan → Type 0
+AreOnce plans = (i k b : ℕ) (p q : Plan) (bytes : List ℕ) → i ≢ k → slice_get plans i ≡ Some p → slice_get plans k ≡ Some q → bytes_put p b ≡ Some bytes → bytes_put q b ≡ None
+
+-- the block is not that of a header which a replay writes
+abbrev pub IsNoHeader : ℕ → List Journal → List Plan → Type 0
+IsNoHeader b journals plans = (i : ℕ) (j : Journal) (p : Plan) (h : LogHeader) → slice_get journals i ≡ Some j → slice_get plans i ≡ Some p → p.clean ≡ Some h → get_or j.blocks h.blkno 0 ≢ b
+
+-- Once all journals of a disk that tells its blocks are replayed by their plans, each block but those of the headers has what is put home there, or else what it had.
+abbrev pub ReplayedIsLeft : Type 0
+ReplayedIsLeft =
+    (node time : ℕ) (before after : Moment) (journals : List Journal) (plans : List Plan) (items : List TraceItem) → IsTrue before.disk.tells → AreTheirs before.disk node journals plans → AreOnce plans
+    → AreReplays node 1 time before journals plans after items → (b : ℕ) → IsNoHeader b journals plans → after.disk.block_at b ≡ unwrap_or (put_by plans b) (before.disk.block_at b)

@@ -5,5 +5,7 @@ mod laws;
 mod recovering;
 
 pub use journal_replays::{Plan, ReplayFault};
-pub use laws::{replayed_journals_have_ended, writable_plans_can_be_replayed};
+pub use laws::{
+    replayed_blocks_are_left, replayed_journals_have_ended, writable_plans_can_be_replayed,
+};
 pub use recovering::replay_journals;
