@@ -142,7 +142,7 @@ module _ (clients : List Client) (lines : List Line) (IsStart : Tree → Type 0)
     other_line (line.Join node) other = refl
 
     pub wait_more : (number : ℕ) (d l : Line) → l ≡ get_or lines i d → ((place : ℕ) (call : Call) → l ≡ line.Call place call → ⊥) → number ≡ 1 + length so.answered
-        → (run : IsRunUpTo clients lines (i + 1) items IsStart) × (number ≡ 1 + length run.answered) × (run.answered ≡ so.answered)
+        → (run : IsRunUpTo clients lines (i + 1) items IsStart) × (number ≡ 1 + length run.answered) × (run.answered ≡ so.answered) × (run.begun ≡ so.begun)
     wait_more number d l is other same = (
       record {
         begun = so.begun;
@@ -156,6 +156,7 @@ module _ (clients : List Client) (lines : List Line) (IsStart : Tree → Type 0)
         full = so.full;
       },
       same,
+      refl,
       refl,
     )
 
@@ -180,14 +181,6 @@ module _ (clients : List Client) (lines : List Line) (IsStart : Tree → Type 0)
 
       pub ends_here : (P : Call → Type 0) (more : List TraceItem) → more ≡ items → P call → EndsAtCall P clients lines more IsStart
       ends_here P more kept holds = record { count = i; ends = ends_at P more kept holds }
-
--- its items come behind all that were there
-pub kept_more : (name : List ℕ) (number time : ℕ) (call : Call) (first more before items : List TraceItem) (d d' : Moment) (n : Lone) → IsTakenCall name number time call before items d d' n → before ≡ first ++ more
-    → (later : List TraceItem) × (items ≡ first ++ later)
-kept_more name number time call first more before items d d' n taken kept = (more ++ added, taken.are ∙ ap (λ (is : List TraceItem). is ++ added) kept ∙ append_assoc first more added)
-  where
-    added : List TraceItem
-    added = full_item taken.full ++ trace.Call 1 name number call taken.reply ∷ []
 
 -- ---- one more call is answered
 
@@ -260,6 +253,10 @@ module _ (clients : List Client) (lines : List Line) (start : DiskState) (first 
       let by_it = taken.untouched last in
       (ap (λ (m : Moment). m.disk) by_it ∙ before_it.0, ap (λ (m : Moment). m.list) by_it ∙ before_it.1)
 
+  begun_more : run_more.begun ≡ so.begun
+  unfolding run_more
+  begun_more = refl
+
   steps_then : AreSteps first time was so.answered (moment disk list) → AreSteps first time was run_more.answered (moment disk' list')
   unfolding run_more
   steps_then steps =
@@ -270,5 +267,5 @@ module _ (clients : List Client) (lines : List Line) (start : DiskState) (first 
   pub goes_on : AreSteps first time was so.answered (moment disk list) → (HasChangedNothing clients items → (disk ≡ start) × (list ≡ was.list))
       → (run : IsRunUpTo clients lines (i + 1) more (StandsFor start first)) × (number + 1 ≡ 1 + length run.answered)
       × ((t : Tree) (s : StandsFor start first t) → LeavesStanding start disk' first t (tree_of (history_of clients more) t) s)
-      × AreSteps first time was run.answered (moment disk' list') × (HasChangedNothing clients more → (disk' ≡ start) × (list' ≡ was.list))
-  goes_on steps untouched = (run_more, number_more, leaves_more, steps_then steps, untouched_then untouched)
+      × AreSteps first time was run.answered (moment disk' list') × (HasChangedNothing clients more → (disk' ≡ start) × (list' ≡ was.list)) × (run.begun ≡ so.begun)
+  goes_on steps untouched = (run_more, number_more, leaves_more, steps_then steps, untouched_then untouched, begun_more)

@@ -1,5 +1,5 @@
 -- The items of answered calls.
-use Rattle.std.specs.Prelude.{ℕ, zero, suc, ◌≡◌, ◌+◌, Bool, true, false, List, [], ◌∷◌, ◌++◌, Option, None, Some}
+use Rattle.std.specs.Prelude.{ℕ, zero, suc, ◌≡◌, ◌⊎◌, ◌+◌, Bool, true, false, List, [], ◌∷◌, ◌++◌, Option, None, Some}
 use Rattle.std.specs.List.{AllByRecursion}
 use Rattle.file_tree.specs.declared.call.Call.{Call}
 use Rattle.file_tree.specs.declared.reply.Reply.{Reply}
@@ -67,3 +67,10 @@ full_item (Some f) = trace.Full 1 f.need f.free ∷ []
 abbrev pub items_from : List Client → ℕ → List AnsweredCall → List TraceItem
 items_from clients n [] = []
 items_from clients n (a ∷ later) = full_item a.full ++ trace.Call 1 (name_at clients a.client) n a.call a.reply ∷ items_from clients (n + 1) later
+
+-- the items of these calls, numbered from 1 on, came behind those that were there, and then it may be the unmount
+pub record AddsItems (clients : List Client) (items items' : List TraceItem) : Type 0 where
+  pub answered : List AnsweredCall
+  pub end : List TraceItem
+  pub is_end : (end ≡ []) ⊎ (end ≡ trace.Unmount 1 ∷ [])
+  pub are : items' ≡ items ++ (items_from clients 1 answered ++ end)

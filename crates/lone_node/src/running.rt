@@ -13,8 +13,7 @@ ghost use Rattle.lone_node.specs.Answering.{IsDamagedOn, IsFailedAt, IsSameDisk,
 ghost use Rattle.disk_turns.specs.Turns.{moment};
 ghost use Rattle.lone_node.specs.Course.{HasTaken, IsCourse};
 ghost use Rattle.lone_node.specs.Ends.{HasCause, IfDamaged, IfDiskFailed, IfNotBuilt, UnlessDiskFailed, UnlessFailed};
-ghost use Rattle.lone_node.specs.Items.{IsBegun, full_item};
-ghost use Rattle.trace_text.specs.declared.item.TraceItem.{TraceItem as TraceItemValue};
+ghost use Rattle.lone_node.specs.Items.{AddsItems, AnsweredCall, IsBegun, full_item, items_from};
 ghost use Rattle.lone_node.specs.Run.{EndsAt, EndsAtCall, HasChangedNothing, IsFailedOn, IsRunOf, IsRunUpTo, IsTakenCall, IsWholeRun};
 ghost use Rattle.lone_node.specs.Standing.{IsOn, IsSameSystem, LeavesStanding, StandsFor};
 
@@ -143,7 +142,7 @@ fn take_lines<D: SharedDisk>(
     requires node { stamp.now.node ≡ 1 }
     requires form { AllByRecursion (IsOwnLine (length clients.now)) lines.now }
     requires begun { IsBegun items.old.items }
-    ensures kept { (later : List TraceItemValue) × (items.new.items ≡ items.old.items ++ later) }
+    ensures adds { (answered : List AnsweredCall) × (items.new.items ≡ items.old.items ++ items_from clients.now 1 answered) }
     ensures run { (count : ℕ) × IsRunUpTo clients.now lines.now count items.new.items (StandsFor (D.state disk.old) view.old) }
     ensures course { UnlessDiskFailed result (HasTaken view.old stamp.now.time clients.now (moment (D.state disk.old) (D.list disk.old)) (moment (D.state disk.new) (D.list disk.new)) items.new.items) }
     ensures whole { OnOk result (IsRunUpTo clients.now lines.now (length lines.now) items.new.items (StandsFor (D.state disk.old) view.old)) }
@@ -202,7 +201,7 @@ fn run_lines<D: SharedDisk>(
     requires node { stamp.now.node ≡ 1 }
     requires form { AllByRecursion (IsOwnLine (length clients.now)) lines.now }
     requires begun { IsBegun items.old.items }
-    ensures kept { (later : List TraceItemValue) × (items.new.items ≡ items.old.items ++ later) }
+    ensures adds { AddsItems clients.now items.old.items items.new.items }
     ensures run { IsRunOf clients.now lines.now items.new.items (StandsFor (D.state disk.old) view.old) }
     ensures course { UnlessDiskFailed result (IsCourse view.old stamp.now.time clients.now (moment (D.state disk.old) (D.list disk.old)) (moment (D.state disk.new) (D.list disk.new)) items.new.items) }
     ensures whole { OnOk result (IsWholeRun clients.now lines.now items.new.items (StandsFor (D.state disk.old) view.old)) }
@@ -248,7 +247,7 @@ pub fn run_script<D: SharedDisk>(
     requires on { IsOn (D.state disk.old) view.old }
     requires form { IsOneNode script.now }
     requires begun { IsBegun items.old.items }
-    ensures kept { (later : List TraceItemValue) × (items.new.items ≡ items.old.items ++ later) }
+    ensures adds { AddsItems script.now.clients items.old.items items.new.items }
     ensures history { HoldsHistory script.now items.new.items }
     ensures legal { (t : Tree) → StandsFor (D.state disk.old) view.old t → Legal (history_of script.now.clients items.new.items) t }
     ensures stands { UnlessDiskFailed result ((t : Tree) (s : StandsFor (D.state disk.old) view.old t) → LeavesStanding (D.state disk.old) (D.state disk.new) view.old t (tree_of (history_of script.now.clients items.new.items) t) s) }

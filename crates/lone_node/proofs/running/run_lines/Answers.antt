@@ -1,5 +1,5 @@
-use Rattle.std.proofs.Common.{◌≡◌, List, [], ◌∷◌, ◌++◌, false, sym, ap, ◌∙◌, subst}
-use Rattle.std.proofs.lemmas.List.{append_assoc}
+use Rattle.std.proofs.Common.{◌≡◌, List, [], ◌∷◌, ◌++◌, false, inl, inr, refl, sym, ap, ◌∙◌, subst}
+use Rattle.std.proofs.lemmas.List.{append_assoc, append-nil}
 use Rattle.std.specs.List.{AllByRecursion}
 use Rattle.cluster_history.specs.Changes.{Changes}
 use Rattle.cluster_history.specs.declared.Item.{Item}
@@ -9,6 +9,8 @@ use Rattle.trace_text.specs.declared.item.TraceItem.{TraceItem}
 use Rattle.trace_text.specs.declared.item.TraceItem.TheVariants as trace
 use Rattle.lone_node.specs.Course as ends
 use Rattle.lone_node.specs.Course.{taken}
+use Rattle.script_lang.specs.declared.script.Client.{Client}
+use Rattle.lone_node.specs.Items.{AddsItems, AnsweredCall, items_from}
 use Rattle.lone_node.specs.Run.{HasChangedNothing, IsRunOf, Taken}
 use Rattle.lone_node.specs.Standing.{LeavesStanding, StandsFor}
 use Rattle.lone_node.proofs.Endings.{unless_so}
@@ -58,10 +60,23 @@ pub returns-in-Err-put_item-clause-untouched : goal.returns-in-Err-put_item-clau
 returns-in-Err-put_item-clause-untouched g c nothing =
     c.in-Ok.ensures.untouched (subst (HasChangedNothing c.args.clients.now) c.in-Err-put_item.ensures.err nothing)
 
-pub returns-in-Ok-put_item-clause-kept : goal.returns-in-Ok-put_item-clause-kept
-returns-in-Ok-put_item-clause-kept g c =
-    let (later, kept) = c.take_lines.ensures.kept in
-    (later ++ trace.Unmount 1 ∷ [], c.in-Ok-put_item.ensures.ok ∙ ap (λ (is : List TraceItem). is ++ trace.Unmount 1 ∷ []) kept ∙ append_assoc c.args.items.now.items later (trace.Unmount 1 ∷ []))
+pub returns-in-Ok-put_item-clause-adds : goal.returns-in-Ok-put_item-clause-adds
+returns-in-Ok-put_item-clause-adds g c =
+    let (answered, are) = c.take_lines.ensures.adds in
+    record {
+      answered = answered;
+      end = trace.Unmount 1 ∷ [];
+      is_end = inr refl;
+      are = c.in-Ok-put_item.ensures.ok ∙ ap (λ (is : List TraceItem). is ++ trace.Unmount 1 ∷ []) are ∙ append_assoc c.args.items.now.items (items_from c.args.clients.now 1 answered) (trace.Unmount 1 ∷ []);
+    }
 
-pub returns-in-Err-put_item-clause-kept : goal.returns-in-Err-put_item-clause-kept
-returns-in-Err-put_item-clause-kept g c = let (later, kept) = c.take_lines.ensures.kept in (later, c.in-Err-put_item.ensures.err ∙ kept)
+-- without the unmount
+no_end : (clients : List Client) (items items' : List TraceItem) (answered : List AnsweredCall) → items' ≡ items ++ items_from clients 1 answered → AddsItems clients items items'
+no_end clients items items' answered are = record { answered = answered; end = []; is_end = inl refl; are = are ∙ ap (λ (is : List TraceItem). items ++ is) (sym (append-nil (items_from clients 1 answered))) }
+
+pub returns-in-Err-put_item-clause-adds : goal.returns-in-Err-put_item-clause-adds
+returns-in-Err-put_item-clause-adds g c =
+    let (answered, are) = c.take_lines.ensures.adds in no_end c.args.clients.now c.args.items.now.items c.put_item.new.items.items answered (c.in-Err-put_item.ensures.err ∙ are)
+
+pub returns-in-Err-clause-adds : goal.returns-in-Err-clause-adds
+returns-in-Err-clause-adds g c = let (answered, are) = c.take_lines.ensures.adds in no_end c.args.clients.now c.args.items.now.items c.take_lines.new.items.items answered are

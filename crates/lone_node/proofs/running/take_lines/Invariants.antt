@@ -1,9 +1,8 @@
-use Rattle.std.proofs.Common.{◌≡◌, ◌≤◌, ◌+◌, ◌++◌, ℕ, List, length}
+use Rattle.std.proofs.Common.{◌≡◌, ◌≤◌, ◌+◌, ℕ, length}
 use Rattle.file_tree.specs.Tree.{Tree}
 use Rattle.cluster_history.specs.History.{tree_of}
 use Rattle.run_rules.specs.Follows.{history_of}
 use Rattle.shared_disk.specs.Disk.{IsIdle}
-use Rattle.trace_text.specs.declared.item.TraceItem.{TraceItem}
 use Rattle.lone_node.specs.Answering.{IsSameDisk}
 use Rattle.disk_turns.specs.Turns.{moment}
 use Rattle.lone_node.specs.Course.{AreSteps}
@@ -24,5 +23,5 @@ invariant-loop-place g l = record {
   same : IsSameDisk (g.D.SharedDisk.state l.initial.disk) (g.D.SharedDisk.state l.disk);
   system : IsSameSystem l.initial.view l.view;
   later : (i : ℕ) → g.D.SharedDisk.faults l.initial.disk i ≤ g.D.SharedDisk.faults l.disk i;
-  kept : (later : List TraceItem) × (l.items.items ≡ l.initial.items.items ++ later);
+  begun : run.begun ≡ l.initial.items.items;
 }
