@@ -4,7 +4,7 @@ use Rattle.file_tree.specs.Tree.{Tree}
 use Rattle.image_model.specs.Image.{image_of}
 use Rattle.image_replays.specs.MountedImages.{IsMounted, MountedValue}
 use Rattle.shared_disk.specs.Disk.{DiskState}
-use Rattle.disk_trees.proofs.Mounted.{stopped_gives, stopped_tells, stopped_cause, read_gives, read_tells, read_cause}
+use Rattle.disk_trees.proofs.OfMounted.{stopped_gives, stopped_tells, stopped_cause, read_gives, read_tells, read_cause}
 use Rattle.disk_trees.proofs.mounted.read_mounted_tree.Goals as goal
 
 -- ---- the replay is stopped
