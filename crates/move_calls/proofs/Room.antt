@@ -26,8 +26,7 @@ use Rattle.room_search.specs.declared.search.Locked.TheVariants as locked
 use Rattle.room_search.proofs.Room.{all_listed}
 use Rattle.room_search.proofs.Shown.{bytes_shown}
 use Rattle.name_moves.specs.Moving.{IsPlaceOfMove, Move, freed_by}
-use Rattle.move_calls.specs.Checks.{IsOnItsWay}
-use Rattle.move_calls.specs.Carrying.{HasRoom, IsCounted, IsFull, IsInTheWay, LacksLock, NeedsBlock, first_blocks}
+use Rattle.move_calls.specs.Carrying.{HasRoom, IsCounted, IsFull, LacksLock, NeedsBlock, first_blocks}
 
 -- numbers that rise stand once each
 distinct : (xs : List ℕ) → Rising xs → IsDistinct xs
@@ -52,20 +51,19 @@ at_some P x a is some = subst (λ y. IfSome y P) is some
 pub at_none : {A : Type 0} (P : Type 0) (x : Option A) → x ≡ None → IfNone x P → P
 at_none P x is none = subst (λ y. IfNone y P) is none
 
--- ---- blocks that aren't in the way
+-- ---- blocks that aren't of the move
 
 pub place_of : (m : Move) (b : ℕ) → (b ≡ m.from) ⊎ ((b ≡ m.to.inode) ⊎ (b ≡ m.moved.inode)) → IsPlaceOfMove m b
 place_of m b (inl e) = IsPlaceOfMove.of_source e
 place_of m b (inr (inl e)) = IsPlaceOfMove.of_target e
 place_of m b (inr (inr e)) = IsPlaceOfMove.of_inode e
 
-pub off_room : (v : Seen) (m : Move) (room : List ℕ) → ((b : ℕ) → Contains room b → (b ≢ m.from) × (b ≢ m.to.inode) × (b ≢ m.moved.inode)) → ((b : ℕ) → Contains room b → Contains (freed_by m) b → ⊥)
-    → ((b : ℕ) → Contains room b → IsOnItsWay v m b → ⊥) → (b : ℕ) → Contains room b → IsInTheWay v m b → ⊥
-off_room v m room dinodes goes ways b has (IsInTheWay.a_place (IsPlaceOfMove.of_source e)) = (dinodes b has).0 e
-off_room v m room dinodes goes ways b has (IsInTheWay.a_place (IsPlaceOfMove.of_target e)) = (dinodes b has).1 e
-off_room v m room dinodes goes ways b has (IsInTheWay.a_place (IsPlaceOfMove.of_inode e)) = (dinodes b has).2 e
-off_room v m room dinodes goes ways b has (IsInTheWay.a_place (IsPlaceOfMove.of_replaced there)) = goes b has there
-off_room v m room dinodes goes ways b has (IsInTheWay.on_way on) = ways b has on
+pub off_room : (m : Move) (room : List ℕ) → ((b : ℕ) → Contains room b → (b ≢ m.from) × (b ≢ m.to.inode) × (b ≢ m.moved.inode)) → ((b : ℕ) → Contains room b → Contains (freed_by m) b → ⊥)
+    → (b : ℕ) → Contains room b → IsPlaceOfMove m b → ⊥
+off_room m room dinodes goes b has (IsPlaceOfMove.of_source e) = (dinodes b has).0 e
+off_room m room dinodes goes b has (IsPlaceOfMove.of_target e) = (dinodes b has).1 e
+off_room m room dinodes goes b has (IsPlaceOfMove.of_inode e) = (dinodes b has).2 e
+off_room m room dinodes goes b has (IsPlaceOfMove.of_replaced there) = goes b has there
 
 -- ---- the groups that come first
 

@@ -27,7 +27,7 @@ use Rattle.name_inserts.specs.Needing.{TakesBlocks}
 use Rattle.name_inserts.specs.Way.{IsRightWay}
 use Rattle.name_moves.specs.Becoming.{NeedsAfter}
 use Rattle.name_moves.specs.Moving.{AreApart, IsMoving, IsNeededIn, IsPlaceOfMove, IsWrongIn, IsWrongThere, Move, freed_by, lost_there}
-use Rattle.move_calls.specs.Checks.{IsNeededOnWays, IsOnItsWay, IsWrongOnWays}
+use Rattle.move_calls.specs.Checks.{IsNeededOnWays, IsOffItsWays, IsOnItsWay, IsWrongOnWays}
 
 -- ---- what is needed
 
@@ -76,9 +76,10 @@ pub data IsInTheWay (v : Seen) (m : Move) (b : ℕ) : Type 0 where
   a_place : IsPlaceOfMove m b → IsInTheWay v m b
   on_way : IsOnItsWay v m b → IsInTheWay v m b
 
--- none of the blocks is in the move's way, and the way to the new name is right
+-- none of the blocks is a dinode of the move, goes with what stands at the new name, or is on one of the ways; and the way to the new name is right
 pub record IsOffWay (v : Seen) (m : Move) (room : List ℕ) : Type 0 where
-  pub apart : (b : ℕ) → Contains room b → IsInTheWay v m b → ⊥
+  pub apart : (b : ℕ) → Contains room b → IsPlaceOfMove m b → ⊥
+  pub off : (b : ℕ) → Contains room b → IsOffItsWays v m b
   pub way : room ≢ [] → (h : Holding) → dirs.IsShown v m.to.inode h → IsRightWay v h m.new_name room
 
 -- ---- what is answered
