@@ -92,8 +92,8 @@ pub record IsCarriedOut (v : Seen) (node time : ℕ) (m : Move) (change : Change
   pub off : IsOffWay v m room
   pub is : IsMoving v m room time change
 
--- It can't be made. A block that goes is one that the node takes, as the bits call it free, and the view hasn't it. Once names have gone from the directory that gets the new one, a rule is broken there as blocks are counted, or there or elsewhere as all is drafted, or that leads to a block
--- that is no data block of a group: so that directory wasn't sound before. Or in the blocks that the node takes the directories and the inode aren't sound and apart, or the one that is to get
+-- It can't be made. A block that goes is one that the node takes, as the bits call it free, and the view hasn't it. Where names go from the directory that gets the new one, a rule is broken there as blocks are counted, as the first of them goes or once it has gone, or there or elsewhere as all is
+-- drafted; or that leads to a block that is no data block of a group, and so isn't sound. Or in the blocks that the node takes the directories and the inode aren't sound and apart, or the one that is to get
 -- the name can't, though the way to it is right. In an image that stands for a tree no move is such a one.
 pub data IsStuck (v : Seen) (node : ℕ) (m : Move) : Type 0 where
   goes_free : (need b : ℕ) (room : List ℕ) → HasRoom v node m need room → Contains room b → Contains (freed_by m) b → v.block_at b ≡ None → IsStuck v node m
@@ -116,8 +116,8 @@ pub data LacksLock (v : Seen) (node : ℕ) (m : Move) (lock : LockName) (state :
       → ((at : ℕ → List ℕ) → AreShown v at → IsFirstLack v (group_holds (said at) v.groups counted.first.own need) lock state) → LacksLock v node m lock state
 
 -- This block is needed. On the way to the new name as that is before any name goes; of a group that has some of what goes; of a group, to find blocks; on the way to a name of the move, to see that
--- none of these is there; where no name goes from the directory that gets the new one, to draft the move; or of a group that has some of these or of what goes. Once names have gone
--- from that directory: of a directory, and it is a data block of a group. A group's is needed only where the groups are held that come first.
+-- none of these is there; where no name goes from the directory that gets the new one, to draft the move; or of a group that has some of these or of what goes. Where names go
+-- from that directory: of a directory, as they go or the new one comes, and it is a data block of a group. A group's is needed only where the groups are held that come first.
 pub data NeedsBlock (v : Seen) (node : ℕ) (m : Move) (n : Missing) : Type 0 where
   to_look : v.block_at n.block ≡ None → ((h : Holding) → dirs.IsShown v m.to.inode h → IsNeededForName v h m.new_name n) → NeedsBlock v node m n
   of_freed : (need : ℕ) → IsCounted v node m need → freeing.IsNeededFor v (freed_by m) n → NeedsBlock v node m n
