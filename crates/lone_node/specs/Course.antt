@@ -55,7 +55,7 @@ pub record IsDoneBy (view : Lone) (time : ℕ) (call : Call) (reply : Reply) (ch
 pub record IsSpaceless (view : Lone) (call : Call) (need free : ℕ) : Type 0 where
   pub takes : TakesSpace call
   pub fewer : free < need
-  pub shown : IsFullFor (seen_alone view) call need free
+  pub shown : IsFullFor (seen_alone view) call 1 need free
   pub few : (im : Image) (o : Owners) (l : Layout) (t : Tree) → IsOf (seen_alone view) im o l t → IsTooFew (seen_alone view) im o l t call need free
 
 -- ---- on the disk

@@ -3,9 +3,12 @@ use Rattle.std.proofs.Common.{◌≡◌, ◌≢◌, ◌⊎◌, ◌<◌, ◌==◌
 use Rattle.std.proofs.lemmas.Bool.{cases_Bool, cond-true, cond-false}
 use Rattle.std.proofs.lemmas.List.Elements.{Contains-append_cases, Contains-append_right}
 use Rattle.std.specs.Prelude.{Contains, IfNone, IfSome, is_some}
+use Rattle.glock_names.specs.Steps.{TellsOf}
 use Rattle.glock_names.specs.Views.{Seen, IsView}
 use Rattle.glock_names.specs.declared.LockName.{LockName}
 use Rattle.glock_names.specs.declared.State.{State}
+use Rattle.glock_names.specs.declared.steps.CallFault.{CallFault}
+use Rattle.glock_names.specs.declared.steps.CallFault.TheVariants.{Damaged, NoMemory}
 use Rattle.glock_names.specs.declared.steps.Missing.{Missing}
 use Rattle.glock_names.specs.declared.views.Group.{Group}
 use Rattle.growth_drafts.specs.Taken.{IsDistinct}
@@ -96,6 +99,11 @@ module _ (v : Seen) (node need : ℕ) (m : Move) (room : List ℕ) (has : HasRoo
   ]
 
 -- ---- what a search for them tells
+
+-- where none is needed nothing is told
+pub told_asked : (need : ℕ) (P : ℕ → ℕ → Type 0) (f : CallFault) → (need ≡ 0 → TellsOf (λ rule b. ⊥) f) → TellsOf P f → TellsOf (λ rule b. (need ≢ 0) × P rule b) f
+told_asked need P (Damaged b rule) never is = (never, is)
+told_asked need P NoMemory never is = tt
 
 abbrev pub Finds : Seen → ℕ → ℕ → Locked Taken → Type 0
 Finds v node need r = (at : ℕ → List ℕ) (own : Group) → AreShown v at → group_of_node v.groups node ≡ Some own → IsUnder v (group_holds (said at) v.groups own need) (IsTaken v (said at) v.groups own need) r

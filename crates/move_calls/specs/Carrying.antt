@@ -138,12 +138,12 @@ IsCarried v node time m attempt.NotBuilt = IsStuck v node m
 -- ---- damage
 
 -- The block breaks this rule, as the view shows it before any name goes: on the way to the new name; where no name goes from the directory that gets it, in a directory of the move, or in a group
--- that has some of what goes or is taken, as all is drafted; in a group that has some of what goes, those being held that come first, or that is looked through for blocks; on the way to a
+-- that has some of what goes or is taken, as all is drafted; in a group that has some of what goes, those being held that come first, or, where blocks are needed, that is looked through for them; on the way to a
 -- name of the move, as it is looked whether a block that was found is there; or (5) the bits of a group call a block free that is in the move's way.
 pub data IsDamageOf (v : Seen) (node : ℕ) (m : Move) : ℕ → ℕ → Type 0 where
   to_look : (rule b : ℕ) → ((h : Holding) → dirs.IsShown v m.to.inode h → IsWrongForName v h rule b) → IsDamageOf v node m rule b
   of_freed : (need rule b : ℕ) → IsCounted v node m need → BreaksSome v (freed_by m) rule b → IsDamageOf v node m rule b
-  of_room : (need rule b : ℕ) → IsCounted v node m need → IsGroupBroken v rule b → IsDamageOf v node m rule b
+  of_room : (need rule b : ℕ) → IsCounted v node m need → need ≢ 0 → IsGroupBroken v rule b → IsDamageOf v node m rule b
   on_way : (need : ℕ) (room : List ℕ) (rule b : ℕ) → HasRoom v node m need room → IsWrongOnWays v m rule b → IsDamageOf v node m rule b
   called_free : (need b : ℕ) (room : List ℕ) → HasRoom v node m need room → Contains room b → IsInTheWay v m b → IsDamageOf v node m 5 b
   to_draft : (need : ℕ) (room : List ℕ) (rule b : ℕ) → HasRoom v node m need room → lost_there m ≡ [] → IsWrongIn v m (room ++ freed_by m) rule b → IsDamageOf v node m rule b
