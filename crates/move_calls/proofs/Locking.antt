@@ -20,13 +20,13 @@ use Rattle.name_inserts.specs.Inserting.{IsNeededForName}
 use Rattle.drafts.specs.declared.change.Written.{Written}
 use Rattle.drafts.specs.declared.fate.Fate.{Fate}
 use Rattle.drafts.specs.declared.fate.Fate.TheVariants.{Put}
+use Rattle.gfs2_layout.specs.declared.rindex.Rindex.{Rindex}
 use Rattle.glock_names.specs.Views.{Seen, HasGroup, IsView, group_of_entry}
 use Rattle.glock_names.specs.declared.LockName.{LockName}
 use Rattle.glock_names.specs.declared.State.{State}
 use Rattle.glock_names.specs.declared.State.TheVariants.{Ex}
 use Rattle.glock_names.specs.declared.steps.Missing.{Missing}
 use Rattle.glock_names.specs.declared.views.Group.{Group}
-use Rattle.image_model.specs.Groups as listed
 use Rattle.image_model.specs.Image.{Image}
 use Rattle.image_model.specs.Owners.{Owners, holding}
 use Rattle.image_model.specs.Stands.{Layout}
@@ -46,10 +46,9 @@ use Rattle.path_walks.proofs.Longer.{asked_before, asked_behind, lack_before, la
 use Rattle.resource_groups.specs.Freeing as freeing
 use Rattle.resource_groups.specs.Shown.{IsDataOf, said}
 use Rattle.resource_groups.proofs.Apart.{one_group}
-use Rattle.group_locks.specs.Groups.{holds_of_groups}
-use Rattle.group_locks.specs.Laws.{AreThose}
+use Rattle.group_locks.specs.Groups.{has_some, holds_of_those}
 use Rattle.group_locks.proofs.Listed.{held_upto}
-use Rattle.group_locks.proofs.Locks.{blocks_of_groups_are_asked_for, first_group_lacks_are_first, groups_with_blocks_are_listed, held_groups_hold_the_list}
+use Rattle.group_locks.proofs.Locks.{block_of_those_is_asked, first_of_those_is_first, has_so, so_has, those_are_listed, those_hold_the_list}
 use Rattle.room_search.specs.Blocks.{free_in_all, group_holds, group_of_node, room_holds}
 use Rattle.room_search.specs.Searches.{AreShown, IsGroupBlock}
 use Rattle.room_search.proofs.Holds.{block_under}
@@ -60,13 +59,12 @@ use Rattle.name_moves.specs.Becoming.{NeedsAfter}
 use Rattle.name_moves.specs.Moving.{CanBeMoved, IsNeededIn, IsPutUnder, Move, blocks_or_none, freed_by, lost_there}
 use Rattle.name_moves.proofs.Alike.{need_once}
 use Rattle.name_moves.proofs.Asked.{move_asked}
-use Rattle.move_calls.specs.Carrying.{FirstAreHeld, HasRoom, IsCarriedOut, IsFull, IsOwnGroup, LacksLock, NeedsBlock, NeedsFor, first_blocks}
+use Rattle.move_calls.specs.Carrying.{ComesFirst, FirstAreHeld, HasRoom, IsCarriedOut, IsFull, IsOwnGroup, LacksLock, NeedsBlock, NeedsFor}
 use Rattle.move_calls.specs.Checks.{IsNeededOnWays, IsWayOf}
-use Rattle.move_calls.specs.Locks.{IsNeed, IsSoOfList, IsTooFew, call_holds, comes_first, goes_with, is_first_of, lost_in, moves_in, replaced_in}
+use Rattle.move_calls.specs.Locks.{IsNeed, IsSoOfList, IsTooFew, call_holds, comes_first, goes_with, is_this, lost_in, moves_in, replaced_in}
 use Rattle.move_calls.proofs.Asked.{in_asked, way_asked}
 use Rattle.move_calls.proofs.Doing.{are_places, lost_same, move_by}
 use Rattle.move_calls.proofs.Gone.{none_in}
-use Rattle.move_calls.proofs.Room.{freed_first}
 
 -- ---- tests
 
@@ -126,7 +124,7 @@ module _ (v : Seen) (im : Image) (o : Owners) (l : Layout) (t : Tree) (of : IsOf
   inode_list = inode_holds im o l c
 
   abbrev first_list : ℕ → List Hold
-  first_list need = holds_of_groups (comes_first im o l c node need) l.groups
+  first_list need = holds_of_those (comes_first im o l c node need) l.groups
 
   abbrev room_list : ℕ → List Hold
   room_list need = room_holds o l node need
@@ -186,32 +184,33 @@ module _ (v : Seen) (im : Image) (o : Owners) (l : Layout) (t : Tree) (of : IsOf
     own_there : group_of_node (map group_of_entry l.groups) node ≡ Some own
     own_there = ap (λ gs. group_of_node gs node) of.groups ∙ is_own.of_node
 
-    pub those : AreThose (comes_first im o l c node need) (first_blocks own need (freed_by m))
-    those b = elim (cases_Bool (need == 0)) [
-      | inl none ↦
-          let test : comes_first im o l c node need b ≡ goes_with im o (replaced_in im o l c) b =
-          ap (λ x. goes_with im o (replaced_in im o l c) b || (not x && is_first_of (group_of_node (map group_of_entry l.groups) node) b)) none ∙ or_false (goes_with im o (replaced_in im o l c) b) in
-          let blocks : first_blocks own need (freed_by m) ≡ freed_by m = cond-true (need == 0) (freed_by m) (own.first ∷ freed_by m) none in
-          ((λ there. test ∙ (freed_goes b).0 (subst (λ xs. Contains xs b) blocks there)), (λ passes. subst (λ xs. Contains xs b) (sym blocks) ((freed_goes b).1 (sym test ∙ passes))))
-      | inr some ↦
-          let test : comes_first im o l c node need b ≡ (goes_with im o (replaced_in im o l c) b || (b == own.first)) =
-          ap (λ x. goes_with im o (replaced_in im o l c) b || (not x && is_first_of (group_of_node (map group_of_entry l.groups) node) b)) some
-          ∙ ap (λ x. goes_with im o (replaced_in im o l c) b || is_first_of x b) own_there in
-          let blocks : first_blocks own need (freed_by m) ≡ own.first ∷ freed_by m = cond-false (need == 0) (freed_by m) (own.first ∷ freed_by m) some in (
-            (λ there. test ∙ passes (is_in b (own.first ∷ freed_by m) (subst (λ xs. Contains xs b) blocks there))),
-            (λ so. subst (λ xs. Contains xs b) (sym blocks) (contained b (own.first ∷ freed_by m) (there_so (sym test ∙ so)))),
-          )
-    ]
-      where
-        passes : IsIn b (own.first ∷ freed_by m) → (goes_with im o (replaced_in im o l c) b || (b == own.first)) ≡ true
-        passes (inl e) = or_right (goes_with im o (replaced_in im o l c) b) (b == own.first) (eq-eqb b own.first e)
-        passes (inr more) = or_left (goes_with im o (replaced_in im o l c) b) (b == own.first) ((freed_goes b).0 (contained b (freed_by m) more))
+    abbrev goes : ℕ → Bool
+    goes = goes_with im o (replaced_in im o l c)
 
-        there_so : (goes_with im o (replaced_in im o l c) b || (b == own.first)) ≡ true → IsIn b (own.first ∷ freed_by m)
-        there_so so = elim (cases_Bool (goes_with im o (replaced_in im o l c) b)) [
-          | inl goes ↦ inr (is_in b (freed_by m) ((freed_goes b).1 goes))
-          | inr stays ↦ inl (eqb-true b own.first (sym (ap (λ x. x || (b == own.first)) stays) ∙ so))
-        ]
+    abbrev its : Rindex → Bool
+    its g = is_this (group_of_node (map group_of_entry l.groups) node) g
+
+    pub passes_first : (g : Rindex) → comes_first im o l c node need g ≡ true → ComesFirst own need m (group_of_entry g)
+    passes_first g is = elim (cases_Bool (has_some goes g)) [
+      | inl some ↦ inr (has_so goes (freed_by m) freed_goes g some)
+      | inr none ↦
+          let rest : (not (need == 0) && its g) ≡ true = sym (ap (λ x. x || (not (need == 0) && its g)) none) ∙ is in
+          elim (cases_Bool (need == 0)) [
+            | inl nothing ↦ absurd (true≢false (sym rest ∙ ap (λ x. not x && its g) nothing))
+            | inr blocks ↦
+                let same : (own.addr == g.address) ≡ true = sym (ap (λ x. not x && its g) blocks ∙ ap (λ x. is_this x g) own_there) ∙ rest in
+                inl (cond-false (need == 0) None (Some own.addr) blocks ∙ ap Some (eqb-true own.addr g.address same))
+          ]
+    ]
+
+    pub first_passes : (g : Rindex) → ComesFirst own need m (group_of_entry g) → comes_first im o l c node need g ≡ true
+    first_passes g (inr some) = or_left (has_some goes g) (not (need == 0) && its g) (so_has goes (freed_by m) freed_goes g some)
+    first_passes g (inl is) = or_right (has_some goes g) (not (need == 0) && its g) (elim (cases_Bool (need == 0)) [
+      | inl nothing ↦ absurd (let never : ◌≡◌ {A = Option ℕ} None (Some g.address) = sym (cond-true (need == 0) None (Some own.addr) nothing) ∙ is in cc)
+      | inr blocks ↦
+          ap (λ x. not x && its g) blocks ∙ ap (λ x. is_this x g) own_there
+          ∙ eq-eqb own.addr g.address (some_same (sym (cond-false (need == 0) None (Some own.addr) blocks) ∙ is))
+    ])
 
     -- the locks under which blocks are found
     pub room_is : group_holds (said im.at) v.groups own need ≡ room_list need
@@ -222,7 +221,7 @@ module _ (v : Seen) (im : Image) (o : Owners) (l : Layout) (t : Tree) (of : IsOf
 
   first_held : (need : ℕ) → FirstAreHeld v node m need → AreHeld v (inode_list ++ first_list need)
   first_held need first =
-      held_groups_hold_the_list v im o l t (comes_first im o l c node need) (first_blocks first.own need (freed_by m)) inode_list of (those need first.own first.of_node) inodes first.held
+      those_hold_the_list v im o l t of (comes_first im o l c node need) (ComesFirst first.own need m) (passes_first need first.own first.of_node) (first_passes need first.own first.of_node) inode_list inodes first.held
 
   -- ---- the first lock that isn't held
 
@@ -232,7 +231,7 @@ module _ (v : Seen) (im : Image) (o : Owners) (l : Layout) (t : Tree) (of : IsOf
       (subst (λ list. IsFirstLack v list lock state) (sym (list_then need))
       (lack_before v (inode_list ++ first_list need) (room_list need) lock state
       (subst (IsFirstLack v (inode_list ++ first_list need) lock) (sym strong)
-      (first_group_lacks_are_first v im o l t (comes_first im o l c node need) (first_blocks lacks.own need (freed_by m)) inode_list lock of (those need lacks.own lacks.of_node) inodes lacks.lacks))))
+      (first_of_those_is_first v im o l t of (comes_first im o l c node need) (ComesFirst lacks.own need m) (passes_first need lacks.own lacks.of_node) (first_passes need lacks.own lacks.of_node) inode_list inodes lock lacks.lacks))))
   lock_lacks lock state other (LacksLock.of_room need counted lacks first) is =
       subst (λ n. IsFirstLack v (call_holds im o l t c node n) lock state) (one_need need other counted.needs is)
       (subst (λ list. IsFirstLack v list lock state) (sym (list_then need))
@@ -293,8 +292,8 @@ module _ (v : Seen) (im : Image) (o : Owners) (l : Layout) (t : Tree) (of : IsOf
     -- of a group that has some of what goes
     freed_asks : (need : ℕ) (n : Missing) → FirstAreHeld v node m need → freeing.IsNeededFor v (freed_by m) n → IsAskedFor v im o l (inode_list ++ first_list need) n
     freed_asks need n first needs =
-        blocks_of_groups_are_asked_for v im o l t (comes_first im o l c node need) (first_blocks first.own need (freed_by m)) inode_list n of (those need first.own first.of_node) inodes first.held
-        (needs.0, needs.1, (needs.2.0, freed_first first.own need (freed_by m) needs.2.0 needs.2.1, needs.2.2, needs.2.3))
+        block_of_those_is_asked v im o l t of (comes_first im o l c node need) (ComesFirst first.own need m) (passes_first need first.own first.of_node) (first_passes need first.own first.of_node) inode_list inodes
+        first.held needs.0 n needs.1 (inr (needs.2.0, needs.2.1, needs.2.2)) needs.2.3.block
 
     -- where blocks are found and all is held
     module _ (need : ℕ) (room : List ℕ) (has : HasRoom v node m need room) where
@@ -324,12 +323,9 @@ module _ (v : Seen) (im : Image) (o : Owners) (l : Layout) (t : Tree) (of : IsOf
       freed_listed : (g : Group) (b : ℕ) → HasGroup v g → Contains (freed_by m) b → IsDataOf g b → Contains (inode_list ++ first_list need) (hold_of_group g)
       freed_listed g b has_it goes lies =
           let f = (groups_are_listed v im o l t g of).0 has_it in
-          let first = ap (λ (k : Group). k.first) f.2 in
-          let count = ap (λ (k : Group). k.count) f.2 in
-          let within : listed.IsDataOf f.0 b = record { low = omega (arith, lies.low, first); high = omega (arith, lies.high, first, count) } in
           subst (λ k. Contains (inode_list ++ first_list need) (hold_of_group k)) (sym f.2)
-          (groups_with_blocks_are_listed (comes_first im o l c node need) l.groups f.0 b inode_list f.1 within
-          ((those need own has.counted.first.of_node b).0 (freed_first own need (freed_by m) b goes)))
+          (those_are_listed (comes_first im o l c node need) l.groups f.0 inode_list f.1
+          (first_passes need own has.counted.first.of_node f.0 (inr (b, goes, subst (λ k. IsDataOf k b) f.2 lies))))
 
       group_asks : (n : Missing) → freeing.IsNeededFor v (room ++ freed_by m) n → IsAskedFor v im o l whole n
       group_asks n needs = elim (Contains-append_cases room (freed_by m) needs.2.0 needs.2.1) [

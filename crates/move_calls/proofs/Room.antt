@@ -29,7 +29,7 @@ use Rattle.room_search.specs.declared.search.Locked.TheVariants as locked
 use Rattle.room_search.proofs.Room.{all_listed}
 use Rattle.room_search.proofs.Shown.{bytes_shown}
 use Rattle.name_moves.specs.Moving.{IsPlaceOfMove, Move, freed_by}
-use Rattle.move_calls.specs.Carrying.{HasRoom, IsCounted, IsFull, LacksLock, NeedsBlock, first_blocks}
+use Rattle.move_calls.specs.Carrying.{HasRoom, IsCounted, IsFull, LacksLock, NeedsBlock}
 
 -- numbers that rise stand once each
 distinct : (xs : List ℕ) → Rising xs → IsDistinct xs
@@ -68,18 +68,6 @@ off_room m room dinodes goes b has (IsPlaceOfMove.of_target e) = (dinodes b has)
 off_room m room dinodes goes b has (IsPlaceOfMove.of_inode e) = (dinodes b has).2 e
 off_room m room dinodes goes b has (IsPlaceOfMove.of_replaced there) = goes b has there
 
--- ---- the groups that come first
-
-pub freed_first : (own : Group) (need : ℕ) (freed : List ℕ) (b : ℕ) → Contains freed b → Contains (first_blocks own need freed) b
-freed_first own need freed b there = elim (cases_Bool (need == 0)) [
-  | inl none ↦ subst (λ xs. Contains xs b) (sym (cond-true (need == 0) freed (own.first ∷ freed) none)) there
-  | inr some ↦ subst (λ xs. Contains xs b) (sym (cond-false (need == 0) freed (own.first ∷ freed) some)) (Contains-append_right (own.first ∷ []) freed b there)
-]
-
--- those of what goes are held with them
-pub freed_held : (v : Seen) (own : Group) (need : ℕ) (freed : List ℕ) → GroupsAreHeld v (first_blocks own need freed) → GroupsAreHeld v freed
-freed_held v own need freed held g listed (b, there, lies) = held g listed (b, freed_first own need freed b there, lies)
-
 -- ---- the blocks
 
 module _ (v : Seen) (node need : ℕ) (m : Move) (room : List ℕ) (has : HasRoom v node m need room) where
@@ -95,7 +83,7 @@ module _ (v : Seen) (node need : ℕ) (m : Move) (room : List ℕ) (has : HasRoo
     | inl in_room ↦
         let is = has.blocks.each b in_room in
         subst (λ k. holds v (hold_of_group k) ≡ true) (one_group v b is.group g view is.has is.data_block listed lies) is.held
-    | inr goes ↦ freed_held v has.counted.first.own need (freed_by m) has.counted.first.held g listed (b, goes, lies)
+    | inr goes ↦ has.counted.first.held g listed (inr (b, goes, lies))
   ]
 
 -- ---- what a search for them tells

@@ -1,5 +1,5 @@
 -- A move that can be made is carried out: the blocks that it needs are counted, the locks of groups are looked at, blocks are found, and then all is drafted.
-use Rattle.std.specs.Prelude.{ℕ, ◌≡◌, ◌≢◌, ◌==◌, ◌<◌, false, true, if◌then◌else◌, List, [], ◌∷◌, ◌++◌, length, map, Contains, None, Some}
+use Rattle.std.specs.Prelude.{ℕ, ◌≡◌, ◌≢◌, ◌==◌, ◌<◌, false, true, if◌then◌else◌, List, [], ◌++◌, length, map, Contains, Option, None, Some}
 use Rattle.drafts.specs.declared.attempt.Attempt.{Attempt}
 use Rattle.drafts.specs.declared.attempt.Attempt.TheVariants as attempt
 use Rattle.drafts.specs.declared.change.Change.{Change}
@@ -14,7 +14,7 @@ use Rattle.glock_names.specs.declared.steps.Missing.{Missing}
 use Rattle.glock_names.specs.declared.views.Group.{Group}
 use Rattle.directories.specs.Shown as dirs
 use Rattle.hash_dirs.specs.Shown.{IsSound}
-use Rattle.group_locks.specs.Groups.{GroupsAreHeld, IsFirstGroupLack}
+use Rattle.group_locks.specs.Groups.{AreHeldOf, IsFirstLackOf, IsOneOrHas}
 use Rattle.path_walks.specs.Holds.{AreHeld, IsFirstLack, hold_of_group, holds}
 use Rattle.resource_groups.specs.Shown.{said}
 use Rattle.resource_groups.specs.Freeing.{BreaksSome}
@@ -43,21 +43,25 @@ pub record IsOwnGroup (v : Seen) (node : ℕ) (own : Group) : Type 0 where
   pub of_node : group_of_node v.groups node ≡ Some own
   pub has : HasGroup v own
 
--- the blocks whose groups are held first: those that go, and where some are needed the first of the node's own group
-abbrev pub first_blocks : Group → ℕ → List ℕ → List ℕ
-first_blocks own need freed = if need == 0 then freed else own.first ∷ freed
+-- this, where blocks are needed
+abbrev pub where_needed : ℕ → ℕ → Option ℕ
+where_needed number need = if need == 0 then None else Some number
+
+-- the groups that are held first: those that have some of what goes, and where blocks are needed the node's own
+abbrev pub ComesFirst : Group → ℕ → Move → Group → Type 0
+ComesFirst own need m = IsOneOrHas (where_needed own.addr need) (freed_by m)
 
 -- the groups are held that come first
 pub record FirstAreHeld (v : Seen) (node : ℕ) (m : Move) (need : ℕ) : Type 0 where
   pub own : Group
   pub of_node : IsOwnGroup v node own
-  pub held : GroupsAreHeld v (first_blocks own need (freed_by m))
+  pub held : AreHeldOf v (ComesFirst own need m)
 
 -- this is the lock of the first of them that isn't held
 pub record LacksFirst (v : Seen) (node : ℕ) (m : Move) (need : ℕ) (lock : LockName) : Type 0 where
   pub own : Group
   pub of_node : IsOwnGroup v node own
-  pub lacks : IsFirstGroupLack v (first_blocks own need (freed_by m)) lock
+  pub lacks : IsFirstLackOf v (ComesFirst own need m) lock
 
 -- So many blocks are needed, and the groups are held that come first.
 pub record IsCounted (v : Seen) (node : ℕ) (m : Move) (need : ℕ) : Type 0 where

@@ -1,10 +1,10 @@
 // A move that can be made is carried out.
-ghost use Rattle.std.specs.Prelude.{ℕ, ◌≡◌, ◌≢◌, ◌⊎◌, ◌≤◌, ◌∷◌, length, Contains, IfNone, IfOk, IfSome, false, true};
+ghost use Rattle.std.specs.Prelude.{ℕ, ◌≡◌, ◌≢◌, ◌⊎◌, ◌≤◌, length, Contains, IfNone, IfOk, IfSome, false, true};
 ghost use Rattle.glock_names.specs.Steps.{IfDamaged, IfIs, IfNeedBlock};
 ghost use Rattle.glock_names.specs.Views.{IsOfView};
 ghost use Rattle.glock_names.specs.declared.views.Group.{Group as GroupValue};
 ghost use Rattle.name_moves.specs.Moving.{CanBeMoved, freed_by, move_of};
-ghost use Rattle.move_calls.specs.Carrying.{FirstAreHeld, HasRoom, IsCarried, IsCounted, IsDamageOf, IsOffWay, IsOwnGroup, IsStuck, LacksFirst, NeedsFor};
+ghost use Rattle.move_calls.specs.Carrying.{FirstAreHeld, HasRoom, IsCarried, IsCounted, IsDamageOf, IsOffWay, IsOwnGroup, IsStuck, LacksFirst, NeedsFor, where_needed};
 ghost use Rattle.move_calls.specs.Checks.{IsNeededOnWays};
 
 use crate::checks::freed_blocks;
@@ -13,7 +13,7 @@ use crate::ways::{block_on_ways, is_a_view};
 use drafts::{Attempt, Stamp};
 use file_tree::Reply;
 use glock_names::{CallFault, LockName, State, Step, View, block_of};
-use group_locks::lacked_group;
+use group_locks::lacked_of;
 use name_moves::NameMove;
 use room_search::{Locked, Taken, find_room};
 use std::alloc::Global;
@@ -108,49 +108,38 @@ fn carry_in<V: View>(
     }
 }
 
-// The first data block of the group to which a node goes first.
-fn own_block<V: View>(view: &V, node: u8) -> u64
+// The number of the group to which a node goes first.
+fn own_number<V: View>(view: &V, node: u8) -> u64
     requires some { 1 ≤ length (V.seen view.now).groups }
     requires node { 1 ≤ node }
-    ensures { (own : GroupValue) × (IsOwnGroup (V.seen view.now) node own × (result ≡ own.first)) }
+    ensures { (own : GroupValue) × (IsOwnGroup (V.seen view.now) node own × (result ≡ own.addr)) }
 {
     let groups = view.groups();
     let own = groups[(node as usize - 1) % groups.len()];
-    own.first
+    own.addr
 }
 
-// A block, and those that go.
-fn with_freed(alloc: Global, own: u64, freed: &[u64]) -> Result<Vec<u64>, CallFault>
-    ensures blocks { IfOk result (λ blocks. blocks.items ≡ own ∷ freed.now) }
-    ensures unharmed { IfDamaged result (λ rule block. ⊥) }
+// A number, where blocks are needed.
+fn if_needed(number: u64, need: u64) -> Option<u64>
+    ensures { result ≡ where_needed number need }
 {
-    let mut blocks = Vec::new(alloc);
-    blocks.push(own)?;
-    blocks.extend_from_slice(freed)?;
-    Ok(blocks)
+    if need == 0 { None } else { Some(number) }
 }
 
 // Of the groups that come first, those that have some of what goes and where blocks are needed the node's own, the lock of the first that isn't held.
 fn lacked_first<V: View>(
-    alloc: Global,
     view: &V,
     m: &NameMove<'_>,
     node: u8,
     need: u64,
-) -> Result<Option<LockName>, CallFault>
+) -> Option<LockName>
     requires groups { 1 ≤ length (V.seen view.now).groups }
     requires node { 1 ≤ node }
-    ensures some { IfOk result (λ found. IfSome found (LacksFirst (V.seen view.now) node (move_of m.now) need)) }
-    ensures none { IfOk result (λ found. IfNone found (FirstAreHeld (V.seen view.now) node (move_of m.now) need)) }
-    ensures unharmed { IfDamaged result (λ rule block. ⊥) }
+    ensures some { IfSome result (LacksFirst (V.seen view.now) node (move_of m.now) need) }
+    ensures none { IfNone result (FirstAreHeld (V.seen view.now) node (move_of m.now) need) }
 {
-    let own = own_block(view, node);
-    let freed = freed_blocks(m);
-    if need == 0 {
-        return Ok(lacked_group(view, freed));
-    }
-    let blocks = with_freed(alloc, own, freed)?;
-    Ok(lacked_group(view, &blocks))
+    let own = own_number(view, node);
+    lacked_of(view, if_needed(own, need), freed_blocks(m))
 }
 
 // Finds the blocks that a move needs, of which the groups are held that come first, and carries it out in them.
@@ -197,7 +186,7 @@ fn carry_counted<V: View>(
     ensures damaged { IfDamaged result (IsDamageOf (V.seen view.now) stamp.now.node (move_of m.now)) }
     ensures kept { IfDamaged result (IsOfView (V.seen view.now)) }
 {
-    match lacked_first(alloc, view, m, stamp.node, need)? {
+    match lacked_first(view, m, stamp.node, need) {
         Some(lock) => Ok(Attempt::NeedLock {
             lock,
             state: State::Ex,
@@ -209,7 +198,7 @@ fn carry_counted<V: View>(
 /// Carries out a move that can be made. Where names go from the directory that gets the new one, the way to that is looked at as it is. The blocks that are needed are counted, then the
 /// locks of the groups that have some of what goes are looked at, and where blocks are needed with these, by rising number, that of the node's own group; then the groups of what
 /// goes are looked at; and then the locks under which blocks are found. It costs what `need_name`, `need_to_move`, `find_room` and `moving` cost, and freeing what goes in a draft
-/// that is thrown away, and passes over the blocks; where blocks are needed memory for a copy of those that go.
+/// that is thrown away, and passes over the blocks.
 pub fn carry<V: View>(
     alloc: Global,
     view: &V,
