@@ -1,6 +1,6 @@
 -- A replay and its items, put together from its parts.
 use Rattle.std.proofs.Common.{◌≡◌, ℕ, ◌+◌, ◌<◌, List, [], ◌∷◌, ◌++◌, length, take, get_or, Option, None, Some, refl, sym, ap, subst, ◌∙◌, append_assoc, arith}
-use Rattle.std.specs.Prelude.{IfSome}
+use Rattle.std.specs.Prelude.{MatchOption}
 use Rattle.std.proofs.lemmas.List.{append-nil}
 use Rattle.std.proofs.lemmas.Option.{slice_get-get_or, slice_get_within}
 use Rattle.drafts.specs.declared.change.Written.{Written}
@@ -87,7 +87,7 @@ module _ (node slot dinode : ℕ) (blocks : List ℕ) (time : ℕ) (before betwe
   failed_home items one block stop = record {
     added = stop.added;
     are = stop.are;
-    stopped = subst (λ (c : Option LogHeader). IfSome c (λ (h : LogHeader). StopsReplay node before after p.home.items (clean_block before.disk.size (get_or blocks h.blkno 0) dinode time h) block stop.added)) (sym is)
+    stopped = subst (λ (c : Option LogHeader). MatchOption c ⊥ (λ (h : LogHeader). StopsReplay node before after p.home.items (clean_block before.disk.size (get_or blocks h.blkno 0) dinode time h) block stop.added)) (sym is)
         (at_home stop.stops);
     told = told_stopped node before after p.home.items block stop.added stop.stops;
   }
@@ -98,7 +98,7 @@ module _ (node slot dinode : ℕ) (blocks : List ℕ) (time : ℕ) (before betwe
   failed_header items one two block home stop = record {
     added = items_of home.brings.operations ++ stop.added;
     are = stop.are ∙ ap (λ (xs : List TraceItem). xs ++ stop.added) home.are ∙ append_assoc items (items_of home.brings.operations) stop.added;
-    stopped = subst (λ (c : Option LogHeader). IfSome c (λ (h : LogHeader). StopsReplay node before after p.home.items (clean_block before.disk.size (get_or blocks h.blkno 0) dinode time h) block
+    stopped = subst (λ (c : Option LogHeader). MatchOption c ⊥ (λ (h : LogHeader). StopsReplay node before after p.home.items (clean_block before.disk.size (get_or blocks h.blkno 0) dinode time h) block
         (items_of home.brings.operations ++ stop.added))) (sym is)
         (at_header between home.brings stop.added stop.stops refl);
     told = told_on node before.list between.list after.list (items_of home.brings.operations) stop.added (home.brings.operations, done_items home.brings.operations, home.brings.gains)

@@ -1,5 +1,5 @@
 -- The replay of a journal, from one moment of the disk to another.
-use Rattle.std.specs.Prelude.{ℕ, ◌≡◌, ◌<◌, List, [], ◌∷◌, ◌++◌, length, get_or, IfSome, Option, None, Some}
+use Rattle.std.specs.Prelude.{ℕ, ◌≡◌, ◌<◌, List, [], ◌∷◌, ◌++◌, length, get_or, IfSome, MatchOption, Option, None, Some}
 use Rattle.drafts.specs.declared.change.Written.{Written}
 use Rattle.log_layout.specs.declared.log_header.LogHeader.{LogHeader}
 use Rattle.peer_replay.specs.declared.planned.Plan.{Plan}
@@ -57,9 +57,10 @@ pub data StopsReplay (node : ℕ) (before after : Moment) (home : List Written) 
   at_header : (between : Moment) (homes : BringsTo node before between home) (more : List TraceItem) → StopsBringing node between after (header ∷ []) block more
       → items ≡ items_of homes.operations ++ more → StopsReplay node before after home header block items
 
+-- the same of the header that a plan has; without one nothing is done in which the disk could fail
 abbrev pub StopsReplayBy : (node dinode : ℕ) (blocks : List ℕ) (time : ℕ) (before after : Moment) → Plan → Option ℕ → List TraceItem → Type 0
 StopsReplayBy node dinode blocks time before after p block items =
-    IfSome p.clean (λ (header : LogHeader). StopsReplay node before after p.home.items (clean_block before.disk.size (get_or blocks header.blkno 0) dinode time header) block items)
+    MatchOption p.clean ⊥ (λ (header : LogHeader). StopsReplay node before after p.home.items (clean_block before.disk.size (get_or blocks header.blkno 0) dinode time header) block items)
 
 -- ---- the items of a vector
 
