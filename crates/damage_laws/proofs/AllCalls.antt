@@ -44,18 +44,18 @@ use Rattle.damage_laws.proofs.Moves.{moves_tell}
 use Rattle.damage_laws.proofs.Paths.{broken_directory_told, broken_inode, paths_tell, wrong_at}
 
 pub calls_tell : CallsTell
-calls_tell v im (calls.Create p) rule b read whole told = makings_tell v im (calls.Create p) rule b read whole told
-calls_tell v im (calls.Mkdir p) rule b read whole told = makings_tell v im (calls.Mkdir p) rule b read whole told
-calls_tell v im (calls.Unlink p) rule b read whole told = removals_tell v im (calls.Unlink p) rule b read whole told
-calls_tell v im (calls.Rmdir p) rule b read whole told = removals_tell v im (calls.Rmdir p) rule b read whole told
-calls_tell v im (calls.Read p at n) rule b read whole told = path_told v im (calls.Read p at n) rule b read whole.image told
-calls_tell v im (calls.Dread p at n) rule b read whole told = path_told v im (calls.Dread p at n) rule b read whole.image told
-calls_tell v im (calls.Write p at bytes) rule b read whole told = writes_tell v im (calls.Write p at bytes) rule b read whole told
-calls_tell v im (calls.Truncate p n) rule b read whole told = writes_tell v im (calls.Truncate p n) rule b read whole told
-calls_tell v im (calls.Stat p) rule b read whole told = path_told v im (calls.Stat p) rule b read whole.image told
-calls_tell v im (calls.List p) rule b read whole told = path_told v im (calls.List p) rule b read whole.image told
-calls_tell v im (calls.Rename p q) rule b read whole told = moves_tell v im (calls.Rename p q) rule b read whole tt told
-calls_tell v im calls.Sync rule b read whole told = path_told v im calls.Sync rule b read whole.image told
+calls_tell v im (calls.Create p) node rule b read whole told = makings_tell v im (calls.Create p) rule b read whole told
+calls_tell v im (calls.Mkdir p) node rule b read whole told = makings_tell v im (calls.Mkdir p) rule b read whole told
+calls_tell v im (calls.Unlink p) node rule b read whole told = removals_tell v im (calls.Unlink p) rule b read whole told
+calls_tell v im (calls.Rmdir p) node rule b read whole told = removals_tell v im (calls.Rmdir p) rule b read whole told
+calls_tell v im (calls.Read p at n) node rule b read whole told = path_told v im (calls.Read p at n) rule b read whole.image told
+calls_tell v im (calls.Dread p at n) node rule b read whole told = path_told v im (calls.Dread p at n) rule b read whole.image told
+calls_tell v im (calls.Write p at bytes) node rule b read whole told = writes_tell v im (calls.Write p at bytes) rule b read whole told
+calls_tell v im (calls.Truncate p n) node rule b read whole told = writes_tell v im (calls.Truncate p n) rule b read whole told
+calls_tell v im (calls.Stat p) node rule b read whole told = path_told v im (calls.Stat p) rule b read whole.image told
+calls_tell v im (calls.List p) node rule b read whole told = path_told v im (calls.List p) rule b read whole.image told
+calls_tell v im (calls.Rename p q) node rule b read whole told = moves_tell v im (calls.Rename p q) node rule b read whole tt told
+calls_tell v im calls.Sync node rule b read whole told = path_told v im calls.Sync rule b read whole.image told
 
 pub calls_tell_exactly : CallsTellExactly
-calls_tell_exactly v im call rule b read whole inside told = inside_told v im call inside rule b (calls_tell v im call rule b read whole told)
+calls_tell_exactly v im call node rule b read whole inside told = inside_told v im call inside rule b (calls_tell v im call node rule b read whole told)

@@ -216,7 +216,7 @@ module _ (v : Seen) (im : Image) (p q : Path) (read : IsReadFrom v im) (whole : 
     carried_told : (from_directory : IsDirectoryAt v m.from) (node rule b : ℕ) → carrying.IsDamageOf v node m rule b → IsToldOf v im call rule b
     carried_told dir node _ _ (carrying.IsDamageOf.to_look rule b wrong) = on_parent true rule b (name_told v im read whole (at_old_name true q) (parent_of q) m.to.inode to_leads to_directory rule b wrong)
     carried_told dir node _ _ (carrying.IsDamageOf.of_freed need rule b counted breaks) = on true rule b (itself rule b (some_told v im read whole (freed_by m) rule b breaks))
-    carried_told dir node _ _ (carrying.IsDamageOf.of_room need rule b counted broken) = on true rule b (itself rule b (group_told v im read whole broken.group broken.has rule b broken.broken))
+    carried_told dir node _ _ (carrying.IsDamageOf.of_room need rule b counted some broken) = on true rule b (itself rule b (group_told v im read whole broken.group broken.has rule b broken.broken))
     carried_told dir node _ _ (carrying.IsDamageOf.on_way need room rule b has wrong) = ways_wrong rule b wrong
     carried_told dir node _ _ (carrying.IsDamageOf.called_free need b room has there way) = by way (found_free node need room has b there)
       where
@@ -230,24 +230,24 @@ module _ (v : Seen) (im : Image) (p q : Path) (read : IsReadFrom v im) (whole : 
         by (IsInTheWay.on_way on_it) free = way_free b on_it free
     carried_told dir node _ _ (carrying.IsDamageOf.to_draft need room rule b has none wrong) = drafted_told dir (room ++ freed_by m) none rule b wrong
 
-  moved_told : (rule b : ℕ) → moving.IsDamage v call rule b → IsToldOf v im call rule b
-  moved_told rule b (moving.at_ends at) = ended_told rule b at
-  moved_told rule b (moving.to_see m meant wrong) = seen_told m meant rule b wrong
-  moved_told rule b (moving.to_move node m to wrong) = carried_told m to.meant (λ h s. is_directory_here v m.from h to.can.source to.can.source_there s) node rule b wrong
+  moved_told : (node rule b : ℕ) → moving.IsDamage v call node rule b → IsToldOf v im call rule b
+  moved_told node rule b (moving.at_ends at) = ended_told rule b at
+  moved_told node rule b (moving.to_see m meant wrong) = seen_told m meant rule b wrong
+  moved_told node rule b (moving.to_move m to wrong) = carried_told m to.meant (λ h s. is_directory_here v m.from h to.can.source to.can.source_there s) node rule b wrong
 
 pub moves_tell : MovesTell
-moves_tell v im (calls.Rename p q) rule b read whole is told = moved_told v im p q read whole rule b told
-moves_tell v im (calls.Create p) rule b read whole is told = absurd is
-moves_tell v im (calls.Mkdir p) rule b read whole is told = absurd is
-moves_tell v im (calls.Unlink p) rule b read whole is told = absurd is
-moves_tell v im (calls.Rmdir p) rule b read whole is told = absurd is
-moves_tell v im (calls.Read p at n) rule b read whole is told = absurd is
-moves_tell v im (calls.Dread p at n) rule b read whole is told = absurd is
-moves_tell v im (calls.Write p at bytes) rule b read whole is told = absurd is
-moves_tell v im (calls.Truncate p n) rule b read whole is told = absurd is
-moves_tell v im (calls.Stat p) rule b read whole is told = absurd is
-moves_tell v im (calls.List p) rule b read whole is told = absurd is
-moves_tell v im calls.Sync rule b read whole is told = absurd is
+moves_tell v im (calls.Rename p q) node rule b read whole is told = moved_told v im p q read whole node rule b told
+moves_tell v im (calls.Create p) node rule b read whole is told = absurd is
+moves_tell v im (calls.Mkdir p) node rule b read whole is told = absurd is
+moves_tell v im (calls.Unlink p) node rule b read whole is told = absurd is
+moves_tell v im (calls.Rmdir p) node rule b read whole is told = absurd is
+moves_tell v im (calls.Read p at n) node rule b read whole is told = absurd is
+moves_tell v im (calls.Dread p at n) node rule b read whole is told = absurd is
+moves_tell v im (calls.Write p at bytes) node rule b read whole is told = absurd is
+moves_tell v im (calls.Truncate p n) node rule b read whole is told = absurd is
+moves_tell v im (calls.Stat p) node rule b read whole is told = absurd is
+moves_tell v im (calls.List p) node rule b read whole is told = absurd is
+moves_tell v im calls.Sync node rule b read whole is told = absurd is
 
 pub moves_tell_exactly : MovesTellExactly
-moves_tell_exactly v im call rule b read whole inside is told = inside_told v im call inside rule b (moves_tell v im call rule b read whole is told)
+moves_tell_exactly v im call node rule b read whole inside is told = inside_told v im call inside rule b (moves_tell v im call node rule b read whole is told)

@@ -37,11 +37,11 @@ use Rattle.damage_laws.proofs.Needed.{all_way, directory_out, insert_way, name_w
 use Rattle.damage_laws.proofs.Owned.{from_parent}
 
 -- a block of one of two ways is one of that way
-of_way : (v : Seen) (wants : List Want) (path : Path) (a : ℕ) (n : Missing) → pairs.IsUnreadOf v wants path a n → IsUnread v wants path n
-of_way v wants path a n (pairs.IsUnreadOf.a_dinode depth next held absent is) =
+of_way : (v : Seen) (wants : List Want) (path : Path) (depth a : ℕ) (n : Missing) → pairs.IsUnreadOf v wants path depth a n → IsUnread v wants path n
+of_way v wants path depth a n (pairs.IsUnreadOf.a_dinode next held absent is) =
     let same : n.block ≡ a = ap (λ (x : Missing). x.block) is in
     IsUnread.a_dinode depth (subst (IsNext v wants path depth) (sym same) next) (subst (IsHeldAt v wants depth) (sym same) held) (subst (λ b. v.block_at b ≡ None) (sym same) absent) (is ∙ ap missing_dinode (sym same))
-of_way v wants path a n (pairs.IsUnreadOf.in_directory depth front back name next on leads there needs) = IsUnread.in_directory front back a name on leads there needs.directory needs.needed needs.absent
+of_way v wants path depth a n (pairs.IsUnreadOf.in_directory front back name next on as_deep leads there needs) = IsUnread.in_directory front back a name on leads there needs.directory needs.needed needs.absent
 
 module _ (v : Seen) (im : Image) (p q : Path) (read : IsReadFrom v im) (whole : HasWholeGroups v im) where
   abbrev call : Call
@@ -73,8 +73,8 @@ module _ (v : Seen) (im : Image) (p q : Path) (read : IsReadFrom v im) (whole : 
       on true n (directory_out v im read whole (at_old_name true q) q a n leads directory absent (λ h seen. all_way v im read whole h n out (needs h seen)) out)
 
   ended_out : (n : Missing) → ends.IsNeededAtEnds v call n → im.count ≤ n.block → Source n
-  ended_out n (ends.IsNeededAtEnds.on_paths begun (pairs.IsPairUnread.on_first a unread lets)) out = on false n (unread_out v im read whole (at_old_name false p) p n (of_way v (at_old_name false p) p a n unread) out)
-  ended_out n (ends.IsNeededAtEnds.on_paths begun (pairs.IsPairUnread.on_second a unread lets)) out = on true n (unread_out v im read whole (at_old_name true q) q n (of_way v (at_old_name true q) q a n unread) out)
+  ended_out n (ends.IsNeededAtEnds.on_paths begun (pairs.IsPairUnread.on_first i j a passed unread goes)) out = on false n (unread_out v im read whole (at_old_name false p) p n (of_way v (at_old_name false p) p i a n unread) out)
+  ended_out n (ends.IsNeededAtEnds.on_paths begun (pairs.IsPairUnread.on_second i j a passed unread goes)) out = on true n (unread_out v im read whole (at_old_name true q) q n (of_way v (at_old_name true q) q j a n unread) out)
   ended_out n (ends.IsNeededAtEnds.of_target from to at are stands may needs) out = target_out at.inode n stands.place.leads needs out
 
   module _ (m : Move) (meant : IsMeant v call m) where
@@ -131,7 +131,7 @@ module _ (v : Seen) (im : Image) (p q : Path) (read : IsReadFrom v im) (whole : 
     carried_out dir node n (carrying.NeedsBlock.to_say need room has needs) out = group_out (room ++ freed_by m) n needs out
     carried_out dir node n (carrying.NeedsBlock.once_gone some needs inside) out = absurd (omega (arith, out, whole.data_blocks n.block inside))
 
-  pub moves_out : (n : Missing) → moving.IsNeededFor v call n → im.count ≤ n.block → Source n
-  moves_out n (moving.IsNeededFor.at_ends needs) out = ended_out n needs out
-  moves_out n (moving.IsNeededFor.to_see m meant needs) out = seen_out m meant n needs out
-  moves_out n (moving.IsNeededFor.to_move node m to needs) out = carried_out m to.meant (λ h s. is_directory_here v m.from h to.can.source to.can.source_there s) node n needs out
+  pub moves_out : (node : ℕ) (n : Missing) → moving.IsNeededFor v call node n → im.count ≤ n.block → Source n
+  moves_out node n (moving.IsNeededFor.at_ends needs) out = ended_out n needs out
+  moves_out node n (moving.IsNeededFor.to_see m meant needs) out = seen_out m meant n needs out
+  moves_out node n (moving.IsNeededFor.to_move m to needs) out = carried_out m to.meant (λ h s. is_directory_here v m.from h to.can.source to.can.source_there s) node n needs out

@@ -149,17 +149,17 @@ MakingsTellExactly = (v : Seen) (im : Image) (call : Call) (rule b : ℕ) → Is
 
 -- damage that moving a name meets, the same
 abbrev pub MovesTell : Type 0
-MovesTell = (v : Seen) (im : Image) (call : Call) (rule b : ℕ) → IsReadFrom v im → HasWholeGroups v im → IsRenaming call → moving.IsDamage v call rule b → IsToldOf v im call rule b
+MovesTell = (v : Seen) (im : Image) (call : Call) (node rule b : ℕ) → IsReadFrom v im → HasWholeGroups v im → IsRenaming call → moving.IsDamage v call node rule b → IsToldOf v im call rule b
 
 abbrev pub MovesTellExactly : Type 0
-MovesTellExactly = (v : Seen) (im : Image) (call : Call) (rule b : ℕ) → IsReadFrom v im → HasWholeGroups v im → HasRootInside v → IsRenaming call → moving.IsDamage v call rule b → IsToldOn v im call rule b
+MovesTellExactly = (v : Seen) (im : Image) (call : Call) (node rule b : ℕ) → IsReadFrom v im → HasWholeGroups v im → HasRootInside v → IsRenaming call → moving.IsDamage v call node rule b → IsToldOn v im call rule b
 
 -- damage that any call meets of those that `file_calls` answers
 abbrev pub CallsTell : Type 0
-CallsTell = (v : Seen) (im : Image) (call : Call) (rule b : ℕ) → IsReadFrom v im → HasWholeGroups v im → calls.IsDamage v call rule b → IsToldOf v im call rule b
+CallsTell = (v : Seen) (im : Image) (call : Call) (node rule b : ℕ) → IsReadFrom v im → HasWholeGroups v im → calls.IsDamage v call node rule b → IsToldOf v im call rule b
 
 abbrev pub CallsTellExactly : Type 0
-CallsTellExactly = (v : Seen) (im : Image) (call : Call) (rule b : ℕ) → IsReadFrom v im → HasWholeGroups v im → HasRootInside v → calls.IsDamage v call rule b → IsToldOn v im call rule b
+CallsTellExactly = (v : Seen) (im : Image) (call : Call) (node rule b : ℕ) → IsReadFrom v im → HasWholeGroups v im → HasRootInside v → calls.IsDamage v call node rule b → IsToldOn v im call rule b
 
 -- the block in which the number of one that is needed stands: the superblock has that of the root, which is asked for by itself
 abbrev pub source_of : ℕ → Missing → ℕ
@@ -172,5 +172,5 @@ pub record IsBrokenSource (v : Seen) (im : Image) (b : ℕ) : Type 0 where
 
 -- a number that any such call needs, and that leads out of the device; but where a block of a hashed directory on a path of it is beyond it
 abbrev pub NeedsTell : Type 0
-NeedsTell = (v : Seen) (im : Image) (call : Call) (m : Missing) → IsReadFrom v im → HasWholeGroups v im → calls.IsNeededFor v call m → im.count ≤ m.block
+NeedsTell = (v : Seen) (im : Image) (call : Call) (node : ℕ) (m : Missing) → IsReadFrom v im → HasWholeGroups v im → calls.IsNeededFor v call node m → im.count ≤ m.block
     → IsBrokenSource v im (source_of im.size m) ⊎ HasAstrayOn v im call

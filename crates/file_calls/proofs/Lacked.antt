@@ -48,9 +48,9 @@ write_lacks v call node lock state (writing.of_freed a size time freed fates cha
     ap (λ (s : State). holds v (record { lock = lock; state = s })) exclusive ∙ ap (λ (l : LockName). holds v (record { lock = l; state = Ex })) is.is ∙ is.lacks
 
 pair_lacks : (v : Seen) (p q : Path) (first second : List Want) (lock : LockName) (state : State) → IsPairLacked v p q first second lock state → IsNotHeld v lock state
-pair_lacks v p q first second _ _ (pairs.on_first lock state is alone) = walk_lacks v first p lock state is
-pair_lacks v p q first second _ _ (pairs.on_second lock state is alone) = walk_lacks v second q lock state is
-pair_lacks v p q first second _ _ (pairs.on_both i j a w x one other is also lacks) = lacks
+pair_lacks v p q first second _ _ (pairs.on_first i j a w passed is wanted goes lacks) = lacks
+pair_lacks v p q first second _ _ (pairs.on_second i j a x passed is wanted goes lacks) = lacks
+pair_lacks v p q first second _ _ (pairs.on_both i j a w x passed one other is also lacks) = lacks
 
 move_lacks : (v : Seen) (call : Call) (node : ℕ) (lock : LockName) (state : State) → moving.IsLackedFor v call node lock state → IsNotHeld v lock state
 move_lacks v call node lock state (moving.on_paths (ends.of_order some other is exclusive lacks)) =

@@ -16,47 +16,47 @@ use Rattle.removing_calls.specs.Removing as removing
 use Rattle.writing_calls.specs.Writing as writing
 use Rattle.file_calls.specs.Answers.{IsFullFor, IsMadeOf}
 
-pub making_full : (v : Seen) (c : Call) → making.IsMaking c → (need free : ℕ) → making.IsFullFor v c need free → IsFullFor v c need free
-making_full v (call.Create p) is need free full = full
-making_full v (call.Mkdir p) is need free full = full
-making_full v (call.Read p at count) is need free full = absurd is
-making_full v (call.Dread p at count) is need free full = absurd is
-making_full v (call.Stat p) is need free full = absurd is
-making_full v (call.List p) is need free full = absurd is
-making_full v (call.Unlink p) is need free full = absurd is
-making_full v (call.Rmdir p) is need free full = absurd is
-making_full v (call.Write p at new) is need free full = absurd is
-making_full v (call.Truncate p size) is need free full = absurd is
-making_full v (call.Rename p q) is need free full = absurd is
-making_full v call.Sync is need free full = absurd is
+pub making_full : (v : Seen) (node : ℕ) (c : Call) → making.IsMaking c → (need free : ℕ) → making.IsFullFor v c need free → IsFullFor v c node need free
+making_full v node (call.Create p) is need free full = full
+making_full v node (call.Mkdir p) is need free full = full
+making_full v node (call.Read p at count) is need free full = absurd is
+making_full v node (call.Dread p at count) is need free full = absurd is
+making_full v node (call.Stat p) is need free full = absurd is
+making_full v node (call.List p) is need free full = absurd is
+making_full v node (call.Unlink p) is need free full = absurd is
+making_full v node (call.Rmdir p) is need free full = absurd is
+making_full v node (call.Write p at new) is need free full = absurd is
+making_full v node (call.Truncate p size) is need free full = absurd is
+making_full v node (call.Rename p q) is need free full = absurd is
+making_full v node call.Sync is need free full = absurd is
 
-pub writing_full : (v : Seen) (need free : ℕ) (c : Call) → writing.IsWriting c → writing.IsFullFor v c need free → IsFullFor v c need free
-writing_full v need free (call.Write p at new) is full = full
-writing_full v need free (call.Truncate p size) is full = full
-writing_full v need free call.Sync is full = absurd full.edits
-writing_full v need free (call.Create p) is full = absurd is
-writing_full v need free (call.Mkdir p) is full = absurd is
-writing_full v need free (call.Read p at count) is full = absurd is
-writing_full v need free (call.Dread p at count) is full = absurd is
-writing_full v need free (call.Stat p) is full = absurd is
-writing_full v need free (call.List p) is full = absurd is
-writing_full v need free (call.Unlink p) is full = absurd is
-writing_full v need free (call.Rmdir p) is full = absurd is
-writing_full v need free (call.Rename p q) is full = absurd is
+pub writing_full : (v : Seen) (node need free : ℕ) (c : Call) → writing.IsWriting c → writing.IsFullFor v c need free → IsFullFor v c node need free
+writing_full v node need free (call.Write p at new) is full = full
+writing_full v node need free (call.Truncate p size) is full = full
+writing_full v node need free call.Sync is full = absurd full.edits
+writing_full v node need free (call.Create p) is full = absurd is
+writing_full v node need free (call.Mkdir p) is full = absurd is
+writing_full v node need free (call.Read p at count) is full = absurd is
+writing_full v node need free (call.Dread p at count) is full = absurd is
+writing_full v node need free (call.Stat p) is full = absurd is
+writing_full v node need free (call.List p) is full = absurd is
+writing_full v node need free (call.Unlink p) is full = absurd is
+writing_full v node need free (call.Rmdir p) is full = absurd is
+writing_full v node need free (call.Rename p q) is full = absurd is
 
-pub moving_full : (v : Seen) (c : Call) → IsRenaming c → (need free : ℕ) → moving.IsFullFor v c need free → IsFullFor v c need free
-moving_full v (call.Create p) is need free full = absurd is
-moving_full v (call.Mkdir p) is need free full = absurd is
-moving_full v (call.Unlink p) is need free full = absurd is
-moving_full v (call.Rmdir p) is need free full = absurd is
-moving_full v (call.Read p at count) is need free full = absurd is
-moving_full v (call.Dread p at count) is need free full = absurd is
-moving_full v (call.Write p at new) is need free full = absurd is
-moving_full v (call.Truncate p size) is need free full = absurd is
-moving_full v (call.Stat p) is need free full = absurd is
-moving_full v (call.List p) is need free full = absurd is
-moving_full v (call.Rename p q) is need free full = full
-moving_full v call.Sync is need free full = absurd is
+pub moving_full : (v : Seen) (node : ℕ) (c : Call) → IsRenaming c → (need free : ℕ) → moving.IsFullFor v c node need free → IsFullFor v c node need free
+moving_full v node (call.Create p) is need free full = absurd is
+moving_full v node (call.Mkdir p) is need free full = absurd is
+moving_full v node (call.Unlink p) is need free full = absurd is
+moving_full v node (call.Rmdir p) is need free full = absurd is
+moving_full v node (call.Read p at count) is need free full = absurd is
+moving_full v node (call.Dread p at count) is need free full = absurd is
+moving_full v node (call.Write p at new) is need free full = absurd is
+moving_full v node (call.Truncate p size) is need free full = absurd is
+moving_full v node (call.Stat p) is need free full = absurd is
+moving_full v node (call.List p) is need free full = absurd is
+moving_full v node (call.Rename p q) is need free full = full
+moving_full v node call.Sync is need free full = absurd is
 
 module _ (im : Image) (o : Owners) (l : Layout) (node time : ℕ) (change : Change) where
   pub making_made : (c : Call) → making.IsMaking c → making.IsMade im o l c node time change → making.IsStamped im o l c time change → IsMadeOf im o l c node time change

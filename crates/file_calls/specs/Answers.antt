@@ -31,15 +31,15 @@ IsAnswered seen view calls.Sync node time reply change = writing.IsAnswered (see
 IsAnswered seen view (calls.Rename from to) node time reply change = moving.IsAnswered (seen view) (calls.Rename from to) node time reply change
 IsAnswered seen view call node time reply change = reading.IsAnswered (seen view) call reply
 
--- too few blocks are free for the call, as far as the view shows: `create` and `mkdir` take one for the new inode and what the directory does, `write` and `truncate` what the file's content
+-- too few blocks are free for a node that tries the call, as far as the view shows: `create` and `mkdir` take one for the new inode and what the directory does, `write` and `truncate` what the file's content
 -- does, and `rename` what the directory does that gets the name, once what goes from it has gone
-abbrev pub IsFullFor : Seen → Call → ℕ → ℕ → Type 0
-IsFullFor v (calls.Create path) need free = making.IsFullFor v (calls.Create path) need free
-IsFullFor v (calls.Mkdir path) need free = making.IsFullFor v (calls.Mkdir path) need free
-IsFullFor v (calls.Write path at new) need free = writing.IsFullFor v (calls.Write path at new) need free
-IsFullFor v (calls.Truncate path size) need free = writing.IsFullFor v (calls.Truncate path size) need free
-IsFullFor v (calls.Rename from to) need free = moving.IsFullFor v (calls.Rename from to) need free
-IsFullFor v call need free = ⊥
+abbrev pub IsFullFor : Seen → Call → ℕ → ℕ → ℕ → Type 0
+IsFullFor v (calls.Create path) node need free = making.IsFullFor v (calls.Create path) need free
+IsFullFor v (calls.Mkdir path) node need free = making.IsFullFor v (calls.Mkdir path) need free
+IsFullFor v (calls.Write path at new) node need free = writing.IsFullFor v (calls.Write path at new) need free
+IsFullFor v (calls.Truncate path size) node need free = writing.IsFullFor v (calls.Truncate path size) need free
+IsFullFor v (calls.Rename from to) node need free = moving.IsFullFor v (calls.Rename from to) node need free
+IsFullFor v call node need free = ⊥
 
 -- ---- in an image that the view may be of
 

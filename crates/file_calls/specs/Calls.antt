@@ -77,27 +77,27 @@ IsLackedFor v (calls.Truncate path size) node lock state = writing.IsLackedFor v
 IsLackedFor v (calls.Rename from to) node lock state = moving.IsLackedFor v (calls.Rename from to) node lock state
 IsLackedFor v call node lock state = IsLacked v (wanted call) (path_of call false) lock state
 
--- a block without which the call isn't answered
-abbrev pub IsNeededFor : Seen → Call → Missing → Type 0
-IsNeededFor v (calls.Create path) m = making.IsNeededFor v (calls.Create path) m
-IsNeededFor v (calls.Mkdir path) m = making.IsNeededFor v (calls.Mkdir path) m
-IsNeededFor v (calls.Write path at new) m = writing.IsNeededFor v (calls.Write path at new) m
-IsNeededFor v (calls.Truncate path size) m = writing.IsNeededFor v (calls.Truncate path size) m
-IsNeededFor v (calls.Unlink path) m = removing.IsNeededFor v (calls.Unlink path) m
-IsNeededFor v (calls.Rmdir path) m = removing.IsNeededFor v (calls.Rmdir path) m
-IsNeededFor v (calls.Rename from to) m = moving.IsNeededFor v (calls.Rename from to) m
-IsNeededFor v call m = reading.IsNeededFor v call m
+-- a block without which a node doesn't answer the call
+abbrev pub IsNeededFor : Seen → Call → ℕ → Missing → Type 0
+IsNeededFor v (calls.Create path) node m = making.IsNeededFor v (calls.Create path) m
+IsNeededFor v (calls.Mkdir path) node m = making.IsNeededFor v (calls.Mkdir path) m
+IsNeededFor v (calls.Write path at new) node m = writing.IsNeededFor v (calls.Write path at new) m
+IsNeededFor v (calls.Truncate path size) node m = writing.IsNeededFor v (calls.Truncate path size) m
+IsNeededFor v (calls.Unlink path) node m = removing.IsNeededFor v (calls.Unlink path) m
+IsNeededFor v (calls.Rmdir path) node m = removing.IsNeededFor v (calls.Rmdir path) m
+IsNeededFor v (calls.Rename from to) node m = moving.IsNeededFor v (calls.Rename from to) node m
+IsNeededFor v call node m = reading.IsNeededFor v call m
 
--- the block breaks this rule
-abbrev pub IsDamage : Seen → Call → ℕ → ℕ → Type 0
-IsDamage v (calls.Create path) rule b = making.IsDamage v (calls.Create path) rule b
-IsDamage v (calls.Mkdir path) rule b = making.IsDamage v (calls.Mkdir path) rule b
-IsDamage v (calls.Write path at new) rule b = writing.IsDamage v (calls.Write path at new) rule b
-IsDamage v (calls.Truncate path size) rule b = writing.IsDamage v (calls.Truncate path size) rule b
-IsDamage v (calls.Unlink path) rule b = removing.IsDamage v (calls.Unlink path) rule b
-IsDamage v (calls.Rmdir path) rule b = removing.IsDamage v (calls.Rmdir path) rule b
-IsDamage v (calls.Rename from to) rule b = moving.IsDamage v (calls.Rename from to) rule b
-IsDamage v call rule b = path.IsDamage v (wanted call) (path_of call false) rule b
+-- the block breaks this rule, as a node tells it that tries the call
+abbrev pub IsDamage : Seen → Call → ℕ → ℕ → ℕ → Type 0
+IsDamage v (calls.Create path) node rule b = making.IsDamage v (calls.Create path) rule b
+IsDamage v (calls.Mkdir path) node rule b = making.IsDamage v (calls.Mkdir path) rule b
+IsDamage v (calls.Write path at new) node rule b = writing.IsDamage v (calls.Write path at new) rule b
+IsDamage v (calls.Truncate path size) node rule b = writing.IsDamage v (calls.Truncate path size) rule b
+IsDamage v (calls.Unlink path) node rule b = removing.IsDamage v (calls.Unlink path) rule b
+IsDamage v (calls.Rmdir path) node rule b = removing.IsDamage v (calls.Rmdir path) rule b
+IsDamage v (calls.Rename from to) node rule b = moving.IsDamage v (calls.Rename from to) node rule b
+IsDamage v call node rule b = path.IsDamage v (wanted call) (path_of call false) rule b
 
 -- The call isn't built for what stands there: it would make or move a name in a directory, or change a file, that isn't sound in itself; or move an inode that is on both its paths by two ways,
 -- or whose directory goes with what it replaces. Each crate's definition says what it is that can't be done, not that the view shows no broken rule. In an image that stands for a tree none

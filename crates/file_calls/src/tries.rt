@@ -40,7 +40,7 @@ pub fn attempt<V: View>(
     ensures asked { (im : Image) (o : Owners) (l : Layout) (t : Tree) → IsOf (V.seen view.now) im o l t → IfNeedBlock result (λ m. IsSoOfList im o l t call.now stamp.now.node (λ list. IsAskedFor (V.seen view.now) im o l list m)) }
     ensures on_device { (im : Image) (o : Owners) (l : Layout) (t : Tree) → IsOf (V.seen view.now) im o l t → IfNeedBlock result (λ m. m.block < im.count) }
     ensures space { (im : Image) (o : Owners) (l : Layout) (t : Tree) → IsOf (V.seen view.now) im o l t → IfNoSpace result (IsTooFew (V.seen view.now) im o l t call.now) }
-    ensures full { IfNoSpace result (IsFullFor (V.seen view.now) call.now) }
+    ensures full { IfNoSpace result (IsFullFor (V.seen view.now) call.now stamp.now.node) }
     ensures fewer { IfNoSpace result (λ need free. free < need) }
     ensures spaceless { IfDone result (λ reply change. reply ≢ NoSpace) }
     ensures roomless { IfNoSpace result (λ need free. TakesSpace call.now) }
@@ -49,12 +49,12 @@ pub fn attempt<V: View>(
     ensures synced { IfSync call.now (IsSynced result) }
     ensures lacked { IfNeedLock result (IsLackedFor (V.seen view.now) call.now stamp.now.node) }
     ensures lacks { IfNeedLock result (λ lock state. holds (V.seen view.now) (record { lock = lock; state = state }) ≡ false) }
-    ensures needed { IfNeedBlock result (IsNeededFor (V.seen view.now) call.now) }
+    ensures needed { IfNeedBlock result (IsNeededFor (V.seen view.now) call.now stamp.now.node) }
     ensures absent { IfNeedBlock result (λ m. (V.seen view.now).block_at m.block ≡ None) }
     ensures unbuilt { IfNotBuilt result (IsUnbuilt (V.seen view.now) call.now stamp.now.node) }
     ensures built { (im : Image) (o : Owners) (l : Layout) (t : Tree) → IsOf (V.seen view.now) im o l t → IfNotBuilt result ⊥ }
     ensures sound { (im : Image) (o : Owners) (l : Layout) (t : Tree) → IsOf (V.seen view.now) im o l t → IfDamaged result (λ rule block. ⊥) }
-    ensures damaged { IfDamaged result (IsDamage (V.seen view.now) call.now) }
+    ensures damaged { IfDamaged result (IsDamage (V.seen view.now) call.now stamp.now.node) }
     ensures kept { IfDamaged result (IsOfView (V.seen view.now)) }
 {
     let _size = view.block_size();

@@ -4,5 +4,5 @@
 mod groups;
 mod laws;
 
-pub use groups::lacked_group;
+pub use groups::{lacked_group, lacked_of};
 pub use laws::{groups_have_places, groups_take_their_locks, standing_groups_are_sound};

@@ -50,7 +50,7 @@ module _ (v : Seen) (says : States) (own : Group) (need : ℕ) where
   -- where too few are free, no block's lock is needed
   pub none_held : (free : ℕ) → AreHeld v (group_holds says v.groups own need) → IsTaken v says own need (taken.TooFew free) → AreHeld v (block_holds says v.groups own need)
   none_held free held is =
-      let few : length (free_for says v.groups own need) < need = subst (λ xs. length xs < need) (sym (for_all says v.groups own need is.fewer_own)) (shorter (free_in_all says v.groups) (subst (λ n. n < need) is.free_are is.fewer)) in
+      let few : length (free_for says v.groups own need) < need = subst (λ xs. length xs < need) (sym (for_all says v.groups (own ∷ []) need is.fewer_first)) (shorter (free_in_all says v.groups) (subst (λ n. n < need) is.free_are is.fewer)) in
       let none : first_of need (free_for says v.groups own need) ≡ None = cond-true (nat_lt (length (free_for says v.groups own need)) need) None (slice_get (free_for says v.groups own need) 0) (lt-ltb (length (free_for says v.groups own need)) need few) in
       All-append (λ h. holds v h ≡ true) (group_holds says v.groups own need) last held
       (subst (λ x. AreHeld v (hold_for x Ex)) (sym none) (All-nil (λ x. holds v x ≡ true)))

@@ -121,7 +121,7 @@ module _ (v : Seen) (node need : ℕ) (view : IsView v) (some : 1 ≤ length v.g
       let at = bytes_shown v view in
       let own = own_of v node some first in
       let f = found at.0 own.0 (λ g has. at.1 g) own.1 in
-      all_listed v (said at.0) own.0 need f.1.fewer_own (held_before v (group_holds (said at.0) v.groups own.0 need) _ f.0)
+      all_listed v (said at.0) (own.0 ∷ []) need f.1.fewer_first (held_before v (group_holds (said at.0) v.groups own.0 need) _ f.0)
 
 -- ---- in an image
 

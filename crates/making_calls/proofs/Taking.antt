@@ -65,7 +65,7 @@ use Rattle.room_search.specs.declared.search.Locked.{Locked}
 use Rattle.room_search.specs.declared.search.Locked.TheVariants as locked
 use Rattle.room_search.proofs.Holds.{block_under, held_before}
 use Rattle.room_search.proofs.InImage.{all_said, are_shown, blocks_said, group_asked, said_free}
-use Rattle.room_search.proofs.Room.{all_listed}
+use Rattle.room_search.proofs.Room.{all_listed, one_of}
 use Rattle.name_drafts.specs.Inserting.{IsNamed, IsNeededForName, IsWrongForName}
 use Rattle.name_drafts.specs.Need.{name_need}
 use Rattle.name_drafts.specs.Way.{IsOnWay, its_dinode, its_leaf, its_pointer}
@@ -188,7 +188,7 @@ module _ (v : Seen) (c : Call) (is : IsMaking c) (p : Place) (name : List ℕ) (
             taken = reply_ok;
             on_path = reached.held;
             groups = subst (λ gs. AreHeld v (map hold_of_group gs)) (sym of.groups)
-                (all_listed v (said im.at) own.0 (more + 1) f.1.fewer_own (held_before v (group_holds (said im.at) v.groups own.0 (more + 1)) _ f.0));
+                (all_listed v (said im.at) (own.0 ∷ []) (more + 1) f.1.fewer_first (held_before v (group_holds (said im.at) v.groups own.0 (more + 1)) _ f.0));
             needs = need_so;
             free_are = f.1.free_are ∙ ap (λ gs. length (free_in_all (said im.at) gs)) (sym of.groups) ∙ ap length (all_said v im o l t of);
             fewer = f.1.fewer;
@@ -304,7 +304,7 @@ module _ (v : Seen) (c : Call) (is : IsMaking c) (p : Place) (name : List ℕ) (
             of_node = ap (λ gs. group_of_node gs node) of.groups ∙ own.1;
             block = r.new.block;
             rest = r.rest.items;
-            first = room_found.1.room.are ∙ blocks_said v im o l t of own.0 (more + 1) own.2 ∙ ap (free_for (states_by o) (map group_of_entry l.groups) own.0) need_so;
+            first = room_found.1.room.are ∙ blocks_said v im o l t of (own.0 ∷ []) (more + 1) (one_of v own.0 own.2) ∙ ap (free_for (states_by o) (map group_of_entry l.groups) own.0) need_so;
             group = r.new.group;
             listed = subst (λ gs. Contains gs r.new.group) (sym of.groups) room_found.1.has;
             data_block = room_found.1.data_block;

@@ -124,9 +124,9 @@ module _ (v : Seen) (c : Call) (node time : ℕ) where
   -- the lock that is told isn't held so strongly
 
   pair_lacks : (p q : Path) (first second : List Want) (lock : LockName) (state : State) → IsPairLacked v p q first second lock state → holds v (record { lock = lock; state = state }) ≡ false
-  pair_lacks p q first second _ _ (IsPairLacked.on_first lock state is alone) = ap (holds v) is.is ∙ is.lacks
-  pair_lacks p q first second _ _ (IsPairLacked.on_second lock state is alone) = ap (holds v) is.is ∙ is.lacks
-  pair_lacks p q first second _ _ (IsPairLacked.on_both i j a w x on_first on_second wanted wanted' lacks) = lacks
+  pair_lacks p q first second _ _ (IsPairLacked.on_first i j a w passed is wanted goes lacks) = lacks
+  pair_lacks p q first second _ _ (IsPairLacked.on_second i j a x passed is wanted goes lacks) = lacks
+  pair_lacks p q first second _ _ (IsPairLacked.on_both i j a w x passed on_first on_second wanted wanted' lacks) = lacks
 
   path_lacks : (lock : LockName) (state : State) → IsLackedOnPaths v c lock state → holds v (record { lock = lock; state = state }) ≡ false
   path_lacks lock state (IsLackedOnPaths.of_order some some' is strong lacks) = (λ i. holds v (record { lock = is i; state = strong i })) ∙ lacks
@@ -140,14 +140,14 @@ module _ (v : Seen) (c : Call) (node time : ℕ) where
   lacks_of lock state (IsLackedFor.on_paths is) = path_lacks lock state is
   lacks_of lock state (IsLackedFor.of_group m moves is) = group_lacks m lock state is
 
-  needed_of : (a : Attempt) → IsAnswerOf v c node time a → (n : Missing) → a ≡ NeedBlock n → IsNeededFor v c n
-  needed_of a (IsAnswerOf.to_see m k meant needed is) n e = subst (IsNeededFor v c) (let same : NeedBlock k ≡ NeedBlock n = sym is ∙ e in cc) (IsNeededFor.to_see m meant needed)
+  needed_of : (a : Attempt) → IsAnswerOf v c node time a → (n : Missing) → a ≡ NeedBlock n → IsNeededFor v c node n
+  needed_of a (IsAnswerOf.to_see m k meant needed is) n e = subst (IsNeededFor v c node) (let same : NeedBlock k ≡ NeedBlock n = sym is ∙ e in cc) (IsNeededFor.to_see m meant needed)
   needed_of a (IsAnswerOf.unfit m meant fit is) n e = absurd (let same : NotBuilt ≡ NeedBlock n = sym is ∙ e in cc)
-  needed_of _ (IsAnswerOf.by_ends (IsAnswerAtEnds.needs k at)) n e = subst (IsNeededFor v c) (let same : NeedBlock k ≡ NeedBlock n = e in cc) (IsNeededFor.at_ends at.told)
+  needed_of _ (IsAnswerOf.by_ends (IsAnswerAtEnds.needs k at)) n e = subst (IsNeededFor v c node) (let same : NeedBlock k ≡ NeedBlock n = e in cc) (IsNeededFor.at_ends at.told)
   needed_of _ (IsAnswerOf.by_ends (IsAnswerAtEnds.refused r change at none)) n e = cc
   needed_of _ (IsAnswerOf.by_ends (IsAnswerAtEnds.stays change at none)) n e = cc
   needed_of _ (IsAnswerOf.by_ends (IsAnswerAtEnds.lacks lock state at)) n e = cc
-  needed_of (NeedBlock k) (IsAnswerOf.carried m moves needs) n e = subst (IsNeededFor v c) (let same : NeedBlock k ≡ NeedBlock n = e in cc) (IsNeededFor.to_move node m moves needs)
+  needed_of (NeedBlock k) (IsAnswerOf.carried m moves needs) n e = subst (IsNeededFor v c node) (let same : NeedBlock k ≡ NeedBlock n = e in cc) (IsNeededFor.to_move m moves needs)
   needed_of (Done r change) (IsAnswerOf.carried m moves is) n e = cc
   needed_of (NeedLock lock state) (IsAnswerOf.carried m moves is) n e = cc
   needed_of (NoSpace need free) (IsAnswerOf.carried m moves is) n e = cc
@@ -187,11 +187,11 @@ module _ (v : Seen) (c : Call) (node time : ℕ) where
   absent_of (NoSpace need free) (IsAnswerOf.carried m moves is) = tt
   absent_of NotBuilt (IsAnswerOf.carried m moves is) = tt
 
-  full_of : (need free : ℕ) → IsAnswerOf v c node time (NoSpace need free) → IsFullFor v c need free
+  full_of : (need free : ℕ) → IsAnswerOf v c node time (NoSpace need free) → IsFullFor v c node need free
   full_of need free (IsAnswerOf.by_ends at) = elim at [ ]
   full_of need free (IsAnswerOf.to_see m n meant needed e) = absurd (let same : NoSpace need free ≡ NeedBlock n = e in cc)
   full_of need free (IsAnswerOf.unfit m meant fit e) = absurd (let same : NoSpace need free ≡ NotBuilt = e in cc)
-  full_of need free (IsAnswerOf.carried m moves full) = record { node = node; move = m; moves = moves; full = full }
+  full_of need free (IsAnswerOf.carried m moves full) = record { move = m; moves = moves; full = full }
 
   unbuilt_of : IsAnswerOf v c node time NotBuilt → IsUnbuilt v c node
   unbuilt_of (IsAnswerOf.by_ends at) = elim at [ ]
@@ -236,7 +236,7 @@ module _ (v : Seen) (c : Call) (node time : ℕ) where
   lacks (Ok NotBuilt) is = tt
   lacks (Err f) is = tt
 
-  pub needed : (r : Result Attempt CallFault) → IfOk r (IsAnswerOf v c node time) → IfNeedBlock r (IsNeededFor v c)
+  pub needed : (r : Result Attempt CallFault) → IfOk r (IsAnswerOf v c node time) → IfNeedBlock r (IsNeededFor v c node)
   needed (Ok (NeedBlock n)) is = needed_of (NeedBlock n) is n refl
   needed (Ok (Done r change)) is = tt
   needed (Ok (NeedLock lock state)) is = tt
@@ -248,7 +248,7 @@ module _ (v : Seen) (c : Call) (node time : ℕ) where
   absent (Ok a) is = absent_of a is
   absent (Err f) is = tt
 
-  pub full : (r : Result Attempt CallFault) → IfOk r (IsAnswerOf v c node time) → IfNoSpace r (IsFullFor v c)
+  pub full : (r : Result Attempt CallFault) → IfOk r (IsAnswerOf v c node time) → IfNoSpace r (IsFullFor v c node)
   full (Ok (NoSpace need free)) is = full_of need free is
   full (Ok (Done r change)) is = tt
   full (Ok (NeedLock lock state)) is = tt

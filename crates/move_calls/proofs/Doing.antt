@@ -43,15 +43,14 @@ use Rattle.directory_changes.specs.Moving as moved
 use Rattle.directory_changes.proofs.Moved.{moving_makes}
 use Rattle.hash_dirs.proofs.Gathered.{the_one}
 use Rattle.resource_groups.specs.Freeing.{HasSome}
-use Rattle.resource_groups.specs.Shown.{group_lock, said}
+use Rattle.resource_groups.specs.Shown.{group_lock}
 use Rattle.group_locks.specs.Groups.{GroupsAreHeld}
 use Rattle.path_walks.specs.Walks.{LeadsTo, at_root, by_name}
 use Rattle.path_walks.specs.declared.walk.Place.{Place}
 use Rattle.path_walks.proofs.Images.{child_is_there, is_shown, says_child, says_records, shown_directory, shown_inode, sound_directory}
 use Rattle.path_walks.proofs.Wants.{at_end, before_end, exclusive, leads_held}
 use Rattle.move_ends.proofs.Paths.{ends_so}
-use Rattle.room_search.specs.Blocks.{group_holds, room_blocks}
-use Rattle.room_search.proofs.InImage.{are_shown, room_blocks_are, said_free}
+use Rattle.room_search.proofs.InImage.{are_shown, said_free}
 use Rattle.move_ends.specs.Ends.{AreEnds, IsElsewhere, IsRenaming, IsTarget, MovesIn, StoodIn, from_path, to_path}
 use Rattle.name_inserts.specs.Need.{name_need}
 use Rattle.name_moves.specs.Becoming.{GetsName, GetsParent, GivesName, LosesAll, NeedsAfter, losses}
@@ -59,9 +58,10 @@ use Rattle.name_moves.specs.Moving.{ArePlacesIn, CanBeMoved, IsMoveIn, IsMoving,
 use Rattle.name_moves.specs.Moving as moving
 use Rattle.name_moves.proofs.Alike.{need_once}
 use Rattle.name_moves.proofs.Imaged.{source_directory}
-use Rattle.move_calls.specs.Carrying.{HasRoom, IsCarriedOut}
-use Rattle.move_calls.specs.Locks.{lost_in, replaced_in}
+use Rattle.move_calls.specs.Carrying.{HasRoom, IsCarriedOut, locks_of_room}
+use Rattle.move_calls.specs.Locks.{lost_in, replaced_in, taken_in}
 use Rattle.move_calls.specs.Moved.{IsMovedIn}
+use Rattle.move_calls.proofs.Groups.{blocks_are, freed_goes}
 use Rattle.move_calls.proofs.Room.{all_groups, room_once}
 
 -- ---- the locks of the inodes that a move changes
@@ -170,22 +170,18 @@ changes (call.Stat p) is elsewhere = absurd is
 changes (call.List p) is elsewhere = absurd is
 changes call.Sync is elsewhere = absurd is
 
--- the blocks that are taken are those of the node in the image, as many as are needed, and free there
-pub record IsRoomThere (im : Image) (o : Owners) (l : Layout) (node need : ℕ) (room : List ℕ) : Type 0 where
-  pub are : room ≡ room_blocks o l node need
+-- the blocks that are taken are as many as are needed, and free in the image
+pub record IsRoomThere (im : Image) (l : Layout) (need : ℕ) (room : List ℕ) : Type 0 where
   pub many : length room ≡ need
   pub free : (b : ℕ) → Contains room b → IsSaidFree im l b
 
 module _ (v : Seen) (node need : ℕ) (m : Move) (room : List ℕ) (has : HasRoom v node m need room) (im : Image) (o : Owners) (l : Layout) (t : Tree) (of : IsOf v im o l t) where
-  pub room_in : IsRoomThere im o l node need room
+  pub room_in : IsRoomThere im l need room
   room_in =
-      let own = has.counted.first.own in
-      let is = has.counted.first.of_node in
       let found = has.are im.at (are_shown v im o l t of) in
       record {
-        are = found.are ∙ room_blocks_are v im o l t of node own need is.of_node is.has;
         many = found.many;
-        free = λ b there. said_free v im o l t of (group_holds (said im.at) v.groups own need) b (found.each b there);
+        free = λ b there. said_free v im o l t of (locks_of_room v im.at has.counted.first.own need m) b (found.each b there);
       }
 
   -- it is as many as the name needs once others went, however they go
@@ -296,7 +292,9 @@ module _ (v : Seen) (c : Call) (from to : Place) (replaced : Option (List ℕ)) 
   moved_in im o l t of =
       let r = images im o l t of in
       let so = moved_so im o l t of in
-      let found = room_in v node done.need m done.room done.has im o l t of in
+      let first = done.has.counted.first in
+      let are : done.room ≡ taken_in im o l c node done.need =
+      (done.has.are im.at (are_shown v im o l t of)).are ∙ blocks_are v im o l t of c node (freed_by m) (freed_goes im o l c to.inode replaced r.stood) done.need first.own first.of_node in
       let makes = done.is.moves im o l t so.path so.path' of so.place in
       let b = makes.0 in
       let image : with_change im change ≡ with_draft im done.is.fates = (finish_makes done.is.fates change done.is.finished).image im in
@@ -324,9 +322,9 @@ module _ (v : Seen) (c : Call) (from to : Place) (replaced : Option (List ℕ)) 
         gives = λ between. subst (λ g. GivesName (holding im o from.above) g (last_of (from_path c)) time) (shows_inodes v done.is.fates im o from.above of.agrees ∙ ap (λ x. holding x o from.above) (sym image)) (b.gives between);
         after = b.after;
         there = subst (λ x. HoldsThere x to.inode b.after) (sym image) makes.1.1.there;
-        gets = subst (λ names. GetsName names (holding im o to.inode) b.after (last_of (to_path c)) (record { number = (dinode_at im o from.inode).num.number; addr = from.inode; kind = done.is.old.kind }) (room_blocks o l node done.need) time) lost
-            (subst (λ e. GetsName (lost_there m) (holding im o to.inode) b.after (last_of (to_path c)) e (room_blocks o l node done.need) time) entry
-            (subst (λ xs. GetsName (lost_there m) (holding im o to.inode) b.after (last_of (to_path c)) (entry_for m done.is.old) xs time) (sym taken_all ∙ found.are) b.gets));
+        gets = subst (λ names. GetsName names (holding im o to.inode) b.after (last_of (to_path c)) (record { number = (dinode_at im o from.inode).num.number; addr = from.inode; kind = done.is.old.kind }) (taken_in im o l c node done.need) time) lost
+            (subst (λ e. GetsName (lost_there m) (holding im o to.inode) b.after (last_of (to_path c)) e (taken_in im o l c node done.need) time) entry
+            (subst (λ xs. GetsName (lost_there m) (holding im o to.inode) b.after (last_of (to_path c)) (entry_for m done.is.old) xs time) (sym taken_all ∙ are) b.gets));
         parent = λ moves. subst (λ p. GetsParent (holding im o from.inode) (holding (with_change im change) o from.inode) p time) (λ i. record { number = (r.dinode i).num.number; address = to.inode })
             (subst (λ g. GetsParent (holding im o from.inode) g (moving.parent_of m) time) (shows_inodes v done.is.fates im o from.inode of.agrees ∙ ap (λ x. holding x o from.inode) (sym image))
             (b.parent (ap (λ d. is_directory d && not (from.above == to.inode)) r.source.dinode ∙ moves)));

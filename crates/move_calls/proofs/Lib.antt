@@ -2,6 +2,7 @@ pub mod Answered
 pub mod Asked
 pub mod Checked
 pub mod Doing
+pub mod Groups
 pub mod Images
 pub mod Goings
 pub mod Gone
@@ -9,4 +10,5 @@ pub mod Locking
 pub mod Meant
 pub mod Room
 pub mod Sound
+pub mod Tests
 pub mod OnWays

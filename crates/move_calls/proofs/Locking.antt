@@ -1,10 +1,10 @@
 -- The locks of a name that moves, in an image that the view may be of.
-use Rattle.std.proofs.Common.{◌≡◌, ◌↔◌, ◌==◌, ◌&&◌, ◌||◌, ◌^◌, ◌<◌, inl, inr, ℕ, Bool, true, false, true≢false, List, [], ◌∷◌, ◌++◌, Option, None, Some, get_or, length, map, refl, sym, ap, ◌∙◌, subst, arith}
-use Rattle.std.proofs.lemmas.Bool.{cases_Bool, cond-false, cond-true, eq-eqb, eqb-true}
+use Rattle.std.proofs.Common.{◌≡◌, ◌↔◌, ◌==◌, ◌&&◌, ◌^◌, ◌<◌, inl, inr, ℕ, Bool, true, false, true≢false, List, [], ◌∷◌, ◌++◌, Option, None, Some, append-nil, get_or, length, map, refl, sym, ap, ◌∙◌, subst, arith}
+use Rattle.std.proofs.lemmas.Bool.{cases_eq, cond-false, cond-true, eq-eqb, le-ltb, ne_eqb}
 use Rattle.std.proofs.lemmas.List.{append_assoc}
 use Rattle.std.proofs.lemmas.List.Elements.{All-append, Contains-append_cases, Contains-append_left}
 use Rattle.std.proofs.lemmas.Option.{slice_get-get_or}
-use Rattle.std.specs.Prelude.{Contains, codes, not}
+use Rattle.std.specs.Prelude.{Contains, codes, filter, if◌then◌else◌, not}
 use Rattle.std.specs.Ordering.{nat_cmp}
 use Rattle.std.specs.FinMap.{FinMap, get}
 use Rattle.crc_words.specs.Remainder.{crc32_of}
@@ -20,20 +20,20 @@ use Rattle.name_inserts.specs.Inserting.{IsNeededForName}
 use Rattle.drafts.specs.declared.change.Written.{Written}
 use Rattle.drafts.specs.declared.fate.Fate.{Fate}
 use Rattle.drafts.specs.declared.fate.Fate.TheVariants.{Put}
+use Rattle.gfs2_layout.specs.declared.rindex.Rindex.{Rindex}
 use Rattle.glock_names.specs.Views.{Seen, HasGroup, IsView, group_of_entry}
 use Rattle.glock_names.specs.declared.LockName.{LockName}
 use Rattle.glock_names.specs.declared.State.{State}
 use Rattle.glock_names.specs.declared.State.TheVariants.{Ex}
 use Rattle.glock_names.specs.declared.steps.Missing.{Missing}
 use Rattle.glock_names.specs.declared.views.Group.{Group}
-use Rattle.image_model.specs.Groups as listed
 use Rattle.image_model.specs.Image.{Image}
 use Rattle.image_model.specs.Owners.{Owners, holding}
 use Rattle.image_model.specs.Stands.{Layout}
 use Rattle.image_model.proofs.Held.{some_same}
 use Rattle.image_model.proofs.Members.{IsIn, contained, in_left, in_right, is_in}
-use Rattle.image_changes.specs.Changes.{cover, inode_of}
-use Rattle.image_changes.specs.Does.{IsOf, frees}
+use Rattle.image_changes.specs.Changes.{inode_of}
+use Rattle.image_changes.specs.Does.{IsOf}
 use Rattle.image_changes.specs.Drafted.{IsFinished}
 use Rattle.image_changes.proofs.Finishing.{finish_makes}
 use Rattle.draft_changes.proofs.Rows.{cell_its}
@@ -46,40 +46,26 @@ use Rattle.path_walks.proofs.Longer.{asked_before, asked_behind, lack_before, la
 use Rattle.resource_groups.specs.Freeing as freeing
 use Rattle.resource_groups.specs.Shown.{IsDataOf, said}
 use Rattle.resource_groups.proofs.Apart.{one_group}
-use Rattle.group_locks.specs.Groups.{holds_of_groups}
-use Rattle.group_locks.specs.Laws.{AreThose}
+use Rattle.group_locks.specs.Groups.{holds_of_those}
 use Rattle.group_locks.proofs.Listed.{held_upto}
-use Rattle.group_locks.proofs.Locks.{blocks_of_groups_are_asked_for, first_group_lacks_are_first, groups_with_blocks_are_listed, held_groups_hold_the_list}
-use Rattle.room_search.specs.Blocks.{free_in_all, group_holds, group_of_node, room_holds}
+use Rattle.group_locks.proofs.Locks.{block_of_those_is_asked, first_of_those_is_first, those_are_listed, those_hold_the_list}
+use Rattle.room_search.specs.Blocks.{free_in_all, have_too_few, holds_of_first, states_by}
 use Rattle.room_search.specs.Searches.{AreShown, IsGroupBlock}
-use Rattle.room_search.proofs.Holds.{block_under}
-use Rattle.room_search.proofs.InImage.{all_said, are_shown, group_asked, room_holds_are}
+use Rattle.room_search.proofs.Holds.{block_under, held_behind}
+use Rattle.room_search.proofs.InImage.{all_said, are_shown, group_asked}
 use Rattle.move_ends.specs.Ends.{AreEnds, MovesIn, StoodIn, from_path, inode_holds, to_path}
 use Rattle.move_ends.proofs.Listed.{inode_listed, replaced_listed, source_listed, target_listed}
 use Rattle.name_moves.specs.Becoming.{NeedsAfter}
 use Rattle.name_moves.specs.Moving.{CanBeMoved, IsNeededIn, IsPutUnder, Move, blocks_or_none, freed_by, lost_there}
 use Rattle.name_moves.proofs.Alike.{need_once}
 use Rattle.name_moves.proofs.Asked.{move_asked}
-use Rattle.move_calls.specs.Carrying.{FirstAreHeld, HasRoom, IsCarriedOut, IsFull, IsOwnGroup, LacksLock, NeedsBlock, NeedsFor, first_blocks}
+use Rattle.move_calls.specs.Carrying.{ComesFirst, FirstAreHeld, HasRoom, IsCarriedOut, IsFull, IsOwnGroup, LacksLock, NeedsBlock, NeedsFor, locks_of_room}
 use Rattle.move_calls.specs.Checks.{IsNeededOnWays, IsWayOf}
-use Rattle.move_calls.specs.Locks.{IsNeed, IsSoOfList, IsTooFew, call_holds, comes_first, goes_with, is_first_of, lost_in, moves_in, replaced_in}
+use Rattle.move_calls.specs.Locks.{IsNeed, IsSoOfList, IsTooFew, call_holds, comes_first, first_in, goes_with, lost_in, moves_in, replaced_in}
 use Rattle.move_calls.proofs.Asked.{in_asked, way_asked}
 use Rattle.move_calls.proofs.Doing.{are_places, lost_same, move_by}
+use Rattle.move_calls.proofs.Groups as firsts
 use Rattle.move_calls.proofs.Gone.{none_in}
-use Rattle.move_calls.proofs.Room.{freed_first}
-
--- ---- tests
-
-or_false : (x : Bool) → (x || false) ≡ x
-or_false true = refl
-or_false false = refl
-
-or_left : (x y : Bool) → x ≡ true → (x || y) ≡ true
-or_left x y is = ap (λ z. z || y) is
-
-or_right : (x y : Bool) → y ≡ true → (x || y) ≡ true
-or_right true y is = refl
-or_right false y is = is
 
 -- ---- a lock of a list that is held
 
@@ -114,6 +100,14 @@ each_lock fates change finished P puts lock has =
 
 -- ---- the list
 
+none_split : {X : Type 0} (front back : List X) (x : X) → [] ≡ front ++ x ∷ back → ⊥
+none_split [] back x e = cc
+none_split (y ∷ front) back x e = cc
+
+as_listed : (gs : List Rindex) → map hold_of_group (map group_of_entry gs) ≡ map (λ (g : Rindex). hold_of_group (group_of_entry g)) gs
+as_listed [] = refl
+as_listed (g ∷ gs) = ap (λ list. hold_of_group (group_of_entry g) ∷ list) (as_listed gs)
+
 pub not_moving : (im : Image) (o : Owners) (l : Layout) (t : Tree) (c : Call) (node need : ℕ) → moves_in t c ≡ false → call_holds im o l t c node need ≡ inode_holds im o l c ++ []
 not_moving im o l t c node need stays = ap (λ x. inode_holds im o l c ++ x) (cond-false (moves_in t c) _ [] stays)
 
@@ -126,10 +120,18 @@ module _ (v : Seen) (im : Image) (o : Owners) (l : Layout) (t : Tree) (of : IsOf
   inode_list = inode_holds im o l c
 
   abbrev first_list : ℕ → List Hold
-  first_list need = holds_of_groups (comes_first im o l c node need) l.groups
+  first_list need = holds_of_those (comes_first im o l c node need) l.groups
 
+  -- where these have too few free blocks
+  abbrev more_list : ℕ → List Hold
+  more_list need = if have_too_few (states_by o) (first_in im o l c node need) need then map hold_of_group (map group_of_entry l.groups) else []
+
+  abbrev group_list : ℕ → List Hold
+  group_list need = first_list need ++ more_list need
+
+  -- those under which blocks are found
   abbrev room_list : ℕ → List Hold
-  room_list need = room_holds o l node need
+  room_list need = holds_of_first o l (first_in im o l c node need) need
 
   ok : is_ok (apply c t).reply ≡ true
   ok = ap (λ (a : Answer). is_ok a.reply) moves.takes.applies
@@ -137,11 +139,50 @@ module _ (v : Seen) (im : Image) (o : Owners) (l : Layout) (t : Tree) (of : IsOf
   pub moving : moves_in t c ≡ true
   moving = (λ i. ok i && not (is_same_path (from_path c) (to_path c))) ∙ ap (λ b. not (b && leads_to (to_path c) (from_path c))) ends.elsewhere
 
-  list_is : (need : ℕ) → call_holds im o l t c node need ≡ inode_list ++ (first_list need ++ room_list need)
-  list_is need = ap (λ x. inode_list ++ x) (cond-true (moves_in t c) (first_list need ++ room_list need) [] moving)
+  list_is : (need : ℕ) → call_holds im o l t c node need ≡ inode_list ++ group_list need
+  list_is need = ap (λ x. inode_list ++ x) (cond-true (moves_in t c) (group_list need) [] moving)
 
-  list_then : (need : ℕ) → call_holds im o l t c node need ≡ (inode_list ++ first_list need) ++ room_list need
-  list_then need = list_is need ∙ sym (append_assoc inode_list (first_list need) (room_list need))
+  list_then : (need : ℕ) → call_holds im o l t c node need ≡ (inode_list ++ first_list need) ++ more_list need
+  list_then need = list_is need ∙ sym (append_assoc inode_list (first_list need) (more_list need))
+
+  -- ---- the locks of groups are those under which blocks are found, where some are needed
+
+  room_none : (need : ℕ) → need ≡ 0 → room_list need ≡ []
+  room_none need none = cond-true (need == 0) [] (map hold_of_group (first_in im o l c node need) ++ more_list need) (eq-eqb need 0 none)
+
+  more_none : (need : ℕ) → need ≡ 0 → more_list need ≡ []
+  more_none need none =
+      cond-false (have_too_few (states_by o) (first_in im o l c node need) need) (map hold_of_group (map group_of_entry l.groups)) []
+      (le-ltb (length (free_in_all (states_by o) (first_in im o l c node need))) need (omega (arith, none)))
+
+  room_all : (need : ℕ) → (need ≡ 0 → ⊥) → room_list need ≡ group_list need
+  room_all need some =
+      cond-false (need == 0) [] (map hold_of_group (first_in im o l c node need) ++ more_list need) (ne_eqb need 0 some)
+      ∙ ap (λ xs. xs ++ more_list need) (as_listed (filter (comes_first im o l c node need) l.groups))
+
+  group_lack : (need : ℕ) (lock : LockName) (state : State) → IsFirstLack v (room_list need) lock state → IsFirstLack v (inode_list ++ group_list need) lock state
+  group_lack need lock state is = elim (cases_eq need 0) [
+    | inl none ↦ let never = subst (λ list. IsFirstLack v list lock state) (room_none need none) is in absurd (none_split never.front never.back (record { lock = lock; state = state }) never.split)
+    | inr some ↦ lack_behind v inode_list (group_list need) lock state inodes (subst (λ list. IsFirstLack v list lock state) (room_all need some) is)
+  ]
+
+  group_block : (need : ℕ) (n : Missing) → IsGroupBlock v (room_list need) n → IsGroupBlock v (group_list need) n
+  group_block need n is = elim (cases_eq need 0) [
+    | inl none ↦ let never = subst (λ list. IsGroupBlock v list n) (room_none need none) is in absurd (none_split never.front never.back (record { lock = n.lock; state = Ex }) never.split)
+    | inr some ↦ subst (λ list. IsGroupBlock v list n) (room_all need some) is
+  ]
+
+  group_listed : (need : ℕ) (h : Hold) → Contains (room_list need) h → Contains (group_list need) h
+  group_listed need h there = elim (cases_eq need 0) [
+    | inl none ↦ let never = subst (λ (list : List Hold). Contains list h) (room_none need none) there in absurd (omega (arith, never.1))
+    | inr some ↦ subst (λ (list : List Hold). Contains list h) (room_all need some) there
+  ]
+
+  groups_are_held : (need : ℕ) → AreHeld v (inode_list ++ first_list need) → AreHeld v (room_list need) → AreHeld v (inode_list ++ group_list need)
+  groups_are_held need front room = elim (cases_eq need 0) [
+    | inl none ↦ subst (AreHeld v) (ap (λ xs. inode_list ++ xs) (sym (append-nil (first_list need)) ∙ ap (λ more. first_list need ++ more) (sym (more_none need none)))) front
+    | inr some ↦ All-append (λ h. holds v h ≡ true) inode_list (group_list need) inodes (subst (AreHeld v) (room_all need some) room)
+  ]
 
   -- ---- the need is one
 
@@ -170,59 +211,25 @@ module _ (v : Seen) (im : Image) (o : Owners) (l : Layout) (t : Tree) (of : IsOf
   -- ---- the groups that come first
 
   freed_goes : (b : ℕ) → Contains (freed_by m) b ↔ (goes_with im o (replaced_in im o l c) b ≡ true)
-  freed_goes b = by replaced moves.stood
-    where
-      by : (r : Option (List ℕ)) → StoodIn im o l c to.inode r → Contains (blocks_or_none r) b ↔ (goes_with im o (replaced_in im o l c) b ≡ true)
-      by _ (StoodIn.nothing child none) = (
-        (λ there. absurd (none_in b there)),
-        (λ goes. absurd (true≢false (sym goes ∙ ap (λ x. goes_with im o x b) none))),
-      )
-      by _ (StoodIn.an_inode a blocks at childless own) = (
-        (λ there. ap (λ x. goes_with im o x b) at ∙ (own b).0 there),
-        (λ goes. (own b).1 (sym (ap (λ x. goes_with im o x b) at) ∙ goes)),
-      )
+  freed_goes = firsts.freed_goes im o l c to.inode replaced moves.stood
 
   module _ (need : ℕ) (own : Group) (is_own : IsOwnGroup v node own) where
-    own_there : group_of_node (map group_of_entry l.groups) node ≡ Some own
-    own_there = ap (λ gs. group_of_node gs node) of.groups ∙ is_own.of_node
+    pub passes_first : (g : Rindex) → comes_first im o l c node need g ≡ true → ComesFirst own need m (group_of_entry g)
+    passes_first = firsts.passes_first v im o l t of c node (freed_by m) freed_goes need own is_own
 
-    pub those : AreThose (comes_first im o l c node need) (first_blocks own need (freed_by m))
-    those b = elim (cases_Bool (need == 0)) [
-      | inl none ↦
-          let test : comes_first im o l c node need b ≡ goes_with im o (replaced_in im o l c) b =
-          ap (λ x. goes_with im o (replaced_in im o l c) b || (not x && is_first_of (group_of_node (map group_of_entry l.groups) node) b)) none ∙ or_false (goes_with im o (replaced_in im o l c) b) in
-          let blocks : first_blocks own need (freed_by m) ≡ freed_by m = cond-true (need == 0) (freed_by m) (own.first ∷ freed_by m) none in
-          ((λ there. test ∙ (freed_goes b).0 (subst (λ xs. Contains xs b) blocks there)), (λ passes. subst (λ xs. Contains xs b) (sym blocks) ((freed_goes b).1 (sym test ∙ passes))))
-      | inr some ↦
-          let test : comes_first im o l c node need b ≡ (goes_with im o (replaced_in im o l c) b || (b == own.first)) =
-          ap (λ x. goes_with im o (replaced_in im o l c) b || (not x && is_first_of (group_of_node (map group_of_entry l.groups) node) b)) some
-          ∙ ap (λ x. goes_with im o (replaced_in im o l c) b || is_first_of x b) own_there in
-          let blocks : first_blocks own need (freed_by m) ≡ own.first ∷ freed_by m = cond-false (need == 0) (freed_by m) (own.first ∷ freed_by m) some in (
-            (λ there. test ∙ passes (is_in b (own.first ∷ freed_by m) (subst (λ xs. Contains xs b) blocks there))),
-            (λ so. subst (λ xs. Contains xs b) (sym blocks) (contained b (own.first ∷ freed_by m) (there_so (sym test ∙ so)))),
-          )
-    ]
-      where
-        passes : IsIn b (own.first ∷ freed_by m) → (goes_with im o (replaced_in im o l c) b || (b == own.first)) ≡ true
-        passes (inl e) = or_right (goes_with im o (replaced_in im o l c) b) (b == own.first) (eq-eqb b own.first e)
-        passes (inr more) = or_left (goes_with im o (replaced_in im o l c) b) (b == own.first) ((freed_goes b).0 (contained b (freed_by m) more))
-
-        there_so : (goes_with im o (replaced_in im o l c) b || (b == own.first)) ≡ true → IsIn b (own.first ∷ freed_by m)
-        there_so so = elim (cases_Bool (goes_with im o (replaced_in im o l c) b)) [
-          | inl goes ↦ inr (is_in b (freed_by m) ((freed_goes b).1 goes))
-          | inr stays ↦ inl (eqb-true b own.first (sym (ap (λ x. x || (b == own.first)) stays) ∙ so))
-        ]
+    pub first_passes : (g : Rindex) → ComesFirst own need m (group_of_entry g) → comes_first im o l c node need g ≡ true
+    first_passes = firsts.first_passes v im o l t of c node (freed_by m) freed_goes need own is_own
 
     -- the locks under which blocks are found
-    pub room_is : group_holds (said im.at) v.groups own need ≡ room_list need
-    room_is = room_holds_are v im o l t of node own need is_own.of_node is_own.has
+    pub room_is : locks_of_room v im.at own need m ≡ room_list need
+    room_is = firsts.room_is v im o l t of c node (freed_by m) freed_goes need own is_own
 
   shown : AreShown v im.at
   shown = are_shown v im o l t of
 
   first_held : (need : ℕ) → FirstAreHeld v node m need → AreHeld v (inode_list ++ first_list need)
   first_held need first =
-      held_groups_hold_the_list v im o l t (comes_first im o l c node need) (first_blocks first.own need (freed_by m)) inode_list of (those need first.own first.of_node) inodes first.held
+      those_hold_the_list v im o l t of (comes_first im o l c node need) (ComesFirst first.own need m) (passes_first need first.own first.of_node) (first_passes need first.own first.of_node) inode_list inodes first.held
 
   -- ---- the first lock that isn't held
 
@@ -230,14 +237,13 @@ module _ (v : Seen) (im : Image) (o : Owners) (l : Layout) (t : Tree) (of : IsOf
   lock_lacks lock state other (LacksLock.of_first need needs lacks strong) is =
       subst (λ n. IsFirstLack v (call_holds im o l t c node n) lock state) (one_need need other needs is)
       (subst (λ list. IsFirstLack v list lock state) (sym (list_then need))
-      (lack_before v (inode_list ++ first_list need) (room_list need) lock state
+      (lack_before v (inode_list ++ first_list need) (more_list need) lock state
       (subst (IsFirstLack v (inode_list ++ first_list need) lock) (sym strong)
-      (first_group_lacks_are_first v im o l t (comes_first im o l c node need) (first_blocks lacks.own need (freed_by m)) inode_list lock of (those need lacks.own lacks.of_node) inodes lacks.lacks))))
+      (first_of_those_is_first v im o l t of (comes_first im o l c node need) (ComesFirst lacks.own need m) (passes_first need lacks.own lacks.of_node) (first_passes need lacks.own lacks.of_node) inode_list inodes lock lacks.lacks))))
   lock_lacks lock state other (LacksLock.of_room need counted lacks first) is =
       subst (λ n. IsFirstLack v (call_holds im o l t c node n) lock state) (one_need need other counted.needs is)
-      (subst (λ list. IsFirstLack v list lock state) (sym (list_then need))
-      (lack_behind v (inode_list ++ first_list need) (room_list need) lock state (first_held need counted.first)
-      (subst (λ list. IsFirstLack v list lock state) (room_is need counted.first.own counted.first.of_node) (first im.at shown))))
+      (subst (λ list. IsFirstLack v list lock state) (sym (list_is need))
+      (group_lack need lock state (subst (λ list. IsFirstLack v list lock state) (room_is need counted.first.own counted.first.of_node) (first im.at shown))))
 
   pub lock_listed : (lock : LockName) (state : State) → LacksLock v node m lock state → IsSoOfList im o l t c node (λ list. IsFirstLack v list lock state)
   lock_listed lock state (LacksLock.of_first need needs lacks strong) =
@@ -293,8 +299,8 @@ module _ (v : Seen) (im : Image) (o : Owners) (l : Layout) (t : Tree) (of : IsOf
     -- of a group that has some of what goes
     freed_asks : (need : ℕ) (n : Missing) → FirstAreHeld v node m need → freeing.IsNeededFor v (freed_by m) n → IsAskedFor v im o l (inode_list ++ first_list need) n
     freed_asks need n first needs =
-        blocks_of_groups_are_asked_for v im o l t (comes_first im o l c node need) (first_blocks first.own need (freed_by m)) inode_list n of (those need first.own first.of_node) inodes first.held
-        (needs.0, needs.1, (needs.2.0, freed_first first.own need (freed_by m) needs.2.0 needs.2.1, needs.2.2, needs.2.3))
+        block_of_those_is_asked v im o l t of (comes_first im o l c node need) (ComesFirst first.own need m) (passes_first need first.own first.of_node) (first_passes need first.own first.of_node) inode_list inodes
+        first.held needs.0 n needs.1 (inr (needs.2.0, needs.2.1, needs.2.2)) needs.2.3.block
 
     -- where blocks are found and all is held
     module _ (need : ℕ) (room : List ℕ) (has : HasRoom v node m need room) where
@@ -302,7 +308,7 @@ module _ (v : Seen) (im : Image) (o : Owners) (l : Layout) (t : Tree) (of : IsOf
       own = has.counted.first.own
 
       abbrev whole : List Hold
-      whole = (inode_list ++ first_list need) ++ room_list need
+      whole = inode_list ++ group_list need
 
       front_held : AreHeld v (inode_list ++ first_list need)
       front_held = first_held need has.counted.first
@@ -311,39 +317,40 @@ module _ (v : Seen) (im : Image) (o : Owners) (l : Layout) (t : Tree) (of : IsOf
       room_held = subst (AreHeld v) (room_is need own has.counted.first.of_node) (has.held im.at shown)
 
       pub whole_held : AreHeld v (call_holds im o l t c node need)
-      whole_held = subst (AreHeld v) (sym (list_then need)) (All-append (λ h. holds v h ≡ true) (inode_list ++ first_list need) (room_list need) front_held room_held)
+      whole_held = subst (AreHeld v) (sym (list_is need)) (groups_are_held need front_held room_held)
+
+      group_held : AreHeld v (group_list need)
+      group_held = held_behind v inode_list (group_list need) (groups_are_held need front_held room_held)
 
       -- the lock of a group that has some of the blocks
-      room_listed : (g : Group) (b : ℕ) → HasGroup v g → Contains room b → IsDataOf g b → Contains (room_list need) (hold_of_group g)
+      room_listed : (g : Group) (b : ℕ) → HasGroup v g → Contains room b → IsDataOf g b → Contains (group_list need) (hold_of_group g)
       room_listed g b has_it there lies =
           let e = (has.are im.at shown).each b there in
-          subst (λ list. Contains list (hold_of_group g)) (room_is need own has.counted.first.of_node)
-          (subst (λ k. Contains (group_holds (said im.at) v.groups own need) (hold_of_group k)) (one_group v b e.group g view e.has e.data_block has_it lies) e.listed)
+          group_listed need (hold_of_group g) (subst (λ list. Contains list (hold_of_group g)) (room_is need own has.counted.first.of_node)
+          (subst (λ k. Contains (locks_of_room v im.at own need m) (hold_of_group k)) (one_group v b e.group g view e.has e.data_block has_it lies) e.listed))
 
       -- or of what goes
       freed_listed : (g : Group) (b : ℕ) → HasGroup v g → Contains (freed_by m) b → IsDataOf g b → Contains (inode_list ++ first_list need) (hold_of_group g)
       freed_listed g b has_it goes lies =
           let f = (groups_are_listed v im o l t g of).0 has_it in
-          let first = ap (λ (k : Group). k.first) f.2 in
-          let count = ap (λ (k : Group). k.count) f.2 in
-          let within : listed.IsDataOf f.0 b = record { low = omega (arith, lies.low, first); high = omega (arith, lies.high, first, count) } in
           subst (λ k. Contains (inode_list ++ first_list need) (hold_of_group k)) (sym f.2)
-          (groups_with_blocks_are_listed (comes_first im o l c node need) l.groups f.0 b inode_list f.1 within
-          ((those need own has.counted.first.of_node b).0 (freed_first own need (freed_by m) b goes)))
+          (those_are_listed (comes_first im o l c node need) l.groups f.0 inode_list f.1
+          (first_passes need own has.counted.first.of_node f.0 (inr (b, goes, subst (λ k. IsDataOf k b) f.2 lies))))
 
       group_asks : (n : Missing) → freeing.IsNeededFor v (room ++ freed_by m) n → IsAskedFor v im o l whole n
       group_asks n needs = elim (Contains-append_cases room (freed_by m) needs.2.0 needs.2.1) [
         | inl taken ↦
-            asked_behind v im o l (inode_list ++ first_list need) (room_list need) n front_held
-            (group_asked v im o l t of (room_list need) n (block_under v (room_list need) needs.0 n room_held (room_listed needs.0 needs.2.0 needs.1 taken needs.2.2) needs.1 needs.2.3.block))
+            asked_behind v im o l inode_list (group_list need) n inodes
+            (group_asked v im o l t of (group_list need) n (block_under v (group_list need) needs.0 n group_held (room_listed needs.0 needs.2.0 needs.1 taken needs.2.2) needs.1 needs.2.3.block))
         | inr goes ↦
-            asked_before v im o l (inode_list ++ first_list need) (room_list need) n (freed_asks need n has.counted.first (needs.0, needs.1, (needs.2.0, goes, needs.2.2, needs.2.3)))
+            subst (λ list. IsAskedFor v im o l list n) (append_assoc inode_list (first_list need) (more_list need))
+            (asked_before v im o l (inode_list ++ first_list need) (more_list need) n (freed_asks need n has.counted.first (needs.0, needs.1, (needs.2.0, goes, needs.2.2, needs.2.3))))
       ]
 
       draft_asks : (n : Missing) → IsNeededIn v m (room ++ freed_by m) n → IsAskedFor v im o l (call_holds im o l t c node need) n
       draft_asks n needs =
-          let more = λ (a : ℕ) (is : IsAmong v inode_list a). among_more v (inode_list ++ first_list need) (room_list need) a (among_more v inode_list (first_list need) a is) in
-          subst (λ list. IsAskedFor v im o l list n) (sym (list_then need))
+          let more = λ (a : ℕ) (is : IsAmong v inode_list a). among_more v inode_list (group_list need) a is in
+          subst (λ list. IsAskedFor v im o l list n) (sym (list_is need))
           (asked_on whole (more from.above among_source) (more to.inode among_target) (more from.inode among_inode) (room ++ freed_by m) n (group_asks n) needs)
 
     no_group : (n : Missing) → freeing.IsNeededFor v [] n → IsAskedFor v im o l inode_list n
@@ -351,7 +358,7 @@ module _ (v : Seen) (im : Image) (o : Owners) (l : Layout) (t : Tree) (of : IsOf
 
     -- under a lock of the inodes it is under one of the whole list
     whole_asks : (n : Missing) (other : ℕ) → IsAskedFor v im o l inode_list n → IsAskedFor v im o l (call_holds im o l t c node other) n
-    whole_asks n other asked = subst (λ list. IsAskedFor v im o l list n) (sym (list_is other)) (asked_before v im o l inode_list (first_list other ++ room_list other) n asked)
+    whole_asks n other asked = subst (λ list. IsAskedFor v im o l list n) (sym (list_is other)) (asked_before v im o l inode_list (group_list other) n asked)
 
     -- of a directory or the inode
     inode_asks : (n : Missing) → IsNeededIn v m [] n → IsAskedFor v im o l inode_list n
@@ -368,17 +375,17 @@ module _ (v : Seen) (im : Image) (o : Owners) (l : Layout) (t : Tree) (of : IsOf
     block_asks n other (NeedsBlock.of_freed need counted needs) is =
         subst (λ k. IsAskedFor v im o l (call_holds im o l t c node k) n) (one_need need other counted.needs is)
         (subst (λ list. IsAskedFor v im o l list n) (sym (list_then need))
-        (asked_before v im o l (inode_list ++ first_list need) (room_list need) n (freed_asks need n counted.first needs)))
+        (asked_before v im o l (inode_list ++ first_list need) (more_list need) n (freed_asks need n counted.first needs)))
     block_asks n other (NeedsBlock.of_room need counted needed blocks) is =
         subst (λ k. IsAskedFor v im o l (call_holds im o l t c node k) n) (one_need need other counted.needs is)
-        (subst (λ list. IsAskedFor v im o l list n) (sym (list_then need))
-        (asked_behind v im o l (inode_list ++ first_list need) (room_list need) n (first_held need counted.first)
-        (group_asked v im o l t of (room_list need) n (subst (λ list. IsGroupBlock v list n) (room_is need counted.first.own counted.first.of_node) (blocks im.at shown)))))
+        (subst (λ list. IsAskedFor v im o l list n) (sym (list_is need))
+        (asked_behind v im o l inode_list (group_list need) n inodes
+        (group_asked v im o l t of (group_list need) n (group_block need n (subst (λ list. IsGroupBlock v list n) (room_is need counted.first.own counted.first.of_node) (blocks im.at shown))))))
     block_asks n other (NeedsBlock.to_draft need room has none needs) is =
         subst (λ k. IsAskedFor v im o l (call_holds im o l t c node k) n) (one_need need other has.counted.needs is) (draft_asks need room has n needs)
     block_asks n other (NeedsBlock.to_say need room has needs) is =
         subst (λ k. IsAskedFor v im o l (call_holds im o l t c node k) n) (one_need need other has.counted.needs is)
-        (subst (λ list. IsAskedFor v im o l list n) (sym (list_then need)) (group_asks need room has n needs))
+        (subst (λ list. IsAskedFor v im o l list n) (sym (list_is need)) (group_asks need room has n needs))
 
     -- of the locks of the inodes, or of the whole list once the blocks are counted
     pub block_listed : (n : Missing) → NeedsBlock v node m n → IsSoOfList im o l t c node (λ list. IsAskedFor v im o l list n)
@@ -405,21 +412,22 @@ module _ (v : Seen) (im : Image) (o : Owners) (l : Layout) (t : Tree) (of : IsOf
       done_held = (done.need, (is_need done.need done.has.counted.needs, whole_held done.need done.room done.has))
 
       abbrev list : List Hold
-      list = (inode_list ++ first_list done.need) ++ room_list done.need
+      list = inode_list ++ group_list done.need
 
       in_inodes : (h : Hold) → IsIn h inode_list → IsIn h list
-      in_inodes h at = in_left h (inode_list ++ first_list done.need) (room_list done.need) (in_left h inode_list (first_list done.need) at)
+      in_inodes h at = in_left h inode_list (group_list done.need) at
 
       put_listed : (b : ℕ) (lock : LockName) → IsPutUnder v m done.is.taken b lock → IsIn (record { lock = lock; state = Ex }) list
       put_listed b lock (IsPutUnder.of_group g has some says same) =
           subst (λ k. IsIn (record { lock = k; state = Ex }) list) (sym same) (elim (Contains-append_cases done.is.taken (freed_by m) some.0 some.1) [
             | inl taken ↦
-                in_right (hold_of_group g) (inode_list ++ first_list done.need) (room_list done.need) (is_in (hold_of_group g) (room_list done.need)
+                in_right (hold_of_group g) inode_list (group_list done.need) (is_in (hold_of_group g) (group_list done.need)
                 (room_listed done.need done.room done.has g some.0 has
                 (subst (λ xs. Contains xs some.0) (sym done.is.front) (Contains-append_left done.is.taken done.is.left some.0 taken)) some.2))
             | inr goes ↦
-                in_left (hold_of_group g) (inode_list ++ first_list done.need) (room_list done.need) (is_in (hold_of_group g) (inode_list ++ first_list done.need)
-                (freed_listed done.need done.room done.has g some.0 has goes some.2))
+                subst (IsIn (hold_of_group g)) (append_assoc inode_list (first_list done.need) (more_list done.need))
+                (in_left (hold_of_group g) (inode_list ++ first_list done.need) (more_list done.need) (is_in (hold_of_group g) (inode_list ++ first_list done.need)
+                (freed_listed done.need done.room done.has g some.0 has goes some.2)))
           ])
       put_listed b lock (IsPutUnder.of_source within place same) =
           subst (λ k. IsIn (record { lock = k; state = Ex }) list) (sym same) (in_inodes (hold_of from.above Ex)
@@ -444,7 +452,7 @@ module _ (v : Seen) (im : Image) (o : Owners) (l : Layout) (t : Tree) (of : IsOf
       pub done_under : (other : ℕ) → IsNeed im o l t c other → IsUnder o (call_holds im o l t c node other) change
       done_under other is =
           subst (λ k. IsUnder o (call_holds im o l t c node k) change) (one_need done.need other done.has.counted.needs is)
-          (subst (λ xs. IsUnder o xs change) (sym (list_then done.need)) (record {
+          (subst (λ xs. IsUnder o xs change) (sym (list_is done.need)) (record {
             written = each_lock done.is.fates change done.is.finished (λ lock. Contains list (record { lock = lock; state = Ex }))
                 (λ b lock plain bytes put. contained (record { lock = lock; state = Ex }) list (put_listed b lock (done.is.locks b lock plain bytes put)));
             freed = λ b a gone its.

@@ -7,7 +7,6 @@ use Rattle.glock_names.specs.Steps.{IfDamaged, IfIs, IfNeedBlock, OnlyDamaged}
 use Rattle.glock_names.specs.Views.{Seen, IsView}
 use Rattle.glock_names.specs.declared.steps.CallFault.{CallFault}
 use Rattle.glock_names.specs.declared.steps.CallFault.TheVariants.{Damaged, NoMemory}
-use Rattle.glock_names.specs.declared.steps.Missing.{Missing}
 use Rattle.glock_names.specs.declared.steps.Step.{Step}
 use Rattle.glock_names.specs.declared.steps.Step.TheVariants.{Is, NeedBlock}
 use Rattle.directories.proofs.Forms.{is_directory_here, some_directory}
@@ -17,7 +16,7 @@ use Rattle.name_inserts.specs.Inserting.{IsNeededForName, IsWrongForName}
 use Rattle.name_inserts.specs.Way.{IsOnWay, IsRightWay}
 use Rattle.name_moves.specs.Moving.{CanBeMoved, Move, freed_by, is_reparented}
 use Rattle.path_walks.specs.Walks.{IsDirectoryAt}
-use Rattle.move_calls.specs.Checks.{IsNeededOnWays, IsOnItsWay, IsWayOf, IsWrongOnWays}
+use Rattle.move_calls.specs.Checks.{IsNeededOnWays, IsOffItsWays, IsOnItsWay, IsWayOf, IsWrongOnWays}
 
 module _ (v : Seen) (m : Move) (can : CanBeMoved v m) where
   source_directory : IsDirectoryAt v m.from
@@ -102,17 +101,11 @@ module _ (v : Seen) (m : Move) (blocks : List ℕ) where
   abbrev Off : ℕ → List ℕ → Type 0
   Off dir name = (b : ℕ) → Contains blocks b → (h : Holding) → IsShown v dir h → IsOnWay h name b → ⊥
 
-  -- no block is on one of them that is on none
-  pub off_all : IsView v → Off m.from m.name → Off m.to.inode m.new_name → (is_reparented m ≡ true → Off m.moved.inode (codes "..")) → (b : ℕ) → Contains blocks b → IsOnItsWay v m b → ⊥
-  off_all view old new parent b there on = by on.directory on.name on.way on.on
-    where
-      off : (dir : ℕ) (name : List ℕ) → Off dir name → ((h : Holding) → IsShown v dir h → IsOnWay h name b) → ⊥
-      off dir name away on = let s = some_directory v dir view in away b there s.0 s.1 (on s.0 s.1)
-
-      by : (dir : ℕ) (name : List ℕ) → IsWayOf v m dir name → ((h : Holding) → IsShown v dir h → IsOnWay h name b) → ⊥
-      by _ _ (IsWayOf.to_old is) on = off m.from m.name old on
-      by _ _ (IsWayOf.to_new is) on = off m.to.inode m.new_name new on
-      by _ _ (IsWayOf.to_parent moves is) on = off m.moved.inode (codes "..") (parent moves) on
+  -- what is on none of the three is on no way
+  pub off_all : Off m.from m.name → Off m.to.inode m.new_name → (is_reparented m ≡ true → Off m.moved.inode (codes "..")) → (b : ℕ) → Contains blocks b → IsOffItsWays v m b
+  off_all old new parent b there _ _ (IsWayOf.to_old is) = old b there
+  off_all old new parent b there _ _ (IsWayOf.to_new is) = new b there
+  off_all old new parent b there _ _ (IsWayOf.to_parent moves is) = parent moves b there
 
 -- what is so in any case is so where a block is found, or none
 pub any_none : (Q : Type 0) → Q → (r : Result (Step (Option ℕ)) CallFault) → IfIs r (λ found. IfNone found Q)

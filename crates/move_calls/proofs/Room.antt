@@ -1,11 +1,13 @@
 -- The blocks that were found for a move.
-use Rattle.std.proofs.Common.{◌≡◌, ◌≢◌, ◌⊎◌, ◌<◌, ◌==◌, inl, inr, ℕ, true, true≢false, List, [], ◌∷◌, ◌++◌, Option, None, Some, Vec, Global, sym, subst, arith}
-use Rattle.std.proofs.lemmas.Bool.{cases_Bool, cond-true, cond-false}
-use Rattle.std.proofs.lemmas.List.Elements.{Contains-append_cases, Contains-append_right}
+use Rattle.std.proofs.Common.{◌≡◌, ◌≢◌, ◌⊎◌, ◌<◌, inl, inr, ℕ, true, true≢false, List, [], ◌∷◌, ◌++◌, Option, None, Some, Vec, Global, sym, subst, arith}
+use Rattle.std.proofs.lemmas.List.Elements.{Contains-append_cases}
 use Rattle.std.specs.Prelude.{Contains, IfNone, IfSome, is_some}
+use Rattle.glock_names.specs.Steps.{TellsOf}
 use Rattle.glock_names.specs.Views.{Seen, IsView}
 use Rattle.glock_names.specs.declared.LockName.{LockName}
 use Rattle.glock_names.specs.declared.State.{State}
+use Rattle.glock_names.specs.declared.steps.CallFault.{CallFault}
+use Rattle.glock_names.specs.declared.steps.CallFault.TheVariants.{Damaged, NoMemory}
 use Rattle.glock_names.specs.declared.steps.Missing.{Missing}
 use Rattle.glock_names.specs.declared.views.Group.{Group}
 use Rattle.growth_drafts.specs.Taken.{IsDistinct}
@@ -17,8 +19,8 @@ use Rattle.path_walks.specs.Holds.{hold_of_group, holds}
 use Rattle.resource_groups.specs.Putting.{HasDataBlock}
 use Rattle.resource_groups.specs.Shown.{said}
 use Rattle.resource_groups.proofs.Apart.{one_group}
-use Rattle.room_search.specs.Blocks.{group_holds, group_of_node}
-use Rattle.room_search.specs.Searches.{AreHeldBlocks, AreShown, IsRoom, IsTaken, IsTold, IsUnder}
+use Rattle.room_search.specs.Blocks.{group_of_node}
+use Rattle.room_search.specs.Searches.{AreHeldBlocks, AreShown, IsRoomOf, IsTakenOf, IsTold, IsUnder}
 use Rattle.room_search.specs.declared.search.Taken.{Taken}
 use Rattle.room_search.specs.declared.search.Taken.TheVariants as taken
 use Rattle.room_search.specs.declared.search.Locked.{Locked}
@@ -26,8 +28,7 @@ use Rattle.room_search.specs.declared.search.Locked.TheVariants as locked
 use Rattle.room_search.proofs.Room.{all_listed}
 use Rattle.room_search.proofs.Shown.{bytes_shown}
 use Rattle.name_moves.specs.Moving.{IsPlaceOfMove, Move, freed_by}
-use Rattle.move_calls.specs.Checks.{IsOnItsWay}
-use Rattle.move_calls.specs.Carrying.{HasRoom, IsCounted, IsFull, IsInTheWay, LacksLock, NeedsBlock, first_blocks}
+use Rattle.move_calls.specs.Carrying.{HasRoom, IsCounted, IsFull, LacksLock, NeedsBlock, first_groups, locks_of_room}
 
 -- numbers that rise stand once each
 distinct : (xs : List ℕ) → Rising xs → IsDistinct xs
@@ -52,32 +53,19 @@ at_some P x a is some = subst (λ y. IfSome y P) is some
 pub at_none : {A : Type 0} (P : Type 0) (x : Option A) → x ≡ None → IfNone x P → P
 at_none P x is none = subst (λ y. IfNone y P) is none
 
--- ---- blocks that aren't in the way
+-- ---- blocks that aren't of the move
 
 pub place_of : (m : Move) (b : ℕ) → (b ≡ m.from) ⊎ ((b ≡ m.to.inode) ⊎ (b ≡ m.moved.inode)) → IsPlaceOfMove m b
 place_of m b (inl e) = IsPlaceOfMove.of_source e
 place_of m b (inr (inl e)) = IsPlaceOfMove.of_target e
 place_of m b (inr (inr e)) = IsPlaceOfMove.of_inode e
 
-pub off_room : (v : Seen) (m : Move) (room : List ℕ) → ((b : ℕ) → Contains room b → (b ≢ m.from) × (b ≢ m.to.inode) × (b ≢ m.moved.inode)) → ((b : ℕ) → Contains room b → Contains (freed_by m) b → ⊥)
-    → ((b : ℕ) → Contains room b → IsOnItsWay v m b → ⊥) → (b : ℕ) → Contains room b → IsInTheWay v m b → ⊥
-off_room v m room dinodes goes ways b has (IsInTheWay.a_place (IsPlaceOfMove.of_source e)) = (dinodes b has).0 e
-off_room v m room dinodes goes ways b has (IsInTheWay.a_place (IsPlaceOfMove.of_target e)) = (dinodes b has).1 e
-off_room v m room dinodes goes ways b has (IsInTheWay.a_place (IsPlaceOfMove.of_inode e)) = (dinodes b has).2 e
-off_room v m room dinodes goes ways b has (IsInTheWay.a_place (IsPlaceOfMove.of_replaced there)) = goes b has there
-off_room v m room dinodes goes ways b has (IsInTheWay.on_way on) = ways b has on
-
--- ---- the groups that come first
-
-pub freed_first : (own : Group) (need : ℕ) (freed : List ℕ) (b : ℕ) → Contains freed b → Contains (first_blocks own need freed) b
-freed_first own need freed b there = elim (cases_Bool (need == 0)) [
-  | inl none ↦ subst (λ xs. Contains xs b) (sym (cond-true (need == 0) freed (own.first ∷ freed) none)) there
-  | inr some ↦ subst (λ xs. Contains xs b) (sym (cond-false (need == 0) freed (own.first ∷ freed) some)) (Contains-append_right (own.first ∷ []) freed b there)
-]
-
--- those of what goes are held with them
-pub freed_held : (v : Seen) (own : Group) (need : ℕ) (freed : List ℕ) → GroupsAreHeld v (first_blocks own need freed) → GroupsAreHeld v freed
-freed_held v own need freed held g listed (b, there, lies) = held g listed (b, freed_first own need freed b there, lies)
+pub off_room : (m : Move) (room : List ℕ) → ((b : ℕ) → Contains room b → (b ≢ m.from) × (b ≢ m.to.inode) × (b ≢ m.moved.inode)) → ((b : ℕ) → Contains room b → Contains (freed_by m) b → ⊥)
+    → (b : ℕ) → Contains room b → IsPlaceOfMove m b → ⊥
+off_room m room dinodes goes b has (IsPlaceOfMove.of_source e) = (dinodes b has).0 e
+off_room m room dinodes goes b has (IsPlaceOfMove.of_target e) = (dinodes b has).1 e
+off_room m room dinodes goes b has (IsPlaceOfMove.of_inode e) = (dinodes b has).2 e
+off_room m room dinodes goes b has (IsPlaceOfMove.of_replaced there) = goes b has there
 
 -- ---- the blocks
 
@@ -94,23 +82,32 @@ module _ (v : Seen) (node need : ℕ) (m : Move) (room : List ℕ) (has : HasRoo
     | inl in_room ↦
         let is = has.blocks.each b in_room in
         subst (λ k. holds v (hold_of_group k) ≡ true) (one_group v b is.group g view is.has is.data_block listed lies) is.held
-    | inr goes ↦ freed_held v has.counted.first.own need (freed_by m) has.counted.first.held g listed (b, goes, lies)
+    | inr goes ↦ has.counted.first.held g listed (inr (b, goes, lies))
   ]
 
 -- ---- what a search for them tells
 
-abbrev pub Finds : Seen → ℕ → ℕ → Locked Taken → Type 0
-Finds v node need r = (at : ℕ → List ℕ) (own : Group) → AreShown v at → group_of_node v.groups node ≡ Some own → IsUnder v (group_holds (said at) v.groups own need) (IsTaken v (said at) v.groups own need) r
+-- where none is needed nothing is told
+pub told_asked : (need : ℕ) (P : ℕ → ℕ → Type 0) (f : CallFault) → (need ≡ 0 → TellsOf (λ rule b. ⊥) f) → TellsOf P f → TellsOf (λ rule b. (need ≢ 0) × P rule b) f
+told_asked need P (Damaged b rule) never is = (never, is)
+told_asked need P NoMemory never is = tt
 
-module _ (v : Seen) (node need : ℕ) (m : Move) (counted : IsCounted v node m need) (r : Locked Taken) (finds : Finds v node need r) (told : IsTold v need r) where
-  under : (r' : Locked Taken) → r ≡ r' → (at : ℕ → List ℕ) → AreShown v at → IsUnder v (group_holds (said at) v.groups counted.first.own need) (IsTaken v (said at) v.groups counted.first.own need) r'
-  under r' is at shown = subst (Finds v node need) is finds at counted.first.own shown counted.first.of_node.of_node
+abbrev pub Finds : Seen → ℕ → Move → ℕ → Locked Taken → Type 0
+Finds v node m need r = (at : ℕ → List ℕ) (own : Group) → AreShown v at → group_of_node v.groups node ≡ Some own
+    → IsUnder v (locks_of_room v at own need m) (IsTakenOf v (said at) v.groups (first_groups v own need m) need) r
+
+module _ (v : Seen) (node need : ℕ) (m : Move) (counted : IsCounted v node m need) (r : Locked Taken) (finds : Finds v node m need r) (told : IsTold v need r) where
+  abbrev first : List Group
+  first = first_groups v counted.first.own need m
+
+  under : (r' : Locked Taken) → r ≡ r' → (at : ℕ → List ℕ) → AreShown v at → IsUnder v (locks_of_room v at counted.first.own need m) (IsTakenOf v (said at) v.groups first need) r'
+  under r' is at shown = subst (Finds v node m need) is finds at counted.first.own shown counted.first.of_node.of_node
 
   pub room_found : (blocks : Vec ℕ Global) (room : List ℕ) → room ≡ blocks.items → r ≡ locked.Is (taken.Is blocks) → HasRoom v node m need room
   room_found blocks room are is = record {
     counted = counted;
     blocks = subst (AreHeldBlocks v need) (sym are) (subst (IsTold v need) is told);
-    are = λ at shown. subst (IsRoom v (said at) v.groups counted.first.own need) (sym are) (under (locked.Is (taken.Is blocks)) is at shown).1;
+    are = λ at shown. subst (IsRoomOf v (said at) v.groups first need) (sym are) (under (locked.Is (taken.Is blocks)) is at shown).1;
     held = λ at shown. (under (locked.Is (taken.Is blocks)) is at shown).0;
   }
 
@@ -120,7 +117,7 @@ module _ (v : Seen) (node need : ℕ) (m : Move) (counted : IsCounted v node m n
       let f = under (locked.Is (taken.TooFew free)) is at.0 (λ g has. at.1 g) in
       record {
         counted = counted;
-        held = all_listed v (said at.0) counted.first.own need f.1.fewer_own f.0;
+        held = all_listed v (said at.0) first need f.1.fewer_first f.0;
         free_are = λ other shown. (under (locked.Is (taken.TooFew free)) is other shown).1.free_are;
         fewer = subst (IsTold v need) is told;
       }

@@ -267,7 +267,7 @@ module _ (v : Seen) (im : Image) (o : Owners) (l : Layout) (t : Tree) (of : IsOf
       pub carry_sound : (rule b : ℕ) → IsDamageOf v node m rule b → ⊥
       carry_sound rule b (IsDamageOf.to_look r d wrong) = way_wrong (parent_of q) to.inode moves.target moves.directory r d (wrong (holding im o to.inode) (shown_inode v im o l t of (parent_of q) to.inode moves.target))
       carry_sound rule b (IsDamageOf.of_freed need r d counted wrong) = groups_break_nothing v im o l t (freed_by m) r d of wrong
-      carry_sound rule b (IsDamageOf.of_room need r d counted wrong) = group_sound v im o l t of r d wrong
+      carry_sound rule b (IsDamageOf.of_room need r d counted some wrong) = group_sound v im o l t of r d wrong
       carry_sound rule b (IsDamageOf.on_way need room r d has wrong) = ways_right r d wrong
       carry_sound _ _ (IsDamageOf.called_free need b room has there way) = not_in_the_way need room has b there way
       carry_sound rule b (IsDamageOf.to_draft need room r d has none wrong) = move_wrong (room ++ freed_by m) r d wrong

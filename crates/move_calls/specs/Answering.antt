@@ -72,14 +72,13 @@ pub data IsLackedFor (v : Seen) (call : Call) (node : ℕ) (lock : LockName) (st
 
 -- A block without which the call isn't answered: one on the paths, or of what stands at the new name; one without which it isn't told whether a directory that gets another parent
 -- has `..`, or whether something that goes is on the way to a name; or one that is needed to move the name.
-pub data IsNeededFor (v : Seen) (call : Call) (n : Missing) : Type 0 where
-  at_ends : IsNeededAtEnds v call n → IsNeededFor v call n
-  to_see : (m : Move) → IsMeant v call m → IsNeededToSee v m n → IsNeededFor v call n
-  to_move : (node : ℕ) (m : Move) → IsToMove v call m → NeedsBlock v node m n → IsNeededFor v call n
+pub data IsNeededFor (v : Seen) (call : Call) (node : ℕ) (n : Missing) : Type 0 where
+  at_ends : IsNeededAtEnds v call n → IsNeededFor v call node n
+  to_see : (m : Move) → IsMeant v call m → IsNeededToSee v m n → IsNeededFor v call node n
+  to_move : (m : Move) → IsToMove v call m → NeedsBlock v node m n → IsNeededFor v call node n
 
 -- a name is to move, and fewer blocks are free than that needs
-pub record IsFullFor (v : Seen) (call : Call) (need free : ℕ) : Type 0 where
-  pub node : ℕ
+pub record IsFullFor (v : Seen) (call : Call) (node need free : ℕ) : Type 0 where
   pub move : Move
   pub moves : IsToMove v call move
   pub full : IsFull v node move need free
@@ -90,10 +89,10 @@ pub data IsUnbuilt (v : Seen) (call : Call) (node : ℕ) : Type 0 where
   stuck : (m : Move) → IsToMove v call m → IsStuck v node m → IsUnbuilt v call node
 
 -- the block breaks this rule: at the ends of the paths; as a move that can't be made; or where the name is to move
-pub data IsDamage (v : Seen) (call : Call) (rule b : ℕ) : Type 0 where
-  at_ends : IsDamageAtEnds v call rule b → IsDamage v call rule b
-  to_see : (m : Move) → IsMeant v call m → IsWrongMove v m rule b → IsDamage v call rule b
-  to_move : (node : ℕ) (m : Move) → IsToMove v call m → IsDamageOf v node m rule b → IsDamage v call rule b
+pub data IsDamage (v : Seen) (call : Call) (node rule b : ℕ) : Type 0 where
+  at_ends : IsDamageAtEnds v call rule b → IsDamage v call node rule b
+  to_see : (m : Move) → IsMeant v call m → IsWrongMove v m rule b → IsDamage v call node rule b
+  to_move : (m : Move) → IsToMove v call m → IsDamageOf v node m rule b → IsDamage v call node rule b
 
 -- ---- part by part
 

@@ -1,5 +1,5 @@
 -- A move that can be made is carried out: the blocks that it needs are counted, the locks of groups are looked at, blocks are found, and then all is drafted.
-use Rattle.std.specs.Prelude.{ℕ, ◌≡◌, ◌≢◌, ◌==◌, ◌<◌, false, true, if◌then◌else◌, List, [], ◌∷◌, ◌++◌, length, map, Contains, None, Some}
+use Rattle.std.specs.Prelude.{ℕ, ◌≡◌, ◌≢◌, ◌==◌, ◌<◌, false, true, if◌then◌else◌, List, [], ◌++◌, length, map, Contains, Option, None, Some}
 use Rattle.drafts.specs.declared.attempt.Attempt.{Attempt}
 use Rattle.drafts.specs.declared.attempt.Attempt.TheVariants as attempt
 use Rattle.drafts.specs.declared.change.Change.{Change}
@@ -14,20 +14,21 @@ use Rattle.glock_names.specs.declared.steps.Missing.{Missing}
 use Rattle.glock_names.specs.declared.views.Group.{Group}
 use Rattle.directories.specs.Shown as dirs
 use Rattle.hash_dirs.specs.Shown.{IsSound}
-use Rattle.group_locks.specs.Groups.{GroupsAreHeld, IsFirstGroupLack}
-use Rattle.path_walks.specs.Holds.{AreHeld, IsFirstLack, hold_of_group, holds}
+use Rattle.group_locks.specs.Groups.{AreHeldOf, IsFirstLackOf, IsOneOrHas}
+use Rattle.path_walks.specs.Holds.{AreHeld, Hold, IsFirstLack, hold_of_group, holds}
 use Rattle.resource_groups.specs.Shown.{said}
 use Rattle.resource_groups.specs.Freeing.{BreaksSome}
 use Rattle.resource_groups.specs.Freeing as freeing
 use Rattle.resource_groups.specs.Putting.{HasDataBlock}
-use Rattle.room_search.specs.Blocks.{free_in_all, group_holds, group_of_node}
-use Rattle.room_search.specs.Searches.{AreHeldBlocks, AreShown, IsGroupBlock, IsGroupBroken, IsGroupNeeded, IsRoom}
+use Rattle.room_search.specs.Blocks.{first_holds, free_in_all, group_of_node}
+use Rattle.room_search.specs.Searches.{AreHeldBlocks, AreShown, IsGroupBlock, IsGroupBroken, IsGroupNeeded, IsRoomOf}
 use Rattle.name_inserts.specs.Inserting.{IsNeededForName, IsWrongForName}
 use Rattle.name_inserts.specs.Needing.{TakesBlocks}
 use Rattle.name_inserts.specs.Way.{IsRightWay}
 use Rattle.name_moves.specs.Becoming.{NeedsAfter}
 use Rattle.name_moves.specs.Moving.{AreApart, IsMoving, IsNeededIn, IsPlaceOfMove, IsWrongIn, IsWrongThere, Move, freed_by, lost_there}
-use Rattle.move_calls.specs.Checks.{IsNeededOnWays, IsOnItsWay, IsWrongOnWays}
+use Rattle.move_calls.specs.Firsts.{those_of}
+use Rattle.move_calls.specs.Checks.{IsNeededOnWays, IsOffItsWays, IsOnItsWay, IsWrongOnWays}
 
 -- ---- what is needed
 
@@ -43,42 +44,55 @@ pub record IsOwnGroup (v : Seen) (node : ℕ) (own : Group) : Type 0 where
   pub of_node : group_of_node v.groups node ≡ Some own
   pub has : HasGroup v own
 
--- the blocks whose groups are held first: those that go, and where some are needed the first of the node's own group
-abbrev pub first_blocks : Group → ℕ → List ℕ → List ℕ
-first_blocks own need freed = if need == 0 then freed else own.first ∷ freed
+-- this, where blocks are needed
+abbrev pub where_needed : ℕ → ℕ → Option ℕ
+where_needed number need = if need == 0 then None else Some number
+
+-- the groups that are held first: those that have some of what goes, and where blocks are needed the node's own
+abbrev pub ComesFirst : Group → ℕ → Move → Group → Type 0
+ComesFirst own need m = IsOneOrHas (where_needed own.addr need) (freed_by m)
+
+-- as a list, in the order of the view's groups
+abbrev pub first_groups : Seen → Group → ℕ → Move → List Group
+first_groups v own need m = those_of (where_needed own.addr need) (freed_by m) v.groups
+
+-- the locks under which blocks are found: of these groups, and where they have too few free blocks together, of all
+abbrev pub locks_of_room : Seen → (ℕ → List ℕ) → Group → ℕ → Move → List Hold
+locks_of_room v at own need m = first_holds (said at) v.groups (first_groups v own need m) need
 
 -- the groups are held that come first
 pub record FirstAreHeld (v : Seen) (node : ℕ) (m : Move) (need : ℕ) : Type 0 where
   pub own : Group
   pub of_node : IsOwnGroup v node own
-  pub held : GroupsAreHeld v (first_blocks own need (freed_by m))
+  pub held : AreHeldOf v (ComesFirst own need m)
 
 -- this is the lock of the first of them that isn't held
 pub record LacksFirst (v : Seen) (node : ℕ) (m : Move) (need : ℕ) (lock : LockName) : Type 0 where
   pub own : Group
   pub of_node : IsOwnGroup v node own
-  pub lacks : IsFirstGroupLack v (first_blocks own need (freed_by m)) lock
+  pub lacks : IsFirstLackOf v (ComesFirst own need m) lock
 
 -- So many blocks are needed, and the groups are held that come first.
 pub record IsCounted (v : Seen) (node : ℕ) (m : Move) (need : ℕ) : Type 0 where
   pub needs : NeedsFor v m need
   pub first : FirstAreHeld v node m need
 
--- These are the blocks that the node takes, as many as are needed, as far as the view's groups say; and every lock under which they are found is held.
+-- These are the blocks that the node takes, as many as are needed, as far as the view's groups say: of the groups that come first together, or of all; and every lock under which they are found is held.
 pub record HasRoom (v : Seen) (node : ℕ) (m : Move) (need : ℕ) (room : List ℕ) : Type 0 where
   pub counted : IsCounted v node m need
   pub blocks : AreHeldBlocks v need room
-  pub are : (at : ℕ → List ℕ) → AreShown v at → IsRoom v (said at) v.groups counted.first.own need room
-  pub held : (at : ℕ → List ℕ) → AreShown v at → AreHeld v (group_holds (said at) v.groups counted.first.own need)
+  pub are : (at : ℕ → List ℕ) → AreShown v at → IsRoomOf v (said at) v.groups (first_groups v counted.first.own need m) need room
+  pub held : (at : ℕ → List ℕ) → AreShown v at → AreHeld v (locks_of_room v at counted.first.own need m)
 
 -- a block that can't be taken: the dinode of one of the directories or of the inode, one that goes with what stands at the new name, or one on the way to a name of the move
 pub data IsInTheWay (v : Seen) (m : Move) (b : ℕ) : Type 0 where
   a_place : IsPlaceOfMove m b → IsInTheWay v m b
   on_way : IsOnItsWay v m b → IsInTheWay v m b
 
--- none of the blocks is in the move's way, and the way to the new name is right
+-- none of the blocks is a dinode of the move, goes with what stands at the new name, or is on one of the ways; and the way to the new name is right
 pub record IsOffWay (v : Seen) (m : Move) (room : List ℕ) : Type 0 where
-  pub apart : (b : ℕ) → Contains room b → IsInTheWay v m b → ⊥
+  pub apart : (b : ℕ) → Contains room b → IsPlaceOfMove m b → ⊥
+  pub off : (b : ℕ) → Contains room b → IsOffItsWays v m b
   pub way : room ≢ [] → (h : Holding) → dirs.IsShown v m.to.inode h → IsRightWay v h m.new_name room
 
 -- ---- what is answered
@@ -91,8 +105,8 @@ pub record IsCarriedOut (v : Seen) (node time : ℕ) (m : Move) (change : Change
   pub off : IsOffWay v m room
   pub is : IsMoving v m room time change
 
--- It can't be made. A block that goes is one that the node takes, as the bits call it free, and the view hasn't it. Once names have gone from the directory that gets the new one, a rule is broken there as blocks are counted, or there or elsewhere as all is drafted, or that leads to a block
--- that is no data block of a group: so that directory wasn't sound before. Or in the blocks that the node takes the directories and the inode aren't sound and apart, or the one that is to get
+-- It can't be made. A block that goes is one that the node takes, as the bits call it free, and the view hasn't it. Where names go from the directory that gets the new one, a rule is broken there as blocks are counted, as the first of them goes or once it has gone, or there or elsewhere as all is
+-- drafted; or that leads to a block that is no data block of a group, and so isn't sound. Or in the blocks that the node takes the directories and the inode aren't sound and apart, or the one that is to get
 -- the name can't, though the way to it is right. In an image that stands for a tree no move is such a one.
 pub data IsStuck (v : Seen) (node : ℕ) (m : Move) : Type 0 where
   goes_free : (need b : ℕ) (room : List ℕ) → HasRoom v node m need room → Contains room b → Contains (freed_by m) b → v.block_at b ≡ None → IsStuck v node m
@@ -112,15 +126,15 @@ pub record IsFull (v : Seen) (node : ℕ) (m : Move) (need free : ℕ) : Type 0 
 pub data LacksLock (v : Seen) (node : ℕ) (m : Move) (lock : LockName) (state : State) : Type 0 where
   of_first : (need : ℕ) → NeedsFor v m need → LacksFirst v node m need lock → state ≡ Ex → LacksLock v node m lock state
   of_room : (need : ℕ) (counted : IsCounted v node m need) → holds v (record { lock = lock; state = state }) ≡ false
-      → ((at : ℕ → List ℕ) → AreShown v at → IsFirstLack v (group_holds (said at) v.groups counted.first.own need) lock state) → LacksLock v node m lock state
+      → ((at : ℕ → List ℕ) → AreShown v at → IsFirstLack v (locks_of_room v at counted.first.own need m) lock state) → LacksLock v node m lock state
 
 -- This block is needed. On the way to the new name as that is before any name goes; of a group that has some of what goes; of a group, to find blocks; on the way to a name of the move, to see that
--- none of these is there; where no name goes from the directory that gets the new one, to draft the move; or of a group that has some of these or of what goes. Once names have gone
--- from that directory: of a directory, and it is a data block of a group. A group's is needed only where the groups are held that come first.
+-- none of these is there; where no name goes from the directory that gets the new one, to draft the move; or of a group that has some of these or of what goes. Where names go
+-- from that directory: of a directory, as they go or the new one comes, and it is a data block of a group. A group's is needed only where the groups are held that come first.
 pub data NeedsBlock (v : Seen) (node : ℕ) (m : Move) (n : Missing) : Type 0 where
   to_look : v.block_at n.block ≡ None → ((h : Holding) → dirs.IsShown v m.to.inode h → IsNeededForName v h m.new_name n) → NeedsBlock v node m n
   of_freed : (need : ℕ) → IsCounted v node m need → freeing.IsNeededFor v (freed_by m) n → NeedsBlock v node m n
-  of_room : (need : ℕ) (counted : IsCounted v node m need) → IsGroupNeeded v n → ((at : ℕ → List ℕ) → AreShown v at → IsGroupBlock v (group_holds (said at) v.groups counted.first.own need) n)
+  of_room : (need : ℕ) (counted : IsCounted v node m need) → IsGroupNeeded v n → ((at : ℕ → List ℕ) → AreShown v at → IsGroupBlock v (locks_of_room v at counted.first.own need m) n)
       → NeedsBlock v node m n
   on_way : (need : ℕ) (room : List ℕ) → HasRoom v node m need room → IsNeededOnWays v m n → NeedsBlock v node m n
   to_draft : (need : ℕ) (room : List ℕ) → HasRoom v node m need room → lost_there m ≡ [] → IsNeededIn v m (room ++ freed_by m) n → NeedsBlock v node m n
@@ -137,12 +151,12 @@ IsCarried v node time m attempt.NotBuilt = IsStuck v node m
 -- ---- damage
 
 -- The block breaks this rule, as the view shows it before any name goes: on the way to the new name; where no name goes from the directory that gets it, in a directory of the move, or in a group
--- that has some of what goes or is taken, as all is drafted; in a group that has some of what goes, those being held that come first, or that is looked through for blocks; on the way to a
+-- that has some of what goes or is taken, as all is drafted; in a group that has some of what goes, those being held that come first, or, where blocks are needed, that is looked through for them; on the way to a
 -- name of the move, as it is looked whether a block that was found is there; or (5) the bits of a group call a block free that is in the move's way.
 pub data IsDamageOf (v : Seen) (node : ℕ) (m : Move) : ℕ → ℕ → Type 0 where
   to_look : (rule b : ℕ) → ((h : Holding) → dirs.IsShown v m.to.inode h → IsWrongForName v h rule b) → IsDamageOf v node m rule b
   of_freed : (need rule b : ℕ) → IsCounted v node m need → BreaksSome v (freed_by m) rule b → IsDamageOf v node m rule b
-  of_room : (need rule b : ℕ) → IsCounted v node m need → IsGroupBroken v rule b → IsDamageOf v node m rule b
+  of_room : (need rule b : ℕ) → IsCounted v node m need → need ≢ 0 → IsGroupBroken v rule b → IsDamageOf v node m rule b
   on_way : (need : ℕ) (room : List ℕ) (rule b : ℕ) → HasRoom v node m need room → IsWrongOnWays v m rule b → IsDamageOf v node m rule b
   called_free : (need b : ℕ) (room : List ℕ) → HasRoom v node m need room → Contains room b → IsInTheWay v m b → IsDamageOf v node m 5 b
   to_draft : (need : ℕ) (room : List ℕ) (rule b : ℕ) → HasRoom v node m need room → lost_there m ≡ [] → IsWrongIn v m (room ++ freed_by m) rule b → IsDamageOf v node m rule b

@@ -51,9 +51,13 @@ pub record IsOnItsWay (v : Seen) (m : Move) (b : ℕ) : Type 0 where
   pub way : IsWayOf v m directory name
   pub on : (h : Holding) → IsShown v directory h → IsOnWay h name b
 
--- nothing that goes with what stands at the new name is such a one
+-- The block is on none of the ways: on none whatever the blocks hold that the view hasn't.
+abbrev pub IsOffItsWays : Seen → Move → ℕ → Type 0
+IsOffItsWays v m b = (directory : ℕ) (name : List ℕ) → IsWayOf v m directory name → (h : Holding) → IsShown v directory h → IsOnWay h name b → ⊥
+
+-- so each block that goes with what stands at the new name
 abbrev pub IsClear : Seen → Move → Type 0
-IsClear v m = (b : ℕ) → Contains (freed_by m) b → IsOnItsWay v m b → ⊥
+IsClear v m = (b : ℕ) → Contains (freed_by m) b → IsOffItsWays v m b
 
 -- the view hasn't this block, without which such a way isn't seen
 pub record IsNeededOnWays (v : Seen) (m : Move) (n : Missing) : Type 0 where

@@ -1,11 +1,12 @@
 -- The locks that a call which moves a name takes in an image, in their order, and the blocks that it needs.
-use Rattle.std.specs.Prelude.{ℕ, ◌≡◌, ◌==◌, ◌&&◌, ◌||◌, ◌<◌, not, Bool, true, false, is_some, if◌then◌else◌, List, [], ◌++◌, length, map, Option, None, Some}
+use Rattle.std.specs.Prelude.{ℕ, ◌≡◌, ◌==◌, ◌&&◌, ◌||◌, ◌<◌, not, Bool, true, false, is_some, if◌then◌else◌, List, [], ◌++◌, length, map, filter, Option, None, Some}
 use Rattle.file_tree.specs.Apply.{apply}
 use Rattle.file_tree.specs.Names.{is_same_path, last_of, parent_of}
 use Rattle.file_tree.specs.Tree.{Tree}
 use Rattle.file_tree.specs.declared.call.Call.{Call}
 use Rattle.file_tree.specs.declared.reply.Reply.TheVariants as reply
 use Rattle.cluster_history.specs.Changes.{is_ok}
+use Rattle.gfs2_layout.specs.declared.rindex.Rindex.{Rindex}
 use Rattle.glock_names.specs.Views.{Seen, group_of_entry}
 use Rattle.glock_names.specs.declared.views.Group.{Group}
 use Rattle.image_model.specs.Flat.{follow}
@@ -13,9 +14,9 @@ use Rattle.image_model.specs.Image.{Image}
 use Rattle.image_model.specs.Owners.{Owners, holding}
 use Rattle.image_model.specs.Stands.{Layout, flat_of}
 use Rattle.image_changes.specs.Instances.{IsAt}
-use Rattle.group_locks.specs.Groups.{holds_of_groups, is_block_of}
+use Rattle.group_locks.specs.Groups.{has_some, holds_of_those, is_block_of}
 use Rattle.path_walks.specs.Holds.{Hold, AreHeld, hold_of_group}
-use Rattle.room_search.specs.Blocks.{free_in_all, group_of_node, room_holds, states_by}
+use Rattle.room_search.specs.Blocks.{blocks_of_first, free_in_all, group_of_node, have_too_few, states_by}
 use Rattle.move_ends.specs.Ends.{IsElsewhere, from_path, inode_holds, to_path}
 use Rattle.name_moves.specs.Becoming.{NeedsAfter, losses}
 
@@ -44,19 +45,27 @@ abbrev pub goes_with : Image → Owners → Option ℕ → ℕ → Bool
 goes_with im o None b = false
 goes_with im o (Some c) b = is_block_of (holding im o c) b
 
--- it is the first data block of the group
-abbrev pub is_first_of : Option Group → ℕ → Bool
-is_first_of None b = false
-is_first_of (Some own) b = b == own.first
+-- it is this group
+abbrev pub is_this : Option Group → Rindex → Bool
+is_this None g = false
+is_this (Some own) g = own.addr == g.address
 
--- it goes, or blocks are needed and it is the first of the node's own group
-abbrev pub comes_first : Image → Owners → Layout → Call → ℕ → ℕ → ℕ → Bool
-comes_first im o l call node need b = goes_with im o (replaced_in im o l call) b || (not (need == 0) && is_first_of (group_of_node (map group_of_entry l.groups) node) b)
+-- the group has some of what goes, or blocks are needed and it is the node's own
+abbrev pub comes_first : Image → Owners → Layout → Call → ℕ → ℕ → Rindex → Bool
+comes_first im o l call node need g = has_some (goes_with im o (replaced_in im o l call)) g || (not (need == 0) && is_this (group_of_node (map group_of_entry l.groups) node) g)
 
--- Those of the groups that have some of these, by rising number. Then those under which the node finds the blocks that are needed: the own group's, which is held by then, and where
--- that has too few free blocks those of all groups.
+-- those groups, as a view has them
+abbrev pub first_in : Image → Owners → Layout → Call → ℕ → ℕ → List Group
+first_in im o l call node need = map group_of_entry (filter (comes_first im o l call node need) l.groups)
+
+-- Those of these groups, by rising number; and where they have too few free blocks together, those of all groups, by rising number again.
 abbrev pub block_holds : Image → Owners → Layout → Call → ℕ → ℕ → List Hold
-block_holds im o l call node need = holds_of_groups (comes_first im o l call node need) l.groups ++ room_holds o l node need
+block_holds im o l call node need =
+    holds_of_those (comes_first im o l call node need) l.groups ++ (if have_too_few (states_by o) (first_in im o l call node need) need then map hold_of_group (map group_of_entry l.groups) else [])
+
+-- the blocks that are taken: the least free ones of these groups, and where they have too few together, of all groups in order
+abbrev pub taken_in : Image → Owners → Layout → Call → ℕ → ℕ → List ℕ
+taken_in im o l call node need = blocks_of_first o l (first_in im o l call node need) need
 
 -- the name goes to another place, as the tree takes the call
 abbrev pub moves_in : Tree → Call → Bool

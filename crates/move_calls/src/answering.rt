@@ -95,7 +95,7 @@ fn move_name<V: View>(
     ensures moved { (im : Image) (o : Owners) (l : Layout) (t : Tree) → IsOf (V.seen view.now) im o l t → IfDone result (λ reply change. IsMovedIn im o l call.now stamp.now.node stamp.now.time change) }
     ensures built { (im : Image) (o : Owners) (l : Layout) (t : Tree) → IsOf (V.seen view.now) im o l t → IfNotBuilt result ⊥ }
     ensures sound { (im : Image) (o : Owners) (l : Layout) (t : Tree) → IsOf (V.seen view.now) im o l t → IfDamaged result (λ rule block. ⊥) }
-    ensures damaged { IfDamaged result (IsDamage (V.seen view.now) call.now) }
+    ensures damaged { IfDamaged result (IsDamage (V.seen view.now) call.now stamp.now.node) }
     ensures kept { IfDamaged result (IsOfView (V.seen view.now)) }
 {
     is_a_view(view);
@@ -132,7 +132,7 @@ fn answer<V: View>(
         → IfDone result (λ reply change. is_ok reply ≡ true → is_same_path (from_path call.now) (to_path call.now) ≡ false → IsMovedIn im o l call.now stamp.now.node stamp.now.time change) }
     ensures built { (im : Image) (o : Owners) (l : Layout) (t : Tree) → IsOf (V.seen view.now) im o l t → IfNotBuilt result ⊥ }
     ensures sound { (im : Image) (o : Owners) (l : Layout) (t : Tree) → IsOf (V.seen view.now) im o l t → IfDamaged result (λ rule block. ⊥) }
-    ensures damaged { IfDamaged result (IsDamage (V.seen view.now) call.now) }
+    ensures damaged { IfDamaged result (IsDamage (V.seen view.now) call.now stamp.now.node) }
     ensures kept { IfDamaged result (IsOfView (V.seen view.now)) }
 {
     match ends_of(alloc, view, call)? {
@@ -183,18 +183,18 @@ pub fn attempt<V: View>(
         → IfNeedBlock result (λ missing. IsSoOfList im o l t call.now stamp.now.node (λ list. IsAskedFor (V.seen view.now) im o l list missing)) }
     ensures covered { (im : Image) (o : Owners) (l : Layout) (t : Tree) → IsOf (V.seen view.now) im o l t → IfNeedBlock result (λ missing. cover l missing.block (o missing.block) ≡ Some missing.lock) }
     ensures space { (im : Image) (o : Owners) (l : Layout) (t : Tree) → IsOf (V.seen view.now) im o l t → IfNoSpace result (IsTooFew (V.seen view.now) im o l t call.now) }
-    ensures full { IfNoSpace result (IsFullFor (V.seen view.now) call.now) }
+    ensures full { IfNoSpace result (IsFullFor (V.seen view.now) call.now stamp.now.node) }
     ensures fewer { IfNoSpace result (λ need free. free < need) }
     ensures spaceless { IfDone result (λ reply change. HasSpace reply) }
     ensures answered { IfDone result (IsAnswered (V.seen view.now) call.now stamp.now.node stamp.now.time) }
     ensures lacked { IfNeedLock result (IsLackedFor (V.seen view.now) call.now stamp.now.node) }
     ensures lacks { IfNeedLock result (λ lock state. holds (V.seen view.now) (record { lock = lock; state = state }) ≡ false) }
-    ensures needed { IfNeedBlock result (IsNeededFor (V.seen view.now) call.now) }
+    ensures needed { IfNeedBlock result (IsNeededFor (V.seen view.now) call.now stamp.now.node) }
     ensures absent { IfNeedBlock result (λ missing. (V.seen view.now).block_at missing.block ≡ None) }
     ensures unbuilt { IfNotBuilt result (IsUnbuilt (V.seen view.now) call.now stamp.now.node) }
     ensures built { (im : Image) (o : Owners) (l : Layout) (t : Tree) → IsOf (V.seen view.now) im o l t → IfNotBuilt result ⊥ }
     ensures sound { (im : Image) (o : Owners) (l : Layout) (t : Tree) → IsOf (V.seen view.now) im o l t → IfDamaged result (λ rule block. ⊥) }
-    ensures damaged { IfDamaged result (IsDamage (V.seen view.now) call.now) }
+    ensures damaged { IfDamaged result (IsDamage (V.seen view.now) call.now stamp.now.node) }
     ensures kept { IfDamaged result (IsOfView (V.seen view.now)) }
 {
     is_a_view(view);

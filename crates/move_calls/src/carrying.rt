@@ -1,21 +1,25 @@
 // A move that can be made is carried out.
-ghost use Rattle.std.specs.Prelude.{ℕ, ◌≡◌, ◌≢◌, ◌⊎◌, ◌≤◌, ◌∷◌, length, Contains, IfNone, IfOk, IfSome, false, true};
+ghost use Rattle.std.specs.Prelude.{ℕ, ◌≡◌, ◌≢◌, ◌⊎◌, ◌≤◌, List, length, Contains, Some, IfNone, IfOk, IfSome, false, true};
 ghost use Rattle.glock_names.specs.Steps.{IfDamaged, IfIs, IfNeedBlock};
 ghost use Rattle.glock_names.specs.Views.{IsOfView};
 ghost use Rattle.glock_names.specs.declared.views.Group.{Group as GroupValue};
+ghost use Rattle.resource_groups.specs.Shown.{said};
+ghost use Rattle.room_search.specs.Blocks.{group_of_node};
+ghost use Rattle.room_search.specs.Searches.{AreShown, IsGroupBroken, IsTakenOf, IsTold, IsUnder};
 ghost use Rattle.name_moves.specs.Moving.{CanBeMoved, freed_by, move_of};
-ghost use Rattle.move_calls.specs.Carrying.{FirstAreHeld, HasRoom, IsCarried, IsCounted, IsDamageOf, IsOffWay, IsOwnGroup, IsStuck, LacksFirst, NeedsFor};
+ghost use Rattle.move_calls.specs.Carrying.{FirstAreHeld, HasRoom, IsCarried, IsCounted, IsDamageOf, IsOffWay, IsOwnGroup, IsStuck, LacksFirst, NeedsFor, first_groups, locks_of_room, where_needed};
 ghost use Rattle.move_calls.specs.Checks.{IsNeededOnWays};
 
 use crate::checks::freed_blocks;
+use crate::firsts::groups_of;
 use crate::looking::{count_blocks, draft_in, look_ahead, look_at_freed};
 use crate::ways::{block_on_ways, is_a_view};
 use drafts::{Attempt, Stamp};
 use file_tree::Reply;
 use glock_names::{CallFault, LockName, State, Step, View, block_of};
-use group_locks::lacked_group;
+use group_locks::lacked_of;
 use name_moves::NameMove;
-use room_search::{Locked, Taken, find_room};
+use room_search::{Locked, Taken, find_first};
 use std::alloc::Global;
 
 // The first of the dinodes of a move that is one of these blocks.
@@ -108,49 +112,56 @@ fn carry_in<V: View>(
     }
 }
 
-// The first data block of the group to which a node goes first.
-fn own_block<V: View>(view: &V, node: u8) -> u64
+// The number of the group to which a node goes first.
+fn own_number<V: View>(view: &V, node: u8) -> u64
     requires some { 1 ≤ length (V.seen view.now).groups }
     requires node { 1 ≤ node }
-    ensures { (own : GroupValue) × (IsOwnGroup (V.seen view.now) node own × (result ≡ own.first)) }
+    ensures { (own : GroupValue) × (IsOwnGroup (V.seen view.now) node own × (result ≡ own.addr)) }
 {
     let groups = view.groups();
     let own = groups[(node as usize - 1) % groups.len()];
-    own.first
+    own.addr
 }
 
-// A block, and those that go.
-fn with_freed(alloc: Global, own: u64, freed: &[u64]) -> Result<Vec<u64>, CallFault>
-    ensures blocks { IfOk result (λ blocks. blocks.items ≡ own ∷ freed.now) }
-    ensures unharmed { IfDamaged result (λ rule block. ⊥) }
+// A number, where blocks are needed.
+fn if_needed(number: u64, need: u64) -> Option<u64>
+    ensures { result ≡ where_needed number need }
 {
-    let mut blocks = Vec::new(alloc);
-    blocks.push(own)?;
-    blocks.extend_from_slice(freed)?;
-    Ok(blocks)
+    if need == 0 { None } else { Some(number) }
 }
 
 // Of the groups that come first, those that have some of what goes and where blocks are needed the node's own, the lock of the first that isn't held.
-fn lacked_first<V: View>(
+fn lacked_first<V: View>(view: &V, m: &NameMove<'_>, node: u8, need: u64) -> Option<LockName>
+    requires groups { 1 ≤ length (V.seen view.now).groups }
+    requires node { 1 ≤ node }
+    ensures some { IfSome result (LacksFirst (V.seen view.now) node (move_of m.now) need) }
+    ensures none { IfNone result (FirstAreHeld (V.seen view.now) node (move_of m.now) need) }
+{
+    let own = own_number(view, node);
+    lacked_of(view, if_needed(own, need), freed_blocks(m))
+}
+
+// Finds the blocks that a move needs, in the groups that come first together, or else in all. Where none is needed it looks at no group.
+fn find_blocks<V: View>(
     alloc: Global,
     view: &V,
     m: &NameMove<'_>,
     node: u8,
     need: u64,
-) -> Result<Option<LockName>, CallFault>
+) -> Result<Locked<Taken>, CallFault>
     requires groups { 1 ≤ length (V.seen view.now).groups }
     requires node { 1 ≤ node }
-    ensures some { IfOk result (λ found. IfSome found (LacksFirst (V.seen view.now) node (move_of m.now) need)) }
-    ensures none { IfOk result (λ found. IfNone found (FirstAreHeld (V.seen view.now) node (move_of m.now) need)) }
-    ensures unharmed { IfDamaged result (λ rule block. ⊥) }
+    ensures found { (at : ℕ → List ℕ) (own : GroupValue) → AreShown (V.seen view.now) at → group_of_node (V.seen view.now).groups node ≡ Some own
+        → IfOk result (IsUnder (V.seen view.now) (locks_of_room (V.seen view.now) at own need (move_of m.now)) (IsTakenOf (V.seen view.now) (said at) (V.seen view.now).groups (first_groups (V.seen view.now) own need (move_of m.now)) need)) }
+    ensures told { IfOk result (IsTold (V.seen view.now) need) }
+    ensures damaged { IfDamaged result (IsGroupBroken (V.seen view.now)) }
+    ensures kept { IfDamaged result (IsOfView (V.seen view.now)) }
+    ensures unasked { need ≡ 0 → IfDamaged result (λ rule block. ⊥) }
 {
-    let own = own_block(view, node);
-    let freed = freed_blocks(m);
-    if need == 0 {
-        return Ok(lacked_group(view, freed));
-    }
-    let blocks = with_freed(alloc, own, freed)?;
-    Ok(lacked_group(view, &blocks))
+    is_a_view(view);
+    let own = own_number(view, node);
+    let first = groups_of(alloc, view, if_needed(own, need), freed_blocks(m))?;
+    find_first(alloc, view, &first, need)
 }
 
 // Finds the blocks that a move needs, of which the groups are held that come first, and carries it out in them.
@@ -173,7 +184,7 @@ fn carry_held<V: View>(
         Step::Is(()) => {}
         Step::NeedBlock(missing) => return Ok(Attempt::NeedBlock(missing)),
     }
-    match find_room(alloc, view, stamp.node, need)? {
+    match find_blocks(alloc, view, m, stamp.node, need)? {
         Locked::Is(Taken::Is(room)) => carry_in(alloc, view, m, &room, stamp),
         Locked::Is(Taken::TooFew(free)) => Ok(Attempt::NoSpace { need, free }),
         Locked::NeedLock { lock, state } => Ok(Attempt::NeedLock { lock, state }),
@@ -197,7 +208,7 @@ fn carry_counted<V: View>(
     ensures damaged { IfDamaged result (IsDamageOf (V.seen view.now) stamp.now.node (move_of m.now)) }
     ensures kept { IfDamaged result (IsOfView (V.seen view.now)) }
 {
-    match lacked_first(alloc, view, m, stamp.node, need)? {
+    match lacked_first(view, m, stamp.node, need) {
         Some(lock) => Ok(Attempt::NeedLock {
             lock,
             state: State::Ex,
@@ -208,8 +219,8 @@ fn carry_counted<V: View>(
 
 /// Carries out a move that can be made. Where names go from the directory that gets the new one, the way to that is looked at as it is. The blocks that are needed are counted, then the
 /// locks of the groups that have some of what goes are looked at, and where blocks are needed with these, by rising number, that of the node's own group; then the groups of what
-/// goes are looked at; and then the locks under which blocks are found. It costs what `need_name`, `need_to_move`, `find_room` and `moving` cost, and freeing what goes in a draft
-/// that is thrown away, and passes over the blocks; where blocks are needed memory for a copy of those that go.
+/// goes are looked at; and then the locks under which blocks are found. It costs what `need_name`, `need_to_move`, `find_first` and `moving` cost, and freeing what goes in a draft
+/// that is thrown away, and passes over the blocks.
 pub fn carry<V: View>(
     alloc: Global,
     view: &V,

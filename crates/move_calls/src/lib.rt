@@ -4,6 +4,7 @@
 mod answering;
 mod carrying;
 mod checks;
+mod firsts;
 mod looking;
 mod ways;
 

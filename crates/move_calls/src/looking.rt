@@ -70,7 +70,7 @@ pub fn look_at_freed<V: View>(
     free_blocks(&mut draft, freed_blocks(m))
 }
 
-/// How many blocks a move needs. None where, once names have gone, a rule is broken or a block is led to that is no data block of a group. It costs what `need_to_move` costs.
+/// How many blocks a move needs. None where names go from the directory that gets the new one, and a rule is broken or a block is led to that is no data block of a group. It costs what `need_to_move` costs.
 pub fn count_blocks<V: View>(
     alloc: Global,
     view: &V,
@@ -102,8 +102,8 @@ pub fn count_blocks<V: View>(
     }
 }
 
-/// The change of a move in blocks that were found for it and are off its way. None where it can't be made in them; or where, once names have gone, a rule is broken or a block is led
-/// to that is no data block of a group. It costs what `moving` costs.
+/// The change of a move in blocks that were found for it and are off its way. None where it can't be made in them; or where names go from the directory that gets the new one, and a rule is
+/// broken or a block is led to that is no data block of a group. It costs what `moving` costs.
 pub fn draft_in<V: View>(
     alloc: Global,
     view: &V,

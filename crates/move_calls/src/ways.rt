@@ -6,7 +6,7 @@ ghost use Rattle.glock_names.specs.Views.{HasBlock, IsOfView, IsView};
 ghost use Rattle.directories.specs.Shown.{IsDirectoryIn, IsShown};
 ghost use Rattle.name_inserts.specs.Way.{IsOnWay, IsRightWay};
 ghost use Rattle.name_moves.specs.Moving.{CanBeMoved, Move, is_reparented, move_of};
-ghost use Rattle.move_calls.specs.Checks.{IsNeededOnWays, IsOnItsWay, IsWayOf, IsWrongOnWays};
+ghost use Rattle.move_calls.specs.Checks.{IsNeededOnWays, IsOffItsWays, IsOnItsWay, IsWayOf, IsWrongOnWays};
 
 use glock_names::{CallFault, Step, View};
 use name_inserts::block_on_way;
@@ -60,7 +60,7 @@ pub(crate) fn block_on_ways<V: View>(
     requires { CanBeMoved (V.seen view.now) (move_of m.now) }
     ensures some { IfIs result (λ found. IfSome found (λ b. Contains blocks.now b × IsOnItsWay (V.seen view.now) (move_of m.now) b)) }
     ensures there { IfIs result (λ found. IfSome found (HasBlock (V.seen view.now))) }
-    ensures none { IfIs result (λ found. IfNone found ((b : ℕ) → Contains blocks.now b → IsOnItsWay (V.seen view.now) (move_of m.now) b → ⊥)) }
+    ensures none { IfIs result (λ found. IfNone found ((b : ℕ) → Contains blocks.now b → IsOffItsWays (V.seen view.now) (move_of m.now) b)) }
     ensures right { (h : Holding) → IsShown (V.seen view.now) m.now.to.inode h → IfIs result (λ found. IfNone found (blocks.now ≢ [] → IsRightWay (V.seen view.now) h m.now.new_name.now blocks.now)) }
     ensures needed { IfNeedBlock result (IsNeededOnWays (V.seen view.now) (move_of m.now)) }
     ensures damaged { IfDamaged result (IsWrongOnWays (V.seen view.now) (move_of m.now)) }

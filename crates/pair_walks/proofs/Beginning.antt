@@ -11,6 +11,7 @@ use Rattle.image_model.specs.Stands.{Layout}
 use Rattle.image_changes.specs.Does.{IsOf}
 use Rattle.path_walks.specs.Holds.{holds}
 use Rattle.path_walks.specs.Walks.{AreInOrder}
+use Rattle.pair_walks.specs.Walks.{none}
 use Rattle.pair_walks.specs.Ways.{AreOnTheirWays, IsComeIn, IsOnWay, the_root}
 use Rattle.pair_walks.specs.declared.next.Next.TheVariants as next
 
@@ -26,6 +27,7 @@ module _ (v : Seen) where
   begun p q first second some some' as_many as_many' order order' = record {
     on_first = on_way p first some as_many order;
     on_second = on_way q second some' as_many' order';
+    passed = λ undecided. none;
     images = λ im o l t of. record {
       on_first = come_in im o l t of p first;
       on_second = come_in im o l t of q second;

@@ -10,17 +10,17 @@ use Rattle.dinode_tree.specs.Shown.{IsShown}
 use Rattle.dinode_tree.specs.Walking.{missing_dinode}
 use Rattle.image_model.specs.Flat.{Path}
 use Rattle.path_walks.specs.Holds.{hold_of, holds}
-use Rattle.path_walks.specs.Walks.{IsAbsent, IsDamage, IsHeldAt, IsLacked, IsNext, IsReadAt, IsSeenAt, IsWrongAt, LacksName, LeadsTo, at_root, by_name}
+use Rattle.path_walks.specs.Walks.{IsAbsent, IsDamage, IsHeldAt, IsNext, IsReadAt, IsSeenAt, IsWrongAt, LacksName, LeadsTo, at_root, by_name}
 use Rattle.path_walks.specs.Walks as path
 use Rattle.path_walks.specs.declared.walk.Place.{Place}
 use Rattle.path_walks.proofs.Lists.{parent_of_next, split_at}
-use Rattle.path_walks.proofs.Walking.{IsWantedAt}
 use Rattle.pair_walks.specs.Ahead.{IsAheadOf, IsDamageOfName, IsNeededAhead, in_this, past_groups}
 use Rattle.pair_walks.specs.Turns.{IsDamagedAt, IsPassed}
-use Rattle.pair_walks.specs.Walks.{IsUnreadOf}
+use Rattle.pair_walks.specs.Walks.{IsEndAt, IsEndOf, IsUnreadOf}
 use Rattle.pair_walks.specs.Ways.{IsCome, IsComing, the_root, the_child}
 use Rattle.pair_walks.specs.declared.next.Next.{Next}
 use Rattle.pair_walks.specs.declared.next.Next.TheVariants as next
+use Rattle.pair_walks.specs.declared.walk.End.{End}
 use Rattle.pair_walks.specs.declared.walk.End.TheVariants as end
 use Rattle.pair_walks.proofs.Paths.{before_last, ends_so, last_parent, long, name_at, take_front}
 
@@ -61,7 +61,7 @@ module _ (v : Seen) (wants : List Want) (names : Path) where
 
     comes_at : (p : Place) (state : State) → IsReadAt v a above state p → (n : Next) → IsAheadOf v p names depth n → IsCome v wants names (depth + 1) n
     comes_at p state read (next.Ended (end.At q)) ahead =
-        subst (IsSeenAt v wants names) (sym ahead.1) (seen_at p state read names (sym (take_all depth names (omega (arith, ahead.0)))))
+        (subst (IsSeenAt v wants names) (sym ahead.1) (seen_at p state read names (sym (take_all depth names (omega (arith, ahead.0))))), ap (λ k. k + 1) ahead.0)
     comes_at p state read (next.Ended end.NotDir) ahead =
         let n = name_at names depth ahead.0 in (
           p.inode,
@@ -74,6 +74,7 @@ module _ (v : Seen) (wants : List Want) (names : Path) where
             there = subst (HasBlock v) (sym read.inode) read.there;
             so = ahead.1;
           },
+          ap (λ k. k + 1) (sym (long names depth n.0 n.1)),
         )
     comes_at p state read (next.Ended (end.Lacks q)) ahead =
         let last = last_parent names depth ahead.2.0 ahead.2.1.0 ahead.0 in
@@ -81,20 +82,23 @@ module _ (v : Seen) (wants : List Want) (names : Path) where
           (λ none. omega (arith, ap length none, ahead.0)),
           subst (IsSeenAt v wants (parent_of names)) (sym ahead.1) seen,
           subst₂ (LacksName v) (ap (λ (x : Place). x.inode) (sym ahead.1)) (sym last.1) ahead.2.1.2,
+          ahead.0,
         )
     comes_at p state read (next.Ended end.NotFound) ahead =
-        let rest = before_last names depth ahead.1.0 ahead.1.1.0 ahead.0 in
-        record {
-          front = take depth names;
-          back = rest.0;
-          dir = p.inode;
-          name = ahead.1.0;
-          on_path = rest.1;
-          leads = subst (LeadsTo v wants (take depth names)) (sym read.inode) here;
-          there = subst (HasBlock v) (sym read.inode) read.there;
-          directory = ahead.1.1.2.directory;
-          absent = ahead.1.1.2.absent;
-        }
+        let rest = before_last names depth ahead.1.0 ahead.1.1.0 ahead.0 in (
+          record {
+            front = take depth names;
+            back = rest.0;
+            dir = p.inode;
+            name = ahead.1.0;
+            on_path = rest.1;
+            leads = subst (LeadsTo v wants (take depth names)) (sym read.inode) here;
+            there = subst (HasBlock v) (sym read.inode) read.there;
+            directory = ahead.1.1.2.directory;
+            absent = ahead.1.1.2.absent;
+          },
+          ap (λ k. k + 1) (sym (long names depth ahead.1.0 ahead.1.1.0)),
+        )
     comes_at p state read (next.Inode b up) ahead =
         let n = ahead.1.0 in
         let child = the_child (take depth names) (drop (suc depth) names) p.inode b n (split_at names depth n ahead.1.1.0)
@@ -106,13 +110,13 @@ module _ (v : Seen) (wants : List Want) (names : Path) where
 
     -- ---- what stands in the way
 
-    pub unread_dinode : v.block_at a ≡ None → IsUnreadOf v wants names a (missing_dinode a)
-    unread_dinode absent = IsUnreadOf.a_dinode depth (is_next depth a above coming) held absent refl
+    pub unread_dinode : v.block_at a ≡ None → IsUnreadOf v wants names depth a (missing_dinode a)
+    unread_dinode absent = IsUnreadOf.a_dinode (is_next depth a above coming) held absent refl
 
-    pub unread_ahead : (m : Missing) → HasBlock v a → IsNeededAhead v a names depth m → IsUnreadOf v wants names a m
+    pub unread_ahead : (m : Missing) → HasBlock v a → IsNeededAhead v a names depth m → IsUnreadOf v wants names depth a m
     unread_ahead m there needed =
         let n = needed.0 in
-        IsUnreadOf.in_directory depth (take depth names) (drop (suc depth) names) n (is_next depth a above coming) (split_at names depth n needed.1.0) here there needed.1.2
+        IsUnreadOf.in_directory (take depth names) (drop (suc depth) names) n (is_next depth a above coming) (split_at names depth n needed.1.0) (sym (long names depth n needed.1.0)) here there needed.1.2
 
     wrong_name : (n : List ℕ) (rule b : ℕ) → slice_get names depth ≡ Some n → IsName n → IsDamageOfName v a n rule b → IsDamage v wants names rule b
     wrong_name n rule b at is_name (in_this r c is broken) = IsDamage.on_path depth a r c (is_next depth a above coming) held (IsWrongAt.in_directory r c is broken)
@@ -123,17 +127,13 @@ module _ (v : Seen) (wants : List Want) (names : Path) where
     damaged state rule b (on, inl broken) = IsDamage.on_path depth a rule b (is_next depth a above coming) held (IsWrongAt.in_inode rule b broken)
     damaged state rule b (on, inr ahead) = wrong_name ahead.0 rule b ahead.1.0 ahead.1.1 ahead.1.2
 
-  pub lacked : (depth a above : ℕ) → IsComing v wants names depth a above → (state : State) → IsWantedAt wants depth state → holds v (hold_of a state) ≡ false
-      → IsLacked v wants names (record { kind = 2; number = a }) state
-  lacked depth a above coming state wanted lacks = record {
-    depth = depth;
-    inode = a;
-    next = is_next depth a above coming;
-    want = wanted.want;
-    wanted = wanted.at;
-    is = ap (hold_of a) (sym wanted.is);
-    lacks = ap (λ s. holds v (hold_of a s)) wanted.is ∙ lacks;
-  }
+-- ---- where a path ends
+
+pub end_of : (v : Seen) (wants : List Want) (q : Path) (count : ℕ) (e : End) → IsEndAt v wants q count e → IsEndOf v wants q e
+end_of v wants q count (end.At p) is = is.0
+end_of v wants q count (end.Lacks p) is = (is.0, is.1, is.2)
+end_of v wants q count end.NotFound is = is.0
+end_of v wants q count end.NotDir is = (is.0, is.1)
 
 -- ---- where a first path ends
 

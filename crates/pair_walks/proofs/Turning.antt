@@ -1,5 +1,5 @@
 -- One turn: past the inode that comes next on the first way, on the second, or on both.
-use Rattle.std.proofs.Common.{◌≡◌, inl, inr, ℕ, ◌+◌, arith, true, false, List, [], ◌∷◌, refl, sym, ap, subst, ◌∙◌}
+use Rattle.std.proofs.Common.{◌≡◌, inl, inr, ℕ, ◌+◌, true, false, true≢false, List, [], ◌∷◌, refl, sym, ap, subst, ◌∙◌}
 use Rattle.file_tree.specs.Names.{leads_to}
 use Rattle.file_tree.specs.Tree.{Tree}
 use Rattle.glock_names.specs.Views.{Seen}
@@ -11,12 +11,11 @@ use Rattle.image_model.specs.Owners.{Owners}
 use Rattle.image_model.specs.Stands.{Layout}
 use Rattle.image_changes.specs.Does.{IsOf}
 use Rattle.path_walks.specs.Holds.{hold_of, holds}
-use Rattle.path_walks.specs.Walks.{IsHeldAt}
+use Rattle.path_walks.specs.Walks.{IsHeldAt, IsNext}
 use Rattle.path_walks.proofs.Walking.{IsWantedAt, held_at}
 use Rattle.pair_walks.specs.Orders.{pair_holds, stronger}
 use Rattle.pair_walks.specs.Turns.{IsBefore, IsDamagedAt, IsHindered, IsNowhere, IsOver, IsPassed, LetsSecond, decides}
-use Rattle.pair_walks.specs.Walks.{IsPairDamage, IsPairLacked, IsPairTold, IsPairUnread, IsPairWalked}
-use Rattle.pair_walks.specs.Walks as walks
+use Rattle.pair_walks.specs.Walks.{ArePassed, GoesFirst, GoesSecond, IsPairDamage, IsPairLacked, IsPairTold, IsPairUnread, IsPairWalked}
 use Rattle.pair_walks.specs.Ways.{AreAlong, AreOnTheirWays, IsCome, IsComeIn, IsComing, IsLeft, IsOnWay, left_of}
 use Rattle.pair_walks.specs.declared.next.Next.{Next}
 use Rattle.pair_walks.specs.declared.next.Next.TheVariants as next
@@ -24,7 +23,7 @@ use Rattle.pair_walks.specs.declared.walk.End.TheVariants as end
 use Rattle.pair_walks.specs.declared.walk.PairWalk.{PairWalk}
 use Rattle.pair_walks.specs.declared.walk.PairWalk.TheVariants as pair
 use Rattle.pair_walks.proofs.Along.{decided, hindered_in, none_left, on_both_next, on_first_next, on_second_next, one_held, over_in}
-use Rattle.pair_walks.proofs.Coming.{absent_last, absent_longer, comes, damaged, is_next, lacked, unread_ahead, unread_dinode}
+use Rattle.pair_walks.proofs.Coming.{absent_last, absent_longer, comes, damaged, end_of, is_next, unread_ahead, unread_dinode}
 use Rattle.pair_walks.proofs.ComingIn.{comes_in, is_sound}
 use Rattle.pair_walks.proofs.States.{held_first, held_second}
 
@@ -45,43 +44,38 @@ module _ (v : Seen) (p q : Path) (first second : List Want) (i j : ℕ) (m n : N
   coming_second : (a above : ℕ) → n ≡ next.Inode a above → IsComing v second q j a above
   coming_second a above is = subst (IsCome v second q j) is on.on_second.come
 
-  -- ---- which way lets the other go on
+  -- ---- which way goes on
 
-  lets_first : (a : ℕ) → IsBefore a n → walks.LetsFirst v q second a
-  lets_first a = by n on.on_second.come
+  goes_first : (a : ℕ) → IsBefore a n → GoesFirst v q second j a
+  goes_first a = by n on.on_second.come
     where
-      by : (x : Next) → IsCome v second q j x → IsBefore a x → walks.LetsFirst v q second a
-      by (next.Inode c up) come before = walks.LetsFirst.not_yet j c (is_next v second q j c up come) (omega (arith, before))
-      by (next.Ended e) come before = walks.LetsFirst.ended e come
+      by : (x : Next) → IsCome v second q j x → IsBefore a x → GoesFirst v q second j a
+      by (next.Inode c up) come before = GoesFirst.comes_later c (is_next v second q j c up come) before
+      by (next.Ended e) come before = GoesFirst.ended e come
 
-  lets_second : (a : ℕ) → LetsSecond a (leads_to p q) m → walks.LetsSecond v p q first a
-  lets_second a = by m on.on_first.come
+  goes_second : (a : ℕ) → LetsSecond a (leads_to p q) m → GoesSecond v p q first i a
+  goes_second a = by m on.on_first.come
     where
-      by : (x : Next) → IsCome v first p i x → LetsSecond a (leads_to p q) x → walks.LetsSecond v p q first a
-      by (next.Inode c up) come lets = walks.LetsSecond.not_yet i c (is_next v first p i c up come) (omega (arith, lets))
-      by (next.Ended (end.At r)) come lets = walks.LetsSecond.at_end r come lets
+      by : (x : Next) → IsCome v first p i x → LetsSecond a (leads_to p q) x → GoesSecond v p q first i a
+      by (next.Inode c up) come lets = GoesSecond.comes_later c (is_next v first p i c up come) lets
+      by (next.Ended (end.At r)) come lets = GoesSecond.at_end r come.0 come.1 lets
       by (next.Ended (end.Lacks r)) come lets = absurd lets
       by (next.Ended end.NotFound) come lets = absurd lets
       by (next.Ended end.NotDir) come lets = absurd lets
 
-  -- ---- and which is taken alone
+  -- so many are passed, since the first way hasn't ended, or not so that it decides
+  passed_first : (a above : ℕ) → m ≡ next.Inode a above → ArePassed v p q first second i j
+  passed_first a above is = on.passed (ap (decides (leads_to p q)) is)
 
-  first_alone : (a : ℕ) → IsBefore a n → walks.IsFirstAlone v q second a
-  first_alone a = by n on.on_second.come
+  passed_second : (a : ℕ) → LetsSecond a (leads_to p q) m → ArePassed v p q first second i j
+  passed_second a lets = on.passed (by m lets)
     where
-      by : (x : Next) → IsCome v second q j x → IsBefore a x → walks.IsFirstAlone v q second a
-      by (next.Inode c up) come before = walks.IsFirstAlone.comes_later j c (is_next v second q j c up come) before
-      by (next.Ended e) come before = walks.IsFirstAlone.ended e come
-
-  second_alone : (a : ℕ) → LetsSecond a (leads_to p q) m → walks.IsSecondAlone v p q first a
-  second_alone a = by m on.on_first.come
-    where
-      by : (x : Next) → IsCome v first p i x → LetsSecond a (leads_to p q) x → walks.IsSecondAlone v p q first a
-      by (next.Inode c up) come lets = walks.IsSecondAlone.comes_later i c (is_next v first p i c up come) lets
-      by (next.Ended (end.At r)) come lets = walks.IsSecondAlone.at_end r come lets
-      by (next.Ended (end.Lacks r)) come lets = absurd lets
-      by (next.Ended end.NotFound) come lets = absurd lets
-      by (next.Ended end.NotDir) come lets = absurd lets
+      by : (x : Next) → LetsSecond a (leads_to p q) x → decides (leads_to p q) x ≡ false
+      by (next.Inode c up) lets = refl
+      by (next.Ended (end.At r)) lets = lets
+      by (next.Ended (end.Lacks r)) lets = absurd lets
+      by (next.Ended end.NotFound) lets = absurd lets
+      by (next.Ended end.NotDir) lets = absurd lets
 
   -- ---- over
 
@@ -93,10 +87,10 @@ module _ (v : Seen) (p q : Path) (first second : List Want) (i j : ℕ) (m n : N
       nowhere (next.Ended (end.At r)) come is = absurd is
       nowhere (next.Ended end.NotDir) come is = absurd is
       nowhere (next.Ended (end.Lacks r)) come is = absent_last v first p r on.on_first.names come.1 come.2
-      nowhere (next.Ended end.NotFound) come is = absent_longer v first p on.on_first.names come
-  over_told pair.NotDir over = subst (IsCome v first p i) over on.on_first.come
-  over_told (pair.Within r) over = (over.1, subst (IsCome v first p i) over.0 on.on_first.come)
-  over_told (pair.Apart r e) over = (over.2, subst (IsCome v first p i) over.0 on.on_first.come, subst (IsCome v second q j) over.1 on.on_second.come)
+      nowhere (next.Ended end.NotFound) come is = absent_longer v first p on.on_first.names come.0
+  over_told pair.NotDir over = end_of v first p i end.NotDir (subst (IsCome v first p i) over on.on_first.come)
+  over_told (pair.Within r) over = (over.1, (subst (IsCome v first p i) over.0 on.on_first.come).0)
+  over_told (pair.Apart r e) over = (over.2, (subst (IsCome v first p i) over.0 on.on_first.come).0, end_of v second q j e (subst (IsCome v second q j) over.1 on.on_second.come))
   over_told (pair.NeedLock lock state) over = absurd over
   over_told (pair.NeedBlock missing) over = absurd over
 
@@ -147,12 +141,13 @@ module _ (v : Seen) (p q : Path) (first second : List Want) (i j : ℕ) (m n : N
     pub first_told : IsBefore a n → (w : PairWalk) → IsHindered v p i a s w → IsPairTold v p q first second w
     first_told before (pair.NeedLock lock x) (same, same', lacks) =
         subst (λ k. IsPairLacked v p q first second k x) same (subst (IsPairLacked v p q first second (record { kind = 2; number = a })) same'
-        (IsPairLacked.on_first (record { kind = 2; number = a }) s (lacked v first p i a above (coming_first a above is) s wanted lacks) (first_alone a before)))
+        (subst (IsPairLacked v p q first second (record { kind = 2; number = a })) wanted.is
+        (IsPairLacked.on_first i j a wanted.want (passed_first a above is) (is_next v first p i a above (coming_first a above is)) wanted.at (goes_first a before) (ap (λ x. holds v (hold_of a x)) wanted.is ∙ lacks))))
     first_told before (pair.NeedBlock x) (held, inl dinode) =
         subst (IsPairUnread v p q first second) (sym dinode.0)
-        (IsPairUnread.on_first a (unread_dinode v first p i a above (coming_first a above is) (held_at v first i a s wanted held) dinode.1) (lets_first a before))
+        (IsPairUnread.on_first i j a (passed_first a above is) (unread_dinode v first p i a above (coming_first a above is) (held_at v first i a s wanted held) dinode.1) (inl (goes_first a before)))
     first_told before (pair.NeedBlock x) (held, inr ahead) =
-        IsPairUnread.on_first a (unread_ahead v first p i a above (coming_first a above is) (held_at v first i a s wanted held) x ahead.0 ahead.1) (lets_first a before)
+        IsPairUnread.on_first i j a (passed_first a above is) (unread_ahead v first p i a above (coming_first a above is) (held_at v first i a s wanted held) x ahead.0 ahead.1) (inl (goes_first a before))
     first_told before pair.NotFound none = absurd none
     first_told before pair.NotDir none = absurd none
     first_told before (pair.Within from) none = absurd none
@@ -165,6 +160,7 @@ module _ (v : Seen) (p q : Path) (first second : List Want) (i j : ℕ) (m n : N
 
     pub first_goes : IsBefore a n → (m' : Next) → IsPassed v p i a above s m' → AreOnTheirWays v p q first second (i + 1) j m' n
     first_goes before m' passed = record {
+      passed = λ undecided. ArePassed.of_first i j a (passed_first a above is) (is_next v first p i a above (coming_first a above is)) (goes_first a before);
       on_first = further v first p i a above s m on.on_first is (held_at v first i a s wanted passed.read.held) m' passed;
       on_second = on.on_second;
       images = λ im o l t of. record {
@@ -183,12 +179,13 @@ module _ (v : Seen) (p q : Path) (first second : List Want) (i j : ℕ) (m n : N
     pub second_told : LetsSecond a (leads_to p q) m → (w : PairWalk) → IsHindered v q j a s w → IsPairTold v p q first second w
     second_told lets (pair.NeedLock lock x) (same, same', lacks) =
         subst (λ k. IsPairLacked v p q first second k x) same (subst (IsPairLacked v p q first second (record { kind = 2; number = a })) same'
-        (IsPairLacked.on_second (record { kind = 2; number = a }) s (lacked v second q j a above (coming_second a above is) s wanted lacks) (second_alone a lets)))
+        (subst (IsPairLacked v p q first second (record { kind = 2; number = a })) wanted.is
+        (IsPairLacked.on_second i j a wanted.want (passed_second a lets) (is_next v second q j a above (coming_second a above is)) wanted.at (goes_second a lets) (ap (λ x. holds v (hold_of a x)) wanted.is ∙ lacks))))
     second_told lets (pair.NeedBlock x) (held, inl dinode) =
         subst (IsPairUnread v p q first second) (sym dinode.0)
-        (IsPairUnread.on_second a (unread_dinode v second q j a above (coming_second a above is) (held_at v second j a s wanted held) dinode.1) (lets_second a lets))
+        (IsPairUnread.on_second i j a (passed_second a lets) (unread_dinode v second q j a above (coming_second a above is) (held_at v second j a s wanted held) dinode.1) (inl (goes_second a lets)))
     second_told lets (pair.NeedBlock x) (held, inr ahead) =
-        IsPairUnread.on_second a (unread_ahead v second q j a above (coming_second a above is) (held_at v second j a s wanted held) x ahead.0 ahead.1) (lets_second a lets)
+        IsPairUnread.on_second i j a (passed_second a lets) (unread_ahead v second q j a above (coming_second a above is) (held_at v second j a s wanted held) x ahead.0 ahead.1) (inl (goes_second a lets))
     second_told lets pair.NotFound none = absurd none
     second_told lets pair.NotDir none = absurd none
     second_told lets (pair.Within from) none = absurd none
@@ -201,6 +198,7 @@ module _ (v : Seen) (p q : Path) (first second : List Want) (i j : ℕ) (m n : N
 
     pub second_goes : LetsSecond a (leads_to p q) m → (n' : Next) → IsPassed v q j a above s n' → AreOnTheirWays v p q first second i (j + 1) m n'
     second_goes lets n' passed = record {
+      passed = λ undecided. ArePassed.of_second i j a (passed_second a lets) (is_next v second q j a above (coming_second a above is)) (goes_second a lets);
       on_first = on.on_first;
       on_second = further v second q j a above s n on.on_second is (held_at v second j a s wanted passed.read.held) n' passed;
       images = λ im o l t of. record {
@@ -229,21 +227,21 @@ module _ (v : Seen) (p q : Path) (first second : List Want) (i j : ℕ) (m n : N
     lacked_on_both lacks =
         subst (λ y. IsPairLacked v p q first second (record { kind = 2; number = a }) (stronger r y)) wanted'.is
         (subst (λ x. IsPairLacked v p q first second (record { kind = 2; number = a }) (stronger x wanted'.want.state)) wanted.is
-        (IsPairLacked.on_both i j a wanted.want wanted'.want (is_next v first p i a above (coming_first a above is)) (is_next v second q j a beside (coming_second a beside is')) wanted.at wanted'.at
+        (IsPairLacked.on_both i j a wanted.want wanted'.want (passed_first a above is) (is_next v first p i a above (coming_first a above is)) (is_next v second q j a beside (coming_second a beside is')) wanted.at wanted'.at
         (ap (λ x. holds v (hold_of a (stronger x wanted'.want.state))) wanted.is ∙ ap (λ y. holds v (hold_of a (stronger r y))) wanted'.is ∙ lacks)))
 
-    beside_first : walks.LetsFirst v q second a
-    beside_first = walks.LetsFirst.not_yet j a (is_next v second q j a beside (coming_second a beside is')) (omega arith)
+    next_first : IsNext v first p i a
+    next_first = is_next v first p i a above (coming_first a above is)
 
-    beside_second : walks.LetsSecond v p q first a
-    beside_second = walks.LetsSecond.not_yet i a (is_next v first p i a above (coming_first a above is)) (omega arith)
+    next_second : IsNext v second q j a
+    next_second = is_next v second q j a beside (coming_second a beside is')
 
     pub both_told : (w : PairWalk) → IsHindered v p i a (stronger r s) w → IsPairTold v p q first second w
     both_told (pair.NeedLock lock x) (same, same', lacks) =
         subst (λ k. IsPairLacked v p q first second k x) same (subst (IsPairLacked v p q first second (record { kind = 2; number = a })) same' (lacked_on_both lacks))
     both_told (pair.NeedBlock x) (held, inl dinode) =
-        subst (IsPairUnread v p q first second) (sym dinode.0) (IsPairUnread.on_first a (unread_dinode v first p i a above (coming_first a above is) (first_held held) dinode.1) beside_first)
-    both_told (pair.NeedBlock x) (held, inr ahead) = IsPairUnread.on_first a (unread_ahead v first p i a above (coming_first a above is) (first_held held) x ahead.0 ahead.1) beside_first
+        subst (IsPairUnread v p q first second) (sym dinode.0) (IsPairUnread.on_first i j a (passed_first a above is) (unread_dinode v first p i a above (coming_first a above is) (first_held held) dinode.1) (inr next_second))
+    both_told (pair.NeedBlock x) (held, inr ahead) = IsPairUnread.on_first i j a (passed_first a above is) (unread_ahead v first p i a above (coming_first a above is) (first_held held) x ahead.0 ahead.1) (inr next_second)
     both_told pair.NotFound none = absurd none
     both_told pair.NotDir none = absurd none
     both_told (pair.Within from) none = absurd none
@@ -253,8 +251,8 @@ module _ (v : Seen) (p q : Path) (first second : List Want) (i j : ℕ) (m n : N
     both_told_beside (pair.NeedLock lock x) (same, same', lacks) =
         subst (λ k. IsPairLacked v p q first second k x) same (subst (IsPairLacked v p q first second (record { kind = 2; number = a })) same' (lacked_on_both lacks))
     both_told_beside (pair.NeedBlock x) (held, inl dinode) =
-        subst (IsPairUnread v p q first second) (sym dinode.0) (IsPairUnread.on_second a (unread_dinode v second q j a beside (coming_second a beside is') (second_held held) dinode.1) beside_second)
-    both_told_beside (pair.NeedBlock x) (held, inr ahead) = IsPairUnread.on_second a (unread_ahead v second q j a beside (coming_second a beside is') (second_held held) x ahead.0 ahead.1) beside_second
+        subst (IsPairUnread v p q first second) (sym dinode.0) (IsPairUnread.on_second i j a (passed_first a above is) (unread_dinode v second q j a beside (coming_second a beside is') (second_held held) dinode.1) (inr next_first))
+    both_told_beside (pair.NeedBlock x) (held, inr ahead) = IsPairUnread.on_second i j a (passed_first a above is) (unread_ahead v second q j a beside (coming_second a beside is') (second_held held) x ahead.0 ahead.1) (inr next_first)
     both_told_beside pair.NotFound none = absurd none
     both_told_beside pair.NotDir none = absurd none
     both_told_beside (pair.Within from) none = absurd none
@@ -285,6 +283,7 @@ module _ (v : Seen) (p q : Path) (first second : List Want) (i j : ℕ) (m n : N
       -- the first way has ended, and so nothing is left of either
       pub both_end : decides (leads_to p q) m' ≡ true → AreOnTheirWays v p q first second (i + 1) j m' n
       both_end ends = record {
+        passed = λ undecided. absurd (true≢false (sym ends ∙ undecided));
         on_first = on_first_further;
         on_second = on.on_second;
         images = λ im o l t of. record {
@@ -302,6 +301,7 @@ module _ (v : Seen) (p q : Path) (first second : List Want) (i j : ℕ) (m n : N
 
       pub both_go : (n' : Next) → IsPassed v q j a beside (stronger r s) n' → AreOnTheirWays v p q first second (i + 1) (j + 1) m' n'
       both_go n' passed' = record {
+        passed = λ undecided. ArePassed.of_both i j a (passed_first a above is) next_first next_second;
         on_first = on_first_further;
         on_second = further v second q j a beside (stronger r s) n on.on_second is' (second_held passed'.read.held) n' passed';
         images = λ im o l t of. record {

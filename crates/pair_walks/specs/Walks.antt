@@ -1,5 +1,5 @@
 -- Where a walk along two paths ends: as far as a view shows, and in an image that the view may be of.
-use Rattle.std.specs.Prelude.{ℕ, ◌≡◌, ◌≢◌, ◌⊎◌, ◌≤◌, ◌<◌, true, false, List, [], ◌∷◌, ◌++◌, slice_get, None, Some}
+use Rattle.std.specs.Prelude.{ℕ, ◌≡◌, ◌≢◌, ◌⊎◌, ◌+◌, ◌<◌, true, false, List, [], ◌∷◌, ◌++◌, length, slice_get, None, Some}
 use Rattle.file_tree.specs.Tree.{Tree}
 use Rattle.file_tree.specs.Names.{last_of, leads_to, parent_of}
 use Rattle.file_tree.specs.Apply.{Refused}
@@ -19,7 +19,7 @@ use Rattle.image_model.specs.Owners.{Owners}
 use Rattle.image_model.specs.Stands.{Layout}
 use Rattle.image_changes.specs.Instances.{is_directory_at, records_at}
 use Rattle.path_walks.specs.Holds.{AreHeld, IsAskedFor, IsFirstLack, hold_of, holds}
-use Rattle.path_walks.specs.Walks.{IsAbsent, IsHeldAt, IsLacked, IsNeededIn, IsNext, IsOnTheWay, IsPlaceOf, IsSeenAt, LacksName, LeadsTo}
+use Rattle.path_walks.specs.Walks.{IsAbsent, IsHeldAt, IsNeededIn, IsNext, IsOnTheWay, IsPlaceOf, IsSeenAt, LacksName, LeadsTo}
 use Rattle.path_walks.specs.Walks as path
 use Rattle.path_walks.specs.declared.walk.Place.{Place}
 use Rattle.pair_walks.specs.Orders.{pair_holds, stronger}
@@ -38,45 +38,53 @@ IsEndOf v wants q (end.Lacks p) = (q ≢ []) × IsSeenAt v wants (parent_of q) p
 IsEndOf v wants q end.NotFound = IsAbsent v wants (parent_of q)
 IsEndOf v wants q end.NotDir = (a : ℕ) × IsOnTheWay v wants q a (λ h. is_directory_in h ≡ false)
 
--- The lock of an inode of the first way is taken for that way alone: what comes next on the second one has a greater number, or it has ended.
-pub data IsFirstAlone (v : Seen) (q : Path) (second : List Want) (a : ℕ) : Type 0 where
-  comes_later : (j c : ℕ) → IsNext v second q j c → a < c → IsFirstAlone v q second a
-  ended : (e : End) → IsEndOf v second q e → IsFirstAlone v q second a
+-- and so many of its inodes are there
+abbrev pub IsEndAt : Seen → List Want → Path → ℕ → End → Type 0
+IsEndAt v wants q count (end.At p) = IsSeenAt v wants q p × (count ≡ length q + 1)
+IsEndAt v wants q count (end.Lacks p) = (q ≢ []) × IsSeenAt v wants (parent_of q) p × LacksName v p.inode (last_of q) × (count ≡ length q)
+IsEndAt v wants q count end.NotFound = (absent : IsAbsent v wants (parent_of q)) × (count ≡ length absent.front + 1)
+IsEndAt v wants q count end.NotDir = (a : ℕ) × (way : IsOnTheWay v wants q a (λ h. is_directory_in h ≡ false)) × (count ≡ length way.front + 1)
 
--- So of an inode of the second way: what comes next on the first one has a greater number, or it has led to its inode, and the second path doesn't go on from there. So once the first path is
--- seen to lead nowhere, no lock of the second is asked for.
-pub data IsSecondAlone (v : Seen) (p q : Path) (first : List Want) (a : ℕ) : Type 0 where
-  comes_later : (i c : ℕ) → IsNext v first p i c → a < c → IsSecondAlone v p q first a
-  at_end : (from : Place) → IsSeenAt v first p from → leads_to p q ≡ false → IsSecondAlone v p q first a
+-- ---- which way goes on
 
--- this lock isn't held so strongly: that of the inode that comes next on one of the paths alone, as it is wanted there; or on both, in the stronger of the states
+-- An inode of the first way goes first: behind so many inodes of the second that comes next there which has a greater number, or the second has ended.
+pub data GoesFirst (v : Seen) (q : Path) (second : List Want) (j a : ℕ) : Type 0 where
+  comes_later : (c : ℕ) → IsNext v second q j c → a < c → GoesFirst v q second j a
+  ended : (e : End) → IsEndAt v second q j e → GoesFirst v q second j a
+
+-- So one of the second way: behind so many inodes of the first that comes next there which has a greater number, or the first path has led to its inode, and the second doesn't go on from there.
+-- So once the first path is seen to lead nowhere, none of the second does.
+pub data GoesSecond (v : Seen) (p q : Path) (first : List Want) (i a : ℕ) : Type 0 where
+  comes_later : (c : ℕ) → IsNext v first p i c → a < c → GoesSecond v p q first i a
+  at_end : (from : Place) → IsSeenAt v first p from → i ≡ length p + 1 → leads_to p q ≡ false → GoesSecond v p q first i a
+
+-- So many inodes of each of two ways are passed, as far as the view shows: of those that come next always that with the least number, and one that is next on both at once.
+pub data ArePassed (v : Seen) (p q : Path) (first second : List Want) : ℕ → ℕ → Type 0 where
+  none : ArePassed v p q first second 0 0
+  of_first : (i j a : ℕ) → ArePassed v p q first second i j → IsNext v first p i a → GoesFirst v q second j a → ArePassed v p q first second (i + 1) j
+  of_second : (i j a : ℕ) → ArePassed v p q first second i j → IsNext v second q j a → GoesSecond v p q first i a → ArePassed v p q first second i (j + 1)
+  of_both : (i j a : ℕ) → ArePassed v p q first second i j → IsNext v first p i a → IsNext v second q j a → ArePassed v p q first second (i + 1) (j + 1)
+
+-- This lock isn't held so strongly: so many inodes of each way are passed, and it is that of the inode that comes next on one of them, which goes first, as it is wanted there; or on both, in the
+-- stronger of the states.
 pub data IsPairLacked (v : Seen) (p q : Path) (first second : List Want) : LockName → State → Type 0 where
-  on_first : (lock : LockName) (state : State) → IsLacked v first p lock state → IsFirstAlone v q second lock.number → IsPairLacked v p q first second lock state
-  on_second : (lock : LockName) (state : State) → IsLacked v second q lock state → IsSecondAlone v p q first lock.number → IsPairLacked v p q first second lock state
-  on_both : (i j a : ℕ) (w x : Want) → IsNext v first p i a → IsNext v second q j a → slice_get first i ≡ Some w → slice_get second j ≡ Some x
+  on_first : (i j a : ℕ) (w : Want) → ArePassed v p q first second i j → IsNext v first p i a → slice_get first i ≡ Some w → GoesFirst v q second j a
+      → holds v (hold_of a w.state) ≡ false → IsPairLacked v p q first second (record { kind = 2; number = a }) w.state
+  on_second : (i j a : ℕ) (x : Want) → ArePassed v p q first second i j → IsNext v second q j a → slice_get second j ≡ Some x → GoesSecond v p q first i a
+      → holds v (hold_of a x.state) ≡ false → IsPairLacked v p q first second (record { kind = 2; number = a }) x.state
+  on_both : (i j a : ℕ) (w x : Want) → ArePassed v p q first second i j → IsNext v first p i a → IsNext v second q j a → slice_get first i ≡ Some w → slice_get second j ≡ Some x
       → holds v (hold_of a (stronger w.state x.state)) ≡ false → IsPairLacked v p q first second (record { kind = 2; number = a }) (stronger w.state x.state)
 
--- Of the inode in this block, which comes next on the path, the view hasn't this block: its dinode, once its lock is held; or one without which it isn't told where the next name leads.
-pub data IsUnreadOf (v : Seen) (wants : List Want) (path : Path) (a : ℕ) (m : Missing) : Type 0 where
-  a_dinode : (depth : ℕ) → IsNext v wants path depth a → IsHeldAt v wants depth a → v.block_at a ≡ None → m ≡ missing_dinode a → IsUnreadOf v wants path a m
-  in_directory : (depth : ℕ) (front back : Path) (name : List ℕ) → IsNext v wants path depth a → path ≡ front ++ name ∷ back → LeadsTo v wants front a → HasBlock v a → IsNeededIn v a name m
-      → IsUnreadOf v wants path a m
+-- Of the inode in this block, which comes next on the path behind so many, the view hasn't this block: its dinode, once its lock is held; or one without which it isn't told where the next name leads.
+pub data IsUnreadOf (v : Seen) (wants : List Want) (path : Path) (depth a : ℕ) (m : Missing) : Type 0 where
+  a_dinode : IsNext v wants path depth a → IsHeldAt v wants depth a → v.block_at a ≡ None → m ≡ missing_dinode a → IsUnreadOf v wants path depth a m
+  in_directory : (front back : Path) (name : List ℕ) → IsNext v wants path depth a → path ≡ front ++ name ∷ back → depth ≡ length front → LeadsTo v wants front a → HasBlock v a
+      → IsNeededIn v a name m → IsUnreadOf v wants path depth a m
 
--- the second way lets an inode of the first go on: what comes next on it has no lesser number, or it has ended
-pub data LetsFirst (v : Seen) (q : Path) (second : List Want) (a : ℕ) : Type 0 where
-  not_yet : (j c : ℕ) → IsNext v second q j c → a ≤ c → LetsFirst v q second a
-  ended : (e : End) → IsEndOf v second q e → LetsFirst v q second a
-
--- The first way lets an inode of the second go on: what comes next on it has no lesser number, or it has led to its inode, and the second path doesn't go on from there. So once the first
--- path is seen to lead nowhere, no block of the second is asked for.
-pub data LetsSecond (v : Seen) (p q : Path) (first : List Want) (a : ℕ) : Type 0 where
-  not_yet : (i c : ℕ) → IsNext v first p i c → a ≤ c → LetsSecond v p q first a
-  at_end : (from : Place) → IsSeenAt v first p from → leads_to p q ≡ false → LetsSecond v p q first a
-
--- the view hasn't this block, without which one of the walks doesn't go on from the inode that comes next there, and the other one lets it
+-- The view hasn't this block: so many inodes of each way are passed, and one of the walks doesn't go on without it from the inode that comes next there, which goes first, or comes next on both.
 pub data IsPairUnread (v : Seen) (p q : Path) (first second : List Want) (m : Missing) : Type 0 where
-  on_first : (a : ℕ) → IsUnreadOf v first p a m → LetsFirst v q second a → IsPairUnread v p q first second m
-  on_second : (a : ℕ) → IsUnreadOf v second q a m → LetsSecond v p q first a → IsPairUnread v p q first second m
+  on_first : (i j a : ℕ) → ArePassed v p q first second i j → IsUnreadOf v first p i a m → GoesFirst v q second j a ⊎ IsNext v second q j a → IsPairUnread v p q first second m
+  on_second : (i j a : ℕ) → ArePassed v p q first second i j → IsUnreadOf v second q j a m → GoesSecond v p q first i a ⊎ IsNext v first p i a → IsPairUnread v p q first second m
 
 -- what is told of two walks; of where the second ends nothing where the first one's end decides, but a block on it may be asked for before that is seen
 abbrev pub IsPairTold : Seen → Path → Path → List Want → List Want → PairWalk → Type 0

@@ -1,6 +1,6 @@
 -- How far a walk along each of two paths came: as far as a view shows, and in an image that the view may be of.
-use Rattle.std.specs.Prelude.{ℕ, ◌≡◌, ◌≢◌, ◌+◌, ◌-◌, ◌≤◌, List, [], ◌∷◌, ◌++◌, length, take, drop}
-use Rattle.file_tree.specs.Names.{IsName, parent_of}
+use Rattle.std.specs.Prelude.{ℕ, false, ◌≡◌, ◌≢◌, ◌+◌, ◌-◌, ◌≤◌, List, [], ◌∷◌, ◌++◌, length, take, drop}
+use Rattle.file_tree.specs.Names.{IsName, leads_to, parent_of}
 use Rattle.file_tree.specs.Tree.{Tree}
 use Rattle.glock_names.specs.Views.{Seen}
 use Rattle.call_locks.specs.declared.want.Want.{Want}
@@ -14,7 +14,8 @@ use Rattle.resource_groups.specs.Putting.{HasDataBlock}
 use Rattle.path_walks.specs.Holds.{Hold, AreHeld, holds_in}
 use Rattle.path_walks.specs.Walks.{AreInOrder, LeadsTo, Names}
 use Rattle.pair_walks.specs.Orders.{ends_both, left_after, merged, pair_holds}
-use Rattle.pair_walks.specs.Walks.{IsEndIn, IsEndOf}
+use Rattle.pair_walks.specs.Turns.{decides}
+use Rattle.pair_walks.specs.Walks.{ArePassed, IsEndAt, IsEndIn}
 use Rattle.pair_walks.specs.declared.next.Next.{Next}
 use Rattle.pair_walks.specs.declared.next.Next.TheVariants as next
 use Rattle.pair_walks.specs.declared.turns.Way.{Way}
@@ -28,10 +29,10 @@ pub data IsComing (v : Seen) (wants : List Want) (path : Path) : ℕ → ℕ →
   the_child : (front back : Path) (dir b : ℕ) (name : List ℕ) → path ≡ front ++ name ∷ back → LeadsTo v wants front dir → IsName name → Names v dir name b → HasDataBlock v b
       → IsComing v wants path (length front + 1) b dir
 
--- an inode comes next, or the path has ended so
+-- an inode comes next, or the path has ended so, all its inodes being passed
 abbrev pub IsCome : Seen → List Want → Path → ℕ → Next → Type 0
 IsCome v wants path depth (next.Inode b above) = IsComing v wants path depth b above
-IsCome v wants path depth (next.Ended e) = IsEndOf v wants path e
+IsCome v wants path depth (next.Ended e) = IsEndAt v wants path depth e
 
 -- the walk along a path with a want for each inode, behind so many names
 pub record IsOnWay (v : Seen) (wants : List Want) (path : Path) (depth : ℕ) (n : Next) : Type 0 where
@@ -82,10 +83,11 @@ pub record AreAlong (v : Seen) (im : Image) (o : Owners) (l : Layout) (t : Tree)
 
 -- ---- how far both came
 
--- as far as the view shows, and in each image that it may be of
+-- As far as the view shows, and in each image that it may be of. Where the first way's end decides, what is passed of the second doesn't matter.
 pub record AreOnTheirWays (v : Seen) (p q : Path) (first second : List Want) (i j : ℕ) (m n : Next) : Type 0 where
   pub on_first : IsOnWay v first p i m
   pub on_second : IsOnWay v second q j n
+  pub passed : decides (leads_to p q) m ≡ false → ArePassed v p q first second i j
   pub images : (im : Image) (o : Owners) (l : Layout) (t : Tree) → IsOf v im o l t → AreAlong v im o l t p q first second i j m n
 
 abbrev pub AreUnderway : Seen → Way → Way → Type 0

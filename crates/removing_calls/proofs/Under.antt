@@ -158,7 +158,7 @@ module _ {V : Type 0} (seen : V → Seen) (view : V) (im : Image) (o : Owners) (
       listed : (lock : LockName) → IsOne lock → IsIn (record { lock = lock; state = Ex }) (list ++ more)
       listed lock (inl e) = in_left (record { lock = lock; state = Ex }) list more (subst (λ k. IsIn (record { lock = k; state = Ex }) list) (sym e) dir)
       listed lock (inr g) =
-          let place = placed_in (is_block_of (holding im o a)) l.groups g.0 g.1 g.2 in
+          let place = placed_in (has_some (is_block_of (holding im o a))) l.groups g.0 g.1 g.2 in
           let x = hold_of_group (group_of_entry g.0) in
           let there : IsIn x more = subst (IsIn x) (sym place.split) (in_right x place.front (x ∷ place.back) (inl refl)) in
           subst (λ k. IsIn (record { lock = k; state = Ex }) (list ++ more)) (sym g.3) (in_right x list more there)

@@ -1,5 +1,5 @@
 -- What a search for free blocks tells, in an image that the view may be of.
-use Rattle.std.proofs.Common.{◌≡◌, ℕ, zero, suc, ◌+◌, ◌<◌, ◌≤◌, ◌==◌, Bool, List, [], ◌∷◌, ◌++◌, length, map, slice_get, Some, refl, sym, ap, ap₂, subst, ◌∙◌, arith}
+use Rattle.std.proofs.Common.{◌≡◌, ℕ, zero, suc, ◌+◌, ◌<◌, ◌≤◌, ◌==◌, Bool, List, [], ◌∷◌, ◌++◌, length, map, slice_get, Some, inl, inr, refl, sym, ap, ap₂, subst, ◌∙◌, arith}
 use Rattle.std.proofs.lemmas.List.FromFn.{get_or-map-range_with_len}
 use Rattle.std.specs.Prelude.{nat_lt, if◌then◌else◌, filter, slice_index_or, take, Contains}
 use Rattle.std.specs.List.{range_with_len}
@@ -17,19 +17,21 @@ use Rattle.image_model.specs.Groups.{IsListed, IsHeaderOf, GroupFits}
 use Rattle.image_model.specs.Image.{Image}
 use Rattle.image_model.specs.Owners.{Owners, InGroup}
 use Rattle.image_model.specs.Stands.{Layout}
+use Rattle.image_model.proofs.Members.{IsIn, contained}
 use Rattle.image_changes.specs.Changes.{cover, is_free}
 use Rattle.image_changes.specs.Does.{IsOf, is_content_of}
 use Rattle.path_walks.specs.Resizing.{IsSaidFree}
 use Rattle.path_walks.proofs.Rows.{state_said}
 use Rattle.path_walks.proofs.Views.{groups_are_listed}
 use Rattle.path_walks.specs.Holds.{Hold, AreHeld, IsAskedFor, IsFirstLack, hold_of_group}
-use Rattle.room_search.specs.Blocks.{States, states_by, free_in, free_in_all, free_for, group_holds, group_of_node, blocks_with, holds_with, room_blocks, room_holds}
-use Rattle.room_search.specs.Searches.{AreShown, IsFoundIn, IsFreeUnder, IsGroupBlock, IsGroupBroken, IsListedUnder, IsTaken, IsUnder}
+use Rattle.room_search.specs.Blocks.{States, blocks_of_first, first_holds, free_first, free_for, free_in, free_in_all, group_holds, group_of_node, group_or_none, holds_of_first, own_first, room_blocks, room_holds, states_by}
+use Rattle.room_search.specs.Searches.{AreShown, IsFoundOfIn, IsFreeUnder, IsGroupBlock, IsGroupBroken, IsListedUnder, IsTakenOf, IsUnder}
+use Rattle.room_search.specs.Parts.{AreGroupsOf}
 use Rattle.room_search.specs.declared.search.Locked.{Locked}
 use Rattle.room_search.specs.declared.search.Locked.TheVariants as locked
 use Rattle.room_search.specs.declared.search.Taken.{Taken}
 use Rattle.room_search.specs.declared.search.Taken.TheVariants as taken
-use Rattle.room_search.proofs.Room.{all_listed}
+use Rattle.room_search.proofs.Room.{all_listed, one_of}
 
 -- ---- lists of free blocks by two tables
 
@@ -74,25 +76,32 @@ module _ (v : Seen) (im : Image) (o : Owners) (l : Layout) (t : Tree) (of : IsOf
       let g = (groups_are_listed v im o l t own of).0 has in
       subst (λ k. free_in (said im.at) k ≡ free_in (states_by o) k) (sym g.2) (free_said g.0 g.1)
 
+  first_said : (first : List Group) → AreGroupsOf v first → free_in_all (said im.at) first ≡ free_in_all (states_by o) first
+  first_said first of_view = by first (λ g there. of_view g (contained g first there))
+    where
+      by : (gs : List Group) → ((g : Group) → IsIn g gs → HasGroup v g) → free_in_all (said im.at) gs ≡ free_in_all (states_by o) gs
+      by [] each = refl
+      by (g ∷ gs) each = ap₂ (λ xs ys. xs ++ ys) (own_said g (each g (inl refl))) (by gs (λ k there. each k (inr there)))
+
   -- the locks are those by the owners
-  pub holds_said : (own : Group) (need : ℕ) → HasGroup v own → group_holds (said im.at) v.groups own need ≡ group_holds (states_by o) (map group_of_entry l.groups) own need
-  holds_said own need has =
-      ap (λ groups. group_holds (said im.at) groups own need) (sym of.groups)
-      ∙ ap (λ xs. if need == 0 then [] else hold_of_group own ∷ (if nat_lt (length xs) need then map hold_of_group (map group_of_entry l.groups) else [])) (own_said own has)
+  pub holds_said : (first : List Group) (need : ℕ) → AreGroupsOf v first → first_holds (said im.at) v.groups first need ≡ holds_of_first o l first need
+  holds_said first need of_view =
+      ap (λ groups. first_holds (said im.at) groups first need) (sym of.groups)
+      ∙ ap (λ xs. if need == 0 then [] else map hold_of_group first ++ (if nat_lt (length xs) need then map hold_of_group (map group_of_entry l.groups) else [])) (first_said first of_view)
 
   -- and so are the blocks
-  pub blocks_said : (own : Group) (need : ℕ) → HasGroup v own → free_for (said im.at) v.groups own need ≡ free_for (states_by o) (map group_of_entry l.groups) own need
-  blocks_said own need has =
-      ap (λ groups. free_for (said im.at) groups own need) (sym of.groups) ∙ ap₂ (λ xs ys. take need (if nat_lt (length xs) need then ys else xs)) (own_said own has) all_said
+  pub blocks_said : (first : List Group) (need : ℕ) → AreGroupsOf v first → free_first (said im.at) v.groups first need ≡ blocks_of_first o l first need
+  blocks_said first need of_view =
+      ap (λ groups. free_first (said im.at) groups first need) (sym of.groups) ∙ ap₂ (λ xs ys. take need (if nat_lt (length xs) need then ys else xs)) (first_said first of_view) all_said
 
-  own_is : (node : ℕ) (own : Group) → group_of_node v.groups node ≡ Some own → group_of_node (map group_of_entry l.groups) node ≡ Some own
-  own_is node own is = ap (λ gs. group_of_node gs node) of.groups ∙ is
+  pub own_is : (node : ℕ) (own : Group) → group_of_node v.groups node ≡ Some own → own_first l node ≡ own ∷ []
+  own_is node own is = ap group_or_none (ap (λ gs. group_of_node gs node) of.groups ∙ is)
 
   pub room_holds_are : (node : ℕ) (own : Group) (need : ℕ) → group_of_node v.groups node ≡ Some own → HasGroup v own → group_holds (said im.at) v.groups own need ≡ room_holds o l node need
-  room_holds_are node own need is has = holds_said own need has ∙ sym (ap (λ x. holds_with (states_by o) (map group_of_entry l.groups) x need) (own_is node own is))
+  room_holds_are node own need is has = holds_said (own ∷ []) need (one_of v own has) ∙ sym (ap (λ first. holds_of_first o l first need) (own_is node own is))
 
   pub room_blocks_are : (node : ℕ) (own : Group) (need : ℕ) → group_of_node v.groups node ≡ Some own → HasGroup v own → free_for (said im.at) v.groups own need ≡ room_blocks o l node need
-  room_blocks_are node own need is has = blocks_said own need has ∙ sym (ap (λ x. blocks_with (states_by o) (map group_of_entry l.groups) x need) (own_is node own is))
+  room_blocks_are node own need is has = blocks_said (own ∷ []) need (one_of v own has) ∙ sym (ap (λ first. blocks_of_first o l first need) (own_is node own is))
 
   -- a block of a group that is asked for
   pub group_asked : (list : List Hold) (m : Missing) → IsGroupBlock v list m → IsAskedFor v im o l list m
@@ -144,28 +153,29 @@ module _ (v : Seen) (im : Image) (o : Owners) (l : Layout) (t : Tree) (of : IsOf
       }
 
   -- all groups are held where too few blocks are free
-  pub found_in : (node : ℕ) (own : Group) (need : ℕ) (r : Locked Taken) → group_of_node v.groups node ≡ Some own → HasGroup v own
-      → IsUnder v (group_holds (said im.at) v.groups own need) (IsTaken v (said im.at) v.groups own need) r → IsFoundIn v im o l node need r
-  found_in node own need (locked.Is (taken.Is blocks)) is has found = (
-    subst (AreHeld v) (room_holds_are node own need is has) found.0,
+  pub found_in : (first : List Group) (need : ℕ) (r : Locked Taken) → AreGroupsOf v first → IsUnder v (first_holds (said im.at) v.groups first need) (IsTakenOf v (said im.at) v.groups first need) r
+      → IsFoundOfIn v im o l first need r
+  found_in first need (locked.Is (taken.Is blocks)) of_view found = (
+    subst (AreHeld v) (holds_said first need of_view) found.0,
     record {
-      are = found.1.are ∙ room_blocks_are node own need is has;
+      are = found.1.are ∙ blocks_said first need of_view;
       many = found.1.many;
       rise = found.1.rise;
-      free = λ b there. said_free (group_holds (said im.at) v.groups own need) b (found.1.each b there);
-      under = λ b there. listed_under (group_holds (said im.at) v.groups own need) (room_holds o l node need) (room_holds_are node own need is has) b (found.1.each b there);
+      free = λ b there. said_free (first_holds (said im.at) v.groups first need) b (found.1.each b there);
+      under = λ b there. listed_under (first_holds (said im.at) v.groups first need) (holds_of_first o l first need) (holds_said first need of_view) b (found.1.each b there);
     },
   )
-  found_in node own need (locked.Is (taken.TooFew free)) is has found = (
-    subst (AreHeld v) (room_holds_are node own need is has) found.0,
+  found_in first need (locked.Is (taken.TooFew free)) of_view found = (
+    subst (AreHeld v) (holds_said first need of_view) found.0,
     record {
-      groups = subst (λ gs. AreHeld v (map hold_of_group gs)) (sym of.groups) (all_listed v (said im.at) own need found.1.fewer_own found.0);
+      groups = subst (λ gs. AreHeld v (map hold_of_group gs)) (sym of.groups) (all_listed v (said im.at) first need found.1.fewer_first found.0);
       free_are = found.1.free_are ∙ ap (λ gs. length (free_in_all (said im.at) gs)) (sym of.groups) ∙ ap length all_said;
       fewer = found.1.fewer;
     },
   )
-  found_in node own need (locked.NeedLock lock state) is has found = subst (λ list. IsFirstLack v list lock state) (room_holds_are node own need is has) found
-  found_in node own need (locked.NeedBlock m) is has found = group_asked (room_holds o l node need) m (subst (λ list. IsGroupBlock v list m) (room_holds_are node own need is has) found)
+  found_in first need (locked.NeedLock lock state) of_view found = subst (λ list. IsFirstLack v list lock state) (holds_said first need of_view) found
+  found_in first need (locked.NeedBlock m) of_view found =
+      group_asked (holds_of_first o l first need) m (subst (λ list. IsGroupBlock v list m) (holds_said first need of_view) found)
 
   -- a group breaks no rule
   unbroken_group : (g : Rindex) → IsListed l.groups g → (rule b : ℕ) → group.IsBroken im.at (group_of_entry g) rule b → ⊥

@@ -1,5 +1,5 @@
 -- The free blocks that a node takes for a call, and the locks of groups under which it finds them.
-use Rattle.std.specs.Prelude.{ℕ, ◌-◌, ◌%◌, ◌==◌, nat_lt, Bool, if◌then◌else◌, List, [], ◌∷◌, length, map, filter, flat_map, take, slice_get, Option, None, Some}
+use Rattle.std.specs.Prelude.{ℕ, ◌-◌, ◌%◌, ◌==◌, nat_lt, Bool, if◌then◌else◌, List, [], ◌∷◌, ◌++◌, length, map, filter, flat_map, take, slice_get, Option, None, Some}
 use Rattle.std.specs.List.{range_with_len}
 use Rattle.glock_names.specs.Views.{group_of_entry}
 use Rattle.glock_names.specs.declared.views.Group.{Group}
@@ -30,34 +30,51 @@ free_in_all says groups = flat_map (free_in says) groups
 abbrev pub group_of_node : List Group → ℕ → Option Group
 group_of_node groups node = slice_get groups ((node - 1) % length groups)
 
--- a group has fewer free blocks than are needed
-abbrev pub has_too_few : States → Group → ℕ → Bool
-has_too_few says own need = nat_lt (length (free_in says own)) need
+-- these groups have fewer free blocks than are needed
+abbrev pub have_too_few : States → List Group → ℕ → Bool
+have_too_few says first need = nat_lt (length (free_in_all says first)) need
 
--- the blocks that a node with this group takes: the least free ones of its group, and where that has too few, of all groups in order
+-- the blocks that are taken where these groups come first: the least free ones of these, and where they have too few, of all groups in order
+abbrev pub free_first : States → List Group → List Group → ℕ → List ℕ
+free_first says groups first need = take need (if have_too_few says first need then free_in_all says groups else free_in_all says first)
+
+-- those that a node with this group takes, which comes first alone
 abbrev pub free_for : States → List Group → Group → ℕ → List ℕ
-free_for says groups own need = take need (if has_too_few says own need then free_in_all says groups else free_in says own)
+free_for says groups own need = free_first says groups (own ∷ []) need
 
 -- ---- the locks
 
--- none where no block is needed; else that of the node's own group; and where this has too few free blocks, those of all groups in order
+-- none where no block is needed; else those of the groups that come first; and where these have too few free blocks, those of all groups in order
+abbrev pub first_holds : States → List Group → List Group → ℕ → List Hold
+first_holds says groups first need = if need == 0 then [] else map hold_of_group first ++ (if have_too_few says first need then map hold_of_group groups else [])
+
+-- where the node's own group comes first alone
 abbrev pub group_holds : States → List Group → Group → ℕ → List Hold
-group_holds says groups own need = if need == 0 then [] else hold_of_group own ∷ (if has_too_few says own need then map hold_of_group groups else [])
+group_holds says groups own need = first_holds says groups (own ∷ []) need
 
 -- ---- in an image with these owners
 
-abbrev pub holds_with : States → List Group → Option Group → ℕ → List Hold
-holds_with says groups None need = []
-holds_with says groups (Some own) need = group_holds says groups own need
+-- the locks that are taken for so many blocks, where these groups come first
+abbrev pub holds_of_first : Owners → Layout → List Group → ℕ → List Hold
+holds_of_first o l first need = first_holds (states_by o) (map group_of_entry l.groups) first need
+
+-- and the blocks that are taken
+abbrev pub blocks_of_first : Owners → Layout → List Group → ℕ → List ℕ
+blocks_of_first o l first need = free_first (states_by o) (map group_of_entry l.groups) first need
+
+-- the group, where there is one
+abbrev pub group_or_none : Option Group → List Group
+group_or_none None = []
+group_or_none (Some own) = own ∷ []
+
+-- a node's own group, which comes first alone
+abbrev pub own_first : Layout → ℕ → List Group
+own_first l node = group_or_none (group_of_node (map group_of_entry l.groups) node)
 
 -- the locks that a node takes for so many blocks
 abbrev pub room_holds : Owners → Layout → ℕ → ℕ → List Hold
-room_holds o l node need = holds_with (states_by o) (map group_of_entry l.groups) (group_of_node (map group_of_entry l.groups) node) need
-
-abbrev pub blocks_with : States → List Group → Option Group → ℕ → List ℕ
-blocks_with says groups None need = []
-blocks_with says groups (Some own) need = free_for says groups own need
+room_holds o l node need = holds_of_first o l (own_first l node) need
 
 -- the blocks that it takes
 abbrev pub room_blocks : Owners → Layout → ℕ → ℕ → List ℕ
-room_blocks o l node need = blocks_with (states_by o) (map group_of_entry l.groups) (group_of_node (map group_of_entry l.groups) node) need
+room_blocks o l node need = blocks_of_first o l (own_first l node) need

@@ -14,7 +14,7 @@ use Rattle.image_model.specs.Owners.{Owners}
 use Rattle.image_model.specs.Stands.{Layout}
 use Rattle.path_walks.specs.Resizing.{IsSaidFree}
 use Rattle.path_walks.specs.Holds.{Hold, AreHeld, IsAskedFor, IsFirstLack, holds, hold_of_group}
-use Rattle.room_search.specs.Blocks.{States, free_in, free_in_all, free_for, group_holds, group_of_node, room_blocks, room_holds, states_by}
+use Rattle.room_search.specs.Blocks.{States, blocks_of_first, first_holds, free_first, free_in_all, group_of_node, holds_of_first, own_first, states_by}
 use Rattle.room_search.specs.declared.search.Locked.{Locked}
 use Rattle.room_search.specs.declared.search.Locked.TheVariants as locked
 use Rattle.room_search.specs.declared.search.Taken.{Taken}
@@ -56,24 +56,35 @@ pub record IsFreeUnder (v : Seen) (says : States) (list : List Hold) (b : ℕ) :
   pub free : says group b ≡ 0
   pub listed : Contains list (hold_of_group group)
 
--- the blocks are those that a node with this group takes, as many as are needed, each once and by rising number; and each is a free data block
+-- the blocks are those that are taken where these groups come first, as many as are needed, each once and by rising number; and each is a free data block
 -- of a group whose lock is one of those
-pub record IsRoom (v : Seen) (says : States) (groups : List Group) (own : Group) (need : ℕ) (blocks : List ℕ) : Type 0 where
-  pub are : blocks ≡ free_for says groups own need
+pub record IsRoomOf (v : Seen) (says : States) (groups first : List Group) (need : ℕ) (blocks : List ℕ) : Type 0 where
+  pub are : blocks ≡ free_first says groups first need
   pub many : length blocks ≡ need
   pub rise : IsStrictlyIncreasing blocks
-  pub each : (b : ℕ) → Contains blocks b → IsFreeUnder v says (group_holds says groups own need) b
+  pub each : (b : ℕ) → Contains blocks b → IsFreeUnder v says (first_holds says groups first need) b
 
--- so many blocks are free in all groups, fewer than are needed; and so in the node's own
-pub record IsShort (says : States) (groups : List Group) (own : Group) (need free : ℕ) : Type 0 where
+-- so many blocks are free in all groups, fewer than are needed; and so in those that come first
+pub record IsShortOf (says : States) (groups first : List Group) (need free : ℕ) : Type 0 where
   pub free_are : free ≡ length (free_in_all says groups)
   pub fewer : free < need
-  pub fewer_own : length (free_in says own) < need
+  pub fewer_first : length (free_in_all says first) < need
 
 -- the blocks are taken, or too few are free
+abbrev pub IsTakenOf : Seen → States → List Group → List Group → ℕ → Taken → Type 0
+IsTakenOf v says groups first need (taken.Is blocks) = IsRoomOf v says groups first need blocks.items
+IsTakenOf v says groups first need (taken.TooFew free) = IsShortOf says groups first need free
+
+-- ---- where a node's own group comes first alone
+
+abbrev pub IsRoom : Seen → States → List Group → Group → ℕ → List ℕ → Type 0
+IsRoom v says groups own need blocks = IsRoomOf v says groups (own ∷ []) need blocks
+
+abbrev pub IsShort : States → List Group → Group → ℕ → ℕ → Type 0
+IsShort says groups own need free = IsShortOf says groups (own ∷ []) need free
+
 abbrev pub IsTaken : Seen → States → List Group → Group → ℕ → Taken → Type 0
-IsTaken v says groups own need (taken.Is blocks) = IsRoom v says groups own need blocks.items
-IsTaken v says groups own need (taken.TooFew free) = IsShort says groups own need free
+IsTaken v says groups own need taken = IsTakenOf v says groups (own ∷ []) need taken
 
 -- ---- whatever the view hasn't of its groups
 
@@ -120,13 +131,13 @@ pub record IsListedUnder (l : Layout) (list : List Hold) (b : ℕ) : Type 0 wher
   pub data_block : image.IsDataOf group b
   pub among : Contains list (hold_of_group (group_of_entry group))
 
--- the blocks are those that the node takes, as many as are needed, and each is free by its group's bits, under that group's lock
-pub record IsRoomIn (im : Image) (o : Owners) (l : Layout) (node need : ℕ) (blocks : List ℕ) : Type 0 where
-  pub are : blocks ≡ room_blocks o l node need
+-- the blocks are those that are taken where these groups come first, as many as are needed, and each is free by its group's bits, under that group's lock
+pub record IsRoomOfIn (im : Image) (o : Owners) (l : Layout) (first : List Group) (need : ℕ) (blocks : List ℕ) : Type 0 where
+  pub are : blocks ≡ blocks_of_first o l first need
   pub many : length blocks ≡ need
   pub rise : IsStrictlyIncreasing blocks
   pub free : (b : ℕ) → Contains blocks b → IsSaidFree im l b
-  pub under : (b : ℕ) → Contains blocks b → IsListedUnder l (room_holds o l node need) b
+  pub under : (b : ℕ) → Contains blocks b → IsListedUnder l (holds_of_first o l first need) b
 
 -- so many blocks are free in all groups, each of whose locks is held, fewer than are needed
 pub record IsShortIn (v : Seen) (o : Owners) (l : Layout) (need free : ℕ) : Type 0 where
@@ -134,13 +145,21 @@ pub record IsShortIn (v : Seen) (o : Owners) (l : Layout) (need free : ℕ) : Ty
   pub free_are : free ≡ length (free_in_all (states_by o) (map group_of_entry l.groups))
   pub fewer : free < need
 
-abbrev pub IsTakenIn : Seen → Image → Owners → Layout → ℕ → ℕ → Taken → Type 0
-IsTakenIn v im o l node need (taken.Is blocks) = IsRoomIn im o l node need blocks.items
-IsTakenIn v im o l node need (taken.TooFew free) = IsShortIn v o l need free
+abbrev pub IsTakenOfIn : Seen → Image → Owners → Layout → List Group → ℕ → Taken → Type 0
+IsTakenOfIn v im o l first need (taken.Is blocks) = IsRoomOfIn im o l first need blocks.items
+IsTakenOfIn v im o l first need (taken.TooFew free) = IsShortIn v o l need free
 
 -- each lock of the list is held, and the blocks are taken or too few are free; or this is the first lock of it that isn't held, or a block
 -- that is asked for under one
+abbrev pub IsFoundOfIn : Seen → Image → Owners → Layout → List Group → ℕ → Locked Taken → Type 0
+IsFoundOfIn v im o l first need (locked.Is x) = AreHeld v (holds_of_first o l first need) × IsTakenOfIn v im o l first need x
+IsFoundOfIn v im o l first need (locked.NeedLock lock state) = IsFirstLack v (holds_of_first o l first need) lock state
+IsFoundOfIn v im o l first need (locked.NeedBlock m) = IsAskedFor v im o l (holds_of_first o l first need) m
+
+-- ---- where a node's own group comes first alone
+
+abbrev pub IsRoomIn : Image → Owners → Layout → ℕ → ℕ → List ℕ → Type 0
+IsRoomIn im o l node need blocks = IsRoomOfIn im o l (own_first l node) need blocks
+
 abbrev pub IsFoundIn : Seen → Image → Owners → Layout → ℕ → ℕ → Locked Taken → Type 0
-IsFoundIn v im o l node need (locked.Is x) = AreHeld v (room_holds o l node need) × IsTakenIn v im o l node need x
-IsFoundIn v im o l node need (locked.NeedLock lock state) = IsFirstLack v (room_holds o l node need) lock state
-IsFoundIn v im o l node need (locked.NeedBlock m) = IsAskedFor v im o l (room_holds o l node need) m
+IsFoundIn v im o l node need found = IsFoundOfIn v im o l (own_first l node) need found

@@ -5,4 +5,4 @@ mod collecting;
 mod counting;
 mod search;
 
-pub use search::{Locked, Taken, find_room};
+pub use search::{Locked, Taken, find_first, find_room};

@@ -1,8 +1,8 @@
 // The blocks that a node takes for a call.
-ghost use Rattle.std.specs.Prelude.{ℕ, List, ◌≡◌, ◌≤◌, length, map, Some, IfOk};
+ghost use Rattle.std.specs.Prelude.{ℕ, List, [], ◌∷◌, ◌≡◌, ◌≤◌, length, map, Some, IfOk};
 ghost use Rattle.glock_names.specs.Steps.{IfDamaged};
 ghost use Rattle.profile_limits.specs.Limits.{most_groups};
-ghost use Rattle.glock_names.specs.Views.{HasGroup, IsOfView, IsView};
+ghost use Rattle.glock_names.specs.Views.{HasGroup, IsOfView, IsView, Rise};
 ghost use Rattle.glock_names.specs.declared.views.Group.{Group as GroupValue};
 ghost use Rattle.resource_groups.specs.Shown.{said};
 ghost use Rattle.image_model.specs.Image.{Image};
@@ -11,9 +11,9 @@ ghost use Rattle.image_model.specs.Stands.{Layout};
 ghost use Rattle.file_tree.specs.Tree.{Tree};
 ghost use Rattle.image_changes.specs.Does.{IsOf};
 ghost use Rattle.path_walks.specs.Holds.{hold_of_group};
-ghost use Rattle.room_search.specs.Blocks.{free_in_all, group_of_node, group_holds};
+ghost use Rattle.room_search.specs.Blocks.{first_holds, free_in_all, group_of_node, group_holds};
 ghost use Rattle.room_search.specs.Parts.{AreGroupsOf, IsFrontOf};
-ghost use Rattle.room_search.specs.Searches.{AreShown, HasOwnGroup, IsFoundIn, IsGroupBroken, IsTaken, IsTold, IsUnder};
+ghost use Rattle.room_search.specs.Searches.{AreShown, HasOwnGroup, IsFoundIn, IsFoundOfIn, IsGroupBroken, IsTaken, IsTakenOf, IsTold, IsUnder};
 
 use crate::collecting::collect_in;
 use crate::counting::count_in;
@@ -43,7 +43,9 @@ fn own_group<V: View>(view: &V, node: u8) -> Group
     requires node { 1 ≤ node }
     ensures own { group_of_node (V.seen view.now).groups node ≡ Some result }
     ensures has { HasGroup (V.seen view.now) result }
+    ensures rise { Rise (V.seen view.now).size 0 (result ∷ []) }
 {
+    let _size = view.block_size();
     let groups = view.groups();
     groups[(node as usize - 1) % groups.len()]
 }
@@ -77,16 +79,18 @@ fn find_in<V: View>(
     }
 }
 
-// The blocks that a node with this group takes: of its own group, or else of all.
-fn find_for<V: View>(
+// The blocks that are taken where these groups come first: of them, or else of all.
+fn find_in_either<V: View>(
     alloc: Global,
     view: &V,
-    own: &Group,
+    first: &[Group],
     need: u64,
 ) -> Result<Locked<Taken>, CallFault>
-    requires { HasGroup (V.seen view.now) own.now }
+    requires few { length first.now ≤ most_groups }
+    requires of_view { AreGroupsOf (V.seen view.now) first.now }
+    requires rise { Rise (V.seen view.now).size 0 first.now }
     ensures found { (at : ℕ → List ℕ) → AreShown (V.seen view.now) at
-        → IfOk result (IsUnder (V.seen view.now) (group_holds (said at) (V.seen view.now).groups own.now need) (IsTaken (V.seen view.now) (said at) (V.seen view.now).groups own.now need)) }
+        → IfOk result (IsUnder (V.seen view.now) (first_holds (said at) (V.seen view.now).groups first.now need) (IsTakenOf (V.seen view.now) (said at) (V.seen view.now).groups first.now need)) }
     ensures damaged { IfDamaged result (IsGroupBroken (V.seen view.now)) }
     ensures kept { IfDamaged result (IsOfView (V.seen view.now)) }
     ensures unasked { need ≡ 0 → IfDamaged result (λ rule block. ⊥) }
@@ -96,12 +100,37 @@ fn find_for<V: View>(
     if need == 0 {
         return Ok(Locked::Is(Taken::Is(Vec::new(alloc))));
     }
-    match find_in(alloc, view, &[*own], need)? {
+    match find_in(alloc, view, first, need)? {
         Locked::Is(Taken::Is(blocks)) => Ok(Locked::Is(Taken::Is(blocks))),
         Locked::Is(Taken::TooFew(_)) => find_in(alloc, view, view.groups(), need),
         Locked::NeedLock { lock, state } => Ok(Locked::NeedLock { lock, state }),
         Locked::NeedBlock(missing) => Ok(Locked::NeedBlock(missing)),
     }
+}
+
+/// The blocks that are taken for a call that needs so many, where these groups come first, some of the view's, one behind another: the least free ones of these, and
+/// where they have too few, of all groups in order. Where none is needed no lock is looked at, and no block. Else the locks of these groups are, and where they have too
+/// few those of all groups. It goes over the bits of each of these groups once to count the free blocks, of those that come first twice where all are looked at, and then
+/// over those up to the last block that is taken. Memory is taken for these blocks alone.
+pub fn find_first<V: View>(
+    alloc: Global,
+    view: &V,
+    first: &[Group],
+    need: u64,
+) -> Result<Locked<Taken>, CallFault>
+    requires few { length first.now ≤ most_groups }
+    requires of_view { AreGroupsOf (V.seen view.now) first.now }
+    requires rise { Rise (V.seen view.now).size 0 first.now }
+    ensures found { (at : ℕ → List ℕ) → AreShown (V.seen view.now) at
+        → IfOk result (IsUnder (V.seen view.now) (first_holds (said at) (V.seen view.now).groups first.now need) (IsTakenOf (V.seen view.now) (said at) (V.seen view.now).groups first.now need)) }
+    ensures image { (im : Image) (o : Owners) (l : Layout) (t : Tree) → IsOf (V.seen view.now) im o l t → IfOk result (IsFoundOfIn (V.seen view.now) im o l first.now need) }
+    ensures told { IfOk result (IsTold (V.seen view.now) need) }
+    ensures damaged { IfDamaged result (IsGroupBroken (V.seen view.now)) }
+    ensures kept { IfDamaged result (IsOfView (V.seen view.now)) }
+    ensures unasked { need ≡ 0 → IfDamaged result (λ rule block. ⊥) }
+    ensures sound { (im : Image) (o : Owners) (l : Layout) (t : Tree) → IsOf (V.seen view.now) im o l t → IfDamaged result (λ rule block. ⊥) }
+{
+    find_in_either(alloc, view, first, need)
 }
 
 /// The blocks that a node, from 1, takes for a call that needs so many: the least free ones of its own group, and where that has too
@@ -127,5 +156,5 @@ pub fn find_room<V: View>(
     ensures sound { (im : Image) (o : Owners) (l : Layout) (t : Tree) → IsOf (V.seen view.now) im o l t → IfDamaged result (λ rule block. ⊥) }
 {
     let own = own_group(view, node);
-    find_for(alloc, view, &own, need)
+    find_first(alloc, view, &[own], need)
 }

@@ -1,8 +1,8 @@
 -- A write whose bytes have room behind the dinode: it needs no block, and so no group's lock.
-use Rattle.std.proofs.Common.{◌≡◌, ◌+◌, ◌-◌, ◌≤◌, ℕ, false, List, [], ◌++◌, length, Option, None, Some, refl, sym, ap, ◌∙◌, subst, arith}
+use Rattle.std.proofs.Common.{◌≡◌, ◌+◌, ◌-◌, ◌≤◌, ℕ, false, List, ◌++◌, length, refl, sym, ap, ◌∙◌, subst, arith}
 use Rattle.std.proofs.lemmas.Bool.{cond-false, le-ltb}
 use Rattle.std.proofs.lemmas.List.{append-nil}
-use Rattle.std.specs.Prelude.{map, max, nat_lt}
+use Rattle.std.specs.Prelude.{max, nat_lt}
 use Rattle.file_tree.specs.Apply.{apply, file_limit}
 use Rattle.file_tree.specs.Tree.{Tree}
 use Rattle.file_tree.specs.declared.call.Call.{Call}
@@ -13,8 +13,7 @@ use Rattle.gfs2_layout.specs.Holding.{Holding}
 use Rattle.gfs2_layout.specs.Inode.{dinode_in, height_in}
 use Rattle.gfs2_layout.specs.Structures.{dinode_length, is_directory}
 use Rattle.gfs2_layout.specs.declared.dinode.Dinode.{Dinode}
-use Rattle.glock_names.specs.Views.{Seen, group_of_entry}
-use Rattle.glock_names.specs.declared.views.Group.{Group}
+use Rattle.glock_names.specs.Views.{Seen}
 use Rattle.call_locks.specs.Wants.{wanted}
 use Rattle.call_locks.specs.WantLaws.{path_of}
 use Rattle.growth_laws.specs.Need.{capacity, height_for, needed, needed_below, raised_to}
@@ -26,7 +25,6 @@ use Rattle.path_walks.specs.Holds.{Hold, AreHeld, IsUnder, holds_in}
 use Rattle.path_walks.specs.Walks.{IsSeenAt, IsWalked}
 use Rattle.path_walks.specs.declared.walk.Place.{Place}
 use Rattle.path_walks.specs.declared.walk.Walk.TheVariants.{At}
-use Rattle.room_search.specs.Blocks.{States, group_of_node, holds_with, states_by}
 use Rattle.writing_calls.specs.Contents.{IsAimOf, StaysStuffed}
 use Rattle.writing_calls.specs.Drafting.{IsWrite}
 use Rattle.writing_calls.specs.Writing.{IsEdit, Writes, by_write, call_holds, end_of}
@@ -57,11 +55,6 @@ stuffed_needs_none h at len low fits = ap (needed_below h at (at + len)) stays_l
         ∙ cond-false (nat_lt (capacity h.size 0) (max (dinode_in h).size (at + len))) (raised_to h.size 1 (max (dinode_in h).size (at + len)) 9) 0
         (le-ltb (capacity h.size 0) (max (dinode_in h).size (at + len)) fits)
 
--- and so no lock of a group
-none_with : (says : States) (groups : List Group) (own : Option Group) → holds_with says groups own 0 ≡ []
-none_with says groups None = refl
-none_with says groups (Some own) = refl
-
 module _ (v : Seen) (c : Call) (p : Place) (is : IsEdit c) (seen : IsSeenAt v (wanted c) (path_of c false) p) (plain : is_directory p.dinode ≡ false) (short : end_of c ≤ file_limit)
     (at : ℕ) (new : List ℕ) (writes : Writes c at new) (stays : StaysStuffed v.size p.dinode (at + length new)) (time : ℕ) (change : Change) (w : IsWrite v p.inode at new time change)
     (im : Image) (o : Owners) (l : Layout) (t : Tree) (of : IsOf v im o l t) (walked : IsWalked v im o l t (path_of c false) (wanted c) (At p)) (node : ℕ) where
@@ -78,8 +71,7 @@ module _ (v : Seen) (c : Call) (p : Place) (is : IsEdit c) (seen : IsSeenAt v (w
   list_is =
       images.list_is v c p is seen plain short im o l t of walked node
       ∙ ap (λ xs. path_list ++ xs)
-      (room_list im o l c node p.inode p.dinode.size at new 0 (images.size_is v c p is seen plain short im o l t of walked) (by_write at new writes) none
-      ∙ none_with (states_by o) (map group_of_entry l.groups) (group_of_node (map group_of_entry l.groups) node))
+      (room_list im o l c node p.inode p.dinode.size at new 0 (images.size_is v c p is seen plain short im o l t of walked) (by_write at new writes) none)
       ∙ append-nil path_list
 
   pub stuffed_found : ((apply c t).reply ≡ OkReply) × AreHeld v (call_holds im o l t c node) × IsUnder o (call_holds im o l t c node) change

@@ -133,7 +133,7 @@ module _ (v : Seen) (node need : ℕ) (view : IsView v) (own : HasOwnGroup v nod
       let shown = bytes_shown v view in
       let one = so shown.0 (λ k has. shown.1 k) in
       record {
-        held = all_listed v (said shown.0) own.0 need one.1.fewer_own one.0;
+        held = all_listed v (said shown.0) (own.0 ∷ []) need one.1.fewer_first one.0;
         free_are = λ at shown. (so at shown).1.free_are;
         fewer = one.1.fewer;
       }

@@ -247,7 +247,7 @@ returns-in-Unlink-clause-made g c im o l t of =
 pub returns-in-Create-clause-full : goal.returns-in-Create-clause-full
 returns-in-Create-clause-full g c =
     let is : IsMaking c.args.call.now = search rules in
-    few_so c.attempt-in-Create.result _ _ (making_full (g.V.View.seen c.args.view.now) c.args.call.now is) c.attempt-in-Create.ensures.full
+    few_so c.attempt-in-Create.result _ _ (making_full (g.V.View.seen c.args.view.now) c.args.stamp.now.node c.args.call.now is) c.attempt-in-Create.ensures.full
 
 pub returns-in-Read-clause-full : goal.returns-in-Read-clause-full
 returns-in-Read-clause-full g c = few_so c.attempt-in-Read.result _ _ (λ need free never. absurd never) c.attempt-in-Read.ensures.space
@@ -258,7 +258,7 @@ returns-in-Unlink-clause-full g c = few_so c.attempt-in-Unlink.result _ _ (λ ne
 pub returns-in-Write-clause-full : goal.returns-in-Write-clause-full
 returns-in-Write-clause-full g c =
     let is : IsWriting c.args.call.now = search rules in
-    few_so c.attempt-in-Write.result _ _ (λ need free. writing_full (g.V.View.seen c.args.view.now) need free c.args.call.now is) c.attempt-in-Write.ensures.full
+    few_so c.attempt-in-Write.result _ _ (λ need free. writing_full (g.V.View.seen c.args.view.now) c.args.stamp.now.node need free c.args.call.now is) c.attempt-in-Write.ensures.full
 
 pub returns-in-Read-clause-lacks : goal.returns-in-Read-clause-lacks
 returns-in-Read-clause-lacks g c =
@@ -326,7 +326,7 @@ returns-in-Rename-clause-space g c im o l t of =
 pub returns-in-Rename-clause-full : goal.returns-in-Rename-clause-full
 returns-in-Rename-clause-full g c =
     let is : IsRenaming c.args.call.now = search rules in
-    few_so c.attempt.result _ _ (moving_full (g.V.View.seen c.args.view.now) c.args.call.now is) c.attempt.ensures.full
+    few_so c.attempt.result _ _ (moving_full (g.V.View.seen c.args.view.now) c.args.stamp.now.node c.args.call.now is) c.attempt.ensures.full
 
 pub returns-in-Rename-clause-spaceless : goal.returns-in-Rename-clause-spaceless
 returns-in-Rename-clause-spaceless g c = done_so c.attempt.result _ _ (λ x change has. space_so x has) c.attempt.ensures.spaceless

@@ -36,8 +36,8 @@ returns-in_err-can_move-clause-damaged g c =
     let first = c.last_name.ensures.last ∙ ap last_of (c.names-2.ensures.names ∙ c.from_of.ensures) in
     let second = c.last_name-new_name.ensures.last ∙ ap last_of (c.names.ensures.names ∙ c.to_of.ensures) in
     let meant : IsMeant v call m = subst (IsMeant v call) (sym (same_move call from to _ _ _ r first second c.blocks_in.ensures)) (is_meant v call from to c.requires.ends r c.requires.target c.requires.inside c.requires.images) in
-    told_on (IsDamage v call) c.from_residual.result _ c.from_residual.ensures.1
-    (tells_so (IsWrongMove v m) (IsDamage v call) (λ rule b wrong. IsDamage.to_see m meant wrong) c.in_err-can_move.field-0.0 c.in_err-can_move.ensures.damaged)
+    told_on (IsDamage v call c.args.stamp.now.node) c.from_residual.result _ c.from_residual.ensures.1
+    (tells_so (IsWrongMove v m) (IsDamage v call c.args.stamp.now.node) (λ rule b wrong. IsDamage.to_see m meant wrong) c.in_err-can_move.field-0.0 c.in_err-can_move.ensures.damaged)
 
 pub returns-in-Is-true-clause-answer : goal.returns-in-Is-true-clause-answer
 returns-in-Is-true-clause-answer g c =
@@ -121,7 +121,7 @@ returns-in-Is-true-clause-damaged g c =
     let meant : IsMeant v call m = subst (IsMeant v call) (sym (same_move call from to _ _ _ r first second c.blocks_in.ensures)) (is_meant v call from to c.requires.ends r c.requires.target c.requires.inside c.requires.images) in
     let can : CanBeMoved v m = answer_at _ _ (λ can. can ≡ true → CanBeMoved v m) c.in-Is-true.is c.in_ok-can_move.ensures.can c.in-Is-true.field-0-test in
     let clear : IsClear v m = answer_at _ _ (λ can. can ≡ true → IsClear v m) c.in-Is-true.is c.in_ok-can_move.ensures.clear c.in-Is-true.field-0-test in
-    damaged_so (IsDamageOf v node m) (IsDamage v call) (λ rule b wrong. IsDamage.to_move node m (record { meant = meant; can = can; clear = clear }) wrong) c.carry.result c.carry.ensures.damaged
+    damaged_so (IsDamageOf v node m) (IsDamage v call node) (λ rule b wrong. IsDamage.to_move m (record { meant = meant; can = can; clear = clear }) wrong) c.carry.result c.carry.ensures.damaged
 
 pub returns-in-NeedBlock-clause-answer : goal.returns-in-NeedBlock-clause-answer
 returns-in-NeedBlock-clause-answer g c =

@@ -1,4 +1,4 @@
-use Rattle.std.proofs.Common.{ap, ◌∙◌}
+use Rattle.std.proofs.Common.{◌≢◌, ap, ◌∙◌}
 use Rattle.glock_names.proofs.StepLaws.{needed_at}
 use Rattle.path_walks.proofs.Faults.{tells_so, told_on}
 use Rattle.resource_groups.specs.Freeing.{BreaksSome, IsNeededFor}
@@ -6,7 +6,7 @@ use Rattle.room_search.specs.Searches.{IsGroupBroken}
 use Rattle.room_search.specs.declared.search.Locked.TheVariants as locked
 use Rattle.name_moves.specs.Moving.{freed_by, move_of}
 use Rattle.move_calls.specs.Carrying.{IsDamageOf, NeedsBlock}
-use Rattle.move_calls.proofs.Room.{block_found, lock_found, room_found, too_few_found}
+use Rattle.move_calls.proofs.Room.{block_found, lock_found, room_found, told_asked, too_few_found}
 use Rattle.move_calls.proofs.carrying.carry_held.Goals as goal
 
 pub returns-in_err-look_at_freed-clause-damaged : goal.returns-in_err-look_at_freed-clause-damaged
@@ -27,7 +27,8 @@ returns-in_err-room-clause-damaged g c =
     let m = move_of c.args.m.now in
     let node = c.args.stamp.now.node in
     told_on (IsDamageOf v node m) c.from_residual-in_err-room.result _ c.from_residual-in_err-room.ensures.1
-    (tells_so (IsGroupBroken v) (IsDamageOf v node m) (λ rule b broken. IsDamageOf.of_room c.args.need rule b c.requires.counted broken) c.in_err-room.field-0.0 c.in_err-room.ensures.damaged)
+    (tells_so (λ rule b. (c.args.need ≢ 0) × IsGroupBroken v rule b) (IsDamageOf v node m) (λ rule b broken. IsDamageOf.of_room c.args.need rule b c.requires.counted broken.0 broken.1) c.in_err-room.field-0.0
+    (told_asked c.args.need (IsGroupBroken v) c.in_err-room.field-0.0 c.in_err-room.ensures.unasked c.in_err-room.ensures.damaged))
 
 pub carry_in-requires-clause-room : goal.carry_in-requires-clause-room
 carry_in-requires-clause-room g c = (

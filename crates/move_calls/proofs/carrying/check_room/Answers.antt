@@ -6,7 +6,7 @@ use Rattle.hash_dirs.proofs.Leaves.{found_at}
 use Rattle.path_walks.proofs.Faults.{tells_so, told_on}
 use Rattle.name_moves.specs.Moving.{IsPlaceOfMove, move_of}
 use Rattle.move_calls.specs.Carrying.{IsDamageOf, IsInTheWay, IsStuck}
-use Rattle.move_calls.specs.Checks.{IsOnItsWay, IsWrongOnWays}
+use Rattle.move_calls.specs.Checks.{IsOffItsWays, IsOnItsWay, IsWrongOnWays}
 use Rattle.move_calls.proofs.Room.{at_none, off_room, place_of}
 use Rattle.move_calls.proofs.carrying.check_room.Goals as goal
 
@@ -41,11 +41,10 @@ returns-in-Is-None-clause-off g c e =
     let v = g.V.View.seen c.args.view.now in
     let m = move_of c.args.m.now in
     let room = c.args.room.now in
-    let out : (b : ℕ) → Contains room b → IsOnItsWay v m b → ⊥ =
-    at_none ((b : ℕ) → Contains room b → IsOnItsWay v m b → ⊥) c.in-Is-None.field-0 c.in-Is-None.field-0-is
-    (answer_at _ _ (λ found. IfNone found ((b : ℕ) → Contains room b → IsOnItsWay v m b → ⊥)) c.in-Is-None.is c.in_ok-block_on_ways.ensures.none) in
     record {
-      apart = off_room v m room c.in_default.ensures.none c.in_default-taken_that_goes.ensures.none out;
+      apart = off_room m room c.in_default.ensures.none c.in_default-taken_that_goes.ensures.none;
+      off = at_none ((b : ℕ) → Contains room b → IsOffItsWays v m b) c.in-Is-None.field-0 c.in-Is-None.field-0-is
+          (answer_at _ _ (λ found. IfNone found ((b : ℕ) → Contains room b → IsOffItsWays v m b)) c.in-Is-None.is c.in_ok-block_on_ways.ensures.none);
       way = λ some h shown.
           at_none (room ≢ [] → IsRightWay v h m.new_name room) c.in-Is-None.field-0 c.in-Is-None.field-0-is
           (answer_at _ _ (λ found. IfNone found (room ≢ [] → IsRightWay v h m.new_name room)) c.in-Is-None.is (c.in_ok-block_on_ways.ensures.right h shown)) some;

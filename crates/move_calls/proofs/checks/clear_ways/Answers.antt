@@ -3,8 +3,8 @@ use Rattle.std.specs.Prelude.{Contains, IfNone}
 use Rattle.glock_names.proofs.StepLaws.{answer_at, needed_at}
 use Rattle.hash_dirs.proofs.Leaves.{found_at}
 use Rattle.path_walks.proofs.Faults.{tells_so, told_on}
-use Rattle.name_moves.specs.Moving.{freed_by, move_of}
-use Rattle.move_calls.specs.Checks.{IsNeededOnWays, IsNeededToSee, IsOnItsWay, IsWrongMove, IsWrongOnWays}
+use Rattle.name_moves.specs.Moving.{move_of}
+use Rattle.move_calls.specs.Checks.{IsNeededOnWays, IsNeededToSee, IsOffItsWays, IsOnItsWay, IsWrongMove, IsWrongOnWays}
 use Rattle.move_calls.proofs.Room.{at_none}
 use Rattle.move_calls.proofs.OnWays.{way_stays}
 use Rattle.move_calls.proofs.checks.clear_ways.Goals as goal
@@ -20,9 +20,9 @@ pub returns-in-Is-None-clause-clear : goal.returns-in-Is-None-clause-clear
 returns-in-Is-None-clause-clear g c b goes =
     let v = g.V.View.seen c.args.view.now in
     let m = move_of c.args.m.now in
-    let none : (x : ℕ) → Contains c.freed_blocks.result.now x → IsOnItsWay v m x → ⊥ =
-    at_none ((x : ℕ) → Contains c.freed_blocks.result.now x → IsOnItsWay v m x → ⊥) c.in-Is-None.field-0 c.in-Is-None.field-0-is
-    (answer_at _ _ (λ found. IfNone found ((x : ℕ) → Contains c.freed_blocks.result.now x → IsOnItsWay v m x → ⊥)) c.in-Is-None.is c.in_ok-block_on_ways.ensures.none) in
+    let none : (x : ℕ) → Contains c.freed_blocks.result.now x → IsOffItsWays v m x =
+    at_none ((x : ℕ) → Contains c.freed_blocks.result.now x → IsOffItsWays v m x) c.in-Is-None.field-0 c.in-Is-None.field-0-is
+    (answer_at _ _ (λ found. IfNone found ((x : ℕ) → Contains c.freed_blocks.result.now x → IsOffItsWays v m x)) c.in-Is-None.is c.in_ok-block_on_ways.ensures.none) in
     none b (subst (λ xs. Contains xs b) (sym c.freed_blocks.ensures) goes)
 
 pub returns-in-Is-Some-clause-damaged : goal.returns-in-Is-Some-clause-damaged

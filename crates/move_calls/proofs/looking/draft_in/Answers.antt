@@ -3,13 +3,13 @@ use Rattle.std.specs.Prelude.{IsSome}
 use Rattle.glock_names.specs.Steps.{TellsOf}
 use Rattle.glock_names.proofs.StepLaws.{answer_at, needed_at}
 use Rattle.name_moves.specs.Moving.{IsNeededIn, IsWrongIn, freed_by, move_of}
-use Rattle.move_calls.specs.Carrying.{IsDamageOf, IsInTheWay, IsStuck, NeedsBlock}
+use Rattle.move_calls.specs.Carrying.{IsDamageOf, IsStuck, NeedsBlock}
 use Rattle.move_calls.proofs.Gone.{astray, stuck_in, within}
 use Rattle.move_calls.proofs.looking.draft_in.Goals.{else-gone-via-then-gone+else-not-is_in_groups, else-gone-via-else-gone}
 use Rattle.move_calls.proofs.looking.draft_in.Goals as goal
 
 pub moving-requires-clause-apart : goal.moving-requires-clause-apart
-moving-requires-clause-apart g c b there place = c.requires.off.apart b there (IsInTheWay.a_place place)
+moving-requires-clause-apart g c b there place = c.requires.off.apart b there place
 
 pub returns-in-Ok-Is-clause-stuck : goal.returns-in-Ok-Is-clause-stuck
 returns-in-Ok-Is-clause-stuck g c node need has =

@@ -1,4 +1,4 @@
-use Rattle.std.proofs.Common.{◌≡◌, ◌≢◌, ℕ, [], ◌∷◌, arith, sym, subst}
+use Rattle.std.proofs.Common.{◌≢◌, ℕ, [], ◌∷◌, sym, subst}
 use Rattle.std.specs.Prelude.{Contains, IfNone, IfSome}
 use Rattle.gfs2_layout.specs.Holding.{Holding}
 use Rattle.glock_names.specs.Steps.{IfIs}

@@ -1,4 +1,4 @@
-use Rattle.std.proofs.Common.{◌≡◌, ◌≢◌, ℕ, List, [], true, false, true≢false, sym, ◌∙◌, subst}
+use Rattle.std.proofs.Common.{◌≢◌, ℕ, List, [], true≢false, sym, ◌∙◌, subst}
 use Rattle.std.specs.Prelude.{Contains, IfNone, codes}
 use Rattle.gfs2_layout.specs.Holding.{Holding}
 use Rattle.glock_names.proofs.StepLaws.{answer_at, needed_at}
@@ -9,8 +9,8 @@ use Rattle.image_model.proofs.Rows.{and_left}
 use Rattle.gfs2_layout.specs.Structures.{is_directory}
 use Rattle.directories.specs.Shown.{IsShown}
 use Rattle.name_inserts.specs.Way.{IsOnWay, IsRightWay}
-use Rattle.name_moves.specs.Moving.{is_reparented, move_of}
-use Rattle.move_calls.specs.Checks.{IsNeededOnWays, IsOnItsWay, IsWayOf, IsWrongOnWays}
+use Rattle.name_moves.specs.Moving.{move_of}
+use Rattle.move_calls.specs.Checks.{IsNeededOnWays, IsOffItsWays, IsOnItsWay, IsWayOf, IsWrongOnWays}
 use Rattle.move_calls.proofs.OnWays.{any_none, new_way, none_as, off_all, old_way, parent_way}
 use Rattle.move_calls.proofs.Room.{at_none}
 use Rattle.move_calls.proofs.ways.block_on_ways.Goals as goal
@@ -70,7 +70,7 @@ returns-then-not-gets_parent-clause-none g c =
     let Off : ℕ → List ℕ → Type 0 = λ dir name. (b : ℕ) → Contains blocks b → (h : Holding) → IsShown v dir h → IsOnWay h name b → ⊥ in
     let old : Off m.from m.name = subst (Off m.from) c.bytes.ensures.bytes (at_none (Off m.from c.bytes.result.now) c.in-Is-None.field-0 c.in-Is-None.field-0-is (answer_at _ _ (λ found. IfNone found (Off m.from c.bytes.result.now)) c.in-Is-None.is c.in_ok-block_on.ensures.none)) in
     let new : Off m.to.inode m.new_name = subst (Off m.to.inode) c.bytes-2.ensures.bytes (at_none (Off m.to.inode c.bytes-2.result.now) c.in-Is-None-2.field-0 c.in-Is-None-2.field-0-is (answer_at _ _ (λ found. IfNone found (Off m.to.inode c.bytes-2.result.now)) c.in-Is-None-2.is c.in_ok-block_on-2.ensures.none)) in
-    off_all v m blocks c.is_a_view.ensures old new (λ moves. absurd (true≢false (sym moves ∙ sym c.gets_parent.ensures ∙ c.if-not-gets_parent.true)))
+    off_all v m blocks old new (λ moves. absurd (true≢false (sym moves ∙ sym c.gets_parent.ensures ∙ c.if-not-gets_parent.true)))
 
 pub returns-then-not-gets_parent-clause-right : goal.returns-then-not-gets_parent-clause-right
 returns-then-not-gets_parent-clause-right g c h shown =
@@ -92,7 +92,7 @@ returns-clause-none g c =
     let Off : ℕ → List ℕ → Type 0 = λ dir name. (b : ℕ) → Contains blocks b → (h : Holding) → IsShown v dir h → IsOnWay h name b → ⊥ in
     let old : Off m.from m.name = subst (Off m.from) c.bytes.ensures.bytes (at_none (Off m.from c.bytes.result.now) c.in-Is-None.field-0 c.in-Is-None.field-0-is (answer_at _ _ (λ found. IfNone found (Off m.from c.bytes.result.now)) c.in-Is-None.is c.in_ok-block_on.ensures.none)) in
     let new : Off m.to.inode m.new_name = subst (Off m.to.inode) c.bytes-2.ensures.bytes (at_none (Off m.to.inode c.bytes-2.result.now) c.in-Is-None-2.field-0 c.in-Is-None-2.field-0-is (answer_at _ _ (λ found. IfNone found (Off m.to.inode c.bytes-2.result.now)) c.in-Is-None-2.is c.in_ok-block_on-2.ensures.none)) in
-    none_as (Off m.moved.inode (codes "..")) ((b : ℕ) → Contains blocks b → IsOnItsWay v m b → ⊥) (λ parent. off_all v m blocks c.is_a_view.ensures old new (λ moves. parent)) c.block_on-3.result c.block_on-3.ensures.none
+    none_as (Off m.moved.inode (codes "..")) ((b : ℕ) → Contains blocks b → IsOffItsWays v m b) (λ parent. off_all v m blocks old new (λ moves. parent)) c.block_on-3.result c.block_on-3.ensures.none
 
 pub returns-clause-right : goal.returns-clause-right
 returns-clause-right g c h shown =

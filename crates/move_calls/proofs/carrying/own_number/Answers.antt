@@ -5,7 +5,7 @@ use Rattle.std.proofs.lemmas.Option.{slice_get-get_or}
 use Rattle.glock_names.specs.declared.views.Group.{Group}
 use Rattle.room_search.specs.Blocks.{group_of_node}
 use Rattle.room_search.proofs.Holds.{read_group}
-use Rattle.move_calls.proofs.carrying.own_block.Goals as goal
+use Rattle.move_calls.proofs.carrying.own_number.Goals as goal
 
 pub returns : goal.returns
 returns g c =
