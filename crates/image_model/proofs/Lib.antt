@@ -22,3 +22,4 @@ pub mod Listing
 pub mod JournalNames
 pub mod Reached
 pub mod Replaying
+pub mod SystemStays

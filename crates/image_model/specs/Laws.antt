@@ -1,20 +1,21 @@
 -- Laws of images.
-use Rattle.std.specs.Prelude.{ℕ, ◌≡◌, ◌<◌, ◌↔◌, true, List, Some}
+use Rattle.std.specs.Prelude.{ℕ, ◌≡◌, ◌⊎◌, ◌<◌, ◌↔◌, true, List, Some}
 use Rattle.std.specs.List.Sorted.{IsPermutation}
 use Rattle.file_tree.specs.Tree.{Tree}
 use Rattle.image_model.specs.Image.{Image}
 use Rattle.image_model.specs.Claims.{every, Claims}
 use Rattle.image_model.specs.Journals.{IsJournal}
-use Rattle.image_model.specs.Replays.{HasItsJournals, IsLiveTwice, IsReplayable, Replayed}
+use Rattle.image_model.specs.Replays.{HasItsJournals, IsLiveTwice, IsReplayable, Replayed, StandsReplayed}
 use Rattle.image_model.specs.Rules.{Breaks, IsReached}
 use Rattle.gfs2_layout.specs.declared.dinode.Dinode.{Dinode}
 use Rattle.log_layout.specs.Journal.{IsClean, ring_of}
 use Rattle.log_layout.specs.Laws.{SaysTheSame}
 use Rattle.image_model.specs.Owners.{Owner, Owners, Below, Chained, is_dinode, IsUsed, holding}
-use Rattle.gfs2_layout.specs.Inode.{Head, content_block}
+use Rattle.gfs2_layout.specs.Inode.{Fits, Head, content_block}
 use Rattle.gfs2_layout.specs.Holding.{Part, Itself, Pointed, InChain, bytes_at, part_at}
 use Rattle.gfs2_layout.specs.Records.{Record, child_named}
 use Rattle.image_model.specs.Stands.{Layout, IsJournalAt, IsLaid, IsDirectory, Stands}
+use Rattle.image_model.specs.SystemFiles.{HasSameSystem, IsSystemBlock, IsSystemFile}
 
 -- an image stands for at most one tree
 abbrev pub OneTree : Type 0
@@ -63,9 +64,13 @@ pub record ReadsAlike (im : Image) (owners : Owners) (a : ℕ) : Type 0 where
 abbrev pub JournalsReadAlike : Type 0
 JournalsReadAlike = (im : Image) (owners : Owners) (l : Layout) → IsLaid im owners l → (a : ℕ) → is_dinode (owners a) ≡ true → IsJournal (holding im owners a) → ReadsAlike im owners a
 
--- there is at most one replayed image
+-- there is at most one replayed image, whatever layout is found
 abbrev pub OneReplay : Type 0
-OneReplay = (im a b : Image) (l : Layout) → Replayed im l a → Replayed im l b → a ≡ b
+OneReplay = (im a b : Image) (l m : Layout) → Replayed im l a → Replayed im m b → a ≡ b
+
+-- and it is that by any layout that has the image's journals
+abbrev pub ReplayedByAny : Type 0
+ReplayedByAny = (im replayed : Image) (l m : Layout) → HasItsJournals im l → Replayed im m replayed → Replayed im l replayed
 
 -- and there is one where the image can be replayed
 abbrev pub ReplayedIsThere : Type 0
@@ -75,6 +80,23 @@ ReplayedIsThere = (im : Image) (l : Layout) → IsReplayable im l → (replayed 
 abbrev pub CleanImagesStay : Type 0
 CleanImagesStay = (im : Image) (l : Layout) → HasItsJournals im l → ((j d : ℕ) → IsJournalAt l j d → IsClean (ring_of (every im d))) → Replayed im l im
 
+-- an image that stands as it lies, with all its journals clean, stands for that tree
+abbrev pub CleanImagesStand : Type 0
+CleanImagesStand = (im : Image) (t : Tree) (s : Stands im t) → ((j d : ℕ) → IsJournalAt s.layout j d → IsClean (ring_of (every im d))) → StandsReplayed im t
+
+-- and the tree for which an image stands, its journals replayed, is one
+abbrev pub OneReplayedTree : Type 0
+OneReplayedTree = (im : Image) (t u : Tree) → StandsReplayed im t → StandsReplayed im u → t ≡ u
+
 -- where a block is live in two journals there is no replayed image
 abbrev pub TwiceLiveIsNotReplayed : Type 0
 TwiceLiveIsNotReplayed = (im replayed : Image) (l : Layout) (block : ℕ) → IsLiveTwice im l block → Replayed im l replayed → ⊥
+
+-- a replay leaves the blocks of the system files as they are
+abbrev pub ReplaysKeepSystem : Type 0
+ReplaysKeepSystem = (im replayed : Image) (l : Layout) → Replayed im l replayed → HasSameSystem im replayed
+
+-- an image that has the blocks of another's system files has the same system files, where these fit their dinodes in one of the two
+abbrev pub SystemIsTheSame : Type 0
+SystemIsTheSame = (im other : Image) → HasSameSystem im other → ((d : ℕ) → IsSystemFile im d → IsSystemFile other d → Fits (every im d) ⊎ Fits (every other d))
+    → (b : ℕ) → IsSystemBlock im b ↔ IsSystemBlock other b

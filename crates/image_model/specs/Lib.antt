@@ -6,6 +6,7 @@ pub mod Groups
 pub mod Journals
 pub mod Stands
 pub mod Claims
+pub mod SystemFiles
 pub mod Replays
 pub mod Profile
 pub mod Rules

@@ -1,5 +1,6 @@
 -- The image that a replay of every journal leaves.
 use Rattle.std.specs.Prelude.{ℕ, ◌≡◌, ◌≢◌, ◌⊎◌, ◌<◌, ◌≤◌, List, length, Option, None, Some}
+use Rattle.file_tree.specs.Tree.{Tree}
 use Rattle.gfs2_layout.specs.declared.rindex.Rindex.{Rindex}
 use Rattle.gfs2_layout.specs.Inode.{content_block}
 use Rattle.log_layout.specs.Journal.{ring_of}
@@ -7,7 +8,8 @@ use Rattle.log_layout.specs.Live.{IsReadable, live_in}
 use Rattle.image_model.specs.Claims.{every, HasGroup, HasJournal}
 use Rattle.image_model.specs.Groups.{IsHeaderOf, IsDataOf}
 use Rattle.image_model.specs.Image.{Image}
-use Rattle.image_model.specs.Stands.{Layout, IsJournalAt}
+use Rattle.image_model.specs.Stands.{Layout, IsJournalAt, Stands}
+use Rattle.image_model.specs.SystemFiles.{IsSystemBlock}
 
 -- what is live of a block in the journal with its dinode in block d
 abbrev pub live_at : Image → ℕ → ℕ → Option (List ℕ)
@@ -29,11 +31,12 @@ pub record HasItsJournals (im : Image) (l : Layout) : Type 0 where
   pub there : (j d : ℕ) → IsJournalAt l j d → HasJournal im j d
   pub all : (j d : ℕ) → HasJournal im j d → j ≤ length l.journals → IsJournalAt l j d
 
--- a block that a replay may change: a group's header, a block of its bitmap or a data block, and no journal's place
+-- a block that a replay may change: a group's header, a block of its bitmap or a data block, and neither a journal's place nor a block by which the journals and groups are found
 pub record MayChange (im : Image) (l : Layout) (block : ℕ) : Type 0 where
   pub there : block < im.count
   pub group : (g : Rindex) × HasGroup im g × (IsHeaderOf g block ⊎ IsDataOf g block)
   pub no_place : (j d p : ℕ) → IsJournalAt l j d → p < (ring_of (every im d)).places → content_block (every im d) p ≢ block
+  pub apart : ¬ (IsSystemBlock im block)
 
 -- The image can be replayed: each of its journals can be read, no block is live in two of them, and what is live may be changed.
 pub record IsReplayable (im : Image) (l : Layout) : Type 0 where
@@ -49,6 +52,13 @@ pub record Replayed (im : Image) (l : Layout) (replayed : Image) : Type 0 where
   pub count : replayed.count ≡ im.count
   pub live : (j d block : ℕ) (bytes : List ℕ) → IsJournalAt l j d → live_at im d block ≡ Some bytes → replayed.at block ≡ bytes
   pub others : (block : ℕ) → ((j d : ℕ) → IsJournalAt l j d → live_at im d block ≡ None) → replayed.at block ≡ im.at block
+
+-- The image, its journals replayed, stands for the tree.
+pub record StandsReplayed (im : Image) (t : Tree) : Type 0 where
+  pub layout : Layout
+  pub replayed : Image
+  pub is : Replayed im layout replayed
+  pub stands : Stands replayed t
 
 -- Rule 20: a block is live in two journals. It speaks of the journals of an image as it lies, and where it is broken there is no replayed image.
 pub record IsLiveTwice (im : Image) (l : Layout) (block : ℕ) : Type 0 where

@@ -1,5 +1,5 @@
 //! What the definitions of images mean. The functions do nothing: their contracts are the laws.
-ghost use Rattle.image_model.specs.Laws.{AnyOrder, BrokenAreReached, CleanImagesStay, HoldingsAreOwned, JournalsReadAlike, NothingBreaks, OneReplay, OneTable, OneTree, OwnersClaim, ReplayedIsThere, TwiceLiveIsNotReplayed};
+ghost use Rattle.image_model.specs.Laws.{AnyOrder, BrokenAreReached, CleanImagesStand, CleanImagesStay, HoldingsAreOwned, JournalsReadAlike, NothingBreaks, OneReplay, OneReplayedTree, OneTable, OneTree, OwnersClaim, ReplayedByAny, ReplayedIsThere, ReplaysKeepSystem, SystemIsTheSame, TwiceLiveIsNotReplayed};
 
 /// A law: an image stands for at most one tree.
 pub fn images_stand_for_one_tree()
@@ -44,11 +44,24 @@ pub fn journals_read_alike()
 /// A law: of an image that can be replayed there is one replayed image; of any other there is none, so where a block is live in two journals.
 pub fn images_have_one_replay()
     ensures one { OneReplay }
+    ensures any { ReplayedByAny }
     ensures there { ReplayedIsThere }
     ensures none { TwiceLiveIsNotReplayed }
 {}
 
-/// A law: an image whose journals are clean is its own replayed image.
+/// A law: an image whose journals are clean is its own replayed image, and stands for the tree for which it stands as it lies.
 pub fn clean_images_stay()
-    ensures { CleanImagesStay }
+    ensures stay { CleanImagesStay }
+    ensures stand { CleanImagesStand }
+{}
+
+/// A law: an image stands for at most one tree, its journals replayed.
+pub fn replayed_images_stand_for_one_tree()
+    ensures { OneReplayedTree }
+{}
+
+/// A law: a replay changes no block of the system files; and who has these blocks of an image has the same system files.
+pub fn replays_keep_system_files()
+    ensures kept { ReplaysKeepSystem }
+    ensures same { SystemIsTheSame }
 {}

@@ -7,5 +7,6 @@ mod laws;
 pub use laws::{
     blocks_have_one_owner, broken_blocks_are_reached, clean_images_stay, holdings_are_owned,
     images_have_one_replay, images_stand_for_one_tree, journals_read_alike,
-    owners_claim_their_blocks, records_have_no_order, what_stands_breaks_nothing,
+    owners_claim_their_blocks, records_have_no_order, replayed_images_stand_for_one_tree,
+    replays_keep_system_files, what_stands_breaks_nothing,
 };

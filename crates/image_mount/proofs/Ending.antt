@@ -1,6 +1,6 @@
 -- What mounting tells in the end.
-use Rattle.std.proofs.Common.{refl, ◌≡◌, ℕ, ◌^◌, ◌<◌, ◌≤◌, List, [], length, Some, IsTrue, sym, ap, subst, ◌∙◌}
-use Rattle.std.specs.Prelude.{map, slice_get, Result, IfErr, IsErrAnd}
+use Rattle.std.proofs.Common.{inr, refl, ◌≡◌, ℕ, ◌^◌, ◌<◌, ◌≤◌, List, length, Some, IsTrue, sym, ap, subst, ◌∙◌}
+use Rattle.std.specs.Prelude.{◌↔◌, map, slice_get, Contains, Result, IfErr, IsErrAnd}
 use Rattle.std.specs.List.{All}
 use Rattle.std.proofs.lemmas.List.{length-map}
 use Rattle.std.proofs.lemmas.Option.{slice_get_within, get_or_from_slice_get}
@@ -12,15 +12,18 @@ use Rattle.gfs2_layout.specs.Inode.{content_block}
 use Rattle.log_layout.specs.Journal.{ring_of}
 use Rattle.image_model.specs.Claims.{every}
 use Rattle.image_model.specs.Image.{Image, image_of}
-use Rattle.image_model.specs.Stands.{Layout, IsJournalAt}
-use Rattle.image_mount.specs.Found.{HasFormat, HasNames}
+use Rattle.image_model.specs.Owners.{Owners}
+use Rattle.image_model.specs.Stands.{IsLaid, Layout, IsJournalAt}
+use Rattle.image_model.specs.SystemFiles.{HasSameSystem}
+use Rattle.image_mount.specs.Found.{HasFormat}
 use Rattle.image_model.specs.Journals.{journal_name}
 use Rattle.image_mount.specs.Looks.{HasTrueRecord, IsInGroups, IsPlaceOf, IsSoundDirectory, IsSystemDinode, IsTrueEntry, of_journal, of_jindex, of_master, of_rindex}
-use Rattle.image_mount.specs.Marked.{IsKept, IsKeptWay, times_in}
+use Rattle.image_mount.specs.Marked.{AreMarked, IsKept, IsKeptWay, IsTaken, times_in}
 use Rattle.image_mount.specs.Mounted.{Journal, MountedValue, IsMounted, IsOfProfile, IsJournalOf}
 use Rattle.image_mount.specs.Refusals.{RefusesRightly, IsExcused}
 use Rattle.image_mount.specs.Rings.{AreKeptWays, IsSearched, AreRings, AreJournals, IsLowJournal, IsOwn, IsRingOf, all_places}
-use Rattle.image_mount.specs.System.{HasDinodes, IsSystemOf, layout_of}
+use Rattle.image_mount.specs.Searching.{ShowsSystem}
+use Rattle.image_mount.specs.System.{HasDinodes, HasReadSystem, IsSystemOf, layout_of}
 use Rattle.image_mount.specs.Kept.{Kept}
 use Rattle.shared_disk.specs.Disk.{DiskState}
 use Rattle.image_mount.specs.declared.fault.MountFault.{MountFault}
@@ -33,13 +36,25 @@ use Rattle.image_mount.proofs.Marked.{places_apart}
 use Rattle.image_mount.proofs.Names.{all_at, mapped_at, from_mapped}
 use Rattle.image_mount.proofs.Places.{block_there}
 use Rattle.image_mount.proofs.Stops.{handed}
+use Rattle.image_mount.proofs.SystemRead.{block_taken, laid_fits, shows_own, shows_same, taken_block}
 
--- a refusal that is handed on, where the disk tells
-pub refused_where : {T : Type 0} (W : Type 0) (im : Image) (r : Result T MountFault) (f : MountFault) → IsErrAnd r (λ g. g ≡ f) → (W → RefusesRightly im f) → IfErr r (λ g. W → RefusesRightly im g)
-refused_where {T} W im r f is right = handed {T = T} r (λ g. g ≡ f) (λ g. W → RefusesRightly im g) is (λ g e w. subst (RefusesRightly im) (sym e) (right w))
+-- a refusal that is handed on, where the disk tells: of its own image
+pub refused_where : {T : Type 0} (s : DiskState) (r : Result T MountFault) (f : MountFault) → IsErrAnd r (λ g. g ≡ f) → ((im : Image) → ShowsSystem s im → RefusesRightly im f) → IfErr r (λ g. IsTrue s.tells → RefusesRightly (image_of s) g)
+refused_where {T} s r f is right = handed {T = T} r (λ g. g ≡ f) (λ g. IsTrue s.tells → RefusesRightly (image_of s) g) is (λ g e tells. subst (RefusesRightly (image_of s)) (sym e) (right (image_of s) (shows_own s tells)))
 
-pub excused_where : {T : Type 0} (W : Type 0) (im : Image) (r : Result T MountFault) (f : MountFault) → IsErrAnd r (λ g. g ≡ f) → (W → RefusesRightly im f) → IfErr r (λ g. W → IsOfProfile im → IsExcused g)
-excused_where {T} W im r f is right = handed {T = T} r (λ g. g ≡ f) (λ g. W → IsOfProfile im → IsExcused g) is (λ g e w of. subst IsExcused (sym e) (excused im f (right w) of))
+-- and of one that stands and has its system files
+pub standing_where : {T : Type 0} (s : DiskState) (r : Result T MountFault) (f : MountFault) → IsErrAnd r (λ g. g ≡ f) → ((im : Image) → ShowsSystem s im → RefusesRightly im f)
+    → IfErr r (λ g. IsTrue s.tells → (im : Image) (o : Owners) (l : Layout) → HasSameSystem (image_of s) im → IsLaid im o l → RefusesRightly im g)
+standing_where {T} s r f is right =
+    handed {T = T} r (λ g. g ≡ f) (λ g. IsTrue s.tells → (im : Image) (o : Owners) (l : Layout) → HasSameSystem (image_of s) im → IsLaid im o l → RefusesRightly im g) is
+    (λ g e tells im o l same laid. subst (RefusesRightly im) (sym e) (right im (shows_same s im tells same (λ d is is'. inr (laid_fits im o l laid d is')))))
+
+-- so one of the profile is refused only for want of memory, or where the disk failed
+pub excused_where : {T : Type 0} (s : DiskState) (r : Result T MountFault) (f : MountFault) → IsErrAnd r (λ g. g ≡ f) → ((im : Image) → ShowsSystem s im → RefusesRightly im f)
+    → IfErr r (λ g. IsTrue s.tells → (im : Image) → HasSameSystem (image_of s) im → IsOfProfile im → IsExcused g)
+excused_where {T} s r f is right =
+    handed {T = T} r (λ g. g ≡ f) (λ g. IsTrue s.tells → (im : Image) → HasSameSystem (image_of s) im → IsOfProfile im → IsExcused g) is
+    (λ g e tells im same of. subst IsExcused (sym e) (excused im f (right im (shows_same s im tells same (λ d is is'. inr (laid_fits im of.owners of.layout of.laid d is')))) of))
 
 same_some : {X : Type 0} (x y : X) → Some x ≡ Some y → x ≡ y
 same_some x y e = cc
@@ -51,8 +66,13 @@ pub mounted : (im : Image) (system : System) (rings : List Ring) (journals : Lis
     → (k : Kept) → HasDinodes im k system → All (λ (r : Ring). IsKept k r.dinode) rings
     → All (λ (r : Ring). AreKeptWays im k r.dinode r.blocks.items) rings
     → ((j p b : ℕ) (r : Ring) → slice_get rings j ≡ Some r → slice_get r.blocks.items p ≡ Some b → ¬ (IsKept k b))
+    → (old : Kept) → HasReadSystem im k system → AreMarked old k (all_places rings) → IsSearched im (map (λ (r : Ring). r.dinode) rings) 0 0 k → ((b : ℕ) → Contains m.system b ↔ IsTaken k b)
     → m.superblock ≡ system.superblock → m.groups ≡ map group_of_entry system.groups.items → m.journals ≡ journals → IsMounted im m
-mounted im system rings journals m looked are found placed once own k dinodes_kept rings_kept ways_kept unkept super groups same = record {
+mounted im system rings journals m looked are found placed once own k dinodes_kept rings_kept ways_kept unkept old read marked known taken super groups same = record {
+  system = λ b. (
+    λ has. taken_block im (map (λ (r : Ring). r.dinode) rings) 0 0 k known b ((taken b).0 has),
+    λ is. (taken b).1 (block_taken im system rings looked are old k dinodes_kept read rings_kept ways_kept marked b is),
+  );
   layout = l;
   found = looked.names;
   profile = record {
@@ -163,20 +183,3 @@ mounted im system rings journals m looked are found placed once own k dinodes_ke
         let low = slice_get_within journals j journal.0 journal.1 in
         let of = subst (IsLowJournal im) (get_or_from_slice_get journals j journal.0 journal.0 journal.1) (found.each j journal.0 low) in
         (journal.0, journal.1, (subst (λ x. IsJournalOf im x journal.0) journal.2 of.is, of.low))
-
-module _ (old now : DiskState) (same : now ≡ old) where
-  pub rings_told : (system : System) (k : Kept) (P : Image → Type 0) → (IsTrue now.tells → IsSystemOf (image_of now) system → IsSearched (image_of now) [] 0 0 k → P (image_of now))
-      → IsTrue old.tells → IsSystemOf (image_of old) system → IsSearched (image_of old) [] 0 0 k → P (image_of old)
-  rings_told system k P more = subst (λ (s : DiskState). IsTrue s.tells → IsSystemOf (image_of s) system → IsSearched (image_of s) [] 0 0 k → P (image_of s)) same more
-
-  pub journals_refused : (l : Layout) (rings : List Ring) (f : MountFault)
-      → (IsTrue now.tells → HasNames (image_of now) l → map (λ (r : Ring). r.dinode) rings ≡ l.journals → All (λ (r : Ring). IsRingOf (image_of now) r.dinode r.blocks.items) rings → RefusesRightly (image_of now) f)
-      → IsTrue old.tells → HasNames (image_of old) l → map (λ (r : Ring). r.dinode) rings ≡ l.journals → All (λ (r : Ring). IsRingOf (image_of old) r.dinode r.blocks.items) rings → RefusesRightly (image_of old) f
-  journals_refused l rings f more =
-      subst (λ (s : DiskState). IsTrue s.tells → HasNames (image_of s) l → map (λ (r : Ring). r.dinode) rings ≡ l.journals → All (λ (r : Ring). IsRingOf (image_of s) r.dinode r.blocks.items) rings → RefusesRightly (image_of s) f) same more
-
-  pub journals_found : (rings : List Ring) (journals : List Journal)
-      → (IsTrue now.tells → All (λ (r : Ring). IsRingOf (image_of now) r.dinode r.blocks.items) rings → AreJournals (image_of now) rings journals)
-      → IsTrue old.tells → All (λ (r : Ring). IsRingOf (image_of old) r.dinode r.blocks.items) rings → AreJournals (image_of old) rings journals
-  journals_found rings journals more =
-      subst (λ (s : DiskState). IsTrue s.tells → All (λ (r : Ring). IsRingOf (image_of s) r.dinode r.blocks.items) rings → AreJournals (image_of s) rings journals) same more

@@ -1,16 +1,12 @@
 -- The head of a journal, found from its first place on.
-use Rattle.std.proofs.Common.{◌≡◌, ◌≢◌, ◌^◌, ◌++◌, [], ◌∷◌, ℕ, zero, suc, ◌+◌, ◌<◌, ◌≤◌, List, length, Option, None, Some, get_or, refl, sym, ap, subst, ◌∙◌, arith}
-use Rattle.std.specs.Prelude.{map, slice_get, take, Ok, Err}
+use Rattle.std.proofs.Common.{◌≡◌, ◌^◌, ◌++◌, [], ◌∷◌, ℕ, suc, ◌+◌, ◌<◌, ◌≤◌, List, length, Option, None, Some, get_or, refl, sym, ap, subst, ◌∙◌, arith}
+use Rattle.std.specs.Prelude.{map, slice_get, take}
 use Rattle.std.specs.List.{All, range_with_len}
-use Rattle.std.proofs.lemmas.Bool.{cond-true, cond-false, eq-eqb, ne_eqb}
-use Rattle.std.proofs.lemmas.Bool.Decides.{nat_tests}
 use Rattle.std.proofs.lemmas.List.{length-map, map-append}
 use Rattle.std.proofs.lemmas.List.Elements.{All-push}
 use Rattle.std.proofs.lemmas.List.FromFn.{get_or-map-range_with_len, length-range_with_len}
 use Rattle.gfs2_layout.specs.Inode.{content_block}
-use Rattle.log_layout.specs.Journal.{Ring, ring_of, if_at, accepted, better, best_from, head_in}
-use Rattle.log_layout.specs.Headers.{log_read}
-use Rattle.gfs2_layout.specs.declared.fault.LayoutFault.{LayoutFault}
+use Rattle.log_layout.specs.Journal.{ring_of, accepted, better, best_from, head_in}
 use Rattle.log_layout.specs.declared.log_header.LogHeader.{LogHeader}
 use Rattle.image_model.specs.Claims.{every}
 use Rattle.image_model.specs.Image.{Image}

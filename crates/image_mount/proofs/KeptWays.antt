@@ -1,5 +1,5 @@
 -- The blocks on the way to a journal's places, which are kept, and so at no place.
-use Rattle.std.proofs.Common.{◌≡◌, ◌≢◌, inl, inr, ℕ, zero, suc, ◌+◌, ◌-◌, ◌*◌, ◌/◌, ◌%◌, ◌<◌, List, [], ◌∷◌, ◌++◌, get_or, Option, None, Some, IsTrue, refl, sym, ap, subst, ◌∙◌, arith}
+use Rattle.std.proofs.Common.{◌≡◌, ◌≢◌, inl, inr, ℕ, zero, suc, ◌+◌, ◌-◌, ◌*◌, ◌/◌, ◌%◌, ◌<◌, List, [], ◌∷◌, ◌++◌, get_or, Option, None, Some, refl, sym, ap, subst, ◌∙◌, arith}
 use Rattle.std.specs.Prelude.{unwrap_or}
 use Rattle.std.specs.List.{All}
 use Rattle.std.proofs.lemmas.Bool.{cases_eq}
@@ -12,8 +12,7 @@ use Rattle.gfs2_layout.specs.Inode.{dinode_in, header_length, height_in, pointer
 use Rattle.gfs2_layout.specs.Structures.{dinode_length, dinode_of}
 use Rattle.gfs2_layout.specs.declared.dinode.Dinode.{Dinode}
 use Rattle.image_model.specs.Claims.{every}
-use Rattle.image_model.specs.Image.{Image, image_of}
-use Rattle.shared_disk.specs.Disk.{DiskState}
+use Rattle.image_model.specs.Image.{Image}
 use Rattle.image_mount.specs.Kept.{Kept, seen_of}
 use Rattle.image_mount.specs.Looks.{IsOffDown, IsOffWay}
 use Rattle.image_mount.specs.Marked.{IsGrown, IsKept, IsKeptDown, IsKeptWay}
@@ -94,22 +93,6 @@ module _ (im : Image) (old new : Kept) (grown : IsGrown old new) where
       subst (All (λ (r : Ring). AreKeptWays im new r.dinode r.blocks.items)) (sym is)
       (All-push (λ (r : Ring). AreKeptWays im new r.dinode r.blocks.items) rings ring
       (λ i e low p within. way_stays old new grown (every im (get_or rings i e).dinode) p (before i e low p within)) (subst (λ a. AreKeptWays im new a ring.blocks.items) (sym dinode) here))
-
--- ---- on a disk that holds what it held before
-
-pub way_told : (old now : DiskState) (k : Kept) (d p : ℕ) (W : Type 0) → now ≡ old → (IsTrue now.tells → W → IsKeptWay k (every (image_of now) d) p) → IsTrue old.tells → W → IsKeptWay k (every (image_of old) d) p
-way_told old now k d p W same more = subst (λ (s : DiskState). IsTrue s.tells → W → IsKeptWay k (every (image_of s) d) p) same more
-
-pub ways_told : (old now : DiskState) (k : Kept) (d n : ℕ) (W : Type 0) → now ≡ old → (IsTrue now.tells → W → (p : ℕ) → p < n → IsKeptWay k (every (image_of now) d) p) → IsTrue old.tells → W
-    → (p : ℕ) → p < n → IsKeptWay k (every (image_of old) d) p
-ways_told old now k d n W same more = subst (λ (s : DiskState). IsTrue s.tells → W → (p : ℕ) → p < n → IsKeptWay k (every (image_of s) d) p) same more
-
-pub ring_ways_told : (old now : DiskState) (k : Kept) (d : ℕ) (blocks : List ℕ) → now ≡ old → (IsTrue now.tells → AreKeptWays (image_of now) k d blocks) → IsTrue old.tells → AreKeptWays (image_of old) k d blocks
-ring_ways_told old now k d blocks same more = subst (λ (s : DiskState). IsTrue s.tells → AreKeptWays (image_of s) k d blocks) same more
-
-pub rings_ways_told : (old now : DiskState) (k : Kept) (rings : List Ring) → now ≡ old → (IsTrue now.tells → All (λ (r : Ring). AreKeptWays (image_of now) k r.dinode r.blocks.items) rings) → IsTrue old.tells
-    → All (λ (r : Ring). AreKeptWays (image_of old) k r.dinode r.blocks.items) rings
-rings_ways_told old now k rings same more = subst (λ (s : DiskState). IsTrue s.tells → All (λ (r : Ring). AreKeptWays (image_of s) k r.dinode r.blocks.items) rings) same more
 
 -- ---- what isn't kept is on no such way
 

@@ -1,6 +1,6 @@
 -- How far a walk over the leaves of a hashed directory has come.
-use Rattle.std.proofs.Common.{◌≡◌, ◌≢◌, ◌⊎◌, inl, inr, ℕ, ◌+◌, ◌^◌, ◌<◌, ◌≤◌, IsTrue, Bool, true, false, List, [], ◌∷◌, ◌++◌, length, get_or, drop, Option, None, Some, refl, sym, ap, subst, ◌∙◌, arith, length-append}
-use Rattle.std.specs.Prelude.{if◌then◌else◌, map, flat_map, not, Contains, IfSome, slice_get}
+use Rattle.std.proofs.Common.{◌≡◌, ◌≢◌, ◌⊎◌, inl, inr, ℕ, ◌+◌, ◌^◌, ◌<◌, ◌≤◌, Bool, true, false, List, [], ◌∷◌, ◌++◌, length, get_or, drop, Option, None, Some, refl, sym, ap, subst, ◌∙◌, arith, length-append}
+use Rattle.std.specs.Prelude.{if◌then◌else◌, map, flat_map, not, Contains, IfSome, slice_get, slice_set}
 use Rattle.std.specs.List.{All}
 use Rattle.std.specs.Option.{option_map}
 use Rattle.std.proofs.Math.Path.{transport}
@@ -13,7 +13,7 @@ use Rattle.gfs2_layout.specs.Inode.{entry, first_hash, index_bits, is_hashed_in,
 use Rattle.gfs2_layout.specs.Records.{Record, records_in, is_dots}
 use Rattle.gfs2_layout.specs.declared.leaf.Leaf.{Leaf}
 use Rattle.image_model.specs.Claims.{every, Claims, HasArea, HasDirectory, HasLeaf, behind_dinode, of_leaf}
-use Rattle.image_model.specs.Image.{Image, image_of}
+use Rattle.image_model.specs.Image.{Image}
 use Rattle.image_reader.specs.Leaves.{HasClaim, AreChained, leaf_records}
 use Rattle.image_model.specs.Owners.{Owner, Chained}
 use Rattle.image_reader.specs.Owning.{owner_of, AreClaims, IsClash, IsEntered, IsEmpty}
@@ -34,13 +34,14 @@ use Rattle.image_reader.proofs.WalkFaults.{clash, empty_claims, entered_if}
 use Rattle.image_mount.specs.Found.{HasFormat, IsFirstOther, IsInChain, chain_head, ComesBefore, is_other, first_other, name_count, in_leaf}
 use Rattle.image_mount.specs.Found.{chain_next as chain_behind}
 use Rattle.image_mount.specs.Leaves.{AreAllLeaves, AreDeep, HasBeside, IsBehind, IsSoundLeaf, IsLeafIn, IsPassed, block_of, IsListed, AreLeavesOf, IsFoundIn, IsGoneOver, IsOpen, IsTold, IsWalked, IsClosed, ComesNext, IsNextLeaf, IsFirstTold, IsTableOf, HasEnded, LooksFor}
+use Rattle.image_mount.specs.Marked.{IsTaken}
 use Rattle.image_mount.specs.Sifting.{AreAdded}
+use Rattle.image_mount.proofs.Marked.{got_other}
 use Rattle.image_mount.specs.Listing.{said, standing, AreAllRecords, AreCountedIn, AreDistinct}
 use Rattle.image_mount.specs.Looks.{HasSoundLeaves, IsInRun, LeadsToLeaf}
 use Rattle.image_mount.specs.Refusals.{IsOutside, RefusesRightly, of_image}
 use Rattle.image_mount.specs.Refusals as outside
 use Rattle.image_mount.specs.Kept.{Kept}
-use Rattle.image_mount.specs.Rings.{IsSearched}
 use Rattle.image_mount.specs.System.{ArePlainRecords}
 use Rattle.image_mount.specs.declared.fault.MountFault.{MountFault}
 use Rattle.image_mount.specs.declared.fault.MountFault.TheVariants as fault
@@ -48,14 +49,12 @@ use Rattle.image_mount.specs.declared.field.Field.TheVariants as field
 use Rattle.image_mount.specs.declared.inodes.Inode.{Inode}
 use Rattle.image_mount.specs.declared.leaf.LeafAt.{LeafAt}
 use Rattle.image_mount.specs.declared.leaf.LeafWalk.{LeafWalk}
-use Rattle.image_mount.specs.declared.leaf.Names.{Names}
 use Rattle.image_mount.specs.declared.leaf.Names.TheVariants.{Files}
 use Rattle.image_mount.specs.declared.listing.Named.{Named}
 use Rattle.image_mount.proofs.Adding.{kept_at, new_at, said_added, which_at}
 use Rattle.image_mount.proofs.Causes.{told_outside}
 use Rattle.image_mount.proofs.Masters.{file_has, table_hashed}
 use Rattle.image_mount.proofs.Names.{at_contains, contains_at, from_mapped, mapped_at, mapped_some, none_found as none_by_name}
-use Rattle.shared_disk.specs.Disk.{DiskState}
 use Rattle.image_mount.proofs.Numbered.{at_some}
 
 -- ---- the order of leaves
@@ -552,16 +551,24 @@ next_leaf_in im inode table walk at of is for w leaf next = record {
   master = λ files. is ∙ for files;
 }
 
-pub walked_by : (old now : DiskState) → now ≡ old → (inode : Inode) (table : HashTable) (walk : LeafWalk) (names : Names) → (IsTrue now.tells → IsTableOf (image_of now) inode table → LooksFor (image_of now) inode.block names → IsWalked (image_of now) inode.block walk)
-    → IsTrue old.tells → IsTableOf (image_of old) inode table → LooksFor (image_of old) inode.block names → IsWalked (image_of old) inode.block walk
-walked_by old now same inode table walk names more =
-    subst (λ (s : DiskState). IsTrue s.tells → IsTableOf (image_of s) inode table → LooksFor (image_of s) inode.block names → IsWalked (image_of s) inode.block walk) same more
+-- ---- the leaves that were read
 
-pub walk_told : (old now : DiskState) → now ≡ old → (inode : Inode) (table : HashTable) (names : Names) (k : Kept) (P : Image → Type 0)
-    → (IsTrue now.tells → IsTableOf (image_of now) inode table → LooksFor (image_of now) inode.block names → IsSearched (image_of now) [] 0 0 k → P (image_of now))
-    → IsTrue old.tells → IsTableOf (image_of old) inode table → LooksFor (image_of old) inode.block names → IsSearched (image_of old) [] 0 0 k → P (image_of old)
-walk_told old now same inode table names k P more =
-    subst (λ (s : DiskState). IsTrue s.tells → IsTableOf (image_of s) inode table → LooksFor (image_of s) inode.block names → IsSearched (image_of s) [] 0 0 k → P (image_of s)) same more
+-- nothing is claimed yet
+pub none_read : (a : ℕ) (k : Kept) (entries : List (Option Claim)) → IsEmpty entries → (x hash place : ℕ) → HasClaim entries x (Chained a hash place) → IsTaken k x
+none_read a k entries empty x hash place has = absurd (empty x has.claim has.there)
+
+entries_other : (old : List (Option Claim)) (block x : ℕ) (claim : Claim) (fresh : Bool) → block ≢ x → slice_get (if fresh then slice_set old block (Some claim) else old) x ≡ slice_get old x
+entries_other old block x claim true other = got_other old block x (Some claim) other
+entries_other old block x claim false other = refl
+
+-- one more is, which was read
+pub read_more : (old new : List (Option Claim)) (a block : ℕ) (claim : Claim) (fresh : Bool) (k : Kept) → new ≡ (if fresh then slice_set old block (Some claim) else old)
+    → ((x hash place : ℕ) → HasClaim old x (Chained a hash place) → IsTaken k x) → IsTaken k block → (x hash place : ℕ) → HasClaim new x (Chained a hash place) → IsTaken k x
+read_more old new a block claim fresh k is before here x hash place has = elim (cases_eq block x) [
+  | inl same ↦ subst (IsTaken k) same here
+  | inr other ↦
+      before x hash place (record { claim = has.claim; there = sym (entries_other old block x claim fresh other) ∙ ap (λ es. slice_get es x) (sym is) ∙ has.there; owner = has.owner })
+]
 
 module _ (im : Image) (inode : Inode) (table : HashTable) (walk : LeafWalk) (of : IsTableOf im inode table) (w : IsWalked im inode.block walk) (ended : HasEnded walk (2 ^ table.depth)) where
   pub came_all : AreAllLeaves im inode.block walk

@@ -23,6 +23,8 @@ pub mod JournalNames
 pub mod Accepts
 pub mod Places
 pub mod Moved
+pub mod SystemRead
+pub mod Taken
 pub mod Ending
 pub mod Grouping
 pub mod Records
@@ -34,4 +36,5 @@ pub mod Sound
 pub mod Sifts
 pub mod SoundLeaves
 pub mod KeptWays
+pub mod KeptContent
 pub mod Layouts

@@ -8,7 +8,7 @@ use Rattle.std.proofs.lemmas.List.Elements.{All-push}
 use Rattle.std.proofs.lemmas.List.Concat.{flat_map-append}
 use Rattle.std.proofs.lemmas.List.Sums.{sum_by-append, sum_by-cons}
 use Rattle.image_mount.specs.Kept.{Kept, bytes_of, seen_of}
-use Rattle.image_mount.specs.Marked.{AreMarked, AreUnkept, IsGrown, IsKept, marks_of, one_if, times_in}
+use Rattle.image_mount.specs.Marked.{AreMarked, AreUnkept, IsGrown, IsKept, IsTaken, marks_of, of_kept, of_leaf, of_place, one_if, times_in}
 use Rattle.image_mount.specs.Rings.{all_places}
 use Rattle.image_mount.specs.declared.journals.Ring.{Ring}
 
@@ -30,12 +30,12 @@ times_one b c e = omega (arith, cond-true {A = ℕ} (b == c) 1 0 (eq-eqb b c e))
 times_none : (b c : ℕ) → b ≢ c → times_in (b ∷ []) c ≡ 0
 times_none b c d = omega (arith, cond-false {A = ℕ} (b == c) 1 0 (ne_eqb b c d))
 
-got_here : {X : Type 0} (xs : List X) (i : ℕ) (x : X) → i < length xs → slice_get (slice_set xs i x) i ≡ Some x
+pub got_here : {X : Type 0} (xs : List X) (i : ℕ) (x : X) → i < length xs → slice_get (slice_set xs i x) i ≡ Some x
 got_here [] i x low = absurd (omega (arith, low))
 got_here (y ∷ xs) zero x low = refl
 got_here (y ∷ xs) (suc i) x low = got_here xs i x (omega (arith, low))
 
-got_other : {X : Type 0} (xs : List X) (i j : ℕ) (x : X) → i ≢ j → slice_get (slice_set xs i x) j ≡ slice_get xs j
+pub got_other : {X : Type 0} (xs : List X) (i j : ℕ) (x : X) → i ≢ j → slice_get (slice_set xs i x) j ≡ slice_get xs j
 got_other [] i j x d = refl
 got_other (y ∷ xs) zero zero x d = absurd (d refl)
 got_other (y ∷ xs) zero (suc j) x d = refl
@@ -97,7 +97,7 @@ one_place (x ∷ xs) (suc p) zero b few here there =
     absurd (omega (arith, few, times_cons x b xs, times_at xs p b here, cond-true {A = ℕ} (x == b) 1 0 (eq-eqb x b same)))
 one_place (x ∷ xs) (suc p) (suc q) b few here there = ap suc (one_place xs p q b (omega (arith, few, times_cons x b xs)) here there)
 
-times_among : (rings : List Ring) (j p b : ℕ) (ring : Ring) → slice_get rings j ≡ Some ring → slice_get ring.blocks.items p ≡ Some b → 1 ≤ times_in (all_places rings) b
+pub times_among : (rings : List Ring) (j p b : ℕ) (ring : Ring) → slice_get rings j ≡ Some ring → slice_get ring.blocks.items p ≡ Some b → 1 ≤ times_in (all_places rings) b
 times_among [] j p b ring at there = cc
 times_among (r ∷ rs) zero p b ring at there =
     let here : slice_get r.blocks.items p ≡ Some b = cc in
@@ -126,14 +126,32 @@ places_apart (x ∷ xs) (suc j) (suc i) p q b r s few at at' here there =
 -- ---- what is kept, as more is
 
 pub grown_none : (k : Kept) → IsGrown k k
-grown_none k = record { stays = λ b kept. kept; unkept = λ none. none }
+grown_none k = record { stays = λ b kept. kept; taken = λ b taken. taken; unkept = λ none. none }
 
 pub grown_on : (a b c : Kept) → IsGrown a b → IsGrown b c → IsGrown a c
-grown_on a b c first second = record { stays = λ n kept. second.stays n (first.stays n kept); unkept = λ none. second.unkept (first.unkept none) }
+grown_on a b c first second = record { stays = λ n kept. second.stays n (first.stays n kept); taken = λ n taken. second.taken n (first.taken n taken); unkept = λ none. second.unkept (first.unkept none) }
+
+-- what was read stays so
+taken_on : (old new : Kept) (n : ℕ) → slice_get new.places n ≡ slice_get old.places n → (slice_get old.leaves n ≡ Some true → slice_get new.leaves n ≡ Some true)
+    → ((bytes : List ℕ) → (seen_of old).block_at n ≡ Some bytes → (seen_of new).block_at n ≡ Some bytes) → IsTaken old n → IsTaken new n
+taken_on old new n places leaves kept (of_place at) = of_place (places ∙ at)
+taken_on old new n places leaves kept (of_leaf at) = of_leaf (leaves at)
+taken_on old new n places leaves kept (of_kept bytes at) = of_kept bytes (kept bytes at)
+
+-- one more block was read as a leaf
+pub leaf_stays : (old new : Kept) (b : ℕ) → new.leaves ≡ slice_set old.leaves b true → (n : ℕ) → slice_get old.leaves n ≡ Some true → slice_get new.leaves n ≡ Some true
+leaf_stays old new b is n at = elim (cases_eq b n) [
+  | inl same ↦ subst (λ m. slice_get new.leaves m ≡ Some true) same (ap (λ ls. slice_get ls b) is ∙ got_here old.leaves b true (slice_get_within old.leaves b true (subst (λ m. slice_get old.leaves m ≡ Some true) (sym same) at)))
+  | inr other ↦ ap (λ ls. slice_get ls n) is ∙ got_other old.leaves b n true other ∙ at
+]
+
+pub leaf_taken : (old new : Kept) (b : ℕ) → b < length old.leaves → new.leaves ≡ slice_set old.leaves b true → IsTaken new b
+leaf_taken old new b low is = of_leaf (ap (λ ls. slice_get ls b) is ∙ got_here old.leaves b true low)
 
 -- nothing more is kept or marked
-pub grown_same : (old new : Kept) → new.entries ≡ old.entries → new.places ≡ old.places → IsGrown old new
-grown_same old new entries places = record {
+pub grown_same : (old new : Kept) → new.entries ≡ old.entries → new.places ≡ old.places → ((b : ℕ) → slice_get old.leaves b ≡ Some true → slice_get new.leaves b ≡ Some true) → IsGrown old new
+grown_same old new entries places leaves = record {
+  taken = λ n taken. taken_on old new n (ap (λ ps. slice_get ps n) places) (leaves n) (λ bytes at. ap (λ es. bytes_of (slice_get es n)) entries ∙ at) taken;
   stays = λ n kept none. kept (ap (λ es. bytes_of (slice_get es n)) (sym entries) ∙ none);
   unkept = λ none n mark. ap (λ es. bytes_of (slice_get es n)) entries ∙ none n (ap (λ ps. one_if (slice_get ps n)) (sym places) ∙ mark);
 }
@@ -145,8 +163,13 @@ kept_here entries i x free e = let here : bytes_of (slice_get (slice_set entries
     no_some y e = cc
 
 -- one more block is kept, which is no place
-pub grown_kept : (old new : Kept) (b : ℕ) (x : List ℕ) → slice_get old.entries b ≡ Some None → new.entries ≡ slice_set old.entries b (Some x) → new.places ≡ old.places → marks_of old b ≡ 0 → IsGrown old new
-grown_kept old new b x free is same unmarked = record {
+pub grown_kept : (old new : Kept) (b : ℕ) (x : List ℕ) → slice_get old.entries b ≡ Some None → new.entries ≡ slice_set old.entries b (Some x) → new.places ≡ old.places → new.leaves ≡ old.leaves → marks_of old b ≡ 0 → IsGrown old new
+grown_kept old new b x free is same leaves unmarked = record {
+  taken = λ n taken. taken_on old new n (ap (λ ps. slice_get ps n) same) (λ at. ap (λ ls. slice_get ls n) leaves ∙ at)
+      (λ bytes at. elim (cases_eq b n) [
+        | inl e ↦ absurd (no_bytes bytes (sym (ap bytes_of free) ∙ ap (λ m. bytes_of (slice_get old.entries m)) e ∙ at))
+        | inr other ↦ there n other ∙ at
+      ]) taken;
   stays = λ n kept. elim (cases_eq b n) [
     | inl e ↦ subst (IsKept new) e (λ none. kept_here old.entries b x free (ap (λ es. bytes_of (slice_get es b)) (sym is) ∙ none))
     | inr other ↦ λ none. kept (sym (there n other) ∙ none)
@@ -159,12 +182,16 @@ grown_kept old new b x free is same unmarked = record {
       ];
 }
   where
+    no_bytes : (y : List ℕ) → None ≡ Some y → ⊥
+    no_bytes y e = cc
+
     there : (n : ℕ) → b ≢ n → bytes_of (slice_get new.entries n) ≡ bytes_of (slice_get old.entries n)
     there n other = ap (λ es. bytes_of (slice_get es n)) is ∙ ap bytes_of (got_other old.entries b n (Some x) other)
 
 -- one more is a place, which isn't kept
-pub grown_marked : (old new : Kept) (b : ℕ) → new.entries ≡ old.entries → new.places ≡ slice_set old.places b true → (seen_of old).block_at b ≡ None → IsGrown old new
-grown_marked old new b same is free = record {
+pub grown_marked : (old new : Kept) (b : ℕ) → new.entries ≡ old.entries → new.places ≡ slice_set old.places b true → new.leaves ≡ old.leaves → (seen_of old).block_at b ≡ None → IsGrown old new
+grown_marked old new b same is leaves free = record {
+  taken = λ n taken. marked_taken n taken;
   stays = λ n kept none. kept (sym (there n) ∙ none);
   unkept = λ none n mark. elim (cases_eq b n) [
     | inl e ↦ there n ∙ ap (seen_of old).block_at (sym e) ∙ free
@@ -176,6 +203,14 @@ grown_marked old new b same is free = record {
   where
     there : (n : ℕ) → (seen_of new).block_at n ≡ (seen_of old).block_at n
     there n = ap (λ es. bytes_of (slice_get es n)) same
+
+    marked_taken : (n : ℕ) → IsTaken old n → IsTaken new n
+    marked_taken n (of_place at) = elim (cases_eq b n) [
+      | inl e ↦ of_place (subst (λ m. slice_get new.places m ≡ Some true) e (ap (λ ps. slice_get ps b) is ∙ got_here old.places b true (slice_get_within old.places b true (subst (λ m. slice_get old.places m ≡ Some true) (sym e) at))))
+      | inr other ↦ of_place (ap (λ ps. slice_get ps n) is ∙ got_other old.places b n true other ∙ at)
+    ]
+    marked_taken n (of_leaf at) = of_leaf (ap (λ ls. slice_get ls n) leaves ∙ at)
+    marked_taken n (of_kept bytes at) = of_kept bytes (there n ∙ at)
 
 pub unkept_new : (k : Kept) → All (λ place. place ≡ false) k.places → AreUnkept k
 unkept_new k unmarked b mark = absurd (omega (arith, mark, none_marked k.places unmarked b))

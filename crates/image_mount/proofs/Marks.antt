@@ -7,20 +7,22 @@ use Rattle.std.proofs.lemmas.Option.{slice_get-get_or, slice_get_within, get_or_
 use Rattle.std.proofs.lemmas.List.Elements.{Contains-append_left, Contains-push}
 use Rattle.dinode_tree.specs.declared.locating.Located.{Located}
 use Rattle.gfs2_layout.specs.Device.{superblock_place}
-use Rattle.gfs2_layout.specs.Inode.{content_of}
+use Rattle.gfs2_layout.specs.Inode.{content_count, content_of}
 use Rattle.gfs2_layout.specs.declared.rindex.Rindex.{Rindex}
 use Rattle.image_model.specs.Claims.{every, Claims, below}
 use Rattle.image_model.specs.Groups.{groups_in, IsDataOf}
 use Rattle.shared_disk.specs.Disk.{DiskState}
-use Rattle.image_model.specs.Image.{Image, image_of}
+use Rattle.image_model.specs.Image.{Image}
 use Rattle.image_model.specs.Owners.{Below, Named}
 use Rattle.image_model.specs.Rules.{Breaks, no_superblock, beyond_device, beyond_groups, two_owners, IsOutside}
 use Rattle.image_model.specs.Journals.{journal_name}
+use Rattle.image_model.specs.SystemFiles.{IsSystemBlock, of_content, of_superblock}
 use Rattle.image_mount.specs.Found.{HasFormat}
+use Rattle.profile_limits.specs.Limits.{most_blocks}
 use Rattle.image_mount.specs.Looks.{IsInGroups}
 use Rattle.image_mount.specs.Refusals.{RefusesRightly}
 use Rattle.image_mount.specs.Rings.{IsPlace, IsSearched, IsNext, IsPlaceAt}
-use Rattle.image_mount.specs.Searching.{IsWanted, StopsRightly}
+use Rattle.image_mount.specs.Searching.{IsRead, IsWanted, IsWorking, ShowsSystem, StopsRightly}
 use Rattle.image_mount.specs.System.{IsSystemOf}
 use Rattle.image_mount.specs.Kept.{Kept, bytes_of}
 use Rattle.image_mount.specs.declared.listing.Link.{Link}
@@ -31,6 +33,7 @@ use Rattle.image_mount.specs.declared.stop.Stop.TheVariants as stop
 use Rattle.image_mount.specs.declared.system.System.{System}
 use Rattle.image_mount.proofs.Causes.{told}
 use Rattle.image_mount.proofs.Names.{contains_at}
+use Rattle.image_mount.proofs.Places.{journal_file}
 use Rattle.image_mount.proofs.KeptLaws.{get_kept}
 
 -- ---- a block that is wanted is not read
@@ -96,6 +99,7 @@ place_later im done d n m b low place = record {
   index = place.index;
   claimed = place.claimed;
   plain = place.plain;
+  system = place.system;
   of = elim place.of [ inl before ↦ inl before | inr here ↦ inr (here.0, omega (arith, low, here.1)) ];
 }
 
@@ -108,6 +112,7 @@ place_done im done d n b place = record {
   index = place.index;
   claimed = place.claimed;
   plain = place.plain;
+  system = place.system;
   of = inl (elim place.of [
     | inl before ↦ Contains-append_left done (d ∷ []) place.inode before
     | inr here ↦ subst (Contains (done ++ d ∷ [])) (sym here.0) (Contains-push done d)
@@ -123,6 +128,7 @@ place_none im done d e b place = record {
   index = place.index;
   claimed = place.claimed;
   plain = place.plain;
+  system = place.system;
   of = elim place.of [ inl before ↦ inl before | inr here ↦ absurd (omega (arith, here.1)) ];
 }
 
@@ -201,8 +207,12 @@ module _ (im : Image) (done : List ℕ) (system : System) (journal : Link) (next
         (λ e. next.plain (from.1.2 journal.entry.addr located.from at.leads.0 place e)))
   ]
 
-  pub is_place : (place : ℕ) (located : Located) → IsPlaceAt im journal.entry.addr place located → located.block ≢ superblock_place im.size → IsPlace im done journal.entry.addr (place + 1) located.block
-  is_place place located at apart = record {
+  pub place_system : (place : ℕ) (located : Located) → IsPlaceAt im journal.entry.addr place located → place < content_count (every im journal.entry.addr) → IsSystemBlock im located.block
+  place_system place located at within = of_content journal.entry.addr located.from at.leads.0 0 place (journal_file im journal next.named) at.leads.1 within
+
+  pub is_place : (place : ℕ) (located : Located) → IsPlaceAt im journal.entry.addr place located → located.block ≢ superblock_place im.size → place < content_count (every im journal.entry.addr) → IsPlace im done journal.entry.addr (place + 1) located.block
+  is_place place located at apart within = record {
+    system = place_system place located at within;
     apart = apart;
     inode = journal.entry.addr;
     by = located.from;
@@ -243,16 +253,36 @@ above_super im system b groups looked same inside e =
     let fits = looked.names.groups.fit.each g (there.0, slice_get-get_or system.groups.items there.0 g there.1 ∙ ap Some there.2) in
     absurd (omega (arith, e, fits.above, fits.first, inside.2.low))
 
--- why what is wanted isn't read, of a disk that holds what it held before
-pub go_refused : (old now : DiskState) (s : Stop) (k : Kept) (f : MountFault) (done : List ℕ) (d n : ℕ) → now ≡ old
-    → ((done : List ℕ) (d n : ℕ) → IsTrue now.tells → StopsRightly (image_of now) s → IsSearched (image_of now) done d n k → RefusesRightly (image_of now) f)
-    → IsTrue old.tells → StopsRightly (image_of old) s → IsSearched (image_of old) done d n k → RefusesRightly (image_of old) f
-go_refused old now s k f done d n same more =
-    subst (λ (t : DiskState). IsTrue t.tells → StopsRightly (image_of t) s → IsSearched (image_of t) done d n k → RefusesRightly (image_of t) f) same (more done d n)
+-- ---- the image of which a disk shows the system files
 
--- why a leaf isn't read, of a disk that holds what it held before
-pub leaf_refused : (old now : DiskState) (block from : ℕ) (k : Kept) (f : MountFault) → now ≡ old
-    → ((done : List ℕ) (d n : ℕ) → IsTrue now.tells → IsWanted (image_of now) block from → IsSearched (image_of now) done d n k → RefusesRightly (image_of now) f)
-    → IsTrue old.tells → IsWanted (image_of old) block from → IsSearched (image_of old) [] 0 0 k → RefusesRightly (image_of old) f
-leaf_refused old now block from k f same more =
-    subst (λ (t : DiskState). IsTrue t.tells → IsWanted (image_of t) block from → IsSearched (image_of t) [] 0 0 k → RefusesRightly (image_of t) f) same (more [] 0 0)
+-- what is wanted is a block of them
+pub wanted_system : (im : Image) (block from : ℕ) → IsWanted im block from → IsSystemBlock im block
+wanted_system im block from (inl super) = of_superblock super
+wanted_system im block from (inr by) = by.1.4
+
+-- why what is wanted isn't read, of a disk that holds what it held before
+pub go_refused : (old now : DiskState) (im : Image) (s : Stop) (k : Kept) (f : MountFault) (done : List ℕ) (d n : ℕ) → now ≡ old
+    → ((done : List ℕ) (d n : ℕ) → (im : Image) → ShowsSystem now im → StopsRightly im s → IsSearched im done d n k → RefusesRightly im f)
+    → ShowsSystem old im → StopsRightly im s → IsSearched im done d n k → RefusesRightly im f
+go_refused old now im s k f done d n same more shows = more done d n im (subst (λ (t : DiskState). ShowsSystem t im) (sym same) shows)
+
+-- the blocks that are kept are the image's
+pub read_shown : (old now : DiskState) (im : Image) (done : List ℕ) (d n : ℕ) (k : Kept) → now ≡ old → IsWorking now k → ShowsSystem old im → IsSearched im done d n k → IsRead im k
+read_shown old now im done d n k same work shows known = record {
+  size = work.size ∙ ap (λ (t : DiskState). t.size) same ∙ sym shows.size;
+  count = work.count ∙ ap (λ (t : DiskState). t.count) same ∙ sym shows.count;
+  same = λ b bytes at.
+      let wanted = known.wanted b bytes at in
+      let here : IsWorking old k = subst (λ (t : DiskState). IsWorking t k) same work in
+      shows.same b (wanted_system im b wanted.0 wanted.1) ∙ here.same shows.tells b bytes at;
+}
+
+-- so is a block that was read
+pub bytes_shown : (old now : DiskState) (im : Image) (b : ℕ) (x : List ℕ) → now ≡ old → ShowsSystem old im → IsSystemBlock im b → (IsTrue now.tells → x ≡ now.block_at b) → im.at b ≡ x
+bytes_shown old now im b x same shows of is = shows.same b of ∙ sym (subst (λ (t : DiskState). IsTrue t.tells → x ≡ t.block_at b) same is shows.tells)
+
+pub shows_now : (old now : DiskState) (im : Image) → now ≡ old → ShowsSystem old im → ShowsSystem now im
+shows_now old now im same = subst (λ (t : DiskState). ShowsSystem t im) (sym same)
+
+pub few_shown : (s : DiskState) (im : Image) → ShowsSystem s im → s.count ≤ most_blocks → im.count ≤ most_blocks
+few_shown s im shows few = subst (λ n. n ≤ most_blocks) (sym shows.count) few

@@ -23,7 +23,7 @@ use Rattle.image_mount.specs.Found.{IsInChain, chain_head}
 use Rattle.image_mount.specs.Leaves.{IsMasterIn, IsSystemDirectory, IsTableOf, IsLeafHead, IsLeafIn}
 use Rattle.image_mount.specs.Looks.{HasHeadedContent, IsInRun, IsTableSized, LeadsToLeaf}
 use Rattle.image_mount.specs.Refusals.{RefusesRightly}
-use Rattle.image_mount.specs.Searching.{IsSystemFile}
+use Rattle.image_mount.specs.Searching.{IsListingFile}
 use Rattle.image_mount.specs.System.{IsJindexOf}
 use Rattle.image_mount.specs.declared.fault.MountFault.{MountFault}
 use Rattle.image_mount.specs.declared.fault.MountFault.TheVariants as fault
@@ -77,7 +77,7 @@ kept_file im inode kept is block from dinode = record {
   owner = is.owner;
   claimed = subst (λ a. Claims im kept.from a is.owner) (sym block) (subst (λ b. Claims im b inode.block is.owner) (sym from) is.claimed);
   is_inode = is.is_inode;
-  read = subst (IsSystemFile im) (sym block) is.read;
+  read = subst (IsListingFile im) (sym block) is.read;
   from_inside = subst (λ n. n < im.count) (sym from) is.from_inside;
   dinode = dinode ∙ ap (λ a. dinode_in (every im a)) (sym block);
   right = subst (λ a. IsRightDinode (every im a)) (sym block) is.right;
@@ -219,7 +219,7 @@ module _ (im : Image) (inode : Inode) (table : HashTable) (of : IsTableOf im ino
     index_same : 8 * i / (size - 24) ≡ 8 * i / unit (every im inode.block)
     index_same = ap (λ n. 8 * i / n) unit_is
 
-    index_within : 8 * i / (size - 24) < content_count (every im inode.block)
+    pub index_within : 8 * i / (size - 24) < content_count (every im inode.block)
     index_within =
         let u = unit (every im inode.block) in
         let some : 0 < u = omega (arith, unit_is, large) in

@@ -1,110 +1,34 @@
 -- What a call over a disk tells, in the words of what the disk held before.
-use Rattle.std.proofs.Common.{◌≡◌, inl, inr, ℕ, zero, suc, ◌+◌, ◌<◌, List, [], ◌∷◌, ◌++◌, length, take, get_or, Some, IsTrue, sym, ap, subst, ◌∙◌, arith}
+use Rattle.std.proofs.Common.{◌≡◌, inl, inr, ℕ, zero, suc, ◌+◌, ◌<◌, List, [], ◌∷◌, ◌++◌, length, take, get_or, Some, sym, ap, subst, ◌∙◌, arith}
 use Rattle.std.specs.Prelude.{codes, map, Contains, slice_get}
 use Rattle.std.specs.List.{All}
 use Rattle.std.proofs.lemmas.Option.{slice_get-get_or, slice_get_within, get_or_from_slice_get}
 use Rattle.std.proofs.lemmas.List.{map-append}
 use Rattle.std.proofs.lemmas.List.Elements.{All-push}
-use Rattle.dinode_tree.specs.declared.locating.Located.{Located}
 use Rattle.gfs2_layout.specs.Device.{superblock_place}
 use Rattle.gfs2_layout.specs.declared.superblock.SuperBlock.{SuperBlock}
-use Rattle.glock_names.specs.declared.steps.Entry.{Entry}
 use Rattle.image_mount.specs.declared.listing.Link.{Link}
 use Rattle.image_model.specs.Claims.{Claims, master, master_of}
-use Rattle.image_model.specs.Image.{Image, image_of}
+use Rattle.image_model.specs.Image.{Image}
 use Rattle.image_model.specs.Journals.{journal_name}
 use Rattle.image_model.specs.Owners.{Master, Named}
 use Rattle.image_model.specs.Rules.{two_owners}
 use Rattle.image_model.specs.Stands.{IsJournalAt}
 use Rattle.shared_disk.specs.Disk.{DiskState}
 use Rattle.image_mount.specs.Refusals.{IsJournalSized, RefusesRightly}
-use Rattle.image_mount.specs.Rings.{IsSearched, IsJournalIn, IsNext, HasPlaces, IsPlaceAt, AreBlocksOf, IsOwn, IsRingOf, AreRings}
+use Rattle.image_mount.specs.Rings.{IsJournalIn, IsNext, HasPlaces, AreBlocksOf, IsOwn, IsRingOf, AreRings}
 use Rattle.image_mount.specs.Searching.{IsWorking}
-use Rattle.image_mount.specs.Leaves.{IsMasterIn}
 use Rattle.image_mount.specs.Looks.{IsTrueEntry}
 use Rattle.image_mount.specs.Marked.{IsGrown}
-use Rattle.image_mount.specs.System.{HasDinodes, IsJindexIn, IsMasterOf, IsNamedBy, IsSystemOf, layout_of}
+use Rattle.image_mount.specs.System.{HasDinodes, IsSystemOf, layout_of}
 use Rattle.image_mount.specs.Kept.{Kept, bytes_of}
 use Rattle.image_mount.specs.declared.fault.MountFault.{MountFault}
 use Rattle.image_mount.specs.declared.fault.MountFault.TheVariants as fault
-use Rattle.image_mount.specs.declared.inodes.Inode.{Inode}
 use Rattle.image_mount.specs.declared.journals.Ring.{Ring}
-use Rattle.image_mount.specs.declared.listing.Named.{Named as Item}
-use Rattle.image_mount.specs.declared.master.Master.{Master as MasterValue}
 use Rattle.image_mount.specs.declared.system.System.{System}
 use Rattle.image_mount.proofs.Causes.{told}
 use Rattle.image_model.proofs.JournalNames.{one_number}
 use Rattle.image_mount.proofs.Names.{all_at, contains_at, mapped_at, from_mapped, taken_at}
-
-module _ (old now : DiskState) (same : now ≡ old) where
-  pub place_refused : (journal : Link) (places place : ℕ) (k : Kept) (f : MountFault) (done : List ℕ) (d n : ℕ)
-      → (IsTrue now.tells → IsJournalIn (image_of now) journal → HasPlaces (image_of now) journal.entry.addr places → place < places → IsSearched (image_of now) done d n k → RefusesRightly (image_of now) f)
-      → IsTrue old.tells → IsJournalIn (image_of old) journal → HasPlaces (image_of old) journal.entry.addr places → place < places → IsSearched (image_of old) done d n k → RefusesRightly (image_of old) f
-  place_refused journal places place k f done d n more =
-      subst (λ (s : DiskState). IsTrue s.tells → IsJournalIn (image_of s) journal → HasPlaces (image_of s) journal.entry.addr places → place < places → IsSearched (image_of s) done d n k → RefusesRightly (image_of s) f) same more
-
-  pub place_searched : (journal : Link) (places place : ℕ) (k new : Kept) (done : List ℕ) (d n : ℕ)
-      → (IsTrue now.tells → IsJournalIn (image_of now) journal → HasPlaces (image_of now) journal.entry.addr places → place < places → IsSearched (image_of now) done d n k → IsSearched (image_of now) done d n new)
-      → IsTrue old.tells → IsJournalIn (image_of old) journal → HasPlaces (image_of old) journal.entry.addr places → place < places → IsSearched (image_of old) done d n k → IsSearched (image_of old) done d n new
-  place_searched journal places place k new done d n more =
-      subst (λ (s : DiskState). IsTrue s.tells → IsJournalIn (image_of s) journal → HasPlaces (image_of s) journal.entry.addr places → place < places → IsSearched (image_of s) done d n k → IsSearched (image_of s) done d n new) same more
-
-  pub place_at : (d place : ℕ) (located : Located) → (IsTrue now.tells → IsPlaceAt (image_of now) d place located) → IsTrue old.tells → IsPlaceAt (image_of old) d place located
-  place_at d place located more = subst (λ (s : DiskState). IsTrue s.tells → IsPlaceAt (image_of s) d place located) same more
-
-  pub blocks_told : (done : List ℕ) (system : System) (journal : Link) (places : ℕ) (k : Kept) (P : Image → Type 0)
-      → (IsTrue now.tells → IsNext (image_of now) done system journal → HasPlaces (image_of now) journal.entry.addr places → IsSearched (image_of now) done journal.entry.addr 0 k → P (image_of now))
-      → IsTrue old.tells → IsNext (image_of old) done system journal → HasPlaces (image_of old) journal.entry.addr places → IsSearched (image_of old) done journal.entry.addr 0 k → P (image_of old)
-  blocks_told done system journal places k P more =
-      subst (λ (s : DiskState). IsTrue s.tells → IsNext (image_of s) done system journal → HasPlaces (image_of s) journal.entry.addr places → IsSearched (image_of s) done journal.entry.addr 0 k → P (image_of s)) same more
-
-  pub ring_told : (done : List ℕ) (system : System) (journal : Link) (k : Kept) (P : Image → Type 0)
-      → (IsTrue now.tells → IsNext (image_of now) done system journal → IsSearched (image_of now) done 0 0 k → P (image_of now))
-      → IsTrue old.tells → IsNext (image_of old) done system journal → IsSearched (image_of old) done 0 0 k → P (image_of old)
-  ring_told done system journal k P more =
-      subst (λ (s : DiskState). IsTrue s.tells → IsNext (image_of s) done system journal → IsSearched (image_of s) done 0 0 k → P (image_of s)) same more
-
-  pub ring_found : (done : List ℕ) (system : System) (journal : Link) (k : Kept) (blocks : List ℕ)
-      → (IsTrue now.tells → IsNext (image_of now) done system journal → IsSearched (image_of now) done 0 0 k → IsRingOf (image_of now) journal.entry.addr blocks)
-      → IsTrue old.tells → IsNext (image_of old) done system journal → IsSearched (image_of old) done 0 0 k → IsRingOf (image_of old) journal.entry.addr blocks
-  ring_found done system journal k blocks more = ring_told done system journal k (λ i. IsRingOf i journal.entry.addr blocks) more
-
-  pub ring_searched : (done : List ℕ) (system : System) (journal : Link) (k new : Kept)
-      → (IsTrue now.tells → IsNext (image_of now) done system journal → IsSearched (image_of now) done 0 0 k → IsSearched (image_of now) (done ++ journal.entry.addr ∷ []) 0 0 new)
-      → IsTrue old.tells → IsNext (image_of old) done system journal → IsSearched (image_of old) done 0 0 k → IsSearched (image_of old) (done ++ journal.entry.addr ∷ []) 0 0 new
-  ring_searched done system journal k new more = ring_told done system journal k (λ i. IsSearched i (done ++ journal.entry.addr ∷ []) 0 0 new) more
-
-  pub names_known : (at : MasterValue) (names : List Item) → (IsTrue now.tells → IsMasterIn (image_of now) at.inode → IsNamedBy (image_of now) at names) → IsTrue old.tells → IsMasterOf (image_of old) at
-      → IsNamedBy (image_of old) at names
-  names_known at names more tells is = subst (λ (s : DiskState). IsTrue s.tells → IsMasterIn (image_of s) at.inode → IsNamedBy (image_of s) at names) same more tells is.inode
-
-  pub names_searched : (at : MasterValue) (k new : Kept) → (IsTrue now.tells → IsMasterIn (image_of now) at.inode → IsSearched (image_of now) [] 0 0 k → IsSearched (image_of now) [] 0 0 new)
-      → IsTrue old.tells → IsMasterOf (image_of old) at → IsSearched (image_of old) [] 0 0 k → IsSearched (image_of old) [] 0 0 new
-  names_searched at k new more tells is =
-      subst (λ (s : DiskState). IsTrue s.tells → IsMasterIn (image_of s) at.inode → IsSearched (image_of s) [] 0 0 k → IsSearched (image_of s) [] 0 0 new) same more tells is.inode
-
-  pub files_told : (at : MasterValue) (names : List Item) (P : Image → Type 0) → (IsTrue now.tells → IsMasterOf (image_of now) at → IsNamedBy (image_of now) at names → P (image_of now))
-      → IsTrue old.tells → IsMasterOf (image_of old) at → IsNamedBy (image_of old) at names → P (image_of old)
-  files_told at names P more = subst (λ (s : DiskState). IsTrue s.tells → IsMasterOf (image_of s) at → IsNamedBy (image_of s) at names → P (image_of s)) same more
-
-  pub files_refused : (at : MasterValue) (names : List Item) (k : Kept) (f : MountFault)
-      → (IsTrue now.tells → IsMasterOf (image_of now) at → IsNamedBy (image_of now) at names → IsSearched (image_of now) [] 0 0 k → RefusesRightly (image_of now) f)
-      → IsTrue old.tells → IsMasterOf (image_of old) at → IsNamedBy (image_of old) at names → IsSearched (image_of old) [] 0 0 k → RefusesRightly (image_of old) f
-  files_refused at names k f more =
-      subst (λ (s : DiskState). IsTrue s.tells → IsMasterOf (image_of s) at → IsNamedBy (image_of s) at names → IsSearched (image_of s) [] 0 0 k → RefusesRightly (image_of s) f) same more
-
-  pub jindex_told : (parent : ℕ) (inode : Inode) (P : Image → Type 0) → (IsTrue now.tells → IsJindexIn (image_of now) parent inode → P (image_of now)) → IsTrue old.tells → IsJindexIn (image_of old) parent inode → P (image_of old)
-  jindex_told parent inode P more = subst (λ (s : DiskState). IsTrue s.tells → IsJindexIn (image_of s) parent inode → P (image_of s)) same more
-
-  pub jindex_searched : (parent : ℕ) (inode : Inode) (k : Kept) (P : Image → Type 0) → (IsTrue now.tells → IsJindexIn (image_of now) parent inode → IsSearched (image_of now) [] 0 0 k → P (image_of now))
-      → IsTrue old.tells → IsJindexIn (image_of old) parent inode → IsSearched (image_of old) [] 0 0 k → P (image_of old)
-  jindex_searched parent inode k P more = subst (λ (s : DiskState). IsTrue s.tells → IsJindexIn (image_of s) parent inode → IsSearched (image_of s) [] 0 0 k → P (image_of s)) same more
-
-  pub files_searched : (at : MasterValue) (names : List Item) (k new : Kept)
-      → (IsTrue now.tells → IsMasterOf (image_of now) at → IsNamedBy (image_of now) at names → IsSearched (image_of now) [] 0 0 k → IsSearched (image_of now) [] 0 0 new)
-      → IsTrue old.tells → IsMasterOf (image_of old) at → IsNamedBy (image_of old) at names → IsSearched (image_of old) [] 0 0 k → IsSearched (image_of old) [] 0 0 new
-  files_searched at names k new more =
-      subst (λ (s : DiskState). IsTrue s.tells → IsMasterOf (image_of s) at → IsNamedBy (image_of s) at names → IsSearched (image_of s) [] 0 0 k → IsSearched (image_of s) [] 0 0 new) same more
 
 -- the dinodes that were kept stay
 pub stay_kept : (im : Image) (a b : Kept) (s : System) → IsGrown a b → HasDinodes im a s → HasDinodes im b s
@@ -280,7 +204,3 @@ ring_of_turn im rings k ring low is all = subst (λ (r : Ring). IsRingOf im r.di
 -- no journal before has this dinode
 pub not_before : (now rings : List Ring) (addr : ℕ) → now ≡ rings → ¬ (Contains (map (λ (r : Ring). r.dinode) now) addr) → ¬ (Contains (map (λ (r : Ring). r.dinode) rings) addr)
 not_before now rings addr same new = subst (λ rs. ¬ (Contains (map (λ (r : Ring). r.dinode) rs) addr)) same new
-
--- the record of a journal that was looked for, of a disk that holds what it held
-pub entry_true : (old now : DiskState) (entry : Entry) → now ≡ old → (IsTrue now.tells → IsTrueEntry (image_of now) entry) → IsTrue old.tells → IsTrueEntry (image_of old) entry
-entry_true old now entry same more = subst (λ (s : DiskState). IsTrue s.tells → IsTrueEntry (image_of s) entry) same more

@@ -12,7 +12,7 @@ use Rattle.std.proofs.lemmas.Option.{slice_get-get_or}
 use Rattle.std.proofs.Math.Nat.{div-eq_of_lt, div-mul-le_self, mul-le-mul_left}
 use Rattle.dinode_tree.specs.Reading.{IsHeadedWay, IsNeeded, IsOnWay, the_dinode, led_to, block_at, reach, target}
 use Rattle.dinode_tree.specs.declared.locating.Located.{Located}
-use Rattle.gfs2_layout.specs.Inode.{Leads, dinode_in, height_in, is_directory_in, header_length, unit, content_block}
+use Rattle.gfs2_layout.specs.Inode.{Leads, dinode_in, height_in, is_directory_in, header_length, unit, content_block, content_count}
 use Rattle.log_layout.specs.Journal.{ring_of}
 use Rattle.gfs2_layout.specs.Holding.{Holding}
 use Rattle.gfs2_layout.specs.declared.dinode.Dinode.{Dinode}
@@ -23,6 +23,7 @@ use Rattle.image_model.specs.Image.{Image}
 use Rattle.image_model.specs.Journals.{journal_name}
 use Rattle.image_model.specs.Owners.{Below, Named}
 use Rattle.image_model.specs.Rules.{journal_hole, journal_part}
+use Rattle.image_model.specs.SystemFiles.{IsSystemBlock, IsSystemFile, is_journal, of_content, of_dinode}
 use Rattle.image_model.proofs.Lengths.{whole_pieces}
 use Rattle.image_mount.specs.Found.{HasFormat}
 use Rattle.image_mount.specs.Refusals.{RefusesRightly, IsReached}
@@ -72,6 +73,15 @@ unit_bounds im d large = elim (cases_Bool (is_directory_in (every im d))) [
   | inr file ↦ let e : unit (every im d) ≡ im.size = cond-false _ _ _ file in (omega (arith, e, large), omega (arith, e))
 ]
 
+-- the places are before the file's end
+pub place_within : (im : Image) (d places place : ℕ) → HasPlaces im d places → place < places → place < content_count (every im d)
+place_within im d places place has low =
+    let bytes = (dinode_in (every im d)).size in
+    let bounds = unit_bounds im d has.large in
+    let few = fewer bytes im.size (unit (every im d)) bounds.0 bounds.1 in
+    let all = whole_pieces bytes (unit (every im d)) bounds.0 in
+    omega (arith, low, has.count, few, all)
+
 -- the places are among the blocks that the pointers reach
 pub within_reach : (im : Image) (d places place : ℕ) → HasPlaces im d places → place < places → place < reach im.size (height_in (every im d))
 within_reach im d places place has low = each (height_in (every im d)) refl
@@ -94,6 +104,9 @@ within_reach im d places place has low = each (height_in (every im d)) refl
 
 pub journal_of : (im : Image) (journal : Link) (of : IsJournalIn im journal) → HasJournal im of.index journal.entry.addr
 journal_of im journal of = (of.layout.jindex, of.names.groups.list.master.jindex, (journal.from, of.named.claimed))
+
+pub journal_file : (im : Image) (journal : Link) → IsJournalIn im journal → IsSystemFile im journal.entry.addr
+journal_file im journal of = is_journal of.index (journal_of im journal of)
 
 pub journal_format : (im : Image) (journal : Link) → IsJournalIn im journal → HasFormat im
 journal_format im journal of = of.names.groups.list.master.format
@@ -123,15 +136,15 @@ wrong_hole im journal f places place of is has low hole =
 
 pub journal_wanted : (im : Image) (journal : Link) → IsJournalIn im journal → IsWanted im journal.entry.addr journal.from
 journal_wanted im journal of =
-    inr (journal_format im journal of, (Named of.layout.jindex (journal_name of.index), of.named.claimed, dinode_leads im (Named of.layout.jindex (journal_name of.index)) refl, of.named.inside))
+    inr (journal_format im journal of, (Named of.layout.jindex (journal_name of.index), of.named.claimed, dinode_leads im (Named of.layout.jindex (journal_name of.index)) refl, of.named.inside, of_dinode (journal_file im journal of)))
 
 pub above_wanted : (im : Image) (journal : Link) (v : Seen) (place : ℕ) (m : Missing) → IsJournalIn im journal → IsNeeded v (every im journal.entry.addr) (λ i. i ≡ place) 1 m
-    → m.from < im.count → m.block ≢ journal.entry.addr → IsWanted im m.block m.from
-above_wanted im journal v place m of needed inside other = each needed.way
+    → m.from < im.count → m.block ≢ journal.entry.addr → place < content_count (every im journal.entry.addr) → IsWanted im m.block m.from
+above_wanted im journal v place m of needed inside other within = each needed.way
   where
-    at : (k level first : ℕ) → 1 ≤ level → Leads (every im journal.entry.addr) m.from k level first m.block → IsWanted im m.block m.from
-    at k zero first least leads = absurd (omega arith)
-    at k (suc level) first least leads =
+    at : (k level first : ℕ) → 1 ≤ level → Leads (every im journal.entry.addr) m.from k level first m.block → first < content_count (every im journal.entry.addr) → IsWanted im m.block m.from
+    at k zero first least leads low = absurd (omega arith)
+    at k (suc level) first least leads low =
         inr (
           journal_format im journal of,
           (
@@ -139,21 +152,23 @@ above_wanted im journal v place m of needed inside other = each needed.way
             below journal.from journal.entry.addr (Named of.layout.jindex (journal_name of.index)) m.from k (suc level) first m.block of.named.claimed refl leads,
             above_leads im journal.entry.addr m.from k level first,
             inside,
+            of_content journal.entry.addr m.from k (suc level) first (journal_file im journal of) leads low,
           ),
         )
 
     each : IsOnWay (every im journal.entry.addr) (λ i. i ≡ place) 1 m → IsWanted im m.block m.from
     each (the_dinode own from plain) = absurd (other own)
-    each (led_to i k level first wanted least leads begins ends plain) = at k level first least leads
+    each (led_to i k level first wanted least leads begins ends plain) = let same : i ≡ place = wanted in at k level first least leads (omega (arith, begins, same, within))
 
 -- ---- one more place
 
 pub blocks_none : (im : Image) (d : ℕ) → AreBlocksOf im d 0 []
-blocks_none im d = record { all = refl; reached = λ k x low. absurd (omega (arith, low)); headed = λ p low. absurd (omega (arith, low)) }
+blocks_none im d = record { all = refl; reached = λ k x low. absurd (omega (arith, low)); system = λ k x low. absurd (omega (arith, low)); headed = λ p low. absurd (omega (arith, low)) }
 
-pub blocks_more : (im : Image) (d n by k : ℕ) (located : Located) (old new : List ℕ) → AreBlocksOf im d n old → IsPlaceAt im d n located → located.block < im.count → Claims im by located.block (Below d by k 0 n) → new ≡ old ++ located.block ∷ []
+pub blocks_more : (im : Image) (d n by k : ℕ) (located : Located) (old new : List ℕ) → AreBlocksOf im d n old → IsPlaceAt im d n located → located.block < im.count → Claims im by located.block (Below d by k 0 n) → IsSystemBlock im located.block → new ≡ old ++ located.block ∷ []
     → AreBlocksOf im d (n + 1) new
-blocks_more im d n by k located old new are at low claim is = record {
+blocks_more im d n by k located old new are at low claim system is = record {
+  system = subst (All (IsSystemBlock im)) (sym is) (All-push (IsSystemBlock im) old located.block are.system system);
   all = is ∙ ap (λ xs. xs ++ located.block ∷ []) are.all ∙ ap (λ b. map (content_block (every im d)) (range_with_len 0 n) ++ b ∷ []) at.block
       ∙ sym (map-range_with_len_more (content_block (every im d)) 0 n n (omega arith));
   headed = λ p below. elim (cases_eq p n) [

@@ -1,10 +1,11 @@
 -- A search that stops where a call in it did.
-use Rattle.std.proofs.Common.{◌≡◌, sym, subst}
+use Rattle.std.proofs.Common.{◌≡◌, ℕ, sym, subst}
 use Rattle.std.specs.Prelude.{Result, Ok, Err, IfErr, IfOk, OnOk, IsErrAnd}
 use Rattle.image_model.specs.Image.{Image}
-use Rattle.image_mount.specs.Refusals.{RefusesRightly}
-use Rattle.image_mount.specs.Searching.{StopsRightly}
+use Rattle.image_mount.specs.Refusals.{HasRisen, LiesWithin, RefusesRightly}
+use Rattle.image_mount.specs.Searching.{IsSteady, StopsRightly}
 use Rattle.image_mount.specs.declared.fault.MountFault.{MountFault}
+use Rattle.image_mount.specs.declared.fault.MountFault.TheVariants as fault
 use Rattle.image_mount.specs.declared.stop.Stop.{Stop}
 use Rattle.image_mount.specs.declared.stop.Stop.TheVariants as stop
 
@@ -34,3 +35,16 @@ given (Err f) P Q p so = tt
 pub held : {T E : Type 0} (r : Result T E) (P Q : Type 0) → OnOk r P → (P → Q) → OnOk r Q
 held (Ok x) P Q p so = so p
 held (Err f) P Q p so = tt
+
+-- a refusal that isn't the disk's is told as any disk tells it
+pub steady_risen : (f : MountFault) → IsSteady f → (before now : ℕ → ℕ) → HasRisen before now f
+steady_risen (fault.NotProfile what value) steady before now = tt
+steady_risen (fault.Damaged block rule) steady before now = tt
+steady_risen (fault.DeviceFault block x y) steady before now = absurd steady
+steady_risen fault.NoMemory steady before now = tt
+
+pub steady_within : (f : MountFault) → IsSteady f → (count : ℕ) → LiesWithin count f
+steady_within (fault.NotProfile what value) steady count = tt
+steady_within (fault.Damaged block rule) steady count = tt
+steady_within (fault.DeviceFault block x y) steady count = absurd steady
+steady_within fault.NoMemory steady count = tt

@@ -16,6 +16,8 @@ use Rattle.image_model.specs.Owners.{Owner, Master, is_dinode, parent_of}
 use Rattle.image_model.specs.Rules.{Breaks, HasRecordIn, no_rindex, no_jindex}
 use Rattle.image_mount.specs.Found.{HasFormat, IsFirstOther, behind_dinode, first_other, is_other, is_system_name}
 use Rattle.image_mount.specs.Leaves.{IsMasterIn}
+use Rattle.image_model.specs.SystemFiles.{IsSystemFile}
+use Rattle.image_model.specs.SystemFiles.{is_master as is_master_file}
 use Rattle.image_mount.specs.Listing.{said, link_of, AreAllRecords, AreRecordsOf, IsDirectoryIn}
 use Rattle.image_mount.specs.Groups.{IsNamedIn}
 use Rattle.image_mount.specs.Refusals.{RefusesRightly, IsOutside}
@@ -33,8 +35,9 @@ use Rattle.image_mount.proofs.Names.{mapped_at, mapped_none, mapped_some, named_
 -- ---- an inode that is claimed, and is a directory
 
 pub directory_in : (im : Image) (inode : Inode) (by addr parent : ℕ) (o : Owner) → HasFormat im → Claims im by addr o → is_dinode o ≡ true → inode.block ≡ addr → inode.from ≡ by
-    → inode.dinode ≡ dinode_in (every im addr) → is_directory inode.dinode ≡ true → addr < im.count → by < im.count → parent ≡ parent_of addr o → IsDirectoryIn im inode parent
-directory_in im inode by addr parent o format claimed dinode at from read directory inside by_inside above = record {
+    → inode.dinode ≡ dinode_in (every im addr) → is_directory inode.dinode ≡ true → addr < im.count → by < im.count → parent ≡ parent_of addr o → IsSystemFile im addr → IsDirectoryIn im inode parent
+directory_in im inode by addr parent o format claimed dinode at from read directory inside by_inside above file = record {
+  file = subst (IsSystemFile im) (sym at) file;
   format = format;
   owner = o;
   claimed = subst (λ a. Claims im inode.from a o) (sym at) (subst (λ b. Claims im b addr o) (sym from) claimed);
@@ -63,6 +66,7 @@ master_directory im inode is = record {
   directory = ap is_directory is.dinode ∙ is.directory;
   inside = is.inside;
   from_inside = subst (λ b. b < im.count) (sym is.from) is.format.super.inside;
+  file = is_master_file is.block;
   above = refl;
 }
 

@@ -13,7 +13,12 @@ use Rattle.image_model.specs.Rules.{HasRecordIn}
 use Rattle.image_model.specs.Stands.{Layout}
 use Rattle.image_mount.specs.Found.{HasFormat, HasMaster, HasGroups, AreJournalNames}
 use Rattle.image_mount.specs.Groups.{IsListLink, AreGroups}
-use Rattle.image_mount.specs.System.{layout_with, AreFilesOf, AreJournalsOf, IsGroundOf, IsJindexOf, IsSystemOf}
+use Rattle.image_mount.specs.Kept.{Kept}
+use Rattle.image_mount.specs.Leaves.{HasReadDirectory}
+use Rattle.image_mount.specs.Marked.{IsGrown}
+use Rattle.gfs2_layout.specs.Device.{superblock_place}
+use Rattle.image_mount.specs.declared.system.System.{System}
+use Rattle.image_mount.specs.System.{HasReadSystem, layout_with, AreFilesOf, AreJournalsOf, IsGroundOf, IsJindexOf, IsSystemOf}
 use Rattle.image_mount.specs.declared.inodes.Inode.{Inode}
 use Rattle.image_mount.specs.declared.listing.Link.{Link}
 use Rattle.image_mount.specs.declared.system.Groundwork.{Groundwork}
@@ -110,3 +115,19 @@ system_of im g journals is names =
       jindex_inside = is.jindex.of.directory.inside;
       journals = names;
     }
+
+-- what was read of a directory stays so
+pub directory_stays : (im : Image) (old new : Kept) (a : ℕ) → IsGrown old new → HasReadDirectory im old a → HasReadDirectory im new a
+directory_stays im old new a grown read = record {
+  content = λ p j level first b leads within. grown.stays b (read.content p j level first b leads within);
+  leaves = λ by x hash place claim. grown.taken x (read.leaves by x hash place claim);
+}
+
+-- so does what was read of the system files
+pub read_on : (im : Image) (old new : Kept) (s : System) → IsGrown old new → HasReadSystem im old s → HasReadSystem im new s
+read_on im old new s grown read = record {
+  superblock = grown.stays (superblock_place im.size) read.superblock;
+  master = λ hashed. directory_stays im old new s.superblock.master.address grown (read.master hashed);
+  rindex = λ p j level first b leads within. grown.stays b (read.rindex p j level first b leads within);
+  jindex = λ hashed. directory_stays im old new s.jindex grown (read.jindex hashed);
+}

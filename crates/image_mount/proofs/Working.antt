@@ -3,8 +3,7 @@ use Rattle.std.proofs.Common.{◌≡◌, ◌<◌, inl, inr, ℕ, zero, suc, List
 use Rattle.std.specs.Prelude.{slice_get, slice_set}
 use Rattle.std.specs.List.{All}
 use Rattle.shared_disk.specs.Disk.{DiskState, IsIdle}
-use Rattle.image_model.specs.Image.{image_of}
-use Rattle.image_mount.specs.Searching.{IsWorking, IsRead}
+use Rattle.image_mount.specs.Searching.{IsWorking}
 use Rattle.image_mount.specs.Kept.{Kept, bytes_of}
 use Rattle.image_mount.proofs.KeptLaws.{get_kept, none_kept}
 
@@ -25,10 +24,6 @@ working_more s t k new b x same work free is size read = subst (λ u. IsWorking 
     | inr old ↦ work.same tells n bytes old
   ];
 })
-
--- what was read from a disk that tells what it holds is read from the image on it
-pub read_of : (s : DiskState) (k : Kept) → IsTrue s.tells → IsWorking s k → IsRead (image_of s) k
-read_of s k tells work = record { size = work.size; count = work.count; same = work.same tells }
 
 -- a vector whose bytes were all written over
 pub refilled : (x items : List ℕ) (len : ℕ) → len ≡ length items → length x ≡ length items → take len (x ++ drop (length x) items) ≡ x
@@ -52,11 +47,3 @@ working_same s t k new same work entries size = subst (λ u. IsWorking u new) (s
 -- nothing is kept yet
 pub working_new : (s : DiskState) (k : Kept) → IsIdle s → k.size ≡ s.size → length k.entries ≡ s.count → All (λ kept. kept ≡ None) k.entries → IsWorking s k
 working_new s k idle size count none = record { idle = idle; size = size; count = count; same = λ tells b bytes at. absurd (none_kept k.entries b bytes none at) }
-
--- what was read of a disk that holds what it held before
-pub read_same : (old now : DiskState) (b : ℕ) (x : List ℕ) → now ≡ old → IsTrue old.tells → (IsTrue now.tells → x ≡ now.block_at b) → old.block_at b ≡ x
-read_same old now b x same tells is = sym (subst (λ (s : DiskState). IsTrue s.tells → x ≡ s.block_at b) same is tells)
-
--- the same, where the disk holds what it held before
-pub read_now : (old now : DiskState) (k : Kept) → now ≡ old → IsTrue old.tells → IsWorking now k → IsRead (image_of old) k
-read_now old now k same tells work = read_of old k tells (subst (λ s. IsWorking s k) same work)

@@ -19,9 +19,11 @@ use Rattle.image_model.specs.Rules.{HasRecordIn, IsHashedAt}
 use Rattle.image_reader.specs.declared.hash_table.HashTable.{HashTable}
 use Rattle.image_reader.specs.declared.owners.Claim.{Claim}
 use Rattle.image_mount.specs.Found.{HasFormat, IsInChain, ComesBefore, first_other, name_count}
+use Rattle.image_mount.specs.Kept.{Kept}
 use Rattle.image_mount.specs.Listing.{said, AreDistinct}
 use Rattle.image_mount.specs.Looks.{HasHeadedContent, HasSoundLeaves, IsInRun, IsSoundArea, IsTableSized, LeadsToLeaf}
-use Rattle.image_mount.specs.Searching.{IsSystemFile}
+use Rattle.image_mount.specs.Marked.{HasKeptContent, IsTaken}
+use Rattle.image_mount.specs.Searching.{IsListingFile}
 use Rattle.image_mount.specs.Sifting.{IsBeside}
 use Rattle.image_mount.specs.declared.inodes.Inode.{Inode}
 use Rattle.image_mount.specs.declared.leaf.LeafAt.{LeafAt}
@@ -47,7 +49,7 @@ pub record IsSystemDirectory (im : Image) (inode : Inode) : Type 0 where
   pub owner : Owner
   pub claimed : Claims im inode.from inode.block owner
   pub is_inode : is_dinode owner ≡ true
-  pub read : IsSystemFile im inode.block
+  pub read : IsListingFile im inode.block
   pub from_inside : inode.from < im.count
   pub dinode : inode.dinode ≡ dinode_in (every im inode.block)
   pub right : IsRightDinode (every im inode.block)
@@ -249,3 +251,12 @@ one_if_open (Some at) = 1
 -- how many steps a walk has at most before it, over a table of so many pointers
 abbrev pub steps_left : LeafWalk → ℕ → ℕ
 steps_left walk count = 2 * walk.owners.free + (count - walk.index) + one_if_open walk.tail
+
+-- each leaf that is claimed was read
+abbrev pub AreLeavesRead : LeafWalk → ℕ → Kept → Type 0
+AreLeavesRead walk a k = (x hash place : ℕ) → HasClaim walk.owners.entries.items x (Chained a hash place) → IsTaken k x
+
+-- the blocks of a hashed directory's table are kept, and each of its leaves was read
+pub record HasReadDirectory (im : Image) (k : Kept) (a : ℕ) : Type 0 where
+  pub content : HasKeptContent k (every im a)
+  pub leaves : (by x hash place : ℕ) → Claims im by x (Chained a hash place) → IsTaken k x

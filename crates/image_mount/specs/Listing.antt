@@ -13,6 +13,7 @@ use Rattle.image_model.specs.Claims.{every, HasDirectory, Claims}
 use Rattle.image_model.specs.Image.{Image}
 use Rattle.image_model.specs.Owners.{Owner, is_dinode, parent_of}
 use Rattle.image_model.specs.Rules.{HasRecordIn, HasRecords}
+use Rattle.image_model.specs.SystemFiles.{IsSystemFile}
 use Rattle.image_mount.specs.Found.{HasFormat}
 use Rattle.image_mount.specs.Kept.{Kept, seen_of}
 use Rattle.image_mount.specs.declared.inodes.Inode.{Inode}
@@ -92,7 +93,7 @@ pub record AreRowsOf (inode : Inode) (parent : ℕ) (records : List Named) : Typ
 abbrev pub AreDistinct : List Record → Type 0
 AreDistinct records = (i j : ℕ) (r s : Record) → slice_get records i ≡ Some r → slice_get records j ≡ Some s → r.name ≡ s.name → i ≡ j
 
--- a directory that is claimed in the image and lies on the device, below the one with its dinode in block `parent`, and its dinode
+-- a directory of the system that is claimed in the image and lies on the device, below the one with its dinode in block `parent`, and its dinode
 pub record IsDirectoryIn (im : Image) (inode : Inode) (parent : ℕ) : Type 0 where
   pub format : HasFormat im
   pub owner : Owner
@@ -103,3 +104,4 @@ pub record IsDirectoryIn (im : Image) (inode : Inode) (parent : ℕ) : Type 0 wh
   pub inside : inode.block < im.count
   pub from_inside : inode.from < im.count
   pub above : parent ≡ parent_of inode.block owner
+  pub file : IsSystemFile im inode.block

@@ -1,7 +1,7 @@
 -- The places of journals, as they are marked one by one.
-use Rattle.std.specs.Prelude.{ℕ, zero, suc, ⊤, ◌≡◌, ◌≢◌, ◌+◌, ◌-◌, ◌/◌, ◌%◌, ◌==◌, Bool, true, false, List, Option, None, Some, count_by, slice_get}
+use Rattle.std.specs.Prelude.{ℕ, zero, suc, ⊤, ◌≡◌, ◌≢◌, ◌+◌, ◌-◌, ◌/◌, ◌%◌, ◌<◌, ◌==◌, Bool, true, false, List, Option, None, Some, count_by, slice_get}
 use Rattle.gfs2_layout.specs.Holding.{Holding}
-use Rattle.gfs2_layout.specs.Inode.{header_length, height_in, pointer, span}
+use Rattle.gfs2_layout.specs.Inode.{Leads, content_count, header_length, height_in, pointer, span}
 use Rattle.gfs2_layout.specs.Structures.{dinode_length}
 use Rattle.image_mount.specs.Kept.{Kept, seen_of}
 
@@ -35,13 +35,18 @@ IsKeptWay k h i =
     let level = height_in h - 1 in
     IsKeptDown k h level (pointer h dinode_length h.own (i / span h.size level)) (i % span h.size level)
 
+-- each block below the dinode to which a pointer leads before the file's end is kept
+abbrev pub HasKeptContent : Kept → Holding → Type 0
+HasKeptContent k h = (p j level first b : ℕ) → Leads h p j level first b → first < content_count h → IsKept k b
+
 -- no block that is a place is kept
 abbrev pub AreUnkept : Kept → Type 0
 AreUnkept k = (b : ℕ) → marks_of k b ≡ 1 → (seen_of k).block_at b ≡ None
 
--- more may be kept and marked: what was kept stays, and where no place was kept none is
+-- more may be kept and marked: what was kept or read stays so, and where no place was kept none is
 pub record IsGrown (old new : Kept) : Type 0 where
   pub stays : (b : ℕ) → IsKept old b → IsKept new b
+  pub taken : (b : ℕ) → IsTaken old b → IsTaken new b
   pub unkept : AreUnkept old → AreUnkept new
 
 -- how often a block is among these

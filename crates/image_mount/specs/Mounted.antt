@@ -1,5 +1,5 @@
 -- What is told of an image that is mounted.
-use Rattle.std.specs.Prelude.{ℕ, ◌≡◌, ◌≤◌, List, length, map, slice_get, Some}
+use Rattle.std.specs.Prelude.{ℕ, ◌≡◌, ◌≤◌, ◌↔◌, IsTrue, List, Contains, length, map, slice_get, Some}
 use Rattle.std.specs.List.{AllByRecursion, range_with_len}
 use Rattle.glock_names.specs.Views.{AreGroups, end_of, group_of_entry}
 use Rattle.glock_names.specs.declared.views.Group.{Group}
@@ -12,8 +12,10 @@ use Rattle.image_model.specs.Image.{Image, superblock_in}
 use Rattle.image_model.specs.Owners.{Owners}
 use Rattle.image_model.specs.Profile.{IsInProfile}
 use Rattle.image_model.specs.Stands.{Layout, IsLaid, IsJournalAt}
+use Rattle.image_model.specs.SystemFiles.{IsSystemBlock}
 use Rattle.image_mount.specs.Found.{HasNames}
 use Rattle.image_mount.specs.Looks.{IsLookedOver}
+use Rattle.shared_disk.specs.Disk.{DiskState}
 
 -- a journal: the block of its dinode, the block at each of its places, and its head
 pub record Journal : Type 0 where
@@ -25,6 +27,7 @@ pub record MountedValue : Type 0 where
   pub superblock : SuperBlock
   pub groups : List Group
   pub journals : List Journal
+  pub system : List ℕ
 
 -- the journal whose dinode is in block d, as every block of the image tells it
 pub record IsJournalOf (im : Image) (d : ℕ) (journal : Journal) : Type 0 where
@@ -42,6 +45,14 @@ pub record IsMounted (im : Image) (m : MountedValue) : Type 0 where
   pub groups : m.groups ≡ map group_of_entry layout.groups
   pub count : length m.journals ≡ length layout.journals
   pub journals : (j d : ℕ) (journal : Journal) → IsJournalAt layout j d → slice_get m.journals j ≡ Some journal → IsJournalOf im d journal
+  pub system : (b : ℕ) → Contains m.system b ↔ IsSystemBlock im b
+
+-- the disk tells its blocks, and the image has what the disk has of each of these
+pub record HasSameBlocks (s : DiskState) (blocks : List ℕ) (im : Image) : Type 0 where
+  pub tells : IsTrue s.tells
+  pub size : im.size ≡ s.size
+  pub count : im.count ≡ s.count
+  pub same : (b : ℕ) → Contains blocks b → im.at b ≡ s.block_at b
 
 -- the image stands, and is one of the profile
 pub record IsOfProfile (im : Image) : Type 0 where

@@ -14,11 +14,12 @@ use Rattle.image_model.specs.Image.{Image}
 use Rattle.image_model.specs.Journals.{journal_name}
 use Rattle.image_model.specs.Owners.{Below}
 use Rattle.image_model.specs.Stands.{Layout, IsJournalAt}
+use Rattle.image_model.specs.SystemFiles.{IsSystemBlock}
 use Rattle.image_mount.specs.Found.{HasNames}
 use Rattle.image_mount.specs.Looks.{IsTrueEntry, IsLookedAt}
 use Rattle.image_mount.specs.Mounted.{Journal, IsJournalOf}
 use Rattle.image_mount.specs.Refusals.{IsJournalSized, IsReached}
-use Rattle.image_mount.specs.Searching.{IsSystemFile, IsWanted}
+use Rattle.image_mount.specs.Searching.{IsListingFile, IsWanted}
 use Rattle.image_mount.specs.Groups.{IsNamedIn}
 use Rattle.image_mount.specs.System.{IsSystemOf}
 use Rattle.image_mount.specs.Kept.{Kept, seen_of}
@@ -39,8 +40,9 @@ pub record IsPlace (im : Image) (done : List ℕ) (d n b : ℕ) : Type 0 where
   pub pointer : ℕ
   pub index : ℕ
   pub claimed : Claims im by b (Below inode by pointer 0 index)
-  pub plain : ¬ (IsSystemFile im inode)
+  pub plain : ¬ (IsListingFile im inode)
   pub of : Contains done inode ⊎ ((inode ≡ d) × (index < n))
+  pub system : IsSystemBlock im b
 
 -- each block that was read as a leaf was wanted
 abbrev pub AreWantedLeaves : Image → Kept → Type 0
@@ -65,7 +67,7 @@ pub record IsJournalIn (im : Image) (journal : Link) : Type 0 where
 pub record IsNext (im : Image) (done : List ℕ) (system : System) (journal : Link) : Type 0 where
   pub looked : IsSystemOf im system
   pub named : IsJournalIn im journal
-  pub plain : ¬ (IsSystemFile im journal.entry.addr)
+  pub plain : ¬ (IsListingFile im journal.entry.addr)
   pub new : ¬ (Contains done journal.entry.addr)
 
 -- the journal with its dinode in block d has so many places
@@ -89,6 +91,7 @@ pub record IsPlaceAt (im : Image) (d place : ℕ) (located : Located) : Type 0 w
 pub record AreBlocksOf (im : Image) (d n : ℕ) (blocks : List ℕ) : Type 0 where
   pub all : blocks ≡ map (content_block (every im d)) (range_with_len 0 n)
   pub reached : All (IsReached im) blocks
+  pub system : All (IsSystemBlock im) blocks
   pub headed : (p : ℕ) → p < n → IsHeadedWay (every im d) p
 
 -- the block is none with the dinode of the master directory, of the list of groups or of the directory of journals

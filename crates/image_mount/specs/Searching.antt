@@ -6,6 +6,7 @@ use Rattle.glock_names.specs.declared.steps.CallFault.TheVariants as call
 use Rattle.image_model.specs.Claims.{Claims, IsJindex, IsRindex, master_of}
 use Rattle.image_model.specs.Image.{Image}
 use Rattle.image_model.specs.Owners.{Owner, Below}
+use Rattle.image_model.specs.SystemFiles.{IsSystemBlock}
 use Rattle.shared_disk.specs.Disk.{DiskState, IsIdle}
 use Rattle.image_mount.specs.Found.{HasFormat}
 use Rattle.image_mount.specs.Refusals.{RefusesRightly}
@@ -27,16 +28,16 @@ pub record IsRead (im : Image) (k : Kept) : Type 0 where
   pub same : (b : ℕ) (bytes : List ℕ) → (seen_of k).block_at b ≡ Some bytes → im.at b ≡ bytes
 
 -- the inode in block d is the list of groups, the master directory or the directory of journals, whose content is read block by block
-abbrev pub IsSystemFile : Image → ℕ → Type 0
-IsSystemFile im d = IsRindex im d ⊎ ((d ≡ master_of im) ⊎ IsJindex im d)
+abbrev pub IsListingFile : Image → ℕ → Type 0
+IsListingFile im d = IsRindex im d ⊎ ((d ≡ master_of im) ⊎ IsJindex im d)
 
 -- a block of content that is this owner's is one of such a file
 abbrev pub IsLeading : Image → Owner → Type 0
-IsLeading im o = (d b k first : ℕ) → o ≡ Below d b k 0 first → IsSystemFile im d
+IsLeading im o = (d b k first : ℕ) → o ≡ Below d b k 0 first → IsListingFile im d
 
--- the superblock is to be read, or a block that is claimed by its number in block `from` of the device: of content that of those three files alone
+-- the superblock is to be read, or a block of a system file that is claimed by its number in block `from` of the device: of content that of those three files alone
 abbrev pub IsWanted : Image → ℕ → ℕ → Type 0
-IsWanted im block from = (block ≡ superblock_place im.size) ⊎ (HasFormat im × ((o : Owner) × Claims im from block o × IsLeading im o × (from < im.count)))
+IsWanted im block from = (block ≡ superblock_place im.size) ⊎ (HasFormat im × ((o : Owner) × Claims im from block o × IsLeading im o × (from < im.count) × IsSystemBlock im block))
 
 -- the image is refused for a cause that it has, or a block is wanted
 abbrev pub StopsRightly : Image → Stop → Type 0
@@ -64,3 +65,11 @@ pub record IsWorking (s : DiskState) (k : Kept) : Type 0 where
   pub size : k.size ≡ s.size
   pub count : length k.entries ≡ s.count
   pub same : IsTrue s.tells → (b : ℕ) (bytes : List ℕ) → (seen_of k).block_at b ≡ Some bytes → s.block_at b ≡ bytes
+
+-- The disk tells its blocks, and the image has what the disk has of each block of its own system files. A search comes to no other block, so it
+-- finds such an image as it finds the disk's own.
+pub record ShowsSystem (s : DiskState) (im : Image) : Type 0 where
+  pub tells : IsTrue s.tells
+  pub size : im.size ≡ s.size
+  pub count : im.count ≡ s.count
+  pub same : (b : ℕ) → IsSystemBlock im b → im.at b ≡ s.block_at b

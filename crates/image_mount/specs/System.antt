@@ -2,6 +2,7 @@
 use Rattle.std.specs.Prelude.{ℕ, ◌≡◌, ◌≢◌, ◌⊎◌, ◌<◌, ◌≤◌, true, false, List, [], Contains, codes, length, map, slice_get, Some}
 use Rattle.glock_names.specs.declared.steps.Entry.{Entry}
 use Rattle.dinode_tree.specs.Reading.{IsRightDinode}
+use Rattle.gfs2_layout.specs.Device.{superblock_place}
 use Rattle.gfs2_layout.specs.Inode.{is_hashed_in}
 use Rattle.gfs2_layout.specs.Records.{Record, is_dots}
 use Rattle.image_model.specs.Claims.{every, LeadsTo, IsJindex, IsRindex, master_of}
@@ -13,9 +14,9 @@ use Rattle.image_model.specs.Stands.{Layout}
 use Rattle.image_mount.specs.Found.{is_other, name_count, AreJournalNames, HasGroups, HasNames}
 use Rattle.image_mount.specs.Groups.{IsNamedIn}
 use Rattle.image_mount.specs.Kept.{Kept}
-use Rattle.image_mount.specs.Leaves.{IsMasterIn}
+use Rattle.image_mount.specs.Leaves.{HasReadDirectory, IsMasterIn}
 use Rattle.image_mount.specs.Looks.{HasHeadedContent, HasSoundLeaves, HasTrueRecord, IsLookedAt, IsSoundDirectory, IsTableSized}
-use Rattle.image_mount.specs.Marked.{IsKept}
+use Rattle.image_mount.specs.Marked.{HasKeptContent, IsKept}
 use Rattle.image_mount.specs.Listing.{said, link_of, AreAllRecords, AreDistinct, IsDirectoryIn}
 use Rattle.image_mount.specs.declared.master.Master.{Master}
 use Rattle.image_mount.specs.declared.inodes.Inode.{Inode}
@@ -170,6 +171,13 @@ pub record HasDinodes (im : Image) (k : Kept) (s : System) : Type 0 where
   pub master : IsKept k (master_of im)
   pub rindex : IsKept k s.rindex
   pub jindex : IsKept k s.jindex
+
+-- so is the superblock, and all content of the list of groups; and a directory that is a hashed one was read
+pub record HasReadSystem (im : Image) (k : Kept) (s : System) : Type 0 where
+  pub superblock : IsKept k (superblock_place im.size)
+  pub master : is_hashed_in (every im s.superblock.master.address) ≡ true → HasReadDirectory im k s.superblock.master.address
+  pub rindex : HasKeptContent k (every im s.rindex)
+  pub jindex : is_hashed_in (every im s.jindex) ≡ true → HasReadDirectory im k s.jindex
 
 -- the system files were looked at, as far as the journals' records
 pub record IsSystemOf (im : Image) (s : System) : Type 0 where

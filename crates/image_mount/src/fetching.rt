@@ -2,11 +2,11 @@ ghost use Rattle.std.specs.Prelude.{ℕ, List, ◌≡◌, ◌+◌, ◌<◌, ◌�
 ghost use Rattle.gfs2_layout.specs.Device.{IsBlockSize};
 ghost use Rattle.shared_disk.specs.Disk.{IsIdle};
 ghost use Rattle.shared_disk.specs.Disk.{ReadsOnly};
-ghost use Rattle.image_model.specs.Image.{Image, image_of};
-ghost use Rattle.image_mount.specs.Marked.{IsGrown, marks_of};
+ghost use Rattle.image_model.specs.Image.{Image};
+ghost use Rattle.image_mount.specs.Marked.{IsGrown, IsTaken, marks_of};
 ghost use Rattle.image_mount.specs.Refusals.{HasRisen, LiesWithin, RefusesRightly};
 ghost use Rattle.image_mount.specs.Rings.{IsSearched};
-ghost use Rattle.image_mount.specs.Searching.{FailsAt, IsWanted, IsWorking, LacksBlock, StopsRightly};
+ghost use Rattle.image_mount.specs.Searching.{FailsAt, IsWanted, IsWorking, LacksBlock, ShowsSystem, StopsRightly};
 ghost use Rattle.image_mount.specs.Kept.{seen_of};
 
 use crate::fault::MountFault;
@@ -74,8 +74,8 @@ pub(crate) fn fetch<D: SharedDisk>(
     requires new { (seen_of table.old).block_at block ≡ None }
     ensures work { OnOk result (IsWorking (D.state disk.new) table.new) }
     ensures searched { OnOk result ((im : Image) (done : List ℕ) (d n : ℕ) → IsWanted im block from → IsSearched im done d n table.old → IsSearched im done d n table.new) }
-    ensures refused { (done : List ℕ) (d n : ℕ) → IsTrue (D.state disk.old).tells → IsWanted (image_of (D.state disk.old)) block from → IsSearched (image_of (D.state disk.old)) done d n table.old
-        → IfErr result (RefusesRightly (image_of (D.state disk.old))) }
+    ensures refused { (done : List ℕ) (d n : ℕ) → (im : Image) → ShowsSystem (D.state disk.old) im → IsWanted im block from → IsSearched im done d n table.old
+        → IfErr result (RefusesRightly im) }
     ensures falls { OnOk result (table.new.left + 1 ≡ table.old.left) }
     ensures places { table.new.places ≡ table.old.places }
     ensures grown { OnOk result (IsGrown table.old table.new) }
@@ -104,10 +104,11 @@ pub(crate) fn read_leaf<D: SharedDisk>(
     requires size { length into.old ≡ (D.state disk.old).size }
     ensures work { OnOk result (IsWorking (D.state disk.new) table.new) }
     ensures inside { OnOk result (block < (D.state disk.old).count) }
+    ensures read { OnOk result (IsTaken table.new block) }
     ensures bytes { OnOk result (IsTrue (D.state disk.old).tells → into.new ≡ (D.state disk.old).block_at block) }
     ensures searched { OnOk result ((im : Image) (done : List ℕ) (d n : ℕ) → IsWanted im block from → IsSearched im done d n table.old → IsSearched im done d n table.new) }
-    ensures refused { (done : List ℕ) (d n : ℕ) → IsTrue (D.state disk.old).tells → IsWanted (image_of (D.state disk.old)) block from → IsSearched (image_of (D.state disk.old)) done d n table.old
-        → IfErr result (RefusesRightly (image_of (D.state disk.old))) }
+    ensures refused { (done : List ℕ) (d n : ℕ) → (im : Image) → ShowsSystem (D.state disk.old) im → IsWanted im block from → IsSearched im done d n table.old
+        → IfErr result (RefusesRightly im) }
     ensures left { OnOk result (table.new.left ≡ table.old.left) }
     ensures grown { OnOk result (IsGrown table.old table.new) }
     ensures risen { IfErr result (HasRisen (D.faults disk.old) (D.faults disk.new)) }
@@ -135,8 +136,8 @@ pub(crate) fn go_on<D: SharedDisk>(
     requires lacks { LacksBlock table.old stop }
     ensures work { OnOk result (IsWorking (D.state disk.new) table.new) }
     ensures searched { OnOk result ((im : Image) (done : List ℕ) (d n : ℕ) → StopsRightly im stop → IsSearched im done d n table.old → IsSearched im done d n table.new) }
-    ensures refused { (done : List ℕ) (d n : ℕ) → IsTrue (D.state disk.old).tells → StopsRightly (image_of (D.state disk.old)) stop → IsSearched (image_of (D.state disk.old)) done d n table.old
-        → IfErr result (RefusesRightly (image_of (D.state disk.old))) }
+    ensures refused { (done : List ℕ) (d n : ℕ) → (im : Image) → ShowsSystem (D.state disk.old) im → StopsRightly im stop → IsSearched im done d n table.old
+        → IfErr result (RefusesRightly im) }
     ensures falls { OnOk result (table.new.left + 1 ≡ table.old.left) }
     ensures places { table.new.places ≡ table.old.places }
     ensures grown { OnOk result (IsGrown table.old table.new) }

@@ -1,8 +1,9 @@
 ghost use Rattle.std.specs.Prelude.{◌≡◌, ◌≤◌, ◌^◌, ◌↔◌, IsTrue, OnOk, IfOk, IfErr};
-ghost use Rattle.gfs2_layout.specs.Device.{IsBlockSize};
+ghost use Rattle.gfs2_layout.specs.Device.{IsBlockSize, superblock_place};
 ghost use Rattle.gfs2_layout.specs.Structures.{superblock_of};
 ghost use Rattle.image_model.specs.Image.{Image, superblock_in};
 ghost use Rattle.image_mount.specs.Found.{HasSuper, HasFormat};
+ghost use Rattle.image_mount.specs.Marked.{IsKept};
 ghost use Rattle.image_mount.specs.Refusals.{RefusesRightly};
 ghost use Rattle.image_mount.specs.Searching.{IsRead, IsSteady, StopsRightly, LacksBlock};
 ghost use Rattle.profile_limits.specs.Limits.{most_blocks};
@@ -53,6 +54,7 @@ fn check_formats(superblock: &SuperBlock, size: u32) -> Result<(), MountFault>
 pub(crate) fn read_superblock(table: &KeptBlocks) -> Result<SuperBlock, Stop>
     ensures found { (im : Image) → IsRead im table.now → IfOk result (λ superblock. superblock ≡ superblock_in im) }
     ensures format { (im : Image) → IsRead im table.now → im.count ≤ most_blocks → OnOk result (HasFormat im) }
+    ensures there { OnOk result (IsKept table.now (superblock_place table.now.size)) }
     ensures stops { (im : Image) → IsRead im table.now → im.count ≤ most_blocks → IfErr result (StopsRightly im) }
     ensures lacks { IfErr result (LacksBlock table.now) }
 {

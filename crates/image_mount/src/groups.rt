@@ -14,9 +14,11 @@ ghost use Rattle.image_mount.specs.Found.{HasFormat, HasMaster};
 ghost use Rattle.image_mount.specs.Groups.{IsListLink, IsListOf, AreGroups};
 ghost use Rattle.image_mount.specs.Listing.{HasKeptDinode};
 ghost use Rattle.image_mount.specs.Looks.{HasHeadedContent, IsSized, IsTrueEntry};
-ghost use Rattle.image_mount.specs.Marked.{IsKept};
+ghost use Rattle.glock_names.specs.Views.{IsView};
+ghost use Rattle.image_mount.specs.Kept.{seen_of};
+ghost use Rattle.image_mount.specs.Marked.{HasKeptContent, IsKept};
 ghost use Rattle.image_mount.specs.Refusals.{RefusesRightly};
-ghost use Rattle.image_mount.specs.Searching.{IsRead, IsSteady, IsSystemFile, StopsRightly, LacksBlock};
+ghost use Rattle.image_mount.specs.Searching.{IsRead, IsSteady, IsListingFile, StopsRightly, LacksBlock};
 ghost use Rattle.profile_limits.specs.Limits.{most_blocks};
 
 use crate::fault::MountFault;
@@ -215,7 +217,8 @@ pub(crate) fn read_whole(
     ensures whole { HasKeptDinode table.now inode.now → inode.now.dinode.size ≡ bytes → IfOk result (λ content. length content.items ≡ bytes) }
     ensures most { IfOk result (λ content. length content.items ≤ bytes) }
     ensures headed { (im : Image) → IsRead im table.now → (dinode_in (every im inode.now.block)).size ≡ bytes → OnOk result (HasHeadedContent im inode.now.block) }
-    ensures stops { (im : Image) (o : Owner) → IsRead im table.now → Claims im inode.now.from inode.now.block o → is_dinode o ≡ true → HasFormat im → inode.now.from < im.count → IsSystemFile im inode.now.block → IfErr result (StopsRightly im) }
+    ensures kept { (im : Image) → IsRead im table.now → IsView (seen_of table.now) → (dinode_in (every im inode.now.block)).size ≡ bytes → OnOk result (HasKeptContent table.now (every im inode.now.block)) }
+    ensures stops { (im : Image) (o : Owner) → IsRead im table.now → Claims im inode.now.from inode.now.block o → is_dinode o ≡ true → HasFormat im → inode.now.from < im.count → IsListingFile im inode.now.block → IfErr result (StopsRightly im) }
     ensures lacks { IfErr result (LacksBlock table.now) }
 {
     // The dinode is kept, and what is missing is a block below it.
@@ -238,6 +241,7 @@ pub(crate) fn list_groups(
     ensures length { IfOk result (λ groups. length groups.items ≤ 64) }
     ensures repeats { (im : Image) → IsRead im table.now → OnOk result (IsTrueEntry im rindex.now.entry) }
     ensures there { OnOk result (IsKept table.now rindex.now.entry.addr) }
+    ensures kept { (im : Image) → IsRead im table.now → OnOk result (HasKeptContent table.now (every im rindex.now.entry.addr)) }
     ensures stops { (im : Image) → IsRead im table.now → count ≡ im.count → IsListLink im rindex.now → IfErr result (StopsRightly im) }
     ensures lacks { IfErr result (LacksBlock table.now) }
 {

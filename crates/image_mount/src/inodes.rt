@@ -7,6 +7,7 @@ ghost use Rattle.image_model.specs.Claims.{every, HasInode, HasDirectory, Claims
 ghost use Rattle.image_model.specs.Image.{Image};
 ghost use Rattle.image_model.specs.Owners.{Owner, is_dinode};
 ghost use Rattle.image_model.specs.Rules.{HasRecordIn, IsHashedAt};
+ghost use Rattle.image_model.specs.SystemFiles.{IsSystemFile};
 ghost use Rattle.image_mount.specs.Found.{HasFormat};
 ghost use Rattle.image_mount.specs.Looks.{IsSized, IsTrueEntry};
 ghost use Rattle.image_mount.specs.Marked.{IsKept};
@@ -42,7 +43,7 @@ impl Inode {
         ensures right { (im : Image) → IsRead im table.now → OnOk result (IsRightDinode (every im block)) }
         ensures inside { (im : Image) → IsRead im table.now → OnOk result (block < im.count) }
         ensures there { OnOk result (IsKept table.now block) }
-        ensures stops { (im : Image) (o : Owner) → IsRead im table.now → Claims im from block o → is_dinode o ≡ true → HasFormat im → from < im.count → IfErr result (StopsRightly im) }
+        ensures stops { (im : Image) (o : Owner) → IsRead im table.now → Claims im from block o → is_dinode o ≡ true → HasFormat im → from < im.count → IsSystemFile im block → IfErr result (StopsRightly im) }
         ensures lacks { IfErr result (LacksBlock table.now) }
     {
         match read_dinode(table, block)? {

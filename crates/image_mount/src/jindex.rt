@@ -1,14 +1,17 @@
 ghost use Rattle.std.specs.Prelude.{ℕ, ◌≡◌, ◌≢◌, ◌<◌, ◌≤◌, ◌↔◌, [], true, false, length, map, IsTrue, IfOk, OnOk, IfErr, IfSome, IfNone};
-ghost use Rattle.image_model.specs.Image.{Image, image_of};
+ghost use Rattle.gfs2_layout.specs.Inode.{is_hashed_in};
+ghost use Rattle.image_model.specs.Claims.{every};
+ghost use Rattle.image_model.specs.Image.{Image};
 ghost use Rattle.image_model.specs.Journals.{journal_name as name_of_journal};
 ghost use Rattle.image_model.specs.Stands.{Layout};
 ghost use Rattle.image_mount.specs.Found.{HasGroups};
+ghost use Rattle.image_mount.specs.Leaves.{HasReadDirectory};
 ghost use Rattle.image_mount.specs.Listing.{said, is_hashed_by};
 ghost use Rattle.image_mount.specs.Marked.{IsGrown};
 ghost use Rattle.image_mount.specs.Refusals.{HasRisen, LiesWithin, RefusesRightly};
 ghost use Rattle.image_mount.specs.Rings.{IsSearched};
 ghost use Rattle.image_mount.specs.declared.fault.MountFault.TheVariants as fault_of;
-ghost use Rattle.image_mount.specs.Searching.{IsRead, IsSteady, IsWorking, StopsRightly, LacksBlock};
+ghost use Rattle.image_mount.specs.Searching.{IsRead, IsSteady, IsWorking, ShowsSystem, StopsRightly, LacksBlock};
 ghost use Rattle.image_mount.specs.System.{AreAmong, LacksName, AreNamesOf, AreJournalsAmong, AreJournalsOf, AreRecordsAnew, IsJindexIn};
 ghost use Rattle.profile_limits.specs.Limits.{most_blocks};
 ghost use Rattle.shared_disk.specs.Disk.{ReadsOnly};
@@ -130,9 +133,9 @@ fn search_linear<D: SharedDisk>(
     requires linear { is_hashed_by inode.now.dinode ≡ false }
     ensures work { OnOk result (IsWorking (D.state disk.new) table.new) }
     ensures grown { OnOk result (IsGrown table.old table.new) }
-    ensures found { IfOk result (λ journals. IsTrue (D.state disk.old).tells → IsJindexIn (image_of (D.state disk.old)) master inode.now → AreJournalsOf (image_of (D.state disk.old)) inode.now.block journals.items) }
-    ensures searched { OnOk result (IsTrue (D.state disk.old).tells → IsJindexIn (image_of (D.state disk.old)) master inode.now → IsSearched (image_of (D.state disk.old)) [] 0 0 table.old → IsSearched (image_of (D.state disk.old)) [] 0 0 table.new) }
-    ensures refused { IsTrue (D.state disk.old).tells → IsJindexIn (image_of (D.state disk.old)) master inode.now → IsSearched (image_of (D.state disk.old)) [] 0 0 table.old → IfErr result (RefusesRightly (image_of (D.state disk.old))) }
+    ensures found { IfOk result (λ journals. (im : Image) → ShowsSystem (D.state disk.old) im → IsJindexIn im master inode.now → IsSearched im [] 0 0 table.old → AreJournalsOf im inode.now.block journals.items) }
+    ensures searched { OnOk result ((im : Image) → ShowsSystem (D.state disk.old) im → IsJindexIn im master inode.now → IsSearched im [] 0 0 table.old → IsSearched im [] 0 0 table.new) }
+    ensures refused { (im : Image) → ShowsSystem (D.state disk.old) im → IsJindexIn im master inode.now → IsSearched im [] 0 0 table.old → IfErr result (RefusesRightly im) }
     ensures risen { IfErr result (HasRisen (D.faults disk.old) (D.faults disk.new)) }
     ensures within { IfErr result (LiesWithin (D.state disk.old).count) }
     ensures reads { ReadsOnly (D.state disk.old) (D.state disk.new) (D.list disk.old) (D.list disk.new) (D.faults disk.old) (D.faults disk.new) }
@@ -159,9 +162,10 @@ fn search_hashed<D: SharedDisk>(
     requires hashed { is_hashed_by inode.now.dinode ≡ true }
     ensures work { OnOk result (IsWorking (D.state disk.new) table.new) }
     ensures grown { OnOk result (IsGrown table.old table.new) }
-    ensures found { IfOk result (λ journals. IsTrue (D.state disk.old).tells → IsJindexIn (image_of (D.state disk.old)) master inode.now → AreJournalsOf (image_of (D.state disk.old)) inode.now.block journals.items) }
-    ensures searched { OnOk result (IsTrue (D.state disk.old).tells → IsJindexIn (image_of (D.state disk.old)) master inode.now → IsSearched (image_of (D.state disk.old)) [] 0 0 table.old → IsSearched (image_of (D.state disk.old)) [] 0 0 table.new) }
-    ensures refused { IsTrue (D.state disk.old).tells → IsJindexIn (image_of (D.state disk.old)) master inode.now → IsSearched (image_of (D.state disk.old)) [] 0 0 table.old → IfErr result (RefusesRightly (image_of (D.state disk.old))) }
+    ensures found { IfOk result (λ journals. (im : Image) → ShowsSystem (D.state disk.old) im → IsJindexIn im master inode.now → IsSearched im [] 0 0 table.old → AreJournalsOf im inode.now.block journals.items) }
+    ensures read { OnOk result ((im : Image) → ShowsSystem (D.state disk.old) im → IsJindexIn im master inode.now → IsSearched im [] 0 0 table.old → is_hashed_in (every im inode.now.block) ≡ true → HasReadDirectory im table.new inode.now.block) }
+    ensures searched { OnOk result ((im : Image) → ShowsSystem (D.state disk.old) im → IsJindexIn im master inode.now → IsSearched im [] 0 0 table.old → IsSearched im [] 0 0 table.new) }
+    ensures refused { (im : Image) → ShowsSystem (D.state disk.old) im → IsJindexIn im master inode.now → IsSearched im [] 0 0 table.old → IfErr result (RefusesRightly im) }
     ensures risen { IfErr result (HasRisen (D.faults disk.old) (D.faults disk.new)) }
     ensures within { IfErr result (LiesWithin (D.state disk.old).count) }
     ensures reads { ReadsOnly (D.state disk.old) (D.state disk.new) (D.list disk.old) (D.list disk.new) (D.faults disk.old) (D.faults disk.new) }
@@ -188,9 +192,10 @@ pub(crate) fn search_journals<D: SharedDisk>(
     requires few { (D.state disk.old).count ≤ most_blocks }
     ensures work { OnOk result (IsWorking (D.state disk.new) table.new) }
     ensures grown { OnOk result (IsGrown table.old table.new) }
-    ensures found { IfOk result (λ journals. IsTrue (D.state disk.old).tells → IsJindexIn (image_of (D.state disk.old)) master inode.now → AreJournalsOf (image_of (D.state disk.old)) inode.now.block journals.items) }
-    ensures searched { OnOk result (IsTrue (D.state disk.old).tells → IsJindexIn (image_of (D.state disk.old)) master inode.now → IsSearched (image_of (D.state disk.old)) [] 0 0 table.old → IsSearched (image_of (D.state disk.old)) [] 0 0 table.new) }
-    ensures refused { IsTrue (D.state disk.old).tells → IsJindexIn (image_of (D.state disk.old)) master inode.now → IsSearched (image_of (D.state disk.old)) [] 0 0 table.old → IfErr result (RefusesRightly (image_of (D.state disk.old))) }
+    ensures found { IfOk result (λ journals. (im : Image) → ShowsSystem (D.state disk.old) im → IsJindexIn im master inode.now → IsSearched im [] 0 0 table.old → AreJournalsOf im inode.now.block journals.items) }
+    ensures read { OnOk result ((im : Image) → ShowsSystem (D.state disk.old) im → IsJindexIn im master inode.now → IsSearched im [] 0 0 table.old → is_hashed_in (every im inode.now.block) ≡ true → HasReadDirectory im table.new inode.now.block) }
+    ensures searched { OnOk result ((im : Image) → ShowsSystem (D.state disk.old) im → IsJindexIn im master inode.now → IsSearched im [] 0 0 table.old → IsSearched im [] 0 0 table.new) }
+    ensures refused { (im : Image) → ShowsSystem (D.state disk.old) im → IsJindexIn im master inode.now → IsSearched im [] 0 0 table.old → IfErr result (RefusesRightly im) }
     ensures risen { IfErr result (HasRisen (D.faults disk.old) (D.faults disk.new)) }
     ensures within { IfErr result (LiesWithin (D.state disk.old).count) }
     ensures reads { ReadsOnly (D.state disk.old) (D.state disk.new) (D.list disk.old) (D.list disk.new) (D.faults disk.old) (D.faults disk.new) }

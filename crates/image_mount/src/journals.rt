@@ -7,15 +7,16 @@ ghost use Rattle.shared_disk.specs.Disk.{IsIdle};
 ghost use Rattle.shared_disk.specs.Disk.{ReadsOnly};
 ghost use Rattle.image_mount.specs.declared.listing.Link.{Link as LinkValue};
 ghost use Rattle.image_model.specs.Claims.{every};
-ghost use Rattle.image_model.specs.Image.{Image, image_of};
+ghost use Rattle.image_model.specs.Image.{Image};
 ghost use Rattle.image_model.specs.Stands.{Layout, IsJournalAt};
+ghost use Rattle.image_model.specs.SystemFiles.{IsSystemBlock};
 ghost use Rattle.image_mount.specs.Found.{HasNames};
 ghost use Rattle.image_mount.specs.Kept.{seen_of};
 ghost use Rattle.image_mount.specs.Looks.{IsInGroups, IsTrueEntry};
 ghost use Rattle.image_mount.specs.Marked.{AreMarked, IsGrown, IsKept, IsKeptWay, marks_of};
 ghost use Rattle.image_mount.specs.Refusals.{HasLowHead, HasRisen, IsJournalSized, IsReached, LiesWithin, RefusesRightly};
 ghost use Rattle.image_mount.specs.Rings.{AreKeptWays, IsSearched, IsJournalIn, IsNext, HasPlaces, IsPlaceAt, AreBlocksOf, IsRingOf, AreRings, AreJournals, IsHeadOf, IsOwn, all_places, ring_at};
-ghost use Rattle.image_mount.specs.Searching.{IsRead, IsSteady, IsWorking, LacksBlock, StopsRightly};
+ghost use Rattle.image_mount.specs.Searching.{IsRead, IsSteady, IsWorking, LacksBlock, ShowsSystem, StopsRightly};
 ghost use Rattle.image_mount.specs.System.{IsSystemOf};
 
 use crate::fault::MountFault;
@@ -81,12 +82,12 @@ fn count_places<D: SharedDisk>(
     ensures work { OnOk result (IsWorking (D.state disk.new) table.new) }
     ensures grown { OnOk result (IsGrown table.old table.new) }
     ensures places { table.new.places ≡ table.old.places }
-    ensures found { IfOk result (λ places. IsTrue (D.state disk.old).tells → HasPlaces (image_of (D.state disk.old)) journal.now.entry.addr places) }
-    ensures repeats { OnOk result (IsTrue (D.state disk.old).tells → IsTrueEntry (image_of (D.state disk.old)) journal.now.entry) }
-    ensures searched { OnOk result ((done : List ℕ) (d n : ℕ) → IsTrue (D.state disk.old).tells → IsJournalIn (image_of (D.state disk.old)) journal.now → IsSearched (image_of (D.state disk.old)) done d n table.old
-        → IsSearched (image_of (D.state disk.old)) done d n table.new) }
-    ensures refused { (done : List ℕ) (d n : ℕ) → IsTrue (D.state disk.old).tells → IsJournalIn (image_of (D.state disk.old)) journal.now → IsSearched (image_of (D.state disk.old)) done d n table.old
-        → IfErr result (RefusesRightly (image_of (D.state disk.old))) }
+    ensures found { IfOk result (λ places. (done : List ℕ) (d n : ℕ) → (im : Image) → ShowsSystem (D.state disk.old) im → IsJournalIn im journal.now → IsSearched im done d n table.old → HasPlaces im journal.now.entry.addr places) }
+    ensures repeats { OnOk result ((done : List ℕ) (d n : ℕ) → (im : Image) → ShowsSystem (D.state disk.old) im → IsJournalIn im journal.now → IsSearched im done d n table.old → IsTrueEntry im journal.now.entry) }
+    ensures searched { OnOk result ((done : List ℕ) (d n : ℕ) → (im : Image) → ShowsSystem (D.state disk.old) im → IsJournalIn im journal.now → IsSearched im done d n table.old
+        → IsSearched im done d n table.new) }
+    ensures refused { (done : List ℕ) (d n : ℕ) → (im : Image) → ShowsSystem (D.state disk.old) im → IsJournalIn im journal.now → IsSearched im done d n table.old
+        → IfErr result (RefusesRightly im) }
     ensures risen { IfErr result (HasRisen (D.faults disk.old) (D.faults disk.new)) }
     ensures within { IfErr result (LiesWithin (D.state disk.old).count) }
     ensures reads { ReadsOnly (D.state disk.old) (D.state disk.new) (D.list disk.old) (D.list disk.new) (D.faults disk.old) (D.faults disk.new) }
@@ -127,13 +128,13 @@ fn find_block<D: SharedDisk>(
     requires work { IsWorking (D.state disk.old) table.old }
     ensures work { OnOk result (IsWorking (D.state disk.new) table.new) }
     ensures grown { OnOk result (IsGrown table.old table.new) }
-    ensures ways { OnOk result (IsTrue (D.state disk.old).tells → IsKept table.old journal.now.entry.addr → IsKeptWay table.new (every (image_of (D.state disk.old)) journal.now.entry.addr) place) }
+    ensures ways { OnOk result ((done : List ℕ) (d n places : ℕ) → (im : Image) → ShowsSystem (D.state disk.old) im → IsJournalIn im journal.now → HasPlaces im journal.now.entry.addr places → place < places → IsSearched im done d n table.old → IsKept table.old journal.now.entry.addr → IsKeptWay table.new (every im journal.now.entry.addr) place) }
     ensures places { table.new.places ≡ table.old.places }
-    ensures found { IfOk result (λ located. IsTrue (D.state disk.old).tells → IsPlaceAt (image_of (D.state disk.old)) journal.now.entry.addr place located) }
-    ensures searched { OnOk result ((done : List ℕ) (d n places : ℕ) → IsTrue (D.state disk.old).tells → IsJournalIn (image_of (D.state disk.old)) journal.now → HasPlaces (image_of (D.state disk.old)) journal.now.entry.addr places → place < places
-        → IsSearched (image_of (D.state disk.old)) done d n table.old → IsSearched (image_of (D.state disk.old)) done d n table.new) }
-    ensures refused { (done : List ℕ) (d n places : ℕ) → IsTrue (D.state disk.old).tells → IsJournalIn (image_of (D.state disk.old)) journal.now → HasPlaces (image_of (D.state disk.old)) journal.now.entry.addr places → place < places
-        → IsSearched (image_of (D.state disk.old)) done d n table.old → IfErr result (RefusesRightly (image_of (D.state disk.old))) }
+    ensures found { IfOk result (λ located. (done : List ℕ) (d n places : ℕ) → (im : Image) → ShowsSystem (D.state disk.old) im → IsJournalIn im journal.now → HasPlaces im journal.now.entry.addr places → place < places → IsSearched im done d n table.old → IsPlaceAt im journal.now.entry.addr place located) }
+    ensures searched { OnOk result ((done : List ℕ) (d n places : ℕ) → (im : Image) → ShowsSystem (D.state disk.old) im → IsJournalIn im journal.now → HasPlaces im journal.now.entry.addr places → place < places
+        → IsSearched im done d n table.old → IsSearched im done d n table.new) }
+    ensures refused { (done : List ℕ) (d n places : ℕ) → (im : Image) → ShowsSystem (D.state disk.old) im → IsJournalIn im journal.now → HasPlaces im journal.now.entry.addr places → place < places
+        → IsSearched im done d n table.old → IfErr result (RefusesRightly im) }
     ensures risen { IfErr result (HasRisen (D.faults disk.old) (D.faults disk.new)) }
     ensures within { IfErr result (LiesWithin (D.state disk.old).count) }
     ensures reads { ReadsOnly (D.state disk.old) (D.state disk.new) (D.list disk.old) (D.list disk.new) (D.faults disk.old) (D.faults disk.new) }
@@ -178,13 +179,14 @@ fn find_blocks<D: SharedDisk>(
     requires work { IsWorking (D.state disk.old) table.old }
     ensures work { OnOk result (IsWorking (D.state disk.new) table.new) }
     ensures grown { OnOk result (IsGrown table.old table.new) }
-    ensures ways { OnOk result (IsTrue (D.state disk.old).tells → IsKept table.old journal.now.entry.addr → (p : ℕ) → p < places → IsKeptWay table.new (every (image_of (D.state disk.old)) journal.now.entry.addr) p) }
-    ensures found { IfOk result (λ blocks. (done : List ℕ) → IsTrue (D.state disk.old).tells → IsNext (image_of (D.state disk.old)) done system.now journal.now → HasPlaces (image_of (D.state disk.old)) journal.now.entry.addr places
-        → IsSearched (image_of (D.state disk.old)) done journal.now.entry.addr 0 table.old → AreBlocksOf (image_of (D.state disk.old)) journal.now.entry.addr places blocks.items) }
-    ensures searched { OnOk result ((done : List ℕ) → IsTrue (D.state disk.old).tells → IsNext (image_of (D.state disk.old)) done system.now journal.now → HasPlaces (image_of (D.state disk.old)) journal.now.entry.addr places
-        → IsSearched (image_of (D.state disk.old)) done journal.now.entry.addr 0 table.old → IsSearched (image_of (D.state disk.old)) done journal.now.entry.addr places table.new) }
-    ensures refused { (done : List ℕ) → IsTrue (D.state disk.old).tells → IsNext (image_of (D.state disk.old)) done system.now journal.now → HasPlaces (image_of (D.state disk.old)) journal.now.entry.addr places
-        → IsSearched (image_of (D.state disk.old)) done journal.now.entry.addr 0 table.old → IfErr result (RefusesRightly (image_of (D.state disk.old))) }
+    ensures ways { OnOk result ((done : List ℕ) → (im : Image) → ShowsSystem (D.state disk.old) im → IsNext im done system.now journal.now → HasPlaces im journal.now.entry.addr places → IsSearched im done journal.now.entry.addr 0 table.old
+        → IsKept table.old journal.now.entry.addr → (p : ℕ) → p < places → IsKeptWay table.new (every im journal.now.entry.addr) p) }
+    ensures found { IfOk result (λ blocks. (done : List ℕ) → (im : Image) → ShowsSystem (D.state disk.old) im → IsNext im done system.now journal.now → HasPlaces im journal.now.entry.addr places
+        → IsSearched im done journal.now.entry.addr 0 table.old → AreBlocksOf im journal.now.entry.addr places blocks.items) }
+    ensures searched { OnOk result ((done : List ℕ) → (im : Image) → ShowsSystem (D.state disk.old) im → IsNext im done system.now journal.now → HasPlaces im journal.now.entry.addr places
+        → IsSearched im done journal.now.entry.addr 0 table.old → IsSearched im done journal.now.entry.addr places table.new) }
+    ensures refused { (done : List ℕ) → (im : Image) → ShowsSystem (D.state disk.old) im → IsNext im done system.now journal.now → HasPlaces im journal.now.entry.addr places
+        → IsSearched im done journal.now.entry.addr 0 table.old → IfErr result (RefusesRightly im) }
     ensures inside { IfOk result (λ blocks. All (λ b. b < (D.state disk.old).count) blocks.items) }
     ensures placed { IfOk result (λ blocks. All (IsInGroups system.now.groups.items) blocks.items) }
     ensures marked { IfOk result (λ blocks. AreMarked table.old table.new blocks.items) }
@@ -227,14 +229,14 @@ fn find_ring<D: SharedDisk>(
     ensures there { OnOk result (IsKept table.new journal.now.entry.addr) }
     ensures work { OnOk result (IsWorking (D.state disk.new) table.new) }
     ensures grown { OnOk result (IsGrown table.old table.new) }
-    ensures ways { IfOk result (λ ring. IsTrue (D.state disk.old).tells → AreKeptWays (image_of (D.state disk.old)) table.new journal.now.entry.addr ring.blocks.items) }
+    ensures ways { IfOk result (λ ring. (done : List ℕ) → (im : Image) → ShowsSystem (D.state disk.old) im → IsNext im done system.now journal.now → IsSearched im done 0 0 table.old → AreKeptWays im table.new journal.now.entry.addr ring.blocks.items) }
     ensures dinode { IfOk result (λ ring. ring.dinode ≡ journal.now.entry.addr) }
-    ensures repeats { OnOk result (IsTrue (D.state disk.old).tells → IsTrueEntry (image_of (D.state disk.old)) journal.now.entry) }
-    ensures found { IfOk result (λ ring. (done : List ℕ) → IsTrue (D.state disk.old).tells → IsNext (image_of (D.state disk.old)) done system.now journal.now → IsSearched (image_of (D.state disk.old)) done 0 0 table.old
-        → IsRingOf (image_of (D.state disk.old)) journal.now.entry.addr ring.blocks.items) }
-    ensures searched { OnOk result ((done : List ℕ) → IsTrue (D.state disk.old).tells → IsNext (image_of (D.state disk.old)) done system.now journal.now → IsSearched (image_of (D.state disk.old)) done 0 0 table.old
-        → IsSearched (image_of (D.state disk.old)) (done ++ journal.now.entry.addr ∷ []) 0 0 table.new) }
-    ensures refused { (done : List ℕ) → IsTrue (D.state disk.old).tells → IsNext (image_of (D.state disk.old)) done system.now journal.now → IsSearched (image_of (D.state disk.old)) done 0 0 table.old → IfErr result (RefusesRightly (image_of (D.state disk.old))) }
+    ensures repeats { OnOk result ((done : List ℕ) → (im : Image) → ShowsSystem (D.state disk.old) im → IsNext im done system.now journal.now → IsSearched im done 0 0 table.old → IsTrueEntry im journal.now.entry) }
+    ensures found { IfOk result (λ ring. (done : List ℕ) → (im : Image) → ShowsSystem (D.state disk.old) im → IsNext im done system.now journal.now → IsSearched im done 0 0 table.old
+        → IsRingOf im journal.now.entry.addr ring.blocks.items) }
+    ensures searched { OnOk result ((done : List ℕ) → (im : Image) → ShowsSystem (D.state disk.old) im → IsNext im done system.now journal.now → IsSearched im done 0 0 table.old
+        → IsSearched im (done ++ journal.now.entry.addr ∷ []) 0 0 table.new) }
+    ensures refused { (done : List ℕ) → (im : Image) → ShowsSystem (D.state disk.old) im → IsNext im done system.now journal.now → IsSearched im done 0 0 table.old → IfErr result (RefusesRightly im) }
     ensures inside { IfOk result (λ ring. All (λ b. b < (D.state disk.old).count) ring.blocks.items) }
     ensures placed { IfOk result (λ ring. All (IsInGroups system.now.groups.items) ring.blocks.items) }
     ensures marked { IfOk result (λ ring. AreMarked table.old table.new ring.blocks.items) }
@@ -283,10 +285,11 @@ pub(crate) fn find_rings<D: SharedDisk>(
     requires work { IsWorking (D.state disk.old) table.old }
     ensures work { OnOk result (IsWorking (D.state disk.new) table.new) }
     ensures grown { OnOk result (IsGrown table.old table.new) }
-    ensures ways { IfOk result (λ rings. IsTrue (D.state disk.old).tells → All (λ (ring : Ring). AreKeptWays (image_of (D.state disk.old)) table.new ring.dinode ring.blocks.items) rings.items) }
+    ensures ways { IfOk result (λ rings. (im : Image) → ShowsSystem (D.state disk.old) im → IsSystemOf im system.now → IsSearched im [] 0 0 table.old → All (λ (ring : Ring). AreKeptWays im table.new ring.dinode ring.blocks.items) rings.items) }
     ensures kept { IfOk result (λ rings. All (λ (ring : Ring). IsKept table.new ring.dinode) rings.items) }
-    ensures found { IfOk result (λ rings. IsTrue (D.state disk.old).tells → IsSystemOf (image_of (D.state disk.old)) system.now → IsSearched (image_of (D.state disk.old)) [] 0 0 table.old → AreRings (image_of (D.state disk.old)) system.now.journals.items rings.items) }
-    ensures refused { IsTrue (D.state disk.old).tells → IsSystemOf (image_of (D.state disk.old)) system.now → IsSearched (image_of (D.state disk.old)) [] 0 0 table.old → IfErr result (RefusesRightly (image_of (D.state disk.old))) }
+    ensures found { IfOk result (λ rings. (im : Image) → ShowsSystem (D.state disk.old) im → IsSystemOf im system.now → IsSearched im [] 0 0 table.old → AreRings im system.now.journals.items rings.items) }
+    ensures searched { IfOk result (λ rings. (im : Image) → ShowsSystem (D.state disk.old) im → IsSystemOf im system.now → IsSearched im [] 0 0 table.old → IsSearched im (map (λ (ring : Ring). ring.dinode) rings.items) 0 0 table.new) }
+    ensures refused { (im : Image) → ShowsSystem (D.state disk.old) im → IsSystemOf im system.now → IsSearched im [] 0 0 table.old → IfErr result (RefusesRightly im) }
     ensures inside { IfOk result (λ rings. All (λ (ring : Ring). All (λ b. b < (D.state disk.old).count) ring.blocks.items) rings.items) }
     ensures placed { IfOk result (λ rings. All (λ (ring : Ring). All (IsInGroups system.now.groups.items) ring.blocks.items) rings.items) }
     ensures own { IfOk result (λ rings. All (λ (ring : Ring). IsOwn system.now ring.dinode) rings.items) }
@@ -323,8 +326,8 @@ fn best_header<D: SharedDisk>(
     requires idle { IsIdle (D.state disk.old) }
     requires size { length bytes.old ≡ (D.state disk.old).size }
     requires inside { All (λ b. b < (D.state disk.old).count) blocks.now }
-    ensures found { IfOk result (λ best. IsTrue (D.state disk.old).tells → best ≡ head_in (ring_at (image_of (D.state disk.old)) blocks.now)) }
-    ensures refused { All (IsReached (image_of (D.state disk.old))) blocks.now → IfErr result (RefusesRightly (image_of (D.state disk.old))) }
+    ensures found { IfOk result (λ best. (im : Image) → ShowsSystem (D.state disk.old) im → All (IsSystemBlock im) blocks.now → best ≡ head_in (ring_at im blocks.now)) }
+    ensures refused { (im : Image) → All (IsReached im) blocks.now → IfErr result (RefusesRightly im) }
     ensures risen { IfErr result (HasRisen (D.faults disk.old) (D.faults disk.new)) }
     ensures within { IfErr result (LiesWithin (D.state disk.old).count) }
     ensures reads { ReadsOnly (D.state disk.old) (D.state disk.new) (D.list disk.old) (D.list disk.new) (D.faults disk.old) (D.faults disk.new) }
@@ -348,10 +351,10 @@ fn find_head<D: SharedDisk>(
     requires idle { IsIdle (D.state disk.old) }
     requires size { length bytes.old ≡ (D.state disk.old).size }
     requires inside { All (λ b. b < (D.state disk.old).count) ring.now.blocks.items }
-    ensures found { IfOk result (λ head. IsTrue (D.state disk.old).tells → IsRingOf (image_of (D.state disk.old)) ring.now.dinode ring.now.blocks.items → IsHeadOf (image_of (D.state disk.old)) ring.now.dinode head) }
-    ensures refused { (l : Layout) (j : ℕ) → IsTrue (D.state disk.old).tells → HasNames (image_of (D.state disk.old)) l → ((i d : ℕ) → IsJournalAt l i d → IsJournalSized (image_of (D.state disk.old)) d)
-        → ((i d : ℕ) → i < j → IsJournalAt l i d → HasLowHead (image_of (D.state disk.old)) d) → IsJournalAt l j ring.now.dinode → IsRingOf (image_of (D.state disk.old)) ring.now.dinode ring.now.blocks.items
-        → IfErr result (RefusesRightly (image_of (D.state disk.old))) }
+    ensures found { IfOk result (λ head. (im : Image) → ShowsSystem (D.state disk.old) im → IsRingOf im ring.now.dinode ring.now.blocks.items → IsHeadOf im ring.now.dinode head) }
+    ensures refused { (l : Layout) (j : ℕ) → (im : Image) → ShowsSystem (D.state disk.old) im → HasNames im l → ((i d : ℕ) → IsJournalAt l i d → IsJournalSized im d)
+        → ((i d : ℕ) → i < j → IsJournalAt l i d → HasLowHead im d) → IsJournalAt l j ring.now.dinode → IsRingOf im ring.now.dinode ring.now.blocks.items
+        → IfErr result (RefusesRightly im) }
     ensures risen { IfErr result (HasRisen (D.faults disk.old) (D.faults disk.new)) }
     ensures within { IfErr result (LiesWithin (D.state disk.old).count) }
     ensures reads { ReadsOnly (D.state disk.old) (D.state disk.new) (D.list disk.old) (D.list disk.new) (D.faults disk.old) (D.faults disk.new) }
@@ -373,9 +376,9 @@ pub(crate) fn find_journals<D: SharedDisk>(
 ) -> Result<Vec<JournalMap>, MountFault>
     requires idle { IsIdle (D.state disk.old) }
     requires inside { All (λ (ring : Ring). All (λ b. b < (D.state disk.old).count) ring.blocks.items) rings.items }
-    ensures found { IfOk result (λ journals. IsTrue (D.state disk.old).tells → All (λ (ring : Ring). IsRingOf (image_of (D.state disk.old)) ring.dinode ring.blocks.items) rings.items → AreJournals (image_of (D.state disk.old)) rings.items journals.items) }
-    ensures refused { (l : Layout) → IsTrue (D.state disk.old).tells → HasNames (image_of (D.state disk.old)) l → map (λ (ring : Ring). ring.dinode) rings.items ≡ l.journals
-        → All (λ (ring : Ring). IsRingOf (image_of (D.state disk.old)) ring.dinode ring.blocks.items) rings.items → IfErr result (RefusesRightly (image_of (D.state disk.old))) }
+    ensures found { IfOk result (λ journals. (im : Image) → ShowsSystem (D.state disk.old) im → All (λ (ring : Ring). IsRingOf im ring.dinode ring.blocks.items) rings.items → AreJournals im rings.items journals.items) }
+    ensures refused { (l : Layout) → (im : Image) → ShowsSystem (D.state disk.old) im → HasNames im l → map (λ (ring : Ring). ring.dinode) rings.items ≡ l.journals
+        → All (λ (ring : Ring). IsRingOf im ring.dinode ring.blocks.items) rings.items → IfErr result (RefusesRightly im) }
     ensures risen { IfErr result (HasRisen (D.faults disk.old) (D.faults disk.new)) }
     ensures within { IfErr result (LiesWithin (D.state disk.old).count) }
     ensures same { D.state disk.new ≡ (D.state disk.old) }

@@ -1,11 +1,13 @@
-ghost use Rattle.std.specs.Prelude.{◌≡◌, ◌≢◌, ◌+◌, ◌<◌, ◌≤◌, [], ◌∷◌, ⊤, true, false, length, count_by, is_none, slice_set, slice_get, Some, None, IsTrue, IsFalse, ◌↔◌, IfOk, IfErr, IfSome, IfNone, MatchOption};
+ghost use Rattle.std.specs.Prelude.{ℕ, Contains, ◌≡◌, ◌≢◌, ◌+◌, ◌<◌, ◌≤◌, [], ◌∷◌, ⊤, true, false, length, count_by, is_none, slice_set, slice_get, Some, None, IsTrue, IsFalse, ◌↔◌, IfOk, IfErr, IfSome, IfNone, MatchOption};
 ghost use Rattle.std.specs.List.{All};
+ghost use Rattle.std.specs.List.Sorted.{IsStrictlyIncreasing};
 ghost use Rattle.gfs2_layout.specs.Device.{IsBlockSize};
 
 use crate::fault::MountFault;
 use crate::stop::Stop;
 use file_tree::Content;
 use glock_names::{Group, LockName, State, View};
+use no_memory::NoMemory;
 use std::alloc::Global;
 use std::marker::Model;
 
@@ -24,7 +26,7 @@ pub(crate) struct KeptBlocks {
 }
 
 impl Model for KeptBlocks {
-    ghost use Rattle.std.specs.Prelude.{◌≡◌, count_by, is_none, length};
+    ghost use Rattle.std.specs.Prelude.{ℕ, Contains, ◌≡◌, count_by, is_none, length};
     ghost use Rattle.glock_names.specs.Views.{IsView};
     ghost use Rattle.image_mount.specs.Kept.{Kept, seen_of};
 
@@ -100,7 +102,8 @@ impl KeptBlocks {
 
     /// How many blocks the device has.
     pub fn count(&self) -> u64
-        ensures { result ≡ length self.now.entries }
+        ensures value { result ≡ length self.now.entries }
+        ensures inside { (b : ℕ) → IsTaken self.now b → b < result }
     {
         self.entries.len() as u64
     }
@@ -136,6 +139,7 @@ impl KeptBlocks {
     /// Whether the block was read, whether it is kept or not, or is a place of a journal.
     pub fn is_taken(&self, block: u64) -> bool
         ensures taken { IsTrue result → IsTaken self.now block }
+        ensures untaken { IsFalse result → ¬ (IsTaken self.now block) }
         ensures unmarked { IsFalse result → marks_of self.now block ≡ 0 }
         ensures free { IsFalse result → (seen_of self.now).block_at block ≡ None }
     {
@@ -148,6 +152,7 @@ impl KeptBlocks {
     /// The block was read as a leaf.
     pub fn mark_leaf(&mut self, block: u64)
         requires { block < length self.old.entries }
+        ensures read { IsTaken self.new block }
         ensures leaves { self.new.leaves ≡ slice_set self.old.leaves block true }
         ensures entries { self.new.entries ≡ self.old.entries }
         ensures places { self.new.places ≡ self.old.places }
@@ -155,6 +160,20 @@ impl KeptBlocks {
         ensures left { self.new.left ≡ self.old.left }
     {
         self.leaves[block as usize] = true;
+    }
+
+    /// The blocks that were read, whether they are kept or not, and the places of journals, in rising order.
+    pub fn taken(&self, alloc: Global) -> Result<Vec<u64>, NoMemory>
+        ensures taken { IfOk result (λ blocks. (b : ℕ) → Contains blocks.items b ↔ IsTaken self.now b) }
+        ensures rise { IfOk result (λ blocks. IsStrictlyIncreasing blocks.items) }
+    {
+        let mut blocks = Vec::new(alloc);
+        for block in 0..self.count() {
+            if self.is_taken(block) {
+                blocks.push(block)?;
+            }
+        }
+        Ok(blocks)
     }
 }
 

@@ -9,7 +9,9 @@ ghost use Rattle.image_model.specs.Image.{Image};
 ghost use Rattle.image_model.specs.Rules.{HasRecordIn};
 ghost use Rattle.gfs2_layout.specs.Records.{Record};
 ghost use Rattle.image_mount.specs.Found.{HasFormat, is_other, first_other as first_other_in};
-ghost use Rattle.image_mount.specs.Leaves.{HasHashOf, IsSystemDirectory, IsTableOf, IsTold, IsLeafHead, IsLeafIn, IsLinkOf, IsPointed, IsFirstTold, IsNextLeaf, IsWalked, ComesNext, HasEnded, steps_left};
+ghost use Rattle.image_mount.specs.Kept.{Kept};
+ghost use Rattle.image_mount.specs.Marked.{HasKeptContent, IsTaken};
+ghost use Rattle.image_mount.specs.Leaves.{AreLeavesRead, HasHashOf, IsSystemDirectory, IsTableOf, IsTold, IsLeafHead, IsLeafIn, IsLinkOf, IsPointed, IsFirstTold, IsNextLeaf, IsWalked, ComesNext, HasEnded, steps_left};
 ghost use Rattle.image_mount.specs.Listing.{said, standing, AreDistinct};
 ghost use Rattle.image_mount.specs.Looks.{IsSoundArea};
 ghost use Rattle.image_mount.specs.Refusals.{RefusesRightly};
@@ -44,6 +46,7 @@ pub(crate) fn read_pointers(
     inode: &Inode,
 ) -> Result<HashTable, Stop>
     ensures found { (im : Image) → IsRead im table.now → IsSystemDirectory im inode.now → is_hashed_in (every im inode.now.block) ≡ true → IfOk result (IsTableOf im inode.now) }
+    ensures kept { (im : Image) → IsRead im table.now → IsSystemDirectory im inode.now → is_hashed_in (every im inode.now.block) ≡ true → OnOk result (HasKeptContent table.now (every im inode.now.block)) }
     ensures stops { (im : Image) → IsRead im table.now → IsSystemDirectory im inode.now → is_hashed_in (every im inode.now.block) ≡ true → IfErr result (StopsRightly im) }
     ensures lacks { IfErr result (LacksBlock table.now) }
 {
@@ -290,6 +293,7 @@ impl LeafWalk {
         ensures names { IfOk result (λ walk. walk.names ≡ names) }
         ensures count { IfOk result (λ walk. vec_len walk.owners.entries ≡ count) }
         ensures index { IfOk result (λ walk. walk.index ≡ 0) }
+        ensures none { (a : ℕ) (k : Kept) → IfOk result (λ walk. AreLeavesRead walk a k) }
         ensures memory { IfErr result (λ fault. fault ≡ MountFault.NoMemory) }
         ensures steady { IfErr result IsSteady }
     {
@@ -383,6 +387,7 @@ impl LeafWalk {
         ensures falls { (count : ℕ) → at.now.behind ≤ count → OnOk result (steps_left self.new count < steps_left self.old count) }
         ensures count { vec_len self.new.owners.entries ≡ vec_len self.old.owners.entries }
         ensures index { OnOk result (self.new.index ≡ at.now.behind) }
+        ensures entered { (k : Kept) → AreLeavesRead self.old self.old.directory k → IsTaken k at.now.block → OnOk result (AreLeavesRead self.new self.old.directory k) }
         ensures steady { IfErr result IsSteady }
     {
         let claim = Claim::Chained {

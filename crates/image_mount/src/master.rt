@@ -1,14 +1,15 @@
 ghost use Rattle.std.specs.Prelude.{ℕ, ◌≡◌, ◌≤◌, ◌^◌, [], true, map, vec_len, IsTrue, OnOk, IfOk, IfErr};
+ghost use Rattle.gfs2_layout.specs.Device.{superblock_place};
 ghost use Rattle.gfs2_layout.specs.Inode.{dinode_in, is_hashed_in};
 ghost use Rattle.image_model.specs.Claims.{every};
-ghost use Rattle.image_model.specs.Image.{Image, image_of};
+ghost use Rattle.image_model.specs.Image.{Image};
 ghost use Rattle.image_mount.specs.Found.{HasFormat};
-ghost use Rattle.image_mount.specs.Leaves.{IsMasterIn, IsTableOf, IsWalked, HasEnded};
+ghost use Rattle.image_mount.specs.Leaves.{HasReadDirectory, IsMasterIn, IsTableOf, IsWalked, HasEnded};
 ghost use Rattle.image_mount.specs.Listing.{said, AreAllRecords, AreCountedIn, AreRowsOf};
 ghost use Rattle.image_mount.specs.Marked.{IsGrown, IsKept};
 ghost use Rattle.image_mount.specs.Refusals.{HasRisen, LiesWithin, RefusesRightly};
 ghost use Rattle.image_mount.specs.Rings.{IsSearched};
-ghost use Rattle.image_mount.specs.Searching.{IsRead, IsSteady, IsWorking, LacksBlock, StopsRightly};
+ghost use Rattle.image_mount.specs.Searching.{IsRead, IsSteady, IsWorking, LacksBlock, ShowsSystem, StopsRightly};
 ghost use Rattle.image_mount.specs.System.{AreHashedNames, IsMasterOf};
 ghost use Rattle.profile_limits.specs.Limits.{most_blocks};
 ghost use Rattle.shared_disk.specs.Disk.{ReadsOnly};
@@ -37,6 +38,7 @@ pub(crate) struct Master {
 fn find_master(table: &KeptBlocks) -> Result<Master, Stop>
     ensures found { (im : Image) → IsRead im table.now → im.count ≤ most_blocks → IfOk result (IsMasterOf im) }
     ensures there { IfOk result (λ master. IsKept table.now master.inode.block) }
+    ensures superblock { OnOk result (IsKept table.now (superblock_place table.now.size)) }
     ensures stops { (im : Image) → IsRead im table.now → im.count ≤ most_blocks → IfErr result (StopsRightly im) }
     ensures lacks { IfErr result (LacksBlock table.now) }
 {
@@ -57,11 +59,12 @@ pub(crate) fn search_master<D: SharedDisk>(
 ) -> Result<Master, MountFault>
     requires work { IsWorking (D.state disk.old) table.old }
     ensures there { IfOk result (λ master. IsKept table.new master.inode.block) }
+    ensures superblock { OnOk result (IsKept table.new (superblock_place (D.state disk.old).size)) }
     ensures work { OnOk result (IsWorking (D.state disk.new) table.new) }
     ensures grown { OnOk result (IsGrown table.old table.new) }
-    ensures found { IfOk result (λ master. IsTrue (D.state disk.old).tells → (D.state disk.old).count ≤ most_blocks → IsSearched (image_of (D.state disk.old)) [] 0 0 table.old → IsMasterOf (image_of (D.state disk.old)) master) }
-    ensures searched { OnOk result (IsTrue (D.state disk.old).tells → (D.state disk.old).count ≤ most_blocks → IsSearched (image_of (D.state disk.old)) [] 0 0 table.old → IsSearched (image_of (D.state disk.old)) [] 0 0 table.new) }
-    ensures refused { IsTrue (D.state disk.old).tells → (D.state disk.old).count ≤ most_blocks → IsSearched (image_of (D.state disk.old)) [] 0 0 table.old → IfErr result (RefusesRightly (image_of (D.state disk.old))) }
+    ensures found { IfOk result (λ master. (im : Image) → ShowsSystem (D.state disk.old) im → (D.state disk.old).count ≤ most_blocks → IsSearched im [] 0 0 table.old → IsMasterOf im master) }
+    ensures searched { OnOk result ((im : Image) → ShowsSystem (D.state disk.old) im → (D.state disk.old).count ≤ most_blocks → IsSearched im [] 0 0 table.old → IsSearched im [] 0 0 table.new) }
+    ensures refused { (im : Image) → ShowsSystem (D.state disk.old) im → (D.state disk.old).count ≤ most_blocks → IsSearched im [] 0 0 table.old → IfErr result (RefusesRightly im) }
     ensures risen { IfErr result (HasRisen (D.faults disk.old) (D.faults disk.new)) }
     ensures within { IfErr result (LiesWithin (D.state disk.old).count) }
     ensures reads { ReadsOnly (D.state disk.old) (D.state disk.new) (D.list disk.old) (D.list disk.new) (D.faults disk.old) (D.faults disk.new) }
@@ -87,9 +90,10 @@ pub(crate) fn search_names<D: SharedDisk>(
     requires few { (D.state disk.old).count ≤ most_blocks }
     ensures work { OnOk result (IsWorking (D.state disk.new) table.new) }
     ensures grown { OnOk result (IsGrown table.old table.new) }
-    ensures found { IfOk result (λ names. IsTrue (D.state disk.old).tells → IsMasterIn (image_of (D.state disk.old)) inode.now → is_hashed_in (every (image_of (D.state disk.old)) inode.now.block) ≡ true → AreHashedNames (image_of (D.state disk.old)) inode.now.block names.items) }
-    ensures searched { OnOk result (IsTrue (D.state disk.old).tells → IsMasterIn (image_of (D.state disk.old)) inode.now → IsSearched (image_of (D.state disk.old)) [] 0 0 table.old → IsSearched (image_of (D.state disk.old)) [] 0 0 table.new) }
-    ensures refused { IsTrue (D.state disk.old).tells → IsMasterIn (image_of (D.state disk.old)) inode.now → IsSearched (image_of (D.state disk.old)) [] 0 0 table.old → IfErr result (RefusesRightly (image_of (D.state disk.old))) }
+    ensures found { IfOk result (λ names. (im : Image) → ShowsSystem (D.state disk.old) im → IsMasterIn im inode.now → IsSearched im [] 0 0 table.old → is_hashed_in (every im inode.now.block) ≡ true → AreHashedNames im inode.now.block names.items) }
+    ensures read { OnOk result ((im : Image) → ShowsSystem (D.state disk.old) im → IsMasterIn im inode.now → IsSearched im [] 0 0 table.old → is_hashed_in (every im inode.now.block) ≡ true → HasReadDirectory im table.new inode.now.block) }
+    ensures searched { OnOk result ((im : Image) → ShowsSystem (D.state disk.old) im → IsMasterIn im inode.now → IsSearched im [] 0 0 table.old → IsSearched im [] 0 0 table.new) }
+    ensures refused { (im : Image) → ShowsSystem (D.state disk.old) im → IsMasterIn im inode.now → IsSearched im [] 0 0 table.old → IfErr result (RefusesRightly im) }
     ensures risen { IfErr result (HasRisen (D.faults disk.old) (D.faults disk.new)) }
     ensures within { IfErr result (LiesWithin (D.state disk.old).count) }
     ensures reads { ReadsOnly (D.state disk.old) (D.state disk.new) (D.list disk.old) (D.list disk.new) (D.faults disk.old) (D.faults disk.new) }

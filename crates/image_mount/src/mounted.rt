@@ -22,12 +22,14 @@ impl Model for JournalMap {
     ghost view = { λ j. record { dinode = j.dinode; blocks = j.blocks.items; head = j.head } };
 }
 
-/// What mounting found in an image: its superblock, its groups in rising order, and its journals, that of node 1 first.
+/// What mounting found in an image: its superblock, its groups in rising order, its journals, that of node 1 first, and the blocks
+/// of its system files, in rising order.
 #[derive(Drop)]
 pub struct Mounted {
     pub sb: SuperBlock,
     pub groups: Vec<Group>,
     pub journals: Vec<JournalMap>,
+    pub system: Vec<u64>,
 }
 
 impl Model for Mounted {
@@ -35,5 +37,5 @@ impl Model for Mounted {
 
     ghost Value = { MountedValue };
 
-    ghost view = { λ m. record { superblock = m.sb; groups = m.groups.items; journals = m.journals.items } };
+    ghost view = { λ m. record { superblock = m.sb; groups = m.groups.items; journals = m.journals.items; system = m.system.items } };
 }

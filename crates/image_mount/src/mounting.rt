@@ -1,15 +1,20 @@
 ghost use Rattle.std.specs.Prelude.{◌≡◌, ◌≤◌, ℕ, [], map, IsTrue, OnOk, IfOk, IfErr};
+ghost use Rattle.std.specs.List.Sorted.{IsStrictlyIncreasing};
 ghost use Rattle.shared_disk.specs.Disk.{IsIdle};
 ghost use Rattle.shared_disk.specs.Disk.{ReadsOnly};
 ghost use Rattle.glock_names.specs.Views.{group_of_entry};
 ghost use Rattle.gfs2_layout.specs.Device.{IsBlockSize};
+ghost use Rattle.image_model.specs.Claims.{every};
 ghost use Rattle.image_model.specs.Image.{Image, image_of};
-ghost use Rattle.image_mount.specs.Mounted.{IsMounted, IsOfProfile};
-ghost use Rattle.image_mount.specs.Marked.{IsGrown, IsKept};
+ghost use Rattle.image_model.specs.Owners.{Owners};
+ghost use Rattle.image_model.specs.Stands.{IsLaid, Layout};
+ghost use Rattle.image_model.specs.SystemFiles.{HasSameSystem};
+ghost use Rattle.image_mount.specs.Mounted.{HasSameBlocks, IsMounted, IsOfProfile};
+ghost use Rattle.image_mount.specs.Marked.{HasKeptContent, IsGrown, IsKept};
 ghost use Rattle.image_mount.specs.Refusals.{HasRisen, IsExcused, LiesWithin, RefusesRightly};
 ghost use Rattle.image_mount.specs.Rings.{IsSearched};
-ghost use Rattle.image_mount.specs.Searching.{IsSteady, IsWorking};
-ghost use Rattle.image_mount.specs.System.{HasDinodes, IsGroundOf, IsMasterOf, IsNamedBy, IsSystemOf};
+ghost use Rattle.image_mount.specs.Searching.{IsSteady, IsWorking, ShowsSystem};
+ghost use Rattle.image_mount.specs.System.{HasDinodes, HasReadSystem, IsGroundOf, IsMasterOf, IsNamedBy, IsSystemOf};
 ghost use Rattle.profile_limits.specs.Limits.{most_blocks};
 
 use crate::fault::MountFault;
@@ -56,9 +61,10 @@ fn search_groundwork<D: SharedDisk>(
     ensures jindex { IfOk result (λ g. IsKept table.new g.jindex.block) }
     ensures work { OnOk result (IsWorking (D.state disk.new) table.new) }
     ensures grown { OnOk result (IsGrown table.old table.new) }
-    ensures found { IfOk result (λ g. IsTrue (D.state disk.old).tells → IsMasterOf (image_of (D.state disk.old)) master.now → IsNamedBy (image_of (D.state disk.old)) master.now names.now → IsGroundOf (image_of (D.state disk.old)) g) }
-    ensures searched { OnOk result (IsTrue (D.state disk.old).tells → IsMasterOf (image_of (D.state disk.old)) master.now → IsNamedBy (image_of (D.state disk.old)) master.now names.now → IsSearched (image_of (D.state disk.old)) [] 0 0 table.old → IsSearched (image_of (D.state disk.old)) [] 0 0 table.new) }
-    ensures refused { IsTrue (D.state disk.old).tells → IsMasterOf (image_of (D.state disk.old)) master.now → IsNamedBy (image_of (D.state disk.old)) master.now names.now → IsSearched (image_of (D.state disk.old)) [] 0 0 table.old → IfErr result (RefusesRightly (image_of (D.state disk.old))) }
+    ensures found { IfOk result (λ g. (im : Image) → ShowsSystem (D.state disk.old) im → IsMasterOf im master.now → IsNamedBy im master.now names.now → IsSearched im [] 0 0 table.old → IsGroundOf im g) }
+    ensures content { IfOk result (λ g. (im : Image) → ShowsSystem (D.state disk.old) im → IsMasterOf im master.now → IsNamedBy im master.now names.now → IsSearched im [] 0 0 table.old → HasKeptContent table.new (every im g.rindex)) }
+    ensures searched { OnOk result ((im : Image) → ShowsSystem (D.state disk.old) im → IsMasterOf im master.now → IsNamedBy im master.now names.now → IsSearched im [] 0 0 table.old → IsSearched im [] 0 0 table.new) }
+    ensures refused { (im : Image) → ShowsSystem (D.state disk.old) im → IsMasterOf im master.now → IsNamedBy im master.now names.now → IsSearched im [] 0 0 table.old → IfErr result (RefusesRightly im) }
     ensures risen { IfErr result (HasRisen (D.faults disk.old) (D.faults disk.new)) }
     ensures within { IfErr result (LiesWithin (D.state disk.old).count) }
     ensures reads { ReadsOnly (D.state disk.old) (D.state disk.new) (D.list disk.old) (D.list disk.new) (D.faults disk.old) (D.faults disk.new) }
@@ -80,12 +86,13 @@ fn search_system<D: SharedDisk>(
 ) -> Result<System, MountFault>
     requires work { IsWorking (D.state disk.old) table.old }
     requires few { (D.state disk.old).count ≤ most_blocks }
-    ensures dinodes { IfOk result (λ system. IsTrue (D.state disk.old).tells → IsSearched (image_of (D.state disk.old)) [] 0 0 table.old → HasDinodes (image_of (D.state disk.old)) table.new system) }
+    ensures dinodes { IfOk result (λ system. (im : Image) → ShowsSystem (D.state disk.old) im → IsSearched im [] 0 0 table.old → HasDinodes im table.new system) }
+    ensures read { IfOk result (λ system. (im : Image) → ShowsSystem (D.state disk.old) im → IsSearched im [] 0 0 table.old → HasReadSystem im table.new system) }
     ensures work { OnOk result (IsWorking (D.state disk.new) table.new) }
     ensures grown { OnOk result (IsGrown table.old table.new) }
-    ensures found { IfOk result (λ system. IsTrue (D.state disk.old).tells → IsSearched (image_of (D.state disk.old)) [] 0 0 table.old → IsSystemOf (image_of (D.state disk.old)) system) }
-    ensures searched { OnOk result (IsTrue (D.state disk.old).tells → IsSearched (image_of (D.state disk.old)) [] 0 0 table.old → IsSearched (image_of (D.state disk.old)) [] 0 0 table.new) }
-    ensures refused { IsTrue (D.state disk.old).tells → IsSearched (image_of (D.state disk.old)) [] 0 0 table.old → IfErr result (RefusesRightly (image_of (D.state disk.old))) }
+    ensures found { IfOk result (λ system. (im : Image) → ShowsSystem (D.state disk.old) im → IsSearched im [] 0 0 table.old → IsSystemOf im system) }
+    ensures searched { OnOk result ((im : Image) → ShowsSystem (D.state disk.old) im → IsSearched im [] 0 0 table.old → IsSearched im [] 0 0 table.new) }
+    ensures refused { (im : Image) → ShowsSystem (D.state disk.old) im → IsSearched im [] 0 0 table.old → IfErr result (RefusesRightly im) }
     ensures risen { IfErr result (HasRisen (D.faults disk.old) (D.faults disk.new)) }
     ensures within { IfErr result (LiesWithin (D.state disk.old).count) }
     ensures reads { ReadsOnly (D.state disk.old) (D.state disk.new) (D.list disk.old) (D.list disk.new) (D.faults disk.old) (D.faults disk.new) }
@@ -124,13 +131,17 @@ fn map_groups(alloc: Global, entries: &[Rindex]) -> Result<Vec<Group>, NoMemory>
 /// the directory of journals and each journal, and looks at every field of the profile. Nothing is written, and, as rows
 /// show, no block is read twice, but a leaf to which something else leads. It costs a read for each block that the system
 /// files have, memory for those of them that lead on, but for leaves, and for an entry a block of the device, or two where
-/// the master directory or that of journals is a hashed one. A look at each of its pointers and leaves comes on top then.
+/// the master directory or that of journals is a hashed one. A look at each of its pointers and leaves comes on top then. The blocks
+/// of the system files are told by a pass over these entries at the end.
 pub fn mount_image<D: SharedDisk>(alloc: Global, disk: &mut D) -> Result<Mounted, MountFault>
     requires idle { IsIdle (D.state disk.old) }
     requires size { IsBlockSize (D.state disk.old).size }
     ensures mounted { IfOk result (λ m. IsTrue (D.state disk.old).tells → IsMounted (image_of (D.state disk.old)) m) }
+    ensures alike { IfOk result (λ m. (im : Image) → HasSameBlocks (D.state disk.old) m.system im → IsMounted im m) }
+    ensures rise { IfOk result (λ m. IsStrictlyIncreasing m.system) }
     ensures refused { IfErr result (λ fault. IsTrue (D.state disk.old).tells → RefusesRightly (image_of (D.state disk.old)) fault) }
-    ensures accepts { IfErr result (λ fault. IsTrue (D.state disk.old).tells → IsOfProfile (image_of (D.state disk.old)) → IsExcused fault) }
+    ensures standing { IfErr result (λ fault. IsTrue (D.state disk.old).tells → (im : Image) (o : Owners) (l : Layout) → HasSameSystem (image_of (D.state disk.old)) im → IsLaid im o l → RefusesRightly im fault) }
+    ensures accepts { IfErr result (λ fault. IsTrue (D.state disk.old).tells → (im : Image) → HasSameSystem (image_of (D.state disk.old)) im → IsOfProfile im → IsExcused fault) }
     ensures risen { IfErr result (HasRisen (D.faults disk.old) (D.faults disk.new)) }
     ensures within { IfErr result (LiesWithin (D.state disk.old).count) }
     ensures reads { ReadsOnly (D.state disk.old) (D.state disk.new) (D.list disk.old) (D.list disk.new) (D.faults disk.old) (D.faults disk.new) }
@@ -144,5 +155,6 @@ pub fn mount_image<D: SharedDisk>(alloc: Global, disk: &mut D) -> Result<Mounted
         sb: system.superblock,
         groups: map_groups(alloc, &system.groups)?,
         journals,
+        system: table.taken(alloc)?,
     })
 }

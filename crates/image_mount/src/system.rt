@@ -6,7 +6,7 @@ ghost use Rattle.image_mount.specs.Found.{HasFormat, HasGroups};
 ghost use Rattle.image_mount.specs.Leaves.{IsMasterIn};
 ghost use Rattle.image_mount.specs.Listing.{AreAllRecords};
 ghost use Rattle.image_mount.specs.Looks.{IsSized, IsSoundDirectory, IsTrueEntry};
-ghost use Rattle.image_mount.specs.Marked.{IsKept};
+ghost use Rattle.image_mount.specs.Marked.{HasKeptContent, IsKept};
 ghost use Rattle.image_mount.specs.Refusals.{RefusesRightly};
 ghost use Rattle.image_mount.specs.Searching.{IsRead, IsSteady, StopsRightly, LacksBlock};
 ghost use Rattle.image_mount.specs.System.{IsLinkOf, IsMasterOf, IsNamedBy, ArePlainRecords, AreFilesOf, IsGroundOf, IsJindexOf};
@@ -123,6 +123,7 @@ pub(crate) fn find_groundwork(
     ensures found { (im : Image) → IsRead im table.now → count ≡ im.count → IsMasterOf im master.now → IsNamedBy im master.now names.now → IfOk result (IsGroundOf im) }
     ensures rindex { IfOk result (λ g. IsKept table.now g.rindex) }
     ensures jindex { IfOk result (λ g. IsKept table.now g.jindex.block) }
+    ensures content { (im : Image) → IsRead im table.now → IfOk result (λ g. HasKeptContent table.now (every im g.rindex)) }
     ensures stops { (im : Image) → IsRead im table.now → count ≡ im.count → IsMasterOf im master.now → IsNamedBy im master.now names.now → IfErr result (StopsRightly im) }
     ensures lacks { IfErr result (LacksBlock table.now) }
 {

@@ -1,13 +1,13 @@
 ghost use Rattle.std.specs.Prelude.{ℕ, ◌≡◌, ◌≤◌, ◌^◌, [], true, map, vec_len, IsTrue, OnOk, IfOk, IfErr};
 ghost use Rattle.gfs2_layout.specs.Inode.{is_hashed_in};
 ghost use Rattle.image_model.specs.Claims.{every};
-ghost use Rattle.image_model.specs.Image.{Image, image_of};
-ghost use Rattle.image_mount.specs.Leaves.{IsSystemDirectory, IsTableOf, IsWalked, IsGoneOver, HasEnded, LooksFor};
+ghost use Rattle.image_model.specs.Image.{Image};
+ghost use Rattle.image_mount.specs.Leaves.{AreLeavesRead, HasReadDirectory, IsSystemDirectory, IsTableOf, IsWalked, IsGoneOver, HasEnded, LooksFor};
 ghost use Rattle.image_mount.specs.Listing.{said, AreAllRecords, AreCountedIn, AreRowsOf, IsDirectoryIn};
-ghost use Rattle.image_mount.specs.Marked.{IsGrown};
+ghost use Rattle.image_mount.specs.Marked.{HasKeptContent, IsGrown};
 ghost use Rattle.image_mount.specs.Refusals.{HasRisen, LiesWithin, RefusesRightly};
 ghost use Rattle.image_mount.specs.Rings.{IsSearched};
-ghost use Rattle.image_mount.specs.Searching.{IsSteady, IsWorking};
+ghost use Rattle.image_mount.specs.Searching.{IsSteady, IsWorking, ShowsSystem};
 ghost use Rattle.profile_limits.specs.Limits.{most_blocks};
 ghost use Rattle.shared_disk.specs.Disk.{ReadsOnly};
 
@@ -33,11 +33,12 @@ fn search_pointers<D: SharedDisk>(
     requires work { IsWorking (D.state disk.old) table.old }
     ensures work { OnOk result (IsWorking (D.state disk.new) table.new) }
     ensures grown { OnOk result (IsGrown table.old table.new) }
-    ensures found { IfOk result (λ pointers. IsTrue (D.state disk.old).tells → IsSystemDirectory (image_of (D.state disk.old)) inode.now → is_hashed_in (every (image_of (D.state disk.old)) inode.now.block) ≡ true → IsTableOf (image_of (D.state disk.old)) inode.now pointers) }
-    ensures searched { OnOk result (IsTrue (D.state disk.old).tells → IsSystemDirectory (image_of (D.state disk.old)) inode.now → is_hashed_in (every (image_of (D.state disk.old)) inode.now.block) ≡ true → IsSearched (image_of (D.state disk.old)) [] 0 0 table.old
-        → IsSearched (image_of (D.state disk.old)) [] 0 0 table.new) }
-    ensures refused { IsTrue (D.state disk.old).tells → IsSystemDirectory (image_of (D.state disk.old)) inode.now → is_hashed_in (every (image_of (D.state disk.old)) inode.now.block) ≡ true → IsSearched (image_of (D.state disk.old)) [] 0 0 table.old
-        → IfErr result (RefusesRightly (image_of (D.state disk.old))) }
+    ensures found { IfOk result (λ pointers. (im : Image) → ShowsSystem (D.state disk.old) im → IsSystemDirectory im inode.now → is_hashed_in (every im inode.now.block) ≡ true → IsSearched im [] 0 0 table.old → IsTableOf im inode.now pointers) }
+    ensures kept { OnOk result ((im : Image) → ShowsSystem (D.state disk.old) im → IsSystemDirectory im inode.now → is_hashed_in (every im inode.now.block) ≡ true → IsSearched im [] 0 0 table.old → HasKeptContent table.new (every im inode.now.block)) }
+    ensures searched { OnOk result ((im : Image) → ShowsSystem (D.state disk.old) im → IsSystemDirectory im inode.now → is_hashed_in (every im inode.now.block) ≡ true → IsSearched im [] 0 0 table.old
+        → IsSearched im [] 0 0 table.new) }
+    ensures refused { (im : Image) → ShowsSystem (D.state disk.old) im → IsSystemDirectory im inode.now → is_hashed_in (every im inode.now.block) ≡ true → IsSearched im [] 0 0 table.old
+        → IfErr result (RefusesRightly im) }
     ensures risen { IfErr result (HasRisen (D.faults disk.old) (D.faults disk.new)) }
     ensures within { IfErr result (LiesWithin (D.state disk.old).count) }
     ensures reads { ReadsOnly (D.state disk.old) (D.state disk.new) (D.list disk.old) (D.list disk.new) (D.faults disk.old) (D.faults disk.new) }
@@ -63,12 +64,13 @@ fn walk_leaves<D: SharedDisk>(
     requires few { (D.state disk.old).count ≤ most_blocks }
     ensures work { OnOk result (IsWorking (D.state disk.new) table.new) }
     ensures grown { OnOk result (IsGrown table.old table.new) }
-    ensures found { IfOk result (λ walk. IsTrue (D.state disk.old).tells → IsTableOf (image_of (D.state disk.old)) inode.now pointers.now → LooksFor (image_of (D.state disk.old)) inode.now.block names → IsWalked (image_of (D.state disk.old)) inode.now.block walk) }
+    ensures found { IfOk result (λ walk. (im : Image) → ShowsSystem (D.state disk.old) im → IsTableOf im inode.now pointers.now → LooksFor im inode.now.block names → IsSearched im [] 0 0 table.old → IsWalked im inode.now.block walk) }
+    ensures read { IfOk result (λ walk. AreLeavesRead walk inode.now.block table.new) }
     ensures ended { IfOk result (λ walk. HasEnded walk (2 ^ pointers.now.depth)) }
     ensures names { IfOk result (λ walk. walk.names ≡ names) }
     ensures count { IfOk result (λ walk. vec_len walk.owners.entries ≡ (D.state disk.old).count) }
-    ensures searched { OnOk result (IsTrue (D.state disk.old).tells → IsTableOf (image_of (D.state disk.old)) inode.now pointers.now → LooksFor (image_of (D.state disk.old)) inode.now.block names → IsSearched (image_of (D.state disk.old)) [] 0 0 table.old → IsSearched (image_of (D.state disk.old)) [] 0 0 table.new) }
-    ensures refused { IsTrue (D.state disk.old).tells → IsTableOf (image_of (D.state disk.old)) inode.now pointers.now → LooksFor (image_of (D.state disk.old)) inode.now.block names → IsSearched (image_of (D.state disk.old)) [] 0 0 table.old → IfErr result (RefusesRightly (image_of (D.state disk.old))) }
+    ensures searched { OnOk result ((im : Image) → ShowsSystem (D.state disk.old) im → IsTableOf im inode.now pointers.now → LooksFor im inode.now.block names → IsSearched im [] 0 0 table.old → IsSearched im [] 0 0 table.new) }
+    ensures refused { (im : Image) → ShowsSystem (D.state disk.old) im → IsTableOf im inode.now pointers.now → LooksFor im inode.now.block names → IsSearched im [] 0 0 table.old → IfErr result (RefusesRightly im) }
     ensures risen { IfErr result (HasRisen (D.faults disk.old) (D.faults disk.new)) }
     ensures within { IfErr result (LiesWithin (D.state disk.old).count) }
     ensures reads { ReadsOnly (D.state disk.old) (D.state disk.new) (D.list disk.old) (D.list disk.new) (D.faults disk.old) (D.faults disk.new) }
@@ -102,14 +104,16 @@ pub(crate) fn search_leaves<D: SharedDisk>(
     requires few { (D.state disk.old).count ≤ most_blocks }
     ensures work { OnOk result (IsWorking (D.state disk.new) table.new) }
     ensures grown { OnOk result (IsGrown table.old table.new) }
-    ensures found { IfOk result (λ walk. IsTrue (D.state disk.old).tells → IsSystemDirectory (image_of (D.state disk.old)) inode.now → is_hashed_in (every (image_of (D.state disk.old)) inode.now.block) ≡ true → LooksFor (image_of (D.state disk.old)) inode.now.block names
-        → IsGoneOver (image_of (D.state disk.old)) inode.now.block walk) }
+    ensures found { IfOk result (λ walk. (im : Image) → ShowsSystem (D.state disk.old) im → IsSystemDirectory im inode.now → is_hashed_in (every im inode.now.block) ≡ true → LooksFor im inode.now.block names
+        → IsSearched im [] 0 0 table.old → IsGoneOver im inode.now.block walk) }
+    ensures read { OnOk result ((im : Image) → ShowsSystem (D.state disk.old) im → IsSystemDirectory im inode.now → is_hashed_in (every im inode.now.block) ≡ true → LooksFor im inode.now.block names
+        → IsSearched im [] 0 0 table.old → HasReadDirectory im table.new inode.now.block) }
     ensures names { IfOk result (λ walk. walk.names ≡ names) }
     ensures few { IfOk result (λ walk. walk.others ≤ 2 ^ 48) }
-    ensures searched { OnOk result (IsTrue (D.state disk.old).tells → IsSystemDirectory (image_of (D.state disk.old)) inode.now → is_hashed_in (every (image_of (D.state disk.old)) inode.now.block) ≡ true → LooksFor (image_of (D.state disk.old)) inode.now.block names
-        → IsSearched (image_of (D.state disk.old)) [] 0 0 table.old → IsSearched (image_of (D.state disk.old)) [] 0 0 table.new) }
-    ensures refused { IsTrue (D.state disk.old).tells → IsSystemDirectory (image_of (D.state disk.old)) inode.now → is_hashed_in (every (image_of (D.state disk.old)) inode.now.block) ≡ true → LooksFor (image_of (D.state disk.old)) inode.now.block names
-        → IsSearched (image_of (D.state disk.old)) [] 0 0 table.old → IfErr result (RefusesRightly (image_of (D.state disk.old))) }
+    ensures searched { OnOk result ((im : Image) → ShowsSystem (D.state disk.old) im → IsSystemDirectory im inode.now → is_hashed_in (every im inode.now.block) ≡ true → LooksFor im inode.now.block names
+        → IsSearched im [] 0 0 table.old → IsSearched im [] 0 0 table.new) }
+    ensures refused { (im : Image) → ShowsSystem (D.state disk.old) im → IsSystemDirectory im inode.now → is_hashed_in (every im inode.now.block) ≡ true → LooksFor im inode.now.block names
+        → IsSearched im [] 0 0 table.old → IfErr result (RefusesRightly im) }
     ensures risen { IfErr result (HasRisen (D.faults disk.old) (D.faults disk.new)) }
     ensures within { IfErr result (LiesWithin (D.state disk.old).count) }
     ensures reads { ReadsOnly (D.state disk.old) (D.state disk.new) (D.list disk.old) (D.list disk.new) (D.faults disk.old) (D.faults disk.new) }

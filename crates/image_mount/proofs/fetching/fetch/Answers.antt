@@ -1,6 +1,5 @@
 use Rattle.std.proofs.Common.{◌≡◌, ◌<◌, ◌∙◌, sym, ap, subst, length, arith}
 use Rattle.image_mount.specs.Refusals.{HasRisen}
-use Rattle.image_model.specs.Image.{image_of}
 use Rattle.image_mount.proofs.Marked.{grown_kept}
 use Rattle.image_mount.proofs.Marks.{searched_more}
 use Rattle.image_mount.proofs.Stops.{handed, refused}
@@ -24,9 +23,9 @@ returns-clause-work g c =
     c.keep.ensures.kept c.keep.ensures.size (λ tells. refilled c.read_into.new.into c.in_ok-bytes.bytes.items c.in_ok-bytes.bytes.len c.in_ok-bytes.bytes.ok.0 (c.read_into.auto.into ∙ ap length c.deref_mut.ensures.value) ∙ c.in_ok-read_into.ensures.bytes tells)
 
 pub returns-in_err-check_readable-clause-refused : goal.returns-in_err-check_readable-clause-refused
-returns-in_err-check_readable-clause-refused g c done d n tells wanted known =
-    refused (image_of (g.D.SharedDisk.state c.args.disk.now)) _ _ c.from_residual.ensures.1
-    (c.in_err-check_readable.ensures.refused (image_of (g.D.SharedDisk.state c.args.disk.now)) done d n c.requires.work.size c.blocks-2.ensures.value wanted known)
+returns-in_err-check_readable-clause-refused g c done d n im shows wanted known =
+    refused im _ _ c.from_residual.ensures.1
+    (c.in_err-check_readable.ensures.refused im done d n (c.requires.work.size ∙ sym shows.size) (c.blocks-2.ensures.value ∙ sym shows.count) wanted known)
 
 pub returns-clause-searched : goal.returns-clause-searched
 returns-clause-searched g c im done d n wanted known =
@@ -36,4 +35,4 @@ returns-clause-searched g c im done d n wanted known =
 pub returns-clause-grown : goal.returns-clause-grown
 returns-clause-grown g c =
     let low : c.args.block < length c.args.table.now.entries = omega (arith, c.in_ok-check_readable.ensures.inside, c.blocks-2.ensures.value, c.requires.work.count) in
-    grown_kept c.args.table.now c.keep.new.self c.args.block _ (not_kept c.args.table.now.entries c.args.block low c.requires.new) c.keep.ensures.kept c.keep.ensures.places c.in_ok-check_readable.ensures.unmarked
+    grown_kept c.args.table.now c.keep.new.self c.args.block _ (not_kept c.args.table.now.entries c.args.block low c.requires.new) c.keep.ensures.kept c.keep.ensures.places c.keep.ensures.leaves c.in_ok-check_readable.ensures.unmarked

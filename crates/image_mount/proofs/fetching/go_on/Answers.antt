@@ -1,5 +1,4 @@
 use Rattle.std.proofs.Common.{subst}
-use Rattle.image_model.specs.Image.{image_of}
 use Rattle.image_mount.specs.Searching.{StopsRightly}
 use Rattle.image_mount.proofs.Marks.{searched_on}
 use Rattle.image_mount.proofs.fetching.go_on.Goals as goal
@@ -8,5 +7,4 @@ pub returns-in-Reads-clause-searched : goal.returns-in-Reads-clause-searched
 returns-in-Reads-clause-searched g c = searched_on _ _ _ _ _ _ c.in-Reads.is c.fetch.ensures.searched
 
 pub returns-in-Reads-clause-refused : goal.returns-in-Reads-clause-refused
-returns-in-Reads-clause-refused g c done d n tells stops known =
-    c.fetch.ensures.refused done d n tells (subst (StopsRightly (image_of (g.D.SharedDisk.state c.args.disk.now))) c.in-Reads.is stops) known
+returns-in-Reads-clause-refused g c done d n im shows stops known = c.fetch.ensures.refused done d n im shows (subst (StopsRightly im) c.in-Reads.is stops) known

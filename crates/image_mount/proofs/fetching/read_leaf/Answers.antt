@@ -1,7 +1,7 @@
-use Rattle.std.proofs.Common.{◌≡◌, sym, subst}
+use Rattle.std.proofs.Common.{◌≡◌, ◌∙◌, sym, subst}
+use Rattle.image_mount.specs.Marked.{of_kept}
 use Rattle.image_mount.specs.Refusals.{HasRisen}
-use Rattle.image_model.specs.Image.{image_of}
-use Rattle.image_mount.proofs.Marked.{grown_same}
+use Rattle.image_mount.proofs.Marked.{grown_same, leaf_stays}
 use Rattle.image_mount.proofs.Marks.{searched_leaf}
 use Rattle.image_mount.proofs.Stops.{handed, refused}
 use Rattle.image_mount.proofs.Working.{working_same}
@@ -13,9 +13,9 @@ returns-in_err-check_readable-clause-risen g c =
     (λ f e. subst (HasRisen (g.D.SharedDisk.faults c.args.disk.now) (g.D.SharedDisk.faults c.args.disk.now)) (sym e) (c.in_err-check_readable.ensures.steady (g.D.SharedDisk.faults c.args.disk.now) (g.D.SharedDisk.faults c.args.disk.now)))
 
 pub returns-in_err-check_readable-clause-refused : goal.returns-in_err-check_readable-clause-refused
-returns-in_err-check_readable-clause-refused g c done d n tells wanted known =
-    refused (image_of (g.D.SharedDisk.state c.args.disk.now)) _ _ c.from_residual.ensures.1
-    (c.in_err-check_readable.ensures.refused (image_of (g.D.SharedDisk.state c.args.disk.now)) done d n c.requires.work.size c.blocks-2.ensures.value wanted known)
+returns-in_err-check_readable-clause-refused g c done d n im shows wanted known =
+    refused im _ _ c.from_residual.ensures.1
+    (c.in_err-check_readable.ensures.refused im done d n (c.requires.work.size ∙ sym shows.size) (c.blocks-2.ensures.value ∙ sym shows.count) wanted known)
 
 pub returns-clause-work : goal.returns-clause-work
 returns-clause-work g c = working_same (g.D.SharedDisk.state c.args.disk.now) _ c.args.table.now _ c.in_ok-read_into.ensures.reads.same c.requires.work c.mark_leaf.ensures.entries c.mark_leaf.ensures.size
@@ -25,4 +25,7 @@ returns-clause-searched g c im done d n wanted known =
     searched_leaf im done d n c.args.table.now _ c.args.block c.args.from c.mark_leaf.ensures.leaves c.mark_leaf.ensures.entries c.mark_leaf.ensures.places wanted known
 
 pub returns-clause-grown : goal.returns-clause-grown
-returns-clause-grown g c = grown_same c.args.table.now _ c.mark_leaf.ensures.entries c.mark_leaf.ensures.places
+returns-clause-grown g c = grown_same c.args.table.now c.mark_leaf.new.self c.mark_leaf.ensures.entries c.mark_leaf.ensures.places (leaf_stays c.args.table.now c.mark_leaf.new.self c.args.block c.mark_leaf.ensures.leaves)
+
+pub returns-in-Ok-clause-read : goal.returns-in-Ok-clause-read
+returns-in-Ok-clause-read g c = of_kept c.in-Ok.bytes.now c.in-Ok.ensures.bytes

@@ -1,5 +1,7 @@
-use Rattle.std.proofs.Common.{◌≡◌, ◌<◌, ◌∙◌, ap, arith}
+use Rattle.std.proofs.Common.{◌≡◌, ◌<◌, ◌∙◌, ap, subst, arith}
 use Rattle.gfs2_layout.specs.Device.{superblock_place}
+use Rattle.image_mount.specs.Marked.{IsKept}
+use Rattle.image_mount.proofs.Marked.{has_kept}
 use Rattle.image_mount.proofs.Shown.{kept_inside}
 use Rattle.image_mount.proofs.Stops.{stopped}
 use Rattle.image_mount.proofs.Supers.{super_is, has_super, lacks_super}
@@ -30,3 +32,8 @@ returns-clause-format c im read few =
     let same = read.same _ _ c.in_ok-bytes.ensures.bytes in
     let low : superblock_place im.size < im.count = omega (arith, at, read.count, kept_inside c.args.table.now.entries c.superblock_block-place.result c.in_ok-bytes.bytes.now c.in_ok-bytes.ensures.bytes) in
     c.in_ok-check_formats.ensures.format im (has_super im _ c.in-Ok.superblock _ at same c.in-Ok.ensures few low (c.in_ok-bytes.ensures.whole ∙ read.size)) (super_is im _ c.in-Ok.superblock _ at same c.in-Ok.ensures) (c.block_size-size.ensures.value ∙ read.size)
+
+pub returns-clause-there : goal.returns-clause-there
+returns-clause-there c =
+    let at : c.superblock_block-place.result ≡ superblock_place c.args.table.now.size = c.superblock_block-place.ensures ∙ ap superblock_place c.block_size-size.ensures.value in
+    subst (IsKept c.args.table.now) at (has_kept c.args.table.now c.superblock_block-place.result (c.in_ok-bytes.bytes.now, c.in_ok-bytes.ensures.bytes))

@@ -7,6 +7,8 @@ use Rattle.image_model.specs.Claims.{every, Claims, IsRindex, master_of}
 use Rattle.image_model.specs.Owners.{Named}
 use Rattle.image_model.specs.Groups.{groups_in}
 use Rattle.image_model.specs.Rules.{HasRecordIn}
+use Rattle.image_model.specs.SystemFiles.{is_rindex}
+use Rattle.image_mount.specs.Marked.{HasKeptContent}
 use Rattle.image_mount.specs.Refusals.{RefusesRightly}
 use Rattle.image_mount.proofs.Grouping.{list_of, list_groups, groups_some, groups_are}
 use Rattle.image_mount.proofs.Stops.{passed, stopped}
@@ -82,3 +84,15 @@ pub returns-clause-repeats : goal.returns-clause-repeats
 returns-clause-repeats c im read =
     let inode = c.in_ok-inode.inode in
     c.in_ok-check_record.ensures.repeats im (c.in_ok-inode.ensures.found im read ∙ ap (λ a. dinode_in (every im a)) (sym c.in_ok-inode.ensures.block))
+
+pub returns-in_err-inode-clause-stops : goal.returns-in_err-inode-clause-stops
+returns-in_err-inode-clause-stops c im read of_count is =
+    passed im _ _ c.from_residual.ensures.1
+    (c.in_err-inode.ensures.stops im (Named (master_of im) (codes "rindex")) read is.named.claimed refl is.found.format is.named.inside (is_rindex (c.args.rindex.now.from, is.named.claimed)))
+
+pub returns-clause-kept : goal.returns-clause-kept
+returns-clause-kept c im read =
+    let inode = c.in_ok-inode.inode in
+    let dinode : inode.dinode ≡ dinode_in (every im inode.block) = c.in_ok-inode.ensures.found im read ∙ ap (λ a. dinode_in (every im a)) (sym c.in_ok-inode.ensures.block) in
+    let size : (dinode_in (every im inode.block)).size ≡ c.in_ok-bytes.bytes = ap (λ (d : Dinode). d.size) (sym dinode) ∙ sym c.in_ok-bytes.ensures.value in
+    subst (λ a. HasKeptContent c.args.table.now (every im a)) c.in_ok-inode.ensures.block (c.in_ok-content.ensures.kept im read c.block_size-size.ensures.view size)

@@ -7,16 +7,18 @@ use Rattle.gfs2_layout.specs.Inode.{dinode_in}
 use Rattle.dinode_tree.specs.Reading.{AreHeaded, content_range}
 use Rattle.image_model.specs.Claims.{every}
 use Rattle.image_mount.proofs.Grouping.{content_all, content_headed, none_before}
+use Rattle.image_mount.proofs.KeptContent.{content_kept}
+use Rattle.image_mount.proofs.Marked.{has_kept}
 use Rattle.image_mount.proofs.Shown.{shown, inode_at, call_told}
 use Rattle.image_mount.proofs.Steps.{answer_at, needed_at, seen_in, shown_by, lacks_needed}
 use Rattle.image_mount.proofs.Stops.{passed, stopped}
-use Rattle.image_mount.proofs.Wanted.{wanted, wanted_below}
+use Rattle.image_mount.proofs.Wanted.{listing_file, wanted, wanted_below}
 use Rattle.image_mount.specs.Kept.{seen_of}
 use Rattle.image_mount.proofs.groups.read_whole.Goals as goal
 
 pub returns-in_err-get-clause-stops : goal.returns-in_err-get-clause-stops
 returns-in_err-get-clause-stops c im o read claimed dinode format low list =
-    passed im _ _ c.from_residual.ensures.1 (wanted im c.args.inode.now.block c.args.inode.now.from o _ c.in_err-get.ensures.stops claimed dinode format low)
+    passed im _ _ c.from_residual.ensures.1 (wanted im c.args.inode.now.block c.args.inode.now.from o _ c.in_err-get.ensures.stops claimed dinode format low (listing_file im c.args.inode.now.block list))
 
 pub returns-in_err-content-clause-stops : goal.returns-in_err-content-clause-stops
 returns-in_err-content-clause-stops c im o read claimed dinode format low list =
@@ -58,7 +60,7 @@ returns-in-NeedBlock-clause-stops c im o read claimed dinode format low list =
     let a = c.args.inode.now.block in
     wanted_below im c.args.table.now c.args.inode.now.from a o _ _ _ 0 c.in-NeedBlock.missing _ c.reads.ensures claimed dinode format list c.in_ok-get.ensures.bytes
     (needed_at c.in_ok-content.field-0 c.in-NeedBlock.missing _ c.in-NeedBlock.is (c.in_ok-content.ensures.needed (every im a) (shown im c.args.table.now a read)))
-    (needed_at c.in_ok-content.field-0 c.in-NeedBlock.missing _ c.in-NeedBlock.is (c.in_ok-content.ensures.needed (seen_in (seen_of c.args.table.now) a) (shown_by (seen_of c.args.table.now) a))) read
+    (needed_at c.in_ok-content.field-0 c.in-NeedBlock.missing _ c.in-NeedBlock.is (c.in_ok-content.ensures.needed (seen_in (seen_of c.args.table.now) a) (shown_by (seen_of c.args.table.now) a))) read (λ i in_range. in_range.within)
 
 pub returns-in-NeedBlock-clause-lacks : goal.returns-in-NeedBlock-clause-lacks
 returns-in-NeedBlock-clause-lacks c =
@@ -72,3 +74,12 @@ returns-in-Is-clause-headed c im read size =
     let a = c.args.inode.now.block in
     content_headed im a c.args.bytes (omega (arith, c.in_ok-get.ensures.least, c.in_ok-get.ensures.whole, read.size)) size
     (answer_at c.in_ok-content.field-0 c.in-Is.content (λ b. AreHeaded (every im a) 0 (min (0 + c.args.bytes) (dinode_in (every im a)).size)) c.in-Is.is (c.in_ok-content.ensures.headed (every im a) (shown im c.args.table.now a read)))
+
+pub returns-in-Is-clause-kept : goal.returns-in-Is-clause-kept
+returns-in-Is-clause-kept c im read view size =
+    let a = c.args.inode.now.block in
+    content_kept c.args.table.now a c.args.bytes c.in-Is.content.items view (has_kept c.args.table.now a (_, c.in_ok-get.ensures.bytes))
+    (λ h shows. answer_at c.in_ok-content.field-0 c.in-Is.content (λ b. b.items ≡ content_range h 0 c.args.bytes) c.in-Is.is (c.in_ok-content.ensures.found h shows (none_before h)))
+    (λ h shows. answer_at c.in_ok-content.field-0 c.in-Is.content (λ b. length b.items ≡ min c.args.bytes ((dinode_in h).size - 0)) c.in-Is.is (c.in_ok-content.ensures.length h shows))
+    (λ h shows. answer_at c.in_ok-content.field-0 c.in-Is.content (λ b. AreHeaded h 0 (min (0 + c.args.bytes) (dinode_in h).size)) c.in-Is.is (c.in_ok-content.ensures.headed h shows))
+    im read size

@@ -1,7 +1,6 @@
-use Rattle.std.proofs.Common.{◌≡◌, IsTrue, length, get_or, refl, subst, ◌∙◌, arith}
-use Rattle.shared_disk.specs.Disk.{DiskState}
-use Rattle.image_model.specs.Image.{image_of}
+use Rattle.std.proofs.Common.{◌≡◌, length, get_or, refl, sym, ◌∙◌, arith}
 use Rattle.image_mount.proofs.Heads.{head_more, head_all}
+use Rattle.image_mount.proofs.Marks.{bytes_shown}
 use Rattle.shared_disk.proofs.ReadLaws.{reads_on}
 use Rattle.image_mount.proofs.journals.best_header.Goals as goal
 
@@ -12,13 +11,14 @@ loop-block-preserved g c =
     record {
       place = omega (arith, inv.place);
       size = c.read_into.auto.into ∙ inv.size;
-      found = λ tells.
-          head_more (image_of (g.D.SharedDisk.state c.args.disk.now)) c.args.blocks.now c.loop-block.block-index c.loop-block.place (get_or c.args.blocks.now c.loop-block.block-index 0) c.read_into.new.into c.loop-block.best c.accepted.result c.better-best.result
-          c.better-best.ensures c.accepted.ensures inv.place (inv.found tells) (subst (λ (s : DiskState). IsTrue s.tells → c.read_into.new.into ≡ s.block_at (get_or c.args.blocks.now c.loop-block.block-index 0)) inv.reads.same read.bytes tells) refl;
+      found = λ im shows of.
+          let b = get_or c.args.blocks.now c.loop-block.block-index 0 in
+          head_more im c.args.blocks.now c.loop-block.block-index c.loop-block.place b c.read_into.new.into c.loop-block.best c.accepted.result c.better-best.result
+          c.better-best.ensures c.accepted.ensures inv.place (inv.found im shows of) (sym (bytes_shown _ _ im b c.read_into.new.into inv.reads.same shows (of c.loop-block.block-index 0 c.loop-block-test.true) read.bytes)) refl;
       reads = reads_on inv.reads read.reads;
     }
 
 pub returns-clause-found : goal.returns-clause-found
-returns-clause-found g c tells =
+returns-clause-found g c im shows of =
     let all : c.loop-block.block-index ≡ length c.args.blocks.now = omega (arith, c.loop-block-test.false, c.loop-block.auto.block-index-end) in
-    head_all (image_of (g.D.SharedDisk.state c.args.disk.now)) c.args.blocks.now c.loop-block.block-index c.loop-block.best (c.loop-block.invariant.found tells) all
+    head_all im c.args.blocks.now c.loop-block.block-index c.loop-block.best (c.loop-block.invariant.found im shows of) all

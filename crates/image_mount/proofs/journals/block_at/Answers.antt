@@ -9,7 +9,7 @@ use Rattle.image_model.specs.Claims.{every}
 use Rattle.image_mount.specs.Searching.{StopsRightly}
 use Rattle.image_mount.specs.Kept.{seen_of}
 use Rattle.image_mount.proofs.KeptWays.{kept_way}
-use Rattle.image_mount.proofs.Places.{found_block, wrong_hole, journal_format, journal_inode, journal_wanted, above_wanted}
+use Rattle.image_mount.proofs.Places.{found_block, place_within, wrong_hole, journal_format, journal_inode, journal_wanted, above_wanted}
 use Rattle.image_mount.proofs.Shown.{shown, damage_told, kept_on, leads_kept, needed_inside}
 use Rattle.image_mount.proofs.Steps.{answer_at, needed_at, seen_in, shown_by, lacks_needed}
 use Rattle.image_mount.proofs.Stops.{stopped}
@@ -62,7 +62,7 @@ returns-in-NeedBlock-2-clause-stops c im places read of has low =
     let needed = needed_at c.in_ok-located.field-0 c.in-NeedBlock.missing _ c.in-NeedBlock.is (c.in_ok-located.ensures.needed (seen_in v d) (shown_by v d)) in
     subst (StopsRightly im) (sym c.reads.ensures)
     (above_wanted im c.args.journal.now v c.args.place c.in-NeedBlock.missing of
-    (needed_at c.in_ok-located.field-0 c.in-NeedBlock.missing _ c.in-NeedBlock.is (c.in_ok-located.ensures.needed (every im d) (shown im c.args.table.now d read))) (needed_inside im c.args.table.now d _ 1 c.in-NeedBlock.missing read needed c.if-missing-journal.false) c.if-missing-journal.false)
+    (needed_at c.in_ok-located.field-0 c.in-NeedBlock.missing _ c.in-NeedBlock.is (c.in_ok-located.ensures.needed (every im d) (shown im c.args.table.now d read))) (needed_inside im c.args.table.now d _ 1 c.in-NeedBlock.missing read needed c.if-missing-journal.false) c.if-missing-journal.false (place_within im d places c.args.place has low))
 
 pub returns-in-NeedBlock-2-clause-lacks : goal.returns-in-NeedBlock-2-clause-lacks
 returns-in-NeedBlock-2-clause-lacks c =

@@ -12,7 +12,7 @@ returns-then-located-count-clause-refused c im done journal place read next know
     let system = c.args.system.now in
     let located = c.args.located.now in
     elim c.then-located-count.branch [
-      | then-located-count-via-then-located-count w ↦ place_beyond im done system journal next _ place located c.damaged.ensures at (omega (arith, w.if-located-count.true, c.count.ensures, read.count))
+      | then-located-count-via-then-located-count w ↦ place_beyond im done system journal next _ place located c.damaged.ensures at (omega (arith, w.if-located-count.true, c.count.ensures.value, read.count))
       | then-located-count-via-else-located-count+then-not-is_data w ↦
           place_outside im done system journal next _ place located c.damaged.ensures at (outside_groups im system located.block w.deref.result.now next.looked w.deref.ensures.value (w.is_data.ensures.outside w.if-not-is_data.true))
     ]
@@ -22,7 +22,7 @@ returns-then-is_taken-clause-refused c im done journal place read next known at 
     let system = c.args.system.now in
     let located = c.args.located.now in
     let inside : c.is_data.result ≡ true = grind (arith, c.if-not-is_data.false) in
-    let low : located.block < im.count = omega (arith, c.if-located-count.false, c.count.ensures, read.count) in
+    let low : located.block < im.count = omega (arith, c.if-located-count.false, c.count.ensures.value, read.count) in
     let apart : located.block ≢ superblock_place im.size = above_super im system located.block c.deref.result.now next.looked c.deref.ensures.value (c.is_data.ensures.inside inside) in
     let wanted : (from : ℕ) × IsWanted im located.block from → RefusesRightly im c.damaged-then-is_taken.result = λ w.
     place_kept im done system journal next _ place located w.0 c.damaged-then-is_taken.ensures low at w.1 apart in

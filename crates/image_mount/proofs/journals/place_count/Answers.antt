@@ -1,11 +1,13 @@
-use Rattle.std.proofs.Common.{◌≡◌, ◌<◌, ◌/◌, ◌%◌, sym, ap, subst, ◌∙◌, arith}
+use Rattle.std.proofs.Common.{◌≡◌, ◌<◌, ◌/◌, ◌%◌, refl, sym, ap, subst, ◌∙◌, arith}
 use Rattle.gfs2_layout.specs.Inode.{dinode_in}
 use Rattle.gfs2_layout.specs.Structures.{is_directory}
 use Rattle.image_model.specs.Claims.{every, HasInode}
 use Rattle.image_model.proofs.Lengths.{size_large}
 use Rattle.image_model.specs.Rules.{HasRecordIn}
-use Rattle.image_mount.proofs.Places.{wrong_part, wrong_places, journal_format, journal_inode}
-use Rattle.image_mount.proofs.Stops.{stopped}
+use Rattle.image_model.specs.Journals.{journal_name}
+use Rattle.image_model.specs.Owners.{Named}
+use Rattle.image_mount.proofs.Places.{wrong_part, wrong_places, journal_file, journal_format, journal_inode}
+use Rattle.image_mount.proofs.Stops.{passed, stopped}
 use Rattle.log_layout.specs.Journal.{ring_of}
 use Rattle.gfs2_layout.specs.declared.dinode.Dinode.{Dinode}
 use Rattle.image_mount.specs.Looks.{IsSized}
@@ -77,3 +79,8 @@ returns-clause-found c im read =
 pub returns-clause-repeats : goal.returns-clause-repeats
 returns-clause-repeats c im read =
     c.in_ok-check_record.ensures.repeats im (c.in_ok-inode.ensures.found im read ∙ ap (λ a. dinode_in (every im a)) (sym c.in_ok-inode.ensures.block))
+
+pub returns-in_err-inode-clause-stops : goal.returns-in_err-inode-clause-stops
+returns-in_err-inode-clause-stops c im read of =
+    passed im _ _ c.from_residual.ensures.1
+    (c.in_err-inode.ensures.stops im (Named of.layout.jindex (journal_name of.index)) read of.named.claimed refl (journal_format im c.args.journal.now of) of.named.inside (journal_file im c.args.journal.now of))

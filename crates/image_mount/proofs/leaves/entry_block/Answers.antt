@@ -1,23 +1,23 @@
-use Rattle.std.proofs.Common.{◌≡◌, ℕ, ◌-◌, ◌*◌, ◌/◌, Some, None, ap, ◌∙◌, arith}
+use Rattle.std.proofs.Common.{◌≡◌, ℕ, ◌-◌, ◌*◌, ◌/◌, ◌<◌, Some, None, sym, ap, subst, ◌∙◌, arith}
 use Rattle.std.specs.Prelude.{IfSome}
 use Rattle.std.specs.Option.{option_map}
 use Rattle.dinode_tree.specs.Reading.{block_at}
 use Rattle.dinode_tree.specs.declared.locating.Located.{Located}
-use Rattle.gfs2_layout.specs.Inode.{Leads}
+use Rattle.gfs2_layout.specs.Inode.{Leads, content_count}
 use Rattle.glock_names.specs.declared.steps.Step.TheVariants.{Is}
 use Rattle.image_model.specs.Claims.{every}
 use Rattle.image_mount.specs.Kept.{seen_of}
-use Rattle.image_mount.proofs.Masters.{block_there, file_inode, hole_there, stuffed_block}
+use Rattle.image_mount.proofs.Masters.{block_there, file_inode, hole_there, index_within, stuffed_block}
 use Rattle.image_mount.proofs.Shown.{shown, damage_told, kept_on, leads_kept}
 use Rattle.image_mount.proofs.Steps.{answer_at, needed_at, seen_in, shown_by, lacks_needed}
 use Rattle.image_mount.proofs.Stops.{passed, stopped}
-use Rattle.image_mount.proofs.Wanted.{content_wanted, wanted, wanted_below}
+use Rattle.image_mount.proofs.Wanted.{content_wanted, listing_file, wanted, wanted_below}
 use Rattle.image_mount.proofs.leaves.entry_block.Goals as goal
 
 pub returns-in_err-get-clause-stops : goal.returns-in_err-get-clause-stops
 returns-in_err-get-clause-stops c im read of =
     let inode = c.args.inode.now in
-    passed im _ _ c.from_residual.ensures.1 (wanted im inode.block inode.from of.file.owner _ c.in_err-get.ensures.stops of.file.claimed of.file.is_inode of.file.format of.file.from_inside)
+    passed im _ _ c.from_residual.ensures.1 (wanted im inode.block inode.from of.file.owner _ c.in_err-get.ensures.stops of.file.claimed of.file.is_inode of.file.format of.file.from_inside (listing_file im inode.block of.file.read))
 
 pub returns-in_err-located-clause-stops : goal.returns-in_err-located-clause-stops
 returns-in_err-located-clause-stops c im read of =
@@ -38,7 +38,8 @@ returns-in_err-get-in-Is-Some-clause-stops c im read of =
     let seen = answer_at c.in_ok-located.field-0 (Some located) (λ o. IfSome o (λ (l : Located). (k : ℕ) × Leads (seen_in v a) l.from k 0 index l.block)) is (c.in_ok-located.ensures.leads (seen_in v a) (shown_by v a)) in
     passed im _ _ c.from_residual-in_err-get-in-Is-Some.ensures.1
     (content_wanted im inode.from a located.from leads.0 index located.block of.file.owner _ c.in_err-get-in-Is-Some.ensures.stops of.file.claimed of.file.is_inode of.file.format of.file.read leads.1
-    (kept_on im c.args.table.now located.from read (leads_kept c.args.table.now a located.from seen.0 0 index located.block seen.1)))
+    (kept_on im c.args.table.now located.from read (leads_kept c.args.table.now a located.from seen.0 0 index located.block seen.1))
+    (index_within im inode c.args.pointers.now of c.args.i c.requires c.from-unit.result (c.from-unit.ensures ∙ c.block_size.ensures.value ∙ read.size) (omega (arith, c.in_ok-get.ensures.least, c.in_ok-get.ensures.whole, c.from-unit.ensures, c.block_size.ensures.value))))
 
 pub returns-then-inode-eq0-clause-found : goal.returns-then-inode-eq0-clause-found
 returns-then-inode-eq0-clause-found c im read of = stuffed_block im c.args.inode.now c.args.pointers.now of c.args.i c.requires c.if-inode-eq0.true
@@ -70,6 +71,8 @@ returns-in-NeedBlock-clause-stops c im read of =
     c.in_ok-get.ensures.bytes
     (needed_at c.in_ok-located.field-0 c.in-NeedBlock.missing _ c.in-NeedBlock.is (c.in_ok-located.ensures.needed (every im inode.block) (shown im c.args.table.now inode.block read)))
     (needed_at c.in_ok-located.field-0 c.in-NeedBlock.missing _ c.in-NeedBlock.is (c.in_ok-located.ensures.needed (seen_in v inode.block) (shown_by v inode.block))) read
+    (λ j same. subst (λ n. n < content_count (every im inode.block)) (sym same)
+    (index_within im inode c.args.pointers.now of c.args.i c.requires c.from-unit.result (c.from-unit.ensures ∙ c.block_size.ensures.value ∙ read.size) (omega (arith, c.in_ok-get.ensures.least, c.in_ok-get.ensures.whole, c.from-unit.ensures, c.block_size.ensures.value))))
 
 pub returns-in-NeedBlock-clause-lacks : goal.returns-in-NeedBlock-clause-lacks
 returns-in-NeedBlock-clause-lacks c =

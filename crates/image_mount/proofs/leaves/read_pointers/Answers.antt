@@ -1,14 +1,16 @@
-use Rattle.std.proofs.Common.{◌≡◌, ◌*◌, ◌^◌, sym, ap, ◌∙◌}
+use Rattle.std.proofs.Common.{◌≡◌, ◌*◌, ◌^◌, sym, ap, subst, ◌∙◌}
 use Rattle.gfs2_layout.specs.Inode.{dinode_in, is_hashed_in}
 use Rattle.gfs2_layout.specs.declared.dinode.Dinode.{Dinode}
 use Rattle.image_model.specs.Claims.{every}
+use Rattle.image_mount.specs.Marked.{HasKeptContent}
 use Rattle.image_mount.proofs.Looks.{table_sized}
 use Rattle.image_mount.proofs.Masters.{file_inode, kept_file, table_is, table_short}
 use Rattle.image_mount.proofs.Stops.{passed, stopped}
+use Rattle.image_mount.proofs.Wanted.{listing_file}
 use Rattle.image_mount.proofs.leaves.read_pointers.Goals as goal
 
 pub returns-in_err-kept-clause-stops : goal.returns-in_err-kept-clause-stops
-returns-in_err-kept-clause-stops c im read is hashed = passed im _ _ c.from_residual.ensures.1 (c.in_err-kept.ensures.stops im is.owner read is.claimed is.is_inode is.format is.from_inside)
+returns-in_err-kept-clause-stops c im read is hashed = passed im _ _ c.from_residual.ensures.1 (c.in_err-kept.ensures.stops im is.owner read is.claimed is.is_inode is.format is.from_inside (listing_file im c.args.inode.now.block is.read))
 
 pub returns-in_err-depth-clause-stops : goal.returns-in_err-depth-clause-stops
 returns-in_err-depth-clause-stops c im read is hashed =
@@ -34,3 +36,10 @@ returns-clause-found c im read is hashed =
     (table_sized im c.in_ok-kept.kept.block c.block_size.result c.in_ok-depth.depth c.in_ok-kept.kept.dinode kept.dinode (c.block_size.ensures.value ∙ read.size) c.in_ok-depth.ensures.depth c.in_ok-depth.ensures.bytes
     c.in_ok-depth.ensures.least c.in_ok-depth.ensures.greatest)
     (c.in_ok-bytes.ensures.headed im read (size ∙ sym (table_short c.in_ok-depth.depth c.in_ok-depth.ensures.deep)))
+
+pub returns-clause-kept : goal.returns-clause-kept
+returns-clause-kept c im read is hashed =
+    let kept = kept_file im c.args.inode.now c.in_ok-kept.kept is c.in_ok-kept.ensures.block c.in_ok-kept.ensures.from (c.in_ok-kept.ensures.found im read) in
+    let size : (dinode_in (every im c.in_ok-kept.kept.block)).size ≡ 8 * 2 ^ c.in_ok-depth.depth = ap (λ (d : Dinode). d.size) (sym kept.dinode) ∙ c.in_ok-depth.ensures.bytes in
+    subst (λ a. HasKeptContent c.args.table.now (every im a)) c.in_ok-kept.ensures.block
+    (c.in_ok-bytes.ensures.kept im read c.block_size.ensures.view (size ∙ sym (table_short c.in_ok-depth.depth c.in_ok-depth.ensures.deep)))

@@ -14,7 +14,7 @@ use Rattle.image_mount.proofs.listing.list_records.Goals as goal
 
 pub returns-in_err-bytes-clause-stops : goal.returns-in_err-bytes-clause-stops
 returns-in_err-bytes-clause-stops c im read is =
-    passed im _ _ c.from_residual.ensures.1 (wanted im c.args.inode.now.block c.args.inode.now.from is.owner _ c.in_err-bytes.ensures.stops is.claimed is.is_inode is.format is.from_inside)
+    passed im _ _ c.from_residual.ensures.1 (wanted im c.args.inode.now.block c.args.inode.now.from is.owner _ c.in_err-bytes.ensures.stops is.claimed is.is_inode is.format is.from_inside is.file)
 
 pub returns-in_err-records-clause-stops : goal.returns-in_err-records-clause-stops
 returns-in_err-records-clause-stops c im read is =

@@ -6,6 +6,7 @@ use Rattle.dinode_tree.specs.Reading.{IsRightDinode}
 use Rattle.gfs2_layout.specs.Structures.{is_directory}
 use Rattle.image_model.specs.Claims.{every, master_of}
 use Rattle.image_model.specs.Owners.{Master}
+use Rattle.image_model.specs.SystemFiles.{is_master as is_master_file}
 use Rattle.image_mount.specs.Marked.{IsKept}
 use Rattle.image_mount.proofs.Stops.{passed}
 use Rattle.image_mount.proofs.SystemFiles.{is_master, master_file, not_directory}
@@ -15,7 +16,7 @@ pub returns-in_err-inode-clause-stops : goal.returns-in_err-inode-clause-stops
 returns-in_err-inode-clause-stops c im read few =
     let place : c.superblock_block-place.result ≡ superblock_place im.size = c.superblock_block-place.ensures ∙ ap superblock_place (c.block_size.ensures.value ∙ read.size) in
     let same : c.in_ok-superblock.superblock.master.address ≡ master_of im = ap (λ (s : SuperBlock). s.master.address) (c.in_ok-superblock.ensures.found im read) in
-    passed im _ _ c.from_residual-in_err-inode.ensures.1 (c.in_err-inode.ensures.stops im Master read (is_master im _ _ place same) refl (c.in_ok-superblock.ensures.format im read few) (subst (λ n. n < im.count) (sym place) (c.in_ok-superblock.ensures.format im read few).super.inside))
+    passed im _ _ c.from_residual-in_err-inode.ensures.1 (c.in_err-inode.ensures.stops im Master read (is_master im _ _ place same) refl (c.in_ok-superblock.ensures.format im read few) (subst (λ n. n < im.count) (sym place) (c.in_ok-superblock.ensures.format im read few).super.inside) (is_master_file same))
 
 pub returns-then-not-is_directory-clause-stops : goal.returns-then-not-is_directory-clause-stops
 returns-then-not-is_directory-clause-stops c im read few =

@@ -1,7 +1,7 @@
-use Rattle.std.proofs.Common.{[], IsTrue}
-use Rattle.image_model.specs.Image.{image_of}
+use Rattle.std.proofs.Common.{[]}
+use Rattle.image_model.specs.Image.{Image}
 use Rattle.image_mount.specs.Rings.{IsSearched}
-use Rattle.image_mount.specs.Searching.{IsWorking}
+use Rattle.image_mount.specs.Searching.{IsWorking, ShowsSystem}
 use Rattle.image_mount.specs.System.{IsMasterOf, IsNamedBy}
 use Rattle.image_mount.specs.Marked.{IsGrown}
 use Rattle.shared_disk.specs.Disk.{ReadsOnly}
@@ -11,7 +11,7 @@ abbrev pub invariant-loop-ground : goal.invariant-loop-ground
 invariant-loop-ground g l = record {
   work : IsWorking (g.D.SharedDisk.state l.disk) l.table;
   grown : IsGrown l.initial.table l.table;
-  searched : IsTrue (g.D.SharedDisk.state l.initial.disk).tells → IsMasterOf (image_of (g.D.SharedDisk.state l.initial.disk)) l.master → IsNamedBy (image_of (g.D.SharedDisk.state l.initial.disk)) l.master l.names → IsSearched (image_of (g.D.SharedDisk.state l.initial.disk)) [] 0 0 l.initial.table → IsSearched (image_of (g.D.SharedDisk.state l.initial.disk)) [] 0 0 l.table;
+  searched : (im : Image) → ShowsSystem (g.D.SharedDisk.state l.initial.disk) im → IsMasterOf im l.master → IsNamedBy im l.master l.names → IsSearched im [] 0 0 l.initial.table → IsSearched im [] 0 0 l.table;
   reads : ReadsOnly (g.D.SharedDisk.state l.initial.disk) (g.D.SharedDisk.state l.disk) (g.D.SharedDisk.list l.initial.disk) (g.D.SharedDisk.list l.disk) (g.D.SharedDisk.faults l.initial.disk) (g.D.SharedDisk.faults l.disk);
 }
 

@@ -35,3 +35,6 @@ returns-clause-found c im read count is plain =
     (subst (λ a. IsSoundDirectory im a a) at (either_sound im c.args.master.now.inode.block c.args.master.now.inode.block (λ hashed. (plain hashed).sound) (c.in_ok-files.ensures.sound im read is.inode)))
     (subst (λ a. is_hashed_in (every im a) ≡ true → HasSoundLeaves im a) at (λ hashed. (plain hashed).leaves))
     (c.in_ok-groups.ensures.repeats im read) (c.in_ok-jindex.ensures.repeats im read) groups
+
+pub returns-clause-content : goal.returns-clause-content
+returns-clause-content c im read = c.in_ok-groups.ensures.kept im read

@@ -10,6 +10,7 @@ use Rattle.image_mount.specs.Marked.{IsKept}
 use Rattle.image_mount.proofs.Causes.{told}
 use Rattle.image_mount.proofs.Stops.{passed, stopped}
 use Rattle.image_mount.proofs.SystemFiles.{directory_in, file_of_journals, not_directory}
+use Rattle.image_model.specs.SystemFiles.{is_jindex}
 use Rattle.image_mount.proofs.system.find_jindex.Goals as goal
 
 pub returns-in_err-check_record-clause-stops : goal.returns-in_err-check_record-clause-stops
@@ -32,7 +33,7 @@ returns-clause-found c im read format same named =
     let yes : is_directory inode.dinode ≡ true = sym c.is_directory.ensures ∙ grind (arith, c.if-not-is_directory.false) in
     record {
       directory = directory_in im inode c.args.jindex.now.from c.args.jindex.now.entry.addr c.args.master (Named (master_of im) (codes "jindex")) format named.claimed refl at c.in_ok-inode.ensures.from (c.in_ok-inode.ensures.found im read) yes
-          (c.in_ok-inode.ensures.inside im read) named.inside same;
+          (c.in_ok-inode.ensures.inside im read) named.inside same (is_jindex (c.args.jindex.now.from, named.claimed));
       master_is = same;
       right = subst (λ a. IsRightDinode (every im a)) (sym at) (c.in_ok-inode.ensures.right im read);
       is = (c.args.jindex.now.from, subst (λ a. Claims im c.args.jindex.now.from a (Named (master_of im) (codes "jindex"))) (sym at) named.claimed);
@@ -47,4 +48,4 @@ returns-clause-there c = subst (IsKept c.args.table.now) (sym c.in_ok-inode.ensu
 
 pub returns-in_err-inode-clause-stops : goal.returns-in_err-inode-clause-stops
 returns-in_err-inode-clause-stops c im read format same low named =
-    passed im _ _ c.from_residual.ensures.1 (c.in_err-inode.ensures.stops im (Named (master_of im) (codes "jindex")) read named.claimed refl format named.inside)
+    passed im _ _ c.from_residual.ensures.1 (c.in_err-inode.ensures.stops im (Named (master_of im) (codes "jindex")) read named.claimed refl format named.inside (is_jindex (c.args.jindex.now.from, named.claimed)))

@@ -1,38 +1,42 @@
 use Rattle.std.proofs.Common.{ap, arith}
-use Rattle.image_model.specs.Image.{image_of}
 use Rattle.shared_disk.specs.Disk.{DiskState}
-use Rattle.image_mount.proofs.LeafWalks.{gone_over, walk_told, walked_by}
+use Rattle.image_mount.proofs.LeafWalks.{gone_over}
 use Rattle.image_mount.proofs.Marked.{grown_on}
+use Rattle.image_mount.proofs.Marks.{shows_now}
 use Rattle.image_mount.proofs.Stops.{refused}
-use Rattle.image_mount.specs.Refusals.{RefusesRightly}
-use Rattle.image_mount.specs.Rings.{IsSearched}
-use Rattle.image_model.specs.Image.{Image}
-use Rattle.std.proofs.Common.{[]}
 use Rattle.image_mount.proofs.walking.search_leaves.Goals as goal
 
 pub returns-in_err-pointers-clause-refused : goal.returns-in_err-pointers-clause-refused
-returns-in_err-pointers-clause-refused g c tells is hashed for known =
-    refused (image_of (g.D.SharedDisk.state c.args.disk.now)) _ _ c.from_residual.ensures.1 (c.in_err-pointers.ensures.refused tells is hashed known)
+returns-in_err-pointers-clause-refused g c im shows is hashed for known = refused im _ _ c.from_residual.ensures.1 (c.in_err-pointers.ensures.refused im shows is hashed known)
 
 pub returns-in_err-walk-clause-refused : goal.returns-in_err-walk-clause-refused
-returns-in_err-walk-clause-refused g c tells is hashed for known =
+returns-in_err-walk-clause-refused g c im shows is hashed for known =
     let p = c.in_ok-pointers.ensures in
-    refused (image_of (g.D.SharedDisk.state c.args.disk.now)) _ _ c.from_residual-in_err-walk.ensures.1
-    (walk_told _ _ p.reads.same c.args.inode.now c.in_ok-pointers.pointers c.args.names c.search_pointers.new.table (λ (i : Image). RefusesRightly i c.in_err-walk.field-0.0) c.in_err-walk.ensures.refused tells (p.found tells is hashed) for
-    (p.searched tells is hashed known))
+    refused im _ _ c.from_residual-in_err-walk.ensures.1
+    (c.in_err-walk.ensures.refused im (shows_now _ _ im p.reads.same shows) (p.found im shows is hashed known) for (p.searched im shows is hashed known))
 
 pub returns-clause-found : goal.returns-clause-found
-returns-clause-found g c tells is hashed for =
+returns-clause-found g c im shows is hashed for known =
     let p = c.in_ok-pointers.ensures in
-    let of = p.found tells is hashed in
-    let walk = walked_by _ _ p.reads.same c.args.inode.now c.in_ok-pointers.pointers c.in_ok-walk.walk c.args.names c.in_ok-walk.ensures.found tells of for in
-    gone_over (image_of (g.D.SharedDisk.state c.args.disk.now)) c.args.inode.now c.in_ok-pointers.pointers c.in_ok-walk.walk of walk c.in_ok-walk.ensures.ended
+    let of = p.found im shows is hashed known in
+    let walk = c.in_ok-walk.ensures.found im (shows_now _ _ im p.reads.same shows) of for (p.searched im shows is hashed known) in
+    gone_over im c.args.inode.now c.in_ok-pointers.pointers c.in_ok-walk.walk of walk c.in_ok-walk.ensures.ended
 
 pub returns-clause-searched : goal.returns-clause-searched
-returns-clause-searched g c tells is hashed for known =
+returns-clause-searched g c im shows is hashed for known =
     let p = c.in_ok-pointers.ensures in
-    walk_told _ _ p.reads.same c.args.inode.now c.in_ok-pointers.pointers c.args.names c.search_pointers.new.table (λ (i : Image). IsSearched i [] 0 0 c.walk_leaves.new.table) c.in_ok-walk.ensures.searched tells (p.found tells is hashed) for
-    (p.searched tells is hashed known)
+    c.in_ok-walk.ensures.searched im (shows_now _ _ im p.reads.same shows) (p.found im shows is hashed known) for (p.searched im shows is hashed known)
+
+pub returns-clause-read : goal.returns-clause-read
+returns-clause-read g c im shows is hashed for known =
+    let p = c.in_ok-pointers.ensures in
+    let of = p.found im shows is hashed known in
+    let walk = c.in_ok-walk.ensures.found im (shows_now _ _ im p.reads.same shows) of for (p.searched im shows is hashed known) in
+    let over = gone_over im c.args.inode.now c.in_ok-pointers.pointers c.in_ok-walk.walk of walk c.in_ok-walk.ensures.ended in
+    record {
+      content = λ q j level first b leads within. c.in_ok-walk.ensures.grown.stays b (p.kept im shows is hashed known q j level first b leads within);
+      leaves = λ by x hash place claim. c.in_ok-walk.ensures.read x hash place (over.all by x hash place claim);
+    }
 
 pub returns-clause-grown : goal.returns-clause-grown
 returns-clause-grown g c = grown_on c.args.table.now c.search_pointers.new.table c.walk_leaves.new.table c.in_ok-pointers.ensures.grown c.in_ok-walk.ensures.grown

@@ -1,8 +1,8 @@
-use Rattle.std.proofs.Common.{◌≡◌, ◌≤◌, ◌+◌, ◌^◌, [], IsTrue, length, vec_len}
-use Rattle.image_model.specs.Image.{image_of}
-use Rattle.image_mount.specs.Leaves.{IsTableOf, IsWalked, LooksFor, steps_left}
+use Rattle.std.proofs.Common.{◌≡◌, ◌≤◌, ◌+◌, ◌^◌, [], length, vec_len}
+use Rattle.image_model.specs.Image.{Image}
+use Rattle.image_mount.specs.Leaves.{AreLeavesRead, IsTableOf, IsWalked, LooksFor, steps_left}
 use Rattle.image_mount.specs.Rings.{IsSearched}
-use Rattle.image_mount.specs.Searching.{IsWorking}
+use Rattle.image_mount.specs.Searching.{IsWorking, ShowsSystem}
 use Rattle.image_mount.specs.Marked.{IsGrown}
 use Rattle.shared_disk.specs.Disk.{ReadsOnly}
 use Rattle.image_mount.proofs.walking.walk_leaves.Given as goal
@@ -14,10 +14,11 @@ invariant-loop-link g l = record {
   count : vec_len l.walk.owners.entries ≡ (g.D.SharedDisk.state l.initial.disk).count;
   size : length l.bytes.items ≡ (g.D.SharedDisk.state l.initial.disk).size;
   within : l.walk.index ≤ 2 ^ l.pointers.depth;
-  walked : IsTrue (g.D.SharedDisk.state l.initial.disk).tells → IsTableOf (image_of (g.D.SharedDisk.state l.initial.disk)) l.inode l.pointers → LooksFor (image_of (g.D.SharedDisk.state l.initial.disk)) l.inode.block l.fn.names → IsWalked (image_of (g.D.SharedDisk.state l.initial.disk)) l.inode.block l.walk;
+  walked : (im : Image) → ShowsSystem (g.D.SharedDisk.state l.initial.disk) im → IsTableOf im l.inode l.pointers → LooksFor im l.inode.block l.fn.names → IsSearched im [] 0 0 l.initial.table → IsWalked im l.inode.block l.walk;
+  read : AreLeavesRead l.walk l.inode.block l.table;
   directory : l.walk.directory ≡ l.inode.block;
   names : l.walk.names ≡ l.fn.names;
-  searched : IsTrue (g.D.SharedDisk.state l.initial.disk).tells → IsTableOf (image_of (g.D.SharedDisk.state l.initial.disk)) l.inode l.pointers → LooksFor (image_of (g.D.SharedDisk.state l.initial.disk)) l.inode.block l.fn.names → IsSearched (image_of (g.D.SharedDisk.state l.initial.disk)) [] 0 0 l.initial.table → IsSearched (image_of (g.D.SharedDisk.state l.initial.disk)) [] 0 0 l.table;
+  searched : (im : Image) → ShowsSystem (g.D.SharedDisk.state l.initial.disk) im → IsTableOf im l.inode l.pointers → LooksFor im l.inode.block l.fn.names → IsSearched im [] 0 0 l.initial.table → IsSearched im [] 0 0 l.table;
   reads : ReadsOnly (g.D.SharedDisk.state l.initial.disk) (g.D.SharedDisk.state l.disk) (g.D.SharedDisk.list l.initial.disk) (g.D.SharedDisk.list l.disk) (g.D.SharedDisk.faults l.initial.disk) (g.D.SharedDisk.faults l.disk);
 }
 

@@ -1,6 +1,7 @@
 use Rattle.std.proofs.Common.{inr}
 use Rattle.image_mount.proofs.Wanted.{dinode_leads}
 use Rattle.image_model.specs.Claims.{every}
+use Rattle.image_model.specs.SystemFiles.{of_dinode}
 use Rattle.gfs2_layout.specs.Inode.{dinode_in, Fits}
 use Rattle.std.proofs.Common.{◌≡◌, [], ap, ◌∙◌}
 use Rattle.image_mount.proofs.Marked.{has_kept}
@@ -15,7 +16,7 @@ use Rattle.image_mount.proofs.Stops.{stopped}
 use Rattle.image_mount.proofs.inodes.Inode.read.Goals as goal
 
 pub returns-in_err-dinode-clause-stops : goal.returns-in_err-dinode-clause-stops
-returns-in_err-dinode-clause-stops c im o read claimed dinode format low =
+returns-in_err-dinode-clause-stops c im o read claimed dinode format low file =
     stopped im _ _ c.from_residual.ensures.1
     (damage_told im c.args.table.now c.args.block c.in_err-dinode.field-0.0 (inode_at im c.args.from c.args.block o claimed dinode) format read
     (c.in_err-dinode.ensures.damaged (every im c.args.block) (shown im c.args.table.now c.args.block read)) c.in_err-dinode.ensures.kept)
@@ -36,7 +37,7 @@ returns-in-Is-clause-fits c im read =
     answer_at c.in_ok-dinode.field-0 c.in-Is.dinode (λ d. Fits (every im c.args.block)) c.in-Is.is (c.in_ok-dinode.ensures.fits (every im c.args.block) (shown im c.args.table.now c.args.block read))
 
 pub returns-in-NeedBlock-clause-stops : goal.returns-in-NeedBlock-clause-stops
-returns-in-NeedBlock-clause-stops c im o read claimed dinode format low = inr (format, (o, claimed, dinode_leads im o dinode, low))
+returns-in-NeedBlock-clause-stops c im o read claimed dinode format low file = inr (format, (o, claimed, dinode_leads im o dinode, low, of_dinode file))
 
 pub returns-in-Is-clause-inside : goal.returns-in-Is-clause-inside
 returns-in-Is-clause-inside c im read =

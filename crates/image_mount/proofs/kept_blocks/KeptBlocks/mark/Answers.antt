@@ -12,4 +12,4 @@ returns-clause-marked c free =
 pub returns-clause-grown : goal.returns-clause-grown
 returns-clause-grown c free =
     grown_marked c.args.self.now (record { size = c.self.inside.size; entries = c.self.inside.entries.items; places = slice_set c.self.inside.places.items c.args.block true; leaves = c.self.inside.leaves.items; left = c.self.inside.left }) c.args.block
-    (ap (λ (k : Kept). k.entries) c.self.view_is) (ap (λ (k : Kept). slice_set k.places c.args.block true) c.self.view_is) free
+    (ap (λ (k : Kept). k.entries) c.self.view_is) (ap (λ (k : Kept). slice_set k.places c.args.block true) c.self.view_is) (ap (λ (k : Kept). k.leaves) c.self.view_is) free

@@ -4,7 +4,7 @@ use Rattle.image_mount.specs.Found.{first_other}
 use Rattle.image_mount.specs.Sifting.{AreAdded}
 use Rattle.image_mount.specs.Looks.{IsSoundArea}
 use Rattle.image_reader.specs.Owning.{IsEntered}
-use Rattle.image_mount.proofs.LeafWalks.{clash_told, fell, others_stand, owned_by, short_kept, told_next, walked_fresh, walked_known}
+use Rattle.image_mount.proofs.LeafWalks.{clash_told, fell, others_stand, owned_by, read_more, short_kept, told_next, walked_fresh, walked_known}
 use Rattle.image_mount.proofs.Stops.{refused}
 use Rattle.image_mount.proofs.leaf.LeafWalk.enter.Goals as goal
 
@@ -39,3 +39,11 @@ returns-clause-walked c im of bytes =
     walked_fresh im c.args.self.now c.args.at.now of _ _ refl refl entered refl c.in_ok-others.others
     (subst (λ rs. AreAdded c.args.self.now.names c.args.self.now.records.items c.add_leaf.new.found.items c.args.at.now.block rs c.in_ok-others.others) there c.in_ok-others.ensures.added) refl refl (λ files. ap first_other (sym there) ∙ c.in_ok-others.ensures.plain files)
     c.in_ok-others.ensures.files (c.in_ok-others.ensures.distinct of.walked.distinct) (record { area = subst (λ b. IsSoundArea (drop 104 b)) (sym bytes) c.in_ok-others.ensures.sound; leaf = c.in_ok-others.ensures.leaf im c.args.self.now.directory of.leaf bytes })
+
+pub returns-then-not-branch-clause-entered : goal.returns-then-not-branch-clause-entered
+returns-then-not-branch-clause-entered c k before here =
+    read_more c.args.self.now.owners.entries.items c.claim.new.self.entries.items c.args.self.now.directory c.args.at.now.block _ c.in_ok-claim.field-0 k c.in_ok-claim.ensures.entered before here
+
+pub returns-clause-entered : goal.returns-clause-entered
+returns-clause-entered c k before here =
+    read_more c.args.self.now.owners.entries.items c.claim.new.self.entries.items c.args.self.now.directory c.args.at.now.block _ c.in_ok-claim.field-0 k c.in_ok-claim.ensures.entered before here
