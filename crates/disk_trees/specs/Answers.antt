@@ -4,6 +4,8 @@ use Rattle.fault_counts.specs.Causes.{WentUp}
 use Rattle.file_tree.specs.Tree.{Tree}
 use Rattle.image_reader.specs.declared.image.ImageFault.{ImageFault}
 use Rattle.image_reader.specs.declared.image.ImageFault.TheVariants as image
+use Rattle.image_replays.specs.look_faults.LookFault.{LookFault}
+use Rattle.image_replays.specs.look_faults.LookFault.TheVariants as look
 use Rattle.disk_trees.specs.declared.faults.TreeFault.{TreeFault}
 use Rattle.disk_trees.specs.declared.faults.TreeFault.TheVariants.{Damaged, DiskFailed, NoMemory}
 
@@ -30,6 +32,12 @@ HasCause count before now NoMemory = ⊤
 abbrev pub fault_of : ImageFault → TreeFault
 fault_of (image.Damaged block rule) = Damaged block rule
 fault_of image.NoMemory = NoMemory
+
+-- the fault of a replay that is stopped
+abbrev pub fault_of_look : LookFault → TreeFault
+fault_of_look (look.Damaged block rule) = Damaged block rule
+fault_of_look (look.DiskFailed block rise) = DiskFailed block rise
+fault_of_look look.NoMemory = NoMemory
 
 -- the disk fails alone, or there was no memory
 abbrev pub IsNotDamaged : TreeFault → Type 0

@@ -20,7 +20,7 @@ use shared_disk::SharedDisk;
 use std::alloc::Global;
 
 /// Reads the tree of files and directories that the image on an idle disk stands for once what these plans write is in its place. Nothing is written to the
-/// disk. It costs what `read_disk_tree` costs, and a copy of each block that the plans write.
+/// disk. It costs a read for each block of the disk, by the run itself, and memory for all of them, for an entry a block, and for the tree.
 pub fn read_replayed_tree<D: SharedDisk>(
     alloc: Global,
     disk: &mut D,

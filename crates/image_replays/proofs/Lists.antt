@@ -111,9 +111,22 @@ put_is_there (w ∷ ws) b e is = elim (cases_Bool (w.block == b)) [
       ap (λ t. t || has_block ws b) other ∙ rest
 ]
 
+and_first : (p q : Bool) → (p && q) ≡ true → p ≡ true
+and_first true q e = refl
+and_first false q e = absurd (false_true e)
+
+and_second : (p q : Bool) → (p && q) ≡ true → q ≡ true
+and_second true q e = e
+and_second false q e = absurd (false_true e)
+
 pub all_inside : (bs : List ℕ) (n : ℕ) → ((k d : ℕ) → k < length bs → get_or bs k d < n) → list_all (λ b. nat_lt b n) bs ≡ true
 all_inside [] n each = refl
 all_inside (b ∷ bs) n each =
     let low : b < n = each 0 0 (omega arith) in
     let test : nat_lt b n ≡ true = grind (arith, nat_tests, low) in
     ap (λ t. t && list_all (λ c. nat_lt c n) bs) test ∙ all_inside bs n (λ k d less. each (suc k) d (omega (arith, less)))
+
+pub inside_each : (bs : List ℕ) (n : ℕ) → list_all (λ b. nat_lt b n) bs ≡ true → (k : ℕ) → k < length bs → get_or bs k 0 < n
+inside_each [] n all k less = absurd (omega (arith, less))
+inside_each (b ∷ bs) n all zero less = let here : nat_lt b n ≡ true = and_first (nat_lt b n) (list_all (λ c. nat_lt c n) bs) all in grind (arith, nat_tests, here)
+inside_each (b ∷ bs) n all (suc k) less = inside_each bs n (and_second (nat_lt b n) (list_all (λ c. nat_lt c n) bs) all) k (omega (arith, less))

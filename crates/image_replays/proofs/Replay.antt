@@ -16,7 +16,7 @@ use Rattle.log_layout.specs.Laws.{HasSamePlaces}
 use Rattle.log_layout.proofs.SamePlaces.{says_the_same}
 use Rattle.peer_replay.specs.Plans.{clean_header, put_home}
 use Rattle.peer_replay.specs.declared.planned.Plan.{Plan}
-use Rattle.replay_marks.specs.Marking.{has_block, mark_of}
+use Rattle.replay_marks.specs.Marking.{has_block, is_among, mark_of}
 use Rattle.replay_marks.specs.declared.marks.Mark.{Mark}
 use Rattle.replay_marks.specs.declared.marks.Mark.TheVariants.{Barred, Open}
 use Rattle.shared_disk.specs.Disk.{DiskState, IsIdle}
@@ -24,7 +24,7 @@ use Rattle.image_replays.specs.Marking.{first_mark, is_in_groups, is_place}
 use Rattle.image_replays.specs.Replays.{ArePlans, first_of_both, put_by, put_over}
 use Rattle.image_replays.proofs.Lists.{barred_open, false_true, none_some, put_is_there, some_is}
 use Rattle.image_replays.proofs.SoFar.{IsSoFar}
-use Rattle.image_replays.proofs.System.{in_groups, its_journals, mounted_at, place_is, same_ring}
+use Rattle.image_replays.proofs.System.{in_groups, its_journals, mounted_at, place_is, same_ring, system_among}
 
 -- the plan of a journal as a node reads it is that of the image's
 pub plan_of : (r t : Ring) → HasSamePlaces r t → (p : Plan) → IsPlanOf r p → IsPlanOf t p
@@ -63,22 +63,27 @@ put_none [] b none = refl
 put_none (q ∷ ps) b none = ap (λ o. first_of_both o (put_by ps b)) (none 0 q refl) ∙ put_none ps b (λ i r there. none (suc i) r there)
 
 module _ (s : DiskState) (node : ℕ) (idle : IsIdle s) (tells : IsTrue s.tells) (m : MountedValue) (is : IsMounted (image_of s) m) (first : List Mark)
-    (marked : (b : ℕ) → b < s.count → mark_of first b ≡ first_mark m.groups m.journals b) where
+    (marked : (b : ℕ) → b < s.count → mark_of first b ≡ first_mark m.groups m.journals m.system b) where
   -- a block that is open at first may be changed
   pub may_change : (b : ℕ) → b < s.count → mark_of first b ≡ Open → MayChange (image_of s) is.layout b
-  may_change b low open_mark = by_place (is_place m.journals b) refl (sym (marked b low) ∙ open_mark)
+  may_change b low open_mark = by_system (is_among m.system b) refl (sym (marked b low) ∙ open_mark)
     where
-      by_group : (t : Bool) → is_in_groups m.groups b ≡ t → is_place m.journals b ≡ false → (if t then Open else Barred) ≡ Open → MayChange (image_of s) is.layout b
-      by_group true e off is_open = record {
+      by_group : (t : Bool) → is_in_groups m.groups b ≡ t → is_place m.journals b ≡ false → is_among m.system b ≡ false → (if t then Open else Barred) ≡ Open → MayChange (image_of s) is.layout b
+      by_group true e off none is_open = record {
+        apart = λ of. false_true (sym none ∙ system_among (image_of s) m is b of);
         there = low;
         group = in_groups (image_of s) m is b e;
         no_place = λ j d p at inside same. false_true (sym off ∙ ap (is_place m.journals) (sym same) ∙ place_is (image_of s) m is j d p at inside);
       }
-      by_group false e off is_open = absurd (barred_open is_open)
+      by_group false e off none is_open = absurd (barred_open is_open)
 
-      by_place : (t : Bool) → is_place m.journals b ≡ t → (if t then Barred else if is_in_groups m.groups b then Open else Barred) ≡ Open → MayChange (image_of s) is.layout b
-      by_place true e is_open = absurd (barred_open is_open)
-      by_place false e is_open = by_group (is_in_groups m.groups b) refl e is_open
+      by_place : (t : Bool) → is_place m.journals b ≡ t → is_among m.system b ≡ false → (if t then Barred else if is_in_groups m.groups b then Open else Barred) ≡ Open → MayChange (image_of s) is.layout b
+      by_place true e none is_open = absurd (barred_open is_open)
+      by_place false e none is_open = by_group (is_in_groups m.groups b) refl e none is_open
+
+      by_system : (t : Bool) → is_among m.system b ≡ t → (if t then Barred else if is_place m.journals b then Barred else if is_in_groups m.groups b then Open else Barred) ≡ Open → MayChange (image_of s) is.layout b
+      by_system true e is_open = absurd (barred_open is_open)
+      by_system false e is_open = by_place (is_place m.journals b) refl e is_open
 
   module _ (n : ℕ) (plans : List Plan) (marks : List Mark) (so : IsSoFar s node first m.journals n plans marks) where
     pub plan_at : (j d : ℕ) (p : Plan) → IsJournalAt is.layout j d → slice_get plans j ≡ Some p → IsPlanOf (ring_of (every (image_of s) d)) p

@@ -1,12 +1,12 @@
 -- The journals that were looked at so far.
 use Rattle.std.proofs.Common.{◌≡◌, ◌+◌, ◌<◌, ℕ, Bool, true, false, List, [], ◌∷◌, ◌++◌, length, Option, None, Some, refl, sym, ap, subst, ◌∙◌, inl, inr}
-use Rattle.std.specs.Prelude.{◌||◌, IsTrue, if◌then◌else◌, slice_get}
+use Rattle.std.specs.Prelude.{◌||◌, IfSome, IsTrue, if◌then◌else◌, slice_get}
 use Rattle.std.specs.List.{AllByRecursion}
 use Rattle.std.proofs.lemmas.Bool.{cond-true, cond-false}
 use Rattle.std.proofs.lemmas.List.{length-append}
 use Rattle.image_mount.specs.Mounted.{Journal}
 use Rattle.image_replays.specs.Marking.{is_planned}
-use Rattle.image_replays.specs.Replays.{IsWritable}
+use Rattle.image_replays.specs.Replays.{HasPlace, IsWritable}
 use Rattle.journal_plans.specs.Plans.{IsPlanOf}
 use Rattle.journal_reads.specs.Reading.{ring_read}
 use Rattle.log_layout.specs.Journal.{head_in}
@@ -15,13 +15,14 @@ use Rattle.replay_marks.specs.Marking.{has_block, mark_of}
 use Rattle.replay_marks.specs.declared.marks.Mark.{Mark}
 use Rattle.replay_marks.specs.declared.marks.Mark.TheVariants.{Live, Open}
 use Rattle.shared_disk.specs.Disk.{DiskState}
-use Rattle.image_replays.proofs.Lists.{all_more, any_append, any_at, false_true, get_more, live_open}
+use Rattle.image_replays.proofs.Lists.{all_more, any_append, any_at, false_true, get_more, live_open, some_is}
 
 pub record IsSoFar (s : DiskState) (node : ℕ) (first : List Mark) (journals : List Journal) (n : ℕ) (plans : List Plan) (marks : List Mark) : Type 0 where
   pub long : length marks ≡ s.count
   pub writable : AllByRecursion (IsWritable s) plans
   pub count : length plans ≡ n
   pub each : IsTrue s.tells → (j : ℕ) (x : Journal) (p : Plan) → slice_get journals j ≡ Some x → slice_get plans j ≡ Some p → head_in (ring_read s node x.blocks) ≡ Some x.head → IsPlanOf (ring_read s node x.blocks) p
+  pub placed : (j : ℕ) (x : Journal) (p : Plan) → slice_get journals j ≡ Some x → slice_get plans j ≡ Some p → IfSome p.clean (HasPlace s x.blocks)
   pub free : (j : ℕ) (p : Plan) (b : ℕ) → slice_get plans j ≡ Some p → has_block p.home.items b ≡ true → (b < s.count) × (mark_of first b ≡ Open)
   pub apart : (i j : ℕ) (p q : Plan) (b : ℕ) → slice_get plans i ≡ Some p → slice_get plans j ≡ Some q → has_block p.home.items b ≡ true → has_block q.home.items b ≡ true → i ≡ j
   pub are : (b : ℕ) → mark_of marks b ≡ (if is_planned plans b then Live else mark_of first b)
@@ -32,13 +33,14 @@ so_far_start s node first journals long = record {
   writable = tt;
   count = refl;
   each = λ tells j x p at is. absurd (let e : ◌≡◌ {A = Option Plan} None (Some p) = is in cc);
+  placed = λ j x p at is. absurd (let e : ◌≡◌ {A = Option Plan} None (Some p) = is in cc);
   free = λ j p b is. absurd (let e : ◌≡◌ {A = Option Plan} None (Some p) = is in cc);
   apart = λ i j p q b is. absurd (let e : ◌≡◌ {A = Option Plan} None (Some p) = is in cc);
   are = λ b. refl;
 }
 
 module _ (s : DiskState) (node : ℕ) (first : List Mark) (journals : List Journal) (n : ℕ) (plans : List Plan) (marks new : List Mark) (so : IsSoFar s node first journals n plans marks)
-    (x : Journal) (p : Plan) (at : slice_get journals n ≡ Some x) (long : length new ≡ length marks) (writable : IsWritable s p)
+    (x : Journal) (p : Plan) (at : slice_get journals n ≡ Some x) (long : length new ≡ length marks) (writable : IsWritable s p) (header : IfSome p.clean (HasPlace s x.blocks))
     (free : (b : ℕ) → has_block p.home.items b ≡ true → (b < s.count) × (mark_of marks b ≡ Open))
     (plan : IsTrue s.tells → head_in (ring_read s node x.blocks) ≡ Some x.head → IsPlanOf (ring_read s node x.blocks) p)
     (are : (b : ℕ) → mark_of new b ≡ (if has_block p.home.items b then Live else mark_of marks b)) where
@@ -57,13 +59,18 @@ module _ (s : DiskState) (node : ℕ) (first : List Mark) (journals : List Journ
   each_more tells j y q there is headed = elim (get_more plans p j q is) [
     | inl old ↦ so.each tells j y q there old headed
     | inr last ↦
-        let same : x ≡ y = some_of (sym at ∙ ap (slice_get journals) (sym (last.0 ∙ so.count)) ∙ there) in
+        let same : x ≡ y = some_is (sym at ∙ ap (slice_get journals) (sym (last.0 ∙ so.count)) ∙ there) in
         subst (λ (r : Plan). IsPlanOf (ring_read s node y.blocks) r) last.1
         (subst (λ (z : Journal). head_in (ring_read s node z.blocks) ≡ Some z.head → IsPlanOf (ring_read s node z.blocks) p) same (plan tells) headed)
   ]
-    where
-      some_of : {A : Type 0} {v w : A} → ◌≡◌ {A = Option A} (Some v) (Some w) → v ≡ w
-      some_of e = cc
+
+  placed_more : (j : ℕ) (y : Journal) (q : Plan) → slice_get journals j ≡ Some y → slice_get (plans ++ p ∷ []) j ≡ Some q → IfSome q.clean (HasPlace s y.blocks)
+  placed_more j y q there is = elim (get_more plans p j q is) [
+    | inl old ↦ so.placed j y q there old
+    | inr last ↦
+        let same : x ≡ y = some_is (sym at ∙ ap (slice_get journals) (sym (last.0 ∙ so.count)) ∙ there) in
+        subst (λ (r : Plan). IfSome r.clean (HasPlace s y.blocks)) last.1 (subst (λ (z : Journal). IfSome p.clean (HasPlace s z.blocks)) same header)
+  ]
 
   free_more : (j : ℕ) (q : Plan) (b : ℕ) → slice_get (plans ++ p ∷ []) j ≡ Some q → has_block q.home.items b ≡ true → (b < s.count) × (mark_of first b ≡ Open)
   free_more j q b is has = elim (get_more plans p j q is) [
@@ -102,6 +109,7 @@ module _ (s : DiskState) (node : ℕ) (first : List Mark) (journals : List Journ
     writable = all_more (IsWritable s) plans p so.writable writable;
     count = length-append plans (p ∷ []) ∙ ap (λ k. k + 1) so.count;
     each = each_more;
+    placed = placed_more;
     free = free_more;
     apart = apart_more;
     are = λ b. are_by b (has_block p.home.items b) (is_planned plans b) refl refl

@@ -1,7 +1,7 @@
 -- What stops a replay, by the marks.
-use Rattle.std.proofs.Common.{◌≡◌, ◌+◌, ◌<◌, ◌≤◌, ◌^◌, ◌++◌, ℕ, Bool, true, false, List, [], ◌∷◌, length, Some, Result, Ok, Err, get_or, refl, sym, ap, subst, ◌∙◌, arith}
-use Rattle.std.specs.Prelude.{IsTrue, IfErr, IfOk, ◌==◌, ◌≢◌, if◌then◌else◌, nat_lt, map, slice_get}
-use Rattle.std.specs.List.{All, AllByRecursion, range_with_len}
+use Rattle.std.proofs.Common.{◌≡◌, ◌+◌, ◌<◌, ◌≤◌, ◌^◌, ◌++◌, ℕ, Bool, true, false, List, [], ◌∷◌, length, Option, None, Some, Result, Ok, Err, get_or, refl, sym, ap, subst, ◌∙◌, arith}
+use Rattle.std.specs.Prelude.{IsTrue, IfErr, IfOk, IfSome, ◌==◌, ◌≢◌, if◌then◌else◌, nat_lt, map, slice_get}
+use Rattle.std.specs.List.{All, AllByRecursion, list_all, range_with_len}
 use Rattle.std.specs.List.Sorted.{IsStrictlyIncreasing}
 use Rattle.std.proofs.lemmas.Bool.{cond-true, cond-false, eqb-true}
 use Rattle.std.proofs.lemmas.Bool.Decides.{nat_tests}
@@ -14,8 +14,6 @@ use Rattle.gfs2_layout.specs.Inode.{content_block}
 use Rattle.image_model.specs.Claims.{every}
 use Rattle.image_model.specs.Image.{image_of}
 use Rattle.image_model.specs.Replays.{MayChange}
-use Rattle.image_model.specs.Rules.{Breaks}
-use Rattle.image_model.specs.Rules as rules_of
 use Rattle.image_model.specs.Stands.{IsJournalAt}
 use Rattle.image_mount.specs.Looks.{IsInGroups}
 use Rattle.image_mount.specs.Mounted.{IsJournalOf, IsMounted, Journal, MountedValue}
@@ -24,6 +22,7 @@ use Rattle.journal_reads.specs.Reading.{ring_read}
 use Rattle.log_layout.specs.Journal.{Ring, head_in, ring_of}
 use Rattle.log_layout.specs.Laws.{HasSamePlaces, SaysTheSame}
 use Rattle.log_layout.proofs.SamePlaces.{says_the_same}
+use Rattle.log_layout.specs.declared.log_header.LogHeader.{LogHeader}
 use Rattle.peer_replay.specs.declared.planned.Plan.{Plan}
 use Rattle.replay_looks.specs.Looks.{Breaks as BreaksIn, BreaksAlone, BreaksByLive, IsStopped, alone, bad_chunk, by_live, headless, stray, twice}
 use Rattle.replay_looks.specs.declared.faults.LookFault.{LookFault}
@@ -34,13 +33,13 @@ use Rattle.replay_marks.specs.declared.marks.Mark.{Mark}
 use Rattle.replay_marks.specs.declared.marks.Mark.TheVariants.{Barred, Live, Open}
 use Rattle.shared_disk.specs.Disk.{DiskState, IsIdle}
 use Rattle.image_replays.specs.Marking.{first_mark, is_in_groups, is_place, is_planned}
-use Rattle.image_replays.specs.Replays.{IfDamaged, IsWritable, Stops}
+use Rattle.image_replays.specs.Replays.{HasPlace, IfDamaged, IsWritable, Stops}
 use Rattle.image_replays.specs.Replays as stops
-use Rattle.image_replays.proofs.Lists.{any_is, barred_live, false_true, home_all, live_barred, none_some, open_barred, open_live}
+use Rattle.image_replays.proofs.Lists.{any_is, barred_live, false_true, home_all, inside_each, live_barred, none_some, open_barred, open_live}
 use Rattle.image_replays.proofs.SoFar.{IsSoFar, so_far_more}
 use Rattle.journal_plans.specs.Plans.{IsPlanOf}
 use Rattle.image_replays.proofs.Replay.{plan_at}
-use Rattle.image_replays.proofs.System.{block_at_place, has_group_in, has_journal, same_ring, some_at}
+use Rattle.image_replays.proofs.System.{among_system, block_at_place, has_group_in, same_ring, some_at}
 
 -- ---- what a look at a journal gives
 
@@ -57,6 +56,15 @@ pub writable_of : (s : DiskState) (marks : List Mark) (r : Result Plan LookFault
 writable_of s marks (Ok p) long rise whole free = record { rise = rise; whole = whole; inside = all_low s.count marks p.home.items long free }
 writable_of s marks (Err f) long rise whole free = tt
 
+pub header_of : (s : DiskState) (blocks : List ℕ) (r : Result Plan LookFault) → list_all (λ b. nat_lt b s.count) blocks ≡ true → IfOk r (λ p. IfSome p.clean (λ (h : LogHeader). h.blkno < length blocks))
+    → IfOk r (λ p. IfSome p.clean (HasPlace s blocks))
+header_of s blocks (Ok p) inside place = by p.clean place
+  where
+    by : (c : Option LogHeader) → IfSome c (λ (h : LogHeader). h.blkno < length blocks) → IfSome c (HasPlace s blocks)
+    by None low = tt
+    by (Some h) low = record { place = low; inside = inside_each blocks s.count inside h.blkno low }
+header_of s blocks (Err f) inside place = tt
+
 pub free_of : (s : DiskState) (marks : List Mark) (r : Result Plan LookFault) → length marks ≡ s.count → IfOk r (λ p. AllByRecursion (λ (w : Written). (w.block < length marks) × (mark_of marks w.block ≡ Open)) p.home.items)
     → IfOk r (λ p. (block : ℕ) → has_block p.home.items block ≡ true → (block < s.count) × (mark_of marks block ≡ Open))
 free_of s marks (Ok p) long free = λ block has.
@@ -71,7 +79,7 @@ why_of T P Q R (Err f) why = λ tells few inside. why tells
 -- ---- what the marks say of a block
 
 module _ (s : DiskState) (node : ℕ) (idle : IsIdle s) (tells : IsTrue s.tells) (m : MountedValue) (is : IsMounted (image_of s) m) (first : List Mark)
-    (marked : (b : ℕ) → b < s.count → mark_of first b ≡ first_mark m.groups m.journals b) (n : ℕ) (plans : List Plan) (marks : List Mark) (so : IsSoFar s node first m.journals n plans marks) where
+    (marked : (b : ℕ) → b < s.count → mark_of first b ≡ first_mark m.groups m.journals m.system b) (n : ℕ) (plans : List Plan) (marks : List Mark) (so : IsSoFar s node first m.journals n plans marks) where
   -- a place of a mounted journal is one of the image's
   place_of : (b : ℕ) → is_place m.journals b ≡ true → (j d p : ℕ) × IsJournalAt is.layout j d × (p < (ring_of (every (image_of s) d)).places) × (content_block (every (image_of s) d) p ≡ b)
   place_of b e =
@@ -100,9 +108,13 @@ module _ (s : DiskState) (node : ℕ) (idle : IsIdle s) (tells : IsTrue s.tells)
       by_place true e closed = let at = place_of b e in may.no_place at.0 at.1 at.2 at.3 at.4 at.5
       by_place false e closed = by_group (is_in_groups m.groups b) refl closed
 
+      by_system : (t : Bool) → is_among m.system b ≡ t → (if t then Barred else if is_place m.journals b then Barred else if is_in_groups m.groups b then Open else Barred) ≡ Barred → ⊥
+      by_system true e closed = may.apart (among_system (image_of s) m is b e)
+      by_system false e closed = by_place (is_place m.journals b) refl closed
+
       by_plan : (t : Bool) → is_planned plans b ≡ t → ⊥
       by_plan true e = live_barred (sym (so.are b ∙ cond-true _ _ _ e) ∙ mark)
-      by_plan false e = by_place (is_place m.journals b) refl (sym (marked b may.there) ∙ sym (so.are b ∙ cond-false _ _ _ e) ∙ mark)
+      by_plan false e = by_system (is_among m.system b) refl (sym (marked b may.there) ∙ sym (so.are b ∙ cond-false _ _ _ e) ∙ mark)
 
   -- a live one is in a plan before
   live_is_planned : (b : ℕ) → mark_of marks b ≡ Live → is_planned plans b ≡ true
@@ -117,14 +129,15 @@ module _ (s : DiskState) (node : ℕ) (idle : IsIdle s) (tells : IsTrue s.tells)
               let high : s.count ≤ b = grind (arith, nat_tests, e) in
               absurd (barred_live (sym (get_or-eq_default marks Barred (subst (λ k. k ≤ b) (sym so.long) high)) ∙ mark))
 
-      never_live : (t u : Bool) → (if t then Barred else if u then Open else Barred) ≡ Live → ⊥
-      never_live true u e = barred_live e
-      never_live false true e = open_live e
-      never_live false false e = barred_live e
+      never_live : (r t u : Bool) → (if r then Barred else if t then Barred else if u then Open else Barred) ≡ Live → ⊥
+      never_live true t u e = barred_live e
+      never_live false true u e = barred_live e
+      never_live false false true e = open_live e
+      never_live false false false e = barred_live e
 
       by_plan : (t : Bool) → is_planned plans b ≡ t → is_planned plans b ≡ true
       by_plan true e = e
-      by_plan false e = absurd (never_live (is_place m.journals b) (is_in_groups m.groups b) (sym (marked b inside) ∙ sym (so.are b ∙ cond-false _ _ _ e) ∙ mark))
+      by_plan false e = absurd (never_live (is_among m.system b) (is_place m.journals b) (is_in_groups m.groups b) (sym (marked b inside) ∙ sym (so.are b ∙ cond-false _ _ _ e) ∙ mark))
 
   -- ---- the next journal
 
@@ -172,8 +185,7 @@ module _ (s : DiskState) (node : ℕ) (idle : IsIdle s) (tells : IsTrue s.tells)
         let group = in_group place low in
         let facts = group_low (content_block (every (image_of s) d) place) group.1 in
         subst (Told 17) (sym group.0) (
-          stops.as_it_lies 17 (content_block (every (image_of s) d) place)
-              (rules_of.bad_chunk n d place head (has_journal (image_of s) m is n d d_there.1) (sym says.head ∙ headed) (sym (says.transactions head) ∙ bad) facts.1),
+          stops.bad_chunk n d place head d_there.1 (sym says.head ∙ headed) (sym (says.transactions head) ∙ bad),
           facts.0,
         )
 
@@ -237,18 +249,18 @@ module _ (s : DiskState) (node : ℕ) (idle : IsIdle s) (tells : IsTrue s.tells)
 -- ---- one journal more, as the disk then is
 
 pub so_on : (s t : DiskState) → t ≡ s → (node : ℕ) (first : List Mark) (journals : List Journal) (n : ℕ) (plans news : List Plan) (marks new : List Mark) → IsSoFar s node first journals n plans marks
-    → (x : Journal) (p : Plan) → slice_get journals n ≡ Some x → length new ≡ length marks → IsWritable t p → ((b : ℕ) → has_block p.home.items b ≡ true → (b < t.count) × (mark_of marks b ≡ Open))
+    → (x : Journal) (p : Plan) → slice_get journals n ≡ Some x → length new ≡ length marks → IsWritable t p → IfSome p.clean (HasPlace t x.blocks) → ((b : ℕ) → has_block p.home.items b ≡ true → (b < t.count) × (mark_of marks b ≡ Open))
     → (IsTrue t.tells → head_in (ring_read t node x.blocks) ≡ Some x.head → IsPlanOf (ring_read t node x.blocks) p) → ((b : ℕ) → mark_of new b ≡ (if has_block p.home.items b then Live else mark_of marks b))
     → news ≡ plans ++ p ∷ [] → IsSoFar s node first journals (n + 1) news new
-so_on s t same node first journals n plans news marks new so x p at long writable free plan are added =
+so_on s t same node first journals n plans news marks new so x p at long writable header free plan are added =
     subst (λ ps. IsSoFar s node first journals (n + 1) ps new) (sym added)
-    (so_far_more s node first journals n plans marks new so x p at long (subst (λ u. IsWritable u p) same writable)
+    (so_far_more s node first journals n plans marks new so x p at long (subst (λ u. IsWritable u p) same writable) (subst (λ u. IfSome p.clean (HasPlace u x.blocks)) same header)
     (subst (λ (u : DiskState). (b : ℕ) → has_block p.home.items b ≡ true → (b < u.count) × (mark_of marks b ≡ Open)) same free)
     (subst (λ (u : DiskState). IsTrue u.tells → head_in (ring_read u node x.blocks) ≡ Some x.head → IsPlanOf (ring_read u node x.blocks) p) same plan) are)
 
 -- what stops the look at a journal, as the disk then is
 pub stopped_on : (s t : DiskState) → t ≡ s → (node : ℕ) → IsIdle s → IsTrue s.tells → (m : MountedValue) (is : IsMounted (image_of s) m) (first : List Mark)
-    → ((b : ℕ) → b < s.count → mark_of first b ≡ first_mark m.groups m.journals b) → (n : ℕ) (plans : List Plan) (marks : List Mark) → IsSoFar s node first m.journals n plans marks
+    → ((b : ℕ) → b < s.count → mark_of first b ≡ first_mark m.groups m.journals m.system b) → (n : ℕ) (plans : List Plan) (marks : List Mark) → IsSoFar s node first m.journals n plans marks
     → (x : Journal) → slice_get m.journals n ≡ Some x → (fault : LookFault)
     → (IsTrue t.tells → length x.blocks < 2 ^ 32 → All (λ b. b < t.count) x.blocks → IsStopped (ring_read t node x.blocks) x.dinode x.blocks marks fault)
     → IfDamaged fault (λ block rule. Stops (image_of s) is.layout rule block × (block < s.count))

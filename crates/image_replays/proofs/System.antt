@@ -1,11 +1,12 @@
 -- What is known of a mounted image's journals and groups.
 use Rattle.std.proofs.Common.{◌≡◌, ◌+◌, ◌<◌, ◌≤◌, ◌⊎◌, ℕ, zero, suc, Bool, true, false, List, [], ◌∷◌, length, Option, None, Some, get_or, refl, sym, ap, subst, ◌∙◌, inl, inr, arith}
-use Rattle.std.specs.Prelude.{◌||◌, ◌==◌, codes, map, slice_get}
+use Rattle.std.specs.Prelude.{◌||◌, ◌==◌, codes, map, slice_get, Contains}
 use Rattle.std.specs.List.{range_with_len}
 use Rattle.std.specs.Option.{option_map}
+use Rattle.std.proofs.lemmas.Bool.{eqb-true}
 use Rattle.std.proofs.lemmas.Bool.Decides.{nat_tests}
 use Rattle.std.proofs.lemmas.List.FromFn.{get_or-map-range_with_len, length-map-range_with_len}
-use Rattle.std.proofs.lemmas.Option.{slice_get-get_or, slice_get-map, slice_get_within}
+use Rattle.std.proofs.lemmas.Option.{get_or_from_slice_get, slice_get-get_or, slice_get-map, slice_get_within}
 use Rattle.gfs2_layout.specs.Inode.{content_block, content_of}
 use Rattle.gfs2_layout.specs.declared.rindex.Rindex.{Rindex}
 use Rattle.glock_names.specs.Views.{group_of_entry}
@@ -15,6 +16,7 @@ use Rattle.image_model.specs.Image.{Image, image_of}
 use Rattle.image_model.specs.Journals.{journal_name}
 use Rattle.image_model.specs.Replays.{HasItsJournals}
 use Rattle.image_model.specs.Stands.{IsJournalAt}
+use Rattle.image_model.specs.SystemFiles.{IsSystemBlock}
 use Rattle.image_model.proofs.JournalNames.{one_number}
 use Rattle.image_mount.specs.Looks.{HasTrueRecord}
 use Rattle.image_mount.specs.Mounted.{IsJournalOf, IsMounted, Journal, MountedValue}
@@ -41,7 +43,7 @@ some_at (x ∷ xs) zero less = (x, refl)
 some_at (x ∷ xs) (suc j) less = some_at xs j (omega (arith, less))
 
 module _ (im : Image) (m : MountedValue) (is : IsMounted im m) where
-  one_jindex : (d : ℕ) → IsJindex im d → d ≡ is.layout.jindex
+  pub one_jindex : (d : ℕ) → IsJindex im d → d ≡ is.layout.jindex
   one_jindex d way = only_one im is.layout.master (codes "jindex") is.layout.jindex d is.looked.jindex_record (subst (λ a. LeadsTo im a (codes "jindex") d) is.found.groups.list.master.master way)
 
   pub one_rindex : (d : ℕ) → IsRindex im d → d ≡ is.layout.rindex
@@ -137,6 +139,20 @@ module _ (im : Image) (m : MountedValue) (is : IsMounted im m) where
       let own : (b == b) ≡ true = grind (arith, nat_tests) in
       any_at (λ (y : Journal). is_among y.blocks b) m.journals j x.0 x.1
       (ap (λ bs. is_among bs b) x.2.blocks ∙ any_at (λ c. c == b) (map (content_block (every im d)) (range_with_len 0 n)) p b there own)
+
+-- ---- blocks of the system files
+
+module _ (im : Image) (m : MountedValue) (is : IsMounted im m) (b : ℕ) where
+  pub system_among : IsSystemBlock im b → is_among m.system b ≡ true
+  system_among of =
+      let has = (is.system b).1 of in
+      let own : (b == b) ≡ true = grind (arith, nat_tests) in
+      any_at (λ c. c == b) m.system has.0 b (slice_get-get_or m.system has.0 b has.1 ∙ ap Some has.2) own
+
+  pub among_system : is_among m.system b ≡ true → IsSystemBlock im b
+  among_system e =
+      let one = any_is (λ c. c == b) m.system e in
+      (is.system b).0 (subst (Contains m.system) (eqb-true one.one b one.passes) (one.index, slice_get_within m.system one.index one.one one.there, get_or_from_slice_get m.system one.index one.one one.one one.there))
 
 -- ---- rings
 

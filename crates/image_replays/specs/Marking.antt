@@ -19,9 +19,9 @@ is_in_groups groups block = list_any (is_of_group block) groups
 abbrev pub is_place : List Journal → ℕ → Bool
 is_place journals block = list_any (λ (j : Journal). is_among j.blocks block) journals
 
--- a block of a group may be written, but for a place of a journal
-abbrev pub first_mark : List Group → List Journal → ℕ → Mark
-first_mark groups journals block = if is_place journals block then Barred else if is_in_groups groups block then Open else Barred
+-- a block of a group may be written, but for one of the system files and a place of a journal
+abbrev pub first_mark : List Group → List Journal → List ℕ → ℕ → Mark
+first_mark groups journals system block = if is_among system block then Barred else if is_place journals block then Barred else if is_in_groups groups block then Open else Barred
 
 -- one of these plans writes the block
 abbrev pub is_planned : List Plan → ℕ → Bool

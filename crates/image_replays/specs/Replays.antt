@@ -1,5 +1,5 @@
 -- What a replay of a mounted image puts home, and what stops it.
-use Rattle.std.specs.Prelude.{ℕ, ◌≡◌, ◌<◌, ⊤, List, [], ◌∷◌, length, map, slice_get, unwrap_or, Option, None, Some}
+use Rattle.std.specs.Prelude.{ℕ, ◌≡◌, ◌<◌, ⊤, List, [], ◌∷◌, length, map, get_or, slice_get, unwrap_or, IfSome, Option, None, Some, Err}
 use Rattle.std.specs.List.{AllByRecursion}
 use Rattle.std.specs.List.Sorted.{IsStrictlyIncreasing}
 use Rattle.drafts.specs.declared.change.Written.{Written}
@@ -7,11 +7,13 @@ use Rattle.gfs2_layout.specs.Inode.{content_block}
 use Rattle.image_model.specs.Claims.{every}
 use Rattle.image_model.specs.Image.{Image}
 use Rattle.image_model.specs.Replays.{IsLiveTwice, MayChange, Replayed, live_at}
-use Rattle.image_model.specs.Rules.{Breaks}
 use Rattle.image_model.specs.Stands.{Layout, IsJournalAt}
+use Rattle.image_mount.specs.Mounted.{Journal}
 use Rattle.journal_plans.specs.Plans.{IsPlanOf, bytes_put}
 use Rattle.journal_scan.specs.Numbers.{IsNumberAt}
-use Rattle.log_layout.specs.Journal.{ring_of}
+use Rattle.log_layout.specs.Journal.{head_in, ring_of}
+use Rattle.log_layout.specs.Transactions.{transactions_of}
+use Rattle.log_layout.specs.declared.log_header.LogHeader.{LogHeader}
 use Rattle.peer_replay.specs.declared.planned.Plan.{Plan}
 use Rattle.replay_looks.specs.declared.faults.LookFault.{LookFault}
 use Rattle.replay_looks.specs.declared.faults.LookFault.TheVariants.{Damaged, DiskFailed, NoMemory}
@@ -30,10 +32,11 @@ pub record IsLiveAstray (im : Image) (l : Layout) (b : ℕ) : Type 0 where
   pub numbered : IsNumberAt (ring_of (every im dinode)) number place
   pub is : content_block (every im dinode) place ≡ b
 
--- What stops the replay of an image with this layout: block b breaks a rule in it as it lies, which may be that a journal has no header or a bad chunk; or
--- it has the number of a live block that may not be changed; or it is live in two journals.
+-- What stops the replay of an image with this layout: in block b of a journal a chunk is bad (17); or it has the number of a live block that may not be changed
+-- (2); or it is live in two journals (20). That the image breaks other rules as it lies stops no replay: it may be in the midst of what the journals say.
 pub data Stops (im : Image) (l : Layout) : ℕ → ℕ → Type 0 where
-  as_it_lies : (rule b : ℕ) → Breaks im rule b → Stops im l rule b
+  bad_chunk : (j d place : ℕ) (head : LogHeader) → IsJournalAt l j d → head_in (ring_of (every im d)) ≡ Some head → transactions_of (ring_of (every im d)) head ≡ Err place
+      → Stops im l 17 (content_block (every im d) place)
   astray : (b : ℕ) → IsLiveAstray im l b → Stops im l 2 b
   twice : (b : ℕ) → IsLiveTwice im l b → Stops im l 20 b
 
@@ -64,6 +67,16 @@ pub record IsWritable (s : DiskState) (p : Plan) : Type 0 where
   pub rise : IsStrictlyIncreasing (map (λ (w : Written). w.block) p.home.items)
   pub whole : AllByRecursion (λ (w : Written). length w.bytes ≡ s.size) p.home.items
   pub inside : AllByRecursion (λ (w : Written). w.block < s.count) p.home.items
+
+-- a header that is written has a place, in a journal with these blocks at its places: it is one of them, and its block is one of the disk
+pub record HasPlace (s : DiskState) (blocks : List ℕ) (h : LogHeader) : Type 0 where
+  pub place : h.blkno < length blocks
+  pub inside : get_or blocks h.blkno 0 < s.count
+
+-- there is a plan for each journal, and the header that it writes, where it writes one, has a place in that journal
+pub record HavePlaces (s : DiskState) (journals : List Journal) (plans : List Plan) : Type 0 where
+  pub count : length plans ≡ length journals
+  pub each : (i : ℕ) (j : Journal) (p : Plan) → slice_get journals i ≡ Some j → slice_get plans i ≡ Some p → IfSome p.clean (HasPlace s j.blocks)
 
 -- a fact for the block that is told, with its rule
 abbrev pub IfDamaged : LookFault → (ℕ → ℕ → Type 0) → Type 0

@@ -5,6 +5,9 @@ mod laws;
 mod marking;
 mod planning;
 
-pub use laws::stopped_images_have_no_replay;
+pub use image_mount::Mounted;
+pub use laws::{
+    clean_mounts_stay, replayed_images_have_the_same_system, stopped_images_have_no_replay,
+};
 pub use planning::plan_replay;
 pub use replay_looks::{LookFault, Plan};

@@ -51,10 +51,11 @@ fn bar_journals(marks: &mut Marks, journals: &[JournalMap])
 pub(crate) fn first_marks(alloc: Global, count: u64, mounted: &Mounted) -> Result<Marks, NoMemory>
     requires { count < 2 ^ 63 }
     ensures length { IfOk result (λ marks. length marks ≡ count) }
-    ensures marks { IfOk result (λ marks. (block : ℕ) → block < count → mark_of marks block ≡ first_mark mounted.now.groups mounted.now.journals block) }
+    ensures marks { IfOk result (λ marks. (block : ℕ) → block < count → mark_of marks block ≡ first_mark mounted.now.groups mounted.now.journals mounted.now.system block) }
 {
     let mut marks = Marks::new(alloc, count)?;
     open_groups(&mut marks, &mounted.groups);
     bar_journals(&mut marks, &mounted.journals);
+    marks.bar(&mounted.system);
     Ok(marks)
 }

@@ -1,10 +1,10 @@
 // The plans of all journals.
-ghost use Rattle.std.specs.Prelude.{◌≡◌, ◌<◌, ◌≤◌, ◌^◌, ℕ, IsTrue, IfOk, IfErr, Some, true, false, if◌then◌else◌, length, nat_lt};
+ghost use Rattle.std.specs.Prelude.{◌≡◌, ◌<◌, ◌≤◌, ◌^◌, ℕ, IsTrue, IfOk, IfErr, IfSome, Some, true, false, if◌then◌else◌, length, nat_lt};
 ghost use Rattle.std.specs.List.{All, AllByRecursion, list_all};
 ghost use Rattle.gfs2_layout.specs.Device.{IsBlockSize};
 ghost use Rattle.image_model.specs.Image.{image_of};
 ghost use Rattle.image_mount.specs.Mounted.{IsMounted};
-ghost use Rattle.image_replays.specs.Replays.{ArePlans, IfDamaged, IsWritable, Stops};
+ghost use Rattle.image_replays.specs.Replays.{ArePlans, HasPlace, HavePlaces, IfDamaged, IsWritable, Stops};
 ghost use Rattle.journal_plans.specs.Plans.{IsPlanOf};
 ghost use Rattle.journal_reads.specs.Reading.{ring_read};
 ghost use Rattle.log_layout.specs.Journal.{head_in};
@@ -40,6 +40,7 @@ fn plan_journal<D: SharedDisk>(
     requires size { IsBlockSize (D.state disk.old).size }
     requires marks { length marks.old ≡ (D.state disk.old).count }
     ensures writable { IfOk result (IsWritable (D.state disk.old)) }
+    ensures header { IfOk result (λ p. IfSome p.clean (HasPlace (D.state disk.old) journal.now.blocks)) }
     ensures free { IfOk result (λ p. (block : ℕ) → has_block p.home.items block ≡ true → (block < (D.state disk.old).count) × (mark_of marks.old block ≡ variant.Open)) }
     ensures plan { IfOk result (λ p. IsTrue (D.state disk.old).tells → head_in (ring_read (D.state disk.old) node journal.now.blocks) ≡ Some journal.now.head → IsPlanOf (ring_read (D.state disk.old) node journal.now.blocks) p) }
     ensures length { length marks.new ≡ length marks.old }
@@ -71,7 +72,7 @@ fn plan_journal<D: SharedDisk>(
 }
 
 /// What a replay of a mounted image writes on an idle disk, journal by journal, as a node reads it; or a block, with its rule, by
-/// which it is stopped. Nothing is written. It costs what `look_at_journal` costs for each journal that isn't clean, and a
+/// which it is stopped. For the plans of 256 journals and more, which no mounted image has, there is no room. Nothing is written. It costs what `look_at_journal` costs for each journal that isn't clean, and a
 /// byte a block of the device.
 pub fn plan_replay<D: SharedDisk>(
     alloc: Global,
@@ -83,6 +84,8 @@ pub fn plan_replay<D: SharedDisk>(
     requires idle { IsIdle (D.state disk.old) }
     requires size { IsBlockSize (D.state disk.old).size }
     ensures writable { IfOk result (λ plans. AllByRecursion (IsWritable (D.state disk.old)) plans.items) }
+    ensures headers { IfOk result (λ plans. HavePlaces (D.state disk.old) mounted.now.journals plans.items) }
+    ensures few { IfOk result (λ plans. length plans.items < 256) }
     ensures plans { IfOk result (λ plans. IsTrue (D.state disk.old).tells → (is : IsMounted (image_of (D.state disk.old)) mounted.now) → ArePlans (image_of (D.state disk.old)) is.layout plans.items) }
     ensures stopped { IfErr result (λ fault. IsTrue (D.state disk.old).tells → (is : IsMounted (image_of (D.state disk.old)) mounted.now)
         → IfDamaged fault (λ block rule. Stops (image_of (D.state disk.old)) is.layout rule block × (block < (D.state disk.old).count))) }
@@ -91,6 +94,10 @@ pub fn plan_replay<D: SharedDisk>(
 {
     let count = disk.blocks();
     if count >= 1u64 << 63 {
+        return Err(LookFault::NoMemory);
+    }
+    // The number of a slot is a byte, and a mounted image has eight at most: for more plans there is no room.
+    if mounted.journals.len() >= 256 {
         return Err(LookFault::NoMemory);
     }
     let Ok(mut marks) = first_marks(alloc, count, mounted) else {

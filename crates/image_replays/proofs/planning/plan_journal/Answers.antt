@@ -1,11 +1,12 @@
 use Rattle.std.proofs.Common.{◌≡◌, ◌<◌, ◌≤◌, ◌^◌, length, sym, ap, subst, ◌∙◌, arith}
-use Rattle.std.specs.Prelude.{IfErr, IsTrue, nat_lt}
+use Rattle.std.specs.Prelude.{IfErr, IfOk, IfSome, IsTrue, nat_lt}
 use Rattle.std.specs.List.{All, list_all}
 use Rattle.image_replays.proofs.Lists.{all_inside, false_true}
 use Rattle.image_mount.specs.Mounted.{Journal}
+use Rattle.log_layout.specs.declared.log_header.LogHeader.{LogHeader}
 use Rattle.journal_reads.specs.Reading.{ring_read}
 use Rattle.replay_looks.specs.Looks.{IsStopped}
-use Rattle.image_replays.proofs.Stopped.{free_of, why_of, writable_of}
+use Rattle.image_replays.proofs.Stopped.{free_of, header_of, why_of, writable_of}
 use Rattle.image_replays.proofs.planning.plan_journal.Goals as goal
 
 pub returns-then-len-clause-why : goal.returns-then-len-clause-why
@@ -20,6 +21,16 @@ returns-then-not-are_inside-clause-why g c tells few inside =
 pub returns-clause-writable : goal.returns-clause-writable
 returns-clause-writable g c =
     writable_of (g.D.SharedDisk.state c.args.disk.now) c.args.marks.now c.look_at_journal.result c.requires.marks c.look_at_journal.ensures.rising c.look_at_journal.ensures.whole c.look_at_journal.ensures.free
+
+pub returns-clause-header : goal.returns-clause-header
+returns-clause-header g c =
+    let s = g.D.SharedDisk.state c.args.disk.now in
+    let r = c.look_at_journal.result in
+    let blocks : c.deref-2.result.now ≡ c.args.journal.now.blocks = c.deref-2.ensures.value ∙ ap (λ (j : Journal). j.blocks) c.journal.view_is in
+    let inside : c.deref.result.now ≡ c.args.journal.now.blocks = c.deref.ensures.value ∙ ap (λ (j : Journal). j.blocks) c.journal.view_is in
+    header_of s c.args.journal.now.blocks r
+    (sym (c.are_inside.ensures ∙ (λ t. list_all (λ b. nat_lt b (c.blocks-2.ensures.value t)) (inside t))) ∙ c.if-not-are_inside.false)
+    (subst (λ bs. IfOk r (λ p. IfSome p.clean (λ (h : LogHeader). h.blkno < length bs))) blocks c.look_at_journal.ensures.place)
 
 pub returns-clause-free : goal.returns-clause-free
 returns-clause-free g c = free_of (g.D.SharedDisk.state c.args.disk.now) c.args.marks.now c.look_at_journal.result c.requires.marks c.look_at_journal.ensures.free

@@ -31,7 +31,7 @@ loop-journal-preserved g c =
       };
       so = so_on (g.D.SharedDisk.state c.args.disk.now) (g.D.SharedDisk.state c.loop-journal.disk) before.same c.args.node c.in-Ok.marks c.args.mounted.now.journals c.loop-journal.journal-index
           c.loop-journal.plans.items c.push.new.self.items c.loop-journal.marks c.plan_journal.new.marks c.loop-journal.invariant.so c.journal-item.result c.in-Ok-plan_journal.plan
-          (subst (λ xs. slice_get xs c.loop-journal.journal-index ≡ Some c.journal-item.result) js there) c.in-Ok-plan_journal.ensures.length c.in-Ok-plan_journal.ensures.writable
+          (subst (λ xs. slice_get xs c.loop-journal.journal-index ≡ Some c.journal-item.result) js there) c.in-Ok-plan_journal.ensures.length c.in-Ok-plan_journal.ensures.writable c.in-Ok-plan_journal.ensures.header
           c.in-Ok-plan_journal.ensures.free c.in-Ok-plan_journal.ensures.plan c.in-Ok-plan_journal.ensures.marks c.in-Ok-push.ensures.items;
     }
 
