@@ -3,6 +3,7 @@ use Rattle.std.proofs.Common.{◌≡◌, ◌≢◌, ℕ, zero, suc, ◌+◌, ◌
 use Rattle.std.specs.Prelude.{◌==◌, IfSome, IsTrue, if◌then◌else◌, find, slice_get, unwrap_or}
 use Rattle.std.specs.Option.{option_map}
 use Rattle.std.proofs.lemmas.Bool.{cond-false, cond-true, eq-eqb, ne_eqb}
+use Rattle.std.proofs.Math.Nat.{mod-le}
 use Rattle.drafts.specs.declared.change.Written.{Written}
 use Rattle.shared_disk.specs.Disk.{DiskState, Flight, flight_to, written}
 use Rattle.trace_text.specs.declared.item.TraceItem.{TraceItem}
@@ -12,9 +13,12 @@ use Rattle.image_mount.specs.Mounted.{Journal}
 use Rattle.journal_plans.specs.Plans.{IsPlanOf, bytes_put}
 use Rattle.journal_reads.specs.Reading.{ring_read}
 use Rattle.journal_scan.specs.Said.{logged}
-use Rattle.journal_replays.specs.Headers.{IsHeaderRead, clean_block}
+use Rattle.gfs2_layout.specs.Bytes.{u32_at}
+use Rattle.journal_replays.specs.Headers.{IsHeaderRead, clean_block, filled}
 use Rattle.journal_replays.specs.Replays.{IsReplayWith}
 use Rattle.log_layout.specs.Chunks.{Logged}
+use Rattle.log_layout.specs.Headers.{as_read}
+use Rattle.log_layout.specs.Transactions.{after as sequence_after}
 use Rattle.log_layout.specs.Journal.{IsClean, Ring, head_in, next}
 use Rattle.log_layout.specs.Laws.{HasSamePlaces}
 use Rattle.log_layout.specs.declared.log_header.LogHeader.{LogHeader}
@@ -23,9 +27,12 @@ use Rattle.peer_replay.specs.Plans.{clean_after, clean_header}
 use Rattle.peer_replay.specs.declared.planned.Plan.{Plan}
 use Rattle.clean_journals.specs.Ended.{HasPut}
 use Rattle.clean_journals.proofs.Ending.{clean_headers_end}
-use Rattle.image_recovery.specs.Ended.{AreApart, AreTheirs, HasEnded, ReplayedHaveEnded}
+use Rattle.image_recovery.specs.Ended.{AreApart, AreTheirs, HasEnded, ReplayedHaveEnded, head_left}
 use Rattle.image_recovery.specs.Recoveries.{AreHeadersRead, AreReplays}
 use Rattle.image_recovery.proofs.Recovered.{can_at}
+
+pub some_is : {A : Type 0} {x y : A} → ◌≡◌ {A = Option A} (Some x) (Some y) → x ≡ y
+some_is e = cc
 
 -- ---- what is put home, as writes in flight
 
@@ -53,14 +60,14 @@ module _ (node slot dinode : ℕ) (blocks : List ℕ) (time : ℕ) (before after
       ∙ is.homes.written.blocks_are tells b ∙ ap (λ o. unwrap_or o (before.disk.block_at b)) none
 
   -- the block of the header has its bytes
-  there_one : (h : LogHeader) (items : List TraceItem) → IsTrue before.disk.tells → IsReplayWith node slot dinode blocks time before after home (Some h) items
+  pub there_one : (h : LogHeader) (items : List TraceItem) → IsTrue before.disk.tells → IsReplayWith node slot dinode blocks time before after home (Some h) items
       → after.disk.block_at (get_or blocks h.blkno 0) ≡ (clean_block before.disk.size (get_or blocks h.blkno 0) dinode time h).bytes
   there_one h items tells is =
       is.headed.written.blocks_are (subst IsTrue (sym is.homes.written.tells) tells) (get_or blocks h.blkno 0)
       ∙ ap (λ o. unwrap_or o (is.between.disk.block_at (get_or blocks h.blkno 0)))
       (cond-true (get_or blocks h.blkno 0 == get_or blocks h.blkno 0) (Some (clean_block before.disk.size (get_or blocks h.blkno 0) dinode time h).bytes) None (eq-eqb (get_or blocks h.blkno 0) (get_or blocks h.blkno 0) refl))
 
-  size_one : (c : Option LogHeader) (items : List TraceItem) → IsReplayWith node slot dinode blocks time before after home c items → after.disk.size ≡ before.disk.size
+  pub size_one : (c : Option LogHeader) (items : List TraceItem) → IsReplayWith node slot dinode blocks time before after home c items → after.disk.size ≡ before.disk.size
   size_one None items is = ap (λ (m : Moment). m.disk.size) is.0
   size_one (Some h) items is = is.headed.written.size ∙ is.homes.written.size
 
@@ -68,16 +75,16 @@ module _ (node slot dinode : ℕ) (blocks : List ℕ) (time : ℕ) (before after
   tells_one None items is = ap (λ (m : Moment). m.disk.tells) is.0
   tells_one (Some h) items is = is.headed.written.tells ∙ is.homes.written.tells
 
-  idle_one : (c : Option LogHeader) (items : List TraceItem) → before.disk.in_flight node ≡ [] → IsReplayWith node slot dinode blocks time before after home c items → after.disk.in_flight node ≡ []
+  pub idle_one : (c : Option LogHeader) (items : List TraceItem) → before.disk.in_flight node ≡ [] → IsReplayWith node slot dinode blocks time before after home c items → after.disk.in_flight node ≡ []
   idle_one None items idle is = ap (λ (m : Moment). m.disk.in_flight node) is.0 ∙ idle
   idle_one (Some h) items idle is = is.headed.written.idle node
 
 -- ---- rings of one disk and another
 
-read_is : (d : DiskState) (node b : ℕ) → d.in_flight node ≡ [] → written d.block_at (d.in_flight node) b ≡ d.block_at b
+pub read_is : (d : DiskState) (node b : ℕ) → d.in_flight node ≡ [] → written d.block_at (d.in_flight node) b ≡ d.block_at b
 read_is d node b idle = ap (λ (fs : List Flight). written d.block_at fs b) idle
 
-ring_same : (d d' : DiskState) (node : ℕ) (blocks : List ℕ) → d'.size ≡ d.size → d.in_flight node ≡ [] → d'.in_flight node ≡ []
+pub ring_same : (d d' : DiskState) (node : ℕ) (blocks : List ℕ) → d'.size ≡ d.size → d.in_flight node ≡ [] → d'.in_flight node ≡ []
     → ((p : ℕ) → p < length blocks → d'.block_at (get_or blocks p 0) ≡ d.block_at (get_or blocks p 0)) → HasSamePlaces (ring_read d node blocks) (ring_read d' node blocks)
 ring_same d d' node blocks size idle idle' same = record {
   size = sym size;
@@ -85,17 +92,48 @@ ring_same d d' node blocks size idle idle' same = record {
   blocks = λ p low. read_is d node (get_or blocks p 0) idle ∙ sym (same p low) ∙ sym (read_is d' node (get_or blocks p 0) idle');
 }
 
-plan_same : (r s : Ring) (p : Plan) → HasSamePlaces r s → IsPlanOf r p → IsPlanOf s p
+pub plan_same : (r s : Ring) (p : Plan) → HasSamePlaces r s → IsPlanOf r p → IsPlanOf s p
 plan_same r s p same is = record {
   readable = (says_the_same r s same).readable is.readable;
   live = λ block. is.live block ∙ (says_the_same r s same).live block;
   clean = (is.clean.0, sym (says_the_same r s same).head ∙ is.clean.1, is.clean.2 ∙ ap (λ n. clean_header n is.clean.0) same.places);
 }
 
-ended_same : (d d' : DiskState) (node : ℕ) (j : Journal) → HasSamePlaces (ring_read d node j.blocks) (ring_read d' node j.blocks) → HasEnded d node j → HasEnded d' node j
-ended_same d d' node j same is =
+ended_same : (c d d' : DiskState) (node time : ℕ) (j : Journal) (p : Plan) → HasSamePlaces (ring_read d node j.blocks) (ring_read d' node j.blocks) → HasEnded c d node time j p → HasEnded c d' node time j p
+ended_same c d d' node time j p same is =
     let clean : IsClean (ring_read d' node j.blocks) = (is.clean.0, sym (says_the_same (ring_read d node j.blocks) (ring_read d' node j.blocks) same).head ∙ is.clean.1, is.clean.2) in
-    record { clean = clean; nothing = nothing_live (ring_read d' node j.blocks) clean }
+    record {
+      clean = clean;
+      nothing = nothing_live (ring_read d' node j.blocks) clean;
+      headed = λ head headed. sym (says_the_same (ring_read d node j.blocks) (ring_read d' node j.blocks) same).head ∙ is.headed head headed;
+      sequence = λ head now headed ends. is.sequence head now headed ((says_the_same (ring_read d node j.blocks) (ring_read d' node j.blocks) same).head ∙ ends);
+    }
+
+ended_from : (c c' d : DiskState) (node time : ℕ) (j : Journal) (p : Plan) → HasSamePlaces (ring_read c node j.blocks) (ring_read c' node j.blocks) → HasEnded c' d node time j p → HasEnded c d node time j p
+ended_from c c' d node time j p same is = record {
+  clean = is.clean;
+  nothing = is.nothing;
+  headed = λ head headed.
+      is.headed head (sym (says_the_same (ring_read c node j.blocks) (ring_read c' node j.blocks) same).head ∙ headed) ∙ ap (λ n. Some (head_left n time j p.clean head)) (sym same.size);
+  sequence = λ head now headed. is.sequence head now (sym (says_the_same (ring_read c node j.blocks) (ring_read c' node j.blocks) same).head ∙ headed);
+}
+
+-- a journal that is left as it is
+ended_still : (d : DiskState) (node time : ℕ) (j : Journal) (p : Plan) → p.clean ≡ None → IsClean (ring_read d node j.blocks) → HasEnded d d node time j p
+ended_still d node time j p none clean = record {
+  clean = clean;
+  nothing = nothing_live (ring_read d node j.blocks) clean;
+  headed = λ head headed. headed ∙ ap (λ c. Some (head_left d.size time j c head)) (sym none);
+  sequence = λ head now headed ends. let same : now ≡ head = some_is (sym ends ∙ headed) in let equal : now.sequence ≡ head.sequence = ap (λ (h : LogHeader). h.sequence) same in omega (arith, equal);
+}
+
+-- what is read of a header has its sequence
+read_sequence : (h : LogHeader) (bytes : List ℕ) → (as_read h bytes).sequence ≡ h.sequence
+read_sequence h bytes = by (u32_at 48 bytes == 0)
+  where
+    by : (plain : Bool) → (if plain then record h { later = None } else h).sequence ≡ h.sequence
+    by true = refl
+    by false = refl
 
 -- ---- the journal that is replayed ends
 
@@ -104,10 +142,10 @@ module _ (node slot time : ℕ) (before after : Moment) (j : Journal) (p : Plan)
     (homes : (q : ℕ) → q < length j.blocks → bytes_put p (get_or j.blocks q 0) ≡ None)
     (low : (head : LogHeader) → head_in (ring_read before.disk node j.blocks) ≡ Some head → head.sequence + 1 < 2 ^ 64) where
   -- of a journal whose head isn't clean
-  ended_dirty : (head : LogHeader) → head_in (ring_read before.disk node j.blocks) ≡ Some head → next (length j.blocks) head.blkno < length j.blocks
+  ended_dirty : (head : LogHeader) → p.clean ≡ Some (clean_after (length j.blocks) head) → head_in (ring_read before.disk node j.blocks) ≡ Some head → next (length j.blocks) head.blkno < length j.blocks
       → IsReplayWith node slot j.dinode j.blocks time before after p.home.items (Some (clean_after (length j.blocks) head)) items
-      → IsHeaderRead before.disk.size j.dinode j.blocks time (Some (clean_after (length j.blocks) head)) → HasEnded after.disk node j
-  ended_dirty head headed inside is read =
+      → IsHeaderRead before.disk.size j.dinode j.blocks time (Some (clean_after (length j.blocks) head)) → HasEnded before.disk after.disk node time j p
+  ended_dirty head own_header headed inside is read =
       let header = clean_after (length j.blocks) head in
       let block = get_or j.blocks header.blkno 0 in
       let idle' = idle_one node slot j.dinode j.blocks time before after p.home.items (Some header) items idle is in
@@ -123,31 +161,43 @@ module _ (node slot time : ℕ) (before after : Moment) (j : Journal) (p : Plan)
             ∙ sym (read_is before.disk node (get_or j.blocks q 0) idle);
       } in
       let ended = clean_headers_end (ring_read before.disk node j.blocks) (ring_read after.disk node j.blocks) head block j.dinode time headed (low head headed) read put in
-      record { clean = ended.clean; nothing = ended.nothing }
+      record {
+        clean = ended.clean;
+        nothing = ended.nothing;
+        headed = λ first headed'. ended.headed ∙ ap (λ c. Some (head_left before.disk.size time j c first)) (sym own_header);
+        sequence = λ first now headed' ends.
+            let old : first ≡ head = some_is (sym headed' ∙ headed) in
+            let new : now ≡ as_read (filled block j.dinode time header) (clean_block before.disk.size block j.dinode time header).bytes = some_is (sym ends ∙ ended.headed) in
+            let was : first.sequence ≡ head.sequence = ap (λ (h : LogHeader). h.sequence) old in
+            let is_now : now.sequence ≡ sequence_after head.sequence
+            = ap (λ (h : LogHeader). h.sequence) new ∙ read_sequence (filled block j.dinode time header) (clean_block before.disk.size block j.dinode time header).bytes in
+            let next = mod-le (head.sequence + 1) (2 ^ 64) in
+            omega (arith, was, is_now, next);
+      }
 
-  ended_by : (head : LogHeader) (clean : Bool) → head.clean ≡ clean → head_in (ring_read before.disk node j.blocks) ≡ Some head → (c : Option LogHeader) → c ≡ (if clean then None else Some (clean_after (length j.blocks) head))
+  ended_by : (head : LogHeader) (clean : Bool) → head.clean ≡ clean → head_in (ring_read before.disk node j.blocks) ≡ Some head → (c : Option LogHeader) → p.clean ≡ c → c ≡ (if clean then None else Some (clean_after (length j.blocks) head))
       → IfSome c (λ (h : LogHeader). h.blkno < length j.blocks) → IsReplayWith node slot j.dinode j.blocks time before after p.home.items c items → IsHeaderRead before.disk.size j.dinode j.blocks time c
-      → HasEnded after.disk node j
-  ended_by head true is_clean headed c c_is inside is read =
+      → HasEnded before.disk after.disk node time j p
+  ended_by head true is_clean headed c own_c c_is inside is read =
       let same = (subst (λ (o : Option LogHeader). IsReplayWith node slot j.dinode j.blocks time before after p.home.items o items) c_is is).0 in
       let clean : IsClean (ring_read before.disk node j.blocks) = (head, headed, is_clean) in
-      subst (λ (m : Moment). HasEnded m.disk node j) (sym same) (record { clean = clean; nothing = nothing_live (ring_read before.disk node j.blocks) clean })
-  ended_by head false is_clean headed c c_is inside is read =
-      ended_dirty head headed (subst (λ (o : Option LogHeader). IfSome o (λ (h : LogHeader). h.blkno < length j.blocks)) c_is inside)
+      subst (λ (m : Moment). HasEnded before.disk m.disk node time j p) (sym same) (ended_still before.disk node time j p (own_c ∙ c_is) clean)
+  ended_by head false is_clean headed c own_c c_is inside is read =
+      ended_dirty head (own_c ∙ c_is) headed (subst (λ (o : Option LogHeader). IfSome o (λ (h : LogHeader). h.blkno < length j.blocks)) c_is inside)
       (subst (λ (o : Option LogHeader). IsReplayWith node slot j.dinode j.blocks time before after p.home.items o items) c_is is)
       (subst (IsHeaderRead before.disk.size j.dinode j.blocks time) c_is read)
 
   ended_one : IsPlanOf (ring_read before.disk node j.blocks) p → IfSome p.clean (λ (h : LogHeader). h.blkno < length j.blocks)
-      → IsReplayWith node slot j.dinode j.blocks time before after p.home.items p.clean items → IsHeaderRead before.disk.size j.dinode j.blocks time p.clean → HasEnded after.disk node j
-  ended_one plan inside is read = ended_by plan.clean.0 plan.clean.0.clean refl plan.clean.1 p.clean plan.clean.2 inside is read
+      → IsReplayWith node slot j.dinode j.blocks time before after p.home.items p.clean items → IsHeaderRead before.disk.size j.dinode j.blocks time p.clean → HasEnded before.disk after.disk node time j p
+  ended_one plan inside is read = ended_by plan.clean.0 plan.clean.0.clean refl plan.clean.1 p.clean refl plan.clean.2 inside is read
 
 -- ---- all of them
 
 -- the replay of this journal by this plan leaves the block
-abbrev Leaves : ℕ → Journal → Plan → Type 0
+abbrev pub Leaves : ℕ → Journal → Plan → Type 0
 Leaves b j p = (bytes_put p b ≡ None) × IfSome p.clean (λ (h : LogHeader). get_or j.blocks h.blkno 0 ≢ b)
 
-stays_all : (node slot time : ℕ) (before after : Moment) (js : List Journal) (ps : List Plan) (items : List TraceItem) (b : ℕ) → IsTrue before.disk.tells
+pub stays_all : (node slot time : ℕ) (before after : Moment) (js : List Journal) (ps : List Plan) (items : List TraceItem) (b : ℕ) → IsTrue before.disk.tells
     → ((k : ℕ) (l : Journal) (q : Plan) → slice_get js k ≡ Some l → slice_get ps k ≡ Some q → Leaves b l q) → AreReplays node slot time before js ps after items → after.disk.block_at b ≡ before.disk.block_at b
 stays_all node slot time before after [] [] items b tells leaves (same, none) = ap (λ (m : Moment). m.disk.block_at b) same
 stays_all node slot time before after [] (p ∷ ps) items b tells leaves so = absurd so
@@ -157,7 +207,7 @@ stays_all node slot time before after (j ∷ js) (p ∷ ps) items b tells leaves
     stays_all node (slot + 1) time mid after js ps later b (subst IsTrue (sym (tells_one node slot j.dinode j.blocks time before mid p.home.items p.clean first one)) tells) (λ k. leaves (suc k)) rest
     ∙ stays_one node slot j.dinode j.blocks time before mid p.home.items p.clean first b tells (flies_put p.home.items b ∙ home) off one
 
-rests_all : (node slot time : ℕ) (before after : Moment) (js : List Journal) (ps : List Plan) (items : List TraceItem) → before.disk.in_flight node ≡ [] → AreReplays node slot time before js ps after items
+pub rests_all : (node slot time : ℕ) (before after : Moment) (js : List Journal) (ps : List Plan) (items : List TraceItem) → before.disk.in_flight node ≡ [] → AreReplays node slot time before js ps after items
     → (after.disk.size ≡ before.disk.size) × (after.disk.in_flight node ≡ [])
 rests_all node slot time before after [] [] items idle (same, none) = (ap (λ (m : Moment). m.disk.size) same, ap (λ (m : Moment). m.disk.in_flight node) same ∙ idle)
 rests_all node slot time before after [] (p ∷ ps) items idle so = absurd so
@@ -167,11 +217,11 @@ rests_all node slot time before after (j ∷ js) (p ∷ ps) items idle (mid, fir
     (so.0 ∙ size_one node slot j.dinode j.blocks time before mid p.home.items p.clean first one, so.1)
 
 -- each header has a place of its journal
-abbrev HavePlaces : List Journal → List Plan → Type 0
-HavePlaces js ps = (i : ℕ) (j : Journal) (p : Plan) → slice_get js i ≡ Some j → slice_get ps i ≡ Some p → IfSome p.clean (λ (h : LogHeader). h.blkno < length j.blocks)
+abbrev pub HaveOwnPlaces : List Journal → List Plan → Type 0
+HaveOwnPlaces js ps = (i : ℕ) (j : Journal) (p : Plan) → slice_get js i ≡ Some j → slice_get ps i ≡ Some p → IfSome p.clean (λ (h : LogHeader). h.blkno < length j.blocks)
 
 -- a place of one journal is left by the replay of another
-leaves_place : (js : List Journal) (ps : List Plan) → AreApart js ps → HavePlaces js ps → (i k q : ℕ) (j l : Journal) (p : Plan) → i ≢ k → slice_get js i ≡ Some j → slice_get js k ≡ Some l → slice_get ps k ≡ Some p
+pub leaves_place : (js : List Journal) (ps : List Plan) → AreApart js ps → HaveOwnPlaces js ps → (i k q : ℕ) (j l : Journal) (p : Plan) → i ≢ k → slice_get js i ≡ Some j → slice_get js k ≡ Some l → slice_get ps k ≡ Some p
     → q < length j.blocks → Leaves (get_or j.blocks q 0) l p
 leaves_place js ps apart places i k q j l p off at_j at_l at_p below = (apart.homes i k q j p at_j at_p below, by p.clean (places k l p at_l at_p))
   where
@@ -179,29 +229,27 @@ leaves_place js ps apart places i k q j l p off at_j at_l at_p below = (apart.ho
     by None is = tt
     by (Some h) is = λ same. apart.others i k q h.blkno j l off at_j at_l below is (sym same)
 
-apart_rest : (j : Journal) (js : List Journal) (p : Plan) (ps : List Plan) → AreApart (j ∷ js) (p ∷ ps) → AreApart js ps
+pub apart_rest : (j : Journal) (js : List Journal) (p : Plan) (ps : List Plan) → AreApart (j ∷ js) (p ∷ ps) → AreApart js ps
 apart_rest j js p ps is = record {
   own = λ i. is.own (suc i);
   others = λ i k q r l m off. is.others (suc i) (suc k) q r l m (λ same. off (let e : i ≡ k = omega (arith, same) in e));
   homes = λ i k. is.homes (suc i) (suc k);
 }
 
-some_is : {A : Type 0} {x y : A} → ◌≡◌ {A = Option A} (Some x) (Some y) → x ≡ y
-some_is e = cc
-
-ended_all : (node slot time : ℕ) (before after : Moment) (js : List Journal) (ps : List Plan) (items : List TraceItem) → IsTrue before.disk.tells → before.disk.in_flight node ≡ [] → HavePlaces js ps
+ended_all : (node slot time : ℕ) (before after : Moment) (js : List Journal) (ps : List Plan) (items : List TraceItem) → IsTrue before.disk.tells → before.disk.in_flight node ≡ [] → HaveOwnPlaces js ps
     → AreTheirs before.disk node js ps → AreApart js ps → AreHeadersRead before.disk.size time js ps → AreReplays node slot time before js ps after items
-    → (i : ℕ) (j : Journal) → slice_get js i ≡ Some j → HasEnded after.disk node j
-ended_all node slot time before after [] ps items tells idle places theirs apart read so i j at = absurd (let no : ◌≡◌ {A = Option Journal} None (Some j) = at in cc)
-ended_all node slot time before after (k ∷ js) [] items tells idle places theirs apart read so i j at = absurd so
-ended_all node slot time before after (k ∷ js) (p ∷ ps) items tells idle places theirs apart read (mid, first, later, are, one, rest) zero j at =
-    subst (HasEnded after.disk node) (some_is at)
-    (ended_same mid.disk after.disk node k
+    → (i : ℕ) (j : Journal) (q : Plan) → slice_get js i ≡ Some j → slice_get ps i ≡ Some q → HasEnded before.disk after.disk node time j q
+ended_all node slot time before after [] ps items tells idle places theirs apart read so i j q at at_q = absurd (let no : ◌≡◌ {A = Option Journal} None (Some j) = at in cc)
+ended_all node slot time before after (k ∷ js) [] items tells idle places theirs apart read so i j q at at_q = absurd so
+ended_all node slot time before after (k ∷ js) (p ∷ ps) items tells idle places theirs apart read (mid, first, later, are, one, rest) zero j q at at_q =
+    subst (λ (y : Journal). HasEnded before.disk after.disk node time y q) (some_is at)
+    (subst (HasEnded before.disk after.disk node time k) (some_is at_q)
+    (ended_same before.disk mid.disk after.disk node time k p
     (ring_same mid.disk after.disk node k.blocks so.0 idle' so.1
     (λ q below. stays_all node (slot + 1) time mid after js ps later (get_or k.blocks q 0) tells'
     (λ i l r at_l at_r. leaves_place (k ∷ js) (p ∷ ps) apart places 0 (suc i) q k l r (λ same. omega (arith, same)) refl at_l at_r below) rest))
     (ended_one node slot time before mid k p first tells idle (λ q r. apart.own 0 q r k refl) (λ q. apart.homes 0 0 q k p refl refl) (λ head. theirs.low 0 k head refl)
-    (theirs.plan 0 k p refl refl) (places 0 k p refl refl) one read.0))
+    (theirs.plan 0 k p refl refl) (places 0 k p refl refl) one read.0)))
   where
     idle' : mid.disk.in_flight node ≡ []
     idle' = idle_one node slot k.dinode k.blocks time before mid p.home.items p.clean first idle one
@@ -211,8 +259,9 @@ ended_all node slot time before after (k ∷ js) (p ∷ ps) items tells idle pla
 
     so : (after.disk.size ≡ mid.disk.size) × (after.disk.in_flight node ≡ [])
     so = rests_all node (slot + 1) time mid after js ps later idle' rest
-ended_all node slot time before after (k ∷ js) (p ∷ ps) items tells idle places theirs apart read (mid, first, later, are, one, rest) (suc i) j at =
-    ended_all node (slot + 1) time mid after js ps later tells' idle' (λ n. places (suc n)) theirs' (apart_rest k js p ps apart) (subst (λ n. AreHeadersRead n time js ps) (sym size') read.1) rest i j at
+ended_all node slot time before after (k ∷ js) (p ∷ ps) items tells idle places theirs apart read (mid, first, later, are, one, rest) (suc i) j q at at_q =
+    ended_from before.disk mid.disk after.disk node time j q (same i j at)
+    (ended_all node (slot + 1) time mid after js ps later tells' idle' (λ n. places (suc n)) theirs' (apart_rest k js p ps apart) (subst (λ n. AreHeadersRead n time js ps) (sym size') read.1) rest i j q at at_q)
   where
     idle' : mid.disk.in_flight node ≡ []
     idle' = idle_one node slot k.dinode k.blocks time before mid p.home.items p.clean first idle one

@@ -1,3 +1,17 @@
 pub mod Recovered
 pub mod Ending
 pub mod Left
+pub mod Headers
+pub mod Mapped
+pub mod Alike
+pub mod JournalPlaces
+pub mod Names
+pub mod There
+pub mod Ways
+pub mod LeftImage
+pub mod LeftStanding
+pub mod Counting
+pub mod LeftMounting
+pub mod LeftProfile
+pub mod MountedThere
+pub mod LeftMounted

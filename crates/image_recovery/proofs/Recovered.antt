@@ -13,7 +13,8 @@ use Rattle.disk_turns.specs.Turns.{Moment}
 use Rattle.disk_turns.proofs.Gaining.{gains_join}
 use Rattle.disk_turns.proofs.Rising.{none_low, sorted_rise}
 use Rattle.image_mount.specs.Mounted.{Journal}
-use Rattle.image_recovery.specs.Laws.{WritableCanBeReplayed}
+use Rattle.image_replays.specs.Replays.{HasPlace}
+use Rattle.image_recovery.specs.Laws.{PlannedCanBeReplayed, WritableCanBeReplayed}
 use Rattle.image_recovery.specs.Recoveries.{AreHeadersRead, AreReplays, CanReplayAll, HaveReplayed}
 use Rattle.journal_replays.specs.Faults.{IfDiskFailed, IfNoMemory}
 use Rattle.journal_replays.specs.Headers.{IsHeaderRead}
@@ -31,6 +32,21 @@ can_writable d blocks p is place inside = record {
   place = place;
   inside = inside;
 }
+
+-- a header that has a place
+placed_parts : (d : DiskState) (blocks : List ℕ) (c : Option LogHeader) → IfSome c (HasPlace d blocks) → IfSome c (λ (h : LogHeader). h.blkno < length blocks) × IfSome c (λ (h : LogHeader). get_or blocks h.blkno 0 < d.count)
+placed_parts d blocks None is = (tt, tt)
+placed_parts d blocks (Some h) is = (is.place, is.inside)
+
+pub can_planned : PlannedCanBeReplayed
+can_planned d [] [] writable placed = tt
+can_planned d [] (p ∷ ps) writable placed = absurd (let many : length (p ∷ ps) ≡ length {A = Journal} [] = placed.count in omega (arith, many))
+can_planned d (j ∷ js) [] writable placed = absurd (let many : length {A = Plan} [] ≡ length (j ∷ js) = placed.count in omega (arith, many))
+can_planned d (j ∷ js) (p ∷ ps) writable placed =
+    let parts = placed_parts d j.blocks p.clean (placed.each 0 j p refl refl) in (
+      can_writable d j.blocks p writable.0 parts.0 parts.1,
+      can_planned d js ps writable.1 (record { count = let many : length (p ∷ ps) ≡ length (j ∷ js) = placed.count in omega (arith, many); each = λ i k q at_k at_q. placed.each (suc i) k q at_k at_q }),
+    )
 
 -- on the same disk
 pub can_same : (d d' : DiskState) (blocks : List ℕ) (p : Plan) → IsSameDisk d d' → CanReplay d blocks p → CanReplay d' blocks p

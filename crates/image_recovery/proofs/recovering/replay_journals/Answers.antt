@@ -1,6 +1,6 @@
-use Rattle.std.proofs.Common.{◌≡◌, ◌+◌, ◌<◌, List, length, take, vec_len, rules, refl, sym, ap, subst, subst₂, ◌∙◌, arith}
+use Rattle.std.proofs.Common.{◌≡◌, ◌+◌, ◌<◌, List, take, refl, sym, ap, subst, subst₂, ◌∙◌, arith}
 use Rattle.std.proofs.lemmas.List.{take_all}
-use Rattle.image_mount.specs.Mounted.{Journal, MountedValue}
+use Rattle.image_mount.specs.Mounted.{Journal}
 use Rattle.disk_items.specs.Deeds.{AreTold}
 use Rattle.disk_turns.specs.Turns.{Moment, moment}
 use Rattle.journal_replays.specs.Headers.{IsHeaderRead}
@@ -9,34 +9,30 @@ use Rattle.image_recovery.specs.Recoveries.{AreHeadersRead, AreReplays, HaveRepl
 use Rattle.image_recovery.proofs.Recovered.{as_many, at_item, below_all, can_at, can_same, failed_next, headers_next, replayed_next, same_on, starved_next}
 use Rattle.image_recovery.proofs.recovering.replay_journals.Goals as goal
 
-pub index-journal-requires : goal.index-journal-requires
-index-journal-requires g c =
-    let low = below_all (g.D.SharedDisk.state c.args.disk.now) c.args.mounted.now.journals c.args.plans.now c.loop-place.place c.requires.can c.loop-place-test.true in
-    let there : c.loop-place.place < length c.mounted.inside.journals.items = subst (λ (js : List Journal). c.loop-place.place < length js) (sym (ap (λ (m : MountedValue). m.journals) c.mounted.view_is)) low in
-    let long : length c.mounted.inside.journals.items ≡ vec_len c.mounted.inside.journals = search rules in
-    subst (λ n. c.loop-place.place < n) long there
+pub bounds-journals-place : goal.bounds-journals-place
+bounds-journals-place g c = below_all (g.D.SharedDisk.state c.args.disk.now) c.args.journals.now c.args.plans.now c.loop-place.place c.requires.can c.loop-place-test.true
 
 pub replay_journal-requires-clause-can : goal.replay_journal-requires-clause-can
 replay_journal-requires-clause-can g c =
     let d = g.D.SharedDisk.state c.args.disk.now in
     let now = g.D.SharedDisk.state c.loop-place.disk in
-    let journals = c.args.mounted.now.journals in
+    let journals = c.args.journals.now in
     let low = below_all d journals c.args.plans.now c.loop-place.place c.requires.can c.loop-place-test.true in
-    let at_journal = at_item c.mounted.inside.journals.items journals c.loop-place.place c.index-journal.result.now (ap (λ (m : MountedValue). m.journals) c.mounted.view_is) low c.index-journal.ensures in
+    let at_journal = at_item journals journals c.loop-place.place c.index-journals-place.result refl low c.index-journals-place.is in
     let at_plan = at_item c.args.plans.now c.args.plans.now c.loop-place.place c.index-plans-place.result refl c.loop-place-test.true c.index-plans-place.is in
     let blocks = c.deref.ensures.value ∙ ap (λ (j : Journal). j.blocks) c.journal.view_is in
     subst (λ bs. CanReplay now bs c.index-plans-place.result) (sym blocks)
-    (can_same d now c.index-journal.result.now.blocks c.index-plans-place.result c.loop-place.invariant.same (can_at d journals c.args.plans.now c.loop-place.place c.index-journal.result.now c.index-plans-place.result c.requires.can at_journal at_plan))
+    (can_same d now c.index-journals-place.result.blocks c.index-plans-place.result c.loop-place.invariant.same (can_at d journals c.args.plans.now c.loop-place.place c.index-journals-place.result c.index-plans-place.result c.requires.can at_journal at_plan))
 
 pub returns-in-Err-clause-failed : goal.returns-in-Err-clause-failed
 returns-in-Err-clause-failed g c =
     let d = g.D.SharedDisk.state c.args.disk.now in
     let now = moment (g.D.SharedDisk.state c.loop-place.disk) (g.D.SharedDisk.list c.loop-place.disk) in
     let next = moment (g.D.SharedDisk.state c.replay_journal.new.disk) (g.D.SharedDisk.list c.replay_journal.new.disk) in
-    let journals = c.args.mounted.now.journals in
-    let journal = c.index-journal.result.now in
+    let journals = c.args.journals.now in
+    let journal = c.index-journals-place.result in
     let low = below_all d journals c.args.plans.now c.loop-place.place c.requires.can c.loop-place-test.true in
-    let at_journal = at_item c.mounted.inside.journals.items journals c.loop-place.place journal (ap (λ (m : MountedValue). m.journals) c.mounted.view_is) low c.index-journal.ensures in
+    let at_journal = at_item journals journals c.loop-place.place journal refl low c.index-journals-place.is in
     let at_plan = at_item c.args.plans.now c.args.plans.now c.loop-place.place c.index-plans-place.result refl c.loop-place-test.true c.index-plans-place.is in
     let blocks = c.deref.ensures.value ∙ ap (λ (j : Journal). j.blocks) c.journal.view_is in
     let dinode = ap (λ (j : Journal). j.dinode) c.journal.view_is in
@@ -58,7 +54,7 @@ returns-in-Err-clause-failed g c =
 pub returns-in-Err-clause-some : goal.returns-in-Err-clause-some
 returns-in-Err-clause-some g c =
     let first = moment (g.D.SharedDisk.state c.args.disk.now) (g.D.SharedDisk.list c.args.disk.now) in
-    let journals = c.args.mounted.now.journals in
+    let journals = c.args.journals.now in
     starved_next c.in-Err.fault
     (λ still. record {
       count = c.loop-place.place;
@@ -79,11 +75,11 @@ loop-place-preserved g c =
     let now = moment (g.D.SharedDisk.state c.loop-place.disk) (g.D.SharedDisk.list c.loop-place.disk) in
     let next = moment (g.D.SharedDisk.state c.replay_journal.new.disk) (g.D.SharedDisk.list c.replay_journal.new.disk) in
     let so = c.loop-place.invariant in
-    let journals = c.args.mounted.now.journals in
-    let journal = c.index-journal.result.now in
+    let journals = c.args.journals.now in
+    let journal = c.index-journals-place.result in
     let plan = c.index-plans-place.result in
     let low = below_all d journals c.args.plans.now c.loop-place.place c.requires.can c.loop-place-test.true in
-    let at_journal = at_item c.mounted.inside.journals.items journals c.loop-place.place journal (ap (λ (m : MountedValue). m.journals) c.mounted.view_is) low c.index-journal.ensures in
+    let at_journal = at_item journals journals c.loop-place.place journal refl low c.index-journals-place.is in
     let at_plan = at_item c.args.plans.now c.args.plans.now c.loop-place.place plan refl c.loop-place-test.true c.index-plans-place.is in
     let blocks = c.deref.ensures.value ∙ ap (λ (j : Journal). j.blocks) c.journal.view_is in
     let dinode = ap (λ (j : Journal). j.dinode) c.journal.view_is in
@@ -104,13 +100,13 @@ pub returns-clause-replayed : goal.returns-clause-replayed
 returns-clause-replayed g c =
     let first = moment (g.D.SharedDisk.state c.args.disk.now) (g.D.SharedDisk.list c.args.disk.now) in
     let now = moment (g.D.SharedDisk.state c.loop-place.disk) (g.D.SharedDisk.list c.loop-place.disk) in
-    let many = as_many first.disk c.args.mounted.now.journals c.args.plans.now c.requires.can in
+    let many = as_many first.disk c.args.journals.now c.args.plans.now c.requires.can in
     subst₂ (λ js ps. HaveReplayed c.args.node c.args.time first now js ps c.args.items.now.items c.loop-place.items.items)
-    (take_all c.loop-place.place c.args.mounted.now.journals (omega (arith, many, c.loop-place-test.false))) (take_all c.loop-place.place c.args.plans.now (omega (arith, c.loop-place-test.false))) c.loop-place.invariant.replayed
+    (take_all c.loop-place.place c.args.journals.now (omega (arith, many, c.loop-place-test.false))) (take_all c.loop-place.place c.args.plans.now (omega (arith, c.loop-place-test.false))) c.loop-place.invariant.replayed
 
 pub returns-clause-headers : goal.returns-clause-headers
 returns-clause-headers g c =
     let d = g.D.SharedDisk.state c.args.disk.now in
-    let many = as_many d c.args.mounted.now.journals c.args.plans.now c.requires.can in
+    let many = as_many d c.args.journals.now c.args.plans.now c.requires.can in
     subst₂ (AreHeadersRead d.size c.args.time)
-    (take_all c.loop-place.place c.args.mounted.now.journals (omega (arith, many, c.loop-place-test.false))) (take_all c.loop-place.place c.args.plans.now (omega (arith, c.loop-place-test.false))) c.loop-place.invariant.headers
+    (take_all c.loop-place.place c.args.journals.now (omega (arith, many, c.loop-place-test.false))) (take_all c.loop-place.place c.args.plans.now (omega (arith, c.loop-place-test.false))) c.loop-place.invariant.headers
