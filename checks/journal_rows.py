@@ -322,4 +322,5 @@ def main():
             it.write(text)
 
 
-main()
+if __name__ == "__main__":
+    main()

@@ -9,17 +9,20 @@ use Rattle.script_lang.specs.Script.{ScriptValue}
 use Rattle.script_lang.specs.Grammar.{script_read, Script, Bad}
 use Rattle.script_lang.specs.Foreign.{first_foreign}
 use Rattle.image_mount.specs.Mounted.{MountedValue}
+use Rattle.lone_node.specs.Turns.{Moment}
+use Rattle.cluster_program.specs.declared.output.Listing.{Listing}
 use Rattle.cluster_program.specs.declared.status.Status.{Status}
 use Rattle.cluster_program.specs.declared.status.Status.TheVariants as status
 use Rattle.cluster_program.specs.declared.status.Which.{Which}
 use Rattle.cluster_program.specs.World.{Inputs, Outputs}
-use Rattle.cluster_program.specs.Course.{Course, RefusesWords, MakesImage, NoScript, Makes, IsTooLarge, IsTooSmall, LacksMemory, HasFailed, HasMade, plan_for, RunsScript, LacksScript, SourceFailed, Refused, RefusedEarly, NotBuiltYet, NoRoom, Shows, HasShown, ShowsNone, TreeFailed, TreeDamaged, NothingHeld, ShowsImage}
-use Rattle.cluster_program.specs.Mounting.{IsMountable, MountEnds, DiskFails, LiesOutside, IsDamaged, IsDirty, LacksRoom}
+use Rattle.cluster_program.specs.Course as course
+use Rattle.cluster_program.specs.Course.{Course, RefusesWords, MakesImage, NoScript, Makes, IsTooLarge, IsTooSmall, LacksMemory, HasFailed, HasMade, plan_for, RunsScript, LacksScript, SourceFailed, Refused, RefusedEarly, NotBuiltYet, NoRoom, Shows, HasShown, ShowsNone, TreeFailed, TreeDamaged, NothingHeld, ShowsImage, ReplaysImage}
+use Rattle.cluster_program.specs.Mounting as mounting
+use Rattle.cluster_program.specs.Mounting.{BeginEnds, IsMountable, MountEnds, DiskFails, IsStopped, LiesOutside, IsDamaged, LacksRoom, NotRead}
 use Rattle.cluster_program.specs.Runs as runs
-use Rattle.cluster_program.specs.Runs.{RunEnds, IsDone, NotMounted, CallFailed, CallUnbuilt, CallDamaged}
-use Rattle.cluster_program.specs.declared.status.Part.TheVariants as part
+use Rattle.cluster_program.specs.Runs.{RunEnds, IsDone, NotBegun, ReplayFailed, ReplayLacksRoom, CallFailed, CallUnbuilt, CallDamaged}
 use Rattle.cluster_program.specs.Report.{Becomes, Stays, WithoutMemory, Fails, Reports}
-use Rattle.cluster_program.specs.Command.{NoneRose, IsRunnable, IsShowable, IsMakeable, IsWhole, IsComplete}
+use Rattle.cluster_program.specs.Command.{NoneRose, IsRunnable, IsReplayable, IsShowable, IsMakeable, IsWhole, IsComplete}
 use Rattle.mkgfs2_tool.specs.Order.{fits}
 use Rattle.command_words.specs.Commands.{words_read}
 use Rattle.command_words.specs.declared.command.Command.TheVariants as command
@@ -67,25 +70,29 @@ module _ (words : List (List ℕ)) (given left : Inputs) (sinks sinks_now : Outp
   of_mount may own (DiskFails block x y up inside reached) = absurd (none.disk 0 (rose (given.disk_faults 0) (left.disk_faults 0) x y up))
   of_mount may own (LiesOutside what value outside never) = absurd (never may.is.tells may.profile)
   of_mount may own (IsDamaged block rule breaks never) = absurd (never may.is.tells may.tree may.is.stands)
-  of_mount may own (IsDirty block dirty) =
-      let it = dirty may.is.tells in
-      let both : true ≡ false = sym (may.clean it.0 it.1 it.2.place it.2.journal it.2.there) ∙ it.2.dirty in cc
   of_mount may own LacksRoom = inr refl
 
   of_show : IsMountable given.disk → (lines : List ℕ) (own : Status) → Shows given.disk given.disk_faults left.disk_faults lines own → IsWhole own
   of_show may lines own (HasShown m tree lines' mounted is are) = inl refl
   of_show may lines own (ShowsNone own' ends) = of_mount may own ends
   of_show may lines own (TreeFailed block x y clean up within) = absurd (none.disk 0 (rose (given.disk_faults 0) (left.disk_faults 0) x y up))
-  of_show may lines own (TreeDamaged block rule clean never breaks) = absurd (never may.is.tells may.tree may.is.stands)
+  of_show may lines own (TreeDamaged block rule why never) = absurd (never may.is.tells may.tree may.is.stands)
   of_show may lines own NothingHeld = inr refl
 
-  of_run : IsMountable given.disk → (s : ScriptValue) (time : ℕ) (items : List TraceItem) (what : Option MountedValue) (own : Status) → RunEnds given left s time items what own → IsWhole own
-  of_run may s time items what own (IsDone m all whole) = inl refl
-  of_run may s time items what own (NotMounted own' none_yet same ends) = of_mount may own ends
-  of_run may s time items what own (CallFailed m block x y for root up within at) = absurd (none.disk 1 (rose (given.disk_faults 1) (left.disk_faults 1) x y up))
-  of_run may s time items what own (CallUnbuilt m place for never at) = absurd (never may.is.tells may.tree may.is.stands)
-  of_run may s time items what own (CallDamaged m block rule for never at) = absurd (never may.is.tells may.tree may.is.stands)
-  of_run may s time items what own (runs.NoRoom what') = inr refl
+  of_begin : IsMountable given.disk → (own : Status) → BeginEnds given.disk given.disk_faults left.disk_faults own → IsWhole own
+  of_begin may own (mounting.NotMounted own' ends) = of_mount may own ends
+  of_begin may own (NotRead block x y mounted up within) = absurd (none.disk 0 (rose (given.disk_faults 0) (left.disk_faults 0) x y up))
+  of_begin may own (IsStopped block rule why never) = absurd (never may.is.tells may.tree may.is.stands)
+
+  of_run : IsMountable given.disk → (s : ScriptValue) (time : ℕ) (items : List TraceItem) (what : Option MountedValue) (replayed : Option Moment) (own : Status) → RunEnds given left s time items what replayed own → IsWhole own
+  of_run may s time items what replayed own (IsDone m r all whole) = inl refl
+  of_run may s time items what replayed own (NotBegun own' none_yet same ends) = of_begin may own ends
+  of_run may s time items what replayed own (ReplayFailed m plans block x y are up within failed) = absurd (none.disk 1 (rose (given.disk_faults 1) (left.disk_faults 1) x y up))
+  of_run may s time items what replayed own (ReplayLacksRoom m plans are some) = inr refl
+  of_run may s time items what replayed own (CallFailed m r block x y root up within at) = absurd (none.disk 1 (rose (given.disk_faults 1) (left.disk_faults 1) x y up))
+  of_run may s time items what replayed own (CallUnbuilt m r place never at) = absurd (never may.is.tells may.tree may.is.stands)
+  of_run may s time items what replayed own (CallDamaged m r block rule never at) = absurd (never may.is.tells may.tree may.is.stands)
+  of_run may s time items what replayed own (runs.NoRoom m r) = inr refl
 
   -- an image that fits its device
   of_make : (make : MakeWords) → given.disk.count ≤ most_blocks → fits (plan_for given.disk make) ≡ true → (own : Status) → Makes make given left own → IsWhole own
@@ -105,30 +112,54 @@ module _ (words : List (List ℕ)) (given left : Inputs) (sinks sinks_now : Outp
   not_run_show : (run : RunWords) → words_read given.disk.size words ≡ Ok (command.Run run) → words_read given.disk.size words ≡ Ok command.Show → ⊥
   not_run_show run first second = let both : Ok (command.Run run) ≡ Ok command.Show = sym first ∙ second in cc
 
+  not_make_replay : (make : MakeWords) → words_read given.disk.size words ≡ Ok (command.Make make) → words_read given.disk.size words ≡ Ok command.Replay → ⊥
+  not_make_replay make first second = let both : Ok (command.Make make) ≡ Ok command.Replay = sym first ∙ second in cc
+
+  not_run_replay : (run : RunWords) → words_read given.disk.size words ≡ Ok (command.Run run) → words_read given.disk.size words ≡ Ok command.Replay → ⊥
+  not_run_replay run first second = let both : Ok (command.Run run) ≡ Ok command.Replay = sym first ∙ second in cc
+
+  not_show_replay : words_read given.disk.size words ≡ Ok command.Show → words_read given.disk.size words ≡ Ok command.Replay → ⊥
+  not_show_replay first second = let both : Ok command.Show ≡ Ok command.Replay = sym first ∙ second in cc
+
   one_make : (make other : MakeWords) → words_read given.disk.size words ≡ Ok (command.Make make) → words_read given.disk.size words ≡ Ok (command.Make other) → make ≡ other
   one_make make other first second = let both : Ok (command.Make make) ≡ Ok (command.Make other) = sym first ∙ second in cc
 
-  of_running : IsRunnable words given → (s : ScriptValue) (items : List TraceItem) (lines : List ℕ) (own : Status) → Course words given left s items lines own → IsWhole own
-  of_running may s items lines own (RefusesWords told refused untouched) = let both : None ≡ Some own = sym may.run.built ∙ refused in cc
-  of_running may s items lines own (MakesImage make own' asks makes) = absurd (not_make_run make may.run.run asks.read may.run.read)
-  of_running may s items lines own (ShowsImage lines' own' asks script disk shows) = absurd (not_run_show may.run.run may.run.read asks.read)
-  of_running may s items lines own (NoScript told asks lacks untouched same) = of_script may own lacks
-  of_running may s items lines own (RunsScript text s' items' own' asks read script built ran) = of_run may.mountable s asks.run.time items ran.value own ran.ends
+  of_running : IsRunnable words given → (listing : Listing) (s : ScriptValue) (items : List TraceItem) (lines : List ℕ) (own : Status) → Course words given left listing s items lines own → IsWhole own
+  of_running may listing s items lines own (RefusesWords told refused untouched) = let both : None ≡ Some own = sym may.run.built ∙ refused in cc
+  of_running may listing s items lines own (MakesImage make own' asks makes) = absurd (not_make_run make may.run.run asks.read may.run.read)
+  of_running may listing s items lines own (ShowsImage lines' own' asks script disk shows) = absurd (not_run_show may.run.run may.run.read asks.read)
+  of_running may listing s items lines own (ReplaysImage items' own' asks script ran) = absurd (not_run_replay may.run.run may.run.read asks.read)
+  of_running may listing s items lines own (course.LacksRoom asks same) = inr refl
+  of_running may listing s items lines own (NoScript told asks lacks untouched same) = of_script may own lacks
+  of_running may listing s items lines own (RunsScript text s' items' own' asks read script built ran) = of_run may.mountable s asks.run.time items ran.value ran.replayed own ran.ends
 
-  of_showing : IsShowable words given → (s : ScriptValue) (items : List TraceItem) (lines : List ℕ) (own : Status) → Course words given left s items lines own → IsWhole own
-  of_showing may s items lines own (RefusesWords told refused untouched) = let both : None ≡ Some own = sym may.show.built ∙ refused in cc
-  of_showing may s items lines own (MakesImage make own' asks makes) = absurd (not_make_show make asks.read may.show.read)
-  of_showing may s items lines own (ShowsImage lines' own' asks script disk shows) = of_show may.mountable lines own shows
-  of_showing may s items lines own (NoScript told asks lacks untouched same) = absurd (not_run_show asks.run asks.read may.show.read)
-  of_showing may s items lines own (RunsScript text s' items' own' asks read script built ran) = absurd (not_run_show asks.run asks.read may.show.read)
+  of_showing : IsShowable words given → (listing : Listing) (s : ScriptValue) (items : List TraceItem) (lines : List ℕ) (own : Status) → Course words given left listing s items lines own → IsWhole own
+  of_showing may listing s items lines own (RefusesWords told refused untouched) = let both : None ≡ Some own = sym may.show.built ∙ refused in cc
+  of_showing may listing s items lines own (MakesImage make own' asks makes) = absurd (not_make_show make asks.read may.show.read)
+  of_showing may listing s items lines own (ShowsImage lines' own' asks script disk shows) = of_show may.mountable lines own shows
+  of_showing may listing s items lines own (ReplaysImage items' own' asks script ran) = absurd (not_show_replay may.show.read asks.read)
+  of_showing may listing s items lines own (course.LacksRoom asks same) = inr refl
+  of_showing may listing s items lines own (NoScript told asks lacks untouched same) = absurd (not_run_show asks.run asks.read may.show.read)
+  of_showing may listing s items lines own (RunsScript text s' items' own' asks read script built ran) = absurd (not_run_show asks.run asks.read may.show.read)
 
-  of_making : IsMakeable words given → (s : ScriptValue) (items : List TraceItem) (lines : List ℕ) (own : Status) → Course words given left s items lines own → IsWhole own
-  of_making may s items lines own (RefusesWords told refused untouched) = let both : None ≡ Some own = sym may.asks.built ∙ refused in cc
-  of_making may s items lines own (MakesImage make own' asks makes) =
+  of_replaying : IsReplayable words given → (listing : Listing) (s : ScriptValue) (items : List TraceItem) (lines : List ℕ) (own : Status) → Course words given left listing s items lines own → IsWhole own
+  of_replaying may listing s items lines own (RefusesWords told refused untouched) = let both : None ≡ Some own = sym may.replay.built ∙ refused in cc
+  of_replaying may listing s items lines own (MakesImage make own' asks makes) = absurd (not_make_replay make asks.read may.replay.read)
+  of_replaying may listing s items lines own (ShowsImage lines' own' asks script disk shows) = absurd (not_show_replay asks.read may.replay.read)
+  of_replaying may listing s items lines own (ReplaysImage items' own' asks script ran) = of_run may.mountable s 0 items ran.value ran.replayed own ran.ends
+  of_replaying may listing s items lines own (course.LacksRoom asks same) = inr refl
+  of_replaying may listing s items lines own (NoScript told asks lacks untouched same) = absurd (not_run_replay asks.run asks.read may.replay.read)
+  of_replaying may listing s items lines own (RunsScript text s' items' own' asks read script built ran) = absurd (not_run_replay asks.run asks.read may.replay.read)
+
+  of_making : IsMakeable words given → (listing : Listing) (s : ScriptValue) (items : List TraceItem) (lines : List ℕ) (own : Status) → Course words given left listing s items lines own → IsWhole own
+  of_making may listing s items lines own (RefusesWords told refused untouched) = let both : None ≡ Some own = sym may.asks.built ∙ refused in cc
+  of_making may listing s items lines own (MakesImage make own' asks makes) =
       of_make make may.few (subst (λ m. fits (plan_for given.disk m) ≡ true) (one_make may.make make may.asks.read asks.read) may.room) own makes
-  of_making may s items lines own (ShowsImage lines' own' asks script disk shows) = absurd (not_make_show may.make may.asks.read asks.read)
-  of_making may s items lines own (NoScript told asks lacks untouched same) = absurd (not_make_run may.make asks.run may.asks.read asks.read)
-  of_making may s items lines own (RunsScript text s' items' own' asks read script built ran) = absurd (not_make_run may.make asks.run may.asks.read asks.read)
+  of_making may listing s items lines own (ShowsImage lines' own' asks script disk shows) = absurd (not_make_show may.make may.asks.read asks.read)
+  of_making may listing s items lines own (ReplaysImage items' own' asks script ran) = absurd (not_make_replay may.make may.asks.read asks.read)
+  of_making may listing s items lines own (course.LacksRoom asks same) = inr refl
+  of_making may listing s items lines own (NoScript told asks lacks untouched same) = absurd (not_make_run may.make asks.run may.asks.read asks.read)
+  of_making may listing s items lines own (RunsScript text s' items' own' asks read script built ran) = absurd (not_make_run may.make asks.run may.asks.read asks.read)
 
   -- what holds of each end that sinks without a fault leave, and of want of memory
   of_sink : (W : Status → Type 0) → W status.NoMemory → (which : Which) (before now : ℕ) (old new : Status) → (Rose before now → ⊥) → Becomes which before now old new → W old → W new
@@ -136,14 +167,15 @@ module _ (words : List (List ℕ)) (given left : Inputs) (sinks sinks_now : Outp
   of_sink W bare which before now old new still (WithoutMemory without) whole = subst W (sym without) bare
   of_sink W bare which before now old new still (Fails x y not_told fails up) whole = absurd (still (rose before now x y up))
 
-  at_end : (W : Status → Type 0) → W status.NoMemory → (s : ScriptValue) (items : List TraceItem) (lines : List ℕ) (own answer : Status) → Reports sinks sinks_now s items lines 0 own answer → W own → W answer
-  at_end W bare s items lines own answer report whole =
+  at_end : (W : Status → Type 0) → W status.NoMemory → (listing : Listing) (s : ScriptValue) (items : List TraceItem) (lines : List ℕ) (own answer : Status) → Reports sinks sinks_now listing s items lines 0 own answer → W own → W answer
+  at_end W bare listing s items lines own answer report whole =
       of_sink W bare _ _ _ report.told answer none.output report.answer_is (of_sink W bare _ _ _ own report.told none.trace report.told_is whole)
 
-pub complete : (given left : Inputs) (sinks sinks_now : Outputs) (words : List (List ℕ)) (s : ScriptValue) (items : List TraceItem) (lines : List ℕ) (own answer : Status) → Course words given left s items lines own
-    → Reports sinks sinks_now s items lines 0 own answer → IsComplete words given left sinks sinks_now answer
-complete given left sinks sinks_now words s items lines own answer course report = record {
-  run = λ none may. at_end words given left sinks sinks_now none IsWhole (inr refl) s items lines own answer report (of_running words given left sinks sinks_now none may s items lines own course);
-  show = λ none may. at_end words given left sinks sinks_now none IsWhole (inr refl) s items lines own answer report (of_showing words given left sinks sinks_now none may s items lines own course);
-  make = λ none may. at_end words given left sinks sinks_now none IsWhole (inr refl) s items lines own answer report (of_making words given left sinks sinks_now none may s items lines own course);
+pub complete : (given left : Inputs) (sinks sinks_now : Outputs) (words : List (List ℕ)) (listing : Listing) (s : ScriptValue) (items : List TraceItem) (lines : List ℕ) (own answer : Status) → Course words given left listing s items lines own
+    → Reports sinks sinks_now listing s items lines 0 own answer → IsComplete words given left sinks sinks_now answer
+complete given left sinks sinks_now words listing s items lines own answer course report = record {
+  run = λ none may. at_end words given left sinks sinks_now none IsWhole (inr refl) listing s items lines own answer report (of_running words given left sinks sinks_now none may listing s items lines own course);
+  replay = λ none may. at_end words given left sinks sinks_now none IsWhole (inr refl) listing s items lines own answer report (of_replaying words given left sinks sinks_now none may listing s items lines own course);
+  show = λ none may. at_end words given left sinks sinks_now none IsWhole (inr refl) listing s items lines own answer report (of_showing words given left sinks sinks_now none may listing s items lines own course);
+  make = λ none may. at_end words given left sinks sinks_now none IsWhole (inr refl) listing s items lines own answer report (of_making words given left sinks sinks_now none may listing s items lines own course);
 }

@@ -1,23 +1,26 @@
--- A command that ran no script.
+-- A command that ran no script, or shows nothing.
 use Rattle.std.proofs.Common.{◌≡◌, ℕ, Bool, true, false, List, [], subst, sym, ◌∙◌}
 use Rattle.trace_text.specs.declared.item.TraceItem.{TraceItem}
 use Rattle.script_lang.specs.Script.{ScriptValue}
 use Rattle.script_lang.specs.Grammar.{nothing}
+use Rattle.cluster_program.specs.declared.output.Listing.{Listing}
+use Rattle.cluster_program.specs.declared.output.Listing.TheVariants.{Clients}
 use Rattle.cluster_program.specs.declared.status.Status.{Status}
 use Rattle.cluster_program.specs.World.{Inputs}
 use Rattle.cluster_program.specs.Course.{Course}
 
-pub course_of : (words : List (List ℕ)) (given left : Inputs) {s : ScriptValue} {items : List TraceItem} {lines told_lines : List ℕ} {own told : Status}
-    → s ≡ nothing → items ≡ [] → told_lines ≡ lines → told ≡ own → Course words given left nothing [] lines own → Course words given left s items told_lines told
-course_of words given left {s} {items} {lines} {told_lines} {own} {told} script none shown same course =
-    subst (λ (x : ScriptValue). Course words given left x items told_lines told) (sym script)
-    (subst (λ (is : List TraceItem). Course words given left nothing is told_lines told) (sym none)
-    (subst (λ (ls : List ℕ). Course words given left nothing [] ls told) (sym shown) (subst (Course words given left nothing [] lines) (sym same) course)))
+pub course_of : (words : List (List ℕ)) (given left : Inputs) {listing : Listing} {s : ScriptValue} {items : List TraceItem} {lines told_lines : List ℕ} {own told : Status}
+    → listing ≡ Clients → s ≡ nothing → items ≡ [] → told_lines ≡ lines → told ≡ own → Course words given left Clients nothing [] lines own → Course words given left listing s items told_lines told
+course_of words given left {listing} {s} {items} {lines} {told_lines} {own} {told} listed script none shown same course =
+    subst (λ (x : Listing). Course words given left x s items told_lines told) (sym listed)
+    (subst (λ (x : ScriptValue). Course words given left Clients x items told_lines told) (sym script)
+    (subst (λ (is : List TraceItem). Course words given left Clients nothing is told_lines told) (sym none)
+    (subst (λ (ls : List ℕ). Course words given left Clients nothing [] ls told) (sym shown) (subst (Course words given left Clients nothing [] lines) (sym same) course))))
 
 -- a command that shows nothing
-pub with_no_lines : (words : List (List ℕ)) (given left : Inputs) {s : ScriptValue} {items : List TraceItem} {lines : List ℕ} {own : Status}
-    → lines ≡ [] → Course words given left s items [] own → Course words given left s items lines own
-with_no_lines words given left {s} {items} {lines} {own} none course = subst (λ (ls : List ℕ). Course words given left s items ls own) (sym none) course
+pub with_no_lines : (words : List (List ℕ)) (given left : Inputs) (listing : Listing) {s : ScriptValue} {items : List TraceItem} {lines : List ℕ} {own : Status}
+    → lines ≡ [] → Course words given left listing s items [] own → Course words given left listing s items lines own
+with_no_lines words given left listing {s} {items} {lines} {own} none course = subst (λ (ls : List ℕ). Course words given left listing s items ls own) (sym none) course
 
 pub never_both : (b : Bool) → b ≡ false → b ≡ true → ⊥
 never_both b isnt is = let both : true ≡ false = sym is ∙ isnt in cc

@@ -1,24 +1,26 @@
--- No journal is left dirty by a run of one node, which commits nothing.
+-- No journal is left dirty by a run of one node, which replays all and commits nothing.
 use Rattle.std.proofs.Common.{◌≡◌, ◌⊎◌, inl, inr, ℕ, suc, ◌+◌, List, [], ◌∷◌, ◌++◌, Bool, true, false, cond, Option, None, Some, refl, sym, ap, ◌∙◌, subst, arith}
-use Rattle.std.specs.Prelude.{◌≢◌, count_by, not, slice_get}
-use Rattle.std.specs.List.{range_with_len}
+use Rattle.std.specs.Prelude.{◌≢◌, ◌==◌, IfSome, count_by, if◌then◌else◌, not, slice_get}
+use Rattle.std.specs.List.{AllByRecursion, range_with_len}
 use Rattle.std.proofs.lemmas.Bool.{cond-false}
 use Rattle.std.proofs.lemmas.List.Sums.{sum_by-cons}
 use Rattle.image_mount.specs.Mounted.{Journal, MountedValue}
 use Rattle.script_lang.specs.Script.{ScriptValue}
 use Rattle.script_lang.specs.declared.script.Client.{Client}
-use Rattle.lone_node.specs.Items.{AnsweredCall, full_item, items_from, name_at}
+use Rattle.lone_node.specs.Turns.{Moment}
+use Rattle.lone_node.specs.Items.{AnsweredCall, IsOfReplay, full_item, items_from, name_at}
 use Rattle.lone_node.specs.declared.answering.Full.{Full}
 use Rattle.image_model.specs.Image.{Image, image_of}
 use Rattle.file_tree.specs.Tree.{Tree}
 use Rattle.trace_text.specs.declared.item.TraceItem.{TraceItem}
 use Rattle.trace_text.specs.declared.item.TraceItem.TheVariants as trace
 use Rattle.cluster_program.specs.World.{Inputs}
-use Rattle.cluster_program.specs.Course.{Course, RefusesWords, MakesImage, ShowsImage, NoScript, RunsScript}
+use Rattle.cluster_program.specs.Course.{Course, LacksRoom, RefusesWords, MakesImage, ReplaysImage, ShowsImage, NoScript, RunsScript}
 use Rattle.cluster_program.specs.Dirty.{dirty_by, dirty_in, is_left_dirty, IsCountOfImage, IsDirtyCount, OfTheImage, OfTheItems, NothingRan}
 use Rattle.cluster_program.specs.Mounting.{IsImageOf, is_clean_in}
-use Rattle.cluster_program.specs.Runs.{AreCleanAtEnd, Runs, UnlessFault}
+use Rattle.cluster_program.specs.Runs.{AreCleanAtEnd, CallDamaged, CallFailed, CallUnbuilt, HasRun, IsDone, NoRoom, NotBegun, ReplayFailed, ReplayLacksRoom, RunEnds, Runs, UnlessFault}
 use Rattle.cluster_program.specs.Out.{is_done}
+use Rattle.cluster_program.specs.declared.output.Listing.{Listing}
 use Rattle.cluster_program.specs.declared.status.Status.{Status}
 use Rattle.cluster_program.specs.declared.status.Status.TheVariants as status
 use Rattle.cluster_program.proofs.Quiet.{IsEnd, IsAnswers, NoItems, Joined, answers_of_run}
@@ -50,9 +52,21 @@ module _ (clients : List Client) (end : List TraceItem) (is : IsEnd end) where
       by_full None rest = rest
       by_full (Some f) rest = rest
 
+-- nor does a replay leave one
+clean_replays : (node : ℕ) (is rs : List TraceItem) → AllByRecursion IsOfReplay rs → is_left_dirty node false (rs ++ is) ≡ is_left_dirty node false is
+clean_replays node is [] of = refl
+clean_replays node is (trace.WriteReplay n block ∷ rs) of = clean_replays node is rs of.1
+clean_replays node is (trace.Barrier n ∷ rs) of = clean_replays node is rs of.1
+clean_replays node is (trace.Recovered n by ∷ rs) of = same (n == node) ∙ clean_replays node is rs of.1
+  where
+    same : (b : Bool) → is_left_dirty node (if b then false else false) (rs ++ is) ≡ is_left_dirty node false (rs ++ is)
+    same true = refl
+    same false = refl
+clean_replays node is (_ ∷ rs) of = absurd of.0
+
 clean_after : (clients : List Client) (items : List TraceItem) (node : ℕ) → IsAnswers clients items → is_left_dirty node false items ≡ false
 clean_after clients items node (NoItems none) = ap (is_left_dirty node false) none
-clean_after clients items node (Joined calls end is are) = ap (is_left_dirty node false) are ∙ clean_rest clients end is node 1 calls
+clean_after clients items node (Joined replays calls end of is are) = ap (is_left_dirty node false) are ∙ clean_replays node (items_from clients 1 calls ++ end) replays of ∙ clean_rest clients end is node 1 calls
 
 done_or_not : (told : Status) → (told ≡ status.Done) ⊎ (is_done told ≡ false)
 done_or_not status.Done = inl refl
@@ -60,7 +74,29 @@ done_or_not _ = inr refl
 
 some_items : (clients : List Client) (items : List TraceItem) → IsAnswers clients items → (items ≡ []) ⊎ (items ≢ [])
 some_items clients items (NoItems none) = inl none
-some_items clients items (Joined calls end is are) = inr (λ none. let both : trace.Join 1 ∷ (items_from clients 1 calls ++ end) ≡ [] = sym are ∙ none in cc)
+some_items clients items (Joined replays calls end of is are) = inr (λ none. let both : trace.Join 1 ∷ (replays ++ (items_from clients 1 calls ++ end)) ≡ [] = sym are ∙ none in cc)
+
+-- where all was done, behind some item, an image was mounted, and its journals were replayed
+all_replayed : (given left : Inputs) (s : ScriptValue) (time : ℕ) (items : List TraceItem) (value : Option MountedValue) (replayed : Option Moment) (own : Status) → RunEnds given left s time items value replayed own → own ≡ status.Done → items ≢ []
+    → (m : MountedValue) × (r : Moment) × (value ≡ Some m) × (replayed ≡ Some r)
+all_replayed given left s time items value replayed own (IsDone m r all whole) is some = (m, r, refl, refl)
+all_replayed given left s time items value replayed own (NotBegun own' none same ends) is some = absurd (some none)
+all_replayed given left s time items value replayed own (ReplayFailed m plans block x y are up within failed) is some = absurd (let both : status.DeviceFault 1 block x y ≡ status.Done = is in cc)
+all_replayed given left s time items value replayed own (ReplayLacksRoom m plans are front) is some = absurd (let both : status.NoMemory ≡ status.Done = is in cc)
+all_replayed given left s time items value replayed own (CallFailed m r block x y root up within at) is some = (m, r, refl, refl)
+all_replayed given left s time items value replayed own (CallUnbuilt m r place none at) is some = (m, r, refl, refl)
+all_replayed given left s time items value replayed own (CallDamaged m r block rule never at) is some = (m, r, refl, refl)
+all_replayed given left s time items value replayed own (NoRoom m r) is some = (m, r, refl, refl)
+
+-- so the journals are clean in the image that was left
+clean_left : (given left : Inputs) (s : ScriptValue) (time : ℕ) (items : List TraceItem) (own : Status) → Runs given left s time items own → own ≡ status.Done → items ≢ [] → (tree : Tree) → IsImageOf given.disk tree
+    → AreCleanAtEnd given.disk left.disk
+clean_left given left s time items own runs is some tree stood =
+    let (m, r, value_is, replayed_is) = all_replayed given left s time items runs.value runs.replayed own runs.ends is some in
+    let done : IfSome runs.replayed (λ x. IfSome runs.value (λ y. HasRun given left x y s time items)) = subst (λ (o : Status). UnlessFault o (IfSome runs.replayed (λ x. IfSome runs.value (λ y. HasRun given left x y s time items)))) is runs.ran in
+    let ran : HasRun given left r m s time items = subst (λ (v : Option MountedValue). IfSome v (λ y. HasRun given left r y s time items)) value_is
+    (subst (λ (o : Option Moment). IfSome o (λ x. IfSome runs.value (λ y. HasRun given left x y s time items))) replayed_is done) in
+    ran.clean tree stood
 
 module _ (given left : Inputs) (s : ScriptValue) (time : ℕ) (items : List TraceItem) (own told : Status) (runs : Runs given left s time items own) (done : told ≡ status.Done → own ≡ status.Done) where
   are : IsAnswers s.clients items
@@ -71,8 +107,7 @@ module _ (given left : Inputs) (s : ScriptValue) (time : ℕ) (items : List Trac
 
   by_image : told ≡ status.Done → items ≢ [] → IsCountOfImage given.disk left.disk 0
   by_image is some tree stood =
-      let clean : items ≢ [] → (t : Tree) → IsImageOf given.disk t → AreCleanAtEnd given.disk left.disk = subst (λ (o : Status). UnlessFault o (items ≢ [] → (t : Tree) → IsImageOf given.disk t → AreCleanAtEnd given.disk left.disk)) (done is) runs.clean in
-      let it = clean some tree stood in
+      let it = clean_left given left s time items own runs (done is) some tree stood in
       (it.value, (it.mounted, sym (none_dirty (image_of left.disk) it.value it.clean)))
 
   of_run : IsDirtyCount given.disk left.disk s items told 0
@@ -84,10 +119,12 @@ module _ (given left : Inputs) (s : ScriptValue) (time : ℕ) (items : List Trac
     ]
   ]
 
-pub counted : (given left : Inputs) (words : List (List ℕ)) (s : ScriptValue) (items : List TraceItem) (lines : List ℕ) (own : Status) → Course words given left s items lines own
+pub counted : (given left : Inputs) (words : List (List ℕ)) (listing : Listing) (s : ScriptValue) (items : List TraceItem) (lines : List ℕ) (own : Status) → Course words given left listing s items lines own
     → (told : Status) → (told ≡ status.Done → own ≡ status.Done) → IsDirtyCount given.disk left.disk s items told 0
-counted given left words s items lines own (RefusesWords own' refused untouched) told done = NothingRan refl
-counted given left words s items lines own (MakesImage make own' asks makes) told done = NothingRan refl
-counted given left words s items lines own (ShowsImage lines' own' asks script disk shows) told done = NothingRan refl
-counted given left words s items lines own (NoScript own' asks lacks disk faults) told done = NothingRan refl
-counted given left words s items lines own (RunsScript text s' items' own' asks read script built runs) told done = of_run given left s asks.run.time items own told runs done
+counted given left words listing s items lines own (RefusesWords own' refused untouched) told done = NothingRan refl
+counted given left words listing s items lines own (MakesImage make own' asks makes) told done = NothingRan refl
+counted given left words listing s items lines own (ShowsImage lines' own' asks script disk shows) told done = NothingRan refl
+counted given left words listing s items lines own (ReplaysImage items' own' asks script runs) told done = of_run given left s 0 items own told runs done
+counted given left words listing s items lines own (LacksRoom asks same) told done = NothingRan refl
+counted given left words listing s items lines own (NoScript own' asks lacks disk faults) told done = NothingRan refl
+counted given left words listing s items lines own (RunsScript text s' items' own' asks read script built runs) told done = of_run given left s asks.run.time items own told runs done

@@ -6,18 +6,22 @@ use Rattle.command_words.specs.declared.command.Command.{Command}
 use Rattle.command_words.specs.declared.command.Usage.{Usage}
 use Rattle.command_words.specs.declared.command.MakeWords.{MakeWords}
 use Rattle.image_mount.specs.Mounted.{MountedValue}
+use Rattle.lone_node.specs.Turns.{Moment}
 use Rattle.cluster_program.specs.declared.status.Part.TheVariants as part
 use Rattle.trace_text.specs.declared.item.TraceItem.{TraceItem}
 use Rattle.script_lang.specs.Script.{ScriptValue}
+use Rattle.cluster_program.specs.declared.output.Listing.{Listing}
 use Rattle.cluster_program.specs.declared.status.Status.{Status}
 use Rattle.cluster_program.specs.declared.status.Status.TheVariants as status
 use Rattle.cluster_program.specs.declared.status.Which.{Which}
 use Rattle.cluster_program.specs.declared.status.Which.TheVariants as which
 use Rattle.cluster_program.specs.World.{Inputs, Outputs}
-use Rattle.cluster_program.specs.Course.{Course, RefusesWords, MakesImage, NoScript, Makes, IsTooLarge, IsTooSmall, LacksMemory, HasFailed, HasMade, RunsScript, LacksScript, SourceFailed, Refused, RefusedEarly, NotBuiltYet, NoRoom, Shows, HasShown, ShowsNone, TreeFailed, TreeDamaged, NothingHeld, ShowsImage, words_refusal, refusal_of, is_built}
-use Rattle.cluster_program.specs.Mounting.{MountEnds, DiskFails, LiesOutside, IsDamaged, IsDirty, LacksRoom}
+use Rattle.cluster_program.specs.Course as course
+use Rattle.cluster_program.specs.Course.{Course, RefusesWords, MakesImage, NoScript, Makes, IsTooLarge, IsTooSmall, LacksMemory, HasFailed, HasMade, RunsScript, LacksScript, SourceFailed, Refused, RefusedEarly, NotBuiltYet, NoRoom, Shows, HasShown, ShowsNone, TreeFailed, TreeDamaged, NothingHeld, ShowsImage, ReplaysImage, words_refusal, refusal_of, is_built}
+use Rattle.cluster_program.specs.Mounting as mounting
+use Rattle.cluster_program.specs.Mounting.{BeginEnds, MountEnds, DiskFails, IsStopped, LiesOutside, IsDamaged, LacksRoom, NotRead}
 use Rattle.cluster_program.specs.Runs as runs
-use Rattle.cluster_program.specs.Runs.{RunEnds, IsDone, NotMounted, CallFailed, CallUnbuilt, CallDamaged}
+use Rattle.cluster_program.specs.Runs.{RunEnds, IsDone, NotBegun, ReplayFailed, ReplayLacksRoom, CallFailed, CallUnbuilt, CallDamaged}
 use Rattle.cluster_program.specs.Report.{Becomes, Stays, WithoutMemory, Fails, Reports}
 use Rattle.cluster_program.specs.Command.{FaultHasCause}
 
@@ -50,23 +54,29 @@ module _ (given left : Inputs) (sinks sinks_now : Outputs) where
   mount_fault own (DiskFails block x y up inside reached) = up
   mount_fault own (LiesOutside what value outside never) = tt
   mount_fault own (IsDamaged block rule breaks never) = tt
-  mount_fault own (IsDirty block dirty) = tt
   mount_fault own LacksRoom = tt
+
+  begin_fault : (own : Status) → BeginEnds given.disk given.disk_faults left.disk_faults own → FaultHasCause given left sinks sinks_now own
+  begin_fault own (mounting.NotMounted own' ends) = mount_fault own ends
+  begin_fault own (NotRead block x y mounted up within) = up
+  begin_fault own (IsStopped block rule why never) = tt
 
   show_fault : (lines : List ℕ) (own : Status) → Shows given.disk given.disk_faults left.disk_faults lines own → FaultHasCause given left sinks sinks_now own
   show_fault lines own (HasShown m tree lines' mounted is are) = tt
   show_fault lines own (ShowsNone own' ends) = mount_fault own ends
   show_fault lines own (TreeFailed block x y clean up within) = up
-  show_fault lines own (TreeDamaged block rule clean never breaks) = tt
+  show_fault lines own (TreeDamaged block rule why never) = tt
   show_fault lines own NothingHeld = tt
 
-  run_fault : (s : ScriptValue) (time : ℕ) (items : List TraceItem) (what : Option MountedValue) (own : Status) → RunEnds given left s time items what own → FaultHasCause given left sinks sinks_now own
-  run_fault s time items what own (IsDone m all whole) = tt
-  run_fault s time items what own (NotMounted own' none same ends) = mount_fault own ends
-  run_fault s time items what own (CallFailed m block x y for root up within at) = up
-  run_fault s time items what own (CallUnbuilt m place for none at) = tt
-  run_fault s time items what own (CallDamaged m block rule for never at) = tt
-  run_fault s time items what own (runs.NoRoom what') = tt
+  run_fault : (s : ScriptValue) (time : ℕ) (items : List TraceItem) (what : Option MountedValue) (replayed : Option Moment) (own : Status) → RunEnds given left s time items what replayed own → FaultHasCause given left sinks sinks_now own
+  run_fault s time items what replayed own (IsDone m r all whole) = tt
+  run_fault s time items what replayed own (NotBegun own' none same ends) = begin_fault own ends
+  run_fault s time items what replayed own (ReplayFailed m plans block x y are up within failed) = up
+  run_fault s time items what replayed own (ReplayLacksRoom m plans are some) = tt
+  run_fault s time items what replayed own (CallFailed m r block x y root up within at) = up
+  run_fault s time items what replayed own (CallUnbuilt m r place none at) = tt
+  run_fault s time items what replayed own (CallDamaged m r block rule never at) = tt
+  run_fault s time items what replayed own (runs.NoRoom m r) = tt
 
   make_fault : (make : MakeWords) (own : Status) → Makes make given left own → FaultHasCause given left sinks sinks_now own
   make_fault make own (IsTooLarge many same) = tt
@@ -75,12 +85,14 @@ module _ (given left : Inputs) (sinks sinks_now : Outputs) where
   make_fault make own (HasFailed block x y few room up within begun same) = up
   make_fault make own (HasMade few room made may same) = tt
 
-  course_fault : (words : List (List ℕ)) (s : ScriptValue) (items : List TraceItem) (lines : List ℕ) (own : Status) → Course words given left s items lines own → FaultHasCause given left sinks sinks_now own
-  course_fault words s items lines own (RefusesWords told refused untouched) = words_fault given.disk.size words own refused
-  course_fault words s items lines own (MakesImage make own' asks makes) = make_fault make own makes
-  course_fault words s items lines own (ShowsImage lines' own' asks script disk shows) = show_fault lines own shows
-  course_fault words s items lines own (NoScript told asks lacks untouched same) = script_fault own lacks
-  course_fault words s items lines own (RunsScript text s' items' own' asks read script built ran) = run_fault s asks.run.time items ran.value own ran.ends
+  course_fault : (words : List (List ℕ)) (listing : Listing) (s : ScriptValue) (items : List TraceItem) (lines : List ℕ) (own : Status) → Course words given left listing s items lines own → FaultHasCause given left sinks sinks_now own
+  course_fault words listing s items lines own (RefusesWords told refused untouched) = words_fault given.disk.size words own refused
+  course_fault words listing s items lines own (MakesImage make own' asks makes) = make_fault make own makes
+  course_fault words listing s items lines own (ShowsImage lines' own' asks script disk shows) = show_fault lines own shows
+  course_fault words listing s items lines own (ReplaysImage items' own' asks script ran) = run_fault s 0 items ran.value ran.replayed own ran.ends
+  course_fault words listing s items lines own (course.LacksRoom asks same) = tt
+  course_fault words listing s items lines own (NoScript told asks lacks untouched same) = script_fault own lacks
+  course_fault words listing s items lines own (RunsScript text s' items' own' asks read script built ran) = run_fault s asks.run.time items ran.value ran.replayed own ran.ends
 
   trace_fault : (own told : Status) → Becomes which.Trace sinks.trace_faults sinks_now.trace_faults own told → FaultHasCause given left sinks sinks_now own → FaultHasCause given left sinks sinks_now told
   trace_fault own told (Stays same) cause = subst (FaultHasCause given left sinks sinks_now) (sym same) cause
@@ -92,7 +104,7 @@ module _ (given left : Inputs) (sinks sinks_now : Outputs) where
   output_fault told answer (WithoutMemory without) cause = subst (FaultHasCause given left sinks sinks_now) (sym without) tt
   output_fault told answer (Fails x y not_told fails up) cause = subst (FaultHasCause given left sinks sinks_now) (sym fails) up
 
-  pub fault_has_cause : (words : List (List ℕ)) (s : ScriptValue) (items : List TraceItem) (lines : List ℕ) (own answer : Status) → Course words given left s items lines own
-      → Reports sinks sinks_now s items lines 0 own answer → FaultHasCause given left sinks sinks_now answer
-  fault_has_cause words s items lines own answer course report =
-      output_fault report.told answer report.answer_is (trace_fault own report.told report.told_is (course_fault words s items lines own course))
+  pub fault_has_cause : (words : List (List ℕ)) (listing : Listing) (s : ScriptValue) (items : List TraceItem) (lines : List ℕ) (own answer : Status) → Course words given left listing s items lines own
+      → Reports sinks sinks_now listing s items lines 0 own answer → FaultHasCause given left sinks sinks_now answer
+  fault_has_cause words listing s items lines own answer course report =
+      output_fault report.told answer report.answer_is (trace_fault own report.told report.told_is (course_fault words listing s items lines own course))

@@ -3,7 +3,7 @@ use Rattle.std.proofs.Common.{◌≡◌, ◌⊎◌, inl, inr, ℕ, zero, suc, �
 use Rattle.std.specs.Prelude.{slice_get}
 use Rattle.gfs2_layout.specs.Device.{IsBlockSize}
 use Rattle.gfs2_layout.specs.Holding.{Holding}
-use Rattle.log_layout.specs.Journal.{ring_of, head_in}
+use Rattle.log_layout.specs.Journal.{IsClean, ring_of, head_in}
 use Rattle.image_model.specs.Claims.{every, LeadsTo}
 use Rattle.image_model.specs.Image.{Image}
 use Rattle.image_model.specs.Journals.{journal_name}
@@ -14,7 +14,7 @@ use Rattle.image_model.proofs.Held.{none_some, some_same}
 use Rattle.image_model.proofs.Lengths.{head_same, places_same}
 use Rattle.image_changes.specs.Changes.{SystemStays}
 use Rattle.image_mount.specs.Mounted.{Journal, MountedValue, IsMounted, IsJournalOf}
-use Rattle.cluster_program.specs.Mounting.{AreClean, IsLeftClean, is_clean_head, is_clean_in}
+use Rattle.cluster_program.specs.Mounting.{AreClean, is_clean_head}
 
 -- ---- places of a list
 
@@ -86,22 +86,12 @@ module _ (im im' : Image) (o o' : Owners) (l : Layout) (laid : IsLaid im o l) (l
   pub places_kept : (j d : ℕ) → IsJournalAt l j d → (ring_of (every im' d)).places ≡ (ring_of (every im d)).places
   places_kept j d at = sym (own_places im' o' l laid' j d at) ∙ ap (λ (h : Holding). (ring_of h).places) (stay.rings j d at) ∙ own_places im o l laid j d at
 
-  -- where a journal that was mounted was clean, it is clean yet
-  pub clean_yet : (m : MountedValue) → IsMounted im m → (j : ℕ) (journal : Journal) → slice_get m.journals j ≡ Some journal → journal.head.clean ≡ true → is_clean_in im' journal ≡ true
-  clean_yet m mounted j journal there clean = elim (is_there mounted.layout.journals j) [
-    | inl it ↦
-        let is = mounted.journals j it.0 journal it.1 there in
-        ap is_clean_head (ap (λ (a : ℕ). head_in (ring_of (every im' a))) is.dinode ∙ head_kept j it.0 (of_layout im o l laid m mounted j it.0 it.1) ∙ is.head) ∙ clean
-    | inr past ↦ let low = below_end m.journals j journal there in absurd (omega (arith, low, past, mounted.count))
-  ]
-
-  -- and so is each journal that is mounted from the image that was left
-  pub clean_again : (m : MountedValue) → IsMounted im m → IsLeftClean m → AreClean im'
-  clean_again m mounted clean m' mounted' j journal there = elim (is_there mounted'.layout.journals j) [
+  -- where the journals of the layout are clean, each journal that is mounted from the image that was left is
+  pub clean_again_by : ((j a : ℕ) → IsJournalAt l j a → IsClean (ring_of (every im' a))) → AreClean im'
+  clean_again_by clean m' mounted' j journal there = elim (is_there mounted'.layout.journals j) [
     | inl it ↦
         let is = mounted'.journals j it.0 journal it.1 there in
-        let at = of_layout im' o' l laid' m' mounted' j it.0 it.1 in
-        let was = of_mounted im o l laid m mounted j it.0 at in
-        ap is_clean_head (sym is.head ∙ head_kept j it.0 at ∙ was.3.head) ∙ clean was.0 was.1 was.2
+        let (head, head_is, is_clean) = clean j it.0 (of_layout im' o' l laid' m' mounted' j it.0 it.1) in
+        ap is_clean_head (sym is.head ∙ head_is) ∙ is_clean
     | inr past ↦ let low = below_end m'.journals j journal there in absurd (omega (arith, low, past, mounted'.count))
   ]

@@ -7,9 +7,11 @@ use Rattle.std.proofs.lemmas.List.{length-map}
 use Rattle.gfs2_layout.specs.Device.{IsBlockSize, superblock_place}
 use Rattle.glock_names.specs.Views.{group_of_entry}
 use Rattle.image_model.specs.Claims.{Claims, root}
-use Rattle.image_model.specs.Image.{IsImage, image_of, superblock_in}
-use Rattle.image_model.specs.Laws.{NothingBreaks}
-use Rattle.image_model.specs.Owners.{Root}
+use Rattle.image_model.specs.Image.{Image, IsImage, image_of, superblock_in}
+use Rattle.image_model.specs.Laws.{NothingBreaks, ReplaysKeepSystem}
+use Rattle.image_model.specs.Owners.{Owners, Root}
+use Rattle.image_model.specs.Stands.{IsLaid, Layout}
+use Rattle.image_model.specs.SystemFiles.{HasSameSystem}
 use Rattle.image_model.specs.Rules.{Breaks, beyond_groups}
 use Rattle.image_mount.specs.Found.{HasFormat}
 use Rattle.image_mount.specs.Mounted.{MountedValue, IsMounted, IsOfProfile, GroupsAreAsSeen}
@@ -22,26 +24,34 @@ use Rattle.lone_view.specs.Seeing.{seen_alone}
 use Rattle.lone_node.specs.Standing.{IsOn}
 use Rattle.damage_laws.specs.Telling.{HasRootInside, IsOfMounted, MountedAreRead}
 use Rattle.cluster_program.specs.EndStatuses.{status_of_mount}
-use Rattle.cluster_program.specs.Mounting.{OfImage, IsMountedFor, MountEnds, DiskFails, LiesOutside, IsDamaged, IsDirty, LacksRoom}
+use Rattle.cluster_program.specs.Mounting.{OfImage, IsMountedOn, IsMountedReplayed, BeginEnds, MountEnds, DiskFails, IsStopped, LiesOutside, IsDamaged, LacksRoom, NeverStands, NotMounted, NotRead}
 use Rattle.cluster_program.specs.Report.{IsSinkFault}
 use Rattle.cluster_program.specs.declared.status.Status.{Status}
 use Rattle.cluster_program.specs.Runs.{as_mounted}
 use Rattle.cluster_program.specs.declared.status.Status.TheVariants as status
 
-pub mount_end : (d : DiskState) (first now : ℕ → ℕ) (f : MountFault) → NothingBreaks → OfImage d (λ im. RefusesRightly im f) → OfImage d (λ im. IsOfProfile im → IsExcused f) → HasRisen first now f → LiesWithin d.count f
-    → MountEnds d first now (status_of_mount f)
-mount_end d first now (fault.NotProfile what value) law right excused risen within = LiesOutside what value right excused
-mount_end d first now (fault.Damaged block rule) law right excused risen within =
-    IsDamaged block rule right (λ tells tree stands. law (image_of d) tree stands rule block (right tells).0.breaks)
-mount_end d first now (fault.DeviceFault block x y) law right excused risen within = DiskFails block x y risen within right
-mount_end d first now fault.NoMemory law right excused risen within = LacksRoom
+-- what a mount that fails tells of each image with the same system files
+pub record IsToldRightly (d : DiskState) (f : MountFault) : Type 0 where
+  pub right : OfImage d (λ im. RefusesRightly im f)
+  pub alike : OfImage d (λ im. (other : Image) (o : Owners) (l : Layout) → HasSameSystem im other → IsLaid other o l → RefusesRightly other f)
+  pub excused : OfImage d (λ im. (other : Image) → HasSameSystem im other → IsOfProfile other → IsExcused f)
+
+pub mount_end : (d : DiskState) (first now : ℕ → ℕ) (f : MountFault) → NothingBreaks → ReplaysKeepSystem → IsToldRightly d f → HasRisen first now f → LiesWithin d.count f → MountEnds d first now (status_of_mount f)
+mount_end d first now (fault.NotProfile what value) law keeps told risen within =
+    LiesOutside what value told.right (λ tells has. told.excused tells has.replayed (keeps (image_of d) has.replayed has.layout has.is) has.profile)
+mount_end d first now (fault.Damaged block rule) law keeps told risen within =
+    IsDamaged block rule told.right (λ tells tree is.
+    let alike = told.alike tells is.replayed is.stands.owners is.stands.layout (keeps (image_of d) is.replayed is.layout is.is) is.stands.laid in
+    law is.replayed tree is.stands rule block alike.0.breaks)
+mount_end d first now (fault.DeviceFault block x y) law keeps told risen within = DiskFails block x y risen within told.right
+mount_end d first now fault.NoMemory law keeps told risen within = LacksRoom
 
 -- ---- what the node has of the image as it begins
 
 pub image_there : (d : DiskState) → IsSound d → IsBlockSize d.size → OfImage d IsImage
 image_there d sound four tells = record { block_size = four; whole = sound.sizes tells }
 
-nothing_kept : (b : ℕ) (bytes : List ℕ) → get (empty {K = ℕ} {X = List ℕ} {R = nat_cmp}) b ≡ Some bytes → ⊥
+pub nothing_kept : (b : ℕ) (bytes : List ℕ) → get (empty {K = ℕ} {X = List ℕ} {R = nat_cmp}) b ≡ Some bytes → ⊥
 nothing_kept b bytes has = let never : None ≡ Some bytes = sym (get-empty {K = ℕ} {X = List ℕ} nat_cmp b) ∙ has in cc
 
 pub is_on : (d : DiskState) (m : MountedValue) → AreGroupsOn d.size d.count m.groups → IsOn d (as_mounted d m)
@@ -53,10 +63,10 @@ is_on d m on = record {
   agrees = λ tells b bytes has. absurd (nothing_kept b bytes has);
 }
 
--- it may be read from the image, of which it has the groups, and no block
-pub of_mounted : (d : DiskState) (m : MountedValue) → IsOfMounted (seen_alone (as_mounted d m)) (image_of d) m
-of_mounted d m = record {
-  size = refl;
+-- it may be read from an image, of which it has the groups, and no block
+pub of_mounted : (d : DiskState) (m : MountedValue) (im : Image) → im.size ≡ d.size → IsOfMounted (seen_alone (as_mounted d m)) im m
+of_mounted d m im size = record {
+  size = size;
   root = refl;
   groups = refl;
   agrees = λ b bytes has. absurd (nothing_kept b bytes has);
@@ -67,31 +77,37 @@ some_groups d m mounted =
     let same : length m.groups ≡ length mounted.layout.groups = ap length mounted.groups ∙ length-map mounted.layout.groups group_of_entry in
     let some = mounted.profile.groups.0 in omega (arith, same, some)
 
-module _ (d : DiskState) (m : MountedValue) (law : NothingBreaks) (is : OfImage d IsImage) (for : IsMountedFor d m) where
+module _ (d : DiskState) (m : MountedValue) (law : NothingBreaks) (keeps : ReplaysKeepSystem) (is : OfImage d IsImage) (on : IsMountedOn d m) (replays : IsMountedReplayed d m) where
   -- groups such as no node can work with are not those of a disk that tells its blocks
   pub odd_groups : GroupsAreAsSeen → ¬ (AreGroupsOn d.size d.count m.groups) → (first now : ℕ → ℕ) → MountEnds d first now (status.Damaged (superblock_place d.size) 18)
   odd_groups seen odd first now = IsDamaged (superblock_place d.size) 18 (λ tells. absurd (never tells)) (λ tells tree stands. never tells)
     where
       never : IsTrue d.tells → ⊥
       never tells =
-          let mounted = for.mounted tells in
+          let mounted = on tells in
           odd (record { some = some_groups d m mounted; are = (seen (image_of d) m mounted).0; inside = (seen (image_of d) m mounted).1 })
 
-  -- a root that is in no group is told at the superblock
+  -- a root that is in no group is told at the superblock, in each image from which the node may read
   pub stray_root : MountedAreRead → ¬ (HasRootInside (seen_alone (as_mounted d m))) → (first now : ℕ → ℕ) → MountEnds d first now (status.Damaged (superblock_place d.size) 2)
-  stray_root read stray first now = IsDamaged (superblock_place d.size) 2 told (λ tells tree stands. law (image_of d) tree stands 2 (superblock_place d.size) (told tells).0.breaks)
+  stray_root read stray first now = IsDamaged (superblock_place d.size) 2 told never
     where
-      breaks : IsTrue d.tells → Breaks (image_of d) 2 (superblock_place d.size)
-      breaks tells =
-          let from = (read (seen_alone (as_mounted d m)) (image_of d) m (is tells) (for.mounted tells) (of_mounted d m)).0 in
-          let address : (superblock_in (image_of d)).root.address ≡ m.superblock.root.address = from.root in
-          beyond_groups (superblock_place d.size) m.superblock.root.address Root (subst (λ a. Claims (image_of d) (superblock_place d.size) a Root) address root)
+      breaks : (im : Image) → IsImage im → im.size ≡ d.size → IsMounted im m → Breaks im 2 (superblock_place d.size)
+      breaks im image size mounted =
+          let from = (read (seen_alone (as_mounted d m)) im m image mounted (of_mounted d m im size)).0 in
+          let address : (superblock_in im).root.address ≡ m.superblock.root.address = from.root in
+          let claims : Claims im (superblock_place im.size) m.superblock.root.address Root = subst (λ a. Claims im (superblock_place im.size) a Root) address root in
+          beyond_groups (superblock_place d.size) m.superblock.root.address Root (subst (λ n. Claims im (superblock_place n) m.superblock.root.address Root) size claims)
           (λ g has inside. stray (group_of_entry g, (from.groups (group_of_entry g)).1 (g, has, refl), record { low = inside.low; high = inside.high }))
 
       told : OfImage d (λ im. RefusesRightly im (fault.Damaged (superblock_place d.size) 2))
       told tells =
-          let format : HasFormat (image_of d) = (for.mounted tells).found.groups.list.master.format in
-          (record { breaks = breaks tells; there = inl format.super.inside }, inr format)
+          let format : HasFormat (image_of d) = (on tells).found.groups.list.master.format in
+          (record { breaks = breaks (image_of d) (is tells) refl (on tells); there = inl format.super.inside }, inr format)
+
+      never : OfImage d NeverStands
+      never tells tree it =
+          let same = keeps (image_of d) it.replayed it.layout it.is in
+          law it.replayed tree it.stands 2 (superblock_place d.size) (breaks it.replayed it.stands.laid.image same.size (replays tells it.layout it.replayed it.is))
 
 -- ---- such an end is not told to be done, nor a sink's fault
 
@@ -99,12 +115,20 @@ pub mount_never_done : (disk : DiskState) (first now : ℕ → ℕ) (own : Statu
 mount_never_done disk first now own (DiskFails block x y up inside reached) is = cc
 mount_never_done disk first now own (LiesOutside what value outside never) is = cc
 mount_never_done disk first now own (IsDamaged block rule breaks never) is = cc
-mount_never_done disk first now own (IsDirty block dirty) is = cc
 mount_never_done disk first now own LacksRoom is = cc
 
 pub no_mount_fault : (d : DiskState) (first now : ℕ → ℕ) (own : Status) → MountEnds d first now own → IsSinkFault own → ⊥
 no_mount_fault d first now own (DiskFails block x y up inside reached) never = never
 no_mount_fault d first now own (LiesOutside what value outside none) never = never
 no_mount_fault d first now own (IsDamaged block rule breaks none) never = never
-no_mount_fault d first now own (IsDirty block dirty) never = never
 no_mount_fault d first now own LacksRoom never = never
+
+pub begin_never_done : (disk : DiskState) (first now : ℕ → ℕ) (own : Status) → BeginEnds disk first now own → own ≡ status.Done → ⊥
+begin_never_done disk first now own (NotMounted own' ends) is = mount_never_done disk first now own ends is
+begin_never_done disk first now own (NotRead block x y mounted up within) is = cc
+begin_never_done disk first now own (IsStopped block rule why never) is = cc
+
+pub no_begin_fault : (d : DiskState) (first now : ℕ → ℕ) (own : Status) → BeginEnds d first now own → IsSinkFault own → ⊥
+no_begin_fault d first now own (NotMounted own' ends) never = no_mount_fault d first now own ends never
+no_begin_fault d first now own (NotRead block x y mounted up within) never = never
+no_begin_fault d first now own (IsStopped block rule why none) never = never

@@ -1,7 +1,7 @@
 -- Nothing is down or lost in a run of one node that answers and unmounts.
-use Rattle.std.proofs.Common.{◌≡◌, ◌⊎◌, inl, inr, ℕ, ◌+◌, suc, List, [], ◌∷◌, ◌++◌, drop, Bool, true, false, refl, sym, ap, ◌∙◌, arith, append-nil}
+use Rattle.std.proofs.Common.{◌≡◌, ◌⊎◌, inl, inr, ℕ, ◌+◌, suc, List, [], ◌∷◌, ◌++◌, drop, Bool, true, false, refl, sym, ap, ◌∙◌, arith, append-nil, append_assoc}
 use Rattle.std.specs.Prelude.{Option, None, Some, ◌&&◌, ◌==◌, if◌then◌else◌}
-use Rattle.std.specs.List.{flat_map}
+use Rattle.std.specs.List.{AllByRecursion, flat_map}
 use Rattle.std.proofs.lemmas.List.{drop_all}
 use Rattle.file_tree.specs.Tree.{Tree}
 use Rattle.file_tree.specs.declared.call.Call.{Call}
@@ -14,32 +14,52 @@ use Rattle.script_lang.specs.declared.script.Line.TheVariants as line
 use Rattle.script_lang.specs.Script.{ScriptValue, calls_by}
 use Rattle.run_rules.specs.Follows.{history_of, call_items}
 use Rattle.run_rules.specs.History.{AllAnswered}
-use Rattle.lone_node.specs.Items.{AnsweredCall, full_item, items_from, name_at}
+use Rattle.lone_node.specs.Items.{AnsweredCall, IsOfReplay, full_item, items_from, name_at}
 use Rattle.lone_node.specs.Run.{IsRunOf, NotJoined, Taken, Unmounted}
 use Rattle.lone_node.specs.declared.answering.Full.{Full}
+use Rattle.lone_node.proofs.Steps.{past_replays}
 use Rattle.cluster_program.specs.declared.status.Status.{Status}
 use Rattle.cluster_program.specs.declared.status.Status.TheVariants as status
 use Rattle.cluster_program.specs.Orders.{orders, line_for, with_line_for, uses_from, uses}
 use Rattle.cluster_program.specs.Out.{is_stopped, answers, down_line, down_lines}
 use Rattle.cluster_program.specs.Quiet.{IsQuiet}
 
--- ---- the items of such a run: node 1 joins, answers calls, and may unmount
+-- ---- the items of such a run: node 1 joins, may replay journals, answers calls, and may unmount
 
 abbrev pub IsEnd : List TraceItem → Type 0
 IsEnd end = (end ≡ []) ⊎ (end ≡ trace.Unmount 1 ∷ [])
 
 pub data IsAnswers (clients : List Client) (items : List TraceItem) : Type 0 where
   NoItems : items ≡ [] → IsAnswers clients items
-  Joined : (calls : List AnsweredCall) (end : List TraceItem) → IsEnd end → items ≡ trace.Join 1 ∷ (items_from clients 1 calls ++ end) → IsAnswers clients items
+  Joined : (replays : List TraceItem) (calls : List AnsweredCall) (end : List TraceItem) → AllByRecursion IsOfReplay replays → IsEnd end → items ≡ trace.Join 1 ∷ (replays ++ (items_from clients 1 calls ++ end)) → IsAnswers clients items
 
 pub answers_of_run : (clients : List Client) (lines : List Line) (items : List TraceItem) (IsStart : Tree → Type 0) → IsRunOf clients lines items IsStart → IsAnswers clients items
 answers_of_run clients lines items start (NotJoined none) = NoItems none
 answers_of_run clients lines items start (Taken count run) =
-    Joined run.answered [] (inl refl) (run.are ∙ ap (λ (l : List TraceItem). trace.Join 1 ∷ l) (sym (append-nil (items_from clients 1 run.answered))))
+    Joined run.begins.replays run.answered [] run.begins.of_replay (inl refl)
+    (run.are ∙ ap (λ (l : List TraceItem). l ++ items_from clients 1 run.answered) run.begins.are
+    ∙ ap (λ (l : List TraceItem). trace.Join 1 ∷ (run.begins.replays ++ l)) (sym (append-nil (items_from clients 1 run.answered))))
 answers_of_run clients lines items start (Unmounted whole) =
-    Joined whole.taken.answered (trace.Unmount 1 ∷ []) (inr refl) (whole.are ∙ ap (λ (l : List TraceItem). l ++ trace.Unmount 1 ∷ []) whole.taken.are)
+    let run = whole.taken in
+    Joined run.begins.replays run.answered (trace.Unmount 1 ∷ []) run.begins.of_replay (inr refl)
+    (whole.are ∙ ap (λ (l : List TraceItem). l ++ trace.Unmount 1 ∷ []) (run.are ∙ ap (λ (l : List TraceItem). l ++ items_from clients 1 run.answered) run.begins.are)
+    ∙ ap (λ (l : List TraceItem). trace.Join 1 ∷ l) (append_assoc run.begins.replays (items_from clients 1 run.answered) (trace.Unmount 1 ∷ [])))
 
 -- ---- nothing stops, is lost, or carries a line out
+
+stopped_replays : (node : ℕ) (is rs : List TraceItem) → AllByRecursion IsOfReplay rs → is_stopped node false (rs ++ is) ≡ is_stopped node false is
+stopped_replays node is [] of = refl
+stopped_replays node is (trace.WriteReplay n block ∷ rs) of = stopped_replays node is rs of.1
+stopped_replays node is (trace.Barrier n ∷ rs) of = stopped_replays node is rs of.1
+stopped_replays node is (trace.Recovered n by ∷ rs) of = stopped_replays node is rs of.1
+stopped_replays node is (_ ∷ rs) of = absurd of.0
+
+uses_replays : (s : ScriptValue) (items is : List TraceItem) → ((p : ℕ) → uses_from s items p is [] ≡ []) → (rs : List TraceItem) → AllByRecursion IsOfReplay rs → (p : ℕ) → uses_from s items p (rs ++ is) [] ≡ []
+uses_replays s items is none [] of p = none p
+uses_replays s items is none (trace.WriteReplay n block ∷ rs) of p = uses_replays s items is none rs of.1 (suc p)
+uses_replays s items is none (trace.Barrier n ∷ rs) of p = uses_replays s items is none rs of.1 (suc p)
+uses_replays s items is none (trace.Recovered n by ∷ rs) of p = uses_replays s items is none rs of.1 (suc p)
+uses_replays s items is none (_ ∷ rs) of p = absurd of.0
 
 module _ (clients : List Client) (end : List TraceItem) (is : IsEnd end) where
   -- the items of a call and of those behind it
@@ -98,22 +118,25 @@ no_line s items l (x ∷ xs) one = rw (no_order s x one) (no_line s items (suc l
 module _ (clients : List Client) (items : List TraceItem) where
   uses_none : (s : ScriptValue) → s.nodes ≡ 1 → IsAnswers clients items → uses s items ≡ []
   uses_none s one (NoItems none) = ap (uses s) none
-  uses_none s one (Joined calls end is are) =
-      let joined : List TraceItem = trace.Join 1 ∷ (items_from clients 1 calls ++ end) in
-      ap (uses s) are ∙ ap (λ (l : Option ℕ). uses_from s joined 1 (items_from clients 1 calls ++ end) (with_line_for 1 l [])) (no_line s joined 0 s.lines one)
-      ∙ uses_rest clients end is s joined 1 1 calls
+  uses_none s one (Joined replays calls end of is are) =
+      let later : List TraceItem = replays ++ (items_from clients 1 calls ++ end) in
+      let joined : List TraceItem = trace.Join 1 ∷ later in
+      ap (uses s) are ∙ ap (λ (l : Option ℕ). uses_from s joined 1 later (with_line_for 1 l [])) (no_line s joined 0 s.lines one)
+      ∙ uses_replays s joined (items_from clients 1 calls ++ end) (λ p. uses_rest clients end is s joined p 1 calls) replays of 1
 
   stopped_none : (node : ℕ) → IsAnswers clients items → is_stopped node false items ≡ false
   stopped_none node (NoItems none) = ap (is_stopped node false) none
-  stopped_none node (Joined calls end is are) = ap (is_stopped node false) are ∙ same (1 == node) ∙ stopped_rest clients end is node 1 calls
+  stopped_none node (Joined replays calls end of is are) =
+      ap (is_stopped node false) are ∙ same (1 == node) ∙ stopped_replays node (items_from clients 1 calls ++ end) replays of ∙ stopped_rest clients end is node 1 calls
     where
-      same : (b : Bool) → is_stopped node (if b then false else false) (items_from clients 1 calls ++ end) ≡ is_stopped node false (items_from clients 1 calls ++ end)
+      same : (b : Bool) → is_stopped node (if b then false else false) (replays ++ (items_from clients 1 calls ++ end)) ≡ is_stopped node false (replays ++ (items_from clients 1 calls ++ end))
       same true = refl
       same false = refl
 
   lost_none : (others : List Client) → IsAnswers clients items → lost_count (history_of others items) ≡ 0
   lost_none others (NoItems none) = ap (λ (l : List TraceItem). lost_count (history_of others l)) none
-  lost_none others (Joined calls end is are) = ap (λ (l : List TraceItem). lost_count (history_of others l)) are ∙ lost_rest clients end is others 1 calls
+  lost_none others (Joined replays calls end of is are) =
+      ap (λ (l : List TraceItem). lost_count (history_of others l)) are ∙ ap lost_count (past_replays others replays (items_from clients 1 calls ++ end) of) ∙ lost_rest clients end is others 1 calls
 
 -- ---- no line is down
 

@@ -3,18 +3,17 @@ use Rattle.std.proofs.Common.{◌≡◌, ℕ, ◌≤◌, List, [], ◌++◌, ap,
 use Rattle.std.specs.Prelude.{IsTrue, Result, Ok, Err, IfErr, Bool}
 use Rattle.file_tree.specs.Tree.{Tree}
 use Rattle.image_model.specs.Image.{image_of}
-use Rattle.image_model.specs.Rules.{IsBrokenBlock}
-use Rattle.image_model.specs.Stands.{Stands}
-use Rattle.image_mount.specs.Mounted.{MountedValue}
+use Rattle.image_model.specs.Replays.{StandsReplayed}
+use Rattle.image_mount.specs.Mounted.{IsMounted, MountedValue}
 use Rattle.shared_disk.specs.Disk.{DiskState}
 use Rattle.show_text.specs.Show.{journal_lines, tree_lines}
 use Rattle.disk_trees.specs.Answers.{GivesTree, HasCause, IfDamaged}
-use Rattle.disk_trees.specs.Reading.{ending}
+use Rattle.disk_trees.specs.Reading.{IsUnreadable}
 use Rattle.disk_trees.specs.declared.faults.TreeFault.{TreeFault}
 use Rattle.disk_trees.specs.declared.faults.TreeFault.TheVariants as tree
 use Rattle.cluster_program.specs.Course.{clean_of, Shows, HasShown, ShowsNone, TreeFailed, TreeDamaged, NothingHeld}
 use Rattle.cluster_program.specs.EndStatuses.{status_of_tree}
-use Rattle.cluster_program.specs.Mounting.{OfImage, IsMountedClean, IsMountedFor}
+use Rattle.cluster_program.specs.Mounting.{HasMounted, OfImage, IsMountedOn}
 use Rattle.cluster_program.specs.Report.{IsSinkFault}
 use Rattle.cluster_program.specs.declared.status.Status.{Status}
 use Rattle.cluster_program.specs.declared.status.Status.TheVariants as status
@@ -22,32 +21,32 @@ use Rattle.cluster_program.proofs.Mounts.{no_mount_fault}
 use Rattle.cluster_program.proofs.Runs.{longer}
 
 -- what is known of a disk whose tree was read, or wasn't
-pub record HasReadTree (d : DiskState) (before now : ℕ → ℕ) (r : Result Tree TreeFault) : Type 0 where
-  pub stands : IsTrue d.tells → (t : Tree) → Stands (image_of d) t → GivesTree t r
-  pub damaged : IfErr r (λ fault. IsTrue d.tells → IfDamaged fault (λ block rule. IsBrokenBlock (ending (image_of d)) rule block))
+pub record HasReadTree (d : DiskState) (m : MountedValue) (before now : ℕ → ℕ) (r : Result Tree TreeFault) : Type 0 where
+  pub stands : IsTrue d.tells → IsMounted (image_of d) m → (t : Tree) → StandsReplayed (image_of d) t → GivesTree t r
+  pub damaged : IfErr r (λ fault. IsTrue d.tells → (is : IsMounted (image_of d) m) → IfDamaged fault (IsUnreadable (image_of d) is.layout))
   pub cause : IfErr r (HasCause d.count before now)
 
-pub of_disk : (d mid : DiskState) (before now : ℕ → ℕ) (r : Result Tree TreeFault) → mid ≡ d → HasReadTree mid before now r → HasReadTree d before now r
-of_disk d mid before now r same read = subst (λ (x : DiskState). HasReadTree x before now r) same read
+pub of_disk : (d mid : DiskState) (m : MountedValue) (before now : ℕ → ℕ) (r : Result Tree TreeFault) → mid ≡ d → HasReadTree mid m before now r → HasReadTree d m before now r
+of_disk d mid m before now r same read = subst (λ (x : DiskState). HasReadTree x m before now r) same read
 
-module _ (d : DiskState) (first before now : ℕ → ℕ) (m : MountedValue) (for : IsMountedFor d m) (earlier : (j : ℕ) → first j ≤ before j) where
-  clean : OfImage d IsMountedClean
-  clean tells = record { value = m; mounted = for.mounted tells; clean = for.clean }
+module _ (d : DiskState) (first before now : ℕ → ℕ) (m : MountedValue) (on : IsMountedOn d m) (earlier : (j : ℕ) → first j ≤ before j) where
+  mounted : OfImage d HasMounted
+  mounted tells = (m, on tells)
 
-  pub tree_end : (e : TreeFault) → HasReadTree d before now (Err e) → Shows d first now [] (status_of_tree e)
-  tree_end (tree.Damaged block rule) read = TreeDamaged block rule clean (λ tells t stands. read.stands tells t stands) read.damaged
-  tree_end (tree.DiskFailed block rise) read = TreeFailed block rise.before rise.after clean (longer (first 0) (before 0) (now 0) rise.before rise.after (earlier 0) read.cause.0) read.cause.1
+  pub tree_end : (e : TreeFault) → HasReadTree d m before now (Err e) → Shows d first now [] (status_of_tree e)
+  tree_end (tree.Damaged block rule) read = TreeDamaged block rule (λ tells. record { value = m; mounted = on tells; why = read.damaged tells (on tells) }) (λ tells t stands. read.stands tells (on tells) t stands)
+  tree_end (tree.DiskFailed block rise) read = TreeFailed block rise.before rise.after mounted (longer (first 0) (before 0) (now 0) rise.before rise.after (earlier 0) read.cause.0) read.cause.1
   tree_end tree.NoMemory read = NothingHeld
 
-  pub all_shown : (t : Tree) (empty journals lines : List ℕ) (heads : List Bool) → HasReadTree d before now (Ok t) → heads ≡ clean_of m → empty ≡ [] → journals ≡ empty ++ journal_lines 0 heads
+  pub all_shown : (t : Tree) (empty journals lines : List ℕ) (heads : List Bool) → HasReadTree d m before now (Ok t) → heads ≡ clean_of m → empty ≡ [] → journals ≡ empty ++ journal_lines 0 heads
       → lines ≡ journals ++ tree_lines [] t → Shows d first now lines status.Done
   all_shown t empty journals lines heads read are none first_lines later =
-      HasShown m t lines for (λ t' is. read.stands is.tells t' is.stands) (later ∙ ap (λ (ls : List ℕ). ls ++ tree_lines [] t) (first_lines ∙ (λ i. none i ++ journal_lines 0 (are i))))
+      HasShown m t lines on (λ t' is. read.stands is.tells (on is.tells) t' is.stands) (later ∙ ap (λ (ls : List ℕ). ls ++ tree_lines [] t) (first_lines ∙ (λ i. none i ++ journal_lines 0 (are i))))
 
 -- what a show tells is none of the sinks' faults
 pub no_sink_fault : (d : DiskState) (first now : ℕ → ℕ) (lines : List ℕ) (own : Status) → Shows d first now lines own → IsSinkFault own → ⊥
 no_sink_fault d first now lines own (HasShown m t lines' mounted is are) = λ never. never
 no_sink_fault d first now lines own (ShowsNone own' ends) = no_mount_fault d first now own ends
 no_sink_fault d first now lines own (TreeFailed block x y mounted up within) = λ never. never
-no_sink_fault d first now lines own (TreeDamaged block rule mounted never breaks) = λ never. never
+no_sink_fault d first now lines own (TreeDamaged block rule breaks never) = λ never. never
 no_sink_fault d first now lines own NothingHeld = λ never. never

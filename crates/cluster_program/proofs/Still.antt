@@ -1,5 +1,5 @@
 -- An image that could be mounted can be mounted after calls too: where it stands for a tree, and what mounting reads of it is as it was.
-use Rattle.std.proofs.Common.{◌≡◌, ℕ, ◌^◌, ◌≤◌, true, List, [], ◌∷◌, Some, refl, sym, ap, ◌∙◌, subst}
+use Rattle.std.proofs.Common.{◌≡◌, ℕ, ◌^◌, ◌≤◌, List, [], ◌∷◌, Some, refl, sym, ap, ◌∙◌, subst}
 use Rattle.std.specs.Prelude.{codes}
 use Rattle.profile_limits.specs.Limits.{least_journal_blocks, most_blocks, most_journal_blocks}
 use Rattle.file_tree.specs.Tree.{Tree}
@@ -12,17 +12,22 @@ use Rattle.image_model.specs.Image.{Image, image_of, superblock_in}
 use Rattle.image_model.specs.Journals.{journal_name}
 use Rattle.image_model.specs.Owners.{Owners}
 use Rattle.image_model.specs.Profile.{IsInProfile}
-use Rattle.image_model.specs.Stands.{Layout, IsLaid, flat_of}
+use Rattle.image_model.specs.Laws.{CleanImagesStand}
+use Rattle.image_model.specs.Replays.{StandsReplayed}
+use Rattle.image_model.specs.Stands.{Layout, IsJournalAt, IsLaid, flat_of}
+use Rattle.log_layout.specs.Journal.{IsClean, ring_of}
 use Rattle.image_model.proofs.Facts.{child_leads, leads_child_of}
+use Rattle.image_model.proofs.Replaying.{clean_stay, journals_of_standing, one_replay}
 use Rattle.image_changes.specs.Changes.{SystemStays}
 use Rattle.image_changes.proofs.Layouts.{one_layout}
 use Rattle.image_changes.proofs.System.{system_flat}
-use Rattle.image_mount.specs.Mounted.{MountedValue}
+use Rattle.image_mount.specs.Mounted.{IsOfProfile, MountedValue}
 use Rattle.shared_disk.specs.Disk.{DiskState}
-use Rattle.lone_view.specs.Seeing.{Lone}
 use Rattle.lone_node.specs.Standing.{LeavesStanding, StandsFor}
-use Rattle.cluster_program.specs.Mounting.{IsMountable, IsMountedFor}
-use Rattle.cluster_program.proofs.Heads.{clean_again, head_kept, places_kept}
+use Rattle.cluster_program.specs.Mounting.{IsImageOf, IsMountableClean}
+use Rattle.cluster_program.specs.Runs.{as_mounted}
+use Rattle.cluster_program.proofs.Heads.{clean_again_by, head_kept, places_kept}
+use Rattle.cluster_program.proofs.Start.{IsStart, image_left, rings_kept}
 
 module _ (im im' : Image) (o o' : Owners) (l : Layout) (laid : IsLaid im o l) (laid' : IsLaid im' o' l) (stay : SystemStays im im' o o' l) where
   superblock_same : superblock_in im' ≡ superblock_in im
@@ -56,17 +61,35 @@ module _ (im im' : Image) (o o' : Owners) (l : Layout) (laid : IsLaid im o l) (l
     sequence = λ j d head at is. was.sequence j d head at (sym (head_kept im im' o o' l laid laid' stay j d at) ∙ is);
   }
 
--- where a disk stood for a tree and was mounted, and stands now for one by the same layout, it can be mounted if it could
-pub mountable_still : (d d' : DiskState) (n : Lone) (t t' : Tree) (m : MountedValue) → IsMountedFor d m → (at : StandsFor d n t) → LeavesStanding d d' n t t' at → IsMountable d → IsMountable d'
-mountable_still d d' n t t' m for at left may = record {
-  tree = t';
-  is = record { tells = left.now.tells; stands = record { owners = left.now.owners; layout = left.now.layout; laid = left.now.stands.laid; reads = left.now.stands.reads } };
-  profile = record { owners = left.now.owners; layout = at.layout; laid = laid; profile = profile_stays (image_of d) (image_of d') at.owners left.now.owners at.layout at.stands.laid laid left.system profile };
-  clean = clean_again (image_of d) (image_of d') at.owners left.now.owners at.layout at.stands.laid laid left.system m (for.mounted at.tells) for.clean;
-}
-  where
-    laid : IsLaid (image_of d') left.now.owners at.layout
-    laid = subst (IsLaid (image_of d') left.now.owners) left.layout left.now.stands.laid
+-- where an image could be mounted, it can be after a replay and calls, if what the replay left is of the profile
+module _ (stand : CleanImagesStand) (d e : DiskState) (m : MountedValue) (start : IsStart d e m) (t : Tree) (is : IsImageOf d t) (d' : DiskState) (t' : Tree) (left : LeavesStanding e d' (as_mounted d m) t t' (start.stands t is)) where
+  abbrev s : StandsFor e (as_mounted d m) t
+  s = start.stands t is
 
-    profile : IsInProfile (image_of d) at.layout
-    profile = subst (IsInProfile (image_of d)) (one_layout (image_of d) may.profile.owners at.owners may.profile.layout at.layout may.profile.laid at.stands.laid) may.profile.profile
+  laid_now : IsLaid (image_of d') left.now.owners s.layout
+  laid_now = subst (IsLaid (image_of d') left.now.owners) left.layout left.now.stands.laid
+
+  abbrev rings : (j a : ℕ) → IsJournalAt s.layout j a → IsClean (ring_of (every (image_of d') a))
+  rings = rings_kept stand d e m start t is d' t' left
+
+  itself : (it : StandsReplayed (image_of d') t') → it.replayed ≡ image_of d'
+  itself it = one_replay (image_of d') it.replayed (image_of d') it.layout s.layout it.is (clean_stay (image_of d') s.layout (journals_of_standing (image_of d') left.now.owners s.layout laid_now) rings)
+
+  pub mountable_then : IsOfProfile (image_of e) → IsMountableClean d'
+  mountable_then was = record {
+    mountable = record {
+      tree = t';
+      is = now;
+      profile = record { layout = now.stands.layout; replayed = now.stands.replayed; is = now.stands.is; profile = subst IsOfProfile (sym (itself now.stands)) of_profile };
+    };
+    clean = clean_again_by (image_of e) (image_of d') s.owners left.now.owners s.layout s.stands.laid laid_now left.system rings;
+  }
+    where
+      now : IsImageOf d' t'
+      now = image_left stand d e m start t is d' t' left
+
+      profile : IsInProfile (image_of e) s.layout
+      profile = subst (IsInProfile (image_of e)) (one_layout (image_of e) was.owners s.owners was.layout s.layout was.laid s.stands.laid) was.profile
+
+      of_profile : IsOfProfile (image_of d')
+      of_profile = record { owners = left.now.owners; layout = s.layout; laid = laid_now; profile = profile_stays (image_of e) (image_of d') s.owners left.now.owners s.layout s.stands.laid laid_now left.system profile }

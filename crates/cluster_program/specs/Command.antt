@@ -8,14 +8,14 @@ use Rattle.trace_text.specs.declared.item.TraceItem.{TraceItem}
 use Rattle.script_lang.specs.Script.{ScriptValue}
 use Rattle.cluster_program.specs.World.{Inputs, Outputs}
 use Rattle.cluster_program.specs.Report.{Reports}
-use Rattle.cluster_program.specs.Course.{Course, AsksToRun, AsksToShow, AsksToMake, plan_for}
+use Rattle.cluster_program.specs.Course.{Course, AsksToRun, AsksToReplay, AsksToShow, AsksToMake, plan_for}
 use Rattle.cluster_program.specs.Dirty.{IsDirtyCount}
 use Rattle.cluster_program.specs.Mounting.{IsMountable}
 use Rattle.command_words.specs.declared.command.MakeWords.{MakeWords}
 use Rattle.mkgfs2_tool.specs.Order.{fits}
+use Rattle.cluster_program.specs.declared.output.Listing.{Listing}
 use Rattle.cluster_program.specs.declared.status.Status.{Status}
 use Rattle.cluster_program.specs.declared.status.Status.TheVariants as status
-use Rattle.cluster_program.specs.declared.status.Part.{Part}
 use Rattle.cluster_program.specs.declared.status.Which.TheVariants as which
 
 -- a fault is answered only where the count of what failed rose, from the first number to the second
@@ -28,13 +28,14 @@ FaultHasCause given left sinks sinks_now _ = ⊤
 
 -- what the words and the script do to what was given, as the items of one run, is told in the trace, the output and the status
 pub record Ends (words : List (List ℕ)) (given left : Inputs) (sinks sinks_now : Outputs) (answer : Status) : Type 0 where
+  pub listing : Listing
   pub script : ScriptValue
   pub items : List TraceItem
   pub lines : List ℕ
   pub own : Status
-  pub course : Course words given left script items lines own
+  pub course : Course words given left listing script items lines own
   pub dirty : ℕ
-  pub report : Reports sinks sinks_now script items lines dirty own answer
+  pub report : Reports sinks sinks_now listing script items lines dirty own answer
   pub counted : IsDirtyCount given.disk left.disk script items report.told dirty
 
 -- ---- when a command is carried out whole
@@ -46,7 +47,8 @@ pub record NoneRose (given left : Inputs) (sinks sinks_now : Outputs) : Type 0 w
   pub trace : Rose sinks.trace_faults sinks_now.trace_faults → ⊥
   pub output : Rose sinks.output_faults sinks_now.output_faults → ⊥
 
--- the words are a run, the source tells its text, which is a script without a line that is not built, and the image can be mounted
+-- the words are a run, the source tells its text, which is a script without a line that is not built, and the image can be mounted, whether its journals are
+-- clean or not
 pub record IsRunnable (words : List (List ℕ)) (given : Inputs) : Type 0 where
   pub run : AsksToRun given.disk.size words
   pub text : List ℕ
@@ -56,9 +58,14 @@ pub record IsRunnable (words : List (List ℕ)) (given : Inputs) : Type 0 where
   pub built : first_foreign script ≡ None
   pub mountable : IsMountable given.disk
 
--- the words ask for an image to be shown, and it can be mounted
+-- the words ask for an image to be shown, and it can be mounted, whether its journals are clean or not
 pub record IsShowable (words : List (List ℕ)) (given : Inputs) : Type 0 where
   pub show : AsksToShow given.disk.size words
+  pub mountable : IsMountable given.disk
+
+-- the words ask for a replay, and the image can be mounted
+pub record IsReplayable (words : List (List ℕ)) (given : Inputs) : Type 0 where
+  pub replay : AsksToReplay given.disk.size words
   pub mountable : IsMountable given.disk
 
 -- the words ask for an image that is built, and it fits the device, which is not too large
@@ -72,8 +79,9 @@ pub record IsMakeable (words : List (List ℕ)) (given : Inputs) : Type 0 where
 abbrev pub IsWhole : Status → Type 0
 IsWhole answer = (answer ≡ status.Done) ⊎ (answer ≡ status.NoMemory)
 
--- Then a run, a show and an image are done, but for want of memory.
+-- Then a run, a replay, a show and an image are done, but for want of memory.
 pub record IsComplete (words : List (List ℕ)) (given left : Inputs) (sinks sinks_now : Outputs) (answer : Status) : Type 0 where
   pub run : NoneRose given left sinks sinks_now → IsRunnable words given → IsWhole answer
+  pub replay : NoneRose given left sinks sinks_now → IsReplayable words given → IsWhole answer
   pub show : NoneRose given left sinks sinks_now → IsShowable words given → IsWhole answer
   pub make : NoneRose given left sinks sinks_now → IsMakeable words given → IsWhole answer

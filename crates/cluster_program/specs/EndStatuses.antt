@@ -1,9 +1,13 @@
--- Which status each end of a part has: of a run, of the reading of a tree, of a mount, of the script and its reading.
+-- Which status each end of a part has: of a run, of the reading of a tree, of a mount and of a replay, of the script and its reading.
 use Rattle.std.specs.Prelude.{ℕ, ◌+◌, Some}
 use Rattle.script_lang.specs.declared.parser.ScriptRefusal.{ScriptRefusal}
 use Rattle.script_lang.specs.declared.parser.ScriptRefusal.TheVariants as refusal
 use Rattle.image_mount.specs.declared.fault.MountFault.{MountFault}
 use Rattle.image_mount.specs.declared.fault.MountFault.TheVariants as fault
+use Rattle.image_replays.specs.look_faults.LookFault.{LookFault}
+use Rattle.image_replays.specs.look_faults.LookFault.TheVariants as look
+use Rattle.journal_replays.specs.declared.faults.ReplayFault.{ReplayFault}
+use Rattle.journal_replays.specs.declared.faults.ReplayFault.TheVariants as replay
 use Rattle.lone_node.specs.declared.ends.RunEnd.{RunEnd}
 use Rattle.lone_node.specs.declared.ends.RunEnd.TheVariants as end
 use Rattle.disk_trees.specs.declared.faults.TreeFault.{TreeFault}
@@ -26,6 +30,17 @@ abbrev pub status_of_tree : TreeFault → Status
 status_of_tree (tree.Damaged block rule) = status.Damaged block rule
 status_of_tree (tree.DiskFailed block rise) = status.DeviceFault 0 (Some block) rise.before rise.after
 status_of_tree tree.NoMemory = status.NoMemory
+
+-- of the planning of a replay
+abbrev pub status_of_look : LookFault → Status
+status_of_look (look.Damaged block rule) = status.Damaged block rule
+status_of_look (look.DiskFailed block rise) = status.DeviceFault 0 (Some block) rise.before rise.after
+status_of_look look.NoMemory = status.NoMemory
+
+-- of a replay, which node 1 makes
+abbrev pub status_of_replay : ReplayFault → Status
+status_of_replay (replay.DiskFailed block rise) = status.DeviceFault 1 block rise.before rise.after
+status_of_replay replay.NoMemory = status.NoMemory
 
 -- of a mount
 abbrev pub status_of_mount : MountFault → Status

@@ -6,6 +6,7 @@ pub mod Out
 pub mod Report
 pub mod Mounting
 pub mod Runs
+pub mod Beginning
 pub mod Dirty
 pub mod Course
 pub mod Command

@@ -1,5 +1,5 @@
--- What a run prints for its clients.
-use Rattle.std.specs.Prelude.{ℕ, zero, suc, ◌==◌, ◌||◌, Bool, true, false, List, [], ◌∷◌, ◌++◌, length, drop, codes, count_by, if◌then◌else◌}
+-- What a run prints for its clients, and a replay of its journals.
+use Rattle.std.specs.Prelude.{ℕ, zero, suc, ◌+◌, ◌-◌, ◌==◌, ◌||◌, Bool, true, false, List, [], ◌∷◌, ◌++◌, length, drop, codes, count_by, if◌then◌else◌}
 use Rattle.std.specs.List.{flat_map}
 use Rattle.text_words.specs.Words.{number}
 use Rattle.file_tree.specs.CallText.{call_text, reply_text}
@@ -15,6 +15,8 @@ use Rattle.run_rules.specs.Follows.{place_of, call_items, history_of}
 use Rattle.cluster_history.specs.History.{lost_count}
 use Rattle.cluster_program.specs.Orders.{uses, has_use_below}
 use Rattle.cluster_program.specs.StatusText.{status_lines, ended}
+use Rattle.cluster_program.specs.declared.output.Listing.{Listing}
+use Rattle.cluster_program.specs.declared.output.Listing.TheVariants.{Clients, Journals}
 use Rattle.cluster_program.specs.declared.status.Status.{Status}
 use Rattle.cluster_program.specs.declared.status.Status.TheVariants as status
 
@@ -80,6 +82,29 @@ abbrev pub all_lines : ScriptValue → List TraceItem → Status → ℕ → Lis
 all_lines s items st client [] = []
 all_lines s items st client (c ∷ cs) = client_lines s items st client c ++ all_lines s items st (suc client) cs
 
+-- ---- the lines of journals that were replayed
+
+abbrev pub replayed_line : (journal blocks : ℕ) → List ℕ
+replayed_line journal blocks = ended ((codes "replayed" ++ number journal) ++ (codes " blocks" ++ number blocks))
+
+-- how many blocks were written to put a journal home, behind this item
+abbrev pub written_behind : ℕ → TraceItem → ℕ
+written_behind written (trace.WriteReplay node block) = written + 1
+written_behind written (trace.Recovered slot by) = 0
+written_behind written _ = written
+
+-- the line that it gives, if it ends a replay: the last of the blocks was the journal's clean header
+abbrev pub line_of_replay : ℕ → TraceItem → List ℕ
+line_of_replay written (trace.Recovered slot by) = replayed_line (slot - 1) (written - 1)
+line_of_replay written _ = []
+
+abbrev pub replayed_lines_behind : ℕ → List TraceItem → List ℕ
+replayed_lines_behind written [] = []
+replayed_lines_behind written (i ∷ is) = line_of_replay written i ++ replayed_lines_behind (written_behind written i) is
+
+abbrev pub replayed_lines : List TraceItem → List ℕ
+replayed_lines items = replayed_lines_behind 0 items
+
 -- ---- the counts
 
 abbrev pub is_call : TraceItem → Bool
@@ -106,6 +131,11 @@ counts_line s items dirty =
 
 -- ---- all of it: before the first item the status alone
 
-abbrev pub out_of : ScriptValue → List TraceItem → Status → ℕ → List ℕ
-out_of s [] st dirty = status_lines s.clients st
-out_of s (i ∷ is) st dirty = all_lines s (i ∷ is) st 0 s.clients ++ (counts_line s (i ∷ is) dirty ++ status_lines s.clients st)
+-- what stands before the counts
+abbrev pub lines_of : Listing → ScriptValue → List TraceItem → Status → List ℕ
+lines_of Clients s items st = all_lines s items st 0 s.clients
+lines_of Journals s items st = replayed_lines items
+
+abbrev pub out_of : Listing → ScriptValue → List TraceItem → Status → ℕ → List ℕ
+out_of listing s [] st dirty = status_lines s.clients st
+out_of listing s (i ∷ is) st dirty = lines_of listing s (i ∷ is) st ++ (counts_line s (i ∷ is) dirty ++ status_lines s.clients st)

@@ -10,6 +10,7 @@ use Rattle.trace_text.specs.Text.{print}
 use Rattle.script_lang.specs.Script.{ScriptValue}
 use Rattle.cluster_program.specs.World.{Outputs}
 use Rattle.cluster_program.specs.Out.{is_done, out_of}
+use Rattle.cluster_program.specs.declared.output.Listing.{Listing}
 use Rattle.cluster_program.specs.declared.status.Which.{Which}
 use Rattle.cluster_program.specs.declared.status.Which.TheVariants as which
 
@@ -39,9 +40,9 @@ shown told lines = if is_done told then lines else []
 
 -- With a count of journals that are not clean: the trace gets the text of the items. Then the output, also where the trace failed, gets the lines
 -- that are shown, and what the items and the status give. A fault of theirs is told in the status, that of the trace before that of the output.
-pub record Reports (before now : Outputs) (s : ScriptValue) (items : List TraceItem) (lines : List ℕ) (dirty : ℕ) (own answer : Status) : Type 0 where
+pub record Reports (before now : Outputs) (listing : Listing) (s : ScriptValue) (items : List TraceItem) (lines : List ℕ) (dirty : ℕ) (own answer : Status) : Type 0 where
   pub told : Status
   pub trace : Puts before.trace now.trace (print items) (IsExcused before.trace_faults now.trace_faults told)
   pub told_is : Becomes which.Trace before.trace_faults now.trace_faults own told
-  pub output : Puts before.output now.output (shown told lines ++ out_of s items told dirty) (IsExcused before.output_faults now.output_faults answer)
+  pub output : Puts before.output now.output (shown told lines ++ out_of listing s items told dirty) (IsExcused before.output_faults now.output_faults answer)
   pub answer_is : Becomes which.Out before.output_faults now.output_faults told answer

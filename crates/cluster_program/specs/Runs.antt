@@ -1,7 +1,8 @@
 -- How a run of a script goes, and how it ends.
-use Rattle.std.specs.Prelude.{ℕ, ◌≡◌, ◌≢◌, ◌+◌, ◌<◌, ⊤, true, false, IfSome, IsSome, List, [], length, slice_get, Option, None, Some}
+use Rattle.std.specs.Prelude.{ℕ, ◌≡◌, ◌≢◌, ◌+◌, ◌<◌, ⊤, true, IfSome, IsSome, List, [], ◌∷◌, ◌++◌, length, slice_get, Option, None, Some}
 use Rattle.std.specs.FinMap.{empty}
 use Rattle.fault_counts.specs.Causes.{WentUp}
+use Rattle.drafts.specs.declared.change.Written.{Written}
 use Rattle.file_tree.specs.Tree.{Tree}
 use Rattle.file_tree.specs.declared.call.Call.{Call}
 use Rattle.cluster_history.specs.History.{Legal, NoneLost, tree_of}
@@ -10,17 +11,25 @@ use Rattle.image_model.specs.Image.{Image, image_of}
 use Rattle.image_model.specs.Rules.{IsBrokenBlock}
 use Rattle.image_mount.specs.Mounted.{Journal, MountedValue, IsMounted}
 use Rattle.trace_text.specs.declared.item.TraceItem.{TraceItem}
+use Rattle.trace_text.specs.declared.item.TraceItem.TheVariants as trace
 use Rattle.script_lang.specs.Script.{ScriptValue}
 use Rattle.run_rules.specs.Follows.{history_of}
 use Rattle.run_rules.specs.History.{HoldsHistory, NoneStopped, AllAnswered}
 use Rattle.shared_disk.specs.Disk.{DiskState, IsIdle}
+use Rattle.log_layout.specs.declared.log_header.LogHeader.{LogHeader}
 use Rattle.lone_view.specs.Seeing.{Lone, seen_alone}
 use Rattle.damage_laws.specs.Telling.{HasAstrayOn, HasRootInside}
+use Rattle.image_recovery.specs.Left.{HaveLowHeads}
+use Rattle.image_recovery.specs.Recoveries.{HaveFailed, HaveReplayed, HaveReplayedSome}
+use Rattle.image_replays.specs.Replays.{ArePlans}
 use Rattle.lone_node.specs.Answering.{IsDamagedOn, IsSameDisk, IsUnbuiltOn}
 use Rattle.lone_node.specs.Course.{IsCourse}
-use Rattle.lone_node.specs.Turns.{moment}
+use Rattle.lone_node.specs.Turns.{Moment, moment}
+use Rattle.lone_node.specs.Items.{AddsItems}
 use Rattle.lone_node.specs.Run.{EndsAt, EndsAtCall, HasChangedNothing, IsFailedOn, IsRunOf, IsWholeRun}
-use Rattle.cluster_program.specs.Mounting.{OfImage, IsImageOf, IsMountable, NeverStands, IsMountedClean, IsMountedFor, MountEnds, is_clean_in}
+use Rattle.peer_replay.specs.declared.planned.Plan.{Plan}
+use Rattle.cluster_program.specs.Mounting.{OfImage, IsImageOf, IsMountable, IsMountableClean, IsMountedOn, NeverStands, BeginEnds, is_clean_in}
+use Rattle.cluster_program.specs.Out.{replayed_line, replayed_lines}
 use Rattle.cluster_program.specs.World.{Inputs, KeepsDisk}
 use Rattle.cluster_program.specs.declared.status.Status.{Status}
 use Rattle.cluster_program.specs.declared.status.Status.TheVariants as status
@@ -48,32 +57,28 @@ pub data IsToldBroken (v : Seen) (im : Image) (call : Call) (rule block : ℕ) :
   itself : IsBrokenBlock im rule block → IsToldBroken v im call rule block
   beyond : HasAstrayOn v im call → IsToldBroken v im call rule block
 
+-- the image can be mounted, with the superblock and the groups of what was mounted before
+pub record IsMountedAgain (im : Image) (m : MountedValue) : Type 0 where
+  pub value : MountedValue
+  pub mounted : IsMounted im value
+  pub superblock : value.superblock ≡ m.superblock
+  pub groups : value.groups ≡ m.groups
+
 -- The call meets a block that breaks this rule, as what the node may have read by then shows it; and that is so of the image as it then was, if this still has
--- what was mounted of it.
+-- the superblock and the groups that were mounted.
 pub record MeetsDamage (given left : DiskState) (m : MountedValue) (block rule : ℕ) (call : Call) : Type 0 where
   pub shown : IsDamagedOn left (as_mounted given m) call block rule
-  pub told : OfImage left (λ im. IsMounted im m → IsToldBroken (seen_alone shown.view) im call rule block)
+  pub told : OfImage left (λ im. IsMountedAgain im m → IsToldBroken (seen_alone shown.view) im call rule block)
 
--- How a run of what was mounted ends, if anything was: each line is answered and the node has unmounted; the image was not mounted, before the first item; or, in a call
--- behind the lines above it: the disk failed as its blocks were read or written; the call isn't built for what stands there, in an image that stands for no
--- tree; or, in such an image too, a block is met that is told as broken (`MeetsDamage`); or there was no memory.
-pub data RunEnds (given left : Inputs) (s : ScriptValue) (time : ℕ) (items : List TraceItem) : Option MountedValue → Status → Type 0 where
-  IsDone : (m : MountedValue) → AllAnswered items s → IsWholeRun s.clients s.lines items (IsImageOf given.disk) → RunEnds given left s time items (Some m) status.Done
-  NotMounted : (own : Status) → items ≡ [] → KeepsDisk given left → MountEnds given.disk given.disk_faults left.disk_faults own → RunEnds given left s time items None own
-  CallFailed : (m : MountedValue) (block : Option ℕ) (x y : ℕ) → IsMountedFor given.disk m → HasRootInside (seen_alone (as_mounted given.disk m))
-      → WentUp (given.disk_faults 1) (left.disk_faults 1) x y → IfSome block (λ b. b < given.disk.count)
-      → AtCall given s items (λ call. IsFailedOn (moment given.disk given.disk_list) (moment left.disk left.disk_list) (as_mounted given.disk m) time s.clients items call block) → RunEnds given left s time items (Some m) (status.DeviceFault 1 block x y)
-  CallUnbuilt : (m : MountedValue) (place : ℕ) → IsMountedFor given.disk m → OfImage given.disk NeverStands → AtPlace given s items place (λ call. IsUnbuiltOn left.disk (as_mounted given.disk m) call)
-      → RunEnds given left s time items (Some m) (status.NotBuilt (part.Script (first_line s + place)))
-  CallDamaged : (m : MountedValue) (block rule : ℕ) → IsMountedFor given.disk m → OfImage given.disk NeverStands → AtCall given s items (MeetsDamage given.disk left.disk m block rule)
-      → RunEnds given left s time items (Some m) (status.Damaged block rule)
-  NoRoom : (what : Option MountedValue) → RunEnds given left s time items what status.NoMemory
+-- ---- the replay with which a run begins
 
--- This was mounted, its root is in one of its groups, and the items are the course of a run from what was given to what is left: each of its calls is a step, at this time.
-pub record HasCourse (given left : Inputs) (s : ScriptValue) (time : ℕ) (items : List TraceItem) (m : MountedValue) : Type 0 where
-  pub mounted : IsMountedFor given.disk m
-  pub root : HasRootInside (seen_alone (as_mounted given.disk m))
-  pub course : IsCourse (as_mounted given.disk m) time s.clients (moment given.disk given.disk_list) (moment left.disk left.disk_list) items
+-- these are the plans of the journals of what was mounted
+abbrev pub ArePlansOf : DiskState → MountedValue → List Plan → Type 0
+ArePlansOf disk m plans = OfImage disk (λ im. (is : IsMounted im m) → ArePlans im is.layout plans)
+
+-- the item that stands before those of the replay
+abbrev pub joined : List TraceItem
+joined = trace.Join 1 ∷ []
 
 -- the journals that were mounted are clean in the image as it was left
 pub record AreCleanAtEnd (given left : DiskState) : Type 0 where
@@ -81,36 +86,99 @@ pub record AreCleanAtEnd (given left : DiskState) : Type 0 where
   pub mounted : IsMounted (image_of given) value
   pub clean : (j : ℕ) (journal : Journal) → slice_get value.journals j ≡ Some journal → is_clean_in (image_of left) journal ≡ true
 
+-- the lines of the journals with these plans, from this number on: of each that isn't clean, how many blocks went home
+abbrev pub line_of_plan : ℕ → List Written → Option LogHeader → List ℕ
+line_of_plan journal home None = []
+line_of_plan journal home (Some header) = replayed_line journal (length home)
+
+abbrev pub lines_of_plans : ℕ → List Plan → List ℕ
+lines_of_plans journal [] = []
+lines_of_plans journal (p ∷ ps) = line_of_plan journal p.home.items p.clean ++ lines_of_plans (journal + 1) ps
+
+-- Behind the join of node 1 all journals of what was mounted were replayed, each by its own plan; behind the items of that stand those of calls, and maybe of the
+-- unmount. A line tells each journal that wasn't clean, and how many blocks were live in it, which went home. Where the image stands for a tree, with what its journals say in place, it stood for that one then, and each journal was clean.
+pub record HasReplayed (given : Inputs) (replayed : Moment) (m : MountedValue) (s : ScriptValue) (time : ℕ) (items : List TraceItem) : Type 0 where
+  pub plans : List Plan
+  pub planned : ArePlansOf given.disk m plans
+  pub begun : List TraceItem
+  pub replays : HaveReplayed 1 time (moment given.disk given.disk_list) replayed m.journals plans joined begun
+  pub adds : AddsItems s.clients begun items
+  pub told : replayed_lines items ≡ lines_of_plans 0 plans
+  pub stands : (tree : Tree) → IsImageOf given.disk tree → IsImageOf replayed.disk tree
+  pub clean : (tree : Tree) → IsImageOf given.disk tree → AreCleanAtEnd given.disk replayed.disk
+
+-- behind the sequence of each head that isn't clean of what is mounted of the image there is one more that is in the profile
+abbrev pub HasLowHeads : Image → Type 0
+HasLowHeads im = (m : MountedValue) → IsMounted im m → HaveLowHeads m
+
+-- ---- the run behind it
+
+-- From there on, up to what is left.
+pub record HasRun (given left : Inputs) (replayed : Moment) (m : MountedValue) (s : ScriptValue) (time : ℕ) (items : List TraceItem) : Type 0 where
+  -- the root is in one of the groups
+  pub root : HasRootInside (seen_alone (as_mounted given.disk m))
+  -- call by call: each is answered from what was read of the disk as it then was, puts on it what its change writes, and nothing else; where too few
+  -- blocks were free for it, an item tells how many it takes and how many there were
+  pub course : IsCourse (as_mounted given.disk m) time s.clients replayed (moment left.disk left.disk_list) items
+  -- where no answered call changes anything, nothing more was written
+  pub untouched : HasChangedNothing s.clients items → moment left.disk left.disk_list ≡ replayed
+  -- where the image stands for a tree, it stands now for what the calls leave of it, and its journals are clean
+  pub stands : (tree : Tree) → IsImageOf given.disk tree → IsImageOf left.disk (tree_of (history_of s.clients items) tree)
+  pub clean : (tree : Tree) → IsImageOf given.disk tree → AreCleanAtEnd given.disk left.disk
+  -- an image that could be mounted can be mounted again, its journals clean, if no head that wasn't clean had the last sequence of the profile
+  pub still : IsMountable given.disk → HasLowHeads (image_of given.disk) → IsMountableClean left.disk
+  -- it is the same disk, with nothing in flight
+  pub same : IsSameDisk given.disk left.disk
+  pub idle : IsIdle left.disk
+
 -- so unless the disk failed
 abbrev pub UnlessFault : Status → Type 0 → Type 0
 UnlessFault (status.DeviceFault node block x y) P = ⊤
 UnlessFault own P = P
 
+-- ---- how it ends
+
+-- How a run ends, of what was mounted, if anything was, and of the disk that the replay left, if that was whole: each line is answered and the node has unmounted;
+-- the run didn't begin, before the first item; in the replay of a journal the disk failed, or there was no memory for it, behind the replays of those before it; or, in
+-- a call behind the lines above it: the disk failed as its blocks were read or written; the call isn't built for what stands there, in an image that stands for
+-- no tree; or, in such an image too, a block is met that is told as broken (`MeetsDamage`); or there was no memory.
+pub data RunEnds (given left : Inputs) (s : ScriptValue) (time : ℕ) (items : List TraceItem) : Option MountedValue → Option Moment → Status → Type 0 where
+  IsDone : (m : MountedValue) (replayed : Moment) → AllAnswered items s → IsWholeRun s.clients s.lines items (IsImageOf given.disk)
+      → RunEnds given left s time items (Some m) (Some replayed) status.Done
+  NotBegun : (own : Status) → items ≡ [] → KeepsDisk given left → BeginEnds given.disk given.disk_faults left.disk_faults own → RunEnds given left s time items None None own
+  ReplayFailed : (m : MountedValue) (plans : List Plan) (block : Option ℕ) (x y : ℕ) → ArePlansOf given.disk m plans
+      → WentUp (given.disk_faults 1) (left.disk_faults 1) x y → IfSome block (λ b. b < given.disk.count)
+      → HaveFailed 1 time (moment given.disk given.disk_list) (moment left.disk left.disk_list) m.journals plans joined items block
+      → RunEnds given left s time items (Some m) None (status.DeviceFault 1 block x y)
+  ReplayLacksRoom : (m : MountedValue) (plans : List Plan) → ArePlansOf given.disk m plans
+      → HaveReplayedSome 1 time (moment given.disk given.disk_list) (moment left.disk left.disk_list) m.journals plans joined items
+      → RunEnds given left s time items (Some m) None status.NoMemory
+  CallFailed : (m : MountedValue) (replayed : Moment) (block : Option ℕ) (x y : ℕ) → HasRootInside (seen_alone (as_mounted given.disk m))
+      → WentUp (given.disk_faults 1) (left.disk_faults 1) x y → IfSome block (λ b. b < given.disk.count)
+      → AtCall given s items (λ call. IsFailedOn replayed (moment left.disk left.disk_list) (as_mounted given.disk m) time s.clients items call block)
+      → RunEnds given left s time items (Some m) (Some replayed) (status.DeviceFault 1 block x y)
+  CallUnbuilt : (m : MountedValue) (replayed : Moment) (place : ℕ) → OfImage given.disk NeverStands → AtPlace given s items place (λ call. IsUnbuiltOn left.disk (as_mounted given.disk m) call)
+      → RunEnds given left s time items (Some m) (Some replayed) (status.NotBuilt (part.Script (first_line s + place)))
+  CallDamaged : (m : MountedValue) (replayed : Moment) (block rule : ℕ) → OfImage given.disk NeverStands → AtCall given s items (MeetsDamage given.disk left.disk m block rule)
+      → RunEnds given left s time items (Some m) (Some replayed) (status.Damaged block rule)
+  NoRoom : (m : MountedValue) (replayed : Moment) → RunEnds given left s time items (Some m) (Some replayed) status.NoMemory
+
 -- a run of the script, with this time of its changes, in seconds
 pub record Runs (given left : Inputs) (s : ScriptValue) (time : ℕ) (items : List TraceItem) (own : Status) : Type 0 where
-  -- what was mounted, of which the course and the end of the run tell; where there is an item, something was
+  -- what was mounted, if anything was, as it was wherever there is an item; and the disk once all its journals were replayed, if the run came so far
   pub value : Option MountedValue
+  pub replayed : Option Moment
   pub began : items ≢ [] → IsSome value
-  -- on every disk, also one that tells nothing: node 1 joins, takes the lines one by one, and unmounts
+  pub mounted : IfSome value (IsMountedOn given.disk)
+  -- on every disk, also one that tells nothing: node 1 joins, replays the journals, takes the lines one by one, and unmounts
   pub run : IsRunOf s.clients s.lines items (IsImageOf given.disk)
   -- so the items follow the script and hold one history, no node stops, and nothing is lost
   pub history : HoldsHistory s items
   pub members : NoneStopped items
   pub none_lost : NoneLost (history_of s.clients items)
-  -- where the image stands for a tree: every reply is that of this tree, which takes the calls one by one, and the image stands for what they leave
+  -- where the image stands for a tree, with what its journals say in place: every reply is that of this tree, which takes the calls one by one
   pub legal : (tree : Tree) → IsImageOf given.disk tree → Legal (history_of s.clients items) tree
-  pub stands : UnlessFault own ((tree : Tree) → IsImageOf given.disk tree → IsImageOf left.disk (tree_of (history_of s.clients items) tree))
-  -- call by call: each is answered from what was read of the disk as it then was, puts on it what its change writes, and nothing else; where too few
-  -- blocks were free for it, an item tells how many it takes and how many there were
-  pub course : UnlessFault own (items ≢ [] → IfSome value (HasCourse given left s time items))
-  -- where no answered call changes anything, nothing was written
-  pub untouched : UnlessFault own (HasChangedNothing s.clients items → KeepsDisk given left)
-  -- it is the same disk, with nothing in flight
-  pub same : UnlessFault own (IsSameDisk given.disk left.disk)
-  pub idle : UnlessFault own (IsIdle left.disk)
-  -- no item stands before the image was mounted and each of its journals was found clean; where it stands for a tree, they are clean yet
-  pub mounted : items ≢ [] → OfImage given.disk IsMountedClean
-  pub clean : UnlessFault own (items ≢ [] → (tree : Tree) → IsImageOf given.disk tree → AreCleanAtEnd given.disk left.disk)
-  -- an image that could be mounted can be mounted again, unless the disk failed
-  pub still : UnlessFault own (IsMountable given.disk → IsMountable left.disk)
-  pub ends : RunEnds given left s time items value own
+  -- what was done to the disk: the journals are replayed, and then the calls are carried out
+  pub replays : IfSome replayed (λ r. IfSome value (λ m. HasReplayed given r m s time items))
+  pub ran : UnlessFault own (IfSome replayed (λ r. IfSome value (λ m. HasRun given left r m s time items)))
+  pub ends : RunEnds given left s time items value replayed own

@@ -63,7 +63,6 @@ waits_text clients w =
 abbrev pub part_text : Part → List ℕ
 part_text part.Words = codes "words"
 part_text (part.Script line) = codes "line" ++ number line
-part_text (part.Block block) = codes "block" ++ number block
 
 -- ---- the status
 

@@ -1,11 +1,13 @@
 // How a command ends whose part ended early.
 ghost use Rattle.std.specs.Prelude.{◌≡◌, ◌+◌, ◌<◌, ◌^◌};
 ghost use Rattle.lone_node.specs.Ends.{IfNotBuilt};
-ghost use Rattle.cluster_program.specs.EndStatuses.{status_of_end, status_of_mount, status_of_tree};
+ghost use Rattle.cluster_program.specs.EndStatuses.{status_of_end, status_of_look, status_of_mount, status_of_replay, status_of_tree};
 
 use crate::status::{Part, Status};
 use disk_trees::TreeFault;
 use image_mount::MountFault;
+use image_recovery::ReplayFault;
+use image_replays::LookFault;
 use lone_node::RunEnd;
 
 /// One whose mount failed.
@@ -29,12 +31,34 @@ pub(crate) fn not_mounted(fault: MountFault) -> Status
     }
 }
 
-/// What this block holds is not built.
-pub(crate) fn not_built(block: u64) -> Status
-    ensures { result ≡ Status.NotBuilt (Part.Block block) }
+/// One whose journals could not be planned.
+pub(crate) fn not_planned(fault: LookFault) -> Status
+    ensures { result ≡ status_of_look fault }
 {
-    Status::NotBuilt {
-        part: Part::Block { block },
+    match fault {
+        LookFault::Damaged { block, rule } => Status::Damaged { block, rule },
+        LookFault::DiskFailed { block, rise } => Status::DeviceFault {
+            node: 0,
+            block: Some(block),
+            before: rise.before,
+            after: rise.after,
+        },
+        LookFault::NoMemory => Status::NoMemory,
+    }
+}
+
+/// One whose journals were not all replayed.
+pub(crate) fn not_replayed(fault: ReplayFault) -> Status
+    ensures { result ≡ status_of_replay fault }
+{
+    match fault {
+        ReplayFault::DiskFailed { block, rise } => Status::DeviceFault {
+            node: 1,
+            block,
+            before: rise.before,
+            after: rise.after,
+        },
+        ReplayFault::NoMemory => Status::NoMemory,
     }
 }
 

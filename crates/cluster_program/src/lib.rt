@@ -1,12 +1,14 @@
 //! The top call: what a command does to the disk, prints and answers.
 #![tactic(auto)]
 
+mod beginning;
 mod end_status;
 mod image;
 mod input;
 mod mounting;
 mod output;
 mod places;
+mod replay;
 mod report;
 mod run;
 mod script;

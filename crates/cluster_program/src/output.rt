@@ -1,11 +1,11 @@
-ghost use Rattle.std.specs.Prelude.{◌≡◌, ◌++◌, [], IfOk, OnOk, count_by};
+ghost use Rattle.std.specs.Prelude.{◌≡◌, ◌+◌, ◌<◌, ◌≤◌, ◌^◌, ◌++◌, [], IfOk, OnOk, count_by};
 ghost use Rattle.std.specs.Io.KnownBytes.{Appends};
 ghost use Rattle.stream_io.specs.Streams.{AppendsPrefix};
 ghost use Rattle.cluster_program.specs.StatusText.{ended, status_lines};
 ghost use Rattle.cluster_program.specs.Streams.{PassesOn, PutHasCause};
 ghost use Rattle.cluster_program.specs.Quiet.{IsQuiet};
 ghost use Rattle.cluster_program.specs.Report.{shown};
-ghost use Rattle.cluster_program.specs.Out.{is_call as counts_as_call, is_commit as counts_as_commit, is_stop as counts_as_stop, counts_text, counts_line, answered_line, item_line, answered_lines, all_lines, out_of};
+ghost use Rattle.cluster_program.specs.Out.{is_call as counts_as_call, is_commit as counts_as_commit, is_stop as counts_as_stop, counts_text, counts_line, answered_line, item_line, answered_lines, all_lines, line_of_replay, lines_of, out_of, replayed_lines, written_behind};
 
 use crate::places::place_of;
 use crate::status::Status;
@@ -18,6 +18,13 @@ use std::alloc::Global;
 use stream_io::Sink;
 use text_words::append;
 use trace_text::TraceItem;
+
+/// What a run prints before its counts: the lines of its clients, or those of the journals that it replayed.
+#[derive(Clone, Copy, Debug, PartialEq, Eq)]
+pub(crate) enum Listing {
+    Clients,
+    Journals,
+}
 
 // An answered line of a client.
 fn append_answered(
@@ -129,6 +136,89 @@ fn put_all_lines<T: Sink>(
     Ok(())
 }
 
+// The line that an item gives, where so many blocks were written before it to put a journal home.
+fn append_replayed(text: &mut Vec<u8>, written: u64, item: &TraceItem) -> Result<(), NoMemory>
+    ensures { IfOk result (λ _. text.new.items ≡ text.old.items ++ line_of_replay written item.now) }
+{
+    let TraceItem::Recovered { node, .. } = item else {
+        return Ok(());
+    };
+    append_one(text, b"replayed", u64::from(node.saturating_sub(1)))?;
+    append_one(text, b" blocks", written.saturating_sub(1))?;
+    append(text, b"\n")
+}
+
+// How many blocks were written to put a journal home, behind this item.
+fn count_written(written: u64, item: &TraceItem) -> u64
+    requires { written < 2 ^ 63 }
+    ensures is { result ≡ written_behind written item.now }
+    ensures most { result ≤ written + 1 }
+{
+    match item {
+        TraceItem::WriteReplay { .. } => written + 1,
+        TraceItem::Recovered { .. } => 0,
+        _ => written,
+    }
+}
+
+// Puts the line that an item gives, where so many blocks were written before it.
+fn put_replayed<T: Sink>(
+    sink: &mut T,
+    held: &mut Vec<u8>,
+    written: u64,
+    item: &TraceItem,
+) -> Result<(), PutFault>
+    ensures bytes { PassesOn (T.contents sink.old) (T.contents sink.new) held.old.items held.new.items result (line_of_replay written item.now) }
+    ensures cause { PutHasCause (T.faults sink.old) (T.faults sink.new) result }
+{
+    match append_replayed(held, written, item) {
+        Ok(()) => pass_on(sink, held),
+        Err(_) => Err(PutFault::NoMemory),
+    }
+}
+
+// Puts the lines of the journals that were replayed.
+fn put_replayed_lines<T: Sink>(
+    sink: &mut T,
+    held: &mut Vec<u8>,
+    items: &[TraceItem],
+) -> Result<(), PutFault>
+    ensures bytes { PassesOn (T.contents sink.old) (T.contents sink.new) held.old.items held.new.items result (replayed_lines items.now) }
+    ensures cause { PutHasCause (T.faults sink.old) (T.faults sink.new) result }
+{
+    let mut written = 0;
+    let mut rest = items;
+    while let [item, behind @ ..] = rest {
+        match put_replayed(sink, held, written, item) {
+            Ok(()) => {}
+            Err(fault) => return Err(fault),
+        }
+        written = count_written(written, item);
+        rest = behind;
+    }
+    Ok(())
+}
+
+// Puts what stands before the counts.
+fn put_listing<T: Sink>(
+    alloc: Global,
+    sink: &mut T,
+    held: &mut Vec<u8>,
+    listing: Listing,
+    script: &Script,
+    items: &[TraceItem],
+    told: &Status,
+) -> Result<(), PutFault>
+    requires quiet { IsQuiet script.now items.now told.now }
+    ensures bytes { PassesOn (T.contents sink.old) (T.contents sink.new) held.old.items held.new.items result (lines_of listing script.now items.now told.now) }
+    ensures cause { PutHasCause (T.faults sink.old) (T.faults sink.new) result }
+{
+    match listing {
+        Listing::Clients => put_all_lines(alloc, sink, held, script, items, told),
+        Listing::Journals => put_replayed_lines(sink, held, items),
+    }
+}
+
 /// What the items of a run come to.
 #[derive(Clone, Copy, Debug)]
 struct Tally {
@@ -220,21 +310,22 @@ fn append_end(
     append_status(text, &script.clients, told)
 }
 
-// Puts the lines of a run that has items.
+// Puts the lines of a run or a replay that has items.
 fn put_run<T: Sink>(
     alloc: Global,
     sink: &mut T,
     held: &mut Vec<u8>,
+    listing: Listing,
     script: &Script,
     items: &[TraceItem],
     told: &Status,
 ) -> Result<(), PutFault>
     requires quiet { IsQuiet script.now items.now told.now }
     ensures bytes { PassesOn (T.contents sink.old) (T.contents sink.new) held.old.items held.new.items result
-        (all_lines script.now items.now told.now 0 script.now.clients ++ (counts_line script.now items.now 0 ++ status_lines script.now.clients told.now)) }
+        (lines_of listing script.now items.now told.now ++ (counts_line script.now items.now 0 ++ status_lines script.now.clients told.now)) }
     ensures cause { PutHasCause (T.faults sink.old) (T.faults sink.new) result }
 {
-    match put_all_lines(alloc, sink, held, script, items, told) {
+    match put_listing(alloc, sink, held, listing, script, items, told) {
         Ok(()) => {}
         Err(fault) => return Err(fault),
     }
@@ -249,17 +340,18 @@ fn put_lines<T: Sink>(
     alloc: Global,
     sink: &mut T,
     held: &mut Vec<u8>,
+    listing: Listing,
     script: &Script,
     items: &[TraceItem],
     told: &Status,
 ) -> Result<(), PutFault>
     requires quiet { IsQuiet script.now items.now told.now }
     ensures bytes { PassesOn (T.contents sink.old) (T.contents sink.new) held.old.items held.new.items result
-        (out_of script.now items.now told.now 0) }
+        (out_of listing script.now items.now told.now 0) }
     ensures cause { PutHasCause (T.faults sink.old) (T.faults sink.new) result }
 {
     if !items.is_empty() {
-        return put_run(alloc, sink, held, script, items, told);
+        return put_run(alloc, sink, held, listing, script, items, told);
     }
     match append_status(held, &script.clients, told) {
         Ok(()) => Ok(()),
@@ -277,23 +369,24 @@ fn held_lines(alloc: Global, lines: Vec<u8>, told: &Status) -> Vec<u8>
     }
 }
 
-/// Puts the lines that are shown, where all was done, and what a run prints for its clients. It holds a chunk of that, and
-/// goes over the items once for each client.
+/// Puts the lines that are shown, where all was done, and what a run prints for its clients, or a replay for its journals. It holds a chunk of
+/// that, and goes over the items once for each client.
 pub(crate) fn put_out<T: Sink>(
     alloc: Global,
     sink: &mut T,
+    listing: Listing,
     script: &Script,
     items: &[TraceItem],
     lines: Vec<u8>,
     told: &Status,
 ) -> Result<(), PutFault>
     requires quiet { IsQuiet script.now items.now told.now }
-    ensures all { OnOk result (Appends (T.contents sink.old) (T.contents sink.new) (shown told.now lines.items ++ out_of script.now items.now told.now 0)) }
-    ensures front { AppendsPrefix (T.contents sink.old) (T.contents sink.new) (shown told.now lines.items ++ out_of script.now items.now told.now 0) }
+    ensures all { OnOk result (Appends (T.contents sink.old) (T.contents sink.new) (shown told.now lines.items ++ out_of listing script.now items.now told.now 0)) }
+    ensures front { AppendsPrefix (T.contents sink.old) (T.contents sink.new) (shown told.now lines.items ++ out_of listing script.now items.now told.now 0) }
     ensures cause { PutHasCause (T.faults sink.old) (T.faults sink.new) result }
 {
     let mut held = held_lines(alloc, lines, told);
-    match put_lines(alloc, sink, &mut held, script, items, told) {
+    match put_lines(alloc, sink, &mut held, listing, script, items, told) {
         Ok(()) => put_held(sink, &mut held),
         Err(fault) => Err(fault),
     }

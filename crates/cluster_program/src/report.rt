@@ -5,7 +5,7 @@ ghost use Rattle.cluster_program.specs.Quiet.{IsQuiet};
 ghost use Rattle.cluster_program.specs.World.{outputs};
 ghost use Rattle.cluster_program.specs.Report.{shown, IsSinkFault, IsExcused, Puts, Becomes, Reports};
 
-use crate::output::put_out;
+use crate::output::{Listing, put_out};
 use crate::status::{Status, Which};
 use crate::streams::{PutFault, put_trace};
 use script_lang::Script;
@@ -41,18 +41,19 @@ fn is_sink_fault(status: &Status) -> bool
 fn report_out<T: Sink>(
     alloc: Global,
     sink: &mut T,
+    listing: Listing,
     script: &Script,
     items: &[TraceItem],
     lines: Vec<u8>,
     told: Status,
 ) -> Status
     requires quiet { IsQuiet script.now items.now told }
-    ensures puts { Puts (T.contents sink.old) (T.contents sink.new) (shown told lines.items ++ out_of script.now items.now told 0) (IsExcused (T.faults sink.old) (T.faults sink.new) result) }
+    ensures puts { Puts (T.contents sink.old) (T.contents sink.new) (shown told lines.items ++ out_of listing script.now items.now told 0) (IsExcused (T.faults sink.old) (T.faults sink.new) result) }
     ensures becomes { Becomes Which.Out (T.faults sink.old) (T.faults sink.new) told result }
     ensures later { T.faults sink.old ≤ T.faults sink.new }
 {
     let before = sink.faults();
-    match put_out(alloc, sink, script, items, lines, &told) {
+    match put_out(alloc, sink, listing, script, items, lines, &told) {
         Ok(()) => told,
         Err(PutFault::NoMemory) => Status::NoMemory,
         Err(PutFault::Failed) => {
@@ -73,6 +74,7 @@ pub(crate) fn report<T: Sink, O: Sink>(
     alloc: Global,
     trace: &mut T,
     out: &mut O,
+    listing: Listing,
     script: &Script,
     items: &[TraceItem],
     lines: Vec<u8>,
@@ -83,9 +85,9 @@ pub(crate) fn report<T: Sink, O: Sink>(
     ensures reports { Reports
         (outputs (T.contents trace.old) (T.faults trace.old) (O.contents out.old) (O.faults out.old))
         (outputs (T.contents trace.new) (T.faults trace.new) (O.contents out.new) (O.faults out.new))
-        script.now items.now lines.items 0 own result }
+        listing script.now items.now lines.items 0 own result }
     ensures later { (T.faults trace.old ≤ T.faults trace.new) × (O.faults out.old ≤ O.faults out.new) }
 {
     let told = report_trace(alloc, trace, items, own);
-    report_out(alloc, out, script, items, lines, told)
+    report_out(alloc, out, listing, script, items, lines, told)
 }

@@ -7,15 +7,17 @@ ghost use Rattle.cluster_program.specs.Quiet.{IsQuiet};
 ghost use Rattle.cluster_program.specs.Runs.{Runs, first_line as first_line_of};
 ghost use Rattle.cluster_program.specs.World.{inputs};
 
+use crate::beginning::begin;
 use crate::end_status::status_of_end;
-use crate::mounting::{mount_clean, view_of};
 use crate::status::Status;
 use damage_laws::{
     calls_tell_broken_blocks, needs_out_of_the_device_tell_broken_blocks,
     views_may_be_read_from_mounted_images,
 };
+use image_model::clean_images_stay;
 use image_mount::mounted_images_stand_as_mounted;
-use lone_node::run_script;
+use image_recovery::{what_a_replay_leaves_is_of_the_profile, what_a_replay_leaves_stands};
+use lone_node::{run_script, runs_begin_with_no_call};
 use script_lang::Script;
 use shared_disk::SharedDisk;
 use std::alloc::Global;
@@ -29,7 +31,7 @@ fn first_line(script: &Script) -> u32
     2 + script.clients.len() as u32 + script.armed.len() as u32
 }
 
-/// Mounts the image and runs a script on it; `time` is that of its changes, in seconds. The items go behind `items`, which is empty.
+/// Mounts the image, replays its journals, and runs a script on it; `time` is that of its changes, in seconds. The items go behind `items`, which is empty.
 pub(crate) fn mount_and_run<D: SharedDisk>(
     alloc: Global,
     disk: &mut D,
@@ -49,13 +51,13 @@ pub(crate) fn mount_and_run<D: SharedDisk>(
 {
     views_may_be_read_from_mounted_images();
     mounted_images_stand_as_mounted();
+    clean_images_stay();
+    what_a_replay_leaves_stands();
+    what_a_replay_leaves_is_of_the_profile();
+    runs_begin_with_no_call();
     calls_tell_broken_blocks();
     needs_out_of_the_device_tell_broken_blocks();
-    let mounted = match mount_clean(alloc, disk) {
-        Ok(mounted) => mounted,
-        Err(own) => return own,
-    };
-    let mut view = match view_of(alloc, disk, mounted) {
+    let mut view = match begin(alloc, disk, time, items) {
         Ok(view) => view,
         Err(own) => return own,
     };

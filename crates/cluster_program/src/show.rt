@@ -7,9 +7,9 @@ ghost use Rattle.show_text.specs.Show.{journal_lines};
 ghost use Rattle.cluster_program.specs.Course.{Shows};
 
 use crate::end_status::not_read;
-use crate::mounting::mount_clean;
+use crate::mounting::mount;
 use crate::status::Status;
-use disk_trees::read_disk_tree;
+use disk_trees::read_mounted_tree;
 use image_mount::JournalMap;
 use no_memory::NoMemory;
 use shared_disk::SharedDisk;
@@ -30,8 +30,8 @@ fn append_journals(text: &mut Vec<u8>, journals: &[JournalMap]) -> Result<(), No
     Ok(())
 }
 
-/// The lines of what is on the image, journals and tree, or how the command ends without them. It mounts the image, and then reads each block
-/// of the device once.
+/// The lines of what is on the image, journals and tree, or how the command ends without them. It mounts the image, reads each journal that isn't clean, and then each block of
+/// the device once; nothing is written.
 pub(crate) fn show_image<D: SharedDisk>(alloc: Global, disk: &mut D) -> Result<Vec<u8>, Status>
     requires idle { IsIdle (D.state disk.old) }
     requires size { IsBlockSize (D.state disk.old).size }
@@ -39,11 +39,11 @@ pub(crate) fn show_image<D: SharedDisk>(alloc: Global, disk: &mut D) -> Result<V
         (λ own. Shows (D.state disk.old) (D.faults disk.old) (D.faults disk.new) [] own) }
     ensures reads { ReadsOnly (D.state disk.old) (D.state disk.new) (D.list disk.old) (D.list disk.new) (D.faults disk.old) (D.faults disk.new) }
 {
-    let mounted = match mount_clean(alloc, disk) {
+    let mounted = match mount(alloc, disk) {
         Ok(mounted) => mounted,
         Err(own) => return Err(own),
     };
-    let tree = match read_disk_tree(alloc, disk) {
+    let tree = match read_mounted_tree(alloc, disk, &mounted) {
         Ok(tree) => tree,
         Err(fault) => return Err(not_read(fault)),
     };

@@ -11,12 +11,11 @@ pub enum Which {
     Out,
 }
 
-/// What is not built yet: this form of words, this line of a script, or what this block holds.
+/// What is not built yet: this form of words, or this line of a script.
 #[derive(Clone, Copy, Debug, PartialEq, Eq)]
 pub enum Part {
     Words,
     Script { line: u32 },
-    Block { block: u64 },
 }
 
 /// How a command ended.

@@ -136,7 +136,6 @@ fn append_part(text: &mut Vec<u8>, part: Part) -> Result<(), NoMemory>
     match part {
         Part::Words => append(text, b"words"),
         Part::Script { line } => append_one(text, b"line", u64::from(line)),
-        Part::Block { block } => append_one(text, b"block", block),
     }
 }
 

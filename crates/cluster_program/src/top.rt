@@ -1,15 +1,17 @@
-ghost use Rattle.std.specs.Prelude.{◌≡◌, ◌≤◌, ℕ, List, [], map, string_bytes};
+ghost use Rattle.std.specs.Prelude.{◌≡◌, ◌≤◌, ℕ, List, [], IfOk, Option, map, string_bytes};
 ghost use Rattle.shared_disk.specs.Disk.{IsIdle};
 ghost use Rattle.shared_disk.specs.Disk.{ReadsOnly};
 ghost use Rattle.script_lang.specs.Grammar.{nothing};
 ghost use Rattle.gfs2_layout.specs.Device.{IsBlockSize};
 ghost use Rattle.cluster_program.specs.World.{inputs, outputs};
-ghost use Rattle.cluster_program.specs.Course.{Course, Shows, AsksToRun};
+ghost use Rattle.cluster_program.specs.Course.{AsksToReplay, AsksToRun, Course, Shows};
 ghost use Rattle.cluster_program.specs.Report.{IsSinkFault};
 ghost use Rattle.cluster_program.specs.Command.{Ends, FaultHasCause, IsComplete};
 ghost use Rattle.cluster_program.specs.Quiet.{IsQuiet};
 
 use crate::image::make_image;
+use crate::output::Listing;
+use crate::replay::replay_script;
 use crate::report::report;
 use crate::run::mount_and_run;
 use crate::script::read_script;
@@ -31,10 +33,11 @@ pub struct Ended<D> {
     pub disk: D,
 }
 
-// A command that was carried out: the script that it ran, without anything in it where it ran none, the lines that it
+// A command that was carried out: what it lists, the script that it ran, without anything in it where it ran none, the lines that it
 // shows, and its end.
 #[derive(Drop)]
 struct Carried {
+    listing: Listing,
     script: Script,
     lines: Vec<u8>,
     own: Status,
@@ -53,11 +56,13 @@ fn no_script(alloc: Global) -> Script
 
 // The end of a command that ran no script, and shows nothing.
 fn without_script(alloc: Global, own: Status) -> Carried
+    ensures listing { result.listing ≡ Listing.Clients }
     ensures script { result.script ≡ nothing }
     ensures lines { result.lines.items ≡ [] }
     ensures own { result.own ≡ own }
 {
     Carried {
+        listing: Listing::Clients,
         script: no_script(alloc),
         lines: Vec::new(alloc),
         own,
@@ -68,6 +73,7 @@ fn without_script(alloc: Global, own: Status) -> Carried
 fn show<D: SharedDisk>(alloc: Global, disk: &mut D) -> Carried
     requires size { IsBlockSize (D.state disk.old).size }
     requires idle { IsIdle (D.state disk.old) }
+    ensures listing { result.listing ≡ Listing.Clients }
     ensures script { result.script ≡ nothing }
     ensures shows { Shows (D.state disk.old) (D.faults disk.old) (D.faults disk.new) result.lines.items result.own }
     ensures reads { ReadsOnly (D.state disk.old) (D.state disk.new) (D.list disk.old) (D.list disk.new) (D.faults disk.old) (D.faults disk.new) }
@@ -75,6 +81,7 @@ fn show<D: SharedDisk>(alloc: Global, disk: &mut D) -> Carried
 {
     match show_image(alloc, disk) {
         Ok(lines) => Carried {
+            listing: Listing::Clients,
             script: no_script(alloc),
             lines,
             own: Status::Done,
@@ -97,7 +104,7 @@ fn read_and_run<D: SharedDisk, S: Source>(
     ensures course { (words : List (List ℕ)) → (asks : AsksToRun (D.state disk.old).size words) → time ≡ asks.run.time → Course words
         (inputs (D.state disk.old) (D.list disk.old) (D.faults disk.old) (S.left source.old) (S.faults source.old))
         (inputs (D.state disk.new) (D.list disk.new) (D.faults disk.new) (S.left source.new) (S.faults source.new))
-        result.script items.new.items result.lines.items result.own }
+        result.listing result.script items.new.items result.lines.items result.own }
     ensures own { IsSinkFault result.own → ⊥ }
     ensures quiet { (told : Status) → (told ≡ Status.Done → result.own ≡ Status.Done) → IsQuiet result.script items.new.items told }
     ensures later { ((j : ℕ) → D.faults disk.old j ≤ D.faults disk.new j) × (S.faults source.old ≤ S.faults source.new) }
@@ -108,6 +115,32 @@ fn read_and_run<D: SharedDisk, S: Source>(
     };
     let own = mount_and_run(alloc, disk, &script, time, items);
     Carried {
+        listing: Listing::Clients,
+        script,
+        lines: Vec::new(alloc),
+        own,
+    }
+}
+
+// Replays the journals of the image. The items go behind `items`, which is empty.
+fn replay<D: SharedDisk>(alloc: Global, disk: &mut D, items: &mut Vec<TraceItem>) -> Carried
+    requires size { IsBlockSize (D.state disk.old).size }
+    requires idle { IsIdle (D.state disk.old) }
+    requires none { items.old.items ≡ [] }
+    ensures course { (words : List (List ℕ)) (left : Option (List ℕ)) (failed : ℕ) → AsksToReplay (D.state disk.old).size words → Course words
+        (inputs (D.state disk.old) (D.list disk.old) (D.faults disk.old) left failed) (inputs (D.state disk.new) (D.list disk.new) (D.faults disk.new) left failed)
+        result.listing result.script items.new.items result.lines.items result.own }
+    ensures own { IsSinkFault result.own → ⊥ }
+    ensures quiet { (told : Status) → (told ≡ Status.Done → result.own ≡ Status.Done) → IsQuiet result.script items.new.items told }
+    ensures later { (j : ℕ) → D.faults disk.old j ≤ D.faults disk.new j }
+{
+    let script = match replay_script(alloc) {
+        Ok(script) => script,
+        Err(_) => return without_script(alloc, Status::NoMemory),
+    };
+    let own = mount_and_run(alloc, disk, &script, 0, items);
+    Carried {
+        listing: Listing::Journals,
         script,
         lines: Vec::new(alloc),
         own,
@@ -128,7 +161,7 @@ fn carry_out<D: SharedDisk, S: Source>(
     ensures course { Course (map string_bytes words.now)
         (inputs (D.state disk.old) (D.list disk.old) (D.faults disk.old) (S.left source.old) (S.faults source.old))
         (inputs (D.state disk.new) (D.list disk.new) (D.faults disk.new) (S.left source.new) (S.faults source.new))
-        result.script items.new.items result.lines.items result.own }
+        result.listing result.script items.new.items result.lines.items result.own }
     ensures own { IsSinkFault result.own → ⊥ }
     ensures quiet { (told : Status) → (told ≡ Status.Done → result.own ≡ Status.Done) → IsQuiet result.script items.new.items told }
     ensures later { ((j : ℕ) → D.faults disk.old j ≤ D.faults disk.new j) × (S.faults source.old ≤ S.faults source.new) }
@@ -139,18 +172,20 @@ fn carry_out<D: SharedDisk, S: Source>(
             without_script(alloc, own)
         }
         Ok(Task::Show) => show(alloc, disk),
+        Ok(Task::Replay) => replay(alloc, disk, items),
         Ok(Task::Run { time }) => read_and_run(alloc, disk, source, time, items),
         Err(own) => without_script(alloc, own),
     }
 }
 
-/// Carries out the command that these words are, on this disk, and writes its trace and its output. Today three commands are
+/// Carries out the command that these words are, on this disk, and writes its trace and its output. Today four commands are
 /// built. `mkfs` makes an image: it reads each block, and writes those that are not yet as they are to be. `show` mounts the
-/// image, tells its journals and its tree, and writes nothing; it costs a read of each block of the system files and then of
-/// each block of the device, and memory for these, its tree and its lines. `run` reads a script from `script`, mounts the
-/// image, runs the script on it, and tells each client's replies; it costs what mounting costs, memory for the script, the
-/// items and the blocks that its calls need, a read of each of these, a write of each block that a call changes and a barrier
-/// behind these, and a pass over the items for each client. It waits for nobody.
+/// image, tells its journals and the tree for which it stands with what they say in place, and writes nothing; it costs a read of each block of the system
+/// files, of each place of a journal that isn't clean, and then of each block of the device, and memory for these, its tree and its lines. `replay` mounts the image,
+/// and puts home what its journals say; it costs what mounting costs, a read of each place of a journal that isn't clean and a write of each block that goes home.
+/// `run` reads a script from `script`, does what `replay` does, runs the script on the image, and tells each client's replies; it costs what a replay
+/// costs, memory for the script, the items and the blocks that its calls need, a read of each of these, a write of each block that a call changes and a
+/// barrier behind these, and a pass over the items for each client. It waits for nobody.
 pub fn gfs2run_alone<D: SharedDisk, S: Source, O: Sink, T: Sink>(
     alloc: Global,
     words: &[String],
@@ -182,8 +217,13 @@ pub fn gfs2run_alone<D: SharedDisk, S: Source, O: Sink, T: Sink>(
 {
     let mut disk = disk;
     let mut items = Vec::new(alloc);
-    let Carried { script, lines, own } = carry_out(alloc, words, &mut disk, script, &mut items);
-    let status = report(alloc, trace, out, &script, &items, lines, own);
+    let Carried {
+        listing,
+        script,
+        lines,
+        own,
+    } = carry_out(alloc, words, &mut disk, script, &mut items);
+    let status = report(alloc, trace, out, listing, &script, &items, lines, own);
     Ended { status, disk }
 }
 

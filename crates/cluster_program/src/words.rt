@@ -10,6 +10,7 @@ use command_words::{Command, MakeWords, read_words};
 pub(crate) enum Task {
     Make(MakeWords),
     Show,
+    Replay,
     /// The time is that of the changes, in seconds.
     Run { time: u64 },
 }
@@ -19,7 +20,7 @@ fn is_built(command: &Command) -> bool
     ensures { result ≡ counts_as_built command.now }
 {
     match command {
-        Command::Make(_) | Command::Show => true,
+        Command::Make(_) | Command::Show | Command::Replay => true,
         Command::Run(words) => {
             words.schedule.is_none() && words.steps.is_none() && words.frames.is_none()
         }
@@ -37,6 +38,7 @@ fn task_of(command: &Command) -> Option<Task>
     match command {
         Command::Make(words) => Some(Task::Make(*words)),
         Command::Show => Some(Task::Show),
+        Command::Replay => Some(Task::Replay),
         Command::Run(words) => Some(Task::Run { time: words.time }),
         _ => unreachable!(),
     }

@@ -207,7 +207,7 @@ answered_from d now d' n later call r is same from =
     }
 
 -- a fault of a call is damage as the view shows it
-pub shown_damage : (d : DiskState) (v : Seen) (call : Call) (f : CallFault) → TellsOf (IsOfView v) f → TellsOf (IsDamage v call) f → IfDamaged (end_at f) (IsDamagedFor d v call)
+pub shown_damage : (d : DiskState) (v : Seen) (call : Call) (f : CallFault) → TellsOf (IsOfView v) f → TellsOf (IsDamage v call 1) f → IfDamaged (end_at f) (IsDamagedFor d v call)
 shown_damage d v call (fault.Damaged block rule) has is = as_shown block rule has is
 shown_damage d v call fault.NoMemory has is = tt
 

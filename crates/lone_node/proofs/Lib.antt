@@ -6,4 +6,5 @@ pub mod Calls
 pub mod Clients
 pub mod Steps
 pub mod NodeRuns
+pub mod Beginnings
 pub mod Endings

@@ -21,14 +21,14 @@ use Rattle.script_lang.specs.OneNode.{HaveOwnClientNames, IsOneNode, IsOwnLine}
 use Rattle.run_rules.specs.Follows.{Follows, ByLine, history_of, call_items, above, answered, IsAfterAbove, IsOrderLine, IsOnItsNode}
 use Rattle.run_rules.specs.History.{HoldsHistory, NoneStopped, AllAnswered}
 use Rattle.run_rules.proofs.Nothing.{nothing_follows, nothing_is_legal}
-use Rattle.lone_node.specs.Items.{AnsweredCall, full_item, is_call_line, items_from, its_answer, its_line, name_at}
+use Rattle.lone_node.specs.Items.{AnsweredCall, IsOfReplay, full_item, is_call_line, items_from, its_answer, its_line, name_at}
 use Rattle.lone_node.specs.Run.{IsRunOf, IsRunUpTo, IsWholeRun, NotJoined, Taken, Unmounted}
 use Rattle.lone_node.specs.declared.answering.Full.{Full}
 use Rattle.lone_node.proofs.Calls.{take_front, filter_front, all_take, all_filter, all_map, all_at, calls_of_filter, calls_front, calls_rise, calls_within}
 use Rattle.lone_node.proofs.Clients.{place_is, client_at}
-use Rattle.lone_node.proofs.Steps.{history_past}
+use Rattle.lone_node.proofs.Steps.{history_past, past_replays}
 
--- ---- the items: node 1 joins, answers calls of its clients, and may unmount
+-- ---- the items: node 1 joins, may replay journals, answers calls of its clients, and may unmount
 
 -- the items of calls, and behind them the end
 abbrev pub items_onto : List Client → ℕ → List AnsweredCall → List TraceItem → List TraceItem
@@ -41,8 +41,12 @@ onto_is clients n (r ∷ rs) end =
     append_assoc (full_item r.full) (trace.Call 1 (name_at clients r.client) n r.call r.reply ∷ items_from clients (n + 1) rs) end
     ∙ ap (λ (is : List TraceItem). full_item r.full ++ trace.Call 1 (name_at clients r.client) n r.call r.reply ∷ is) (onto_is clients (n + 1) rs end)
 
-abbrev pub run_items : List Client → List AnsweredCall → List TraceItem → List TraceItem
-run_items clients rs end = trace.Join 1 ∷ items_onto clients 1 rs end
+-- those behind the join, and all
+abbrev pub later_items : List TraceItem → List Client → List AnsweredCall → List TraceItem → List TraceItem
+later_items replays clients rs end = replays ++ items_onto clients 1 rs end
+
+abbrev pub run_items : List TraceItem → List Client → List AnsweredCall → List TraceItem → List TraceItem
+run_items replays clients rs end = trace.Join 1 ∷ later_items replays clients rs end
 
 abbrev pub IsEnd : List TraceItem → Type 0
 IsEnd end = (end ≡ []) ⊎ (end ≡ trace.Unmount 1 ∷ [])
@@ -97,8 +101,9 @@ module _ (clients : List Client) (own : HaveOwnClientNames clients) where
       ∙ ap (λ (p : ℕ). item.Call 1 p n r.call r.reply ∷ history_of clients (items_onto clients (n + 1) rs end)) (place_is clients r.client own of.0)
       ∙ ap (λ (h : List Item). item.Call 1 r.client n r.call r.reply ∷ h) (history_from (n + 1) rs end of.1 is)
 
-  pub history_is : (rs : List AnsweredCall) (end : List TraceItem) → AreOf clients rs → IsEnd end → history_of clients (run_items clients rs end) ≡ calls_from 1 rs
-  history_is rs end of is = history_from 1 rs end of is
+  pub history_is : (replays : List TraceItem) → AllByRecursion IsOfReplay replays → (rs : List AnsweredCall) (end : List TraceItem) → AreOf clients rs → IsEnd end
+      → history_of clients (run_items replays clients rs end) ≡ calls_from 1 rs
+  history_is replays replay rs end of is = past_replays clients replays (items_onto clients 1 rs end) replay ∙ history_from 1 rs end of is
 
   module _ (client : ℕ) where
     first_call : (n : ℕ) (r : AnsweredCall) (is : List TraceItem) (xs : List Call) → r.client < length clients → call_items clients client is ≡ xs
@@ -152,6 +157,33 @@ module _ (clients : List Client) (own : HaveOwnClientNames clients) where
         call_items_past r.full (trace.Call 1 (name_at clients r.client) n r.call r.reply ∷ items_onto clients (n + 1) rs end)
         ∙ first_call n r (items_onto clients (n + 1) rs end) (calls_by client (map its_line rs)) of.0 (calls_in_from (n + 1) rs end of.1 is)
 
+-- ---- what replays are among the items
+
+module _ (clients : List Client) (client : ℕ) (is : List TraceItem) where
+  replays_no_calls : (rs : List TraceItem) → AllByRecursion IsOfReplay rs → call_items clients client (rs ++ is) ≡ call_items clients client is
+  replays_no_calls [] of = refl
+  replays_no_calls (trace.WriteReplay node block ∷ rs) of = replays_no_calls rs of.1
+  replays_no_calls (trace.Barrier node ∷ rs) of = replays_no_calls rs of.1
+  replays_no_calls (trace.Recovered node by ∷ rs) of = replays_no_calls rs of.1
+  replays_no_calls (_ ∷ rs) of = absurd of.0
+
+  -- the calls in the first items, where these come before them
+  replays_up_to : (ls : List Line) → ((p : ℕ) → call_items clients client (take p is) ≡ calls_by client (take (told p is) ls)) → (rs : List TraceItem) → AllByRecursion IsOfReplay rs
+      → (q : ℕ) → call_items clients client (take q (rs ++ is)) ≡ calls_by client (take (told q (rs ++ is)) ls)
+  replays_up_to ls all [] of q = all q
+  replays_up_to ls all (r ∷ rs) of zero = refl
+  replays_up_to ls all (trace.WriteReplay node block ∷ rs) of (suc q) = replays_up_to ls all rs of.1 q
+  replays_up_to ls all (trace.Barrier node ∷ rs) of (suc q) = replays_up_to ls all rs of.1 q
+  replays_up_to ls all (trace.Recovered node by ∷ rs) of (suc q) = replays_up_to ls all rs of.1 q
+  replays_up_to ls all (_ ∷ rs) of (suc q) = absurd of.0
+
+replays_stop_none : (is rs : List TraceItem) → AllByRecursion IsOfReplay rs → NoneStopped is → NoneStopped (rs ++ is)
+replays_stop_none is [] of none = none
+replays_stop_none is (trace.WriteReplay node block ∷ rs) of none = replays_stop_none is rs of.1 none
+replays_stop_none is (trace.Barrier node ∷ rs) of none = replays_stop_none is rs of.1 none
+replays_stop_none is (trace.Recovered node by ∷ rs) of none = replays_stop_none is rs of.1 none
+replays_stop_none is (_ ∷ rs) of none = absurd of.0
+
 none_lost : (n : ℕ) (rs : List AnsweredCall) → NoneLost (calls_from n rs)
 none_lost n [] = tt
 none_lost n (r ∷ rs) = none_lost (n + 1) rs
@@ -202,11 +234,12 @@ no_loss_at n (suc q) (r ∷ rs) node kept is = no_loss_at (n + 1) q rs node kept
 
 -- ---- what stands where among the items
 
--- a call of a client, how many blocks were free for one, or the unmount
+-- one of a replay, a call of a client, how many blocks were free for one, or the unmount
 data IsLater (clients : List Client) (it : TraceItem) : Type 0 where
   Answers : (n : ℕ) (r : AnsweredCall) → r.client < length clients → it ≡ trace.Call 1 (name_at clients r.client) n r.call r.reply → IsLater clients it
   Fills : (f : Full) → it ≡ trace.Full 1 f.need f.free → IsLater clients it
   Ends : it ≡ trace.Unmount 1 → IsLater clients it
+  Replays : IsOfReplay it → IsLater clients it
 
 full_later : (clients : List Client) (full : Option Full) (is : List TraceItem) → AllByRecursion (IsLater clients) is → AllByRecursion (IsLater clients) (full_item full ++ is)
 full_later clients None is all = all
@@ -217,6 +250,16 @@ all_later clients n [] end of (inl is) = subst (AllByRecursion (IsLater clients)
 all_later clients n [] end of (inr is) = subst (AllByRecursion (IsLater clients)) (sym is) (Ends refl, tt)
 all_later clients n (r ∷ rs) end of is =
     full_later clients r.full (trace.Call 1 (name_at clients r.client) n r.call r.reply ∷ items_onto clients (n + 1) rs end) (Answers n r of.0 refl, all_later clients (n + 1) rs end of.1 is)
+
+replays_later : (clients : List Client) (rs is : List TraceItem) → AllByRecursion IsOfReplay rs → AllByRecursion (IsLater clients) is → AllByRecursion (IsLater clients) (rs ++ is)
+replays_later clients [] is of all = all
+replays_later clients (r ∷ rs) is of all = (Replays of.0, replays_later clients rs is of.1 all)
+
+replay_on_node : (clients : List Client) (it : TraceItem) → IsOfReplay it → IsOnItsNode clients it
+replay_on_node clients (trace.WriteReplay node block) of = tt
+replay_on_node clients (trace.Barrier node) of = tt
+replay_on_node clients (trace.Recovered node by) of = tt
+replay_on_node clients _ of = absurd of
 
 no_order : (n : ℕ) (l : Line) → IsOwnLine n l → IsOrderLine l → ⊥
 no_order n (line.Call c call) form order = order
@@ -229,12 +272,13 @@ none_at p x at = cc
 
 -- ---- the run follows its script
 
-module _ (s : ScriptValue) (form : IsOneNode s) (count : ℕ) (rs : List AnsweredCall) (calls : map its_line rs ≡ filter is_call_line (take count s.lines)) (end : List TraceItem) (is_end : IsEnd end) where
+module _ (s : ScriptValue) (form : IsOneNode s) (count : ℕ) (rs : List AnsweredCall) (calls : map its_line rs ≡ filter is_call_line (take count s.lines)) (end : List TraceItem) (is_end : IsEnd end)
+    (replays : List TraceItem) (of_replay : AllByRecursion IsOfReplay replays) where
   abbrev later : List TraceItem
-  later = items_onto s.clients 1 rs end
+  later = later_items replays s.clients rs end
 
   abbrev items : List TraceItem
-  items = run_items s.clients rs end
+  items = run_items replays s.clients rs end
 
   -- the script's calls, and those that are answered
   abbrev all : List Line
@@ -256,13 +300,14 @@ module _ (s : ScriptValue) (form : IsOneNode s) (count : ℕ) (rs : List Answere
       belongs (r ∷ ts) of = (of.0.0, belongs ts of.1)
 
   is_later : (p : ℕ) (it : TraceItem) → slice_get later p ≡ Some it → IsLater s.clients it
-  is_later p it at = all_at (IsLater s.clients) later p it (all_later s.clients 1 rs end are_of is_end) at
+  is_later p it at = all_at (IsLater s.clients) later p it (replays_later s.clients replays (items_onto s.clients 1 rs end) of_replay (all_later s.clients 1 rs end are_of is_end)) at
 
   on_its_node : (it : TraceItem) → IsLater s.clients it → IsOnItsNode s.clients it
   on_its_node it (Answers n r below is) =
       subst (IsOnItsNode s.clients) (sym is) (subst (λ (p : ℕ). (c : Client) × (slice_get s.clients p ≡ Some c) × (c.node ≡ 1)) (sym (place_is s.clients r.client form.names below)) (client_at s.clients r.client form.clients below))
   on_its_node it (Fills f is) = subst (IsOnItsNode s.clients) (sym is) tt
   on_its_node it (Ends is) = subst (IsOnItsNode s.clients) (sym is) tt
+  on_its_node it (Replays of) = replay_on_node s.clients it of
 
   on_node : (p : ℕ) (it : TraceItem) → slice_get items p ≡ Some it → IsOnItsNode s.clients it
   on_node zero it at = let first : trace.Join 1 ≡ it = cc in subst (IsOnItsNode s.clients) first tt
@@ -270,15 +315,15 @@ module _ (s : ScriptValue) (form : IsOneNode s) (count : ℕ) (rs : List Answere
 
   no_crash : (p node : ℕ) → slice_get items p ≡ Some (trace.Crash node) → ⊥
   no_crash zero node at = cc
-  no_crash (suc p) node at = elim (is_later p (trace.Crash node) at) [ Answers n r below is ↦ cc | Fills f is ↦ cc | Ends is ↦ cc ]
+  no_crash (suc p) node at = elim (is_later p (trace.Crash node) at) [ Answers n r below is ↦ cc | Fills f is ↦ cc | Ends is ↦ cc | Replays of ↦ absurd of ]
 
   no_join : (p node : ℕ) → 1 ≤ p → slice_get items p ≡ Some (trace.Join node) → ⊥
   no_join zero node more at = absurd (omega (arith, more))
-  no_join (suc p) node more at = elim (is_later p (trace.Join node) at) [ Answers n r below is ↦ cc | Fills f is ↦ cc | Ends is ↦ cc ]
+  no_join (suc p) node more at = elim (is_later p (trace.Join node) at) [ Answers n r below is ↦ cc | Fills f is ↦ cc | Ends is ↦ cc | Replays of ↦ absurd of ]
 
   -- the client's calls in the items are those of its lines that were taken
   calls_taken : (client : ℕ) → call_items s.clients client items ≡ calls_by client (take count s.lines)
-  calls_taken client = calls_in_from s.clients form.names client 1 rs end are_of is_end ∙ ap (calls_by client) calls ∙ calls_of_filter client (take count s.lines)
+  calls_taken client = replays_no_calls s.clients client (items_onto s.clients 1 rs end) replays of_replay ∙ calls_in_from s.clients form.names client 1 rs end are_of is_end ∙ ap (calls_by client) calls ∙ calls_of_filter client (take count s.lines)
 
   in_order : (client : ℕ) → call_items s.clients client items ≡ take (length (call_items s.clients client items)) (calls_by client s.lines)
   in_order client =
@@ -306,7 +351,7 @@ module _ (s : ScriptValue) (form : IsOneNode s) (count : ℕ) (rs : List Answere
   asked_same client n within = ap (λ (ls : List Line). length (calls_by client (take n ls))) asked_front ∙ ap (λ (ls : List Line). length (calls_by client ls)) (take_front (length asked) n all within)
 
   answered_is : (client q : ℕ) → answered s items client (suc q) ≡ among_asked client (told q later)
-  answered_is client q = ap (λ (cs : List Call). length cs) (calls_up_to s.clients form.names client 1 q rs end are_of is_end)
+  answered_is client q = ap (λ (cs : List Call). length cs) (replays_up_to s.clients client (items_onto s.clients 1 rs end) asked (λ p. calls_up_to s.clients form.names client 1 p rs end are_of is_end) replays of_replay q)
 
   answered_most : (client k : ℕ) → length asked ≤ k → answered s items client (length items) ≤ among_asked client k
   answered_most client k past =
@@ -369,7 +414,7 @@ module _ (s : ScriptValue) (form : IsOneNode s) (count : ℕ) (rs : List Answere
   }
 
   its_history : calls_from 1 rs ≡ history_of s.clients items
-  its_history = sym (history_is s.clients form.names rs end are_of is_end)
+  its_history = sym (history_is s.clients form.names replays of_replay rs end are_of is_end)
 
   pub holds : HoldsHistory s items
   holds = record {
@@ -394,7 +439,7 @@ module _ (s : ScriptValue) (form : IsOneNode s) (count : ℕ) (rs : List Answere
       full_goes_on r.full (trace.Call 1 (name_at s.clients r.client) n r.call r.reply ∷ items_onto s.clients (n + 1) ss end) (none_stopped_from (n + 1) ss)
 
   pub none_stopped : NoneStopped items
-  none_stopped = none_stopped_from 1 rs
+  none_stopped = replays_stop_none (items_onto s.clients 1 rs end) replays of_replay (none_stopped_from 1 rs)
 
   pub all_answered : count ≡ length s.lines → AllAnswered items s
   all_answered whole client = calls_taken client ∙ ap (calls_by client) (take_all count s.lines (omega (arith, whole)))
@@ -417,16 +462,19 @@ module _ (s : ScriptValue) (form : IsOneNode s) (items : List TraceItem) (IsStar
   })
 
   -- the items of a run up to a line, with their end
-  items_are : (count : ℕ) (before end : List TraceItem) → before ++ end ≡ items → (so : IsRunUpTo s.clients s.lines count before IsStart) → run_items s.clients so.answered end ≡ items
+  items_are : (count : ℕ) (before end : List TraceItem) → before ++ end ≡ items → (so : IsRunUpTo s.clients s.lines count before IsStart) → run_items so.begins.replays s.clients so.answered end ≡ items
   items_are count before end are so =
-      ap (λ (is : List TraceItem). trace.Join 1 ∷ is) (sym (onto_is s.clients 1 so.answered end)) ∙ ap (λ (is : List TraceItem). is ++ end) (sym so.are) ∙ are
+      ap (λ (is : List TraceItem). trace.Join 1 ∷ (so.begins.replays ++ is)) (sym (onto_is s.clients 1 so.answered end))
+      ∙ ap (λ (is : List TraceItem). trace.Join 1 ∷ is) (sym (append_assoc so.begins.replays (items_from s.clients 1 so.answered) end))
+      ∙ ap (λ (is : List TraceItem). (is ++ items_from s.clients 1 so.answered) ++ end) (sym so.begins.are)
+      ∙ ap (λ (is : List TraceItem). is ++ end) (sym so.are) ∙ are
 
   owes_from : (count : ℕ) (before end : List TraceItem) → IsEnd end → before ++ end ≡ items → IsRunUpTo s.clients s.lines count before IsStart → Owes s items IsStart
   owes_from count before end is_end are so = subst (λ (is : List TraceItem). Owes s is IsStart) (items_are count before end are so) (record {
-    history = holds s form count so.answered so.calls end is_end;
-    legal = λ t start. legal_holds s form count so.answered so.calls end is_end t (so.answers t start);
-    members = none_stopped s form count so.answered so.calls end is_end;
-    none_lost = nothing_lost s form count so.answered so.calls end is_end;
+    history = holds s form count so.answered so.calls end is_end so.begins.replays so.begins.of_replay;
+    legal = λ t start. legal_holds s form count so.answered so.calls end is_end so.begins.replays so.begins.of_replay t (so.answers t start);
+    members = none_stopped s form count so.answered so.calls end is_end so.begins.replays so.begins.of_replay;
+    none_lost = nothing_lost s form count so.answered so.calls end is_end so.begins.replays so.begins.of_replay;
   })
 
   pub owes : IsRunOf s.clients s.lines items IsStart → Owes s items IsStart
@@ -437,4 +485,4 @@ module _ (s : ScriptValue) (form : IsOneNode s) (items : List TraceItem) (IsStar
   pub owes_all : IsWholeRun s.clients s.lines items IsStart → AllAnswered items s
   owes_all whole =
       subst (λ (is : List TraceItem). AllAnswered is s) (items_are (length s.lines) whole.before (trace.Unmount 1 ∷ []) (sym whole.are) whole.taken)
-      (all_answered s form (length s.lines) whole.taken.answered whole.taken.calls (trace.Unmount 1 ∷ []) (inr refl) refl)
+      (all_answered s form (length s.lines) whole.taken.answered whole.taken.calls (trace.Unmount 1 ∷ []) (inr refl) whole.taken.begins.replays whole.taken.begins.of_replay refl)

@@ -27,7 +27,7 @@ use Rattle.lone_view.specs.Seeing.{Lone}
 use Rattle.lone_node.specs.Answering.{IsToldFull}
 use Rattle.disk_turns.specs.Turns.{Moment, moment}
 use Rattle.lone_node.specs.Course.{AreSteps}
-use Rattle.lone_node.specs.Items.{AnsweredCall, full_item, is_call_line, items_from, its_answer, its_line, name_at}
+use Rattle.lone_node.specs.Items.{AnsweredCall, IsBegun, IsOfReplay, full_item, is_call_line, items_from, its_answer, its_line, name_at}
 use Rattle.lone_node.specs.Run.{EndsAt, EndsAtCall, HasChangedNothing, IsRunUpTo, IsTakenCall}
 use Rattle.lone_node.specs.Standing.{IsSameSystem, LeavesStanding, StandsFor}
 use Rattle.lone_node.specs.declared.answering.Full.{Full}
@@ -86,24 +86,39 @@ history_end clients n (r ∷ rs) =
     ∙ ap (λ (h : List Item). item.Call 1 (place_of clients (name_at clients r.client)) n r.call r.reply ∷ h) (history_end clients (n + 1) rs)
     ∙ sym (history_past clients r.full (first ∷ items_from clients (n + 1) rs))
 
+-- nor are those with which a run begins
+pub past_replays : (clients : List Client) (replays is : List TraceItem) → AllByRecursion IsOfReplay replays → history_of clients (replays ++ is) ≡ history_of clients is
+past_replays clients [] is of = refl
+past_replays clients (trace.WriteReplay node block ∷ rs) is of = past_replays clients rs is of.1
+past_replays clients (trace.Barrier node ∷ rs) is of = past_replays clients rs is of.1
+past_replays clients (trace.Recovered node by ∷ rs) is of = past_replays clients rs is of.1
+past_replays clients (_ ∷ rs) is of = absurd of.0
+
+pub past_begun : (clients : List Client) (begun is : List TraceItem) → IsBegun begun → history_of clients (begun ++ is) ≡ history_of clients is
+past_begun clients begun is begins = ap (λ (xs : List TraceItem). history_of clients (xs ++ is)) begins.are ∙ past_replays clients begins.replays is begins.of_replay
+
 -- ---- steps
 
 module _ (clients : List Client) (lines : List Line) (IsStart : Tree → Type 0) where
   -- the tree behind a run is that after its calls
   pub tree_is : (count : ℕ) (items : List TraceItem) (so : IsRunUpTo clients lines count items IsStart) (t : Tree) → tree_of (history_of clients items) t ≡ tree_after (map its_answer so.answered) t
-  tree_is count items so t = ap (λ (is : List TraceItem). tree_of (history_of clients is) t) so.are ∙ ap (λ (ss : List Replied). tree_after ss t) (alive_in clients 1 so.answered)
+  tree_is count items so t = ap (λ (is : List TraceItem). tree_of (history_of clients is) t) so.are ∙ ap (λ (h : List Item). tree_of h t) (past_begun clients so.begun (items_from clients 1 so.answered) so.begins)
+      ∙ ap (λ (ss : List Replied). tree_after ss t) (alive_in clients 1 so.answered)
 
   pub alive_is : (count : ℕ) (items : List TraceItem) (so : IsRunUpTo clients lines count items IsStart) → alive (history_of clients items) ≡ map its_answer so.answered
-  alive_is count items so = ap (λ (is : List TraceItem). alive (history_of clients is)) so.are ∙ alive_in clients 1 so.answered
+  alive_is count items so = ap (λ (is : List TraceItem). alive (history_of clients is)) so.are ∙ ap alive (past_begun clients so.begun (items_from clients 1 so.answered) so.begins) ∙ alive_in clients 1 so.answered
 
   -- it stays at the unmount
   pub unmounted : (count : ℕ) (items more : List TraceItem) → IsRunUpTo clients lines count items IsStart → more ≡ items ++ trace.Unmount 1 ∷ [] → history_of clients items ≡ history_of clients more
   unmounted count items more so are =
-      ap (history_of clients) so.are ∙ sym (history_end clients 1 so.answered) ∙ ap (λ (is : List TraceItem). history_of clients (is ++ trace.Unmount 1 ∷ [])) (sym so.are) ∙ ap (history_of clients) (sym are)
+      ap (history_of clients) so.are ∙ past_begun clients so.begun (items_from clients 1 so.answered) so.begins ∙ sym (history_end clients 1 so.answered)
+      ∙ sym (past_begun clients so.begun (items_from clients 1 so.answered ++ trace.Unmount 1 ∷ []) so.begins)
+      ∙ ap (history_of clients) (sym (append_assoc so.begun (items_from clients 1 so.answered) (trace.Unmount 1 ∷ [])))
+      ∙ ap (λ (is : List TraceItem). history_of clients (is ++ trace.Unmount 1 ∷ [])) (sym so.are) ∙ ap (history_of clients) (sym are)
 
-  -- node 1 has joined, and taken no line
-  abbrev pub run_none : (items : List TraceItem) → items ≡ trace.Join 1 ∷ [] → IsRunUpTo clients lines 0 items IsStart
-  run_none items is = record { answered = []; are = is; calls = refl; answers = λ t start. tt; full = tt }
+  -- the run has begun, and no line was taken
+  abbrev pub run_none : (items : List TraceItem) → IsBegun items → IsRunUpTo clients lines 0 items IsStart
+  run_none items begins = record { begun = items; begins = begins; answered = []; are = sym (append-nil items); calls = refl; answers = λ t start. tt; full = tt }
 
   module _ (i : ℕ) (items : List TraceItem) (below : i < length lines) (so : IsRunUpTo clients lines i items IsStart) where
     -- the calls among one more line
@@ -127,9 +142,11 @@ module _ (clients : List Client) (lines : List Line) (IsStart : Tree → Type 0)
     other_line (line.Join node) other = refl
 
     pub wait_more : (number : ℕ) (d l : Line) → l ≡ get_or lines i d → ((place : ℕ) (call : Call) → l ≡ line.Call place call → ⊥) → number ≡ 1 + length so.answered
-        → (run : IsRunUpTo clients lines (i + 1) items IsStart) × (number ≡ 1 + length run.answered) × (run.answered ≡ so.answered)
+        → (run : IsRunUpTo clients lines (i + 1) items IsStart) × (number ≡ 1 + length run.answered) × (run.answered ≡ so.answered) × (run.begun ≡ so.begun)
     wait_more number d l is other same = (
       record {
+        begun = so.begun;
+        begins = so.begins;
         answered = so.answered;
         are = so.are;
         calls =
@@ -139,6 +156,7 @@ module _ (clients : List Client) (lines : List Line) (IsStart : Tree → Type 0)
         full = so.full;
       },
       same,
+      refl,
       refl,
     )
 
@@ -187,10 +205,13 @@ module _ (clients : List Client) (lines : List Line) (start : DiskState) (first 
 
   run_more : IsRunUpTo clients lines (i + 1) more (StandsFor start first)
   run_more = record {
+    begun = so.begun;
+    begins = so.begins;
     answered = so.answered ++ one ∷ [];
     are =
         taken.are ∙ (λ k. so.are k ++ (full_item taken.full ++ trace.Call 1 (its_client clients lines (StandsFor start first) i items below so place call l d c is is_call form k) (number_is k) call taken.reply ∷ []))
-        ∙ ap (λ (is : List TraceItem). trace.Join 1 ∷ is) (sym (items_more clients 1 so.answered one));
+        ∙ append_assoc so.begun (items_from clients 1 so.answered) (full_item taken.full ++ trace.Call 1 (name_at clients place) (1 + length so.answered) call taken.reply ∷ [])
+        ∙ ap (λ (is : List TraceItem). so.begun ++ is) (sym (items_more clients 1 so.answered one));
     calls =
         map_push its_line so.answered one ∙ ap (λ (ls : List Line). ls ++ line.Call place call ∷ []) so.calls
         ∙ sym (calls_more clients lines (StandsFor start first) i items below so (line.Call place call) d (sym is_call ∙ is));
@@ -232,6 +253,10 @@ module _ (clients : List Client) (lines : List Line) (start : DiskState) (first 
       let by_it = taken.untouched last in
       (ap (λ (m : Moment). m.disk) by_it ∙ before_it.0, ap (λ (m : Moment). m.list) by_it ∙ before_it.1)
 
+  begun_more : run_more.begun ≡ so.begun
+  unfolding run_more
+  begun_more = refl
+
   steps_then : AreSteps first time was so.answered (moment disk list) → AreSteps first time was run_more.answered (moment disk' list')
   unfolding run_more
   steps_then steps =
@@ -242,5 +267,5 @@ module _ (clients : List Client) (lines : List Line) (start : DiskState) (first 
   pub goes_on : AreSteps first time was so.answered (moment disk list) → (HasChangedNothing clients items → (disk ≡ start) × (list ≡ was.list))
       → (run : IsRunUpTo clients lines (i + 1) more (StandsFor start first)) × (number + 1 ≡ 1 + length run.answered)
       × ((t : Tree) (s : StandsFor start first t) → LeavesStanding start disk' first t (tree_of (history_of clients more) t) s)
-      × AreSteps first time was run.answered (moment disk' list') × (HasChangedNothing clients more → (disk' ≡ start) × (list' ≡ was.list))
-  goes_on steps untouched = (run_more, number_more, leaves_more, steps_then steps, untouched_then untouched)
+      × AreSteps first time was run.answered (moment disk' list') × (HasChangedNothing clients more → (disk' ≡ start) × (list' ≡ was.list)) × (run.begun ≡ so.begun)
+  goes_on steps untouched = (run_more, number_more, leaves_more, steps_then steps, untouched_then untouched, begun_more)

@@ -50,8 +50,8 @@ source_of size m = if m.from == m.block then superblock_place size else m.from
 -- A block of the view breaks this rule, as far as it shows; or (2) the number of a block that the call needs, which stands in this block,
 -- leads out of the device.
 pub data IsDamagedFor (d : DiskState) (v : Seen) (call : Call) : ℕ → ℕ → Type 0 where
-  as_shown : (b rule : ℕ) → HasBlock v b → IsDamage v call rule b → IsDamagedFor d v call b rule
-  leads_out : (m : Missing) → IsNeededFor v call m → d.count ≤ m.block → IsDamagedFor d v call (source_of d.size m) 2
+  as_shown : (b rule : ℕ) → HasBlock v b → IsDamage v call 1 rule b → IsDamagedFor d v call b rule
+  leads_out : (m : Missing) → IsNeededFor v call 1 m → d.count ≤ m.block → IsDamagedFor d v call (source_of d.size m) 2
 
 pub record IsDamagedOn (d : DiskState) (n : Lone) (call : Call) (b rule : ℕ) : Type 0 where
   pub view : Lone
@@ -61,7 +61,7 @@ pub record IsDamagedOn (d : DiskState) (n : Lone) (call : Call) (b rule : ℕ) :
 -- The disk failed at the call: in a read of a block that the call needs, and is as it was; or in a write of one of the blocks by which the
 -- call, answered from what is seen, changes it, or (no block) in a barrier behind such writes.
 pub data IsFailedFor (before after : Moment) (view : Lone) (time : ℕ) (call : Call) : Option ℕ → Type 0 where
-  in_a_read : (m : Missing) → IsNeededFor (seen_alone view) call m → after ≡ before → IsFailedFor before after view time call (Some m.block)
+  in_a_read : (m : Missing) → IsNeededFor (seen_alone view) call 1 m → after ≡ before → IsFailedFor before after view time call (Some m.block)
   in_a_write : (block : Option ℕ) (reply : Reply) (change : Change) → IsDoneBy view time call reply change → HasStopped 1 before after change.blocks.items block
       → IsFailedFor before after view time call block
 

@@ -19,7 +19,7 @@ use Rattle.script_lang.specs.declared.script.Client.{Client}
 use Rattle.trace_text.specs.declared.item.TraceItem.{TraceItem}
 use Rattle.trace_text.specs.declared.item.TraceItem.TheVariants as trace
 use Rattle.lone_view.specs.Seeing.{Lone, seen_alone}
-use Rattle.lone_node.specs.Items.{AnsweredCall, items_from}
+use Rattle.lone_node.specs.Items.{AnsweredCall, IsBegun, items_from}
 use Rattle.lone_node.specs.Standing.{IsOn, IsSameSystem}
 use Rattle.lone_node.specs.declared.answering.Full.{Full}
 
@@ -46,7 +46,7 @@ pub record IsDoneBy (view : Lone) (time : ℕ) (call : Call) (reply : Reply) (ch
 pub record IsSpaceless (view : Lone) (call : Call) (need free : ℕ) : Type 0 where
   pub takes : TakesSpace call
   pub fewer : free < need
-  pub shown : IsFullFor (seen_alone view) call need free
+  pub shown : IsFullFor (seen_alone view) call 1 need free
   pub few : (im : Image) (o : Owners) (l : Layout) (t : Tree) → IsOf (seen_alone view) im o l t → IsTooFew (seen_alone view) im o l t call need free
 
 -- ---- one step
@@ -65,10 +65,12 @@ abbrev pub AreSteps : Lone → ℕ → Moment → List AnsweredCall → Moment �
 AreSteps n time first [] last = last ≡ first
 AreSteps n time first (a ∷ later) last = (next : Moment) × IsStep n time first next a.call a.reply a.full × AreSteps n time next later last
 
--- node 1 has joined, and each of its calls since then is answered, and is a step
+-- node 1 has joined, and may have replayed journals; each of its calls since then is answered, and is a step
 pub record HasTaken (n : Lone) (time : ℕ) (clients : List Client) (first last : Moment) (items : List TraceItem) : Type 0 where
+  pub begun : List TraceItem
+  pub begins : IsBegun begun
   pub answered : List AnsweredCall
-  pub are : items ≡ trace.Join 1 ∷ items_from clients 1 answered
+  pub are : items ≡ begun ++ items_from clients 1 answered
   pub steps : AreSteps n time first answered last
 
 -- The items are those of a run that came from one moment of the disk to the other: it hasn't joined yet, and the disk is as it was; or it has, and

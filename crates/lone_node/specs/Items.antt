@@ -1,5 +1,6 @@
 -- The items of answered calls.
-use Rattle.std.specs.Prelude.{ℕ, zero, suc, ◌+◌, Bool, true, false, List, [], ◌∷◌, ◌++◌, Option, None, Some}
+use Rattle.std.specs.Prelude.{ℕ, zero, suc, ◌≡◌, ◌⊎◌, ◌+◌, Bool, true, false, List, [], ◌∷◌, ◌++◌, Option, None, Some}
+use Rattle.std.specs.List.{AllByRecursion}
 use Rattle.file_tree.specs.declared.call.Call.{Call}
 use Rattle.file_tree.specs.declared.reply.Reply.{Reply}
 use Rattle.cluster_history.specs.History.{Replied}
@@ -16,6 +17,21 @@ use Rattle.lone_node.specs.declared.answering.Full.{Full}
 -- the script of one node that has these clients and lines
 abbrev pub own_script : List Client → List Line → ScriptValue
 own_script clients lines = record { nodes = 1; clients = clients; armed = []; lines = lines }
+
+-- ---- how a run begins
+
+-- an item of a replay that node 1 makes: of a write or a barrier, or that a journal is recovered
+abbrev pub IsOfReplay : TraceItem → Type 0
+IsOfReplay (trace.WriteReplay node block) = node ≡ 1
+IsOfReplay (trace.Barrier node) = node ≡ 1
+IsOfReplay (trace.Recovered node by) = by ≡ 1
+IsOfReplay _ = ⊥
+
+-- node 1 has joined, and it may have replayed journals
+pub record IsBegun (items : List TraceItem) : Type 0 where
+  pub replays : List TraceItem
+  pub are : items ≡ trace.Join 1 ∷ replays
+  pub of_replay : AllByRecursion IsOfReplay replays
 
 -- ---- answered calls and their items
 
@@ -51,3 +67,10 @@ full_item (Some f) = trace.Full 1 f.need f.free ∷ []
 abbrev pub items_from : List Client → ℕ → List AnsweredCall → List TraceItem
 items_from clients n [] = []
 items_from clients n (a ∷ later) = full_item a.full ++ trace.Call 1 (name_at clients a.client) n a.call a.reply ∷ items_from clients (n + 1) later
+
+-- the items of these calls, numbered from 1 on, came behind those that were there, and then it may be the unmount
+pub record AddsItems (clients : List Client) (items items' : List TraceItem) : Type 0 where
+  pub answered : List AnsweredCall
+  pub end : List TraceItem
+  pub is_end : (end ≡ []) ⊎ (end ≡ trace.Unmount 1 ∷ [])
+  pub are : items' ≡ items ++ (items_from clients 1 answered ++ end)

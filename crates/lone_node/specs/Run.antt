@@ -17,17 +17,19 @@ use Rattle.disk_turns.specs.Turns.{Moment}
 use Rattle.lone_view.specs.Seeing.{Lone}
 use Rattle.lone_node.specs.Answering.{IsAnsweredFrom, IsFailedAt, IsSameDisk, IsToldFull}
 use Rattle.lone_node.specs.Course.{HasTaken, IsStep}
-use Rattle.lone_node.specs.Items.{AnsweredCall, full_item, is_call_line, items_from, its_answer, its_line}
+use Rattle.lone_node.specs.Items.{AnsweredCall, IsBegun, full_item, is_call_line, items_from, its_answer, its_line}
 use Rattle.lone_node.specs.Standing.{LeavesStanding, StandsFor}
 use Rattle.lone_node.specs.declared.answering.Full.{Full}
 
 -- ---- how far a run of lines has come
 
--- Node 1 has joined and taken the first of these lines: the calls among them are answered, as each of these trees answers them one by one,
+-- Node 1 has joined, may have replayed journals, and has taken the first of these lines: the calls among them are answered, as each of these trees answers them one by one,
 -- and too few blocks are told exactly before those for which there is no space.
 pub record IsRunUpTo (clients : List Client) (lines : List Line) (count : ℕ) (items : List TraceItem) (IsStart : Tree → Type 0) : Type 0 where
+  pub begun : List TraceItem
+  pub begins : IsBegun begun
   pub answered : List AnsweredCall
-  pub are : items ≡ trace.Join 1 ∷ items_from clients 1 answered
+  pub are : items ≡ begun ++ items_from clients 1 answered
   pub calls : map its_line answered ≡ filter is_call_line (take count lines)
   pub answers : (t : Tree) → IsStart t → AllAnswer (map its_answer answered) t
   pub full : AllByRecursion (λ (a : AnsweredCall). IsToldFull a.reply a.full) answered

@@ -5,8 +5,10 @@ mod answering;
 mod ends;
 mod fetching;
 mod kept_blocks;
+mod laws;
 mod running;
 
 pub use answering::{Answer, Full};
 pub use ends::RunEnd;
-pub use running::run_script;
+pub use laws::runs_begin_with_no_call;
+pub use running::{join, run_script};

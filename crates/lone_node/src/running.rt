@@ -13,7 +13,7 @@ ghost use Rattle.lone_node.specs.Answering.{IsDamagedOn, IsFailedAt, IsSameDisk,
 ghost use Rattle.disk_turns.specs.Turns.{moment};
 ghost use Rattle.lone_node.specs.Course.{HasTaken, IsCourse};
 ghost use Rattle.lone_node.specs.Ends.{HasCause, IfDamaged, IfDiskFailed, IfNotBuilt, UnlessDiskFailed, UnlessFailed};
-ghost use Rattle.lone_node.specs.Items.{full_item};
+ghost use Rattle.lone_node.specs.Items.{AddsItems, AnsweredCall, IsBegun, full_item, items_from};
 ghost use Rattle.lone_node.specs.Run.{EndsAt, EndsAtCall, HasChangedNothing, IsFailedOn, IsRunOf, IsRunUpTo, IsTakenCall, IsWholeRun};
 ghost use Rattle.lone_node.specs.Standing.{IsOn, IsSameSystem, LeavesStanding, StandsFor};
 
@@ -126,7 +126,7 @@ fn take_call<D: SharedDisk>(
     }
 }
 
-// Takes the lines one by one, behind the item by which node 1 joined. A wait passes, since all lines above it are answered.
+// Takes the lines one by one, behind the items with which the run begins. A wait passes, since all lines above it are answered.
 fn take_lines<D: SharedDisk>(
     alloc: Global,
     disk: &mut D,
@@ -141,7 +141,8 @@ fn take_lines<D: SharedDisk>(
     requires on { IsOn (D.state disk.old) view.old }
     requires node { stamp.now.node ≡ 1 }
     requires form { AllByRecursion (IsOwnLine (length clients.now)) lines.now }
-    requires joined { items.old.items ≡ TraceItem.Join 1 ∷ [] }
+    requires begun { IsBegun items.old.items }
+    ensures adds { (answered : List AnsweredCall) × (items.new.items ≡ items.old.items ++ items_from clients.now 1 answered) }
     ensures run { (count : ℕ) × IsRunUpTo clients.now lines.now count items.new.items (StandsFor (D.state disk.old) view.old) }
     ensures course { UnlessDiskFailed result (HasTaken view.old stamp.now.time clients.now (moment (D.state disk.old) (D.list disk.old)) (moment (D.state disk.new) (D.list disk.new)) items.new.items) }
     ensures whole { OnOk result (IsRunUpTo clients.now lines.now (length lines.now) items.new.items (StandsFor (D.state disk.old) view.old)) }
@@ -174,7 +175,17 @@ fn take_lines<D: SharedDisk>(
     Ok(())
 }
 
-// Node 1 joins, takes the lines, and unmounts.
+/// Node 1 joins: the item of that comes into `items`, which is empty.
+pub fn join(items: &mut Vec<TraceItem>) -> Result<(), NoMemory>
+    requires { items.old.items ≡ [] }
+    ensures begun { OnOk result (IsBegun items.new.items) }
+    ensures joined { OnOk result (items.new.items ≡ TraceItem.Join 1 ∷ []) }
+    ensures none { OnErr result (items.new.items ≡ []) }
+{
+    put_item(items, TraceItem::Join { node: 1 })
+}
+
+// Node 1 takes the lines, and unmounts.
 fn run_lines<D: SharedDisk>(
     alloc: Global,
     disk: &mut D,
@@ -189,7 +200,8 @@ fn run_lines<D: SharedDisk>(
     requires on { IsOn (D.state disk.old) view.old }
     requires node { stamp.now.node ≡ 1 }
     requires form { AllByRecursion (IsOwnLine (length clients.now)) lines.now }
-    requires none { items.old.items ≡ [] }
+    requires begun { IsBegun items.old.items }
+    ensures adds { AddsItems clients.now items.old.items items.new.items }
     ensures run { IsRunOf clients.now lines.now items.new.items (StandsFor (D.state disk.old) view.old) }
     ensures course { UnlessDiskFailed result (IsCourse view.old stamp.now.time clients.now (moment (D.state disk.old) (D.list disk.old)) (moment (D.state disk.new) (D.list disk.new)) items.new.items) }
     ensures whole { OnOk result (IsWholeRun clients.now lines.now items.new.items (StandsFor (D.state disk.old) view.old)) }
@@ -207,10 +219,6 @@ fn run_lines<D: SharedDisk>(
     ensures later { (i : ℕ) → D.faults disk.old i ≤ D.faults disk.new i }
     ensures cause { IfErr result (HasCause 1 (D.state disk.old).count (D.faults disk.old) (D.faults disk.new)) }
 {
-    match put_item(items, TraceItem::Join { node: 1 }) {
-        Ok(()) => {}
-        Err(_) => return Err(RunEnd::NoMemory),
-    }
     match take_lines(alloc, disk, view, clients, lines, stamp, items) {
         Ok(()) => {}
         Err(end) => return Err(end),
@@ -221,10 +229,10 @@ fn run_lines<D: SharedDisk>(
     }
 }
 
-/// Runs a script that one node can run, on a disk at rest that it has mounted: node 1 joins, takes the lines in order, and
-/// unmounts. A call is answered as the call of the next number, from 1 on over all clients, and what it changes is on the disk when
+/// Runs a script that one node can run, on a disk at rest that it has mounted, behind the items with which it has begun: node 1, which has
+/// joined, and may have replayed journals, takes the lines in order, and unmounts. A call is answered as the call of the next number, from 1 on over all clients, and what it changes is on the disk when
 /// it is answered; a wait passes. Where no call changes anything, nothing is written. `time` is the time of each change, in
-/// seconds. The items go behind `items`, which is empty. Where the run ends before the script, the items so far stay, and the disk
+/// seconds. The items go behind `items`. Where the run ends before the script, the items so far stay, and the disk
 /// holds what their calls left, unless it failed. It costs what the calls cost, and memory for the items.
 pub fn run_script<D: SharedDisk>(
     alloc: Global,
@@ -238,7 +246,8 @@ pub fn run_script<D: SharedDisk>(
     requires size { IsBlockSize (D.state disk.old).size }
     requires on { IsOn (D.state disk.old) view.old }
     requires form { IsOneNode script.now }
-    requires none { items.old.items ≡ [] }
+    requires begun { IsBegun items.old.items }
+    ensures adds { AddsItems script.now.clients items.old.items items.new.items }
     ensures history { HoldsHistory script.now items.new.items }
     ensures legal { (t : Tree) → StandsFor (D.state disk.old) view.old t → Legal (history_of script.now.clients items.new.items) t }
     ensures stands { UnlessDiskFailed result ((t : Tree) (s : StandsFor (D.state disk.old) view.old t) → LeavesStanding (D.state disk.old) (D.state disk.new) view.old t (tree_of (history_of script.now.clients items.new.items) t) s) }

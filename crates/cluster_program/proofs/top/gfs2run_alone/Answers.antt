@@ -13,7 +13,7 @@ use Rattle.cluster_program.proofs.top.gfs2run_alone.Goals as goal
 
 pub report-status-requires-clause-quiet : goal.report-status-requires-clause-quiet
 report-status-requires-clause-quiet g c told done =
-    subst (λ (items : List TraceItem). IsQuiet c.carry_out-script.result.script items told) (sym c.deref.ensures.value) (c.carry_out-script.ensures.quiet told done)
+    subst (λ (items : List TraceItem). IsQuiet c.carry_out-listing.result.script items told) (sym c.deref.ensures.value) (c.carry_out-listing.ensures.quiet told done)
 
 module _ (g : Over) (c : goal.After-drop-items g) where
   abbrev sinks : Outputs
@@ -22,28 +22,29 @@ module _ (g : Over) (c : goal.After-drop-items g) where
   abbrev sinks_now : Outputs
   sinks_now = record { trace = g.T.Sink.contents c.report-status.new.trace; trace_faults = g.T.Sink.faults c.report-status.new.trace; output = g.O.Sink.contents c.report-status.new.out; output_faults = g.O.Sink.faults c.report-status.new.out }
 
-  reports : Reports sinks sinks_now c.carry_out-script.result.script c.carry_out-script.new.items.items c.carry_out-script.result.lines.items 0 c.carry_out-script.result.own c.report-status.result
-  reports = subst (λ (items : List TraceItem). Reports sinks sinks_now c.carry_out-script.result.script items c.carry_out-script.result.lines.items 0 c.carry_out-script.result.own c.report-status.result) c.deref.ensures.value c.report-status.ensures.reports
+  reports : Reports sinks sinks_now c.carry_out-listing.result.listing c.carry_out-listing.result.script c.carry_out-listing.new.items.items c.carry_out-listing.result.lines.items 0 c.carry_out-listing.result.own c.report-status.result
+  reports = subst (λ (items : List TraceItem). Reports sinks sinks_now c.carry_out-listing.result.listing c.carry_out-listing.result.script items c.carry_out-listing.result.lines.items 0 c.carry_out-listing.result.own c.report-status.result) c.deref.ensures.value c.report-status.ensures.reports
 
 pub returns-clause-ends : goal.returns-clause-ends
 returns-clause-ends g c = record {
-  script = c.carry_out-script.result.script;
-  items = c.carry_out-script.new.items.items;
-  lines = c.carry_out-script.result.lines.items;
-  own = c.carry_out-script.result.own;
-  course = c.carry_out-script.ensures.course;
+  listing = c.carry_out-listing.result.listing;
+  script = c.carry_out-listing.result.script;
+  items = c.carry_out-listing.new.items.items;
+  lines = c.carry_out-listing.result.lines.items;
+  own = c.carry_out-listing.result.own;
+  course = c.carry_out-listing.ensures.course;
   dirty = 0;
   report = reports g c;
-  counted = counted _ _ (map string_bytes c.args.words.now) c.carry_out-script.result.script c.carry_out-script.new.items.items c.carry_out-script.result.lines.items c.carry_out-script.result.own c.carry_out-script.ensures.course (reports g c).told
-      (done_before which.Trace _ _ c.carry_out-script.result.own (reports g c).told (reports g c).told_is);
+  counted = counted _ _ (map string_bytes c.args.words.now) c.carry_out-listing.result.listing c.carry_out-listing.result.script c.carry_out-listing.new.items.items c.carry_out-listing.result.lines.items c.carry_out-listing.result.own c.carry_out-listing.ensures.course (reports g c).told
+      (done_before which.Trace _ _ c.carry_out-listing.result.own (reports g c).told (reports g c).told_is);
 }
 
 pub returns-clause-fault : goal.returns-clause-fault
 returns-clause-fault g c =
-    fault_has_cause _ _ (sinks g c) (sinks_now g c) (map string_bytes c.args.words.now) c.carry_out-script.result.script c.carry_out-script.new.items.items c.carry_out-script.result.lines.items c.carry_out-script.result.own c.report-status.result
-    c.carry_out-script.ensures.course (reports g c)
+    fault_has_cause _ _ (sinks g c) (sinks_now g c) (map string_bytes c.args.words.now) c.carry_out-listing.result.listing c.carry_out-listing.result.script c.carry_out-listing.new.items.items c.carry_out-listing.result.lines.items c.carry_out-listing.result.own c.report-status.result
+    c.carry_out-listing.ensures.course (reports g c)
 
 pub returns-clause-complete : goal.returns-clause-complete
 returns-clause-complete g c =
-    complete _ _ (sinks g c) (sinks_now g c) (map string_bytes c.args.words.now) c.carry_out-script.result.script c.carry_out-script.new.items.items c.carry_out-script.result.lines.items c.carry_out-script.result.own c.report-status.result
-    c.carry_out-script.ensures.course (reports g c)
+    complete _ _ (sinks g c) (sinks_now g c) (map string_bytes c.args.words.now) c.carry_out-listing.result.listing c.carry_out-listing.result.script c.carry_out-listing.new.items.items c.carry_out-listing.result.lines.items c.carry_out-listing.result.own c.report-status.result
+    c.carry_out-listing.ensures.course (reports g c)

@@ -11,7 +11,7 @@ use Rattle.cluster_program.proofs.top.read_and_run.Goals as goal
 
 pub returns-in-Err-clause-course : goal.returns-in-Err-clause-course
 returns-in-Err-clause-course g c = λ words asks time.
-    course_of words _ _ c.without_script.ensures.script c.requires.none c.without_script.ensures.lines c.without_script.ensures.own
+    course_of words _ _ c.without_script.ensures.listing c.without_script.ensures.script c.requires.none c.without_script.ensures.lines c.without_script.ensures.own
     (NoScript c.in-Err.own asks c.in-Err.ensures.none (record { state_is = refl; list_is = refl }) refl)
 
 -- the run's time is that of the words
@@ -21,9 +21,9 @@ runs_at given left s time told items own same runs = subst (λ t. Runs given lef
 pub returns-clause-course : goal.returns-clause-course
 returns-clause-course g c = λ words asks time.
     let read = c.in-Ok.ensures.script in
-    with_no_lines words _ _ c.new.ensures.items
+    with_no_lines words _ _ _ c.new.ensures.items
     (RunsScript read.0 c.in-Ok.script c.mount_and_run-own.new.items.items c.mount_and_run-own.result asks read.1 read.2 c.in-Ok.ensures.built.0 (runs_at _ _ c.in-Ok.script c.args.time asks.run.time c.mount_and_run-own.new.items.items c.mount_and_run-own.result time (c.mount_and_run-own.ensures.runs _ _ _ _)))
 
 pub returns-clause-own : goal.returns-clause-own
 returns-clause-own g c =
-    let runs = c.mount_and_run-own.ensures.runs None None 0 0 in no_run_fault _ _ c.in-Ok.script c.args.time c.mount_and_run-own.new.items.items runs.value c.mount_and_run-own.result runs.ends
+    let runs = c.mount_and_run-own.ensures.runs None None 0 0 in no_run_fault _ _ c.in-Ok.script c.args.time c.mount_and_run-own.new.items.items runs.value runs.replayed c.mount_and_run-own.result runs.ends

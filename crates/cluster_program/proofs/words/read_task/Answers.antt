@@ -21,6 +21,8 @@ asked_for size words c (task.Make make) read limits built told =
     (record { read = read ∙ (λ i. Ok (told i)); built = not_refused size words c read built }, subst IsWithinLimits told limits)
 asked_for size words c task.Show read limits built told =
     record { read = read ∙ (λ i. Ok (told i)); built = not_refused size words c read built }
+asked_for size words c task.Replay read limits built told =
+    record { read = read ∙ (λ i. Ok (told i)); built = not_refused size words c read built }
 asked_for size words c (task.Run time) read limits built told =
     (record { run = told.0; read = read ∙ (λ i. Ok (told.1 i)); built = not_refused size words c read built }, told.2)
 

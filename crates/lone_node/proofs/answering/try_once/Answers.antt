@@ -11,7 +11,7 @@ use Rattle.glock_names.specs.Steps.{TellsOf}
 use Rattle.lone_view.specs.Seeing.{Lone, seen_alone}
 use Rattle.file_tree.specs.Apply.{TakesSpace}
 use Rattle.file_calls.specs.Answers.{IsFullFor}
-use Rattle.file_calls.specs.Calls.{IsNeededFor, IsTooFew}
+use Rattle.file_calls.specs.Calls.{IsDamage, IsNeededFor, IsTooFew}
 use Rattle.lone_node.specs.Answering.{IsDamagedFor, IsFailedFor, in_a_read, in_a_write, leads_out, source_of}
 use Rattle.disk_turns.specs.Turns.{moment}
 use Rattle.lone_node.specs.Course.{done, spaceless}
@@ -46,7 +46,7 @@ returns-in-Ok-NoSpace-clause-step g c =
     (record {
       takes = subst (λ a. IfNoSpace (Ok a) (λ need free. TakesSpace c.args.call.now)) c.in-Ok-NoSpace.field-0-is c.in-Ok-NoSpace.ensures.roomless;
       fewer = subst (λ a. IfNoSpace (Ok a) (λ need free. free < need)) c.in-Ok-NoSpace.field-0-is c.in-Ok-NoSpace.ensures.fewer;
-      shown = subst (λ a. IfNoSpace (Ok a) (IsFullFor v c.args.call.now)) c.in-Ok-NoSpace.field-0-is c.in-Ok-NoSpace.ensures.full;
+      shown = subst (λ k. IsFullFor v c.args.call.now k c.in-Ok-NoSpace.need c.in-Ok-NoSpace.free) c.requires.node (subst (λ a. IfNoSpace (Ok a) (IsFullFor v c.args.call.now c.args.stamp.now.node)) c.in-Ok-NoSpace.field-0-is c.in-Ok-NoSpace.ensures.full);
       few = λ im o l t of. subst (λ a. IfNoSpace (Ok a) (IsTooFew v im o l t c.args.call.now)) c.in-Ok-NoSpace.field-0-is (c.in-Ok-NoSpace.ensures.space im o l t of);
     })
     refl
@@ -115,7 +115,7 @@ returns-in-Err-fetch-clause-damaged g c =
     let d = g.D.SharedDisk.state c.args.disk.now in
     let v = seen_alone c.args.view.now in
     let m = c.in-Ok-NeedBlock.missing in
-    let needed = subst (λ a. IfNeedBlock (Ok a) (IsNeededFor v c.args.call.now)) c.in-Ok-NeedBlock.field-0-is c.in-Ok-NeedBlock.ensures.needed in
+    let needed = subst (λ k. IsNeededFor v c.args.call.now k m) c.requires.node (subst (λ a. IfNeedBlock (Ok a) (IsNeededFor v c.args.call.now c.args.stamp.now.node)) c.in-Ok-NeedBlock.field-0-is c.in-Ok-NeedBlock.ensures.needed) in
     damaged_so c.in-Err-fetch.end _ (IsDamagedFor d v c.args.call.now)
     (λ b rule out. subst (λ x. IsDamagedFor d v c.args.call.now x rule) (sym out.1) (subst (IsDamagedFor d v c.args.call.now (source_of d.size m)) (sym out.2) (leads_out m needed out.0)))
     c.in-Err-fetch.ensures.outside
@@ -124,7 +124,7 @@ pub returns-in-Err-clause-damaged : goal.returns-in-Err-clause-damaged
 returns-in-Err-clause-damaged g c =
     let d = g.D.SharedDisk.state c.args.disk.now in
     let v = seen_alone c.args.view.now in
-    subst (λ e. IfDamaged e (IsDamagedFor d v c.args.call.now)) (sym c.end_of.ensures) (shown_damage d v c.args.call.now c.in-Err.fault c.in-Err.ensures.kept c.in-Err.ensures.damaged)
+    subst (λ e. IfDamaged e (IsDamagedFor d v c.args.call.now)) (sym c.end_of.ensures) (shown_damage d v c.args.call.now c.in-Err.fault c.in-Err.ensures.kept (subst (λ k. TellsOf (IsDamage v c.args.call.now k) c.in-Err.fault) c.requires.node c.in-Err.ensures.damaged))
 
 pub returns-in-Ok-NoSpace-clause-answered : goal.returns-in-Ok-NoSpace-clause-answered
 returns-in-Ok-NoSpace-clause-answered g c =
@@ -139,7 +139,7 @@ returns-in-Err-fetch-clause-failed g c =
     let d = g.D.SharedDisk.state c.args.disk.now in
     let v = seen_alone c.args.view.now in
     let m = c.in-Ok-NeedBlock.missing in
-    let needed = subst (λ a. IfNeedBlock (Ok a) (IsNeededFor v c.args.call.now)) c.in-Ok-NeedBlock.field-0-is c.in-Ok-NeedBlock.ensures.needed in
+    let needed = subst (λ k. IsNeededFor v c.args.call.now k m) c.requires.node (subst (λ a. IfNeedBlock (Ok a) (IsNeededFor v c.args.call.now c.args.stamp.now.node)) c.in-Ok-NeedBlock.field-0-is c.in-Ok-NeedBlock.ensures.needed) in
     let first = moment d (g.D.SharedDisk.list c.args.disk.now) in
     let after = moment (g.D.SharedDisk.state c.fetch.new.disk) (g.D.SharedDisk.list c.fetch.new.disk) in
     failed_so c.in-Err-fetch.end _ (IsFailedFor first after c.args.view.now c.args.stamp.now.time c.args.call.now)

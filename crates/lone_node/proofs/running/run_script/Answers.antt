@@ -10,6 +10,7 @@ use Rattle.lone_node.specs.declared.ends.RunEnd.{RunEnd}
 use Rattle.lone_node.specs.Ends.{UnlessDiskFailed}
 use Rattle.disk_turns.specs.Turns.{moment}
 use Rattle.lone_node.specs.Course.{IsCourse}
+use Rattle.lone_node.specs.Items.{AddsItems}
 use Rattle.lone_node.specs.Run.{HasChangedNothing, IsRunOf, IsWholeRun}
 use Rattle.lone_node.specs.Standing.{LeavesStanding, StandsFor}
 use Rattle.lone_node.proofs.Endings.{unless_so}
@@ -78,3 +79,6 @@ returns-clause-course g c =
     let first = moment (g.D.SharedDisk.state c.args.disk.now) (g.D.SharedDisk.list c.args.disk.now) in
     let last = moment (g.D.SharedDisk.state c.run_lines.new.disk) (g.D.SharedDisk.list c.run_lines.new.disk) in
     unless_failed c.run_lines.result (λ course. subst (λ (cs : List Client). IsCourse c.args.view.now c.args.time cs first last c.run_lines.new.items.items) (clients g c) course) c.run_lines.ensures.course
+
+pub returns-clause-adds : goal.returns-clause-adds
+returns-clause-adds g c = subst (λ (cs : List Client). AddsItems cs c.args.items.now.items c.run_lines.new.items.items) (clients g c) c.run_lines.ensures.adds

@@ -1,4 +1,4 @@
-use Rattle.std.proofs.Common.{◌≡◌, List, refl, rules, sym, ◌∙◌, subst, arith}
+use Rattle.std.proofs.Common.{◌≡◌, List, ◌++◌, refl, rules, sym, ap, ◌∙◌, subst, arith}
 use Rattle.file_tree.specs.Tree.{Tree}
 use Rattle.file_tree.specs.declared.call.Call.{Call}
 use Rattle.cluster_history.specs.History.{tree_of}
@@ -8,7 +8,7 @@ use Rattle.trace_text.specs.declared.item.TraceItem.{TraceItem}
 use Rattle.lone_node.specs.Answering.{IsDamagedOn, IsFailedAt, IsUnbuiltOn}
 use Rattle.disk_turns.specs.Turns.{Moment, moment}
 use Rattle.lone_node.specs.Course.{AreSteps, HasTaken}
-use Rattle.lone_node.specs.Items.{AnsweredCall}
+use Rattle.lone_node.specs.Items.{AnsweredCall, items_from}
 use Rattle.lone_node.specs.Run.{EndsAt, EndsAtCall, HasChangedNothing, IsFailedOn}
 use Rattle.lone_node.specs.Standing.{LeavesStanding, StandsFor}
 use Rattle.lone_node.proofs.Endings.{damaged_before, damaged_so, damaged_with, failed_before, failed_so, unbuilt_before, unbuilt_so, unbuilt_with, unless_so}
@@ -21,7 +21,7 @@ pub loop-place-init : goal.loop-place-init
 loop-place-init g c =
     let disk = g.D.SharedDisk.state c.args.disk.now in
     let start = StandsFor disk c.args.view.now in
-    let run = run_none c.args.clients.now c.args.lines.now start c.args.items.now.items c.requires.joined in
+    let run = run_none c.args.clients.now c.args.lines.now start c.args.items.now.items c.requires.begun in
     record {
       run = run;
       number = refl;
@@ -34,13 +34,14 @@ loop-place-init g c =
       same = record { size = refl; count = refl; tells = refl; fenced = refl };
       system = record { size = refl; root = refl; groups = refl };
       later = λ i. omega arith;
+      begun = refl;
     }
 
 pub loop-place-preserved-in_default : goal.loop-place-preserved-in_default
 loop-place-preserved-in_default g c =
     let so = c.loop-place.invariant in
     let start = StandsFor (g.D.SharedDisk.state c.args.disk.now) c.args.view.now in
-    let (run, number, same) =
+    let (run, number, same, begun) =
     wait_more c.args.clients.now c.args.lines.now start c.loop-place.place c.loop-place.items.items c.loop-place-test.true so.run
     c.loop-place.number c.index-lines-place.result c.index-lines-place.result c.index-lines-place.is c.in_default.not-Call so.number
     in
@@ -56,6 +57,7 @@ loop-place-preserved-in_default g c =
       same = so.same;
       system = so.system;
       later = so.later;
+      begun = begun ∙ so.begun;
     }
 
 pub overflow_add-number : goal.overflow_add-number
@@ -71,7 +73,7 @@ loop-place-preserved g c =
     let now = g.D.SharedDisk.state c.loop-place.disk in
     let next = g.D.SharedDisk.state c.take_call.new.disk in
     let start = g.D.SharedDisk.state c.args.disk.now in
-    let (run, number, leaves, steps, untouched) =
+    let (run, number, leaves, steps, untouched, begun) =
     goes_on c.args.clients.now c.args.lines.now start c.args.view.now c.loop-place.place c.loop-place.items.items c.loop-place-test.true so.run c.in-Call.client c.in-Call.call
     c.index-lines-place.result c.index-lines-place.result c.index-clients-client.result c.index-lines-place.is c.in-Call.is c.requires.form
     c.take_call.new.items.items c.loop-place.number c.args.stamp.now.time (moment start (g.D.SharedDisk.list c.args.disk.now)) now next (g.D.SharedDisk.list c.loop-place.disk) (g.D.SharedDisk.list c.take_call.new.disk) c.loop-place.view so.number
@@ -88,6 +90,7 @@ loop-place-preserved g c =
       same = search rules;
       system = search rules;
       later = λ i. let before = so.later i in let more = c.in-Ok.ensures.later i in omega (arith, before, more);
+      begun = begun ∙ so.begun;
     }
 
 -- what the disk stood for before the call that wasn't answered, where its items are those before
@@ -107,7 +110,7 @@ module _ (g : Over) (c : goal.In-Err g) where
 
   -- the steps up to it
   course_before : HasTaken c.args.view.now c.args.stamp.now.time c.args.clients.now first_of before_of c.take_call.new.items.items
-  course_before = record { answered = c.loop-place.invariant.run.answered; are = c.in-Err.ensures.kept ∙ c.loop-place.invariant.run.are; steps = c.loop-place.invariant.steps }
+  course_before = record { begun = c.loop-place.invariant.run.begun; begins = c.loop-place.invariant.run.begins; answered = c.loop-place.invariant.run.answered; are = c.in-Err.ensures.kept ∙ c.loop-place.invariant.run.are; steps = c.loop-place.invariant.steps }
 
   abbrev start : Tree → Type 0
   start = StandsFor (g.D.SharedDisk.state c.args.disk.now) c.args.view.now
@@ -194,4 +197,14 @@ returns-in-Err-clause-course g c =
     c.in-Err.ensures.before
 
 pub returns-clause-course : goal.returns-clause-course
-returns-clause-course g c = record { answered = c.loop-place.invariant.run.answered; are = c.loop-place.invariant.run.are; steps = c.loop-place.invariant.steps }
+returns-clause-course g c = record { begun = c.loop-place.invariant.run.begun; begins = c.loop-place.invariant.run.begins; answered = c.loop-place.invariant.run.answered; are = c.loop-place.invariant.run.are; steps = c.loop-place.invariant.steps }
+
+pub returns-in-Err-clause-adds : goal.returns-in-Err-clause-adds
+returns-in-Err-clause-adds g c =
+    let so = c.loop-place.invariant in
+    (so.run.answered, c.in-Err.ensures.kept ∙ so.run.are ∙ ap (λ (is : List TraceItem). is ++ items_from c.args.clients.now 1 so.run.answered) so.begun)
+
+pub returns-clause-adds : goal.returns-clause-adds
+returns-clause-adds g c =
+    let so = c.loop-place.invariant in
+    (so.run.answered, so.run.are ∙ ap (λ (is : List TraceItem). is ++ items_from c.args.clients.now 1 so.run.answered) so.begun)

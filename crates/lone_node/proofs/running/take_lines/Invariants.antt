@@ -23,4 +23,5 @@ invariant-loop-place g l = record {
   same : IsSameDisk (g.D.SharedDisk.state l.initial.disk) (g.D.SharedDisk.state l.disk);
   system : IsSameSystem l.initial.view l.view;
   later : (i : ℕ) → g.D.SharedDisk.faults l.initial.disk i ≤ g.D.SharedDisk.faults l.disk i;
+  begun : run.begun ≡ l.initial.items.items;
 }

@@ -13,8 +13,8 @@ use Rattle.cluster_program.specs.Mounting.{MountEnds}
 use Rattle.cluster_program.specs.Runs.{as_mounted}
 use Rattle.cluster_program.specs.declared.status.Status.TheVariants as status
 use Rattle.cluster_program.proofs.Mounts.{image_there, is_on, odd_groups, stray_root}
-use Rattle.cluster_program.proofs.mounting.view_of.Given.{Over}
-use Rattle.cluster_program.proofs.mounting.view_of.Goals as goal
+use Rattle.cluster_program.proofs.mounting.ready_of.Given.{Over}
+use Rattle.cluster_program.proofs.mounting.ready_of.Goals as goal
 
 -- groups that were looked at, of a disk that is known by equations
 on_disk : (d : DiskState) (size count : ℕ) (gs hs : List Group) → size ≡ d.size → count ≡ d.count → gs ≡ hs → AreGroupsOn size count gs → AreGroupsOn d.size d.count hs
@@ -35,7 +35,7 @@ returns-then-not-are_groups-clause-ends g c first now =
     let groups = c.deref.ensures.value ∙ ap (λ (m : MountedValue). m.groups) c.mounted.view_is in
     let odd = not_on_disk d c.block_size-size.result c.blocks-2.result c.deref.result.now c.args.mounted.groups c.block_size-size.ensures c.blocks-2.ensures.value groups (never c.are_groups.result c.if-not-are_groups.true c.are_groups.ensures.1) in
     subst (λ (b : ℕ). MountEnds d first now (status.Damaged b 18)) (sym place)
-    (odd_groups d c.args.mounted c.what_stands_breaks_nothing.ensures (image_there d c.blocks-2.ensures.sound c.requires.size) c.requires.mounted c.mounted_groups_are_as_seen.ensures odd first now)
+    (odd_groups d c.args.mounted c.what_stands_breaks_nothing.ensures c.replays_keep_system_files.ensures.kept (image_there d c.blocks-2.ensures.sound c.requires.size) c.requires.mounted c.requires.replayed c.mounted_groups_are_as_seen.ensures odd first now)
 
 module _ (g : Over) (c : goal.After-drop-mounted-inside-in-Some g) where
   is : c.new-view.result ≡ as_mounted (g.D.SharedDisk.state c.args.disk.now) c.args.mounted
@@ -65,4 +65,4 @@ returns-clause-ends g c first now =
     let stray : ¬ (HasRootInside (seen_alone (as_mounted d c.args.mounted))) = λ inside.
     c.in-None.ensures.none (subst (HasDataBlock (seen_alone c.new-view.result)) (ap (λ (v : Lone). v.root) c.new-view.ensures) (subst (λ (v : Lone). HasRootInside (seen_alone v)) (sym (is_too g c)) inside)) in
     subst (λ (b : ℕ). MountEnds d first now (status.Damaged b 2)) (sym place)
-    (stray_root d c.args.mounted c.what_stands_breaks_nothing.ensures (image_there d c.blocks-2.ensures.sound c.requires.size) c.requires.mounted c.views_may_be_read_from_mounted_images.ensures stray first now)
+    (stray_root d c.args.mounted c.what_stands_breaks_nothing.ensures c.replays_keep_system_files.ensures.kept (image_there d c.blocks-2.ensures.sound c.requires.size) c.requires.mounted c.requires.replayed c.views_may_be_read_from_mounted_images.ensures stray first now)
