@@ -1,6 +1,6 @@
 #!/usr/bin/env python3
 """Rows of images whose journals are dirty: journals laid out by hand from the format of the log alone (checks/journal_rows.py), over images that
-new_image.py and the plain calls of plain_calls.py work out, with what `show` prints of them, and what `replay` does to them.
+new_image.py and the plain calls of plain_calls.py work out, with what `show` prints of them, and what `replay` and `run` do to them.
 
 usage: checks/replay_rows.py            writes crates/rows/data/replayed_images.rows
        checks/replay_rows.py --check    are the stored ones these?
@@ -20,7 +20,7 @@ ROWS = os.path.join(os.path.dirname(os.path.abspath(__file__)), "..", "crates", 
 SIZE = 512
 MAGIC = bytes.fromhex("01161970")
 
-HEAD = """# What `show` tells of images whose journals are dirty, and what `replay` makes of them. checks/replay_rows.py lays the journals out, block by block, from the format
+HEAD = """# What `show` tells of images whose journals are dirty, and what `replay` and `run` make of them. checks/replay_rows.py lays the journals out, block by block, from the format
 # of the log alone, and works out what is to be seen from new_image.py and the plain calls of plain_calls.py; it writes this file.
 
 image one_journal
@@ -143,21 +143,38 @@ class Row:
     def text(self, *wanted):
         return "\n".join([f"row {self.name}", f"  image {self.image}", *self.laid(), *wanted]) + "\n"
 
-    def replayed(self, data, homes):
-        """What `replay` is to print, the items of it, and what `show` prints behind it: of each journal the blocks that go home, by rising number, and the
-        place of its clean header; or None where it is clean."""
-        out, items = [], ["join 1"]
+    def items(self, homes):
+        """The items of the replay of these journals: of each the blocks that go home, by rising number, and the place of its clean header; or None where it
+        is clean."""
+        items = []
         for j, it in enumerate(homes):
             if it is None:
                 continue
             home, place = it
-            out.append(f"replayed {j} blocks {len(home)}")
             if home:
                 items += [*(f"write 1 replay {b}" for b in sorted(home)), "barrier 1"]
             items += [f"write 1 replay {self.block(f'journal{j}.place{place}')}", "barrier 1", f"recovered {j + 1} 1"]
+        return items
+
+    def replayed(self, data, homes):
+        """What `replay` is to print, its items, and what `show` prints behind it."""
+        out = [f"replayed {j} blocks {len(it[0])}" for j, it in enumerate(homes) if it is not None]
         out += ["calls 0 lost 0 commits 0 crashes 0 dirty 0", "done"]
-        return ["  do replay", "  out", *("    " + it for it in out), "  trace", *("    " + it for it in [*items, "unmount 1"]),
+        return ["  do replay", "  out", *("    " + it for it in out), "  trace", *("    " + it for it in ["join 1", *self.items(homes), "unmount 1"]),
                 "  shows", *("    " + it for it in shown(data, [True] * len(homes)))]  # fmt: skip
+
+    def runs(self, data, calls, *homes):
+        """A run replays these journals, and then answers these calls by this image; then so a second run, which has nothing to replay."""
+        disk, text = Disk(bytearray(data), 0), []
+        for first in (True, False):
+            script = ["nodes 1", "client c on 1", *(f"c: {it}" for it in calls)]
+            _, out, trace = carried_out(disk, "".join(it + "\n" for it in script))
+            items = trace.splitlines()
+            if first:
+                items[1:1] = self.items(homes)
+            text += ["  do run", "  script", *("    " + it for it in script), "  out", *("    " + it for it in out.splitlines()),
+                     "  trace", *("    " + it for it in items), "  shows", *("    " + it for it in shown(bytes(disk.data), [True] * len(homes)))]  # fmt: skip
+        return self.text(*text)
 
     def shows(self, data, *homes):
         """The tree is that of this image, where of each journal these blocks go home, behind which its clean header has this place."""
@@ -166,7 +183,8 @@ class Row:
 
     def damaged(self, block, rule):
         told = f"  told 4 damaged: block {block} rule {rule}"
-        return self.text("  do show", told, "  same", "  do replay", told, "  same")
+        run = ["  do run", "  script", "    nodes 1", "    client c on 1", "    c: list /"]
+        return self.text("  do show", told, "  same", "  do replay", told, "  same", *run, told, "  same")
 
     def broken(self, block, rule, *homes):
         """What goes home breaks a rule. That is met by who reads the tree, and not by the replay."""
@@ -232,6 +250,34 @@ def whole():
     final[first * SIZE : (first + 1) * SIZE] = plain(SIZE, 0x62)
     final[second * SIZE : (second + 1) * SIZE] = plain(SIZE, 0x63)
     yield row.shows(final, row.all_of(0, one), row.all_of(1, two))
+
+
+def runs():
+    row = Row("a run answers by what the journal says")
+    final = after(row.data(), "create /f", "write /f 0 68656c6c6f", "mkdir /d")
+    at = row.journals[0].write(1, 2, 1, **changed(row.data(), final))
+    yield row.runs(final, ["list /", "read /f 0 9", "create /d/g", "write /d/g 0 6f6e65", "rename /d/g /g", "rmdir /d", "list /"], row.all_of(0, at))
+
+    row = Row("a run takes back what the journal made")
+    row.lie(after(row.data(), "create /f", "write /f 0 6f6c64"))
+    final = after(row.data(), "write /f 0 6e6577", "create /g")
+    at = row.journals[0].write(500, 9, 500, **changed(row.data(), final))
+    yield row.runs(final, ["read /f 0 3", "unlink /g", "create /g", "truncate /f 1", "stat /f", "sync"], row.all_of(0, at))
+
+    row = Row("a run of one node replays both journals", "two_journals")
+    row.lie(after(row.data(), "create /f", "write /f 0 fill:61:600"))
+    final = bytearray(row.data())
+    homes = []
+    for j, block in enumerate(content_blocks(row.data(), b"f")):
+        final[block * SIZE : (block + 1) * SIZE] = plain(SIZE, 0x62 + j)
+        homes.append(row.all_of(j, row.journals[j].write(1, 2, 1, content=[(block, plain(SIZE, 0x62 + j))])))
+    yield row.runs(final, ["read /f 510 4", "write /f 510 78797a", "read /f 509 5"], *homes)
+
+    row = Row("a script that is refused leaves the journal as it is")
+    row.journals[0].write(1, 2, 1, **changed(row.data(), after(row.data(), "create /f")))
+    head = ["  do run", "  script", "    nodes 1", "    client c on 1"]
+    yield row.text(*head, "    c: lost /", "  told 2 script: line 3 column 4", "  same", *head, "    c: dread /f 0 1", "  told 20 not built: line 3", "  same",
+                   "  do run --steps 5", "  told 20 not built: words", "  same")  # fmt: skip
 
 
 def of_content(name):
@@ -327,7 +373,7 @@ def main():
         with open(sys.argv[2], "wb") as it:
             it.write(image_with(sys.argv[3:]))
         return
-    text = HEAD + "".join("\n" + it for part in (whole(), content(), broken()) for it in part)
+    text = HEAD + "".join("\n" + it for part in (whole(), runs(), content(), broken()) for it in part)
     if sys.argv[1:] == ["--check"]:
         with open(ROWS, encoding="utf-8") as it:
             if it.read() != text:
