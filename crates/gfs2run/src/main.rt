@@ -33,6 +33,7 @@ commands:
   mkfs [--bsize N] [--journals N] [--journal-blocks N] [--groups N] [--uuid TEXT] [--time N]
                     makes an image of the whole file IMAGE
   show              prints the image's journals and its tree, and writes nothing to it
+  replay            puts home what the image's journals say
   run [--time N]    runs the script
 
 options, as the only word:
