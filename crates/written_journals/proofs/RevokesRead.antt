@@ -26,13 +26,16 @@ use Rattle.log_layout.specs.declared.due.Due.TheVariants as due
 use Rattle.node_journal.specs.Encoding.{descriptor_block, further_block, piece_count, pieces, revoke_chunk, zeros}
 use Rattle.node_journal.specs.Places.{placed_from}
 use Rattle.node_journal.proofs.Arounds.{division_is_less}
-use Rattle.node_journal.proofs.Chunked.{map_map}
 use Rattle.node_journal.proofs.Lengths.{count_of_pieces}
 use Rattle.node_journal.proofs.Pieces.{none_in_pieces, pieces_go_on}
 use Rattle.written_journals.proofs.NumbersBack.{AreLow, length-numbers, numbers_back, numbers_below}
 use Rattle.written_journals.proofs.DescriptorsBack.{block_kind, block_read, put_long}
 use Rattle.written_journals.proofs.Parts.{AreParts, none, one, all_joined, joined_assoc, joined_nothing, of_revokes}
 use Rattle.written_journals.proofs.ChunksRead.{chunk_read}
+
+map_map : {A B C : Type 0} (g : B → C) (f : A → B) (xs : List A) → map g (map f xs) ≡ map (λ x. g (f x)) xs
+map_map g f [] = refl
+map_map g f (x ∷ xs) = ap (λ ys. g (f x) ∷ ys) (map_map g f xs)
 
 -- ---- numbers that are low, in part
 
