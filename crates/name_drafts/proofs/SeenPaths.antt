@@ -47,7 +47,7 @@ module _ (v : Seen) (im : Image) (o : Owners) (l : Layout) where
 
     pub path_seen : (path : Path) (a : ℕ) → LeadsTo v wants path a → HasBlock v a → SeesPath v im o l path
     path_seen _ _ (at_root held) there front back c split at = only [] v.root (leads_at [] v.root (at_root held)) there c (subst (λ q. IsAt im o l q c) (front_none front back split) at)
-    path_seen _ _ (by_name before dir b name leads is_name named inside held) there =
+    path_seen _ _ (by_name before dir b name leads is_name named inside held) there front back c split at =
         let path = before ++ name ∷ [] in
         longer_seen path (subst (SeesPath v im o l) (sym (parent_of_next before name)) (path_seen before dir leads named.there))
-        (only path b (leads_at path b (by_name before dir b name leads is_name named inside held)) there)
+        (only path b (leads_at path b (by_name before dir b name leads is_name named inside held)) there) front back c split at
