@@ -66,11 +66,12 @@ use Rattle.room_search.specs.declared.search.Locked.TheVariants as locked
 use Rattle.room_search.proofs.Holds.{block_under, held_before}
 use Rattle.room_search.proofs.InImage.{all_said, are_shown, blocks_said, group_asked, said_free}
 use Rattle.room_search.proofs.Room.{all_listed, one_of}
-use Rattle.name_drafts.specs.Inserting.{IsNamed, IsNeededForName, IsWrongForName}
+use Rattle.name_drafts.specs.Inserting.{IsNamed, IsNeededForName, IsWrongForName, SeesForName}
 use Rattle.name_drafts.specs.Need.{name_need}
 use Rattle.name_drafts.specs.Way.{IsOnWay, its_dinode, its_leaf, its_pointer}
 use Rattle.name_drafts.specs.Drafting.{GrowsInto, HasLinearRoom, IsAddition, IsNeededIn, IsPlaceFor, IsPutUnder, IsWrongIn, entry_for, new_tree}
 use Rattle.name_drafts.specs.Drafting as drafting
+use Rattle.name_drafts.proofs.SeenPaths.{path_seen}
 use Rattle.making_calls.specs.Blocks.{block_holds, first_of, new_holds}
 use Rattle.making_calls.specs.Making.{HasGotName, IsMaking, IsNeededFor, IsReachedIn, IsTooFew, TakesForName, blocks_needed, call_holds, directory_path, makes_directory, name_in, need_at, path_holds}
 use Rattle.making_calls.specs.Making as damage
@@ -181,12 +182,16 @@ module _ (v : Seen) (c : Call) (is : IsMaking c) (p : Place) (name : List ℕ) (
       pub block_lacks : (m : Missing) → IsSearched v node (more + 1) (locked.NeedBlock m) → IsAskedFor v im o l (call_holds im o l t c node) m
       block_lacks m searched = asked_so m (found_here (locked.NeedBlock m) searched)
 
-      pub too_few : (free : ℕ) → IsSearched v node (more + 1) (locked.Is (taken.TooFew free)) → IsTooFew v im o l t c (more + 1) free
-      too_few free searched =
+      pub too_few : LeadsTo v (wanted c) (directory_path c) p.inode → (free : ℕ) → IsSearched v node (more + 1) (locked.Is (taken.TooFew free)) → IsTooFew v im o l t c (more + 1) free
+      too_few leads free searched =
           let f = found_here (locked.Is (taken.TooFew free)) searched in
           record {
             taken = reply_ok;
+            directory = p.inode;
+            at = reached.place.at;
             on_path = reached.held;
+            seen = path_seen v im o l t of (wanted c) (directory_path c) p.inode leads reached.place.there;
+            looked = subst (SeesForName v dir) (sym (own_name c name last)) (for_name.looked dir shown);
             groups = subst (λ gs. AreHeld v (map hold_of_group gs)) (sym of.groups)
                 (all_listed v (said im.at) (own.0 ∷ []) (more + 1) f.1.fewer_first (held_before v (group_holds (said im.at) v.groups own.0 (more + 1)) _ f.0));
             needs = need_so;

@@ -37,9 +37,10 @@ use Rattle.name_drafts.specs.DirectoryShown as dirs
 use Rattle.hash_dirs.specs.Shown.{IsSound}
 use Rattle.draft_changes.specs.Resizing.{HoldsThere}
 use Rattle.name_drafts.specs.Needing as leaves
-use Rattle.name_drafts.specs.Inserting.{CanGetName, IsNamed, IsNeededForName, IsWrongForName}
+use Rattle.name_drafts.specs.Inserting.{CanGetName, IsNamed, IsNeededForName, IsWrongForName, SeesForName}
 use Rattle.name_drafts.specs.Need.{name_need, need_in_linear}
 use Rattle.name_drafts.specs.Way.{IsOnWay, IsRightWay}
+use Rattle.name_drafts.specs.Paths.{SeesPath}
 use Rattle.name_drafts.specs.Drafting.{CountsNumber, GetsRecord, HasLinearRoom, HasTimes, IsAddition, IsNewInode, IsNextOf, entry_for}
 use Rattle.new_inodes.specs.Touched.{IsTouched}
 use Rattle.path_walks.specs.Walks.{LeadsTo, Names, IsAbsent, IsDirectoryAt, IsLacked, IsOnTheWay, IsPlaceOf, IsSeenAt, IsUnread, IsWrongAt, LacksName}
@@ -93,11 +94,16 @@ inode_holds im o l t call node = if is_ok (apply call t).reply then new_holds o 
 abbrev pub call_holds : Image → Owners → Layout → Tree → Call → ℕ → List Hold
 call_holds im o l t call node = path_holds im o l call ++ inode_holds im o l t call node
 
--- The tree would take the call, but fewer blocks are free, in all groups, than it needs. Each lock on the path and of each group is held.
+-- The tree would take the call, but fewer blocks are free, in all groups, than it needs. Each lock on the path and of each group is held; the view has the
+-- dinode of each directory on the path, and of that at its end each block that is looked at to tell how the name comes in.
 pub record IsTooFew (v : Seen) (im : Image) (o : Owners) (l : Layout) (t : Tree) (call : Call) (need free : ℕ) : Type 0 where
   pub taken : (apply call t).reply ≡ Ok
+  pub directory : ℕ
+  pub at : IsAt im o l (directory_path call) directory
   pub on_path : AreHeld v (path_holds im o l call)
   pub groups : AreHeld v (map hold_of_group (map group_of_entry l.groups))
+  pub seen : SeesPath v im o l (directory_path call)
+  pub looked : SeesForName v (holding im o directory) (name_in call)
   pub needs : need ≡ blocks_needed im o l call
   pub free_are : free ≡ length (free_in_all (states_by o) (map group_of_entry l.groups))
   pub fewer : free < need
@@ -113,11 +119,12 @@ pub record IsToGetName (v : Seen) (call : Call) : Type 0 where
   pub lacks : LacksName v directory (name_in call)
 
 -- The directory in this block takes so many blocks for the name, by what stands there, be it right or wrong: a linear one by its records, a hashed one by
--- the name's chain. Of a sound one that is what the name needs.
+-- the name's chain. Of a sound one that is what the name needs. The view has each block that is looked at for that.
 pub record TakesForName (v : Seen) (dir : ℕ) (name : List ℕ) (more : ℕ) : Type 0 where
   pub sound : (h : Holding) → dirs.IsShown v dir h → IsSound h → is_directory_in h ≡ true → more ≡ name_need h name
   pub linear : (h : Holding) → dirs.IsShown v dir h → is_hashed_in h ≡ false → more ≡ need_in_linear h name
   pub hashed : (h : Holding) → dirs.IsShown v dir h → is_hashed_in h ≡ true → leaves.TakesBlocks h name more
+  pub looked : (h : Holding) → dirs.IsShown v dir h → SeesForName v h name
 
 -- The directory is to get the name, and so many blocks are needed in all: one for the new inode, and those that the directory takes.
 pub record NeedsBlocks (v : Seen) (call : Call) (need : ℕ) : Type 0 where

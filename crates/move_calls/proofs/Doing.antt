@@ -2,7 +2,7 @@
 use Rattle.std.proofs.Common.{◌≡◌, ◌≢◌, inl, inr, ℕ, zero, suc, ◌+◌, ◌^◌, ◌<◌, Bool, true, false, List, [], ◌∷◌, ◌++◌, length, slice_get, Option, None, Some, refl, sym, ap, ◌∙◌, subst, append-nil, arith}
 use Rattle.std.proofs.lemmas.List.{length-append}
 use Rattle.std.proofs.lemmas.List.Elements.{Contains-append_cases, Contains-append_left, Contains-append_right}
-use Rattle.std.specs.Prelude.{◌==◌, ◌&&◌, not, is_some, Contains, option_and_then, unwrap_or}
+use Rattle.std.specs.Prelude.{◌==◌, ◌&&◌, not, is_some, Contains, unwrap_or}
 use Rattle.std.specs.FinMap.{get}
 use Rattle.crc_words.specs.Remainder.{crc32_of}
 use Rattle.file_tree.specs.Apply.{apply, put_at, remove_at}
@@ -24,10 +24,10 @@ use Rattle.glock_names.specs.declared.State.TheVariants.{Ex, Sh}
 use Rattle.glock_names.specs.declared.views.Group.{Group}
 use Rattle.call_locks.specs.Wants.{at_old_name, shared_above, want, way_to}
 use Rattle.dinode_tree.specs.Reading.{inode_lock}
-use Rattle.image_model.specs.Flat.{Path, follow, tree_at}
+use Rattle.image_model.specs.Flat.{Path, tree_at}
 use Rattle.image_model.specs.Image.{Image}
 use Rattle.image_model.specs.Owners.{Owners, holding}
-use Rattle.image_model.specs.Stands.{Layout, flat_of}
+use Rattle.image_model.specs.Stands.{Layout}
 use Rattle.image_model.proofs.Held.{none_some, some_same}
 use Rattle.draft_changes.specs.Resizing.{HoldsThere, IsSaidFree}
 use Rattle.draft_changes.proofs.Views.{shows_inodes}
@@ -37,7 +37,6 @@ use Rattle.image_changes.proofs.Finishing.{finish_makes}
 use Rattle.image_changes.specs.Flats.{in_directory}
 use Rattle.image_changes.specs.Instances.{IsAt, dinode_at, is_directory_at}
 use Rattle.image_changes.proofs.Drafting.{drafts_do}
-use Rattle.image_changes.proofs.FlatPaths.{follow-append}
 use Rattle.directory_changes.specs.Moving.{IsTargetOf}
 use Rattle.directory_changes.specs.Moving as moved
 use Rattle.directory_changes.proofs.Moved.{moving_makes}
@@ -45,18 +44,19 @@ use Rattle.hash_dirs.proofs.Gathered.{the_one}
 use Rattle.resource_groups.specs.Freeing.{HasSome}
 use Rattle.resource_groups.specs.Shown.{group_lock}
 use Rattle.group_locks.specs.Groups.{GroupsAreHeld}
-use Rattle.path_walks.specs.Walks.{LeadsTo, at_root, by_name}
+use Rattle.path_walks.specs.Walks.{LeadsTo}
 use Rattle.path_walks.specs.declared.walk.Place.{Place}
-use Rattle.path_walks.proofs.Images.{child_is_there, is_shown, says_child, says_records, shown_directory, shown_inode, sound_directory}
+use Rattle.path_walks.proofs.Images.{says_records, shown_inode, sound_directory}
 use Rattle.path_walks.proofs.Wants.{at_end, before_end, exclusive, leads_held}
 use Rattle.move_ends.proofs.Paths.{ends_so}
 use Rattle.room_search.proofs.InImage.{are_shown, said_free}
-use Rattle.move_ends.specs.Ends.{AreEnds, IsElsewhere, IsRenaming, IsTarget, MovesIn, StoodIn, from_path, to_path}
+use Rattle.move_ends.specs.Ends.{AreEnds, IsElsewhere, IsRenaming, IsTarget, MovesIn, StoodIn, from_path, second_wants, to_path}
 use Rattle.name_inserts.specs.Need.{name_need}
 use Rattle.name_moves.specs.Becoming.{GetsName, GetsParent, GivesName, LosesAll, NeedsAfter, losses}
 use Rattle.name_moves.specs.Moving.{ArePlacesIn, CanBeMoved, IsMoveIn, IsMoving, IsPutUnder, Move, StandsThere, entry_for, freed_by, lost_there, of_group, of_inode, of_source, of_target}
 use Rattle.name_moves.specs.Moving as moving
 use Rattle.name_moves.proofs.Alike.{need_once}
+use Rattle.name_moves.proofs.SeenPaths.{leads_at}
 use Rattle.name_moves.proofs.Imaged.{source_directory}
 use Rattle.move_calls.specs.Carrying.{HasRoom, IsCarriedOut, locks_of_room}
 use Rattle.move_calls.specs.Locks.{lost_in, replaced_in, taken_in}
@@ -96,16 +96,6 @@ pub record HoldsMove (v : Seen) (m : Move) : Type 0 where
   pub source : v.state_of (inode_lock m.from) ≡ Ex
   pub target : v.state_of (inode_lock m.to.inode) ≡ Ex
   pub inode : v.state_of (inode_lock m.moved.inode) ≡ Ex
-
--- ---- in an image a path leads where the view shows it
-
-leads_in : (v : Seen) (im : Image) (o : Owners) (l : Layout) (t : Tree) → IsOf v im o l t → (second : Bool) (whole path : Path) (a : ℕ) → LeadsTo v (at_old_name second whole) path a → IsAt im o l path a
-leads_in v im o l t of second whole _ _ (at_root held) = ap Some of.root
-leads_in v im o l t of second whole _ _ (by_name front dir b name leads is_name named inside held) =
-    let at = leads_in v im o l t of second whole front dir leads in
-    let is_dir = named.directory (holding im o dir) (is_shown v im o l t of front dir at) in
-    let child = child_is_there v im o l t of front dir name at is_name is_dir ∙ says_child v im o l t of front dir name b at is_dir (named.child (holding im o dir) (shown_directory v im o l t of front dir at is_dir)) in
-    follow-append (flat_of im o) front (name ∷ []) l.root dir at ∙ ap (option_and_then (λ x. follow (flat_of im o) x [])) child
 
 -- ---- the draft
 
@@ -261,7 +251,7 @@ module _ (v : Seen) (c : Call) (from to : Place) (replaced : Option (List ℕ)) 
   goes_held : (im : Image) (o : Owners) (l : Layout) (t : Tree) → IsOf v im o l t → (r : Option (List ℕ)) → IsTarget v c from to r → StoodIn im o l c to.inode r → (a : ℕ) → IsAt im o l (to_path c) a → v.state_of (inode_lock a) ≡ Ex
   goes_held im o l t of _ (IsTarget.free lacks) (StoodIn.nothing child none) a at = absurd (none_some (sym none ∙ at))
   goes_held im o l t of _ (IsTarget.taken there blocks stands may all leaves) stood a at =
-      let same : a ≡ there.inode = some_same (sym at ∙ leads_in v im o l t of true (to_path c) (to_path c) there.inode stands.place.leads) in
+      let same : a ≡ there.inode = some_same (sym at ∙ leads_at v im o l t of (second_wants c) (to_path c) there.inode stands.place.leads) in
       subst (λ x. v.state_of (inode_lock x) ≡ Ex) (sym same) (end_held v true (to_path c) ends.begun.to there.inode stands.place.leads)
 
   moved_so : (im : Image) (o : Owners) (l : Layout) (t : Tree) → IsOf v im o l t → IsMovedSo v m done.room time change done.is held groups c im o l t

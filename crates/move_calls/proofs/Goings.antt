@@ -36,9 +36,9 @@ some_goes m _ _ (GoesThere.new_first replaces) none = some_lost m replaces none
 some_goes m _ _ (GoesThere.old_first stays within) none = some_second (is_replacing m) (is_within m) m.name m.new_name within none
 some_goes m _ _ (GoesThere.old_then replaces within) none = some_lost m replaces none
 
--- where none goes, what is needed or wrong as the blocks are counted is so on the way to the new name as that is
+-- where none goes, what is seen, needed or wrong as the blocks are counted is so on the way to the new name as that is
 module _ (v : Seen) (m : Move) (none : lost_there m ≡ []) where
-  as_it_is : (P : Holding → Type 0) → IsAfter v m.to.inode (lost_there m) P → (h : Holding) → dirs.IsShown v m.to.inode h → P h
+  pub as_it_is : (P : Holding → Type 0) → IsAfter v m.to.inode (lost_there m) P → (h : Holding) → dirs.IsShown v m.to.inode h → P h
   as_it_is P after = after_none v m.to.inode P (subst (λ names. IsAfter v m.to.inode names P) none after)
 
   pub needed_now : (n : Missing) → IsNeededThere v m n → (h : Holding) → dirs.IsShown v m.to.inode h → IsNeededForName v h m.new_name n

@@ -107,7 +107,7 @@ module _ (v : Seen) (c : Call) (node time : ℕ) (view : IsView v) (hash : to_pa
     full_in need free full =
         let meant = moves.meant in
         let r = meant.images im o l t of in
-        full_there v im o l t of c m.moved m.to m.replaced meant.ends (hash meant.ends.begun.to) r.0 r.1 node need free (subst (λ x. IsFull v node x need free) meant.is full)
+        full_there v im o l t of c m.moved m.to m.replaced meant.ends (hash meant.ends.begun.to) r.0 r.1 node meant.target need free (subst (λ x. IsFull v node x need free) meant.is full)
 
     held_in : (change : Change) → IsCarriedOut v node time m change → (need : ℕ) × (IsNeed im o l t c need × AreHeld v (call_holds im o l t c node need))
     held_in change out =

@@ -30,7 +30,7 @@ use Rattle.glock_names.specs.declared.views.Group.{Group}
 use Rattle.image_model.specs.Image.{Image}
 use Rattle.image_model.specs.Owners.{Owners, holding}
 use Rattle.image_model.specs.Stands.{Layout}
-use Rattle.image_model.proofs.Held.{some_same}
+use Rattle.image_model.proofs.Held.{none_some, some_same}
 use Rattle.image_model.proofs.Members.{IsIn, contained, in_left, in_right, is_in}
 use Rattle.image_changes.specs.Changes.{inode_of}
 use Rattle.image_changes.specs.Does.{IsOf}
@@ -53,9 +53,11 @@ use Rattle.room_search.specs.Blocks.{free_in_all, have_too_few, holds_of_first, 
 use Rattle.room_search.specs.Searches.{AreShown, IsGroupBlock}
 use Rattle.room_search.proofs.Holds.{block_under, held_behind}
 use Rattle.room_search.proofs.InImage.{all_said, are_shown, group_asked}
-use Rattle.move_ends.specs.Ends.{AreEnds, MovesIn, StoodIn, from_path, inode_holds, to_path}
+use Rattle.move_ends.specs.Ends.{AreEnds, IsTarget, MovesIn, StoodIn, first_wants, from_path, inode_holds, second_wants, to_path}
 use Rattle.move_ends.proofs.Listed.{inode_listed, replaced_listed, source_listed, target_listed}
-use Rattle.name_moves.specs.Becoming.{NeedsAfter}
+use Rattle.name_moves.specs.Becoming.{CanTell, LosesAll, NeedsAfter}
+use Rattle.name_moves.specs.Paths.{SeesPath}
+use Rattle.name_moves.proofs.SeenPaths.{longer_seen, path_seen}
 use Rattle.name_moves.specs.Moving.{CanBeMoved, IsNeededIn, IsPutUnder, Move, blocks_or_none, freed_by, lost_there}
 use Rattle.name_moves.proofs.Alike.{need_once}
 use Rattle.name_moves.proofs.Asked.{move_asked}
@@ -255,15 +257,36 @@ module _ (v : Seen) (im : Image) (o : Owners) (l : Layout) (t : Tree) (of : IsOf
 
   -- ---- too few blocks
 
-  pub full_there : (need free : ℕ) → IsFull v node m need free → IsTooFew v im o l t c need free
-  full_there need free full = record {
-    taken = ap (λ (a : Answer). a.reply) moves.takes.applies;
-    on_paths = inodes;
-    groups = subst (λ gs. AreHeld v (map hold_of_group gs)) (sym of.groups) full.held;
-    needs = is_need need full.counted.needs;
-    free_are = full.free_are im.at shown ∙ ap (λ gs. length (free_in_all (said im.at) gs)) (sym of.groups) ∙ ap length (all_said v im o l t of);
-    fewer = full.fewer;
-  }
+  -- what stands at the new name, where something does, is at the end of the second path
+  seen_to_end : (r : Option (List ℕ)) → IsTarget v c from to r → StoodIn im o l c to.inode r → SeesPath v im o l (to_path c)
+  seen_to_end _ (IsTarget.free lacks) (StoodIn.nothing child none) =
+      longer_seen v im o l (to_path c) (path_seen v im o l t of (second_wants c) (parent_of (to_path c)) to.inode ends.target ends.there) (λ a at. absurd (none_some (sym none ∙ at)))
+  seen_to_end _ (IsTarget.taken there blocks stands may all leaves) stood = path_seen v im o l t of (second_wants c) (to_path c) there.inode stands.place.leads stands.place.there
+
+  pub full_there : IsTarget v c from to replaced → (need free : ℕ) → IsFull v node m need free → IsTooFew v im o l t c need free
+  full_there target need free full =
+      let h = holding im o to.inode in
+      let h_shown = shown_inode v im o l t of (parent_of (to_path c)) to.inode moves.target in
+      let h_sound = sound_directory v im o l t of (parent_of (to_path c)) to.inode moves.target moves.directory in
+      let after = full.counted.needs.looked_then h h_shown (CanTell.of_sound h_sound) in
+      record {
+        taken = ap (λ (a : Answer). a.reply) moves.takes.applies;
+        source = from.above;
+        source_at = moves.source.above;
+        target = to.inode;
+        target_at = moves.target;
+        on_paths = inodes;
+        groups = subst (λ gs. AreHeld v (map hold_of_group gs)) (sym of.groups) full.held;
+        seen_from = path_seen v im o l t of (first_wants c) (from_path c) from.inode ends.source.leads ends.source.there;
+        seen_to = seen_to_end replaced target moves.stood;
+        looked = full.counted.needs.looked h h_shown;
+        without = after.0;
+        lost = subst (λ names. LosesAll names h after.0) (lost_same v c from to replaced ends im o l t moves) after.1;
+        looked_then = after.2;
+        needs = is_need need full.counted.needs;
+        free_are = full.free_are im.at shown ∙ ap (λ gs. length (free_in_all (said im.at) gs)) (sym of.groups) ∙ ap length (all_said v im o l t of);
+        fewer = full.fewer;
+      }
 
   -- ---- a block that is asked for
 

@@ -22,10 +22,10 @@ use Rattle.resource_groups.specs.Freeing as freeing
 use Rattle.resource_groups.specs.Putting.{HasDataBlock}
 use Rattle.room_search.specs.Blocks.{first_holds, free_in_all, group_of_node}
 use Rattle.room_search.specs.Searches.{AreHeldBlocks, AreShown, IsGroupBlock, IsGroupBroken, IsGroupNeeded, IsRoomOf}
-use Rattle.name_inserts.specs.Inserting.{IsNeededForName, IsWrongForName}
+use Rattle.name_inserts.specs.Inserting.{IsNeededForName, IsWrongForName, SeesForName}
 use Rattle.name_inserts.specs.Needing.{TakesBlocks}
 use Rattle.name_inserts.specs.Way.{IsRightWay}
-use Rattle.name_moves.specs.Becoming.{NeedsAfter}
+use Rattle.name_moves.specs.Becoming.{IsAfter, NeedsAfter}
 use Rattle.name_moves.specs.Moving.{AreApart, IsMoving, IsNeededIn, IsPlaceOfMove, IsWrongIn, IsWrongThere, Move, freed_by, lost_there}
 use Rattle.move_calls.specs.Firsts.{those_of}
 use Rattle.move_calls.specs.Checks.{IsNeededOnWays, IsOffItsWays, IsOnItsWay, IsWrongOnWays}
@@ -33,11 +33,14 @@ use Rattle.move_calls.specs.Checks.{IsNeededOnWays, IsOffItsWays, IsOnItsWay, Is
 -- ---- what is needed
 
 -- So many blocks are needed: of a sound directory as many as the new name takes once the others have gone, and so of a linear one whatever else is wrong in it, where its content is the rest of its
--- dinode's block; of a hashed one that isn't sound, from which no name goes, as many as what its chain tells. Of any other directory it is some number.
+-- dinode's block; of a hashed one that isn't sound, from which no name goes, as many as what its chain tells. Of any other directory it is some number. The view has each block that is looked at to tell how the new
+-- name comes in: as the directory is, and once those names have gone that go from it.
 pub record NeedsFor (v : Seen) (m : Move) (need : ℕ) : Type 0 where
   pub in_sound : (h : Holding) → dirs.IsShown v m.to.inode h → IsSound h → NeedsAfter (lost_there m) h m.new_name need
   pub in_linear : (h : Holding) → dirs.IsShown v m.to.inode h → is_hashed_in h ≡ false → height_in h ≡ 0 → NeedsAfter (lost_there m) h m.new_name need
   pub in_hashed : (h : Holding) → dirs.IsShown v m.to.inode h → is_hashed_in h ≡ true → lost_there m ≡ [] → TakesBlocks h m.new_name need
+  pub looked : (h : Holding) → dirs.IsShown v m.to.inode h → SeesForName v h m.new_name
+  pub looked_then : IsAfter v m.to.inode (lost_there m) (λ k. SeesForName v k m.new_name)
 
 -- this is the node's own group, one of the view's
 pub record IsOwnGroup (v : Seen) (node : ℕ) (own : Group) : Type 0 where

@@ -6,6 +6,7 @@ use Rattle.file_tree.specs.Tree.{Tree}
 use Rattle.file_tree.specs.declared.call.Call.{Call}
 use Rattle.file_tree.specs.declared.reply.Reply.TheVariants as reply
 use Rattle.cluster_history.specs.Changes.{is_ok}
+use Rattle.gfs2_layout.specs.Holding.{Holding}
 use Rattle.gfs2_layout.specs.declared.rindex.Rindex.{Rindex}
 use Rattle.glock_names.specs.Views.{Seen, group_of_entry}
 use Rattle.glock_names.specs.declared.views.Group.{Group}
@@ -18,7 +19,9 @@ use Rattle.group_locks.specs.Groups.{has_some, holds_of_those, is_block_of}
 use Rattle.path_walks.specs.Holds.{Hold, AreHeld, hold_of_group}
 use Rattle.room_search.specs.Blocks.{blocks_of_first, free_in_all, group_of_node, have_too_few, states_by}
 use Rattle.move_ends.specs.Ends.{IsElsewhere, from_path, inode_holds, to_path}
-use Rattle.name_moves.specs.Becoming.{NeedsAfter, losses}
+use Rattle.name_inserts.specs.Inserting.{SeesForName}
+use Rattle.name_moves.specs.Becoming.{LosesAll, NeedsAfter, losses}
+use Rattle.name_moves.specs.Paths.{SeesPath}
 
 -- ---- what goes, and what is needed
 
@@ -82,11 +85,22 @@ pub data IsSoOfList (im : Image) (o : Owners) (l : Layout) (t : Tree) (call : Ca
 
 -- ---- too few blocks
 
--- The tree would take the call, but fewer blocks are free, in all groups, than it needs. Each lock of the inodes and of each group is held. What the call frees isn't counted.
+-- The tree would take the call, but fewer blocks are free, in all groups, than it needs. Each lock of the inodes and of each group is held. The view has the dinode of each inode on both paths, and of
+-- the directory that is to get the new name each block that is looked at to tell how that comes in: as the directory is, and once those names have gone that go from it. What the call frees isn't counted.
 pub record IsTooFew (v : Seen) (im : Image) (o : Owners) (l : Layout) (t : Tree) (call : Call) (need free : ℕ) : Type 0 where
   pub taken : (apply call t).reply ≡ reply.Ok
+  pub source : ℕ
+  pub source_at : IsAt im o l (parent_of (from_path call)) source
+  pub target : ℕ
+  pub target_at : IsAt im o l (parent_of (to_path call)) target
   pub on_paths : AreHeld v (inode_holds im o l call)
   pub groups : AreHeld v (map hold_of_group (map group_of_entry l.groups))
+  pub seen_from : SeesPath v im o l (from_path call)
+  pub seen_to : SeesPath v im o l (to_path call)
+  pub looked : SeesForName v (holding im o target) (last_of (to_path call))
+  pub without : Holding
+  pub lost : LosesAll (lost_in im o l call source target) (holding im o target) without
+  pub looked_then : SeesForName v without (last_of (to_path call))
   pub needs : IsNeed im o l t call need
   pub free_are : free ≡ length (free_in_all (states_by o) (map group_of_entry l.groups))
   pub fewer : free < need

@@ -7,7 +7,7 @@ ghost use Rattle.glock_names.specs.Views.{IsOfView};
 ghost use Rattle.directories.specs.Shown as dirs;
 ghost use Rattle.resource_groups.specs.Freeing.{BreaksSome, IsNeededFor};
 ghost use Rattle.resource_groups.specs.Putting.{HasDataBlock};
-ghost use Rattle.name_inserts.specs.Inserting.{IsNeededForName, IsWrongForName};
+ghost use Rattle.name_inserts.specs.Inserting.{IsNeededForName, IsWrongForName, SeesForName};
 ghost use Rattle.name_moves.specs.Moving.{CanBeMoved, IsMoving, freed_by, lost_there, move_of};
 ghost use Rattle.move_calls.specs.Carrying.{HasRoom, IsDamageOf, IsOffWay, IsStuck, NeedsBlock, NeedsFor};
 
@@ -41,6 +41,7 @@ fn is_in_groups<V: View>(view: &V, missing: &Missing) -> bool
 /// Where names go from the directory that gets the new one, looks at the way to that as it is. It costs what `need_name` costs.
 pub fn look_ahead<V: View>(alloc: Global, view: &V, m: &NameMove<'_>) -> Result<Step<()>, CallFault>
     requires can { CanBeMoved (V.seen view.now) (move_of m.now) }
+    ensures seen { (h : Holding) → dirs.IsShown (V.seen view.now) m.now.to.inode h → IfIs result (λ done. lost_there (move_of m.now) ≢ [] → SeesForName (V.seen view.now) h m.now.new_name.now) }
     ensures needed { (h : Holding) → dirs.IsShown (V.seen view.now) m.now.to.inode h → IfNeedBlock result (IsNeededForName (V.seen view.now) h m.now.new_name.now) }
     ensures absent { IfNeedBlock result (λ missing. (V.seen view.now).block_at missing.block ≡ None) }
     ensures damaged { (h : Holding) → dirs.IsShown (V.seen view.now) m.now.to.inode h → IfDamaged result (IsWrongForName (V.seen view.now) h) }
@@ -70,13 +71,14 @@ pub fn look_at_freed<V: View>(
     free_blocks(&mut draft, freed_blocks(m))
 }
 
-/// How many blocks a move needs. None where names go from the directory that gets the new one, and a rule is broken or a block is led to that is no data block of a group. It costs what `need_to_move` costs.
+/// How many blocks a move needs, where the way to the new name was looked at as it is if names go first. None where names go from the directory that gets the new one, and a rule is broken or a block is led to that is no data block of a group. It costs what `need_to_move` costs.
 pub fn count_blocks<V: View>(
     alloc: Global,
     view: &V,
     m: &NameMove<'_>,
 ) -> Result<Step<Option<u64>>, CallFault>
     requires can { CanBeMoved (V.seen view.now) (move_of m.now) }
+    requires looked { lost_there (move_of m.now) ≢ [] → (h : Holding) → dirs.IsShown (V.seen view.now) m.now.to.inode h → SeesForName (V.seen view.now) h m.now.new_name.now }
     ensures need { IfIs result (λ found. IfSome found (NeedsFor (V.seen view.now) (move_of m.now))) }
     ensures stuck { (node : ℕ) → IfIs result (λ found. IfNone found (IsStuck (V.seen view.now) node (move_of m.now))) }
     ensures needed { (node : ℕ) → IfNeedBlock result (NeedsBlock (V.seen view.now) node (move_of m.now)) }

@@ -9,6 +9,7 @@ pub mod InImage
 pub mod GroupsSay
 pub mod Adds
 pub mod Adding
+pub mod SeenPaths
 -- Passed on to the crates above.
 pub use Rattle.name_inserts.proofs.DirectoryForms as Forms
 pub use Rattle.name_inserts.proofs.Led

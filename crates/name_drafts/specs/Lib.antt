@@ -1,6 +1,7 @@
 pub mod Drafting
 pub mod Steps
 pub mod Laws
+pub mod Paths
 -- Passed on to the crates above.
 pub use Rattle.name_inserts.specs.HashInserting
 pub use Rattle.name_inserts.specs.Inserting

@@ -9,7 +9,7 @@ use Rattle.gfs2_layout.specs.Holding.{Holding, bytes_at, part_at}
 use Rattle.gfs2_layout.specs.Inode.{dinode_in, is_directory_in, is_hashed_in, linear_area, records_of}
 use Rattle.gfs2_layout.specs.Putting.{put_slot}
 use Rattle.gfs2_layout.specs.Records.{record_named}
-use Rattle.glock_names.specs.Views.{Seen}
+use Rattle.glock_names.specs.Views.{Seen, HasBlock}
 use Rattle.glock_names.specs.declared.steps.Entry.{Entry}
 use Rattle.glock_names.specs.declared.steps.Missing.{Missing}
 use Rattle.dinode_tree.specs.Walking.{missing_dinode}
@@ -20,6 +20,7 @@ use Rattle.hash_inserts.specs.Tables.{DraftsDirectory}
 use Rattle.hash_dirs.specs.Shown.{IsSound}
 use Rattle.hash_inserts.specs.Steps.{IsConverted}
 use Rattle.hash_inserts.specs.Inserting.{CanCountOne, IsInserted, IsInsertedAt, IsNeededToInsert, IsWrongToInsert}
+use Rattle.hash_inserts.specs.Needing.{SeesToInsert}
 use Rattle.directories.specs.Shown.{IsBroken}
 use Rattle.name_inserts.specs.Need.{has_linear_room, name_need}
 
@@ -83,6 +84,11 @@ pub record PutsName (old new : FinMap nat_cmp Fate) (room left : List ℕ) (name
 pub data IsNeededForName (v : Seen) (h : Holding) (name : List ℕ) (m : Missing) : Type 0 where
   the_dinode : m ≡ missing_dinode h.own → v.block_at h.own ≡ None → IsNeededForName v h name m
   in_hashed : is_hashed_in h ≡ true → IsNeededToInsert v h name m → IsNeededForName v h name m
+
+-- The view has each block that is looked at to tell how the name comes in: the dinode's; of a hashed directory those that an insertion looks at.
+pub record SeesForName (v : Seen) (h : Holding) (name : List ℕ) : Type 0 where
+  pub dinode : HasBlock v h.own
+  pub in_hashed : is_hashed_in h ≡ true → SeesToInsert v h name
 
 -- The block breaks this rule of an inode or of a directory's form, as the view shows it; or (2) a pointer of a hashed directory, in this block, leads to
 -- one that is no data block of a group.

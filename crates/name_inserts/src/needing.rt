@@ -10,9 +10,9 @@ ghost use Rattle.dinode_tree.specs.Walking.{missing_dinode};
 ghost use Rattle.dinode_tree.specs.Shown as inode;
 ghost use Rattle.directories.specs.Shown.{IsDirectoryIn, IsShown};
 ghost use Rattle.hash_dirs.specs.Shown.{IsSound};
-ghost use Rattle.hash_inserts.specs.Needing.{TakesBlocks};
+ghost use Rattle.hash_inserts.specs.Needing.{SeesToInsert, TakesBlocks};
 ghost use Rattle.name_inserts.specs.Need.{has_linear_room, need_in_hashed, need_in_linear, name_need};
-ghost use Rattle.name_inserts.specs.Inserting.{IsNeededForName, IsWrongForName};
+ghost use Rattle.name_inserts.specs.Inserting.{IsNeededForName, IsWrongForName, SeesForName};
 
 use crc_words::checksums_have_32_bits;
 use dinode_tree::read_dinode;
@@ -80,6 +80,7 @@ fn need_in_hashed<V: View>(
     ensures need { (h : Holding) → IsShown (V.seen view.now) dir h → is_hashed_in h ≡ true → IsSound h → IfIs result (λ need. need ≡ need_in_hashed h name.now) }
     ensures takes { (h : Holding) → IsShown (V.seen view.now) dir h → is_hashed_in h ≡ true → IfIs result (TakesBlocks h name.now) }
     ensures most { IfIs result (λ n. n < 2 ^ 42) }
+    ensures seen { (h : Holding) → IsShown (V.seen view.now) dir h → is_hashed_in h ≡ true → IfIs result (λ need. SeesToInsert (V.seen view.now) h name.now) }
     ensures needed { (h : Holding) → IsShown (V.seen view.now) dir h → is_hashed_in h ≡ true → IfNeedBlock result (IsNeededForName (V.seen view.now) h name.now) }
     ensures absent { IfNeedBlock result (λ missing. (V.seen view.now).block_at missing.block ≡ None) }
     ensures damaged { (h : Holding) → IsShown (V.seen view.now) dir h → is_hashed_in h ≡ true → IfDamaged result (IsWrongForName (V.seen view.now) h) }
@@ -110,6 +111,7 @@ pub fn need_name<V: View>(
     ensures linear { (h : Holding) → IsShown (V.seen view.now) dir h → is_hashed_in h ≡ false → IfIs result (λ need. need ≡ need_in_linear h name.now) }
     ensures hashed { (h : Holding) → IsShown (V.seen view.now) dir h → is_hashed_in h ≡ true → IfIs result (TakesBlocks h name.now) }
     ensures most { IfIs result (λ n. n < 2 ^ 42) }
+    ensures seen { (h : Holding) → IsShown (V.seen view.now) dir h → IfIs result (λ need. SeesForName (V.seen view.now) h name.now) }
     ensures needed { (h : Holding) → IsShown (V.seen view.now) dir h → IfNeedBlock result (IsNeededForName (V.seen view.now) h name.now) }
     ensures absent { IfNeedBlock result (λ missing. (V.seen view.now).block_at missing.block ≡ None) }
     ensures damaged { (h : Holding) → IsShown (V.seen view.now) dir h → IfDamaged result (IsWrongForName (V.seen view.now) h) }

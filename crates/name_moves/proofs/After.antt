@@ -18,12 +18,12 @@ use Rattle.directories.proofs.Forms.{is_directory_here}
 use Rattle.directories.proofs.Sound.{says_sound}
 use Rattle.path_walks.proofs.Faults.{tells_each, tells_so}
 use Rattle.path_walks.proofs.Images.{no_record}
-use Rattle.name_inserts.specs.Inserting.{IsNeededForName, IsWrongForName}
+use Rattle.name_inserts.specs.Inserting.{IsNeededForName, IsWrongForName, SeesForName}
 use Rattle.name_moves.specs.Becoming.{CanTell, IsAfter, none_went, of_linear, of_none, of_sound}
 use Rattle.name_moves.specs.Steps.{AreLost, left_of}
 use Rattle.name_moves.proofs.Loses.{all_directory, all_plain, all_sound, named_plain, named_sound, only_one, plain_says, still_named, tell_as}
 use Rattle.name_moves.proofs.Lost.{able_then, are_lost}
-use Rattle.name_moves.proofs.Told.{broken_below, name_needed_below, name_wrong_below, needed_below}
+use Rattle.name_moves.proofs.Told.{broken_below, name_needed_below, name_seen_below, name_wrong_below, needed_below}
 
 -- before any went
 pub after_none : (v : Seen) (dir : ℕ) (P : Holding → Type 0) → ((h : Holding) → IsShown v dir h → P h) → IsAfter v dir [] P
@@ -51,6 +51,9 @@ module _ (v : Seen) (dir : ℕ) (names : List (List ℕ)) (fates : FinMap nat_cm
 
   pub after_needed_name : (name : List ℕ) (m : Missing) → ((k : Holding) → IsShown w dir k → IsNeededForName w k name m) → IsAfter v dir names (λ k. IsNeededForName v k name m)
   after_needed_name name m = after (λ k. IsNeededForName w k name m) (λ k. IsNeededForName v k name m) (λ k. name_needed_below v fates k name m)
+
+  pub after_sees_name : (name : List ℕ) → ((k : Holding) → IsShown w dir k → SeesForName w k name) → IsAfter v dir names (λ k. SeesForName v k name)
+  after_sees_name name = after (λ k. SeesForName w k name) (λ k. SeesForName v k name) (λ k. name_seen_below v fates lost.sees k name)
 
   pub after_wrong_name : (f : CallFault) → ((k : Holding) → IsShown w dir k → TellsOf (IsWrongForName w k) f) → TellsOf (λ rule b. IsAfter v dir names (λ k. IsWrongForName v k rule b)) f
   after_wrong_name f tells =

@@ -19,3 +19,4 @@ pub mod Unbroken
 pub mod Asked
 -- Passed on to the crates above.
 pub use Rattle.name_drafts.proofs.Fates
+pub use Rattle.name_drafts.proofs.SeenPaths

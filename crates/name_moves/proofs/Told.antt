@@ -5,15 +5,17 @@ use Rattle.std.specs.FinMap.{FinMap}
 use Rattle.drafts.specs.Fates.{seen_with}
 use Rattle.drafts.specs.declared.fate.Fate.{Fate}
 use Rattle.gfs2_layout.specs.Holding.{Holding}
-use Rattle.glock_names.specs.Views.{Seen}
+use Rattle.gfs2_layout.specs.Inode.{entry_block}
+use Rattle.glock_names.specs.Views.{Seen, HasBlock}
 use Rattle.glock_names.specs.declared.steps.Missing.{Missing}
 use Rattle.dinode_tree.specs.Reading.{IsNeeded}
 use Rattle.hash_dirs.specs.Broken as leaves
 use Rattle.hash_dirs.specs.Shown as hashed
 use Rattle.directories.specs.Shown as dirs
 use Rattle.name_inserts.specs.HashInserting as inserting
-use Rattle.name_inserts.specs.Inserting.{IsNeededForName, IsWrongForName}
+use Rattle.name_inserts.specs.Inserting.{IsNeededForName, IsWrongForName, SeesForName}
 use Rattle.name_inserts.specs.Inserting as naming
+use Rattle.name_inserts.specs.Needing.{SeesToInsert}
 use Rattle.name_drafts.proofs.Fates.{absent_below}
 
 module _ (v : Seen) (fates : FinMap nat_cmp Fate) where
@@ -56,3 +58,16 @@ module _ (v : Seen) (fates : FinMap nat_cmp Fate) where
   pub name_wrong_below : (h : Holding) (rule b : ℕ) → IsWrongForName w h rule b → IsWrongForName v h rule b
   name_wrong_below h rule b (naming.IsWrongForName.of_directory broken) = naming.IsWrongForName.of_directory (broken_below h rule b broken)
   name_wrong_below h rule b (naming.IsWrongForName.in_hashed is wrong) = naming.IsWrongForName.in_hashed is (wrong_insert_below h rule b wrong)
+
+  -- what is looked at over a draft the view has, where the draft sees no more blocks than it
+  module _ (sees : (b : ℕ) → HasBlock w b → HasBlock v b) (h : Holding) (name : List ℕ) where
+    insert_seen_below : SeesToInsert w h name → SeesToInsert v h name
+    insert_seen_below is = record {
+      own = sees h.own is.own;
+      pointer = sees (entry_block h (hashed.index_for h name)) is.pointer;
+      leaves = λ place x chain. sees x (is.leaves place x chain);
+      table = λ full one. let tree = is.table full one in record { own = sees h.own tree.own; below = λ b under. sees b (tree.below b under) };
+    }
+
+    pub name_seen_below : SeesForName w h name → SeesForName v h name
+    name_seen_below is = record { dinode = sees h.own is.dinode; in_hashed = λ hashed. insert_seen_below (is.in_hashed hashed) }

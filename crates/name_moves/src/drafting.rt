@@ -16,7 +16,8 @@ ghost use Rattle.directories.specs.Shown.{IsShown, Says};
 ghost use Rattle.hash_dirs.specs.Shown.{IsSound};
 ghost use Rattle.resource_groups.specs.Putting.{HasDataBlock};
 ghost use Rattle.name_inserts.specs.Needing.{TakesBlocks};
-ghost use Rattle.name_moves.specs.Becoming.{NeedsAfter, NeedsJust};
+ghost use Rattle.name_inserts.specs.Inserting.{SeesForName};
+ghost use Rattle.name_moves.specs.Becoming.{IsAfter, NeedsAfter, NeedsJust};
 ghost use Rattle.name_moves.specs.Moving.{AreApart, ArePlacesIn, CanBeMoved, IsAskedIn, IsAskedOf, IsMoveIn, IsMoving, IsNeededIn, IsNeededThere, IsPlaceOfMove, IsWrongIn, IsWrongThere, freed_by, lost_there, move_of};
 
 use crate::joining::join;
@@ -76,6 +77,7 @@ fn count_need<V: View>(alloc: Global, view: &V, m: &NameMove<'_>) -> Result<Step
     ensures linear { (h : Holding) → IsShown (V.seen view.now) m.now.to.inode h → is_hashed_in h ≡ false → height_in h ≡ 0 → IfIs result (NeedsAfter (lost_there (move_of m.now)) h m.now.new_name.now) }
     ensures hashed { (h : Holding) → IsShown (V.seen view.now) m.now.to.inode h → is_hashed_in h ≡ true → lost_there (move_of m.now) ≡ [] → IfIs result (TakesBlocks h m.now.new_name.now) }
     ensures most { IfIs result (λ need. need < 2 ^ 42) }
+    ensures seen { IfIs result (λ need. IsAfter (V.seen view.now) m.now.to.inode (lost_there (move_of m.now)) (λ k. SeesForName (V.seen view.now) k m.now.new_name.now)) }
     ensures needed { IfNeedBlock result (IsNeededThere (V.seen view.now) (move_of m.now)) }
     ensures damaged { IfDamaged result (IsWrongThere (V.seen view.now) (move_of m.now)) }
     ensures kept { IfDamaged result (IsOfView (V.seen view.now)) }
@@ -113,6 +115,7 @@ pub fn need_to_move<V: View>(
     ensures linear { (h : Holding) → IsShown (V.seen view.now) m.now.to.inode h → is_hashed_in h ≡ false → height_in h ≡ 0 → IfIs result (NeedsAfter (lost_there (move_of m.now)) h m.now.new_name.now) }
     ensures hashed { (h : Holding) → IsShown (V.seen view.now) m.now.to.inode h → is_hashed_in h ≡ true → lost_there (move_of m.now) ≡ [] → IfIs result (TakesBlocks h m.now.new_name.now) }
     ensures most { IfIs result (λ need. need < 2 ^ 42) }
+    ensures seen { IfIs result (λ need. IsAfter (V.seen view.now) m.now.to.inode (lost_there (move_of m.now)) (λ k. SeesForName (V.seen view.now) k m.now.new_name.now)) }
     ensures needed { IfNeedBlock result (IsNeededIn (V.seen view.now) (move_of m.now) []) }
     ensures there { IfNeedBlock result (IsNeededThere (V.seen view.now) (move_of m.now)) }
     ensures asked { (im : Image) (o : Owners) (l : Layout) (t : Tree) (path path' : Path) → IsOf (V.seen view.now) im o l t → ArePlacesIn im o l path path' (move_of m.now)

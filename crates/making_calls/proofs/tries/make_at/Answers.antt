@@ -7,7 +7,7 @@ use Rattle.path_walks.proofs.Faults.{told_on, tells_each, tells_so}
 use Rattle.path_walks.proofs.Steps.{none_so}
 use Rattle.path_walks.proofs.Steps.{inside_so as shown_inside}
 use Rattle.name_drafts.specs.Needing.{TakesBlocks}
-use Rattle.name_drafts.specs.Inserting.{IsNeededForName, IsWrongForName}
+use Rattle.name_drafts.specs.Inserting.{IsNeededForName, IsWrongForName, SeesForName}
 use Rattle.name_drafts.specs.Need.{name_need, need_in_linear}
 use Rattle.making_calls.specs.Making.{IsDamage}
 use Rattle.making_calls.specs.Making as damage
@@ -52,6 +52,7 @@ make_with-requires-clause-takes g c =
       sound = λ h shown sound dir. subst (λ n. c.in-Is.more ≡ name_need h n) c.bytes.ensures.bytes (answer_at _ _ (λ n. n ≡ name_need h c.bytes.result.now) c.in-Is.is (c.in_ok-more.ensures.need h shown sound dir));
       linear = λ h shown linear. subst (λ n. c.in-Is.more ≡ need_in_linear h n) c.bytes.ensures.bytes (answer_at _ _ (λ n. n ≡ need_in_linear h c.bytes.result.now) c.in-Is.is (c.in_ok-more.ensures.linear h shown linear));
       hashed = λ h shown hashed. subst (λ n. TakesBlocks h n c.in-Is.more) c.bytes.ensures.bytes (answer_at _ _ (TakesBlocks h c.bytes.result.now) c.in-Is.is (c.in_ok-more.ensures.hashed h shown hashed));
+      looked = λ h shown. subst (SeesForName v h) c.bytes.ensures.bytes (answer_at _ c.in-Is.more (λ need. SeesForName v h c.bytes.result.now) c.in-Is.is (c.in_ok-more.ensures.seen h shown));
     }
 
 pub make_with-requires-clause-most : goal.make_with-requires-clause-most

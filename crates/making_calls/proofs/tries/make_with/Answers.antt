@@ -44,7 +44,7 @@ returns-in_err-room-clause-damaged g c =
 pub returns-in-Is-TooFew-clause-found : goal.returns-in-Is-TooFew-clause-found
 returns-in-Is-TooFew-clause-found g c im o l t of =
     let v = g.V.View.seen c.args.view.now in
-    (too_few v c.args.call.now c.requires.making c.args.place.now c.args.name.now c.requires.last c.requires.named c.requires.lacks im o l t of (c.requires.reached im o l t of) c.args.more c.requires.takes c.args.stamp.now.node c.requires.groups c.requires.node c.in-Is-TooFew.free (λ at own shown is. subst (IsUnder v (block_holds (said at) v.groups own (c.args.more + 1)) (IsTaken v (said at) own (c.args.more + 1))) (c.in-Is-TooFew.is ∙ ap locked.Is c.in-Is-TooFew.field-0-is) (c.in_ok-room.ensures.found at own shown is)))
+    (too_few v c.args.call.now c.requires.making c.args.place.now c.args.name.now c.requires.last c.requires.named c.requires.lacks im o l t of (c.requires.reached im o l t of) c.args.more c.requires.takes c.args.stamp.now.node c.requires.groups c.requires.node c.requires.seen.leads c.in-Is-TooFew.free (λ at own shown is. subst (IsUnder v (block_holds (said at) v.groups own (c.args.more + 1)) (IsTaken v (said at) own (c.args.more + 1))) (c.in-Is-TooFew.is ∙ ap locked.Is c.in-Is-TooFew.field-0-is) (c.in_ok-room.ensures.found at own shown is)))
 
 pub returns-in-Is-TooFew-clause-told : goal.returns-in-Is-TooFew-clause-told
 returns-in-Is-TooFew-clause-told g c =

@@ -1,10 +1,11 @@
+use Rattle.std.proofs.Common.{◌≢◌, []}
 use Rattle.std.specs.Prelude.{IfNone}
 use Rattle.glock_names.proofs.StepLaws.{answer_at, needed_at}
 use Rattle.directories.specs.Shown.{IsShown}
 use Rattle.hash_dirs.proofs.Leaves.{found_at}
 use Rattle.path_walks.proofs.Faults.{tells_each, tells_so, told_on}
-use Rattle.name_inserts.specs.Inserting.{IsNeededForName, IsWrongForName}
-use Rattle.name_moves.specs.Moving.{move_of}
+use Rattle.name_inserts.specs.Inserting.{IsNeededForName, IsWrongForName, SeesForName}
+use Rattle.name_moves.specs.Moving.{lost_there, move_of}
 use Rattle.move_calls.specs.Carrying.{IsDamageOf, IsStuck, NeedsBlock, NeedsFor}
 use Rattle.move_calls.proofs.Room.{at_none}
 use Rattle.move_calls.proofs.carrying.carry.Goals as goal
@@ -22,6 +23,12 @@ returns-in-NeedBlock-clause-carried g c =
     let v = g.V.View.seen c.args.view.now in
     NeedsBlock.to_look (needed_at _ _ _ c.in-NeedBlock.is c.in_ok-look_ahead.ensures.absent)
     (λ h shown. needed_at _ _ (IsNeededForName v h c.args.m.now.new_name.now) c.in-NeedBlock.is (c.in_ok-look_ahead.ensures.needed h shown))
+
+pub count_blocks-requires-clause-looked : goal.count_blocks-requires-clause-looked
+count_blocks-requires-clause-looked g c some h shown =
+    let v = g.V.View.seen c.args.view.now in
+    let m = move_of c.args.m.now in
+    answer_at _ _ (λ done. lost_there m ≢ [] → SeesForName v h m.new_name) c.in-Is.is (c.in_ok-look_ahead.ensures.seen h shown) some
 
 pub returns-in_err-need-clause-damaged : goal.returns-in_err-need-clause-damaged
 returns-in_err-need-clause-damaged g c =

@@ -32,6 +32,12 @@ returns-clause-takes g c h shown is =
     let table = answer_at _ _ _ c.in-Is.is (c.in_ok-table.ensures.table h shown.inode is (shown.whole is)) in
     c.need_insert.ensures.need h (leaves_shown v c.args.dir h shown is) table
 
+pub returns-clause-seen : goal.returns-clause-seen
+returns-clause-seen g c h shown is =
+    let v = g.V.View.seen c.args.view.now in
+    let table = answer_at _ _ _ c.in-Is.is (c.in_ok-table.ensures.table h shown.inode is (shown.whole is)) in
+    c.need_insert.ensures.seen h (leaves_shown v c.args.dir h shown is) table
+
 pub returns-clause-needed : goal.returns-clause-needed
 returns-clause-needed g c h shown is =
     let v = g.V.View.seen c.args.view.now in

@@ -4,7 +4,7 @@ use Rattle.drafts.specs.Fates.{seen_in}
 use Rattle.gfs2_layout.specs.Holding.{Holding}
 use Rattle.gfs2_layout.specs.Inode.{is_hashed_in}
 use Rattle.glock_names.proofs.StepLaws.{answer_at, answer_so, needed_at}
-use Rattle.glock_names.specs.Steps.{IfDamaged, IfNeedBlock, TellsOf}
+use Rattle.glock_names.specs.Steps.{IfDamaged, IfIs, IfNeedBlock, TellsOf}
 use Rattle.glock_names.specs.Views.{Seen, HasBlock, IsOfView}
 use Rattle.glock_names.specs.declared.steps.CallFault.{CallFault}
 use Rattle.glock_names.specs.declared.steps.Missing.{Missing}
@@ -13,7 +13,7 @@ use Rattle.glock_names.specs.declared.steps.Step.TheVariants.{Is, NeedBlock}
 use Rattle.directories.specs.Shown.{IsShown}
 use Rattle.directories.proofs.Forms.{is_directory_here}
 use Rattle.path_walks.proofs.Faults.{damaged_so, told_on, tells_so}
-use Rattle.name_inserts.specs.Inserting.{IsNeededForName, IsWrongForName}
+use Rattle.name_inserts.specs.Inserting.{IsNeededForName, IsWrongForName, SeesForName}
 use Rattle.name_inserts.specs.Need.{name_need, need_in_hashed, need_in_linear}
 use Rattle.name_inserts.specs.Needing.{TakesBlocks}
 use Rattle.name_drafts.proofs.Fates.{absent_below, seen_over, still_there}
@@ -21,7 +21,7 @@ use Rattle.name_moves.specs.Becoming.{IsAfter, LosesAll, NeedsAfter, none_went, 
 use Rattle.name_moves.specs.Moving.{IsNeededThere, IsWrongThere, lost_there, move_of}
 use Rattle.name_moves.specs.Moving as moving
 use Rattle.name_moves.specs.Steps.{AreLost, left_of}
-use Rattle.name_moves.proofs.After.{after_needed_name, after_wrong_name}
+use Rattle.name_moves.proofs.After.{after_needed_name, after_sees_name, after_wrong_name}
 use Rattle.name_moves.proofs.Loses.{all_directory, all_plain, all_sound, can_tell, none_left}
 use Rattle.name_moves.proofs.Ways.{needed_two}
 use Rattle.name_moves.proofs.Under.{asked_to_come}
@@ -31,6 +31,11 @@ needed_each : {A : Type 0} (r : Result (Step A) CallFault) (S : Holding → Type
 needed_each (Ok (Is x)) S P each = tt
 needed_each (Ok (NeedBlock n)) S P each = each
 needed_each (Err f) S P each = tt
+
+is_each : {A : Type 0} (r : Result (Step A) CallFault) (S P : Holding → Type 0) → ((h : Holding) → S h → IfIs r (λ a. P h)) → IfIs r (λ a. (h : Holding) → S h → P h)
+is_each (Ok (Is x)) S P each = each
+is_each (Ok (NeedBlock n)) S P each = tt
+is_each (Err f) S P each = tt
 
 damaged_each : {A : Type 0} (r : Result A CallFault) (Q : ℕ → ℕ → Type 0) (S : Holding → Type 0) (P : Holding → ℕ → ℕ → Type 0) → ((f : CallFault) → ((h : Holding) → S h → TellsOf (P h) f) → TellsOf Q f)
     → ((h : Holding) → S h → IfDamaged r (P h)) → IfDamaged r Q
@@ -65,6 +70,13 @@ returns-in-Is-false-clause-hashed g c h shown hashed none =
     let to = c.args.m.now.to.inode in
     let no : false ≡ true = sym c.in-Is-false.field-0-test ∙ answer_at _ _ _ c.in-Is-false.is
     (c.in_ok-lose_names.ensures.able h (subst (λ x. IsShown (g.V.View.seen x) to h) (sym (ap (λ d. d.view) c.new-draft.ensures)) shown) (none_went none)) in
+    absurd (true≢false (sym no))
+
+pub returns-in-Is-false-clause-seen : goal.returns-in-Is-false-clause-seen
+returns-in-Is-false-clause-seen g c h shown told =
+    let to = c.args.m.now.to.inode in
+    let no : false ≡ true = sym c.in-Is-false.field-0-test ∙ answer_at _ _ _ c.in-Is-false.is
+    (c.in_ok-lose_names.ensures.able h (subst (λ x. IsShown (g.V.View.seen x) to h) (sym (ap (λ d. d.view) c.new-draft.ensures)) shown) told) in
     absurd (true≢false (sym no))
 
 pub returns-clause-linear : goal.returns-clause-linear
@@ -117,6 +129,21 @@ returns-clause-need g c h shown sound =
     (λ need e. record { without = k; lost = is.lost; is = e ∙ ap (name_need k) c.bytes.ensures.bytes })
     (c.need_name.ensures.need k (subst (λ w. IsShown w to k) (sym seen_d) is.shown) (all_sound names h k is.lost sound)
     (all_directory names h k is.lost ∙ is_directory_here v to h c.requires.can.target c.requires.can.target_there shown.inode))
+
+pub returns-clause-seen : goal.returns-clause-seen
+returns-clause-seen g c =
+    let v = g.V.View.seen c.args.view.now in
+    let m = move_of c.args.m.now in
+    let to = m.to.inode in
+    let names = lost_there m in
+    let d = c.lose_names.new.draft in
+    let w = seen_in g.V.View.seen d in
+    let over = ap (λ x. x.view) c.new-draft.ensures in
+    let seen_d = seen_over g.V.View.seen c.args.view.now d (answer_at _ _ _ c.in-Is-true.is c.in_ok-lose_names.ensures.view ∙ over) in
+    let lost = subst (λ x. AreLost (g.V.View.seen x) to names d.fates) over (answer_at _ _ _ c.in-Is-true.is c.in_ok-lose_names.ensures.lost c.in-Is-true.field-0-test) in
+    answer_so c.need_name.result (λ need. (k : Holding) → IsShown w to k → SeesForName w k c.bytes.result.now) (λ need. IsAfter v to names (λ k. SeesForName v k m.new_name))
+    (λ need each. after_sees_name v to names d.fates lost m.new_name (λ k shown. subst (λ x. SeesForName x k m.new_name) seen_d (subst (SeesForName w k) c.bytes.ensures.bytes (each k (subst (λ x. IsShown x to k) (sym seen_d) shown)))))
+    (is_each c.need_name.result (IsShown w to) (λ k. SeesForName w k c.bytes.result.now) c.need_name.ensures.seen)
 
 pub returns-clause-needed : goal.returns-clause-needed
 returns-clause-needed g c =
