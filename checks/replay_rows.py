@@ -163,6 +163,29 @@ class Row:
         lines = shown(data, [it is None for it in homes])
         return self.text("  do show", "  out", *("    " + it for it in lines), "  same", *self.replayed(data, homes))
 
+    def swept(self, data, home):
+        """Each call of the disk fails in turn, of a show, which tells the fault alone, and then of a replay, which is made again; and the tree is that of
+        this image, where these blocks go home, behind which the clean header has this place."""
+        reads = "node 0: super master rindex jindex journal0..journal0.place511 journal0.place0..journal0.place511"
+        blocks, place = home
+        replayed = self.replayed(data, [home])
+        at = replayed.index("  shows")
+        writes = " ".join(f"{b}" for b in blocks)
+        replay = ["  sweep", f"    {reads}", f"    node 1 after 0 behind 1: {writes} - journal0.place{place} -", "    again"]
+        show = ["  do show", "  out", *("    " + it for it in shown(data, [False])), "  sweep", f"    {reads} 0..past-1"]
+        return self.text(*show, *replayed[:at], *replay, *replayed[at:])
+
+    def failing(self, data, call, told, homes, before):
+        """The disk fails at this call of a replay: of so many journals, those that were replayed before are told, and the items of that; a further replay
+        goes on from there."""
+        whole = self.replayed(data, homes)
+        out, trace = whole.index("  out"), whole.index("  trace")
+        lines = whole[out + 1 : trace]
+        journals, items = before
+        front = ["  do replay", f"  fails disk {call}", "  status 5", "  out", *lines[:journals], lines[-2], f"    device fault: node 1 block {told} count 0 to 1",
+                 "  trace", *whole[trace + 1 : trace + 1 + items]]  # fmt: skip
+        return self.text(*front, *self.replayed(data, [None if j < journals else it for j, it in enumerate(homes)]))
+
     def damaged(self, block, rule):
         told = f"  told 4 damaged: block {block} rule {rule}"
         return self.text("  do show", told, "  same", "  do replay", told, "  same")
@@ -311,8 +334,34 @@ def broken():
     yield row.damaged("{free}", 20)
 
 
+def failing():
+    row = Row("a disk fails at each call of a show and of a replay in turn")
+    final = after(row.data(), "create /f", "write /f 0 68656c6c6f")
+    at = row.journals[0].write(1, 2, 1, **changed(row.data(), final))
+    yield row.swept(final, row.all_of(0, at))
+
+    # Mounting reads four blocks, and of each journal all that lie from its dinode to its last place; then the places of both are read once more.
+    for name, behind, told in (
+        ("the first block of the second journal", 1, "{past-9}"),
+        ("the barrier behind that block", 2, "-"),
+        ("the second journal's header", 3, "{journal1.place4}"),
+        ("the last barrier", 4, "-"),
+    ):
+        row = Row(f"a disk fails in a replay of two journals at {name}", "two_journals")
+        numbers = (row.block("past") - 10, row.block("past") - 9)
+        final = bytearray(row.data())
+        homes = []
+        for journal, number in zip(row.journals, numbers):
+            block = plain(SIZE, 0x70 + journal.jid)
+            at = journal.write(1, 2, 1, content=[(number, block)])
+            homes.append(row.all_of(journal.jid, at))
+            final[number * SIZE : (number + 1) * SIZE] = block
+        reads = 4 + sum(row.block(f"journal{j}.place511") - row.block(f"journal{j}") + 1 for j in (0, 1)) + 2 * 512
+        yield row.failing(final, reads + 4 + behind, told, homes, (1, 6 + behind - 1))
+
+
 def main():
-    text = HEAD + "".join("\n" + it for part in (whole(), content(), broken()) for it in part)
+    text = HEAD + "".join("\n" + it for part in (whole(), content(), broken(), failing()) for it in part)
     if sys.argv[1:] == ["--check"]:
         with open(ROWS, encoding="utf-8") as it:
             if it.read() != text:
