@@ -96,17 +96,18 @@ record IsWhole (given left : Inputs) (s : ScriptValue) (time : ℕ) (items : Lis
   replays : HasReplayed given replayed value s time items
   ran : HasRun given left replayed value s time items
 
+of_both : (value : Option MountedValue) (replayed : Option Moment) (m : MountedValue) (r : Moment) → value ≡ Some m → replayed ≡ Some r → (P : Moment → MountedValue → Type 0) → IfSome replayed (λ x. IfSome value (λ y. P x y)) → P r m
+of_both value replayed m r value_is replayed_is P p = subst (λ (v : Option MountedValue). IfSome v (λ y. P r y)) value_is (subst (λ (o : Option Moment). IfSome o (λ x. IfSome value (λ y. P x y))) replayed_is p)
+
 whole_run : (given left : Inputs) (s : ScriptValue) (time : ℕ) (items : List TraceItem) (own : Status) → Runs given left s time items own → own ≡ status.Done → items ≢ [] → IsWhole given left s time items
 whole_run given left s time items own runs is some =
     let (m, r, value_is, replayed_is) = all_replayed given left s time items runs.value runs.replayed own runs.ends is some in
-    let both : (P : Moment → MountedValue → Type 0) → IfSome runs.replayed (λ x. IfSome runs.value (λ y. P x y)) → P r m = λ P p. subst (λ (v : Option MountedValue). IfSome v (λ y. P r y)) value_is
-    (subst (λ (o : Option Moment). IfSome o (λ x. IfSome runs.value (λ y. P x y))) replayed_is p) in
     let done : IfSome runs.replayed (λ x. IfSome runs.value (λ y. HasRun given left x y s time items)) = subst (λ (o : Status). UnlessFault o (IfSome runs.replayed (λ x. IfSome runs.value (λ y. HasRun given left x y s time items)))) is runs.ran in record {
       value = m;
       replayed = r;
       mounted = subst (λ (v : Option MountedValue). IfSome v (IsMountedOn given.disk)) value_is runs.mounted;
-      replays = both (λ x y. HasReplayed given x y s time items) runs.replays;
-      ran = both (λ x y. HasRun given left x y s time items) done;
+      replays = of_both runs.value runs.replayed m r value_is replayed_is (λ x y. HasReplayed given x y s time items) runs.replays;
+      ran = of_both runs.value runs.replayed m r value_is replayed_is (λ x y. HasRun given left x y s time items) done;
     }
 
 none_left : (given left : DiskState) (m : MountedValue) → IsMounted (image_of given) m → AreCleanOn left m → IsCountLeft given left 0
