@@ -272,11 +272,16 @@ class Copy:
             else:
                 at -= count
 
+    def is_log_header(self, at, place):
+        """Whether a log header that isn't torn stands here, of this place of its journal."""
+        head = bytes(self.data[at:at + 48])
+        return head[:8] == pack(">II", MAGIC, 8) and head[40:] == pack(">II", place, crc32(head[:44] + bytes(4)))
+
     def add_headers(self):
         """Puts a second log header into each journal that has one alone: of the sequence before, in the place before its tail."""
         for journal in self.journals:
             places = [at for at, _ in self.places(journal)]
-            found = [place for place, at in enumerate(places) if self.data[at:at + 8] == pack(">II", MAGIC, 8)]
+            found = [place for place, at in enumerate(places) if self.is_log_header(at, place)]
             if len(found) != 1:
                 continue
             only = places[found[0]]
