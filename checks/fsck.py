@@ -1,15 +1,23 @@
-"""Has the distribution's `fsck.gfs2` judge images that this project leaves: `fsck.py IMAGE..`, or `fsck.py --scripts COUNT`.
+"""Has the distribution's `fsck.gfs2` judge images that this project leaves: `fsck.py IMAGE..`, `fsck.py --scripts COUNT`, or
+`fsck.py --replays COUNT`.
 
 Nobody here wrote that judge. It wants files that this project's images leave out (docs/FORMAT.md), so it is given a copy with
 more in it: a resource group behind the device's end, which holds `inum`, `statfs`, `quota` and `per_node` with three files for
-each journal, one more entry in `rindex`, and four more names in the master directory. A journal that has one log header alone,
-in its first place, gets a second one of the sequence before in its last, since fsck.gfs2 3.5.0 calls it corrupt else; and the
+each journal, one more entry in `rindex`, and four more names in the master directory. A journal that has one log header alone
+gets a second one, of the sequence before, in the place before its tail, since fsck.gfs2 3.5.0 calls it corrupt else; and the
 master directory and `jindex` get the flag of system files. No other block of the copy differs from the image, which is tried of
 each copy.
 
 `--scripts COUNT` makes random scripts by number, from 1 on, and runs each on a new image, at four sizes of a block, with one
 group and with several, with few free blocks and with many: status, output, trace, what `show` prints and every byte of the image
 are to be those of the plain calls of checks/plain_calls.py, and each image is judged.
+
+`--replays COUNT` makes images with dirty journals by number, from 1 on, and takes those of crates/rows/data/replayed_images.rows too
+(checks/dirty_images.py). Of each, what `show` and `replay` print and every byte that `replay` leaves are to be those that the format
+of the log gives, and `fsck.gfs2 -y`, which replays the journals of a copy, is to leave there every block but the journals' places as
+`replay` does, and nothing that it has anything against. Rows whose image is broken once it is replayed are left out: fsck.gfs2 goes on
+to mend these.
+
 PROGRAM may name another program than crates/gfs2run/out/gfs2run.
 
 `fsck.gfs2` is in Debian's package gfs2-utils (`apt-get install gfs2-utils`). Where it is missing this says so, judges no image, and
@@ -264,20 +272,26 @@ class Copy:
             else:
                 at -= count
 
+    def is_log_header(self, at, place):
+        """Whether a log header that isn't torn stands here, of this place of its journal."""
+        head = bytes(self.data[at:at + 48])
+        return head[:8] == pack(">II", MAGIC, 8) and head[40:] == pack(">II", place, crc32(head[:44] + bytes(4)))
+
     def add_headers(self):
-        """Puts a second log header into each journal that has one alone."""
+        """Puts a second log header into each journal that has one alone: of the sequence before, in the place before its tail."""
         for journal in self.journals:
             places = [at for at, _ in self.places(journal)]
-            found = [at for at in places if self.data[at:at + 8] == pack(">II", MAGIC, 8)]
-            if found != places[:1]:
+            found = [place for place, at in enumerate(places) if self.is_log_header(at, place)]
+            if len(found) != 1:
                 continue
-            first, last = found[0], places[-1]
-            sequence = self.word(first + 24, 8)
-            head = bytes(self.data[first:first + 24]) + pack(">QIII", (sequence - 1) % (1 << 64), 1, len(places) - 1, len(places) - 1)
+            only = places[found[0]]
+            place = ((found[0] if self.word(only + 32, 4) else self.word(only + 36, 4)) - 1) % len(places)
+            sequence, at = self.word(only + 24, 8), places[place]
+            head = bytes(self.data[only:only + 24]) + pack(">QIII", (sequence - 1) % (1 << 64), 1, place, place)
             head += pack(">I", crc32(head + bytes(4)))
-            later = pack(">IQQQ", 0, self.word(first + 56, 8), last // self.size, journal).ljust(self.size - 52, b"\0")
-            self.put(last // self.size, 0, head + pack(">I", crc32c_raw(later)) + later)
-            self.open.add(last // self.size)
+            later = pack(">IQQQ", 0, self.word(only + 56, 8), at // self.size, journal).ljust(self.size - 52, b"\0")
+            self.put(at // self.size, 0, head + pack(">I", crc32c_raw(later)) + later)
+            self.open.add(at // self.size)
 
     def add_files(self):
         """Puts in the files that are left out here, and the names that lead to them."""
@@ -354,11 +368,42 @@ def judged(image):
     with tempfile.NamedTemporaryFile() as file:
         file.write(copy.data + bytes(SPARE))
         file.flush()
-        ended = subprocess.run([FSCK, "-n", file.name], stdin=subprocess.DEVNULL, stdout=subprocess.PIPE, stderr=subprocess.STDOUT)
-    said = [line for line in ended.stdout.decode(errors="replace").splitlines() if not is_progress(line)]
-    if ended.returncode:
-        said.append("fsck.gfs2 ends with status %d" % ended.returncode)
-    return said
+        status, said = asked(file.name, "-n")
+    return said + ["fsck.gfs2 ends with status %d" % status] * (status != 0)
+
+
+def asked(name, how):
+    """How fsck.gfs2 ends on this file, and what it says but for its progress."""
+    ended = subprocess.run([FSCK, how, name], stdin=subprocess.DEVNULL, stdout=subprocess.PIPE, stderr=subprocess.STDOUT)
+    return ended.returncode, [line for line in ended.stdout.decode(errors="replace").splitlines() if not is_progress(line)]
+
+
+def replays_judged(image, replayed):
+    """What fsck.gfs2 leaves of a copy of a dirty image otherwise than it is replayed here. What it wants is added to the replayed image, and then
+    each block that the replay changed is put back."""
+    copy = changed_copy(replayed)
+    wanted, size = bytes(copy.data) + bytes(SPARE), copy.size
+    places = {at // size for journal in copy.journals for at, _ in copy.places(journal)}
+    for block in range(len(image) // size):
+        old = image[block * size:(block + 1) * size]
+        if old != replayed[block * size:(block + 1) * size]:
+            if block in copy.open:
+                raise Unknown("block %d is one that the copy changes" % block)
+            copy.put(block, 0, old)
+    copy.add_headers()
+    with tempfile.NamedTemporaryFile() as file:
+        file.write(copy.data + bytes(SPARE))
+        file.flush()
+        status, said = asked(file.name, "-y")
+        told = ["fsck.gfs2 -y ends with status %d: %s" % (status, " / ".join(said))] if status != 1 else []
+        with open(file.name, "rb") as left:
+            now = left.read()
+        others = [at // size for at in range(0, len(wanted), size) if now[at:at + size] != wanted[at:at + size] and at // size not in places]
+        if others:
+            told.append("fsck.gfs2 -y leaves other blocks: %s; it says: %s" % (others, " / ".join(said)))
+        status, said = asked(file.name, "-n")
+        told += ["fsck.gfs2 afterwards: " + line for line in said] + ["fsck.gfs2 afterwards: status %d" % status] * (status != 0)
+    return told
 
 
 def is_progress(line):
@@ -563,9 +608,71 @@ def try_scripts(count):
     return 1 if bad else 0
 
 
+# ---- images whose journals are dirty
+
+def commanded(folder, image, *words):
+    """The status, the output and the trace of a command on an image, and the image afterwards."""
+    names = [os.path.join(folder, it) for it in ("image", "trace")]
+    with open(names[0], "wb") as file:
+        file.write(image)
+    ended = subprocess.run([PROGRAM, *names, *words], stdin=subprocess.DEVNULL, stdout=subprocess.PIPE)
+    with open(names[1]) as file:
+        trace = file.read()
+    with open(names[0], "rb") as file:
+        return (ended.returncode, ended.stdout.decode(), trace), file.read()
+
+
+def replayed_wrong(folder, dirty):
+    """In what an image is shown or replayed otherwise than it should be."""
+    found, left = commanded(folder, dirty.image, "replay")
+    told = []
+    if dirty.told:
+        told += ["replay: wanted %.300r, found %.300r" % it for it in zip((0, *dirty.told), found) if it[0] != it[1]]
+        if left != dirty.replayed:
+            told.append("replay leaves other blocks: %s" % [at for at in range(len(left) // Copy(left).size) if block_of(left, at) != block_of(dirty.replayed, at)])
+        lines = shown(Disk(dirty.replayed), len(dirty.clean)).split("\n")
+        lines[:len(dirty.clean)] = ["journal %d %s" % (j, "clean" if it else "dirty") for j, it in enumerate(dirty.clean)]
+        seen, same = commanded(folder, dirty.image, "show")
+        told += ["show: wanted %.300r, found %.300r" % it for it in zip((0, "\n".join(lines), ""), seen) if it[0] != it[1]]
+        if same != dirty.image:
+            told.append("show changes the image")
+    elif found[0]:
+        told.append("replay ends with status %d" % found[0])
+    if FSCK and left != dirty.image:
+        told += replays_judged(dirty.image, left)
+    return told
+
+
+def block_of(image, block):
+    size = int.from_bytes(image[65536 + 36:65536 + 40], "big")
+    return image[block * size:(block + 1) * size]
+
+
+def try_replays(count):
+    import dirty_images
+    bad = rows = 0
+    with tempfile.TemporaryDirectory() as folder:
+        for dirty in dirty_images.row_images(folder):
+            rows += 1
+            bad += tell("%s" % dirty.kind, replayed_wrong(folder, dirty))
+        for number in range(1, count + 1):
+            dirty = dirty_images.random_image(number)
+            bad += tell("journals %d (%s)" % (number, dirty.kind), replayed_wrong(folder, dirty))
+    print("checks/fsck.py: the dirty images of %d rows and %d random ones: %d differ; %s" % (rows, count, bad, "fsck.gfs2 -y replays them too" if FSCK else MISSING))
+    return 1 if bad else 0
+
+
+def tell(what, told):
+    for line in told:
+        print("%s: %s" % (what, line))
+    return bool(told)
+
+
 def main(words):
     if words[:1] == ["--scripts"]:
         return try_scripts(int(words[1]))
+    if words[:1] == ["--replays"]:
+        return try_replays(int(words[1]))
     if not FSCK:
         print("checks/fsck.py: skipped, " + MISSING)
         return 0

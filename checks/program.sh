@@ -356,6 +356,7 @@ check "a run that removes" 0 "done"
 run tree trace run <script
 check "a run that finds nothing" 0 "done"
 PROGRAM=$program python3 "$here/checks/fsck.py" --scripts 25 || failed=1
+PROGRAM=$program python3 "$here/checks/fsck.py" --replays 10 || failed=1
 
 cmp -s image before || {
     echo "checks/program.sh: the image was changed" >&2

@@ -181,6 +181,17 @@ class Row:
         lines = shown(data, [it is None for it in homes])
         return self.text("  do show", "  out", *("    " + it for it in lines), "  same", *self.replayed(data, homes))
 
+    def failing(self, data, call, told, homes, before):
+        """The disk fails at this call of a replay: of so many journals, those that were replayed before are told, and the items of that; a further replay
+        goes on from there."""
+        whole = self.replayed(data, homes)
+        out, trace = whole.index("  out"), whole.index("  trace")
+        lines = whole[out + 1 : trace]
+        journals, items = before
+        front = ["  do replay", f"  fails disk {call}", "  status 5", "  out", *lines[:journals], lines[-2], f"    device fault: node 1 block {told} count 0 to 1",
+                 "  trace", *whole[trace + 1 : trace + 1 + items]]  # fmt: skip
+        return self.text(*front, *self.replayed(data, [None if j < journals else it for j, it in enumerate(homes)]))
+
     def damaged(self, block, rule):
         told = f"  told 4 damaged: block {block} rule {rule}"
         run = ["  do run", "  script", "    nodes 1", "    client c on 1", "    c: list /"]
@@ -358,6 +369,27 @@ def broken():
     yield row.damaged("{free}", 20)
 
 
+def failing():
+    # Mounting reads four blocks, and of each journal all that lie from its dinode to its last place; then the places of both are read once more.
+    for name, behind, told in (
+        ("the first block of the second journal", 1, "{past-9}"),
+        ("the barrier behind that block", 2, "-"),
+        ("the second journal's header", 3, "{journal1.place4}"),
+        ("the last barrier", 4, "-"),
+    ):
+        row = Row(f"a disk fails in a replay of two journals at {name}", "two_journals")
+        numbers = (row.block("past") - 10, row.block("past") - 9)
+        final = bytearray(row.data())
+        homes = []
+        for journal, number in zip(row.journals, numbers):
+            block = plain(SIZE, 0x70 + journal.jid)
+            at = journal.write(1, 2, 1, content=[(number, block)])
+            homes.append(row.all_of(journal.jid, at))
+            final[number * SIZE : (number + 1) * SIZE] = block
+        reads = 4 + sum(row.block(f"journal{j}.place511") - row.block(f"journal{j}") + 1 for j in (0, 1)) + 2 * 512
+        yield row.failing(final, reads + 4 + behind, told, homes, (1, 6 + behind - 1))
+
+
 def image_with(calls):
     """An image as a node leaves it that took these calls, flushed its journal and stopped."""
     row = Row("")
@@ -373,7 +405,7 @@ def main():
         with open(sys.argv[2], "wb") as it:
             it.write(image_with(sys.argv[3:]))
         return
-    text = HEAD + "".join("\n" + it for part in (whole(), runs(), content(), broken()) for it in part)
+    text = HEAD + "".join("\n" + it for part in (whole(), runs(), content(), broken(), failing()) for it in part)
     if sys.argv[1:] == ["--check"]:
         with open(ROWS, encoding="utf-8") as it:
             if it.read() != text:

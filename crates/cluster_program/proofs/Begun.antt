@@ -108,7 +108,7 @@ module _ (first upto : Moment) (js : List Journal) (ps : List Plan) (begun : Lis
           planned = planned;
           replays = replays;
           begun = begun_by time first after m.journals plans items replays;
-          left = λ tells. leaves 1 time first after m plans joined items tells idle size (on tells) (planned tells (on tells)) (can first.disk m.journals plans writable places) read replays;
+          left = λ tells is. leaves 1 time first after m plans joined items tells idle size is (planned tells is) (can first.disk m.journals plans writable places) read replays;
           same = same_first;
           idle = idle_after;
         }

@@ -4,21 +4,21 @@ use Rattle.std.specs.Prelude.{◌≢◌, ◌==◌, IfSome, count_by, if◌then�
 use Rattle.std.specs.List.{AllByRecursion, range_with_len}
 use Rattle.std.proofs.lemmas.Bool.{cond-false}
 use Rattle.std.proofs.lemmas.List.Sums.{sum_by-cons}
-use Rattle.image_mount.specs.Mounted.{Journal, MountedValue}
+use Rattle.image_mount.specs.Mounted.{IsMounted, Journal, MountedValue}
 use Rattle.script_lang.specs.Script.{ScriptValue}
 use Rattle.script_lang.specs.declared.script.Client.{Client}
 use Rattle.lone_node.specs.Turns.{Moment}
 use Rattle.lone_node.specs.Items.{AnsweredCall, IsOfReplay, full_item, items_from, name_at}
 use Rattle.lone_node.specs.declared.answering.Full.{Full}
 use Rattle.image_model.specs.Image.{Image, image_of}
-use Rattle.file_tree.specs.Tree.{Tree}
+use Rattle.shared_disk.specs.Disk.{DiskState}
 use Rattle.trace_text.specs.declared.item.TraceItem.{TraceItem}
 use Rattle.trace_text.specs.declared.item.TraceItem.TheVariants as trace
 use Rattle.cluster_program.specs.World.{Inputs}
 use Rattle.cluster_program.specs.Course.{Course, LacksRoom, RefusesWords, MakesImage, ReplaysImage, ShowsImage, NoScript, RunsScript}
-use Rattle.cluster_program.specs.Dirty.{dirty_by, dirty_in, is_left_dirty, IsCountOfImage, IsDirtyCount, OfTheImage, OfTheItems, NothingRan}
-use Rattle.cluster_program.specs.Mounting.{IsImageOf, is_clean_in}
-use Rattle.cluster_program.specs.Runs.{AreCleanAtEnd, CallDamaged, CallFailed, CallUnbuilt, HasRun, IsDone, NoRoom, NotBegun, ReplayFailed, ReplayLacksRoom, RunEnds, Runs, UnlessFault}
+use Rattle.cluster_program.specs.Dirty.{dirty_by, dirty_in, is_left_dirty, IsCountLeft, IsCountOfImage, IsDirtyCount, OfTheImage, OfTheItems, NothingRan}
+use Rattle.cluster_program.specs.Mounting.{IsImageOf, IsMountedOn, is_clean_in}
+use Rattle.cluster_program.specs.Runs.{AreCleanOn, CallDamaged, CallFailed, CallUnbuilt, HasReplayed, HasRun, IsDone, NoRoom, NotBegun, ReplayFailed, ReplayLacksRoom, RunEnds, Runs, UnlessFault}
 use Rattle.cluster_program.specs.Out.{is_done}
 use Rattle.cluster_program.specs.declared.output.Listing.{Listing}
 use Rattle.cluster_program.specs.declared.status.Status.{Status}
@@ -88,15 +88,30 @@ all_replayed given left s time items value replayed own (CallUnbuilt m r place n
 all_replayed given left s time items value replayed own (CallDamaged m r block rule never at) is some = (m, r, refl, refl)
 all_replayed given left s time items value replayed own (NoRoom m r) is some = (m, r, refl, refl)
 
--- so the journals are clean in the image that was left
-clean_left : (given left : Inputs) (s : ScriptValue) (time : ℕ) (items : List TraceItem) (own : Status) → Runs given left s time items own → own ≡ status.Done → items ≢ [] → (tree : Tree) → IsImageOf given.disk tree
-    → AreCleanAtEnd given.disk left.disk
-clean_left given left s time items own runs is some tree stood =
+-- all of it: what was mounted, the replay of its journals, and what came behind
+record IsWhole (given left : Inputs) (s : ScriptValue) (time : ℕ) (items : List TraceItem) : Type 0 where
+  value : MountedValue
+  replayed : Moment
+  mounted : IsMountedOn given.disk value
+  replays : HasReplayed given replayed value s time items
+  ran : HasRun given left replayed value s time items
+
+of_both : (value : Option MountedValue) (replayed : Option Moment) (m : MountedValue) (r : Moment) → value ≡ Some m → replayed ≡ Some r → (P : Moment → MountedValue → Type 0) → IfSome replayed (λ x. IfSome value (λ y. P x y)) → P r m
+of_both value replayed m r value_is replayed_is P p = subst (λ (v : Option MountedValue). IfSome v (λ y. P r y)) value_is (subst (λ (o : Option Moment). IfSome o (λ x. IfSome value (λ y. P x y))) replayed_is p)
+
+whole_run : (given left : Inputs) (s : ScriptValue) (time : ℕ) (items : List TraceItem) (own : Status) → Runs given left s time items own → own ≡ status.Done → items ≢ [] → IsWhole given left s time items
+whole_run given left s time items own runs is some =
     let (m, r, value_is, replayed_is) = all_replayed given left s time items runs.value runs.replayed own runs.ends is some in
-    let done : IfSome runs.replayed (λ x. IfSome runs.value (λ y. HasRun given left x y s time items)) = subst (λ (o : Status). UnlessFault o (IfSome runs.replayed (λ x. IfSome runs.value (λ y. HasRun given left x y s time items)))) is runs.ran in
-    let ran : HasRun given left r m s time items = subst (λ (v : Option MountedValue). IfSome v (λ y. HasRun given left r y s time items)) value_is
-    (subst (λ (o : Option Moment). IfSome o (λ x. IfSome runs.value (λ y. HasRun given left x y s time items))) replayed_is done) in
-    ran.clean tree stood
+    let done : IfSome runs.replayed (λ x. IfSome runs.value (λ y. HasRun given left x y s time items)) = subst (λ (o : Status). UnlessFault o (IfSome runs.replayed (λ x. IfSome runs.value (λ y. HasRun given left x y s time items)))) is runs.ran in record {
+      value = m;
+      replayed = r;
+      mounted = subst (λ (v : Option MountedValue). IfSome v (IsMountedOn given.disk)) value_is runs.mounted;
+      replays = of_both runs.value runs.replayed m r value_is replayed_is (λ x y. HasReplayed given x y s time items) runs.replays;
+      ran = of_both runs.value runs.replayed m r value_is replayed_is (λ x y. HasRun given left x y s time items) done;
+    }
+
+none_left : (given left : DiskState) (m : MountedValue) → IsMounted (image_of given) m → AreCleanOn left m → IsCountLeft given left 0
+none_left given left m mounted clean = (m, (mounted, sym (none_dirty (image_of left) m clean)))
 
 module _ (given left : Inputs) (s : ScriptValue) (time : ℕ) (items : List TraceItem) (own told : Status) (runs : Runs given left s time items own) (done : told ≡ status.Done → own ≡ status.Done) where
   are : IsAnswers s.clients items
@@ -105,10 +120,12 @@ module _ (given left : Inputs) (s : ScriptValue) (time : ℕ) (items : List Trac
   by_items : 0 ≡ dirty_by s items
   by_items = sym (count_none (λ node. is_left_dirty node false items) (range_with_len 1 s.nodes) (λ k node is. clean_after s.clients items node are))
 
-  by_image : told ≡ status.Done → items ≢ [] → IsCountOfImage given.disk left.disk 0
-  by_image is some tree stood =
-      let it = clean_left given left s time items own runs (done is) some tree stood in
-      (it.value, (it.mounted, sym (none_dirty (image_of left.disk) it.value it.clean)))
+  by_image : told ≡ status.Done → items ≢ [] → IsCountOfImage given.disk left.disk s items 0
+  by_image is some =
+      let it = whole_run given left s time items own runs (done is) some in record {
+        standing = λ tree stood. none_left given.disk left.disk it.value (it.mounted stood.tells) (it.ran.clean tree stood);
+        unchanged = λ tells none. none_left given.disk left.disk it.value (it.mounted tells) (subst (λ (t : Moment). AreCleanOn t.disk it.value) (sym (it.ran.untouched none)) (it.replays.clean tells));
+      }
 
   of_run : IsDirtyCount given.disk left.disk s items told 0
   of_run = elim (some_items s.clients items are) [

@@ -8,13 +8,13 @@ use Rattle.image_model.specs.Image.{image_of}
 use Rattle.image_model.specs.Laws.{CleanImagesStand}
 use Rattle.image_model.specs.Stands.{IsJournalAt, IsLaid, Layout, flat_of}
 use Rattle.image_mount.specs.Mounted.{IsMounted, IsOfProfile, Journal, MountedValue, StandsAsMounted}
-use Rattle.image_recovery.specs.Left.{IsLeft, LeftIsOfProfile, LeftStandsBy}
+use Rattle.image_recovery.specs.Left.{LeftIsOfProfile, LeftStandsBy}
 use Rattle.log_layout.specs.Journal.{IsClean, ring_of}
 use Rattle.shared_disk.specs.Disk.{DiskState}
 use Rattle.lone_node.specs.Answering.{IsSameDisk}
 use Rattle.lone_node.specs.Standing.{LeavesStanding, StandsFor}
 use Rattle.cluster_program.specs.Mounting.{IsImageOf, IsMountable, IsMountedOn, IsMountedReplayed, is_clean_head}
-use Rattle.cluster_program.specs.Runs.{AreCleanAtEnd, HasLowHeads, as_mounted}
+use Rattle.cluster_program.specs.Runs.{AreCleanOn, HasLowHeads, LeavesReplayed, as_mounted}
 use Rattle.cluster_program.proofs.Heads.{below_end, head_kept, is_there, of_layout, of_mounted}
 
 -- One disk is what a replay of all journals of the other left: where the image of that one stands for a tree, this one stands for it by the root and the
@@ -29,7 +29,7 @@ pub record IsStart (d e : DiskState) (m : MountedValue) : Type 0 where
 -- ---- what a replay leaves is such a disk
 
 module _ (law : StandsAsMounted) (by : LeftStandsBy) (d e : DiskState) (m : MountedValue) (on : IsMountedOn d m) (replays : IsMountedReplayed d m) (same : IsSameDisk d e)
-    (left : (tells : IsTrue d.tells) → IsLeft (image_of d) (on tells).layout (image_of e)) where
+    (left : LeavesReplayed d m e) where
   mounted_of : (t : Tree) (is : IsImageOf d t) → IsMounted is.stands.replayed m
   mounted_of t is = replays is.tells is.stands.layout is.stands.replayed is.stands.is
 
@@ -42,7 +42,7 @@ module _ (law : StandsAsMounted) (by : LeftStandsBy) (d e : DiskState) (m : Moun
         layout = it.stands.layout;
         root = sym known.0;
         groups = sym known.1;
-        stands = by (image_of d) (image_of e) m (on is.tells) t (left is.tells) it;
+        stands = by (image_of d) (image_of e) m (on is.tells) t (left is.tells (on is.tells)) it;
       }
 
   -- the journal that was mounted at a place has one dinode
@@ -52,11 +52,16 @@ module _ (law : StandsAsMounted) (by : LeftStandsBy) (d e : DiskState) (m : Moun
     | inr past ↦ let low = below_end m.journals k journal there in absurd (omega (arith, low, past, (on tells).count))
   ]
 
+  -- each journal that was mounted is clean, whether the image stands for a tree or not
+  pub clean_replayed : IsTrue d.tells → AreCleanOn e m
+  clean_replayed tells k journal there =
+      let (head, head_is, clean) = (left tells (on tells)).clean k journal.dinode (dinode_at tells k journal there) in ap is_clean_head head_is ∙ clean
+
   clean_then : (t : Tree) (is : IsImageOf d t) (j a : ℕ) → IsJournalAt (stands_then t is).layout j a → IsClean (ring_of (every (image_of e) a))
   clean_then t is j a at =
       let it = is.stands in
       let was = of_mounted it.replayed it.stands.owners it.stands.layout it.stands.laid m (mounted_of t is) j a at in
-      subst (λ b. IsClean (ring_of (every (image_of e) b))) was.3.dinode ((left is.tells).clean was.0 was.1.dinode (dinode_at is.tells was.0 was.1 was.2))
+      subst (λ b. IsClean (ring_of (every (image_of e) b))) was.3.dinode ((left is.tells (on is.tells)).clean was.0 was.1.dinode (dinode_at is.tells was.0 was.1 was.2))
 
   journals_then : (t : Tree) (is : IsImageOf d t) (k : ℕ) (journal : Journal) → slice_get m.journals k ≡ Some journal → (j : ℕ) × IsJournalAt (stands_then t is).layout j journal.dinode
   journals_then t is k journal there =
@@ -70,7 +75,7 @@ module _ (law : StandsAsMounted) (by : LeftStandsBy) (d e : DiskState) (m : Moun
   pub of_profile_then : LeftIsOfProfile → IsMountable d → HasLowHeads (image_of d) → IsOfProfile (image_of e)
   of_profile_then law may low =
       let tells = may.is.tells in
-      law (image_of d) (image_of e) may.profile.replayed m (on tells) may.profile.layout may.tree (left tells) may.is.stands may.profile.is may.profile.profile (low m (on tells))
+      law (image_of d) (image_of e) may.profile.replayed m (on tells) may.profile.layout may.tree (left tells (on tells)) may.is.stands may.profile.is may.profile.profile (low m (on tells))
 
   pub is_start : IsStart d e m
   is_start = record { same = same; mounted = on; stands = stands_then; clean = clean_then; journals = journals_then }
@@ -88,15 +93,6 @@ module _ (stand : CleanImagesStand) (d e : DiskState) (m : MountedValue) (start 
     stands = stand (image_of e) t (record { owners = s.owners; layout = s.layout; laid = s.stands.laid; reads = s.stands.reads }) (start.clean t is);
   }
 
-  pub clean_replayed : AreCleanAtEnd d e
-  clean_replayed = record {
-    value = m;
-    mounted = start.mounted is.tells;
-    clean = λ k journal there.
-        let (j, at) = start.journals t is k journal there in
-        let (head, head_is, clean) = start.clean t is j journal.dinode at in ap is_clean_head head_is ∙ clean;
-  }
-
   module _ (d' : DiskState) (t' : Tree) (left : LeavesStanding e d' (as_mounted d m) t t' s) where
     laid : IsLaid (image_of d') left.now.owners s.layout
     laid = subst (IsLaid (image_of d') left.now.owners) left.layout left.now.stands.laid
@@ -112,11 +108,7 @@ module _ (stand : CleanImagesStand) (d e : DiskState) (m : MountedValue) (start 
           rings_kept;
     }
 
-    pub clean_left : AreCleanAtEnd d d'
-    clean_left = record {
-      value = m;
-      mounted = start.mounted is.tells;
-      clean = λ k journal there.
-          let (j, at) = start.journals t is k journal there in
-          let (head, head_is, clean) = rings_kept j journal.dinode at in ap is_clean_head head_is ∙ clean;
-    }
+    pub clean_left : AreCleanOn d' m
+    clean_left k journal there =
+        let (j, at) = start.journals t is k journal there in
+        let (head, head_is, clean) = rings_kept j journal.dinode at in ap is_clean_head head_is ∙ clean

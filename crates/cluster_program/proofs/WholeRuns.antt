@@ -39,8 +39,9 @@ module _ (law : StandsAsMounted) (by : LeftStandsBy) (profile : LeftIsOfProfile)
     replays = has.replays;
     adds = adds;
     told = lines_told time (moment given.disk given.disk_list) replayed has.value.journals has.plans s.clients begun items has.replays adds;
+    left = has.left;
+    clean = clean_replayed law by given.disk replayed.disk has.value has.mounted has.mounted_so has.same has.left;
     stands = λ t is. stands_replayed stand given.disk replayed.disk has.value start t is;
-    clean = λ t is. clean_replayed stand given.disk replayed.disk has.value start t is;
   }
 
   abbrev Ran : Result (Unit {0}) RunEnd → Type 0

@@ -1,5 +1,5 @@
 -- How a run of a script goes, and how it ends.
-use Rattle.std.specs.Prelude.{ℕ, ◌≡◌, ◌≢◌, ◌+◌, ◌<◌, ⊤, true, IfSome, IsSome, List, [], ◌∷◌, ◌++◌, length, slice_get, Option, None, Some}
+use Rattle.std.specs.Prelude.{ℕ, ◌≡◌, ◌≢◌, ◌+◌, ◌<◌, ⊤, true, IfSome, IsSome, IsTrue, List, [], ◌∷◌, ◌++◌, length, slice_get, Option, None, Some}
 use Rattle.std.specs.FinMap.{empty}
 use Rattle.fault_counts.specs.Causes.{WentUp}
 use Rattle.drafts.specs.declared.change.Written.{Written}
@@ -19,7 +19,7 @@ use Rattle.shared_disk.specs.Disk.{DiskState, IsIdle}
 use Rattle.log_layout.specs.declared.log_header.LogHeader.{LogHeader}
 use Rattle.lone_view.specs.Seeing.{Lone, seen_alone}
 use Rattle.damage_laws.specs.Telling.{HasAstrayOn, HasRootInside}
-use Rattle.image_recovery.specs.Left.{HaveLowHeads}
+use Rattle.image_recovery.specs.Left.{HaveLowHeads, IsLeft}
 use Rattle.image_recovery.specs.Recoveries.{HaveFailed, HaveReplayed, HaveReplayedSome}
 use Rattle.image_replays.specs.Replays.{ArePlans}
 use Rattle.lone_node.specs.Answering.{IsDamagedOn, IsSameDisk, IsUnbuiltOn}
@@ -80,11 +80,13 @@ ArePlansOf disk m plans = OfImage disk (λ im. (is : IsMounted im m) → ArePlan
 abbrev pub joined : List TraceItem
 joined = trace.Join 1 ∷ []
 
--- the journals that were mounted are clean in the image as it was left
-pub record AreCleanAtEnd (given left : DiskState) : Type 0 where
-  pub value : MountedValue
-  pub mounted : IsMounted (image_of given) value
-  pub clean : (j : ℕ) (journal : Journal) → slice_get value.journals j ≡ Some journal → is_clean_in (image_of left) journal ≡ true
+-- where the disk tells its blocks, the other has what a replay of what was mounted leaves: the image with what its journals say in place, but for places of the journals
+abbrev pub LeavesReplayed : DiskState → MountedValue → DiskState → Type 0
+LeavesReplayed disk m left = OfImage disk (λ im. (is : IsMounted im m) → IsLeft im is.layout (image_of left))
+
+-- the journals of what was mounted are clean in the image of this disk
+abbrev pub AreCleanOn : DiskState → MountedValue → Type 0
+AreCleanOn left m = (j : ℕ) (journal : Journal) → slice_get m.journals j ≡ Some journal → is_clean_in (image_of left) journal ≡ true
 
 -- the lines of the journals with these plans, from this number on: of each that isn't clean, how many blocks went home
 abbrev pub line_of_plan : ℕ → List Written → Option LogHeader → List ℕ
@@ -96,7 +98,8 @@ lines_of_plans journal [] = []
 lines_of_plans journal (p ∷ ps) = line_of_plan journal p.home.items p.clean ++ lines_of_plans (journal + 1) ps
 
 -- Behind the join of node 1 all journals of what was mounted were replayed, each by its own plan; behind the items of that stand those of calls, and maybe of the
--- unmount. A line tells each journal that wasn't clean, and how many blocks were live in it, which went home. Where the image stands for a tree, with what its journals say in place, it stood for that one then, and each journal was clean.
+-- unmount. A line tells each journal that wasn't clean, and how many blocks were live in it, which went home. On a disk that tells its blocks, whether its image stands for a tree or not, the image with what its journals say in place was
+-- there then, but for places of the journals, and each journal was clean. Where it stands for a tree, it stood for that one then, as it lay.
 pub record HasReplayed (given : Inputs) (replayed : Moment) (m : MountedValue) (s : ScriptValue) (time : ℕ) (items : List TraceItem) : Type 0 where
   pub plans : List Plan
   pub planned : ArePlansOf given.disk m plans
@@ -104,8 +107,9 @@ pub record HasReplayed (given : Inputs) (replayed : Moment) (m : MountedValue) (
   pub replays : HaveReplayed 1 time (moment given.disk given.disk_list) replayed m.journals plans joined begun
   pub adds : AddsItems s.clients begun items
   pub told : replayed_lines items ≡ lines_of_plans 0 plans
+  pub left : LeavesReplayed given.disk m replayed.disk
+  pub clean : IsTrue given.disk.tells → AreCleanOn replayed.disk m
   pub stands : (tree : Tree) → IsImageOf given.disk tree → IsImageOf replayed.disk tree
-  pub clean : (tree : Tree) → IsImageOf given.disk tree → AreCleanAtEnd given.disk replayed.disk
 
 -- behind the sequence of each head that isn't clean of what is mounted of the image there is one more that is in the profile
 abbrev pub HasLowHeads : Image → Type 0
@@ -124,7 +128,7 @@ pub record HasRun (given left : Inputs) (replayed : Moment) (m : MountedValue) (
   pub untouched : HasChangedNothing s.clients items → moment left.disk left.disk_list ≡ replayed
   -- where the image stands for a tree, it stands now for what the calls leave of it, and its journals are clean
   pub stands : (tree : Tree) → IsImageOf given.disk tree → IsImageOf left.disk (tree_of (history_of s.clients items) tree)
-  pub clean : (tree : Tree) → IsImageOf given.disk tree → AreCleanAtEnd given.disk left.disk
+  pub clean : (tree : Tree) → IsImageOf given.disk tree → AreCleanOn left.disk m
   -- an image that could be mounted can be mounted again, its journals clean, if no head that wasn't clean had the last sequence of the profile
   pub still : IsMountable given.disk → HasLowHeads (image_of given.disk) → IsMountableClean left.disk
   -- it is the same disk, with nothing in flight
