@@ -45,12 +45,13 @@ pub record PutsHome (im : Image) (l : Layout) (flying : InFlight) (b : ℕ) (byt
   pub live : live_at im dinode b ≡ Some bytes
   pub still_live : HeaderFliesTo im dinode flying → live_in (landed_at im dinode flying) b ≡ Some bytes
 
--- What may be in flight to an image: to each journal what may be, where a log header in its place leaves the journal readable; and beside the places
--- of journals only what is put home.
+-- What may be in flight to an image, in whole blocks: to each journal what may be, where a log header in its place leaves the journal readable; and
+-- beside the places of journals only what is put home.
 pub record MayBeInFlight (im : Image) (l : Layout) (flying : InFlight) : Type 0 where
   pub journals : (j d : ℕ) → IsJournalAt l j d → MayFly (ring_at im d) (to_journal im d flying)
   pub readable : (j d : ℕ) → IsJournalAt l j d → HeaderFliesTo im d flying → IsReadable (landed_at im d flying)
   pub others : (b : ℕ) (bytes : List ℕ) → flying b ≡ Some bytes → IsPlaceIn im l b ⊎ PutsHome im l flying b bytes
+  pub whole : (b : ℕ) (bytes : List ℕ) → flying b ≡ Some bytes → length bytes ≡ im.size
 
 -- ---- what becomes of them
 

@@ -1,0 +1,6 @@
+pub mod SameFiles
+pub mod OtherPlaces
+pub mod Found
+pub mod Replays
+pub mod Chosen
+pub mod Outcomes
