@@ -13,7 +13,7 @@ use Rattle.journal_outcomes.specs.Rings.{InFlight, SaysAs}
 use Rattle.log_layout.specs.Journal.{Ring}
 use Rattle.log_layout.specs.Laws.{HasSamePlaces}
 use Rattle.log_layout.proofs.SamePlaces.{says_the_same}
-use Rattle.image_outcomes.proofs.Found.{ring_left}
+use Rattle.image_outcomes.specs.CutShort.{ring_left}
 
 -- what says as a journal says as one with the same places
 pub says_along : (r s s' : Ring) → HasSamePlaces s s' → SaysAs r s → SaysAs r s'

@@ -23,6 +23,7 @@ use Rattle.log_layout.specs.Journal.{Ring}
 use Rattle.log_layout.specs.Laws.{HasSamePlaces}
 use Rattle.log_layout.specs.Live.{IsReadable}
 use Rattle.log_layout.proofs.SamePlaces.{says_the_same}
+use Rattle.image_outcomes.specs.CutShort.{ring_left}
 use Rattle.image_outcomes.specs.Outcomes.{IsLiveIn}
 use Rattle.image_outcomes.proofs.SameFiles.{HasSameFiles, fits, place_row, same_files}
 use Rattle.image_outcomes.proofs.OtherPlaces.{many_still, place_still, ring_by, stands_still, system_by_table}
@@ -76,10 +77,6 @@ pub record FindsTheSame (im : Image) (l : Layout) (other : Image) : Type 0 where
   pub system : (b : ℕ) → IsSystemBlock other b ↔ IsSystemBlock im b
   pub many : (j d : ℕ) → IsJournalAt l j d → (ring_at other d).places ≡ (ring_at im d).places
   pub place : (j d p : ℕ) → IsJournalAt l j d → p < (ring_at im d).places → content_block (every other d) p ≡ content_block (every im d) p
-
--- a journal of another image, by the places that the first one has for it
-abbrev pub ring_left : Image → Image → ℕ → Ring
-ring_left im left d = record { size = im.size; places = (ring_at im d).places; at = λ p. left.at (content_block (every im d) p) }
 
 module _ (im : Image) (l : Layout) (journals : HasItsJournals im l) (r : Image) (replayed : Replayed im l r) (o : Owners) (m : Layout) (t : Tree) (by : StandsBy r o m t) where
   kept : HasSameSystem im r

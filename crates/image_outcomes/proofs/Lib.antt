@@ -4,3 +4,4 @@ pub mod Found
 pub mod Replays
 pub mod Chosen
 pub mod Outcomes
+pub mod CutShort

@@ -19,7 +19,8 @@ use Rattle.log_layout.specs.Live.{IsReadable, live_in}
 use Rattle.log_layout.proofs.SamePlaces.{says_the_same}
 use Rattle.image_outcomes.specs.Outcomes.{IsLiveIn, OutcomesAreChosen, SaysAsChosen}
 use Rattle.image_outcomes.proofs.Chosen.{Decided, SaysNew, SaysOld, TakesHeaderOf, TakesOthers, chosen_old, decide, is_choice, old_of, says_along, says_before, says_chosen, taken_is}
-use Rattle.image_outcomes.proofs.Found.{FindsTheSame, finds, place_whole, ring_is, ring_left, row_first}
+use Rattle.image_outcomes.specs.CutShort.{ring_left}
+use Rattle.image_outcomes.proofs.Found.{FindsTheSame, finds, place_whole, ring_is, row_first}
 use Rattle.image_outcomes.proofs.Replays.{replayed_there, stands_too}
 
 below_own : (d e a k s a' k' s' : ℕ) → Below d a k 0 s ≡ Below e a' k' 0 s' → d ≡ e
@@ -189,10 +190,10 @@ module _ (im left : Image) (l : Layout) (flying : InFlight) (t : Tree) (journals
     journals = left_finds.journals;
     says = says_there;
     blocks = blocks;
-    replayed = replayed_there im l left choice left_finds choice_finds live_same (λ j d at. (says_there j d at).readable.1) blocks_forth;
-    only = λ r' is. let its = replayed_there im l choice left choice_finds left_finds (λ j d b at. sym (live_same j d b at)) (λ j d at. (says_there j d at).readable.0) blocks_back r' is in
+    replayed = replayed_there im l left choice left_finds choice_finds (λ j d b at. inl (live_same j d b at)) (λ j d at. (says_there j d at).readable.1) blocks_forth;
+    only = λ r' is. let its = replayed_there im l choice left choice_finds left_finds (λ j d b at. inl (sym (live_same j d b at))) (λ j d at. (says_there j d at).readable.0) blocks_back r' is in
         (its.0, its.1, record { size = sym its.2.size; count = sym its.2.count; blocks = λ c. elim (its.2.blocks c) [ inl same ↦ inl (sym same) | inr place ↦ inr place ] });
-    stands = stands_too im l left choice left_finds choice_finds live_same (λ j d at. (says_there j d at).readable.1) blocks_forth left_whole;
+    stands = stands_too im l left choice left_finds choice_finds (λ j d b at. inl (live_same j d b at)) (λ j d at. (says_there j d at).readable.1) blocks_forth left_whole;
   }
 
 pub outcomes_are_chosen : OutcomesAreChosen

@@ -1,12 +1,13 @@
--- Two images beside one that stands, replayed: where the same is live in both, they have replayed images that are alike.
+-- Two images beside one that stands, replayed: where what is live in one is live in the other or home there, they have replayed images that are alike.
 use Rattle.std.proofs.Common.{◌≡◌, ◌⊎◌, ℕ, ◌<◌, List, length, Option, None, Some, refl, sym, ap, subst, ◌∙◌, inl, inr}
+use Rattle.std.specs.Prelude.{slice_get}
 use Rattle.file_tree.specs.Tree.{Tree}
 use Rattle.gfs2_layout.specs.Inode.{content_block}
 use Rattle.image_model.specs.Claims.{every}
 use Rattle.image_model.specs.Image.{Image}
 use Rattle.image_model.specs.Replays.{IsReplayable, MayChange, Replayed, StandsReplayed, live_at}
 use Rattle.image_model.specs.Stands.{IsJournalAt, Layout, Stands}
-use Rattle.image_model.proofs.Held.{none_some}
+use Rattle.image_model.proofs.Held.{none_some, some_same}
 use Rattle.image_model.proofs.Replaying.{replayed_by_any, replayed_is_there}
 use Rattle.image_changes.specs.Contents.{IsAsLarge}
 use Rattle.image_changes.specs.Changes.{IsRingPlace}
@@ -19,13 +20,24 @@ use Rattle.image_outcomes.specs.Outcomes.{AreAlikeBeside, IsLiveIn}
 use Rattle.image_outcomes.proofs.Found.{FindsTheSame, back, live_among, live_is, many_first, none_live, place_first, ring_place}
 use Rattle.image_outcomes.proofs.OtherPlaces.{ring_by, stands_still}
 
-module _ (im : Image) (l : Layout) (x y : Image) (fx : FindsTheSame im l x) (fy : FindsTheSame im l y) (live : (j d b : ℕ) → IsJournalAt l j d → live_at x d b ≡ live_at y d b)
+-- the first image has the same live of the block in this journal, or nothing, and what the other one has is home
+abbrev pub IsLiveOrHome : Image → Image → ℕ → ℕ → Type 0
+IsLiveOrHome x y d b = (live_at x d b ≡ live_at y d b) ⊎ ((live_at x d b ≡ None) × ((bytes : List ℕ) → live_at y d b ≡ Some bytes → x.at b ≡ bytes))
+
+module _ (im : Image) (l : Layout) (x y : Image) (fx : FindsTheSame im l x) (fy : FindsTheSame im l y) (live : (j d b : ℕ) → IsJournalAt l j d → IsLiveOrHome x y d b)
     (readable : (j d : ℕ) → IsJournalAt l j d → IsReadable (ring_at y d) → IsReadable (ring_at x d)) where
   -- a place of the first image is the same block in the other one
   place_in : (j d p : ℕ) → IsJournalAt l j d → p < (ring_at x d).places → (p < (ring_at y d).places) × (content_block (every y d) p ≡ content_block (every x d) p)
   place_in j d p at low =
       let inside : p < (ring_at im d).places = subst (λ n. p < n) (fx.many j d at) low in
       (subst (λ n. p < n) (sym (fy.many j d at)) inside, fy.place j d p at inside ∙ sym (fx.place j d p at inside))
+
+  -- what is live in the first is live in the other one
+  live_there : (j d b : ℕ) (bytes : List ℕ) → IsJournalAt l j d → live_at x d b ≡ Some bytes → live_at y d b ≡ Some bytes
+  live_there j d b bytes at its = elim (live j d b at) [ inl same ↦ sym same ∙ its | inr gone ↦ absurd (none_some (sym gone.0 ∙ its)) ]
+
+  none_there : (j d b : ℕ) → IsJournalAt l j d → live_at y d b ≡ None → live_at x d b ≡ None
+  none_there j d b at none = elim (live j d b at) [ inl same ↦ same ∙ none | inr gone ↦ gone.0 ]
 
   may_change : (b : ℕ) → MayChange y l b → MayChange x l b
   may_change b may = record {
@@ -46,10 +58,10 @@ module _ (im : Image) (l : Layout) (x y : Image) (fx : FindsTheSame im l x) (fy 
       second_at = both.second_at;
       one = both.one;
       other = both.other;
-      one_live = sym (live i both.first b both.first_at) ∙ both.one_live;
-      other_live = sym (live j both.second b both.second_at) ∙ both.other_live;
+      one_live = live_there i both.first b both.one both.first_at both.one_live;
+      other_live = live_there j both.second b both.other both.second_at both.other_live;
     });
-    inside = λ j d b bytes at its. may_change b (is.inside j d b bytes at (sym (live j d b at) ∙ its));
+    inside = λ j d b bytes at its. may_change b (is.inside j d b bytes at (live_there j d b bytes at its));
   }
 
   -- ---- where both differ only in places and in what is live
@@ -58,14 +70,29 @@ module _ (im : Image) (l : Layout) (x y : Image) (fx : FindsTheSame im l x) (fy 
     pub alike : (r r' : Image) → Replayed y l r → Replayed x l r' → AreAlikeBeside im l r' r
     alike r r' is is' = record { size = is'.size ∙ fx.size ∙ sym fy.size ∙ sym is.size; count = is'.count ∙ fx.count ∙ sym fy.count ∙ sym is.count; blocks = λ b. each b (live_among y l.journals b) refl }
       where
+        -- no other journal has it
+        alone : (b : ℕ) (its : IsLiveIn y l b) → live_at x its.dinode b ≡ None → (j d : ℕ) → IsJournalAt l j d → (o : Option (List ℕ)) → live_at x d b ≡ o → live_at x d b ≡ None
+        alone b its gone j d at None e = e
+        alone b its gone j d at (Some other) e =
+            let there = live_there j d b other at e in
+            let one : j ≡ its.journal = is.replayable.once j its.journal b (record { first = d; second = its.dinode; first_at = at; second_at = its.at; one = other; other = its.bytes; one_live = there; other_live = its.live }) in
+            let same : d ≡ its.dinode = some_same (sym at ∙ ap (slice_get l.journals) one ∙ its.at) in
+            ap (λ n. live_at x n b) same ∙ gone
+
+        home : (b : ℕ) (its : IsLiveIn y l b) → r'.at b ≡ its.bytes
+        home b its = elim (live its.journal its.dinode b its.at) [
+          | inl same ↦ is'.live its.journal its.dinode b its.bytes its.at (same ∙ its.live)
+          | inr gone ↦ is'.others b (λ j d at. alone b its gone.0 j d at (live_at x d b) refl) ∙ gone.1 its.bytes its.live
+        ]
+
         each : (b : ℕ) (o : Option (List ℕ)) → live_among y l.journals b ≡ o → (r'.at b ≡ r.at b) ⊎ IsPlaceIn im l b
         each b (Some bytes) e =
             let its = (live_is y l b bytes e).0 in
-            inl (is'.live its.journal its.dinode b its.bytes its.at (live its.journal its.dinode b its.at ∙ its.live) ∙ sym (is.live its.journal its.dinode b its.bytes its.at its.live))
+            inl (home b its ∙ sym (is.live its.journal its.dinode b its.bytes its.at its.live))
         each b None e =
             let none = none_live y l.journals b e in
             let in_y = is.others b none in
-            let in_x = is'.others b (λ j d at. live j d b at ∙ none j d at) in
+            let in_x = is'.others b (λ j d at. none_there j d b at (none j d at)) in
             elim (blocks b) [
               | inl same ↦ inl (in_x ∙ same ∙ sym in_y)
               | inr (inl place) ↦ inr place
