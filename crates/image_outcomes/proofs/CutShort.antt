@@ -27,7 +27,7 @@ module _ (im left : Image) (l : Layout) (t : Tree) (journals : HasItsJournals im
     | inr through ↦ (nothing_live (ring_left im left d) through.clean).readable
   ]
 
-  its : FindsTheSame im l left
+  pub its : FindsTheSame im l left
   its = finds im l journals stands.replayed replayed stands.stands.owners stands.stands.layout t by left cut.size cut.count cut.blocks cut.whole readable
 
   -- the image finds what it finds
