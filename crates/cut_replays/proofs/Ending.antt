@@ -1,13 +1,13 @@
 -- A clean header in flight behind the head of a journal that isn't clean.
-use Rattle.std.proofs.Common.{◌≡◌, ◌≢◌, ◌⊎◌, ℕ, ◌+◌, ◌<◌, ◌≤◌, Bool, true, false, List, length, Option, None, Some, Ok, refl, sym, ap, subst, ◌∙◌, inl, inr, arith}
-use Rattle.std.specs.Prelude.{◌==◌, ◌*◌, ◌%◌, ◌^◌, if◌then◌else◌, unwrap_or}
-use Rattle.std.proofs.lemmas.Bool.{cases_Bool, cases_eq, cond-true, cond-false, eq-eqb, eqb-true, ne_eqb}
+use Rattle.std.proofs.Common.{◌≡◌, ◌≢◌, ◌⊎◌, ℕ, ◌+◌, ◌<◌, Bool, true, false, List, length, None, Some, Ok, refl, sym, ap, subst, ◌∙◌, inl, inr, arith}
+use Rattle.std.specs.Prelude.{◌==◌, ◌*◌, ◌%◌, ◌^◌, if◌then◌else◌}
+use Rattle.std.proofs.lemmas.Bool.{cases_Bool, cases_eq, cond-true, cond-false, eq-eqb, ne_eqb}
 use Rattle.std.proofs.lemmas.Bool.Decides.{nat_tests}
 use Rattle.std.proofs.lemmas.Nat.{mod_low}
 use Rattle.gfs2_layout.specs.Bytes.{u32_at}
 use Rattle.gfs2_layout.specs.declared.log_header.LogHeader.{LogHeader as Front}
 use Rattle.image_model.proofs.Held.{none_some, some_same}
-use Rattle.journal_outcomes.specs.Rings.{HeaderFlies, InFlight, IsFree, IsRingOutcome, MayFly, ReadsAsEither, SaysAs, landed}
+use Rattle.journal_outcomes.specs.Rings.{HeaderFlies, InFlight, IsFree, IsRingOutcome, MayFly, ReadsAsEither, SaysAs}
 use Rattle.journal_outcomes.proofs.Outcomes.{landed_header, outcomes_say_one}
 use Rattle.journal_replays.specs.Headers.{clean_block, filled}
 use Rattle.log_layout.specs.Headers.{as_read, log_read}

@@ -1,7 +1,7 @@
 -- The image that is left where the disk failed in the replay of a journal: what is common to all cases.
-use Rattle.std.proofs.Common.{◌≡◌, ◌≢◌, ◌⊎◌, ℕ, zero, suc, ◌+◌, ◌<◌, ◌≤◌, false, true, List, [], ◌∷◌, length, take, get_or, Bool, Option, None, Some, Ok, refl, sym, ap, subst, ◌∙◌, inl, inr, arith}
+use Rattle.std.proofs.Common.{◌≡◌, ◌≢◌, ◌⊎◌, ℕ, zero, suc, ◌<◌, false, true, List, [], ◌∷◌, length, take, get_or, Bool, Option, None, Some, refl, sym, ap, subst, ◌∙◌, inl, inr, arith}
 use Rattle.std.specs.Prelude.{◌^◌, if◌then◌else◌, IsTrue, IfSome, slice_get, unwrap_or}
-use Rattle.std.proofs.lemmas.Bool.{cases_eq, cases_lt, cond-true}
+use Rattle.std.proofs.lemmas.Bool.{cases_lt}
 use Rattle.disk_turns.specs.Turns.{Moment}
 use Rattle.gfs2_layout.specs.Device.{IsBlockSize}
 use Rattle.gfs2_layout.specs.Inode.{content_block}
@@ -17,7 +17,7 @@ use Rattle.journal_outcomes.specs.Images.{IsPlaceIn, ring_at}
 use Rattle.journal_outcomes.specs.Rings.{ReadsAsEither, SaysAs}
 use Rattle.journal_plans.specs.Plans.{bytes_put}
 use Rattle.journal_replays.specs.Headers.{IsHeaderRead, clean_block}
-use Rattle.log_layout.specs.Journal.{IsClean, Ring, head_in}
+use Rattle.log_layout.specs.Journal.{head_in}
 use Rattle.log_layout.specs.Laws.{HasSamePlaces, HeadersReadBack}
 use Rattle.log_layout.specs.declared.log_header.LogHeader.{LogHeader}
 use Rattle.peer_replay.specs.Plans.{clean_after, clean_header}
@@ -25,7 +25,7 @@ use Rattle.peer_replay.specs.declared.planned.Plan.{Plan}
 use Rattle.shared_disk.specs.Disk.{IsIdle}
 use Rattle.trace_text.specs.declared.item.TraceItem.{TraceItem}
 use Rattle.image_recovery.specs.Recoveries.{AreHeadersRead, AreReplays, CanReplayAll}
-use Rattle.image_recovery.proofs.Mapped.{apart, once, place_at}
+use Rattle.image_recovery.proofs.Mapped.{apart, place_at}
 use Rattle.std.proofs.lemmas.Option.{slice_get_within}
 use Rattle.image_outcomes.specs.CutShort.{IsCutShort, IsThrough, ring_left}
 use Rattle.image_outcomes.specs.Outcomes.{IsLiveIn}

@@ -1,6 +1,6 @@
 -- Where the disk failed in a replay, whatever became of what was in flight is what a replay leaves that was cut short.
 use Rattle.std.proofs.Common.{◌≡◌, ◌≢◌, ◌⊎◌, ℕ, zero, suc, ◌+◌, ◌<◌, ◌≤◌, List, [], ◌∷◌, ◌++◌, length, take, get_or, Option, None, Some, refl, sym, ap, subst, ◌∙◌, inl, inr, arith}
-use Rattle.std.specs.Prelude.{◌==◌, IfSome, IsTrue, MatchOption, if◌then◌else◌, slice_get, unwrap_or}
+use Rattle.std.specs.Prelude.{◌==◌, IfSome, IsTrue, MatchOption, slice_get, unwrap_or}
 use Rattle.std.proofs.lemmas.Bool.{cases_Bool, cases_eq, cond-true, cond-false, eqb-true}
 use Rattle.disk_turns.specs.Turns.{BringsTo, HasStopped, Moment, StopsAt, before_it, behind_it, at_barrier}
 use Rattle.disk_turns.specs.Writing.{flights_of}
@@ -8,10 +8,9 @@ use Rattle.drafts.specs.declared.change.Written.{Written}
 use Rattle.file_tree.specs.Tree.{Tree}
 use Rattle.gfs2_layout.specs.Device.{IsBlockSize}
 use Rattle.gfs2_layout.specs.Inode.{content_block}
-use Rattle.image_changes.specs.Instances.{StandsBy}
 use Rattle.image_model.specs.Claims.{every}
 use Rattle.image_model.specs.Image.{Image, image_of}
-use Rattle.image_model.specs.Replays.{Replayed, StandsReplayed}
+use Rattle.image_model.specs.Replays.{StandsReplayed}
 use Rattle.image_model.specs.Stands.{IsJournalAt}
 use Rattle.image_model.proofs.Held.{none_some, some_same}
 use Rattle.image_model.proofs.Lengths.{size_large}
@@ -29,7 +28,7 @@ use Rattle.log_layout.specs.Journal.{accepted}
 use Rattle.log_layout.specs.Laws.{HeadersReadBack}
 use Rattle.log_layout.specs.declared.log_header.LogHeader.{LogHeader}
 use Rattle.peer_replay.specs.declared.planned.Plan.{Plan}
-use Rattle.shared_disk.specs.Disk.{DiskState, Flight, IsIdle, flight_to, written}
+use Rattle.shared_disk.specs.Disk.{Flight, IsIdle, flight_to}
 use Rattle.trace_text.specs.declared.item.TraceItem.{TraceItem}
 use Rattle.image_recovery.specs.Recoveries.{AreHeadersRead, AreReplays, CanReplayAll, HaveFailed}
 use Rattle.image_recovery.proofs.Ending.{flies_put, tells_one}
@@ -40,7 +39,7 @@ use Rattle.cut_replays.specs.Failed.{FailedReplaysStand}
 use Rattle.image_outcomes.proofs.CutShort.{cut_replays_stand}
 use Rattle.image_outcomes.proofs.CutShort as cuts
 use Rattle.cut_replays.proofs.Failed
-use Rattle.image_outcomes.proofs.Found.{FindsTheSame, place_whole}
+use Rattle.image_outcomes.proofs.Found.{place_whole}
 use Rattle.cut_replays.proofs.Stopped
 
 -- ---- writes of some of these blocks

@@ -1,15 +1,14 @@
 -- The image that is on a disk once some of its journals are replayed.
-use Rattle.std.proofs.Common.{◌≡◌, ◌≢◌, ◌⊎◌, ℕ, zero, suc, ◌+◌, ◌<◌, ◌≤◌, List, [], ◌∷◌, length, take, get_or, Option, None, Some, refl, sym, ap, subst, ◌∙◌, inl, inr, arith}
-use Rattle.std.specs.Prelude.{IsTrue, IfSome, slice_get, unwrap_or}
+use Rattle.std.proofs.Common.{◌≡◌, ◌⊎◌, ℕ, zero, suc, ◌+◌, ◌<◌, ◌≤◌, List, [], ◌∷◌, length, take, get_or, Option, None, Some, refl, sym, ap, subst, ◌∙◌, inl, inr, arith}
+use Rattle.std.specs.Prelude.{IsTrue, slice_get, unwrap_or}
 use Rattle.std.proofs.lemmas.Bool.{cases_lt}
 use Rattle.std.proofs.lemmas.Option.{slice_get_within}
 use Rattle.disk_turns.specs.Turns.{Moment}
-use Rattle.file_tree.specs.Tree.{Tree}
 use Rattle.gfs2_layout.specs.Device.{IsBlockSize}
 use Rattle.gfs2_layout.specs.Inode.{content_block}
 use Rattle.image_model.specs.Claims.{every}
 use Rattle.image_model.specs.Image.{Image, image_of}
-use Rattle.image_model.specs.Replays.{StandsReplayed, live_at}
+use Rattle.image_model.specs.Replays.{live_at}
 use Rattle.image_model.specs.Stands.{IsJournalAt}
 use Rattle.image_model.proofs.Held.{none_some, some_same}
 use Rattle.image_model.proofs.Lengths.{size_large}
@@ -22,7 +21,7 @@ use Rattle.journal_plans.specs.Plans.{bytes_put}
 use Rattle.journal_reads.specs.Reading.{ring_read}
 use Rattle.journal_replays.specs.Replays.{IsReplayWith}
 use Rattle.drafts.specs.declared.change.Written.{Written}
-use Rattle.log_layout.specs.Journal.{IsClean, Ring, head_in}
+use Rattle.log_layout.specs.Journal.{IsClean, Ring}
 use Rattle.log_layout.specs.Laws.{HasSamePlaces, HeadersReadBack}
 use Rattle.log_layout.specs.Live.{IsReadable}
 use Rattle.log_layout.specs.declared.log_header.LogHeader.{LogHeader}

@@ -1,5 +1,5 @@
 -- Which log headers in flight a choice takes, by what became of them.
-use Rattle.std.proofs.Common.{◌≡◌, ◌≢◌, ◌⊎◌, ℕ, zero, suc, ◌<◌, Bool, true, false, List, [], ◌∷◌, Option, None, Some, refl, sym, ap, subst, ◌∙◌, inl, inr}
+use Rattle.std.proofs.Common.{◌≡◌, ◌≢◌, ◌⊎◌, ℕ, zero, suc, ◌<◌, Bool, true, false, List, [], ◌∷◌, None, Some, refl, sym, ap, subst, ◌∙◌, inl, inr}
 use Rattle.std.specs.Prelude.{◌==◌, ◌||◌, if◌then◌else◌, slice_get, unwrap_or}
 use Rattle.std.proofs.lemmas.Bool.{cases_Bool, cases_eq, cond-true, cond-false, eq-eqb, eqb-true}
 use Rattle.gfs2_layout.specs.Inode.{content_block}
@@ -8,7 +8,7 @@ use Rattle.image_model.specs.Claims.{every}
 use Rattle.image_model.specs.Image.{Image}
 use Rattle.image_model.specs.Stands.{IsJournalAt, Layout}
 use Rattle.image_model.proofs.Held.{none_some, some_same}
-use Rattle.journal_outcomes.specs.Images.{HeaderFliesTo, IsChoice, IsHeaderPlace, chosen, landed_at, ring_at}
+use Rattle.journal_outcomes.specs.Images.{HeaderFliesTo, IsChoice, chosen, landed_at, ring_at}
 use Rattle.journal_outcomes.specs.Rings.{InFlight, SaysAs}
 use Rattle.log_layout.specs.Journal.{Ring}
 use Rattle.log_layout.specs.Laws.{HasSamePlaces}

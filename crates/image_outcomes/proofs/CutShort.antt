@@ -1,12 +1,12 @@
 -- What a replay leaves that was cut short.
-use Rattle.std.proofs.Common.{◌≡◌, ◌⊎◌, ℕ, ◌<◌, List, length, Option, None, Some, refl, sym, ap, subst, ◌∙◌, inl, inr}
+use Rattle.std.proofs.Common.{ℕ, ◌<◌, refl, sym, subst, ◌∙◌, inl, inr}
 use Rattle.file_tree.specs.Tree.{Tree}
 use Rattle.image_changes.specs.Instances.{StandsBy}
 use Rattle.image_model.specs.Image.{Image}
-use Rattle.image_model.specs.Replays.{HasItsJournals, Replayed, StandsReplayed, live_at}
+use Rattle.image_model.specs.Replays.{HasItsJournals, Replayed, StandsReplayed}
 use Rattle.image_model.specs.Stands.{IsJournalAt, Layout}
 use Rattle.image_model.proofs.Replaying.{replayed_by_any}
-use Rattle.journal_outcomes.specs.Images.{IsPlaceIn, ring_at}
+use Rattle.journal_outcomes.specs.Images.{ring_at}
 use Rattle.log_layout.specs.Laws.{HasSamePlaces, SaysTheSame}
 use Rattle.log_layout.specs.Live.{IsReadable}
 use Rattle.log_layout.proofs.SamePlaces.{nothing_live, says_the_same}

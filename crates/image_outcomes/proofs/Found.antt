@@ -1,5 +1,5 @@
 -- Images beside one whose journals are replayed: those that differ in places of journals and in live blocks find what it finds.
-use Rattle.std.proofs.Common.{◌≡◌, ◌≢◌, ◌⊎◌, ℕ, zero, suc, ◌+◌, ◌<◌, ◌≤◌, List, [], ◌∷◌, length, get_or, Option, None, Some, refl, sym, ap, subst, ◌∙◌, inl, inr, arith}
+use Rattle.std.proofs.Common.{◌≡◌, ◌⊎◌, ℕ, zero, suc, ◌<◌, ◌≤◌, List, [], ◌∷◌, length, get_or, Option, None, Some, refl, sym, ap, subst, ◌∙◌, inl, inr, arith}
 use Rattle.std.specs.Prelude.{◌↔◌, slice_get, unwrap_or}
 use Rattle.std.proofs.lemmas.Bool.{cases_lt}
 use Rattle.std.proofs.lemmas.Option.{slice_get-get_or, slice_get_within}
@@ -19,7 +19,6 @@ use Rattle.image_changes.specs.Changes.{IsRingPlace}
 use Rattle.image_changes.specs.Contents.{IsAsLarge}
 use Rattle.image_changes.specs.Instances.{StandsBy}
 use Rattle.journal_outcomes.specs.Images.{IsPlaceIn, ring_at}
-use Rattle.log_layout.specs.Journal.{Ring}
 use Rattle.log_layout.specs.Laws.{HasSamePlaces}
 use Rattle.log_layout.specs.Live.{IsReadable}
 use Rattle.log_layout.proofs.SamePlaces.{says_the_same}

@@ -1,16 +1,14 @@
 -- An image that stands, with other bytes in places of its journals.
-use Rattle.std.proofs.Common.{◌≡◌, ◌⊎◌, ℕ, ◌+◌, ◌-◌, ◌/◌, ◌<◌, ◌≤◌, List, true, false, length, Option, Some, None, refl, sym, ap, subst, ◌∙◌, inl, inr, arith}
-use Rattle.std.specs.Prelude.{codes}
+use Rattle.std.proofs.Common.{◌≡◌, ◌⊎◌, ℕ, ◌-◌, ◌/◌, ◌<◌, true, false, sym, ap, subst, ◌∙◌, inl, inr, arith}
 use Rattle.file_tree.specs.Tree.{Tree}
 use Rattle.gfs2_layout.specs.Device.{superblock_place}
 use Rattle.gfs2_layout.specs.Holding.{Pointed, bytes_at}
-use Rattle.gfs2_layout.specs.Inode.{Leads, content_block, dinode_in, height_in}
+use Rattle.gfs2_layout.specs.Inode.{content_block, dinode_in, height_in}
 use Rattle.gfs2_layout.specs.Structures.{dinode_of}
-use Rattle.gfs2_layout.specs.declared.dinode.Dinode.{Dinode}
-use Rattle.image_model.specs.Claims.{every, Claims, HasJournal, below}
+use Rattle.image_model.specs.Claims.{every, Claims, below}
 use Rattle.image_model.specs.Image.{Image}
 use Rattle.image_model.specs.Journals.{journal_name}
-use Rattle.image_model.specs.Owners.{Below, Chained, Named, Owner, Owners, Up, holding, is_dinode, up_of}
+use Rattle.image_model.specs.Owners.{Below, Chained, Named, Owners, Up, holding, is_dinode, up_of}
 use Rattle.image_model.specs.Stands.{IsJournalAt, IsLaid, Layout}
 use Rattle.image_model.specs.SystemFiles.{IsSystemBlock, IsSystemFile, is_jindex, is_journal, is_master, is_rindex, of_content, of_dinode, of_leaf, of_superblock}
 use Rattle.image_model.proofs.Facts.{child_leads, has_jindex, has_rindex, jindex_is, leads_row, master_is, rindex_is}

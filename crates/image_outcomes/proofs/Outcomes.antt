@@ -11,14 +11,14 @@ use Rattle.image_model.specs.Owners.{Below}
 use Rattle.image_model.specs.Replays.{HasItsJournals, Replayed, StandsReplayed, live_at}
 use Rattle.image_model.specs.Stands.{IsJournalAt, Layout}
 use Rattle.image_model.proofs.Replaying.{replayed_by_any}
-use Rattle.journal_outcomes.specs.Images.{HeaderFliesTo, IsImageOutcome, IsPlaceIn, MayBeInFlight, NoFalseHeader, PutsHome, chosen, landed_at, ring_at, to_journal}
+use Rattle.journal_outcomes.specs.Images.{HeaderFliesTo, IsImageOutcome, IsPlaceIn, MayBeInFlight, NoFalseHeader, PutsHome, chosen, ring_at, to_journal}
 use Rattle.journal_outcomes.specs.Rings.{InFlight, IsRingOutcome, SaysAs}
 use Rattle.journal_outcomes.proofs.Outcomes.{outcomes_say_one}
 use Rattle.log_layout.specs.Laws.{HasSamePlaces}
 use Rattle.log_layout.specs.Live.{IsReadable, live_in}
 use Rattle.log_layout.proofs.SamePlaces.{says_the_same}
 use Rattle.image_outcomes.specs.Outcomes.{IsLiveIn, OutcomesAreChosen, SaysAsChosen}
-use Rattle.image_outcomes.proofs.Chosen.{Decided, SaysNew, SaysOld, TakesHeaderOf, TakesOthers, chosen_old, decide, is_choice, old_of, says_along, says_before, says_chosen, taken_is}
+use Rattle.image_outcomes.proofs.Chosen.{Decided, SaysNew, SaysOld, chosen_old, decide, is_choice, says_along, says_before, says_chosen, taken_is}
 use Rattle.image_outcomes.specs.CutShort.{ring_left}
 use Rattle.image_outcomes.proofs.Found.{FindsTheSame, finds, place_whole, ring_is, row_first}
 use Rattle.image_outcomes.proofs.Replays.{replayed_there, stands_too}

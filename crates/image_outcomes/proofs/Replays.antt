@@ -6,7 +6,7 @@ use Rattle.gfs2_layout.specs.Inode.{content_block}
 use Rattle.image_model.specs.Claims.{every}
 use Rattle.image_model.specs.Image.{Image}
 use Rattle.image_model.specs.Replays.{IsReplayable, MayChange, Replayed, StandsReplayed, live_at}
-use Rattle.image_model.specs.Stands.{IsJournalAt, Layout, Stands}
+use Rattle.image_model.specs.Stands.{IsJournalAt, Layout}
 use Rattle.image_model.proofs.Held.{none_some, some_same}
 use Rattle.image_model.proofs.Replaying.{replayed_by_any, replayed_is_there}
 use Rattle.image_changes.specs.Contents.{IsAsLarge}

@@ -1,9 +1,8 @@
 -- Images that have the system files of one that stands.
-use Rattle.std.proofs.Common.{◌≡◌, ◌≤◌, ℕ, suc, ◌+◌, ◌-◌, ◌/◌, ◌<◌, true, refl, sym, ap, subst, ◌∙◌, inl, inr, arith}
+use Rattle.std.proofs.Common.{◌≡◌, ◌≤◌, ℕ, suc, ◌/◌, ◌<◌, true, refl, sym, ap, subst, ◌∙◌, inl, inr, arith}
 use Rattle.std.specs.Prelude.{◌↔◌, codes, List}
 use Rattle.gfs2_layout.specs.Device.{superblock_place}
-use Rattle.gfs2_layout.specs.Holding.{Pointed}
-use Rattle.gfs2_layout.specs.Inode.{Fits, Leads, IsInode, content_block, content_count, content_of, dinode_in, height_in}
+use Rattle.gfs2_layout.specs.Inode.{Fits, Leads, IsInode, content_block, content_count, content_of, height_in}
 use Rattle.gfs2_layout.specs.Structures.{superblock_of}
 use Rattle.gfs2_layout.specs.declared.dinode.Dinode.{Dinode}
 use Rattle.gfs2_layout.specs.declared.rindex.Rindex.{Rindex}

@@ -1,20 +1,19 @@
 -- What a journal says from its tail to its head, by the blocks there.
 use Rattle.std.proofs.Common.{◌≡◌, ◌≢◌, ◌⊎◌, ℕ, zero, suc, ◌+◌, ◌<◌, ◌≤◌, Bool, true, false, List, [], ◌∷◌, length, Option, None, Some, Result, Ok, Err, refl, sym, ap, ap₂, subst, ◌∙◌, inl, inr, arith}
 use Rattle.std.specs.Prelude.{◌==◌, ◌&&◌, ◌||◌, nat_le, if◌then◌else◌}
-use Rattle.std.proofs.lemmas.Bool.{cases_Bool, cond-true, cond-false}
+use Rattle.std.proofs.lemmas.Bool.{cond-false}
 use Rattle.std.proofs.lemmas.Bool.Decides.{nat_tests}
 use Rattle.gfs2_layout.specs.declared.fault.LayoutFault.{LayoutFault}
 use Rattle.gfs2_layout.specs.declared.log_header.LogHeader.{LogHeader as Front}
-use Rattle.log_layout.specs.Chunks.{Chunk, Transaction, are_entries, chunk_in, chunk_of, dues, first_revokes, if_descriptor, joined, nothing, part_of}
+use Rattle.log_layout.specs.Chunks.{Chunk, Transaction, are_entries, chunk_in, dues, first_revokes, if_descriptor, joined, nothing, part_of}
 use Rattle.log_layout.specs.Descriptors.{descriptor_read}
-use Rattle.log_layout.specs.Headers.{front_of}
 use Rattle.log_layout.specs.Journal.{Placed, Ring, accepted, blocks_from, head_in, next, refuses_tail, tail_of, way}
 use Rattle.log_layout.specs.Live.{IsReadable, live_in, live_under, live_read}
 use Rattle.log_layout.specs.Transactions.{Sequenced, and_then, may_follow, reading, transactions_of}
 use Rattle.log_layout.specs.declared.descriptor.LogDescriptor.{LogDescriptor}
 use Rattle.log_layout.specs.declared.due.Due.{Due}
 use Rattle.log_layout.specs.declared.log_header.LogHeader.{LogHeader}
-use Rattle.journal_scan.proofs.Steps.{length-blocks, read_chunk, read_due, read_end, read_none, read_other}
+use Rattle.journal_scan.proofs.Steps.{length-blocks, read_chunk, read_due, read_none, read_other}
 use Rattle.journal_outcomes.specs.Rings.{IsFree, ReadsAs, SaysAs}
 
 -- ---- a chunk ends before the last block

@@ -3,11 +3,11 @@ use Rattle.std.proofs.Common.{◌≡◌, ◌≢◌, ◌⊎◌, ℕ, ◌+◌, ◌
 use Rattle.std.specs.Prelude.{unwrap_or}
 use Rattle.std.proofs.lemmas.Bool.{cases_eq}
 use Rattle.gfs2_layout.specs.declared.log_header.LogHeader.{LogHeader as Front}
-use Rattle.log_layout.specs.Journal.{IsWhole, Ring, accepted, head_in, tail_of, way}
+use Rattle.log_layout.specs.Journal.{Ring, accepted, head_in}
 use Rattle.log_layout.specs.declared.log_header.LogHeader.{LogHeader}
 use Rattle.log_layout.proofs.BestHeaders.{accepted_tells, head_there}
-use Rattle.journal_outcomes.specs.Rings.{ChunksFly, HeaderFlies, InFlight, IsFree, IsRingOutcome, MayFly, ReadsAs, ReadsAsEither, SaysAs, landed}
-use Rattle.journal_outcomes.specs.Laws.{AreOutcomes, AreWhole, LandedChunksSayNothing, LandedHeadersHead, OldAndNewAreOutcomes, OutcomesSayOne}
+use Rattle.journal_outcomes.specs.Rings.{ChunksFly, HeaderFlies, InFlight, IsFree, ReadsAs, ReadsAsEither, SaysAs, landed}
+use Rattle.journal_outcomes.specs.Laws.{LandedChunksSayNothing, LandedHeadersHead, OldAndNewAreOutcomes, OutcomesSayOne}
 use Rattle.journal_outcomes.proofs.Heads.{behind_head, head_is_first, none_is, some_is}
 use Rattle.journal_outcomes.proofs.Blocks.{says}
 

@@ -1,16 +1,15 @@
 -- What a fence and a barrier leave of the image on a disk.
-use Rattle.std.proofs.Common.{◌≡◌, ◌≢◌, ◌≤◌, ℕ, true, List, [], ◌∷◌, length, map, Option, None, Some, refl, sym, ap, ◌∙◌, inl, inr}
-use Rattle.std.specs.Prelude.{◌==◌, IsTrue, if◌then◌else◌, unwrap_or}
+use Rattle.std.proofs.Common.{◌≡◌, ◌≢◌, ℕ, List, [], ◌∷◌, length, map, None, Some, refl, sym, ap, ◌∙◌, inl, inr}
+use Rattle.std.specs.Prelude.{◌==◌, IsTrue, unwrap_or}
 use Rattle.std.specs.List.{AllByRecursion}
 use Rattle.std.proofs.lemmas.Bool.{cases_Bool, cond-true, cond-false, eq-eqb, ne_eqb}
 use Rattle.gfs2_layout.specs.Inode.{content_block}
 use Rattle.image_model.specs.Claims.{every}
 use Rattle.image_model.specs.Image.{image_of}
 use Rattle.log_layout.specs.Journal.{accepted}
-use Rattle.shared_disk.specs.Disk.{DiskState, Flight, IsOutcome, IsSound, after_barrier, after_fence, flight_to, settled, with_value, written}
-use Rattle.journal_outcomes.specs.Disks.{BarrierLeavesAll, BarriersLeaveAll, FenceLeavesOutcome, FencesLeaveOutcomes, flown_by}
-use Rattle.journal_outcomes.specs.Images.{IsImageOutcome}
-use Rattle.journal_outcomes.proofs.Heads.{none_is, some_is}
+use Rattle.shared_disk.specs.Disk.{DiskState, Flight, after_barrier, flight_to, settled, with_value, written}
+use Rattle.journal_outcomes.specs.Disks.{BarriersLeaveAll, FencesLeaveOutcomes, flown_by}
+use Rattle.journal_outcomes.proofs.Heads.{none_is}
 
 -- a value at another place
 at_other : {A : Type 0} (f : ℕ → A) (node : ℕ) (value : A) (other : ℕ) → other ≢ node → with_value f node value other ≡ f other

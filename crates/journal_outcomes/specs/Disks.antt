@@ -1,5 +1,5 @@
 -- What a fence and a barrier make of the image on a disk.
-use Rattle.std.specs.Prelude.{ℕ, ◌≡◌, ◌≢◌, IsTrue, List, [], length, Some}
+use Rattle.std.specs.Prelude.{ℕ, ◌≡◌, ◌≢◌, IsTrue, List, [], Some}
 use Rattle.image_model.specs.Image.{image_of}
 use Rattle.image_model.specs.Stands.{Layout}
 use Rattle.shared_disk.specs.Disk.{DiskState, Flight, IsOutcome, IsSound, after_barrier, after_fence, flight_to}
