@@ -1,0 +1,4 @@
+pub mod Stopped
+pub mod Ending
+pub mod Failed
+pub mod FailedReplays

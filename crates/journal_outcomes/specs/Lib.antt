@@ -1,0 +1,4 @@
+pub mod Rings
+pub mod Images
+pub mod Disks
+pub mod Laws
