@@ -6,43 +6,29 @@ use anyhow::{Context, Result, ensure};
 use row_texts::{Image, number_word, range_of};
 use std::alloc::Global;
 
-// What there is before a call of the disk: whose it is, how many lines are printed, how many calls are answered, and how many items the
-// trace has.
-#[derive(Clone, Copy, Drop)]
-struct Before {
-    node: u64,
-    printed: u64,
-    answered: u64,
-    items: u64,
-}
-
-// A call of the disk, with its block.
+// A call of the disk: whose it is, the block, and how many lines are answered before.
 #[derive(Clone, Copy, Drop)]
 struct Call {
-    before: Before,
+    node: u64,
+    answered: u64,
     block: Option<u64>,
 }
 
-// What there is before the next call of a line, and how many items each call adds.
-#[derive(Clone, Copy, Drop)]
-struct Line {
-    next: Before,
-    step: u64,
-}
-
-fn add_call(calls: &mut Vec<Call>, line: &mut Line, block: Option<u64>) -> Result<()> {
-    calls.push(Call {
-        before: line.next,
-        block,
-    })?;
-    line.next.items = line.next.items.saturating_add(line.step);
-    Ok(())
-}
-
 // Adds the calls of a word: a block or a range of them, each block twice behind `x2`, or `-` for a barrier.
-fn add_word(calls: &mut Vec<Call>, image: &Image, line: &mut Line, word: &str) -> Result<()> {
+fn add_word(
+    calls: &mut Vec<Call>,
+    image: &Image,
+    node: u64,
+    answered: u64,
+    word: &str,
+) -> Result<()> {
     if word == "-" {
-        return add_call(calls, line, None);
+        calls.push(Call {
+            node,
+            answered,
+            block: None,
+        })?;
+        return Ok(());
     }
     let (word, times) = match word.strip_suffix("x2") {
         Some(word) => (word, 2),
@@ -51,48 +37,27 @@ fn add_word(calls: &mut Vec<Call>, image: &Image, line: &mut Line, word: &str) -
     let (first, last) = range_of(image, word)?;
     for block in first..=last.min(1_000_000) {
         for _ in 0..times {
-            add_call(calls, line, Some(block))?;
+            calls.push(Call {
+                node,
+                answered,
+                block: Some(block),
+            })?;
         }
     }
     Ok(())
 }
 
-// Whose the calls of a line are, as `node 0`, `node 1 after 2`, or of a replay `node 1 after 0 behind 1`, where each call adds an item.
-fn line_of(whose: &str) -> Result<Line> {
+// Adds the calls of a line, as `node 0: BLOCKS` or `node 1 after 2: BLOCKS`.
+fn add_line(calls: &mut Vec<Call>, image: &Image, line: &str) -> Result<()> {
+    let (whose, blocks) = line.split_once(": ").context("a sweep without blocks")?;
     let whose = whose
         .strip_prefix("node ")
         .context("a sweep without a node")?;
-    let (whose, items) = match whose.split_once(" behind ") {
-        Some((whose, items)) => (
-            whose,
-            Some(number_word(items).context("no number of items")?),
-        ),
-        None => (whose, None),
-    };
-    let (node, printed) = whose.split_once(" after ").unwrap_or((whose, "0"));
+    let (node, answered) = whose.split_once(" after ").unwrap_or((whose, "0"));
     let node = number_word(node).context("no node")?;
-    let printed = number_word(printed).context("no number of lines")?;
-    let (answered, items, step) = match items {
-        Some(items) => (0, items, 1),
-        None => (printed, printed.saturating_add(1), 0),
-    };
-    Ok(Line {
-        next: Before {
-            node,
-            printed,
-            answered,
-            items,
-        },
-        step,
-    })
-}
-
-// Adds the calls of a line, as `node 0: BLOCKS`.
-fn add_line(calls: &mut Vec<Call>, image: &Image, line: &str) -> Result<()> {
-    let (whose, blocks) = line.split_once(": ").context("a sweep without blocks")?;
-    let mut line = line_of(whose)?;
+    let answered = number_word(answered).context("no number of lines")?;
     for word in blocks.split(' ') {
-        add_word(calls, image, &mut line, word)?;
+        add_word(calls, image, node, answered, word)?;
     }
     Ok(())
 }
@@ -113,7 +78,7 @@ fn put_front(out: &mut Vec<u8>, text: &[u8], count: u64) -> Result<()> {
 }
 
 fn fault_line(alloc: Global, call: &Call) -> Result<String> {
-    let node = call.before.node;
+    let node = call.node;
     match call.block {
         Some(block) => Ok(format!(in alloc;
             "device fault: node {node} block {block} count 0 to 1\n"
@@ -126,19 +91,22 @@ fn all_of(bytes: Vec<u8>) -> Text {
     Text { bytes, least: None }
 }
 
-// What is left where this call fails: before a node's first call only the fault is told, and then also what was answered or replayed.
+// What is left where this call fails: before a node's first call only the fault is told, and then also what was answered.
 fn wanted_at(alloc: Global, whole: &Wanted, call: &Call) -> Result<Wanted> {
     let mut out = Vec::new(alloc);
     let mut trace = Vec::new(alloc);
-    let before = call.before;
-    if before.node > 0 {
-        put_front(&mut out, &whole.out.bytes, before.printed)?;
+    if call.node > 0 {
+        put_front(&mut out, &whole.out.bytes, call.answered)?;
         let counts = format!(in alloc;
             "calls {} lost 0 commits 0 crashes 0 dirty 0\n",
-            before.answered
+            call.answered
         )?;
         out.extend_from_slice(counts.as_bytes())?;
-        put_front(&mut trace, &whole.trace.bytes, before.items)?;
+        put_front(
+            &mut trace,
+            &whole.trace.bytes,
+            call.answered.saturating_add(1),
+        )?;
     }
     out.extend_from_slice(fault_line(alloc, call)?.as_bytes())?;
     Ok(Wanted {
