@@ -1,10 +1,10 @@
 -- What reading the tree of a mounted image answers, by what its replay does.
 use Rattle.std.proofs.Common.{◌≡◌, ◌<◌, ◌≤◌, ℕ, List, Ok, Err, IsTrue, sym, ap, subst, ◌∙◌, arith}
-use Rattle.std.specs.Prelude.{Result, IfErr}
+use Rattle.std.specs.Prelude.{Result, IfErr, IfOk}
 use Rattle.fault_counts.specs.Causes.{WentUp}
 use Rattle.file_tree.specs.Tree.{Tree}
 use Rattle.image_model.specs.Image.{Image, image_of}
-use Rattle.image_model.specs.Replays.{Replayed, StandsReplayed}
+use Rattle.image_model.specs.Replays.{IsReplayable, Replayed, StandsReplayed}
 use Rattle.image_model.specs.Rules.{IsBrokenBlock}
 use Rattle.image_model.specs.Stands.{Layout, Stands}
 use Rattle.image_model.proofs.Replaying.{one_replay, replayed_by_any}
@@ -53,6 +53,13 @@ stopped_cause count before now look.NoMemory cause = tt
 -- ---- the plans are there, and the tree was read, or wasn't
 
 module _ (d : DiskState) (m : MountedValue) (plans : List Plan) (are : IsTrue d.tells → (is : IsMounted (image_of d) m) → ArePlans (image_of d) is.layout plans) (r : Result Tree TreeFault) where
+  pub can_be_replayed : IfOk r (λ t. IsTrue d.tells → (is : IsMounted (image_of d) m) → IsReplayable (image_of d) is.layout)
+  can_be_replayed = by r
+    where
+      by : (x : Result Tree TreeFault) → IfOk x (λ t. IsTrue d.tells → (is : IsMounted (image_of d) m) → IsReplayable (image_of d) is.layout)
+      by (Ok t) = λ tells is. (are tells is).replayed.replayable
+      by (Err f) = tt
+
   read_gives : (IsTrue d.tells → (t : Tree) → Stands (put_over (image_of d) plans) t → GivesTree t r) → IsTrue d.tells → IsMounted (image_of d) m → (t : Tree) → StandsReplayed (image_of d) t → GivesTree t r
   read_gives gives tells is t s =
       gives tells t (subst (λ im. Stands im t) (one_replay (image_of d) s.replayed (put_over (image_of d) plans) is.layout is.layout (by_layout (image_of d) m is t s) (are tells is).replayed) s.stands)

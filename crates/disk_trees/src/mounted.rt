@@ -1,10 +1,10 @@
-ghost use Rattle.std.specs.Prelude.{◌≡◌, IfErr, IsTrue};
+ghost use Rattle.std.specs.Prelude.{◌≡◌, IfErr, IfOk, IsTrue};
 ghost use Rattle.file_tree.specs.Tree.{Tree};
 ghost use Rattle.disk_trees.specs.Answers.{GivesTree, HasCause, IfDamaged, fault_of_look};
 ghost use Rattle.disk_trees.specs.Reading.{IsUnreadable};
 ghost use Rattle.gfs2_layout.specs.Device.{IsBlockSize};
 ghost use Rattle.image_model.specs.Image.{image_of};
-ghost use Rattle.image_model.specs.Replays.{StandsReplayed};
+ghost use Rattle.image_model.specs.Replays.{IsReplayable, StandsReplayed};
 ghost use Rattle.image_replays.specs.MountedImages.{IsMounted};
 ghost use Rattle.shared_disk.specs.Disk.{IsIdle, ReadsOnly};
 
@@ -37,6 +37,8 @@ pub fn read_mounted_tree<D: SharedDisk>(
     requires size { IsBlockSize (D.state disk.old).size }
     // Of an image that stands for a tree, its journals replayed, exactly that one, or what lies outside of the image.
     ensures stands { IsTrue (D.state disk.old).tells → IsMounted (image_of (D.state disk.old)) mounted.now → (t : Tree) → StandsReplayed (image_of (D.state disk.old)) t → GivesTree t result }
+    // Where there is a tree the journals can be replayed.
+    ensures replayable { IfOk result (λ t. IsTrue (D.state disk.old).tells → (is : IsMounted (image_of (D.state disk.old)) mounted.now) → IsReplayable (image_of (D.state disk.old)) is.layout) }
     // A block that is told stops the replay, or breaks the rule once the journals are replayed, where nothing lies behind the device's end.
     ensures damaged { IfErr result (λ fault. IsTrue (D.state disk.old).tells → (is : IsMounted (image_of (D.state disk.old)) mounted.now)
         → IfDamaged fault (IsUnreadable (image_of (D.state disk.old)) is.layout)) }

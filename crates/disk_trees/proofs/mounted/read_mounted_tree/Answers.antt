@@ -6,7 +6,7 @@ use Rattle.image_model.specs.Replays.{StandsReplayed}
 use Rattle.image_replays.specs.MountedImages.{IsMounted}
 use Rattle.disk_trees.specs.Answers.{GivesTree, HasCause, IfDamaged}
 use Rattle.disk_trees.specs.Reading.{IsUnreadable}
-use Rattle.disk_trees.proofs.OfMounted.{stopped_gives, stopped_tells, stopped_cause, gives_read, tells_read, read_cause}
+use Rattle.disk_trees.proofs.OfMounted.{can_be_replayed, stopped_gives, stopped_tells, stopped_cause, gives_read, tells_read, read_cause}
 use Rattle.disk_trees.proofs.mounted.read_mounted_tree.Goals as goal
 
 -- ---- the replay is stopped
@@ -35,6 +35,9 @@ pub returns-clause-stands : goal.returns-clause-stands
 returns-clause-stands g c =
     gives_read (g.D.SharedDisk.state c.args.disk.now) (g.D.SharedDisk.state c.plan_replay.new.disk) c.in-Ok.ensures.reads.same c.args.mounted.now c.in-Ok.plans.items c.deref.result.now c.deref.ensures.value c.in-Ok.ensures.plans
     c.read_replayed_tree.result c.read_replayed_tree.ensures.stands
+
+pub returns-clause-replayable : goal.returns-clause-replayable
+returns-clause-replayable g c = can_be_replayed (g.D.SharedDisk.state c.args.disk.now) c.args.mounted.now c.in-Ok.plans.items c.in-Ok.ensures.plans c.read_replayed_tree.result
 
 pub returns-clause-damaged : goal.returns-clause-damaged
 returns-clause-damaged g c =
