@@ -16,7 +16,7 @@ use Rattle.image_replays.proofs.System.{its_journals}
 use Rattle.image_replays.specs.Laws.{StoppedAreNotReplayed}
 use Rattle.image_replays.specs.Looks as looks
 use Rattle.image_replays.specs.Replays as replays
-use Rattle.image_replays.specs.Replays.{HavePlaces, IsWritable, Stops}
+use Rattle.image_replays.specs.Replays.{Stops}
 use Rattle.image_replays.specs.look_faults.LookFault.{LookFault}
 use Rattle.image_replays.specs.look_faults.LookFault.TheVariants as look
 use Rattle.journal_replays.specs.Faults as replaying
@@ -88,8 +88,7 @@ module _ (first upto : Moment) (js : List Journal) (ps : List Plan) (begun : Lis
   pub so : (P : Moment → List Journal → List Plan → List TraceItem → Type 0) → P upto js ps begun → P first m.journals plans joined
   so P p = subst (λ t. P t m.journals plans joined) one (subst (λ j. P upto j plans joined) two (subst (λ q. P upto js q joined) three (subst (P upto js ps) four p)))
 
-  module _ (can : PlannedCanBeReplayed) (leaves : ReplayLeaves) (idle : IsIdle first.disk) (size : IsBlockSize first.disk.size) (on : IsMountedOn first.disk m) (on_so : IsMountedReplayed first.disk m) (planned : ArePlansOf first.disk m plans)
-      (writable : AllByRecursion (IsWritable first.disk) plans) (places : HavePlaces first.disk m.journals plans) where
+  module _ (can : PlannedCanBeReplayed) (leaves : ReplayLeaves) (idle : IsIdle first.disk) (size : IsBlockSize first.disk.size) (on : IsMountedOn first.disk m) (on_so : IsMountedReplayed first.disk m) (planned : ArePlansOf first.disk m plans) where
     pub has_begun : (after : Moment) (time : ℕ) (items : List TraceItem) (view : Lone) → view ≡ as_mounted upto.disk m → IsOn upto.disk view → HasRootInside (seen_alone view) → HaveReplayed 1 time upto after js ps begun items
         → AreHeadersRead upto.disk.size time js ps → IsIdle after.disk → IsSameDisk upto.disk after.disk → HasBegun first after time items view
     has_begun after time items view is seen root have headers idle_after same =
@@ -108,7 +107,7 @@ module _ (first upto : Moment) (js : List Journal) (ps : List Plan) (begun : Lis
           planned = planned;
           replays = replays;
           begun = begun_by time first after m.journals plans items replays;
-          left = λ tells is. leaves 1 time first after m plans joined items tells idle size is (planned tells is) (can first.disk m.journals plans writable places) read replays;
+          left = λ tells is. leaves 1 time first after m plans joined items tells idle size is (planned.are tells is) (can first.disk m.journals plans planned.writable planned.headers) read replays;
           same = same_first;
           idle = idle_after;
         }

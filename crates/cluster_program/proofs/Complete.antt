@@ -73,7 +73,7 @@ module _ (words : List (List ℕ)) (given left : Inputs) (sinks sinks_now : Outp
   of_mount may own LacksRoom = inr refl
 
   of_show : IsMountable given.disk → (lines : List ℕ) (own : Status) → Shows given.disk given.disk_faults left.disk_faults lines own → IsWhole own
-  of_show may lines own (HasShown m tree lines' mounted is are) = inl refl
+  of_show may lines own (HasShown m tree lines' mounted can is are) = inl refl
   of_show may lines own (ShowsNone own' ends) = of_mount may own ends
   of_show may lines own (TreeFailed block x y clean up within) = absurd (none.disk 0 (rose (given.disk_faults 0) (left.disk_faults 0) x y up))
   of_show may lines own (TreeDamaged block rule why never) = absurd (never may.is.tells may.tree may.is.stands)

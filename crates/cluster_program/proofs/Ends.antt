@@ -62,7 +62,7 @@ module _ (given left : Inputs) (sinks sinks_now : Outputs) where
   begin_fault own (IsStopped block rule why never) = tt
 
   show_fault : (lines : List ℕ) (own : Status) → Shows given.disk given.disk_faults left.disk_faults lines own → FaultHasCause given left sinks sinks_now own
-  show_fault lines own (HasShown m tree lines' mounted is are) = tt
+  show_fault lines own (HasShown m tree lines' mounted can is are) = tt
   show_fault lines own (ShowsNone own' ends) = mount_fault own ends
   show_fault lines own (TreeFailed block x y clean up within) = up
   show_fault lines own (TreeDamaged block rule why never) = tt

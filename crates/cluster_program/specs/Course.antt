@@ -22,6 +22,7 @@ use Rattle.mkgfs2_tool.specs.Order.{fits, IsNeeded}
 use Rattle.mkgfs2_tool.specs.Outcomes.{IsBegun, IsMade}
 use Rattle.shared_disk.specs.Disk.{DiskState}
 use Rattle.image_model.specs.Image.{Image}
+use Rattle.image_model.specs.Replays as replays
 use Rattle.disk_trees.specs.Reading.{IsUnreadable}
 use Rattle.image_mount.specs.Mounted.{IsMounted, Journal, MountedValue}
 use Rattle.show_text.specs.Show.{journal_lines, tree_lines}
@@ -130,11 +131,15 @@ pub record IsUnreadableAt (im : Image) (b rule : ℕ) : Type 0 where
   pub mounted : IsMounted im value
   pub why : IsUnreadable im mounted.layout b rule
 
--- What `show` prints, and how it ends: the image was mounted; a line for each of its journals, clean or not, and behind these the lines of a tree, which is that for
--- which the image stands, its journals replayed, if it stands for one; or nothing, since the image was not mounted, or there was no memory, or, of an image that was
+-- what was mounted has journals that can be replayed
+abbrev pub HasReplayableJournals : DiskState → MountedValue → Type 0
+HasReplayableJournals disk m = OfImage disk (λ im. (is : IsMounted im m) → replays.IsReplayable im is.layout)
+
+-- What `show` prints, and how it ends: the image was mounted, and its journals can be replayed; a line for each of them, clean or not, and behind these the lines of a tree,
+-- which is that for which the image stands, its journals replayed, if it stands for one; or nothing, since the image was not mounted, or there was no memory, or, of an image that was
 -- mounted, the disk failed at one of its blocks, or a block stops the replay of its journals or breaks a rule once they are replayed.
 pub data Shows (disk : DiskState) (faults faults_now : ℕ → ℕ) : List ℕ → Status → Type 0 where
-  HasShown : (m : MountedValue) (tree : Tree) (lines : List ℕ) → IsMountedOn disk m → ((t : Tree) → IsImageOf disk t → tree ≡ t)
+  HasShown : (m : MountedValue) (tree : Tree) (lines : List ℕ) → IsMountedOn disk m → HasReplayableJournals disk m → ((t : Tree) → IsImageOf disk t → tree ≡ t)
       → lines ≡ journal_lines 0 (clean_of m) ++ tree_lines [] tree → Shows disk faults faults_now lines status.Done
   ShowsNone : (own : Status) → MountEnds disk faults faults_now own → Shows disk faults faults_now [] own
   TreeFailed : (block x y : ℕ) → OfImage disk HasMounted → WentUp (faults 0) (faults_now 0) x y → block < disk.count

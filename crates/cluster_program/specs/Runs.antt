@@ -1,6 +1,7 @@
 -- How a run of a script goes, and how it ends.
 use Rattle.std.specs.Prelude.{ℕ, ◌≡◌, ◌≢◌, ◌+◌, ◌<◌, ⊤, true, IfSome, IsSome, IsTrue, List, [], ◌∷◌, ◌++◌, length, slice_get, Option, None, Some}
 use Rattle.std.specs.FinMap.{empty}
+use Rattle.std.specs.List.{AllByRecursion}
 use Rattle.fault_counts.specs.Causes.{WentUp}
 use Rattle.drafts.specs.declared.change.Written.{Written}
 use Rattle.file_tree.specs.Tree.{Tree}
@@ -21,7 +22,7 @@ use Rattle.lone_view.specs.Seeing.{Lone, seen_alone}
 use Rattle.damage_laws.specs.Telling.{HasAstrayOn, HasRootInside}
 use Rattle.image_recovery.specs.Left.{HaveLowHeads, IsLeft}
 use Rattle.image_recovery.specs.Recoveries.{HaveFailed, HaveReplayed, HaveReplayedSome}
-use Rattle.image_replays.specs.Replays.{ArePlans}
+use Rattle.image_replays.specs.Replays.{ArePlans, HavePlaces, IsWritable}
 use Rattle.lone_node.specs.Answering.{IsDamagedOn, IsSameDisk, IsUnbuiltOn}
 use Rattle.lone_node.specs.Course.{IsCourse}
 use Rattle.lone_node.specs.Turns.{Moment, moment}
@@ -72,9 +73,12 @@ pub record MeetsDamage (given left : DiskState) (m : MountedValue) (block rule :
 
 -- ---- the replay with which a run begins
 
--- these are the plans of the journals of what was mounted
-abbrev pub ArePlansOf : DiskState → MountedValue → List Plan → Type 0
-ArePlansOf disk m plans = OfImage disk (λ im. (is : IsMounted im m) → ArePlans im is.layout plans)
+-- These are the plans of the journals of what was mounted: where the disk tells its blocks, each puts what is live in its journal into its place. On every disk each
+-- writes whole blocks, each once, by rising number, and its header, where it has one, at a place of its journal.
+pub record ArePlansOf (disk : DiskState) (m : MountedValue) (plans : List Plan) : Type 0 where
+  pub are : OfImage disk (λ im. (is : IsMounted im m) → ArePlans im is.layout plans)
+  pub writable : AllByRecursion (IsWritable disk) plans
+  pub headers : HavePlaces disk m.journals plans
 
 -- the item that stands before those of the replay
 abbrev pub joined : List TraceItem

@@ -1,9 +1,7 @@
 use Rattle.std.proofs.Common.{◌≡◌, ℕ, ◌≤◌, None, Some, sym, ◌∙◌, subst, arith}
 use Rattle.lone_node.specs.Turns.{moment}
 use Rattle.shared_disk.specs.Disk.{DiskState}
-use Rattle.std.specs.List.{AllByRecursion}
 use Rattle.image_recovery.specs.Recoveries.{HaveFailed, HaveReplayedSome}
-use Rattle.image_replays.specs.Replays.{HavePlaces, IsWritable}
 use Rattle.journal_replays.specs.Faults as replaying
 use Rattle.cluster_program.specs.Beginning.{HasBegun}
 use Rattle.cluster_program.specs.Mounting.{BeginEnds, LacksRoom, MountEnds, NotMounted}
@@ -71,11 +69,10 @@ module _ (g : Over) (c : goal.After-drop-plans-in-Ok-replay_journals g) where
 
   is_begun : HasBegun (moment d (g.D.SharedDisk.list c.args.disk.now)) (moment (g.D.SharedDisk.state c.replay_journals.new.disk) (g.D.SharedDisk.list c.replay_journals.new.disk)) c.args.time c.replay_journals.new.items.items c.in-Ok-ready_of.ready.view
   is_begun =
-      let planned = subst (λ (x : DiskState). ArePlansOf x c.in-Ok.mounted c.in-Ok-plan_replay.plans.items) c.in-Ok.ensures.reads.same c.in-Ok-plan_replay.ensures.plans in
-      let writable = subst (λ (x : DiskState). AllByRecursion (IsWritable x) c.in-Ok-plan_replay.plans.items) c.in-Ok.ensures.reads.same c.in-Ok-plan_replay.ensures.writable in
-      let places = subst (λ (x : DiskState). HavePlaces x c.in-Ok.mounted.journals c.in-Ok-plan_replay.plans.items) c.in-Ok.ensures.reads.same c.in-Ok-plan_replay.ensures.headers in
+      let planned = subst (λ (x : DiskState). ArePlansOf x c.in-Ok.mounted c.in-Ok-plan_replay.plans.items) c.in-Ok.ensures.reads.same
+      (record { are = c.in-Ok-plan_replay.ensures.plans; writable = c.in-Ok-plan_replay.ensures.writable; headers = c.in-Ok-plan_replay.ensures.headers }) in
       has_begun (moment d (g.D.SharedDisk.list c.args.disk.now)) _ c.deref.result.now c.deref-2.result.now c.join.new.items.items c.in-Ok.mounted c.in-Ok-plan_replay.plans.items upto_is (c.deref.ensures.value ∙ c.in-Ok-ready_of.ensures.journals) c.deref-2.ensures.value c.in-Ok-join.ensures.joined
-      c.planned_replays_can_be_made.ensures c.a_replay_leaves_its_image.ensures c.requires.idle c.requires.size c.in-Ok.ensures.mounted c.in-Ok.ensures.replayed planned writable places
+      c.planned_replays_can_be_made.ensures c.a_replay_leaves_its_image.ensures c.requires.idle c.requires.size c.in-Ok.ensures.mounted c.in-Ok.ensures.replayed planned
       (moment (g.D.SharedDisk.state c.replay_journals.new.disk) (g.D.SharedDisk.list c.replay_journals.new.disk)) c.args.time c.replay_journals.new.items.items c.in-Ok-ready_of.ready.view c.in-Ok-ready_of.ensures.view c.in-Ok-ready_of.ensures.on c.in-Ok-ready_of.ensures.root
       c.in-Ok-replay_journals.ensures.replayed c.in-Ok-replay_journals.ensures.headers c.in-Ok-replay_journals.ensures.idle
       (record { size = c.in-Ok-replay_journals.ensures.disk.size; count = c.in-Ok-replay_journals.ensures.disk.count; tells = c.in-Ok-replay_journals.ensures.disk.tells; fenced = c.in-Ok-replay_journals.ensures.disk.fenced })
@@ -94,7 +91,8 @@ returns-clause-ends g c s left left_now failed failed_now =
     let after = moment (g.D.SharedDisk.state c.replay_journals.new.disk) (g.D.SharedDisk.list c.replay_journals.new.disk) in
     let upto_is : upto ≡ moment d (g.D.SharedDisk.list c.args.disk.now) = λ i. moment ((c.in-Ok-plan_replay.ensures.reads.same ∙ c.in-Ok.ensures.reads.same) i) ((c.in-Ok-plan_replay.ensures.reads.list ∙ c.in-Ok.ensures.reads.list) i) in
     let journals = c.deref.ensures.value ∙ c.in-Ok-ready_of.ensures.journals in
-    let planned = subst (λ (x : DiskState). ArePlansOf x m plans) c.in-Ok.ensures.reads.same c.in-Ok-plan_replay.ensures.plans in
+    let planned = subst (λ (x : DiskState). ArePlansOf x m plans) c.in-Ok.ensures.reads.same
+    (record { are = c.in-Ok-plan_replay.ensures.plans; writable = c.in-Ok-plan_replay.ensures.writable; headers = c.in-Ok-plan_replay.ensures.headers }) in
     let f = c.in-Err-replay_journals.fault in
     let cause = so (moment d (g.D.SharedDisk.list c.args.disk.now)) upto c.deref.result.now c.deref-2.result.now c.join.new.items.items m plans upto_is journals c.deref-2.ensures.value c.in-Ok-join.ensures.joined
     (λ t j q i. replaying.HasCause 1 t.disk.count (g.D.SharedDisk.faults c.plan_replay.new.disk) (g.D.SharedDisk.faults c.replay_journals.new.disk) f) c.in-Err-replay_journals.ensures.cause in
