@@ -12,8 +12,6 @@ mod paths;
 #[cfg(test)]
 mod readings;
 #[cfg(test)]
-mod refusals;
-#[cfg(test)]
 mod shown;
 #[cfg(test)]
 mod texts;

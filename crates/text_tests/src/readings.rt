@@ -2,7 +2,7 @@ ghost use Rattle.script_lang.specs.WellFormed.{IsWellFormed};
 
 // What scripts are read as, and which one node can run, worked out by hand from the grammar.
 use file_tree::{Call, Path, append_call};
-use script_lang::{Armed, Fate, Line, Script, first_foreign_line, parse};
+use script_lang::{Armed, Fate, Line, Script, parse};
 use std::alloc::Global;
 use std::process::Abort;
 use std::test::Fail;
@@ -389,61 +389,5 @@ fn whole_script(rt: HostRuntime) {
     assert_eq!(&rt; script.lines.len(), KINDS.len());
     for (line, kind) in script.lines.iter().zip(&KINDS) {
         assert_eq!(&rt; kind_of_line(line), *kind);
-    }
-}
-
-// Scripts, and the first line that one node cannot run.
-const FOREIGN: [(&[u8], Option<u32>); 26] = [
-    (b"nodes 1\nclient c on 1", None),
-    (
-        b"nodes 1\nclient c on 1\nc: list /\nc: list /a\nc: read / 0 1\nwait\nwait\n",
-        None,
-    ),
-    (
-        b"nodes 1\nclient c on 1\nclient d on 1\nd: list /\nwait\nc: read /a 0 5\n",
-        None,
-    ),
-    (b"nodes 2\nclient c on 1", Some(1)),
-    (
-        b"nodes 2\nclient c on 2\ncrash 1 at 1 old\ncrash 1\n",
-        Some(1),
-    ),
-    (b"nodes 1\nclient c on 1\ncrash 1 at 1 old", Some(3)),
-    (
-        b"nodes 1\nclient c on 1\nclient d on 1\ncrash 1 at 1 old\nc: sync\n",
-        Some(4),
-    ),
-    (b"nodes 1\nclient c on 1\ncrash 1\n", Some(3)),
-    (b"nodes 1\nclient c on 1\ncrash all\n", Some(3)),
-    (b"nodes 1\nclient c on 1\njoin 1\n", Some(3)),
-    (b"nodes 1\nclient c on 1\nwait\njoin 1\nc: sync\n", Some(4)),
-    (
-        b"nodes 1\nclient c on 1\nwait\nc: rename /a /b\nc: dread /b 0 1\nwait\n",
-        Some(5),
-    ),
-    (
-        b"nodes 1\nclient c on 1\nclient d on 1\nd: sync\nc: dread / 0 1\n",
-        Some(5),
-    ),
-    (b"nodes 1\nclient c on 1\nc: list /a/b\n", None),
-    (b"nodes 1\nclient c on 1\nc: read /a/b 0 1\n", None),
-    (b"nodes 1\nclient c on 1\nc: dread / 0 1\n", Some(3)),
-    (b"nodes 1\nclient c on 1\nc: stat /\n", None),
-    (b"nodes 1\nclient c on 1\nc: create /a\n", None),
-    (b"nodes 1\nclient c on 1\nc: mkdir /a\n", None),
-    (b"nodes 1\nclient c on 1\nc: unlink /a\n", None),
-    (b"nodes 1\nclient c on 1\nc: rmdir /a\n", None),
-    (b"nodes 1\nclient c on 1\nc: write /a 0 00\n", None),
-    (b"nodes 1\nclient c on 1\nc: truncate /a 0\n", None),
-    (b"nodes 1\nclient c on 1\nc: rename /a /b\n", None),
-    (b"nodes 1\nclient c on 1\nc: sync\n", None),
-    (b"nodes 8\nclient c on 8\nc: list /\n", Some(1)),
-];
-
-#[test]
-fn foreign_lines(rt: HostRuntime) {
-    for (text, line) in &FOREIGN {
-        let script = script_of(&rt, rt.alloc(), text);
-        assert_eq!(&rt; first_foreign_line(&script), *line);
     }
 }
