@@ -262,6 +262,13 @@ def whole():
     final[second * SIZE : (second + 1) * SIZE] = plain(SIZE, 0x63)
     yield row.shows(final, row.all_of(0, one), row.all_of(1, two))
 
+    row = Row("a header that a replay writes has its journal's number", "two_journals")
+    row.journals[1].jid = 7
+    final = after(row.data(), "create /f", "write /f 0 68656c6c6f")
+    at = row.journals[1].write(1, 2, 1, **changed(row.data(), final))
+    lines = (f"  holds journal1.place{at} jid 7", f"  holds journal1.place{at + 1} jid 1", f"  holds journal1.place{at + 1} flags 1")
+    yield row.shows(final, None, row.all_of(1, at)) + "".join(it + "\n" for it in lines)
+
 
 def runs():
     row = Row("a run answers by what the journal says")

@@ -28,18 +28,18 @@ front_of : (h : LogHeader) (zero : Bool) → HasFront (if zero then record h { l
 front_of h true = record { sequence = refl; clean = refl; blkno = refl }
 front_of h false = record { sequence = refl; clean = refl; blkno = refl }
 
-module _ (ring ring' : Ring) (head : LogHeader) (block dinode time : ℕ) (headed : head_in ring ≡ Some head) (low : head.sequence + 1 < 2 ^ 64) where
+module _ (ring ring' : Ring) (head : LogHeader) (block slot dinode time : ℕ) (headed : head_in ring ≡ Some head) (low : head.sequence + 1 < 2 ^ 64) where
   abbrev header : LogHeader
   header = clean_after ring.places head
 
   abbrev bytes : List ℕ
-  bytes = (clean_block ring.size block dinode time header).bytes
+  bytes = (clean_block ring.size block slot dinode time header).bytes
 
   abbrev read : LogHeader
-  read = as_read (filled block dinode time header) bytes
+  read = as_read (filled block slot dinode time header) bytes
 
-  front : HasFront read (filled block dinode time header)
-  front = front_of (filled block dinode time header) (u32_at 48 bytes == 0)
+  front : HasFront read (filled block slot dinode time header)
+  front = front_of (filled block slot dinode time header) (u32_at 48 bytes == 0)
 
   sequence_is : sequence_after head.sequence ≡ head.sequence + 1
   sequence_is = mod_small (head.sequence + 1) low
@@ -75,4 +75,4 @@ module _ (ring ring' : Ring) (head : LogHeader) (block dinode time : ℕ) (heade
     ended = record { headed = head_now; clean = (read, head_now, front.clean); nothing = nothing_live ring' (read, head_now, front.clean) }
 
 pub clean_headers_end : CleanHeadersEnd
-clean_headers_end ring ring' head block dinode time headed low reads put = ended ring ring' head block dinode time headed low reads put
+clean_headers_end ring ring' head block slot dinode time headed low reads put = ended ring ring' head block slot dinode time headed low reads put

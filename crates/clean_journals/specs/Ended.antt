@@ -23,7 +23,7 @@ pub record IsEndedBy (ring : Ring) (header : LogHeader) : Type 0 where
 -- The clean header behind a head whose sequence isn't the last one, written into its block, ends the journal, as it is read there.
 abbrev pub CleanHeadersEnd : Type 0
 CleanHeadersEnd =
-    (ring after : Ring) (head : LogHeader) (block dinode time : ℕ) → head_in ring ≡ Some head → head.sequence + 1 < 2 ^ 64
+    (ring after : Ring) (head : LogHeader) (block slot dinode time : ℕ) → head_in ring ≡ Some head → head.sequence + 1 < 2 ^ 64
     → let header = clean_after ring.places head in
-    let bytes = (clean_block ring.size block dinode time header).bytes in
-    log_read bytes ≡ Ok (as_read (filled block dinode time header) bytes) → HasPut ring after header.blkno bytes → IsEndedBy after (as_read (filled block dinode time header) bytes)
+    let bytes = (clean_block ring.size block slot dinode time header).bytes in
+    log_read bytes ≡ Ok (as_read (filled block slot dinode time header) bytes) → HasPut ring after header.blkno bytes → IsEndedBy after (as_read (filled block slot dinode time header) bytes)

@@ -90,10 +90,10 @@ module _ (first upto : Moment) (js : List Journal) (ps : List Plan) (begun : Lis
 
   module _ (can : PlannedCanBeReplayed) (leaves : ReplayLeaves) (idle : IsIdle first.disk) (size : IsBlockSize first.disk.size) (on : IsMountedOn first.disk m) (on_so : IsMountedReplayed first.disk m) (planned : ArePlansOf first.disk m plans) where
     pub has_begun : (after : Moment) (time : ℕ) (items : List TraceItem) (view : Lone) → view ≡ as_mounted upto.disk m → IsOn upto.disk view → HasRootInside (seen_alone view) → HaveReplayed 1 time upto after js ps begun items
-        → AreHeadersRead upto.disk.size time js ps → IsIdle after.disk → IsSameDisk upto.disk after.disk → HasBegun first after time items view
+        → AreHeadersRead upto.disk.size 1 time js ps → IsIdle after.disk → IsSameDisk upto.disk after.disk → HasBegun first after time items view
     has_begun after time items view is seen root have headers idle_after same =
         let replays = so (λ t j q i. HaveReplayed 1 time t after j q i items) have in
-        let read = so (λ t j q i. AreHeadersRead t.disk.size time j q) headers in
+        let read = so (λ t j q i. AreHeadersRead t.disk.size 1 time j q) headers in
         let same_first = subst (λ (t : Moment). IsSameDisk t.disk after.disk) one same in
         let view_is = subst (λ (t : Moment). view ≡ as_mounted t.disk m) one is in
         record {

@@ -73,17 +73,17 @@ match_some : {R : Type 0} (o : Option LogHeader) (P : LogHeader → Type 0) → 
 match_some None P f never = absurd never
 match_some (Some h) P f p = f h p
 
-of_stopped_by : (dinode : ℕ) (blocks : List ℕ) (time : ℕ) (before after : Moment) (p : Plan) (block : Option ℕ) (items : List TraceItem) → StopsReplayBy 1 dinode blocks time before after p block items → AllByRecursion IsOfReplay items
-of_stopped_by dinode blocks time before after p block items stops =
-    match_some p.clean (λ (header : LogHeader). StopsReplay 1 before after p.home.items (clean_block before.disk.size (get_or blocks header.blkno 0) dinode time header) block items)
-    (λ header so. of_stopped dinode blocks time before after p.home.items (clean_block before.disk.size (get_or blocks header.blkno 0) dinode time header) block items so) stops
+of_stopped_by : (slot dinode : ℕ) (blocks : List ℕ) (time : ℕ) (before after : Moment) (p : Plan) (block : Option ℕ) (items : List TraceItem) → StopsReplayBy 1 slot dinode blocks time before after p block items → AllByRecursion IsOfReplay items
+of_stopped_by slot dinode blocks time before after p block items stops =
+    match_some p.clean (λ (header : LogHeader). StopsReplay 1 before after p.home.items (clean_block before.disk.size (get_or blocks header.blkno 0) slot dinode time header) block items)
+    (λ header so. of_stopped dinode blocks time before after p.home.items (clean_block before.disk.size (get_or blocks header.blkno 0) slot dinode time header) block items so) stops
 
 pub begun_failed : (time : ℕ) (before after : Moment) (js : List Journal) (ps : List Plan) (items : List TraceItem) (block : Option ℕ) → HaveFailed 1 time before after js ps joined items block → IsBegun items
 begun_failed time before after js ps items block is = record {
   replays = is.replayed.added ++ is.failed.added;
   are = is.failed.are ∙ ap (λ (l : List TraceItem). l ++ is.failed.added) is.replayed.are ∙ append_assoc joined is.replayed.added is.failed.added;
   of_replay = all_join IsOfReplay is.replayed.added is.failed.added (of_replays 1 time before is.between (take is.count js) (take is.count ps) is.replayed.added is.replayed.replays)
-      (of_stopped_by is.journal.dinode is.journal.blocks time is.between after is.plan block is.failed.added is.failed.stopped);
+      (of_stopped_by (is.count + 1) is.journal.dinode is.journal.blocks time is.between after is.plan block is.failed.added is.failed.stopped);
 }
 
 -- ---- the lines that they give

@@ -56,24 +56,24 @@ front_of : (h : LogHeader) (zero : Bool) → HasFront (if zero then record h { l
 front_of h true = record { sequence = refl; clean = refl; blkno = refl }
 front_of h false = record { sequence = refl; clean = refl; blkno = refl }
 
-module _ (ring : Ring) (head : LogHeader) (block dinode time : ℕ) (headed : head_in ring ≡ Some head) (low : head.sequence + 1 < 2 ^ 64) (dirty : head.clean ≡ false) (readable : IsReadable ring)
-    (reads : log_read (clean_block ring.size block dinode time (clean_after ring.places head)).bytes
-    ≡ Ok (as_read (filled block dinode time (clean_after ring.places head)) (clean_block ring.size block dinode time (clean_after ring.places head)).bytes)) where
+module _ (ring : Ring) (head : LogHeader) (block slot dinode time : ℕ) (headed : head_in ring ≡ Some head) (low : head.sequence + 1 < 2 ^ 64) (dirty : head.clean ≡ false) (readable : IsReadable ring)
+    (reads : log_read (clean_block ring.size block slot dinode time (clean_after ring.places head)).bytes
+    ≡ Ok (as_read (filled block slot dinode time (clean_after ring.places head)) (clean_block ring.size block slot dinode time (clean_after ring.places head)).bytes)) where
   abbrev place : ℕ
   place = next ring.places head.blkno
 
   abbrev bytes : List ℕ
-  bytes = (clean_block ring.size block dinode time (clean_after ring.places head)).bytes
+  bytes = (clean_block ring.size block slot dinode time (clean_after ring.places head)).bytes
 
   abbrev header : LogHeader
-  header = as_read (filled block dinode time (clean_after ring.places head)) bytes
+  header = as_read (filled block slot dinode time (clean_after ring.places head)) bytes
 
-  front : HasFront header (filled block dinode time (clean_after ring.places head))
-  front = front_of (filled block dinode time (clean_after ring.places head)) (u32_at 48 bytes == 0)
+  front : HasFront header (filled block slot dinode time (clean_after ring.places head))
+  front = front_of (filled block slot dinode time (clean_after ring.places head)) (u32_at 48 bytes == 0)
 
   -- the header alone is in flight
   abbrev flying : InFlight
-  flying p = if p == next ring.places head.blkno then Some (clean_block ring.size block dinode time (clean_after ring.places head)).bytes else None
+  flying p = if p == next ring.places head.blkno then Some (clean_block ring.size block slot dinode time (clean_after ring.places head)).bytes else None
 
   sequence_is : sequence_after head.sequence ≡ head.sequence + 1
   sequence_is = mod_small (head.sequence + 1) low
@@ -111,7 +111,7 @@ module _ (ring : Ring) (head : LogHeader) (block dinode time : ℕ) (headed : he
 
   -- whatever became of it, the journal says what it said, or it is clean
   pub ends_or_stays : (x : ℕ → List ℕ) → ((p : ℕ) → p < ring.places → p ≢ next ring.places head.blkno → x p ≡ ring.at p) → length (x (next ring.places head.blkno)) ≡ ring.size
-      → ReadsAsEither (next ring.places head.blkno) (ring.at (next ring.places head.blkno)) (clean_block ring.size block dinode time (clean_after ring.places head)).bytes (x (next ring.places head.blkno))
+      → ReadsAsEither (next ring.places head.blkno) (ring.at (next ring.places head.blkno)) (clean_block ring.size block slot dinode time (clean_after ring.places head)).bytes (x (next ring.places head.blkno))
       → SaysAs (record { size = ring.size; places = ring.places; at = x }) ring ⊎ IsClean (record { size = ring.size; places = ring.places; at = x })
   ends_or_stays x others whole either = elim (outcomes_say_one ring flying (record { size = ring.size; places = ring.places; at = x }) may outcome) [
     | inl says ↦ inl says

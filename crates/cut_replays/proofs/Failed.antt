@@ -1,5 +1,5 @@
 -- The image that is left where the disk failed in the replay of a journal: what is common to all cases.
-use Rattle.std.proofs.Common.{◌≡◌, ◌≢◌, ◌⊎◌, ℕ, zero, suc, ◌<◌, false, true, List, [], ◌∷◌, length, take, get_or, Bool, Option, None, Some, refl, sym, ap, subst, ◌∙◌, inl, inr, arith}
+use Rattle.std.proofs.Common.{◌≡◌, ◌≢◌, ◌⊎◌, ℕ, zero, suc, ◌+◌, ◌<◌, false, true, List, [], ◌∷◌, length, take, get_or, Bool, Option, None, Some, refl, sym, ap, subst, subst₂, ◌∙◌, inl, inr, arith}
 use Rattle.std.specs.Prelude.{◌^◌, if◌then◌else◌, IsTrue, IfSome, slice_get, unwrap_or}
 use Rattle.std.proofs.lemmas.Bool.{cases_lt}
 use Rattle.disk_turns.specs.Turns.{Moment}
@@ -32,17 +32,19 @@ use Rattle.image_outcomes.specs.Outcomes.{IsLiveIn}
 use Rattle.cut_replays.proofs.Ending.{ends_or_stays}
 use Rattle.cut_replays.proofs.Stopped
 
-read_at : (size time : ℕ) (js : List Journal) (ps : List Plan) (i : ℕ) (j : Journal) (p : Plan) → AreHeadersRead size time js ps → slice_get js i ≡ Some j → slice_get ps i ≡ Some p
-    → IsHeaderRead size j.dinode j.blocks time p.clean
-read_at size time [] ps i j p read at_j at_p = absurd (none_some at_j)
-read_at size time (k ∷ js) [] i j p read at_j at_p = absurd (none_some at_p)
-read_at size time (k ∷ js) (q ∷ ps) zero j p read at_j at_p =
-    subst (λ (x : Journal). IsHeaderRead size x.dinode x.blocks time p.clean) (some_same at_j) (subst (λ (x : Plan). IsHeaderRead size k.dinode k.blocks time x.clean) (some_same at_p) read.0)
-read_at size time (k ∷ js) (q ∷ ps) (suc i) j p read at_j at_p = read_at size time js ps i j p read.1 at_j at_p
+read_at : (size slot time : ℕ) (js : List Journal) (ps : List Plan) (i : ℕ) (j : Journal) (p : Plan) → AreHeadersRead size slot time js ps → slice_get js i ≡ Some j → slice_get ps i ≡ Some p
+    → IsHeaderRead size (slot + i) j.dinode j.blocks time p.clean
+read_at size slot time [] ps i j p read at_j at_p = absurd (none_some at_j)
+read_at size slot time (k ∷ js) [] i j p read at_j at_p = absurd (none_some at_p)
+read_at size slot time (k ∷ js) (q ∷ ps) zero j p read at_j at_p =
+    subst₂ (λ (n : ℕ) (x : Journal). IsHeaderRead size n x.dinode x.blocks time p.clean) (let same : slot ≡ slot + 0 = omega arith in same) (some_same at_j)
+    (subst (λ (x : Plan). IsHeaderRead size slot k.dinode k.blocks time x.clean) (some_same at_p) read.0)
+read_at size slot time (k ∷ js) (q ∷ ps) (suc i) j p read at_j at_p =
+    subst (λ n. IsHeaderRead size n j.dinode j.blocks time p.clean) (let same : (slot + 1) + i ≡ slot + suc i = omega arith in same) (read_at size (slot + 1) time js ps i j p read.1 at_j at_p)
 
 module _ (given : HeadersReadBack) (node time n : ℕ) (before between : Moment) (m : MountedValue) (plans : List Plan) (added : List TraceItem) (tells : IsTrue before.disk.tells) (idle : IsIdle before.disk)
     (sized : IsBlockSize before.disk.size) (is : IsMounted (image_of before.disk) m) (are : ArePlans (image_of before.disk) is.layout plans) (can : CanReplayAll before.disk m.journals plans)
-    (read : AreHeadersRead before.disk.size time m.journals plans) (so : AreReplays node 1 time before (take n m.journals) (take n plans) between added) (journal : Journal) (plan : Plan)
+    (read : AreHeadersRead before.disk.size 1 time m.journals plans) (so : AreReplays node 1 time before (take n m.journals) (take n plans) between added) (journal : Journal) (plan : Plan)
     (at_journal : slice_get m.journals n ≡ Some journal) (at_plan : slice_get plans n ≡ Some plan) where
   abbrev pub im : Image
   im = image_of before.disk
@@ -190,7 +192,7 @@ module _ (given : HeadersReadBack) (node time n : ℕ) (before between : Moment)
     pub clean : plan.clean ≡ Some h
     pub others : (b : ℕ) → b ≢ get_or journal.blocks h.blkno 0 → x.at b ≡ unwrap_or (bytes_put plan b) (between.disk.block_at b)
     pub whole : length (x.at (get_or journal.blocks h.blkno 0)) ≡ before.disk.size
-    pub either : ReadsAsEither h.blkno (im.at (get_or journal.blocks h.blkno 0)) (clean_block before.disk.size (get_or journal.blocks h.blkno 0) journal.dinode time h).bytes
+    pub either : ReadsAsEither h.blkno (im.at (get_or journal.blocks h.blkno 0)) (clean_block before.disk.size (get_or journal.blocks h.blkno 0) (n + 1) journal.dinode time h).bytes
         (x.at (get_or journal.blocks h.blkno 0))
 
   head_of : (head : LogHeader) × (head_in (ring_at im its.0) ≡ Some head) × (plan.clean ≡ clean_header (ring_at im its.0).places head)
@@ -203,8 +205,9 @@ module _ (given : HeadersReadBack) (node time n : ℕ) (before between : Moment)
       by true e some = absurd (none_some some)
       by false e some = (e, some_same some)
 
-  header_read : (h : LogHeader) → plan.clean ≡ Some h → IsHeaderRead before.disk.size journal.dinode journal.blocks time (Some h)
-  header_read h clean = subst (IsHeaderRead before.disk.size journal.dinode journal.blocks time) clean (read_at before.disk.size time m.journals plans n journal plan read at_journal at_plan)
+  header_read : (h : LogHeader) → plan.clean ≡ Some h → IsHeaderRead before.disk.size (n + 1) journal.dinode journal.blocks time (Some h)
+  header_read h clean = subst (IsHeaderRead before.disk.size (n + 1) journal.dinode journal.blocks time) clean
+      (subst (λ k. IsHeaderRead before.disk.size k journal.dinode journal.blocks time plan.clean) (let same : 1 + n ≡ n + 1 = omega arith in same) (read_at before.disk.size 1 time m.journals plans n journal plan read at_journal at_plan))
 
   module _ (x : Image) (atp : IsAtHeader x (clean_after (ring_at im its.0).places head_of.0)) where
     abbrev H : LogHeader
@@ -233,9 +236,9 @@ module _ (given : HeadersReadBack) (node time n : ℕ) (before between : Moment)
     last_of_clean : SaysAs (ring_left im x its.0) (ring_at im its.0) ⊎ IsThrough im x its.0
     last_of_clean =
         let low : head_of.0.sequence < 2 ^ 63 = is.profile.sequence n its.0 head_of.0 its.1 head_of.1 in
-        elim (ends_or_stays (ring_at im its.0) head_of.0 hb journal.dinode time head_of.1 (omega (arith, low)) (header_is H atp.clean).0 (are.replayed.replayable.readable n its.0 its.1) (header_read H atp.clean)
+        elim (ends_or_stays (ring_at im its.0) head_of.0 hb (n + 1) journal.dinode time head_of.1 (omega (arith, low)) (header_is H atp.clean).0 (are.replayed.replayable.readable n its.0 its.1) (header_read H atp.clean)
         (λ p. x.at (content_block (every im its.0) p)) other_place (ap (λ c. length (x.at c)) (sym hb_is) ∙ atp.whole)
-        (subst (λ c. ReadsAsEither H.blkno (im.at c) (clean_block before.disk.size hb journal.dinode time H).bytes (x.at c)) hb_is atp.either)) [
+        (subst (λ c. ReadsAsEither H.blkno (im.at c) (clean_block before.disk.size hb (n + 1) journal.dinode time H).bytes (x.at c)) hb_is atp.either)) [
           | inl says ↦ inl says
           | inr clean ↦ inr (record { clean = clean; home = home_there })
         ]

@@ -127,7 +127,7 @@ module _ (node : ℕ) (before after : Moment) (blocks : List Written) (block : O
 
 module _ (given : HeadersReadBack) (node time n : ℕ) (before between : Moment) (m : MountedValue) (plans : List Plan) (added : List TraceItem) (tells : IsTrue before.disk.tells) (idle : IsIdle before.disk)
     (sized : IsBlockSize before.disk.size) (is : IsMounted (image_of before.disk) m) (are : ArePlans (image_of before.disk) is.layout plans) (can : CanReplayAll before.disk m.journals plans)
-    (read : AreHeadersRead before.disk.size time m.journals plans) (so : AreReplays node 1 time before (take n m.journals) (take n plans) between added) (journal : Journal) (plan : Plan)
+    (read : AreHeadersRead before.disk.size 1 time m.journals plans) (so : AreReplays node 1 time before (take n m.journals) (take n plans) between added) (journal : Journal) (plan : Plan)
     (at_journal : slice_get m.journals n ≡ Some journal) (at_plan : slice_get plans n ≡ Some plan) (first_whole : (b : ℕ) → b < before.disk.count → IsPlaceIn (image_of before.disk) is.layout b
     → length (before.disk.block_at b) ≡ before.disk.size) where
   abbrev im : Image
@@ -198,12 +198,12 @@ module _ (given : HeadersReadBack) (node time n : ℕ) (before between : Moment)
 
     module _ (no_false : NoFalseHeader (image_of after.disk) is.layout (flown_by after.disk node) left) (t : Tree) (stands : StandsReplayed im t) (h : LogHeader) (clean : plan.clean ≡ Some h) (mid : Moment)
         (homes : BringsTo node between mid plan.home.items) (tells' : IsTrue between.disk.tells) (tells'' : IsTrue mid.disk.tells) (block : Option ℕ)
-        (s : HasStopped node mid after (clean_block before.disk.size (get_or journal.blocks h.blkno 0) journal.dinode time h ∷ []) block) where
+        (s : HasStopped node mid after (clean_block before.disk.size (get_or journal.blocks h.blkno 0) (n + 1) journal.dinode time h ∷ []) block) where
       abbrev hb : ℕ
       hb = get_or journal.blocks h.blkno 0
 
       abbrev header : Written
-      header = clean_block before.disk.size (get_or journal.blocks h.blkno 0) journal.dinode time h
+      header = clean_block before.disk.size (get_or journal.blocks h.blkno 0) (n + 1) journal.dinode time h
 
       abbrev its_dinode : ℕ
       its_dinode = (Failed.its given node time n before between m plans added tells idle sized is are can read so journal plan at_journal at_plan).0
@@ -252,7 +252,7 @@ module _ (given : HeadersReadBack) (node time n : ℕ) (before between : Moment)
       ]
 
       bytes_long : length header.bytes ≡ before.disk.size
-      bytes_long = let large : 512 ≤ before.disk.size = size_large before.disk.size sized in header_long given before.disk.size hb journal.dinode time h (omega (arith, large))
+      bytes_long = let large : 512 ≤ before.disk.size = size_large before.disk.size sized in header_long given before.disk.size hb (n + 1) journal.dinode time h (omega (arith, large))
 
       inside : hb < before.disk.count
       inside = each (can_at before.disk m.journals plans n journal plan can at_journal at_plan).inside
@@ -341,7 +341,7 @@ tells_all node slot time before after (j ∷ js) (p ∷ ps) items (mid, first, l
 
 module _ (given : HeadersReadBack) (node time : ℕ) (before after : Moment) (m : MountedValue) (plans : List Plan) (items items' : List TraceItem) (block : Option ℕ) (left : Image) (t : Tree) (tells : IsTrue before.disk.tells)
     (idle : IsIdle before.disk) (sized : IsBlockSize before.disk.size) (is : IsMounted (image_of before.disk) m) (are : ArePlans (image_of before.disk) is.layout plans)
-    (can : CanReplayAll before.disk m.journals plans) (read : AreHeadersRead before.disk.size time m.journals plans) (f : HaveFailed node time before after m.journals plans items items' block)
+    (can : CanReplayAll before.disk m.journals plans) (read : AreHeadersRead before.disk.size 1 time m.journals plans) (f : HaveFailed node time before after m.journals plans items items' block)
     (stands : StandsReplayed (image_of before.disk) t) (outcome : IsImageOutcome (image_of after.disk) (flown_by after.disk node) left)
     (no_false : NoFalseHeader (image_of after.disk) is.layout (flown_by after.disk node) left) where
   first : (b : ℕ) → b < before.disk.count → IsPlaceIn (image_of before.disk) is.layout b → length (before.disk.block_at b) ≡ before.disk.size
@@ -356,7 +356,7 @@ module _ (given : HeadersReadBack) (node time : ℕ) (before after : Moment) (m 
   size_is : f.between.disk.size ≡ before.disk.size
   size_is = size_between given node time f.count before f.between m plans f.replayed.added tells idle sized is are can read f.replayed.replays f.journal f.plan f.at_journal f.at_plan first
 
-  in_replay : (h : LogHeader) → f.plan.clean ≡ Some h → StopsReplay node f.between after f.plan.home.items (clean_block before.disk.size (get_or f.journal.blocks h.blkno 0) f.journal.dinode time h) block f.failed.added
+  in_replay : (h : LogHeader) → f.plan.clean ≡ Some h → StopsReplay node f.between after f.plan.home.items (clean_block before.disk.size (get_or f.journal.blocks h.blkno 0) (f.count + 1) f.journal.dinode time h) block f.failed.added
       → IsCutShort (image_of before.disk) is.layout left
   in_replay h clean (at_home s) =
       failed_at_home given node time f.count before f.between m plans f.replayed.added tells idle sized is are can read f.replayed.replays f.journal f.plan f.at_journal f.at_plan first after left outcome block tells_between s.stopped
@@ -365,11 +365,11 @@ module _ (given : HeadersReadBack) (node time : ℕ) (before after : Moment) (m 
       clean mid homes tells_between (subst IsTrue (sym homes.written.tells) tells_between) block s.stopped
 
   cut : (o : Option LogHeader) → f.plan.clean ≡ o
-      → MatchOption o ⊥ (λ (h : LogHeader). StopsReplay node f.between after f.plan.home.items (clean_block f.between.disk.size (get_or f.journal.blocks h.blkno 0) f.journal.dinode time h) block f.failed.added)
+      → MatchOption o ⊥ (λ (h : LogHeader). StopsReplay node f.between after f.plan.home.items (clean_block f.between.disk.size (get_or f.journal.blocks h.blkno 0) (f.count + 1) f.journal.dinode time h) block f.failed.added)
       → IsCutShort (image_of before.disk) is.layout left
   cut None e x = absurd x
   cut (Some h) e x =
-      in_replay h e (subst (λ z. StopsReplay node f.between after f.plan.home.items (clean_block z (get_or f.journal.blocks h.blkno 0) f.journal.dinode time h) block f.failed.added) size_is x)
+      in_replay h e (subst (λ z. StopsReplay node f.between after f.plan.home.items (clean_block z (get_or f.journal.blocks h.blkno 0) (f.count + 1) f.journal.dinode time h) block f.failed.added) size_is x)
 
   stands_left : StandsReplayed left t
   stands_left = (cut_replays_stand (image_of before.disk) left is.layout t (its_journals (image_of before.disk) m is) stands (cut f.plan.clean refl f.failed.stopped)).1

@@ -70,11 +70,11 @@ can_take d (suc n) [] (p ∷ ps) can = absurd can
 can_take d (suc n) (j ∷ js) [] can = absurd can
 can_take d (suc n) (j ∷ js) (p ∷ ps) can = (can.0, can_take d n js ps can.1)
 
-read_take : (size time n : ℕ) (js : List Journal) (ps : List Plan) → AreHeadersRead size time js ps → AreHeadersRead size time (take n js) (take n ps)
-read_take size time zero js ps read = tt
-read_take size time (suc n) [] ps read = tt
-read_take size time (suc n) (j ∷ js) [] read = tt
-read_take size time (suc n) (j ∷ js) (p ∷ ps) read = (read.0, read_take size time n js ps read.1)
+read_take : (size slot time n : ℕ) (js : List Journal) (ps : List Plan) → AreHeadersRead size slot time js ps → AreHeadersRead size slot time (take n js) (take n ps)
+read_take size slot time zero js ps read = tt
+read_take size slot time (suc n) [] ps read = tt
+read_take size slot time (suc n) (j ∷ js) [] read = tt
+read_take size slot time (suc n) (j ∷ js) (p ∷ ps) read = (read.0, read_take size (slot + 1) time n js ps read.1)
 
 -- ---- the disk has as many blocks
 
@@ -134,7 +134,7 @@ clean_same r t same clean = (clean.0, sym (says_the_same r t same).head ∙ clea
 
 module _ (given : HeadersReadBack) (node time n : ℕ) (before after : Moment) (m : MountedValue) (plans : List Plan) (added : List TraceItem) (tells : IsTrue before.disk.tells) (idle : IsIdle before.disk)
     (sized : IsBlockSize before.disk.size) (is : IsMounted (image_of before.disk) m) (are : ArePlans (image_of before.disk) is.layout plans) (can : CanReplayAll before.disk m.journals plans)
-    (read : AreHeadersRead before.disk.size time m.journals plans) (so : AreReplays node 1 time before (take n m.journals) (take n plans) after added) where
+    (read : AreHeadersRead before.disk.size 1 time m.journals plans) (so : AreReplays node 1 time before (take n m.journals) (take n plans) after added) where
   abbrev pub im : Image
   im = image_of before.disk
 
@@ -176,8 +176,8 @@ module _ (given : HeadersReadBack) (node time n : ℕ) (before after : Moment) (
   pub places_all : HaveOwnPlaces m.journals plans
   places_all i j p at_j at_p = (can_at before.disk m.journals plans i j p can at_j at_p).place
 
-  ended : (i : ℕ) (j : Journal) (p : Plan) → slice_get js i ≡ Some j → slice_get ps i ≡ Some p → HasEnded before.disk after.disk node time j p
-  ended = replayed_have_ended node time before after js ps added tells (idle.none_in_flight node) can' theirs' apart' (read_take before.disk.size time n m.journals plans read) so
+  ended : (i : ℕ) (j : Journal) (p : Plan) → slice_get js i ≡ Some j → slice_get ps i ≡ Some p → HasEnded before.disk after.disk node (i + 1) time j p
+  ended = replayed_have_ended node time before after js ps added tells (idle.none_in_flight node) can' theirs' apart' (read_take before.disk.size 1 time n m.journals plans read) so
 
   left_is : (b : ℕ) → IsNoHeader b js ps → after.disk.block_at b ≡ unwrap_or (put_by ps b) (before.disk.block_at b)
   left_is = replayed_is_left node time before after js ps added tells theirs' once' so
@@ -274,7 +274,7 @@ module _ (given : HeadersReadBack) (node time n : ℕ) (before after : Moment) (
         let large : 512 ≤ before.disk.size = size_large before.disk.size sized in
         ap (λ c. length (after.disk.block_at c)) (sym h.block)
         ∙ ap length (header_all node time 1 before after js ps added tells places apart' so h.index h.journal h.plan h.header h.at_journal h.at_plan h.is)
-        ∙ header_long given before.disk.size (get_or h.journal.blocks h.header.blkno 0) h.journal.dinode time h.header (omega (arith, large))
+        ∙ header_long given before.disk.size (get_or h.journal.blocks h.header.blkno 0) (1 + h.index) h.journal.dinode time h.header (omega (arith, large))
     | inr off ↦ by off (put_by ps b) refl
   ]
     where

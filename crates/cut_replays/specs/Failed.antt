@@ -19,5 +19,5 @@ use Rattle.trace_text.specs.declared.item.TraceItem.{TraceItem}
 abbrev pub FailedReplaysStand : Type 0
 FailedReplaysStand = (node time : ℕ) (before after : Moment) (m : MountedValue) (plans : List Plan) (items items' : List TraceItem) (block : Option ℕ) (left : Image) (t : Tree) → IsTrue before.disk.tells
     → IsIdle before.disk → IsBlockSize before.disk.size → (is : IsMounted (image_of before.disk) m) → ArePlans (image_of before.disk) is.layout plans → CanReplayAll before.disk m.journals plans
-    → AreHeadersRead before.disk.size time m.journals plans → HaveFailed node time before after m.journals plans items items' block → StandsReplayed (image_of before.disk) t
+    → AreHeadersRead before.disk.size 1 time m.journals plans → HaveFailed node time before after m.journals plans items items' block → StandsReplayed (image_of before.disk) t
     → IsImageOutcome (image_of after.disk) (flown_by after.disk node) left → NoFalseHeader (image_of after.disk) is.layout (flown_by after.disk node) left → StandsReplayed left t

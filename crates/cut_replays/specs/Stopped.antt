@@ -17,4 +17,4 @@ use Rattle.trace_text.specs.declared.item.TraceItem.{TraceItem}
 abbrev pub StoppedReplaysStand : Type 0
 StoppedReplaysStand = (node time : ℕ) (before after : Moment) (m : MountedValue) (plans : List Plan) (items items' : List TraceItem) (t : Tree) → IsTrue before.disk.tells → IsIdle before.disk
     → IsBlockSize before.disk.size → (is : IsMounted (image_of before.disk) m) → ArePlans (image_of before.disk) is.layout plans → CanReplayAll before.disk m.journals plans
-    → AreHeadersRead before.disk.size time m.journals plans → HaveReplayedSome node time before after m.journals plans items items' → StandsReplayed (image_of before.disk) t → StandsReplayed (image_of after.disk) t
+    → AreHeadersRead before.disk.size 1 time m.journals plans → HaveReplayedSome node time before after m.journals plans items items' → StandsReplayed (image_of before.disk) t → StandsReplayed (image_of after.disk) t

@@ -1,5 +1,5 @@
 -- What the journals say once all are replayed.
-use Rattle.std.proofs.Common.{◌≡◌, ◌≢◌, ℕ, zero, suc, ◌+◌, ◌<◌, ◌^◌, Bool, true, false, List, [], ◌∷◌, length, get_or, Option, None, Some, refl, sym, ap, subst, ◌∙◌, arith}
+use Rattle.std.proofs.Common.{◌≡◌, ◌≢◌, ℕ, zero, suc, ◌+◌, ◌<◌, ◌^◌, Bool, true, false, List, [], ◌∷◌, length, get_or, Option, None, Some, refl, sym, ap, subst, subst₂, ◌∙◌, arith}
 use Rattle.std.specs.Prelude.{◌==◌, IfSome, IsTrue, if◌then◌else◌, find, slice_get, unwrap_or}
 use Rattle.std.specs.Option.{option_map}
 use Rattle.std.proofs.lemmas.Bool.{cond-false, cond-true, eq-eqb, ne_eqb}
@@ -56,16 +56,16 @@ module _ (node slot dinode : ℕ) (blocks : List ℕ) (time : ℕ) (before after
   stays_one None items b tells none off is = ap (λ (m : Moment). m.disk.block_at b) is.0
   stays_one (Some h) items b tells none off is =
       is.headed.written.blocks_are (subst IsTrue (sym is.homes.written.tells) tells) b
-      ∙ ap (λ o. unwrap_or o (is.between.disk.block_at b)) (cond-false (get_or blocks h.blkno 0 == b) (Some (clean_block before.disk.size (get_or blocks h.blkno 0) dinode time h).bytes) None (ne_eqb (get_or blocks h.blkno 0) b off))
+      ∙ ap (λ o. unwrap_or o (is.between.disk.block_at b)) (cond-false (get_or blocks h.blkno 0 == b) (Some (clean_block before.disk.size (get_or blocks h.blkno 0) slot dinode time h).bytes) None (ne_eqb (get_or blocks h.blkno 0) b off))
       ∙ is.homes.written.blocks_are tells b ∙ ap (λ o. unwrap_or o (before.disk.block_at b)) none
 
   -- the block of the header has its bytes
   pub there_one : (h : LogHeader) (items : List TraceItem) → IsTrue before.disk.tells → IsReplayWith node slot dinode blocks time before after home (Some h) items
-      → after.disk.block_at (get_or blocks h.blkno 0) ≡ (clean_block before.disk.size (get_or blocks h.blkno 0) dinode time h).bytes
+      → after.disk.block_at (get_or blocks h.blkno 0) ≡ (clean_block before.disk.size (get_or blocks h.blkno 0) slot dinode time h).bytes
   there_one h items tells is =
       is.headed.written.blocks_are (subst IsTrue (sym is.homes.written.tells) tells) (get_or blocks h.blkno 0)
       ∙ ap (λ o. unwrap_or o (is.between.disk.block_at (get_or blocks h.blkno 0)))
-      (cond-true (get_or blocks h.blkno 0 == get_or blocks h.blkno 0) (Some (clean_block before.disk.size (get_or blocks h.blkno 0) dinode time h).bytes) None (eq-eqb (get_or blocks h.blkno 0) (get_or blocks h.blkno 0) refl))
+      (cond-true (get_or blocks h.blkno 0 == get_or blocks h.blkno 0) (Some (clean_block before.disk.size (get_or blocks h.blkno 0) slot dinode time h).bytes) None (eq-eqb (get_or blocks h.blkno 0) (get_or blocks h.blkno 0) refl))
 
   pub size_one : (c : Option LogHeader) (items : List TraceItem) → IsReplayWith node slot dinode blocks time before after home c items → after.disk.size ≡ before.disk.size
   size_one None items is = ap (λ (m : Moment). m.disk.size) is.0
@@ -99,8 +99,8 @@ plan_same r s p same is = record {
   clean = (is.clean.0, sym (says_the_same r s same).head ∙ is.clean.1, is.clean.2 ∙ ap (λ n. clean_header n is.clean.0) same.places);
 }
 
-ended_same : (c d d' : DiskState) (node time : ℕ) (j : Journal) (p : Plan) → HasSamePlaces (ring_read d node j.blocks) (ring_read d' node j.blocks) → HasEnded c d node time j p → HasEnded c d' node time j p
-ended_same c d d' node time j p same is =
+ended_same : (c d d' : DiskState) (node slot time : ℕ) (j : Journal) (p : Plan) → HasSamePlaces (ring_read d node j.blocks) (ring_read d' node j.blocks) → HasEnded c d node slot time j p → HasEnded c d' node slot time j p
+ended_same c d d' node slot time j p same is =
     let clean : IsClean (ring_read d' node j.blocks) = (is.clean.0, sym (says_the_same (ring_read d node j.blocks) (ring_read d' node j.blocks) same).head ∙ is.clean.1, is.clean.2) in
     record {
       clean = clean;
@@ -109,21 +109,21 @@ ended_same c d d' node time j p same is =
       sequence = λ head now headed ends. is.sequence head now headed ((says_the_same (ring_read d node j.blocks) (ring_read d' node j.blocks) same).head ∙ ends);
     }
 
-ended_from : (c c' d : DiskState) (node time : ℕ) (j : Journal) (p : Plan) → HasSamePlaces (ring_read c node j.blocks) (ring_read c' node j.blocks) → HasEnded c' d node time j p → HasEnded c d node time j p
-ended_from c c' d node time j p same is = record {
+ended_from : (c c' d : DiskState) (node slot time : ℕ) (j : Journal) (p : Plan) → HasSamePlaces (ring_read c node j.blocks) (ring_read c' node j.blocks) → HasEnded c' d node slot time j p → HasEnded c d node slot time j p
+ended_from c c' d node slot time j p same is = record {
   clean = is.clean;
   nothing = is.nothing;
   headed = λ head headed.
-      is.headed head (sym (says_the_same (ring_read c node j.blocks) (ring_read c' node j.blocks) same).head ∙ headed) ∙ ap (λ n. Some (head_left n time j p.clean head)) (sym same.size);
+      is.headed head (sym (says_the_same (ring_read c node j.blocks) (ring_read c' node j.blocks) same).head ∙ headed) ∙ ap (λ n. Some (head_left n slot time j p.clean head)) (sym same.size);
   sequence = λ head now headed. is.sequence head now (sym (says_the_same (ring_read c node j.blocks) (ring_read c' node j.blocks) same).head ∙ headed);
 }
 
 -- a journal that is left as it is
-ended_still : (d : DiskState) (node time : ℕ) (j : Journal) (p : Plan) → p.clean ≡ None → IsClean (ring_read d node j.blocks) → HasEnded d d node time j p
-ended_still d node time j p none clean = record {
+ended_still : (d : DiskState) (node slot time : ℕ) (j : Journal) (p : Plan) → p.clean ≡ None → IsClean (ring_read d node j.blocks) → HasEnded d d node slot time j p
+ended_still d node slot time j p none clean = record {
   clean = clean;
   nothing = nothing_live (ring_read d node j.blocks) clean;
-  headed = λ head headed. headed ∙ ap (λ c. Some (head_left d.size time j c head)) (sym none);
+  headed = λ head headed. headed ∙ ap (λ c. Some (head_left d.size slot time j c head)) (sym none);
   sequence = λ head now headed ends. let same : now ≡ head = some_is (sym ends ∙ headed) in let equal : now.sequence ≡ head.sequence = ap (λ (h : LogHeader). h.sequence) same in omega (arith, equal);
 }
 
@@ -144,12 +144,12 @@ module _ (node slot time : ℕ) (before after : Moment) (j : Journal) (p : Plan)
   -- of a journal whose head isn't clean
   ended_dirty : (head : LogHeader) → p.clean ≡ Some (clean_after (length j.blocks) head) → head_in (ring_read before.disk node j.blocks) ≡ Some head → next (length j.blocks) head.blkno < length j.blocks
       → IsReplayWith node slot j.dinode j.blocks time before after p.home.items (Some (clean_after (length j.blocks) head)) items
-      → IsHeaderRead before.disk.size j.dinode j.blocks time (Some (clean_after (length j.blocks) head)) → HasEnded before.disk after.disk node time j p
+      → IsHeaderRead before.disk.size slot j.dinode j.blocks time (Some (clean_after (length j.blocks) head)) → HasEnded before.disk after.disk node slot time j p
   ended_dirty head own_header headed inside is read =
       let header = clean_after (length j.blocks) head in
       let block = get_or j.blocks header.blkno 0 in
       let idle' = idle_one node slot j.dinode j.blocks time before after p.home.items (Some header) items idle is in
-      let put : HasPut (ring_read before.disk node j.blocks) (ring_read after.disk node j.blocks) header.blkno (clean_block before.disk.size block j.dinode time header).bytes
+      let put : HasPut (ring_read before.disk node j.blocks) (ring_read after.disk node j.blocks) header.blkno (clean_block before.disk.size block slot j.dinode time header).bytes
       = record {
         size = size_one node slot j.dinode j.blocks time before after p.home.items (Some header) items is;
         places = refl;
@@ -160,35 +160,35 @@ module _ (node slot time : ℕ) (before after : Moment) (j : Journal) (p : Plan)
             (λ same. off (own q header.blkno below inside (sym same))) is
             ∙ sym (read_is before.disk node (get_or j.blocks q 0) idle);
       } in
-      let ended = clean_headers_end (ring_read before.disk node j.blocks) (ring_read after.disk node j.blocks) head block j.dinode time headed (low head headed) read put in
+      let ended = clean_headers_end (ring_read before.disk node j.blocks) (ring_read after.disk node j.blocks) head block slot j.dinode time headed (low head headed) read put in
       record {
         clean = ended.clean;
         nothing = ended.nothing;
-        headed = λ first headed'. ended.headed ∙ ap (λ c. Some (head_left before.disk.size time j c first)) (sym own_header);
+        headed = λ first headed'. ended.headed ∙ ap (λ c. Some (head_left before.disk.size slot time j c first)) (sym own_header);
         sequence = λ first now headed' ends.
             let old : first ≡ head = some_is (sym headed' ∙ headed) in
-            let new : now ≡ as_read (filled block j.dinode time header) (clean_block before.disk.size block j.dinode time header).bytes = some_is (sym ends ∙ ended.headed) in
+            let new : now ≡ as_read (filled block slot j.dinode time header) (clean_block before.disk.size block slot j.dinode time header).bytes = some_is (sym ends ∙ ended.headed) in
             let was : first.sequence ≡ head.sequence = ap (λ (h : LogHeader). h.sequence) old in
             let is_now : now.sequence ≡ sequence_after head.sequence
-            = ap (λ (h : LogHeader). h.sequence) new ∙ read_sequence (filled block j.dinode time header) (clean_block before.disk.size block j.dinode time header).bytes in
+            = ap (λ (h : LogHeader). h.sequence) new ∙ read_sequence (filled block slot j.dinode time header) (clean_block before.disk.size block slot j.dinode time header).bytes in
             let next = mod-le (head.sequence + 1) (2 ^ 64) in
             omega (arith, was, is_now, next);
       }
 
   ended_by : (head : LogHeader) (clean : Bool) → head.clean ≡ clean → head_in (ring_read before.disk node j.blocks) ≡ Some head → (c : Option LogHeader) → p.clean ≡ c → c ≡ (if clean then None else Some (clean_after (length j.blocks) head))
-      → IfSome c (λ (h : LogHeader). h.blkno < length j.blocks) → IsReplayWith node slot j.dinode j.blocks time before after p.home.items c items → IsHeaderRead before.disk.size j.dinode j.blocks time c
-      → HasEnded before.disk after.disk node time j p
+      → IfSome c (λ (h : LogHeader). h.blkno < length j.blocks) → IsReplayWith node slot j.dinode j.blocks time before after p.home.items c items → IsHeaderRead before.disk.size slot j.dinode j.blocks time c
+      → HasEnded before.disk after.disk node slot time j p
   ended_by head true is_clean headed c own_c c_is inside is read =
       let same = (subst (λ (o : Option LogHeader). IsReplayWith node slot j.dinode j.blocks time before after p.home.items o items) c_is is).0 in
       let clean : IsClean (ring_read before.disk node j.blocks) = (head, headed, is_clean) in
-      subst (λ (m : Moment). HasEnded before.disk m.disk node time j p) (sym same) (ended_still before.disk node time j p (own_c ∙ c_is) clean)
+      subst (λ (m : Moment). HasEnded before.disk m.disk node slot time j p) (sym same) (ended_still before.disk node slot time j p (own_c ∙ c_is) clean)
   ended_by head false is_clean headed c own_c c_is inside is read =
       ended_dirty head (own_c ∙ c_is) headed (subst (λ (o : Option LogHeader). IfSome o (λ (h : LogHeader). h.blkno < length j.blocks)) c_is inside)
       (subst (λ (o : Option LogHeader). IsReplayWith node slot j.dinode j.blocks time before after p.home.items o items) c_is is)
-      (subst (IsHeaderRead before.disk.size j.dinode j.blocks time) c_is read)
+      (subst (IsHeaderRead before.disk.size slot j.dinode j.blocks time) c_is read)
 
   ended_one : IsPlanOf (ring_read before.disk node j.blocks) p → IfSome p.clean (λ (h : LogHeader). h.blkno < length j.blocks)
-      → IsReplayWith node slot j.dinode j.blocks time before after p.home.items p.clean items → IsHeaderRead before.disk.size j.dinode j.blocks time p.clean → HasEnded before.disk after.disk node time j p
+      → IsReplayWith node slot j.dinode j.blocks time before after p.home.items p.clean items → IsHeaderRead before.disk.size slot j.dinode j.blocks time p.clean → HasEnded before.disk after.disk node slot time j p
   ended_one plan inside is read = ended_by plan.clean.0 plan.clean.0.clean refl plan.clean.1 p.clean refl plan.clean.2 inside is read
 
 -- ---- all of them
@@ -237,14 +237,14 @@ apart_rest j js p ps is = record {
 }
 
 ended_all : (node slot time : ℕ) (before after : Moment) (js : List Journal) (ps : List Plan) (items : List TraceItem) → IsTrue before.disk.tells → before.disk.in_flight node ≡ [] → HaveOwnPlaces js ps
-    → AreTheirs before.disk node js ps → AreApart js ps → AreHeadersRead before.disk.size time js ps → AreReplays node slot time before js ps after items
-    → (i : ℕ) (j : Journal) (q : Plan) → slice_get js i ≡ Some j → slice_get ps i ≡ Some q → HasEnded before.disk after.disk node time j q
+    → AreTheirs before.disk node js ps → AreApart js ps → AreHeadersRead before.disk.size slot time js ps → AreReplays node slot time before js ps after items
+    → (i : ℕ) (j : Journal) (q : Plan) → slice_get js i ≡ Some j → slice_get ps i ≡ Some q → HasEnded before.disk after.disk node (slot + i) time j q
 ended_all node slot time before after [] ps items tells idle places theirs apart read so i j q at at_q = absurd (let no : ◌≡◌ {A = Option Journal} None (Some j) = at in cc)
 ended_all node slot time before after (k ∷ js) [] items tells idle places theirs apart read so i j q at at_q = absurd so
 ended_all node slot time before after (k ∷ js) (p ∷ ps) items tells idle places theirs apart read (mid, first, later, are, one, rest) zero j q at at_q =
-    subst (λ (y : Journal). HasEnded before.disk after.disk node time y q) (some_is at)
-    (subst (HasEnded before.disk after.disk node time k) (some_is at_q)
-    (ended_same before.disk mid.disk after.disk node time k p
+    subst₂ (λ (n : ℕ) (y : Journal). HasEnded before.disk after.disk node n time y q) (let same : slot ≡ slot + 0 = omega arith in same) (some_is at)
+    (subst (HasEnded before.disk after.disk node slot time k) (some_is at_q)
+    (ended_same before.disk mid.disk after.disk node slot time k p
     (ring_same mid.disk after.disk node k.blocks so.0 idle' so.1
     (λ q below. stays_all node (slot + 1) time mid after js ps later (get_or k.blocks q 0) tells'
     (λ i l r at_l at_r. leaves_place (k ∷ js) (p ∷ ps) apart places 0 (suc i) q k l r (λ same. omega (arith, same)) refl at_l at_r below) rest))
@@ -260,8 +260,9 @@ ended_all node slot time before after (k ∷ js) (p ∷ ps) items tells idle pla
     so : (after.disk.size ≡ mid.disk.size) × (after.disk.in_flight node ≡ [])
     so = rests_all node (slot + 1) time mid after js ps later idle' rest
 ended_all node slot time before after (k ∷ js) (p ∷ ps) items tells idle places theirs apart read (mid, first, later, are, one, rest) (suc i) j q at at_q =
-    ended_from before.disk mid.disk after.disk node time j q (same i j at)
-    (ended_all node (slot + 1) time mid after js ps later tells' idle' (λ n. places (suc n)) theirs' (apart_rest k js p ps apart) (subst (λ n. AreHeadersRead n time js ps) (sym size') read.1) rest i j q at at_q)
+    subst (λ n. HasEnded before.disk after.disk node n time j q) (let next : (slot + 1) + i ≡ slot + suc i = omega arith in next)
+    (ended_from before.disk mid.disk after.disk node (slot + 1 + i) time j q (same i j at)
+    (ended_all node (slot + 1) time mid after js ps later tells' idle' (λ n. places (suc n)) theirs' (apart_rest k js p ps apart) (subst (λ n. AreHeadersRead n (slot + 1) time js ps) (sym size') read.1) rest i j q at at_q))
   where
     idle' : mid.disk.in_flight node ≡ []
     idle' = idle_one node slot k.dinode k.blocks time before mid p.home.items p.clean first idle one
@@ -284,5 +285,6 @@ ended_all node slot time before after (k ∷ js) (p ∷ ps) items tells idle pla
     }
 
 pub replayed_have_ended : ReplayedHaveEnded
-replayed_have_ended node time before after js ps items tells idle can theirs apart read so =
-    ended_all node 1 time before after js ps items tells idle (λ i j p at_j at_p. (can_at before.disk js ps i j p can at_j at_p).place) theirs apart read so
+replayed_have_ended node time before after js ps items tells idle can theirs apart read so i j p at_j at_p =
+    subst (λ n. HasEnded before.disk after.disk node n time j p) (let same : 1 + i ≡ i + 1 = omega arith in same)
+    (ended_all node 1 time before after js ps items tells idle (λ k l q at_l at_q. (can_at before.disk js ps k l q can at_l at_q).place) theirs apart read so i j p at_j at_p)

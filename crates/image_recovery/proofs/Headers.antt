@@ -1,5 +1,5 @@
 -- The headers that a replay of all journals writes.
-use Rattle.std.proofs.Common.{◌≡◌, ◌≢◌, ◌⊎◌, inl, inr, ℕ, zero, suc, ◌+◌, ◌≤◌, ◌<◌, List, [], ◌∷◌, length, get_or, Option, None, Some, refl, sym, ap, subst, ◌∙◌, arith}
+use Rattle.std.proofs.Common.{◌≡◌, ◌≢◌, ◌⊎◌, inl, inr, ℕ, zero, suc, ◌+◌, ◌≤◌, ◌<◌, List, [], ◌∷◌, length, get_or, Option, None, Some, refl, sym, ap, subst, subst₂, ◌∙◌, arith}
 use Rattle.std.specs.Prelude.{IfSome, IsTrue, slice_get, replicate}
 use Rattle.std.proofs.lemmas.Bool.{cases_eq}
 use Rattle.std.proofs.lemmas.List.{length-replicate}
@@ -64,11 +64,11 @@ places_one blocks c h is inside = subst (λ (o : Option LogHeader). IfSome o (λ
 module _ (node time : ℕ) where
   pub header_all : (slot : ℕ) (before after : Moment) (js : List Journal) (ps : List Plan) (items : List TraceItem) → IsTrue before.disk.tells → HaveOwnPlaces js ps → AreApart js ps
       → AreReplays node slot time before js ps after items → (i : ℕ) (j : Journal) (p : Plan) (h : LogHeader) → slice_get js i ≡ Some j → slice_get ps i ≡ Some p → p.clean ≡ Some h
-      → after.disk.block_at (get_or j.blocks h.blkno 0) ≡ (clean_block before.disk.size (get_or j.blocks h.blkno 0) j.dinode time h).bytes
+      → after.disk.block_at (get_or j.blocks h.blkno 0) ≡ (clean_block before.disk.size (get_or j.blocks h.blkno 0) (slot + i) j.dinode time h).bytes
   header_all slot before after [] ps items tells places apart so i j p h at_j at_p is = absurd (none_some at_j)
   header_all slot before after (k ∷ js) [] items tells places apart so i j p h at_j at_p is = absurd (none_some at_p)
   header_all slot before after (k ∷ js) (q ∷ ps) items tells places apart (mid, first, later, are, one, rest) zero j p h at_j at_p is =
-      subst (λ (x : Journal). after.disk.block_at (get_or x.blocks h.blkno 0) ≡ (clean_block before.disk.size (get_or x.blocks h.blkno 0) x.dinode time h).bytes) (some_is at_j)
+      subst₂ (λ (n : ℕ) (x : Journal). after.disk.block_at (get_or x.blocks h.blkno 0) ≡ (clean_block before.disk.size (get_or x.blocks h.blkno 0) n x.dinode time h).bytes) (let same : slot ≡ slot + 0 = omega arith in same) (some_is at_j)
       (stays_all node (slot + 1) time mid after js ps later (get_or k.blocks h.blkno 0) tells'
       (λ n l r at_l at_r. leaves_place (k ∷ js) (q ∷ ps) apart places 0 (suc n) h.blkno k l r (λ same. omega (arith, same)) refl at_l at_r inside) rest
       ∙ there_one node slot k.dinode k.blocks time before mid q.home.items h first tells (subst (λ (o : Option LogHeader). IsReplayWith node slot k.dinode k.blocks time before mid q.home.items o first) own one))
@@ -84,9 +84,10 @@ module _ (node time : ℕ) where
   header_all slot before after (k ∷ js) (q ∷ ps) items tells places apart (mid, first, later, are, one, rest) (suc i) j p h at_j at_p is =
       header_all (slot + 1) mid after js ps later (subst IsTrue (sym (tells_one node slot k.dinode k.blocks time before mid q.home.items q.clean first one)) tells)
       (λ n. places (suc n)) (apart_rest k js q ps apart) rest i j p h at_j at_p is
-      ∙ ap (λ n. (clean_block n (get_or j.blocks h.blkno 0) j.dinode time h).bytes) (size_one node slot k.dinode k.blocks time before mid q.home.items q.clean first one)
+      ∙ ap (λ n. (clean_block mid.disk.size (get_or j.blocks h.blkno 0) n j.dinode time h).bytes) (let same : (slot + 1) + i ≡ slot + suc i = omega arith in same)
+      ∙ ap (λ n. (clean_block n (get_or j.blocks h.blkno 0) (slot + suc i) j.dinode time h).bytes) (size_one node slot k.dinode k.blocks time before mid q.home.items q.clean first one)
 
 -- it is a whole block
-pub header_long : HeadersReadBack → (size block dinode time : ℕ) (h : LogHeader) → 120 ≤ size → length (clean_block size block dinode time h).bytes ≡ size
-header_long back size block dinode time h large =
-    back.as_long (filled block dinode time h) (replicate size 0) (let long = length-replicate {A = ℕ} size 0 in omega (arith, long, large)) ∙ length-replicate {A = ℕ} size 0
+pub header_long : HeadersReadBack → (size block slot dinode time : ℕ) (h : LogHeader) → 120 ≤ size → length (clean_block size block slot dinode time h).bytes ≡ size
+header_long back size block slot dinode time h large =
+    back.as_long (filled block slot dinode time h) (replicate size 0) (let long = length-replicate {A = ℕ} size 0 in omega (arith, long, large)) ∙ length-replicate {A = ℕ} size 0

@@ -30,7 +30,7 @@ module _ (node slot dinode : ℕ) (blocks : List ℕ) (time : ℕ) (before after
   left_one None items b tells off none is = ap (λ (m : Moment). m.disk.block_at b) is.0 ∙ ap (λ o. unwrap_or o (before.disk.block_at b)) (sym (none refl))
   left_one (Some h) items b tells off none is =
       is.headed.written.blocks_are (subst IsTrue (sym is.homes.written.tells) tells) b
-      ∙ ap (λ o. unwrap_or o (is.between.disk.block_at b)) (cond-false (get_or blocks h.blkno 0 == b) (Some (clean_block before.disk.size (get_or blocks h.blkno 0) dinode time h).bytes) None (ne_eqb (get_or blocks h.blkno 0) b off))
+      ∙ ap (λ o. unwrap_or o (is.between.disk.block_at b)) (cond-false (get_or blocks h.blkno 0 == b) (Some (clean_block before.disk.size (get_or blocks h.blkno 0) slot dinode time h).bytes) None (ne_eqb (get_or blocks h.blkno 0) b off))
       ∙ is.homes.written.blocks_are tells b
 
 none_some : {h : LogHeader} → ◌≡◌ {A = Option LogHeader} (Some h) None → ⊥

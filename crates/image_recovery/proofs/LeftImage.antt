@@ -61,7 +61,7 @@ clean_same r t same clean = (clean.0, sym (says_the_same r t same).head ∙ clea
 
 module _ (given : HeadersReadBack) (node time : ℕ) (before after : Moment) (m : MountedValue) (plans : List Plan) (added : List TraceItem) (tells : IsTrue before.disk.tells) (idle : IsIdle before.disk)
     (sized : IsBlockSize before.disk.size) (is : IsMounted (image_of before.disk) m) (are : ArePlans (image_of before.disk) is.layout plans) (can : CanReplayAll before.disk m.journals plans)
-    (read : AreHeadersRead before.disk.size time m.journals plans) (so : AreReplays node 1 time before m.journals plans after added) where
+    (read : AreHeadersRead before.disk.size 1 time m.journals plans) (so : AreReplays node 1 time before m.journals plans after added) where
   abbrev im : Image
   im = image_of before.disk
 
@@ -84,7 +84,7 @@ module _ (given : HeadersReadBack) (node time : ℕ) (before after : Moment) (m 
   places : HaveOwnPlaces m.journals plans
   places i j p at_j at_p = (can_at before.disk m.journals plans i j p can at_j at_p).place
 
-  ended : (i : ℕ) (j : Journal) (p : Plan) → slice_get m.journals i ≡ Some j → slice_get plans i ≡ Some p → HasEnded before.disk after.disk node time j p
+  ended : (i : ℕ) (j : Journal) (p : Plan) → slice_get m.journals i ≡ Some j → slice_get plans i ≡ Some p → HasEnded before.disk after.disk node (i + 1) time j p
   ended =
       replayed_have_ended node time before after m.journals plans added tells (idle.none_in_flight node) can (theirs before.disk node idle m is plans are) (apart before.disk node idle m is plans are) read so
 
@@ -97,7 +97,7 @@ module _ (given : HeadersReadBack) (node time : ℕ) (before after : Moment) (m 
     is = subst (IsPlaceOf im is.layout h.index h.header.blkno) h.block (place_at before.disk node idle m is h.index h.journal h.at_journal h.header.blkno inside);
     whole = subst (λ x. length (after.disk.block_at x) ≡ before.disk.size) h.block (
         ap length (header_all node time 1 before after m.journals plans added tells places (apart before.disk node idle m is plans are) so h.index h.journal h.plan h.header h.at_journal h.at_plan h.is)
-        ∙ header_long given before.disk.size (get_or h.journal.blocks h.header.blkno 0) h.journal.dinode time h.header (let low : 512 ≤ before.disk.size = large in omega (arith, low)));
+        ∙ header_long given before.disk.size (get_or h.journal.blocks h.header.blkno 0) (1 + h.index) h.journal.dinode time h.header (let low : 512 ≤ before.disk.size = large in omega (arith, low)));
   }
     where
       inside : h.header.blkno < length h.journal.blocks
@@ -157,7 +157,7 @@ module _ (given : HeadersReadBack) (node time : ℕ) (before after : Moment) (m 
     planned : (p : Plan) × (slice_get plans j ≡ Some p)
     planned = let many : length plans ≡ length is.layout.journals = are.count in some_at plans j (subst (λ n. j < n) (sym many) (slice_get_within is.layout.journals j d at))
 
-    has_ended : HasEnded before.disk after.disk node time mounted.0 planned.0
+    has_ended : HasEnded before.disk after.disk node (j + 1) time mounted.0 planned.0
     has_ended = ended j mounted.0 planned.0 mounted.1 planned.1
 
     first_ring : HasSamePlaces (ring_read before.disk node mounted.0.blocks) (ring_of (every im d))
@@ -182,7 +182,7 @@ module _ (given : HeadersReadBack) (node time : ℕ) (before after : Moment) (m 
         let plan = (theirs before.disk node idle m is plans are).plan j mounted.0 planned.0 mounted.1 planned.1 in
         let its : plan.clean.0 ≡ head = some_is (sym plan.clean.1 ∙ read_head) in
         let none : planned.0.clean ≡ None = plan.clean.2 ∙ ap (clean_header (length mounted.0.blocks)) its ∙ cond-true head.clean None (Some (clean_after (length mounted.0.blocks) head)) clean_head in
-        let left_is = has_ended.headed head read_head ∙ ap (λ c. Some (head_left before.disk.size time mounted.0 c head)) none in
+        let left_is = has_ended.headed head read_head ∙ ap (λ c. Some (head_left before.disk.size (j + 1) time mounted.0 c head)) none in
         some_is (sym ends ∙ sym (says_the_same (ring_read after.disk node mounted.0.blocks) (ring_of (every other d)) left_ring).head ∙ left_is)
 
     sequence : (head now : LogHeader) → head_in (ring_of (every im d)) ≡ Some head → head_in (ring_of (every other d)) ≡ Some now → now.sequence ≤ head.sequence + 1
@@ -192,7 +192,7 @@ module _ (given : HeadersReadBack) (node time : ℕ) (before after : Moment) (m 
 
   -- the head of a journal that was mounted
   left_head : (j d : ℕ) → IsJournalAt is.layout j d → (y : Journal) (p : Plan) → slice_get m.journals j ≡ Some y → slice_get plans j ≡ Some p
-      → head_in (ring_of (every other d)) ≡ Some (head_left before.disk.size time y p.clean y.head)
+      → head_in (ring_of (every other d)) ≡ Some (head_left before.disk.size (j + 1) time y p.clean y.head)
   left_head j d at y p at_y at_p =
       let of = is.journals j d y at at_y in
       let same : (mounted j d at).0 ≡ y = some_is (sym (mounted j d at).1 ∙ at_y) in

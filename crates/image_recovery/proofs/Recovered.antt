@@ -104,12 +104,13 @@ replays_more node slot time first mid last (k ∷ js) (q ∷ ps) j p xs ys (next
       replays_more node (slot + 1) time next mid last js ps j p later ys rest (subst (λ n. IsReplayBy node n j.dinode j.blocks time mid last p ys) slot_is replay),
     )
 
-pub headers_more : (size time : ℕ) (js : List Journal) (ps : List Plan) (j : Journal) (p : Plan) → length js ≡ length ps → AreHeadersRead size time js ps → IsHeaderRead size j.dinode j.blocks time p.clean
-    → AreHeadersRead size time (js ++ j ∷ []) (ps ++ p ∷ [])
-headers_more size time [] [] j p long so one = (one, tt)
-headers_more size time [] (q ∷ ps) j p long so one = absurd (omega (arith, long))
-headers_more size time (k ∷ js) [] j p long so one = absurd (omega (arith, long))
-headers_more size time (k ∷ js) (q ∷ ps) j p long so one = (so.0, headers_more size time js ps j p (omega (arith, long)) so.1 one)
+pub headers_more : (size slot time : ℕ) (js : List Journal) (ps : List Plan) (j : Journal) (p : Plan) → length js ≡ length ps → AreHeadersRead size slot time js ps
+    → IsHeaderRead size (slot + length js) j.dinode j.blocks time p.clean → AreHeadersRead size slot time (js ++ j ∷ []) (ps ++ p ∷ [])
+headers_more size slot time [] [] j p long so one = (subst (λ n. IsHeaderRead size n j.dinode j.blocks time p.clean) (let same : slot + 0 ≡ slot = omega arith in same) one, tt)
+headers_more size slot time [] (q ∷ ps) j p long so one = absurd (omega (arith, long))
+headers_more size slot time (k ∷ js) [] j p long so one = absurd (omega (arith, long))
+headers_more size slot time (k ∷ js) (q ∷ ps) j p long so one =
+    (so.0, headers_more size (slot + 1) time js ps j p (omega (arith, long)) so.1 (subst (λ n. IsHeaderRead size n j.dinode j.blocks time p.clean) (let same : slot + suc (length js) ≡ (slot + 1) + length js = omega arith in same) one))
 
 pub replayed_more : (node time : ℕ) (first mid last : Moment) (js : List Journal) (ps : List Plan) (j : Journal) (p : Plan) (slot : ℕ) (items one two : List TraceItem) → slot ≡ 1 + length js
     → HaveReplayed node time first mid js ps items one → HasReplayed node slot j.dinode j.blocks time mid last p one two → HaveReplayed node time first last (js ++ j ∷ []) (ps ++ p ∷ []) items two
@@ -145,10 +146,11 @@ module _ (js : List Journal) (ps : List Plan) (i : ℕ) (j : Journal) (p : Plan)
       subst₂ (λ ks qs. HaveReplayed node time first last ks qs items two) journals_more plans_more
       (replayed_more node time first mid last (take i js) (take i ps) j p slot items one two (omega (arith, slot_is, long)) so next)
 
-  pub headers_next : (size time : ℕ) → AreHeadersRead size time (take i js) (take i ps) → IsHeaderRead size j.dinode j.blocks time p.clean → AreHeadersRead size time (take (i + 1) js) (take (i + 1) ps)
-  headers_next size time so one =
-      subst₂ (AreHeadersRead size time) journals_more plans_more
-      (headers_more size time (take i js) (take i ps) j p (let plans : length (take i ps) ≡ i = length-take-le i ps (omega (arith, low_plan)) in omega (arith, long, plans)) so one)
+  pub headers_next : (size time slot : ℕ) → slot ≡ i + 1 → AreHeadersRead size 1 time (take i js) (take i ps) → IsHeaderRead size slot j.dinode j.blocks time p.clean → AreHeadersRead size 1 time (take (i + 1) js) (take (i + 1) ps)
+  headers_next size time slot slot_is so one =
+      subst₂ (AreHeadersRead size 1 time) journals_more plans_more
+      (headers_more size 1 time (take i js) (take i ps) j p (let plans : length (take i ps) ≡ i = length-take-le i ps (omega (arith, low_plan)) in omega (arith, long, plans)) so
+      (subst (λ n. IsHeaderRead size n j.dinode j.blocks time p.clean) (let same : slot ≡ 1 + length (take i js) = omega (arith, slot_is, long) in same) one))
 
 -- ---- the fault of the next one
 

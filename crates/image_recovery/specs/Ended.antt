@@ -27,27 +27,27 @@ pub record AreTheirs (d : DiskState) (node : ℕ) (journals : List Journal) (pla
   pub plan : (i : ℕ) (j : Journal) (p : Plan) → slice_get journals i ≡ Some j → slice_get plans i ≡ Some p → IsPlanOf (ring_read d node j.blocks) p
   pub low : (i : ℕ) (j : Journal) (head : LogHeader) → slice_get journals i ≡ Some j → head_in (ring_read d node j.blocks) ≡ Some head → head.sequence + 1 < 2 ^ 64
 
--- the head that a journal has once it is replayed by a plan: the plan's header, as it is read in the block where it was written, or the one that it had
-abbrev pub head_left : (size time : ℕ) → Journal → Option LogHeader → LogHeader → LogHeader
-head_left size time j None head = head
-head_left size time j (Some header) head =
+-- the head that the journal of a slot has once it is replayed by a plan: the plan's header, as it is read in the block where it was written, or the one that it had
+abbrev pub head_left : (size slot time : ℕ) → Journal → Option LogHeader → LogHeader → LogHeader
+head_left size slot time j None head = head
+head_left size slot time j (Some header) head =
     let block = get_or j.blocks header.blkno 0 in
-    as_read (filled block j.dinode time header) (clean_block size block j.dinode time header).bytes
+    as_read (filled block slot j.dinode time header) (clean_block size block slot j.dinode time header).bytes
 
--- from one disk to the other the journal ended: its head is the one that is left, which is clean; it can be read, and nothing is live in it; and no more than one sequence was begun
-pub record HasEnded (before after : DiskState) (node time : ℕ) (j : Journal) (p : Plan) : Type 0 where
+-- from one disk to the other the journal of this slot ended: its head is the one that is left, which is clean; it can be read, and nothing is live in it; and no more than one sequence was begun
+pub record HasEnded (before after : DiskState) (node slot time : ℕ) (j : Journal) (p : Plan) : Type 0 where
   pub clean : IsClean (ring_read after node j.blocks)
   pub nothing : HasNothingLive (ring_read after node j.blocks)
-  pub headed : (head : LogHeader) → head_in (ring_read before node j.blocks) ≡ Some head → head_in (ring_read after node j.blocks) ≡ Some (head_left before.size time j p.clean head)
+  pub headed : (head : LogHeader) → head_in (ring_read before node j.blocks) ≡ Some head → head_in (ring_read after node j.blocks) ≡ Some (head_left before.size slot time j p.clean head)
   pub sequence : (head now : LogHeader) → head_in (ring_read before node j.blocks) ≡ Some head → head_in (ring_read after node j.blocks) ≡ Some now → now.sequence ≤ head.sequence + 1
 
 -- Once all journals of a disk that tells its blocks are replayed by their plans, each of them has ended.
 abbrev pub ReplayedHaveEnded : Type 0
 ReplayedHaveEnded =
     (node time : ℕ) (before after : Moment) (journals : List Journal) (plans : List Plan) (items : List TraceItem) → IsTrue before.disk.tells → before.disk.in_flight node ≡ []
-    → CanReplayAll before.disk journals plans → AreTheirs before.disk node journals plans → AreApart journals plans → AreHeadersRead before.disk.size time journals plans
+    → CanReplayAll before.disk journals plans → AreTheirs before.disk node journals plans → AreApart journals plans → AreHeadersRead before.disk.size 1 time journals plans
     → AreReplays node 1 time before journals plans after items → (i : ℕ) (j : Journal) (p : Plan) → slice_get journals i ≡ Some j → slice_get plans i ≡ Some p
-    → HasEnded before.disk after.disk node time j p
+    → HasEnded before.disk after.disk node (i + 1) time j p
 
 -- ---- and each other block
 

@@ -44,7 +44,7 @@ pub record IsLeft (im : Image) (l : Layout) (left : Image) : Type 0 where
 -- Once all journals of a mounted image on a disk at rest are replayed by their plans, the disk has the image that a replay leaves.
 abbrev pub ReplayLeaves : Type 0
 ReplayLeaves = (node time : ℕ) (before after : Moment) (m : MountedValue) (plans : List Plan) (items items' : List TraceItem) → IsTrue before.disk.tells → IsIdle before.disk → IsBlockSize before.disk.size
-    → (is : IsMounted (image_of before.disk) m) → ArePlans (image_of before.disk) is.layout plans → CanReplayAll before.disk m.journals plans → AreHeadersRead before.disk.size time m.journals plans
+    → (is : IsMounted (image_of before.disk) m) → ArePlans (image_of before.disk) is.layout plans → CanReplayAll before.disk m.journals plans → AreHeadersRead before.disk.size 1 time m.journals plans
     → HaveReplayed node time before after m.journals plans items items' → IsLeft (image_of before.disk) is.layout (image_of after.disk)
 
 -- It stands, as it lies and with its journals replayed, for the tree for which the image stands with its journals replayed.
@@ -97,10 +97,10 @@ LeftIsMounted = (im left : Image) (before m : MountedValue) (is : IsMounted im b
 pub record HasHeadsLeft (size time : ℕ) (plans : List Plan) (before m : MountedValue) : Type 0 where
   pub same : HasSameJournals before m
   pub system : m.system ≡ before.system
-  pub heads : (j : ℕ) (x y : Journal) (p : Plan) → slice_get before.journals j ≡ Some x → slice_get m.journals j ≡ Some y → slice_get plans j ≡ Some p → y.head ≡ head_left size time x p.clean x.head
+  pub heads : (j : ℕ) (x y : Journal) (p : Plan) → slice_get before.journals j ≡ Some x → slice_get m.journals j ≡ Some y → slice_get plans j ≡ Some p → y.head ≡ head_left size (j + 1) time x p.clean x.head
 
 -- These are the heads that the journals have in what is left.
 abbrev pub HeadsAreLeft : Type 0
 HeadsAreLeft = (node time : ℕ) (before after : Moment) (m m' : MountedValue) (plans : List Plan) (items items' : List TraceItem) → IsTrue before.disk.tells → IsIdle before.disk → IsBlockSize before.disk.size
-    → (is : IsMounted (image_of before.disk) m) → ArePlans (image_of before.disk) is.layout plans → CanReplayAll before.disk m.journals plans → AreHeadersRead before.disk.size time m.journals plans
+    → (is : IsMounted (image_of before.disk) m) → ArePlans (image_of before.disk) is.layout plans → CanReplayAll before.disk m.journals plans → AreHeadersRead before.disk.size 1 time m.journals plans
     → HaveReplayed node time before after m.journals plans items items' → HasHeadsLeft before.disk.size time plans m m' → IsMountedAs (image_of after.disk) m m'

@@ -25,11 +25,11 @@ AreReplays node slot time before (j ∷ js) (p ∷ ps) after items =
     (next : Moment) × (first : List TraceItem) × (later : List TraceItem) × (items ≡ first ++ later) × IsReplayBy node slot j.dinode j.blocks time before next p first
     × AreReplays node (slot + 1) time next js ps after later
 
--- each header that is written is read from its block again
-abbrev pub AreHeadersRead : (size time : ℕ) → List Journal → List Plan → Type 0
-AreHeadersRead size time (j ∷ js) (p ∷ ps) = IsHeaderRead size j.dinode j.blocks time p.clean × AreHeadersRead size time js ps
-AreHeadersRead size time [] ps = ⊤
-AreHeadersRead size time (j ∷ js) [] = ⊤
+-- each header that is written, from this slot on, is read from its block again
+abbrev pub AreHeadersRead : (size slot time : ℕ) → List Journal → List Plan → Type 0
+AreHeadersRead size slot time (j ∷ js) (p ∷ ps) = IsHeaderRead size slot j.dinode j.blocks time p.clean × AreHeadersRead size (slot + 1) time js ps
+AreHeadersRead size slot time [] ps = ⊤
+AreHeadersRead size slot time (j ∷ js) [] = ⊤
 
 -- these journals were replayed, and their items came behind those that were there
 pub record HaveReplayed (node time : ℕ) (before after : Moment) (journals : List Journal) (plans : List Plan) (items items' : List TraceItem) : Type 0 where
@@ -53,4 +53,4 @@ pub record HaveFailed (node time : ℕ) (before after : Moment) (journals : List
   pub plan : Plan
   pub at_journal : slice_get journals count ≡ Some journal
   pub at_plan : slice_get plans count ≡ Some plan
-  pub failed : HasFailed node journal.dinode journal.blocks time between after plan its_items items' block
+  pub failed : HasFailed node (count + 1) journal.dinode journal.blocks time between after plan its_items items' block

@@ -31,7 +31,7 @@ pub fn replay_journals<D: SharedDisk>(
     requires few { length plans.now < 256 }
     requires can { CanReplayAll (D.state disk.old) journals.now plans.now }
     ensures replayed { OnOk result (HaveReplayed node time (moment (D.state disk.old) (D.list disk.old)) (moment (D.state disk.new) (D.list disk.new)) journals.now plans.now items.old.items items.new.items) }
-    ensures headers { OnOk result (AreHeadersRead (D.state disk.old).size time journals.now plans.now) }
+    ensures headers { OnOk result (AreHeadersRead (D.state disk.old).size 1 time journals.now plans.now) }
     ensures idle { OnOk result (IsIdle (D.state disk.new)) }
     ensures disk { OnOk result (IsSameDisk (D.state disk.old) (D.state disk.new)) }
     ensures failed { IfErr result (λ fault. IfDiskFailed fault (HaveFailed node time (moment (D.state disk.old) (D.list disk.old)) (moment (D.state disk.new) (D.list disk.new)) journals.now plans.now items.old.items items.new.items)) }

@@ -54,7 +54,7 @@ told_stopped node before after blocks block items is =
 
 module _ (node slot dinode : ℕ) (blocks : List ℕ) (time : ℕ) (before between after : Moment) (p : Plan) (header : LogHeader) (is : p.clean ≡ Some header) where
   abbrev last : Written
-  last = clean_block before.disk.size (get_or blocks header.blkno 0) dinode time header
+  last = clean_block before.disk.size (get_or blocks header.blkno 0) slot dinode time header
 
   pub replayed : (items one two three : List TraceItem) → HasBrought node before between p.home.items items one → HasBrought node between after (last ∷ []) one two
       → three ≡ two ++ trace.Recovered slot node ∷ [] → HasReplayed node slot dinode blocks time before after p items three
@@ -83,22 +83,22 @@ module _ (node slot dinode : ℕ) (blocks : List ℕ) (time : ℕ) (before betwe
 
   -- the disk failed on the way home
   pub failed_home : (items one : List TraceItem) (block : Option ℕ) → HasStoppedBringing node before after p.home.items items one block
-      → HasFailed node dinode blocks time before after p items one block
+      → HasFailed node slot dinode blocks time before after p items one block
   failed_home items one block stop = record {
     added = stop.added;
     are = stop.are;
-    stopped = subst (λ (c : Option LogHeader). MatchOption c ⊥ (λ (h : LogHeader). StopsReplay node before after p.home.items (clean_block before.disk.size (get_or blocks h.blkno 0) dinode time h) block stop.added)) (sym is)
+    stopped = subst (λ (c : Option LogHeader). MatchOption c ⊥ (λ (h : LogHeader). StopsReplay node before after p.home.items (clean_block before.disk.size (get_or blocks h.blkno 0) slot dinode time h) block stop.added)) (sym is)
         (at_home stop.stops);
     told = told_stopped node before after p.home.items block stop.added stop.stops;
   }
 
   -- or at the header
   pub failed_header : (items one two : List TraceItem) (block : Option ℕ) → HasBrought node before between p.home.items items one → HasStoppedBringing node between after (last ∷ []) one two block
-      → HasFailed node dinode blocks time before after p items two block
+      → HasFailed node slot dinode blocks time before after p items two block
   failed_header items one two block home stop = record {
     added = items_of home.brings.operations ++ stop.added;
     are = stop.are ∙ ap (λ (xs : List TraceItem). xs ++ stop.added) home.are ∙ append_assoc items (items_of home.brings.operations) stop.added;
-    stopped = subst (λ (c : Option LogHeader). MatchOption c ⊥ (λ (h : LogHeader). StopsReplay node before after p.home.items (clean_block before.disk.size (get_or blocks h.blkno 0) dinode time h) block
+    stopped = subst (λ (c : Option LogHeader). MatchOption c ⊥ (λ (h : LogHeader). StopsReplay node before after p.home.items (clean_block before.disk.size (get_or blocks h.blkno 0) slot dinode time h) block
         (items_of home.brings.operations ++ stop.added))) (sym is)
         (at_header between home.brings stop.added stop.stops refl);
     told = told_on node before.list between.list after.list (items_of home.brings.operations) stop.added (home.brings.operations, done_items home.brings.operations, home.brings.gains)

@@ -39,7 +39,7 @@ pub record IsReplay (node slot : ℕ) (before after : Moment) (home : List Writt
 abbrev pub IsReplayWith : (node slot dinode : ℕ) (blocks : List ℕ) (time : ℕ) (before after : Moment) → List Written → Option LogHeader → List TraceItem → Type 0
 IsReplayWith node slot dinode blocks time before after home None items = (after ≡ before) × (items ≡ [])
 IsReplayWith node slot dinode blocks time before after home (Some header) items =
-    IsReplay node slot before after home (clean_block before.disk.size (get_or blocks header.blkno 0) dinode time header) items
+    IsReplay node slot before after home (clean_block before.disk.size (get_or blocks header.blkno 0) slot dinode time header) items
 
 abbrev pub IsReplayBy : (node slot dinode : ℕ) (blocks : List ℕ) (time : ℕ) (before after : Moment) → Plan → List TraceItem → Type 0
 IsReplayBy node slot dinode blocks time before after p items = IsReplayWith node slot dinode blocks time before after p.home.items p.clean items
@@ -58,9 +58,9 @@ pub data StopsReplay (node : ℕ) (before after : Moment) (home : List Written) 
       → items ≡ items_of homes.operations ++ more → StopsReplay node before after home header block items
 
 -- the same of the header that a plan has; without one nothing is done in which the disk could fail
-abbrev pub StopsReplayBy : (node dinode : ℕ) (blocks : List ℕ) (time : ℕ) (before after : Moment) → Plan → Option ℕ → List TraceItem → Type 0
-StopsReplayBy node dinode blocks time before after p block items =
-    MatchOption p.clean ⊥ (λ (header : LogHeader). StopsReplay node before after p.home.items (clean_block before.disk.size (get_or blocks header.blkno 0) dinode time header) block items)
+abbrev pub StopsReplayBy : (node slot dinode : ℕ) (blocks : List ℕ) (time : ℕ) (before after : Moment) → Plan → Option ℕ → List TraceItem → Type 0
+StopsReplayBy node slot dinode blocks time before after p block items =
+    MatchOption p.clean ⊥ (λ (header : LogHeader). StopsReplay node before after p.home.items (clean_block before.disk.size (get_or blocks header.blkno 0) slot dinode time header) block items)
 
 -- ---- the items of a vector
 
@@ -72,8 +72,8 @@ pub record HasReplayed (node slot dinode : ℕ) (blocks : List ℕ) (time : ℕ)
   pub told : AreTold before.list after.list added
 
 -- so did those of one in which the disk failed
-pub record HasFailed (node dinode : ℕ) (blocks : List ℕ) (time : ℕ) (before after : Moment) (p : Plan) (items items' : List TraceItem) (block : Option ℕ) : Type 0 where
+pub record HasFailed (node slot dinode : ℕ) (blocks : List ℕ) (time : ℕ) (before after : Moment) (p : Plan) (items items' : List TraceItem) (block : Option ℕ) : Type 0 where
   pub added : List TraceItem
   pub are : items' ≡ items ++ added
-  pub stopped : StopsReplayBy node dinode blocks time before after p block added
+  pub stopped : StopsReplayBy node slot dinode blocks time before after p block added
   pub told : AreToldButOne node before.list after.list added

@@ -10,12 +10,12 @@ use log_layout::{Later, LogHeader};
 use no_memory::NoMemory;
 use std::alloc::Global;
 
-// The header with what version 2 has besides.
-fn filled(header: &LogHeader, block: u64, dinode: u64, time: u64) -> LogHeader
-    ensures { result ≡ filled_of block dinode time header.now }
+// The header with the journal's number and what version 2 has besides.
+fn filled(header: &LogHeader, block: u64, slot: u8, dinode: u64, time: u64) -> LogHeader
+    ensures { result ≡ filled_of block slot dinode time header.now }
 {
     LogHeader {
-        jid: header.jid,
+        jid: slot.saturating_sub(1) as u32,
         sequence: header.sequence,
         clean: header.clean,
         tail: header.tail,
@@ -34,23 +34,24 @@ fn filled(header: &LogHeader, block: u64, dinode: u64, time: u64) -> LogHeader
     }
 }
 
-/// The header as it is written into this block of so many bytes, of the journal whose dinode is in that one, at this time. It costs
-/// a block of memory.
+/// The header as it is written into this block of so many bytes, of the journal of this slot, whose dinode is in that one, at this
+/// time. It costs a block of memory.
 pub(crate) fn clean_block(
     alloc: Global,
     size: u32,
     header: &LogHeader,
     block: u64,
+    slot: u8,
     dinode: u64,
     time: u64,
 ) -> Result<Written, NoMemory>
     requires { IsBlockSize size }
-    ensures value { IfOk result (λ w. w ≡ clean_block_of size block dinode time header.now) }
+    ensures value { IfOk result (λ w. w ≡ clean_block_of size block slot dinode time header.now) }
     ensures long { IfOk result (λ w. length w.bytes ≡ size) }
-    ensures read { IfOk result (λ w. log_read w.bytes ≡ Ok (as_read (filled_of block dinode time header.now) w.bytes)) }
+    ensures read { IfOk result (λ w. log_read w.bytes ≡ Ok (as_read (filled_of block slot dinode time header.now) w.bytes)) }
 {
     let mut bytes = vec![in alloc; 0u8; size as usize]?;
-    filled(header, block, dinode, time).write(&mut bytes);
+    filled(header, block, slot, dinode, time).write(&mut bytes);
     Ok(Written {
         block,
         plain: false,

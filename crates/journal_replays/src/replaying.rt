@@ -49,10 +49,10 @@ pub fn replay_journal<D: SharedDisk>(
     requires size { IsBlockSize (D.state disk.old).size }
     requires can { CanReplay (D.state disk.old) blocks.now plan.now }
     ensures replayed { OnOk result (HasReplayed node slot dinode blocks.now time (moment (D.state disk.old) (D.list disk.old)) (moment (D.state disk.new) (D.list disk.new)) plan.now items.old.items items.new.items) }
-    ensures header { OnOk result (IsHeaderRead (D.state disk.old).size dinode blocks.now time plan.now.clean) }
+    ensures header { OnOk result (IsHeaderRead (D.state disk.old).size slot dinode blocks.now time plan.now.clean) }
     ensures idle { OnOk result (IsIdle (D.state disk.new)) }
     ensures disk { OnOk result (IsSameDisk (D.state disk.old) (D.state disk.new)) }
-    ensures failed { IfErr result (λ fault. IfDiskFailed fault (HasFailed node dinode blocks.now time (moment (D.state disk.old) (D.list disk.old)) (moment (D.state disk.new) (D.list disk.new)) plan.now items.old.items items.new.items)) }
+    ensures failed { IfErr result (λ fault. IfDiskFailed fault (HasFailed node slot dinode blocks.now time (moment (D.state disk.old) (D.list disk.old)) (moment (D.state disk.new) (D.list disk.new)) plan.now items.old.items items.new.items)) }
     ensures untouched { IfErr result (λ fault. IfNoMemory fault ((D.state disk.new ≡ D.state disk.old) × (D.list disk.new ≡ D.list disk.old) × (items.new.items ≡ items.old.items))) }
     ensures later { (i : ℕ) → D.faults disk.old i ≤ D.faults disk.new i }
     ensures cause { IfErr result (HasCause node (D.state disk.old).count (D.faults disk.old) (D.faults disk.new)) }
@@ -61,7 +61,7 @@ pub fn replay_journal<D: SharedDisk>(
         return Ok(());
     };
     let block = blocks[header.blkno as usize];
-    let last = [clean_block(alloc, disk.block_size(), header, block, dinode, time)?];
+    let last = [clean_block(alloc, disk.block_size(), header, block, slot, dinode, time)?];
     make_room(items, plan.home.len())?;
     match bring(disk, node, &plan.home, items) {
         Ok(()) => {}

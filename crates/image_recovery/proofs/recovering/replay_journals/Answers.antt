@@ -46,8 +46,8 @@ returns-in-Err-clause-failed g c =
       plan = c.index-plans-place.result;
       at_journal = at_journal;
       at_plan = at_plan;
-      failed = subst (λ bs. HasFailed c.args.node journal.dinode bs c.args.time now next c.index-plans-place.result c.loop-place.items.items c.replay_journal.new.items.items block) blocks
-          (subst (λ n. HasFailed c.args.node n c.deref.result.now c.args.time now next c.index-plans-place.result c.loop-place.items.items c.replay_journal.new.items.items block) dinode is);
+      failed = subst (λ bs. HasFailed c.args.node (c.loop-place.place + 1) journal.dinode bs c.args.time now next c.index-plans-place.result c.loop-place.items.items c.replay_journal.new.items.items block) blocks
+          (subst (λ n. HasFailed c.args.node (c.loop-place.place + 1) n c.deref.result.now c.args.time now next c.index-plans-place.result c.loop-place.items.items c.replay_journal.new.items.items block) dinode is);
     })
     c.in-Err.ensures.failed
 
@@ -88,9 +88,9 @@ loop-place-preserved g c =
           c.replay_journal.new.items.items refl so.replayed
           (subst (λ bs. HasReplayed c.args.node (c.loop-place.place + 1) journal.dinode bs c.args.time now next plan c.loop-place.items.items c.replay_journal.new.items.items) blocks
           (subst (λ n. HasReplayed c.args.node (c.loop-place.place + 1) n c.deref.result.now c.args.time now next plan c.loop-place.items.items c.replay_journal.new.items.items) dinode c.in-Ok.ensures.replayed));
-      headers = headers_next journals c.args.plans.now c.loop-place.place journal plan at_journal at_plan d.size c.args.time so.headers
-          (subst (λ n. IsHeaderRead n journal.dinode journal.blocks c.args.time plan.clean) so.same.size
-          (subst (λ bs. IsHeaderRead now.disk.size journal.dinode bs c.args.time plan.clean) blocks (subst (λ n. IsHeaderRead now.disk.size n c.deref.result.now c.args.time plan.clean) dinode c.in-Ok.ensures.header)));
+      headers = headers_next journals c.args.plans.now c.loop-place.place journal plan at_journal at_plan d.size c.args.time (c.loop-place.place + 1) refl so.headers
+          (subst (λ n. IsHeaderRead n (c.loop-place.place + 1) journal.dinode journal.blocks c.args.time plan.clean) so.same.size
+          (subst (λ bs. IsHeaderRead now.disk.size (c.loop-place.place + 1) journal.dinode bs c.args.time plan.clean) blocks (subst (λ n. IsHeaderRead now.disk.size (c.loop-place.place + 1) n c.deref.result.now c.args.time plan.clean) dinode c.in-Ok.ensures.header)));
       same = same_on d now.disk next.disk so.same c.in-Ok.ensures.disk;
       idle = c.in-Ok.ensures.idle;
       later = λ i. let before = so.later i in let more = c.in-Ok.ensures.later i in omega (arith, before, more);
@@ -108,5 +108,5 @@ pub returns-clause-headers : goal.returns-clause-headers
 returns-clause-headers g c =
     let d = g.D.SharedDisk.state c.args.disk.now in
     let many = as_many d c.args.journals.now c.args.plans.now c.requires.can in
-    subst₂ (AreHeadersRead d.size c.args.time)
+    subst₂ (AreHeadersRead d.size 1 c.args.time)
     (take_all c.loop-place.place c.args.journals.now (omega (arith, many, c.loop-place-test.false))) (take_all c.loop-place.place c.args.plans.now (omega (arith, c.loop-place-test.false))) c.loop-place.invariant.headers

@@ -15,8 +15,8 @@ pub bring-requires-2-clause-of_disk : goal.bring-requires-2-clause-of_disk
 bring-requires-2-clause-of_disk g c =
     let d = g.D.SharedDisk.state c.args.disk.now in
     let block = get_or c.args.blocks.now c.in-Some.header.blkno 0 in
-    let last = clean_block d.size block c.args.dinode c.args.time c.in-Some.header in
-    let last_is : c.in_ok-clean_block.field-0 ≡ last = c.in_ok-clean_block.ensures.value ∙ ap (λ n. clean_block n block c.args.dinode c.args.time c.in-Some.header) c.block_size.ensures in
+    let last = clean_block d.size block c.args.slot c.args.dinode c.args.time c.in-Some.header in
+    let last_is : c.in_ok-clean_block.field-0 ≡ last = c.in_ok-clean_block.ensures.value ∙ ap (λ n. clean_block n block c.args.slot c.args.dinode c.args.time c.in-Some.header) c.block_size.ensures in
     let inside : block < d.count = subst (λ (o : Option LogHeader). IfSome o (λ (h : LogHeader). get_or c.args.blocks.now h.blkno 0 < d.count)) c.in-Some.is c.requires.can.inside in
     of_disk_one d (g.D.SharedDisk.state c.bring.new.disk) c.in_ok-clean_block.field-0 c.in-Ok.ensures.brought.brings.written.size c.in-Ok.ensures.brought.brings.written.count
     (subst (λ (w : Written). w.block < d.count) (sym last_is) inside) (c.in_ok-clean_block.ensures.long ∙ c.block_size.ensures)
@@ -31,7 +31,7 @@ returns-in-Err-clause-failed g c =
     subst (λ (is : List TraceItem). HasStoppedBringing c.args.node before after c.args.plan.now.home.items is one c.in-Err.fault.block) c.make_room.ensures.items
     (subst (λ (ws : List Written). HasStoppedBringing c.args.node before after ws c.make_room.new.items.items one c.in-Err.fault.block) c.deref.ensures.value c.in-Err.ensures.stopped)
     in
-    subst (λ f. IfDiskFailed f (HasFailed c.args.node c.args.dinode c.args.blocks.now c.args.time before after c.args.plan.now items one)) (sym c.failed.ensures)
+    subst (λ f. IfDiskFailed f (HasFailed c.args.node c.args.slot c.args.dinode c.args.blocks.now c.args.time before after c.args.plan.now items one)) (sym c.failed.ensures)
     (failed_home c.args.node c.args.slot c.args.dinode c.args.blocks.now c.args.time before after after c.args.plan.now c.in-Some.header c.in-Some.is items one c.in-Err.fault.block stop)
 
 pub returns-in-Err-bring-clause-failed : goal.returns-in-Err-bring-clause-failed
@@ -43,14 +43,14 @@ returns-in-Err-bring-clause-failed g c =
     let one = c.bring.new.items.items in
     let two = c.bring-2.new.items.items in
     let block = get_or c.args.blocks.now c.in-Some.header.blkno 0 in
-    let last = clean_block before.disk.size block c.args.dinode c.args.time c.in-Some.header in
-    let last_is : c.in_ok-clean_block.field-0 ≡ last = c.in_ok-clean_block.ensures.value ∙ ap (λ n. clean_block n block c.args.dinode c.args.time c.in-Some.header) c.block_size.ensures in
+    let last = clean_block before.disk.size block c.args.slot c.args.dinode c.args.time c.in-Some.header in
+    let last_is : c.in_ok-clean_block.field-0 ≡ last = c.in_ok-clean_block.ensures.value ∙ ap (λ n. clean_block n block c.args.slot c.args.dinode c.args.time c.in-Some.header) c.block_size.ensures in
     let home =
     subst (λ (is : List TraceItem). HasBrought c.args.node before between c.args.plan.now.home.items is one) c.make_room.ensures.items
     (subst (λ (ws : List Written). HasBrought c.args.node before between ws c.make_room.new.items.items one) c.deref.ensures.value c.in-Ok.ensures.brought)
     in
     let stop = subst (λ (w : Written). HasStoppedBringing c.args.node between after (w ∷ []) one two c.in-Err-bring.fault.block) last_is c.in-Err-bring.ensures.stopped in
-    subst (λ f. IfDiskFailed f (HasFailed c.args.node c.args.dinode c.args.blocks.now c.args.time before after c.args.plan.now items two)) (sym c.failed-in-Err-bring.ensures)
+    subst (λ f. IfDiskFailed f (HasFailed c.args.node c.args.slot c.args.dinode c.args.blocks.now c.args.time before after c.args.plan.now items two)) (sym c.failed-in-Err-bring.ensures)
     (failed_header c.args.node c.args.slot c.args.dinode c.args.blocks.now c.args.time before between after c.args.plan.now c.in-Some.header c.in-Some.is items one two c.in-Err-bring.fault.block home stop)
 
 pub returns-clause-replayed : goal.returns-clause-replayed
@@ -62,8 +62,8 @@ returns-clause-replayed g c =
     let one = c.bring.new.items.items in
     let two = c.bring-2.new.items.items in
     let block = get_or c.args.blocks.now c.in-Some.header.blkno 0 in
-    let last = clean_block before.disk.size block c.args.dinode c.args.time c.in-Some.header in
-    let last_is : c.in_ok-clean_block.field-0 ≡ last = c.in_ok-clean_block.ensures.value ∙ ap (λ n. clean_block n block c.args.dinode c.args.time c.in-Some.header) c.block_size.ensures in
+    let last = clean_block before.disk.size block c.args.slot c.args.dinode c.args.time c.in-Some.header in
+    let last_is : c.in_ok-clean_block.field-0 ≡ last = c.in_ok-clean_block.ensures.value ∙ ap (λ n. clean_block n block c.args.slot c.args.dinode c.args.time c.in-Some.header) c.block_size.ensures in
     let home =
     subst (λ (is : List TraceItem). HasBrought c.args.node before between c.args.plan.now.home.items is one) c.make_room.ensures.items
     (subst (λ (ws : List Written). HasBrought c.args.node before between ws c.make_room.new.items.items one) c.deref.ensures.value c.in-Ok.ensures.brought)
