@@ -31,7 +31,7 @@ use Rattle.peer_replay.specs.declared.planned.Plan.{Plan}
 use Rattle.shared_disk.specs.Disk.{Flight, IsIdle, flight_to}
 use Rattle.trace_text.specs.declared.item.TraceItem.{TraceItem}
 use Rattle.image_recovery.specs.Recoveries.{AreHeadersRead, AreReplays, CanReplayAll, HaveFailed}
-use Rattle.image_recovery.proofs.Ending.{flies_put, tells_one}
+use Rattle.image_recovery.proofs.Ending.{flies_put}
 use Rattle.image_recovery.proofs.Headers.{header_long}
 use Rattle.image_recovery.proofs.Recovered.{can_at}
 use Rattle.image_outcomes.specs.CutShort.{IsCutShort}
@@ -41,6 +41,7 @@ use Rattle.image_outcomes.proofs.CutShort as cuts
 use Rattle.cut_replays.proofs.Failed
 use Rattle.image_outcomes.proofs.Found.{place_whole}
 use Rattle.cut_replays.proofs.Stopped
+use Rattle.cut_replays.proofs.Stopped.{tells_all}
 
 -- ---- writes of some of these blocks
 
@@ -332,13 +333,6 @@ module _ (given : HeadersReadBack) (node time n : ℕ) (before between : Moment)
 
 -- ---- the law
 
-tells_all : (node slot time : ℕ) (before after : Moment) (js : List Journal) (ps : List Plan) (items : List TraceItem) → AreReplays node slot time before js ps after items → after.disk.tells ≡ before.disk.tells
-tells_all node slot time before after [] [] items (same, none) = ap (λ (m : Moment). m.disk.tells) same
-tells_all node slot time before after [] (p ∷ ps) items so = absurd so
-tells_all node slot time before after (j ∷ js) [] items so = absurd so
-tells_all node slot time before after (j ∷ js) (p ∷ ps) items (mid, first, later, are, one, rest) =
-    tells_all node (slot + 1) time mid after js ps later rest ∙ tells_one node slot j.dinode j.blocks time before mid p.home.items p.clean first one
-
 module _ (given : HeadersReadBack) (node time : ℕ) (before after : Moment) (m : MountedValue) (plans : List Plan) (items items' : List TraceItem) (block : Option ℕ) (left : Image) (t : Tree) (tells : IsTrue before.disk.tells)
     (idle : IsIdle before.disk) (sized : IsBlockSize before.disk.size) (is : IsMounted (image_of before.disk) m) (are : ArePlans (image_of before.disk) is.layout plans)
     (can : CanReplayAll before.disk m.journals plans) (read : AreHeadersRead before.disk.size 1 time m.journals plans) (f : HaveFailed node time before after m.journals plans items items' block)
@@ -375,5 +369,5 @@ module _ (given : HeadersReadBack) (node time : ℕ) (before after : Moment) (m 
   stands_left = (cut_replays_stand (image_of before.disk) left is.layout t (its_journals (image_of before.disk) m is) stands (cut f.plan.clean refl f.failed.stopped)).1
 
 pub failed_replays_stand : HeadersReadBack → FailedReplaysStand
-failed_replays_stand given node time before after m plans items items' block left t tells idle sized is are can read f stands outcome no_false =
-    stands_left given node time before after m plans items items' block left t tells idle sized is are can read f stands outcome no_false
+failed_replays_stand given node time before after m plans items items' block left t tells idle sized is are can read f stands of =
+    stands_left given node time before after m plans items items' block left t tells idle sized is are can read f stands of.outcome of.true_headers
