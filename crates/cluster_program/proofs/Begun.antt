@@ -79,8 +79,8 @@ module _ (given left : Inputs) (s : ScriptValue) (time : ℕ) (items : List Trac
       }
 
   whatever : (block : Option ℕ) → HaveFailed 1 time first after m.journals plans joined items block → StandsWhateverBecomes given.disk left.disk m
-  whatever block failed tree it is x of =
-      failing 1 time first after m plans joined items block x tree it.tells idle size is (planned.are it.tells is) (can given.disk m.journals plans planned.writable planned.headers) read failed it.stands of
+  whatever block failed tree it is =
+      failing 1 time first after m plans joined items block tree it.tells idle size is (planned.are it.tells is) (can given.disk m.journals plans planned.writable planned.headers) read failed it.stands
 
   pub replay_end : (f : ReplayFault) → replaying.HasCause 1 given.disk.count before left.disk_faults f → replaying.IfDiskFailed f (HaveFailed 1 time first after m.journals plans joined items)
       → replaying.IfNoMemory f (HaveReplayedSome 1 time first after m.journals plans joined items) → RunEnds given left s time items (Some m) None (status_of_replay f)

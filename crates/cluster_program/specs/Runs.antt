@@ -3,14 +3,13 @@ use Rattle.std.specs.Prelude.{ℕ, ◌≡◌, ◌≢◌, ◌+◌, ◌<◌, ⊤, 
 use Rattle.std.specs.FinMap.{empty}
 use Rattle.std.specs.List.{AllByRecursion}
 use Rattle.fault_counts.specs.Causes.{WentUp}
-use Rattle.cut_replays.specs.Failed.{IsOutcomeOn}
+use Rattle.cut_replays.specs.Failed.{StandsInEachOutcome}
 use Rattle.drafts.specs.declared.change.Written.{Written}
 use Rattle.file_tree.specs.Tree.{Tree}
 use Rattle.file_tree.specs.declared.call.Call.{Call}
 use Rattle.cluster_history.specs.History.{Legal, NoneLost, tree_of}
 use Rattle.glock_names.specs.Views.{Seen}
 use Rattle.image_model.specs.Image.{Image, image_of}
-use Rattle.image_model.specs.Replays.{StandsReplayed}
 use Rattle.image_model.specs.Rules.{IsBrokenBlock}
 use Rattle.image_mount.specs.Mounted.{Journal, MountedValue, IsMounted}
 use Rattle.trace_text.specs.declared.item.TraceItem.{TraceItem}
@@ -148,18 +147,19 @@ UnlessFault own P = P
 
 -- ---- what a replay leaves that was cut short
 
--- the image on the disk, with what its journals say in place, stands for each tree for which the given one does, so
+-- the image on the disk that is left stands, with what its journals say in place, for each tree for which the given one does so
 abbrev pub StandsStill : DiskState → DiskState → Type 0
 StandsStill given left = (tree : Tree) → IsImageOf given tree → IsImageOf left tree
 
--- Whatever becomes of the writes of node 1 that are in flight, the image, with what its journals say in place, stands for each tree for which the given one does.
+-- Whatever becomes of the writes of node 1 that are in flight on the disk that is left, old, new or torn without a false header, its image stands, with what its journals say in
+-- place, for each tree for which the given one does so.
 abbrev pub StandsWhateverBecomes : (given left : DiskState) → MountedValue → Type 0
-StandsWhateverBecomes given left m = (tree : Tree) → IsImageOf given tree → (is : IsMounted (image_of given) m) → (x : Image) → IsOutcomeOn left 1 is.layout x → StandsReplayed x tree
+StandsWhateverBecomes given left m = (tree : Tree) → IsImageOf given tree → (is : IsMounted (image_of given) m) → StandsInEachOutcome left 1 is.layout tree
 
 -- ---- how it ends
 
 -- How a run ends, of what was mounted, if anything was, and of the disk that the replay left, if that was whole: each line is answered and the node has unmounted;
--- the run didn't begin, before the first item; in the replay of a journal the disk failed, or there was no memory for it, behind the replays of those before it, and what is left stands, replayed, as before; or, in
+-- the run didn't begin, before the first item; in the replay of a journal the disk failed, or there was no memory for it, behind the replays of those before it, and what is left stands for what the image stood for; or, in
 -- a call behind the lines above it: the disk failed as its blocks were read or written; the call isn't built for what stands there, in an image that stands for
 -- no tree; or, in such an image too, a block is met that is told as broken (`MeetsDamage`); or there was no memory.
 pub data RunEnds (given left : Inputs) (s : ScriptValue) (time : ℕ) (items : List TraceItem) : Option MountedValue → Option Moment → Status → Type 0 where

@@ -20,10 +20,15 @@ pub record IsOutcomeOn (disk : DiskState) (node : ℕ) (l : Layout) (left : Imag
   pub outcome : IsImageOutcome (image_of disk) (flown_by disk node) left
   pub true_headers : NoFalseHeader (image_of disk) l (flown_by disk node) left
 
+-- The disk tells its blocks, and in each outcome of what the node has in flight on it the image stands, replayed, for the tree.
+pub record StandsInEachOutcome (disk : DiskState) (node : ℕ) (l : Layout) (t : Tree) : Type 0 where
+  pub tells : IsTrue disk.tells
+  pub stands : (left : Image) → IsOutcomeOn disk node l left → StandsReplayed left t
+
 -- Where the disk failed as the journals of a mounted image were replayed by their plans, whatever becomes of the writes that are in flight then is an
 -- image that stands, replayed, for the tree for which that image did.
 abbrev pub FailedReplaysStand : Type 0
-FailedReplaysStand = (node time : ℕ) (before after : Moment) (m : MountedValue) (plans : List Plan) (items items' : List TraceItem) (block : Option ℕ) (left : Image) (t : Tree) → IsTrue before.disk.tells
+FailedReplaysStand = (node time : ℕ) (before after : Moment) (m : MountedValue) (plans : List Plan) (items items' : List TraceItem) (block : Option ℕ) (t : Tree) → IsTrue before.disk.tells
     → IsIdle before.disk → IsBlockSize before.disk.size → (is : IsMounted (image_of before.disk) m) → ArePlans (image_of before.disk) is.layout plans → CanReplayAll before.disk m.journals plans
     → AreHeadersRead before.disk.size 1 time m.journals plans → HaveFailed node time before after m.journals plans items items' block → StandsReplayed (image_of before.disk) t
-    → IsOutcomeOn after.disk node is.layout left → StandsReplayed left t
+    → StandsInEachOutcome after.disk node is.layout t
