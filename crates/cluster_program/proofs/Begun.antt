@@ -1,7 +1,9 @@
 -- What is known of a run whose image was mounted and whose journals are replayed.
-use Rattle.std.proofs.Common.{◌≡◌, ℕ, ◌<◌, List, None, Some, sym, subst, arith}
+use Rattle.std.proofs.Common.{◌≡◌, ℕ, ◌<◌, List, Option, None, Some, sym, subst, arith}
 use Rattle.std.specs.Prelude.{◌≤◌, IsTrue}
 use Rattle.std.specs.List.{AllByRecursion}
+use Rattle.cut_replays.specs.Failed.{FailedReplaysStand}
+use Rattle.cut_replays.specs.Stopped.{StoppedReplaysStand}
 use Rattle.lone_node.specs.Turns.{Moment, moment}
 use Rattle.image_model.specs.Image.{image_of}
 use Rattle.damage_laws.specs.Telling.{HasRootInside}
@@ -32,7 +34,7 @@ use Rattle.script_lang.specs.Script.{ScriptValue}
 use Rattle.cluster_program.specs.Beginning.{HasBegun}
 use Rattle.cluster_program.specs.EndStatuses.{status_of_look, status_of_replay}
 use Rattle.cluster_program.specs.Mounting.{BeginEnds, IsMountedOn, IsMountedReplayed, IsStopped, LacksRoom, NotMounted, NotRead}
-use Rattle.cluster_program.specs.Runs.{ArePlansOf, ReplayFailed, ReplayLacksRoom, RunEnds, as_mounted, joined}
+use Rattle.cluster_program.specs.Runs.{ArePlansOf, ReplayFailed, ReplayLacksRoom, RunEnds, StandsStill, StandsWhateverBecomes, as_mounted, joined}
 use Rattle.cluster_program.specs.World.{Inputs}
 use Rattle.cluster_program.specs.declared.status.Status.TheVariants as status
 use Rattle.cluster_program.proofs.Mounts.{nothing_kept}
@@ -60,14 +62,31 @@ module _ (law : StoppedAreNotReplayed) (d : DiskState) (m : MountedValue) (on : 
 
 -- ---- how a replay ends that isn't whole
 
-module _ (given left : Inputs) (s : ScriptValue) (time : ℕ) (items : List TraceItem) (m : MountedValue) (plans : List Plan) (planned : ArePlansOf given.disk m plans) (before : ℕ → ℕ) (earlier : (j : ℕ) → given.disk_faults j ≤ before j) where
-  pub replay_end : (f : ReplayFault) → replaying.HasCause 1 given.disk.count before left.disk_faults f
-      → replaying.IfDiskFailed f (HaveFailed 1 time (moment given.disk given.disk_list) (moment left.disk left.disk_list) m.journals plans joined items)
-      → replaying.IfNoMemory f (HaveReplayedSome 1 time (moment given.disk given.disk_list) (moment left.disk left.disk_list) m.journals plans joined items)
-      → RunEnds given left s time items (Some m) None (status_of_replay f)
+module _ (given left : Inputs) (s : ScriptValue) (time : ℕ) (items : List TraceItem) (m : MountedValue) (plans : List Plan) (planned : ArePlansOf given.disk m plans) (before : ℕ → ℕ) (earlier : (j : ℕ) → given.disk_faults j ≤ before j)
+    (can : PlannedCanBeReplayed) (failing : FailedReplaysStand) (stopping : StoppedReplaysStand) (idle : IsIdle given.disk) (size : IsBlockSize given.disk.size) (on : IsMountedOn given.disk m) (read : AreHeadersRead given.disk.size 1 time m.journals plans) where
+  abbrev first : Moment
+  first = moment given.disk given.disk_list
+
+  abbrev after : Moment
+  after = moment left.disk left.disk_list
+
+  as_before : HaveReplayedSome 1 time first after m.journals plans joined items → StandsStill given.disk left.disk
+  as_before some tree it =
+      let is = on it.tells in
+      let stands = stopping 1 time first after m plans joined items tree it.tells idle size is (planned.are it.tells is) (can given.disk m.journals plans planned.writable planned.headers) read some it.stands in record {
+        tells = stands.0;
+        stands = stands.1;
+      }
+
+  whatever : (block : Option ℕ) → HaveFailed 1 time first after m.journals plans joined items block → StandsWhateverBecomes given.disk left.disk m
+  whatever block failed tree it is =
+      failing 1 time first after m plans joined items block tree it.tells idle size is (planned.are it.tells is) (can given.disk m.journals plans planned.writable planned.headers) read failed it.stands
+
+  pub replay_end : (f : ReplayFault) → replaying.HasCause 1 given.disk.count before left.disk_faults f → replaying.IfDiskFailed f (HaveFailed 1 time first after m.journals plans joined items)
+      → replaying.IfNoMemory f (HaveReplayedSome 1 time first after m.journals plans joined items) → RunEnds given left s time items (Some m) None (status_of_replay f)
   replay_end (replay.DiskFailed block rise) cause failed some =
-      ReplayFailed m plans block rise.before rise.after planned (record { from = let low = earlier 1 in omega (arith, low, cause.0.from); rose = cause.0.rose; to = cause.0.to }) cause.1 failed
-  replay_end replay.NoMemory cause failed some = ReplayLacksRoom m plans planned some
+      ReplayFailed m plans block rise.before rise.after planned (record { from = let low = earlier 1 in omega (arith, low, cause.0.from); rose = cause.0.rose; to = cause.0.to }) cause.1 failed (whatever block failed)
+  replay_end replay.NoMemory cause failed some = ReplayLacksRoom m plans planned some (as_before some)
 
 -- ---- what a run that has begun sees
 

@@ -71,8 +71,8 @@ module _ (given left : Inputs) (sinks sinks_now : Outputs) where
   run_fault : (s : ScriptValue) (time : ℕ) (items : List TraceItem) (what : Option MountedValue) (replayed : Option Moment) (own : Status) → RunEnds given left s time items what replayed own → FaultHasCause given left sinks sinks_now own
   run_fault s time items what replayed own (IsDone m r all whole) = tt
   run_fault s time items what replayed own (NotBegun own' none same ends) = begin_fault own ends
-  run_fault s time items what replayed own (ReplayFailed m plans block x y are up within failed) = up
-  run_fault s time items what replayed own (ReplayLacksRoom m plans are some) = tt
+  run_fault s time items what replayed own (ReplayFailed m plans block x y are up within failed stand) = up
+  run_fault s time items what replayed own (ReplayLacksRoom m plans are some stand) = tt
   run_fault s time items what replayed own (CallFailed m r block x y root up within at) = up
   run_fault s time items what replayed own (CallUnbuilt m r place none at) = tt
   run_fault s time items what replayed own (CallDamaged m r block rule never at) = tt

@@ -255,9 +255,9 @@ pub of_ends : BegunHasNoCall → (given left : Inputs) (s : ScriptValue) (time :
     → RunEnds given left s time items value replayed own → HasNoCall s items (IsImageOf given.disk)
 of_ends law given left s time items own value replayed is form (IsDone m r all whole) = cc
 of_ends law given left s time items own value replayed is form (NotBegun own' none same ends) = no_items s items (IsImageOf given.disk) none
-of_ends law given left s time items own value replayed is form (ReplayFailed m plans block x y are up within failed) =
+of_ends law given left s time items own value replayed is form (ReplayFailed m plans block x y are up within failed stand) =
     only_begun law s items (IsImageOf given.disk) form (begun_failed time (moment given.disk given.disk_list) (moment left.disk left.disk_list) m.journals plans items block failed)
-of_ends law given left s time items own value replayed is form (ReplayLacksRoom m plans are some) =
+of_ends law given left s time items own value replayed is form (ReplayLacksRoom m plans are some stand) =
     only_begun law s items (IsImageOf given.disk) form (begun_by time (moment given.disk given.disk_list) (moment left.disk left.disk_list) (take some.count m.journals) (take some.count plans) items some.replayed)
 of_ends law given left s time items own value replayed is form (CallFailed m r block x y root up within at) = cc
 of_ends law given left s time items own value replayed is form (CallUnbuilt m r place none at) = cc
@@ -269,8 +269,8 @@ pub none_done : (given left : Inputs) (s : ScriptValue) (time : ℕ) (items : Li
     → own ≡ status.Done → ⊥
 none_done given left s time items own value replayed is (IsDone m r all whole) done = let both : ◌≡◌ {A = Option Moment} (Some r) None = is in cc
 none_done given left s time items own value replayed is (NotBegun own' none same ends) done = begin_never_done given.disk given.disk_faults left.disk_faults own ends done
-none_done given left s time items own value replayed is (ReplayFailed m plans block x y are up within failed) done = cc
-none_done given left s time items own value replayed is (ReplayLacksRoom m plans are some) done = cc
+none_done given left s time items own value replayed is (ReplayFailed m plans block x y are up within failed stand) done = cc
+none_done given left s time items own value replayed is (ReplayLacksRoom m plans are some stand) done = cc
 none_done given left s time items own value replayed is (CallFailed m r block x y root up within at) done = cc
 none_done given left s time items own value replayed is (CallUnbuilt m r place none at) done = cc
 none_done given left s time items own value replayed is (CallDamaged m r block rule none at) done = cc
@@ -280,8 +280,8 @@ none_done given left s time items own value replayed is (NoRoom m r) done = cc
 some_value : (given left : Inputs) (s : ScriptValue) (time : ℕ) (items : List TraceItem) (own : Status) (value : Option MountedValue) (replayed : Option Moment) → RunEnds given left s time items value replayed own → items ≢ [] → IsSome value
 some_value given left s time items own value replayed (IsDone m r all whole) some = refl
 some_value given left s time items own value replayed (NotBegun own' none same ends) some = absurd (some none)
-some_value given left s time items own value replayed (ReplayFailed m plans block x y are up within failed) some = refl
-some_value given left s time items own value replayed (ReplayLacksRoom m plans are front) some = refl
+some_value given left s time items own value replayed (ReplayFailed m plans block x y are up within failed stand) some = refl
+some_value given left s time items own value replayed (ReplayLacksRoom m plans are front stand) some = refl
 some_value given left s time items own value replayed (CallFailed m r block x y root up within at) some = refl
 some_value given left s time items own value replayed (CallUnbuilt m r place none at) some = refl
 some_value given left s time items own value replayed (CallDamaged m r block rule none at) some = refl
@@ -320,8 +320,8 @@ never_done first end.NoMemory is = cc
 pub no_run_fault : (given left : Inputs) (s : ScriptValue) (time : ℕ) (items : List TraceItem) (what : Option MountedValue) (replayed : Option Moment) (own : Status) → RunEnds given left s time items what replayed own → IsSinkFault own → ⊥
 no_run_fault given left s time items what replayed own (IsDone m r all whole) never = never
 no_run_fault given left s time items what replayed own (NotBegun own' none same ends) never = no_begin_fault given.disk given.disk_faults left.disk_faults own ends never
-no_run_fault given left s time items what replayed own (ReplayFailed m plans block x y are up within failed) never = never
-no_run_fault given left s time items what replayed own (ReplayLacksRoom m plans are some) never = never
+no_run_fault given left s time items what replayed own (ReplayFailed m plans block x y are up within failed stand) never = never
+no_run_fault given left s time items what replayed own (ReplayLacksRoom m plans are some stand) never = never
 no_run_fault given left s time items what replayed own (CallFailed m r block x y root up within at) never = never
 no_run_fault given left s time items what replayed own (CallUnbuilt m r place none at) never = never
 no_run_fault given left s time items what replayed own (CallDamaged m r block rule none at) never = never

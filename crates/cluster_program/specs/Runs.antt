@@ -3,6 +3,7 @@ use Rattle.std.specs.Prelude.{ℕ, ◌≡◌, ◌≢◌, ◌+◌, ◌<◌, ⊤, 
 use Rattle.std.specs.FinMap.{empty}
 use Rattle.std.specs.List.{AllByRecursion}
 use Rattle.fault_counts.specs.Causes.{WentUp}
+use Rattle.cut_replays.specs.Failed.{StandsInEachOutcome}
 use Rattle.drafts.specs.declared.change.Written.{Written}
 use Rattle.file_tree.specs.Tree.{Tree}
 use Rattle.file_tree.specs.declared.call.Call.{Call}
@@ -144,10 +145,21 @@ abbrev pub UnlessFault : Status → Type 0 → Type 0
 UnlessFault (status.DeviceFault node block x y) P = ⊤
 UnlessFault own P = P
 
+-- ---- what a replay leaves that was cut short
+
+-- the image on the disk that is left stands, with what its journals say in place, for each tree for which the given one does so
+abbrev pub StandsStill : DiskState → DiskState → Type 0
+StandsStill given left = (tree : Tree) → IsImageOf given tree → IsImageOf left tree
+
+-- Whatever becomes of the writes of node 1 that are in flight on the disk that is left, old, new or torn without a false header, its image stands, with what its journals say in
+-- place, for each tree for which the given one does so.
+abbrev pub StandsWhateverBecomes : (given left : DiskState) → MountedValue → Type 0
+StandsWhateverBecomes given left m = (tree : Tree) → IsImageOf given tree → (is : IsMounted (image_of given) m) → StandsInEachOutcome left 1 is.layout tree
+
 -- ---- how it ends
 
 -- How a run ends, of what was mounted, if anything was, and of the disk that the replay left, if that was whole: each line is answered and the node has unmounted;
--- the run didn't begin, before the first item; in the replay of a journal the disk failed, or there was no memory for it, behind the replays of those before it; or, in
+-- the run didn't begin, before the first item; in the replay of a journal the disk failed, or there was no memory for it, behind the replays of those before it, and what is left stands for what the image stood for; or, in
 -- a call behind the lines above it: the disk failed as its blocks were read or written; the call isn't built for what stands there, in an image that stands for
 -- no tree; or, in such an image too, a block is met that is told as broken (`MeetsDamage`); or there was no memory.
 pub data RunEnds (given left : Inputs) (s : ScriptValue) (time : ℕ) (items : List TraceItem) : Option MountedValue → Option Moment → Status → Type 0 where
@@ -157,10 +169,10 @@ pub data RunEnds (given left : Inputs) (s : ScriptValue) (time : ℕ) (items : L
   ReplayFailed : (m : MountedValue) (plans : List Plan) (block : Option ℕ) (x y : ℕ) → ArePlansOf given.disk m plans
       → WentUp (given.disk_faults 1) (left.disk_faults 1) x y → IfSome block (λ b. b < given.disk.count)
       → HaveFailed 1 time (moment given.disk given.disk_list) (moment left.disk left.disk_list) m.journals plans joined items block
-      → RunEnds given left s time items (Some m) None (status.DeviceFault 1 block x y)
+      → StandsWhateverBecomes given.disk left.disk m → RunEnds given left s time items (Some m) None (status.DeviceFault 1 block x y)
   ReplayLacksRoom : (m : MountedValue) (plans : List Plan) → ArePlansOf given.disk m plans
       → HaveReplayedSome 1 time (moment given.disk given.disk_list) (moment left.disk left.disk_list) m.journals plans joined items
-      → RunEnds given left s time items (Some m) None status.NoMemory
+      → StandsStill given.disk left.disk → RunEnds given left s time items (Some m) None status.NoMemory
   CallFailed : (m : MountedValue) (replayed : Moment) (block : Option ℕ) (x y : ℕ) → HasRootInside (seen_alone (as_mounted given.disk m))
       → WentUp (given.disk_faults 1) (left.disk_faults 1) x y → IfSome block (λ b. b < given.disk.count)
       → AtCall given s items (λ call. IsFailedOn replayed (moment left.disk left.disk_list) (as_mounted given.disk m) time s.clients items call block)

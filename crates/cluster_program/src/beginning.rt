@@ -12,6 +12,7 @@ ghost use Rattle.cluster_program.specs.World.{inputs};
 use crate::end_status::{not_planned, not_replayed};
 use crate::mounting::{Ready, mount, ready_of};
 use crate::status::Status;
+use cut_replays::{failed_replays_stand, stopped_replays_stand};
 use image_recovery::{a_replay_leaves_its_image, planned_replays_can_be_made, replay_journals};
 use image_replays::{plan_replay, stopped_images_have_no_replay};
 use lone_node::join;
@@ -39,6 +40,8 @@ pub(crate) fn begin<D: SharedDisk>(
 {
     planned_replays_can_be_made();
     a_replay_leaves_its_image();
+    stopped_replays_stand();
+    failed_replays_stand();
     stopped_images_have_no_replay();
     let mounted = match mount(alloc, disk) {
         Ok(mounted) => mounted,

@@ -23,7 +23,7 @@ use Rattle.journal_outcomes.specs.Images.{IsImageOutcome, IsPlaceIn, NoFalseHead
 use Rattle.journal_outcomes.specs.Rings.{ReadsAsEither}
 use Rattle.journal_plans.specs.Plans.{bytes_put}
 use Rattle.journal_replays.specs.Headers.{clean_block}
-use Rattle.journal_replays.specs.Replays.{StopsReplay, at_home, at_header}
+use Rattle.journal_replays.specs.Replays.{StopsBringing, StopsReplay, at_home, at_header}
 use Rattle.log_layout.specs.Journal.{accepted}
 use Rattle.log_layout.specs.Laws.{HeadersReadBack}
 use Rattle.log_layout.specs.declared.log_header.LogHeader.{LogHeader}
@@ -31,7 +31,7 @@ use Rattle.peer_replay.specs.declared.planned.Plan.{Plan}
 use Rattle.shared_disk.specs.Disk.{Flight, IsIdle, flight_to}
 use Rattle.trace_text.specs.declared.item.TraceItem.{TraceItem}
 use Rattle.image_recovery.specs.Recoveries.{AreHeadersRead, AreReplays, CanReplayAll, HaveFailed}
-use Rattle.image_recovery.proofs.Ending.{flies_put, tells_one}
+use Rattle.image_recovery.proofs.Ending.{flies_put}
 use Rattle.image_recovery.proofs.Headers.{header_long}
 use Rattle.image_recovery.proofs.Recovered.{can_at}
 use Rattle.image_outcomes.specs.CutShort.{IsCutShort}
@@ -41,6 +41,7 @@ use Rattle.image_outcomes.proofs.CutShort as cuts
 use Rattle.cut_replays.proofs.Failed
 use Rattle.image_outcomes.proofs.Found.{place_whole}
 use Rattle.cut_replays.proofs.Stopped
+use Rattle.cut_replays.proofs.Stopped.{tells_all}
 
 -- ---- writes of some of these blocks
 
@@ -330,14 +331,27 @@ module _ (given : HeadersReadBack) (node time n : ℕ) (before between : Moment)
       pub failed_at_header : IsCutShort im is.layout left
       failed_at_header = header_cut left (outcome.size ∙ size_after) (outcome.count ∙ count_after) h (record { clean = clean; others = left_others; whole = left_whole; either = left_either })
 
--- ---- the law
+-- ---- the disk that failed tells as before
 
-tells_all : (node slot time : ℕ) (before after : Moment) (js : List Journal) (ps : List Plan) (items : List TraceItem) → AreReplays node slot time before js ps after items → after.disk.tells ≡ before.disk.tells
-tells_all node slot time before after [] [] items (same, none) = ap (λ (m : Moment). m.disk.tells) same
-tells_all node slot time before after [] (p ∷ ps) items so = absurd so
-tells_all node slot time before after (j ∷ js) [] items so = absurd so
-tells_all node slot time before after (j ∷ js) (p ∷ ps) items (mid, first, later, are, one, rest) =
-    tells_all node (slot + 1) time mid after js ps later rest ∙ tells_one node slot j.dinode j.blocks time before mid p.home.items p.clean first one
+tells_bringing : (node : ℕ) (before after : Moment) (ws : List Written) (block : Option ℕ) (items : List TraceItem) → StopsBringing node before after ws block items → after.disk.tells ≡ before.disk.tells
+tells_bringing node before after ws block items s = s.stopped.stopped.disk.tells ∙ s.stopped.brought.written.tells
+
+tells_stopped : (node : ℕ) (before after : Moment) (home : List Written) (header : Written) (block : Option ℕ) (items : List TraceItem) → StopsReplay node before after home header block items → after.disk.tells ≡ before.disk.tells
+tells_stopped node before after home header block items (at_home s) = tells_bringing node before after home block items s
+tells_stopped node before after home header block items (at_header mid homes more s are) = tells_bringing node mid after (header ∷ []) block more s ∙ homes.written.tells
+
+tells_failed : (node time : ℕ) (before after : Moment) (m : MountedValue) (plans : List Plan) (items items' : List TraceItem) (block : Option ℕ) → HaveFailed node time before after m.journals plans items items' block
+    → IsTrue before.disk.tells → IsTrue after.disk.tells
+tells_failed node time before after m plans items items' block f tells =
+    subst IsTrue (sym (stopped f.plan.clean f.failed.stopped ∙ tells_all node 1 time before f.between (take f.count m.journals) (take f.count plans) f.replayed.added f.replayed.replays)) tells
+  where
+    stopped : (o : Option LogHeader)
+        → MatchOption o ⊥ (λ (h : LogHeader). StopsReplay node f.between after f.plan.home.items (clean_block f.between.disk.size (get_or f.journal.blocks h.blkno 0) (f.count + 1) f.journal.dinode time h) block f.failed.added)
+        → after.disk.tells ≡ f.between.disk.tells
+    stopped None x = absurd x
+    stopped (Some h) x = tells_stopped node f.between after f.plan.home.items (clean_block f.between.disk.size (get_or f.journal.blocks h.blkno 0) (f.count + 1) f.journal.dinode time h) block f.failed.added x
+
+-- ---- the law
 
 module _ (given : HeadersReadBack) (node time : ℕ) (before after : Moment) (m : MountedValue) (plans : List Plan) (items items' : List TraceItem) (block : Option ℕ) (left : Image) (t : Tree) (tells : IsTrue before.disk.tells)
     (idle : IsIdle before.disk) (sized : IsBlockSize before.disk.size) (is : IsMounted (image_of before.disk) m) (are : ArePlans (image_of before.disk) is.layout plans)
@@ -375,5 +389,7 @@ module _ (given : HeadersReadBack) (node time : ℕ) (before after : Moment) (m 
   stands_left = (cut_replays_stand (image_of before.disk) left is.layout t (its_journals (image_of before.disk) m is) stands (cut f.plan.clean refl f.failed.stopped)).1
 
 pub failed_replays_stand : HeadersReadBack → FailedReplaysStand
-failed_replays_stand given node time before after m plans items items' block left t tells idle sized is are can read f stands outcome no_false =
-    stands_left given node time before after m plans items items' block left t tells idle sized is are can read f stands outcome no_false
+failed_replays_stand given node time before after m plans items items' block t tells idle sized is are can read f stands = record {
+  tells = tells_failed node time before after m plans items items' block f tells;
+  stands = λ left of. stands_left given node time before after m plans items items' block left t tells idle sized is are can read f stands of.outcome of.true_headers;
+}

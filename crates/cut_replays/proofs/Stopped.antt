@@ -31,7 +31,7 @@ use Rattle.shared_disk.specs.Disk.{DiskState, IsIdle}
 use Rattle.trace_text.specs.declared.item.TraceItem.{TraceItem}
 use Rattle.image_recovery.specs.Ended.{AreApart, AreOnce, AreTheirs, HasEnded, IsNoHeader}
 use Rattle.image_recovery.specs.Recoveries.{AreHeadersRead, AreReplays, CanReplayAll}
-use Rattle.image_recovery.proofs.Ending.{HaveOwnPlaces, leaves_place, read_is, replayed_have_ended, rests_all, stays_all}
+use Rattle.image_recovery.proofs.Ending.{HaveOwnPlaces, leaves_place, read_is, replayed_have_ended, rests_all, stays_all, tells_one}
 use Rattle.image_recovery.proofs.Headers.{IsHeaderIn, header_all, header_long, header_or_not, places_one}
 use Rattle.image_recovery.proofs.Left.{replayed_is_left}
 use Rattle.image_recovery.proofs.Mapped.{apart, once, place_at, theirs}
@@ -293,10 +293,19 @@ module _ (given : HeadersReadBack) (node time n : ℕ) (before after : Moment) (
     journals = says_or_through;
   }
 
+pub tells_all : (node slot time : ℕ) (before after : Moment) (js : List Journal) (ps : List Plan) (items : List TraceItem) → AreReplays node slot time before js ps after items → after.disk.tells ≡ before.disk.tells
+tells_all node slot time before after [] [] items (same, none) = ap (λ (m : Moment). m.disk.tells) same
+tells_all node slot time before after [] (p ∷ ps) items so = absurd so
+tells_all node slot time before after (j ∷ js) [] items so = absurd so
+tells_all node slot time before after (j ∷ js) (p ∷ ps) items (mid, first, later, are, one, rest) =
+    tells_all node (slot + 1) time mid after js ps later rest ∙ tells_one node slot j.dinode j.blocks time before mid p.home.items p.clean first one
+
 pub stopped_replays_stand : HeadersReadBack → StoppedReplaysStand
 stopped_replays_stand given node time before after m plans items items' t tells idle sized is are can read some stands =
     let im = image_of before.disk in
     let journals = its_journals im m is in
     let whole = place_whole im is.layout journals stands.replayed (replayed_by_any im stands.replayed is.layout stands.layout journals stands.is) stands.stands.owners stands.stands.layout t
-    (record { laid = stands.stands.laid; reads = stands.stands.reads }) in
-    (cut_replays_stand im (image_of after.disk) is.layout t journals stands (cut_short given node time some.count before after m plans some.replayed.added tells idle sized is are can read some.replayed.replays whole)).1
+    (record { laid = stands.stands.laid; reads = stands.stands.reads }) in (
+      subst IsTrue (sym (tells_all node 1 time before after (take some.count m.journals) (take some.count plans) some.replayed.added some.replayed.replays)) tells,
+      (cut_replays_stand im (image_of after.disk) is.layout t journals stands (cut_short given node time some.count before after m plans some.replayed.added tells idle sized is are can read some.replayed.replays whole)).1,
+    )

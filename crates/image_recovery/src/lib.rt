@@ -2,6 +2,7 @@
 #![tactic(auto)]
 
 mod laws;
+mod read_back;
 mod recovering;
 
 pub use journal_replays::{Plan, ReplayFault};

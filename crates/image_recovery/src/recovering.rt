@@ -7,6 +7,7 @@ ghost use Rattle.journal_replays.specs.Faults.{HasCause, IfDiskFailed, IfNoMemor
 ghost use Rattle.journal_replays.specs.Replays.{IsSameDisk};
 ghost use Rattle.image_recovery.specs.Recoveries.{AreHeadersRead, CanReplayAll, HaveFailed, HaveReplayed, HaveReplayedSome};
 
+use crate::read_back::headers_are_read;
 use image_mount::JournalMap;
 use journal_replays::{Plan, ReplayFault, replay_journal};
 use shared_disk::SharedDisk;
@@ -31,7 +32,7 @@ pub fn replay_journals<D: SharedDisk>(
     requires few { length plans.now < 256 }
     requires can { CanReplayAll (D.state disk.old) journals.now plans.now }
     ensures replayed { OnOk result (HaveReplayed node time (moment (D.state disk.old) (D.list disk.old)) (moment (D.state disk.new) (D.list disk.new)) journals.now plans.now items.old.items items.new.items) }
-    ensures headers { OnOk result (AreHeadersRead (D.state disk.old).size 1 time journals.now plans.now) }
+    ensures headers { AreHeadersRead (D.state disk.old).size 1 time journals.now plans.now }
     ensures idle { OnOk result (IsIdle (D.state disk.new)) }
     ensures disk { OnOk result (IsSameDisk (D.state disk.old) (D.state disk.new)) }
     ensures failed { IfErr result (λ fault. IfDiskFailed fault (HaveFailed node time (moment (D.state disk.old) (D.list disk.old)) (moment (D.state disk.new) (D.list disk.new)) journals.now plans.now items.old.items items.new.items)) }
@@ -39,6 +40,7 @@ pub fn replay_journals<D: SharedDisk>(
     ensures later { (i : ℕ) → D.faults disk.old i ≤ D.faults disk.new i }
     ensures cause { IfErr result (HasCause node (D.state disk.old).count (D.faults disk.old) (D.faults disk.new)) }
 {
+    headers_are_read(disk.block_size(), journals, plans, time);
     for (place, plan) in plans.iter().enumerate() {
         let journal = &journals[place];
         match replay_journal(

@@ -1,7 +1,7 @@
 use Rattle.std.proofs.Common.{◌≡◌, ℕ, ◌≤◌, None, Some, sym, ◌∙◌, subst, arith}
 use Rattle.lone_node.specs.Turns.{moment}
 use Rattle.shared_disk.specs.Disk.{DiskState}
-use Rattle.image_recovery.specs.Recoveries.{HaveFailed, HaveReplayedSome}
+use Rattle.image_recovery.specs.Recoveries.{AreHeadersRead, HaveFailed, HaveReplayedSome}
 use Rattle.journal_replays.specs.Faults as replaying
 use Rattle.cluster_program.specs.Beginning.{HasBegun}
 use Rattle.cluster_program.specs.Mounting.{BeginEnds, LacksRoom, MountEnds, NotMounted}
@@ -74,7 +74,7 @@ module _ (g : Over) (c : goal.After-drop-plans-in-Ok-replay_journals g) where
       has_begun (moment d (g.D.SharedDisk.list c.args.disk.now)) _ c.deref.result.now c.deref-2.result.now c.join.new.items.items c.in-Ok.mounted c.in-Ok-plan_replay.plans.items upto_is (c.deref.ensures.value ∙ c.in-Ok-ready_of.ensures.journals) c.deref-2.ensures.value c.in-Ok-join.ensures.joined
       c.planned_replays_can_be_made.ensures c.a_replay_leaves_its_image.ensures c.requires.idle c.requires.size c.in-Ok.ensures.mounted c.in-Ok.ensures.replayed planned
       (moment (g.D.SharedDisk.state c.replay_journals.new.disk) (g.D.SharedDisk.list c.replay_journals.new.disk)) c.args.time c.replay_journals.new.items.items c.in-Ok-ready_of.ready.view c.in-Ok-ready_of.ensures.view c.in-Ok-ready_of.ensures.on c.in-Ok-ready_of.ensures.root
-      c.in-Ok-replay_journals.ensures.replayed c.in-Ok-replay_journals.ensures.headers c.in-Ok-replay_journals.ensures.idle
+      c.in-Ok-replay_journals.ensures.replayed c.replay_journals.ensures.headers c.in-Ok-replay_journals.ensures.idle
       (record { size = c.in-Ok-replay_journals.ensures.disk.size; count = c.in-Ok-replay_journals.ensures.disk.count; tells = c.in-Ok-replay_journals.ensures.disk.tells; fenced = c.in-Ok-replay_journals.ensures.disk.fenced })
 
 pub returns-in-Ok-replay_journals-clause-begun : goal.returns-in-Ok-replay_journals-clause-begun
@@ -100,9 +100,12 @@ returns-clause-ends g c s left left_now failed failed_now =
     (λ t j q i. replaying.IfDiskFailed f (HaveFailed 1 c.args.time t after j q i c.replay_journals.new.items.items)) c.in-Err-replay_journals.ensures.failed in
     let some = so (moment d (g.D.SharedDisk.list c.args.disk.now)) upto c.deref.result.now c.deref-2.result.now c.join.new.items.items m plans upto_is journals c.deref-2.ensures.value c.in-Ok-join.ensures.joined
     (λ t j q i. replaying.IfNoMemory f (HaveReplayedSome 1 c.args.time t after j q i c.replay_journals.new.items.items)) c.in-Err-replay_journals.ensures.some in
+    let read = so (moment d (g.D.SharedDisk.list c.args.disk.now)) upto c.deref.result.now c.deref-2.result.now c.join.new.items.items m plans upto_is journals c.deref-2.ensures.value c.in-Ok-join.ensures.joined
+    (λ t j q i. AreHeadersRead t.disk.size 1 c.args.time j q) c.replay_journals.ensures.headers in
     let earlier : (j : ℕ) → given.disk_faults j ≤ g.D.SharedDisk.faults c.plan_replay.new.disk j = λ j. below (c.in-Ok.ensures.reads.later j) (c.in-Ok-plan_replay.ensures.reads.later j) in (
       Some m,
       c.in-Ok.ensures.mounted,
       subst (RunEnds given now s c.args.time c.replay_journals.new.items.items (Some m) None) (sym c.not_replayed.ensures)
-          (replay_end given now s c.args.time c.replay_journals.new.items.items m plans planned (g.D.SharedDisk.faults c.plan_replay.new.disk) earlier f cause stopped some),
+          (replay_end given now s c.args.time c.replay_journals.new.items.items m plans planned (g.D.SharedDisk.faults c.plan_replay.new.disk) earlier c.planned_replays_can_be_made.ensures c.failed_replays_stand.ensures c.stopped_replays_stand.ensures c.requires.idle c.requires.size c.in-Ok.ensures.mounted
+          read f cause stopped some),
     )

@@ -3,14 +3,16 @@ use Rattle.std.proofs.lemmas.List.{take_all}
 use Rattle.image_mount.specs.Mounted.{Journal}
 use Rattle.disk_items.specs.Deeds.{AreTold}
 use Rattle.disk_turns.specs.Turns.{Moment, moment}
-use Rattle.journal_replays.specs.Headers.{IsHeaderRead}
 use Rattle.journal_replays.specs.Replays.{CanReplay, HasFailed, HasReplayed}
 use Rattle.image_recovery.specs.Recoveries.{AreHeadersRead, AreReplays, HaveReplayed}
-use Rattle.image_recovery.proofs.Recovered.{as_many, at_item, below_all, can_at, can_same, failed_next, headers_next, replayed_next, same_on, starved_next}
+use Rattle.image_recovery.proofs.Recovered.{as_many, at_item, below_all, can_at, can_same, failed_next, replayed_next, same_on, starved_next}
 use Rattle.image_recovery.proofs.recovering.replay_journals.Goals as goal
 
 pub bounds-journals-place : goal.bounds-journals-place
 bounds-journals-place g c = below_all (g.D.SharedDisk.state c.args.disk.now) c.args.journals.now c.args.plans.now c.loop-place.place c.requires.can c.loop-place-test.true
+
+pub headers_are_read-requires-clause-can : goal.headers_are_read-requires-clause-can
+headers_are_read-requires-clause-can g c = (g.D.SharedDisk.state c.args.disk.now, c.requires.can)
 
 pub replay_journal-requires-clause-can : goal.replay_journal-requires-clause-can
 replay_journal-requires-clause-can g c =
@@ -88,9 +90,6 @@ loop-place-preserved g c =
           c.replay_journal.new.items.items refl so.replayed
           (subst (λ bs. HasReplayed c.args.node (c.loop-place.place + 1) journal.dinode bs c.args.time now next plan c.loop-place.items.items c.replay_journal.new.items.items) blocks
           (subst (λ n. HasReplayed c.args.node (c.loop-place.place + 1) n c.deref.result.now c.args.time now next plan c.loop-place.items.items c.replay_journal.new.items.items) dinode c.in-Ok.ensures.replayed));
-      headers = headers_next journals c.args.plans.now c.loop-place.place journal plan at_journal at_plan d.size c.args.time (c.loop-place.place + 1) refl so.headers
-          (subst (λ n. IsHeaderRead n (c.loop-place.place + 1) journal.dinode journal.blocks c.args.time plan.clean) so.same.size
-          (subst (λ bs. IsHeaderRead now.disk.size (c.loop-place.place + 1) journal.dinode bs c.args.time plan.clean) blocks (subst (λ n. IsHeaderRead now.disk.size (c.loop-place.place + 1) n c.deref.result.now c.args.time plan.clean) dinode c.in-Ok.ensures.header)));
       same = same_on d now.disk next.disk so.same c.in-Ok.ensures.disk;
       idle = c.in-Ok.ensures.idle;
       later = λ i. let before = so.later i in let more = c.in-Ok.ensures.later i in omega (arith, before, more);
@@ -105,8 +104,7 @@ returns-clause-replayed g c =
     (take_all c.loop-place.place c.args.journals.now (omega (arith, many, c.loop-place-test.false))) (take_all c.loop-place.place c.args.plans.now (omega (arith, c.loop-place-test.false))) c.loop-place.invariant.replayed
 
 pub returns-clause-headers : goal.returns-clause-headers
-returns-clause-headers g c =
-    let d = g.D.SharedDisk.state c.args.disk.now in
-    let many = as_many d c.args.journals.now c.args.plans.now c.requires.can in
-    subst₂ (AreHeadersRead d.size 1 c.args.time)
-    (take_all c.loop-place.place c.args.journals.now (omega (arith, many, c.loop-place-test.false))) (take_all c.loop-place.place c.args.plans.now (omega (arith, c.loop-place-test.false))) c.loop-place.invariant.headers
+returns-clause-headers g c = subst (λ n. AreHeadersRead n 1 c.args.time c.args.journals.now c.args.plans.now) c.block_size.ensures c.headers_are_read.ensures
+
+pub returns-in-Err-clause-headers : goal.returns-in-Err-clause-headers
+returns-in-Err-clause-headers g c = subst (λ n. AreHeadersRead n 1 c.args.time c.args.journals.now c.args.plans.now) c.block_size.ensures c.headers_are_read.ensures
