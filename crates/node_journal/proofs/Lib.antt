@@ -1,7 +1,8 @@
 pub mod Arounds
 pub mod NumbersPut
-pub mod Chunked
 pub mod Pieces
 pub mod Selected
 pub mod Placing
+pub mod Heads
+pub mod Indexed
 pub mod Lengths

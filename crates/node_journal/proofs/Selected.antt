@@ -1,11 +1,8 @@
 -- What is selected of a list.
-use Rattle.std.proofs.Common.{◌≡◌, ◌<◌, ◌+◌, ◌++◌, ℕ, Bool, true, false, List, [], ◌∷◌, length, get_or, drop, map, filter, refl, sym, ap, ◌∙◌, append_assoc, arith, subst}
+use Rattle.std.proofs.Common.{◌≡◌, ◌<◌, ◌+◌, ◌++◌, ℕ, Bool, true, false, List, [], ◌∷◌, length, get_or, drop, map, filter, refl, sym, ap, ◌∙◌, append_assoc}
 use mathlib.Core.Bool.{beq}
 use Rattle.std.specs.Prelude.{not, if◌then◌else◌}
-use Rattle.std.proofs.lemmas.List.{drop_more, get_or-map, length-map, map-append}
-use Rattle.std.proofs.lemmas.List.Elements.{All-filter}
-use Rattle.std.specs.List.{All}
-use Rattle.log_layout.specs.Chunks.{Logged}
+use Rattle.std.proofs.lemmas.List.{drop_more, map-append}
 use Rattle.std.proofs.lemmas.Bool.{cond-true, cond-false}
 
 -- what is looked for
@@ -40,11 +37,3 @@ module _ {A B C : Type 0} (f : A → B) (g : C → B) (p : B → Bool) (xs : Lis
   pub passes : (done : List C) (whole : List B) → p (f x) ≡ false
       → map g done ++ filter p (map f (drop i xs)) ≡ whole → map g done ++ filter p (map f (drop (i + 1) xs)) ≡ whole
   passes done whole fails so = ap (λ bs. map g done ++ bs) (sym (split ∙ cond-false _ _ _ fails)) ∙ so
-
--- what holds of all holds of those that are selected
-pub all_selected : {A C : Type 0} (f : A → Logged) (P : Logged → Type 0) (xs : List C) (g : C → Logged) (test : Logged → Bool) (chosen : List A)
-    → map f chosen ≡ filter test (map g xs) → All P (map g xs) → All (λ a. P (f a)) chosen
-all_selected f P xs g test chosen e all = λ k d h.
-    let Q : List Logged → Type 0 = λ bs. All P bs in
-    let holds : All P (map f chosen) = subst Q (sym e) (All-filter test P (map g xs) all) in
-    subst P (get_or-map f chosen k d (f d) h) (holds k (f d) (let less : k < length (map f chosen) = omega (arith, h, length-map chosen f) in less))

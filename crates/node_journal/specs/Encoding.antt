@@ -76,12 +76,16 @@ content_of t = filter (λ (e : Logged). e.plain) t.blocks
 abbrev pub metadata_of : Transaction → List Logged
 metadata_of t = filter (λ (e : Logged). not e.plain) t.blocks
 
--- content of files, then metadata, then revokes; a kind without entries has no chunk
+-- the blocks of these entries and revokes: content of files, then metadata, then revokes; a kind without entries has no chunk
+abbrev pub chunks_with : ℕ → ℕ → List Logged → List Logged → List ℕ → List (List ℕ)
+chunks_with size jid content metadata revokes =
+    flat_map (content_chunk size jid) (pieces (content_room size) content)
+    ++ (flat_map (metadata_chunk size jid) (pieces (numbers_room size) metadata)
+    ++ revoke_chunks size jid revokes)
+
+-- those of a transaction
 abbrev pub chunks : ℕ → ℕ → Transaction → List (List ℕ)
-chunks size jid t =
-    flat_map (content_chunk size jid) (pieces (content_room size) (content_of t))
-    ++ (flat_map (metadata_chunk size jid) (pieces (numbers_room size) (metadata_of t))
-    ++ revoke_chunks size jid t.revokes)
+chunks size jid t = chunks_with size jid (content_of t) (metadata_of t) t.revokes
 
 -- how many blocks a kind takes, of which each chunk has room for so many
 abbrev pub kind_size : ℕ → ℕ → ℕ

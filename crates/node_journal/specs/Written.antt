@@ -1,5 +1,5 @@
 -- What may be written to a journal.
-use Rattle.std.specs.Prelude.{ℕ, ◌≡◌, ◌≢◌, ◌+◌, ◌^◌, ◌<◌, ◌≤◌, false, length, map, Contains, Ok}
+use Rattle.std.specs.Prelude.{ℕ, ◌≡◌, ◌≢◌, ◌+◌, ◌^◌, ◌<◌, ◌≤◌, false, List, length, map, Contains, Ok}
 use Rattle.std.specs.List.{All}
 use Rattle.std.specs.List.Sorted.{IsStrictlyIncreasing}
 use Rattle.gfs2_layout.specs.Bytes.{u32_at}
@@ -11,6 +11,10 @@ use Rattle.node_journal.specs.Encoding.{header_of, header_place, header_block, s
 use Rattle.node_journal.specs.declared.place.Place.{Place}
 
 -- ---- what may be written
+
+-- each is a whole block
+abbrev pub AreWhole : ℕ → List Logged → Type 0
+AreWhole size es = All (λ (e : Logged). length e.bytes ≡ size) es
 
 -- a block is whole; metadata begins with the magic and is no log header
 pub record IsLoggable (size : ℕ) (e : Logged) : Type 0 where

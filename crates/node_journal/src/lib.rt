@@ -2,17 +2,19 @@
 #![tactic(auto)]
 
 mod around;
-mod chunks;
+mod blocks;
 mod cuts;
 mod encoding;
+mod entries;
 mod kinds;
 mod numbers;
 mod place;
-mod revokes;
 mod ring;
 mod sizes;
 
-pub use encoding::encode;
+pub use blocks::put_block;
+pub use encoding::{encode, put_header};
+pub use entries::Entries;
 pub use place::Place;
 pub use ring::Ring;
 pub use sizes::size;

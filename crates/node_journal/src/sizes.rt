@@ -8,9 +8,9 @@ ghost use Rattle.std.specs.Prelude.{◌*◌, map};
 
 use drafts::{Transaction, Written};
 
-// How many chunks and blocks so many entries take, where each chunk has room for so many.
+/// How many chunks and blocks so many entries take, where each chunk has room for so many.
 #[tactic(auto, using(crate::proofs::Arounds::division_is_less))]
-fn kind_size(room: u64, count: u64) -> u64
+pub(crate) fn kind_size(room: u64, count: u64) -> u64
     requires some { 0 < room }
     requires room { room ≤ 4096 }
     requires few { count ≤ 131072 }
