@@ -1,0 +1,5 @@
+pub mod Log
+pub mod Changes
+pub mod Transactions
+pub mod Flushing
+pub mod Homing
