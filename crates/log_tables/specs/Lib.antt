@@ -1,0 +1,4 @@
+pub mod Versions
+pub mod Kept
+pub mod Slots
+pub mod IsTables
