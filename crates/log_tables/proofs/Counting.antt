@@ -20,16 +20,16 @@ abbrev pub one : Bool → ℕ
 one b = cond b 1 0
 
 module _ {V : Type 0} where
-  at_key : (m : FinMap nat_cmp V) (k : ℕ) (v : V) → get (insert m k v) k ≡ Some v
+  pub at_key : (m : FinMap nat_cmp V) (k : ℕ) (v : V) → get (insert m k v) k ≡ Some v
   at_key = inserted_at nat_cmp_total nat_cmp-IsAntisymmetric
 
-  apart : (m : FinMap nat_cmp V) (k : ℕ) (v : V) (q : ℕ) → (q ≡ k → ⊥) → get (insert m k v) q ≡ get m q
+  pub apart : (m : FinMap nat_cmp V) (k : ℕ) (v : V) (q : ℕ) → (q ≡ k → ⊥) → get (insert m k v) q ≡ get m q
   apart = inserted_apart nat_cmp_total nat_cmp-IsAntisymmetric
 
-  gone : (m : FinMap nat_cmp V) (k : ℕ) → get (remove m k) k ≡ None
+  pub gone : (m : FinMap nat_cmp V) (k : ℕ) → get (remove m k) k ≡ None
   gone = removed_at nat_cmp_total nat_cmp-IsAntisymmetric
 
-  left : (m : FinMap nat_cmp V) (k q : ℕ) → (q ≡ k → ⊥) → get (remove m k) q ≡ get m q
+  pub left : (m : FinMap nat_cmp V) (k q : ℕ) → (q ≡ k → ⊥) → get (remove m k) q ≡ get m q
   left = removed_apart nat_cmp_total nat_cmp-IsAntisymmetric
 
   -- a removal where there is nothing changes nothing

@@ -1,5 +1,5 @@
 -- Which frame holds the bytes of what.
-use Rattle.std.specs.Prelude.{◌≡◌, ℕ, List, [], map, Option, None, Some, option_map, unwrap_or, nat_eq}
+use Rattle.std.specs.Prelude.{◌≡◌, ℕ, ◌+◌, List, [], map, Option, None, Some, option_map, unwrap_or, nat_eq}
 use Rattle.std.specs.Option.{option_and_then}
 use Rattle.std.specs.Ordering.{nat_cmp}
 use Rattle.std.specs.FinMap as table
@@ -54,3 +54,12 @@ frame_of fresh flushed live (Live b) = option_and_then (λ c. frame_of_hold c.ho
 pub record AreApart (at : Slot → Option ℕ) (pool : Frames) : Type 0 where
   pub out : (s : Slot) (frame : ℕ) → at s ≡ Some frame → IsOut pool frame
   pub apart : (s t : Slot) (frame : ℕ) → at s ≡ Some frame → at t ≡ Some frame → s ≡ t
+
+-- a frame goes out, with these bytes; each other is as it was
+pub record GoesOut (old new : Frames) (frame : ℕ) (bytes : List ℕ) : Type 0 where
+  pub size : new.size ≡ old.size
+  pub count : new.count ≡ old.count
+  pub was_in : table.get old.out frame ≡ None
+  pub here : table.get new.out frame ≡ Some bytes
+  pub others : (g : ℕ) → (g ≡ frame → ⊥) → table.get new.out g ≡ table.get old.out g
+  pub more : table.len new.out ≡ table.len old.out + 1

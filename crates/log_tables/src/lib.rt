@@ -2,6 +2,7 @@
 #![tactic(auto)]
 
 mod cells;
+mod frames;
 mod tables;
 
 #[doc(hidden)]

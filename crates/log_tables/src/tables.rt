@@ -1,5 +1,6 @@
 // The tables, and the frames behind them.
-use crate::cells::{Cell, Hold, LiveCell, take_frame, write_frame};
+use crate::cells::{Cell, LiveCell};
+use crate::frames::frame_with;
 use frame_pool::Pool;
 use glock_names::LockName;
 use indexmap::IndexMap;
@@ -73,8 +74,7 @@ impl Tables {
         requires room { frames_taken self.old < self.old.frames }
         ensures { self.new ≡ record self.old { fresh = map.insert self.old.fresh block (record { lock = lock; plain = plain; bytes = bytes.now }) } }
     {
-        let frame = take_frame(&mut self.pool);
-        write_frame(&mut self.pool, &frame, bytes);
+        let frame = frame_with(&mut self.pool, bytes);
         let _ = self.fresh.insert(block, Cell { lock, plain, frame });
     }
 }

@@ -1,9 +1,9 @@
-use Rattle.std.proofs.Common.{◌≡◌}
-use Rattle.log_tables.proofs.Counting.{passing_with}
+use Rattle.std.proofs.Common.{◌≡◌, ◌∙◌, ap, sym}
+use Rattle.log_tables.proofs.Keeping.{puts, stays_sound}
 use Rattle.log_tables.proofs.tables.Tables.put_new.Goals as goal
 
-pub write_frame-requires-clause-out : goal.write_frame-requires-clause-out
-write_frame-requires-clause-out c = ?
+pub frame_with-frame-requires-clause-room : goal.frame_with-frame-requires-clause-room
+frame_with-frame-requires-clause-room c = ?
 
 pub invariant_of-self : goal.invariant_of-self
 invariant_of-self c = ?

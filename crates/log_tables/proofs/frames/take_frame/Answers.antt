@@ -2,9 +2,7 @@
 use Rattle.std.proofs.Common.{◌≡◌, ◌≤◌, refl, arith}
 use Rattle.std.specs.FinMap as map
 use Rattle.log_tables.proofs.Counting.{all_below}
-use Rattle.log_tables.proofs.Seeing.{seen_alike}
-use Rattle.log_tables.proofs.Holding.{takes_frame}
-use Rattle.log_tables.proofs.cells.take_frame.Goals as goal
+use Rattle.log_tables.proofs.frames.take_frame.Goals as goal
 
 pub unreachable-requires : goal.unreachable-requires
 unreachable-requires c =
