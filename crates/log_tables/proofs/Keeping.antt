@@ -1,5 +1,5 @@
 -- The tables once a block was put into them.
-use Rattle.std.proofs.Common.{◌≡◌, ℕ, ◌+◌, ◌≤◌, Bool, true, false, cond, eqb, List, [], Option, None, Some, ◌⊎◌, inl, inr, refl, sym, ap, subst, ◌∙◌, true≢false, is_some, length, unwrap_or, arith}
+use Rattle.std.proofs.Common.{◌≡◌, ℕ, ◌+◌, ◌<◌, ◌≤◌, Bool, true, false, cond, eqb, List, [], Option, None, Some, ◌⊎◌, inl, inr, refl, sym, ap, subst, ◌∙◌, true≢false, is_some, length, unwrap_or, arith}
 use Rattle.std.proofs.lemmas.Bool.Decides.{eqb_tells}
 use Rattle.std.specs.Option.{IsSome, option_and_then, option_map}
 use Rattle.std.specs.Ordering.{nat_cmp}
@@ -43,6 +43,13 @@ Table = IndexMap ℕ Cell (BuildHasherDefault FoldHasher)
 
 eqb_self : (n : ℕ) → eqb n n ≡ true
 eqb_self n = elim (eqb_tells n n) [ inl e ↦ e.0 | inr e ↦ absurd (e.1 refl) ]
+
+-- where a frame is left, so is room among what was changed
+pub spare_left : (t : Inside) → IsTables t → frames_taken (kept_in t) < t.pool.count → 0 < spare t.fresh
+spare_left t h room = enough _ _ _ _ _ _ room h.fresh_len h.fresh_room
+  where
+    enough : (f g a n l s : ℕ) → f + g + a < n → f ≡ l → n ≤ l + s → 0 < s
+    enough f g a n l s p q r = omega arith
 
 -- ---- a block is put
 

@@ -1,4 +1,5 @@
 pub mod Counting
+pub mod Emptying
 pub mod Holding
 pub mod Keeping
 pub mod Seeing

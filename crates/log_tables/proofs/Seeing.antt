@@ -1,5 +1,5 @@
 -- What a table of cells stands for, once an entry or the bytes in the frames have changed.
-use Rattle.std.proofs.Common.{◌≡◌, ℕ, Bool, true, false, cond, eqb, List, map, Option, None, Some, refl, sym, ap, subst, ◌∙◌}
+use Rattle.std.proofs.Common.{◌≡◌, ℕ, Bool, true, false, cond, eqb, List, map, Option, None, Some, Result, Ok, Err, IfOk, OnOk, is_ok, is_some, true≢false, refl, sym, ap, ◌∙◌}
 use Rattle.std.specs.Option.{option_map}
 use Rattle.std.specs.Ordering.{nat_cmp}
 use Rattle.std.specs.Cmp.{nat_cmp_total}
@@ -41,3 +41,22 @@ module _ {A B : Type 0} where
       seen_alike f g es' is
       ∙ numbers_remove (map (λ e. (e.0, f e.1)) es) (map (λ e. (e.0, f e.1)) es') k
       (λ q. lookup-map_values f (eqb q) es' ∙ ap (option_map f) (set q) ∙ chosen f (eqb k q) None (lookup (eqb q) es) ∙ ap (cond (eqb k q) None) (sym (lookup-map_values f (eqb q) es)))
+
+  no_value : (f : A → B) (o : Option A) → is_some (option_map f o) ≡ false → o ≡ None
+  no_value f None is = refl
+  no_value f (Some a) is = absurd (true≢false is)
+
+  -- where the map has nothing, the table has nothing
+  pub absent-seen : (f : A → B) (es : List (ℕ × A)) (q : ℕ) → is_some (get (seen f es) q) ≡ false → lookup (eqb q) es ≡ None
+  absent-seen f es q is = no_value f (lookup (eqb q) es) (sym (ap is_some (get-seen f es q)) ∙ is)
+
+-- ---- what a call that succeeds tells
+
+module _ {T E : Type 0} where
+  pub on_ok : {P : Type 0} (r : Result T E) → is_ok r ≡ true → OnOk r P → P
+  on_ok (Ok x) is h = h
+  on_ok (Err e) is h = absurd (true≢false (sym is))
+
+  pub if_ok : {P Q : T → Type 0} (r : Result T E) → is_ok r ≡ true → IfOk r P → IfOk r Q → (x : T) × P x × Q x
+  if_ok (Ok x) is p q = (x, p, q)
+  if_ok (Err e) is p q = absurd (true≢false (sym is))
