@@ -57,18 +57,8 @@ impl Tables {
         })
     }
 
-    /// The block's change is dropped, if it has one.
-    pub fn remove(&mut self, block: u64)
-        ensures { self.new ≡ record self.old { fresh = map.remove self.old.fresh block } }
-    {
-        let Some(cell) = self.fresh.swap_remove(&block) else {
-            return;
-        };
-        self.pool.give(cell.frame);
-    }
-
-    // The block, which had no change, has this one.
-    fn put_new(&mut self, lock: LockName, block: u64, plain: bool, bytes: &[u8])
+    /// The block, which has no change, has this one.
+    pub fn put_new(&mut self, lock: LockName, block: u64, plain: bool, bytes: &[u8])
         requires whole { length bytes.now ≡ self.old.size }
         requires absent { map.contains_key self.old.fresh block ≡ false }
         requires room { frames_taken self.old < self.old.frames }

@@ -1,0 +1,40 @@
+-- That fixed room suffices.
+use Rattle.std.proofs.Common.{◌≡◌, ℕ, zero, suc, ◌+◌, ◌-◌, ◌<◌, ◌≤◌, Bool, true, false, cond, List, [], ◌∷◌, Option, None, Some, refl, sym, ap, subst, ◌∙◌, leb, length, arith}
+use Rattle.std.proofs.lemmas.List.Sums.{sum_by-cons}
+use Rattle.std.proofs.lemmas.Bool.Decides.{nat_tests}
+use Rattle.std.specs.List.{count_by}
+use Rattle.std.specs.FinMap as table
+use Rattle.std.specs.FinSet as set
+use Rattle.std.specs.Ordering.{nat_cmp}
+use Rattle.log_layout.specs.Journal.{way}
+use Rattle.log_memory.specs.Log.{Entry, LogValue, Version}
+use Rattle.log_memory.specs.Changes.{flushed_count, frames_taken}
+use Rattle.log_memory.specs.Flushing.{begun, begun_alone, behind_tail}
+use Rattle.log_memory.specs.Sound.{IsSoundLog, live_from, used}
+
+-- a flush that begins takes no frame and gives none back
+pub begun_takes : (log : LogValue) → log.flush ≡ None → frames_taken (begun log) ≡ frames_taken log
+begun_takes log none = moved _ _ _ _ (table.len-empty nat_cmp Version) (ap flushed_count none)
+  where
+    moved : (f e k a : ℕ) → e ≡ 0 → k ≡ 0 → e + f + a ≡ f + k + a
+    moved f e k a p q = omega arith
+
+-- each passes a test that each number passes
+all_pass : (xs : List (ℕ × Entry)) (log : LogValue) → count_by (λ (e : ℕ × Entry). leb 0 (behind_tail log e.1.first)) xs ≡ length xs
+all_pass [] log = refl
+all_pass (x ∷ xs) log =
+    more _ _ _ _ (zero_least (behind_tail log x.1.first)) (sum_by-cons (λ (e : ℕ × Entry). cond (leb 0 (behind_tail log e.1.first)) 1 0) x xs) (all_pass xs log)
+  where
+    zero_least : (n : ℕ) → leb 0 n ≡ true
+    zero_least n = grind (arith, nat_tests)
+
+    more : (s c l : ℕ) (b : Bool) → b ≡ true → s ≡ cond b 1 0 + c → c ≡ l → s ≡ suc l
+    more s c l true t p q = omega arith
+    more s c l false t p q = cc
+
+-- no more blocks are live than places are behind the tail
+pub live_fits : (log : LogValue) → IsSoundLog log → table.len log.live ≤ used log
+live_fits log sound = fits _ _ _ _ (sound.room 0 (omega arith)) (all_pass (table.entries log.live) log) (table.len-entries log.live)
+  where
+    fits : (u c l n : ℕ) → c + 0 ≤ u → c ≡ l → n ≡ l → n ≤ u
+    fits u c l n p q r = omega arith
