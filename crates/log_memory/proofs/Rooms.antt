@@ -1,12 +1,14 @@
 -- That fixed room suffices.
-use Rattle.std.proofs.Common.{◌≡◌, ℕ, zero, suc, ◌+◌, ◌-◌, ◌<◌, ◌≤◌, Bool, true, false, cond, List, [], ◌∷◌, Option, None, Some, refl, sym, ap, subst, ◌∙◌, leb, length, arith}
+use Rattle.std.proofs.Common.{◌≡◌, ℕ, zero, suc, ◌+◌, ◌-◌, ◌<◌, ◌≤◌, Bool, true, false, cond, List, [], ◌∷◌, Option, None, Some, ◌⊎◌, inl, inr, refl, sym, ap, subst, ◌∙◌, leb, length, arith}
 use Rattle.std.proofs.lemmas.List.Sums.{sum_by-cons}
+use Rattle.std.proofs.lemmas.Bool.{cases_lt}
 use Rattle.std.proofs.lemmas.Bool.Decides.{nat_tests}
 use Rattle.std.specs.List.{count_by}
 use Rattle.std.specs.FinMap as table
 use Rattle.std.specs.FinSet as set
 use Rattle.std.specs.Ordering.{nat_cmp}
-use Rattle.log_layout.specs.Journal.{way}
+use Rattle.log_layout.specs.Journal.{next, way}
+use Rattle.node_journal.specs.Places.{place_on}
 use Rattle.log_memory.specs.Log.{Entry, LogValue, Version}
 use Rattle.log_memory.specs.Changes.{flushed_count, frames_taken}
 use Rattle.log_memory.specs.Flushing.{begun, begun_alone, behind_tail}
@@ -38,3 +40,28 @@ live_fits log sound = fits _ _ _ _ (sound.room 0 (omega arith)) (all_pass (table
   where
     fits : (u c l n : ℕ) → c + 0 ≤ u → c ≡ l → n ≡ l → n ≤ u
     fits u c l n p q r = omega arith
+
+-- ---- round the ring
+
+-- where the way from the tail is not the whole ring, the next place is one further from it
+way_next : (places tail p : ℕ) → tail < places → p < places → way places tail p + 1 < places → (next places p < places) × (way places tail (next places p) ≡ way places tail p + 1)
+way_next places tail p t h far =
+    elim (cases_lt (p + 1) places) as (λ _. (next places p < places) × (way places tail (next places p) ≡ way places tail p + 1)) [
+      | inl in_ring ↦ (grind (arith, nat_tests), grind (arith, nat_tests))
+      | inr last ↦ (grind (arith, nat_tests), grind (arith, nat_tests))
+    ]
+
+-- so many places on it is so much further, and the journal's room for what is live grows with what is written
+pub way_on : (count places tail p : ℕ) → tail < places → p < places → way places tail p + count < places
+    → (place_on places p count < places) × (way places tail (place_on places p count) ≡ way places tail p + count)
+way_on zero places tail p t h far = (h, sym (omega arith))
+way_on (suc n) places tail p t h far =
+    let step = way_next places tail p t h (omega arith) in
+    let rest = way_on n places tail (next places p) t step.0 (further _ _ _ _ step.1 far) in
+    (rest.0, joined _ _ _ _ rest.1 step.1)
+  where
+    further : (w v m l : ℕ) → w ≡ v + 1 → v + suc m < l → w + m < l
+    further w v m l e k = omega arith
+
+    joined : (a w v m : ℕ) → a ≡ w + m → w ≡ v + 1 → a ≡ v + suc m
+    joined a w v m p q = omega arith

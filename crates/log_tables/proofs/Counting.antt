@@ -82,7 +82,7 @@ module _ {V : Type 0} where
   count_put p k v (e ∷ es) none =
       let rest = count_by (λ (f : ℕ × V). p f.1) in
       elim (nat_cmp k e.0) as (λ r. cond (is_eq r) (Some e.1) (find nat_cmp k es) ≡ None
-        → rest (by_order r ((k, v) ∷ e ∷ es) ((e.0, v) ∷ es) (e ∷ put nat_cmp k v es)) ≡ one (p v) + rest (e ∷ es)) [
+      → rest (by_order r ((k, v) ∷ e ∷ es) ((e.0, v) ∷ es) (e ∷ put nat_cmp k v es)) ≡ one (p v) + rest (e ∷ es)) [
         | Less ↦ λ _. sum_by-cons (λ (f : ℕ × V). one (p f.1)) (k, v) (e ∷ es)
         | Equal ↦ λ is. absurd (no_some e.1 is)
         | Greater ↦ λ is. later (one (p e.1)) (one (p v)) _ _ _ _ (sum_by-cons (λ (f : ℕ × V). one (p f.1)) e (put nat_cmp k v es)) (sum_by-cons (λ (f : ℕ × V). one (p f.1)) e es) (count_put p k v es is)
