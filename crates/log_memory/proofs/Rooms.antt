@@ -1,18 +1,17 @@
 -- That fixed room suffices.
-use Rattle.std.proofs.Common.{◌≡◌, ℕ, zero, suc, ◌+◌, ◌-◌, ◌<◌, ◌≤◌, Bool, true, false, cond, List, [], ◌∷◌, Option, None, Some, ◌⊎◌, inl, inr, refl, sym, ap, subst, ◌∙◌, leb, length, arith}
+use Rattle.std.proofs.Common.{◌≡◌, ℕ, zero, suc, ◌+◌, ◌-◌, ◌<◌, ◌≤◌, Bool, true, false, cond, List, [], ◌∷◌, None, inl, inr, refl, sym, ap, leb, length, arith}
 use Rattle.std.proofs.lemmas.List.Sums.{sum_by-cons}
 use Rattle.std.proofs.lemmas.Bool.{cases_lt}
 use Rattle.std.proofs.lemmas.Bool.Decides.{nat_tests}
 use Rattle.std.specs.List.{count_by}
 use Rattle.std.specs.FinMap as table
-use Rattle.std.specs.FinSet as set
 use Rattle.std.specs.Ordering.{nat_cmp}
 use Rattle.log_layout.specs.Journal.{next, way}
 use Rattle.node_journal.specs.Places.{place_on}
 use Rattle.log_memory.specs.Log.{Entry, LogValue, Version}
 use Rattle.log_memory.specs.Changes.{flushed_count, frames_taken}
-use Rattle.log_memory.specs.Flushing.{begun, begun_alone, behind_tail}
-use Rattle.log_memory.specs.Sound.{IsSoundLog, live_from, used}
+use Rattle.log_memory.specs.Flushing.{begun, behind_tail, free_in}
+use Rattle.log_memory.specs.Sound.{IsSoundLog, used}
 
 -- a flush that begins takes no frame and gives none back
 pub begun_takes : (log : LogValue) → log.flush ≡ None → frames_taken (begun log) ≡ frames_taken log
@@ -65,3 +64,11 @@ way_on (suc n) places tail p t h far =
 
     joined : (a w v m : ℕ) → a ≡ w + m → w ≡ v + 1 → a ≡ v + suc m
     joined a w v m p q = omega arith
+
+-- where there is room for so many places and one more, the head may go on by so many, and a place is left
+pub head_goes_on : (log : LogValue) → IsSoundLog log → (count : ℕ) → count + 1 ≤ free_in log
+    → (place_on log.journal.length log.head count < log.journal.length) × (way log.journal.length log.tail (place_on log.journal.length log.head count) ≡ used log + count)
+head_goes_on log sound count room = way_on count log.journal.length log.tail log.head sound.tail sound.head (near _ _ _ room)
+  where
+    near : (l w n : ℕ) → n + 1 ≤ l - (w + 1) → w + n < l
+    near l w n e = omega arith

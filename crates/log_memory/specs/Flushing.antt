@@ -1,6 +1,5 @@
 -- How a log is flushed, step by step.
 use Rattle.std.specs.Prelude.{◌≡◌, ◌≢◌, ◌⊎◌, ℕ, ◌+◌, ◌≤◌, false, List, [], length, nat_lt, slice_get, slice_index, Option, None, Some, if◌then◌else◌}
-use Rattle.std.specs.Ordering.{nat_cmp}
 use Rattle.std.specs.FinMap as table
 use Rattle.std.specs.FinSet as set
 use Rattle.log_layout.specs.Chunks.{Transaction}

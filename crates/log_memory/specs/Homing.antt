@@ -1,5 +1,5 @@
 -- How live blocks go home, and which are revoked.
-use Rattle.std.specs.Prelude.{◌≡◌, ◌↔◌, ℕ, ◌≤◌, ◌||◌, Bool, true, false, IsTrue, List, Option, None, Some}
+use Rattle.std.specs.Prelude.{◌≡◌, ℕ, ◌≤◌, ◌||◌, Bool, false, List, Option, None, Some}
 use Rattle.std.specs.FinMap as table
 use Rattle.std.specs.FinSet as set
 use Rattle.glock_names.specs.declared.LockName.{LockName}

@@ -1,5 +1,5 @@
 -- What of a log goes into one transaction.
-use Rattle.std.specs.Prelude.{ℕ, ◌<◌, ◌≡◌, Bool, List, map, length, Option, None, Some}
+use Rattle.std.specs.Prelude.{ℕ, map}
 use Rattle.std.specs.Ordering.{nat_cmp}
 use Rattle.std.specs.FinMap as table
 use Rattle.std.specs.FinSet as set
