@@ -1,7 +1,5 @@
 -- Frames stay apart, whatever is put, dropped and moved.
-use Rattle.std.proofs.Common.{◌≡◌, ℕ, true, false, Option, None, Some, ◌⊎◌, inl, inr, refl, sym, ap, subst, ◌∙◌, true≢false, is_some, unwrap_or}
-use Rattle.std.proofs.lemmas.Bool.{cases_eq}
-use Rattle.std.specs.Option.{IsSome}
+use Rattle.std.proofs.Common.{◌≡◌, ℕ, true, Option, None, Some, ◌⊎◌, inl, inr, sym, ap, subst, ◌∙◌, true≢false, is_some, unwrap_or}
 use Rattle.std.specs.FinMap.{get}
 use Rattle.frame_pool.specs.Frames.{Frames, IsOut}
 use Rattle.log_tables.specs.Slots.{AreApart, Slot}

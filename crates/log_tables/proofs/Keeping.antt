@@ -1,18 +1,17 @@
 -- The tables once a block was put into them.
-use Rattle.std.proofs.Common.{◌≡◌, ℕ, ◌+◌, ◌<◌, ◌≤◌, Bool, true, false, cond, eqb, List, [], Option, None, Some, ◌⊎◌, inl, inr, refl, sym, ap, subst, ◌∙◌, true≢false, is_some, length, unwrap_or, arith}
+use Rattle.std.proofs.Common.{◌≡◌, ℕ, ◌+◌, ◌<◌, ◌≤◌, true, cond, eqb, List, [], Option, None, Some, ◌⊎◌, inl, inr, refl, sym, ap, subst, ◌∙◌, true≢false, is_some, length, unwrap_or, arith}
 use Rattle.std.proofs.lemmas.Bool.Decides.{eqb_tells}
-use Rattle.std.specs.Option.{IsSome, option_and_then, option_map}
-use Rattle.std.specs.Ordering.{nat_cmp}
+use Rattle.std.specs.Option.{option_and_then, option_map}
 use Rattle.std.specs.Map.{lookup}
-use Rattle.std.specs.FinMap.{FinMap, get, insert, len}
+use Rattle.std.specs.FinMap.{get, insert, len}
 use Rattle.std.specs.declared.hash.FoldHasher.{FoldHasher}
 use Rattle.std.specs.declared.hash.BuildHasherDefault.{BuildHasherDefault}
 use Rattle.indexmap.specs.IndexMap.{IndexMap, spare}
 use Rattle.frame_pool.specs.Frames.{Frames, IsOut}
 use Rattle.log_tables.specs.Versions.{Entry, Version, Way}
-use Rattle.log_tables.specs.Versions.Way.{Home as home, Away as away, Flying as flying}
-use Rattle.log_tables.specs.Kept.{Kept, away_count, frames_taken}
-use Rattle.log_tables.specs.Slots.{AreApart, GoesOut, Slot, bytes_in, entry_in, frame_of, frame_of_hold, seen, version_in, way_in}
+use Rattle.log_tables.specs.Versions.Way.{Away as away, Flying as flying}
+use Rattle.log_tables.specs.Kept.{away_count, frames_taken}
+use Rattle.log_tables.specs.Slots.{GoesOut, Slot, bytes_in, entry_in, frame_of, frame_of_hold, seen, version_in, way_in}
 use Rattle.log_tables.specs.Slots.Slot.{Fresh, Flushed, Live}
 use Rattle.log_tables.specs.IsTables.{IsTables, kept_in}
 use Rattle.log_tables.specs.declared.cells.Cell.{Cell}

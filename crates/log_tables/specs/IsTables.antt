@@ -1,5 +1,5 @@
 -- What the fields of the tables stand for, and what always holds of them.
-use Rattle.std.specs.Prelude.{◌≡◌, ◌≤◌, ◌+◌, ◌*◌, length}
+use Rattle.std.specs.Prelude.{◌≡◌, ◌≤◌, ◌+◌, length}
 use Rattle.std.specs.FinMap as map
 use Rattle.indexmap.specs.IndexMap.{spare}
 use Rattle.log_tables.specs.declared.tables.Tables.TheInside.{Inside}

@@ -1,5 +1,5 @@
 -- The tables of a log, as their callers see them: versions that aren't in its journal yet, and what is live there.
-use Rattle.std.specs.Prelude.{ℕ, ◌+◌, Bool, true, false, not, List, count_by, refl}
+use Rattle.std.specs.Prelude.{ℕ, ◌+◌, Bool, true, false, not, count_by, refl}
 use Rattle.std.specs.Ordering.{nat_cmp}
 use Rattle.std.specs.Coded.{Coded, code_by, coded×, coded_ℕ}
 use Rattle.std.specs.FinMap as map

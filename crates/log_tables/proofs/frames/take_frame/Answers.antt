@@ -1,5 +1,5 @@
 -- Where all were out, as many would be as there are.
-use Rattle.std.proofs.Common.{◌≡◌, ◌≤◌, refl, arith}
+use Rattle.std.proofs.Common.{◌≤◌, refl, arith}
 use Rattle.std.specs.FinMap as map
 use Rattle.log_tables.proofs.Counting.{all_below}
 use Rattle.log_tables.proofs.frames.take_frame.Goals as goal

@@ -1,4 +1,4 @@
-use Rattle.std.proofs.Common.{◌≡◌, ◌≤◌, ap, sym, subst}
+use Rattle.std.proofs.Common.{◌≤◌, ap, sym, subst}
 use Rattle.frame_pool.specs.Frames.{Frames}
 use Rattle.indexmap.specs.IndexMap.{spare}
 use Rattle.log_tables.proofs.Emptying.{empty_sound}

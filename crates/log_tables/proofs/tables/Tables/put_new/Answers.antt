@@ -1,4 +1,4 @@
-use Rattle.std.proofs.Common.{◌≡◌, ◌+◌, ◌<◌, ◌≤◌, ℕ, false, cond, ◌∙◌, ap, sym, subst, is_ok, true, Option, is_some, eqb, length, arith, Some, None}
+use Rattle.std.proofs.Common.{◌≡◌, ◌+◌, ◌<◌, ℕ, false, cond, ◌∙◌, ap, sym, subst, is_ok, true, Option, is_some, eqb, length, None}
 use Rattle.std.specs.FinMap as map
 use Rattle.std.specs.Map.{lookup}
 use Rattle.log_tables.specs.Kept.{Kept, frames_taken}
