@@ -1,5 +1,5 @@
 -- What a change of a call does to a log.
-use Rattle.std.specs.Prelude.{◌≡◌, ℕ, ◌+◌, ◌≤◌, ◌||◌, not, Bool, true, false, List, [], ◌∷◌, length, Option, None, Some, count_by, if◌then◌else◌}
+use Rattle.std.specs.Prelude.{◌≡◌, ℕ, ◌+◌, ◌≤◌, ◌||◌, Bool, false, List, [], ◌∷◌, length, Option, None, Some, if◌then◌else◌}
 use Rattle.std.specs.Ordering.{nat_cmp}
 use Rattle.std.specs.FinMap as map
 use Rattle.std.specs.FinSet as set
@@ -9,8 +9,8 @@ use Rattle.glock_names.specs.declared.LockName.{LockName}
 use Rattle.journal_scan.specs.Said.{says}
 use Rattle.node_journal.specs.Encoding.{size_of}
 use Rattle.node_journal.specs.Written.{IsLoggableAll}
-use Rattle.log_memory.specs.Log.{Entry, Flush, LogValue, Version, Way}
-use Rattle.log_memory.specs.Log.Way.{Home, Away, Flying}
+use Rattle.log_memory.specs.Log.{Flush, LogValue, Version}
+use Rattle.log_tables.specs.Kept.{away_count}
 use Rattle.log_memory.specs.Transactions.{transaction}
 
 -- ---- what is added
@@ -55,18 +55,13 @@ with_change log c = record log {
 
 -- ---- whether there is room for it
 
-abbrev pub is_home : Way → Bool
-is_home Home = true
-is_home (Away bytes) = false
-is_home (Flying bytes) = false
-
 abbrev pub flushed_count : Option Flush → ℕ
 flushed_count None = 0
 flushed_count (Some f) = map.len f.versions
 
 -- A frame is taken by each block that was changed since the last flush began, by each of the flush that was begun, and by each flushed version that isn't home.
 abbrev pub frames_taken : LogValue → ℕ
-frames_taken log = map.len log.fresh + flushed_count log.flush + count_by (λ (e : ℕ × Entry). not (is_home e.1.way)) (map.entries log.live)
+frames_taken log = map.len log.fresh + flushed_count log.flush + away_count log.live
 
 -- how many blocks of a journal the part that isn't flushed may take, its header among them
 abbrev pub most_unflushed : ℕ

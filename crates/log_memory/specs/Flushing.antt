@@ -12,8 +12,8 @@ use Rattle.node_journal.specs.Places.{place_on}
 use Rattle.node_journal.specs.declared.place.Place.{Place}
 use Rattle.log_memory.specs.Log.{Entry, Flush, Journal, LogValue, Stage, Version, Way}
 use Rattle.log_memory.specs.Log.Stage.{Writing, Ending, Headed}
-use Rattle.log_memory.specs.Log.Way.{Home, Away, Flying}
-use Rattle.log_memory.specs.Changes.{is_home}
+use Rattle.log_tables.specs.Versions.Way.{Home, Away, Flying}
+use Rattle.log_tables.specs.Kept.{is_home}
 use Rattle.log_memory.specs.Transactions.{due, flushed_as, live_among}
 use Rattle.log_memory.specs.declared.steps.LogStep.{LogStep}
 use Rattle.log_memory.specs.declared.steps.LogStep.TheVariants as step

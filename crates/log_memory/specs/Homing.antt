@@ -5,7 +5,7 @@ use Rattle.std.specs.FinSet as set
 use Rattle.glock_names.specs.declared.LockName.{LockName}
 use Rattle.glock_names.specs.LockMaps.{same_lock}
 use Rattle.log_memory.specs.Log.{Entry, LogValue}
-use Rattle.log_memory.specs.Log.Way.{Away, Flying}
+use Rattle.log_tables.specs.Versions.Way.{Away, Flying}
 use Rattle.log_memory.specs.Flushing.{settled}
 use Rattle.log_memory.specs.declared.steps.LogStep.{LogStep}
 use Rattle.log_memory.specs.declared.steps.LogStep.TheVariants as step

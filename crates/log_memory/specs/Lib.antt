@@ -3,3 +3,4 @@ pub mod Changes
 pub mod Transactions
 pub mod Flushing
 pub mod Homing
+pub mod Sound
