@@ -2,7 +2,7 @@
 use Rattle.std.proofs.Common.{◌≡◌, ℕ, ◌<◌, List, None, Some, sym, subst, arith}
 use Rattle.std.specs.Prelude.{◌≤◌, IsTrue}
 use Rattle.std.specs.List.{AllByRecursion}
-use Rattle.lone_node.specs.Turns.{Moment, moment}
+use Rattle.lone_node.specs.Turns.{IsSameDisk, Moment, moment}
 use Rattle.image_model.specs.Image.{image_of}
 use Rattle.damage_laws.specs.Telling.{HasRootInside}
 use Rattle.gfs2_layout.specs.Device.{IsBlockSize}
@@ -25,7 +25,6 @@ use Rattle.journal_replays.specs.declared.faults.ReplayFault.TheVariants as repl
 use Rattle.peer_replay.specs.declared.planned.Plan.{Plan}
 use Rattle.shared_disk.specs.Disk.{DiskState, IsIdle}
 use Rattle.trace_text.specs.declared.item.TraceItem.{TraceItem}
-use Rattle.lone_node.specs.Answering.{IsSameDisk}
 use Rattle.lone_node.specs.Standing.{IsOn}
 use Rattle.lone_view.specs.Seeing.{Lone, seen_alone}
 use Rattle.script_lang.specs.Script.{ScriptValue}

@@ -21,11 +21,11 @@ use Rattle.image_model.specs.Laws.{CleanImagesStand}
 use Rattle.script_lang.specs.OneNode.{IsOneNode}
 use Rattle.script_lang.specs.WellFormed.{IsWellFormed}
 use Rattle.lone_view.specs.Seeing.{Lone, seen_alone}
-use Rattle.lone_node.specs.Answering.{IsDamagedOn, IsUnbuiltOn, IsSameDisk}
+use Rattle.lone_node.specs.Answering.{IsDamagedOn, IsUnbuiltOn}
 use Rattle.lone_node.specs.Course.{IsCourse}
 use Rattle.lone_node.specs.Items.{IsBegun}
 use Rattle.lone_node.specs.Laws.{BegunHasNoCall}
-use Rattle.lone_node.specs.Turns.{Moment, moment}
+use Rattle.lone_node.specs.Turns.{IsSameDisk, Moment, moment}
 use Rattle.lone_node.specs.Ends.{HasCause, IfDamaged, IfDiskFailed, IfNotBuilt, UnlessDiskFailed, UnlessFailed}
 use Rattle.lone_node.specs.Run.{EndsAt, EndsAtCall, HasChangedNothing, IsCallThat, IsFailedOn, IsRunOf, IsRunUpTo, IsWholeRun, NotJoined, Taken, Unmounted}
 use Rattle.lone_node.specs.Standing.{StandsFor, LeavesStanding}

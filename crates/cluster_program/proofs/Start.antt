@@ -1,4 +1,5 @@
 -- Where the calls of a run begin: on a disk whose journals are replayed.
+use Rattle.lone_node.specs.Turns.{IsSameDisk}
 use Rattle.std.proofs.Common.{◌≡◌, inl, inr, ℕ, Some, sym, ap, ◌∙◌, subst, arith}
 use Rattle.std.specs.Prelude.{IsTrue, slice_get}
 use Rattle.file_tree.specs.Tree.{Tree}
@@ -11,7 +12,6 @@ use Rattle.image_mount.specs.Mounted.{IsMounted, IsOfProfile, Journal, MountedVa
 use Rattle.image_recovery.specs.Left.{LeftIsOfProfile, LeftStandsBy}
 use Rattle.log_layout.specs.Journal.{IsClean, ring_of}
 use Rattle.shared_disk.specs.Disk.{DiskState}
-use Rattle.lone_node.specs.Answering.{IsSameDisk}
 use Rattle.lone_node.specs.Standing.{LeavesStanding, StandsFor}
 use Rattle.cluster_program.specs.Mounting.{IsImageOf, IsMountable, IsMountedOn, IsMountedReplayed, is_clean_head}
 use Rattle.cluster_program.specs.Runs.{AreCleanOn, HasLowHeads, LeavesReplayed, as_mounted}

@@ -5,10 +5,9 @@ use Rattle.damage_laws.specs.Telling.{HasRootInside}
 use Rattle.image_mount.specs.Mounted.{MountedValue}
 use Rattle.image_recovery.specs.Recoveries.{HaveReplayed}
 use Rattle.lone_view.specs.Seeing.{Lone, seen_alone}
-use Rattle.lone_node.specs.Answering.{IsSameDisk}
 use Rattle.lone_node.specs.Items.{IsBegun}
 use Rattle.lone_node.specs.Standing.{IsOn}
-use Rattle.lone_node.specs.Turns.{Moment}
+use Rattle.lone_node.specs.Turns.{IsSameDisk, Moment}
 use Rattle.peer_replay.specs.declared.planned.Plan.{Plan}
 use Rattle.shared_disk.specs.Disk.{IsIdle}
 use Rattle.cluster_program.specs.Mounting.{IsMountedOn, IsMountedReplayed}

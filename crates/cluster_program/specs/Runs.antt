@@ -22,9 +22,9 @@ use Rattle.damage_laws.specs.Telling.{HasAstrayOn, HasRootInside}
 use Rattle.image_recovery.specs.Left.{HaveLowHeads, IsLeft}
 use Rattle.image_recovery.specs.Recoveries.{HaveFailed, HaveReplayed, HaveReplayedSome}
 use Rattle.image_replays.specs.Replays.{ArePlans}
-use Rattle.lone_node.specs.Answering.{IsDamagedOn, IsSameDisk, IsUnbuiltOn}
+use Rattle.lone_node.specs.Answering.{IsDamagedOn, IsUnbuiltOn}
 use Rattle.lone_node.specs.Course.{IsCourse}
-use Rattle.lone_node.specs.Turns.{Moment, moment}
+use Rattle.lone_node.specs.Turns.{IsSameDisk, Moment, moment}
 use Rattle.lone_node.specs.Items.{AddsItems}
 use Rattle.lone_node.specs.Run.{EndsAt, EndsAtCall, HasChangedNothing, IsFailedOn, IsRunOf, IsWholeRun}
 use Rattle.peer_replay.specs.declared.planned.Plan.{Plan}

@@ -12,6 +12,13 @@ pub record Moment : Type 0 where
 abbrev pub moment : DiskState → Option (List Operation) → Moment
 moment disk list = record { disk = disk; list = list }
 
+-- it is the same disk, which may hold other bytes
+pub record IsSameDisk (d d' : DiskState) : Type 0 where
+  pub size : d'.size ≡ d.size
+  pub count : d'.count ≡ d.count
+  pub tells : d'.tells ≡ d.tells
+  pub fenced : d'.is_fenced ≡ d.is_fenced
+
 -- the node's writes of these blocks
 abbrev pub writes_of : ℕ → List Written → List Operation
 writes_of node blocks = map (λ (w : Written). Write node w.block w.bytes) blocks

@@ -9,7 +9,7 @@ use Rattle.drafts.specs.declared.change.Written.{Written}
 use Rattle.shared_disk.specs.Disk.{DiskState}
 use Rattle.trace_text.specs.declared.item.TraceItem.{TraceItem}
 use Rattle.disk_items.proofs.Going.{goes_on}
-use Rattle.disk_turns.specs.Turns.{Moment}
+use Rattle.disk_turns.specs.Turns.{IsSameDisk, Moment}
 use Rattle.disk_turns.proofs.Gaining.{gains_join}
 use Rattle.disk_turns.proofs.Rising.{none_low, sorted_rise}
 use Rattle.image_mount.specs.Mounted.{Journal}
@@ -20,7 +20,7 @@ use Rattle.journal_replays.specs.Faults.{IfDiskFailed, IfNoMemory}
 use Rattle.journal_replays.specs.Headers.{IsHeaderRead}
 use Rattle.journal_replays.specs.declared.faults.ReplayFault.{ReplayFault}
 use Rattle.journal_replays.specs.declared.faults.ReplayFault.TheVariants.{DiskFailed, NoMemory}
-use Rattle.journal_replays.specs.Replays.{CanReplay, HasReplayed, IsReplayBy, IsSameDisk}
+use Rattle.journal_replays.specs.Replays.{CanReplay, HasReplayed, IsReplayBy}
 use Rattle.log_layout.specs.declared.log_header.LogHeader.{LogHeader}
 use Rattle.peer_replay.specs.declared.planned.Plan.{Plan}
 

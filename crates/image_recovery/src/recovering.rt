@@ -2,9 +2,8 @@
 ghost use Rattle.std.specs.Prelude.{ℕ, ◌≤◌, ◌<◌, OnOk, IfErr, length};
 ghost use Rattle.gfs2_layout.specs.Device.{IsBlockSize};
 ghost use Rattle.shared_disk.specs.Disk.{IsIdle};
-ghost use Rattle.disk_turns.specs.Turns.{moment};
+ghost use Rattle.disk_turns.specs.Turns.{IsSameDisk, moment};
 ghost use Rattle.journal_replays.specs.Faults.{HasCause, IfDiskFailed, IfNoMemory};
-ghost use Rattle.journal_replays.specs.Replays.{IsSameDisk};
 ghost use Rattle.image_recovery.specs.Recoveries.{AreHeadersRead, CanReplayAll, HaveFailed, HaveReplayed, HaveReplayedSome};
 
 use image_mount::JournalMap;

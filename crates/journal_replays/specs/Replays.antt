@@ -19,13 +19,6 @@ pub record CanReplay (d : DiskState) (blocks : List ℕ) (p : Plan) : Type 0 whe
   pub place : IfSome p.clean (λ (h : LogHeader). h.blkno < length blocks)
   pub inside : IfSome p.clean (λ (h : LogHeader). get_or blocks h.blkno 0 < d.count)
 
--- it is the same disk, which may hold other bytes
-pub record IsSameDisk (d d' : DiskState) : Type 0 where
-  pub size : d'.size ≡ d.size
-  pub count : d'.count ≡ d.count
-  pub tells : d'.tells ≡ d.tells
-  pub fenced : d'.is_fenced ≡ d.is_fenced
-
 -- ---- a replay
 
 -- The node brought these blocks home, and then the clean header of the journal of this slot; and these are its items.

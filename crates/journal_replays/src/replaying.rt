@@ -2,10 +2,10 @@
 ghost use Rattle.std.specs.Prelude.{ℕ, ◌≡◌, ◌≤◌, OnOk, IfErr};
 ghost use Rattle.gfs2_layout.specs.Device.{IsBlockSize};
 ghost use Rattle.shared_disk.specs.Disk.{IsIdle};
-ghost use Rattle.disk_turns.specs.Turns.{moment};
+ghost use Rattle.disk_turns.specs.Turns.{IsSameDisk, moment};
 ghost use Rattle.journal_replays.specs.Faults.{HasCause, IfDiskFailed, IfNoMemory};
 ghost use Rattle.journal_replays.specs.Headers.{IsHeaderRead};
-ghost use Rattle.journal_replays.specs.Replays.{CanReplay, HasFailed, HasReplayed, IsSameDisk};
+ghost use Rattle.journal_replays.specs.Replays.{CanReplay, HasFailed, HasReplayed};
 
 use crate::ReplayFault;
 use crate::bringing::bring;

@@ -18,13 +18,6 @@ use Rattle.lone_node.specs.Course.{IsDoneBy, IsLaterView}
 use Rattle.lone_node.specs.declared.answering.Full.{Full}
 use Rattle.lone_node.specs.Standing.{LeavesStanding, StandsFor}
 
--- it is the same disk, which may hold other bytes
-pub record IsSameDisk (d d' : DiskState) : Type 0 where
-  pub size : d'.size ≡ d.size
-  pub count : d'.count ≡ d.count
-  pub tells : d'.tells ≡ d.tells
-  pub fenced : d'.is_fenced ≡ d.is_fenced
-
 -- the call was answered so: where the disk stood for a tree, that tree answers it, and the disk stands for the tree that it leaves
 pub record IsAnsweredFrom (d d' : DiskState) (n : Lone) (call : Call) (reply : Reply) : Type 0 where
   pub answers : (t : Tree) → StandsFor d n t → Answers call t reply (after (record { call = call; reply = reply }) t)

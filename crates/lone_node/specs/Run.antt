@@ -13,9 +13,9 @@ use Rattle.script_lang.specs.declared.script.Line.TheVariants as line
 use Rattle.trace_text.specs.declared.item.TraceItem.{TraceItem}
 use Rattle.trace_text.specs.declared.item.TraceItem.TheVariants as trace
 use Rattle.shared_disk.specs.Disk.{IsIdle}
-use Rattle.disk_turns.specs.Turns.{Moment}
+use Rattle.disk_turns.specs.Turns.{IsSameDisk, Moment}
 use Rattle.lone_view.specs.Seeing.{Lone}
-use Rattle.lone_node.specs.Answering.{IsAnsweredFrom, IsFailedAt, IsSameDisk, IsToldFull}
+use Rattle.lone_node.specs.Answering.{IsAnsweredFrom, IsFailedAt, IsToldFull}
 use Rattle.lone_node.specs.Course.{HasTaken, IsStep}
 use Rattle.lone_node.specs.Items.{AnsweredCall, IsBegun, full_item, is_call_line, items_from, its_answer, its_line}
 use Rattle.lone_node.specs.Standing.{LeavesStanding, StandsFor}

@@ -78,7 +78,7 @@ module _ (g : Over) (c : goal.After-drop-plans-in-Ok-replay_journals g) where
       c.planned_replays_can_be_made.ensures c.a_replay_leaves_its_image.ensures c.requires.idle c.requires.size c.in-Ok.ensures.mounted c.in-Ok.ensures.replayed planned writable places
       (moment (g.D.SharedDisk.state c.replay_journals.new.disk) (g.D.SharedDisk.list c.replay_journals.new.disk)) c.args.time c.replay_journals.new.items.items c.in-Ok-ready_of.ready.view c.in-Ok-ready_of.ensures.view c.in-Ok-ready_of.ensures.on c.in-Ok-ready_of.ensures.root
       c.in-Ok-replay_journals.ensures.replayed c.in-Ok-replay_journals.ensures.headers c.in-Ok-replay_journals.ensures.idle
-      (record { size = c.in-Ok-replay_journals.ensures.disk.size; count = c.in-Ok-replay_journals.ensures.disk.count; tells = c.in-Ok-replay_journals.ensures.disk.tells; fenced = c.in-Ok-replay_journals.ensures.disk.fenced })
+      c.in-Ok-replay_journals.ensures.disk
 
 pub returns-in-Ok-replay_journals-clause-begun : goal.returns-in-Ok-replay_journals-clause-begun
 returns-in-Ok-replay_journals-clause-begun g c = is_begun g c

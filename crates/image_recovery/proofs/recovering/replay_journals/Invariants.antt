@@ -1,7 +1,6 @@
 use Rattle.std.proofs.Common.{ℕ, ◌≤◌, take}
 use Rattle.shared_disk.specs.Disk.{IsIdle}
-use Rattle.disk_turns.specs.Turns.{moment}
-use Rattle.journal_replays.specs.Replays.{IsSameDisk}
+use Rattle.disk_turns.specs.Turns.{IsSameDisk, moment}
 use Rattle.image_recovery.specs.Recoveries.{AreHeadersRead, HaveReplayed}
 use Rattle.image_recovery.proofs.recovering.replay_journals.Given as goal
 

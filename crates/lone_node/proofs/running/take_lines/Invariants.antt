@@ -3,8 +3,7 @@ use Rattle.file_tree.specs.Tree.{Tree}
 use Rattle.cluster_history.specs.History.{tree_of}
 use Rattle.run_rules.specs.Follows.{history_of}
 use Rattle.shared_disk.specs.Disk.{IsIdle}
-use Rattle.lone_node.specs.Answering.{IsSameDisk}
-use Rattle.disk_turns.specs.Turns.{moment}
+use Rattle.disk_turns.specs.Turns.{IsSameDisk, moment}
 use Rattle.lone_node.specs.Course.{AreSteps}
 use Rattle.lone_node.specs.Run.{HasChangedNothing, IsRunUpTo}
 use Rattle.lone_node.specs.Standing.{IsOn, IsSameSystem, LeavesStanding, StandsFor}
