@@ -3,8 +3,8 @@
 The image is one that `mkfs --bsize 4096 --journals 1 --journal-blocks 512` made of so many blocks of 4096 bytes. The table has
 32,768 pointers, the most that there are; its blocks are the first free ones, and the leaves stand in those behind: in all of
 them, where it isn't said how many. As many leaves as are a power of two, up to 32,768, have pointers of their own; the others
-stand behind them, along their chains. All are empty but for the four names of a master directory. What mounting does not look
-at, as which blocks are free, stays as it was.
+stand behind them, along their chains. All are empty but for the four names of a master directory. The image stands: the group says
+which blocks are taken, and the dinode how many.
 """
 import os
 import sys
@@ -54,8 +54,8 @@ with open(path, "r+b") as file:
         records.setdefault(name_hash >> (32 - depth), []).append((name, number, address, kind))
         at += length
 
-    # Size, flags, height and depth are those of a table in blocks of its own.
-    dinode[56:64] = pack(">Q", 8 * 2**TABLE_DEPTH)
+    # Size, blocks, flags, height and depth are those of a table in blocks of its own.
+    dinode[56:72] = pack(">QQ", 8 * 2**TABLE_DEPTH, 1 + table_count + len(leaves))
     dinode[128:132] = pack(">I", 3)
     dinode[138:140] = pack(">H", 1)
     dinode[146:148] = pack(">H", TABLE_DEPTH)
@@ -65,13 +65,30 @@ with open(path, "r+b") as file:
     for i, block in enumerate(table):
         write(block, new_image.header(7, 700) + pointers[i * in_table:(i + 1) * in_table])
 
-    # An area without names is one record that isn't in use.
-    empty = pack(">QQIHHHH", 0, 0, 0, SIZE - IN_LEAF, 0, 0, 0)
     for i, block in enumerate(leaves):
         names = records.get(i, []) if i < heads else []
         behind = leaves[i + heads] if i + heads < len(leaves) else 0
+        area = new_image.Area(SIZE - IN_LEAF)
+        for name in names:
+            area.put(name)
         head = new_image.header(6, 600) + pack(">HHIQ", depth, len(names), 1200, behind)
-        area = new_image.directory_area(SIZE - IN_LEAF, names) if names else empty
-        write(block, new_image.pad(head, IN_LEAF) + area)
+        write(block, new_image.pad(head, IN_LEAF) + area.bytes)
+
+    # Two bits a block, those of the first in the lowest of the first byte: behind 128 bytes of the group's header, and 24 of each
+    # block of bitmaps.
+    (place, _, length, first, count), = groups
+    starts = [(place + i, 128 if i == 0 else 24) for i in range(length)]
+    states = bytearray(b"".join(read(block)[start:] for block, start in starts))
+    for block in table + leaves:
+        states[(block - first) // 4] |= 1 << 2 * ((block - first) % 4)
+    free = sum(not states[i // 4] >> 2 * (i % 4) & 3 for i in range(count))
+    for block, start in starts:
+        head = read(block)[:start]
+        if block == place:
+            head[28:32] = pack(">I", free)
+            head[64:68] = bytes(4)
+            head[64:68] = pack(">I", crc32(head))
+        write(block, head + states[:SIZE - start])
+        states = states[SIZE - start:]
 
 print(len(leaves))
