@@ -18,7 +18,7 @@ use Rattle.image_model.specs.SystemFiles.{HasSameSystem}
 use Rattle.image_mount.specs.Found.{HasFormat}
 use Rattle.image_model.specs.Journals.{journal_name}
 use Rattle.image_mount.specs.Looks.{HasTrueRecord, IsInGroups, IsPlaceOf, IsSoundDirectory, IsSystemDinode, IsTrueEntry, of_journal, of_jindex, of_master, of_rindex}
-use Rattle.image_mount.specs.Marked.{AreMarked, IsKept, IsKeptWay, IsTaken, times_in}
+use Rattle.image_mount.specs.Marked.{AreMarked, AreUnread, IsGrown, IsKept, IsKeptWay, IsTaken, times_in}
 use Rattle.image_mount.specs.Mounted.{Journal, MountedValue, IsMounted, IsOfProfile, IsJournalOf}
 use Rattle.image_mount.specs.Refusals.{RefusesRightly, IsExcused}
 use Rattle.image_mount.specs.Rings.{AreKeptWays, IsSearched, AreRings, AreJournals, IsLowJournal, IsOwn, IsRingOf, all_places}
@@ -32,11 +32,12 @@ use Rattle.image_mount.specs.declared.system.System.{System}
 use Rattle.image_mount.proofs.Accepts.{excused}
 use Rattle.image_mount.proofs.Looks.{true_record}
 use Rattle.image_mount.proofs.KeptWays.{off_way}
-use Rattle.image_mount.proofs.Marked.{places_apart}
+use Rattle.image_mount.proofs.Marked.{place_unkept, place_untaken, places_apart}
 use Rattle.image_mount.proofs.Names.{all_at, mapped_at, from_mapped}
 use Rattle.image_mount.proofs.Places.{block_there}
 use Rattle.image_mount.proofs.Stops.{handed}
-use Rattle.image_mount.proofs.SystemRead.{block_taken, laid_fits, shows_own, shows_same, taken_block}
+use Rattle.image_mount.proofs.SystemRead.{block_taken, laid_fits, listing_taken, shows_own, shows_same, taken_block}
+use Rattle.image_mount.proofs.Systems.{read_on}
 
 -- a refusal that is handed on, where the disk tells: of its own image
 pub refused_where : {T : Type 0} (s : DiskState) (r : Result T MountFault) (f : MountFault) → IsErrAnd r (λ g. g ≡ f) → ((im : Image) → ShowsSystem s im → RefusesRightly im f) → IfErr r (λ g. IsTrue s.tells → RefusesRightly (image_of s) g)
@@ -65,14 +66,15 @@ pub mounted : (im : Image) (system : System) (rings : List Ring) (journals : Lis
     → All (λ (r : Ring). IsOwn system r.dinode) rings
     → (k : Kept) → HasDinodes im k system → All (λ (r : Ring). IsKept k r.dinode) rings
     → All (λ (r : Ring). AreKeptWays im k r.dinode r.blocks.items) rings
-    → ((j p b : ℕ) (r : Ring) → slice_get rings j ≡ Some r → slice_get r.blocks.items p ≡ Some b → ¬ (IsKept k b))
-    → (old : Kept) → HasReadSystem im k system → AreMarked old k (all_places rings) → IsSearched im (map (λ (r : Ring). r.dinode) rings) 0 0 k → ((b : ℕ) → Contains m.system b ↔ IsTaken k b)
+    → (old : Kept) → IsGrown old k → AreUnread k → HasReadSystem im old system → AreMarked old k (all_places rings) → IsSearched im (map (λ (r : Ring). r.dinode) rings) 0 0 k → ((b : ℕ) → Contains m.system b ↔ IsTaken k b)
+    → ((b : ℕ) → IsTaken k b → b < im.count)
     → m.superblock ≡ system.superblock → m.groups ≡ map group_of_entry system.groups.items → m.journals ≡ journals → IsMounted im m
-mounted im system rings journals m looked are found placed once own k dinodes_kept rings_kept ways_kept unkept old read marked known taken super groups same = record {
+mounted im system rings journals m looked are found placed once own k dinodes_kept rings_kept ways_kept old grown unread read marked known taken within super groups same = record {
   system = λ b. (
     λ has. taken_block im (map (λ (r : Ring). r.dinode) rings) 0 0 k known b ((taken b).0 has),
-    λ is. (taken b).1 (block_taken im system rings looked are old k dinodes_kept read rings_kept ways_kept marked b is),
+    λ is. (taken b).1 (block_taken im system rings looked are old k dinodes_kept (read_on im old k system grown read) rings_kept ways_kept marked b is),
   );
+  inside = λ b is. within b (block_taken im system rings looked are old k dinodes_kept (read_on im old k system grown read) rings_kept ways_kept marked b is);
   layout = l;
   found = looked.names;
   profile = record {
@@ -139,6 +141,9 @@ mounted im system rings journals m looked are found placed once own k dinodes_ke
         let dinode : to.0.dinode ≡ d = ap (λ (r : Ring). r.dinode) (same_some to.0 ring.0 (sym to.1 ∙ ring.1)) ∙ ring.2 in
         off_way k b (unkept j p b here.0 here.1 here.2) (every im d) q (subst (λ x. IsKeptWay k (every im x) q) dinode way);
     beside = λ j p b place dinode. let here = place_at j p b place in unkept j p b here.0 here.1 here.2 (dinode_kept b dinode);
+    listings = λ j p b place of.
+        let here = place_at j p b place in
+        place_untaken old k rings marked unread grown j p b here.0 here.1 here.2 (listing_taken im system rings looked are old read b of);
   };
   superblock = super ∙ looked.superblock;
   groups = groups;
@@ -156,6 +161,9 @@ mounted im system rings journals m looked are found placed once own k dinodes_ke
 
     dinodes : map (λ (j : Journal). j.dinode) journals ≡ l.journals
     dinodes = found.dinodes ∙ are.dinodes
+
+    unkept : (j p b : ℕ) (r : Ring) → slice_get rings j ≡ Some r → slice_get r.blocks.items p ≡ Some b → ¬ (IsKept k b)
+    unkept = place_unkept old k rings marked unread
 
     ring_at : (j d : ℕ) → IsJournalAt l j d → (ring : Ring) × (slice_get rings j ≡ Some ring) × IsRingOf im d ring.blocks.items
     ring_at j d at =

@@ -8,7 +8,7 @@ use Rattle.std.proofs.lemmas.List.Elements.{All-push}
 use Rattle.std.proofs.lemmas.List.Concat.{flat_map-append}
 use Rattle.std.proofs.lemmas.List.Sums.{sum_by-append, sum_by-cons}
 use Rattle.image_mount.specs.Kept.{Kept, bytes_of, seen_of}
-use Rattle.image_mount.specs.Marked.{AreMarked, AreUnkept, IsGrown, IsKept, IsTaken, marks_of, of_kept, of_leaf, of_place, one_if, times_in}
+use Rattle.image_mount.specs.Marked.{AreMarked, AreUnread, IsGrown, IsKept, IsTaken, marks_of, of_kept, of_leaf, of_place, one_if, times_in}
 use Rattle.image_mount.specs.Rings.{all_places}
 use Rattle.image_mount.specs.declared.journals.Ring.{Ring}
 
@@ -126,10 +126,15 @@ places_apart (x ∷ xs) (suc j) (suc i) p q b r s few at at' here there =
 -- ---- what is kept, as more is
 
 pub grown_none : (k : Kept) → IsGrown k k
-grown_none k = record { stays = λ b kept. kept; taken = λ b taken. taken; unkept = λ none. none }
+grown_none k = record { stays = λ b kept. kept; leaves = λ b at. at; taken = λ b taken. taken; unread = λ none. none }
 
 pub grown_on : (a b c : Kept) → IsGrown a b → IsGrown b c → IsGrown a c
-grown_on a b c first second = record { stays = λ n kept. second.stays n (first.stays n kept); taken = λ n taken. second.taken n (first.taken n taken); unkept = λ none. second.unkept (first.unkept none) }
+grown_on a b c first second = record {
+  stays = λ n kept. second.stays n (first.stays n kept);
+  leaves = λ n at. second.leaves n (first.leaves n at);
+  taken = λ n taken. second.taken n (first.taken n taken);
+  unread = λ none. second.unread (first.unread none);
+}
 
 -- what was read stays so
 taken_on : (old new : Kept) (n : ℕ) → slice_get new.places n ≡ slice_get old.places n → (slice_get old.leaves n ≡ Some true → slice_get new.leaves n ≡ Some true)
@@ -148,12 +153,18 @@ leaf_stays old new b is n at = elim (cases_eq b n) [
 pub leaf_taken : (old new : Kept) (b : ℕ) → b < length old.leaves → new.leaves ≡ slice_set old.leaves b true → IsTaken new b
 leaf_taken old new b low is = of_leaf (ap (λ ls. slice_get ls b) is ∙ got_here old.leaves b true low)
 
--- nothing more is kept or marked
-pub grown_same : (old new : Kept) → new.entries ≡ old.entries → new.places ≡ old.places → ((b : ℕ) → slice_get old.leaves b ≡ Some true → slice_get new.leaves b ≡ Some true) → IsGrown old new
-grown_same old new entries places leaves = record {
-  taken = λ n taken. taken_on old new n (ap (λ ps. slice_get ps n) places) (leaves n) (λ bytes at. ap (λ es. bytes_of (slice_get es n)) entries ∙ at) taken;
+-- one more was read as a leaf, which is no place
+pub grown_leaf : (old new : Kept) (b : ℕ) → new.entries ≡ old.entries → new.places ≡ old.places → new.leaves ≡ slice_set old.leaves b true → marks_of old b ≡ 0 → IsGrown old new
+grown_leaf old new b entries places is unmarked = record {
+  taken = λ n taken. taken_on old new n (ap (λ ps. slice_get ps n) places) (leaf_stays old new b is n) (λ bytes at. ap (λ es. bytes_of (slice_get es n)) entries ∙ at) taken;
   stays = λ n kept none. kept (ap (λ es. bytes_of (slice_get es n)) (sym entries) ∙ none);
-  unkept = λ none n mark. ap (λ es. bytes_of (slice_get es n)) entries ∙ none n (ap (λ ps. one_if (slice_get ps n)) (sym places) ∙ mark);
+  leaves = leaf_stays old new b is;
+  unread = λ none n mark.
+      let before : marks_of old n ≡ 1 = ap (λ ps. one_if (slice_get ps n)) (sym places) ∙ mark in
+      let other : b ≢ n = λ e. absurd (omega (arith, unmarked, before, ap (marks_of old) e)) in (
+        ap (λ es. bytes_of (slice_get es n)) entries ∙ (none n before).0,
+        λ leaf. (none n before).1 (sym (ap (λ ls. slice_get ls n) is ∙ got_other old.leaves b n true other) ∙ leaf),
+      );
 }
 
 kept_here : (entries : List (Option (List ℕ))) (i : ℕ) (x : List ℕ) → slice_get entries i ≡ Some None → bytes_of (slice_get (slice_set entries i (Some x)) i) ≢ None
@@ -174,12 +185,11 @@ grown_kept old new b x free is same leaves unmarked = record {
     | inl e ↦ subst (IsKept new) e (λ none. kept_here old.entries b x free (ap (λ es. bytes_of (slice_get es b)) (sym is) ∙ none))
     | inr other ↦ λ none. kept (sym (there n other) ∙ none)
   ];
-  unkept = λ none n mark.
+  leaves = λ n at. ap (λ ls. slice_get ls n) leaves ∙ at;
+  unread = λ none n mark.
       let before : marks_of old n ≡ 1 = ap (λ ps. one_if (slice_get ps n)) (sym same) ∙ mark in
-      elim (cases_eq b n) [
-        | inl e ↦ absurd (omega (arith, unmarked, before, ap (marks_of old) e))
-        | inr other ↦ there n other ∙ none n before
-      ];
+      let other : b ≢ n = λ e. absurd (omega (arith, unmarked, before, ap (marks_of old) e)) in
+      (there n other ∙ (none n before).0, λ leaf. (none n before).1 (ap (λ ls. slice_get ls n) (sym leaves) ∙ leaf));
 }
   where
     no_bytes : (y : List ℕ) → None ≡ Some y → ⊥
@@ -188,21 +198,26 @@ grown_kept old new b x free is same leaves unmarked = record {
     there : (n : ℕ) → b ≢ n → bytes_of (slice_get new.entries n) ≡ bytes_of (slice_get old.entries n)
     there n other = ap (λ es. bytes_of (slice_get es n)) is ∙ ap bytes_of (got_other old.entries b n (Some x) other)
 
--- one more is a place, which isn't kept
-pub grown_marked : (old new : Kept) (b : ℕ) → new.entries ≡ old.entries → new.places ≡ slice_set old.places b true → new.leaves ≡ old.leaves → (seen_of old).block_at b ≡ None → IsGrown old new
+-- one more is a place, which was not read
+pub grown_marked : (old new : Kept) (b : ℕ) → new.entries ≡ old.entries → new.places ≡ slice_set old.places b true → new.leaves ≡ old.leaves → ¬ (IsTaken old b) → IsGrown old new
 grown_marked old new b same is leaves free = record {
   taken = λ n taken. marked_taken n taken;
   stays = λ n kept none. kept (sym (there n) ∙ none);
-  unkept = λ none n mark. elim (cases_eq b n) [
-    | inl e ↦ there n ∙ ap (seen_of old).block_at (sym e) ∙ free
+  leaves = λ n at. ap (λ ls. slice_get ls n) leaves ∙ at;
+  unread = λ none n mark. elim (cases_eq b n) [
+    | inl e ↦ (there n ∙ ap (seen_of old).block_at (sym e) ∙ lacks ((seen_of old).block_at b) refl, λ leaf. free (subst (IsTaken old) (sym e) (of_leaf (ap (λ ls. slice_get ls n) (sym leaves) ∙ leaf))))
     | inr other ↦
         let before : marks_of old n ≡ 1 = ap one_if (sym (got_other old.places b n true other) ∙ ap (λ ps. slice_get ps n) (sym is)) ∙ mark in
-        there n ∙ none n before
+        (there n ∙ (none n before).0, λ leaf. (none n before).1 (ap (λ ls. slice_get ls n) (sym leaves) ∙ leaf))
   ];
 }
   where
     there : (n : ℕ) → (seen_of new).block_at n ≡ (seen_of old).block_at n
     there n = ap (λ es. bytes_of (slice_get es n)) same
+
+    lacks : (o : Option (List ℕ)) → (seen_of old).block_at b ≡ o → o ≡ None
+    lacks None e = refl
+    lacks (Some bytes) e = absurd (free (of_kept bytes e))
 
     marked_taken : (n : ℕ) → IsTaken old n → IsTaken new n
     marked_taken n (of_place at) = elim (cases_eq b n) [
@@ -212,25 +227,37 @@ grown_marked old new b same is leaves free = record {
     marked_taken n (of_leaf at) = of_leaf (ap (λ ls. slice_get ls n) leaves ∙ at)
     marked_taken n (of_kept bytes at) = of_kept bytes (there n ∙ at)
 
-pub unkept_new : (k : Kept) → All (λ place. place ≡ false) k.places → AreUnkept k
-unkept_new k unmarked b mark = absurd (omega (arith, mark, none_marked k.places unmarked b))
+pub unread_new : (k : Kept) → All (λ place. place ≡ false) k.places → AreUnread k
+unread_new k unmarked b mark = absurd (omega (arith, mark, none_marked k.places unmarked b))
   where
     none_marked : (places : List Bool) → All (λ place. place ≡ false) places → (b : ℕ) → one_if (slice_get places b) ≡ 0
     none_marked [] all b = refl
     none_marked (e ∷ es) all zero = let e0 = all 0 false (omega arith) in ap (λ p. one_if (Some p)) e0
     none_marked (e ∷ es) all (suc b) = none_marked es (λ k d low. all (suc k) d (omega (arith, low))) b
 
--- a place of these journals is marked, and so isn't kept
-pub place_unkept : (old new : Kept) (rings : List Ring) (j p b : ℕ) (ring : Ring) → AreMarked old new (all_places rings) → AreUnkept new → slice_get rings j ≡ Some ring → slice_get ring.blocks.items p ≡ Some b → ¬ (IsKept new b)
-place_unkept old new rings j p b ring are none at there kept = kept (none b (omega (arith, are b, times_among rings j p b ring at there, once (slice_get new.places b))))
-
--- the dinodes of journals stay, and one more is there
-pub rings_kept : (a b : Kept) (old new : List Ring) (ring : Ring) → IsGrown a b → All (λ (r : Ring). IsKept a r.dinode) old → IsKept b ring.dinode → new ≡ old ++ ring ∷ [] → All (λ (r : Ring). IsKept b r.dinode) new
-rings_kept a b old new ring grown kept here is =
-    subst (All (λ (r : Ring). IsKept b r.dinode)) (sym is) (All-push (λ (r : Ring). IsKept b r.dinode) old ring (λ k d low. grown.stays (get_or old k d).dinode (kept k d low)) here)
-
 pub has_kept : (k : Kept) (b : ℕ) → (bytes : List ℕ) × ((seen_of k).block_at b ≡ Some bytes) → IsKept k b
 has_kept k b has none = no_some has.0 (sym none ∙ has.1)
   where
     no_some : (y : List ℕ) → None ≡ Some y → ⊥
     no_some y e = cc
+
+-- a place of these journals is marked, and so was not read
+module _ (old new : Kept) (rings : List Ring) (are : AreMarked old new (all_places rings)) (none : AreUnread new) where
+  place_unread : (j p b : ℕ) (ring : Ring) → slice_get rings j ≡ Some ring → slice_get ring.blocks.items p ≡ Some b → ((seen_of new).block_at b ≡ None) × (slice_get new.leaves b ≢ Some true)
+  place_unread j p b ring at there = none b (omega (arith, are b, times_among rings j p b ring at there, once (slice_get new.places b)))
+
+  pub place_unkept : (j p b : ℕ) (ring : Ring) → slice_get rings j ≡ Some ring → slice_get ring.blocks.items p ≡ Some b → ¬ (IsKept new b)
+  place_unkept j p b ring at there kept = kept (place_unread j p b ring at there).0
+
+  -- nor was it anything before
+  pub place_untaken : IsGrown old new → (j p b : ℕ) (ring : Ring) → slice_get rings j ≡ Some ring → slice_get ring.blocks.items p ≡ Some b → IsTaken old b → ⊥
+  place_untaken grown j p b ring at there (of_place is) =
+      let marked : marks_of old b ≡ 1 = ap one_if is in
+      omega (arith, are b, times_among rings j p b ring at there, once (slice_get new.places b), marked)
+  place_untaken grown j p b ring at there (of_leaf is) = (place_unread j p b ring at there).1 (grown.leaves b is)
+  place_untaken grown j p b ring at there (of_kept bytes is) = grown.stays b (has_kept old b (bytes, is)) (place_unread j p b ring at there).0
+
+-- the dinodes of journals stay, and one more is there
+pub rings_kept : (a b : Kept) (old new : List Ring) (ring : Ring) → IsGrown a b → All (λ (r : Ring). IsKept a r.dinode) old → IsKept b ring.dinode → new ≡ old ++ ring ∷ [] → All (λ (r : Ring). IsKept b r.dinode) new
+rings_kept a b old new ring grown kept here is =
+    subst (All (λ (r : Ring). IsKept b r.dinode)) (sym is) (All-push (λ (r : Ring). IsKept b r.dinode) old ring (λ k d low. grown.stays (get_or old k d).dinode (kept k d low)) here)

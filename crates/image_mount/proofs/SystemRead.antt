@@ -24,12 +24,12 @@ use Rattle.log_layout.specs.Journal.{ring_of}
 use Rattle.shared_disk.specs.Disk.{DiskState}
 use Rattle.image_mount.specs.Kept.{Kept, seen_of}
 use Rattle.image_mount.specs.Leaves.{HasReadDirectory}
-use Rattle.image_mount.specs.Looks.{IsLookedAt, IsSoundDirectory}
+use Rattle.image_mount.specs.Looks.{IsListing, IsListingBlock, IsLookedAt, IsSoundDirectory, a_leaf, led_to, the_jindex, the_master, the_rindex}
 use Rattle.image_mount.specs.Marked.{AreMarked, IsKept, IsTaken, marks_of, of_kept, of_leaf as read_as_leaf, of_place, one_if}
 use Rattle.image_mount.specs.Mounted.{HasSameBlocks, IsMounted, MountedValue}
 use Rattle.image_mount.specs.Rings.{AreKeptWays, AreRings, HasPlaces, IsRingOf, IsSearched, all_places}
 use Rattle.image_mount.specs.Searching.{ShowsSystem}
-use Rattle.image_mount.specs.System.{HasDinodes, HasReadSystem, IsSystemOf}
+use Rattle.image_mount.specs.System.{HasDinodes, HasReadSystem, IsSystemOf, layout_of}
 use Rattle.image_mount.specs.declared.journals.Ring.{Ring}
 use Rattle.image_mount.specs.declared.listing.Link.{Link}
 use Rattle.image_mount.specs.declared.system.System.{System}
@@ -116,16 +116,14 @@ module _ (im : Image) (d places : ℕ) (has : HasPlaces im d places) where
 
 -- the file that is in a block
 data IsFileOf (system : System) (rings : List Ring) (d : ℕ) : Type 0 where
-  the_master : d ≡ system.superblock.master.address → IsFileOf system rings d
-  the_rindex : d ≡ system.rindex → IsFileOf system rings d
-  the_jindex : d ≡ system.jindex → IsFileOf system rings d
+  a_listing : IsListing (layout_of system) d → IsFileOf system rings d
   a_ring : (i : ℕ) (ring : Ring) → slice_get rings i ≡ Some ring → ring.dinode ≡ d → IsFileOf system rings d
 
 module _ (im : Image) (system : System) (rings : List Ring) (looked : IsSystemOf im system) (are : AreRings im system.journals.items rings) where
   file_of : (d : ℕ) → IsSystemFile im d → IsFileOf system rings d
-  file_of d (is_master e) = the_master (e ∙ sym (ap (λ (s : SuperBlock). s.master.address) looked.superblock))
-  file_of d (is_rindex way) = the_rindex (looked.one_rindex d way)
-  file_of d (is_jindex way) = the_jindex (looked.one_jindex d way)
+  file_of d (is_master e) = a_listing (subst (IsListing (layout_of system)) (ap (λ (s : SuperBlock). s.master.address) looked.superblock ∙ sym e) the_master)
+  file_of d (is_rindex way) = a_listing (subst (IsListing (layout_of system)) (sym (looked.one_rindex d way)) the_rindex)
+  file_of d (is_jindex way) = a_listing (subst (IsListing (layout_of system)) (sym (looked.one_jindex d way)) the_jindex)
   file_of d (is_journal j has) =
       let other = looked.journals.others (journal_name j) d (subst (λ a. LeadsTo im a (journal_name j) d) (looked.one_jindex has.0 has.1) has.2) in
       let ring = from_mapped (λ (r : Ring). r.dinode) rings other.0 d
@@ -135,18 +133,21 @@ module _ (im : Image) (system : System) (rings : List Ring) (looked : IsSystemOf
   ring_at : (i : ℕ) (ring : Ring) → slice_get rings i ≡ Some ring → IsRingOf im ring.dinode ring.blocks.items
   ring_at i ring at = all_at (λ (r : Ring). IsRingOf im r.dinode r.blocks.items) rings i ring are.each at
 
+  listing_fits : (d : ℕ) → IsListing (layout_of system) d → Fits (every im d)
+  listing_fits _ the_master = looked.master_looked.dinode.fits
+  listing_fits _ the_rindex = looked.rindex_looked.dinode.fits
+  listing_fits _ the_jindex = looked.journals.looked.dinode.fits
+
   fits_by : (d : ℕ) → IsFileOf system rings d → Fits (every im d)
-  fits_by d (the_master e) = subst (λ a. Fits (every im a)) (sym e) looked.master_looked.dinode.fits
-  fits_by d (the_rindex e) = subst (λ a. Fits (every im a)) (sym e) looked.rindex_looked.dinode.fits
-  fits_by d (the_jindex e) = subst (λ a. Fits (every im a)) (sym e) looked.journals.looked.dinode.fits
+  fits_by d (a_listing of) = listing_fits d of
   fits_by d (a_ring i ring at e) = subst (λ a. Fits (every im a)) e (ring_at i ring at).places.looked.dinode.fits
 
   -- each of them fits its dinode
   pub files_fit : (d : ℕ) → IsSystemFile im d → Fits (every im d)
   files_fit d file = fits_by d (file_of d file)
 
-  module _ (old k : Kept) (dinodes : HasDinodes im k system) (read : HasReadSystem im k system) (kept : All (λ (r : Ring). IsKept k r.dinode) rings)
-      (ways : All (λ (r : Ring). AreKeptWays im k r.dinode r.blocks.items) rings) (marked : AreMarked old k (all_places rings)) where
+  -- the blocks below the list of groups and the directories were read
+  module _ (k : Kept) (read : HasReadSystem im k system) where
     -- the content of a directory is that of a table
     directory_kept : (a parent : ℕ) → (is_hashed_in (every im a) ≡ true → HasReadDirectory im k a) → IsLookedAt im a → IsSoundDirectory im a parent → (p j level first b : ℕ) → Leads (every im a) p j level first b
         → first < content_count (every im a) → IsKept k b
@@ -157,6 +158,25 @@ module _ (im : Image) (system : System) (rings : List Ring) (looked : IsSystemOf
           absurd (high_led (every im a) p j level first b leads (at.sized.linear directory.dir plain).height)
     ]
 
+    table_taken : (a : ℕ) → IsListing (layout_of system) a → (p j level first b : ℕ) → Leads (every im a) p j level first b → first < content_count (every im a) → IsTaken k b
+    table_taken _ the_master p j level first b leads within =
+        taken_kept k b (directory_kept system.superblock.master.address system.superblock.master.address read.master looked.master_looked looked.master_sound p j level first b leads within)
+    table_taken _ the_rindex p j level first b leads within = taken_kept k b (read.rindex p j level first b leads within)
+    table_taken _ the_jindex p j level first b leads within = taken_kept k b (directory_kept system.jindex (master_of im) read.jindex looked.journals.looked looked.journals.sound p j level first b leads within)
+
+    leaf_taken : (a : ℕ) → IsListing (layout_of system) a → (by b hash place : ℕ) → Claims im by b (Chained a hash place) → IsTaken k b
+    leaf_taken _ the_master by b hash place claim = (read.master (leaf_is_hashed im by b system.superblock.master.address hash place claim)).leaves by b hash place claim
+    leaf_taken _ the_rindex by b hash place claim =
+        let sized = looked.rindex_looked.sized.hashed (leaf_is_hashed im by b system.rindex hash place claim) in
+        absurd (no_entries (depth_in (every im system.rindex)) (ap (λ n. n % 96) (sym sized.size) ∙ looked.names.groups.list.whole))
+    leaf_taken _ the_jindex by b hash place claim = (read.jindex (leaf_is_hashed im by b system.jindex hash place claim)).leaves by b hash place claim
+
+    pub listing_taken : (b : ℕ) → IsListingBlock im (layout_of system) b → IsTaken k b
+    listing_taken b (led_to d p j level first of leads within) = table_taken d of p j level first b leads within
+    listing_taken b (a_leaf d by hash place of claim) = leaf_taken d of by b hash place claim
+
+  module _ (old k : Kept) (dinodes : HasDinodes im k system) (read : HasReadSystem im k system) (kept : All (λ (r : Ring). IsKept k r.dinode) rings)
+      (ways : All (λ (r : Ring). AreKeptWays im k r.dinode r.blocks.items) rings) (marked : AreMarked old k (all_places rings)) where
     place_taken : (i p b : ℕ) (ring : Ring) → slice_get rings i ≡ Some ring → slice_get ring.blocks.items p ≡ Some b → IsTaken k b
     place_taken i p b ring at there =
         let some : 1 ≤ marks_of k b = omega (arith, marked b, times_among rings i p b ring at there) in
@@ -187,36 +207,22 @@ module _ (im : Image) (system : System) (rings : List Ring) (looked : IsSystemOf
             (all_at (λ (r : Ring). AreKeptWays im k r.dinode r.blocks.items) rings i ring ways at first (subst (λ n. first < n) (sym long) (low (suc l) led))))
 
     content_taken : (d p j level first b : ℕ) → IsFileOf system rings d → Leads (every im d) p j level first b → first < content_count (every im d) → IsTaken k b
-    content_taken d p j level first b (the_master e) =
-        subst (λ x. Leads (every im x) p j level first b → first < content_count (every im x) → IsTaken k b) (sym e)
-        (λ leads within. taken_kept k b (directory_kept system.superblock.master.address system.superblock.master.address read.master looked.master_looked looked.master_sound p j level first b leads within))
-    content_taken d p j level first b (the_rindex e) =
-        subst (λ x. Leads (every im x) p j level first b → first < content_count (every im x) → IsTaken k b) (sym e) (λ leads within. taken_kept k b (read.rindex p j level first b leads within))
-    content_taken d p j level first b (the_jindex e) =
-        subst (λ x. Leads (every im x) p j level first b → first < content_count (every im x) → IsTaken k b) (sym e)
-        (λ leads within. taken_kept k b (directory_kept system.jindex (master_of im) read.jindex looked.journals.looked looked.journals.sound p j level first b leads within))
-    content_taken d p j level first b (a_ring i ring at e) =
-        subst (λ x. Leads (every im x) p j level first b → first < content_count (every im x) → IsTaken k b) e (λ leads within. ring_taken i ring at p j level first b leads within)
+    content_taken d p j level first b (a_listing of) leads within = table_taken k read d of p j level first b leads within
+    content_taken d p j level first b (a_ring i ring at e) leads within =
+        subst (λ x. Leads (every im x) p j level first b → first < content_count (every im x) → IsTaken k b) e (λ leads within. ring_taken i ring at p j level first b leads within) leads within
 
     leaf_read : (d by b hash place : ℕ) → IsFileOf system rings d → Claims im by b (Chained d hash place) → IsTaken k b
-    leaf_read d by b hash place (the_master e) =
-        subst (λ x. Claims im by b (Chained x hash place) → IsTaken k b) (sym e)
-        (λ claim. (read.master (leaf_is_hashed im by b system.superblock.master.address hash place claim)).leaves by b hash place claim)
-    leaf_read d by b hash place (the_rindex e) =
-        subst (λ x. Claims im by b (Chained x hash place) → IsTaken k b) (sym e)
-        (λ claim.
-        let sized = looked.rindex_looked.sized.hashed (leaf_is_hashed im by b system.rindex hash place claim) in
-        absurd (no_entries (depth_in (every im system.rindex)) (ap (λ n. n % 96) (sym sized.size) ∙ looked.names.groups.list.whole)))
-    leaf_read d by b hash place (the_jindex e) =
-        subst (λ x. Claims im by b (Chained x hash place) → IsTaken k b) (sym e) (λ claim. (read.jindex (leaf_is_hashed im by b system.jindex hash place claim)).leaves by b hash place claim)
-    leaf_read d by b hash place (a_ring i ring at e) =
-        subst (λ x. Claims im by b (Chained x hash place) → IsTaken k b) e
-        (λ claim. absurd (no_table im ring.dinode (ring_of (every im ring.dinode)).places (ring_at i ring at).places (leaf_is_hashed im by b ring.dinode hash place claim)))
+    leaf_read d by b hash place (a_listing of) claim = leaf_taken k read d of by b hash place claim
+    leaf_read d by b hash place (a_ring i ring at e) claim =
+        absurd (no_table im ring.dinode (ring_of (every im ring.dinode)).places (ring_at i ring at).places (subst (λ x. is_hashed_in (every im x) ≡ true) (sym e) (leaf_is_hashed im by b d hash place claim)))
+
+    listing_kept : (d : ℕ) → IsListing (layout_of system) d → IsKept k d
+    listing_kept _ the_master = subst (IsKept k) (sym (ap (λ (s : SuperBlock). s.master.address) looked.superblock)) dinodes.master
+    listing_kept _ the_rindex = dinodes.rindex
+    listing_kept _ the_jindex = dinodes.jindex
 
     dinode_kept : (d : ℕ) → IsFileOf system rings d → IsKept k d
-    dinode_kept d (the_master e) = subst (IsKept k) (sym (e ∙ ap (λ (s : SuperBlock). s.master.address) looked.superblock)) dinodes.master
-    dinode_kept d (the_rindex e) = subst (IsKept k) (sym e) dinodes.rindex
-    dinode_kept d (the_jindex e) = subst (IsKept k) (sym e) dinodes.jindex
+    dinode_kept d (a_listing of) = listing_kept d of
     dinode_kept d (a_ring i ring at e) = subst (IsKept k) e (all_at (λ (r : Ring). IsKept k r.dinode) rings i ring kept at)
 
     pub block_taken : (b : ℕ) → IsSystemBlock im b → IsTaken k b

@@ -1,12 +1,12 @@
 -- What mounting looked at in an image that it mounted, beside what it found there: the records by which the system files are found,
 -- their dinodes and the sizes that these say, the way to their content, the records and leaves of the directories, and the blocks at
--- the places of journals. What docs/MOUNT.md lists beyond this is only tested, as it says.
+-- the places of journals.
 use Rattle.std.specs.Prelude.{ℕ, zero, suc, ⊤, ◌≡◌, ◌≢◌, ◌+◌, ◌-◌, ◌*◌, ◌/◌, ◌%◌, ◌<◌, ◌≤◌, true, false, List, length, codes, Contains}
 use Rattle.dinode_tree.specs.Reading.{IsHeadedAt, IsHeadedWay, IsRightDinode}
 use Rattle.file_tree.specs.Names.{IsName}
 use Rattle.gfs2_layout.specs.Exchanges.{directory_count}
 use Rattle.gfs2_layout.specs.Holding.{Holding}
-use Rattle.gfs2_layout.specs.Inode.{content_block, content_count, dinode_in, entry, head_of, header_length, height_in, index_bits, is_directory_in, is_hashed_in, leaf_in, pointer, span, table_count, IsLeaf}
+use Rattle.gfs2_layout.specs.Inode.{Leads, content_block, content_count, dinode_in, entry, head_of, header_length, height_in, index_bits, is_directory_in, is_hashed_in, leaf_in, pointer, span, table_count, IsLeaf}
 use Rattle.log_layout.specs.Journal.{ring_of}
 use Rattle.gfs2_layout.specs.Records.{Record, records_in, is_dots, IsRecordArea}
 use Rattle.gfs2_layout.specs.Structures.{dinode_length}
@@ -149,6 +149,17 @@ pub data IsSystemDinode (l : Layout) : ℕ → Type 0 where
   of_jindex : IsSystemDinode l l.jindex
   of_journal : (j d : ℕ) → IsJournalAt l j d → IsSystemDinode l d
 
+-- the inode in block d is the master directory, the list of groups or the directory of journals
+pub data IsListing (l : Layout) : ℕ → Type 0 where
+  the_master : IsListing l l.master
+  the_rindex : IsListing l l.rindex
+  the_jindex : IsListing l l.jindex
+
+-- Block b is one by which such a file is read, below its dinode: a block to which a pointer leads before the file's end, or a leaf.
+pub data IsListingBlock (im : Image) (l : Layout) (b : ℕ) : Type 0 where
+  led_to : (d p k level first : ℕ) → IsListing l d → Leads (every im d) p k level first b → first < content_count (every im d) → IsListingBlock im l b
+  a_leaf : (d by hash place : ℕ) → IsListing l d → Claims im by b (Chained d hash place) → IsListingBlock im l b
+
 -- ---- all of it
 
 pub record IsLookedOver (im : Image) (l : Layout) : Type 0 where
@@ -181,3 +192,5 @@ pub record IsLookedOver (im : Image) (l : Layout) : Type 0 where
   pub clear : (j p b : ℕ) → IsPlaceOf im l j p b → (i d q : ℕ) → IsJournalAt l i d → q < (ring_of (every im d)).places → IsOffWay b (every im d) q
   -- nor is a dinode of these files
   pub beside : (j p b : ℕ) → IsPlaceOf im l j p b → ¬ (IsSystemDinode l b)
+  -- nor a block of the content of the list of groups or of a directory's table, nor one on the way to these, nor a leaf
+  pub listings : (j p b : ℕ) → IsPlaceOf im l j p b → ¬ (IsListingBlock im l b)

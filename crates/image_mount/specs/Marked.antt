@@ -39,15 +39,16 @@ IsKeptWay k h i =
 abbrev pub HasKeptContent : Kept → Holding → Type 0
 HasKeptContent k h = (p j level first b : ℕ) → Leads h p j level first b → first < content_count h → IsKept k b
 
--- no block that is a place is kept
-abbrev pub AreUnkept : Kept → Type 0
-AreUnkept k = (b : ℕ) → marks_of k b ≡ 1 → (seen_of k).block_at b ≡ None
+-- no block that is a place was read, whether it is kept or not
+abbrev pub AreUnread : Kept → Type 0
+AreUnread k = (b : ℕ) → marks_of k b ≡ 1 → ((seen_of k).block_at b ≡ None) × (slice_get k.leaves b ≢ Some true)
 
--- more may be kept and marked: what was kept or read stays so, and where no place was kept none is
+-- more may be read and marked: what was kept or read stays so, and where no place was read none is
 pub record IsGrown (old new : Kept) : Type 0 where
   pub stays : (b : ℕ) → IsKept old b → IsKept new b
+  pub leaves : (b : ℕ) → slice_get old.leaves b ≡ Some true → slice_get new.leaves b ≡ Some true
   pub taken : (b : ℕ) → IsTaken old b → IsTaken new b
-  pub unkept : AreUnkept old → AreUnkept new
+  pub unread : AreUnread old → AreUnread new
 
 -- how often a block is among these
 abbrev pub times_in : List ℕ → ℕ → ℕ

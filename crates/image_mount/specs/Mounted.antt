@@ -1,5 +1,5 @@
 -- What is told of an image that is mounted.
-use Rattle.std.specs.Prelude.{ℕ, ◌≡◌, ◌≤◌, ◌↔◌, IsTrue, List, Contains, length, map, slice_get, Some}
+use Rattle.std.specs.Prelude.{ℕ, ◌≡◌, ◌<◌, ◌≤◌, ◌↔◌, IsTrue, List, Contains, length, map, slice_get, Some}
 use Rattle.std.specs.List.{AllByRecursion, range_with_len}
 use Rattle.glock_names.specs.Views.{AreGroups, end_of, group_of_entry}
 use Rattle.glock_names.specs.declared.views.Group.{Group}
@@ -46,6 +46,8 @@ pub record IsMounted (im : Image) (m : MountedValue) : Type 0 where
   pub count : length m.journals ≡ length layout.journals
   pub journals : (j d : ℕ) (journal : Journal) → IsJournalAt layout j d → slice_get m.journals j ≡ Some journal → IsJournalOf im d journal
   pub system : (b : ℕ) → Contains m.system b ↔ IsSystemBlock im b
+  -- each of these blocks is on the device
+  pub inside : (b : ℕ) → IsSystemBlock im b → b < im.count
 
 -- the disk tells its blocks, and the image has what the disk has of each of these
 pub record HasSameBlocks (s : DiskState) (blocks : List ℕ) (im : Image) : Type 0 where

@@ -11,9 +11,8 @@ ghost use Rattle.image_model.specs.Image.{Image};
 ghost use Rattle.image_model.specs.Stands.{Layout, IsJournalAt};
 ghost use Rattle.image_model.specs.SystemFiles.{IsSystemBlock};
 ghost use Rattle.image_mount.specs.Found.{HasNames};
-ghost use Rattle.image_mount.specs.Kept.{seen_of};
 ghost use Rattle.image_mount.specs.Looks.{IsInGroups, IsTrueEntry};
-ghost use Rattle.image_mount.specs.Marked.{AreMarked, IsGrown, IsKept, IsKeptWay, marks_of};
+ghost use Rattle.image_mount.specs.Marked.{AreMarked, IsGrown, IsKept, IsKeptWay, IsTaken, marks_of};
 ghost use Rattle.image_mount.specs.Refusals.{HasLowHead, HasRisen, IsJournalSized, IsReached, LiesWithin, RefusesRightly};
 ghost use Rattle.image_mount.specs.Rings.{AreKeptWays, IsSearched, IsJournalIn, IsNext, HasPlaces, IsPlaceAt, AreBlocksOf, IsRingOf, AreRings, AreJournals, IsHeadOf, IsOwn, all_places, ring_at};
 ghost use Rattle.image_mount.specs.Searching.{IsRead, IsSteady, IsWorking, LacksBlock, ShowsSystem, StopsRightly};
@@ -152,7 +151,7 @@ fn check_place(table: &KeptBlocks, system: &System, located: &Located) -> Result
     ensures inside { OnOk result (located.now.block < length table.now.entries) }
     ensures placed { OnOk result (IsInGroups system.now.groups.items located.now.block) }
     ensures unmarked { OnOk result (marks_of table.now located.now.block ≡ 0) }
-    ensures free { OnOk result ((seen_of table.now).block_at located.now.block ≡ None) }
+    ensures free { OnOk result (¬ (IsTaken table.now located.now.block)) }
     ensures apart { OnOk result ((im : Image) → IsSystemOf im system.now → located.now.block ≢ superblock_place im.size) }
     ensures refused { (im : Image) (done : List ℕ) (journal : LinkValue) (place : ℕ) → IsRead im table.now → IsNext im done system.now journal → IsSearched im done journal.entry.addr place table.now
         → IsPlaceAt im journal.entry.addr place located.now → IfErr result (RefusesRightly im) }

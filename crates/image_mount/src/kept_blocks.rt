@@ -1,4 +1,4 @@
-ghost use Rattle.std.specs.Prelude.{ℕ, Contains, ◌≡◌, ◌≢◌, ◌+◌, ◌<◌, ◌≤◌, [], ◌∷◌, ⊤, true, false, length, count_by, is_none, slice_set, slice_get, Some, None, IsTrue, IsFalse, ◌↔◌, IfOk, IfErr, IfSome, IfNone, MatchOption};
+ghost use Rattle.std.specs.Prelude.{ℕ, Contains, ◌≡◌, ◌≢◌, ◌+◌, ◌<◌, ◌≤◌, [], ◌∷◌, ⊤, true, false, length, count_by, is_none, slice_set, slice_get, Some, None, IsTrue, IsFalse, ◌↔◌, IfOk, OnOk, IfErr, IfSome, IfNone, MatchOption};
 ghost use Rattle.std.specs.List.{All};
 ghost use Rattle.std.specs.List.Sorted.{IsStrictlyIncreasing};
 ghost use Rattle.gfs2_layout.specs.Device.{IsBlockSize};
@@ -120,7 +120,7 @@ impl KeptBlocks {
         requires { block < length self.old.entries }
         ensures places { self.new.places ≡ slice_set self.old.places block true }
         ensures marked { marks_of self.old block ≡ 0 → AreMarked self.old self.new (block ∷ []) }
-        ensures grown { (seen_of self.old).block_at block ≡ None → IsGrown self.old self.new }
+        ensures grown { ¬ (IsTaken self.old block) → IsGrown self.old self.new }
         ensures entries { self.new.entries ≡ self.old.entries }
         ensures leaves { self.new.leaves ≡ self.old.leaves }
         ensures size { self.new.size ≡ self.old.size }
@@ -141,7 +141,6 @@ impl KeptBlocks {
         ensures taken { IsTrue result → IsTaken self.now block }
         ensures untaken { IsFalse result → ¬ (IsTaken self.now block) }
         ensures unmarked { IsFalse result → marks_of self.now block ≡ 0 }
-        ensures free { IsFalse result → (seen_of self.now).block_at block ≡ None }
     {
         if self.is_place(block) || self.is_leaf(block) {
             return true;
@@ -166,6 +165,7 @@ impl KeptBlocks {
     pub fn taken(&self, alloc: Global) -> Result<Vec<u64>, NoMemory>
         ensures taken { IfOk result (λ blocks. (b : ℕ) → Contains blocks.items b ↔ IsTaken self.now b) }
         ensures rise { IfOk result (λ blocks. IsStrictlyIncreasing blocks.items) }
+        ensures inside { OnOk result ((b : ℕ) → IsTaken self.now b → b < length self.now.entries) }
     {
         let mut blocks = Vec::new(alloc);
         for block in 0..self.count() {

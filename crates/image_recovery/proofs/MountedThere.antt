@@ -25,7 +25,7 @@ use Rattle.image_model.proofs.SystemStays.{file_inode}
 use Rattle.image_changes.proofs.Laid.{fits_still}
 use Rattle.dinode_tree.specs.Reading.{IsHeadedWay}
 use Rattle.image_mount.specs.Found.{HasFormat, HasMaster, HasNames}
-use Rattle.image_mount.specs.Looks.{HasSoundLeaves, HasTrueRecord, IsLookedOver, IsOffWay, IsPlaceOf}
+use Rattle.image_mount.specs.Looks.{HasSoundLeaves, HasTrueRecord, IsListing, IsListingBlock, IsLookedOver, IsOffWay, IsPlaceOf, a_leaf, led_to, the_jindex, the_master, the_rindex}
 use Rattle.image_mount.specs.Mounted.{IsJournalOf, IsMounted, Journal, MountedValue}
 use Rattle.image_replays.proofs.System.{has_journal, mounted_at, one_jindex, one_rindex}
 use Rattle.image_recovery.specs.Left.{IsMountedAs}
@@ -73,6 +73,23 @@ module _ (im : Image) (m : MountedValue) (is : IsMounted im m) (large : 512 ≤ 
 
   rindex_is : HasInode other is.layout.rindex
   rindex_is = file_inode other is.layout.rindex rindex_led
+
+  -- what is alike of them
+  listed : (d : ℕ) → IsListing is.layout d → AreAlike im g d × HasInode im d × HasInode other d × Fits (every im d)
+  listed _ the_master = (in_master, master_here, master_is, is.looked.master.dinode.fits)
+  listed _ the_rindex = (in_rindex, rindex_here, rindex_is, is.looked.rindex.dinode.fits)
+  listed _ the_jindex = (in_jindex, jindex_here, jindex_is, is.looked.jindex.dinode.fits)
+
+  -- a block by which one of them is read there is one here
+  listing_home : (b : ℕ) → IsListingBlock other is.layout b → IsListingBlock im is.layout b
+  listing_home b (led_to d p k level first of leads within) =
+      let it = listed d of in
+      let same = it.0 d (own refl) in
+      led_to d p k level first of (leads_home im g d same it.3 (λ q n l f c leads within. it.0 c (led q n (suc l) f leads within)) p k level first b leads within) (subst (λ n. first < n) (sym (count_is im g d same)) within)
+  listing_home b (a_leaf d by hash place of claim) =
+      let it = listed d of in
+      let was = leaf_home im g d it.3 it.0 it.1 it.2 by b hash place claim in
+      a_leaf d was.0 hash place of was.1
 
   format : HasFormat other
   format =
@@ -250,6 +267,7 @@ module _ (im : Image) (m : MountedValue) (is : IsMounted im m) (large : 512 ≤ 
         ways = λ j d p at inside. let was = inside_home j d at p inside in (ways j d at p was).0 (k.ways j d p at was);
         clear = λ j p b place i d q at inside. let was = inside_home i d at q inside in (ways i d at q was).1 b (k.clear j p b (place_home j p b place) i d q at was);
         beside = λ j p b place. k.beside j p b (place_home j p b place);
+        listings = λ j p b place of. k.listings j p b (place_home j p b place) (listing_home b of);
       }
 
   -- ---- the blocks of the system files
@@ -264,47 +282,44 @@ module _ (im : Image) (m : MountedValue) (is : IsMounted im m) (large : 512 ≤ 
 
   -- a file of the other is one of the four
   data IsOfFour (d : ℕ) : Type 0 where
-    the_master : d ≡ is.layout.master → IsOfFour d
-    the_rindex : d ≡ is.layout.rindex → IsOfFour d
-    the_jindex : d ≡ is.layout.jindex → IsOfFour d
+    a_listing : IsListing is.layout d → IsOfFour d
     a_journal : (j : ℕ) → IsJournalAt is.layout j d → IsOfFour d
 
   journal_of_four : (j d : ℕ) → LeadsTo im is.layout.jindex (journal_name j) d → IsOfFour d
   journal_of_four j d way = let named = is.profile.journals.others (journal_name j) d way in a_journal named.0 named.1
 
   four_here : (d : ℕ) → IsSystemFile im d → IsOfFour d
-  four_here d (is_master e) = the_master (e ∙ is.found.groups.list.master.master)
-  four_here d (is_rindex way) = the_rindex (one_rindex im m is d way)
-  four_here d (is_jindex way) = the_jindex (one_jindex im m is d way)
+  four_here d (is_master e) = a_listing (subst (IsListing is.layout) (sym (e ∙ is.found.groups.list.master.master)) the_master)
+  four_here d (is_rindex way) = a_listing (subst (IsListing is.layout) (sym (one_rindex im m is d way)) the_rindex)
+  four_here d (is_jindex way) = a_listing (subst (IsListing is.layout) (sym (one_jindex im m is d way)) the_jindex)
   four_here d (is_journal j has) = journal_of_four j d (subst (λ a. LeadsTo im a (journal_name j) d) (one_jindex im m is has.0 has.1) has.2)
 
   four_there : (d : ℕ) → IsSystemFile other d → IsOfFour d
-  four_there d (is_master e) = the_master (e ∙ master_same im m is g super in_master in_jindex)
+  four_there d (is_master e) = a_listing (subst (IsListing is.layout) (sym (e ∙ master_same im m is g super in_master in_jindex)) the_master)
   four_there d (is_rindex way) =
       let back = led_back im g is.layout.master is.looked.master.dinode.fits in_master master_here (codes "rindex") d (subst (λ a. LeadsTo other a (codes "rindex") d) (master_same im m is g super in_master in_jindex) way) in
-      the_rindex (one_rindex im m is d (subst (λ a. LeadsTo im a (codes "rindex") d) (sym is.found.groups.list.master.master) back))
-  four_there d (is_jindex way) = the_jindex (one_jindex_there im m is g super in_master in_jindex d way)
+      a_listing (subst (IsListing is.layout) (sym (one_rindex im m is d (subst (λ a. LeadsTo im a (codes "rindex") d) (sym is.found.groups.list.master.master) back))) the_rindex)
+  four_there d (is_jindex way) = a_listing (subst (IsListing is.layout) (sym (one_jindex_there im m is g super in_master in_jindex d way)) the_jindex)
   four_there d (is_journal j has) =
       journal_of_four j d
       (led_back im g is.layout.jindex is.looked.jindex.dinode.fits in_jindex jindex_here (journal_name j) d (subst (λ a. LeadsTo other a (journal_name j) d) (one_jindex_there im m is g super in_master in_jindex has.0 has.1) has.2))
 
+  file_of_listing : (d : ℕ) → IsListing is.layout d → IsSystemFile im d
+  file_of_listing _ the_master = master_file im m is
+  file_of_listing _ the_rindex = rindex_file im m is
+  file_of_listing _ the_jindex = jindex_file im m is
+
   file_of_four : (d : ℕ) → IsOfFour d → IsSystemFile im d
-  file_of_four d (the_master e) = subst (IsSystemFile im) (sym e) (master_file im m is)
-  file_of_four d (the_rindex e) = subst (IsSystemFile im) (sym e) (rindex_file im m is)
-  file_of_four d (the_jindex e) = subst (IsSystemFile im) (sym e) (jindex_file im m is)
+  file_of_four d (a_listing of) = file_of_listing d of
   file_of_four d (a_journal j at) = is_journal j (has_journal im m is j d at)
 
   -- all blocks of the file are alike, or it is a journal
   alike_or_journal : (d : ℕ) → IsOfFour d → AreAlike im g d ⊎ ((j : ℕ) × IsJournalAt is.layout j d)
-  alike_or_journal d (the_master e) = inl (subst (AreAlike im g) (sym e) in_master)
-  alike_or_journal d (the_rindex e) = inl (subst (AreAlike im g) (sym e) in_rindex)
-  alike_or_journal d (the_jindex e) = inl (subst (AreAlike im g) (sym e) in_jindex)
+  alike_or_journal d (a_listing of) = inl (listed d of).0
   alike_or_journal d (a_journal j at) = inr (j, at)
 
   fits_of : (d : ℕ) → IsOfFour d → Fits (every im d)
-  fits_of d (the_master e) = subst (λ a. Fits (every im a)) (sym e) is.looked.master.dinode.fits
-  fits_of d (the_rindex e) = subst (λ a. Fits (every im a)) (sym e) is.looked.rindex.dinode.fits
-  fits_of d (the_jindex e) = subst (λ a. Fits (every im a)) (sym e) is.looked.jindex.dinode.fits
+  fits_of d (a_listing of) = (listed d of).3
   fits_of d (a_journal j at) = (is.looked.journals j d at).dinode.fits
 
   own_of : (d : ℕ) → IsOfFour d → im.at d ≡ g d
@@ -362,6 +377,7 @@ module _ (im : Image) (m : MountedValue) (is : IsMounted im m) (large : 512 ≤ 
     count = told.same.count ∙ is.count;
     journals = journal_is;
     system = λ b. (λ has. block_forth b ((is.system b).0 (subst (λ bs. Contains bs b) told.system has)), λ of. subst (λ bs. Contains bs b) (sym told.system) ((is.system b).1 (block_home b of)));
+    inside = λ b of. is.inside b (block_home b of);
   }
     where
       journal_is : (j d : ℕ) (journal : Journal) → IsJournalAt is.layout j d → slice_get m'.journals j ≡ Some journal → IsJournalOf other d journal

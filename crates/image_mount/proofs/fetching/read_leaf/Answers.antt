@@ -1,7 +1,7 @@
 use Rattle.std.proofs.Common.{◌≡◌, ◌∙◌, sym, subst}
 use Rattle.image_mount.specs.Marked.{of_kept}
 use Rattle.image_mount.specs.Refusals.{HasRisen}
-use Rattle.image_mount.proofs.Marked.{grown_same, leaf_stays}
+use Rattle.image_mount.proofs.Marked.{grown_leaf}
 use Rattle.image_mount.proofs.Marks.{searched_leaf}
 use Rattle.image_mount.proofs.Stops.{handed, refused}
 use Rattle.image_mount.proofs.Working.{working_same}
@@ -25,7 +25,7 @@ returns-clause-searched g c im done d n wanted known =
     searched_leaf im done d n c.args.table.now _ c.args.block c.args.from c.mark_leaf.ensures.leaves c.mark_leaf.ensures.entries c.mark_leaf.ensures.places wanted known
 
 pub returns-clause-grown : goal.returns-clause-grown
-returns-clause-grown g c = grown_same c.args.table.now c.mark_leaf.new.self c.mark_leaf.ensures.entries c.mark_leaf.ensures.places (leaf_stays c.args.table.now c.mark_leaf.new.self c.args.block c.mark_leaf.ensures.leaves)
+returns-clause-grown g c = grown_leaf c.args.table.now c.mark_leaf.new.self c.args.block c.mark_leaf.ensures.entries c.mark_leaf.ensures.places c.mark_leaf.ensures.leaves c.in_ok-check_readable.ensures.unmarked
 
 pub returns-in-Ok-clause-read : goal.returns-in-Ok-clause-read
 returns-in-Ok-clause-read g c = of_kept c.in-Ok.bytes.now c.in-Ok.ensures.bytes

@@ -41,3 +41,6 @@ pub returns-clause-placed : goal.returns-clause-placed
 returns-clause-placed c =
     let inside : c.is_data.result ≡ true = grind (arith, c.if-not-is_data.false) in
     in_groups c.deref.result.now c.args.system.now.groups.items c.args.located.now.block c.deref.ensures.value (c.is_data.ensures.inside inside)
+
+pub returns-clause-free : goal.returns-clause-free
+returns-clause-free c = c.is_taken.ensures.untaken c.if-is_taken.false

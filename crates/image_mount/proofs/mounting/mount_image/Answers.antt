@@ -1,4 +1,4 @@
-use Rattle.std.proofs.Common.{ap, subst, sym, ◌∙◌, refl, arith}
+use Rattle.std.proofs.Common.{◌<◌, ap, subst, sym, ◌∙◌, refl, arith}
 use Rattle.std.specs.Prelude.{map}
 use Rattle.glock_names.specs.Views.{group_of_entry}
 use Rattle.image_model.specs.Image.{Image}
@@ -6,12 +6,11 @@ use Rattle.image_mount.specs.Refusals.{RefusesRightly}
 use Rattle.image_mount.specs.Rings.{all_places}
 use Rattle.image_mount.specs.Searching.{ShowsSystem}
 use Rattle.image_mount.specs.System.{layout_of}
-use Rattle.image_mount.proofs.Marked.{marked_once, place_unkept, unkept_new}
+use Rattle.image_mount.proofs.Marked.{marked_once, unread_new}
 use Rattle.image_mount.proofs.Marks.{searched_new, shows_now}
 use Rattle.image_mount.proofs.Moved.{stay_kept}
 use Rattle.image_mount.proofs.Ending.{refused_where, excused_where, standing_where, mounted}
 use Rattle.image_mount.proofs.SystemRead.{files_fit, is_alike, is_mounted}
-use Rattle.image_mount.proofs.Systems.{read_on}
 use Rattle.image_mount.proofs.Working.{working_new}
 use Rattle.image_mount.proofs.mounting.mount_image.Goals as goal
 
@@ -144,10 +143,10 @@ returns-clause-mounted g c =
           (marked_once c.search_system.new.table c.find_rings.new.table (all_places c.in_ok-rings.rings.items) c.in_ok-rings.ensures.marked) c.in_ok-rings.ensures.own c.find_rings.new.table
           (stay_kept im c.search_system.new.table c.find_rings.new.table c.in_ok-system.system c.in_ok-rings.ensures.grown (c.in_ok-system.ensures.dinodes im shows known)) c.in_ok-rings.ensures.kept
           (c.in_ok-rings.ensures.ways im shows1 looked searched)
-          (λ j p b ring at there. place_unkept c.search_system.new.table c.find_rings.new.table c.in_ok-rings.rings.items j p b ring c.in_ok-rings.ensures.marked
-          (c.in_ok-rings.ensures.grown.unkept (c.in_ok-system.ensures.grown.unkept (unkept_new c.in_ok-table.table c.in_ok-table.ensures.places))) at there)
-          c.search_system.new.table (read_on im c.search_system.new.table c.find_rings.new.table c.in_ok-system.system c.in_ok-rings.ensures.grown (c.in_ok-system.ensures.read im shows known)) c.in_ok-rings.ensures.marked
-          (c.in_ok-rings.ensures.searched im shows1 looked searched) c.in_ok-taken.ensures.taken refl (c.in_ok-map_groups.ensures ∙ ap (map group_of_entry) c.deref.ensures.value) refl,
+          c.search_system.new.table c.in_ok-rings.ensures.grown (c.in_ok-rings.ensures.grown.unread (c.in_ok-system.ensures.grown.unread (unread_new c.in_ok-table.table c.in_ok-table.ensures.places)))
+          (c.in_ok-system.ensures.read im shows known) c.in_ok-rings.ensures.marked
+          (c.in_ok-rings.ensures.searched im shows1 looked searched) c.in_ok-taken.ensures.taken
+          (λ b is. subst (λ n. b < n) (c.in_ok-rings.ensures.work.count ∙ sym shows2.count) (c.in_ok-taken.ensures.inside b is)) refl (c.in_ok-map_groups.ensures ∙ ap (map group_of_entry) c.deref.ensures.value) refl,
       files_fit im c.in_ok-system.system c.in_ok-rings.rings.items looked rings,
     ))
 
@@ -166,9 +165,9 @@ returns-clause-alike g c =
           (marked_once c.search_system.new.table c.find_rings.new.table (all_places c.in_ok-rings.rings.items) c.in_ok-rings.ensures.marked) c.in_ok-rings.ensures.own c.find_rings.new.table
           (stay_kept im c.search_system.new.table c.find_rings.new.table c.in_ok-system.system c.in_ok-rings.ensures.grown (c.in_ok-system.ensures.dinodes im shows known)) c.in_ok-rings.ensures.kept
           (c.in_ok-rings.ensures.ways im shows1 looked searched)
-          (λ j p b ring at there. place_unkept c.search_system.new.table c.find_rings.new.table c.in_ok-rings.rings.items j p b ring c.in_ok-rings.ensures.marked
-          (c.in_ok-rings.ensures.grown.unkept (c.in_ok-system.ensures.grown.unkept (unkept_new c.in_ok-table.table c.in_ok-table.ensures.places))) at there)
-          c.search_system.new.table (read_on im c.search_system.new.table c.find_rings.new.table c.in_ok-system.system c.in_ok-rings.ensures.grown (c.in_ok-system.ensures.read im shows known)) c.in_ok-rings.ensures.marked
-          (c.in_ok-rings.ensures.searched im shows1 looked searched) c.in_ok-taken.ensures.taken refl (c.in_ok-map_groups.ensures ∙ ap (map group_of_entry) c.deref.ensures.value) refl,
+          c.search_system.new.table c.in_ok-rings.ensures.grown (c.in_ok-rings.ensures.grown.unread (c.in_ok-system.ensures.grown.unread (unread_new c.in_ok-table.table c.in_ok-table.ensures.places)))
+          (c.in_ok-system.ensures.read im shows known) c.in_ok-rings.ensures.marked
+          (c.in_ok-rings.ensures.searched im shows1 looked searched) c.in_ok-taken.ensures.taken
+          (λ b is. subst (λ n. b < n) (c.in_ok-rings.ensures.work.count ∙ sym shows2.count) (c.in_ok-taken.ensures.inside b is)) refl (c.in_ok-map_groups.ensures ∙ ap (map group_of_entry) c.deref.ensures.value) refl,
       files_fit im c.in_ok-system.system c.in_ok-rings.rings.items looked rings,
     ))

@@ -37,3 +37,6 @@ pub returns-clause-taken : goal.returns-clause-taken
 returns-clause-taken c =
     let end : c.loop-block.block ≡ c.count-block-end.result = omega (arith, c.loop-block-test.false, c.loop-block.auto.block-end) in
     taken_all c.args.self.now c.loop-block.blocks.items c.loop-block.block c.loop-block.invariant.there (λ b taken. subst (λ n. b < n) (sym end) (c.count-block-end.ensures.inside b taken))
+
+pub returns-clause-inside : goal.returns-clause-inside
+returns-clause-inside c b taken = let low = c.count-block-end.ensures.inside b taken in omega (arith, low, c.count-block-end.ensures.value)
