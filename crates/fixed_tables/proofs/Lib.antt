@@ -1,2 +1,2 @@
-mod Rows
-mod Tables
+pub mod Rows
+pub mod Tables

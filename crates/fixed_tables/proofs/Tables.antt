@@ -144,7 +144,7 @@ module _ {V : Type 0} (stays : ℕ → V → Bool) where
   absent : (k : ℕ) (es : List (ℕ × V)) → T (below_all nat_cmp k es) → find nat_cmp k es ≡ None
   absent k es h = find_between es k (λ j d inside e. let more = above_all k es h j d inside in absurd (omega arith))
 
-  find_staying : (q : ℕ) (es : List (ℕ × V)) → T (map.is_sorted nat_cmp es) → find nat_cmp q (staying es) ≡ left_by (stays q) (find nat_cmp q es)
+  pub find_staying : (q : ℕ) (es : List (ℕ × V)) → T (map.is_sorted nat_cmp es) → find nat_cmp q (staying es) ≡ left_by (stays q) (find nat_cmp q es)
   find_staying q [] h = refl
   find_staying q (e ∷ es) h = by (cases_eq q e.0) (find_staying q es (second _ _ h))
     where
