@@ -1,0 +1,6 @@
+//! A map from numbers to values in memory that is taken once.
+#![tactic(auto)]
+
+mod table;
+
+pub use table::{FixedTable, RowTest};

@@ -1,0 +1,8 @@
+mod Counting
+mod Holding
+mod Seeing
+mod Taking
+mod SameCells
+mod Keeping
+mod Steps
+mod Reading

@@ -1,0 +1,13 @@
+use Rattle.std.proofs.Common.{ap, ℕ}
+use Rattle.log_tables.specs.Kept.{Kept}
+use Rattle.log_tables.specs.Slots.{version_in}
+use Rattle.log_tables.specs.Versions.{Version}
+use Rattle.log_tables.proofs.Reading.{row_seen, row_there}
+use Rattle.log_tables.proofs.tables.Tables.flushed_block.Goals as goal
+
+pub row-requires : goal.row-requires
+row-requires c = row_there (version_in c.self.inside.pool) c.self.inside.flushed.at c.args.self.now.flushed (ap (λ (k : Kept). k.flushed) c.self.view_is) c.args.place c.requires
+
+pub returns : goal.returns
+returns c = λ e at.
+    ap (λ (x : ℕ × Version). x.0) (row_seen (version_in c.self.inside.pool) c.self.inside.flushed.at c.args.self.now.flushed (ap (λ (k : Kept). k.flushed) c.self.view_is) c.args.place c.row.result.now e c.row.ensures at)

@@ -1,0 +1,5 @@
+pub mod Versions
+pub mod Kept
+pub mod Seen
+pub mod Slots
+pub mod IsTables
