@@ -57,19 +57,19 @@ free_free x y e = cc
 used_free : (o : Owner) (x : ℕ) → o ≡ Free x → IsUsed o → ⊥
 used_free o x e used = subst IsUsed e used
 
-in_list : (gs : List Rindex) (o : Owner) (b x : ℕ) → o ≡ Free x → ((g : Rindex) → IsListed gs g → IsDataOf g b → (o ≡ Free g.address) ⊎ IsUsed o) → (g : Rindex) → IsListed gs g → IsDataOf g b → group_of gs b ≡ x
-in_list [] o b x row each g at is = absurd (none_some at.1)
-in_list (h ∷ gs) o b x row each g at is = elim (is_data h b) [
-  | inl yes ↦ cond-true _ h.address (group_of gs b) yes.0 ∙ elim (each h (0, refl) yes.1) [
+in_list : (gs : List Rindex) (o : Owner) (b x : ℕ) → o ≡ Free x → ((g : Rindex) → IsListed gs g → IsDataOf g b → (o ≡ Free g.address) ⊎ IsUsed o) → (g : Rindex) (i : ℕ) → slice_get gs i ≡ Some g → IsDataOf g b → group_of gs b ≡ x
+in_list [] o b x row each g i at is = absurd (none_some at)
+in_list (h ∷ gs) o b x row each g i at is = elim (is_data h b) [
+  | inl here ↦ cond-true _ h.address (group_of gs b) here.0 ∙ elim (each h (0, refl) here.1) [
     | inl free ↦ free_free h.address x (sym free ∙ row)
     | inr used ↦ absurd (used_free o x row used)
   ]
-  | inr no ↦ cond-false _ h.address (group_of gs b) no.0 ∙ later at.0 at.1 no.1
+  | inr away ↦ cond-false _ h.address (group_of gs b) away.0 ∙ later i at away.1 (λ k e. in_list gs o b x row (λ m at'. each m (suc at'.0, at'.1)) g k e is)
 ]
   where
-    later : (i : ℕ) → slice_get (h ∷ gs) i ≡ Some g → (IsDataOf h b → ⊥) → group_of gs b ≡ x
-    later zero e not = absurd (not (subst (λ k. IsDataOf k b) (sym (some_same e)) is))
-    later (suc i) e not = in_list gs o b x row (λ k at'. each k (suc at'.0, at'.1)) g (i, e) is
+    later : (i : ℕ) → slice_get (h ∷ gs) i ≡ Some g → (IsDataOf h b → ⊥) → ((k : ℕ) → slice_get gs k ≡ Some g → group_of gs b ≡ x) → group_of gs b ≡ x
+    later zero e not rest = absurd (not (subst (λ k. IsDataOf k b) (sym (some_same e)) is))
+    later (suc k) e not rest = rest k e
 
 -- a free block is one of the group in whose data blocks it lies
 its_group : (im : Image) (o : Owners) (l : Layout) → IsLaid im o l → (b x : ℕ) → o b ≡ Free x → group_of l.groups b ≡ x
@@ -86,7 +86,7 @@ its_group im o l laid b x row = by (lies l.groups b)
 
     by : Lies l.groups b → group_of l.groups b ≡ x
     by (in_header g at is) = absurd (no_header g.address (sym (laid.zoned.headers g at b is) ∙ row))
-    by (in_data g at is) = in_list l.groups (o b) b x row (λ h at' is'. laid.zoned.data_blocks h at' b is') g at is
+    by (in_data g at is) = in_list l.groups (o b) b x row (λ h at' is'. laid.zoned.data_blocks h at' b is') g at.0 at.1 is
     by (in_none none) = elim (cases_lt (superblock_place im.size) b) [
       | inl above ↦ absurd (no_nobody (sym (laid.zoned.between b above none) ∙ row))
       | inr low ↦ absurd (no_super (sym (laid.zoned.low b low) ∙ row))
@@ -442,7 +442,7 @@ pub spaceless_is_answered : SpacelessIsAnswered
 spaceless_is_answered v seen view held client call is has takes taken = (
   record { empty = λ none b. refl; some = λ e. absurd (true≢false (sym e)) },
   λ c at t agrees s. nothing_done v held (record { client = client; call = call; reply = replies.NoSpace }) c at t s
-  (inr (record { no_room = refl; same = refl; taken = taken (image_with v c) s.owners v.layout t (is_of v seen view is has c at t agrees s); takes = takes })),
+      (inr (record { no_room = refl; same = refl; taken = taken (image_with v c) s.owners v.layout t (is_of v seen view is has c at t agrees s); takes = takes })),
 )
 
 pub sync_is_answered : SyncIsAnswered

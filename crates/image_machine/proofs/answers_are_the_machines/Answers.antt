@@ -2,10 +2,10 @@ use Rattle.image_machine.proofs.Answering.{done_is_answered, spaceless_is_answer
 use Rattle.image_machine.proofs.answers_are_the_machines.Goals as goal
 
 pub returns-clause-done : goal.returns-clause-done
-returns-clause-done g c = done_is_answered
+returns-clause-done c = done_is_answered
 
 pub returns-clause-spaceless : goal.returns-clause-spaceless
-returns-clause-spaceless g c = spaceless_is_answered
+returns-clause-spaceless c = spaceless_is_answered
 
 pub returns-clause-sync : goal.returns-clause-sync
-returns-clause-sync g c = sync_is_answered
+returns-clause-sync c = sync_is_answered
