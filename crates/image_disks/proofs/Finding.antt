@@ -6,7 +6,7 @@ use Rattle.image_model.proofs.Held.{none_some, some_same}
 use Rattle.image_machine.specs.Volumes.{IsPlace, Volume}
 
 -- the first where it is the first
-pub pick : {A B C : Type 0} → A ⊎ B → C → C → C
+abbrev pub pick : {A B C : Type 0} → A ⊎ B → C → C → C
 pick (inl a) x y = x
 pick (inr b) x y = y
 
@@ -58,12 +58,12 @@ among f (suc n) = by (f n) refl
 
 -- some journal has it, or none
 pub some_or_none : (ks : List ℕ) (f : ℕ → Option (List ℕ)) → ((j : ℕ) → ((k : ℕ) → slice_get ks j ≡ Some k → ⊥) → f j ≡ None)
-    → ((j k : ℕ) (bytes : List ℕ) × (slice_get ks j ≡ Some k) × (f j ≡ Some bytes)) ⊎ ((j : ℕ) → f j ≡ None)
+    → ((j k : ℕ) × (bytes : List ℕ) × (slice_get ks j ≡ Some k) × (f j ≡ Some bytes)) ⊎ ((j : ℕ) → f j ≡ None)
 some_or_none ks f outside = elim (among f (length ks)) [
   | inl found ↦ inl (its found.0 found.1 found.2 (slice_get ks found.0) refl)
   | inr none ↦ inr (λ j. elim (cases_lt j (length ks)) [ inl low ↦ none j low | inr high ↦ outside j (λ k at. absurd (omega (arith, high, slice_get_within ks j k at))) ])
 ]
   where
-    its : (j : ℕ) (bytes : List ℕ) → f j ≡ Some bytes → (x : Option ℕ) → slice_get ks j ≡ x → (j k : ℕ) (bytes : List ℕ) × (slice_get ks j ≡ Some k) × (f j ≡ Some bytes)
+    its : (j : ℕ) (bytes : List ℕ) → f j ≡ Some bytes → (x : Option ℕ) → slice_get ks j ≡ x → (j k : ℕ) × (bytes : List ℕ) × (slice_get ks j ≡ Some k) × (f j ≡ Some bytes)
     its j bytes e (Some k) at = (j, k, bytes, at, e)
     its j bytes e None at = absurd (none_some (sym (outside j (λ k at'. none_some (sym at ∙ at'))) ∙ e))
