@@ -116,13 +116,13 @@ place_inside seen (u ∷ ws) zero w all at = subst (IsInside seen) (some_same at
 place_inside seen (u ∷ ws) (suc i) w all at = place_inside seen ws i w all.1 at
 
 -- the block is written, with its place in the change; or freed; or the change hasn't it
-data Drawn (v : Volume) (change : Change) (b : ℕ) : Type 0 where
+pub data Drawn (v : Volume) (change : Change) (b : ℕ) : Type 0 where
   wrote : (i : ℕ) (w : Written) (lock : LockName) → slice_get change.blocks.items i ≡ Some w → slice_get change.locks.items i ≡ Some lock → w.block ≡ b
       → bytes_for change.blocks.items b ≡ Some w.bytes → cells_of v change b ≡ Some (used_cell w.bytes lock) → Drawn v change b
   freed : bytes_for change.blocks.items b ≡ None → frees change b ≡ true → cells_of v change b ≡ Some (free_cell (group_of v.layout.groups b)) → Drawn v change b
   untouched : bytes_for change.blocks.items b ≡ None → frees change b ≡ false → cells_of v change b ≡ None → Drawn v change b
 
-drawn : (v : Volume) (change : Change) → length change.locks.items ≡ length change.blocks.items → (b : ℕ) → Drawn v change b
+pub drawn : (v : Volume) (change : Change) → length change.locks.items ≡ length change.blocks.items → (b : ℕ) → Drawn v change b
 drawn v change long b = by (look change.blocks.items change.locks.items b long)
   where
     by : Look change.blocks.items change.locks.items b → Drawn v change b
