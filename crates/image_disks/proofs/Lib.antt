@@ -1,3 +1,4 @@
 pub mod Finding
 pub mod Replaying
 pub mod Outcomes
+pub mod Lone

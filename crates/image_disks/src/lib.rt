@@ -2,6 +2,7 @@
 #![tactic(auto)]
 
 ghost use Rattle.image_disks.specs.Disks.{OutcomesAreTheMachines, OutcomesStand};
+ghost use Rattle.image_disks.specs.Lone.{LoneOutcomesStand};
 
 /// A law: of an image with writes in flight that the machine's disk is, each outcome without a false header can be replayed, and what a replay leaves is what the
 /// machine has for one choice of heads.
@@ -12,4 +13,9 @@ pub fn outcomes_are_the_machines()
 /// A law: so it stands, its journals replayed, for the tree of the history with a loss for each life that has none.
 pub fn outcomes_stand()
     ensures { OutcomesStand }
+{}
+
+/// A law: of one node alone, the image of each outcome stands, its journals replayed, for the tree of its calls with a loss by the rule.
+pub fn what_is_left_of_one_node_stands()
+    ensures { LoneOutcomesStand }
 {}

@@ -1,17 +1,18 @@
 -- One node alone: what remains of it.
-use Rattle.std.proofs.Common.{ℕ, ◌≡◌, ◌≤◌, ◌<◌, ◌⊎◌, inl, inr, suc, Bool, true, false, None, Some, [], ◌∷◌, ◌++◌, refl, sym, ap, ◌∙◌, subst, arith}
+use Rattle.std.proofs.Common.{ℕ, zero, ◌≡◌, ◌≤◌, ◌<◌, ◌⊎◌, inl, inr, suc, Bool, true, false, None, Some, [], ◌∷◌, ◌++◌, refl, sym, ap, ◌∙◌, subst, arith}
 use Rattle.std.proofs.lemmas.Bool.{cases_eq, cases_lt, cond-true, cond-false}
 use Rattle.cluster_laws.specs.Files.{Files, RightTo}
 use Rattle.cluster_laws.specs.Book.{at, InBox, W, kept_by}
 use Rattle.cluster_laws.specs.History.{Gone, Legal, Loss, cut_at, least, living, saids}
 use Rattle.cluster_laws.specs.Log.{Calm}
 use Rattle.cluster_laws.specs.Mirror.{FreeIsFree, IsOutcome, IsReplay, Near, placed}
+use Rattle.cluster_laws.specs.Rings.{Rings}
 use Rattle.cluster_laws.specs.World.{Loses, Step, World}
 use Rattle.cluster_laws.proofs.Cells.{split, none-some, ltb-true, ltb-false, at-same, at-other, at-cases}
 use Rattle.cluster_laws.proofs.Remaining.{image_same, remains_legal}
 use Rattle.cluster_laws.proofs.Replaying.{near}
 use Rattle.lone_machine.specs.Alone.{Begun, IsAlone, IsReplayAlone, begun, head_of, loses}
-use Rattle.lone_machine.specs.Laws.{LosesAlone, RemainsAlone}
+use Rattle.lone_machine.specs.Laws.{LosesAlone, RemainsAlone, RingsAlone}
 use Rattle.lone_machine.proofs.Going.{run_on, sound}
 
 least_is : (p k : ℕ) → k ≤ p → least p k ≡ k
@@ -115,3 +116,33 @@ loses_alone F s w k a uncached settled low high calm next = record {
   where
     step : Step F w (loses F s w k)
     step = Loses s.node k a.told low high calm next uncached (ap (λ h. h.cut) settled ∙ (sound F s w a).mirror.alone s.node)
+
+-- ---- its journal among the disk's
+
+-- the number before
+before : ℕ → ℕ
+before zero = 0
+before (suc i) = i
+
+module _ (F : Files) (s : Begun F) (w : World F) (j : ℕ) (a : IsAlone F s w) (node : s.node ≡ suc j) where
+  -- only the node's heads have a live block
+  only : (i b : ℕ) (c : Bool) (v : F.Content) → (w.disk.heads i c).live b ≡ Some v → i ≡ suc j
+  only i b c v e = a.owners b i ((sound F s w a).mirror.lives i c b v e) ∙ node
+
+  rings : Rings F w.disk
+  unfolding before
+  rings = record {
+    speaks = suc;
+    past = 0;
+    lone = λ r k same ours. omega (arith, same);
+    live = λ r c b. (w.disk.heads (suc r) c).live b;
+    apart = λ r k c d b u v e f. (let x = only (suc r) b c u e in let y = only (suc k) b d v f in omega (arith, x, y));
+    one = before;
+    single = λ r not. absurd (not refl);
+    parted = λ i c b v e. (let at = only i b c v e in (j, sym at, ap (λ n. (w.disk.heads n c).live b) (sym at) ∙ e));
+    joined = λ r c b v e. e;
+  }
+
+pub rings_alone : (F : Files) → RingsAlone F
+unfolding rings before
+rings_alone F s w j a node = (rings F s w j a node, record { speaks = λ k. refl; one = λ k. refl; live = λ k b c. refl })

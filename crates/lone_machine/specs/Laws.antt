@@ -6,6 +6,7 @@ use Rattle.cluster_laws.specs.Log.{Calm}
 use Rattle.cluster_laws.specs.Mirror.{FreeIsFree, Head, IsOutcome, placed}
 use Rattle.cluster_laws.specs.History.{Gone, Legal, living, saids}
 use Rattle.cluster_laws.specs.Notes.{Caches, CachesAfter}
+use Rattle.cluster_laws.specs.Rings.{Rings}
 use Rattle.cluster_laws.specs.World.{World, nothing}
 use Rattle.lone_machine.specs.Alone.{Begun, IsAlone, IsBegun, IsReplayAlone, MayAnswer, MaySettle, answers, begins_header, begun, ends_header, forgets, head_of, loses, next_item, now, reads, settles, syncs, writes_home}
 use Rattle.lone_machine.specs.Versions.{AreVersions, IsLiveAfter, IsWithChange}
@@ -92,6 +93,17 @@ WritesHomeAlone F = (s : Begun F) (w : World F) (b : ℕ) (v : F.Content) → Is
 -- a barrier settles its writes, or a fence
 abbrev pub SettlesAlone : Files → Type 0
 SettlesAlone F = (s : Begun F) (w : World F) (x : ℕ → F.Content) → IsAlone F s w → MaySettle F s w x → StaysAlone F s w (settles F s w x)
+
+-- ---- its journal among the disk's
+
+-- Journal j is that of node j + 1: so each journal's live blocks are those of a node's heads, and of one that runs alone no other journal has any.
+pub record AreOwnRings (F : Files) (w : World F) (rings : Rings F w.disk) : Type 0 where
+  pub speaks : (j : ℕ) → rings.speaks j ≡ suc j
+  pub one : (j : ℕ) → rings.one (suc j) ≡ j
+  pub live : (j b : ℕ) (c : Bool) → rings.live j c b ≡ (w.disk.heads (suc j) c).live b
+
+abbrev pub RingsAlone : Files → Type 0
+RingsAlone F = (s : Begun F) (w : World F) (j : ℕ) → IsAlone F s w → s.node ≡ suc j → (rings : Rings F w.disk) × AreOwnRings F w rings
 
 -- ---- what remains
 

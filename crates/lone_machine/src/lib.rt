@@ -3,7 +3,7 @@
 #![tactic(auto)]
 
 ghost use Rattle.cluster_laws.specs.Files.{Files};
-ghost use Rattle.lone_machine.specs.Laws.{AnswersAlone, BeginsAlone, ForgetsAlone, HeaderBeginsAlone, HeaderEndsAlone, LosesAlone, NoVersions, ReadsAlone, RemainsAlone, SettlesAlone, SyncsAlone, VersionsGrow, WritesHomeAlone};
+ghost use Rattle.lone_machine.specs.Laws.{AnswersAlone, BeginsAlone, ForgetsAlone, HeaderBeginsAlone, HeaderEndsAlone, LosesAlone, NoVersions, ReadsAlone, RemainsAlone, RingsAlone, SettlesAlone, SyncsAlone, VersionsGrow, WritesHomeAlone};
 
 /// A file system, on which one node runs.
 pub trait LoneSystem {
@@ -45,6 +45,11 @@ pub fn its_headers_are_headers<S: LoneSystem>()
 pub fn its_blocks_go_home<S: LoneSystem>()
     ensures writes { WritesHomeAlone S.files }
     ensures settles { SettlesAlone S.files }
+{}
+
+/// A law: each journal's live blocks are those of its node's heads.
+pub fn its_journal_is_its_own<S: LoneSystem>()
+    ensures { RingsAlone S.files }
 {}
 
 /// A law: whatever becomes of its writes, and whichever head counts, the disk, its journal replayed, stands for what remains; and a loss by the
