@@ -1,10 +1,10 @@
 -- What the answer of a file call says of the machine's images.
-use Rattle.std.proofs.Common.{◌≡◌, ◌⊎◌, ℕ, zero, suc, ◌<◌, ◌≤◌, inl, inr, Bool, true, false, not, ◌&&◌, List, [], ◌∷◌, length, Option, None, Some, slice_get, refl, sym, ap, ◌∙◌, subst, arith}
+use Rattle.std.proofs.Common.{◌≡◌, ◌⊎◌, ℕ, zero, suc, inl, inr, Bool, true, false, not, ◌&&◌, List, [], ◌∷◌, length, Option, None, Some, slice_get, refl, sym, ap, ◌∙◌, subst, arith}
 use Rattle.std.specs.Prelude.{◌==◌, ◌||◌, is_some, nat_lt, unwrap_or, if◌then◌else◌}
 use Rattle.std.specs.List.{list_any, AllByRecursion}
 use Rattle.std.proofs.lemmas.Bool.{cases_lt, cases_Bool, cond-true, cond-false, eq-eqb, eqb-true, le-ltb, lt-ltb, true≢false}
 use Rattle.file_tree.specs.Tree.{Tree}
-use Rattle.file_tree.specs.Apply.{Answers, LacksSpace, TakesSpace, apply}
+use Rattle.file_tree.specs.Apply.{Answers, apply}
 use Rattle.file_tree.specs.declared.call.Call.{Call}
 use Rattle.file_tree.specs.declared.call.Call.TheVariants as calls
 use Rattle.file_tree.specs.declared.reply.Reply.{Reply}
@@ -22,15 +22,14 @@ use Rattle.drafts.specs.declared.change.Change.{Change}
 use Rattle.drafts.specs.declared.change.Written.{Written}
 use Rattle.image_model.specs.Groups.{IsDataOf, IsListed, end_of}
 use Rattle.image_model.specs.Image.{Image}
-use Rattle.image_model.specs.Owners.{Below, Free, InGroup, IsUsed, Nobody, Owner, Owners, Super, holding, is_dinode}
+use Rattle.image_model.specs.Owners.{Free, InGroup, IsUsed, Nobody, Owner, Owners, Super, holding, is_dinode}
 use Rattle.image_model.specs.Stands.{IsJournalAt, IsLaid, Layout}
 use Rattle.image_model.proofs.Held.{none_some, some_same}
 use Rattle.image_model.proofs.Table.{Lies, in_data, in_header, in_none, lies}
 use Rattle.image_changes.specs.Changes.{Place, cover, inode_lock, is_free, place_of}
-use Rattle.image_changes.specs.Contents.{IsAsLarge}
 use Rattle.image_changes.specs.Does.{AreInside, Does, DoesIn, IsFreed, IsHeld, IsInside, IsOf, bytes_for, frees, has_block, is_empty, is_nothing, with_change, writes}
 use Rattle.image_changes.specs.Instances.{StandsBy}
-use Rattle.image_changes.proofs.Drafting.{either, free_group}
+use Rattle.image_changes.proofs.Drafting.{free_group}
 use Rattle.image_changes.proofs.Frame.{dinode_its, inode_cover}
 use Rattle.image_changes.proofs.Unminded.{free_blocks_do_not_matter}
 use Rattle.tree_histories.specs.Trees.{Told, rules_of}

@@ -11,7 +11,7 @@ use Rattle.image_model.specs.Stands.{IsJournalAt, IsLaid, Layout}
 use Rattle.image_model.proofs.Lengths.{place_is, places_same, size_large}
 use Rattle.image_changes.proofs.Laid.{journal_owner, row_dinode}
 use Rattle.image_changes.specs.Instances.{StandsBy}
-use Rattle.image_machine.specs.Volumes.{HasItsPlaces, StandsAt, Volume, fitted, image_with, volume_of}
+use Rattle.image_machine.specs.Volumes.{HasItsPlaces, Volume, fitted, image_with, volume_of}
 use Rattle.image_machine.specs.Laws.{ContentsAreImages, HasBlocksFor, ImagesStand}
 
 pub fitted_long : (n : ℕ) (bytes : List ℕ) → length (fitted n bytes) ≡ n

@@ -1,5 +1,5 @@
 -- The headline over images.
-use Rattle.std.proofs.Common.{ℕ, ◌++◌}
+use Rattle.std.proofs.Common.{◌++◌}
 use Rattle.cluster_laws.specs.Book.{W}
 use Rattle.cluster_laws.specs.Contents.{places}
 use Rattle.cluster_laws.specs.Laws.{head_cuts}

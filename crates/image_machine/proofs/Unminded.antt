@@ -1,5 +1,5 @@
 -- What free blocks and the places of rings have is no matter.
-use Rattle.std.proofs.Common.{◌≡◌, ◌≢◌, ◌⊎◌, ℕ, suc, ◌*◌, ◌/◌, ◌<◌, ◌≤◌, inl, inr, true, List, length, Option, None, Some, refl, sym, ap, subst, ◌∙◌, arith}
+use Rattle.std.proofs.Common.{◌≡◌, ◌≢◌, ◌⊎◌, ℕ, suc, ◌*◌, ◌/◌, ◌<◌, inl, inr, true, List, length, Option, None, Some, refl, sym, ap, subst, ◌∙◌, arith}
 use Rattle.std.specs.Prelude.{◌==◌, if◌then◌else◌}
 use Rattle.std.proofs.lemmas.Bool.{cases_eq, cond-false, ne_eqb}
 use Rattle.file_tree.specs.Tree.{Tree}
@@ -7,7 +7,6 @@ use Rattle.gfs2_layout.specs.Device.{superblock_place}
 use Rattle.gfs2_layout.specs.Holding.{Part, Pointed, bytes_at, cell_bytes, cell_part, part_at}
 use Rattle.gfs2_layout.specs.Inode.{content_block, dinode_in, fan, height_in, span}
 use Rattle.gfs2_layout.specs.Structures.{dinode_length, dinode_of}
-use Rattle.gfs2_layout.specs.declared.dinode.Dinode.{Dinode}
 use Rattle.log_layout.specs.Journal.{ring_of}
 use Rattle.log_layout.specs.Laws.{HasSamePlaces}
 use Rattle.log_layout.specs.Live.{IsReadable}
@@ -20,7 +19,7 @@ use Rattle.image_model.proofs.Lengths.{place_high, place_low}
 use Rattle.image_model.proofs.Reach.{used_low}
 use Rattle.image_model.proofs.Same.{IsReached, content_block_is}
 use Rattle.image_model.proofs.Unique.{unused_part, used_or_not}
-use Rattle.image_changes.specs.Changes.{IsRingPlace, Place, is_free}
+use Rattle.image_changes.specs.Changes.{IsRingPlace, Place}
 use Rattle.image_changes.specs.Contents.{IsAsLarge, SameButContent}
 use Rattle.image_changes.specs.Instances.{StandsBy}
 use Rattle.image_changes.proofs.Drafting.{free_group}

@@ -24,7 +24,7 @@ use Rattle.glock_names.specs.declared.LockName.{LockName}
 use Rattle.drafts.specs.declared.change.Change.{Change}
 use Rattle.image_model.specs.Image.{Image}
 use Rattle.image_model.specs.Owners.{Owners}
-use Rattle.image_model.specs.Stands.{Layout, Stands}
+use Rattle.image_model.specs.Stands.{Layout}
 use Rattle.image_changes.specs.Changes.{Place, cover, is_free, place_of}
 use Rattle.image_changes.specs.Does.{AreInside, Does, IsOf}
 use Rattle.image_changes.specs.Instances.{StandsBy}

@@ -1,10 +1,8 @@
 -- One node alone on an image: its calls.
-use Rattle.std.proofs.Common.{ℕ, ◌≡◌, ◌⊎◌, inl, inr, Bool, true, false, List, Option, None, Some, refl, sym, ap, ◌∙◌, subst}
+use Rattle.std.proofs.Common.{ℕ, ◌≡◌, ◌⊎◌, inl, inr, true, false, List, Option, None, Some, refl, sym, ap, ◌∙◌}
 use Rattle.std.specs.Prelude.{if◌then◌else◌, ◌||◌, is_some}
 use Rattle.std.proofs.lemmas.Bool.{cases_Bool, cond-true, cond-false, true≢false}
-use Rattle.file_tree.specs.declared.call.Call.{Call}
 use Rattle.file_tree.specs.declared.call.Call.TheVariants as calls
-use Rattle.file_tree.specs.declared.reply.Reply.{Reply}
 use Rattle.file_tree.specs.declared.reply.Reply.TheVariants as replies
 use Rattle.cluster_laws.specs.Book.{Seen as SeenBy}
 use Rattle.cluster_laws.specs.Contents.{AnswersByView}
@@ -12,8 +10,7 @@ use Rattle.cluster_laws.specs.Files.{Part}
 use Rattle.cluster_laws.specs.Notes.{CachesAfter}
 use Rattle.cluster_laws.specs.World.{World}
 use Rattle.cluster_laws.proofs.Bridging.{answers_are_done}
-use Rattle.cluster_laws.proofs.Cells.{none-some, seen_in, split}
-use Rattle.drafts.specs.declared.change.Change.{Change}
+use Rattle.cluster_laws.proofs.Cells.{none-some, seen_in}
 use Rattle.image_changes.specs.Does.{bytes_for, frees, has_block}
 use Rattle.image_machine.specs.Cells.{BlockCell, cells_of}
 use Rattle.image_machine.specs.Volumes.{Volume, images_of}
@@ -22,7 +19,7 @@ use Rattle.image_machine.proofs.Fitting.{images_stand}
 use Rattle.lone_machine.specs.Alone.{AreOfNow, Begun, IsAlone, MayAnswer, now}
 use Rattle.lone_machine.specs.Laws.{GoesOnWith, KeepsCached}
 use Rattle.lone_machine.proofs.Going.{answers_alone, sound, syncs_alone}
-use Rattle.lone_images.specs.Lone.{CallsGoOn, ChangesMakeVersions, HasGoneWith, ImagesBegin, SpacelessGoesOn, SyncGoesOn, answered, cache_after, kept_cell, version_with}
+use Rattle.lone_images.specs.Lone.{CallsGoOn, ChangesMakeVersions, ImagesBegin, SpacelessGoesOn, SyncGoesOn, answered, cache_after, kept_cell, version_with}
 use Rattle.tree_histories.specs.Trees.{Told, Trees, rules_of}
 
 pub images_begin : ImagesBegin

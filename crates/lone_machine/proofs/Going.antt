@@ -1,11 +1,10 @@
 -- One node alone: its start, its calls and its reads.
-use Rattle.std.proofs.Common.{ℕ, ◌≡◌, ◌<◌, ◌⊎◌, inl, inr, suc, Bool, true, false, None, Some, [], ◌∷◌, ◌++◌, refl, sym, ap, ◌∙◌, subst, arith}
+use Rattle.std.proofs.Common.{ℕ, ◌≡◌, ◌<◌, ◌⊎◌, inl, inr, suc, true, Some, [], ◌∷◌, ◌++◌, refl, sym, ap, ◌∙◌, subst, arith}
 use Rattle.std.specs.Prelude.{◌==◌, if◌then◌else◌}
-use Rattle.std.proofs.lemmas.Bool.{cases_eq, cases_Bool, cond-true, cond-false, eq-eqb, eqb-true}
-use Rattle.cluster_laws.specs.Files.{Files, CellOf, Part, LockOf, Does, Guards, State, Un, Ex}
-use Rattle.cluster_laws.specs.Book.{at, Book, Seen, W, taken, tried}
+use Rattle.std.proofs.lemmas.Bool.{cases_Bool, cond-true, cond-false, eq-eqb, eqb-true}
+use Rattle.cluster_laws.specs.Files.{Files, CellOf, Part, LockOf, Guards, State, Un, Ex}
+use Rattle.cluster_laws.specs.Book.{at, Seen, taken, tried}
 use Rattle.cluster_laws.specs.History.{Called}
-use Rattle.cluster_laws.specs.Log.{Calm}
 use Rattle.cluster_laws.specs.Notes.{Caches, CachesAfter}
 use Rattle.cluster_laws.specs.World.{Answering, Answers, BeginsAt, Goes, Publishes, Reads, Run, Shrinks, Sound, Step, Stop, Syncs, World, nothing}
 use Rattle.cluster_laws.proofs.Cells.{split, inside, none-some, at-same, at-other}
@@ -14,7 +13,7 @@ use Rattle.cluster_laws.proofs.Minding.{step_keeps_notes}
 use Rattle.cluster_laws.proofs.Noting.{noted_reads}
 use Rattle.cluster_laws.proofs.Running.{run_keeps, sound_start, step_keeps, sync_answers}
 use Rattle.cluster_laws.proofs.Trying.{all_calls}
-use Rattle.lone_machine.specs.Alone.{Begun, IsAlone, IsBegun, MayAnswer, begun, forgets, next_item, now, publishes, reads}
+use Rattle.lone_machine.specs.Alone.{Begun, IsAlone, IsBegun, MayAnswer, begun, forgets, now, publishes, reads}
 use Rattle.lone_machine.specs.Laws.{AnswersAlone, BeginsAlone, ForgetsAlone, GoesOnWith, ReadsAlone, SyncsAlone}
 
 -- a step more

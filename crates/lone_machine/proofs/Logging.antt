@@ -6,12 +6,12 @@ use Rattle.cluster_laws.specs.Book.{at, Book}
 use Rattle.cluster_laws.specs.Log.{IsHeader, Last, Untouched}
 use Rattle.cluster_laws.specs.Mirror.{Head, Heads}
 use Rattle.cluster_laws.specs.World.{Begins, Ends, Lands, Step, World, Writes}
-use Rattle.cluster_laws.proofs.Cells.{inside, none-some, at-same, at-other}
+use Rattle.cluster_laws.proofs.Cells.{none-some, at-same, at-other}
 use Rattle.cluster_laws.proofs.Logging.{header_heads}
 use Rattle.cluster_laws.proofs.Minding.{step_keeps_notes}
-use Rattle.lone_machine.specs.Alone.{Begun, IsAlone, begins_header, begun, ends_header, head_of, settles, writes_home}
+use Rattle.lone_machine.specs.Alone.{Begun, IsAlone, begins_header, begun, ends_header, settles, writes_home}
 use Rattle.lone_machine.specs.Laws.{HeaderBeginsAlone, HeaderEndsAlone, NoVersions, SettlesAlone, VersionsGrow, WritesHomeAlone}
-use Rattle.lone_machine.specs.Versions.{AreVersions, IsLiveAfter, IsVersion, IsWithChange}
+use Rattle.lone_machine.specs.Versions.{AreVersions, IsLiveAfter, IsVersion}
 use Rattle.lone_machine.proofs.Going.{run_on, sound}
 
 true_false : true ≡ false → ⊥

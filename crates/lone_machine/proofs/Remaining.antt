@@ -1,5 +1,5 @@
 -- One node alone: what remains of it.
-use Rattle.std.proofs.Common.{ℕ, zero, ◌≡◌, ◌≤◌, ◌<◌, ◌⊎◌, inl, inr, suc, Bool, true, false, None, Some, [], ◌∷◌, ◌++◌, refl, sym, ap, ◌∙◌, subst, arith}
+use Rattle.std.proofs.Common.{ℕ, zero, ◌≡◌, ◌≤◌, inl, inr, suc, Bool, Some, [], ◌∷◌, ◌++◌, refl, sym, ap, ◌∙◌, subst, arith}
 use Rattle.std.proofs.lemmas.Bool.{cases_eq, cases_lt, cond-true, cond-false}
 use Rattle.cluster_laws.specs.Files.{Files, RightTo}
 use Rattle.cluster_laws.specs.Book.{at, InBox, W, kept_by}
@@ -8,7 +8,7 @@ use Rattle.cluster_laws.specs.Log.{Calm}
 use Rattle.cluster_laws.specs.Mirror.{FreeIsFree, IsOutcome, IsReplay, Near, placed}
 use Rattle.cluster_laws.specs.Rings.{Rings}
 use Rattle.cluster_laws.specs.World.{Loses, Step, World}
-use Rattle.cluster_laws.proofs.Cells.{split, none-some, ltb-true, ltb-false, at-same, at-other, at-cases}
+use Rattle.cluster_laws.proofs.Cells.{split, none-some, ltb-true, ltb-false, at-same, at-other}
 use Rattle.cluster_laws.proofs.Remaining.{image_same, remains_legal}
 use Rattle.cluster_laws.proofs.Replaying.{near}
 use Rattle.lone_machine.specs.Alone.{Begun, IsAlone, IsReplayAlone, begun, head_of, loses}
