@@ -1,5 +1,5 @@
 -- Of one node alone: what each outcome stands for.
-use Rattle.std.proofs.Common.{◌≡◌, ◌≤◌, ℕ, suc, inl, inr, List, [], ◌∷◌, ◌++◌, sym, ap, subst, ◌∙◌, arith}
+use Rattle.std.proofs.Common.{◌≡◌, ◌≤◌, ℕ, suc, inl, inr, false, List, [], ◌∷◌, ◌++◌, refl, sym, ap, subst, ◌∙◌, arith}
 use Rattle.file_tree.specs.Tree.{Tree}
 use Rattle.cluster_history.specs.History.{tree_of}
 use Rattle.cluster_history.specs.History as history
@@ -14,6 +14,12 @@ use Rattle.cluster_laws.proofs.Bridging.{free_cells}
 use Rattle.image_changes.specs.Changes.{Place}
 use Rattle.image_model.specs.Image.{Image}
 use Rattle.image_model.specs.Replays.{StandsReplayed}
+use Rattle.image_model.specs.Stands.{IsJournalAt}
+use Rattle.image_model.proofs.Held.{none_some}
+use Rattle.image_model.proofs.Replaying.{journals_of_standing}
+use Rattle.journal_outcomes.specs.Images.{ring_at}
+use Rattle.log_layout.specs.Live.{IsReadable}
+use Rattle.log_layout.proofs.SamePlaces.{nothing_live}
 use Rattle.journal_outcomes.specs.Rings.{InFlight}
 use Rattle.tree_histories.specs.Trees.{Trees, rules_of}
 use Rattle.tree_histories.proofs.Joining.{agree}
@@ -25,7 +31,7 @@ use Rattle.lone_machine.specs.Laws.{AreOwnRings}
 use Rattle.lone_machine.proofs.Going.{sound}
 use Rattle.lone_machine.proofs.Remaining.{remains_alone}
 use Rattle.image_disks.specs.Disks.{IsDiskOf, IsOutcomeOf}
-use Rattle.image_disks.specs.Lone.{LoneOutcomesStand, remaining}
+use Rattle.image_disks.specs.Lone.{ImagesBeginAtRest, LoneOutcomesStand, remaining}
 
 module _ (v : Volume) (s : Begun (Trees (images_of v))) (w : World (Trees (images_of v))) (rings : Rings (Trees (images_of v)) w.disk) (im left : Image) (flying : InFlight) (j k : ℕ)
     (a : IsAlone (Trees (images_of v)) s w) (node : s.node ≡ suc j) (own : AreOwnRings (Trees (images_of v)) w rings) (is : IsDiskOf v w.disk rings im flying)
@@ -72,3 +78,34 @@ module _ (v : Volume) (s : Begun (Trees (images_of v))) (w : World (Trees (image
 pub lone_outcomes_stand : LoneOutcomesStand
 lone_outcomes_stand v s w rings im left flying j k a node own is of low high calm =
     (legal v s w rings im left flying j k a node own is of low high calm, lone_stands v s w rings im left flying j k a node own is of low high calm)
+
+-- ---- the start
+
+pub images_begin_at_rest : ImagesBeginAtRest
+images_begin_at_rest im o l t stands clean rings own = record {
+  has = record { size = refl; count = refl; whole = stands.laid.image.whole };
+  journals = journals_of_standing im o l stands.laid;
+  many = λ j k at. refl;
+  there = λ j k p at low. refl;
+  readable = readable;
+  may = record {
+    journals = λ j k at. (let r = readable j k at in record {
+      head = r.head;
+      headed = r.headed;
+      writes = inl (record { free = λ p bytes low e. absurd (none_some e); no_header = λ p bytes low e. absurd (none_some e) });
+    });
+    readable = λ j k at flies. absurd (none_some flies.1.flies);
+    others = λ b bytes e. absurd (none_some e);
+    whole = λ b bytes e. absurd (none_some e);
+  };
+  blocks = λ b off. refl;
+  flights = λ b bytes off e. absurd (none_some e);
+  old = λ j k b at. own.live j b false ∙ sym ((nothing_live (ring_at im k) (clean j k at)).none b);
+  new = λ j k b at flies. absurd (none_some flies.1.flies);
+  none = λ j b c not. own.live j b c;
+  inside = λ j b c bytes e. absurd (none_some (sym (own.live j b c) ∙ e));
+  whole = λ j b c bytes e. absurd (none_some (sym (own.live j b c) ∙ e));
+}
+  where
+    readable : (j k : ℕ) → IsJournalAt l j k → IsReadable (ring_at im k)
+    readable j k at = (nothing_live (ring_at im k) (clean j k at)).readable

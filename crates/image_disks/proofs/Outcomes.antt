@@ -1,10 +1,11 @@
 -- Each outcome of an image with writes in flight is one of the machine's disk.
-use Rattle.std.proofs.Common.{◌≡◌, ◌⊎◌, ℕ, ◌<◌, inl, inr, Bool, true, false, List, length, Option, None, Some, slice_get, refl, sym, ap, subst, ◌∙◌}
+use Rattle.std.proofs.Common.{◌≡◌, ◌⊎◌, ℕ, ◌<◌, inl, inr, Bool, true, false, List, length, Option, None, Some, slice_get, refl, sym, ap, subst, ◌∙◌, arith}
+use Rattle.std.specs.Prelude.{unwrap_or}
 use Rattle.file_tree.specs.Tree.{Tree}
 use Rattle.cluster_laws.specs.Book.{W}
 use Rattle.cluster_laws.specs.Contents.{places}
 use Rattle.cluster_laws.specs.Laws.{head_cuts}
-use Rattle.cluster_laws.specs.Mirror.{IsOutcome}
+use Rattle.cluster_laws.specs.Mirror.{Disk, IsOutcome}
 use Rattle.cluster_laws.specs.Rings.{Rings}
 use Rattle.cluster_laws.specs.World.{BeginsAt, Run, World}
 use Rattle.cluster_laws.proofs.Ringing.{every_disk, rings_replay}
@@ -20,10 +21,12 @@ use Rattle.image_outcomes.specs.CutShort.{ring_left}
 use Rattle.image_outcomes.specs.Outcomes.{IsLiveIn}
 use Rattle.image_outcomes.proofs.Chosen.{SaysNew, SaysOld}
 use Rattle.image_outcomes.proofs.Found.{FindsTheSame, finds, ring_is}
-use Rattle.journal_outcomes.specs.Images.{HeaderFliesTo, IsImageOutcome, IsPlaceIn, NoFalseHeader, ring_at, to_journal}
+use Rattle.journal_outcomes.specs.Images.{HeaderFliesTo, IsImageOutcome, IsPlaceIn, MayBeInFlight, NoFalseHeader, landed_at, ring_at, to_journal}
 use Rattle.journal_outcomes.specs.Rings.{InFlight, IsRingOutcome}
-use Rattle.journal_outcomes.proofs.Outcomes.{outcomes_say_one}
+use Rattle.journal_outcomes.proofs.Outcomes.{landed_header, outcomes_say_one}
 use Rattle.log_layout.specs.Laws.{HasSamePlaces}
+use Rattle.gfs2_layout.specs.declared.log_header.LogHeader.{LogHeader as Front}
+use Rattle.log_layout.specs.declared.log_header.LogHeader.{LogHeader}
 use Rattle.log_layout.specs.Live.{IsReadable, live_in}
 use Rattle.log_layout.proofs.SamePlaces.{says_the_same}
 use Rattle.tree_histories.specs.Trees.{Trees, rules_of}
@@ -32,7 +35,7 @@ use Rattle.image_machine.specs.Volumes.{IsPlace, Volume, images_of}
 use Rattle.image_machine.proofs.Fitting.{contents_are_images}
 use Rattle.image_machine.proofs.Headlines.{every_image_run}
 use Rattle.image_machine.proofs.Unminded.{free_do_not, rings_do_not}
-use Rattle.image_disks.specs.Disks.{IsDiskOf, IsOutcomeOf, OutcomesAreTheMachines, OutcomesStand}
+use Rattle.image_disks.specs.Disks.{HasLandedAt, HasSettledTo, IsDiskOf, IsOutcomeOf, KeepsHeads, OutcomesAreTheMachines, OutcomesStand}
 use Rattle.image_disks.proofs.Finding.{pick, place_or_not}
 use Rattle.image_disks.proofs.Replaying.{became, full, full_has, full_is, full_readable, near, replay, replayed}
 
@@ -209,8 +212,75 @@ module _ (v : Volume) (u w : World (Trees (images_of v))) (rings : Rings (Trees 
             flew None e = inl (outcome.still b e ∙ sym (is.blocks b off))
             flew (Some bytes) e = (let f = is.flights b bytes off e in inr (f.0, bytes, f.1))
 
+    -- a header in its place is the head, so its journal doesn't say what it said
+    landed_counts : (k : ℕ) (flies : HeaderFliesTo im k flying) → HasLandedAt im k flying left → SaysOld im left flying k → ⊥
+    landed_counts k flies landed says = absurd (omega (arith, flies.1.next, ap (λ (h : LogHeader). h.sequence) new, ap (λ (h : LogHeader). h.sequence) was, sequences))
+      where
+        all_landed : HasSamePlaces (ring_left im left k) (landed_at im k flying)
+        all_landed = record { size = refl; places = refl; blocks = λ p low. by p low (to_journal im k flying p) refl }
+          where
+            by : (p : ℕ) → p < (ring_at im k).places → (o : Option (List ℕ)) → to_journal im k flying p ≡ o → left.at (content_block (every im k) p) ≡ unwrap_or (to_journal im k flying p) (im.at (content_block (every im k) p))
+            by p low None e = outcome.still (content_block (every im k) p) e ∙ sym (ap (λ o. unwrap_or o (im.at (content_block (every im k) p))) e)
+            by p low (Some bytes) e = landed p bytes low e ∙ sym (ap (λ o. unwrap_or o (im.at (content_block (every im k) p))) e)
+
+        new : says.head ≡ flies.1.header
+        new = some_same (sym says.headed ∙ (says_the_same (ring_left im left k) (landed_at im k flying) all_landed).head ∙ landed_header (ring_at im k) (to_journal im k flying) flies.0 flies.1)
+
+        was : says.other ≡ flies.0.head
+        was = some_same (sym says.headed_other ∙ flies.0.headed)
+
+        sequences : says.head.sequence ≡ says.other.sequence
+        sequences = ap (λ (f : Front). f.sequence) says.reads.front
+
+    choice_landed : (j k : ℕ) → IsJournalAt l j k → HeaderFliesTo im k flying → HasLandedAt im k flying left → choice j ≡ true
+    unfolding choice chosen_of
+    choice_landed j k at flies landed = by (slice_get l.journals j) refl at
+      where
+        by : (o : Option ℕ) (e : slice_get l.journals j ≡ o) → o ≡ Some k → chosen_of j o e ≡ true
+        by None e same = absurd (none_some same)
+        by (Some m) e same = its (each j m e)
+          where
+            its : (q : SaysOld im left flying m ⊎ (HeaderFliesTo im m flying × SaysNew im left flying m)) → is_second q ≡ true
+            its (inl says) = absurd (landed_counts k flies landed (subst (SaysOld im left flying) (some_same same) says))
+            its (inr new) = refl
+
+    -- with nothing in flight the image is the machine's disk
+    none_flies : (k : ℕ) → HeaderFliesTo left k (λ b. None) → ⊥
+    none_flies k flies = none_some flies.1.flies
+
+    none_may : MayBeInFlight left l (λ b. None)
+    none_may = record {
+      journals = λ j k at. (let r = left_readable j k at in record {
+        head = r.head;
+        headed = r.headed;
+        writes = inl (record { free = λ p bytes low e. absurd (none_some e); no_header = λ p bytes low e. absurd (none_some e) });
+      });
+      readable = λ j k at flies. absurd (none_flies k flies);
+      others = λ b bytes e. absurd (none_some e);
+      whole = λ b bytes e. absurd (none_some e);
+    }
+
+    at_rest : (e : Disk (Trees (images_of v))) (after : Rings (Trees (images_of v)) e) → HasSettledTo v left e → KeepsHeads v rings choice after → IsDiskOf v e after left (λ b. None)
+    at_rest e after settled keeps = record {
+      has = left_has;
+      journals = found.journals;
+      many = left_many;
+      there = left_there;
+      readable = left_readable;
+      may = none_may;
+      blocks = settled;
+      flights = λ b bytes off f. absurd (none_some f);
+      old = λ j k b at. keeps j b false ∙ sym (left_live j k b at);
+      new = λ j k b at flies. absurd (none_flies k flies);
+      none = λ j b c not. keeps j b c ∙ is.none j b (choice j) not;
+      inside = λ j b c bytes f. left_change b (is.inside j b (choice j) bytes (sym (keeps j b c) ∙ f));
+      whole = λ j b c bytes f. is.whole j b (choice j) bytes (sym (keeps j b c) ∙ f);
+    }
+
     the_outcome : IsOutcomeOf v w.disk rings im flying left
     the_outcome = record {
+      landed = choice_landed;
+      rests = at_rest;
       choice = choice;
       taken = choice_taken;
       full = full v w.disk rings im flying is left choice left_has found.journals left_many left_there left_readable left_live left_change;

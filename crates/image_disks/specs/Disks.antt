@@ -12,7 +12,7 @@ use Rattle.image_model.specs.Claims.{every}
 use Rattle.image_model.specs.Image.{Image}
 use Rattle.image_model.specs.Replays.{HasItsJournals, MayChange, Replayed, StandsReplayed, live_at}
 use Rattle.image_model.specs.Stands.{IsJournalAt}
-use Rattle.journal_outcomes.specs.Images.{HeaderFliesTo, IsImageOutcome, MayBeInFlight, NoFalseHeader, landed_at, ring_at}
+use Rattle.journal_outcomes.specs.Images.{HeaderFliesTo, IsImageOutcome, MayBeInFlight, NoFalseHeader, landed_at, ring_at, to_journal}
 use Rattle.journal_outcomes.specs.Rings.{InFlight}
 use Rattle.log_layout.specs.Live.{IsReadable, live_in}
 use Rattle.tree_histories.specs.Trees.{Trees, history_of}
@@ -41,6 +41,18 @@ pub record IsDiskOf (v : Volume) (d : Disk (Trees (images_of v))) (rings : Rings
 
 -- ---- what becomes of it
 
+-- each write that flew to the journal is in its place
+abbrev pub HasLandedAt : Image → ℕ → InFlight → Image → Type 0
+HasLandedAt im k flying left = (p : ℕ) (bytes : List ℕ) → p < (ring_at im k).places → to_journal im k flying p ≡ Some bytes → left.at (content_block (every im k) p) ≡ bytes
+
+-- beside the places of rings the machine's blocks are the image's
+abbrev pub HasSettledTo : (v : Volume) → Image → Disk (Trees (images_of v)) → Type 0
+HasSettledTo v left e = (b : ℕ) → (IsPlace v b → ⊥) → e.blocks b ≡ left.at b
+
+-- each journal has what its chosen head has live, and no other head
+abbrev pub KeepsHeads : (v : Volume) {d e : Disk (Trees (images_of v))} → Rings (Trees (images_of v)) d → (ℕ → Bool) → Rings (Trees (images_of v)) e → Type 0
+KeepsHeads v rings choice after = (j b : ℕ) (c : Bool) → after.live j c b ≡ rings.live j (choice j) b
+
 -- Of an outcome of the image: for one choice of heads, which takes a new one only where a header is in flight, it can be replayed, and what a replay leaves of it is what
 -- the machine has, but for places of rings: an outcome of its disk, with what these heads have live put in its place.
 pub record IsOutcomeOf (v : Volume) (d : Disk (Trees (images_of v))) (rings : Rings (Trees (images_of v)) d) (im : Image) (flying : InFlight) (left : Image) : Type 0 where
@@ -55,6 +67,10 @@ pub record IsOutcomeOf (v : Volume) (d : Disk (Trees (images_of v))) (rings : Ri
   pub outcome : IsOutcome (Trees (images_of v)) d became
   pub replay : IsReplayOfRings (Trees (images_of v)) d rings choice became replayed
   pub near : (b : ℕ) → (replayed b ≡ full.at b) ⊎ IsPlace v b
+  -- a header that has come to its place, with all else that flew to its journal, counts
+  pub landed : (j k : ℕ) → IsJournalAt v.layout j k → HeaderFliesTo im k flying → HasLandedAt im k flying left → choice j ≡ true
+  -- and it is the machine's disk once all has settled so, with nothing in flight
+  pub rests : (e : Disk (Trees (images_of v))) (after : Rings (Trees (images_of v)) e) → HasSettledTo v left e → KeepsHeads v rings choice after → IsDiskOf v e after left (λ b. None)
 
 -- Each outcome without a false header is such a one, where the machine's run has come from a start to this disk.
 abbrev pub OutcomesAreTheMachines : Type 0

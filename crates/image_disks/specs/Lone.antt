@@ -1,5 +1,6 @@
 -- Of one node that runs alone: what each outcome of the image on its disk stands for.
-use Rattle.std.specs.Prelude.{ℕ, ◌≡◌, ◌≤◌, ◌++◌, suc, List, [], ◌∷◌}
+use Rattle.std.specs.Prelude.{ℕ, ◌≡◌, ◌≤◌, ◌++◌, suc, List, [], ◌∷◌, None}
+use Rattle.file_tree.specs.Tree.{Tree}
 use Rattle.cluster_history.specs.History.{tree_of}
 use Rattle.cluster_history.specs.History as history
 use Rattle.cluster_history.specs.declared.Item.{Item}
@@ -8,11 +9,17 @@ use Rattle.cluster_laws.specs.History.{Gone}
 use Rattle.cluster_laws.specs.Rings.{Rings}
 use Rattle.cluster_laws.specs.World.{World}
 use Rattle.image_model.specs.Image.{Image}
+use Rattle.image_model.specs.Owners.{Owners}
 use Rattle.image_model.specs.Replays.{StandsReplayed}
+use Rattle.image_model.specs.Stands.{IsJournalAt, Layout}
+use Rattle.image_changes.specs.Instances.{StandsBy}
+use Rattle.log_layout.specs.Journal.{IsClean}
+use Rattle.journal_outcomes.specs.Images.{ring_at}
 use Rattle.journal_outcomes.specs.Rings.{InFlight}
 use Rattle.tree_histories.specs.Trees.{Trees, history_of}
-use Rattle.image_machine.specs.Volumes.{Volume, images_of}
-use Rattle.lone_machine.specs.Alone.{Begun, IsAlone, head_of}
+use Rattle.image_machine.specs.Volumes.{Volume, images_of, volume_of}
+use Rattle.lone_images.specs.Lone.{begun_on}
+use Rattle.lone_machine.specs.Alone.{Begun, IsAlone, begun, head_of}
 use Rattle.lone_machine.specs.Laws.{AreOwnRings}
 use Rattle.image_disks.specs.Disks.{IsDiskOf, IsOutcomeOf}
 
@@ -29,3 +36,12 @@ LoneOutcomesStand = (v : Volume) (s : Begun (Trees (images_of v))) (w : World (T
     → (head_of (Trees (images_of v)) s w (of.choice j)).cut ≤ k → k ≤ w.book.answered s.node
     → Calm (Trees (images_of v)) w.book s.node ((head_of (Trees (images_of v)) s w (of.choice j)).cut) k
     → history.Legal (remaining v s w k) w.book.start × StandsReplayed left (tree_of (remaining v s w k) w.book.start)
+
+-- ---- the start
+
+-- An image that stands as it lies, each journal clean, is the disk on which a node begins alone, with nothing in flight.
+abbrev pub ImagesBeginAtRest : Type 0
+ImagesBeginAtRest = (im : Image) (o : Owners) (l : Layout) (t : Tree) → StandsBy im o l t → ((j k : ℕ) → IsJournalAt l j k → IsClean (ring_at im k))
+    → (rings : Rings (Trees (images_of (volume_of im l))) (begun (Trees (images_of (volume_of im l))) (begun_on im o l t)).disk)
+    → AreOwnRings (Trees (images_of (volume_of im l))) (begun (Trees (images_of (volume_of im l))) (begun_on im o l t)) rings
+    → IsDiskOf (volume_of im l) (begun (Trees (images_of (volume_of im l))) (begun_on im o l t)).disk rings im (λ b. None)

@@ -2,7 +2,7 @@
 #![tactic(auto)]
 
 ghost use Rattle.image_disks.specs.Disks.{OutcomesAreTheMachines, OutcomesStand};
-ghost use Rattle.image_disks.specs.Lone.{LoneOutcomesStand};
+ghost use Rattle.image_disks.specs.Lone.{ImagesBeginAtRest, LoneOutcomesStand};
 
 /// A law: of an image with writes in flight that the machine's disk is, each outcome without a false header can be replayed, and what a replay leaves is what the
 /// machine has for one choice of heads.
@@ -18,4 +18,9 @@ pub fn outcomes_stand()
 /// A law: of one node alone, the image of each outcome stands, its journals replayed, for the tree of its calls with a loss by the rule.
 pub fn what_is_left_of_one_node_stands()
     ensures { LoneOutcomesStand }
+{}
+
+/// A law: an image that stands as it lies, each journal clean, is the disk on which a node begins alone.
+pub fn an_image_at_rest_is_a_start()
+    ensures { ImagesBeginAtRest }
 {}
