@@ -47,14 +47,13 @@ place_or_not v b = elim (among_rings v b v.layout.journals) [
 
 among : (f : ℕ → Option (List ℕ)) (n : ℕ) → ((j : ℕ) × (bytes : List ℕ) × (f j ≡ Some bytes)) ⊎ ((j : ℕ) → j < n → f j ≡ None)
 among f zero = inr (λ j low. absurd (omega (arith, low)))
-among f (suc n) = by (f n) refl
+among f (suc n) = by (f n) refl (among f n)
   where
-    by : (x : Option (List ℕ)) → f n ≡ x → ((j : ℕ) × (bytes : List ℕ) × (f j ≡ Some bytes)) ⊎ ((j : ℕ) → j < suc n → f j ≡ None)
-    by (Some bytes) e = inl (n, bytes, e)
-    by None e = elim (among f n) [
-      | inl found ↦ inl found
-      | inr none ↦ inr (λ j low. elim (cases_eq j n) [ inl same ↦ ap f same ∙ e | inr apart ↦ none j (omega (arith, low, apart)) ])
-    ]
+    by : (x : Option (List ℕ)) → f n ≡ x → ((j : ℕ) × (bytes : List ℕ) × (f j ≡ Some bytes)) ⊎ ((j : ℕ) → j < n → f j ≡ None)
+        → ((j : ℕ) × (bytes : List ℕ) × (f j ≡ Some bytes)) ⊎ ((j : ℕ) → j < suc n → f j ≡ None)
+    by (Some bytes) e rest = inl (n, bytes, e)
+    by None e (inl found) = inl found
+    by None e (inr none) = inr (λ j low. elim (cases_eq j n) [ inl same ↦ ap f same ∙ e | inr apart ↦ none j (omega (arith, low, apart)) ])
 
 -- some journal has it, or none
 pub some_or_none : (ks : List ℕ) (f : ℕ → Option (List ℕ)) → ((j : ℕ) → ((k : ℕ) → slice_get ks j ≡ Some k → ⊥) → f j ≡ None)

@@ -1,4 +1,4 @@
 pub mod Finding
 pub mod Replaying
-pub mod Outcomes
+pub mod Standing
 pub mod Lone

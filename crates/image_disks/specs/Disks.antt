@@ -12,7 +12,7 @@ use Rattle.image_model.specs.Claims.{every}
 use Rattle.image_model.specs.Image.{Image}
 use Rattle.image_model.specs.Replays.{HasItsJournals, MayChange, Replayed, StandsReplayed, live_at}
 use Rattle.image_model.specs.Stands.{IsJournalAt}
-use Rattle.journal_outcomes.specs.Images.{HeaderFliesTo, IsImageOutcome, MayBeInFlight, NoFalseHeader, landed_at, ring_at, to_journal}
+use Rattle.journal_outcomes.specs.Images.{HeaderFliesTo, MayBeInFlight, landed_at, ring_at, to_journal}
 use Rattle.journal_outcomes.specs.Rings.{InFlight}
 use Rattle.log_layout.specs.Live.{IsReadable, live_in}
 use Rattle.tree_histories.specs.Trees.{Trees, history_of}
@@ -72,13 +72,7 @@ pub record IsOutcomeOf (v : Volume) (d : Disk (Trees (images_of v))) (rings : Ri
   -- and it is the machine's disk once all has settled so, with nothing in flight
   pub rests : (e : Disk (Trees (images_of v))) (after : Rings (Trees (images_of v)) e) → HasSettledTo v left e → KeepsHeads v rings choice after → IsDiskOf v e after left (λ b. None)
 
--- Each outcome without a false header is such a one, where the machine's run has come from a start to this disk.
-abbrev pub OutcomesAreTheMachines : Type 0
-OutcomesAreTheMachines = (v : Volume) (u w : World (Trees (images_of v))) (rings : Rings (Trees (images_of v)) w.disk) (im left : Image) (flying : InFlight)
-    → BeginsAt (Trees (images_of v)) u → Run (Trees (images_of v)) u w → IsDiskOf v w.disk rings im flying → IsImageOutcome im flying left → NoFalseHeader im v.layout flying left
-    → IsOutcomeOf v w.disk rings im flying left
-
--- So it stands, its journals replayed, for the tree of the history with a loss for each life that has none, whichever lives these are that keep what the heads of that
+-- Such an outcome stands, its journals replayed, for the tree of the history with a loss for each life that has none, whichever lives these are that keep what the heads of that
 -- choice have; and this history is legal.
 abbrev pub OutcomesStand : Type 0
 OutcomesStand = (v : Volume) (u w : World (Trees (images_of v))) (rings : Rings (Trees (images_of v)) w.disk) (im left : Image) (flying : InFlight)

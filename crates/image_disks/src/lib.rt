@@ -1,16 +1,10 @@
-//! The machine's disk as an image with writes in flight to it: each outcome of the image is one of the machine's. The functions do nothing: their contracts are the laws.
+//! The machine's disk as an image with writes in flight to it, and what its outcomes stand for. The functions do nothing: their contracts are the laws.
 #![tactic(auto)]
 
-ghost use Rattle.image_disks.specs.Disks.{OutcomesAreTheMachines, OutcomesStand};
+ghost use Rattle.image_disks.specs.Disks.{OutcomesStand};
 ghost use Rattle.image_disks.specs.Lone.{ImagesBeginAtRest, LoneOutcomesStand};
 
-/// A law: of an image with writes in flight that the machine's disk is, each outcome without a false header can be replayed, and what a replay leaves is what the
-/// machine has for one choice of heads.
-pub fn outcomes_are_the_machines()
-    ensures { OutcomesAreTheMachines }
-{}
-
-/// A law: so it stands, its journals replayed, for the tree of the history with a loss for each life that has none.
+/// A law: an outcome of the image that is one of the machine's disk stands, its journals replayed, for the tree of the history with a loss for each life that has none.
 pub fn outcomes_stand()
     ensures { OutcomesStand }
 {}

@@ -33,9 +33,9 @@ use Rattle.tree_histories.specs.Trees.{Trees, rules_of}
 use Rattle.image_machine.specs.Laws.{HasBlocksFor}
 use Rattle.image_machine.specs.Volumes.{IsPlace, Volume, images_of}
 use Rattle.image_machine.proofs.Fitting.{contents_are_images}
-use Rattle.image_machine.proofs.Headlines.{every_image_run}
 use Rattle.image_machine.proofs.Unminded.{free_do_not, rings_do_not}
-use Rattle.image_disks.specs.Disks.{HasLandedAt, HasSettledTo, IsDiskOf, IsOutcomeOf, KeepsHeads, OutcomesAreTheMachines, OutcomesStand}
+use Rattle.image_disks.specs.Disks.{HasLandedAt, HasSettledTo, IsDiskOf, IsOutcomeOf, KeepsHeads}
+use Rattle.machine_outcomes.specs.Outcomes.{OutcomesAreTheMachines}
 use Rattle.image_disks.proofs.Finding.{pick, place_or_not}
 use Rattle.image_disks.proofs.Replaying.{became, full, full_has, full_is, full_readable, near, replay, replayed}
 
@@ -296,16 +296,3 @@ module _ (v : Volume) (u w : World (Trees (images_of v))) (rings : Rings (Trees 
 
 pub outcomes_are_the_machines : OutcomesAreTheMachines
 outcomes_are_the_machines v u w rings im left flying begins run is outcome no_false = the_outcome v u w rings im flying begins run is left outcome no_false
-
-pub outcomes_stand : OutcomesStand
-outcomes_stand v u w rings im left flying begins run is of ls lives =
-    let its = (every_image_run v u w begins run).remains (λ i. of.choice (rings.one i)) of.became of.replayed of.full ls of.outcome
-    (rings_replay (Trees (images_of v)) w.disk rings of.choice of.became of.replayed of.replay) of.has of.readable of.near lives in (
-      its.0,
-      record {
-        layout = v.layout;
-        replayed = of.full;
-        is = of.is;
-        stands = record { owners = its.1.0; layout = v.layout; laid = its.1.1.laid; reads = its.1.1.reads };
-      },
-    )

@@ -1,5 +1,0 @@
-use Rattle.image_disks.proofs.Outcomes.{outcomes_are_the_machines as they_are}
-use Rattle.image_disks.proofs.outcomes_are_the_machines.Goals as goal
-
-pub returns : goal.returns
-returns c = they_are
