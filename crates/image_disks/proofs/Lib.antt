@@ -1,0 +1,4 @@
+pub mod Finding
+pub mod Replaying
+pub mod Standing
+pub mod Lone

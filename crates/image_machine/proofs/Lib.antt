@@ -1,0 +1,4 @@
+pub mod Fitting
+pub mod Unminded
+pub mod Answering
+pub mod Headlines

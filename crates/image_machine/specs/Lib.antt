@@ -1,0 +1,3 @@
+pub mod Volumes
+pub mod Cells
+pub mod Laws
