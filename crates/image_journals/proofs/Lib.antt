@@ -1,0 +1,7 @@
+pub mod Sizes
+pub mod Held
+pub mod Journals
+pub mod Read
+pub mod Chains
+pub mod Names
+pub mod Layouts

@@ -1,0 +1,5 @@
+pub mod Sizes
+pub mod Blocks
+pub mod Shown
+pub mod Sound
+pub mod Found

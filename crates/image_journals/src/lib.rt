@@ -1,0 +1,12 @@
+//! Finding the journals of an image in memory, whatever its profile.
+#![tactic(auto)]
+
+mod blocks;
+mod directories;
+mod finding;
+mod leaves;
+mod places;
+mod unfound;
+
+pub use finding::{JournalPlaces, find_journals};
+pub use unfound::Unfound;
