@@ -1,11 +1,9 @@
 -- The walk along a chain of a directory that a view shows whole.
-use Rattle.std.proofs.Common.{◌≡◌, ◌≢◌, ◌⊎◌, inl, inr, ◌<◌, ◌≤◌, ◌+◌, ℕ, zero, suc, true, false, Bool, List, length, Option, None, Some, refl, sym, ap, subst, ◌∙◌, arith}
+use Rattle.std.proofs.Common.{◌≡◌, ◌≢◌, ◌⊎◌, inl, inr, ◌<◌, ◌+◌, ℕ, true, false, Bool, List, None, Some, refl, sym, ap, subst, ◌∙◌, arith}
 use Rattle.std.proofs.lemmas.Bool.Decides.{nat_tests}
 use Rattle.std.specs.Prelude.{if◌then◌else◌, nat_lt}
-use Rattle.std.specs.Option.{option_map}
 use Rattle.gfs2_layout.specs.Holding.{Holding, InChain, bytes_at, part_at}
-use Rattle.gfs2_layout.specs.Inode.{IsLeaf, first_hash, is_hashed_in, leaf_area, leaf_in}
-use Rattle.gfs2_layout.specs.Records.{Record, record_named, records_in}
+use Rattle.gfs2_layout.specs.Inode.{IsLeaf, first_hash, is_hashed_in, leaf_in}
 use Rattle.glock_names.specs.Views.{Seen}
 use Rattle.hash_dirs.specs.Finding.{IsNamedLater, named_in}
 use Rattle.hash_dirs.specs.Shown.{IsInChain}

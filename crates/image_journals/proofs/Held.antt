@@ -1,16 +1,15 @@
 -- The system files of an image that stands, as a view shows them.
-use Rattle.std.proofs.Common.{◌≡◌, ◌≢◌, ◌⊎◌, inl, inr, ◌<◌, ◌≤◌, ℕ, zero, suc, true, List, Option, None, Some, refl, sym, ap, subst, ◌∙◌, arith}
+use Rattle.std.proofs.Common.{◌≡◌, ℕ, true, Option, None, Some, refl, sym, ap, subst, ◌∙◌}
 use Rattle.std.specs.Prelude.{IsSome}
-use Rattle.gfs2_layout.specs.Device.{superblock_place}
 use Rattle.gfs2_layout.specs.Holding.{Cell, Holding, InChain, Itself, Part, Pointed, bytes_at, cell_part, part_at}
 use Rattle.gfs2_layout.specs.Inode.{IsInode, Leads}
 use Rattle.glock_names.specs.Views.{Seen}
 use Rattle.dinode_tree.specs.Shown.{IsAsSeen, IsShown}
-use Rattle.image_model.specs.Claims.{Claims, HasInode, HasJournal, below, every}
+use Rattle.image_model.specs.Claims.{Claims, HasInode, below, every}
 use Rattle.image_model.specs.Image.{Image}
-use Rattle.image_model.specs.Owners.{Below, Owner, Owners, cell_in, cell_of, holding, is_dinode, part_in}
-use Rattle.image_model.specs.Stands.{IsLaid, Layout}
-use Rattle.image_model.specs.SystemFiles.{IsSystemBlock, IsSystemFile, is_journal, of_content, of_dinode, of_leaf}
+use Rattle.image_model.specs.Owners.{Below, Owners, holding, is_dinode}
+use Rattle.image_model.specs.Stands.{Layout}
+use Rattle.image_model.specs.SystemFiles.{IsSystemBlock, IsSystemFile, of_content, of_dinode, of_leaf}
 use Rattle.image_model.proofs.Facts.{has_dinode}
 use Rattle.image_model.proofs.Held.{block_same, chained_owner, itself_own, none_some, own_part, pointed_owner}
 use Rattle.image_model.proofs.Reach.{IsClaimed, below_claim, inode_claim, leaf_claim}

@@ -1,8 +1,8 @@
 -- The places of a journal of an image that stands, and what the calls over a view that shows it can't tell.
-use Rattle.std.proofs.Common.{◌≡◌, ◌≢◌, ◌<◌, ◌≤◌, ◌*◌, ◌/◌, ℕ, zero, suc, true, false, Bool, List, Option, None, Some, Result, Ok, Err, refl, sym, ap, subst, ◌∙◌, arith}
+use Rattle.std.proofs.Common.{◌≡◌, ◌<◌, ◌≤◌, ◌*◌, ◌/◌, ℕ, suc, true, None, Some, sym, ap, subst, ◌∙◌, arith}
 use Rattle.std.proofs.lemmas.Bool.{cond-true, cond-false, lt-ltb, ne_eqb}
-use Rattle.std.specs.Prelude.{◌==◌, if◌then◌else◌, nat_lt, IsSome}
-use Rattle.gfs2_layout.specs.Holding.{Cell, Holding, Itself, bytes_at, part_at}
+use Rattle.std.specs.Prelude.{IsSome}
+use Rattle.gfs2_layout.specs.Holding.{Holding, bytes_at}
 use Rattle.gfs2_layout.specs.Inode.{IsInode, content_block, content_count, dinode_in, fan, height_in, span}
 use Rattle.gfs2_layout.specs.Structures.{dinode_length}
 use Rattle.gfs2_layout.specs.declared.dinode.Dinode.{Dinode}

@@ -5,3 +5,4 @@ pub mod Read
 pub mod Chains
 pub mod Names
 pub mod Layouts
+pub mod Replays

@@ -1,33 +1,32 @@
 -- Where the names of a directory of an image that stands lead.
-use Rattle.std.proofs.Common.{◌≡◌, ◌≢◌, ◌⊎◌, inl, inr, ◌<◌, ◌≤◌, ◌*◌, ◌+◌, ◌-◌, ◌^◌, ℕ, zero, suc, true, false, Bool, List, length, drop, take, Option, None, Some, refl, sym, ap, subst, ◌∙◌, arith, min}
-use Rattle.std.proofs.lemmas.Bool.{cond-true, cond-false, both_ways}
+use Rattle.std.proofs.Common.{◌≡◌, inl, inr, ◌<◌, ◌*◌, ◌-◌, ◌^◌, ℕ, true, false, Bool, List, Option, None, Some, refl, sym, ap, subst, ◌∙◌, arith, min}
+use Rattle.std.proofs.lemmas.Bool.{cond-true, cond-false}
 use Rattle.std.specs.Int.{from_be_bytes, w64}
-use Rattle.std.specs.Prelude.{◌&&◌, if◌then◌else◌, IsSome}
+use Rattle.std.specs.Prelude.{◌&&◌, if◌then◌else◌}
 use Rattle.std.specs.Option.{option_map}
 use Rattle.crc_words.specs.Remainder.{crc32_of}
 use Rattle.dinode_tree.specs.Reading.{content_range}
 use Rattle.gfs2_layout.specs.Area.{IsArea}
-use Rattle.gfs2_layout.specs.Bytes.{number_at, u64_at}
-use Rattle.gfs2_layout.specs.Holding.{Cell, Holding, Itself, Part, bytes_at, cell_part, part_at}
-use Rattle.gfs2_layout.specs.Inode.{IsInode, content_of, depth_in, dinode_in, entry, has_hash_flag, is_directory_in, is_hashed_in, linear_area, records_of, table_count}
+use Rattle.gfs2_layout.specs.Bytes.{number_at}
+use Rattle.gfs2_layout.specs.Holding.{Holding, Itself, Part, cell_part, part_at}
+use Rattle.gfs2_layout.specs.Inode.{IsInode, dinode_in, entry, has_hash_flag, is_directory_in, is_hashed_in, linear_area, records_of, table_count}
 use Rattle.gfs2_layout.specs.Records.{Record, child_named, is_dots, record_named, records_in}
 use Rattle.gfs2_layout.specs.Structures.{is_directory}
 use Rattle.gfs2_layout.specs.declared.dinode.Dinode.{Dinode}
 use Rattle.glock_names.specs.Views.{Seen}
 use Rattle.glock_names.specs.declared.steps.Entry.{Entry}
 use Rattle.hash_dirs.specs.Finding.{ChainsTellNames, IsFoundBy}
-use Rattle.hash_dirs.specs.Shown.{IsPlaced, IsSound, index_for}
+use Rattle.hash_dirs.specs.Shown.{IsPlaced, IsSound}
 use Rattle.image_model.specs.Flat.{Node, no_node}
 use Rattle.image_model.specs.Image.{Image}
 use Rattle.image_model.specs.Nodes.{node_of}
-use Rattle.image_model.specs.Owners.{IsUsed, Owners, Super, cell_in, cell_of, holding, is_dinode, part_in}
+use Rattle.image_model.specs.Owners.{IsUsed, Owners, Super, cell_in, cell_of, holding, part_in}
 use Rattle.image_model.specs.Stands.{Layout, flat_of}
 use Rattle.image_model.specs.SystemFiles.{IsSystemFile}
 use Rattle.image_model.proofs.Held.{itself_own, none_some, some_same}
 use Rattle.dinode_tree.specs.Shown.{IsAsSeen, IsShown}
 use Rattle.image_model.proofs.Reach.{used_low}
 use Rattle.image_model.proofs.Unique.{unused_part, used_or_not}
-use Rattle.gfs2_layout.specs.Device.{superblock_place}
 use Rattle.linear_dirs.specs.Shown.{entry_of}
 use Rattle.image_journals.specs.Shown.{ShowsSystem}
 use Rattle.image_journals.specs.Sound.{IsDirectoryIn}

@@ -1,5 +1,5 @@
 -- The blocks of an image in memory, as a view.
-use Rattle.std.specs.Prelude.{ℕ, if◌then◌else◌, nat_lt, List, [], Option, None, Some}
+use Rattle.std.specs.Prelude.{ℕ, if◌then◌else◌, nat_lt, List, [], None, Some}
 use Rattle.glock_names.specs.Views.{Seen}
 use Rattle.glock_names.specs.declared.State.TheVariants.{Un}
 use Rattle.shared_disk.specs.Blocks.{block_in}

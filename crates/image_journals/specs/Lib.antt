@@ -3,3 +3,4 @@ pub mod Blocks
 pub mod Shown
 pub mod Sound
 pub mod Found
+pub mod Laws

@@ -1,4 +1,4 @@
-use Rattle.std.proofs.Common.{◌≡◌, ◌∙◌, List, ℕ, ap, drop, subst, sym}
+use Rattle.std.proofs.Common.{◌∙◌, List, ℕ, ap, drop, subst, sym}
 use Rattle.std.specs.Option.{option_map}
 use Rattle.gfs2_layout.specs.Area.{IsArea}
 use Rattle.gfs2_layout.specs.Records.{record_named}

@@ -1,4 +1,4 @@
-use Rattle.std.proofs.Common.{◌≡◌, Some, refl, sym, ap, ◌∙◌}
+use Rattle.std.proofs.Common.{◌≡◌, refl, sym, ap, ◌∙◌}
 use Rattle.gfs2_layout.specs.Holding.{Itself, bytes_at}
 use Rattle.gfs2_layout.specs.Structures.{is_directory}
 use Rattle.glock_names.proofs.StepLaws.{answer_at, needed_at}

@@ -1,4 +1,4 @@
-use Rattle.std.proofs.Common.{◌≡◌, ◌<◌, ◌*◌, ℕ, length, sym, ap, subst, ◌∙◌, arith}
+use Rattle.std.proofs.Common.{◌<◌, ◌*◌, sym, ap, subst, ◌∙◌}
 use Rattle.std.specs.Int.{from_be_bytes, w64}
 use Rattle.gfs2_layout.specs.Inode.{entry, table_count}
 use Rattle.glock_names.specs.Steps.{TellsOf}

@@ -1,5 +1,4 @@
-use Rattle.std.proofs.Common.{◌≡◌, Some, refl, sym, ap, subst, ◌∙◌}
-use Rattle.std.specs.Prelude.{codes}
+use Rattle.std.proofs.Common.{refl, sym, ap, ◌∙◌}
 use Rattle.gfs2_layout.specs.Device.{superblock_place}
 use Rattle.image_model.proofs.Held.{none_some, some_same}
 use Rattle.image_journals.specs.Blocks.{seen_of}

@@ -1,4 +1,4 @@
-use Rattle.std.proofs.Common.{◌≡◌, List, ℕ, Some, None, refl, sym, ap, subst, subst₂, ◌∙◌}
+use Rattle.std.proofs.Common.{◌≡◌, List, ℕ, refl, sym, ap, subst, subst₂, ◌∙◌}
 use Rattle.gfs2_layout.specs.Records.{is_dots}
 use Rattle.image_model.specs.Image.{Image, image_in}
 use Rattle.image_model.specs.Journals.{journal_name}

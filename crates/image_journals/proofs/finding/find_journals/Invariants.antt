@@ -1,4 +1,3 @@
-use Rattle.std.specs.Prelude.{ℕ, ◌≡◌}
 use Rattle.image_model.specs.Image.{Image, image_in}
 use Rattle.image_model.specs.Owners.{Owners}
 use Rattle.image_model.specs.Stands.{IsLaid, Layout}

@@ -1,4 +1,4 @@
-use Rattle.std.proofs.Common.{◌≡◌, Some, sym, ap, ◌∙◌}
+use Rattle.std.proofs.Common.{sym, ◌∙◌}
 use Rattle.image_model.specs.Owners.{holding}
 use Rattle.glock_names.proofs.StepLaws.{answer_at, needed_at}
 use Rattle.image_journals.proofs.Held.{seen, shown, sound}

@@ -1,4 +1,4 @@
-use Rattle.std.proofs.Common.{◌≡◌, sym, ap, ◌∙◌}
+use Rattle.std.proofs.Common.{◌∙◌}
 use Rattle.image_model.specs.Owners.{holding}
 use Rattle.glock_names.proofs.StepLaws.{answer_at, needed_at}
 use Rattle.image_journals.proofs.Held.{dinode_seen, shown, sound}

@@ -1,10 +1,10 @@
-use Rattle.std.proofs.Common.{◌≡◌, ◌++◌, ◌∷◌, [], List, ℕ, refl, sym, ap, ap₂, subst, ◌∙◌, arith}
+use Rattle.std.proofs.Common.{◌≡◌, ◌++◌, ◌∷◌, [], List, ℕ, sym, ap, ap₂, ◌∙◌, arith}
 use Rattle.std.proofs.lemmas.List.FromFn.{map-range_with_len_more}
 use Rattle.std.specs.Prelude.{map}
 use Rattle.std.specs.List.{range_with_len}
 use Rattle.gfs2_layout.specs.Inode.{content_block}
 use Rattle.image_model.specs.Claims.{every}
-use Rattle.image_journals.proofs.Read.{handed, starved}
+use Rattle.image_journals.proofs.Read.{handed}
 use Rattle.image_journals.proofs.places.places_of.Goals as goal
 
 pub returns-in_err-count : goal.returns-in_err-count
