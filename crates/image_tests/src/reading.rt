@@ -4,6 +4,7 @@
 ghost use Rattle.std.specs.Prelude.{◌≡◌, ◌≤◌, ◌%◌, IfOk, length};
 
 use file_tree::Content;
+use image_journals::find_journals;
 use image_reader::{Image, ImageFault, read_tree};
 use std::alloc::Global;
 use std::test::Fail;
@@ -389,5 +390,23 @@ fn a_broken_rule_is_named_with_its_block(rt: HostRuntime) -> Result<(), Fail> {
         let fault = read_tree(rt.alloc(), &image).err();
         assert_eq!(rt; fault, Some(ImageFault::Damaged { block, rule }));
     }
+    Ok(())
+}
+
+// No command finds them: the journal has two places, and the superblock here has another format than mounting takes.
+#[test]
+fn journals_are_found_outside_of_the_profile(rt: HostRuntime) -> Result<(), Fail> {
+    let image = image(rt.alloc(), &[(65_563, b"\x08")])?;
+    let Ok(journals) = find_journals(rt.alloc(), image.block_size, image.bytes.bytes()) else {
+        return Err(Fail::from("not found"));
+    };
+    assert_eq!(rt; journals.len(), 1);
+    let Some(journal) = journals.first() else {
+        return Err(Fail::from("no journal"));
+    };
+    assert_eq!(rt; journal.dinode, 134);
+    assert_eq!(rt; journal.blocks.len(), 2);
+    assert_eq!(rt; journal.blocks.first(), Some(&135));
+    assert_eq!(rt; journal.blocks.last(), Some(&136));
     Ok(())
 }

@@ -1,0 +1,6 @@
+pub mod Sizes
+pub mod Blocks
+pub mod Shown
+pub mod Sound
+pub mod Found
+pub mod Laws

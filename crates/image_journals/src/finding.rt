@@ -1,0 +1,83 @@
+// The journals of an image.
+ghost use Rattle.std.specs.Prelude.{ℕ, ◌≡◌, ◌%◌, length, IfOk};
+ghost use Rattle.gfs2_layout.specs.Device.{IsBlockSize};
+ghost use Rattle.image_model.specs.Image.{Image, image_in};
+ghost use Rattle.image_model.specs.Journals.{journal_name as name_of_journal};
+ghost use Rattle.image_model.specs.Owners.{Owners};
+ghost use Rattle.image_model.specs.Stands.{IsLaid, Layout};
+ghost use Rattle.image_model.specs.SystemFiles.{HasSameSystem};
+ghost use Rattle.image_journals.specs.Blocks.{seen_of};
+ghost use Rattle.image_journals.specs.Found.{AreJournals};
+ghost use Rattle.image_journals.specs.Shown.{IfMemory, ShowsSystem};
+
+use crate::Unfound;
+use crate::blocks::ImageBlocks;
+use crate::directories::look;
+use crate::places::places_of;
+use gfs2_layout::{SuperBlock, superblock_block};
+use glock_names::block_of;
+use std::alloc::Global;
+use text_words::append_decimal;
+
+/// A journal: the block of its dinode, and the block at each of its places.
+#[derive(Drop)]
+pub struct JournalPlaces {
+    pub dinode: u64,
+    pub blocks: Vec<u64>,
+}
+
+// The name of a journal.
+fn journal_name(alloc: Global, number: u64) -> Result<Vec<u8>, Unfound>
+    ensures { IfMemory result (λ name. name.items ≡ name_of_journal number) }
+{
+    let mut name = Vec::from_slice(alloc, b"journal")?;
+    append_decimal(&mut name, number)?;
+    Ok(name)
+}
+
+// The block of the dinode of the directory of journals.
+fn find_jindex(alloc: Global, blocks: &ImageBlocks<'_>) -> Result<u64, Unfound>
+    ensures { (r : Image) (o : Owners) (l : Layout) → ShowsSystem (seen_of blocks.now) r o l → IfMemory result (λ d. d ≡ l.jindex) }
+{
+    let Some(bytes) = block_of(blocks, superblock_block(blocks.size)) else {
+        return Err(Unfound::Broken);
+    };
+    let Ok(superblock) = SuperBlock::read(bytes) else {
+        return Err(Unfound::Broken);
+    };
+    let found = look(alloc, blocks, superblock.master.address, b"jindex")?;
+    match found {
+        Some(jindex) => Ok(jindex),
+        None => Err(Unfound::Broken),
+    }
+}
+
+/// The journals of an image in memory, which is whole blocks of so many bytes: those to which the names from `journal0` on lead, as far as there is no gap. Of the image no more is
+/// looked at than the blocks of its system files, so what else it holds may be in the midst of what the journals say. It takes memory for the numbers of the journals' blocks.
+pub fn find_journals(
+    alloc: Global,
+    block_size: u32,
+    bytes: &[u8],
+) -> Result<Vec<JournalPlaces>, Unfound>
+    requires size { IsBlockSize block_size }
+    requires whole { length bytes.now % block_size ≡ 0 }
+    // Of an image that has the system files of one that stands they are that one's journals.
+    ensures { (r : Image) (o : Owners) (l : Layout) → HasSameSystem r (image_in block_size bytes.now) → IsLaid r o l → IfMemory result (λ journals. AreJournals r l journals.items) }
+{
+    let blocks = ImageBlocks::of(block_size, bytes);
+    let jindex = find_jindex(alloc, &blocks)?;
+    let mut journals = Vec::new(alloc);
+    for number in 0..u64::MAX {
+        let name = journal_name(alloc, number)?;
+        let found = look(alloc, &blocks, jindex, &name)?;
+        let Some(dinode) = found else {
+            return Ok(journals);
+        };
+        let places = places_of(alloc, &blocks, dinode)?;
+        journals.push(JournalPlaces {
+            dinode,
+            blocks: places,
+        })?;
+    }
+    Err(Unfound::NoMemory)
+}
