@@ -10,7 +10,7 @@ use Rattle.script_laws.proofs.WordsBack.{some_words}
 use Rattle.script_laws.proofs.ScriptsBack.{Reach, reach-append}
 use Rattle.script_laws.proofs.Stops.{same_number}
 use Rattle.script_laws.proofs.Strange.{strange, Passes, after-first}
-use Rattle.script_laws.proofs.Walk.{Cause, TooManyLines, TooManyBytes, WrongWord, CauseIn, Refused, walk, take-front, drop-front, take-one, bytes_in-append, lines_from, no_script, missing_refused, line_refused, word_refused}
+use Rattle.script_laws.proofs.Walk.{Cause, TooManyLines, TooManyBytes, WrongWord, CauseIn, Refused, walk, take-front, drop-front, take-one, bytes_in-append, lines_before, lines_from, no_script, missing_refused, line_refused, word_refused}
 use Rattle.script_laws.proofs.Begins.{Solid, Completion, begins-later, begins-nodes}
 use Rattle.script_laws.proofs.FreshNames.{fresh_name}
 use Rattle.script_laws.proofs.Stages.{NoEnd, AtStart, WithNodes, Ready, stage, finish}
@@ -270,7 +270,8 @@ module _ (text : List ℕ) (line column : ℕ) (bad : Refused (length text) noth
       let lines : take line (lines_in text) ≡ bad.front ++ l ∷ [] =
       (λ i. take (counted i) (bad.parts i)) ∙ ap (λ (ls : List (List ℕ)). take (suc (length bad.front)) (bad.front ++ ls)) back_is ∙ take-one bad.front l back in
       let bytes : bytes_in (take line (lines_in text)) ≡ bytes_in bad.front + bytes_in (l ∷ []) = ap bytes_in lines ∙ bytes_in-append bad.front (l ∷ []) in
-      (long, omega (arith, bytes, here))
+      let within : bytes_in (take (line - 1) (lines_in text)) ≤ script_limit = omega (arith, ap bytes_in (lines_before text line column bad), bad.within long (omega arith)) in
+      (long, (omega (arith, bytes, here), within))
 
   -- a later word of a line
   at_word : (l : List ℕ) (back : List (List ℕ)) → bad.back ≡ l ∷ back → line ≤ line_limit → (j : ℕ) → line_read bad.into (words_in l) ≡ Wrong (suc j) → column ≡ column_of (suc j) (words_in l) → IsFirstWrong text line column

@@ -29,6 +29,8 @@ pub record Refused (total : ℕ) (s : ScriptValue) (n before : ℕ) (ls : List (
   pub reach : Reach s front into
   pub counted : line ≡ n + length front
   pub few : n + length front ≤ line_limit + 1
+  -- where the text is longer than the limit, this doesn't come in the lines before
+  pub within : script_limit < total → before ≤ script_limit → before + bytes_in front ≤ script_limit
   pub cause : CauseIn total into line (before + bytes_in front) back column
 
 bad_line : (a b c d : ℕ) → Bad a b ≡ Bad c d → (c ≡ a) × (d ≡ b)
@@ -40,13 +42,13 @@ walk [] total s n before line column few bad = by_test (length s.clients == 0) r
     by_test : (t : Bool) → (length s.clients == 0) ≡ t → (if t then Bad n 1 else Script s) ≡ Bad line column → Refused total s n before [] line column
     by_test true e is =
         let at = bad_line n 1 line column is in
-        record { front = []; back = []; into = s; parts = refl; reach = refl; counted = omega (arith, at.0); few = omega (arith, few); cause = (grind (arith, nat_tests), at.1) }
+        record { front = []; back = []; into = s; parts = refl; reach = refl; counted = omega (arith, at.0); few = omega (arith, few); within = λ long fits. omega (arith, fits); cause = (grind (arith, nat_tests), at.1) }
     by_test false e is = cc
 walk (l ∷ ls) total s n before line column few bad =
     by_line (nat_lt line_limit n) (has_byte_past_limit total before l) (line_read s (words_in l)) refl refl refl bad (λ t. walk ls total t (n + 1) (before + length l + 1) line column)
   where
     here : line ≡ n → Cause total s line (before + 0) l column → Refused total s n before (l ∷ ls) line column
-    here at cause = record { front = []; back = l ∷ ls; into = s; parts = refl; reach = refl; counted = omega (arith, at); few = omega (arith, few); cause = cause }
+    here at cause = record { front = []; back = l ∷ ls; into = s; parts = refl; reach = refl; counted = omega (arith, at); few = omega (arith, few); within = λ long fits. omega (arith, fits); cause = cause }
 
     by_line : (many long : Bool) (r : LineRead ScriptValue) → nat_lt line_limit n ≡ many → has_byte_past_limit total before l ≡ long → line_read s (words_in l) ≡ r
         → (if many || long then Bad n 1 else elim r [ Got t ↦ script_from total t (n + 1) (before + length l + 1) ls | Wrong k ↦ Bad n (column_of k (words_in l)) ]) ≡ Bad line column
@@ -69,6 +71,7 @@ walk (l ∷ ls) total s n before line column few bad =
         let fits : n ≤ line_limit = grind (arith, nat_tests) in
         let rest = later t (omega (arith, fits)) is in
         let same : before + length l + 1 + bytes_in rest.front ≡ before + bytes_in (l ∷ rest.front) = omega arith in
+        let goes_past : script_limit < total → before + length l + 1 ≤ script_limit = λ more. grind (arith, nat_tests) in
         record {
           front = l ∷ rest.front;
           back = rest.back;
@@ -77,6 +80,7 @@ walk (l ∷ ls) total s n before line column few bad =
           reach = (t, (r_is, rest.reach));
           counted = omega (arith, rest.counted);
           few = omega (arith, rest.few);
+          within = λ more fits. subst (λ (b : ℕ). b ≤ script_limit) same (rest.within more (goes_past more));
           cause = subst (λ (b : ℕ). CauseIn total rest.into line b rest.back column) same rest.cause;
         }
 

@@ -46,9 +46,9 @@ abbrev pub bytes_in : List (List ℕ) → ℕ
 bytes_in [] = 0
 bytes_in (l ∷ ls) = length l + 1 + bytes_in ls
 
--- the text is longer than a script may be, and the first byte too many stands in this line or ends it
+-- the text is longer than a script may be, and the first byte too many stands in this line or ends it, and in none before
 abbrev pub IsCutOff : List ℕ → ℕ → Type 0
-IsCutOff text line = (script_limit < length text) × (script_limit < bytes_in (take line (lines_in text)))
+IsCutOff text line = (script_limit < length text) × ((script_limit < bytes_in (take line (lines_in text))) × (bytes_in (take (line - 1) (lines_in text)) ≤ script_limit))
 
 -- how many bytes make a script of what stands before a place, at most
 abbrev pub room : ℕ
@@ -83,7 +83,7 @@ pub record IsFirstWrong (text : List ℕ) (line column : ℕ) : Type 0 where
   pub word : ℕ
   pub within_words : word ≤ words_at (drop (line - 1) (lines_in text))
   pub told : column ≡ column_in word (drop (line - 1) (lines_in text))
-  -- no script goes on from it; or it is the first word of a line in which the limit of bytes comes, whatever that word is
+  -- no script goes on from it; or it is the first word of the line in which the limit of bytes comes, whatever that word is
   pub stops : (IsCutOff text line × (word ≡ 0)) ⊎ NoScript text line word
   -- some script goes on from the words before each word up to it, where the limit of bytes leaves room for one
   pub begins : (l k : ℕ) → IsUpTo text line word l k → HasRoom text l (column_in k (drop (l - 1) (lines_in text))) → SomeScript text l k
