@@ -11,7 +11,7 @@ static NO_GROUPS: [Group; 0] = [];
 
 // The blocks that are there.
 #[derive(Drop)]
-pub(crate) struct Shelf {
+struct Shelf {
     blocks: BTreeMap<u64, Vec<u8>>,
 }
 
@@ -54,7 +54,7 @@ impl View for Shelf {
 }
 
 // Bytes at a place of a block.
-pub(crate) type Part = (u64, usize, &'static [u8]);
+type Part = (u64, usize, &'static [u8]);
 
 // A file of five bytes behind its dinode.
 const SHORT: [Part; 7] = [
@@ -158,8 +158,8 @@ fn lay(shelf: &mut Shelf, alloc: Global, part: Part) -> Result<(), AllocError> {
     Ok(())
 }
 
-// All the files, with some parts laid over them.
-pub(crate) fn shelf_with(alloc: Global, later: &[Part]) -> Result<Shelf, AllocError> {
+// All the files.
+fn all_files(alloc: Global) -> Result<Shelf, AllocError> {
     let mut shelf = Shelf {
         blocks: BTreeMap::new(alloc),
     };
@@ -168,67 +168,29 @@ pub(crate) fn shelf_with(alloc: Global, later: &[Part]) -> Result<Shelf, AllocEr
             lay(&mut shelf, alloc, *part)?;
         }
     }
-    for part in later {
-        lay(&mut shelf, alloc, *part)?;
-    }
     Ok(shelf)
 }
 
-// An inode, an index, and the block of content.
-const PLACES: [(u64, u64, Option<u64>); 17] = [
+// An inode, an index, and the block of content: of content behind a dinode there is none, nor past what the pointers reach.
+const PLACES: [(u64, u64, Option<u64>); 7] = [
     (10, 0, None),
-    (20, 0, Some(21)),
-    (20, 1, None),
-    (20, 2, Some(22)),
-    (20, 3, None),
     (20, 34, None),
     (20, 35, None),
-    (30, 0, Some(33)),
-    (30, 1, None),
-    (30, 60, Some(34)),
-    (30, 61, Some(35)),
-    (30, 122, None),
     (30, 2135, None),
-    (40, 1, Some(42)),
     (50, 0, None),
     (50, 0x0001_ffff_ffff_ffff, None),
     (50, 0xffff_ffff_ffff_ffff, None),
 ];
 
-#[test]
-fn blocks_of_content_are_found(rt: HostRuntime) -> Result<(), Fail> {
-    let shelf = shelf_with(rt.alloc(), &[])?;
-    for (dinode, index, want) in PLACES {
-        assert_eq!(rt;
-            place(&shelf, dinode, index),
-            Ok(Step::Is(want)),
-            "at {dinode} {index}"
-        );
-    }
-    Ok(())
-}
-
-// An inode, a range, and the bytes.
-const READS: [(u64, u64, u32, &[u8]); 15] = [
-    (10, 0, 100, b"hello"),
-    (10, 1, 3, b"ell"),
-    (10, 5, 1, b""),
-    (20, 0, 6, b"begins"),
-    (20, 509, 5, b"end\x00\x00"),
-    (20, 1_022, 3, b"\x00\x00\x00"),
-    (20, 1_194, 100, b"abcdef"),
-    (20, 1_199, 1, b"f"),
-    (20, 1_200, 1, b""),
+// An inode, a range that no call has, and the bytes.
+const READS: [(u64, u64, u32, &[u8]); 3] = [
     (20, 0xffff_ffff_ffff_ffff, 9, b""),
-    (30, 0, 5, b"first"),
-    (30, 31_228, 7, b"joining"),
-    (30, 31_328, 9, b"\x00\x00\x00\x00"),
     (40, 484, 8, b"restmore"),
     (50, 0x03ff_ffff_ffff_fffe, 9, b"\x00\x00"),
 ];
 
 // Whether these bytes were answered.
-pub(crate) fn gives(answer: Result<Step<Vec<u8>>, CallFault>, want: &[u8]) -> bool {
+fn gives(answer: Result<Step<Vec<u8>>, CallFault>, want: &[u8]) -> bool {
     match answer {
         Ok(Step::Is(bytes)) => bytes.as_slice() == want,
         _ => false,
@@ -236,9 +198,16 @@ pub(crate) fn gives(answer: Result<Step<Vec<u8>>, CallFault>, want: &[u8]) -> bo
 }
 
 #[test]
-fn ranges_are_read(rt: HostRuntime) -> Result<(), Fail> {
+fn offsets_that_no_call_has(rt: HostRuntime) -> Result<(), Fail> {
     let a = rt.alloc();
-    let shelf = shelf_with(a, &[])?;
+    let shelf = all_files(a)?;
+    for (dinode, index, want) in PLACES {
+        assert_eq!(rt;
+            place(&shelf, dinode, index),
+            Ok(Step::Is(want)),
+            "at {dinode} {index}"
+        );
+    }
     for (dinode, at, len, want) in READS {
         assert!(rt;
             gives(read_range(a, &shelf, dinode, at, len), want),
@@ -277,7 +246,7 @@ fn check_missing(
 #[test]
 fn what_is_missing_is_named(rt: HostRuntime) -> Result<(), Fail> {
     let a = rt.alloc();
-    let mut shelf = shelf_with(a, &[])?;
+    let mut shelf = all_files(a)?;
     for block in [10, 21, 32, 34, 41] {
         shelf.blocks.remove(&block);
     }
@@ -316,63 +285,5 @@ fn what_is_missing_is_named(rt: HostRuntime) -> Result<(), Fail> {
         Step::Is(Some(41)),
         missing(40, 41, false, 40),
     );
-    Ok(())
-}
-
-// What is laid over the file of height 1, an index, and the block and the rule of the damage.
-const DAMAGES: [(&[Part], u64, u64, u16); 11] = [
-    (&[(20, 4, b"\x00\x00\x00\x05")], 0, 20, 1),
-    (&[(20, 16, b"\x00\x00\x01\xf4")], 0, 20, 1),
-    (&[(20, 39, b"\x15")], 0, 20, 7),
-    (&[(20, 31, b"\x00")], 0, 20, 7),
-    (&[(20, 40, b"\x00\x00\xa1\xff")], 0, 20, 8),
-    (&[(20, 138, b"\x00\x0b")], 0, 20, 8),
-    // 281 bytes at height 0, and 35 blocks and a byte at height 1.
-    (&[(20, 138, b"\x00\x00"), (20, 62, b"\x01\x19")], 0, 20, 8),
-    (&[(20, 62, b"\x46\x01")], 0, 20, 8),
-    // A pointer to the block of content 3, of three.
-    (&[(20, 256, b"\x00\x00\x00\x00\x00\x00\x00\x17")], 3, 20, 8),
-    // A block of content in the place of an indirect block.
-    (&[(20, 138, b"\x00\x02")], 0, 21, 1),
-    (
-        &[
-            (20, 138, b"\x00\x02"),
-            (21, 0, b"\x01\x16\x19\x70\x00\x00\x00\x07"),
-        ],
-        0,
-        21,
-        1,
-    ),
-];
-
-#[test]
-fn damage_is_told(rt: HostRuntime) -> Result<(), Fail> {
-    for (later, index, block, rule) in DAMAGES {
-        let shelf = shelf_with(rt.alloc(), later)?;
-        assert_eq!(rt;
-            place(&shelf, 20, index),
-            Err(CallFault::Damaged { block, rule })
-        );
-    }
-    Ok(())
-}
-
-#[test]
-fn a_table_block_without_its_header_is_damaged(rt: HostRuntime) -> Result<(), Fail> {
-    let a = rt.alloc();
-    let shelf = shelf_with(a, &[(42, 4, b"\x00\x00\x00\x05")])?;
-    assert!(rt; gives(read_range(a, &shelf, 40, 484, 4), b"rest"));
-    let read = read_range(a, &shelf, 40, 484, 5);
-    assert!(rt; matches!(read, Err(CallFault::Damaged { block: 42, rule: 1 })));
-    assert_eq!(rt; place(&shelf, 40, 1), Ok(Step::Is(Some(42))));
-    Ok(())
-}
-
-// The greatest file that its dinode's block has room for.
-#[test]
-fn content_fills_the_dinodes_block(rt: HostRuntime) -> Result<(), Fail> {
-    let a = rt.alloc();
-    let shelf = shelf_with(a, &[(10, 62, b"\x01\x18"), (10, 510, b"\x07\x08")])?;
-    assert!(rt; gives(read_range(a, &shelf, 10, 278, 9), &[7, 8]));
     Ok(())
 }

@@ -2,9 +2,8 @@
 // used one, and four free ones.
 use drafts::Draft;
 use glock_names::{CallFault, Group, LockName, Missing, State, Step, View};
-use resource_groups::{count_free, find_free, free_blocks, set_state, take_blocks};
+use resource_groups::{find_free, set_state};
 use std::alloc::{AllocError, Global};
-use std::process::Abort;
 use std::test::Fail;
 
 const GROUP: Group = Group {
@@ -59,8 +58,8 @@ impl View for Shelf {
     }
 }
 
-// The first bytes of the group's block, with these counts, and zeros up to the bits.
-fn header(alloc: Global, free: u8, dinodes: u8, bits: [u8; 2]) -> Result<Vec<u8>, AllocError> {
+// The first bytes of the group's block, which count no free block and a dinode, and zeros up to the bits.
+fn header(alloc: Global) -> Result<Vec<u8>, AllocError> {
     let mut bytes = vec![in alloc; 0; 512]?;
     for (place, byte) in [
         (0, 0x01),
@@ -69,13 +68,11 @@ fn header(alloc: Global, free: u8, dinodes: u8, bits: [u8; 2]) -> Result<Vec<u8>
         (3, 0x70),
         (7, 2),
         (19, 200),
-        (31, free),
-        (35, dinodes),
+        (35, 1),
         (55, 131),
         (59, 8),
         (63, 2),
-        (128, bits[0]),
-        (129, bits[1]),
+        (128, 0b01_00_01_11),
     ] {
         if let Some(old) = bytes.get_mut(place) {
             *old = byte;
@@ -85,69 +82,9 @@ fn header(alloc: Global, free: u8, dinodes: u8, bits: [u8; 2]) -> Result<Vec<u8>
 }
 
 #[test]
-fn a_block_is_found_and_taken(rt: HostRuntime) -> Result<(), Fail> {
-    let a = rt.alloc();
-    let shelf = Shelf {
-        header: header(a, 5, 1, [0b01_00_01_11, 0])?,
-    };
-    for (after, found) in [
-        (0, Some(133)),
-        (133, Some(135)),
-        (135, Some(136)),
-        (138, None),
-    ] {
-        assert_eq!(rt; find_free(&shelf, &GROUP, after), Ok(Step::Is(found)));
-    }
-    assert_eq!(rt; count_free(&shelf, &GROUP), Ok(Step::Is(5)));
-    let mut draft = Draft::new(a, &shelf);
-    assert_eq!(rt; set_state(&mut draft, 133, 3), Ok(Step::Is(())));
-    assert_eq!(rt; find_free(&draft, &GROUP, 0), Ok(Step::Is(Some(135))));
-    assert_eq!(rt; count_free(&draft, &GROUP), Ok(Step::Is(4)));
-    assert_eq!(rt; set_state(&mut draft, 131, 0), Ok(Step::Is(())));
-    assert_eq!(rt; find_free(&draft, &GROUP, 0), Ok(Step::Is(Some(131))));
-    draft.free(131)?;
-    let change = draft.finish()?;
-    assert_eq!(rt; change.blocks.len(), 1);
-    for written in &change.blocks {
-        assert_eq!(rt; written.block, 130);
-    }
-    for lock in &change.locks {
-        assert_eq!(rt;
-            *lock,
-            LockName {
-                kind: 3,
-                number: 130
-            }
-        );
-    }
-    assert_eq!(rt; change.freed.len(), 1);
-    Ok(())
-}
-
-#[test]
-fn several_blocks_are_taken_and_freed(rt: HostRuntime) -> Result<(), Fail> {
-    let a = rt.alloc();
-    let shelf = Shelf {
-        header: header(a, 5, 1, [0b01_00_01_11, 0])?,
-    };
-    let mut draft = Draft::new(a, &shelf);
-    assert_eq!(rt; take_blocks(&mut draft, &[133, 135]), Ok(Step::Is(())));
-    assert_eq!(rt; find_free(&draft, &GROUP, 0), Ok(Step::Is(Some(136))));
-    assert_eq!(rt; count_free(&draft, &GROUP), Ok(Step::Is(3)));
-    assert_eq!(rt; free_blocks(&mut draft, &[132, 134, 135]), Ok(Step::Is(())));
-    assert_eq!(rt; find_free(&draft, &GROUP, 0), Ok(Step::Is(Some(132))));
-    assert_eq!(rt; count_free(&draft, &GROUP), Ok(Step::Is(6)));
-    let change = draft.finish()?;
-    assert_eq!(rt; change.blocks.len(), 1);
-    assert_eq!(rt; change.freed.len(), 3);
-    Ok(())
-}
-
-#[test]
-fn what_is_missing_or_broken_is_told(rt: HostRuntime) -> Result<(), Fail> {
-    let a = rt.alloc();
+fn a_missing_header_is_named(rt: HostRuntime) -> Result<(), Fail> {
     let empty = Shelf {
-        header: Vec::new(a),
+        header: Vec::new(rt.alloc()),
     };
     let missing = Missing {
         lock: LockName {
@@ -160,26 +97,14 @@ fn what_is_missing_or_broken_is_told(rt: HostRuntime) -> Result<(), Fail> {
     };
     assert_eq!(rt; find_free(&empty, &GROUP, 0), Ok(Step::NeedBlock(missing)));
     assert_eq!(rt; find_free(&empty, &GROUP, 138), Ok(Step::Is(None)));
-    let bare = Shelf {
-        header: vec![in a; 0; 512]?,
-    };
-    assert_eq!(rt;
-        find_free(&bare, &GROUP, 0),
-        Err(CallFault::Damaged {
-            block: 130,
-            rule: 1
-        })
-    );
-    let miscounted = Shelf {
-        header: header(a, 0, 1, [0b01_00_01_11, 0])?,
-    };
-    assert_eq!(rt;
-        count_free(&miscounted, &GROUP),
-        Err(CallFault::Damaged {
-            block: 130,
-            rule: 6
-        })
-    );
+    Ok(())
+}
+
+// Every call counts the free blocks before it takes one, and tells the same.
+#[test]
+fn a_block_is_not_taken_where_none_is_counted(rt: HostRuntime) -> Result<(), Fail> {
+    let a = rt.alloc();
+    let miscounted = Shelf { header: header(a)? };
     let mut draft = Draft::new(a, &miscounted);
     assert_eq!(rt;
         set_state(&mut draft, 133, 1),

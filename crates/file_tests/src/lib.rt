@@ -6,6 +6,4 @@ mod contents;
 #[cfg(test)]
 mod groups;
 #[cfg(test)]
-mod growing;
-#[cfg(test)]
 mod wanted;

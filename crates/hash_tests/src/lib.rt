@@ -1,10 +1,6 @@
-//! Tests of hashed directories over views and drafts, and nothing else.
+//! Tests of hashed directories over a view, and nothing else.
 #![tactic(auto)]
 
-#[cfg(test)]
-mod converting;
-#[cfg(test)]
-mod inserting;
 #[cfg(test)]
 mod reading;
 #[cfg(test)]
