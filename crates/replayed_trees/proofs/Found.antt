@@ -1,5 +1,5 @@
 -- An image that stands once its journals are replayed, and the journals that were found in it.
-use Rattle.std.proofs.Common.{◌≡◌, ◌+◌, ◌<◌, ◌≤◌, ℕ, zero, suc, List, [], ◌∷◌, length, Some, Err, get_or, refl, sym, ap, ap₂, subst, ◌∙◌, arith}
+use Rattle.std.proofs.Common.{◌≡◌, ◌+◌, ◌<◌, ◌≤◌, ℕ, zero, suc, List, [], ◌∷◌, length, Some, Result, Err, get_or, refl, sym, ap, ap₂, subst, ◌∙◌, arith}
 use Rattle.std.specs.Prelude.{IsTrue, map, slice_get}
 use Rattle.std.specs.List.{All, range_with_len}
 use Rattle.std.proofs.lemmas.List.{get_or_default}
@@ -11,14 +11,14 @@ use Rattle.disk_trees.specs.declared.faults.TreeFault.{TreeFault}
 use Rattle.disk_trees.specs.declared.faults.TreeFault.TheVariants as tree
 use Rattle.image_journals.specs.Found.{AreJournals}
 use Rattle.image_journals.specs.Laws.{ReplayedShareTheirSystem}
-use Rattle.image_journals.specs.Shown.{IfMemory}
 use Rattle.image_journals.specs.declared.finding.JournalPlaces.{JournalPlaces}
 use Rattle.image_model.specs.Claims.{every}
-use Rattle.image_model.specs.Image.{Image, image_of}
-use Rattle.image_model.specs.Owners.{Owner, Below, IsUsed, Owners}
+use Rattle.image_model.specs.Image.{Image, image_in, image_of}
+use Rattle.image_model.specs.Owners.{IsUsed, Owners}
 use Rattle.image_model.specs.Replays.{Replayed, StandsReplayed}
 use Rattle.image_model.specs.Stands.{IsJournalAt, IsLaid, Layout, Stands}
 use Rattle.image_model.specs.SystemFiles.{HasSameSystem}
+use Rattle.image_model.proofs.Reach.{used_low}
 use Rattle.image_model.proofs.Replaying.{replayed_by_any}
 use Rattle.image_outcomes.proofs.SameFiles.{HasSameFiles, place_row, same_files}
 use Rattle.image_replays.specs.Replays.{IfDamaged, put_over}
@@ -26,6 +26,7 @@ use Rattle.journal_outcomes.specs.Images.{ring_at}
 use Rattle.peer_replay.specs.declared.planned.Plan.{Plan}
 use Rattle.replay_looks.specs.declared.faults.LookFault.{LookFault}
 use Rattle.replay_looks.specs.declared.faults.LookFault.TheVariants as look
+use Rattle.shared_disk.specs.Disk.{DiskState}
 use Rattle.replayed_trees.specs.Answers.{GivesTree, of_look, of_tree}
 use Rattle.replayed_trees.specs.Planning.{AreInside}
 
@@ -78,23 +79,40 @@ module _ (im : Image) (t : Tree) (is : StandsReplayed im t) (law : ReplayedShare
         let value : get_or x.blocks.items p e ≡ content_block (every r d) p = ap (λ bs. get_or bs p e) (found.blocks j x there) ∙ get_or-map-range_with_len (content_block (every r d)) 0 n p p e inside z in
         let row = place_row r o m is.stands.laid j d at p inside in
         let used : IsUsed (o (content_block (every r d) p)) = subst IsUsed (sym row.3) tt in
-        subst (λ b. b < im.count) (sym value) (low_of (content_block (every r d) p) used)
-      where
-        low_of : (b : ℕ) → IsUsed (o b) → b < im.count
-        low_of b used =
-            let g = is.stands.laid.zoned.placed b used in
-            let fit = is.stands.laid.fit.each g.0 g.1 in
-            let high : b < g.0.data0 + g.0.data_blocks = g.2.high in
-            let ends : g.0.data0 + g.0.data_blocks ≤ r.count = fit.inside in
-            let same : r.count ≡ im.count = is.is.count in
-            omega (arith, high, ends, same)
+        subst (λ b. b < im.count) (sym value) (subst (λ n. content_block (every r d) p < n) is.is.count (used_low r o m is.stands.laid (content_block (every r d) p) used))
 
-  -- ---- what is answered
+-- ---- what is answered, of an image that a disk in memory has
 
+module _ (s : DiskState) (tells : IsTrue s.tells) (size : ℕ) (bytes seen : List ℕ) (of_bytes : image_of s ≡ image_in size bytes) (seen_is : seen ≡ bytes) (law : ReplayedShareTheirSystem)
+    (journals row : List JournalPlaces) (row_is : row ≡ journals) (found : (x : Image) (o : Owners) (l : Layout) → HasSameSystem x (image_in size seen) → IsLaid x o l → AreJournals x l journals)
+    (t : Tree) (stands : StandsReplayed (image_in size bytes) t) where
+  here : StandsReplayed (image_of s) t
+  here = subst (λ i. StandsReplayed i t) (sym of_bytes) stands
 
-  module _ (journals : List JournalPlaces) (found : AreJournals r m journals) (plans : List Plan) (planned : (l : Layout) (x : Image) → Replayed im l x → AreJournals im l journals → x ≡ put_over im plans) where
-    pub stands_so : Stands (put_over im plans) t
-    stands_so = subst (λ i. Stands i t) (planned m r by_layout (as_it_lies journals found)) is.stands
+  found_here : AreJournals here.replayed here.stands.layout journals
+  found_here =
+      found here.replayed here.stands.owners here.stands.layout
+      (subst (HasSameSystem here.replayed) (of_bytes ∙ ap (image_in size) (sym seen_is)) (shared (image_of s) t here law))
+      here.stands.laid
+
+  in_row : AreJournals (image_of s) here.stands.layout row
+  in_row = subst (AreJournals (image_of s) here.stands.layout) (sym row_is) (as_it_lies (image_of s) t here law journals found_here)
+
+  pub unstopped : (f : LookFault)
+      → (IsTrue s.tells → (l : Layout) (x : Image) → Replayed (image_of s) l x → AreJournals (image_of s) l row → AreInside s.count row → IfDamaged f (λ block rule. ⊥)) → IfDamaged f (λ block rule. ⊥)
+  unstopped f never =
+      never tells here.stands.layout here.replayed (by_layout (image_of s) t here law) in_row
+      (subst (AreInside s.count) (sym row_is) (are_inside (image_of s) t here law journals found_here))
+
+  module _ (mid : DiskState) (same : mid ≡ s) (plans in_place : List Plan) (place_is : in_place ≡ plans)
+      (planned : IsTrue s.tells → (l : Layout) (x : Image) → Replayed (image_of s) l x → AreJournals (image_of s) l row → x ≡ put_over (image_of s) plans) where
+    standing : Stands (put_over (image_of s) in_place) t
+    standing =
+        subst (λ ps. Stands (put_over (image_of s) ps) t) (sym place_is)
+        (subst (λ i. Stands i t) (planned tells here.stands.layout here.replayed (by_layout (image_of s) t here law) in_row) here.stands)
+
+    pub given : (result : Result Tree TreeFault) → (IsTrue mid.tells → (u : Tree) → Stands (put_over (image_of mid) in_place) u → disk.GivesTree u result) → disk.GivesTree t result
+    given result gives = subst (λ (x : DiskState). IsTrue x.tells → (u : Tree) → Stands (put_over (image_of x) in_place) u → disk.GivesTree u result) same gives tells t standing
 
 pub unread_tree : (t : Tree) (f : TreeFault) → disk.GivesTree t (Err f) → GivesTree t (Err (of_tree f))
 unread_tree t (tree.Damaged block rule) none = none

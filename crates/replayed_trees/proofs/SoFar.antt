@@ -1,9 +1,10 @@
 -- The journals that were looked at so far.
-use Rattle.std.proofs.Common.{◌≡◌, ◌+◌, ◌<◌, ℕ, Bool, true, false, List, [], ◌∷◌, ◌++◌, length, Option, None, Some, refl, sym, ap, subst, ◌∙◌, inl, inr}
+use Rattle.std.proofs.Common.{◌≡◌, ◌+◌, ◌<◌, ℕ, Bool, true, false, List, [], ◌∷◌, ◌++◌, length, Option, None, Some, refl, sym, ap, subst, ◌∙◌, inl, inr, arith}
 use Rattle.std.specs.Prelude.{◌||◌, IsTrue, if◌then◌else◌, slice_get}
 use Rattle.std.specs.List.{AllByRecursion}
 use Rattle.std.proofs.lemmas.Bool.{cond-true, cond-false}
-use Rattle.std.proofs.lemmas.List.{length-append}
+use Rattle.std.proofs.lemmas.Bool.Decides.{nat_tests}
+use Rattle.std.proofs.lemmas.List.{length-append, length-replicate}
 use Rattle.image_journals.specs.declared.finding.JournalPlaces.{JournalPlaces}
 use Rattle.image_replays.specs.Marking.{is_planned}
 use Rattle.image_replays.specs.Replays.{IsWritable}
@@ -11,9 +12,9 @@ use Rattle.image_replays.proofs.Lists.{all_more, any_append, get_more, some_is}
 use Rattle.journal_plans.specs.Plans.{IsPlanOf}
 use Rattle.journal_reads.specs.Reading.{ring_read}
 use Rattle.peer_replay.specs.declared.planned.Plan.{Plan}
-use Rattle.replay_marks.specs.Marking.{has_block, mark_of}
+use Rattle.replay_marks.specs.Marking.{are_all_barred, has_block, is_between, mark_of}
 use Rattle.replay_marks.specs.declared.marks.Mark.{Mark}
-use Rattle.replay_marks.specs.declared.marks.Mark.TheVariants.{Live}
+use Rattle.replay_marks.specs.declared.marks.Mark.TheVariants.{Barred, Live, Open}
 use Rattle.shared_disk.specs.Disk.{DiskState}
 
 pub record IsSoFar (s : DiskState) (first : List Mark) (journals : List JournalPlaces) (n : ℕ) (plans : List Plan) (marks : List Mark) : Type 0 where
@@ -75,3 +76,14 @@ so_on s t same first journals n plans news marks new so x p at long writable pla
     subst (λ ps. IsSoFar s first journals (n + 1) ps new) (sym added)
     (so_far_more s first journals n plans marks new so x p at long (subst (λ u. IsWritable u p) same writable)
     (subst (λ (u : DiskState). IsTrue u.tells → IsPlanOf (ring_read u 0 x.blocks.items) p) same plan) are)
+
+-- ---- the marks at first
+
+-- every block of the device may be written
+pub opened : (count n : ℕ) → n ≡ count → (marks new : List Mark) → marks ≡ are_all_barred n → ((b : ℕ) → b < length marks → mark_of new b ≡ (if is_between 0 n b then Open else mark_of marks b))
+    → (b : ℕ) → b < count → mark_of new b ≡ Open
+opened count n same marks new are open_marks b low =
+    let many : length marks ≡ n = ap length are ∙ length-replicate n Barred in
+    let inside : b < n = subst (λ k. b < k) (sym same) low in
+    let test : is_between 0 n b ≡ true = grind (arith, nat_tests, inside) in
+    open_marks b (subst (λ k. b < k) (sym many) inside) ∙ cond-true _ _ _ test
