@@ -1,8 +1,7 @@
 -- An image that stands once its journals are replayed, and the journals that were found in it.
-use Rattle.std.proofs.Common.{◌≡◌, ◌+◌, ◌<◌, ◌≤◌, ℕ, zero, suc, List, [], ◌∷◌, length, Some, Result, Err, get_or, refl, sym, ap, ap₂, subst, ◌∙◌, arith}
+use Rattle.std.proofs.Common.{◌≡◌, ◌+◌, ◌<◌, ◌≤◌, ℕ, zero, suc, List, ◌∷◌, length, Some, Result, Err, get_or, refl, sym, ap, ap₂, subst, ◌∙◌, arith}
 use Rattle.std.specs.Prelude.{IsTrue, map, slice_get}
-use Rattle.std.specs.List.{All, range_with_len}
-use Rattle.std.proofs.lemmas.List.{get_or_default}
+use Rattle.std.specs.List.{range_with_len}
 use Rattle.std.proofs.lemmas.List.FromFn.{get_or-map-range_with_len, length-map-range_with_len}
 use Rattle.file_tree.specs.Tree.{Tree}
 use Rattle.gfs2_layout.specs.Inode.{content_block}
@@ -16,7 +15,7 @@ use Rattle.image_model.specs.Claims.{every}
 use Rattle.image_model.specs.Image.{Image, image_in, image_of}
 use Rattle.image_model.specs.Owners.{IsUsed, Owners}
 use Rattle.image_model.specs.Replays.{Replayed, StandsReplayed}
-use Rattle.image_model.specs.Stands.{IsJournalAt, IsLaid, Layout, Stands}
+use Rattle.image_model.specs.Stands.{IsLaid, Layout, Stands}
 use Rattle.image_model.specs.SystemFiles.{HasSameSystem}
 use Rattle.image_model.proofs.Reach.{used_low}
 use Rattle.image_model.proofs.Replaying.{replayed_by_any}

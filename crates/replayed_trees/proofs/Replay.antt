@@ -1,7 +1,7 @@
 -- The plans of a replayed image's journals are its replay, and nothing stops it.
 use Rattle.std.proofs.Common.{◌≡◌, ◌+◌, ◌<◌, ℕ, zero, suc, Bool, true, false, List, [], ◌∷◌, length, Option, None, Some, Result, Ok, Err, get_or, refl, sym, ap, subst, ◌∙◌, arith}
-use Rattle.std.specs.Prelude.{IsTrue, if◌then◌else◌, map, slice_get, unwrap_or}
-use Rattle.std.specs.List.{All, range_with_len}
+use Rattle.std.specs.Prelude.{IsTrue, slice_get, unwrap_or}
+use Rattle.std.specs.List.{All}
 use Rattle.std.proofs.lemmas.Bool.{cond-true, cond-false}
 use Rattle.std.proofs.lemmas.List.FromFn.{get_or-map-range_with_len, length-map-range_with_len}
 use Rattle.std.proofs.lemmas.Option.{slice_get_within}
@@ -24,7 +24,6 @@ use Rattle.log_layout.specs.Journal.{Ring, ring_of}
 use Rattle.log_layout.specs.Laws.{HasSamePlaces, SaysTheSame}
 use Rattle.log_layout.specs.Transactions.{Sequenced}
 use Rattle.log_layout.proofs.SamePlaces.{says_the_same}
-use Rattle.log_layout.specs.declared.log_header.LogHeader.{LogHeader}
 use Rattle.log_layout.specs.Transactions.{transactions_of}
 use Rattle.peer_replay.specs.declared.planned.Plan.{Plan}
 use Rattle.replay_looks.specs.Looks.{Breaks, BreaksAlone, BreaksByLive, IsStopped, alone, bad_chunk, by_live, headless, stray, twice}

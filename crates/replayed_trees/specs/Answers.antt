@@ -1,5 +1,5 @@
 -- What reading the tree of an image, its journals replayed, answers.
-use Rattle.std.specs.Prelude.{ℕ, ◌≡◌, ⊤, Result, Ok, Err}
+use Rattle.std.specs.Prelude.{◌≡◌, ⊤, Result, Ok, Err}
 use Rattle.file_tree.specs.Tree.{Tree}
 use Rattle.disk_trees.specs.declared.faults.TreeFault.{TreeFault}
 use Rattle.disk_trees.specs.declared.faults.TreeFault.TheVariants as tree

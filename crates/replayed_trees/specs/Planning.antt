@@ -6,4 +6,3 @@ use Rattle.image_journals.specs.declared.finding.JournalPlaces.{JournalPlaces}
 -- each place of these journals has a block of a device of so many
 abbrev pub AreInside : ℕ → List JournalPlaces → Type 0
 AreInside count journals = (j : ℕ) (found : JournalPlaces) → slice_get journals j ≡ Some found → All (λ b. b < count) found.blocks.items
-

@@ -33,11 +33,7 @@ fn told_as_it_lies(alloc: Global, block_size: u32, bytes: Vec<u8>) -> Unread
 
 /// Reads the tree of files and directories that an image in memory, which is whole blocks of so many bytes, stands for with what its journals say in place, whatever its profile. It costs
 /// what finding its journals costs, a copy of each of their places, and memory for the bytes once more, for what the journals put home, for an entry a block, and for the tree.
-pub fn read_replayed_image(
-    alloc: Global,
-    block_size: u32,
-    bytes: Vec<u8>,
-) -> Result<Tree, Unread>
+pub fn read_replayed_image(alloc: Global, block_size: u32, bytes: Vec<u8>) -> Result<Tree, Unread>
     requires size { IsBlockSize block_size }
     requires whole { length bytes.items % block_size ≡ 0 }
     // Of an image that stands for a tree, its journals replayed, exactly that one, or what lies outside of the image.

@@ -8,10 +8,10 @@ use replay_looks::LookFault;
 /// Why the tree of an image was not read.
 #[derive(Clone, Copy, Debug, PartialEq, Eq)]
 pub enum Unread {
-    /// This block is told to break the rule of this number: it stops the replay, or it breaks the rule once the journals are replayed; or, where the journals
-    /// can't be found, it breaks it as the image lies.
+    /// The image stands for no tree. The block and the rule are what stopped the replay, or what was told of the image with the journals' blocks in place;
+    /// or, where the journals can't be found, of the image as it lies.
     Damaged { block: u64, rule: u16 },
-    /// The journals can't be found, and no rule is told.
+    /// The image stands for no tree: its journals can't be found. No rule is told.
     Broken,
     /// The memory in which the journals are read failed, as a disk does that is told to fail. None is told so here.
     ReadFailed,

@@ -1,6 +1,5 @@
 use Rattle.std.proofs.Common.{◌≡◌, Ok, Err, refl, sym, ap, subst}
 use Rattle.image_model.specs.Image.{image_in, image_of}
-use Rattle.shared_disk.specs.Disk.{DiskState}
 use Rattle.shared_disk.specs.Memory.{MemoryDisk, memory_state}
 use Rattle.replayed_trees.specs.Answers.{GivesTree}
 use Rattle.replayed_trees.proofs.Found.{given, unread_look, unread_tree, unstopped}
