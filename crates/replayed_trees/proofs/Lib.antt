@@ -1,0 +1,3 @@
+pub mod SoFar
+pub mod Replay
+pub mod Found
