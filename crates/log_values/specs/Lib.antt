@@ -1,0 +1,6 @@
+pub mod Log
+pub mod Changes
+pub mod Transactions
+pub mod Flushing
+pub mod Homing
+pub mod Sound
