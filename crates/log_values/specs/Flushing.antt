@@ -1,6 +1,5 @@
 -- How a log is flushed, step by step.
 use Rattle.std.specs.Prelude.{◌≡◌, ◌≢◌, ◌⊎◌, ℕ, ◌+◌, ◌≤◌, false, List, [], length, nat_lt, slice_get, slice_index, Option, None, Some, if◌then◌else◌}
-use Rattle.std.specs.Ordering.{nat_cmp}
 use Rattle.std.specs.FinMap as table
 use Rattle.std.specs.FinSet as set
 use Rattle.log_layout.specs.Chunks.{Transaction}
@@ -45,7 +44,7 @@ abbrev pub begun : LogValue → LogValue
 begun log = record log {
   fresh = table.empty;
   gone = set.empty;
-  flush = Some (record { versions = log.fresh; revokes = live_among log.live log.gone; stage = Writing 0 });
+  flush = Some (record { versions = log.fresh; revokes = log.gone; stage = Writing 0 });
 }
 
 -- a header alone, which moves the tail
@@ -144,7 +143,8 @@ at_stage log f stage = record log { flush = Some (record f { stage = stage }) }
 abbrev pub header_bytes : LogValue → Flush → ℕ → List ℕ
 header_bytes log f tail = log_put (header_of (place_of log f tail) (head_place log f)) (zeros log.journal.size)
 
--- One step of a flush that was begun, and the block that is written: its chunks block by block, a barrier, its header, and a barrier, with which it is in the journal.
+-- One step of a flush that was begun, and the block that is written: its chunks block by block, a barrier, its header, and a barrier, with which it is in the journal;
+-- then of what was to be revoked since, what has no entry any more isn't.
 pub data FlushStep (log new : LogValue) (f : Flush) (bytes : List ℕ) : LogStep → Type 0 where
   a_block : (k : ℕ) → f.stage ≡ Writing k → slice_get (flush_chunks log f) k ≡ Some bytes → new ≡ at_stage log f (Writing (k + 1))
       → FlushStep log new f bytes (step.Write (block_at log.journal (place_on log.journal.length (first_place log) k)))
@@ -153,7 +153,7 @@ pub data FlushStep (log new : LogValue) (f : Flush) (bytes : List ℕ) : LogStep
   a_header : (tail : ℕ) → f.stage ≡ Ending → IsTail log f tail → bytes ≡ header_bytes log f tail → new ≡ at_stage log f (Headed tail)
       → FlushStep log new f bytes (step.Head (block_at log.journal (head_place log f)) (after log.sequence))
   the_last : (tail : ℕ) → f.stage ≡ Headed tail
-      → new ≡ record log { head = head_place log f; tail = tail; sequence = after log.sequence; clean = false; flush = None; live = new.live }
+      → new ≡ record log { head = head_place log f; tail = tail; sequence = after log.sequence; clean = false; gone = live_among new.live log.gone; flush = None; live = new.live }
       → ((b : ℕ) → table.get new.live b ≡ live_behind log f tail b)
       → FlushStep log new f bytes step.Barrier
 

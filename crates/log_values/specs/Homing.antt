@@ -1,11 +1,12 @@
 -- How live blocks go home, and which are revoked.
-use Rattle.std.specs.Prelude.{◌≡◌, ◌↔◌, ℕ, ◌≤◌, ◌||◌, Bool, true, false, IsTrue, List, Option, None, Some}
+use Rattle.std.specs.Prelude.{◌≡◌, ℕ, ◌≤◌, ◌||◌, ◌&&◌, not, Bool, false, List, Option, None, Some}
 use Rattle.std.specs.FinMap as table
 use Rattle.std.specs.FinSet as set
 use Rattle.glock_names.specs.declared.LockName.{LockName}
 use Rattle.glock_names.specs.LockMaps.{same_lock}
 use Rattle.log_values.specs.Log.{Entry, LogValue}
 use Rattle.log_tables.specs.Versions.Way.{Away, Flying}
+use Rattle.log_values.specs.Changes.{is_flushed}
 use Rattle.log_values.specs.Flushing.{settled}
 use Rattle.log_values.specs.declared.steps.LogStep.{LogStep}
 use Rattle.log_values.specs.declared.steps.LogStep.TheVariants as step
@@ -34,7 +35,11 @@ abbrev pub is_under : LockName → Option Entry → Bool
 is_under lock None = false
 is_under lock (Some e) = same_lock lock e.lock
 
--- each live block that was under the lock at its flush is to be revoked, and what was is still
+-- a live block that was under the lock at its flush is to be revoked, but where a newer version is to be flushed or is being flushed
+abbrev pub to_revoke : LogValue → LockName → ℕ → Bool
+to_revoke log lock b = is_under lock (table.get log.live b) && not (table.contains_key log.fresh b || is_flushed log.flush b)
+
+-- such blocks are to be revoked, and what was is still
 pub record RevokesUnder (log new : LogValue) (lock : LockName) : Type 0 where
   pub same : new ≡ record log { gone = new.gone }
-  pub revokes : (b : ℕ) → set.contains new.gone b ≡ (set.contains log.gone b || is_under lock (table.get log.live b))
+  pub revokes : (b : ℕ) → set.contains new.gone b ≡ (set.contains log.gone b || to_revoke log lock b)

@@ -4,3 +4,4 @@ pub mod Transactions
 pub mod Flushing
 pub mod Homing
 pub mod Sound
+pub mod Laws

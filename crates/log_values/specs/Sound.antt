@@ -1,14 +1,14 @@
 -- What always holds of a log.
-use Rattle.std.specs.Prelude.{◌≡◌, ℕ, ◌+◌, ◌<◌, ◌≤◌, true, length, nat_le, None, Some, count_by}
+use Rattle.std.specs.Prelude.{◌≡◌, ℕ, ◌+◌, ◌<◌, ◌≤◌, true, length, nat_le, None, Some, count_by, ⊤}
 use Rattle.std.specs.FinMap as table
 use Rattle.std.specs.FinSet as set
 use Rattle.gfs2_layout.specs.Device.{IsBlockSize}
 use Rattle.log_layout.specs.Journal.{way}
 use Rattle.node_journal.specs.Written.{IsLoggable}
-use Rattle.log_values.specs.Log.{Entry, Flush, LogValue, Version}
-use Rattle.log_values.specs.Log.Stage.{Headed, Writing}
+use Rattle.log_values.specs.Log.{Entry, Flush, LogValue, Stage, Version}
+use Rattle.log_values.specs.Log.Stage.{Ending, Headed, Writing}
 use Rattle.log_values.specs.Changes.{frames_taken, has_entry}
-use Rattle.log_values.specs.Flushing.{AllAreHome, HasRoom, IsTail, NothingIsLive, behind_tail, flush_chunks, free_in}
+use Rattle.log_values.specs.Flushing.{AllAreHome, HasRoom, IsTail, NothingIsLive, behind_tail, flush_chunks, free_in, settled_way}
 use Rattle.log_values.specs.Transactions.{flushed_as, logged_as}
 
 -- how many places are behind the tail, up to the head
@@ -23,6 +23,12 @@ live_from log distance = count_by (λ (e : ℕ × Entry). nat_le distance (behin
 pub data Fits (log : LogValue) (f : Flush) : Type 0 where
   with_room : HasRoom log (flushed_as f) → Fits log f
   alone : f.versions ≡ table.empty → f.revokes ≡ set.empty → AllAreHome log → 1 ≤ free_in log → Fits log f
+
+-- its first barrier is made
+abbrev pub IsBehindBarrier : Stage → Type 0
+IsBehindBarrier (Writing done) = ⊥
+IsBehindBarrier Ending = ⊤
+IsBehindBarrier (Headed t) = ⊤
 
 pub record IsSoundLog (log : LogValue) : Type 0 where
   pub size : IsBlockSize log.journal.size
@@ -50,3 +56,5 @@ pub record IsSoundLog (log : LogValue) : Type 0 where
   pub revoked : (f : Flush) (b : ℕ) → log.flush ≡ Some f → set.contains f.revokes b ≡ true → (table.contains_key log.live b ≡ true) × (table.get f.versions b ≡ None)
   pub reached : (f : Flush) (done : ℕ) → log.flush ≡ Some f → f.stage ≡ Writing done → done ≤ length (flush_chunks log f)
   pub told : (f : Flush) (t : ℕ) → log.flush ≡ Some f → f.stage ≡ Headed t → IsTail log f t
+  -- behind the first barrier of a flush nothing is on its way home
+  pub rests : (f : Flush) (b : ℕ) (e : Entry) → log.flush ≡ Some f → IsBehindBarrier f.stage → table.get log.live b ≡ Some e → settled_way e.way ≡ e.way

@@ -1,5 +1,5 @@
 -- What of a log goes into one transaction.
-use Rattle.std.specs.Prelude.{ℕ, ◌<◌, ◌≡◌, Bool, List, map, length, Option, None, Some}
+use Rattle.std.specs.Prelude.{ℕ, map}
 use Rattle.std.specs.Ordering.{nat_cmp}
 use Rattle.std.specs.FinMap as table
 use Rattle.std.specs.FinSet as set
@@ -17,9 +17,9 @@ transaction versions revokes = record { blocks = map (λ e. logged_as (e.0) (e.1
 abbrev pub live_among : table.FinMap nat_cmp Entry → set.FinSet nat_cmp → set.FinSet nat_cmp
 live_among live s = set.retain s (table.contains_key live)
 
--- the transaction that is due: all that was changed since the last flush began, and a revoke for each block that was freed or whose lock goes down, and is live
+-- the transaction that is due: all that was changed since the last flush began, and a revoke for each block that was freed, or whose lock goes down, and has an entry
 abbrev pub due : LogValue → Transaction
-due log = transaction log.fresh (live_among log.live log.gone)
+due log = transaction log.fresh log.gone
 
 abbrev pub flushed_as : Flush → Transaction
 flushed_as f = transaction f.versions f.revokes

@@ -2,6 +2,7 @@
 //! do to it, and what always holds of it. Definitions and laws alone.
 #![tactic(auto)]
 
+mod laws;
 mod steps;
 
 pub use steps::LogStep;
