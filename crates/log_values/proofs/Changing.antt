@@ -6,7 +6,8 @@ use Rattle.std.specs.List.{All}
 use Rattle.std.proofs.lemmas.List.Elements.{All-cons, All-head, All-nil, All-tail, All-weaker}
 use Rattle.std.specs.Ordering.{eq_by_cmp, nat_cmp}
 use Rattle.std.specs.FinMap as table
-use Rattle.std.specs.FinSet as set
+use Rattle.log_values.specs.Blocks as set
+use Rattle.log_values.proofs.BlocksHad.{contains-insert, contains-remove}
 use Rattle.finite_maps.proofs.Keys.{tied, untied}
 use Rattle.drafts.specs.declared.change.Written.{Written}
 use Rattle.drafts.specs.declared.change.Change.{Change}
@@ -26,24 +27,21 @@ use Rattle.log_values.proofs.Landing.{no_some}
 abbrev Versions : Type 0
 Versions = table.FinMap nat_cmp Version
 
-abbrev Blocks : Type 0
-Blocks = set.FinSet nat_cmp
-
 -- ---- what is in a set with an item more, or less
 
-in_insert : (s : Blocks) (k q : ℕ) → set.contains (set.insert s k) q ≡ true → (q ≡ k) ⊎ (set.contains s q ≡ true)
+in_insert : (s : set.Blocks) (k q : ℕ) → set.contains (set.insert s k) q ≡ true → (q ≡ k) ⊎ (set.contains s q ≡ true)
 in_insert s k q there = by (cases_eq q k)
   where
     by : (q ≡ k) ⊎ (q ≡ k → ⊥) → (q ≡ k) ⊎ (set.contains s q ≡ true)
     by (inl e) = inl e
-    by (inr ne) = inr (ap (λ b. b || set.contains s q) (sym (untied table.nat_cmp-IsAntisymmetric q k ne)) ∙ sym (set.contains-insert nat_cmp_total s k q) ∙ there)
+    by (inr ne) = inr (ap (λ b. b || set.contains s q) (sym (untied table.nat_cmp-IsAntisymmetric q k ne)) ∙ sym (contains-insert s k q) ∙ there)
 
-in_remove : (s : Blocks) (k q : ℕ) → set.contains (set.remove s k) q ≡ true → (q ≡ k → ⊥) × (set.contains s q ≡ true)
+in_remove : (s : set.Blocks) (k q : ℕ) → set.contains (set.remove s k) q ≡ true → (q ≡ k → ⊥) × (set.contains s q ≡ true)
 in_remove s k q there = by (cases_eq q k)
   where
     by : (q ≡ k) ⊎ (q ≡ k → ⊥) → (q ≡ k → ⊥) × (set.contains s q ≡ true)
-    by (inl e) = absurd (true≢false (sym there ∙ set.contains-remove nat_cmp_total s k q ∙ ap (λ x. not (eq_by_cmp nat_cmp x k) && set.contains s q) e ∙ ap (λ b. not b && set.contains s q) (tied nat_cmp_total k)))
-    by (inr ne) = (ne, ap (λ b. not b && set.contains s q) (sym (untied table.nat_cmp-IsAntisymmetric q k ne)) ∙ sym (set.contains-remove nat_cmp_total s k q) ∙ there)
+    by (inl e) = absurd (true≢false (sym there ∙ contains-remove s k q ∙ ap (λ x. not (eq_by_cmp nat_cmp x k) && set.contains s q) e ∙ ap (λ b. not b && set.contains s q) (tied nat_cmp_total k)))
+    by (inr ne) = (ne, ap (λ b. not b && set.contains s q) (sym (untied table.nat_cmp-IsAntisymmetric q k ne)) ∙ sym (contains-remove s k q) ∙ there)
 
 -- ---- each version has what each had, and each that is put has
 
@@ -70,10 +68,10 @@ module _ (P : ℕ → Version → Type 0) where
 
 -- ---- what is to be revoked isn't changed
 
-abbrev IsApart : Blocks → Versions → Type 0
+abbrev IsApart : set.Blocks → Versions → Type 0
 IsApart s m = (b : ℕ) → set.contains s b ≡ true → table.get m b ≡ None
 
-freed_apart : (test : ℕ → Bool) (bs : List ℕ) (s : Blocks) (m : Versions) → IsApart s m → IsApart (with_freed test bs s) (without_all bs m)
+freed_apart : (test : ℕ → Bool) (bs : List ℕ) (s : set.Blocks) (m : Versions) → IsApart s m → IsApart (with_freed test bs s) (without_all bs m)
 freed_apart test [] s m is = is
 freed_apart test (k ∷ bs) s m is = freed_apart test bs (if test k then set.insert s k else s) (table.remove m k) (λ b there. by b (test k) there (cases_eq b k))
   where
@@ -82,7 +80,7 @@ freed_apart test (k ∷ bs) s m is = freed_apart test bs (if test k then set.ins
     by b true there (inr ne) = left m k b ne ∙ elim (in_insert s k b there) [ inl e ↦ absurd (ne e) | inr x ↦ is b x ]
     by b false there (inr ne) = left m k b ne ∙ is b there
 
-written_apart : (ws : List Written) (ls : List LockName) (s : Blocks) (m : Versions) → length ls ≡ length ws → IsApart s m → IsApart (without_written ws s) (with_written ws ls m)
+written_apart : (ws : List Written) (ls : List LockName) (s : set.Blocks) (m : Versions) → length ls ≡ length ws → IsApart s m → IsApart (without_written ws s) (with_written ws ls m)
 written_apart [] ls s m even is = is
 written_apart (w ∷ ws) [] s m even is = absurd (omega arith)
 written_apart (w ∷ ws) (l ∷ ls) s m even is =
@@ -91,10 +89,10 @@ written_apart (w ∷ ws) (l ∷ ls) s m even is =
 
 -- ---- what is to be revoked has an entry
 
-abbrev HasEach : (ℕ → Bool) → Blocks → Type 0
+abbrev HasEach : (ℕ → Bool) → set.Blocks → Type 0
 HasEach test s = (b : ℕ) → set.contains s b ≡ true → test b ≡ true
 
-freed_have : (test : ℕ → Bool) (bs : List ℕ) (s : Blocks) → HasEach test s → HasEach test (with_freed test bs s)
+freed_have : (test : ℕ → Bool) (bs : List ℕ) (s : set.Blocks) → HasEach test s → HasEach test (with_freed test bs s)
 freed_have test [] s has = has
 freed_have test (k ∷ bs) s has = freed_have test bs (if test k then set.insert s k else s) (λ b there. by b (test k) refl there)
   where
@@ -102,7 +100,7 @@ freed_have test (k ∷ bs) s has = freed_have test bs (if test k then set.insert
     by b true is there = elim (in_insert s k b there) [ inl e ↦ ap test e ∙ is | inr x ↦ has b x ]
     by b false is there = has b there
 
-written_have : (test : ℕ → Bool) (ws : List Written) (s : Blocks) → HasEach test s → HasEach test (without_written ws s)
+written_have : (test : ℕ → Bool) (ws : List Written) (s : set.Blocks) → HasEach test s → HasEach test (without_written ws s)
 written_have test [] s has = has
 written_have test (w ∷ ws) s has = written_have test ws (set.remove s w.block) (λ b there. has b (in_remove s w.block b there).1)
 

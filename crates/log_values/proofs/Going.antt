@@ -5,7 +5,8 @@ use Rattle.std.proofs.lemmas.Cmp.{nat_cmp_total}
 use Rattle.std.specs.Option.{option_map}
 use Rattle.std.specs.Ordering.{nat_cmp}
 use Rattle.std.specs.FinMap as table
-use Rattle.std.specs.FinSet as set
+use Rattle.log_values.specs.Blocks as set
+use Rattle.log_values.proofs.BlocksHad.{contains-empty}
 use Rattle.log_tables.specs.Kept.{away_count, is_home}
 use Rattle.log_tables.specs.Versions.{Way}
 use Rattle.log_tables.specs.Versions.Way.{Home, Away, Flying}
@@ -94,8 +95,8 @@ begun_sound log sound none room = record {
   firsts = sound.firsts;
   room = sound.room;
   none = sound.none;
-  gone = λ b there. absurd (true≢false (sym there ∙ set.contains-empty nat_cmp b));
-  apart = λ b there. absurd (true≢false (sym there ∙ set.contains-empty nat_cmp b));
+  gone = λ b there. absurd (true≢false (sym there ∙ contains-empty b));
+  apart = λ b there. absurd (true≢false (sym there ∙ contains-empty b));
   fresh = λ b v at. absurd (none_in table.empty b v refl at);
   flushed = λ h b v e at. sound.fresh b v (ap (λ (x : Flush). table.get x.versions b) (same h e) ∙ at);
   frames =
@@ -150,7 +151,7 @@ alone_sound log sound none home = record {
       (let before : table.len log.fresh + 0 + away_count log.live ≤ log.journal.frames = subst (λ (o : Option Flush). table.len log.fresh + flushed_count o + away_count log.live ≤ log.journal.frames) none sound.frames in
       let f = table.len-empty nat_cmp Version in omega arith);
   fits = λ h e. subst (λ (x : Flush). Fits (begun_alone log) x) (same h e) (alone refl refl home sound.free);
-  revoked = λ h b e there. absurd (true≢false (sym there ∙ ap (λ (x : Flush). set.contains x.revokes b) (sym (same h e)) ∙ set.contains-empty nat_cmp b));
+  revoked = λ h b e there. absurd (true≢false (sym there ∙ ap (λ (x : Flush). set.contains x.revokes b) (sym (same h e)) ∙ contains-empty b));
   reached = λ h done e at. absurd (ending_writing (ap (λ (x : Flush). x.stage) (same h e) ∙ at));
   told = λ h t e at. absurd (ending_headed (ap (λ (x : Flush). x.stage) (same h e) ∙ at));
   rests = λ h b d e behind at. ap settled_way (home b d at) ∙ sym (home b d at);

@@ -4,7 +4,8 @@ use Rattle.std.specs.List.{count_by}
 use Rattle.std.specs.Option.{option_map}
 use Rattle.std.specs.Ordering.{nat_cmp}
 use Rattle.std.specs.FinMap as table
-use Rattle.std.specs.FinSet as set
+use Rattle.log_values.specs.Blocks as set
+use Rattle.log_values.proofs.BlocksHad.{contains-empty}
 use Rattle.log_layout.specs.Journal.{way}
 use Rattle.log_tables.specs.Kept.{away_count, is_home}
 use Rattle.log_tables.specs.Versions.{Way}
@@ -41,8 +42,8 @@ empty_sound journal head sequence is inside =
       firsts = λ b e at. absurd (none_in table.empty b e refl at);
       room = λ d less. subst (λ (es : List (ℕ × Entry)). count_by (λ (e : ℕ × Entry). nat_le d (way journal.length head e.1.first)) es + d ≤ way journal.length head head) (sym no_entries) (omega arith);
       none = λ nothing. refl;
-      gone = λ b there. absurd (true≢false (sym there ∙ set.contains-empty nat_cmp b));
-      apart = λ b there. absurd (true≢false (sym there ∙ set.contains-empty nat_cmp b));
+      gone = λ b there. absurd (true≢false (sym there ∙ contains-empty b));
+      apart = λ b there. absurd (true≢false (sym there ∙ contains-empty b));
       fresh = λ b v at. absurd (none_in table.empty b v refl at);
       flushed = λ f b v e at. absurd (no_some f (sym e));
       frames = (let f = table.len-empty nat_cmp Version in let a = subst (λ (es : List (ℕ × Entry)). count_by (λ (e : ℕ × Entry). not (is_home e.1.way)) es ≡ 0) (sym no_entries) refl in omega arith);
@@ -147,7 +148,7 @@ module _ (log : LogValue) (sound : IsSoundLog log) (live : Live) (same : (b : �
 
 -- ---- what a flush has stays, whatever is changed or to be revoked beside it
 
-module _ (log : LogValue) (fresh : table.FinMap nat_cmp Version) (gone : set.FinSet nat_cmp) where
+module _ (log : LogValue) (fresh : table.FinMap nat_cmp Version) (gone : set.Blocks) where
   abbrev pub beside : LogValue
   beside = record log { fresh = fresh; gone = gone }
 

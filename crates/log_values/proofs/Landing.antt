@@ -8,7 +8,8 @@ use Rattle.std.proofs.lemmas.List.{length-map}
 use Rattle.std.specs.List.{count_by, filter, list_any}
 use Rattle.std.specs.Ordering.{eq_by_cmp, nat_cmp}
 use Rattle.std.specs.FinMap as table
-use Rattle.std.specs.FinSet as set
+use Rattle.log_values.specs.Blocks as set
+use Rattle.log_values.proofs.BlocksHad.{contains-empty, contains-retain}
 use Rattle.gfs2_layout.specs.Device.{IsBlockSize}
 use Rattle.log_layout.specs.Chunks.{Logged, Transaction, content_room, numbers_room}
 use Rattle.log_layout.specs.Journal.{way}
@@ -60,12 +61,8 @@ no_list (x ∷ xs) e = absurd (omega arith)
 pub no_entries : {V : Type 0} → table.entries (table.empty {X = V} {R = nat_cmp}) ≡ []
 no_entries {V} = no_list (table.entries (table.empty {X = V} {R = nat_cmp})) (sym (table.len-entries (table.empty {X = V} {R = nat_cmp})) ∙ table.len-empty nat_cmp V)
 
-no_member : (xs : List ℕ) → ((q : ℕ) → list_any (eq_by_cmp nat_cmp q) xs ≡ false) → xs ≡ []
-no_member [] none = refl
-no_member (x ∷ xs) none = absurd (true≢false (sym (ap (λ b. b || list_any (eq_by_cmp nat_cmp x) xs) (tied nat_cmp_total x)) ∙ none x))
-
-pub no_items : set.items (set.empty {R = nat_cmp}) ≡ []
-no_items = no_member (set.items set.empty) (λ q. sym (set.contains-items set.empty q) ∙ set.contains-empty nat_cmp q)
+pub no_items : set.items set.empty ≡ []
+no_items = ap (map (λ (e : ℕ × Unit {0}). e.0)) no_entries
 
 pub nothing_is : transaction table.empty set.empty ≡ record { blocks = []; revokes = [] }
 nothing_is = λ i. record { blocks = map (λ e. logged_as e.0 e.1) (no_entries i); revokes = no_items i }
@@ -416,11 +413,8 @@ module _ (log : LogValue) (f : Flush) (tail : ℕ) (sound : IsSoundLog log) (is 
         both_parts true y e = (refl, e)
         both_parts false y e = absurd (true≢false (sym e))
 
-        contains_same : (b x : ℕ) → nat_cmp b x ≡ Equal → table.contains_key live x ≡ table.contains_key live b
-        contains_same b x e = ap (λ k. table.contains_key live k) (sym (ranked b x Equal (sym e)))
-
         parts : (b : ℕ) → set.contains (live_among live log.gone) b ≡ true → (set.contains log.gone b ≡ true) × (table.contains_key live b ≡ true)
-        parts b there = both_parts (set.contains log.gone b) (table.contains_key live b) (sym (set.contains-retain log.gone (table.contains_key live) b (contains_same b)) ∙ there)
+        parts b there = both_parts (set.contains log.gone b) (table.contains_key live b) (sym (contains-retain log.gone (table.contains_key live) b) ∙ there)
 
         gone_was : (b : ℕ) → set.contains (live_among live log.gone) b ≡ true → set.contains log.gone b ≡ true
         gone_was b there = (parts b there).0

@@ -1,3 +1,4 @@
+mod BlocksHad
 mod Subsets
 mod Ways
 mod Landing

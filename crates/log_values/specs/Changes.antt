@@ -2,7 +2,7 @@
 use Rattle.std.specs.Prelude.{◌≡◌, ℕ, ◌+◌, ◌≤◌, ◌||◌, Bool, false, List, [], ◌∷◌, length, Option, None, Some, if◌then◌else◌}
 use Rattle.std.specs.Ordering.{nat_cmp}
 use Rattle.std.specs.FinMap as map
-use Rattle.std.specs.FinSet as set
+use Rattle.log_values.specs.Blocks as set
 use Rattle.drafts.specs.declared.change.Written.{Written}
 use Rattle.drafts.specs.declared.change.Change.{Change}
 use Rattle.glock_names.specs.declared.LockName.{LockName}
@@ -38,12 +38,12 @@ abbrev pub has_entry : LogValue → ℕ → Bool
 has_entry log b = map.contains_key log.live b || is_flushed log.flush b
 
 -- a freed block that has an entry is to be revoked
-abbrev pub with_freed : (ℕ → Bool) → List ℕ → set.FinSet nat_cmp → set.FinSet nat_cmp
+abbrev pub with_freed : (ℕ → Bool) → List ℕ → set.Blocks → set.Blocks
 with_freed test [] s = s
 with_freed test (b ∷ bs) s = with_freed test bs (if test b then set.insert s b else s)
 
 -- and one that is written is not, so it isn't both logged and revoked
-abbrev pub without_written : List Written → set.FinSet nat_cmp → set.FinSet nat_cmp
+abbrev pub without_written : List Written → set.Blocks → set.Blocks
 without_written [] s = s
 without_written (w ∷ ws) s = without_written ws (set.remove s w.block)
 

@@ -1,7 +1,7 @@
 -- How a log is flushed, step by step.
 use Rattle.std.specs.Prelude.{◌≡◌, ◌≢◌, ◌⊎◌, ℕ, ◌+◌, ◌≤◌, false, List, [], length, nat_lt, slice_get, slice_index, Option, None, Some, if◌then◌else◌}
 use Rattle.std.specs.FinMap as table
-use Rattle.std.specs.FinSet as set
+use Rattle.log_values.specs.Blocks as set
 use Rattle.log_layout.specs.Chunks.{Transaction}
 use Rattle.log_layout.specs.Headers.{log_put}
 use Rattle.log_layout.specs.Journal.{free_places, next, way}

@@ -1,7 +1,7 @@
 -- That what always holds of a log holds still, whatever is done.
 use Rattle.std.specs.Prelude.{◌≡◌, ◌<◌, ◌≤◌, ℕ, true, List, length, Option, None}
 use Rattle.std.specs.FinMap as table
-use Rattle.std.specs.FinSet as set
+use Rattle.log_values.specs.Blocks as set
 use Rattle.gfs2_layout.specs.Device.{IsBlockSize}
 use Rattle.glock_names.specs.declared.LockName.{LockName}
 use Rattle.drafts.specs.declared.change.Change.{Change}

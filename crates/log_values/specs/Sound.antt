@@ -1,7 +1,7 @@
 -- What always holds of a log.
 use Rattle.std.specs.Prelude.{◌≡◌, ℕ, ◌+◌, ◌<◌, ◌≤◌, true, length, nat_le, None, Some, count_by, ⊤}
 use Rattle.std.specs.FinMap as table
-use Rattle.std.specs.FinSet as set
+use Rattle.log_values.specs.Blocks as set
 use Rattle.gfs2_layout.specs.Device.{IsBlockSize}
 use Rattle.log_layout.specs.Journal.{way}
 use Rattle.node_journal.specs.Written.{IsLoggable}

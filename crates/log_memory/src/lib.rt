@@ -1,0 +1,10 @@
+//! A node's log in memory: changes that aren't in its journal yet, the flush that is being written, and blocks that are live in the journal.
+#![tactic(auto)]
+
+mod kinds;
+mod log;
+
+#[doc(hidden)]
+pub use kinds::Stage;
+pub use log::Log;
+pub use log_values::LogStep;
