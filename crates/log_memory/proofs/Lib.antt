@@ -1,2 +1,2 @@
 mod RowsRead
-
+mod NewLogs

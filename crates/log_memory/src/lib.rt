@@ -1,9 +1,11 @@
 //! A node's log in memory: changes that aren't in its journal yet, the flush that is being written, and blocks that are live in the journal.
 #![tactic(auto)]
 
+mod journal;
 mod kinds;
 mod log;
 
+pub use journal::Journal;
 #[doc(hidden)]
 pub use kinds::Stage;
 pub use log::Log;

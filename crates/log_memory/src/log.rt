@@ -1,28 +1,28 @@
-// The log, its making, and the changes that are added to it.
+// The log and its making.
+use crate::journal::Journal;
 use crate::kinds::Stage;
 use fixed_tables::FixedTable;
 use log_tables::Tables;
 use no_memory::NoMemory;
-use node_journal::Ring;
 use std::alloc::Global;
 use std::marker::Model;
 
 /// A node's log. All its memory was taken when it was made: no call but `new` takes any.
 #[derive(Drop)]
 pub struct Log {
+    pub(crate) journal: Journal,
+    pub(crate) head: u32,
+    pub(crate) tail: u32,
+    pub(crate) sequence: u64,
+    pub(crate) clean: bool,
     pub(crate) tables: Tables,
     pub(crate) gone: FixedTable<()>,
+    // of the flush that was begun: how far it has come, what it revokes, and the places of its rows of each kind
+    pub(crate) stage: Option<Stage>,
+    pub(crate) revoked: FixedTable<()>,
     pub(crate) revokes: Vec<u64>,
     pub(crate) content: Vec<u32>,
     pub(crate) metadata: Vec<u32>,
-    pub(crate) stage: Option<Stage>,
-    pub(crate) ring: Ring,
-    pub(crate) sequence: u64,
-    pub(crate) clean: bool,
-    pub(crate) jid: u32,
-    pub(crate) places: Vec<u64>,
-    pub(crate) jinode: u64,
-    pub(crate) time: u64,
 }
 
 impl Model for Log {
@@ -40,52 +40,43 @@ impl Model for Log {
 }
 
 impl Log {
-    ghost use Rattle.std.specs.Prelude.{◌≡◌, ◌<◌, ◌≤◌, IfOk, length, vec_len, true};
-    ghost use Rattle.gfs2_layout.specs.Device.{IsBlockSize};
-    ghost use Rattle.log_values.specs.Laws.{empty_log};
+    ghost use Rattle.std.specs.Prelude.{◌≡◌, ◌<◌, ◌≤◌, IfOk};
+    ghost use Rattle.log_values.specs.Laws.{IsJournal, empty_log};
+    ghost use Rattle.log_memory.specs.Journals.{journal_in};
 
-    /// An empty log of the journal of this number, with so many places, of which each has the block that stands at it in the list; with so many frames for blocks of so
-    /// many bytes each. `jinode` is the journal's dinode, and headers tell the time in seconds. Takes all the memory that the log will need.
+    /// An empty log of a journal whose last header is at this place, of this sequence, and is a clean one. Takes all the memory that the log will need.
     pub fn new(
         alloc: Global,
-        jid: u32,
-        length: u32,
-        frames: u32,
-        block_size: u32,
-        places: Vec<u64>,
-        jinode: u64,
-        time: u64,
+        journal: Journal,
+        head: u32,
+        sequence: u64,
     ) -> Result<Log, NoMemory>
-        requires length { (512 ≤ length) × (length ≤ 65536) }
-        requires frames { (512 ≤ frames) × (frames ≤ 4096) }
-        requires size { IsBlockSize block_size }
-        requires places { vec_len places ≡ length }
-        ensures { IfOk result (λ l. l ≡ empty_log (record { jid = jid; length = length; places = places.items; size = block_size; frames = frames; jinode = jinode; time = time }) 0 0) }
+        requires journal { IsJournal (journal_in journal) }
+        requires frames { 1 ≤ journal.frames }
+        requires head { head < journal.length }
+        ensures { IfOk result (λ l. l ≡ empty_log (journal_in journal) head sequence) }
     {
-        let tables = Tables::new(alloc, frames, block_size, length)?;
-        let gone = FixedTable::new(alloc, frames as usize + length as usize)?;
-        let revokes = Vec::with_capacity(alloc, frames as usize + length as usize)?;
-        let content = Vec::with_capacity(alloc, frames as usize)?;
-        let metadata = Vec::with_capacity(alloc, frames as usize)?;
-        let ring = Ring {
-            length,
-            tail: 0,
-            head: 0,
-        };
+        let tables = Tables::new(alloc, journal.frames, journal.block_size, journal.length)?;
+        let frames = journal.frames as usize;
+        let most_revokes = frames + journal.length as usize;
+        let gone = FixedTable::new(alloc, most_revokes)?;
+        let revoked = FixedTable::new(alloc, most_revokes)?;
+        let revokes = Vec::with_capacity(alloc, most_revokes)?;
+        let content = Vec::with_capacity(alloc, frames)?;
+        let metadata = Vec::with_capacity(alloc, frames)?;
         Ok(Log {
+            journal,
+            head,
+            tail: head,
+            sequence,
+            clean: true,
             tables,
             gone,
+            stage: None,
+            revoked,
             revokes,
             content,
             metadata,
-            stage: None,
-            ring,
-            sequence: 0,
-            clean: true,
-            jid,
-            places,
-            jinode,
-            time,
         })
     }
 }

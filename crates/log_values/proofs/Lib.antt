@@ -1,9 +1,9 @@
-mod BlocksHad
-mod Subsets
-mod Ways
-mod Landing
-mod Keeping
-mod Going
-mod Homing
-mod Changing
-mod Fitting
+pub mod BlocksHad
+pub mod Subsets
+pub mod Ways
+pub mod Landing
+pub mod Keeping
+pub mod Going
+pub mod Homing
+pub mod Changing
+pub mod Fitting

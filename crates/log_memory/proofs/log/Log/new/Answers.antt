@@ -1,12 +1,14 @@
-use Rattle.std.proofs.Common.{rules, ◌≡◌, ◌<◌, ◌≤◌, IfOk, length, vec_len, true, ℕ, ◌+◌, ◌-◌, ◌*◌, ◌/◌, ◌%◌, Bool, false, nat_eq, nat_lt, List, [], ◌∷◌, ◌++◌, slice_index_or, slice_set, bit_and, bit_or, Fits, w8, w32, w64, Bor, MutBor}
-use Rattle.gfs2_layout.specs.Device.{IsBlockSize}
-use Rattle.log_values.specs.Laws.{empty_log}
+use Rattle.log_memory.proofs.NewLogs.{new_gives}
 use Rattle.log_memory.proofs.log.Log.new.Goals as goal
 
--- src/log.rt:75:9
 pub invariant_of-result : goal.invariant_of-result
-invariant_of-result c = ?
+invariant_of-result c =
+    (new_gives c.args.journal c.args.head c.args.sequence c.in_ok-revokes.revokes c.in_ok-content.content c.in_ok-metadata.metadata c.in_ok-tables.tables c.in_ok-gone.gone c.in_ok-revoked.revoked
+    c.requires.journal c.requires.head c.in_ok-tables.ensures c.in_ok-gone.ensures c.in_ok-revoked.ensures
+    c.in_ok-revokes.ensures.items c.in_ok-revokes.ensures.capacity c.in_ok-content.ensures.items c.in_ok-content.ensures.capacity c.in_ok-metadata.ensures.items c.in_ok-metadata.ensures.capacity).0
 
--- src/log.rt:49:5
 pub returns : goal.returns
-returns c = ?
+returns c =
+    (new_gives c.args.journal c.args.head c.args.sequence c.in_ok-revokes.revokes c.in_ok-content.content c.in_ok-metadata.metadata c.in_ok-tables.tables c.in_ok-gone.gone c.in_ok-revoked.revoked
+    c.requires.journal c.requires.head c.in_ok-tables.ensures c.in_ok-gone.ensures c.in_ok-revoked.ensures
+    c.in_ok-revokes.ensures.items c.in_ok-revokes.ensures.capacity c.in_ok-content.ensures.items c.in_ok-content.ensures.capacity c.in_ok-metadata.ensures.items c.in_ok-metadata.ensures.capacity).1
