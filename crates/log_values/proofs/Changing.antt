@@ -1,5 +1,5 @@
 -- What always holds of a log holds still, once a call's change was added.
-use Rattle.std.proofs.Common.{◌≡◌, ℕ, Bool, true, false, not, ◌||◌, ◌&&◌, List, [], ◌∷◌, map, length, None, Some, ◌⊎◌, inl, inr, refl, sym, ap, subst, ◌∙◌, true≢false, if◌then◌else◌, arith}
+use Rattle.std.proofs.Common.{◌≡◌, ℕ, Bool, true, false, not, ◌||◌, ◌&&◌, List, [], ◌∷◌, map, length, ◌≤◌, None, Some, ◌⊎◌, inl, inr, refl, sym, ap, subst, ◌∙◌, true≢false, if◌then◌else◌, arith}
 use Rattle.std.proofs.lemmas.Bool.{cases_eq}
 use Rattle.std.proofs.lemmas.Cmp.{nat_cmp_total}
 use Rattle.std.specs.List.{All}
@@ -18,7 +18,7 @@ use Rattle.node_journal.specs.Written.{IsLoggable}
 use Rattle.log_tables.proofs.Counting.{apart, at_key, gone, left}
 use Rattle.log_tables.proofs.Steps.{same_some}
 use Rattle.log_values.specs.Log.{LogValue, Version}
-use Rattle.log_values.specs.Changes.{CanBeAdded, Suffices, has_entry, version_of, with_change, with_freed, with_written, without_all, without_written}
+use Rattle.log_values.specs.Changes.{CanBeAdded, Suffices, frames_taken, has_entry, version_of, with_change, with_freed, with_written, without_all, without_written}
 use Rattle.log_values.specs.Sound.{IsSoundLog}
 use Rattle.log_values.specs.Transactions.{logged_as}
 use Rattle.log_values.proofs.Keeping.{fits_beside, tail_beside}
@@ -104,12 +104,17 @@ written_have : (test : ℕ → Bool) (ws : List Written) (s : set.Blocks) → Ha
 written_have test [] s has = has
 written_have test (w ∷ ws) s has = written_have test ws (set.remove s w.block) (λ b there. has b (in_remove s w.block b there).1)
 
-unmapped : (P : Logged → Type 0) (ws : List Written) → All P (map logged ws) → All (λ (w : Written). P (logged w)) ws
+pub unmapped : (P : Logged → Type 0) (ws : List Written) → All P (map logged ws) → All (λ (w : Written). P (logged w)) ws
 unmapped P [] all = All-nil (λ (w : Written). P (logged w))
 unmapped P (w ∷ ws) all = All-cons (λ (w : Written). P (logged w)) w ws (All-head P (logged w) (map logged ws) all) (unmapped P ws (All-tail P (logged w) (map logged ws) all))
 
-pub change_sound : (log : LogValue) (c : Change) → IsSoundLog log → CanBeAdded log.journal.size c → Suffices (with_change log c) → IsSoundLog (with_change log c)
-change_sound log c sound can enough = record {
+-- a log with these blocks written, under these locks, and those freed
+abbrev pub with_lists : LogValue → List Written → List LockName → List ℕ → LogValue
+with_lists log ws ls bs = record log { fresh = with_written ws ls (without_all bs log.fresh); gone = without_written ws (with_freed (has_entry log) bs log.gone) }
+
+pub lists_sound : (log : LogValue) (ws : List Written) (ls : List LockName) (bs : List ℕ) → IsSoundLog log → length ls ≡ length ws → All (λ (w : Written). IsLoggable log.journal.size (logged w)) ws
+    → frames_taken (with_lists log ws ls bs) ≤ log.journal.frames → IsSoundLog (with_lists log ws ls bs)
+lists_sound log ws ls bs sound even may enough = record {
   size = sound.size;
   least = sound.least;
   most = sound.most;
@@ -121,20 +126,22 @@ change_sound log c sound can enough = record {
   firsts = sound.firsts;
   room = sound.room;
   none = sound.none;
-  gone = written_have (has_entry log) c.blocks.items (with_freed (has_entry log) c.freed.items log.gone) (freed_have (has_entry log) c.freed.items log.gone sound.gone);
-  apart = written_apart c.blocks.items c.locks.items (with_freed (has_entry log) c.freed.items log.gone) (without_all c.freed.items log.fresh) can.locks
-      (freed_apart (has_entry log) c.freed.items log.gone log.fresh sound.apart);
-  fresh = written_all (λ b v. IsLoggable log.journal.size (logged_as b v)) c.blocks.items c.locks.items (without_all c.freed.items log.fresh) loggable
-      (dropped_all (λ b v. IsLoggable log.journal.size (logged_as b v)) c.freed.items log.fresh sound.fresh);
+  gone = written_have (has_entry log) ws (with_freed (has_entry log) bs log.gone) (freed_have (has_entry log) bs log.gone sound.gone);
+  apart = written_apart ws ls (with_freed (has_entry log) bs log.gone) (without_all bs log.fresh) even (freed_apart (has_entry log) bs log.gone log.fresh sound.apart);
+  fresh = written_all (λ b v. IsLoggable log.journal.size (logged_as b v)) ws ls (without_all bs log.fresh) loggable
+      (dropped_all (λ b v. IsLoggable log.journal.size (logged_as b v)) bs log.fresh sound.fresh);
   flushed = sound.flushed;
-  frames = enough.frames;
-  fits = λ f e. fits_beside log (with_change log c).fresh (with_change log c).gone f (sound.fits f e);
+  frames = enough;
+  fits = λ f e. fits_beside log (with_lists log ws ls bs).fresh (with_lists log ws ls bs).gone f (sound.fits f e);
   revoked = sound.revoked;
   reached = sound.reached;
-  told = λ f t e at. tail_beside log (with_change log c).fresh (with_change log c).gone f t (sound.told f t e at);
+  told = λ f t e at. tail_beside log (with_lists log ws ls bs).fresh (with_lists log ws ls bs).gone f t (sound.told f t e at);
   rests = sound.rests;
 }
   where
-    loggable : All (λ (w : Written). (l : LockName) → IsLoggable log.journal.size (logged_as w.block (version_of w l))) c.blocks.items
-    loggable = All-weaker (λ (w : Written). IsLoggable log.journal.size (logged w)) (λ (w : Written). (l : LockName) → IsLoggable log.journal.size (logged_as w.block (version_of w l))) (λ w is l. is) c.blocks.items
-        (unmapped (IsLoggable log.journal.size) c.blocks.items can.whole.blocks)
+    loggable : All (λ (w : Written). (l : LockName) → IsLoggable log.journal.size (logged_as w.block (version_of w l))) ws
+    loggable = All-weaker (λ (w : Written). IsLoggable log.journal.size (logged w)) (λ (w : Written). (l : LockName) → IsLoggable log.journal.size (logged_as w.block (version_of w l))) (λ w is l. is) ws may
+
+pub change_sound : (log : LogValue) (c : Change) → IsSoundLog log → CanBeAdded log.journal.size c → Suffices (with_change log c) → IsSoundLog (with_change log c)
+change_sound log c sound can enough =
+    lists_sound log c.blocks.items c.locks.items c.freed.items sound can.locks (unmapped (IsLoggable log.journal.size) c.blocks.items can.whole.blocks) enough.frames

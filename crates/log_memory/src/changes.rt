@@ -1,0 +1,38 @@
+// What a change of a call does to the log, block by block.
+ghost use Rattle.std.specs.Prelude.{◌≡◌, ◌<◌, [], ◌∷◌};
+ghost use Rattle.std.specs.FinMap as table;
+ghost use Rattle.journal_scan.specs.Said.{logged};
+ghost use Rattle.node_journal.specs.Written.{IsLoggable};
+ghost use Rattle.log_values.specs.Blocks as set;
+ghost use Rattle.log_values.specs.Changes.{frames_taken, has_entry, version_of, with_freed};
+
+use crate::log::Log;
+use drafts::Written;
+use glock_names::LockName;
+
+// Whether the block has an entry in the journal that counts, or gets one by the flush that was begun.
+fn has_entry(log: &Log, block: u64) -> bool
+    ensures { result ≡ has_entry log.now block }
+{
+    log.tables.is_live(block) || log.tables.is_flushed(block)
+}
+
+// A block is freed: it has no change any more, and what the journal has of it is to be revoked.
+fn free(log: &mut Log, block: u64)
+    ensures { log.new ≡ record log.old { fresh = table.remove log.old.fresh block; gone = with_freed (has_entry log.old) (block ∷ []) log.old.gone } }
+{
+    if has_entry(log, block) {
+        let _ = log.gone.put(block, ());
+    }
+    log.tables.remove(block);
+}
+
+// A block is written.
+fn put(log: &mut Log, written: &Written, lock: LockName)
+    requires loggable { IsLoggable log.old.journal.size (logged written.now) }
+    requires room { frames_taken (record log.old { fresh = table.remove log.old.fresh written.now.block }) < log.old.journal.frames }
+    ensures { log.new ≡ record log.old { fresh = table.insert log.old.fresh written.now.block (version_of written.now lock); gone = set.remove log.old.gone written.now.block } }
+{
+    let _ = log.gone.take(written.block);
+    log.tables.put(lock, written.block, written.plain, written.bytes.bytes());
+}
