@@ -1,2 +1,3 @@
 mod RowsRead
 mod NewLogs
+mod Blocks
