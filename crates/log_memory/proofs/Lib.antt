@@ -1,3 +1,4 @@
 mod RowsRead
 mod NewLogs
 mod Blocks
+mod Revoking

@@ -29,7 +29,7 @@ fn mark(blocks: &mut FixedTable<()>, block: u64, is_in: bool)
 }
 
 // A block is freed: it has no change any more, and what the journal has of it is to be revoked.
-fn free(log: &mut Log, block: u64)
+pub(crate) fn free(log: &mut Log, block: u64)
     ensures { log.new ≡ record log.old { fresh = table.remove log.old.fresh block; gone = with_freed (has_entry log.old) (block ∷ []) log.old.gone } }
 {
     let has = has_entry(log, block);

@@ -5,6 +5,7 @@ mod changes;
 mod journal;
 mod kinds;
 mod log;
+mod revokes;
 
 pub use journal::Journal;
 #[doc(hidden)]

@@ -5,4 +5,4 @@ pub mod Taking
 mod SameCells
 mod Keeping
 pub mod Steps
-mod Reading
+pub mod Reading
