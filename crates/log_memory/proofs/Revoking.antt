@@ -13,6 +13,8 @@ use Rattle.log_values.specs.Log.{Entry, LogValue, Version}
 use Rattle.log_values.specs.Changes.{has_entry, is_flushed, with_freed}
 use Rattle.log_values.specs.Homing.{RevokesUnder, is_under, to_revoke}
 use Rattle.log_values.proofs.BlocksHad.{contains-insert}
+use Rattle.log_values.proofs.Homing.{and_tells, not_tells, under_lives}
+use Rattle.log_values.proofs.Landing.{lacks}
 use Rattle.log_memory.proofs.RowsRead.{entry_at}
 
 -- a newer version of the block is to be flushed, or is being flushed
@@ -23,36 +25,20 @@ newer log b = table.contains_key log.fresh b || is_flushed log.flush b
 pub revoke_is : (log : LogValue) (lock : LockName) (e : ℕ × Entry) → table.get log.live e.0 ≡ Some e.1 → to_revoke log lock e.0 ≡ (same_lock lock e.1.lock && not (newer log e.0))
 revoke_is log lock e at = ap (λ (o : Option Entry). is_under lock o && not (newer log e.0)) at
 
-both : (x y : Bool) → x && y ≡ true → (x ≡ true) × (y ≡ true)
-both true y is = (refl, is)
-both false y is = absurd (true≢false (sym is))
-
-none_of : (x y : Bool) → not (x || y) ≡ true → x ≡ false
-none_of true y is = absurd (true≢false (sym is))
-none_of false y is = refl
-
-absent : {A : Type 0} (o : Option A) → is_some o ≡ false → o ≡ None
-absent None is = refl
-absent (Some x) is = absurd (true≢false is)
-
-under_live : (lock : LockName) (o : Option Entry) → is_under lock o ≡ true → is_some o ≡ true
-under_live lock None is = absurd (true≢false (sym is))
-under_live lock (Some e) is = refl
-
 -- it is as if the block were freed, which has no change
 pub marks : (log : LogValue) (lock : LockName) (b : ℕ) → to_revoke log lock b ≡ true
     → (let n : LogValue = record log { fresh = table.remove log.fresh b; gone = with_freed (has_entry log) (b ∷ []) log.gone } in n)
     ≡ (let n : LogValue = record log { gone = if to_revoke log lock b then set.insert log.gone b else log.gone } in n)
 marks log lock b is =
     ap (λ (m : table.FinMap nat_cmp Version). let n : LogValue = record log { fresh = m; gone = with_freed (has_entry log) (b ∷ []) log.gone } in n)
-        (remove_absent log.fresh b (absent (table.get log.fresh b) (none_of (table.contains_key log.fresh b) (is_flushed log.flush b) parts.1)))
+        (remove_absent log.fresh b (lacks log.fresh b (not_tells (table.contains_key log.fresh b) (is_flushed log.flush b) parts.1)))
     ∙ ap (λ (t : Bool). let n : LogValue = record log { gone = if t then set.insert log.gone b else log.gone } in n) (entry ∙ sym is)
   where
     parts : (is_under lock (table.get log.live b) ≡ true) × (not (newer log b) ≡ true)
-    parts = both (is_under lock (table.get log.live b)) (not (newer log b)) is
+    parts = and_tells (is_under lock (table.get log.live b)) (not (newer log b)) is
 
     entry : has_entry log b ≡ true
-    entry = ap (λ (x : Bool). x || is_flushed log.flush b) (under_live lock (table.get log.live b) parts.0)
+    entry = ap (λ (x : Bool). x || is_flushed log.flush b) (under_lives lock (table.get log.live b) parts.0)
 
 -- the first so many rows were gone over
 pub record IsRevokedUpTo (log : LogValue) (gone : set.Blocks) (lock : LockName) (count : ℕ) : Type 0 where
@@ -139,7 +125,7 @@ all_revoked log new lock count all same h = record { same = same; revokes = λ b
     by : (b : ℕ) (x : Bool) → set.contains new.gone b ≡ x → (y : Bool) → set.contains log.gone b ≡ y → (z : Bool) → to_revoke log lock b ≡ z → set.contains new.gone b ≡ (set.contains log.gone b || to_revoke log lock b)
     by b x x_is true y_is z z_is = h.kept b y_is ∙ ap (λ (t : Bool). t || to_revoke log lock b) (sym y_is)
     by b x x_is false y_is true z_is =
-        let under = under_live lock (table.get log.live b) (both (is_under lock (table.get log.live b)) (not (newer log b)) z_is).0 in
+        let under = under_lives lock (table.get log.live b) (and_tells (is_under lock (table.get log.live b)) (not (newer log b)) z_is).0 in
         let row = row_of (table.entries log.live) b (ap is_some (sym (table.get-entries log.live b)) ∙ under) in
         let within = table.len-entries log.live in
         subst (λ (q : ℕ). set.contains new.gone q ≡ true) row.2.2 (h.done row.0 row.1 (omega (arith, row.2.0)) row.2.1 (ap (to_revoke log lock) row.2.2 ∙ z_is))

@@ -6,41 +6,47 @@ use Rattle.std.specs.FinMap as table
 use Rattle.log_values.specs.Blocks as set
 use Rattle.glock_names.specs.declared.LockName.{LockName}
 use Rattle.log_tables.specs.Kept.{is_home}
-use Rattle.log_tables.specs.Versions.Way.{Away, Flying}
+use Rattle.log_tables.specs.Versions.Way.{Away, Flying, Home}
 use Rattle.log_tables.proofs.Counting.{apart, at_key}
 use Rattle.log_tables.proofs.Steps.{same_some}
-use Rattle.log_values.specs.Log.{Entry, LogValue}
+use Rattle.log_values.specs.Log.{Entry, Flush, LogValue, Way}
 use Rattle.log_values.specs.Changes.{has_entry, is_flushed}
 use Rattle.log_values.specs.Homing.{HomeAnswer, RevokesUnder, is_under, to_revoke}
 use Rattle.log_values.specs.Homing.HomeAnswer.{nothing, goes_home}
-use Rattle.log_values.specs.Sound.{IsSoundLog}
+use Rattle.log_values.specs.Flushing.{settled_way}
+use Rattle.log_values.specs.Sound.{IsBehindBarrier, IsSoundLog}
 use Rattle.log_values.specs.declared.steps.LogStep.{LogStep}
 use Rattle.log_values.proofs.Keeping.{fits_beside, nearer_sound, tail_beside}
 use Rattle.log_values.proofs.Landing.{lacks, no_some}
 
+-- A block that isn't home is somewhere else, or home, while no header may come.
+pub way_sound : (log : LogValue) (b : ℕ) (w : Way) (e : Entry) → IsSoundLog log → table.get log.live b ≡ Some e → is_home e.way ≡ false → ((f : Flush) → log.flush ≡ Some f → IsBehindBarrier f.stage → ⊥)
+    → IsSoundLog (record log { live = table.insert log.live b (record e { way = w }) })
+way_sound log b w e sound at off before =
+    nearer_sound log sound (table.insert log.live b (record e { way = w })) (λ q. firsts q (cases_eq q b)) (λ q x d was now home. nearer q x d was now home (cases_eq q b))
+    (λ f t is headed. absurd (before f is (subst IsBehindBarrier (sym headed) tt))) (λ f q x is behind here. absurd (before f is behind))
+  where
+    firsts : (q : ℕ) → (q ≡ b) ⊎ (q ≡ b → ⊥) → option_map (λ (x : Entry). x.first) (table.get (table.insert log.live b (record e { way = w })) q) ≡ option_map (λ (x : Entry). x.first) (table.get log.live q)
+    firsts q (inl is) =
+        subst (λ k. option_map (λ (x : Entry). x.first) (table.get (table.insert log.live b (record e { way = w })) k) ≡ option_map (λ (x : Entry). x.first) (table.get log.live k)) (sym is)
+        (ap (option_map (λ (x : Entry). x.first)) (at_key log.live b (record e { way = w })) ∙ sym (ap (option_map (λ (x : Entry). x.first)) at))
+    firsts q (inr ne) = ap (option_map (λ (x : Entry). x.first)) (apart log.live b (record e { way = w }) q ne)
+
+    nearer : (q : ℕ) (x d : Entry) → table.get log.live q ≡ Some x → table.get (table.insert log.live b (record e { way = w })) q ≡ Some d → is_home x.way ≡ true → (q ≡ b) ⊎ (q ≡ b → ⊥) → is_home d.way ≡ true
+    nearer q x d was now home (inl is) =
+        let same : e ≡ x = same_some (table.get log.live b) e x at (ap (table.get log.live) (sym is) ∙ was) in
+        absurd (true≢false (sym home ∙ ap (λ (y : Entry). is_home y.way) (sym same) ∙ off))
+    nearer q x d was now home (inr ne) = ap (λ (y : Entry). is_home y.way) (same_some (table.get log.live q) d x (sym (apart log.live b (record e { way = w }) q ne) ∙ now) was) ∙ home
+
 -- a block that goes home is as far as it was
 sent_sound : (log : LogValue) (b : ℕ) (bytes : List ℕ) (e : Entry) → IsSoundLog log → table.get log.live b ≡ Some e → e.way ≡ Away bytes → log.flush ≡ None
     → IsSoundLog (record log { live = table.insert log.live b (record e { way = Flying bytes }) })
-sent_sound log b bytes e sound at away none =
-    nearer_sound log sound (table.insert log.live b (record e { way = Flying bytes })) (λ q. firsts q (cases_eq q b)) (λ q x d was now home. nearer q x d was now home (cases_eq q b))
-    (λ f t is headed. absurd (no_some f (sym is ∙ none))) (λ f q x is behind here. absurd (no_some f (sym is ∙ none)))
-  where
-    first_of : Option Entry → Option ℕ
-    first_of o = option_map (λ (x : Entry). x.first) o
+sent_sound log b bytes e sound at away none = way_sound log b (Flying bytes) e sound at (ap is_home away) (λ f is behind. no_some f (sym is ∙ none))
 
-    firsts : (q : ℕ) → (q ≡ b) ⊎ (q ≡ b → ⊥)
-        → option_map (λ (x : Entry). x.first) (table.get (table.insert log.live b (record e { way = Flying bytes })) q) ≡ option_map (λ (x : Entry). x.first) (table.get log.live q)
-    firsts q (inl is) =
-        subst (λ k. option_map (λ (x : Entry). x.first) (table.get (table.insert log.live b (record e { way = Flying bytes })) k) ≡ option_map (λ (x : Entry). x.first) (table.get log.live k)) (sym is)
-        (ap (option_map (λ (x : Entry). x.first)) (at_key log.live b (record e { way = Flying bytes })) ∙ sym (ap (option_map (λ (x : Entry). x.first)) at))
-    firsts q (inr ne) = ap (option_map (λ (x : Entry). x.first)) (apart log.live b (record e { way = Flying bytes }) q ne)
-
-    nearer : (q : ℕ) (x d : Entry) → table.get log.live q ≡ Some x → table.get (table.insert log.live b (record e { way = Flying bytes })) q ≡ Some d → is_home x.way ≡ true → (q ≡ b) ⊎ (q ≡ b → ⊥) → is_home d.way ≡ true
-    nearer q x d was now home (inl is) =
-        let same : e ≡ x = same_some (table.get log.live b) e x at (ap (table.get log.live) (sym is) ∙ was) in
-        absurd (true≢false (sym home ∙ ap (λ (y : Entry). is_home y.way) (sym same) ∙ ap is_home away))
-    nearer q x d was now home (inr ne) =
-        ap (λ (y : Entry). is_home y.way) (same_some (table.get log.live q) d x (sym (apart log.live b (record e { way = Flying bytes }) q ne) ∙ now) was) ∙ home
+-- one that is on its way has come home
+pub settled_sound : (log : LogValue) (b : ℕ) (bytes : List ℕ) (e : Entry) → IsSoundLog log → table.get log.live b ≡ Some e → e.way ≡ Flying bytes → IsSoundLog (record log { live = table.insert log.live b (record e { way = Home }) })
+settled_sound log b bytes e sound at flies =
+    way_sound log b Home e sound at (ap is_home flies) (λ f is behind. true≢false (ap (λ (w : Way). is_home (settled_way w)) (sym flies) ∙ ap is_home (sound.rests f b e is behind at) ∙ ap is_home flies))
 
 pub homing_sound : (log new : LogValue) (lock : LockName) (bytes : List ℕ) (answer : Option LogStep) → IsSoundLog log → HomeAnswer log new lock bytes answer → IsSoundLog new
 homing_sound log new lock bytes answer sound (nothing none same) = subst IsSoundLog (sym same) sound
@@ -52,15 +58,15 @@ or_tells : (x y : Bool) → (x || y) ≡ true → (x ≡ true) ⊎ (y ≡ true)
 or_tells true y e = inl refl
 or_tells false y e = inr e
 
-and_tells : (x y : Bool) → (x && y) ≡ true → (x ≡ true) × (y ≡ true)
+pub and_tells : (x y : Bool) → (x && y) ≡ true → (x ≡ true) × (y ≡ true)
 and_tells true y e = (refl, e)
 and_tells false y e = absurd (true≢false (sym e))
 
-not_tells : (x y : Bool) → not (x || y) ≡ true → x ≡ false
+pub not_tells : (x y : Bool) → not (x || y) ≡ true → x ≡ false
 not_tells true y e = absurd (true≢false (sym e))
 not_tells false y e = refl
 
-under_lives : (lock : LockName) (o : Option Entry) → is_under lock o ≡ true → is_some o ≡ true
+pub under_lives : (lock : LockName) (o : Option Entry) → is_under lock o ≡ true → is_some o ≡ true
 under_lives lock None e = absurd (true≢false (sym e))
 under_lives lock (Some x) e = refl
 
