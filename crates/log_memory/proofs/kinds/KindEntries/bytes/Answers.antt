@@ -9,4 +9,4 @@ pub returns : goal.returns
 returns c = λ e at.
     let inside = subst (λ n. c.args.place < n) (length-map c.args.self.now.places.now (row_of c.args.self.now.tables.now)) c.requires in
     let x = flushed_entry c.args.self.now.tables.now (get_or c.args.self.now.places.now c.args.place 0) (c.args.self.now.inside c.args.place inside) in
-    c.flushed_bytes.ensures x.0 x.1 ∙ ap (λ (l : Logged). l.bytes) (sym (row_is c.args.self.now.tables.now (get_or c.args.self.now.places.now c.args.place 0) x.0 x.1) ∙ row_at c.args.self.now.tables.now c.args.self.now.places.now c.args.place e inside at)
+    c.flushed_bytes.ensures.bytes x.0 x.1 ∙ ap (λ (l : Logged). l.bytes) (sym (row_is c.args.self.now.tables.now (get_or c.args.self.now.places.now c.args.place 0) x.0 x.1) ∙ row_at c.args.self.now.tables.now c.args.self.now.places.now c.args.place e inside at)
