@@ -2,3 +2,4 @@ mod RowsRead
 mod NewLogs
 mod Blocks
 mod Revoking
+mod Sending

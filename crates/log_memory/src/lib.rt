@@ -2,6 +2,7 @@
 #![tactic(auto)]
 
 mod changes;
+mod homing;
 mod journal;
 mod kinds;
 mod log;

@@ -11,7 +11,7 @@ use crate::changes::free;
 use crate::log::Log;
 use glock_names::LockName;
 
-fn is_same_lock(a: LockName, b: LockName) -> bool
+pub(crate) fn is_same_lock(a: LockName, b: LockName) -> bool
     ensures { result ≡ same_lock a b }
 {
     a.kind == b.kind && a.number == b.number
