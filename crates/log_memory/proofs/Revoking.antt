@@ -108,7 +108,7 @@ row_revoked log mid new lock place same h inside step =
     gone_is = ap (λ (x : LogValue). x.gone) is
 
 -- the row of a number that has a value
-row_of : (es : List (ℕ × Entry)) (b : ℕ) → is_some (table.find nat_cmp b es) ≡ true → (i : ℕ) × (d : ℕ × Entry) × ((i < length es) × (slice_get es i ≡ Some d) × (d.0 ≡ b))
+pub row_of : (es : List (ℕ × Entry)) (b : ℕ) → is_some (table.find nat_cmp b es) ≡ true → (i : ℕ) × (d : ℕ × Entry) × ((i < length es) × (slice_get es i ≡ Some d) × (d.0 ≡ b))
 row_of [] b there = absurd (true≢false (sym there))
 row_of (d ∷ es) b there = by (cases_eq b d.0) (row_of es b)
   where

@@ -74,3 +74,24 @@ fn send(log: &mut Log, place: usize, into: &mut [u8]) -> u64
     log.tables.fly(block);
     block
 }
+
+impl Log {
+    ghost use Rattle.std.specs.Prelude.{◌≡◌, length};
+    ghost use Rattle.log_values.specs.Homing.{HomeAnswer};
+
+    /// The next write that takes the lock's live blocks home: the least block that isn't home nor on its way, whose content is copied to `into`, a block long. None where there
+    /// is none, or while a flush is under way. It goes over the live blocks.
+    pub fn home_step(&mut self, lock: LockName, into: &mut [u8]) -> Option<LogStep>
+        requires { length into.old ≡ self.old.journal.size }
+        ensures { HomeAnswer self.old self.new lock into.new result }
+    {
+        if self.stage.is_some() {
+            return None;
+        }
+        let Some(place) = first_that_goes(self, lock) else {
+            return None;
+        };
+        let block = send(self, place, into);
+        Some(LogStep::Write { block })
+    }
+}
