@@ -53,5 +53,5 @@ returns-clause-cause g c =
     let blocks : c.deref-2.result.now ≡ c.args.journal.now.blocks = c.deref-2.ensures.value ∙ ap (λ (j : Journal). j.blocks) c.journal.view_is in
     let inside : c.deref.result.now ≡ c.args.journal.now.blocks = c.deref.ensures.value ∙ ap (λ (j : Journal). j.blocks) c.journal.view_is in
     cause_of_one c.args.journal.now c.deref-2.result.now s.count (g.D.SharedDisk.faults c.args.disk.now c.args.node) (g.D.SharedDisk.faults c.look_at_journal.new.disk c.args.node) c.look_at_journal.result blocks
-    (sym (ap (λ (j : Journal). j.head.clean) c.journal.view_is) ∙ c.if-clean.false)
+    (sym (ap (λ (j : Journal). j.head.clean) c.journal.view_is) ∙ c.if-journal.false)
     (sym (c.are_inside.ensures ∙ (λ t. list_all (λ b. nat_lt b (c.blocks-2.ensures.value t)) (inside t))) ∙ c.if-not-are_inside.false) c.look_at_journal.ensures.cause
