@@ -3,3 +3,4 @@ mod NewLogs
 mod Blocks
 mod Revoking
 mod Sending
+mod Barriers

@@ -37,3 +37,8 @@ pub record IsFirstThatGoes (lock : LockName) (es : List (ℕ × Entry)) (place :
   pub here : slice_get es place ≡ Some entry
   pub goes : goes_home lock entry.1 ≡ true
   pub first : NoneGoes lock es place
+
+abbrev pub is_flying : Way → Bool
+is_flying Home = false
+is_flying (Away bytes) = false
+is_flying (Flying bytes) = true

@@ -7,6 +7,7 @@ mod journal;
 mod kinds;
 mod log;
 mod revokes;
+mod settling;
 
 pub use journal::Journal;
 #[doc(hidden)]
