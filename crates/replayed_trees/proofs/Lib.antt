@@ -1,3 +1,0 @@
-pub mod SoFar
-pub mod Replay
-pub mod Found
