@@ -192,6 +192,11 @@ class Row:
                  "  trace", *whole[trace + 1 : trace + 1 + items]]  # fmt: skip
         return self.text(*front, *self.replayed(data, [None if j < journals else it for j, it in enumerate(homes)]))
 
+    def unread(self, data, call, told, homes):
+        """The disk fails at this call of a run, as its journals are read: only that is told, and nothing is written; a replay goes on from there."""
+        run = ["  do run", "  script", "    nodes 1", "    client c on 1", "    c: list /"]
+        return self.text(*run, f"  fails disk {call}", f"  told 5 device fault: node 0 block {told} count 0 to 1", "  same", *self.replayed(data, homes))
+
     def damaged(self, block, rule):
         told = f"  told 4 damaged: block {block} rule {rule}"
         run = ["  do run", "  script", "    nodes 1", "    client c on 1", "    c: list /"]
@@ -395,6 +400,13 @@ def failing():
             final[number * SIZE : (number + 1) * SIZE] = block
         reads = 4 + sum(row.block(f"journal{j}.place511") - row.block(f"journal{j}") + 1 for j in (0, 1)) + 2 * 512
         yield row.failing(final, reads + 4 + behind, told, homes, (1, 6 + behind - 1))
+    row = Row("a disk fails at a place of a journal that is read for a run")
+    number, block = row.block("free"), plain(SIZE, 0x72)
+    final = bytearray(row.data())
+    final[number * SIZE : (number + 1) * SIZE] = block
+    at = row.journals[0].write(1, 2, 1, content=[(number, block)])
+    mounting = 4 + row.block("journal0.place511") - row.block("journal0") + 1
+    yield row.unread(final, mounting + 201, "{journal0.place200}", [row.all_of(0, at)])
 
 
 def image_with(calls):

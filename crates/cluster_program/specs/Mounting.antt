@@ -10,7 +10,7 @@ use Rattle.image_mount.specs.Mounted.{Journal, MountedValue, IsMounted, IsOfProf
 use Rattle.image_mount.specs.Refusals.{IsOutside, IsReached, RefusesRightly}
 use Rattle.image_mount.specs.declared.field.Field.{Field}
 use Rattle.image_mount.specs.declared.fault.MountFault.TheVariants as fault
-use Rattle.image_replays.specs.Replays.{Stops}
+use Rattle.image_replays.specs.Replays.{IsReadPlace, Stops}
 use Rattle.log_layout.specs.Journal.{ring_of, head_in}
 use Rattle.log_layout.specs.declared.log_header.LogHeader.{LogHeader}
 use Rattle.shared_disk.specs.Disk.{DiskState}
@@ -88,6 +88,13 @@ pub data MountEnds (disk : DiskState) (faults faults_now : ℕ → ℕ) : Status
 abbrev pub HasMounted : Image → Type 0
 HasMounted im = (m : MountedValue) × IsMounted im m
 
+-- it was, and this block is at a place of one of its journals that wasn't left clean, so one that is reached
+pub record HasReadPlace (im : Image) (b : ℕ) : Type 0 where
+  pub value : MountedValue
+  pub mounted : IsMounted im value
+  pub place : IsReadPlace value.journals b
+  pub reached : IsReached im b
+
 -- it was, and this block of the device stops the replay of its journals, by this rule
 pub record IsStoppedAt (im : Image) (b rule : ℕ) : Type 0 where
   pub value : MountedValue
@@ -95,10 +102,10 @@ pub record IsStoppedAt (im : Image) (b rule : ℕ) : Type 0 where
   pub stops : Stops im mounted.layout rule b
   pub inside : b < im.count
 
--- Why a run doesn't begin: the image isn't mounted; or it is, and, as its journals were read, the disk failed at one of its blocks, or one of them stops
--- their replay.
+-- Why a run doesn't begin: the image isn't mounted; or it is, and, as its journals were read, the disk failed at a block of it, at a place of one of them
+-- where it tells its blocks, or a block stops their replay.
 pub data BeginEnds (disk : DiskState) (faults faults_now : ℕ → ℕ) : Status → Type 0 where
   NotMounted : (own : Status) → MountEnds disk faults faults_now own → BeginEnds disk faults faults_now own
-  NotRead : (block x y : ℕ) → OfImage disk HasMounted → WentUp (faults 0) (faults_now 0) x y → block < disk.count
+  NotRead : (block x y : ℕ) → OfImage disk (λ im. HasReadPlace im block) → WentUp (faults 0) (faults_now 0) x y → block < disk.count
       → BeginEnds disk faults faults_now (status.DeviceFault 0 (Some block) x y)
   IsStopped : (block rule : ℕ) → OfImage disk (λ im. IsStoppedAt im block rule) → OfImage disk NeverStands → BeginEnds disk faults faults_now (status.Damaged block rule)

@@ -8,7 +8,7 @@ use Rattle.image_model.specs.Replays.{IsReplayable, Replayed, StandsReplayed}
 use Rattle.image_model.specs.Rules.{IsBrokenBlock}
 use Rattle.image_model.specs.Stands.{Layout, Stands}
 use Rattle.image_model.proofs.Replaying.{one_replay, replayed_by_any}
-use Rattle.image_replays.specs.MountedImages.{IsMounted, MountedValue}
+use Rattle.image_replays.specs.MountedImages.{IsMounted, Journal, MountedValue}
 use Rattle.image_replays.specs.Laws.{StoppedAreNotReplayed}
 use Rattle.image_replays.specs.Replays as replays
 use Rattle.image_replays.specs.Replays.{ArePlans, Stops, put_over}
@@ -16,7 +16,6 @@ use Rattle.image_replays.proofs.System.{its_journals}
 use Rattle.image_replays.specs.look_faults.LookFault.{LookFault}
 use Rattle.image_replays.specs.look_faults.LookFault.TheVariants as look
 use Rattle.peer_replay.specs.declared.planned.Plan.{Plan}
-use Rattle.image_replays.specs.Looks as looks
 use Rattle.shared_disk.specs.Disk.{DiskState}
 use Rattle.disk_trees.specs.Answers.{GivesTree, HasCause, IfDamaged, fault_of_look}
 use Rattle.disk_trees.specs.Reading.{IsUnreadable, broken, ending, stopped}
@@ -45,10 +44,10 @@ module _ (law : StoppedAreNotReplayed) (d : DiskState) (m : MountedValue) (f : L
   pub stopped_tells : IsTrue d.tells → (is : IsMounted (image_of d) m) → IfDamaged (fault_of_look f) (IsUnreadable (image_of d) is.layout)
   stopped_tells tells is = told f is (why tells is)
 
-pub stopped_cause : (count : ℕ) (before now : ℕ → ℕ) (f : LookFault) → looks.HasCause count (before 0) (now 0) f → HasCause count before now (fault_of_look f)
-stopped_cause count before now (look.Damaged block rule) cause = tt
-stopped_cause count before now (look.DiskFailed block rise) cause = cause
-stopped_cause count before now look.NoMemory cause = tt
+pub stopped_cause : (journals : List Journal) (count : ℕ) (before now : ℕ → ℕ) (f : LookFault) → replays.HasCause journals count (before 0) (now 0) f → HasCause count before now (fault_of_look f)
+stopped_cause journals count before now (look.Damaged block rule) cause = tt
+stopped_cause journals count before now (look.DiskFailed block rise) cause = (cause.0, cause.1)
+stopped_cause journals count before now look.NoMemory cause = tt
 
 -- ---- the plans are there, and the tree was read, or wasn't
 

@@ -6,6 +6,7 @@ pub mod Headers
 pub mod Mapped
 pub mod Alike
 pub mod JournalPlaces
+pub mod ReadPlaces
 pub mod Names
 pub mod There
 pub mod Ways

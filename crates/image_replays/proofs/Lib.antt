@@ -3,3 +3,4 @@ pub mod SoFar
 pub mod System
 pub mod Replay
 pub mod Stopped
+mod Causes

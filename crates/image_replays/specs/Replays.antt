@@ -1,8 +1,9 @@
 -- What a replay of a mounted image puts home, and what stops it.
-use Rattle.std.specs.Prelude.{ℕ, ◌≡◌, ◌<◌, ⊤, List, [], ◌∷◌, length, map, get_or, slice_get, unwrap_or, IfSome, Option, None, Some, Err}
+use Rattle.std.specs.Prelude.{ℕ, ◌≡◌, ◌<◌, ⊤, false, List, [], ◌∷◌, Contains, length, map, get_or, slice_get, unwrap_or, IfSome, Option, None, Some, Err}
 use Rattle.std.specs.List.{AllByRecursion}
 use Rattle.std.specs.List.Sorted.{IsStrictlyIncreasing}
 use Rattle.drafts.specs.declared.change.Written.{Written}
+use Rattle.fault_counts.specs.Causes.{WentUp}
 use Rattle.gfs2_layout.specs.Inode.{content_block}
 use Rattle.image_model.specs.Claims.{every}
 use Rattle.image_model.specs.Image.{Image}
@@ -83,3 +84,18 @@ abbrev pub IfDamaged : LookFault → (ℕ → ℕ → Type 0) → Type 0
 IfDamaged (Damaged block rule) P = P block rule
 IfDamaged (DiskFailed block rise) P = ⊤
 IfDamaged NoMemory P = ⊤
+
+-- ---- where the disk fails
+
+-- the block is at a place of one of these journals, which wasn't left clean
+pub record IsReadPlace (journals : List Journal) (block : ℕ) : Type 0 where
+  pub index : ℕ
+  pub journal : Journal
+  pub at : slice_get journals index ≡ Some journal
+  pub unclean : journal.head.clean ≡ false
+  pub is : Contains journal.blocks block
+
+-- a failing disk, of so many blocks, is told only with one of them at such a place, where the node's count rose so
+abbrev pub HasCause : (journals : List Journal) (count before now : ℕ) → LookFault → Type 0
+HasCause journals count before now (DiskFailed block rise) = WentUp before now rise.before rise.after × (block < count) × IsReadPlace journals block
+HasCause journals count before now _ = ⊤

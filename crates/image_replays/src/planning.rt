@@ -1,14 +1,14 @@
 // The plans of all journals.
-ghost use Rattle.std.specs.Prelude.{◌≡◌, ◌<◌, ◌≤◌, ◌^◌, ℕ, IsTrue, IfOk, IfErr, IfSome, Some, true, false, if◌then◌else◌, length, nat_lt};
+ghost use Rattle.std.specs.Prelude.{◌≡◌, ◌<◌, ◌≤◌, ◌^◌, ℕ, IsTrue, IfOk, IfErr, IfSome, Some, true, false, if◌then◌else◌, [], ◌∷◌, length, nat_lt};
 ghost use Rattle.std.specs.List.{All, AllByRecursion, list_all};
 ghost use Rattle.gfs2_layout.specs.Device.{IsBlockSize};
 ghost use Rattle.image_model.specs.Image.{image_of};
 ghost use Rattle.image_mount.specs.Mounted.{IsMounted};
-ghost use Rattle.image_replays.specs.Replays.{ArePlans, HasPlace, HavePlaces, IfDamaged, IsWritable, Stops};
+ghost use Rattle.image_replays.specs.Replays.{ArePlans, HasCause, HasPlace, HavePlaces, IfDamaged, IsWritable, Stops};
 ghost use Rattle.journal_plans.specs.Plans.{IsPlanOf};
 ghost use Rattle.journal_reads.specs.Reading.{ring_read};
 ghost use Rattle.log_layout.specs.Journal.{head_in};
-ghost use Rattle.replay_looks.specs.Looks.{HasCause, IsStopped};
+ghost use Rattle.replay_looks.specs.Looks.{IsStopped};
 ghost use Rattle.replay_marks.specs.Marking.{has_block, mark_of};
 ghost use Rattle.replay_marks.specs.declared.marks.Mark.TheVariants as variant;
 ghost use Rattle.shared_disk.specs.Disk.{IsIdle, ReadsOnly};
@@ -48,7 +48,7 @@ fn plan_journal<D: SharedDisk>(
     ensures why { IfErr result (λ fault. IsTrue (D.state disk.old).tells → length journal.now.blocks < 2 ^ 32 → All (λ b. b < (D.state disk.old).count) journal.now.blocks
         → IsStopped (ring_read (D.state disk.old) node journal.now.blocks) journal.now.dinode journal.now.blocks marks.old fault) }
     ensures reads { ReadsOnly (D.state disk.old) (D.state disk.new) (D.list disk.old) (D.list disk.new) (D.faults disk.old) (D.faults disk.new) }
-    ensures cause { IfErr result (HasCause (D.state disk.old).count (D.faults disk.old node) (D.faults disk.new node)) }
+    ensures cause { IfErr result (HasCause (journal.now ∷ []) (D.state disk.old).count (D.faults disk.old node) (D.faults disk.new node)) }
 {
     if journal.head.clean {
         return Ok(Plan {
@@ -90,7 +90,7 @@ pub fn plan_replay<D: SharedDisk>(
     ensures stopped { IfErr result (λ fault. IsTrue (D.state disk.old).tells → (is : IsMounted (image_of (D.state disk.old)) mounted.now)
         → IfDamaged fault (λ block rule. Stops (image_of (D.state disk.old)) is.layout rule block × (block < (D.state disk.old).count))) }
     ensures reads { ReadsOnly (D.state disk.old) (D.state disk.new) (D.list disk.old) (D.list disk.new) (D.faults disk.old) (D.faults disk.new) }
-    ensures cause { IfErr result (HasCause (D.state disk.old).count (D.faults disk.old node) (D.faults disk.new node)) }
+    ensures cause { IfErr result (HasCause mounted.now.journals (D.state disk.old).count (D.faults disk.old node) (D.faults disk.new node)) }
 {
     let count = disk.blocks();
     if count >= 1u64 << 63 {

@@ -33,10 +33,10 @@ IsWhyNot ring (BadChunk place) = (head : LogHeader) × (head_in ring ≡ Some he
 IsWhyNot ring (DiskFailed block rise) = ⊤
 IsWhyNot ring NoMemory = ⊤
 
--- a failing disk is told only with a block of it, where the node's count rose so
-abbrev pub HasCause : (count before now : ℕ) → PlanFault → Type 0
-HasCause count before now (DiskFailed block rise) = HasFailedAt count before now block rise
-HasCause count before now _ = ⊤
+-- a failing disk is told only with a block of the journal with these blocks at its places, where the node's count rose so
+abbrev pub HasCause : (blocks : List ℕ) (before now : ℕ) → PlanFault → Type 0
+HasCause blocks before now (DiskFailed block rise) = HasFailedAt blocks before now block rise
+HasCause blocks before now _ = ⊤
 
 -- a fact for the place of a bad chunk
 abbrev pub IfBadChunk : (ℕ → Type 0) → PlanFault → Type 0

@@ -36,7 +36,7 @@ pub fn read_number<D: SharedDisk>(
     ensures why { IfErr result (λ fault. IsTrue (D.state disk.old).tells → IsReadable (ring_read (D.state disk.old) node blocks.now)
         → (bytes : List ℕ) → live_in (ring_read (D.state disk.old) node blocks.now) number ≡ Some bytes → IsWhyNot (ring_read (D.state disk.old) node blocks.now) fault) }
     ensures reads { ReadsOnly (D.state disk.old) (D.state disk.new) (D.list disk.old) (D.list disk.new) (D.faults disk.old) (D.faults disk.new) }
-    ensures cause { IfErr result (HasCause (D.state disk.old).count (D.faults disk.old node) (D.faults disk.new node)) }
+    ensures cause { IfErr result (HasCause blocks.now (D.faults disk.old node) (D.faults disk.new node)) }
 {
     live_blocks_have_numbers();
     let journal = match read_journal(alloc, disk, node, blocks) {

@@ -37,7 +37,7 @@ pub fn read_plan<D: SharedDisk>(
     ensures inside { IfErr result (IfBadChunk (λ place. place < length blocks.now)) }
     ensures why { IfErr result (λ fault. IsTrue (D.state disk.old).tells → IsWhyNot (ring_read (D.state disk.old) node blocks.now) fault) }
     ensures reads { ReadsOnly (D.state disk.old) (D.state disk.new) (D.list disk.old) (D.list disk.new) (D.faults disk.old) (D.faults disk.new) }
-    ensures cause { IfErr result (HasCause (D.state disk.old).count (D.faults disk.old node) (D.faults disk.new node)) }
+    ensures cause { IfErr result (HasCause blocks.now (D.faults disk.old node) (D.faults disk.new node)) }
 {
     heads_are_accepted();
     let journal = match read_journal(alloc, disk, node, blocks) {

@@ -1,5 +1,5 @@
 -- A journal on a disk, read into memory.
-use Rattle.std.specs.Prelude.{ℕ, ◌≡◌, ◌*◌, ◌<◌, IsTrue, List, length, get_or, ⊤}
+use Rattle.std.specs.Prelude.{ℕ, ◌≡◌, ◌*◌, ◌<◌, IsTrue, List, Contains, length, get_or, ⊤}
 use Rattle.fault_counts.specs.Causes.{WentUp}
 use Rattle.fault_counts.specs.declared.Rise.{Rise}
 use Rattle.log_layout.specs.Journal.{Ring}
@@ -17,11 +17,11 @@ pub record AreFirstPlaces (s : DiskState) (node : ℕ) (blocks : List ℕ) (coun
   pub long : length bytes ≡ count * s.size
   pub each : IsTrue s.tells → (p : ℕ) → p < count → block_in s.size bytes p ≡ (ring_read s node blocks).at p
 
--- the disk, of so many blocks, failed at one of them, and while the node's count went from `before` to `now` it rose so
-abbrev pub HasFailedAt : (count before now block : ℕ) → Rise → Type 0
-HasFailedAt count before now block rise = WentUp before now rise.before rise.after × (block < count)
+-- the disk failed at one of these blocks, and while the node's count went from `before` to `now` it rose so
+abbrev pub HasFailedAt : (blocks : List ℕ) (before now block : ℕ) → Rise → Type 0
+HasFailedAt blocks before now block rise = WentUp before now rise.before rise.after × Contains blocks block
 
--- a failing disk is told only with a block of it, where the node's count rose so
-abbrev pub HasCause : (count before now : ℕ) → ReadFault → Type 0
-HasCause count before now (DiskFailed block rise) = HasFailedAt count before now block rise
-HasCause count before now NoMemory = ⊤
+-- a failing disk is told only with a block of the journal with these blocks at its places, where the node's count rose so
+abbrev pub HasCause : (blocks : List ℕ) (before now : ℕ) → ReadFault → Type 0
+HasCause blocks before now (DiskFailed block rise) = HasFailedAt blocks before now block rise
+HasCause blocks before now NoMemory = ⊤

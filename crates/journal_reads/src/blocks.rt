@@ -29,7 +29,7 @@ fn append_block<D: SharedDisk>(
     requires size { length block.old ≡ (D.state disk.old).size }
     ensures blocks { OnOk result (AreFirstPlaces (D.state disk.old) node blocks.now place bytes.old.items → AreFirstPlaces (D.state disk.old) node blocks.now (place + 1) bytes.new.items) }
     ensures reads { ReadsOnly (D.state disk.old) (D.state disk.new) (D.list disk.old) (D.list disk.new) (D.faults disk.old) (D.faults disk.new) }
-    ensures cause { IfErr result (HasCause (D.state disk.old).count (D.faults disk.old node) (D.faults disk.new node)) }
+    ensures cause { IfErr result (HasCause blocks.now (D.faults disk.old node) (D.faults disk.new node)) }
 {
     let number = blocks[place];
     match read_block(disk, node, number, block) {
@@ -57,7 +57,7 @@ fn read_blocks<D: SharedDisk>(
     requires inside { All (λ b. b < (D.state disk.old).count) blocks.now }
     ensures blocks { IfOk result (λ bytes. AreFirstPlaces (D.state disk.old) node blocks.now (length blocks.now) bytes.items) }
     ensures reads { ReadsOnly (D.state disk.old) (D.state disk.new) (D.list disk.old) (D.list disk.new) (D.faults disk.old) (D.faults disk.new) }
-    ensures cause { IfErr result (HasCause (D.state disk.old).count (D.faults disk.old node) (D.faults disk.new node)) }
+    ensures cause { IfErr result (HasCause blocks.now (D.faults disk.old node) (D.faults disk.new node)) }
 {
     let size = disk.block_size() as usize;
     let mut block = vec![in alloc; 0u8; size]?;
@@ -86,7 +86,7 @@ pub fn read_journal<D: SharedDisk>(
     ensures long { IfOk result (λ journal. journal.length ≡ length blocks.now) }
     ensures says { IfOk result (λ journal. IsTrue (D.state disk.old).tells → HasSamePlaces (ring_of journal) (ring_read (D.state disk.old) node blocks.now)) }
     ensures reads { ReadsOnly (D.state disk.old) (D.state disk.new) (D.list disk.old) (D.list disk.new) (D.faults disk.old) (D.faults disk.new) }
-    ensures cause { IfErr result (HasCause (D.state disk.old).count (D.faults disk.old node) (D.faults disk.new node)) }
+    ensures cause { IfErr result (HasCause blocks.now (D.faults disk.old node) (D.faults disk.new node)) }
 {
     let block_size = disk.block_size();
     let bytes = read_blocks(alloc, disk, node, blocks)?;

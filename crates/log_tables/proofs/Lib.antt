@@ -1,8 +1,8 @@
-mod Counting
+pub mod Counting
 mod Holding
 mod Seeing
-mod Taking
+pub mod Taking
 mod SameCells
 mod Keeping
-mod Steps
-mod Reading
+pub mod Steps
+pub mod Reading

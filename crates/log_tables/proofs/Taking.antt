@@ -13,7 +13,7 @@ use Rattle.log_tables.specs.Versions.Way.{Home}
 use Rattle.log_tables.specs.Kept.{Kept, away_count, frames_taken, is_home, landed}
 use Rattle.log_tables.proofs.Counting.{at_key, gone, len_with, len_without, one, passing_with, passing_without, remove_absent, apart, left}
 
-abbrev Live : Type 0
+abbrev pub Live : Type 0
 Live = table.FinMap nat_cmp Entry
 
 abbrev is_away : Entry → Bool
@@ -82,10 +82,10 @@ land_moves k b first v at rests = sum _ _ _ _ _ _ (len_without k.flushed b v at)
 -- ---- those that are left
 
 module _ (p : Entry → Bool) where
-  abbrev only : Live → Live
+  abbrev pub only : Live → Live
   only m = table.from_sorted (filter (λ (e : ℕ × Entry). p e.1) (table.entries m))
 
-  get-only : (m : Live) (q : ℕ) → table.get (only m) q ≡ left_by p (table.get m q)
+  pub get-only : (m : Live) (q : ℕ) → table.get (only m) q ≡ left_by p (table.get m q)
   get-only m q =
       table.get-from_sorted nat_cmp (filter (λ (e : ℕ × Entry). p e.1) (table.entries m)) q (staying_rise (λ (k : ℕ) (e : Entry). p e) (table.entries m) (table.entries_sorted m))
       ∙ find_staying (λ (k : ℕ) (e : Entry). p e) q (table.entries m) (table.entries_sorted m) ∙ ap (left_by p) (sym (table.get-entries m q))
@@ -99,7 +99,7 @@ module _ (p : Entry → Bool) where
   counted (e ∷ es) =
       sum_by-cons (λ (f : ℕ × Entry). one (p f.1)) e es ∙ ap (λ n. one (p e.1) + n) (counted es) ∙ counted-chosen (p e.1) e (filter (λ (f : ℕ × Entry). p f.1) es)
 
-  count-only : (m : Live) → count_by (λ (e : ℕ × Entry). p e.1) (table.entries m) ≡ table.len (only m)
+  pub count-only : (m : Live) → count_by (λ (e : ℕ × Entry). p e.1) (table.entries m) ≡ table.len (only m)
   count-only m =
       counted (table.entries m)
       ∙ ap length (sym (table.entries-from_sorted nat_cmp (filter (λ (e : ℕ × Entry). p e.1) (table.entries m)) (staying_rise (λ (k : ℕ) (e : Entry). p e) (table.entries m) (table.entries_sorted m))))

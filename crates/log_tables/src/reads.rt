@@ -15,7 +15,7 @@ pub enum Whereabouts {
 }
 
 impl Tables {
-    ghost use Rattle.std.specs.Prelude.{◌≡◌, ◌<◌, ℕ, Some, option_map, option_copied, slice_get, count_by};
+    ghost use Rattle.std.specs.Prelude.{◌≡◌, ◌<◌, ℕ, IfSome, Some, length, option_map, option_copied, slice_get, count_by};
     ghost use Rattle.std.specs.FinMap as map;
     ghost use Rattle.log_tables.specs.Kept.{away_bytes, place_of_way};
     ghost use Rattle.log_tables.specs.Versions.{Entry, Version};
@@ -100,7 +100,8 @@ impl Tables {
     /// Its bytes.
     pub fn flushed_bytes(&self, place: usize) -> &[u8]
         requires { place < map.len self.now.flushed }
-        ensures { (e : ℕ × Version) → slice_get (map.entries self.now.flushed) place ≡ Some e → result.now ≡ e.1.bytes }
+        ensures bytes { (e : ℕ × Version) → slice_get (map.entries self.now.flushed) place ≡ Some e → result.now ≡ e.1.bytes }
+        ensures whole { length result.now ≡ self.now.size }
     {
         self.pool.bytes(&self.flushed.row(place).1.frame)
     }
@@ -153,7 +154,8 @@ impl Tables {
     /// Its content, where that is away.
     pub fn away_bytes(&self, place: usize) -> Option<&[u8]>
         requires { place < map.len self.now.live }
-        ensures { (e : ℕ × Entry) → slice_get (map.entries self.now.live) place ≡ Some e → option_copied result ≡ away_bytes e.1.way }
+        ensures bytes { (e : ℕ × Entry) → slice_get (map.entries self.now.live) place ≡ Some e → option_copied result ≡ away_bytes e.1.way }
+        ensures whole { IfSome result (λ b. length b.now ≡ self.now.size) }
     {
         match &self.live.row(place).1.hold {
             Hold::Home => None,

@@ -95,12 +95,15 @@ abbrev pub revoke_size : ℕ → ℕ → ℕ
 revoke_size size zero = 0
 revoke_size size (suc n) = 1 + further_count size (suc n)
 
--- how many places a transaction takes, that of its header among them
+-- how many places a transaction takes, that of its header among them, with so many blocks of content and of metadata, and so many revokes
+abbrev pub size_with : ℕ → ℕ → ℕ → ℕ → ℕ
+size_with size content metadata revokes =
+    kind_size (content_room size) content
+    + (kind_size (numbers_room size) metadata
+    + revoke_size size revokes) + 1
+
 abbrev pub size_of : ℕ → Transaction → ℕ
-size_of size t =
-    kind_size (content_room size) (length (content_of t))
-    + (kind_size (numbers_room size) (length (metadata_of t))
-    + revoke_size size (length t.revokes)) + 1
+size_of size t = size_with size (length (content_of t)) (length (metadata_of t)) (length t.revokes)
 
 -- ---- the header
 

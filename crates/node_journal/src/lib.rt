@@ -17,4 +17,4 @@ pub use encoding::{encode, put_header};
 pub use entries::Entries;
 pub use place::Place;
 pub use ring::Ring;
-pub use sizes::size;
+pub use sizes::{size, size_with};

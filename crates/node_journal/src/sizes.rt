@@ -3,7 +3,7 @@ ghost use Rattle.gfs2_layout.specs.Device.{IsBlockSize};
 ghost use Rattle.drafts.specs.declared.change.Written.{Written as WrittenValue};
 ghost use Rattle.log_layout.specs.Chunks.{Logged, content_room as content_room_of, further_count as further_count_of, further_room as further_room_of, numbers_room as numbers_room_of};
 ghost use Rattle.journal_scan.specs.Said.{logged, says};
-ghost use Rattle.node_journal.specs.Encoding.{kind_size as kind_size_of, piece_count as piece_count_of, revoke_size as revoke_size_of, size_of, content_of};
+ghost use Rattle.node_journal.specs.Encoding.{kind_size as kind_size_of, piece_count as piece_count_of, revoke_size as revoke_size_of, size_of, size_with, content_of};
 ghost use Rattle.std.specs.Prelude.{◌*◌, map};
 
 use drafts::{Transaction, Written};
@@ -60,17 +60,30 @@ fn content_count(blocks: &[Written]) -> usize
     count
 }
 
+/// How many places of a journal a transaction takes, that of its header among them, which logs so many blocks of content of files and so many of metadata, and
+/// revokes so many.
+pub fn size_with(content: u32, metadata: u32, revokes: u32, block_size: u32) -> u32
+    requires size { IsBlockSize block_size }
+    requires few { content + metadata + revokes ≤ 131072 }
+    ensures { result ≡ size_with block_size content metadata revokes }
+{
+    let size = u64::from(block_size);
+    let blocks = kind_size((size - 72) / 16, u64::from(content))
+        + (kind_size((size - 72) / 8, u64::from(metadata)) + revoke_size(size, u64::from(revokes)));
+    (blocks + 1) as u32
+}
+
 /// How many places of a journal a transaction takes, that of its header among them. It goes over the blocks once.
 pub fn size(t: &Transaction, block_size: u32) -> u32
     requires size { IsBlockSize block_size }
     requires few { length t.now.blocks.items + length t.now.revokes.items ≤ 131072 }
     ensures { result ≡ size_of block_size (says t.now) }
 {
-    let size = u64::from(block_size);
-    let content = content_count(&t.blocks) as u64;
-    let metadata = t.blocks.len() as u64 - content;
-    let revokes = t.revokes.len() as u64;
-    let blocks = kind_size((size - 72) / 16, content)
-        + (kind_size((size - 72) / 8, metadata) + revoke_size(size, revokes));
-    (blocks + 1) as u32
+    let content = content_count(&t.blocks);
+    size_with(
+        content as u32,
+        (t.blocks.len() - content) as u32,
+        t.revokes.len() as u32,
+        block_size,
+    )
 }

@@ -27,16 +27,16 @@ stopped_told ring dinode blocks marks plan.NoHeader low is = alone 16 dinode (he
 stopped_told ring dinode blocks marks (plan.BadChunk place) low is = alone 17 (get_or blocks place 0) (bad_chunk is.0 place is.1 is.2 low)
 stopped_told ring dinode blocks marks plan.NoMemory low is = tt
 
-pub cause_told : (count before now dinode : ℕ) (blocks : List ℕ) (fault : PlanFault) → planned.HasCause count before now fault → HasCause count before now (told_of dinode blocks fault)
-cause_told count before now dinode blocks (plan.DiskFailed block rise) is = is
-cause_told count before now dinode blocks plan.NoHeader is = tt
-cause_told count before now dinode blocks (plan.BadChunk place) is = tt
-cause_told count before now dinode blocks plan.NoMemory is = tt
+pub cause_told : (blocks : List ℕ) (before now dinode : ℕ) (fault : PlanFault) → planned.HasCause blocks before now fault → HasCause blocks before now (told_of dinode blocks fault)
+cause_told blocks before now dinode (plan.DiskFailed block rise) is = is
+cause_told blocks before now dinode plan.NoHeader is = tt
+cause_told blocks before now dinode (plan.BadChunk place) is = tt
+cause_told blocks before now dinode plan.NoMemory is = tt
 
-pub cause_from : (count first before now : ℕ) (fault : LookFault) → first ≤ before → HasCause count before now fault → HasCause count first now fault
-cause_from count first before now (DiskFailed block rise) later is = (record { from = let low : before ≤ rise.before = is.0.from in omega (arith, later, low); rose = is.0.rose; to = is.0.to }, is.1)
-cause_from count first before now (Damaged block rule) later is = tt
-cause_from count first before now NoMemory later is = tt
+pub cause_from : (blocks : List ℕ) (first before now : ℕ) (fault : LookFault) → first ≤ before → HasCause blocks before now fault → HasCause blocks first now fault
+cause_from blocks first before now (DiskFailed block rise) later is = (record { from = let low : before ≤ rise.before = is.0.from in omega (arith, later, low); rose = is.0.rose; to = is.0.to }, is.1)
+cause_from blocks first before now (Damaged block rule) later is = tt
+cause_from blocks first before now NoMemory later is = tt
 
 -- a block that goes home is live
 home_has : (ws : List Written) (b : ℕ) → has_block ws b ≡ true → (w : Written) × (find (λ (v : Written). v.block == b) ws ≡ Some w)

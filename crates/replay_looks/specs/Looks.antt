@@ -40,10 +40,10 @@ IsStopped ring dinode blocks marks NoMemory = ⊤
 abbrev pub IsHindered : Ring → ℕ → List ℕ → ℕ → LookFault → Type 0
 IsHindered ring dinode blocks number fault = (marks : List Mark) → mark_of marks number ≡ Barred → IsStopped ring dinode blocks marks fault
 
--- a failing disk is told only with a block of it, where the node's count rose so
-abbrev pub HasCause : (count before now : ℕ) → LookFault → Type 0
-HasCause count before now (DiskFailed block rise) = HasFailedAt count before now block rise
-HasCause count before now _ = ⊤
+-- a failing disk is told only with a block of the journal with these blocks at its places, where the node's count rose so
+abbrev pub HasCause : (blocks : List ℕ) (before now : ℕ) → LookFault → Type 0
+HasCause blocks before now (DiskFailed block rise) = HasFailedAt blocks before now block rise
+HasCause blocks before now _ = ⊤
 
 -- the fault of a journal without a plan
 abbrev pub told_of : ℕ → List ℕ → PlanFault → LookFault

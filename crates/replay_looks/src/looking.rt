@@ -37,7 +37,7 @@ fn astray<D: SharedDisk>(
     ensures why { IsTrue (D.state disk.old).tells → IsReadable (ring_read (D.state disk.old) node blocks.now) → (bytes : List ℕ) → live_in (ring_read (D.state disk.old) node blocks.now) number ≡ Some bytes
         → IsHindered (ring_read (D.state disk.old) node blocks.now) dinode blocks.now number result }
     ensures reads { ReadsOnly (D.state disk.old) (D.state disk.new) (D.list disk.old) (D.list disk.new) (D.faults disk.old) (D.faults disk.new) }
-    ensures cause { HasCause (D.state disk.old).count (D.faults disk.old node) (D.faults disk.new node) result }
+    ensures cause { HasCause blocks.now (D.faults disk.old node) (D.faults disk.new node) result }
 {
     match read_number(alloc, disk, node, blocks, number) {
         Ok(place) => LookFault::Damaged {
@@ -72,7 +72,7 @@ pub fn look_at_journal<D: SharedDisk>(
     ensures marks { IfOk result (λ p. (block : ℕ) → mark_of marks.new block ≡ (if has_block p.home.items block then variant.Live else mark_of marks.old block)) }
     ensures why { IfErr result (λ fault. IsTrue (D.state disk.old).tells → IsStopped (ring_read (D.state disk.old) node blocks.now) dinode blocks.now marks.old fault) }
     ensures reads { ReadsOnly (D.state disk.old) (D.state disk.new) (D.list disk.old) (D.list disk.new) (D.faults disk.old) (D.faults disk.new) }
-    ensures cause { IfErr result (HasCause (D.state disk.old).count (D.faults disk.old node) (D.faults disk.new node)) }
+    ensures cause { IfErr result (HasCause blocks.now (D.faults disk.old node) (D.faults disk.new node)) }
 {
     let planned = match read_plan(alloc, disk, node, blocks) {
         Ok(planned) => planned,

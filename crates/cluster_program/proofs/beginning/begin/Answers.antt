@@ -34,7 +34,7 @@ returns-in-Err-plan_replay-clause-ends g c s left left_now failed failed_now =
       list_is = c.in-Err-plan_replay.ensures.reads.list ∙ c.in-Ok.ensures.reads.list;
     } in
     let why = no_plans_on d (g.D.SharedDisk.state c.mount.new.disk) c.in-Ok.mounted before now c.in-Err-plan_replay.fault c.in-Ok.ensures.reads.same (record { stopped = c.in-Err-plan_replay.ensures.stopped; cause = c.in-Err-plan_replay.ensures.cause }) in
-    let ends = plan_end c.stopped_images_have_no_replay.ensures d c.in-Ok.mounted c.in-Ok.ensures.mounted first before now c.in-Ok.ensures.reads.later c.in-Err-plan_replay.fault why in
+    let ends = plan_end c.stopped_images_have_no_replay.ensures d c.requires.size c.in-Ok.mounted c.in-Ok.ensures.mounted first before now c.in-Ok.ensures.reads.later c.in-Err-plan_replay.fault why in
     (None, tt, NotBegun _ c.requires.none keeps (subst (BeginEnds d first now) (sym c.not_planned.ensures) ends))
 
 -- ---- or there are no groups to work with, or no root in them

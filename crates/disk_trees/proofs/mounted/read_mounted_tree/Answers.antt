@@ -27,7 +27,7 @@ pub returns-in-Err-clause-cause : goal.returns-in-Err-clause-cause
 returns-in-Err-clause-cause g c =
     let d = g.D.SharedDisk.state c.args.disk.now in
     subst (HasCause d.count (g.D.SharedDisk.faults c.args.disk.now) (g.D.SharedDisk.faults c.plan_replay.new.disk)) (sym c.not_replayed.ensures)
-    (stopped_cause d.count (g.D.SharedDisk.faults c.args.disk.now) (g.D.SharedDisk.faults c.plan_replay.new.disk) c.in-Err.fault c.in-Err.ensures.cause)
+    (stopped_cause c.args.mounted.now.journals d.count (g.D.SharedDisk.faults c.args.disk.now) (g.D.SharedDisk.faults c.plan_replay.new.disk) c.in-Err.fault c.in-Err.ensures.cause)
 
 -- ---- the tree was read, or wasn't
 

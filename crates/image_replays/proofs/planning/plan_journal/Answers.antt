@@ -6,6 +6,7 @@ use Rattle.image_mount.specs.Mounted.{Journal}
 use Rattle.log_layout.specs.declared.log_header.LogHeader.{LogHeader}
 use Rattle.journal_reads.specs.Reading.{ring_read}
 use Rattle.replay_looks.specs.Looks.{IsStopped}
+use Rattle.image_replays.proofs.Causes.{cause_of_one}
 use Rattle.image_replays.proofs.Stopped.{free_of, header_of, why_of, writable_of}
 use Rattle.image_replays.proofs.planning.plan_journal.Goals as goal
 
@@ -45,3 +46,12 @@ returns-clause-why g c =
     (IsStopped (ring_read s c.args.node c.args.journal.now.blocks) c.args.journal.now.dinode c.args.journal.now.blocks c.args.marks.now) r
     (subst (λ bs. IfErr r (λ f. IsTrue s.tells → IsStopped (ring_read s c.args.node bs) c.args.journal.now.dinode bs c.args.marks.now f)) blocks
     (subst (λ d. IfErr r (λ f. IsTrue s.tells → IsStopped (ring_read s c.args.node c.deref-2.result.now) d c.deref-2.result.now c.args.marks.now f)) dinode c.look_at_journal.ensures.why))
+
+pub returns-clause-cause : goal.returns-clause-cause
+returns-clause-cause g c =
+    let s = g.D.SharedDisk.state c.args.disk.now in
+    let blocks : c.deref-2.result.now ≡ c.args.journal.now.blocks = c.deref-2.ensures.value ∙ ap (λ (j : Journal). j.blocks) c.journal.view_is in
+    let inside : c.deref.result.now ≡ c.args.journal.now.blocks = c.deref.ensures.value ∙ ap (λ (j : Journal). j.blocks) c.journal.view_is in
+    cause_of_one c.args.journal.now c.deref-2.result.now s.count (g.D.SharedDisk.faults c.args.disk.now c.args.node) (g.D.SharedDisk.faults c.look_at_journal.new.disk c.args.node) c.look_at_journal.result blocks
+    (sym (ap (λ (j : Journal). j.head.clean) c.journal.view_is) ∙ c.if-journal.false)
+    (sym (c.are_inside.ensures ∙ (λ t. list_all (λ b. nat_lt b (c.blocks-2.ensures.value t)) (inside t))) ∙ c.if-not-are_inside.false) c.look_at_journal.ensures.cause

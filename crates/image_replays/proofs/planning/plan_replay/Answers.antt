@@ -1,8 +1,11 @@
-use Rattle.std.proofs.Common.{◌≡◌, ◌<◌, ◌≤◌, Some, length, sym, ap, subst, ◌∙◌, arith}
+use Rattle.std.proofs.Common.{◌≡◌, ◌<◌, ◌≤◌, [], ◌∷◌, Some, length, sym, ap, subst, ◌∙◌, arith}
 use Rattle.std.specs.Prelude.{slice_get}
 use Rattle.std.proofs.lemmas.Option.{slice_get-get_or}
 use Rattle.image_mount.specs.Mounted.{MountedValue}
+use Rattle.shared_disk.specs.Disk.{DiskState}
+use Rattle.image_replays.proofs.Causes.{cause_among}
 use Rattle.image_replays.proofs.Replay.{are_plans}
+use Rattle.image_replays.specs.Replays.{HasCause}
 use Rattle.image_replays.proofs.Stopped.{so_on, stopped_on}
 use Rattle.image_replays.proofs.planning.plan_replay.Goals as goal
 
@@ -45,3 +48,15 @@ returns-in-Err-clause-stopped g c tells is =
     (λ b low. c.in-Ok.ensures.marks b (subst (λ n. b < n) (sym c.blocks-count.ensures.value) low))
     c.loop-journal.journal-index c.loop-journal.plans.items c.loop-journal.marks c.loop-journal.invariant.so c.journal-item.result
     (subst (λ xs. slice_get xs c.loop-journal.journal-index ≡ Some c.journal-item.result) js there) c.in-Err.fault c.in-Err.ensures.why
+
+pub returns-in-Err-clause-cause : goal.returns-in-Err-clause-cause
+returns-in-Err-clause-cause g c =
+    let before = c.loop-journal.invariant.reads in
+    let js : c.deref-journal-items.result.now ≡ c.args.mounted.now.journals = c.deref-journal-items.ensures.value ∙ ap (λ (v : MountedValue). v.journals) c.mounted.view_is in
+    let there : slice_get c.deref-journal-items.result.now c.loop-journal.journal-index ≡ Some c.journal-item.result
+    = slice_get-get_or c.deref-journal-items.result.now c.loop-journal.journal-index c.journal-item.result c.loop-journal-test.true ∙ ap Some (sym c.journal-item.is) in
+    let old = g.D.SharedDisk.faults c.loop-journal.disk c.args.node in
+    let now = g.D.SharedDisk.faults c.plan_journal.new.disk c.args.node in
+    cause_among c.args.mounted.now.journals c.loop-journal.journal-index c.journal-item.result (g.D.SharedDisk.state c.args.disk.now).count (g.D.SharedDisk.faults c.args.disk.now c.args.node) old now c.in-Err.fault
+    (subst (λ xs. slice_get xs c.loop-journal.journal-index ≡ Some c.journal-item.result) js there) (before.later c.args.node)
+    (subst (λ (u : DiskState). HasCause (c.journal-item.result ∷ []) u.count old now c.in-Err.fault) before.same c.in-Err.ensures.cause)

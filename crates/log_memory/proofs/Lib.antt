@@ -1,0 +1,6 @@
+mod RowsRead
+mod NewLogs
+mod Blocks
+mod Revoking
+mod Sending
+mod Barriers

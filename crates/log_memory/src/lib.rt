@@ -1,0 +1,16 @@
+//! A node's log in memory: changes that aren't in its journal yet, the flush that is being written, and blocks that are live in the journal.
+#![tactic(auto)]
+
+mod changes;
+mod homing;
+mod journal;
+mod kinds;
+mod log;
+mod revokes;
+mod settling;
+
+pub use journal::Journal;
+#[doc(hidden)]
+pub use kinds::Stage;
+pub use log::Log;
+pub use log_values::LogStep;

@@ -1,0 +1,9 @@
+pub mod BlocksHad
+pub mod Subsets
+pub mod Ways
+pub mod Landing
+pub mod Keeping
+pub mod Going
+pub mod Homing
+pub mod Changing
+pub mod Fitting

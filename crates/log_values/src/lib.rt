@@ -1,0 +1,8 @@
+//! A node's log in memory as a value: changes that aren't in its journal yet, the flush that is being written, and blocks that are live in the journal; what its calls
+//! do to it, and what always holds of it. Definitions and laws alone.
+#![tactic(auto)]
+
+mod laws;
+mod steps;
+
+pub use steps::LogStep;
