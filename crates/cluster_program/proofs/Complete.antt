@@ -13,7 +13,7 @@ use Rattle.lone_node.specs.Turns.{Moment}
 use Rattle.cluster_program.specs.declared.output.Listing.{Listing}
 use Rattle.cluster_program.specs.declared.status.Status.{Status}
 use Rattle.cluster_program.specs.declared.status.Status.TheVariants as status
-use Rattle.cluster_program.specs.declared.status.Which.{Which}
+use Rattle.cluster_program.specs.declared.status.WhichSink.{WhichSink}
 use Rattle.cluster_program.specs.World.{Inputs, Outputs}
 use Rattle.cluster_program.specs.Course as course
 use Rattle.cluster_program.specs.Course.{Course, RefusesWords, MakesImage, NoScript, Makes, IsTooLarge, IsTooSmall, LacksMemory, HasFailed, HasMade, plan_for, RunsScript, LacksScript, SourceFailed, Refused, RefusedEarly, NotBuiltYet, NoRoom, Shows, HasShown, ShowsNone, TreeFailed, TreeDamaged, NothingHeld, ShowsImage, ReplaysImage}
@@ -162,7 +162,7 @@ module _ (words : List (List ℕ)) (given left : Inputs) (sinks sinks_now : Outp
   of_making may listing s items lines own (RunsScript text s' items' own' asks read script built ran) = absurd (not_make_run may.make asks.run may.asks.read asks.read)
 
   -- what holds of each end that sinks without a fault leave, and of want of memory
-  of_sink : (W : Status → Type 0) → W status.NoMemory → (which : Which) (before now : ℕ) (old new : Status) → (Rose before now → ⊥) → Becomes which before now old new → W old → W new
+  of_sink : (W : Status → Type 0) → W status.NoMemory → (which : WhichSink) (before now : ℕ) (old new : Status) → (Rose before now → ⊥) → Becomes which before now old new → W old → W new
   of_sink W bare which before now old new still (Stays same) whole = subst W (sym same) whole
   of_sink W bare which before now old new still (WithoutMemory without) whole = subst W (sym without) bare
   of_sink W bare which before now old new still (Fails x y not_told fails up) whole = absurd (still (rose before now x y up))

@@ -7,14 +7,14 @@ use Rattle.command_words.specs.declared.command.Usage.{Usage}
 use Rattle.command_words.specs.declared.command.MakeWords.{MakeWords}
 use Rattle.image_mount.specs.Mounted.{MountedValue}
 use Rattle.lone_node.specs.Turns.{Moment}
-use Rattle.cluster_program.specs.declared.status.Part.TheVariants as part
+use Rattle.cluster_program.specs.declared.status.Unbuilt.TheVariants as part
 use Rattle.trace_text.specs.declared.item.TraceItem.{TraceItem}
 use Rattle.script_lang.specs.Script.{ScriptValue}
 use Rattle.cluster_program.specs.declared.output.Listing.{Listing}
 use Rattle.cluster_program.specs.declared.status.Status.{Status}
 use Rattle.cluster_program.specs.declared.status.Status.TheVariants as status
-use Rattle.cluster_program.specs.declared.status.Which.{Which}
-use Rattle.cluster_program.specs.declared.status.Which.TheVariants as which
+use Rattle.cluster_program.specs.declared.status.WhichSink.{WhichSink}
+use Rattle.cluster_program.specs.declared.status.WhichSink.TheVariants as which
 use Rattle.cluster_program.specs.World.{Inputs, Outputs}
 use Rattle.cluster_program.specs.Course as course
 use Rattle.cluster_program.specs.Course.{Course, RefusesWords, MakesImage, NoScript, Makes, IsTooLarge, IsTooSmall, LacksMemory, HasFailed, HasMade, RunsScript, LacksScript, SourceFailed, Refused, RefusedEarly, NotBuiltYet, NoRoom, Shows, HasShown, ShowsNone, TreeFailed, TreeDamaged, NothingHeld, ShowsImage, ReplaysImage, words_refusal, refusal_of, is_built}
@@ -26,7 +26,7 @@ use Rattle.cluster_program.specs.Report.{Becomes, Stays, WithoutMemory, Fails, R
 use Rattle.cluster_program.specs.Command.{FaultHasCause}
 
 -- a command that is told to be done is done
-pub done_before : (w : Which) (before now : ℕ) (own told : Status) → Becomes w before now own told → told ≡ status.Done → own ≡ status.Done
+pub done_before : (w : WhichSink) (before now : ℕ) (own told : Status) → Becomes w before now own told → told ≡ status.Done → own ≡ status.Done
 done_before w before now own told (Stays same) is = sym same ∙ is
 done_before w before now own told (WithoutMemory without) is = let both : status.NoMemory ≡ status.Done = sym without ∙ is in cc
 done_before w before now own told (Fails x y not_told fails up) is = let both : status.SinkFault w x y ≡ status.Done = sym fails ∙ is in cc

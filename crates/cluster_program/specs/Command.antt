@@ -16,7 +16,7 @@ use Rattle.mkgfs2_tool.specs.Order.{fits}
 use Rattle.cluster_program.specs.declared.output.Listing.{Listing}
 use Rattle.cluster_program.specs.declared.status.Status.{Status}
 use Rattle.cluster_program.specs.declared.status.Status.TheVariants as status
-use Rattle.cluster_program.specs.declared.status.Which.TheVariants as which
+use Rattle.cluster_program.specs.declared.status.WhichSink.TheVariants as which
 
 -- a fault is answered only where the count of what failed rose, from the first number to the second
 abbrev pub FaultHasCause : Inputs → Inputs → Outputs → Outputs → Status → Type 0

@@ -33,7 +33,7 @@ use Rattle.cluster_program.specs.declared.output.Listing.TheVariants.{Clients, J
 use Rattle.cluster_program.specs.World.{Inputs, KeepsScript, KeepsDisk}
 use Rattle.cluster_program.specs.declared.status.Status.{Status}
 use Rattle.cluster_program.specs.declared.status.Status.TheVariants as status
-use Rattle.cluster_program.specs.declared.status.Part.TheVariants as part
+use Rattle.cluster_program.specs.declared.status.Unbuilt.TheVariants as part
 use Rattle.image_mount.specs.declared.field.Field.TheVariants as field
 
 -- ---- the words

@@ -16,7 +16,7 @@ use Rattle.cluster_program.specs.declared.input.InputFault.{InputFault}
 use Rattle.cluster_program.specs.declared.input.InputFault.TheVariants as input
 use Rattle.cluster_program.specs.declared.status.Status.{Status}
 use Rattle.cluster_program.specs.declared.status.Status.TheVariants as status
-use Rattle.cluster_program.specs.declared.status.Part.TheVariants as part
+use Rattle.cluster_program.specs.declared.status.Unbuilt.TheVariants as part
 
 -- of a run of a script, whose first line that is run has this number
 abbrev pub status_of_end : ℕ → RunEnd → Status

@@ -11,8 +11,8 @@ use Rattle.script_lang.specs.Script.{ScriptValue}
 use Rattle.cluster_program.specs.World.{Outputs}
 use Rattle.cluster_program.specs.Out.{is_done, out_of}
 use Rattle.cluster_program.specs.declared.output.Listing.{Listing}
-use Rattle.cluster_program.specs.declared.status.Which.{Which}
-use Rattle.cluster_program.specs.declared.status.Which.TheVariants as which
+use Rattle.cluster_program.specs.declared.status.WhichSink.{WhichSink}
+use Rattle.cluster_program.specs.declared.status.WhichSink.TheVariants as which
 
 abbrev pub IsSinkFault : Status → Type 0
 IsSinkFault (status.SinkFault which x y) = ⊤
@@ -29,7 +29,7 @@ pub record Puts (before now : Option (List ℕ)) (bytes : List ℕ) (Excuse : Ty
 
 -- what a status becomes once a sink, whose count of faults went from `before` to `now`, was written to; a fault that
 -- is told already stays
-pub data Becomes (which : Which) (before now : ℕ) (old new : Status) : Type 0 where
+pub data Becomes (which : WhichSink) (before now : ℕ) (old new : Status) : Type 0 where
   Stays : new ≡ old → Becomes which before now old new
   WithoutMemory : new ≡ status.NoMemory → Becomes which before now old new
   Fails : (x y : ℕ) → (IsSinkFault old → ⊥) → new ≡ status.SinkFault which x y → WentUp before now x y → Becomes which before now old new

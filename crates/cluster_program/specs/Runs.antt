@@ -35,7 +35,7 @@ use Rattle.cluster_program.specs.Out.{replayed_line, replayed_lines}
 use Rattle.cluster_program.specs.World.{Inputs, KeepsDisk}
 use Rattle.cluster_program.specs.declared.status.Status.{Status}
 use Rattle.cluster_program.specs.declared.status.Status.TheVariants as status
-use Rattle.cluster_program.specs.declared.status.Part.TheVariants as part
+use Rattle.cluster_program.specs.declared.status.Unbuilt.TheVariants as part
 
 -- what the node has as it begins: of no block yet, and what mounting told
 abbrev pub as_mounted : DiskState → MountedValue → Lone

@@ -7,9 +7,9 @@ use Rattle.script_lang.specs.declared.script.Client.{Client}
 use Rattle.fencing.specs.NodeSets.{has}
 use Rattle.cluster_program.specs.declared.status.Status.{Status}
 use Rattle.cluster_program.specs.declared.status.Status.TheVariants as status
-use Rattle.cluster_program.specs.declared.status.Which.TheVariants as which
-use Rattle.cluster_program.specs.declared.status.Part.{Part}
-use Rattle.cluster_program.specs.declared.status.Part.TheVariants as part
+use Rattle.cluster_program.specs.declared.status.WhichSink.TheVariants as which
+use Rattle.cluster_program.specs.declared.status.Unbuilt.{Unbuilt}
+use Rattle.cluster_program.specs.declared.status.Unbuilt.TheVariants as part
 use Rattle.image_mount.specs.declared.field.Field.{Field}
 use Rattle.image_mount.specs.declared.field.Field.TheVariants as field
 use Rattle.glock_names.specs.declared.Waits.{Waits}
@@ -60,7 +60,7 @@ waits_text clients w =
 
 -- ---- what is not built yet
 
-abbrev pub part_text : Part → List ℕ
+abbrev pub part_text : Unbuilt → List ℕ
 part_text part.Words = codes "words"
 part_text (part.Script line) = codes "line" ++ number line
 

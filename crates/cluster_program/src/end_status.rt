@@ -3,7 +3,7 @@ ghost use Rattle.std.specs.Prelude.{◌≡◌, ◌+◌, ◌<◌, ◌^◌};
 ghost use Rattle.lone_node.specs.Ends.{IfNotBuilt};
 ghost use Rattle.cluster_program.specs.EndStatuses.{status_of_end, status_of_look, status_of_mount, status_of_replay, status_of_tree};
 
-use crate::status::{Part, Status};
+use crate::status::{Status, Unbuilt};
 use disk_trees::TreeFault;
 use image_mount::MountFault;
 use image_recovery::ReplayFault;
@@ -76,7 +76,7 @@ pub(crate) fn status_of_end(first: u32, end: RunEnd) -> Status
         },
         RunEnd::Damaged { block, rule } => Status::Damaged { block, rule },
         RunEnd::NotBuilt { line } => Status::NotBuilt {
-            part: Part::Script {
+            part: Unbuilt::Script {
                 line: first + line as u32,
             },
         },

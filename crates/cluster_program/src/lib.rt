@@ -21,5 +21,5 @@ mod words;
 
 pub use glock_names::Waits;
 pub use image_mount::Field;
-pub use status::{Part, Status, Which};
+pub use status::{Status, Unbuilt, WhichSink};
 pub use top::{Ended, gfs2run, gfs2run_alone};

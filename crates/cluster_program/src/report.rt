@@ -6,7 +6,7 @@ ghost use Rattle.cluster_program.specs.World.{outputs};
 ghost use Rattle.cluster_program.specs.Report.{shown, IsSinkFault, IsExcused, Puts, Becomes, Reports};
 
 use crate::output::{Listing, put_out};
-use crate::status::{Status, Which};
+use crate::status::{Status, WhichSink};
 use crate::streams::{PutFault, put_trace};
 use script_lang::Script;
 use std::alloc::Global;
@@ -16,7 +16,7 @@ use trace_text::TraceItem;
 // Writes the trace, and says how the command ended once it is written.
 fn report_trace<T: Sink>(alloc: Global, trace: &mut T, items: &[TraceItem], own: Status) -> Status
     ensures puts { Puts (T.contents trace.old) (T.contents trace.new) (print items.now) (IsExcused (T.faults trace.old) (T.faults trace.new) result) }
-    ensures becomes { (IsSinkFault own → ⊥) → Becomes Which.Trace (T.faults trace.old) (T.faults trace.new) own result }
+    ensures becomes { (IsSinkFault own → ⊥) → Becomes WhichSink.Trace (T.faults trace.old) (T.faults trace.new) own result }
     ensures later { T.faults trace.old ≤ T.faults trace.new }
 {
     let before = trace.faults();
@@ -24,7 +24,7 @@ fn report_trace<T: Sink>(alloc: Global, trace: &mut T, items: &[TraceItem], own:
         Ok(()) => own,
         Err(PutFault::NoMemory) => Status::NoMemory,
         Err(PutFault::Failed) => Status::SinkFault {
-            which: Which::Trace,
+            which: WhichSink::Trace,
             before,
             after: trace.faults(),
         },
@@ -49,7 +49,7 @@ fn report_out<T: Sink>(
 ) -> Status
     requires quiet { IsQuiet script.now items.now told }
     ensures puts { Puts (T.contents sink.old) (T.contents sink.new) (shown told lines.items ++ out_of listing script.now items.now told 0) (IsExcused (T.faults sink.old) (T.faults sink.new) result) }
-    ensures becomes { Becomes Which.Out (T.faults sink.old) (T.faults sink.new) told result }
+    ensures becomes { Becomes WhichSink.Out (T.faults sink.old) (T.faults sink.new) told result }
     ensures later { T.faults sink.old ≤ T.faults sink.new }
 {
     let before = sink.faults();
@@ -61,7 +61,7 @@ fn report_out<T: Sink>(
                 return told;
             }
             Status::SinkFault {
-                which: Which::Out,
+                which: WhichSink::Out,
                 before,
                 after: sink.faults(),
             }

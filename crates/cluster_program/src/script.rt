@@ -7,16 +7,16 @@ ghost use Rattle.cluster_program.specs.Course.{HasRead, LacksScript};
 ghost use Rattle.cluster_program.specs.EndStatuses.{status_of_input, status_of_refusal};
 
 use crate::input::{InputFault, read_text};
-use crate::status::{Part, Status};
+use crate::status::{Status, Unbuilt};
 use script_lang::{Script, ScriptRefusal, first_foreign_line, limit_decides, parse};
 use std::alloc::Global;
 use stream_io::Source;
 
 fn not_built(line: u32) -> Status
-    ensures { result ≡ Status.NotBuilt (Part.Script line) }
+    ensures { result ≡ Status.NotBuilt (Unbuilt.Script line) }
 {
     Status::NotBuilt {
-        part: Part::Script { line },
+        part: Unbuilt::Script { line },
     }
 }
 

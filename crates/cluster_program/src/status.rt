@@ -6,14 +6,14 @@ use image_mount::Field;
 
 /// One of the two sinks.
 #[derive(Clone, Copy, Debug, PartialEq, Eq)]
-pub enum Which {
+pub enum WhichSink {
     Trace,
     Out,
 }
 
 /// What is not built yet: this form of words, or this line of a script.
 #[derive(Clone, Copy, Debug, PartialEq, Eq)]
-pub enum Part {
+pub enum Unbuilt {
     Words,
     Script { line: u32 },
 }
@@ -56,7 +56,7 @@ pub enum Status {
     },
     /// A sink failed: its count of faults rose from `before` to `after`.
     SinkFault {
-        which: Which,
+        which: WhichSink,
         before: u64,
         after: u64,
     },
@@ -76,7 +76,7 @@ pub enum Status {
     },
     /// This is not built yet.
     NotBuilt {
-        part: Part,
+        part: Unbuilt,
     },
 }
 

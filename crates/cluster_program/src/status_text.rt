@@ -5,7 +5,7 @@ ghost use Rattle.text_words.specs.Words.{word, number};
 ghost use Rattle.trace_text.specs.Text.{lock_text, state_text};
 ghost use Rattle.cluster_program.specs.StatusText.{field_text, rise_text, block_text, device_text, name_of, holder_text, holders_text, waits_text, part_text, ended, line_text, status_lines};
 
-use crate::status::{Part, Status, Which};
+use crate::status::{Status, Unbuilt, WhichSink};
 use fencing::has_node;
 use glock_names::{LockName, State, Waits};
 use image_mount::Field;
@@ -130,16 +130,16 @@ fn append_stream_fault(
     append_rise(text, before, after)
 }
 
-fn append_part(text: &mut Vec<u8>, part: Part) -> Result<(), NoMemory>
+fn append_part(text: &mut Vec<u8>, part: Unbuilt) -> Result<(), NoMemory>
     ensures { IfOk result (λ _. text.new.items ≡ text.old.items ++ part_text part) }
 {
     match part {
-        Part::Words => append(text, b"words"),
-        Part::Script { line } => append_one(text, b"line", u64::from(line)),
+        Unbuilt::Words => append(text, b"words"),
+        Unbuilt::Script { line } => append_one(text, b"line", u64::from(line)),
     }
 }
 
-fn append_not_built(text: &mut Vec<u8>, part: Part) -> Result<(), NoMemory>
+fn append_not_built(text: &mut Vec<u8>, part: Unbuilt) -> Result<(), NoMemory>
     ensures { IfOk result (λ _. text.new.items ≡ text.old.items ++ (codes "not built: " ++ part_text part)) }
 {
     append(text, b"not built: ")?;
@@ -283,7 +283,7 @@ pub(crate) fn append_status(
 {
     match status {
         Status::SinkFault {
-            which: Which::Out,
+            which: WhichSink::Out,
             ..
         } => Ok(()),
         Status::Stuck { waits } => append_waits(text, clients, waits),

@@ -2,7 +2,7 @@ ghost use Rattle.std.specs.Prelude.{◌≡◌, ℕ, List, IfOk, IfErr, MatchOpti
 ghost use Rattle.cluster_program.specs.Course.{is_built as counts_as_built, words_refusal};
 ghost use Rattle.cluster_program.specs.Tasks.{IsTaskOf, Asks};
 
-use crate::status::{Part, Status};
+use crate::status::{Status, Unbuilt};
 use command_words::{Command, MakeWords, read_words};
 
 /// What the words ask for, among the commands that are built.
@@ -55,6 +55,8 @@ pub(crate) fn read_task(words: &[String], block_size: u32) -> Result<Task, Statu
     };
     match task_of(&command) {
         Some(task) => Ok(task),
-        None => Err(Status::NotBuilt { part: Part::Words }),
+        None => Err(Status::NotBuilt {
+            part: Unbuilt::Words,
+        }),
     }
 }

@@ -1,6 +1,6 @@
 -- The commands of the program, and what its words are read as.
 use Rattle.std.specs.Prelude.{ℕ, ◌-◌, ◌^◌, if◌then◌else◌, List, [], ◌∷◌, replicate, codes, Option, Some, None, unwrap_or, Result, Ok, Err}
-use Rattle.profile_limits.specs.Limits.{least_journal_blocks, most_groups, most_journal_blocks, most_journals}
+use Rattle.profile_limits.specs.Limits.{least_frames, least_journal_blocks, most_frames, most_groups, most_journal_blocks, most_journals}
 use Rattle.std.specs.Str.{bytes_eq}
 use Rattle.number_words.specs.Numbers.{number_in}
 use Rattle.command_words.specs.declared.command.Usage.{Usage}
@@ -32,7 +32,7 @@ run_options =
     row (codes "--schedule") (Number 0 largest)
     ∷ row (codes "--steps") (Number 1 10000000)
     ∷ row (codes "--time") (Number 0 largest)
-    ∷ row (codes "--frames") (Number 512 4096)
+    ∷ row (codes "--frames") (Number least_frames most_frames)
     ∷ []
 
 abbrev pub load_options : List Row

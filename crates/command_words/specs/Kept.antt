@@ -1,6 +1,6 @@
 -- How the reader keeps the options that were given.
 use Rattle.std.specs.Prelude.{ℕ, ◌≡◌, ◌+◌, List, [], codes, Option, Some, None, option_map}
-use Rattle.profile_limits.specs.Limits.{least_journal_blocks, most_groups, most_journal_blocks, most_journals}
+use Rattle.profile_limits.specs.Limits.{least_frames, least_journal_blocks, most_frames, most_groups, most_journal_blocks, most_journals}
 use Rattle.number_words.specs.Numbers.{number_in}
 use Rattle.uuid.specs.Text.{parsed}
 use Rattle.command_words.specs.declared.options.Opt.{Opt}
@@ -20,7 +20,7 @@ row_of Uuid = row (codes "--uuid") Identifier
 row_of Time = row (codes "--time") (Number 0 largest)
 row_of Schedule = row (codes "--schedule") (Number 0 largest)
 row_of Steps = row (codes "--steps") (Number 1 10000000)
-row_of Frames = row (codes "--frames") (Number 512 4096)
+row_of Frames = row (codes "--frames") (Number least_frames most_frames)
 
 abbrev pub options_of : Kind → List Row
 options_of kind.Make = make_options
@@ -49,7 +49,7 @@ kept_put block_size Uuid w s = record s { uuid = parsed w }
 kept_put block_size Time w s = record s { time = number_in 0 largest w }
 kept_put block_size Schedule w s = record s { schedule = number_in 0 largest w }
 kept_put block_size Steps w s = record s { steps = number_in 1 10000000 w }
-kept_put block_size Frames w s = record s { frames = number_in 512 4096 w }
+kept_put block_size Frames w s = record s { frames = number_in least_frames most_frames w }
 
 -- what is kept is what was given
 pub record Keeps (s : Options) (given : List Given) : Type 0 where

@@ -1,6 +1,6 @@
 -- What a command asks for is within limits.
 use Rattle.std.specs.Prelude.{ℕ, ◌≤◌, ⊤, IfSome}
-use Rattle.profile_limits.specs.Limits.{least_journal_blocks, most_groups, most_journal_blocks, most_journals}
+use Rattle.profile_limits.specs.Limits.{least_frames, least_journal_blocks, most_frames, most_groups, most_journal_blocks, most_journals}
 use Rattle.command_words.specs.declared.command.MakeWords.{MakeWords}
 use Rattle.command_words.specs.declared.command.RunWords.{RunWords}
 use Rattle.command_words.specs.declared.command.LoadWords.{LoadWords}
@@ -21,7 +21,7 @@ pub record IsRunWithin (run : RunWords) : Type 0 where
   pub schedule : IfSome run.schedule (IsBetween 0 largest)
   pub steps : IsBetween 1 10000000 (steps_of run.steps)
   pub time : IsBetween 0 largest run.time
-  pub frames : IsBetween 512 4096 (frames_of run.frames)
+  pub frames : IsBetween least_frames most_frames (frames_of run.frames)
 
 pub record IsLoadWithin (load : LoadWords) : Type 0 where
   pub number : IsBetween 0 largest load.number

@@ -7,7 +7,10 @@ ghost use Rattle.command_words.specs.Kept.{row_of, options_of, kept, kept_put, K
 use crate::command::{LoadWords, MakeWords, RunWords, Usage};
 use crate::words::{first_word, identifier, size_number, small_number};
 use number_words::number_word;
-use profile_limits::{LEAST_JOURNAL_BLOCKS, MOST_GROUPS, MOST_JOURNAL_BLOCKS, MOST_JOURNALS};
+use profile_limits::{
+    LEAST_FRAMES, LEAST_JOURNAL_BLOCKS, MOST_FRAMES, MOST_GROUPS, MOST_JOURNAL_BLOCKS,
+    MOST_JOURNALS,
+};
 
 pub(crate) const LARGEST: u64 = 9_223_372_036_854_775_807;
 
@@ -159,7 +162,7 @@ impl Options {
             Opt::Time => self.time = number_word(word, 0, LARGEST),
             Opt::Schedule => self.schedule = number_word(word, 0, LARGEST),
             Opt::Steps => self.steps = number_word(word, 1, STEP_LIMIT),
-            Opt::Frames => self.frames = small_number(word, 512, 4096),
+            Opt::Frames => self.frames = small_number(word, LEAST_FRAMES, MOST_FRAMES),
         }
     }
 }

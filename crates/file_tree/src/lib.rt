@@ -20,4 +20,4 @@ pub use no_memory::NoMemory;
 pub use path::PathFault;
 pub use path_text::{append_name, append_path};
 pub use reply::{Kind, Reply};
-pub use tree::Tree;
+pub use tree::{FILE_LIMIT, Tree};

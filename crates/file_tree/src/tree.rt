@@ -165,3 +165,5 @@ mod moves;
 mod parts;
 mod paths;
 mod reads;
+
+pub use files::FILE_LIMIT;

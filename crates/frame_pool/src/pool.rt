@@ -58,12 +58,13 @@ impl Pool {
     ghost use Rattle.std.specs.Prelude.{◌≡◌, ℕ, ◌≤◌, ◌<◌, ◌↔◌, Some, None, IfOk, IsNone, IfSome, IsSome, IsTrue, length};
     ghost use Rattle.std.specs.FinMap as map;
     ghost use Rattle.std.specs.Borrow.{sem};
+    ghost use Rattle.profile_limits.specs.Limits.{most_frames};
     ghost use Rattle.frame_pool.specs.Frames.{Takes, AllOut, after_give, IsOut};
     ghost use Rattle.frame_pool.specs.Lending.{LendsFrame};
 
     /// A pool of so many frames of so many bytes each, all of them in it. Takes all the memory that it will need.
     pub fn new(alloc: Global, frames: u32, size: u32) -> Result<Pool, NoMemory>
-        requires frames { (1 ≤ frames) × (frames ≤ 4096) }
+        requires frames { (1 ≤ frames) × (frames ≤ most_frames) }
         requires size { (1 ≤ size) × (size ≤ 4096) }
         ensures { IfOk result (λ p. p ≡ record { count = frames; size = size; out = map.empty }) }
     {

@@ -24,12 +24,9 @@ use crate::inode::Inode;
 use crate::journals::{check_journals, named};
 use crate::owners::Claim;
 use crate::walk::Walk;
-use file_tree::Tree;
+use file_tree::{FILE_LIMIT, Tree};
 use gfs2_layout::{Rindex, SuperBlock};
 use std::alloc::Global;
-
-// The greatest size of a file, in bytes.
-const FILE_LIMIT: u64 = 67_108_864;
 
 // The superblock, which is on the device and has its header.
 fn read_superblock(image: &Blocks<'_>) -> Result<SuperBlock, ImageFault>

@@ -1,6 +1,7 @@
 ghost use Rattle.std.specs.Prelude.{◌≡◌, ◌+◌, ◌-◌, ◌^◌, ◌<◌, ◌≤◌, true, false, length};
 ghost use Rattle.std.specs.List.{range_with_len};
 ghost use Rattle.gfs2_layout.specs.Bytes.{put_at};
+ghost use Rattle.gfs2_layout.specs.Structures.{dinode_length};
 ghost use Rattle.gfs2_layout.specs.Writing.{leaf_put};
 ghost use Rattle.mkgfs2_tool.specs.Directories.{records};
 ghost use Rattle.mkgfs2_tool.specs.Making.{IsFitting};
@@ -53,7 +54,7 @@ impl Plan {
     fn put_table(&self, block: &mut [u8])
         requires plan { IsFitting self.now }
         requires size { length block.old ≡ self.now.size }
-        ensures { block.new ≡ put_at 232 (table_bytes self.now) block.old }
+        ensures { block.new ≡ put_at dinode_length (table_bytes self.now) block.old }
     {
         for n in 0..TABLE_POINTERS {
             let address = self.data_address(self.leaf_place(self.leaf_of_pointer(n)));

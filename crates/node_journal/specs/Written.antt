@@ -9,6 +9,7 @@ use Rattle.log_layout.specs.Chunks.{Logged, Transaction}
 use Rattle.log_layout.specs.Headers.{as_read, log_read}
 use Rattle.node_journal.specs.Encoding.{header_of, header_place, header_block, size_of}
 use Rattle.node_journal.specs.declared.place.Place.{Place}
+use Rattle.profile_limits.specs.Limits.{most_blocks}
 
 -- ---- what may be written
 
@@ -28,7 +29,7 @@ pub record IsLoggableAll (size : ℕ) (t : Transaction) : Type 0 where
   pub rising : IsStrictlyIncreasing (map (λ (e : Logged). e.block) t.blocks)
   pub revokes : IsStrictlyIncreasing t.revokes
   pub apart : (b : ℕ) → Contains (map (λ (e : Logged). e.block) t.blocks) b → Contains t.revokes b → ⊥
-  pub few : length t.blocks + length t.revokes ≤ 131072
+  pub few : length t.blocks + length t.revokes ≤ most_blocks
   pub blocks : All (IsLoggable size) t.blocks
 
 -- its numbers, and that of the journal, have the widths of their types

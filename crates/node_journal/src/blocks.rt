@@ -1,4 +1,5 @@
 // The blocks of a transaction as it is written, one at a time and without memory.
+ghost use Rattle.profile_limits.specs.Limits.{most_blocks};
 ghost use Rattle.std.specs.Prelude.{◌≡◌, ◌+◌, ◌-◌, ◌*◌, ◌<◌, ◌≤◌, Some, drop, length, slice_get, take};
 ghost use Rattle.std.specs.List.{flat_map};
 ghost use Rattle.gfs2_layout.specs.Device.{IsBlockSize};
@@ -60,7 +61,7 @@ fn put_content_head<E: Entries>(jid: u32, entries: &E, first: usize, count: usiz
     requires room { 72 + 16 * count ≤ length into.old }
     requires most { length into.old ≤ 4096 }
     requires there { first + count ≤ length (E.logged entries.now) }
-    requires few { length (E.logged entries.now) ≤ 131072 }
+    requires few { length (E.logged entries.now) ≤ most_blocks }
     requires whole { AreWhole (length into.old) (E.logged entries.now) }
     ensures { into.new ≡ descriptor_block (length into.old) jid kind_of.Journaled (1 + count) count (content_numbers (take count (drop first (E.logged entries.now)))) }
 {
@@ -86,7 +87,7 @@ fn put_metadata_head<E: Entries>(jid: u32, entries: &E, first: usize, count: usi
     requires room { 72 + 8 * count ≤ length into.old }
     requires most { length into.old ≤ 4096 }
     requires there { first + count ≤ length (E.logged entries.now) }
-    requires few { length (E.logged entries.now) ≤ 131072 }
+    requires few { length (E.logged entries.now) ≤ most_blocks }
     ensures { into.new ≡ descriptor_block (length into.old) jid kind_of.Metadata (1 + count) count (map (λ e. e.block) (take count (drop first (E.logged entries.now)))) }
 {
     put_head(
@@ -104,7 +105,7 @@ fn put_metadata_head<E: Entries>(jid: u32, entries: &E, first: usize, count: usi
 // The block with this index, of those of the chunks of content.
 fn put_content<E: Entries>(jid: u32, entries: &E, index: usize, into: &mut [u8])
     requires size { IsBlockSize (length into.old) }
-    requires few { length (E.logged entries.now) ≤ 131072 }
+    requires few { length (E.logged entries.now) ≤ most_blocks }
     requires whole { AreWhole (length into.old) (E.logged entries.now) }
     requires index { index < kind_size_of (content_room (length into.old)) (length (E.logged entries.now)) }
     ensures { slice_get (flat_map (content_chunk (length into.old) jid) (pieces (content_room (length into.old)) (E.logged entries.now))) index ≡ Some into.new }
@@ -123,7 +124,7 @@ fn put_content<E: Entries>(jid: u32, entries: &E, index: usize, into: &mut [u8])
 // The same of metadata.
 fn put_metadata<E: Entries>(jid: u32, entries: &E, index: usize, into: &mut [u8])
     requires size { IsBlockSize (length into.old) }
-    requires few { length (E.logged entries.now) ≤ 131072 }
+    requires few { length (E.logged entries.now) ≤ most_blocks }
     requires whole { AreWhole (length into.old) (E.logged entries.now) }
     requires index { index < kind_size_of (numbers_room (length into.old)) (length (E.logged entries.now)) }
     ensures { slice_get (flat_map (metadata_chunk (length into.old) jid) (pieces (numbers_room (length into.old)) (E.logged entries.now))) index ≡ Some into.new }
@@ -157,7 +158,7 @@ fn put_further(jid: u32, revokes: &[u64], into: &mut [u8])
 // The block with this index, of those of the chunk of revokes.
 fn put_revokes(jid: u32, revokes: &[u64], index: usize, into: &mut [u8])
     requires size { IsBlockSize (length into.old) }
-    requires few { length revokes.now ≤ 131072 }
+    requires few { length revokes.now ≤ most_blocks }
     requires index { index < revoke_size (length into.old) (length revokes.now) }
     ensures { slice_get (revoke_chunks (length into.old) jid revokes.now) index ≡ Some into.new }
 {
@@ -191,9 +192,9 @@ pub fn put_block<C: Entries, M: Entries>(
     into: &mut [u8],
 )
     requires size { IsBlockSize (length into.old) }
-    requires few_content { length (C.logged content.now) ≤ 131072 }
-    requires few_metadata { length (M.logged metadata.now) ≤ 131072 }
-    requires few_revokes { length revokes.now ≤ 131072 }
+    requires few_content { length (C.logged content.now) ≤ most_blocks }
+    requires few_metadata { length (M.logged metadata.now) ≤ most_blocks }
+    requires few_revokes { length revokes.now ≤ most_blocks }
     requires content { AreWhole (length into.old) (C.logged content.now) }
     requires metadata { AreWhole (length into.old) (M.logged metadata.now) }
     requires index { index < length (chunks_with (length into.old) jid (C.logged content.now) (M.logged metadata.now) revokes.now) }

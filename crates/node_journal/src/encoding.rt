@@ -1,4 +1,5 @@
 // A transaction as it is written.
+ghost use Rattle.profile_limits.specs.Limits.{most_blocks};
 ghost use Rattle.std.specs.Prelude.{◌≡◌, ◌<◌, ◌≤◌, filter, if◌then◌else◌, length, map, not, slice_get, IfOk};
 ghost use Rattle.gfs2_layout.specs.Device.{IsBlockSize};
 ghost use Rattle.journal_scan.specs.Said.{logged, says};
@@ -40,9 +41,9 @@ fn chunk_block(
     size: usize,
 ) -> Result<Vec<u8>, NoMemory>
     requires size { IsBlockSize size }
-    requires few_content { length content.now.blocks.items ≤ 131072 }
-    requires few_metadata { length metadata.now.blocks.items ≤ 131072 }
-    requires few_revokes { length revokes.now ≤ 131072 }
+    requires few_content { length content.now.blocks.items ≤ most_blocks }
+    requires few_metadata { length metadata.now.blocks.items ≤ most_blocks }
+    requires few_revokes { length revokes.now ≤ most_blocks }
     requires content { AreWhole size (map (λ r. logged r.now) content.now.blocks.items) }
     requires metadata { AreWhole size (map (λ r. logged r.now) metadata.now.blocks.items) }
     requires index { index < length (chunks_with size jid (map (λ r. logged r.now) content.now.blocks.items) (map (λ r. logged r.now) metadata.now.blocks.items) revokes.now) }

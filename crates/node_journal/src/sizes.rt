@@ -1,3 +1,4 @@
+ghost use Rattle.profile_limits.specs.Limits.{most_blocks};
 ghost use Rattle.std.specs.Prelude.{◌≡◌, ◌+◌, ◌-◌, ◌<◌, ◌≤◌, ◌^◌, count_by, length, filter, not};
 ghost use Rattle.gfs2_layout.specs.Device.{IsBlockSize};
 ghost use Rattle.drafts.specs.declared.change.Written.{Written as WrittenValue};
@@ -13,7 +14,7 @@ use drafts::{Transaction, Written};
 pub(crate) fn kind_size(room: u64, count: u64) -> u64
     requires some { 0 < room }
     requires room { room ≤ 4096 }
-    requires few { count ≤ 131072 }
+    requires few { count ≤ most_blocks }
     ensures size { result ≡ kind_size_of room count }
     ensures small { result ≤ 2 * count + 4096 }
 {
@@ -24,7 +25,7 @@ pub(crate) fn kind_size(room: u64, count: u64) -> u64
 #[tactic(auto, using(crate::proofs::Arounds::division_is_less))]
 pub(crate) fn further_count(size: u64, count: u64) -> u64
     requires size { IsBlockSize size }
-    requires few { count ≤ 131072 }
+    requires few { count ≤ most_blocks }
     ensures count { result ≡ further_count_of size count }
     ensures small { result ≤ count + 4096 }
 {
@@ -35,7 +36,7 @@ pub(crate) fn further_count(size: u64, count: u64) -> u64
 // How many blocks so many revokes take.
 fn revoke_size(size: u64, count: u64) -> u64
     requires size { IsBlockSize size }
-    requires few { count ≤ 131072 }
+    requires few { count ≤ most_blocks }
     ensures size { result ≡ revoke_size_of size count }
     ensures small { result ≤ count + 4097 }
 {
@@ -64,7 +65,7 @@ fn content_count(blocks: &[Written]) -> usize
 /// revokes so many.
 pub fn size_with(content: u32, metadata: u32, revokes: u32, block_size: u32) -> u32
     requires size { IsBlockSize block_size }
-    requires few { content + metadata + revokes ≤ 131072 }
+    requires few { content + metadata + revokes ≤ most_blocks }
     ensures { result ≡ size_with block_size content metadata revokes }
 {
     let size = u64::from(block_size);
@@ -76,7 +77,7 @@ pub fn size_with(content: u32, metadata: u32, revokes: u32, block_size: u32) -> 
 /// How many places of a journal a transaction takes, that of its header among them. It goes over the blocks once.
 pub fn size(t: &Transaction, block_size: u32) -> u32
     requires size { IsBlockSize block_size }
-    requires few { length t.now.blocks.items + length t.now.revokes.items ≤ 131072 }
+    requires few { length t.now.blocks.items + length t.now.revokes.items ≤ most_blocks }
     ensures { result ≡ size_of block_size (says t.now) }
 {
     let content = content_count(&t.blocks);

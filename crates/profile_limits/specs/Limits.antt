@@ -23,3 +23,10 @@ most_groups = 64
 -- how many blocks the headers and bitmaps of all groups have at most
 abbrev pub most_group_blocks : ℕ
 most_group_blocks = 128
+
+-- how many frames a node's pool has, from the least to the greatest number
+abbrev pub least_frames : ℕ
+least_frames = 512
+
+abbrev pub most_frames : ℕ
+most_frames = 4096

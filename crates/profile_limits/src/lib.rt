@@ -19,3 +19,9 @@ pub const MOST_GROUPS: u32 = 64;
 
 /// How many blocks the headers and bitmaps of all groups have at most.
 pub const MOST_GROUP_BLOCKS: u32 = 128;
+
+/// How many frames, of a block each, a node's pool has at least.
+pub const LEAST_FRAMES: u32 = 512;
+
+/// How many frames a node's pool has at most.
+pub const MOST_FRAMES: u32 = 4096;

@@ -1,5 +1,8 @@
 // The fields of structures: their names, where they stand, and how many bytes they have.
 
+/// How many bytes a dinode's fields take, at the head of its block.
+pub(crate) const DINODE_LENGTH: usize = 232;
+
 pub(crate) type Field = (&'static str, usize, usize);
 
 static HEADER: [Field; 5] = [
@@ -59,7 +62,7 @@ static DINODE: [Field; 23] = [
     ("depth", 146, 2),
     ("entries", 148, 4),
     ("eattr", 168, 8),
-    ("content", 232, 0),
+    ("content", DINODE_LENGTH, 0),
 ];
 
 static LEAF: [Field; 4] = [

@@ -1,4 +1,5 @@
 // Images: the bytes of a device, how large its blocks are, and what its blocks are called.
+use crate::fields::DINODE_LENGTH;
 use crate::numbers::{number_at, part};
 use anyhow::{Result, bail};
 use std::alloc::Global;
@@ -94,7 +95,7 @@ impl Image {
         if self.kind(block) == Some(6) {
             104
         } else {
-            232
+            DINODE_LENGTH
         }
     }
 

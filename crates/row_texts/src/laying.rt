@@ -1,6 +1,7 @@
 // Files that are laid into the root by hand, since no command makes files yet. The root is a directory in one block, the image
 // has one group, and the record goes behind the others.
 use crate::contents::name_of;
+use crate::fields::DINODE_LENGTH;
 use crate::images::Image;
 use crate::numbers::{put_bytes, put_number};
 use crate::places::first_free;
@@ -150,10 +151,10 @@ fn put_dinode(image: &mut Image, block: u64, number: u64, content: &[u8]) -> Res
         put(image, block, at, 8, time)?;
     }
     ensure!(
-        content.len() <= (image.size as usize).saturating_sub(232),
+        content.len() <= (image.size as usize).saturating_sub(DINODE_LENGTH),
         "a file of more than one block"
     );
-    let start = image.start(block).saturating_add(232);
+    let start = image.start(block).saturating_add(DINODE_LENGTH);
     ensure!(
         put_bytes(&mut image.bytes, start, content),
         "outside the device"

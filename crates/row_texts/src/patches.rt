@@ -1,6 +1,6 @@
 // Patches: new bytes at a named place of an image.
 use crate::contents::{content_of, name_of};
-use crate::fields::{entry_field, field_of, record_field};
+use crate::fields::{DINODE_LENGTH, entry_field, field_of, record_field};
 use crate::images::Image;
 use crate::numbers::{next_word, number_at, number_word, part, put_bytes, put_number};
 use crate::places::{number_of, range_of};
@@ -45,7 +45,7 @@ fn kind_of(base: &Image, now: &Image, block: u64) -> Option<u64> {
 
 fn pointer(kind: Option<u64>, word: &str) -> Option<(usize, usize)> {
     let index = number_word(word)?.min(4096) as usize;
-    let first = if kind == Some(4) { 232 } else { 24 };
+    let first = if kind == Some(4) { DINODE_LENGTH } else { 24 };
     Some((index.saturating_mul(8).saturating_add(first), 8))
 }
 
@@ -55,7 +55,7 @@ fn entry(word: &str, field: &str) -> Option<(usize, usize)> {
     Some((
         index
             .saturating_mul(96)
-            .saturating_add(232)
+            .saturating_add(DINODE_LENGTH)
             .saturating_add(at),
         width,
     ))
@@ -154,7 +154,7 @@ pub fn put_pointers(base: &Image, image: &mut Image, words: &str) -> Result<()> 
     let count = number_of(base, next_word(&mut rest))?;
     let to = number_of(base, rest)?;
     let head = if kind_of(base, image, block) == Some(4) {
-        232
+        DINODE_LENGTH
     } else {
         24
     };

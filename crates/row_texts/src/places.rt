@@ -1,13 +1,17 @@
 // What the words for blocks and numbers mean on an image.
+use crate::fields::DINODE_LENGTH;
 use crate::images::Image;
 use crate::numbers::number_word;
 use anyhow::{Context, Result};
 use std::alloc::Global;
 
+// How many bytes stand before the superblock.
+const SUPERBLOCK_START: u64 = 65_536;
+
 /// Calls the blocks of an image that was made by the names of their structures.
 pub fn call_structures(alloc: Global, image: &mut Image) -> Result<()> {
     let size = u64::from(image.size).max(1);
-    let superblock = 65_536 / size;
+    let superblock = SUPERBLOCK_START / size;
     image.call(alloc, "super", superblock)?;
     image.call(alloc, "past", image.blocks())?;
     let Some(master) = image.number(superblock, 56, 8) else {
@@ -61,13 +65,19 @@ fn journal_block(image: &Image, dinode: u64, word: &str) -> Option<u64> {
     let pointers = (image.size as usize).saturating_sub(24) / 8;
     if let Some(digits) = word.strip_prefix("pointers") {
         let index = number_word(digits)?.min(4096) as usize;
-        return image.number(dinode, index.saturating_mul(8).saturating_add(232), 8);
+        return image.number(
+            dinode,
+            index.saturating_mul(8).saturating_add(DINODE_LENGTH),
+            8,
+        );
     }
     let index = number_word(word.strip_prefix("place")?)?.min(65_536) as usize;
     if pointers == 0 {
         return None;
     }
-    let at = (index / pointers).saturating_mul(8).saturating_add(232);
+    let at = (index / pointers)
+        .saturating_mul(8)
+        .saturating_add(DINODE_LENGTH);
     let block = image.number(dinode, at, 8)?;
     image.number(
         block,
@@ -86,7 +96,7 @@ fn term_of(image: &Image, word: &str) -> Option<u64> {
     }
     match word {
         "size" => Some(u64::from(image.size)),
-        "area" => Some(u64::from(image.size).saturating_sub(232)),
+        "area" => Some(u64::from(image.size).saturating_sub(DINODE_LENGTH as u64)),
         "free" => first_free(image),
         _ => {
             let (journal, place) = word.split_once('.')?;

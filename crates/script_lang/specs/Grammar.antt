@@ -12,7 +12,7 @@ use Rattle.script_lang.specs.declared.script.Line.{Line}
 use Rattle.script_lang.specs.declared.script.Line.TheVariants as line
 use Rattle.script_lang.specs.Script.{ScriptValue}
 use Rattle.number_words.specs.Numbers.{number_in}
-use Rattle.script_lang.specs.Words.{lines_in, words_in, column_of, path_in, content_in, client_in, LineRead, Got, Wrong, later, ends, a_word, the_word}
+use Rattle.script_lang.specs.Words.{lines_in, words_in, column_of, path_in, content_in, client_in, LineRead, Got, Wrong, later, ends, a_word, the_word, transfer_limit}
 
 -- ---- limits
 
@@ -30,7 +30,7 @@ abbrev pub offset_limit : ℕ
 offset_limit = 2 ^ 32
 
 abbrev pub count_limit : ℕ
-count_limit = 16384
+count_limit = transfer_limit
 
 -- ---- calls
 

@@ -5,7 +5,7 @@ ghost use Rattle.script_lang.specs.Words.{words_behind, words_in, later, Got, Wr
 ghost use Rattle.script_lang.specs.Grammar.{on_path, on_range, on_content, on_size, on_paths, call_after, call_read};
 ghost use Rattle.script_lang.specs.Reading.{ReadsAs, IsFault, arguments_read};
 
-use crate::content::content_at;
+use crate::content::{TRANSFER_LIMIT, content_at};
 use crate::line_words::{LineFault, end_at, number_at, path_at, word_behind};
 use crate::words::is_word;
 use file_tree::{Call, Content, Path};
@@ -13,9 +13,6 @@ use std::alloc::Global;
 
 /// The largest offset or size.
 const OFFSET_LIMIT: u64 = 1 << 32;
-
-/// How many bytes one call reads at most.
-const COUNT_LIMIT: u64 = 16_384;
 
 /// The word that says what a call does.
 #[derive(Clone, Copy, Debug, PartialEq, Eq)]
@@ -97,7 +94,7 @@ fn range_arguments(alloc: Global, words: &[u8]) -> Result<(Path, u64, u32), Line
 {
     let (path, words) = path_at(alloc, words, 2)?;
     let (at, words) = number_at(words, 3, 0, OFFSET_LIMIT)?;
-    let (count, words) = number_at(words, 4, 0, COUNT_LIMIT)?;
+    let (count, words) = number_at(words, 4, 0, TRANSFER_LIMIT)?;
     end_at(words, 5)?;
     Ok((path, at, count as u32))
 }

@@ -11,8 +11,8 @@ use hex::FromHexError;
 use number_words::number_word;
 use std::alloc::Global;
 
-/// How many bytes one call writes at most.
-const TRANSFER_LIMIT: u64 = 16_384;
+/// How many bytes one call reads or writes at most.
+pub(crate) const TRANSFER_LIMIT: u64 = 16_384;
 
 // Two digits a byte. A longer word is refused before it takes memory.
 const LONGEST_BYTES: usize = 32_768;

@@ -3,11 +3,8 @@ ghost use Rattle.std.specs.Prelude.{◌+◌, ◌≤◌};
 ghost use Rattle.gfs2_layout.specs.Structures.{dinode_length};
 ghost use Rattle.writing_calls.specs.Contents.{IsAimOf, IsCutAimOf};
 
-use file_tree::Reply;
+use file_tree::{FILE_LIMIT, Reply};
 use gfs2_layout::{DINODE_LENGTH, Dinode};
-
-/// How many bytes a file may have.
-const FILE_LIMIT: u64 = 67_108_864;
 
 /// What is to become of an inode.
 #[derive(Drop)]

@@ -8,8 +8,8 @@ ghost use Rattle.file_tree.specs.declared.reply.Reply.TheVariants as replies;
 use super::{Node, Tree};
 use crate::{Name, NoMemory, Reply};
 
-// How many bytes a file may have.
-const FILE_LIMIT: u64 = 67_108_864;
+/// How many bytes a file may have.
+pub const FILE_LIMIT: u64 = 67_108_864;
 
 impl Tree {
     // What refuses a call that wants a file at a path.

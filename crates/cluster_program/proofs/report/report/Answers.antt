@@ -1,5 +1,5 @@
 use Rattle.cluster_program.proofs.Ends.{done_before}
-use Rattle.cluster_program.specs.declared.status.Which.TheVariants as which
+use Rattle.cluster_program.specs.declared.status.WhichSink.TheVariants as which
 use Rattle.cluster_program.proofs.report.report.Goals as goal
 
 pub report_out-requires : goal.report_out-requires

@@ -5,7 +5,7 @@ use Rattle.cluster_program.specs.Quiet.{IsQuiet}
 use Rattle.cluster_program.specs.Report.{Reports}
 use Rattle.cluster_program.specs.World.{Outputs}
 use Rattle.cluster_program.proofs.Ends.{done_before, fault_has_cause}
-use Rattle.cluster_program.specs.declared.status.Which.TheVariants as which
+use Rattle.cluster_program.specs.declared.status.WhichSink.TheVariants as which
 use Rattle.cluster_program.proofs.Complete.{complete}
 use Rattle.cluster_program.proofs.Dirty.{counted}
 use Rattle.cluster_program.proofs.top.gfs2run_alone.Given.{Over}
