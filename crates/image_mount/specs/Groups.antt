@@ -1,4 +1,5 @@
 -- The list of groups, as it is found and read.
+use Rattle.profile_limits.specs.Limits.{most_group_blocks, most_groups}
 use Rattle.std.specs.Prelude.{ℕ, ◌≡◌, ◌<◌, ◌≤◌, ◌%◌, List, length, codes}
 use Rattle.gfs2_layout.specs.Inode.{dinode_in, content_of}
 use Rattle.gfs2_layout.specs.Records.{Record}
@@ -54,6 +55,6 @@ pub record AreGroups (im : Image) (list : ℕ) (groups : List Rindex) : Type 0 w
   pub whole : (dinode_in (every im list)).size % entry_length ≡ 0
   pub listed : groups_in (content_of (every im list)) ≡ groups
   pub some : 1 ≤ length groups
-  pub few : length groups ≤ 64
+  pub few : length groups ≤ most_groups
   pub fit : GroupsFit im groups
-  pub short : group_length groups ≤ 128
+  pub short : group_length groups ≤ most_group_blocks

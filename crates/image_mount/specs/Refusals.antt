@@ -48,7 +48,7 @@ pub data IsOutside (im : Image) : Field → ℕ → Type 0 where
   master : (r : Record) → HasFormat im → IsFirstOther im (master_of im) r → IsOutside im field.Master r.address
   -- how many groups are listed, by the size of their list
   groups : (l : Layout) → HasMaster im l → (dinode_in (every im l.rindex)).size % entry_length ≡ 0
-      → ((dinode_in (every im l.rindex)).size / entry_length ≡ 0) ⊎ (64 < (dinode_in (every im l.rindex)).size / entry_length)
+      → ((dinode_in (every im l.rindex)).size / entry_length ≡ 0) ⊎ (most_groups < (dinode_in (every im l.rindex)).size / entry_length)
       → IsOutside im field.Groups ((dinode_in (every im l.rindex)).size / entry_length)
   -- how many blocks of headers and bitmaps the groups have
   group_blocks : (l : Layout) → HasList im l → 1 ≤ length l.groups → length l.groups ≤ most_groups → GroupsFit im l.groups → most_group_blocks < group_length l.groups

@@ -1,4 +1,5 @@
 -- What the system files say, as the code has it.
+use Rattle.profile_limits.specs.Limits.{most_journals}
 use Rattle.std.specs.Prelude.{ℕ, ◌≡◌, ◌≢◌, ◌⊎◌, ◌<◌, ◌≤◌, true, false, List, [], Contains, codes, length, map, slice_get, Some}
 use Rattle.glock_names.specs.declared.steps.Entry.{Entry}
 use Rattle.dinode_tree.specs.Reading.{IsRightDinode}
@@ -111,7 +112,7 @@ pub record AreRecordsAnew (im : Image) (a : ℕ) (records : List Record) : Type 
 -- these are the journals' among the records: one to eight, and they have no others beside
 pub record AreJournalsAmong (items : List Item) (journals : List Link) : Type 0 where
   pub some : 1 ≤ length journals
-  pub few : length journals ≤ 8
+  pub few : length journals ≤ most_journals
   pub named : AreJournalNames (map said items) (length journals)
   pub each : AreAmong items journals
 
@@ -120,7 +121,7 @@ pub record AreJournalsOf (im : Image) (a : ℕ) (journals : List Link) : Type 0 
   pub looked : IsLookedAt im a
   pub sound : IsSoundDirectory im a (master_of im)
   pub some : 1 ≤ length journals
-  pub few : length journals ≤ 8
+  pub few : length journals ≤ most_journals
   pub named : (records : List Record) → HasRecords im a records → AreJournalNames records (length journals)
   pub each : (j : ℕ) (link : Link) → slice_get journals j ≡ Some link → IsNamedIn im a link.from (journal_name j) link.entry
   pub others : (name : List ℕ) (d : ℕ) → LeadsTo im a name d → (j : ℕ) × ((link : Link) × (slice_get journals j ≡ Some link) × (link.entry.addr ≡ d) × (name ≡ journal_name j))

@@ -19,7 +19,7 @@ ghost use Rattle.image_mount.specs.Kept.{seen_of};
 ghost use Rattle.image_mount.specs.Marked.{HasKeptContent, IsKept};
 ghost use Rattle.image_mount.specs.Refusals.{RefusesRightly};
 ghost use Rattle.image_mount.specs.Searching.{IsRead, IsSteady, IsListingFile, StopsRightly, LacksBlock};
-ghost use Rattle.profile_limits.specs.Limits.{most_blocks};
+ghost use Rattle.profile_limits.specs.Limits.{most_blocks, most_group_blocks, most_groups};
 
 use crate::fault::MountFault;
 use crate::field::Field;
@@ -152,7 +152,7 @@ fn check_cover(device: &Device, groups: &[Rindex]) -> Result<(), MountFault>
 
 // How many blocks the headers and bitmaps of at most 64 groups have.
 fn count_headers(groups: &[Rindex]) -> u64
-    requires { length groups.now ≤ 64 }
+    requires { length groups.now ≤ most_groups }
     ensures { result ≡ group_length groups.now }
 {
     let mut count = 0;
@@ -164,9 +164,9 @@ fn count_headers(groups: &[Rindex]) -> u64
 
 // That the groups fit the device and the profile. The dinode of their list is in block `list`.
 fn check_groups(device: &Device, groups: &[Rindex], list: u64) -> Result<(), MountFault>
-    requires { length groups.now ≤ 64 }
+    requires { length groups.now ≤ most_groups }
     ensures fit { (im : Image) → IsListOf im device.now.size device.now.count list groups.now → OnOk result (GroupsFit im groups.now) }
-    ensures short { OnOk result (group_length groups.now ≤ 128) }
+    ensures short { OnOk result (group_length groups.now ≤ most_group_blocks) }
     ensures refused { (im : Image) → IsListOf im device.now.size device.now.count list groups.now → 1 ≤ length groups.now → IfErr result (RefusesRightly im) }
     ensures steady { IfErr result IsSteady }
 {
@@ -238,7 +238,7 @@ pub(crate) fn list_groups(
     rindex: &Link,
 ) -> Result<Vec<Rindex>, Stop>
     ensures found { (im : Image) → IsRead im table.now → count ≡ im.count → IsListLink im rindex.now → IfOk result (λ groups. AreGroups im rindex.now.entry.addr groups.items) }
-    ensures length { IfOk result (λ groups. length groups.items ≤ 64) }
+    ensures length { IfOk result (λ groups. length groups.items ≤ most_groups) }
     ensures repeats { (im : Image) → IsRead im table.now → OnOk result (IsTrueEntry im rindex.now.entry) }
     ensures there { OnOk result (IsKept table.now rindex.now.entry.addr) }
     ensures kept { (im : Image) → IsRead im table.now → OnOk result (HasKeptContent table.now (every im rindex.now.entry.addr)) }

@@ -13,7 +13,7 @@ ghost use Rattle.image_mount.specs.Rings.{IsSearched};
 ghost use Rattle.image_mount.specs.declared.fault.MountFault.TheVariants as fault_of;
 ghost use Rattle.image_mount.specs.Searching.{IsRead, IsSteady, IsWorking, ShowsSystem, StopsRightly, LacksBlock};
 ghost use Rattle.image_mount.specs.System.{AreAmong, LacksName, AreNamesOf, AreJournalsAmong, AreJournalsOf, AreRecordsAnew, IsJindexIn};
-ghost use Rattle.profile_limits.specs.Limits.{most_blocks};
+ghost use Rattle.profile_limits.specs.Limits.{most_blocks, most_journals};
 ghost use Rattle.shared_disk.specs.Disk.{ReadsOnly};
 
 use crate::fault::MountFault;
@@ -40,7 +40,7 @@ fn journal_name(j: u8) -> [u8; 8]
 
 // Whether the name is that of one of so many journals.
 fn is_journal_name(name: &[u8], count: u8) -> bool
-    requires { count ≤ 8 }
+    requires { count ≤ most_journals }
     ensures found { result ≡ true → (j : ℕ) × (j < count) × (name.now ≡ name_of_journal j) }
     ensures none { result ≡ false → (j : ℕ) → j < count → name.now ≢ name_of_journal j }
 {
@@ -54,7 +54,7 @@ fn is_journal_name(name: &[u8], count: u8) -> bool
 
 // Whether the records, but for `.` and `..`, have the names of so many journals.
 fn are_journal_names(records: &[Named<'_>], count: u8) -> bool
-    requires { count ≤ 8 }
+    requires { count ≤ most_journals }
     ensures { IsTrue result ↔ AreNamesOf (map said records.now) count }
 {
     for record in records {
@@ -71,7 +71,7 @@ fn journals_in(
     records: &[Named<'_>],
     count: u8,
 ) -> Result<Option<Vec<Link>>, MountFault>
-    requires { count ≤ 8 }
+    requires { count ≤ most_journals }
     ensures found { IfOk result (λ journals. IfSome journals (λ entries. (length entries.items ≡ count) × AreAmong records.now entries.items)) }
     ensures none { IfOk result (λ journals. IfNone journals ((j : ℕ) × (j < count) × LacksName records.now (name_of_journal j))) }
     ensures memory { IfErr result (λ fault. fault ≡ fault_of.NoMemory) }
