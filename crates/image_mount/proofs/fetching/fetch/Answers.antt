@@ -1,7 +1,8 @@
 use Rattle.std.proofs.Common.{◌≡◌, ◌<◌, ◌∙◌, sym, ap, subst, length, arith}
 use Rattle.image_mount.specs.Refusals.{HasRisen}
 use Rattle.image_mount.proofs.Marked.{grown_kept}
-use Rattle.image_mount.proofs.Marks.{searched_more}
+use Rattle.image_mount.proofs.Heads.{device_told}
+use Rattle.image_mount.proofs.Marks.{searched_more, wanted_system}
 use Rattle.image_mount.proofs.Stops.{handed, refused}
 use Rattle.image_mount.proofs.Working.{not_kept, working_more, refilled}
 use Rattle.image_mount.proofs.fetching.fetch.Goals as goal
@@ -36,3 +37,9 @@ pub returns-clause-grown : goal.returns-clause-grown
 returns-clause-grown g c =
     let low : c.args.block < length c.args.table.now.entries = omega (arith, c.in_ok-check_readable.ensures.inside, c.blocks-2.ensures.value, c.requires.work.count) in
     grown_kept c.args.table.now c.keep.new.self c.args.block _ (not_kept c.args.table.now.entries c.args.block low c.requires.new) c.keep.ensures.kept c.keep.ensures.places c.keep.ensures.leaves c.in_ok-check_readable.ensures.unmarked
+
+pub returns-in_err-read_into-clause-refused : goal.returns-in_err-read_into-clause-refused
+returns-in_err-read_into-clause-refused g c done d n im shows wanted known =
+    refused im _ _ c.from_residual-in_err-read_into.ensures.1
+    (device_told im c.in_err-read_into.field-0.0 c.args.block c.in_err-read_into.ensures.failed
+    (record { inside = omega (arith, c.in_ok-check_readable.ensures.inside, c.blocks-2.ensures.value, shows.count); system = wanted_system im c.args.block c.args.from wanted }))

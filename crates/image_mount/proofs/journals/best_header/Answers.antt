@@ -1,6 +1,7 @@
 use Rattle.std.proofs.Common.{◌≡◌, length, get_or, refl, sym, ◌∙◌, arith}
-use Rattle.image_mount.proofs.Heads.{head_more, head_all}
+use Rattle.image_mount.proofs.Heads.{device_told, head_more, head_all}
 use Rattle.image_mount.proofs.Marks.{bytes_shown}
+use Rattle.image_mount.proofs.Stops.{refused}
 use Rattle.shared_disk.proofs.ReadLaws.{reads_on}
 use Rattle.image_mount.proofs.journals.best_header.Goals as goal
 
@@ -22,3 +23,8 @@ pub returns-clause-found : goal.returns-clause-found
 returns-clause-found g c im shows of =
     let all : c.loop-block.block-index ≡ length c.args.blocks.now = omega (arith, c.loop-block-test.false, c.loop-block.auto.block-index-end) in
     head_all im c.args.blocks.now c.loop-block.block-index c.loop-block.best (c.loop-block.invariant.found im shows of) all
+
+pub returns-in_err-read_into-clause-refused : goal.returns-in_err-read_into-clause-refused
+returns-in_err-read_into-clause-refused g c im of =
+    refused im _ _ c.from_residual.ensures.1
+    (device_told im c.in_err-read_into.field-0.0 (get_or c.args.blocks.now c.loop-block.block-index 0) c.in_err-read_into.ensures.failed (of c.loop-block.block-index 0 c.loop-block-test.true))
