@@ -1,0 +1,134 @@
+-- The two halves of a change, block by block: what they make of a block that they don't have, and of one more.
+use Rattle.std.proofs.Common.{◌≡◌, ℕ, suc, ◌+◌, ◌-◌, ◌<◌, ◌≤◌, Bool, true, false, cond, Option, None, Some, List, [], ◌∷◌, ◌++◌, length, map, take, drop, get_or, Contains, refl, sym, ap, subst, ◌∙◌, drop-cons, is_some, if◌then◌else◌, not, ◌||◌, ◌&&◌, arith}
+use Rattle.std.proofs.lemmas.Cmp.{nat_cmp_total}
+use Rattle.std.proofs.lemmas.List.{take_more}
+use Rattle.std.specs.FinMap as table
+use Rattle.finite_maps.proofs.Keys.{untied}
+use Rattle.drafts.specs.declared.change.Written.{Written}
+use Rattle.glock_names.specs.declared.LockName.{LockName}
+use Rattle.log_tables.proofs.Counting.{apart, gone, insert_removed, left, len_with}
+use Rattle.log_values.specs.Blocks as set
+use Rattle.log_values.specs.Log.{LogValue, Version}
+use Rattle.log_values.specs.Changes.{has_entry, version_of, with_freed, with_written, without_all, without_written}
+use Rattle.log_values.proofs.BlocksHad.{contains-insert, contains-remove}
+use Rattle.log_memory.specs.Adding.{IsAlike, with_freed_all, with_written_all}
+use Rattle.log_memory.proofs.Tallies.{Versions}
+
+abbrev pub numbers : List Written → List ℕ
+numbers ws = map (λ (w : Written). w.block) ws
+
+-- a list doesn't have it
+abbrev pub Lacks : List ℕ → ℕ → Type 0
+Lacks xs b = Contains xs b → ⊥
+
+not_first : (x : ℕ) (xs : List ℕ) (b : ℕ) → Lacks (x ∷ xs) b → b ≡ x → ⊥
+not_first x xs b lacks e = lacks (0, omega arith, sym e)
+
+not_later : (x : ℕ) (xs : List ℕ) (b : ℕ) → Lacks (x ∷ xs) b → Lacks xs b
+not_later x xs b lacks there = lacks (suc there.0, (let less = there.1 in omega arith), there.2)
+
+-- ---- of a block that it doesn't have, each half leaves what there was
+
+unmarked : (s : set.Blocks) (k b : ℕ) (t : Bool) → (b ≡ k → ⊥) → set.contains (if t then set.insert s k else s) b ≡ set.contains s b
+unmarked s k b true ne = contains-insert s k b ∙ ap (λ (x : Bool). x || set.contains s b) (untied table.nat_cmp-IsAntisymmetric b k ne)
+unmarked s k b false ne = refl
+
+undropped : (s : set.Blocks) (k b : ℕ) → (b ≡ k → ⊥) → set.contains (set.remove s k) b ≡ set.contains s b
+undropped s k b ne = contains-remove s k b ∙ ap (λ (x : Bool). not x && set.contains s b) (untied table.nat_cmp-IsAntisymmetric b k ne)
+
+pub freed_alike : (log : LogValue) (bs : List ℕ) (b : ℕ) → Lacks bs b → IsAlike log (with_freed_all log bs) b
+freed_alike log bs b lacks = record { fresh = fresh bs log.fresh lacks; gone = marks bs log.gone lacks; entry = refl }
+  where
+    fresh : (xs : List ℕ) (m : Versions) → Lacks xs b → table.get (without_all xs m) b ≡ table.get m b
+    fresh [] m none = refl
+    fresh (x ∷ xs) m none = fresh xs (table.remove m x) (not_later x xs b none) ∙ left m x b (not_first x xs b none)
+
+    marks : (xs : List ℕ) (s : set.Blocks) → Lacks xs b → set.contains (with_freed (has_entry log) xs s) b ≡ set.contains s b
+    marks [] s none = refl
+    marks (x ∷ xs) s none = marks xs (if has_entry log x then set.insert s x else s) (not_later x xs b none) ∙ unmarked s x b (has_entry log x) (not_first x xs b none)
+
+pub written_alike : (log : LogValue) (ws : List Written) (ls : List LockName) (b : ℕ) → Lacks (numbers ws) b → IsAlike log (with_written_all log ws ls) b
+written_alike log ws ls b lacks = record { fresh = fresh ws ls log.fresh lacks; gone = drops ws log.gone lacks; entry = refl }
+  where
+    fresh : (xs : List Written) (ks : List LockName) (m : Versions) → Lacks (numbers xs) b → table.get (with_written xs ks m) b ≡ table.get m b
+    fresh [] ks m none = refl
+    fresh (x ∷ xs) [] m none = refl
+    fresh (x ∷ xs) (k ∷ ks) m none = fresh xs ks (table.insert m x.block (version_of x k)) (not_later x.block (numbers xs) b none) ∙ apart m x.block (version_of x k) b (not_first x.block (numbers xs) b none)
+
+    drops : (xs : List Written) (s : set.Blocks) → Lacks (numbers xs) b → set.contains (without_written xs s) b ≡ set.contains s b
+    drops [] s none = refl
+    drops (x ∷ xs) s none = drops xs (set.remove s x.block) (not_later x.block (numbers xs) b none) ∙ undropped s x.block b (not_first x.block (numbers xs) b none)
+
+pub alike_on : (log m k : LogValue) (b : ℕ) → IsAlike log m b → IsAlike m k b → IsAlike log k b
+alike_on log m k b one two = record { fresh = two.fresh ∙ one.fresh; gone = two.gone ∙ one.gone; entry = two.entry ∙ one.entry }
+
+-- ---- one block more
+
+pub freed_more : (log : LogValue) (bs : List ℕ) (b : ℕ) → with_freed_all log (bs ++ b ∷ []) ≡ with_freed_all (with_freed_all log bs) (b ∷ [])
+freed_more log bs b = λ i. record log { fresh = fresh bs log.fresh i; gone = marks bs log.gone i }
+  where
+    fresh : (xs : List ℕ) (m : Versions) → without_all (xs ++ b ∷ []) m ≡ table.remove (without_all xs m) b
+    fresh [] m = refl
+    fresh (x ∷ xs) m = fresh xs (table.remove m x)
+
+    marks : (xs : List ℕ) (s : set.Blocks) → with_freed (has_entry log) (xs ++ b ∷ []) s ≡ with_freed (has_entry log) (b ∷ []) (with_freed (has_entry log) xs s)
+    marks [] s = refl
+    marks (x ∷ xs) s = marks xs (if has_entry log x then set.insert s x else s)
+
+pub written_more : (log : LogValue) (ws : List Written) (ls : List LockName) (w : Written) (l : LockName) → length ls ≡ length ws
+    → with_written_all log (ws ++ w ∷ []) (ls ++ l ∷ []) ≡ with_written_all (with_written_all log ws ls) (w ∷ []) (l ∷ [])
+written_more log ws ls w l even = λ i. record log { fresh = fresh ws ls log.fresh even i; gone = drops ws log.gone i }
+  where
+    fresh : (xs : List Written) (ks : List LockName) (m : Versions) → length ks ≡ length xs → with_written (xs ++ w ∷ []) (ks ++ l ∷ []) m ≡ table.insert (with_written xs ks m) w.block (version_of w l)
+    fresh [] [] m same = refl
+    fresh [] (k ∷ ks) m same = absurd (omega arith)
+    fresh (x ∷ xs) [] m same = absurd (omega arith)
+    fresh (x ∷ xs) (k ∷ ks) m same = fresh xs ks (table.insert m x.block (version_of x k)) (omega arith)
+
+    drops : (xs : List Written) (s : set.Blocks) → without_written (xs ++ w ∷ []) s ≡ set.remove (without_written xs s) w.block
+    drops [] s = refl
+    drops (x ∷ xs) s = drops xs (set.remove s x.block)
+
+-- ---- how many changes there are
+
+pub freed_fewer : (bs : List ℕ) (m : Versions) → table.len (without_all bs m) ≤ table.len m
+freed_fewer [] m = omega arith
+freed_fewer (b ∷ bs) m = let rest = freed_fewer bs (table.remove m b) in let less = one_fewer (table.contains_key m b) (table.len-remove nat_cmp_total m b) in omega arith
+  where
+    one_fewer : (t : Bool) → table.len (table.remove m b) ≡ cond t (table.len m - 1) (table.len m) → table.len (table.remove m b) ≤ table.len m
+    one_fewer true is = omega arith
+    one_fewer false is = omega arith
+
+pub inserted_len : (m : Versions) (b : ℕ) (v : Version) → table.len (table.insert m b v) ≡ table.len (table.remove m b) + 1
+inserted_len m b v = ap (λ (n : Versions). table.len n) (sym (insert_removed m b v)) ∙ len_with (table.remove m b) b v (gone m b)
+
+-- each block that is written is at most one more, and none is one less
+pub written_within : (ws : List Written) (ls : List LockName) (m : Versions) → table.len (with_written ws ls m) ≤ table.len m + length ws
+written_within [] ls m = omega arith
+written_within (w ∷ ws) [] m = omega arith
+written_within (w ∷ ws) (l ∷ ls) m =
+    let rest = written_within ws ls (table.insert m w.block (version_of w l)) in
+    let more = inserted_len m w.block (version_of w l) in
+    let less = freed_fewer (w.block ∷ []) m in
+    omega arith
+
+pub written_grows : (ws : List Written) (ls : List LockName) (m : Versions) → table.len m ≤ table.len (with_written ws ls m)
+written_grows [] ls m = omega arith
+written_grows (w ∷ ws) [] m = omega arith
+written_grows (w ∷ ws) (l ∷ ls) m =
+    let rest = written_grows ws ls (table.insert m w.block (version_of w l)) in
+    let more = by (table.get m w.block) (table.len-insert nat_cmp_total m w.block (version_of w l)) in
+    omega arith
+  where
+    by : (o : Option Version) → table.len (table.insert m w.block (version_of w l)) ≡ cond (is_some o) (table.len m) (table.len m + 1) → table.len m ≤ table.len (table.insert m w.block (version_of w l))
+    by None is = omega arith
+    by (Some v) is = omega arith
+
+-- ---- what is left of a list
+
+pub left_at : {A : Type 0} (xs ys : List A) (i : ℕ) (x : A) → ys ≡ xs → i < length ys → x ≡ get_or ys i x → drop i xs ≡ x ∷ drop (i + 1) xs
+left_at xs ys i x same less at =
+    drop-cons xs i x (subst (λ zs. i < length zs) same less) ∙ ap (λ y. y ∷ drop (suc i) xs) (sym (at ∙ ap (λ zs. get_or zs i x) same)) ∙ ap (λ n. x ∷ drop n xs) (let e : suc i ≡ i + 1 = omega arith in e)
+
+pub front_at : {A : Type 0} (xs ys : List A) (i : ℕ) (x : A) → ys ≡ xs → i < length ys → x ≡ get_or ys i x → take (i + 1) xs ≡ take i xs ++ x ∷ []
+front_at xs ys i x same less at = take_more xs i x (subst (λ zs. i < length zs) same less) ∙ ap (λ y. take i xs ++ y ∷ []) (sym (at ∙ ap (λ zs. get_or zs i x) same))
