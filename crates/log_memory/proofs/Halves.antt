@@ -1,14 +1,13 @@
 -- The two halves of a change, block by block: what they make of a block that they don't have, and of one more.
-use Rattle.std.proofs.Common.{◌≡◌, ℕ, suc, ◌+◌, ◌-◌, ◌<◌, ◌≤◌, Bool, true, false, cond, Option, None, Some, List, [], ◌∷◌, ◌++◌, length, map, take, drop, get_or, Contains, refl, sym, ap, subst, ◌∙◌, drop-cons, is_some, if◌then◌else◌, not, ◌||◌, ◌&&◌, arith}
-use Rattle.std.proofs.lemmas.Cmp.{nat_cmp_total}
+use Rattle.std.proofs.Common.{◌≡◌, ℕ, suc, ◌+◌, ◌<◌, Bool, true, false, List, [], ◌∷◌, ◌++◌, length, map, take, drop, get_or, Contains, refl, sym, ap, subst, ◌∙◌, drop-cons, if◌then◌else◌, not, ◌||◌, ◌&&◌, arith}
 use Rattle.std.proofs.lemmas.List.{take_more}
 use Rattle.std.specs.FinMap as table
 use Rattle.finite_maps.proofs.Keys.{untied}
 use Rattle.drafts.specs.declared.change.Written.{Written}
 use Rattle.glock_names.specs.declared.LockName.{LockName}
-use Rattle.log_tables.proofs.Counting.{apart, gone, insert_removed, left, len_with}
+use Rattle.log_tables.proofs.Counting.{apart, left}
 use Rattle.log_values.specs.Blocks as set
-use Rattle.log_values.specs.Log.{LogValue, Version}
+use Rattle.log_values.specs.Log.{LogValue}
 use Rattle.log_values.specs.Changes.{has_entry, version_of, with_freed, with_written, without_all, without_written}
 use Rattle.log_values.proofs.BlocksHad.{contains-insert, contains-remove}
 use Rattle.log_memory.specs.Adding.{IsAlike, with_freed_all, with_written_all}
@@ -88,41 +87,6 @@ written_more log ws ls w l even = λ i. record log { fresh = fresh ws ls log.fre
     drops : (xs : List Written) (s : set.Blocks) → without_written (xs ++ w ∷ []) s ≡ set.remove (without_written xs s) w.block
     drops [] s = refl
     drops (x ∷ xs) s = drops xs (set.remove s x.block)
-
--- ---- how many changes there are
-
-pub freed_fewer : (bs : List ℕ) (m : Versions) → table.len (without_all bs m) ≤ table.len m
-freed_fewer [] m = omega arith
-freed_fewer (b ∷ bs) m = let rest = freed_fewer bs (table.remove m b) in let less = one_fewer (table.contains_key m b) (table.len-remove nat_cmp_total m b) in omega arith
-  where
-    one_fewer : (t : Bool) → table.len (table.remove m b) ≡ cond t (table.len m - 1) (table.len m) → table.len (table.remove m b) ≤ table.len m
-    one_fewer true is = omega arith
-    one_fewer false is = omega arith
-
-pub inserted_len : (m : Versions) (b : ℕ) (v : Version) → table.len (table.insert m b v) ≡ table.len (table.remove m b) + 1
-inserted_len m b v = ap (λ (n : Versions). table.len n) (sym (insert_removed m b v)) ∙ len_with (table.remove m b) b v (gone m b)
-
--- each block that is written is at most one more, and none is one less
-pub written_within : (ws : List Written) (ls : List LockName) (m : Versions) → table.len (with_written ws ls m) ≤ table.len m + length ws
-written_within [] ls m = omega arith
-written_within (w ∷ ws) [] m = omega arith
-written_within (w ∷ ws) (l ∷ ls) m =
-    let rest = written_within ws ls (table.insert m w.block (version_of w l)) in
-    let more = inserted_len m w.block (version_of w l) in
-    let less = freed_fewer (w.block ∷ []) m in
-    omega arith
-
-pub written_grows : (ws : List Written) (ls : List LockName) (m : Versions) → table.len m ≤ table.len (with_written ws ls m)
-written_grows [] ls m = omega arith
-written_grows (w ∷ ws) [] m = omega arith
-written_grows (w ∷ ws) (l ∷ ls) m =
-    let rest = written_grows ws ls (table.insert m w.block (version_of w l)) in
-    let more = by (table.get m w.block) (table.len-insert nat_cmp_total m w.block (version_of w l)) in
-    omega arith
-  where
-    by : (o : Option Version) → table.len (table.insert m w.block (version_of w l)) ≡ cond (is_some o) (table.len m) (table.len m + 1) → table.len m ≤ table.len (table.insert m w.block (version_of w l))
-    by None is = omega arith
-    by (Some v) is = omega arith
 
 -- ---- what is left of a list
 

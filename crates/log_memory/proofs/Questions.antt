@@ -1,16 +1,14 @@
 -- What a log's lists tell of whether anything is to be done.
-use Rattle.std.proofs.Common.{◌≡◌, ℕ, suc, ◌<◌, Bool, true, false, not, List, [], ◌∷◌, length, Some, inl, inr, refl, sym, ap, ◌∙◌, true≢false, is_some, arith}
-use Rattle.std.proofs.lemmas.List.{length-map}
+use Rattle.std.proofs.Common.{◌≡◌, suc, ◌<◌, Bool, true, false, not, List, [], ◌∷◌, length, inl, inr, refl, sym, ap, ◌∙◌, true≢false, arith}
 use Rattle.std.specs.Ordering.{nat_cmp}
 use Rattle.std.specs.FinMap as table
 use Rattle.log_tables.specs.Kept.{away_count, is_home}
 use Rattle.log_tables.proofs.Counting.{one, passing_without}
-use Rattle.log_tables.proofs.Taking.{count-only, only}
-use Rattle.log_values.specs.Log.{Entry, LogValue, Version, Way}
+use Rattle.log_values.specs.Log.{Entry, LogValue, Way}
 use Rattle.log_tables.specs.Versions.Way.{Home, Away, Flying}
 use Rattle.log_values.specs.Flushing.{AllAreHome, IsDue, NothingIsLive}
-use Rattle.log_values.specs.Transactions.{due, logged_as}
-use Rattle.log_values.proofs.Landing.{all_none, in_only}
+use Rattle.log_values.specs.Transactions.{due}
+use Rattle.log_values.proofs.Resting.{blocks_due, revokes_due}
 
 some_listed : {A : Type 0} (xs : List A) → 0 < length xs → xs ≡ [] → ⊥
 some_listed [] some none = omega arith
@@ -23,14 +21,14 @@ none_listed : {A : Type 0} (xs : List A) → (xs ≡ [] → ⊥) → 0 < length 
 none_listed [] some = absurd (some refl)
 none_listed (x ∷ xs) some = omega arith
 
-blocks_due : (log : LogValue) → length (due log).blocks ≡ table.len log.fresh
-blocks_due log = length-map (table.entries log.fresh) (λ (e : ℕ × Version). logged_as e.0 e.1) ∙ sym (table.len-entries log.fresh)
+pub changes_due : (log : LogValue) → 0 < table.len log.fresh → (due log).blocks ≡ [] → ⊥
+changes_due log some = some_listed (due log).blocks (let same = blocks_due log in omega arith)
 
-revokes_due : (log : LogValue) → length (due log).revokes ≡ table.len log.gone
-revokes_due log = length-map (table.entries log.gone) (λ (e : ℕ × Unit {0}). e.0) ∙ sym (table.len-entries log.gone)
+pub some_changed : (log : LogValue) → ((due log).blocks ≡ [] → ⊥) → 0 < table.len log.fresh
+some_changed log some = let same = blocks_due log in let more = none_listed (due log).blocks some in omega arith
 
 pub fresh_due : (log : LogValue) → 0 < table.len log.fresh → IsDue log
-fresh_due log some = inl (some_listed (due log).blocks (let same = blocks_due log in omega arith))
+fresh_due log some = inl (changes_due log some)
 
 pub gone_due : (log : LogValue) → 0 < table.len log.gone → IsDue log
 gone_due log some = inr (some_listed (due log).revokes (let same = revokes_due log in omega arith))
@@ -61,10 +59,3 @@ all_home log none b e at = by (is_home e.way) refl
     by : (h : Bool) → is_home e.way ≡ h → e.way ≡ Home
     by true is = home_way e.way is
     by false is = absurd (let counted = passing_without away log.live b e at in let one_is = ap (λ h. one (not h)) is in omega arith)
-
-pub none_away : (log : LogValue) → AllAreHome log → away_count log.live ≡ 0
-none_away log home =
-    count-only away log.live ∙ ap (λ (m : table.FinMap nat_cmp Entry). table.len m) (all_none (only away log.live) none) ∙ table.len-empty nat_cmp Entry
-  where
-    none : (b : ℕ) (e : Entry) → table.get (only away log.live) b ≡ Some e → ⊥
-    none b e at = let it = in_only away log.live b (ap is_some at) in true≢false (sym it.2 ∙ ap (λ (w : Way). not (is_home w)) (home b it.0 it.1))

@@ -1,6 +1,5 @@
 -- How much a log may keep, whatever it keeps, and once blocks are freed and written.
-use Rattle.std.proofs.Common.{◌≡◌, ℕ, ◌+◌, ◌-◌, ◌<◌, ◌≤◌, Bool, true, false, cond, List, [], ◌∷◌, length, refl, arith}
-use Rattle.std.proofs.lemmas.Cmp.{nat_cmp_total}
+use Rattle.std.proofs.Common.{ℕ, ◌+◌, ◌<◌, ◌≤◌, List, [], ◌∷◌, length, refl, arith}
 use Rattle.std.proofs.lemmas.List.Elements.{All-nil}
 use Rattle.std.specs.FinMap as table
 use Rattle.drafts.specs.declared.change.Written.{Written}
@@ -13,16 +12,12 @@ use Rattle.log_values.specs.Changes.{frames_taken, version_of, without_written}
 use Rattle.log_values.specs.Sound.{IsSoundLog}
 use Rattle.log_values.proofs.Changing.{lists_sound}
 use Rattle.log_values.proofs.Fitting.{gone_fits}
+use Rattle.log_values.proofs.Growing.{freed_fewer, inserted_len, one_fewer, written_grows, written_within}
 use Rattle.log_memory.specs.Adding.{with_freed_all, with_written_all}
-use Rattle.log_memory.proofs.Halves.{freed_fewer, inserted_len, written_grows, written_within}
 
 fewer_gone : (ws : List Written) (s : set.Blocks) → table.len (without_written ws s) ≤ table.len s
 fewer_gone [] s = omega arith
-fewer_gone (w ∷ ws) s = let rest = fewer_gone ws (set.remove s w.block) in let less = by (set.contains s w.block) (table.len-remove nat_cmp_total s w.block) in omega arith
-  where
-    by : (t : Bool) → table.len (set.remove s w.block) ≡ cond t (table.len s - 1) (table.len s) → table.len (set.remove s w.block) ≤ table.len s
-    by true is = omega arith
-    by false is = omega arith
+fewer_gone (w ∷ ws) s = let rest = fewer_gone ws (set.remove s w.block) in let less = one_fewer s w.block in omega arith
 
 module _ (log : LogValue) (sound : IsSoundLog log) where
   pub few_fresh : table.len log.fresh ≤ 4096

@@ -1,5 +1,5 @@
 -- What isn't flushed, counted from the tables, and what one block more or less makes of it.
-use Rattle.std.proofs.Common.{◌≡◌, ℕ, suc, ◌+◌, ◌-◌, ◌≤◌, ◌&&◌, not, Bool, true, false, cond, List, [], ◌∷◌, length, map, filter, count_by, Option, None, Some, refl, sym, ap, ◌∙◌, option_map, if◌then◌else◌, arith}
+use Rattle.std.proofs.Common.{◌≡◌, ℕ, ◌+◌, ◌-◌, ◌≤◌, ◌&&◌, not, Bool, true, false, cond, List, [], ◌∷◌, length, map, filter, count_by, Option, None, Some, refl, sym, ap, ap₂, ◌∙◌, option_map, if◌then◌else◌, arith}
 use Rattle.std.proofs.lemmas.Cmp.{nat_cmp_total}
 use Rattle.std.proofs.lemmas.List.{length-map}
 use Rattle.std.proofs.lemmas.List.Sums.{sum_by-cons}
@@ -10,6 +10,7 @@ use Rattle.log_tables.proofs.Counting.{gone, insert_removed, one, passing, passi
 use Rattle.log_values.specs.Blocks as set
 use Rattle.log_values.specs.Log.{LogValue, Version}
 use Rattle.log_values.specs.Transactions.{logged_as}
+use Rattle.log_values.proofs.Landing.{halves}
 use Rattle.log_memory.specs.Adding.{IsAmong, counts_of, less, more}
 use Rattle.log_memory.specs.declared.adding.Counts.{Counts}
 
@@ -42,17 +43,11 @@ tally_is log = λ i. record {
   revokes = (length-map (table.entries log.gone) (λ (e : ℕ × Unit {0}). e.0) ∙ sym (table.len-entries log.gone)) i;
 }
 
-both : {A : Type 0} (p : A → Bool) (xs : List A) → count_by p xs + count_by (λ x. not (p x)) xs ≡ length xs
-both p [] = refl
-both p (x ∷ xs) = by (p x) (count_by p (x ∷ xs)) (count_by (λ y. not (p y)) (x ∷ xs)) _ _ (length xs) (sum_by-cons (λ y. one (p y)) x xs) (sum_by-cons (λ y. one (not (p y))) x xs) (both p xs)
-  where
-    by : (b : Bool) (c d s t n : ℕ) → c ≡ one b + s → d ≡ one (not b) + t → s + t ≡ n → c + d ≡ suc n
-    by true c d s t n p q r = omega arith
-    by false c d s t n p q r = omega arith
-
 -- content and metadata are all
 pub all_of : (m : Versions) → passing plain_of m + passing other_of m ≡ table.len m
-all_of m = both (λ (e : ℕ × Version). e.1.plain) (table.entries m) ∙ sym (table.len-entries m)
+all_of m =
+    ap₂ (λ x y. x + y) (sym (kept (λ (e : Logged). e.plain) (λ (e : ℕ × Version). logged_as e.0 e.1) (table.entries m))) (sym (kept (λ (e : Logged). not e.plain) (λ (e : ℕ × Version). logged_as e.0 e.1) (table.entries m)))
+    ∙ halves (λ (e : Logged). e.plain) (map (λ (e : ℕ × Version). logged_as e.0 e.1) (table.entries m)) ∙ length-map (table.entries m) (λ (e : ℕ × Version). logged_as e.0 e.1) ∙ sym (table.len-entries m)
 
 pub content_within : (m : Versions) → passing plain_of m ≤ table.len m
 content_within m = let all = all_of m in omega arith

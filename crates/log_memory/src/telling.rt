@@ -2,8 +2,16 @@
 use crate::log::Log;
 
 impl Log {
-    ghost use Rattle.std.specs.Prelude.{◌≡◌, ◌↔◌, true, false, None};
+    ghost use Rattle.std.specs.Prelude.{◌≡◌, ◌≢◌, ◌↔◌, true, false, [], None};
     ghost use Rattle.log_values.specs.Flushing.{AllAreHome, IsDue, NothingIsLive};
+    ghost use Rattle.log_values.specs.Transactions.{due};
+
+    /// Whether a block was changed that no flush has begun with. It costs no search.
+    pub fn has_changes(&self) -> bool
+        ensures { result ≡ true ↔ ((due self.now).blocks ≢ []) }
+    {
+        self.tables.fresh_len() > 0
+    }
 
     /// Whether something was changed or is to be revoked that no flush has begun with. It costs no search.
     pub fn has_due(&self) -> bool

@@ -2,8 +2,9 @@ use Rattle.std.proofs.Common.{◌≡◌, ◌+◌, true, nat_eq, arith, eq-eqb, s
 use Rattle.std.proofs.lemmas.Bool.{eqb-true}
 use Rattle.log_values.specs.Flushing.{AllAreHome}
 use Rattle.log_values.specs.Log.{LogValue}
+use Rattle.log_values.proofs.Resting.{none_away}
 use Rattle.log_memory.specs.Inside.{log_in}
-use Rattle.log_memory.proofs.Questions.{all_home, none_away}
+use Rattle.log_memory.proofs.Questions.{all_home}
 use Rattle.log_memory.proofs.Sufficing.{taken_within}
 use Rattle.log_memory.proofs.log.Log.is_all_home.Goals as goal
 
