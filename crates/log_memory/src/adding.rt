@@ -27,6 +27,7 @@ pub(crate) struct Counts {
 
 // ---- what would be kept
 
+// What isn't flushed now. That the log is sound is told on to those that don't look inside, since it bounds what they count.
 fn counts_now(log: &Log) -> Counts
     ensures counts { result ≡ counts_of log.now }
     ensures sound { IsSoundLog log.now }
