@@ -1,12 +1,12 @@
 -- What a log's lists tell of whether anything is to be done.
-use Rattle.std.proofs.Common.{◌≡◌, suc, ◌<◌, Bool, true, false, not, List, [], ◌∷◌, length, inl, inr, refl, sym, ap, ◌∙◌, true≢false, arith}
+use Rattle.std.proofs.Common.{◌≡◌, suc, ◌<◌, Bool, true, false, not, List, [], ◌∷◌, length, refl, sym, ap, ◌∙◌, true≢false, arith}
 use Rattle.std.specs.Ordering.{nat_cmp}
 use Rattle.std.specs.FinMap as table
 use Rattle.log_tables.specs.Kept.{away_count, is_home}
 use Rattle.log_tables.proofs.Counting.{one, passing_without}
 use Rattle.log_values.specs.Log.{Entry, LogValue, Way}
 use Rattle.log_tables.specs.Versions.Way.{Home, Away, Flying}
-use Rattle.log_values.specs.Flushing.{AllAreHome, IsDue, NothingIsLive}
+use Rattle.log_values.specs.Flushing.{AllAreHome, NothingIsLive}
 use Rattle.log_values.specs.Transactions.{due}
 use Rattle.log_values.proofs.Resting.{blocks_due, revokes_due}
 
@@ -21,21 +21,17 @@ none_listed : {A : Type 0} (xs : List A) → (xs ≡ [] → ⊥) → 0 < length 
 none_listed [] some = absurd (some refl)
 none_listed (x ∷ xs) some = omega arith
 
-pub changes_due : (log : LogValue) → 0 < table.len log.fresh → (due log).blocks ≡ [] → ⊥
-changes_due log some = some_listed (due log).blocks (let same = blocks_due log in omega arith)
+pub changes_due_some : (log : LogValue) → 0 < table.len log.fresh → (due log).blocks ≡ [] → ⊥
+changes_due_some log some = some_listed (due log).blocks (let same = blocks_due log in omega arith)
 
 pub some_changed : (log : LogValue) → ((due log).blocks ≡ [] → ⊥) → 0 < table.len log.fresh
 some_changed log some = let same = blocks_due log in let more = none_listed (due log).blocks some in omega arith
 
-pub fresh_due : (log : LogValue) → 0 < table.len log.fresh → IsDue log
-fresh_due log some = inl (changes_due log some)
+pub revokes_due_some : (log : LogValue) → 0 < table.len log.gone → (due log).revokes ≡ [] → ⊥
+revokes_due_some log some = some_listed (due log).revokes (let same = revokes_due log in omega arith)
 
-pub gone_due : (log : LogValue) → 0 < table.len log.gone → IsDue log
-gone_due log some = inr (some_listed (due log).revokes (let same = revokes_due log in omega arith))
-
-pub due_some : (log : LogValue) → IsDue log → table.len log.fresh ≡ 0 → 0 < table.len log.gone
-due_some log (inl some) none = absurd (let same = blocks_due log in let more = none_listed (due log).blocks some in omega arith)
-due_some log (inr some) none = let same = revokes_due log in let more = none_listed (due log).revokes some in omega arith
+pub some_gone : (log : LogValue) → ((due log).revokes ≡ [] → ⊥) → 0 < table.len log.gone
+some_gone log some = let same = revokes_due log in let more = none_listed (due log).revokes some in omega arith
 
 -- ---- live blocks
 

@@ -13,11 +13,18 @@ impl Log {
         self.tables.fresh_len() > 0
     }
 
+    /// Whether a block is to be revoked that no flush has begun with, as one may be once a lock went down. It costs no search.
+    pub fn has_revokes(&self) -> bool
+        ensures { result ≡ true ↔ ((due self.now).revokes ≢ []) }
+    {
+        self.gone.len() > 0
+    }
+
     /// Whether something was changed or is to be revoked that no flush has begun with. It costs no search.
     pub fn has_due(&self) -> bool
         ensures { result ≡ true ↔ IsDue self.now }
     {
-        self.tables.fresh_len() > 0 || self.gone.len() > 0
+        self.has_changes() || self.has_revokes()
     }
 
     /// Whether a flush was begun that isn't in the journal yet. It costs no search.

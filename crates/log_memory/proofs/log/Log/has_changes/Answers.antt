@@ -3,13 +3,13 @@ use Rattle.std.proofs.lemmas.Bool.{lt-ltb, ltb-true}
 use Rattle.log_values.specs.Log.{LogValue}
 use Rattle.log_values.specs.Transactions.{due}
 use Rattle.log_memory.specs.Inside.{log_in}
-use Rattle.log_memory.proofs.Questions.{changes_due, some_changed}
+use Rattle.log_memory.proofs.Questions.{changes_due_some, some_changed}
 use Rattle.log_memory.proofs.log.Log.has_changes.Goals as goal
 
 pub returns : goal.returns
 returns c =
     let fresh = c.fresh_len.ensures in
     subst (λ (log : LogValue). (ltb 0 c.fresh_len.result ≡ true → (due log).blocks ≢ []) × ((due log).blocks ≢ [] → ltb 0 c.fresh_len.result ≡ true)) c.self.view_is (
-      λ yes. changes_due (log_in c.self.inside) (let some = ltb-true 0 c.fresh_len.result yes in omega arith),
+      λ yes. changes_due_some (log_in c.self.inside) (let some = ltb-true 0 c.fresh_len.result yes in omega arith),
       λ due. lt-ltb 0 c.fresh_len.result (let some = some_changed (log_in c.self.inside) due in omega arith),
     )
