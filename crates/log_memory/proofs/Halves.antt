@@ -1,5 +1,5 @@
 -- The two halves of a change, block by block: what they make of a block that they don't have, and of one more.
-use Rattle.std.proofs.Common.{◌≡◌, ℕ, suc, ◌+◌, ◌<◌, Bool, true, false, List, [], ◌∷◌, ◌++◌, length, map, take, drop, get_or, Contains, refl, sym, ap, subst, ◌∙◌, drop-cons, if◌then◌else◌, not, ◌||◌, ◌&&◌, arith}
+use Rattle.std.proofs.Common.{◌≡◌, ℕ, suc, ◌+◌, ◌<◌, Bool, true, false, List, [], ◌∷◌, ◌++◌, length, map, take, drop, get_or, Contains, refl, sym, ap, ap₂, subst, ◌∙◌, drop-cons, if◌then◌else◌, not, ◌||◌, ◌&&◌, arith}
 use Rattle.std.proofs.lemmas.List.{take_more}
 use Rattle.std.specs.FinMap as table
 use Rattle.finite_maps.proofs.Keys.{untied}
@@ -96,3 +96,10 @@ left_at xs ys i x same less at =
 
 pub front_at : {A : Type 0} (xs ys : List A) (i : ℕ) (x : A) → ys ≡ xs → i < length ys → x ≡ get_or ys i x → take (i + 1) xs ≡ take i xs ++ x ∷ []
 front_at xs ys i x same less at = take_more xs i x (subst (λ zs. i < length zs) same less) ∙ ap (λ y. take i xs ++ y ∷ []) (sym (at ∙ ap (λ zs. get_or zs i x) same))
+
+-- the next block that is written, and the rest
+pub next_written : (log : LogValue) (ws xs : List Written) (ls : List LockName) (i : ℕ) (w : Written) (l : LockName) → length ls ≡ length ws → xs ≡ ws → i < length xs → w ≡ get_or xs i w → l ≡ get_or ls i l
+    → with_written_all log (w ∷ drop (i + 1) ws) (l ∷ drop (i + 1) ls) ≡ with_written_all log (drop i ws) (drop i ls)
+next_written log ws xs ls i w l even same less w_at l_at =
+    let inside : i < length ls = (let as_many = ap length same in omega arith) in
+    ap₂ (with_written_all log) (sym (left_at ws xs i w same less w_at)) (sym (left_at ls ls i l refl inside l_at))

@@ -1,5 +1,6 @@
 -- What a log's lists tell of whether anything is to be done.
-use Rattle.std.proofs.Common.{◌≡◌, suc, ◌<◌, Bool, true, false, not, List, [], ◌∷◌, length, refl, sym, ap, ◌∙◌, true≢false, arith}
+use Rattle.std.proofs.Common.{◌≡◌, ◌≢◌, ℕ, suc, ◌<◌, Bool, true, false, not, List, [], ◌∷◌, length, refl, sym, ap, ◌∙◌, true≢false, ltb, arith}
+use Rattle.std.proofs.lemmas.Bool.{lt-ltb, ltb-true}
 use Rattle.std.specs.Ordering.{nat_cmp}
 use Rattle.std.specs.FinMap as table
 use Rattle.log_tables.specs.Kept.{away_count, is_home}
@@ -7,8 +8,6 @@ use Rattle.log_tables.proofs.Counting.{one, passing_without}
 use Rattle.log_values.specs.Log.{Entry, LogValue, Way}
 use Rattle.log_tables.specs.Versions.Way.{Home, Away, Flying}
 use Rattle.log_values.specs.Flushing.{AllAreHome, NothingIsLive}
-use Rattle.log_values.specs.Transactions.{due}
-use Rattle.log_values.proofs.Resting.{blocks_due, revokes_due}
 
 some_listed : {A : Type 0} (xs : List A) → 0 < length xs → xs ≡ [] → ⊥
 some_listed [] some none = omega arith
@@ -21,17 +20,10 @@ none_listed : {A : Type 0} (xs : List A) → (xs ≡ [] → ⊥) → 0 < length 
 none_listed [] some = absurd (some refl)
 none_listed (x ∷ xs) some = omega arith
 
-pub changes_due_some : (log : LogValue) → 0 < table.len log.fresh → (due log).blocks ≡ [] → ⊥
-changes_due_some log some = some_listed (due log).blocks (let same = blocks_due log in omega arith)
-
-pub some_changed : (log : LogValue) → ((due log).blocks ≡ [] → ⊥) → 0 < table.len log.fresh
-some_changed log some = let same = blocks_due log in let more = none_listed (due log).blocks some in omega arith
-
-pub revokes_due_some : (log : LogValue) → 0 < table.len log.gone → (due log).revokes ≡ [] → ⊥
-revokes_due_some log some = some_listed (due log).revokes (let same = revokes_due log in omega arith)
-
-pub some_gone : (log : LogValue) → ((due log).revokes ≡ [] → ⊥) → 0 < table.len log.gone
-some_gone log some = let same = revokes_due log in let more = none_listed (due log).revokes some in omega arith
+-- a count of a list tells whether it has any
+pub count_tells : {A : Type 0} (xs : List A) (n : ℕ) → n ≡ length xs → (ltb 0 n ≡ true → xs ≢ []) × (xs ≢ [] → ltb 0 n ≡ true)
+count_tells xs n count =
+    (λ yes. some_listed xs (let some = ltb-true 0 n yes in omega arith), λ some. lt-ltb 0 n (let more = none_listed xs some in omega arith))
 
 -- ---- live blocks
 

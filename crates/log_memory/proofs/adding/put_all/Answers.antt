@@ -1,4 +1,4 @@
-use Rattle.std.proofs.Common.{◌≤◌, ◌<◌, ◌+◌, ◌∙◌, ap, ap₂, arith, drop, get_or, length, List, refl, subst, sym}
+use Rattle.std.proofs.Common.{◌≤◌, ◌<◌, ◌+◌, ◌∙◌, ap, ap₂, arith, drop, get_or, length, List, subst, sym}
 use Rattle.std.proofs.lemmas.List.{drop_all}
 use Rattle.std.proofs.lemmas.List.Elements.{All-get_or}
 use Rattle.drafts.specs.declared.change.Written.{Written}
@@ -8,7 +8,7 @@ use Rattle.log_values.specs.Log.{LogValue}
 use Rattle.log_values.specs.Changes.{frames_taken}
 use Rattle.log_values.proofs.Changing.{unmapped}
 use Rattle.log_memory.specs.Adding.{with_written_all}
-use Rattle.log_memory.proofs.Halves.{left_at}
+use Rattle.log_memory.proofs.Halves.{next_written}
 use Rattle.log_memory.proofs.Room.{next_frame}
 use Rattle.log_memory.proofs.adding.put_all.Goals as goal
 
@@ -27,22 +27,17 @@ put-requires-clause-room c =
     let ws = c.args.change.now.blocks.items in
     let ls = c.args.change.now.locks.items in
     let i = c.loop-place.place in
-    let blocks = left_at ws c.deref-written-items.result.now i c.written-item.result c.deref-written-items.ensures.value c.loop-place-test.true c.written-item.is in
-    let inside : i < length ls = (let n = c.requires.can.locks in let same = ap length c.deref-written-items.ensures.value in let less = c.loop-place-test.true in omega arith) in
-    let locks = left_at ls ls i c.index.result.now refl inside c.index.ensures in
-    let same = ap₂ (with_written_all c.loop-place.log) (sym blocks) (sym locks) ∙ c.loop-place.invariant in
+    let next = next_written c.loop-place.log ws c.deref-written-items.result.now ls i c.written-item.result c.index.result.now c.requires.can.locks c.deref-written-items.ensures.value c.loop-place-test.true c.written-item.is c.index.ensures in
     next_frame c.loop-place.log c.written-item.result c.index.result.now (drop (i + 1) ws) (drop (i + 1) ls)
-    (subst (λ (log : LogValue). frames_taken log ≤ log.journal.frames) (sym same) c.requires.room)
+    (subst (λ (log : LogValue). frames_taken log ≤ log.journal.frames) (sym (next ∙ c.loop-place.invariant)) c.requires.room)
 
 pub loop-place-preserved : goal.loop-place-preserved
 loop-place-preserved c =
-    let ws = c.args.change.now.blocks.items in
-    let ls = c.args.change.now.locks.items in
-    let i = c.loop-place.place in
-    let blocks = left_at ws c.deref-written-items.result.now i c.written-item.result c.deref-written-items.ensures.value c.loop-place-test.true c.written-item.is in
-    let inside : i < length ls = (let n = c.requires.can.locks in let same = ap length c.deref-written-items.ensures.value in let less = c.loop-place-test.true in omega arith) in
-    let locks = left_at ls ls i c.index.result.now refl inside c.index.ensures in
-    ap (λ (log : LogValue). with_written_all log (drop (i + 1) ws) (drop (i + 1) ls)) c.put.ensures ∙ ap₂ (with_written_all c.loop-place.log) (sym blocks) (sym locks) ∙ c.loop-place.invariant
+    let left = λ (log : LogValue). with_written_all log (drop (c.loop-place.place + 1) c.args.change.now.blocks.items) (drop (c.loop-place.place + 1) c.args.change.now.locks.items) in
+    ap left c.put.ensures
+    ∙ next_written c.loop-place.log c.args.change.now.blocks.items c.deref-written-items.result.now c.args.change.now.locks.items c.loop-place.place c.written-item.result c.index.result.now c.requires.can.locks
+    c.deref-written-items.ensures.value c.loop-place-test.true c.written-item.is c.index.ensures
+    ∙ c.loop-place.invariant
 
 pub returns : goal.returns
 returns c =

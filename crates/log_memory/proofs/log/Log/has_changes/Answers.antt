@@ -1,15 +1,12 @@
-use Rattle.std.proofs.Common.{◌≡◌, ◌≢◌, true, [], ltb, arith, subst}
-use Rattle.std.proofs.lemmas.Bool.{lt-ltb, ltb-true}
+use Rattle.std.proofs.Common.{◌≡◌, ◌≢◌, ◌∙◌, true, [], ltb, subst, sym}
+use Rattle.log_values.proofs.Resting.{blocks_due}
 use Rattle.log_values.specs.Log.{LogValue}
 use Rattle.log_values.specs.Transactions.{due}
 use Rattle.log_memory.specs.Inside.{log_in}
-use Rattle.log_memory.proofs.Questions.{changes_due_some, some_changed}
+use Rattle.log_memory.proofs.Questions.{count_tells}
 use Rattle.log_memory.proofs.log.Log.has_changes.Goals as goal
 
 pub returns : goal.returns
 returns c =
-    let fresh = c.fresh_len.ensures in
-    subst (λ (log : LogValue). (ltb 0 c.fresh_len.result ≡ true → (due log).blocks ≢ []) × ((due log).blocks ≢ [] → ltb 0 c.fresh_len.result ≡ true)) c.self.view_is (
-      λ yes. changes_due_some (log_in c.self.inside) (let some = ltb-true 0 c.fresh_len.result yes in omega arith),
-      λ due. lt-ltb 0 c.fresh_len.result (let some = some_changed (log_in c.self.inside) due in omega arith),
-    )
+    subst (λ (log : LogValue). (ltb 0 c.fresh_len.result ≡ true → (due log).blocks ≢ []) × ((due log).blocks ≢ [] → ltb 0 c.fresh_len.result ≡ true)) c.self.view_is
+    (count_tells (due (log_in c.self.inside)).blocks c.fresh_len.result (c.fresh_len.ensures ∙ sym (blocks_due (log_in c.self.inside))))
