@@ -4,3 +4,11 @@ mod Blocks
 mod Revoking
 mod Sending
 mod Barriers
+mod Tallies
+mod Counted
+mod Room
+mod Halves
+mod Rises
+mod Written
+mod Sufficing
+mod Questions

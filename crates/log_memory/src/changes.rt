@@ -12,7 +12,7 @@ use fixed_tables::FixedTable;
 use glock_names::LockName;
 
 // Whether the block has an entry in the journal that counts, or gets one by the flush that was begun.
-fn has_entry(log: &Log, block: u64) -> bool
+pub(crate) fn has_entry(log: &Log, block: u64) -> bool
     ensures { result ≡ has_entry log.now block }
 {
     log.tables.is_live(block) || log.tables.is_flushed(block)
@@ -38,11 +38,12 @@ pub(crate) fn free(log: &mut Log, block: u64)
 }
 
 // A block is written.
-fn put(log: &mut Log, written: &Written, lock: LockName)
+pub(crate) fn put(log: &mut Log, written: &Written, lock: LockName)
     requires loggable { IsLoggable log.old.journal.size (logged written.now) }
     requires room { frames_taken (record log.old { fresh = table.remove log.old.fresh written.now.block }) < log.old.journal.frames }
     ensures { log.new ≡ record log.old { fresh = table.insert log.old.fresh written.now.block (version_of written.now lock); gone = set.remove log.old.gone written.now.block } }
 {
     let _ = log.gone.take(written.block);
-    log.tables.put(lock, written.block, written.plain, written.bytes.bytes());
+    log.tables
+        .put(lock, written.block, written.plain, written.bytes.bytes());
 }

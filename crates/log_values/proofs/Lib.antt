@@ -7,3 +7,5 @@ pub mod Going
 pub mod Homing
 pub mod Changing
 pub mod Fitting
+pub mod Resting
+pub mod Growing

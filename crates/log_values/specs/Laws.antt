@@ -7,7 +7,7 @@ use Rattle.glock_names.specs.declared.LockName.{LockName}
 use Rattle.drafts.specs.declared.change.Change.{Change}
 use Rattle.log_values.specs.Log.{Journal, LogValue}
 use Rattle.log_values.specs.Changes.{CanBeAdded, Suffices, with_change}
-use Rattle.log_values.specs.Flushing.{FlushAnswer}
+use Rattle.log_values.specs.Flushing.{AllAreHome, FlushAnswer, IsDue}
 use Rattle.log_values.specs.Homing.{HomeAnswer, RevokesUnder, Settles}
 use Rattle.log_values.specs.Sound.{IsSoundLog}
 use Rattle.log_values.specs.declared.steps.LogStep.{LogStep}
@@ -45,3 +45,17 @@ RevokingKeeps = (log new : LogValue) (lock : LockName) → IsSoundLog log → Re
 -- no more blocks are live than the journal has places
 abbrev pub LiveFits : Type 0
 LiveFits = (log : LogValue) → IsSoundLog log → table.len log.live < log.journal.length
+
+-- ---- what an empty log takes
+
+-- nothing is to be flushed, no flush was begun, and all that is live is home
+pub record IsAtRest (log : LogValue) : Type 0 where
+  pub flushed : IsDue log → ⊥
+  pub idle : log.flush ≡ None
+  pub home : AllAreHome log
+
+-- A log at rest has room for a change of at most 375 blocks, whatever it frees, with 512 frames and at most 512 live blocks: in a journal of 512 places there are never more, and behind a header
+-- alone there is none. Of 376 blocks some may need 401.
+abbrev pub SmallChangesFit : Type 0
+SmallChangesFit = (log : LogValue) (c : Change) → IsSoundLog log → CanBeAdded log.journal.size c → IsAtRest log → 512 ≤ log.journal.frames → table.len log.live ≤ 512 → length c.blocks.items ≤ 375
+    → Suffices (with_change log c)

@@ -1,5 +1,5 @@
 // That what always holds of a log holds still, whatever is done.
-ghost use Rattle.log_values.specs.Laws.{ChangeKeeps, EmptyIsSound, FlushKeeps, HomingKeeps, LiveFits, RevokingKeeps, SettlingKeeps};
+ghost use Rattle.log_values.specs.Laws.{ChangeKeeps, EmptyIsSound, FlushKeeps, HomingKeeps, LiveFits, RevokingKeeps, SettlingKeeps, SmallChangesFit};
 
 /// A law: an empty log is sound.
 pub fn an_empty_log_is_sound()
@@ -34,4 +34,9 @@ pub fn revoking_keeps()
 /// A law: fewer blocks are live than the journal has places.
 pub fn live_blocks_fit()
     ensures { LiveFits }
+{}
+
+/// A law: a log of which all is flushed and home takes any change of at most 375 blocks, with 512 frames and 512 live blocks.
+pub fn small_changes_fit()
+    ensures { SmallChangesFit }
 {}
