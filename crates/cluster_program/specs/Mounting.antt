@@ -5,7 +5,9 @@ use Rattle.file_tree.specs.Tree.{Tree}
 use Rattle.image_model.specs.Claims.{every}
 use Rattle.image_model.specs.Image.{Image, image_of}
 use Rattle.image_model.specs.Replays.{Replayed, StandsReplayed}
-use Rattle.image_model.specs.Stands.{Layout}
+use Rattle.image_model.specs.Owners.{Owners}
+use Rattle.image_model.specs.Stands.{IsLaid, Layout}
+use Rattle.image_model.specs.SystemFiles.{HasSameSystem}
 use Rattle.image_mount.specs.Mounted.{Journal, MountedValue, IsMounted, IsOfProfile}
 use Rattle.image_mount.specs.Refusals.{IsOutside, IsReached, RefusesRightly}
 use Rattle.image_mount.specs.declared.field.Field.{Field}
@@ -53,6 +55,10 @@ IsMountedOn disk m = OfImage disk (λ im. IsMounted im m)
 abbrev pub IsMountedReplayed : DiskState → MountedValue → Type 0
 IsMountedReplayed disk m = OfImage disk (λ im. (l : Layout) (replayed : Image) → Replayed im l replayed → IsMounted replayed m)
 
+-- and so it would be of each image with the same system files
+abbrev pub IsMountedAlike : DiskState → MountedValue → Type 0
+IsMountedAlike disk m = OfImage disk (λ im. (other : Image) → HasSameSystem im other → IsMounted other m)
+
 -- The image on the disk, with what its journals say in place, stands for a tree and is one of the profile.
 pub record IsMountable (disk : DiskState) : Type 0 where
   pub tree : Tree
@@ -73,14 +79,19 @@ is_clean_head (Some head) = head.clean
 abbrev pub is_clean_in : Image → Journal → Bool
 is_clean_in im journal = is_clean_head (head_in (ring_of (every im journal.dinode)))
 
--- Why an image isn't mounted: the disk failed at a block of it, one that is reached where it tells its blocks; a field is outside the profile; a block of the device
+-- a damage that the system files show: it is told rightly of each image, whole in its layout, that has them as they are here
+abbrev pub IsToldBySystem : DiskState → ℕ → ℕ → Type 0
+IsToldBySystem disk block rule =
+    OfImage disk (λ im. (other : Image) (o : Owners) (l : Layout) → HasSameSystem im other → IsLaid other o l → RefusesRightly other (fault.Damaged block rule))
+
+-- Why an image isn't mounted: the disk failed at a block of it, one of the system files where it tells its blocks; a field is outside the profile; a block of the device
 -- breaks a rule, or it is too short for a superblock, and behind the superblock that is told only where the formats are those of
--- the profile. A root that is none of the groups' data blocks is looked for last: its number stands in the superblock.
+-- the profile; and it is the system files that show it. A root that is none of the groups' data blocks is looked for last: its number stands in the superblock.
 pub data MountEnds (disk : DiskState) (faults faults_now : ℕ → ℕ) : Status → Type 0 where
   DiskFails : (block x y : ℕ) → WentUp (faults 0) (faults_now 0) x y → block < disk.count → OfImage disk (λ im. IsReached im block) → MountEnds disk faults faults_now (status.DeviceFault 0 (Some block) x y)
   LiesOutside : (what : Field) (value : ℕ) → OfImage disk (λ im. IsOutside im what value) → OfImage disk (λ im. HasProfile im → ⊥)
       → MountEnds disk faults faults_now (status.NotProfile what value)
-  IsDamaged : (block rule : ℕ) → OfImage disk (λ im. RefusesRightly im (fault.Damaged block rule)) → OfImage disk NeverStands
+  IsDamaged : (block rule : ℕ) → OfImage disk (λ im. RefusesRightly im (fault.Damaged block rule)) → IsToldBySystem disk block rule → OfImage disk NeverStands
       → MountEnds disk faults faults_now (status.Damaged block rule)
   LacksRoom : MountEnds disk faults faults_now status.NoMemory
 

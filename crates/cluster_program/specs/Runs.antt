@@ -66,8 +66,8 @@ pub record IsMountedAgain (im : Image) (m : MountedValue) : Type 0 where
   pub superblock : value.superblock ≡ m.superblock
   pub groups : value.groups ≡ m.groups
 
--- The call meets a block that breaks this rule, as what the node may have read by then shows it; and that is so of the image as it then was, if this still has
--- the superblock and the groups that were mounted.
+-- The call meets a block that breaks this rule, as what the node may have read by then shows it; and that is so of the image as it then was, if this can be
+-- mounted again, with the superblock and the groups that were mounted.
 pub record MeetsDamage (given left : DiskState) (m : MountedValue) (block rule : ℕ) (call : Call) : Type 0 where
   pub shown : IsDamagedOn left (as_mounted given m) call block rule
   pub told : OfImage left (λ im. IsMountedAgain im m → IsToldBroken (seen_alone shown.view) im call rule block)

@@ -6,7 +6,7 @@ ghost use Rattle.shared_disk.specs.Disk.{IsIdle};
 ghost use Rattle.shared_disk.specs.Disk.{ReadsOnly};
 ghost use Rattle.damage_laws.specs.Telling.{HasRootInside};
 ghost use Rattle.lone_view.specs.Seeing.{seen_alone};
-ghost use Rattle.cluster_program.specs.Mounting.{MountEnds, OfImage, IsMountedOn, IsMountedReplayed};
+ghost use Rattle.cluster_program.specs.Mounting.{MountEnds, OfImage, IsMountedAlike, IsMountedOn, IsMountedReplayed};
 ghost use Rattle.cluster_program.specs.Runs.{as_mounted};
 
 use crate::end_status::not_mounted;
@@ -27,6 +27,7 @@ pub(crate) fn mount<D: SharedDisk>(alloc: Global, disk: &mut D) -> Result<Mounte
     requires size { IsBlockSize (D.state disk.old).size }
     ensures mounted { IfOk result (IsMountedOn (D.state disk.old)) }
     ensures replayed { IfOk result (IsMountedReplayed (D.state disk.old)) }
+    ensures alike { IfOk result (IsMountedAlike (D.state disk.old)) }
     ensures ends { IfErr result (MountEnds (D.state disk.old) (D.faults disk.old) (D.faults disk.new)) }
     ensures reads { ReadsOnly (D.state disk.old) (D.state disk.new) (D.list disk.old) (D.list disk.new) (D.faults disk.old) (D.faults disk.new) }
 {
@@ -55,7 +56,7 @@ pub(crate) fn ready_of<D: SharedDisk>(
 ) -> Result<Ready, Status>
     requires size { IsBlockSize (D.state disk.now).size }
     requires mounted { IsMountedOn (D.state disk.now) mounted }
-    requires replayed { IsMountedReplayed (D.state disk.now) mounted }
+    requires alike { IsMountedAlike (D.state disk.now) mounted }
     ensures view { IfOk result (λ ready. ready.view ≡ as_mounted (D.state disk.now) mounted) }
     ensures journals { IfOk result (λ ready. ready.journals.items ≡ mounted.journals) }
     ensures on { IfOk result (λ ready. IsOn (D.state disk.now) ready.view) }

@@ -175,7 +175,7 @@ blocks_more im d n by k located old new are at low claim system is = record {
     | inl same ↦ subst (IsHeadedWay (every im d)) (sym same) at.headed
     | inr other ↦ are.headed p (omega (arith, below, other))
   ];
-  reached = subst (All (IsReached im)) (sym is) (All-push (IsReached im) old located.block are.reached (record { inside = low; claimed = inr (by, (Below d by k 0 n, claim)) }));
+  reached = subst (All (IsReached im)) (sym is) (All-push (IsReached im) old located.block are.reached (record { inside = low; system = system }));
 }
 
 -- the block at a place is that of content

@@ -7,13 +7,13 @@ use Rattle.gfs2_layout.specs.Inode.{dinode_in}
 use Rattle.log_layout.specs.Journal.{ring_of, head_in}
 use Rattle.gfs2_layout.specs.Records.{Record}
 use Rattle.log_layout.specs.declared.log_header.LogHeader.{LogHeader}
-use Rattle.image_model.specs.Claims.{every, Claims, master_of}
+use Rattle.image_model.specs.Claims.{every, master_of}
 use Rattle.image_model.specs.Groups.{entry_length, GroupsFit}
 use Rattle.image_model.specs.Image.{Image, superblock_in}
-use Rattle.image_model.specs.Owners.{Owner}
 use Rattle.image_model.specs.Profile.{group_length}
 use Rattle.image_model.specs.Rules.{IsBrokenBlock, HasRecords}
 use Rattle.image_model.specs.Stands.{Layout, IsJournalAt}
+use Rattle.image_model.specs.SystemFiles.{IsSystemBlock}
 use Rattle.image_mount.specs.Found.{HasSuper, HasFormat, IsFirstOther, HasList, HasMaster, HasGroups, name_count, AreJournalNames, HasNames}
 use Rattle.image_reader.specs.declared.image.ImageFault.{ImageFault}
 use Rattle.image_reader.specs.declared.image.ImageFault.TheVariants as image
@@ -63,10 +63,10 @@ pub data IsOutside (im : Image) : Field → ℕ → Type 0 where
   sequence : (l : Layout) (j d : ℕ) (head : LogHeader) → HasNames im l → ((i c : ℕ) → IsJournalAt l i c → IsJournalSized im c) → ((i c : ℕ) → i < j → IsJournalAt l i c → HasLowHead im c)
       → IsJournalAt l j d → head_in (ring_of (every im d)) ≡ Some head → 2 ^ 63 ≤ head.sequence → IsOutside im field.Sequence head.sequence
 
--- a block that may be read: the device has it, and it is the superblock or one that is reached from it
+-- a block that mounting may read: the device has it, and it is one of the system files, or one by which they are found
 pub record IsReached (im : Image) (b : ℕ) : Type 0 where
   pub inside : b < im.count
-  pub claimed : (b ≡ superblock_place im.size) ⊎ ((by : ℕ) × ((o : Owner) × Claims im by b o))
+  pub system : IsSystemBlock im b
 
 -- The cause of each refusal in the image. But for a superblock that lacks its header, or isn't there, a broken rule is told only where the formats are those of the profile.
 abbrev pub RefusesRightly : Image → MountFault → Type 0

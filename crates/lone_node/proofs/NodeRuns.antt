@@ -18,7 +18,7 @@ use Rattle.script_lang.specs.declared.script.Line.{Line}
 use Rattle.script_lang.specs.declared.script.Line.TheVariants as line
 use Rattle.script_lang.specs.Script.{ScriptValue, call_by, calls_by}
 use Rattle.script_lang.specs.OneNode.{HaveOwnClientNames, IsOneNode, IsOwnLine}
-use Rattle.run_rules.specs.Follows.{Follows, ByLine, history_of, call_items, above, answered, IsAfterAbove, IsOrderLine, IsOnItsNode}
+use Rattle.run_rules.specs.Follows.{Follows, ByLine, IsAfterStart, history_of, call_items, above, answered, IsAfterAbove, IsOrderLine, IsOnItsNode}
 use Rattle.run_rules.specs.History.{HoldsHistory, NoneStopped, AllAnswered}
 use Rattle.run_rules.proofs.Nothing.{nothing_follows, nothing_is_legal}
 use Rattle.lone_node.specs.Items.{AnsweredCall, IsOfReplay, full_item, is_call_line, items_from, its_answer, its_line, name_at}
@@ -397,6 +397,12 @@ module _ (s : ScriptValue) (form : IsOneNode s) (count : ℕ) (rs : List Answere
 
   -- ---- all together
 
+  -- the first item alone is a join, and its node hadn't joined before
+  no_later : {A : Type 0} (p node : ℕ) → slice_get items p ≡ Some (trace.Join node) → IsAfterStart s items p node → A
+  no_later zero node at (inl more) = absurd (omega (arith, more, form.nodes))
+  no_later zero node at (inr again) = absurd (again refl)
+  no_later (suc p) node at later = absurd (no_join (suc p) node (omega arith) at)
+
   follows : Follows items s
   follows = record {
     in_order = in_order;
@@ -404,9 +410,9 @@ module _ (s : ScriptValue) (form : IsOneNode s) (count : ℕ) (rs : List Answere
     waits = λ l p client barrier at is_barrier more rises. waits l p client more rises;
     order = λ p. ByLine 0;
     crashes = λ p node at. absurd (no_crash p node at);
-    joins = λ p node more at. absurd (no_join p node (omega (arith, more, form.nodes)) at);
+    joins = λ p node at later. no_later p node at later;
     once = λ p q node at also same. absurd (no_crash p node at);
-    once_joined = λ p q i j more latter at also same. absurd (no_join p i (omega (arith, more, form.nodes)) at);
+    once_joined = λ p q i j at also later latter same. no_later p i at later;
     armed = λ p a armed at write. absurd (none_at a armed (ap (λ (as' : List _). slice_get as' a) (sym form.armed) ∙ at));
     place = λ l. 0;
     placed = λ l order_line at is_order below. absurd (no_order (length s.clients) order_line (all_at (IsOwnLine (length s.clients)) s.lines l order_line form.lines at) is_order);

@@ -22,9 +22,9 @@ follows_none s = record {
   waits = λ l p client barrier is is_barrier above' more client'. let m = min_none (above s client' l) in omega (arith, m);
   order = λ p. ByLine 0;
   crashes = λ p node is. absurd (none_at p _ is);
-  joins = λ p node start is. absurd (none_at p _ is);
+  joins = λ p node is start. absurd (none_at p _ is);
   once = λ p q node is also same. absurd (none_at p _ is);
-  once_joined = λ p q i j start starts is also same. absurd (none_at p _ is);
+  once_joined = λ p q i j is also start starts same. absurd (none_at p _ is);
   armed = λ p k a is write. absurd (none_at p _ write.1);
   place = λ l. 0;
   placed = λ l order_line is is_order below. absurd (omega (arith, below.1));

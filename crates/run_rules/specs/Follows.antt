@@ -1,5 +1,5 @@
 -- The items of a run follow its script.
-use Rattle.std.specs.Prelude.{ℕ, suc, ◌≡◌, ◌⊎◌, ◌+◌, ◌-◌, ◌<◌, ◌≤◌, ◌==◌, Bool, false, IsTrue, min, List, [], ◌∷◌, length, take, slice_get, Some, if◌then◌else◌, ⊤, count_by}
+use Rattle.std.specs.Prelude.{ℕ, suc, ◌≡◌, ◌≢◌, ◌⊎◌, ◌+◌, ◌-◌, ◌<◌, ◌≤◌, ◌==◌, Bool, false, IsTrue, min, List, [], ◌∷◌, length, take, slice_get, Some, if◌then◌else◌, ⊤, count_by}
 use Rattle.std.specs.Str.{bytes_eq}
 use Rattle.fencing.specs.NodeSets.{has}
 use Rattle.file_tree.specs.declared.call.Call.{Call}
@@ -117,6 +117,10 @@ abbrev pub JoinsBy : ScriptValue → List TraceItem → ℕ → ℕ → Order �
 JoinsBy s items p node (ByLine l) = (slice_get s.lines l ≡ Some (line.Join node)) × IsAfterAbove s items l p
 JoinsBy s items p node (ByArmed a) = ⊥
 
+-- A join after the start: as many items stand before it as the script has nodes; or its node isn't one that hasn't joined yet.
+abbrev pub IsAfterStart : ScriptValue → List TraceItem → ℕ → ℕ → Type 0
+IsAfterStart s items p node = (s.nodes ≤ p) ⊎ (standing items node p ≢ NotJoined)
+
 -- at the place of a crash line each node that it names is stopped, and at that of a join line its node is a member
 abbrev pub StandsAt : ScriptValue → List TraceItem → Line → ℕ → Type 0
 StandsAt s items (line.Crash nodes) p = (node : ℕ) → IsTrue (has nodes node) → node ≤ s.nodes → standing items node p ≡ Stopped
@@ -133,10 +137,10 @@ pub record Follows (items : List TraceItem) (s : ScriptValue) : Type 0 where
   -- what each crash and each join after the start carries out
   pub order : ℕ → Order
   pub crashes : (p node : ℕ) → slice_get items p ≡ Some (trace.Crash node) → CrashesBy s items p node (order p)
-  pub joins : (p node : ℕ) → s.nodes ≤ p → slice_get items p ≡ Some (trace.Join node) → JoinsBy s items p node (order p)
+  pub joins : (p node : ℕ) → slice_get items p ≡ Some (trace.Join node) → IsAfterStart s items p node → JoinsBy s items p node (order p)
   -- each order at most once, a line once for each of its nodes
   pub once : (p q node : ℕ) → slice_get items p ≡ Some (trace.Crash node) → slice_get items q ≡ Some (trace.Crash node) → order p ≡ order q → p ≡ q
-  pub once_joined : (p q i j : ℕ) → s.nodes ≤ p → s.nodes ≤ q → slice_get items p ≡ Some (trace.Join i) → slice_get items q ≡ Some (trace.Join j) → order p ≡ order q → p ≡ q
+  pub once_joined : (p q i j : ℕ) → slice_get items p ≡ Some (trace.Join i) → slice_get items q ≡ Some (trace.Join j) → IsAfterStart s items p i → IsAfterStart s items q j → order p ≡ order q → p ≡ q
   -- an armed crash comes directly after its write
   pub armed : (p k : ℕ) (a : Armed) → slice_get s.armed k ≡ Some a → IsKthWrite items a.node a.write p
       → (p + 1 ≡ length items) ⊎ (slice_get items (p + 1) ≡ Some (trace.Crash a.node))

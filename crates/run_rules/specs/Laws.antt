@@ -37,3 +37,16 @@ list_alone = trace.Join 1 ∷ trace.Call 1 (codes "c") 1 (call.List []) (reply.N
 -- these items don't follow that script
 abbrev pub CrashLinesAreCarriedOut : Type 0
 CrashLinesAreCarriedOut = ¬ (Follows list_alone crash_and_list)
+
+-- ---- no node joins again without a line: a worked row
+
+-- the same script for four nodes, of which one joins
+abbrev pub crash_of_four : ScriptValue
+crash_of_four = record crash_and_list { nodes = 4 }
+
+-- a run in which it joins again, though no line says so
+abbrev pub joined_twice : List TraceItem
+joined_twice = trace.Join 1 ∷ trace.Crash 1 ∷ trace.Fence 1 ∷ trace.Join 1 ∷ trace.Call 1 (codes "c") 1 (call.List []) (reply.Names []) ∷ []
+
+abbrev pub JoinsAreOrdered : Type 0
+JoinsAreOrdered = ¬ (Follows joined_twice crash_of_four)

@@ -2,7 +2,7 @@
 //! tree's, and which follows the script.
 #![tactic(auto)]
 
-ghost use Rattle.run_rules.specs.Laws.{CrashLinesAreCarriedOut, NothingFollows, NothingIsLegal};
+ghost use Rattle.run_rules.specs.Laws.{CrashLinesAreCarriedOut, JoinsAreOrdered, NothingFollows, NothingIsLegal};
 ghost use Rattle.run_rules.specs.Heads.{RowsOfHeads, RowsOfRecoveries, EachLossHasALife};
 
 /// A law: a run that has no items yet follows its script, whatever that is, is numbered, and is legal.
@@ -14,6 +14,11 @@ pub fn nothing_is_a_history()
 /// A law: a run that passes over a crash line, as one of `crash 1` and `c: list /` that only lists, doesn't follow its script.
 pub fn crash_lines_are_carried_out()
     ensures { CrashLinesAreCarriedOut }
+{}
+
+/// A law: a run in which a node joins again behind its crash doesn't follow a script without a join line, however many nodes that has.
+pub fn joins_are_ordered()
+    ensures { JoinsAreOrdered }
 {}
 
 /// A law: the number that a loss counts from, in worked rows, one for each of its cases; and a loss without a life is refused.

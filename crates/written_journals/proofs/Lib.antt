@@ -5,13 +5,13 @@ mod Parts
 mod ChunksRead
 mod RevokesRead
 mod AllRead
-mod Going
-mod RingsWritten
+pub mod Going
+pub mod RingsWritten
 pub mod HeadWritten
-mod HeadFound
-mod NoHeads
-mod LiveAfter
-mod Sorted
-mod LowSequences
+pub mod HeadFound
+pub mod NoHeads
+pub mod LiveAfter
+pub mod Sorted
+pub mod LowSequences
 mod Assembled
 mod Anew

@@ -13,3 +13,7 @@ pub returns-in-Ok-clause-replayed : goal.returns-in-Ok-clause-replayed
 returns-in-Ok-clause-replayed g c tells l replayed is =
     let d = g.D.SharedDisk.state c.args.disk.now in
     c.in-Ok.ensures.alike replayed (c.replayed_images_have_the_same_system.ensures d c.in-Ok.mounted l replayed tells (c.in-Ok.ensures.mounted tells) is)
+
+pub returns-in-Ok-clause-alike : goal.returns-in-Ok-clause-alike
+returns-in-Ok-clause-alike g c tells other same =
+    c.in-Ok.ensures.alike other (record { tells = tells; size = same.size; count = same.count; same = λ b has. same.same b (((c.in-Ok.ensures.mounted tells).system b).0 has) })
