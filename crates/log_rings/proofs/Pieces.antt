@@ -60,10 +60,48 @@ laid_read ring p last [] q are = read_end ring.size [] last nothing
 laid_read ring p last (t ∷ ts) q are =
     let rest = blocks_from ring (place_on ring.places p t.count) (places_of ts) in
     ap (reading ring.size [] last nothing) (blocks_further ring p t.count (places_of ts))
-    ∙ goes_on ring.size rest (blocks_from ring p t.count) last (t.sequenced ∷ []) are.2.2.0
-    ∙ ap (behind (t.sequenced ∷ [])) (laid_read ring (place_on ring.places p t.count) (Some t.sequenced.sequence) ts q are.2.2.1)
+    ∙ goes_on ring.size rest (blocks_from ring p t.count) last (t.sequenced ∷ []) are.2
+    ∙ ap (behind (t.sequenced ∷ [])) (laid_read ring (place_on ring.places p t.count) (Some t.sequenced.sequence) ts q are.3)
 
 -- so the first of them may be the first of all
 pub laid_alone : (ring : Ring) (p : ℕ) (last : Option ℕ) (ts : List Laid) (q : ℕ) → AreLaid ring p last ts q → AreLaid ring p None ts q
 laid_alone ring p last [] q are = are
-laid_alone ring p last (t ∷ ts) q are = (are.0, are.1, read_alone ring.size (blocks_from ring p t.count) [] last nothing (t.sequenced ∷ []) are.2.0, are.2.1)
+laid_alone ring p last (t ∷ ts) q are = (are.0, are.1, read_alone ring.size (blocks_from ring p t.count) [] last nothing (t.sequenced ∷ []) are.2, are.3)
+
+-- ---- parts of them
+
+-- the sequence of the last of them, or this one
+abbrev pub last_laid : Option ℕ → List Laid → Option ℕ
+last_laid last [] = last
+last_laid last (t ∷ ts) = last_laid (Some t.sequenced.sequence) ts
+
+-- those behind some begin where these end
+pub laid_behind : (ring : Ring) (p : ℕ) (last : Option ℕ) (before ts : List Laid) (q : ℕ) → AreLaid ring p last (before ++ ts) q → AreLaid ring (place_on ring.places p (places_of before)) (last_laid last before) ts q
+laid_behind ring p last [] ts q are = are
+laid_behind ring p last (t ∷ before) ts q are =
+    subst (λ r. AreLaid ring r (last_laid (Some t.sequenced.sequence) before) ts q) (place_further ring.places p t.count (places_of before))
+    (laid_behind ring (place_on ring.places p t.count) (Some t.sequenced.sequence) before ts q are.3)
+
+-- one more stands behind them
+pub laid_more : (ring : Ring) (p : ℕ) (last : Option ℕ) (ts : List Laid) (q : ℕ) (t : Laid) → AreLaid ring p last ts q → t.first ≡ q → 1 ≤ t.count
+    → reading ring.size [] (last_laid last ts) nothing (blocks_from ring q t.count) ≡ Ok (t.sequenced ∷ []) → AreLaid ring p last (ts ++ t ∷ []) (place_on ring.places q t.count)
+laid_more ring p last [] q t are first some read = (
+  first ∙ sym are,
+  some,
+  subst (λ r. reading ring.size [] last nothing (blocks_from ring r t.count) ≡ Ok (t.sequenced ∷ [])) (sym are) read,
+  ap (λ r. place_on ring.places r t.count) are,
+)
+laid_more ring p last (u ∷ ts) q t are first some read =
+    (are.0, are.1, are.2, laid_more ring (place_on ring.places p u.count) (Some u.sequenced.sequence) ts q t are.3 first some read)
+
+pub places-append : (before ts : List Laid) → places_of (before ++ ts) ≡ places_of before + places_of ts
+places-append [] ts = let e : places_of ts ≡ 0 + places_of ts = omega arith in e
+places-append (t ∷ before) ts = let rest = places-append before ts in omega (arith, rest)
+
+pub sequenced-append : (before ts : List Laid) → sequenced_all (before ++ ts) ≡ sequenced_all before ++ sequenced_all ts
+sequenced-append [] ts = refl
+sequenced-append (t ∷ before) ts = ap (λ us. t.sequenced ∷ us) (sequenced-append before ts)
+
+pub last_is : (last : Option ℕ) (ts : List Laid) → last_of last (sequenced_all ts) ≡ last_laid last ts
+last_is last [] = refl
+last_is last (t ∷ ts) = last_is (Some t.sequenced.sequence) ts
