@@ -12,7 +12,8 @@ use Rattle.log_layout.specs.declared.log_header.LogHeader.{LogHeader}
 use Rattle.node_journal.specs.Places.{place_on}
 use Rattle.written_journals.proofs.RingsWritten.{next_of, on_apart, way_on}
 use Rattle.log_values.specs.Log.{Entry, Flush, LogValue}
-use Rattle.log_values.specs.Flushing.{IsTail, behind_tail, first_place, head_place}
+use Rattle.log_tables.specs.Kept.{is_home}
+use Rattle.log_values.specs.Flushing.{AllAreHome, IsTail, behind_tail, first_place, head_place}
 use Rattle.log_values.specs.Flushing.IsTail.{of_itself, of_none, of_oldest}
 use Rattle.log_values.specs.Sound.{IsSoundLog, used}
 use Rattle.log_rings.specs.Laid.{AreLaid, IsEntryOf, IsLiveAs, IsRingOf, Laid, places_of, sequenced_all}
@@ -123,7 +124,7 @@ module _ (ring : Ring) (log : LogValue) (laid : List Laid) (sound : IsSoundLog l
 
   -- which of them a flush's tail keeps; but for a header that is its own tail
   pub data TailKeeps (f : Flush) (tail : ℕ) : Type 0 where
-    some_kept : (dropped kept : List Laid) → Keeps tail dropped kept → TailKeeps f tail
+    some_kept : (dropped kept : List Laid) → Keeps tail dropped kept → (AllAreHome log → f.versions ≡ table.empty → ⊥) → TailKeeps f tail
     own : ((b : ℕ) (e : Entry) → table.get log.live b ≡ Some e → behind_tail log e.first < used log) → f.versions ≡ table.empty → tail ≡ head_place log f → TailKeeps f tail
 
   not_clean : (b : ℕ) (e : Entry) → table.get log.live b ≡ Some e → log.clean ≡ false
@@ -139,8 +140,9 @@ module _ (ring : Ring) (log : LogValue) (laid : List Laid) (sound : IsSoundLog l
       some_kept entry.before (entry.its ∷ entry.behind)
       (subst (λ p. Keeps p entry.before (entry.its ∷ entry.behind)) entry.begins
       (keeps_kept begun entry.its.first entry.before (entry.its ∷ entry.behind) (kept_from ring log laid sound of begun entry.before entry.its entry.behind entry.parts)))
+      (λ home none. true≢false (sym (ap is_home (home b e needed.live)) ∙ needed.away))
   tail_keeps f tail (of_itself none some) = elim (cases_Bool log.clean) [
-    | inl clean ↦ some_kept laid [] (keeps_clean clean)
-    | inr begun ↦ some_kept laid [] (keeps_kept begun (first_place log) laid [] (kept_none ring log laid sound of begun))
+    | inl clean ↦ some_kept laid [] (keeps_clean clean) (λ home empty. some empty)
+    | inr begun ↦ some_kept laid [] (keeps_kept begun (first_place log) laid [] (kept_none ring log laid sound of begun)) (λ home empty. some empty)
   ]
   tail_keeps f tail (of_none none empty) = own (λ b e at. (sound.firsts b e at).1) empty refl

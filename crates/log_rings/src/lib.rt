@@ -4,6 +4,10 @@
 
 ghost use Rattle.log_rings.specs.Laws.{BlocksSayNothing, CleanRingsBegin, FlushesFly, FlushesLand, HeadersFly, RingsOfLogsAreReadable};
 
+use log_layout::places_say_all;
+use log_values::live_blocks_fit;
+use written_journals::{own_tail_begins_anew, what_is_written_is_said};
+
 /// A law: a journal with a clean head is that of an empty log.
 pub fn clean_rings_begin()
     ensures { CleanRingsBegin }
@@ -13,17 +17,26 @@ pub fn clean_rings_begin()
 pub fn blocks_of_flushes_say_nothing()
     ensures fly { FlushesFly }
     ensures nothing { BlocksSayNothing }
-{}
+{
+    live_blocks_fit();
+}
 
 /// A law: the header of a flush flies to a free place, where it is the next one.
 pub fn headers_of_flushes_fly()
     ensures { HeadersFly }
-{}
+{
+    live_blocks_fit();
+}
 
 /// A law: with its header in its place a flush is in the journal, which has live what the log says.
 pub fn flushes_land()
     ensures { FlushesLand }
-{}
+{
+    what_is_written_is_said();
+    own_tail_begins_anew();
+    places_say_all();
+    live_blocks_fit();
+}
 
 /// A law: the journal of a log can be read.
 pub fn rings_of_logs_are_readable()
