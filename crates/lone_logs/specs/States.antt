@@ -7,6 +7,7 @@ use Rattle.cluster_laws.specs.Notes.{Caches}
 use Rattle.cluster_laws.specs.Rings.{Rings}
 use Rattle.cluster_laws.specs.World.{World}
 use Rattle.image_disks.specs.Disks.{IsDiskOf}
+use Rattle.image_machine.specs.Cells.{BlockCell}
 use Rattle.image_machine.specs.Volumes.{IsPlace, Volume, images_of}
 use Rattle.image_model.specs.Image.{Image}
 use Rattle.image_model.specs.Stands.{IsJournalAt}
@@ -109,5 +110,5 @@ pub record IsLoggedNode (v : Volume) (s : Begun (Trees (images_of v))) (w : Worl
   -- its calls
   pub versions : HasVersions v s w st.log st.begun_at st.log.flush
   -- what it keeps
-  pub keeps : (b : ℕ) (bytes : List ℕ) → table.get st.kept b ≡ Some bytes → (x : _) × (w.book.cache s.node b ≡ Some x) × (x.content ≡ bytes)
+  pub keeps : (b : ℕ) (bytes : List ℕ) → table.get st.kept b ≡ Some bytes → (x : BlockCell) × (w.book.cache s.node b ≡ Some x) × (x.content ≡ bytes)
   pub no_more : (b : ℕ) → table.get st.kept b ≡ None → w.book.cache s.node b ≡ None
