@@ -5,4 +5,8 @@
 mod laws;
 mod steps;
 
+pub use laws::{
+    a_change_keeps, a_flush_keeps, an_empty_log_is_sound, homing_keeps, live_blocks_fit,
+    revoking_keeps, settling_keeps,
+};
 pub use steps::LogStep;

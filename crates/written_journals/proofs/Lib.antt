@@ -1,5 +1,5 @@
 mod NumbersBack
-mod Blocks
+pub mod Blocks
 mod DescriptorsBack
 mod Parts
 mod ChunksRead
