@@ -7,6 +7,6 @@ mod steps;
 
 pub use laws::{
     a_change_keeps, a_flush_keeps, an_empty_log_is_sound, homing_keeps, live_blocks_fit,
-    revoking_keeps, settling_keeps,
+    revoking_keeps, settling_keeps, small_changes_fit,
 };
 pub use steps::LogStep;
