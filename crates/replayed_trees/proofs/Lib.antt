@@ -1,0 +1,4 @@
+pub mod Causes
+pub mod SoFar
+pub mod Replay
+pub mod Found
