@@ -1,5 +1,5 @@
--- The plans of a replayed image's journals are its replay, and nothing stops it.
-use Rattle.std.proofs.Common.{◌≡◌, ◌+◌, ◌<◌, ℕ, zero, suc, Bool, true, false, List, [], ◌∷◌, length, Option, None, Some, Result, Ok, Err, get_or, refl, sym, ap, subst, ◌∙◌, arith}
+-- The plans of an image's journals are its replay, and what stops it.
+use Rattle.std.proofs.Common.{◌≡◌, ◌+◌, ◌<◌, ℕ, zero, suc, Bool, true, false, List, [], ◌∷◌, length, Option, None, Some, get_or, refl, sym, ap, subst, ◌∙◌, arith}
 use Rattle.std.specs.Prelude.{IsTrue, slice_get, unwrap_or}
 use Rattle.std.specs.List.{All}
 use Rattle.std.proofs.lemmas.Bool.{cond-true, cond-false}
@@ -9,22 +9,21 @@ use Rattle.gfs2_layout.specs.Inode.{content_block}
 use Rattle.image_journals.specs.Found.{AreJournals}
 use Rattle.image_journals.specs.declared.finding.JournalPlaces.{JournalPlaces}
 use Rattle.image_model.specs.Claims.{every}
-use Rattle.image_model.specs.Image.{Image, image_of}
-use Rattle.image_model.specs.Replays.{Replayed, live_at}
+use Rattle.image_model.specs.Image.{image_of}
+use Rattle.image_model.specs.Replays.{HasItsJournals, MayChange, Replayed, live_at}
 use Rattle.image_model.specs.Stands.{IsJournalAt, Layout}
-use Rattle.image_model.proofs.Replaying.{one_replay}
 use Rattle.image_replays.specs.Marking.{is_planned}
 use Rattle.image_replays.specs.Replays.{IfDamaged, first_of_both, put_by, put_over}
-use Rattle.image_replays.proofs.Lists.{any_is, live_barred, none_some, open_barred, open_live, some_is}
-use Rattle.image_replays.proofs.Replay.{plan_of}
+use Rattle.image_replays.specs.Replays as mounted
+use Rattle.image_replays.proofs.Lists.{any_is, false_true, live_barred, none_some, some_is}
+use Rattle.image_replays.proofs.Replay.{live_is_home, plan_of}
 use Rattle.image_replays.proofs.System.{some_at}
 use Rattle.journal_plans.specs.Plans.{IsPlanOf, bytes_put}
+use Rattle.journal_plans.proofs.Numbered.{number_told}
 use Rattle.journal_reads.specs.Reading.{ring_read}
 use Rattle.log_layout.specs.Journal.{Ring, ring_of}
 use Rattle.log_layout.specs.Laws.{HasSamePlaces, SaysTheSame}
-use Rattle.log_layout.specs.Transactions.{Sequenced}
 use Rattle.log_layout.proofs.SamePlaces.{says_the_same}
-use Rattle.log_layout.specs.Transactions.{transactions_of}
 use Rattle.peer_replay.specs.declared.planned.Plan.{Plan}
 use Rattle.replay_looks.specs.Looks.{Breaks, BreaksAlone, BreaksByLive, IsStopped, alone, bad_chunk, by_live, headless, stray, twice}
 use Rattle.replay_looks.specs.declared.faults.LookFault.{LookFault}
@@ -32,13 +31,12 @@ use Rattle.replay_looks.specs.declared.faults.LookFault.TheVariants.{Damaged, Di
 use Rattle.replay_looks.proofs.Stops.{home_is_live}
 use Rattle.replay_marks.specs.Marking.{has_block, mark_of}
 use Rattle.replay_marks.specs.declared.marks.Mark.{Mark}
-use Rattle.replay_marks.specs.declared.marks.Mark.TheVariants.{Barred, Live, Open}
+use Rattle.replay_marks.specs.declared.marks.Mark.TheVariants.{Barred, Live}
 use Rattle.shared_disk.specs.Disk.{DiskState, IsIdle, flight_to}
-use Rattle.replayed_trees.specs.Planning.{AreInside}
+use Rattle.replayed_trees.specs.Marking.{AreMarked}
+use Rattle.replayed_trees.specs.Planning.{AreInside, StopsReplay}
+use Rattle.replayed_trees.specs.Planning as stops
 use Rattle.replayed_trees.proofs.SoFar.{IsSoFar}
-
-ok_err : {x : List Sequenced} {place : ℕ} → ◌≡◌ {A = Result (List Sequenced) ℕ} (Ok x) (Err place) → ⊥
-ok_err e = cc
 
 -- one plan's bytes, where those before it have none
 put_at : (ps : List Plan) (j : ℕ) (p : Plan) (b : ℕ) (bytes : List ℕ) → slice_get ps j ≡ Some p → bytes_put p b ≡ Some bytes → ((i : ℕ) (q : Plan) → i < j → slice_get ps i ≡ Some q → bytes_put q b ≡ None) → put_by ps b ≡ Some bytes
@@ -51,17 +49,24 @@ put_none : (ps : List Plan) (b : ℕ) → ((i : ℕ) (q : Plan) → slice_get ps
 put_none [] b none = refl
 put_none (q ∷ ps) b none = ap (λ o. first_of_both o (put_by ps b)) (none 0 q refl) ∙ put_none ps b (λ i r there. none (suc i) r there)
 
-module _ (s : DiskState) (idle : IsIdle s) (tells : IsTrue s.tells) (l : Layout) (r : Image) (is : Replayed (image_of s) l r) (journals : List JournalPlaces) (found : AreJournals (image_of s) l journals) where
+not_home : (p : Plan) (b : ℕ) → has_block p.home.items b ≡ false → bytes_put p b ≡ None
+not_home p b off = by (bytes_put p b) refl
+  where
+    by : (o : Option (List ℕ)) → bytes_put p b ≡ o → o ≡ None
+    by None e = refl
+    by (Some bytes) e = absurd (false_true (sym off ∙ live_is_home p b bytes e))
+
+module _ (s : DiskState) (idle : IsIdle s) (tells : IsTrue s.tells) (l : Layout) (its : HasItsJournals (image_of s) l) (journals : List JournalPlaces) (found : AreJournals (image_of s) l journals)
+    (first : List Mark) (marked : AreMarked (image_of s) l first) (n : ℕ) (plans : List Plan) (marks : List Mark) (so : IsSoFar s first journals n plans marks) where
   -- the journal as it is read
   module _ (j : ℕ) (x : JournalPlaces) (there : slice_get journals j ≡ Some x) where
-    abbrev n : ℕ
-    n = (ring_of (every (image_of s) x.dinode)).places
+    long : length x.blocks.items ≡ (ring_of (every (image_of s) x.dinode)).places
+    long = ap length (found.blocks j x there) ∙ length-map-range_with_len (content_block (every (image_of s) x.dinode)) 0 (ring_of (every (image_of s) x.dinode)).places
 
-    long : length x.blocks.items ≡ n
-    long = ap length (found.blocks j x there) ∙ length-map-range_with_len (content_block (every (image_of s) x.dinode)) 0 n
-
-    block_at_place : (p : ℕ) → p < n → get_or x.blocks.items p 0 ≡ content_block (every (image_of s) x.dinode) p
-    block_at_place p low = let z : 0 + p ≡ p = omega arith in ap (λ bs. get_or bs p 0) (found.blocks j x there) ∙ get_or-map-range_with_len (content_block (every (image_of s) x.dinode)) 0 n p p 0 low z
+    block_at_place : (p : ℕ) → p < (ring_of (every (image_of s) x.dinode)).places → get_or x.blocks.items p 0 ≡ content_block (every (image_of s) x.dinode) p
+    block_at_place p low =
+        let z : 0 + p ≡ p = omega arith in
+        ap (λ bs. get_or bs p 0) (found.blocks j x there) ∙ get_or-map-range_with_len (content_block (every (image_of s) x.dinode)) 0 (ring_of (every (image_of s) x.dinode)).places p p 0 low z
 
     same_ring : HasSamePlaces (ring_read s 0 x.blocks.items) (ring_of (every (image_of s) x.dinode))
     same_ring = record {
@@ -78,55 +83,83 @@ module _ (s : DiskState) (idle : IsIdle s) (tells : IsTrue s.tells) (l : Layout)
       let x = some_at journals j (subst (λ k. j < k) (sym found.count) low) in
       (x.0, x.1, some_is (sym (found.each j x.0 x.1) ∙ at))
 
-  module _ (first : List Mark) (opened : (b : ℕ) → b < s.count → mark_of first b ≡ Open) (n : ℕ) (plans : List Plan) (marks : List Mark) (so : IsSoFar s first journals n plans marks) where
-    plan_at : (j : ℕ) (x : JournalPlaces) (p : Plan) → slice_get journals j ≡ Some x → slice_get plans j ≡ Some p → IsPlanOf (ring_of (every (image_of s) x.dinode)) p
-    plan_at j x p at there = plan_of (ring_read s 0 x.blocks.items) (ring_of (every (image_of s) x.dinode)) (same_ring j x at) p (so.each tells j x p at there)
+  plan_at : (j : ℕ) (x : JournalPlaces) (p : Plan) → slice_get journals j ≡ Some x → slice_get plans j ≡ Some p → IsPlanOf (ring_of (every (image_of s) x.dinode)) p
+  plan_at j x p at there = plan_of (ring_read s 0 x.blocks.items) (ring_of (every (image_of s) x.dinode)) (same_ring j x at) p (so.each tells j x p at there)
 
-    -- ---- nothing stops the next journal
+  -- ---- what stops the next journal
 
-    module _ (x : JournalPlaces) (there : slice_get journals n ≡ Some x) where
-      abbrev ring : Ring
-      ring = ring_read s 0 x.blocks.items
+  barred_is : (b : ℕ) → mark_of marks b ≡ Barred → ¬ (MayChange (image_of s) l b)
+  barred_is b mark = by (is_planned plans b) refl
+    where
+      by : (t : Bool) → is_planned plans b ≡ t → ¬ (MayChange (image_of s) l b)
+      by true e may = live_barred (sym (so.are b ∙ cond-true _ _ _ e) ∙ mark)
+      by false e may = marked.may_not b (sym (so.are b ∙ cond-false _ _ _ e) ∙ mark) may
 
-      abbrev d : ℕ
-      d = x.dinode
+  live_is_planned : (b : ℕ) → mark_of marks b ≡ Live → is_planned plans b ≡ true
+  live_is_planned b mark = by (is_planned plans b) refl
+    where
+      by : (t : Bool) → is_planned plans b ≡ t → is_planned plans b ≡ true
+      by true e = e
+      by false e = absurd (marked.fresh b (sym (so.are b ∙ cond-false _ _ _ e) ∙ mark))
 
-      says : SaysTheSame ring (ring_of (every (image_of s) d))
-      says = says_the_same ring (ring_of (every (image_of s) d)) (same_ring n x there)
+  module _ (x : JournalPlaces) (there : slice_get journals n ≡ Some x) (inside : AreInside s.count journals) where
+    abbrev ring : Ring
+    ring = ring_read s 0 x.blocks.items
 
-      at : IsJournalAt l n d
-      at = found.each n x there
+    abbrev d : ℕ
+    d = x.dinode
 
-      by_itself : (rule b : ℕ) → BreaksAlone ring d x.blocks.items rule b → ⊥
-      by_itself _ _ (headless none) = let reads = is.replayable.readable n d at in none_some reads.head (sym none ∙ says.head ∙ reads.headed)
-      by_itself _ _ (bad_chunk head place headed bad low) =
-          let reads = is.replayable.readable n d at in
-          let same : reads.head ≡ head = some_is (sym reads.headed ∙ sym says.head ∙ headed) in
-          ok_err (sym reads.read ∙ ap (transactions_of (ring_of (every (image_of s) d))) same ∙ sym (says.transactions head) ∙ bad)
+    says : SaysTheSame ring (ring_of (every (image_of s) d))
+    says = says_the_same ring (ring_of (every (image_of s) d)) (same_ring n x there)
 
-      -- a live block is one of the device, so it was open
-      module _ (number : ℕ) (bytes : List ℕ) (live : live_at (image_of s) d number ≡ Some bytes) where
-        was_open : mark_of first number ≡ Open
-        was_open = opened number (is.replayable.inside n d number bytes at live).there
+    at : IsJournalAt l n d
+    at = found.each n x there
 
-        not_barred : (t : Bool) → is_planned plans number ≡ t → mark_of marks number ≡ Barred → ⊥
-        not_barred true e mark = live_barred (sym (so.are number ∙ cond-true _ _ _ e) ∙ mark)
-        not_barred false e mark = open_barred (sym was_open ∙ sym (so.are number ∙ cond-false _ _ _ e) ∙ mark)
+    abbrev Told : ℕ → ℕ → Type 0
+    Told rule b = StopsReplay (image_of s) l rule b × (b < s.count)
 
-        is_before : (t : Bool) → is_planned plans number ≡ t → mark_of marks number ≡ Live → is_planned plans number ≡ true
-        is_before true e mark = e
-        is_before false e mark = absurd (open_live (sym was_open ∙ sym (so.are number ∙ cond-false _ _ _ e) ∙ mark))
+    place_is : (p : ℕ) → p < length x.blocks.items → (get_or x.blocks.items p 0 ≡ content_block (every (image_of s) d) p) × (content_block (every (image_of s) d) p < s.count)
+    place_is p low =
+        let same = block_at_place n x there p (subst (λ k. p < k) (long n x there) low) in
+        (same, subst (λ b. b < s.count) same (inside.places n x there p 0 low))
 
-        not_live : mark_of marks number ≡ Live → ⊥
-        not_live mark =
-            let one = any_is (λ (p : Plan). has_block p.home.items number) plans (is_before (is_planned plans number) refl mark) in
-            let low : one.index < length plans = slice_get_within plans one.index one.one one.there in
-            let few : length plans ≡ n = so.count in
-            let below : one.index < n = omega (arith, low, few) in
-            let most : n < length journals = slice_get_within journals n x there in
-            let y = some_at journals one.index (omega (arith, below, most)) in
-            let other = home_is_live (ring_of (every (image_of s) y.0.dinode)) one.one (plan_at one.index y.0 one.one y.1 one.there) number one.passes in
-            let equal : one.index ≡ n = is.replayable.once one.index n number (record {
+    by_itself : (rule b : ℕ) → BreaksAlone ring d x.blocks.items rule b → Told rule b
+    by_itself _ _ (headless none) = (stops.headless n d at (sym says.head ∙ none), inside.dinodes n x there)
+    by_itself _ _ (bad_chunk head place headed bad low) =
+        let is = place_is place low in
+        subst (Told 17) (sym is.0) (stops.by_live 17 (content_block (every (image_of s) d) place) (mounted.bad_chunk n d place head at (sym says.head ∙ headed) (sym (says.transactions head) ∙ bad)), is.1)
+
+    by_its_live : (rule b : ℕ) → BreaksByLive ring x.blocks.items marks rule b → Told rule b
+    by_its_live _ _ (stray number place bytes live mark numbered) =
+        let is = place_is place numbered.inside in
+        subst (Told 2) (sym is.0) (
+          stops.by_live 2 (content_block (every (image_of s) d) place) (mounted.astray (content_block (every (image_of s) d) place) (record {
+            journal = n;
+            dinode = d;
+            at = at;
+            number = number;
+            bytes = bytes;
+            live = sym (says.live number) ∙ live;
+            barred = barred_is number mark;
+            place = place;
+            numbered = number_told ring (ring_of (every (image_of s) d)) (same_ring n x there) number place numbered;
+            is = refl;
+          })),
+          is.1,
+        )
+    by_its_live _ _ (twice number bytes live mark) =
+        let one = any_is (λ (p : Plan). has_block p.home.items number) plans (live_is_planned number mark) in
+        let low : one.index < length plans = slice_get_within plans one.index one.one one.there in
+        let few : length plans ≡ n = so.count in
+        let below : one.index < n = omega (arith, low, few) in
+        let most : n < length journals = slice_get_within journals n x there in
+        let y = some_at journals one.index (omega (arith, below, most)) in
+        let other = home_is_live (ring_of (every (image_of s) y.0.dinode)) one.one (plan_at one.index y.0 one.one y.1 one.there) number one.passes in (
+          stops.by_live 20 number (mounted.twice number (record {
+            one = one.index;
+            other = n;
+            apart = λ e. let equal : one.index ≡ n = e in omega (arith, below, equal);
+            live = record {
               first = y.0.dinode;
               second = d;
               first_at = found.each one.index y.0 y.1;
@@ -134,74 +167,74 @@ module _ (s : DiskState) (idle : IsIdle s) (tells : IsTrue s.tells) (l : Layout)
               one = other.0;
               other = bytes;
               one_live = other.1;
-              other_live = live;
-            }) in
-            omega (arith, below, equal)
+              other_live = sym (says.live number) ∙ live;
+            };
+          })),
+          (so.free one.index one.one number one.there one.passes).0,
+        )
 
-      by_its_live : (rule b : ℕ) → BreaksByLive ring x.blocks.items marks rule b → ⊥
-      by_its_live _ _ (stray number place bytes live mark numbered) = not_barred number bytes (sym (says.live number) ∙ live) (is_planned plans number) refl mark
-      by_its_live _ _ (twice number bytes live mark) = not_live number bytes (sym (says.live number) ∙ live) mark
+    breaks : (rule b : ℕ) → Breaks ring d x.blocks.items marks rule b → Told rule b
+    breaks rule b (alone _ _ by) = by_itself rule b by
+    breaks rule b (by_live _ _ by) = by_its_live rule b by
 
-      breaks : (rule b : ℕ) → Breaks ring d x.blocks.items marks rule b → ⊥
-      breaks rule b (alone _ _ by) = by_itself rule b by
-      breaks rule b (by_live _ _ by) = by_its_live rule b by
+    pub stopped : (fault : LookFault) → IsStopped ring d x.blocks.items marks fault → IfDamaged fault (λ block rule. StopsReplay (image_of s) l rule block × (block < s.count))
+    stopped (Damaged block rule) why = breaks rule block why
+    stopped (DiskFailed block rise) why = tt
+    stopped NoMemory why = tt
 
-      pub unstopped : (fault : LookFault) → IsStopped ring d x.blocks.items marks fault → IfDamaged fault (λ block rule. ⊥)
-      unstopped (Damaged block rule) why = breaks rule block why
-      unstopped (DiskFailed block rise) why = tt
-      unstopped NoMemory why = tt
+  -- ---- the plans are the replay
 
-    -- ---- the plans are the replay
+  module _ (all : length journals ≡ n) where
+    the_plan : (j : ℕ) (x : JournalPlaces) → slice_get journals j ≡ Some x → (p : Plan) × (slice_get plans j ≡ Some p)
+    the_plan j x at = some_at plans j (let inside : j < length journals = slice_get_within journals j x at in let same : length plans ≡ n = so.count in omega (arith, inside, same, all))
 
-    module _ (all : length journals ≡ n) where
-      the_plan : (j : ℕ) (x : JournalPlaces) → slice_get journals j ≡ Some x → (p : Plan) × (slice_get plans j ≡ Some p)
-      the_plan j x at = some_at plans j (let inside : j < length journals = slice_get_within journals j x at in let same : length plans ≡ n = so.count in omega (arith, inside, same, all))
+    of_plan : (i : ℕ) (q : Plan) → slice_get plans i ≡ Some q → (x : JournalPlaces) × (slice_get journals i ≡ Some x)
+    of_plan i q there = some_at journals i (let inside : i < length plans = slice_get_within plans i q there in let same : length plans ≡ n = so.count in omega (arith, inside, same, all))
 
-      of_plan : (i : ℕ) (q : Plan) → slice_get plans i ≡ Some q → (x : JournalPlaces) × (slice_get journals i ≡ Some x)
-      of_plan i q there = some_at journals i (let inside : i < length plans = slice_get_within plans i q there in let same : length plans ≡ n = so.count in omega (arith, inside, same, all))
+    -- the plan of a journal by its dinode, and what is live in it goes home
+    plan_by : (j d : ℕ) → IsJournalAt l j d → (p : Plan) × (slice_get plans j ≡ Some p) × IsPlanOf (ring_of (every (image_of s) d)) p
+    plan_by j d at =
+        let x = the_journal j d at in
+        let p = the_plan j x.0 x.1 in
+        (p.0, p.1, subst (λ a. IsPlanOf (ring_of (every (image_of s) a)) p.0) x.2 (plan_at j x.0 p.0 x.1 p.1))
 
-      -- no plan before it has the block
-      none_before : (j d b : ℕ) (bytes : List ℕ) → IsJournalAt l j d → live_at (image_of s) d b ≡ Some bytes → (i : ℕ) (q : Plan) → i < j → slice_get plans i ≡ Some q → bytes_put q b ≡ None
-      none_before j d b bytes at live i q less there = by (bytes_put q b) refl
-        where
-          by : (o : Option (List ℕ)) → bytes_put q b ≡ o → o ≡ None
-          by None e = refl
-          by (Some other) e =
-              let x = of_plan i q there in
-              let equal : i ≡ j = is.replayable.once i j b (record {
-                first = x.0.dinode;
-                second = d;
-                first_at = found.each i x.0 x.1;
-                second_at = at;
-                one = other;
-                other = bytes;
-                one_live = sym ((plan_at i x.0 q x.1 there).live b) ∙ e;
-                other_live = live;
-              }) in
-              absurd (omega (arith, less, equal))
+    live_home : (j d : ℕ) (at : IsJournalAt l j d) (b : ℕ) (bytes : List ℕ) → live_at (image_of s) d b ≡ Some bytes → has_block (plan_by j d at).0.home.items b ≡ true
+    live_home j d at b bytes live = let p = plan_by j d at in live_is_home p.0 b bytes (p.2.live b ∙ live)
 
-      put_over_is : Replayed (image_of s) l (put_over (image_of s) plans)
-      put_over_is = record {
-        replayable = is.replayable;
-        size = refl;
-        count = refl;
-        live = λ j d b bytes at live.
-            let x = the_journal j d at in
-            let p = the_plan j x.0 x.1 in
-            let own : bytes_put p.0 b ≡ Some bytes = (plan_at j x.0 p.0 x.1 p.1).live b ∙ ap (λ e. live_at (image_of s) e b) x.2 ∙ live in
-            ap (λ o. unwrap_or o (s.block_at b)) (put_at plans j p.0 b bytes p.1 own (none_before j d b bytes at live));
-        others = λ b none. ap (λ o. unwrap_or o (s.block_at b)) (put_none plans b (λ i q there. let x = of_plan i q there in (plan_at i x.0 q x.1 there).live b ∙ none i x.0.dinode (found.each i x.0 x.1)));
-      }
+    -- no plan before it has the block
+    none_before : (j : ℕ) (p : Plan) (b : ℕ) → slice_get plans j ≡ Some p → has_block p.home.items b ≡ true → (i : ℕ) (q : Plan) → i < j → slice_get plans i ≡ Some q → bytes_put q b ≡ None
+    none_before j p b at has i q less there = by (has_block q.home.items b) refl
+      where
+        by : (t : Bool) → has_block q.home.items b ≡ t → bytes_put q b ≡ None
+        by true e = absurd (let equal : i ≡ j = so.apart i j q p b there at e has in omega (arith, less, equal))
+        by false e = not_home q b e
 
-      pub is_put_over : r ≡ put_over (image_of s) plans
-      is_put_over = one_replay (image_of s) r (put_over (image_of s) plans) l l is put_over_is
+    pub is_replayed : Replayed (image_of s) l (put_over (image_of s) plans)
+    is_replayed = record {
+      replayable = record {
+        journals = its;
+        readable = λ j d at. (plan_by j d at).2.readable;
+        once = λ i j b both.
+            let p = plan_by i both.first both.first_at in
+            let q = plan_by j both.second both.second_at in
+            so.apart i j p.0 q.0 b p.1 q.1 (live_home i both.first both.first_at b both.one both.one_live) (live_home j both.second both.second_at b both.other both.other_live);
+        inside = λ j d b bytes at live. let p = plan_by j d at in marked.may b (so.free j p.0 b p.1 (live_home j d at b bytes live)).1;
+      };
+      size = refl;
+      count = refl;
+      live = λ j d b bytes at live.
+          let p = plan_by j d at in
+          ap (λ o. unwrap_or o (s.block_at b)) (put_at plans j p.0 b bytes p.1 (p.2.live b ∙ live) (none_before j p.0 b p.1 (live_home j d at b bytes live)));
+      others = λ b none.
+          ap (λ o. unwrap_or o (s.block_at b)) (put_none plans b (λ i q there. let x = of_plan i q there in (plan_at i x.0 q x.1 there).live b ∙ none i x.0.dinode (found.each i x.0 x.1)));
+    }
 
 -- what stops the look at a journal, as the disk then is
-pub unstopped_on : (s t : DiskState) → t ≡ s → IsIdle s → IsTrue s.tells → (l : Layout) (r : Image) → Replayed (image_of s) l r → (journals : List JournalPlaces) → AreJournals (image_of s) l journals → AreInside s.count journals
-    → (first : List Mark) → ((b : ℕ) → b < s.count → mark_of first b ≡ Open) → (n : ℕ) (plans : List Plan) (marks : List Mark) → IsSoFar s first journals n plans marks
+pub stopped_on : (s t : DiskState) → t ≡ s → IsIdle s → IsTrue s.tells → (l : Layout) → HasItsJournals (image_of s) l → (journals : List JournalPlaces) → AreJournals (image_of s) l journals → AreInside s.count journals
+    → (first : List Mark) → AreMarked (image_of s) l first → (n : ℕ) (plans : List Plan) (marks : List Mark) → IsSoFar s first journals n plans marks
     → (x : JournalPlaces) → slice_get journals n ≡ Some x → (fault : LookFault)
     → (IsTrue t.tells → All (λ b. b < t.count) x.blocks.items → IsStopped (ring_read t 0 x.blocks.items) x.dinode x.blocks.items marks fault)
-    → IfDamaged fault (λ block rule. ⊥)
-unstopped_on s t same idle tells l r is journals found inside first opened n plans marks so x there fault why =
-    unstopped s idle tells l r is journals found first opened n plans marks so x there fault
-    (subst (λ (u : DiskState). IsTrue u.tells → All (λ b. b < u.count) x.blocks.items → IsStopped (ring_read u 0 x.blocks.items) x.dinode x.blocks.items marks fault) same why tells (inside n x there))
+    → IfDamaged fault (λ block rule. StopsReplay (image_of s) l rule block × (block < s.count))
+stopped_on s t same idle tells l its journals found inside first marked n plans marks so x there fault why =
+    stopped s idle tells l its journals found first marked n plans marks so x there inside fault
+    (subst (λ (u : DiskState). IsTrue u.tells → All (λ b. b < u.count) x.blocks.items → IsStopped (ring_read u 0 x.blocks.items) x.dinode x.blocks.items marks fault) same why tells (inside.places n x there))

@@ -9,9 +9,9 @@ use replay_looks::LookFault;
 #[derive(Clone, Copy, Debug, PartialEq, Eq)]
 pub enum Unread {
     /// The image stands for no tree. The block and the rule are what stopped the replay, or what was told of the image with the journals' blocks in place;
-    /// or, where the journals can't be found, of the image as it lies.
+    /// or, where the system files are those of no image that stands, of the image as it lies.
     Damaged { block: u64, rule: u16 },
-    /// The image stands for no tree: its journals can't be found. No rule is told.
+    /// The image stands for no tree: its system files are those of no image that stands. No rule is told.
     Broken,
     /// There was no memory.
     NoMemory,

@@ -2,7 +2,7 @@ use Rattle.std.proofs.Common.{sym, ◌∙◌}
 use Rattle.std.specs.Prelude.{nat_lt}
 use Rattle.std.specs.List.{list_all}
 use Rattle.image_replays.proofs.Lists.{all_inside, false_true}
-use Rattle.image_replays.proofs.Stopped.{writable_of}
+use Rattle.image_replays.proofs.Stopped.{free_of, writable_of}
 use Rattle.replayed_trees.proofs.plans.plan_journal.Goals as goal
 
 pub returns-then-not-are_inside-clause-why : goal.returns-then-not-are_inside-clause-why
@@ -12,3 +12,6 @@ returns-then-not-are_inside-clause-why g c tells inside =
 pub returns-clause-writable : goal.returns-clause-writable
 returns-clause-writable g c =
     writable_of (g.D.SharedDisk.state c.args.disk.now) c.args.marks.now c.look_at_journal.result c.requires.marks c.look_at_journal.ensures.rising c.look_at_journal.ensures.whole c.look_at_journal.ensures.free
+
+pub returns-clause-free : goal.returns-clause-free
+returns-clause-free g c = free_of (g.D.SharedDisk.state c.args.disk.now) c.args.marks.now c.look_at_journal.result c.requires.marks c.look_at_journal.ensures.free

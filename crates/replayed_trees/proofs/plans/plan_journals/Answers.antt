@@ -5,18 +5,17 @@ use Rattle.std.proofs.lemmas.Option.{slice_get-get_or}
 use Rattle.journal_plans.specs.Plans.{IsPlanOf}
 use Rattle.journal_reads.specs.Reading.{ring_read}
 use Rattle.replay_looks.specs.Looks.{IsStopped}
-use Rattle.replayed_trees.proofs.Replay.{is_put_over, unstopped_on}
-use Rattle.replayed_trees.proofs.SoFar.{opened, so_on}
+use Rattle.replayed_trees.proofs.Replay.{is_replayed, stopped_on}
+use Rattle.replayed_trees.proofs.SoFar.{so_on}
 use Rattle.replayed_trees.proofs.plans.plan_journals.Goals as goal
 
 pub returns-in-Err-clause-stopped : goal.returns-in-Err-clause-stopped
-returns-in-Err-clause-stopped g c tells l r is found inside =
+returns-in-Err-clause-stopped g c tells l its found marked inside =
     let s = g.D.SharedDisk.state c.args.disk.now in
     let t = g.D.SharedDisk.state c.loop-journal.disk in
     let x = c.journal-item.result in
     let there : slice_get c.args.journals.now c.loop-journal.journal-index ≡ Some x = slice_get-get_or c.args.journals.now c.loop-journal.journal-index x c.loop-journal-test.true ∙ ap Some (sym c.journal-item.is) in
-    unstopped_on s t c.loop-journal.invariant.reads.same c.requires.idle tells l r is c.args.journals.now found inside c.open.new.self
-    (opened s.count c.blocks-count.result c.blocks-count.ensures.value c.in-Ok.marks c.open.new.self c.in-Ok.ensures c.open.ensures.marks)
+    stopped_on s t c.loop-journal.invariant.reads.same c.requires.idle tells l its c.args.journals.now found inside c.args.marks marked
     c.loop-journal.journal-index c.loop-journal.plans.items c.loop-journal.marks c.loop-journal.invariant.so x there c.in-Err.fault
     (subst (λ bs. IsTrue t.tells → All (λ b. b < t.count) bs → IsStopped (ring_read t 0 bs) x.dinode bs c.loop-journal.marks c.in-Err.fault) c.deref.ensures.value c.in-Err.ensures.why)
 
@@ -25,9 +24,9 @@ loop-journal-preserved g c =
     let s = g.D.SharedDisk.state c.args.disk.now in
     let t = g.D.SharedDisk.state c.loop-journal.disk in
     let x = c.journal-item.result in
-    let p = c.in-Ok-plan_journal.plan in
+    let p = c.in-Ok.plan in
     let before = c.loop-journal.invariant.reads in
-    let now = c.in-Ok-plan_journal.ensures.reads in
+    let now = c.in-Ok.ensures.reads in
     let there : slice_get c.args.journals.now c.loop-journal.journal-index ≡ Some x = slice_get-get_or c.args.journals.now c.loop-journal.journal-index x c.loop-journal-test.true ∙ ap Some (sym c.journal-item.is) in
     record {
       reads = record {
@@ -35,16 +34,14 @@ loop-journal-preserved g c =
         list = now.list ∙ before.list;
         later = λ i. let a = before.later i in let b = now.later i in omega (arith, a, b);
       };
-      so = so_on s t before.same c.open.new.self c.args.journals.now c.loop-journal.journal-index c.loop-journal.plans.items c.push.new.self.items c.loop-journal.marks c.plan_journal.new.marks
-          c.loop-journal.invariant.so x p there c.in-Ok-plan_journal.ensures.length c.in-Ok-plan_journal.ensures.writable
-          (subst (λ bs. IsTrue t.tells → IsPlanOf (ring_read t 0 bs) p) c.deref.ensures.value c.in-Ok-plan_journal.ensures.plan) c.in-Ok-plan_journal.ensures.marks c.in-Ok-push.ensures.items;
+      so = so_on s t before.same c.args.marks c.args.journals.now c.loop-journal.journal-index c.loop-journal.plans.items c.push.new.self.items c.loop-journal.marks c.plan_journal.new.marks
+          c.loop-journal.invariant.so x p there c.in-Ok.ensures.length c.in-Ok.ensures.writable c.in-Ok.ensures.free
+          (subst (λ bs. IsTrue t.tells → IsPlanOf (ring_read t 0 bs) p) c.deref.ensures.value c.in-Ok.ensures.plan) c.in-Ok.ensures.marks c.in-Ok-push.ensures.items;
     }
 
 pub returns-clause-plans : goal.returns-clause-plans
-returns-clause-plans g c tells l r is found =
+returns-clause-plans g c tells l its found marked =
     let s = g.D.SharedDisk.state c.args.disk.now in
     let end : c.loop-journal.journal-index ≤ length c.args.journals.now = c.loop-journal.auto.journal-index-end in
     let all : length c.args.journals.now ≤ c.loop-journal.journal-index = c.loop-journal-test.false in
-    is_put_over s c.requires.idle tells l r is c.args.journals.now found c.open.new.self
-    (opened s.count c.blocks-count.result c.blocks-count.ensures.value c.in-Ok.marks c.open.new.self c.in-Ok.ensures c.open.ensures.marks)
-    c.loop-journal.journal-index c.loop-journal.plans.items c.loop-journal.marks c.loop-journal.invariant.so (omega (arith, end, all))
+    is_replayed s c.requires.idle tells l its c.args.journals.now found c.args.marks marked c.loop-journal.journal-index c.loop-journal.plans.items c.loop-journal.marks c.loop-journal.invariant.so (omega (arith, end, all))
