@@ -48,7 +48,7 @@ module _ (v : Seen) (r : Image) (o : Owners) (l : Layout) (s : ShowsSystem v r o
   claim = inode_claim r o l s.laid d dinode
 
   -- each block of it is one of the system's
-  system : (b : ℕ) (p : Part) → part_at (holding r o d) b ≡ Some p → IsSystemBlock r b
+  pub system : (b : ℕ) (p : Part) → part_at (holding r o d) b ≡ Some p → IsSystemBlock r b
   system b Itself e = of_dinode (subst (IsSystemFile r) (sym (itself_own r o d b e)) file)
   system b (Pointed a k level first) e =
       let claimed = below_claim r o l s.laid d dinode claim b a k level first (pointed_owner r o d b a k level first e) in

@@ -1,5 +1,5 @@
 -- The system of an image that stands, as an image with the same blocks of it in memory shows it.
-use Rattle.std.proofs.Common.{◌≡◌, ◌⊎◌, inl, inr, ◌<◌, ◌≤◌, ◌+◌, ◌/◌, ℕ, zero, suc, List, [], ◌∷◌, ◌++◌, length, None, Some, Result, Ok, refl, sym, ap, subst, ◌∙◌, arith}
+use Rattle.std.proofs.Common.{◌≡◌, ◌⊎◌, inl, inr, ◌<◌, ◌≤◌, ◌+◌, ◌/◌, ℕ, zero, suc, List, [], ◌∷◌, ◌++◌, length, None, Some, Result, Ok, refl, sym, ap, subst, subst₂, ◌∙◌, arith}
 use Rattle.std.proofs.lemmas.Bool.{cond-true, lt-ltb, cases_lt}
 use Rattle.std.proofs.lemmas.List.{length-append}
 use Rattle.std.proofs.lemmas.Option.{slice_get-get_or, slice_get_within}
@@ -22,9 +22,10 @@ use Rattle.image_model.proofs.Reach.{used_low}
 use Rattle.image_model.proofs.Replaying.{journals_of_standing}
 use Rattle.image_model.proofs.SystemStays.{file_inode}
 use Rattle.shared_disk.specs.Blocks.{block_in}
-use Rattle.image_journals.specs.Blocks.{seen_in}
+use Rattle.image_journals.specs.Blocks.{seen_in, seen_of}
 use Rattle.image_journals.specs.Found.{AreJournals}
 use Rattle.image_journals.specs.Shown.{AreItsBlocks, ShowsSystem}
+use Rattle.image_journals.specs.declared.blocks.ImageBlocks.{ImageBlocks}
 use Rattle.image_journals.specs.declared.finding.JournalPlaces.{JournalPlaces}
 use Rattle.image_journals.proofs.Read.{superblock_reads}
 
@@ -51,6 +52,11 @@ module _ (r : Image) (o : Owners) (l : Layout) (laid : IsLaid r o l) where
         let low : b < count = omega (arith, inside, counted, same.count) in
         cond-true _ (Some (block_in size bytes b)) None (lt-ltb b count low) ∙ ap Some (same.same b of);
   }
+
+-- the view that the code has of these bytes
+pub shown_by : (r : Image) (o : Owners) (l : Layout) (size : ℕ) (bytes : List ℕ) (b : ImageBlocks) → b.size ≡ size → b.bytes.now ≡ bytes → HasSameSystem r (image_in size bytes) → IsLaid r o l → ShowsSystem (seen_of b) r o l
+shown_by r o l size bytes b sized are same laid =
+    shows r o l laid b.size b.count b.bytes.now b.counted (subst₂ (λ (n : ℕ) (bs : List ℕ). HasSameSystem r (image_in n bs)) (sym sized) (sym are) same)
 
 -- ---- what is found in it
 

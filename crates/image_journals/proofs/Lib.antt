@@ -6,3 +6,9 @@ pub mod Chains
 pub mod Names
 pub mod Layouts
 pub mod Replays
+pub mod Contents
+pub mod Adding
+pub mod Walked
+pub mod Numerals
+pub mod Named
+pub mod SystemBlocks

@@ -46,7 +46,7 @@ module _ (v : Seen) (r : Image) (o : Owners) (l : Layout) (s : ShowsSystem v r o
   h : Holding
   h = holding r o d
 
-  placed : IsPlaced (holding r o d)
+  pub placed : IsPlaced (holding r o d)
   placed = record {
     own = held.own v r o l s d file;
     only = λ b e. itself_own r o d b e;

@@ -4,3 +4,4 @@ pub mod Shown
 pub mod Sound
 pub mod Found
 pub mod Laws
+pub mod Adding

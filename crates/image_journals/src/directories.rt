@@ -38,8 +38,13 @@ fn number_of(bytes: &[u8]) -> u64
     u64::from_be_bytes(part)
 }
 
-// Pointer `index` of the table of a hashed directory.
-fn pointer_at(alloc: Global, blocks: &ImageBlocks<'_>, dir: u64, index: u32) -> Result<u64, Unfound>
+/// Pointer `index` of the table of a hashed directory.
+pub(crate) fn pointer_at(
+    alloc: Global,
+    blocks: &ImageBlocks<'_>,
+    dir: u64,
+    index: u32,
+) -> Result<u64, Unfound>
     ensures { (h : Holding) → IsDirectoryIn (seen_of blocks.now) h → h.own ≡ dir → is_hashed_in h ≡ true → index < table_count h → IfMemory result (λ p. p ≡ entry h index) }
 {
     sound_inodes_are_shown();
@@ -94,8 +99,8 @@ fn find_linear(bytes: &[u8], name: &[u8]) -> Result<Option<Entry>, Unfound>
     Ok(entry_in(area, name))
 }
 
-// Whether a directory's dinode says that it is a hashed one.
-fn is_hashed(dinode: &Dinode) -> bool
+/// Whether a directory's dinode says that it is a hashed one.
+pub(crate) fn is_hashed(dinode: &Dinode) -> bool
     ensures { result ≡ has_hash_flag dinode.now }
 {
     dinode.flags / 2 % 2 == 1

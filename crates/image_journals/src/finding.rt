@@ -1,10 +1,11 @@
 // The journals of an image.
-ghost use Rattle.std.specs.Prelude.{ℕ, ◌≡◌, ◌%◌, length, IfOk};
+ghost use Rattle.std.specs.Prelude.{ℕ, ◌≡◌, ◌%◌, false, length, IfOk};
+ghost use Rattle.gfs2_layout.specs.Records.{is_dots as has_dots};
 ghost use Rattle.gfs2_layout.specs.Device.{IsBlockSize};
 ghost use Rattle.image_model.specs.Image.{Image, image_in};
 ghost use Rattle.image_model.specs.Journals.{journal_name as name_of_journal};
 ghost use Rattle.image_model.specs.Owners.{Owners};
-ghost use Rattle.image_model.specs.Stands.{IsLaid, Layout};
+ghost use Rattle.image_model.specs.Stands.{IsLaid, Layout, flat_of};
 ghost use Rattle.image_model.specs.SystemFiles.{HasSameSystem};
 ghost use Rattle.image_journals.specs.Blocks.{seen_of};
 ghost use Rattle.image_journals.specs.Found.{AreJournals};
@@ -35,9 +36,9 @@ fn journal_name(alloc: Global, number: u64) -> Result<Vec<u8>, Unfound>
     Ok(name)
 }
 
-// The block of the dinode of the directory of journals.
-fn find_jindex(alloc: Global, blocks: &ImageBlocks<'_>) -> Result<u64, Unfound>
-    ensures { (r : Image) (o : Owners) (l : Layout) → ShowsSystem (seen_of blocks.now) r o l → IfMemory result (λ d. d ≡ l.jindex) }
+/// The block of the dinode of the master directory.
+pub(crate) fn find_master(blocks: &ImageBlocks<'_>) -> Result<u64, Unfound>
+    ensures { (r : Image) (o : Owners) (l : Layout) → ShowsSystem (seen_of blocks.now) r o l → IfMemory result (λ d. d ≡ l.master) }
 {
     let Some(bytes) = block_of(blocks, superblock_block(blocks.size)) else {
         return Err(Unfound::Broken);
@@ -45,11 +46,34 @@ fn find_jindex(alloc: Global, blocks: &ImageBlocks<'_>) -> Result<u64, Unfound>
     let Ok(superblock) = SuperBlock::read(bytes) else {
         return Err(Unfound::Broken);
     };
-    let found = look(alloc, blocks, superblock.master.address, b"jindex")?;
+    Ok(superblock.master.address)
+}
+
+// The block of the dinode to which a name leads in the master directory.
+fn find_in_master(alloc: Global, blocks: &ImageBlocks<'_>, name: &[u8]) -> Result<u64, Unfound>
+    ensures { (r : Image) (o : Owners) (l : Layout) (d : ℕ) → ShowsSystem (seen_of blocks.now) r o l → has_dots name.now ≡ false → (flat_of r o l.master).child name.now ≡ Some d
+        → IfMemory result (λ found. found ≡ d) }
+{
+    let master = find_master(blocks)?;
+    let found = look(alloc, blocks, master, name)?;
     match found {
-        Some(jindex) => Ok(jindex),
+        Some(dinode) => Ok(dinode),
         None => Err(Unfound::Broken),
     }
+}
+
+/// The block of the dinode of the directory of journals.
+pub(crate) fn find_jindex(alloc: Global, blocks: &ImageBlocks<'_>) -> Result<u64, Unfound>
+    ensures { (r : Image) (o : Owners) (l : Layout) → ShowsSystem (seen_of blocks.now) r o l → IfMemory result (λ d. d ≡ l.jindex) }
+{
+    find_in_master(alloc, blocks, b"jindex")
+}
+
+/// The block of the dinode of the list of groups.
+pub(crate) fn find_rindex(alloc: Global, blocks: &ImageBlocks<'_>) -> Result<u64, Unfound>
+    ensures { (r : Image) (o : Owners) (l : Layout) → ShowsSystem (seen_of blocks.now) r o l → IfMemory result (λ d. d ≡ l.rindex) }
+{
+    find_in_master(alloc, blocks, b"rindex")
 }
 
 /// The journals of an image in memory, which is whole blocks of so many bytes: those to which the names from `journal0` on lead, as far as there is no gap. Of the image no more is

@@ -35,15 +35,15 @@ pub(crate) fn entry_in(area: &[u8], name: &[u8]) -> Option<Entry>
     })
 }
 
-// A leaf: its records, and the number of the next one.
+/// A leaf: its records, and the number of the next one.
 #[derive(Clone, Copy)]
-struct LeafPart<'a> {
-    area: &'a [u8],
-    next: u64,
+pub(crate) struct LeafPart<'a> {
+    pub area: &'a [u8],
+    pub next: u64,
 }
 
-// The leaf in a block.
-fn read_leaf<'a>(blocks: &'a ImageBlocks<'_>, leaf: u64) -> Result<LeafPart<'a>, Unfound>
+/// The leaf in a block.
+pub(crate) fn read_leaf<'a>(blocks: &'a ImageBlocks<'_>, leaf: u64) -> Result<LeafPart<'a>, Unfound>
     ensures read { (h : Holding) (hash : ℕ) → (seen_of blocks.now).block_at leaf ≡ Some (bytes_at h leaf) → IsLeaf h hash leaf → IfMemory result (λ part. (part.area.now ≡ leaf_area h leaf) × (part.next ≡ (leaf_in h leaf).next)) }
     ensures area { IfOk result (λ part. IsArea part.area.now) }
     ensures short { IfOk result (λ part. length part.area.now ≤ 4096) }

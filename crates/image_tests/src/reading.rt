@@ -6,6 +6,7 @@ ghost use Rattle.std.specs.Prelude.{◌≡◌, ◌≤◌, ◌%◌, IfOk, length}
 use file_tree::Content;
 use image_journals::find_journals;
 use image_reader::{Image, ImageFault, read_tree};
+use replayed_trees::{Unread, read_replayed_image};
 use std::alloc::Global;
 use std::test::Fail;
 
@@ -353,16 +354,22 @@ fn lay(bytes: &mut [u8], parts: &[Part]) {
     }
 }
 
-fn image(alloc: Global, later: &[Part]) -> Result<Image, Fail>
-    ensures size { IfOk result (λ image. image.block_size ≡ 512) }
-    ensures bytes { IfOk result (λ image. length image.bytes ≡ 86016) }
+fn bytes_of(alloc: Global, later: &[Part]) -> Result<Vec<u8>, Fail>
+    ensures { IfOk result (λ bytes. length bytes.items ≡ 86016) }
 {
     let mut bytes = vec![in alloc; 0u8; BYTES]?;
     lay(&mut bytes, &IMAGE);
     lay(&mut bytes, later);
+    Ok(bytes)
+}
+
+fn image(alloc: Global, later: &[Part]) -> Result<Image, Fail>
+    ensures size { IfOk result (λ image. image.block_size ≡ 512) }
+    ensures bytes { IfOk result (λ image. length image.bytes ≡ 86016) }
+{
     Ok(Image {
         block_size: 512,
-        bytes: Content::new(bytes),
+        bytes: Content::new(bytes_of(alloc, later)?),
     })
 }
 
@@ -408,5 +415,46 @@ fn journals_are_found_outside_of_the_profile(rt: HostRuntime) -> Result<(), Fail
     assert_eq!(rt; journal.blocks.len(), 2);
     assert_eq!(rt; journal.blocks.first(), Some(&135));
     assert_eq!(rt; journal.blocks.last(), Some(&136));
+    Ok(())
+}
+
+// The same image, its journal replayed, which is clean.
+#[test]
+fn an_image_outside_of_the_profile_is_read(rt: HostRuntime) -> Result<(), Fail> {
+    let bytes = bytes_of(rt.alloc(), &[(65_563, b"\x08")])?;
+    let tree = match read_replayed_image(rt.alloc(), 512, bytes) {
+        Ok(tree) => tree,
+        Err(fault) => {
+            println!(rt; "{fault:?}")?;
+            return Err(Fail::from("no tree"));
+        }
+    };
+    assert!(rt; !tree.lacks(b"a"));
+    assert!(rt; !tree.lacks(b"h"));
+    assert!(rt; tree.lacks(b"b"));
+    Ok(())
+}
+
+// Two links to a file, which the replayed image has; and a journal without a header.
+#[test]
+fn what_is_broken_outside_of_the_profile_is_told(rt: HostRuntime) -> Result<(), Fail> {
+    let links = bytes_of(rt.alloc(), &[(70_199, b"\x02")])?;
+    let fault = read_replayed_image(rt.alloc(), 512, links).err();
+    assert_eq!(rt;
+        fault,
+        Some(Unread::Damaged {
+            block: 137,
+            rule: 12
+        })
+    );
+    let header = bytes_of(rt.alloc(), &[(69_164, b"\x00\x00\x00\x00")])?;
+    let fault = read_replayed_image(rt.alloc(), 512, header).err();
+    assert_eq!(rt;
+        fault,
+        Some(Unread::Damaged {
+            block: 134,
+            rule: 16
+        })
+    );
     Ok(())
 }

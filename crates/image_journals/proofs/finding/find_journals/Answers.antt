@@ -1,20 +1,11 @@
-use Rattle.std.proofs.Common.{◌≡◌, List, ℕ, refl, sym, ap, subst, subst₂, ◌∙◌}
+use Rattle.std.proofs.Common.{◌≡◌, refl, sym, ap, subst, ◌∙◌}
 use Rattle.gfs2_layout.specs.Records.{is_dots}
-use Rattle.image_model.specs.Image.{Image, image_in}
 use Rattle.image_model.specs.Journals.{journal_name}
-use Rattle.image_model.specs.Stands.{IsLaid, Layout, flat_of}
-use Rattle.image_model.specs.Owners.{Owners}
-use Rattle.image_model.specs.SystemFiles.{HasSameSystem}
+use Rattle.image_model.specs.Stands.{flat_of}
 use Rattle.image_journals.specs.Blocks.{seen_of}
-use Rattle.image_journals.specs.Shown.{ShowsSystem}
-use Rattle.image_journals.proofs.Layouts.{AreFirst, has_next, jindex_file, no_more, none_yet, one_more, shows}
+use Rattle.image_journals.proofs.Layouts.{AreFirst, has_next, jindex_file, no_more, none_yet, one_more, shown_by}
 use Rattle.image_journals.proofs.Read.{handed}
-use Rattle.image_journals.specs.declared.blocks.ImageBlocks.{ImageBlocks}
 use Rattle.image_journals.proofs.finding.find_journals.Goals as goal
-
-shown_by : (r : Image) (o : Owners) (l : Layout) (size : ℕ) (bytes : List ℕ) (b : ImageBlocks) → b.size ≡ size → b.bytes.now ≡ bytes → HasSameSystem r (image_in size bytes) → IsLaid r o l → ShowsSystem (seen_of b) r o l
-shown_by r o l size bytes b sized are same laid =
-    shows r o l laid b.size b.count b.bytes.now b.counted (subst₂ (λ (n : ℕ) (bs : List ℕ). HasSameSystem r (image_in n bs)) (sym sized) (sym are) same)
 
 pub loop-number-init : goal.loop-number-init
 loop-number-init c r o m same laid = subst (AreFirst r m 0) (sym c.new-journals.ensures.items) (none_yet r m)

@@ -1,0 +1,5 @@
+pub mod Causes
+pub mod SoFar
+pub mod Replay
+pub mod Found
+pub mod Marked

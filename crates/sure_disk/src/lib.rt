@@ -1,0 +1,6 @@
+//! A disk in memory that never fails.
+#![tactic(auto)]
+
+mod sure;
+
+pub use sure::SureDisk;
