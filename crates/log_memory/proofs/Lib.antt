@@ -4,3 +4,6 @@ mod Blocks
 mod Revoking
 mod Sending
 mod Barriers
+mod RowsFound
+mod Resting
+mod LandingAll

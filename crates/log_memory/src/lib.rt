@@ -5,7 +5,9 @@ mod changes;
 mod homing;
 mod journal;
 mod kinds;
+mod landing;
 mod log;
+mod places;
 mod revokes;
 mod settling;
 

@@ -1,0 +1,14 @@
+-- Which row a number has that has a value.
+use Rattle.std.proofs.Common.{◌≡◌, ℕ, ◌<◌, Some, sym, ap, ◌∙◌, is_some, slice_get, arith}
+use Rattle.std.specs.Ordering.{nat_cmp}
+use Rattle.std.specs.FinMap as table
+use Rattle.log_tables.proofs.Reading.{row_gets}
+use Rattle.log_tables.proofs.Steps.{same_some}
+use Rattle.log_memory.proofs.Revoking.{row_of}
+
+pub found : {V : Type 0} (m : table.FinMap nat_cmp V) (b : ℕ) (v : V) → table.get m b ≡ Some v → (i : ℕ) × ((i < table.len m) × (slice_get (table.entries m) i ≡ Some (b, v)))
+found m b v at =
+    let row = row_of (table.entries m) b (ap is_some (sym (table.get-entries m b)) ∙ ap is_some at) in
+    let value : row.1.1 ≡ v = same_some (table.get m b) row.1.1 v (ap (table.get m) (sym row.2.2) ∙ row_gets m row.0 row.1 row.2.1) at in
+    let within = table.len-entries m in
+    (row.0, (omega (arith, row.2.0), row.2.1 ∙ (λ i. Some (row.2.2 i, value i))))

@@ -1,0 +1,28 @@
+-- The steps of a flush, as the parts of a log take them.
+use Rattle.std.specs.Prelude.{◌≡◌, ◌&&◌, ℕ, Bool, not, nat_lt, Option, None, Some, if◌then◌else◌}
+use Rattle.std.specs.Option.{option_map}
+use Rattle.std.specs.Ordering.{nat_cmp}
+use Rattle.std.specs.FinMap as table
+use Rattle.log_layout.specs.Journal.{way}
+use Rattle.log_tables.specs.Versions.Way.{Home}
+use Rattle.log_values.specs.Blocks as set
+use Rattle.log_values.specs.Log.{Entry, Flush, LogValue, Stage, Version}
+use Rattle.log_values.specs.Flushing.{logged_over}
+
+-- an entry whose content isn't wanted at home any more, if it isn't
+abbrev pub rested_if : Bool → Option Entry → Option Entry
+rested_if gone o = if gone then option_map (λ (e : Entry). record e { way = Home }) o else o
+
+-- a block stays live that isn't revoked, and whose transaction doesn't begin before the tail
+abbrev pub stays : set.Blocks → ℕ → ℕ → ℕ → ℕ → ℕ → Bool
+stays revoked length old_tail tail block first = not (set.contains revoked block) && not (nat_lt (way length old_tail first) (way length old_tail tail))
+
+-- what is live of a block with all that the flush logs, and what it revokes at rest
+abbrev pub with_flush : set.Blocks → table.FinMap nat_cmp Version → ℕ → table.FinMap nat_cmp Entry → ℕ → Option Entry
+with_flush revoked versions first live b = logged_over (table.get versions b) first (rested_if (set.contains revoked b) (table.get live b))
+
+-- a flush was begun, and has come so far
+pub record IsAt (log : LogValue) (stage : Stage) : Type 0 where
+  pub flush : Flush
+  pub begun : log.flush ≡ Some flush
+  pub at : flush.stage ≡ stage
