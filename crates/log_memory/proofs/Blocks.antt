@@ -36,7 +36,7 @@ module _ (l : Inside) (h : IsLog l) where
   pub entry_is : (b : ℕ) → has_entry (log_in l) b ≡ (table.contains_key l.tables.live b || table.contains_key l.tables.flushed b)
   entry_is b = ap (λ (x : Bool). table.contains_key l.tables.live b || x) (flushed_is b)
 
-  flushed_counted : flushed_count (flush_in l) ≡ table.len l.tables.flushed
+  pub flushed_counted : flushed_count (flush_in l) ≡ table.len l.tables.flushed
   flushed_counted = by l.stage refl
     where
       by : (o : Option Stage) → l.stage ≡ o → flushed_count (flush_in l) ≡ table.len l.tables.flushed

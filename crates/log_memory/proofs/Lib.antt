@@ -7,3 +7,4 @@ mod Barriers
 mod RowsFound
 mod Resting
 mod LandingAll
+mod Counts

@@ -34,7 +34,7 @@ use Rattle.log_values.proofs.Ways.{on_below, way_less, way_on}
 
 -- ---- how many places a transaction takes
 
-halves : (p : Logged → Bool) (es : List Logged) → length (filter p es) + length (filter (λ e. not (p e)) es) ≡ length es
+pub halves : (p : Logged → Bool) (es : List Logged) → length (filter p es) + length (filter (λ e. not (p e)) es) ≡ length es
 halves p [] = refl
 halves p (e ∷ es) = by (p e) (halves p es)
   where

@@ -7,3 +7,4 @@ pub mod Going
 pub mod Homing
 pub mod Changing
 pub mod Fitting
+pub mod Tails
