@@ -8,3 +8,4 @@ mod RowsFound
 mod Resting
 mod LandingAll
 mod Counts
+mod Chunks

@@ -1,5 +1,5 @@
 -- The steps of a flush, as the parts of a log take them.
-use Rattle.std.specs.Prelude.{◌≡◌, ◌&&◌, ℕ, Bool, not, nat_lt, Option, None, Some, if◌then◌else◌}
+use Rattle.std.specs.Prelude.{◌≡◌, ◌<◌, ◌&&◌, ℕ, Bool, not, nat_lt, length, Option, None, Some, if◌then◌else◌}
 use Rattle.std.specs.Option.{option_map}
 use Rattle.std.specs.Ordering.{nat_cmp}
 use Rattle.std.specs.FinMap as table
@@ -7,7 +7,8 @@ use Rattle.log_layout.specs.Journal.{way}
 use Rattle.log_tables.specs.Versions.Way.{Home}
 use Rattle.log_values.specs.Blocks as set
 use Rattle.log_values.specs.Log.{Entry, Flush, LogValue, Stage, Version}
-use Rattle.log_values.specs.Flushing.{logged_over}
+use Rattle.log_values.specs.Log.Stage.{Writing}
+use Rattle.log_values.specs.Flushing.{flush_chunks, logged_over}
 
 -- an entry whose content isn't wanted at home any more, if it isn't
 abbrev pub rested_if : Bool → Option Entry → Option Entry
@@ -26,3 +27,15 @@ pub record IsAt (log : LogValue) (stage : Stage) : Type 0 where
   pub flush : Flush
   pub begun : log.flush ≡ Some flush
   pub at : flush.stage ≡ stage
+
+-- this is one of the blocks of its chunks
+pub record IsChunk (log : LogValue) (index : ℕ) : Type 0 where
+  pub flush : Flush
+  pub begun : log.flush ≡ Some flush
+  pub inside : index < length (flush_chunks log flush)
+
+-- and all of these are written
+pub record IsAllWritten (log : LogValue) : Type 0 where
+  pub flush : Flush
+  pub begun : log.flush ≡ Some flush
+  pub at : flush.stage ≡ Writing (length (flush_chunks log flush))

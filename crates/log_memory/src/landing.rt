@@ -37,6 +37,7 @@ fn land_all(tables: &mut Tables, first: u32)
 }
 
 /// The live blocks that stay once a flush is in the journal: those that it doesn't revoke, and whose transactions don't begin before its tail.
+#[derive(Drop)]
 struct Left<'a> {
     revoked: &'a FixedTable<()>,
     length: u32,

@@ -2,6 +2,7 @@
 #![tactic(auto)]
 
 mod changes;
+mod flushing;
 mod homing;
 mod journal;
 mod kinds;

@@ -1,0 +1,87 @@
+-- The blocks of a flush's chunks.
+use Rattle.std.proofs.Common.{◌≡◌, ℕ, suc, ◌+◌, ◌<◌, ◌≤◌, not, List, [], ◌∷◌, length, map, filter, Option, None, Some, refl, sym, ap, subst, ◌∙◌, slice_get, arith}
+use Rattle.std.specs.List.{All}
+use Rattle.std.proofs.lemmas.List.{length-map}
+use Rattle.std.proofs.lemmas.List.Elements.{All-cons, All-filter, All-map, All-nil}
+use Rattle.std.specs.FinMap as table
+use Rattle.log_layout.specs.Chunks.{Logged, Transaction}
+use Rattle.node_journal.specs.Encoding.{chunks, chunks_with, content_of, metadata_of}
+use Rattle.node_journal.specs.Written.{AreWhole}
+use Rattle.log_tables.proofs.Reading.{row_gets}
+use Rattle.log_values.specs.Log.{Flush, LogValue, Version}
+use Rattle.log_values.specs.Changes.{flushed_count}
+use Rattle.log_values.specs.Flushing.{flush_chunks}
+use Rattle.log_values.specs.Transactions.{flushed_as, logged_as, transaction}
+use Rattle.log_memory.specs.Flushing.{IsChunk}
+use Rattle.log_memory.specs.Inside.{IsLog, flush_in, log_in}
+use Rattle.log_memory.specs.Rows.{row_of}
+use Rattle.log_memory.specs.declared.kinds.Stage.{Stage}
+use Rattle.log_memory.specs.declared.log.Log.TheInside.{Inside}
+use Rattle.log_memory.proofs.Counts.{flush_with, flush_without, begun_at, flushed_is_of, few_blocks, its_parts}
+use Rattle.log_values.proofs.Landing.{none_in}
+
+all_by : {A : Type 0} (P : A → Type 0) (xs : List A) → ((i : ℕ) (x : A) → slice_get xs i ≡ Some x → P x) → All P xs
+all_by P [] each = All-nil P
+all_by P (x ∷ xs) each = All-cons P x xs (each 0 x refl) (all_by P xs (λ i. each (suc i)))
+
+module _ (l : Inside) (h : IsLog l) where
+  abbrev all : Transaction
+  all = transaction l.tables.flushed l.revoked.at
+
+  abbrev IsWhole : Logged → Type 0
+  IsWhole e = length e.bytes ≡ l.journal.block_size
+
+  each_whole : (b : ℕ) (v : Version) → table.get l.tables.flushed b ≡ Some v → length v.bytes ≡ l.journal.block_size
+  each_whole b v at = by l.stage refl
+    where
+      by : (o : Option Stage) → l.stage ≡ o → length v.bytes ≡ l.journal.block_size
+      by None none = absurd (none_in l.tables.flushed b v (h.idle none).0 at)
+      by (Some s) some = (h.sound.flushed (begun_at l h s) b v (flush_with l h s some) at).whole
+
+  all_whole : All IsWhole all.blocks
+  all_whole =
+      All-map IsWhole (λ (e : ℕ × Version). logged_as e.0 e.1) (table.entries l.tables.flushed)
+      (all_by (λ (e : ℕ × Version). length e.1.bytes ≡ l.journal.block_size) (table.entries l.tables.flushed) (λ i e at. each_whole e.0 e.1 (row_gets l.tables.flushed i e at)))
+
+  content_all : AreWhole l.journal.block_size (map (row_of l.tables) l.content.items)
+  content_all = subst (λ es. AreWhole l.journal.block_size es) (sym h.kinds.content_are) (All-filter (λ (e : Logged). e.plain) IsWhole all.blocks all_whole)
+
+  metadata_all : AreWhole l.journal.block_size (map (row_of l.tables) l.metadata.items)
+  metadata_all = subst (λ es. AreWhole l.journal.block_size es) (sym h.kinds.metadata_are) (All-filter (λ (e : Logged). not e.plain) IsWhole all.blocks all_whole)
+
+  -- the rows of a kind, by their places
+  module _ (places : List ℕ) (n : ℕ) where
+    pub content_whole : places ≡ l.content.items → n ≡ l.journal.block_size → AreWhole n (map (row_of l.tables) places)
+    content_whole are is = subst (λ ps. AreWhole n (map (row_of l.tables) ps)) (sym are) (subst (λ m. AreWhole m (map (row_of l.tables) l.content.items)) (sym is) content_all)
+
+    pub metadata_whole : places ≡ l.metadata.items → n ≡ l.journal.block_size → AreWhole n (map (row_of l.tables) places)
+    metadata_whole are is = subst (λ ps. AreWhole n (map (row_of l.tables) ps)) (sym are) (subst (λ m. AreWhole m (map (row_of l.tables) l.metadata.items)) (sym is) metadata_all)
+
+    pub few_content : places ≡ l.content.items → length (map (row_of l.tables) places) ≤ 131072
+    few_content are = let few = (few_blocks l h).0 in let same = length-map places (row_of l.tables) ∙ ap length are in omega arith
+
+    pub few_metadata : places ≡ l.metadata.items → length (map (row_of l.tables) places) ≤ 131072
+    few_metadata are = let few = (few_blocks l h).0 in let same = length-map places (row_of l.tables) ∙ ap length are in omega arith
+
+    pub few_revokes : places ≡ l.revokes.items → length places ≤ 131072
+    few_revokes are = let few = (few_blocks l h).1 in let same = ap length are in omega arith
+
+  -- the chunks, by the lists
+  pub chunks_are : (f : Flush) → flush_in l ≡ Some f
+      → flush_chunks (log_in l) f ≡ chunks_with l.journal.block_size l.journal.jid (map (row_of l.tables) l.content.items) (map (row_of l.tables) l.metadata.items) l.revokes.items
+  chunks_are f is =
+      ap (λ (t : Transaction). chunks l.journal.block_size l.journal.jid t) (flushed_is_of l h f is)
+      ∙ sym (λ i. chunks_with l.journal.block_size l.journal.jid (h.kinds.content_are i) (h.kinds.metadata_are i) (h.revokes i))
+
+  pub index_inside : (log : LogValue) (index : ℕ) → log_in l ≡ log → IsChunk log index
+      → index < length (chunks_with l.journal.block_size l.journal.jid (map (row_of l.tables) l.content.items) (map (row_of l.tables) l.metadata.items) l.revokes.items)
+  index_inside log index same is =
+      let here : IsChunk (log_in l) index = subst (λ (x : LogValue). IsChunk x index) (sym same) is in
+      subst (λ cs. index < length cs) (chunks_are here.flush here.begun) here.inside
+
+  pub chunk_is : (log : LogValue) (index : ℕ) (bytes : List ℕ) → log_in l ≡ log
+      → slice_get (chunks_with l.journal.block_size l.journal.jid (map (row_of l.tables) l.content.items) (map (row_of l.tables) l.metadata.items) l.revokes.items) index ≡ Some bytes
+      → (f : Flush) → log.flush ≡ Some f → slice_get (flush_chunks log f) index ≡ Some bytes
+  chunk_is log index bytes same here f is =
+      subst (λ (x : LogValue). x.flush ≡ Some f → slice_get (flush_chunks x f) index ≡ Some bytes) same
+      (λ begun. ap (λ cs. slice_get cs index) (chunks_are f begun) ∙ here) is
