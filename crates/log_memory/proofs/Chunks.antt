@@ -1,5 +1,5 @@
 -- The blocks of a flush's chunks.
-use Rattle.std.proofs.Common.{◌≡◌, ℕ, suc, ◌+◌, ◌<◌, ◌≤◌, not, List, [], ◌∷◌, length, map, filter, Option, None, Some, refl, sym, ap, subst, ◌∙◌, slice_get, arith}
+use Rattle.std.proofs.Common.{◌≡◌, ℕ, suc, ◌+◌, ◌-◌, ◌<◌, ◌≤◌, not, List, [], ◌∷◌, length, map, filter, Option, None, Some, refl, sym, ap, subst, ◌∙◌, slice_get, arith}
 use Rattle.std.specs.List.{All}
 use Rattle.std.proofs.lemmas.List.{length-map}
 use Rattle.std.proofs.lemmas.List.Elements.{All-cons, All-filter, All-map, All-nil}
@@ -10,14 +10,14 @@ use Rattle.node_journal.specs.Written.{AreWhole}
 use Rattle.log_tables.proofs.Reading.{row_gets}
 use Rattle.log_values.specs.Log.{Flush, LogValue, Version}
 use Rattle.log_values.specs.Changes.{flushed_count}
-use Rattle.log_values.specs.Flushing.{flush_chunks}
+use Rattle.log_values.specs.Flushing.{free_in}
 use Rattle.log_values.specs.Transactions.{flushed_as, logged_as, transaction}
 use Rattle.log_memory.specs.Flushing.{IsChunk}
 use Rattle.log_memory.specs.Inside.{IsLog, flush_in, log_in}
 use Rattle.log_memory.specs.Rows.{row_of}
 use Rattle.log_memory.specs.declared.kinds.Stage.{Stage}
 use Rattle.log_memory.specs.declared.log.Log.TheInside.{Inside}
-use Rattle.log_memory.proofs.Counts.{flush_with, flush_without, begun_at, flushed_is_of, few_blocks, its_parts}
+use Rattle.log_memory.proofs.Counts.{begun_at, chunks_free, few_blocks, flush_with}
 use Rattle.log_values.proofs.Landing.{none_in}
 
 all_by : {A : Type 0} (P : A → Type 0) (xs : List A) → ((i : ℕ) (x : A) → slice_get xs i ≡ Some x → P x) → All P xs
@@ -66,22 +66,18 @@ module _ (l : Inside) (h : IsLog l) where
     pub few_revokes : places ≡ l.revokes.items → length places ≤ 131072
     few_revokes are = let few = (few_blocks l h).1 in let same = ap length are in omega arith
 
-  -- the chunks, by the lists
-  pub chunks_are : (f : Flush) → flush_in l ≡ Some f
-      → flush_chunks (log_in l) f ≡ chunks_with l.journal.block_size l.journal.jid (map (row_of l.tables) l.content.items) (map (row_of l.tables) l.metadata.items) l.revokes.items
-  chunks_are f is =
-      ap (λ (t : Transaction). chunks l.journal.block_size l.journal.jid t) (flushed_is_of l h f is)
-      ∙ sym (λ i. chunks_with l.journal.block_size l.journal.jid (h.kinds.content_are i) (h.kinds.metadata_are i) (h.revokes i))
+  -- so many places are free, and one more
+  pub chunk_free : (log : LogValue) (index : ℕ) → log_in l ≡ log → IsChunk log index → index + 1 ≤ free_in log
+  chunk_free log index same is =
+      let free = chunks_free l h log same is.flush is.begun in
+      let inside = is.inside in
+      less index _ _ inside free
+    where
+      less : (i k n : ℕ) → i < k → k + 1 ≤ n → i + 1 ≤ n
+      less i k n a b = omega arith
 
-  pub index_inside : (log : LogValue) (index : ℕ) → log_in l ≡ log → IsChunk log index
-      → index < length (chunks_with l.journal.block_size l.journal.jid (map (row_of l.tables) l.content.items) (map (row_of l.tables) l.metadata.items) l.revokes.items)
-  index_inside log index same is =
-      let here : IsChunk (log_in l) index = subst (λ (x : LogValue). IsChunk x index) (sym same) is in
-      subst (λ cs. index < length cs) (chunks_are here.flush here.begun) here.inside
-
-  pub chunk_is : (log : LogValue) (index : ℕ) (bytes : List ℕ) → log_in l ≡ log
-      → slice_get (chunks_with l.journal.block_size l.journal.jid (map (row_of l.tables) l.content.items) (map (row_of l.tables) l.metadata.items) l.revokes.items) index ≡ Some bytes
-      → (f : Flush) → log.flush ≡ Some f → slice_get (flush_chunks log f) index ≡ Some bytes
-  chunk_is log index bytes same here f is =
-      subst (λ (x : LogValue). x.flush ≡ Some f → slice_get (flush_chunks x f) index ≡ Some bytes) same
-      (λ begun. ap (λ cs. slice_get cs index) (chunks_are f begun) ∙ here) is
+  pub chunk_small : (log : LogValue) (index : ℕ) → log_in l ≡ log → IsChunk log index → index + 1 ≤ 65536
+  chunk_small log index same is = small _ _ l.journal.length h.sound.most (subst (λ (x : LogValue). index + 1 ≤ free_in x) (sym same) (chunk_free log index same is))
+    where
+      small : (i w n : ℕ) → n ≤ 65536 → i ≤ n - (w + 1) → i ≤ 65536
+      small i w n most less = omega arith

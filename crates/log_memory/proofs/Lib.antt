@@ -9,3 +9,5 @@ mod Resting
 mod LandingAll
 mod Counts
 mod Chunks
+mod Stages
+mod Oldest

@@ -1,14 +1,15 @@
 -- The steps of a flush, as the parts of a log take them.
-use Rattle.std.specs.Prelude.{◌≡◌, ◌<◌, ◌&&◌, ℕ, Bool, not, nat_lt, length, Option, None, Some, if◌then◌else◌}
+use Rattle.std.specs.Prelude.{◌≡◌, ◌<◌, ◌&&◌, ℕ, Bool, not, nat_le, nat_lt, length, Option, None, Some, if◌then◌else◌}
 use Rattle.std.specs.Option.{option_map}
 use Rattle.std.specs.Ordering.{nat_cmp}
 use Rattle.std.specs.FinMap as table
 use Rattle.log_layout.specs.Journal.{way}
+use Rattle.log_tables.specs.Kept.{is_home}
 use Rattle.log_tables.specs.Versions.Way.{Home}
 use Rattle.log_values.specs.Blocks as set
 use Rattle.log_values.specs.Log.{Entry, Flush, LogValue, Stage, Version}
 use Rattle.log_values.specs.Log.Stage.{Writing}
-use Rattle.log_values.specs.Flushing.{flush_chunks, logged_over}
+use Rattle.log_values.specs.Flushing.{behind_tail, flush_chunks, logged_over}
 
 -- an entry whose content isn't wanted at home any more, if it isn't
 abbrev pub rested_if : Bool → Option Entry → Option Entry
@@ -39,3 +40,14 @@ pub record IsAllWritten (log : LogValue) : Type 0 where
   pub flush : Flush
   pub begun : log.flush ≡ Some flush
   pub at : flush.stage ≡ Writing (length (flush_chunks log flush))
+
+-- ---- its tail
+
+-- a live block, by its row, is needed behind the flush
+abbrev pub is_needed : Flush → ℕ × Entry → Bool
+is_needed f e = not (is_home e.1.way) && not (table.contains_key f.versions e.0) && not (set.contains f.revokes e.0)
+
+-- of a place, if there is one, and another that which is less far behind the tail
+abbrev pub older : LogValue → Option ℕ → ℕ → ℕ
+older log None first = first
+older log (Some place) first = if nat_le (behind_tail log place) (behind_tail log first) then place else first

@@ -11,6 +11,7 @@ mod log;
 mod places;
 mod revokes;
 mod settling;
+mod tails;
 
 pub use journal::Journal;
 #[doc(hidden)]
