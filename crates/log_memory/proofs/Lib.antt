@@ -11,3 +11,4 @@ mod Counts
 mod Chunks
 mod Stages
 mod Oldest
+mod Left

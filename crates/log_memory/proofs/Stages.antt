@@ -8,8 +8,11 @@ use Rattle.log_values.specs.Log.Stage.{Ending, Headed, Writing}
 use Rattle.log_values.specs.Log.{Stage as At, Way}
 use Rattle.log_tables.specs.Versions.Way.{Home, Away, Flying}
 use Rattle.log_tables.proofs.Steps.{same_some}
+use Rattle.log_layout.specs.Headers.{log_put}
+use Rattle.node_journal.specs.Encoding.{header_of, zeros}
 use Rattle.node_journal.specs.Places.{place_on}
-use Rattle.log_values.specs.Flushing.{FlushStep, at_stage, block_at, first_place, flush_chunks, settled, settled_way}
+use Rattle.node_journal.specs.declared.place.Place.{Place}
+use Rattle.log_values.specs.Flushing.{FlushStep, IsTail, at_stage, block_at, first_place, flush_chunks, head_place, place_of, settled, settled_way}
 use Rattle.log_values.specs.Flushing.FlushStep.{a_barrier, a_block, a_header, the_last}
 use Rattle.log_values.specs.Homing.{Settles}
 use Rattle.log_values.specs.declared.steps.LogStep.TheVariants as step
@@ -92,3 +95,11 @@ module _ (log mid : LogValue) (h : Settles log mid) (f : Flush) (at : f.stage �
   -- and from where it hadn't
   pub barrier_from_here : FlushStep log (at_stage mid f Ending) f bytes step.Barrier
   barrier_from_here = a_barrier at (ap (λ (x : LogValue). at_stage x f Ending) h.same) h.settles
+
+-- ---- its header
+
+pub heads : (log : LogValue) (f : Flush) (head tail size : ℕ) (at : Place) (bytes : List ℕ) → f.stage ≡ Ending → head ≡ head_place log f → IsTail log f tail → at ≡ place_of log f tail
+    → bytes ≡ log_put (header_of at head) (zeros size) → size ≡ log.journal.size → FlushStep log (at_stage log f (Headed tail)) f bytes (step.Head at.head_addr at.sequence)
+heads log f head tail size at bytes ending head_is tells at_is bytes_are size_is =
+    subst (λ (p : Place). FlushStep log (at_stage log f (Headed tail)) f bytes (step.Head p.head_addr p.sequence)) (sym at_is)
+    (a_header tail ending tells (bytes_are ∙ (λ i. log_put (header_of (at_is i) (head_is i)) (zeros (size_is i)))) refl)

@@ -2,14 +2,15 @@
 ghost use Rattle.std.specs.Prelude.{◌≡◌, ◌<◌, ℕ, List, Some, length, slice_get};
 ghost use Rattle.log_values.specs.Log.{Flush};
 ghost use Rattle.log_values.specs.Log.Stage.{Ending, Headed, Writing};
-ghost use Rattle.log_values.specs.Flushing.{FlushStep, flush_chunks};
+ghost use Rattle.log_values.specs.Flushing.{FlushStep, flush_chunks, head_place, place_of};
 ghost use Rattle.log_memory.specs.Flushing.{IsAllWritten, IsAt, IsChunk};
 
 use crate::kinds::{Kind, Stage};
 use crate::log::Log;
-use crate::places::{block_of, place};
+use crate::places::{block_of, chunk_count, place};
+use crate::tails::tail_of;
 use log_values::LogStep;
-use node_journal::put_block;
+use node_journal::{Place, put_block, put_header};
 
 // The block with this index, of those of the chunks of the flush that was begun.
 fn put_chunk(log: &Log, index: u32, into: &mut [u8])
@@ -56,4 +57,38 @@ fn make_barrier(log: &mut Log) -> LogStep
     log.settle();
     log.stage = Some(Stage::Ending);
     LogStep::Barrier
+}
+
+// What the header of the flush tells, at its place.
+fn place_with(log: &Log, head: u32, tail: u32) -> Place
+    requires { head < log.now.journal.length }
+    ensures { (f : Flush) → log.now.flush ≡ Some f → head ≡ head_place log.now f → result ≡ place_of log.now f tail }
+{
+    Place {
+        jid: log.journal.jid,
+        length: log.journal.length,
+        first: place(log, 0),
+        tail,
+        sequence: log.sequence.wrapping_add(1),
+        head_addr: block_of(log, head),
+        jinode: log.journal.jinode,
+        time: log.journal.time,
+    }
+}
+
+// The header of the flush is written.
+fn write_head(log: &mut Log, into: &mut [u8]) -> LogStep
+    requires size { length into.old ≡ log.old.journal.size }
+    requires at { IsAt log.old Ending }
+    ensures { (f : Flush) → log.old.flush ≡ Some f → FlushStep log.old log.new f into.new result }
+{
+    let head = place(log, chunk_count(log));
+    let tail = tail_of(log, head);
+    let at = place_with(log, head, tail);
+    put_header(&at, head, into);
+    log.stage = Some(Stage::Headed(tail));
+    LogStep::Head {
+        block: at.head_addr,
+        sequence: at.sequence,
+    }
 }

@@ -1,17 +1,21 @@
 // A flush that is in the journal: its blocks are live.
-ghost use Rattle.std.specs.Prelude.{◌≡◌, ◌+◌, ◌≤◌, ◌<◌, ◌&&◌, ℕ, not, true, false, nat_lt, None, Some};
+ghost use Rattle.std.specs.Prelude.{◌≡◌, ◌+◌, ◌≤◌, ◌<◌, ◌&&◌, ℕ, List, not, true, false, nat_lt, None, Some};
 ghost use Rattle.std.specs.FinMap as table;
 ghost use Rattle.fixed_tables.specs.Fixed.{left_by};
 ghost use Rattle.log_layout.specs.Journal.{way};
 ghost use Rattle.log_tables.specs.Kept.{is_home};
 ghost use Rattle.log_values.specs.Blocks as set;
-ghost use Rattle.log_values.specs.Log.{Entry, Version};
-ghost use Rattle.log_values.specs.Flushing.{logged_over};
-ghost use Rattle.log_memory.specs.Flushing.{rested_if, stays, with_flush};
+ghost use Rattle.log_values.specs.Log.{Entry, Flush};
+ghost use Rattle.log_values.specs.Log.Stage.{Headed};
+ghost use Rattle.log_values.specs.Transactions.{live_among};
+ghost use Rattle.log_values.specs.Flushing.{FlushStep, logged_over};
+ghost use Rattle.log_memory.specs.Flushing.{IsAt, rested_if, stays, with_flush};
 
-use crate::places::distance;
-use fixed_tables::FixedTable;
+use crate::log::Log;
+use crate::places::{chunk_count, distance, place};
+use fixed_tables::{FixedTable, RowTest};
 use log_tables::{LiveTest, Tables};
+use log_values::LogStep;
 
 // The blocks that are revoked aren't wanted at home any more.
 fn rest_all(tables: &mut Tables, revoked: &FixedTable<()>)
@@ -72,4 +76,53 @@ fn take_in(tables: &mut Tables, first: u32, left: &Left<'_>)
     rest_all(tables, left.revoked);
     land_all(tables, first);
     tables.keep(left);
+}
+
+// The blocks that are live.
+#[derive(Drop)]
+struct Living<'a> {
+    tables: &'a Tables,
+}
+
+impl<'a> RowTest<()> for Living<'a> {
+    ghost stays = { λ t key value. table.contains_key t.tables.now.live key };
+
+    fn stays(&self, key: u64, _value: &()) -> bool {
+        self.tables.is_live(key)
+    }
+}
+
+// Of the blocks that are to be revoked, those are left that are live.
+fn keep_live(gone: &mut FixedTable<()>, tables: &Tables)
+    ensures { gone.new ≡ record gone.old { at = live_among tables.now.live gone.old.at } }
+{
+    gone.keep(&Living { tables });
+}
+
+/// The flush that was begun is in the journal, with its header, which told this tail: what it logs is live, what it revokes and what was before the tail isn't, and nothing
+/// is flushed any more. It goes over the live blocks, and moves them for each block that the flush logs.
+pub(crate) fn land(log: &mut Log, tail: u32) -> LogStep
+    requires { IsAt log.old (Headed tail) }
+    ensures { (f : Flush) (bytes : List ℕ) → log.old.flush ≡ Some f → FlushStep log.old log.new f bytes result }
+{
+    let first = place(log, 0);
+    let head = place(log, chunk_count(log));
+    let left = Left {
+        revoked: &log.revoked,
+        length: log.journal.length,
+        old_tail: log.tail,
+        tail,
+    };
+    take_in(&mut log.tables, first, &left);
+    keep_live(&mut log.gone, &log.tables);
+    log.revoked.clear();
+    log.revokes.clear();
+    log.content.clear();
+    log.metadata.clear();
+    log.head = head;
+    log.tail = tail;
+    log.sequence = log.sequence.wrapping_add(1);
+    log.clean = false;
+    log.stage = None;
+    LogStep::Barrier
 }
