@@ -12,3 +12,4 @@ mod Chunks
 mod Stages
 mod Oldest
 mod Left
+mod LandedLogs

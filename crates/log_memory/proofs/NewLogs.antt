@@ -24,7 +24,7 @@ Gives l log = IsLog l × (log_in l ≡ log)
 abbrev pub no_rows : ℕ → Fixed (Unit {0})
 no_rows room = record { at = table.empty; room = room }
 
-none_inside : (P : ℕ → Type 0) (xs : List ℕ) → xs ≡ [] → (i : ℕ) → i < length xs → P i
+pub none_inside : (P : ℕ → Type 0) (xs : List ℕ) → xs ≡ [] → (i : ℕ) → i < length xs → P i
 none_inside P xs none i inside = absurd (impossible (subst (λ ys. i < length ys) none inside))
   where
     impossible : i < 0 → ⊥

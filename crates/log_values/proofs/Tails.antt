@@ -12,7 +12,8 @@ use Rattle.log_values.specs.Flushing.IsTail.{of_oldest, of_itself, of_none}
 use Rattle.log_values.specs.Sound.{Fits, IsSoundLog, used}
 use Rattle.log_values.specs.Sound.Fits.{with_room, alone}
 use Rattle.log_values.specs.Transactions.{flushed_as}
-use Rattle.log_values.proofs.Landing.{alone_takes, none_in}
+use Rattle.log_values.proofs.Fitting.{live_used}
+use Rattle.log_values.proofs.Landing.{alone_takes, blocks_fit, none_in}
 use Rattle.log_values.proofs.Ways.{way_on}
 
 -- as many places are free as its chunks and its header take
@@ -28,6 +29,13 @@ chunks_fit log f sound is = by (sound.fits f is)
     by : Fits log f → length (flush_chunks log f) + 1 ≤ free_in log
     by (with_room room) = enough _ _ _ (chunks_length log.journal.size log.journal.jid (flushed_as f) sound.size) room
     by (alone v r home free) = none _ _ (alone_takes log.journal.size log.journal.jid f sound.size v r) free
+
+-- what is live and what the flush logs are fewer blocks than the journal has places
+pub landing_fits : (log : LogValue) (f : Flush) → IsSoundLog log → log.flush ≡ Some f → table.len log.live + table.len f.versions ≤ log.journal.length
+landing_fits log f sound is = enough _ _ _ _ _ (live_used log sound) (blocks_fit log f sound) (chunks_fit log f sound is)
+  where
+    enough : (live versions u k n : ℕ) → live ≤ u → versions ≤ k → k + 1 ≤ n - (u + 1) → live + versions ≤ n
+    enough live versions u k n a b c = omega arith
 
 -- the place behind the head is one further from the tail
 pub first_behind : (log : LogValue) → IsSoundLog log → behind_tail log (first_place log) ≡ used log + 1
