@@ -13,3 +13,4 @@ mod Stages
 mod Oldest
 mod Left
 mod LandedLogs
+mod Listing

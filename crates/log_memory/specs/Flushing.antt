@@ -4,6 +4,7 @@ use Rattle.std.specs.Option.{option_map}
 use Rattle.std.specs.Ordering.{nat_cmp}
 use Rattle.std.specs.FinMap as table
 use Rattle.log_layout.specs.Journal.{way}
+use Rattle.log_layout.specs.Chunks.{Logged}
 use Rattle.log_tables.specs.Kept.{is_home}
 use Rattle.log_tables.specs.Versions.Way.{Home}
 use Rattle.log_values.specs.Blocks as set
@@ -51,3 +52,9 @@ is_needed f e = not (is_home e.1.way) && not (table.contains_key f.versions e.0)
 abbrev pub older : LogValue → Option ℕ → ℕ → ℕ
 older log None first = first
 older log (Some place) first = if nat_le (behind_tail log place) (behind_tail log first) then place else first
+
+-- ---- its lists
+
+-- a block is content of a regular file, or isn't
+abbrev pub is_of_kind : Bool → Logged → Bool
+is_of_kind plain e = if plain then e.plain else not e.plain

@@ -7,6 +7,7 @@ mod homing;
 mod journal;
 mod kinds;
 mod landing;
+mod lists;
 mod log;
 mod places;
 mod revokes;
