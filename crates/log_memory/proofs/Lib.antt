@@ -14,3 +14,5 @@ mod Oldest
 mod Left
 mod LandedLogs
 mod Listing
+mod Due
+mod Begun

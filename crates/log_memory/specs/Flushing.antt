@@ -10,7 +10,10 @@ use Rattle.log_tables.specs.Versions.Way.{Home}
 use Rattle.log_values.specs.Blocks as set
 use Rattle.log_values.specs.Log.{Entry, Flush, LogValue, Stage, Version}
 use Rattle.log_values.specs.Log.Stage.{Writing}
-use Rattle.log_values.specs.Flushing.{behind_tail, flush_chunks, logged_over}
+use Rattle.log_values.specs.Flushing.{Begins, HasRoom, IsDue, NoneAlone, behind_tail, flush_chunks, logged_over}
+use Rattle.log_values.specs.Transactions.{due}
+use Rattle.log_memory.specs.declared.beginning.Beginning.{Beginning}
+use Rattle.log_memory.specs.declared.beginning.Beginning.TheVariants as beginning
 
 -- an entry whose content isn't wanted at home any more, if it isn't
 abbrev pub rested_if : Bool → Option Entry → Option Entry
@@ -58,3 +61,11 @@ older log (Some place) first = if nat_le (behind_tail log place) (behind_tail lo
 -- a block is content of a regular file, or isn't
 abbrev pub is_of_kind : Bool → Logged → Bool
 is_of_kind plain e = if plain then e.plain else not e.plain
+
+-- ---- whether one begins
+
+-- where no flush was begun: nothing is due, or there is no room for it; or one begins
+pub data Starts (log new : LogValue) : Beginning → Type 0 where
+  nothing : (IsDue log → ⊥) → NoneAlone log → new ≡ log → Starts log new beginning.Nothing
+  no_room : IsDue log → (HasRoom log (due log) → ⊥) → NoneAlone log → new ≡ log → Starts log new beginning.NoRoom
+  begins : Begins log new → Starts log new beginning.Begun

@@ -54,7 +54,7 @@ blocks_fit log f sound =
     enough k c m x y r n p q = omega arith
 
 -- nothing takes no chunk
-no_list : {A : Type 0} (xs : List A) → length xs ≡ 0 → xs ≡ []
+pub no_list : {A : Type 0} (xs : List A) → length xs ≡ 0 → xs ≡ []
 no_list [] e = refl
 no_list (x ∷ xs) e = absurd (omega arith)
 
