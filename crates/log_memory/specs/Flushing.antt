@@ -27,7 +27,11 @@ stays revoked length old_tail tail block first = not (set.contains revoked block
 abbrev pub with_flush : set.Blocks → table.FinMap nat_cmp Version → ℕ → table.FinMap nat_cmp Entry → ℕ → Option Entry
 with_flush revoked versions first live b = logged_over (table.get versions b) first (rested_if (set.contains revoked b) (table.get live b))
 
--- a flush was begun, and has come so far
+-- a flush was begun
+abbrev pub IsBegun : LogValue → Type 0
+IsBegun log = (f : Flush) × (log.flush ≡ Some f)
+
+-- and has come so far
 pub record IsAt (log : LogValue) (stage : Stage) : Type 0 where
   pub flush : Flush
   pub begun : log.flush ≡ Some flush

@@ -3,7 +3,7 @@ ghost use Rattle.std.specs.Prelude.{◌≡◌, ◌↔◌, ℕ, IsTrue, None, Som
 ghost use Rattle.std.specs.FinMap as table;
 ghost use Rattle.log_tables.specs.Versions.Way.{Home};
 ghost use Rattle.log_values.specs.Log.{Entry};
-ghost use Rattle.log_values.specs.Flushing.{AllAreHome, HasRoom, IsDue, NothingIsLive, begun, begun_alone};
+ghost use Rattle.log_values.specs.Flushing.{AllAreHome, HasRoom, IsDue, NoneAlone, NothingIsLive, begun, begun_alone};
 ghost use Rattle.log_values.specs.Transactions.{due};
 ghost use Rattle.log_memory.specs.Flushing.{Starts};
 
@@ -88,21 +88,36 @@ fn begin_alone(log: &mut Log)
     log.stage = Some(Stage::Ending);
 }
 
+// Whether something is due for which there is room.
+fn fits(log: &Log) -> bool
+    ensures yes { result ≡ true → IsDue log.now × HasRoom log.now (due log.now) }
+    ensures no { result ≡ false → IsDue log.now → HasRoom log.now (due log.now) → ⊥ }
+{
+    is_due(log) && has_room(log)
+}
+
+// Whether a header alone would move the tail, and nothing is to go home first.
+fn is_end_due(log: &Log) -> bool
+    ensures yes { result ≡ true → AllAreHome log.now × (NothingIsLive log.now → ⊥) }
+    ensures no { result ≡ false → NoneAlone log.now }
+{
+    log.tables.live_len() > 0 && all_are_home(log)
+}
+
 /// A flush begins, if one is due and there is room for it. It goes over the changes and the live blocks.
 pub(crate) fn start(log: &mut Log) -> Beginning
     requires { log.old.flush ≡ None }
     ensures { Starts log.old log.new result }
 {
-    let is_due = is_due(log);
-    if is_due && has_room(log) {
+    if fits(log) {
         begin(log);
         return Beginning::Begun;
     }
-    if log.tables.live_len() > 0 && all_are_home(log) {
+    if is_end_due(log) {
         begin_alone(log);
         return Beginning::Begun;
     }
-    if is_due {
+    if is_due(log) {
         Beginning::NoRoom
     } else {
         Beginning::Nothing

@@ -3,9 +3,11 @@ ghost use Rattle.std.specs.Prelude.{◌≡◌, ◌<◌, ℕ, List, Some, length,
 ghost use Rattle.log_values.specs.Log.{Flush};
 ghost use Rattle.log_values.specs.Log.Stage.{Ending, Headed, Writing};
 ghost use Rattle.log_values.specs.Flushing.{FlushStep, flush_chunks, head_place, place_of};
-ghost use Rattle.log_memory.specs.Flushing.{IsAllWritten, IsAt, IsChunk};
+ghost use Rattle.log_memory.specs.Flushing.{IsAllWritten, IsAt, IsBegun, IsChunk};
 
+use crate::beginning::{Beginning, start};
 use crate::kinds::{Kind, Stage};
+use crate::landing::land;
 use crate::log::Log;
 use crate::places::{block_of, chunk_count, place};
 use crate::tails::tail_of;
@@ -90,5 +92,54 @@ fn write_head(log: &mut Log, into: &mut [u8]) -> LogStep
     LogStep::Head {
         block: at.head_addr,
         sequence: at.sequence,
+    }
+}
+
+// A flush that has come so far goes on by a block, or by the barrier behind the last.
+fn go_on(log: &mut Log, index: u32, into: &mut [u8]) -> LogStep
+    requires size { length into.old ≡ log.old.journal.size }
+    requires at { IsAt log.old (Writing index) }
+    ensures { (f : Flush) → log.old.flush ≡ Some f → FlushStep log.old log.new f into.new result }
+{
+    if index < chunk_count(log) {
+        write_block(log, index, into)
+    } else {
+        make_barrier(log)
+    }
+}
+
+// The next step of the flush that was begun.
+fn step(log: &mut Log, into: &mut [u8]) -> LogStep
+    requires size { length into.old ≡ log.old.journal.size }
+    requires begun { IsBegun log.old }
+    ensures { (f : Flush) → log.old.flush ≡ Some f → FlushStep log.old log.new f into.new result }
+{
+    match log.stage {
+        Some(Stage::Writing(index)) => go_on(log, index, into),
+        Some(Stage::Ending) => write_head(log, into),
+        Some(Stage::Headed(tail)) => land(log, tail),
+        None => unreachable!(),
+    }
+}
+
+impl Log {
+    ghost use Rattle.std.specs.Prelude.{◌≡◌, length};
+    ghost use Rattle.log_values.specs.Flushing.{FlushAnswer};
+
+    /// The next step of a flush, which begins if one is due: what a node is to do, and in `into`, a block long, the block that it is to write. Behind a barrier it is made before the
+    /// next call. None where nothing is due. A step that writes a block of content costs a copy of it; one that writes a descriptor goes over its entries; the first and the
+    /// last go over the live blocks and what is flushed.
+    pub fn flush_step(&mut self, into: &mut [u8]) -> Option<LogStep>
+        requires { length into.old ≡ self.old.journal.size }
+        ensures { FlushAnswer self.old self.new into.new result }
+    {
+        if self.stage.is_some() {
+            return Some(step(self, into));
+        }
+        match start(self) {
+            Beginning::Nothing => None,
+            Beginning::NoRoom => Some(LogStep::NoRoom),
+            Beginning::Begun => Some(step(self, into)),
+        }
     }
 }
