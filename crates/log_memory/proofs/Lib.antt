@@ -16,3 +16,4 @@ mod LandedLogs
 mod Listing
 mod Due
 mod Begun
+mod Answering

@@ -23,7 +23,7 @@ use Rattle.log_values.proofs.Going.{step_sound}
 use Rattle.log_memory.specs.Inside.{IsLog, flush_in, log_in, stage_of}
 use Rattle.log_memory.specs.declared.kinds.Stage.{Stage}
 use Rattle.log_memory.specs.declared.log.Log.TheInside.{Inside}
-use Rattle.log_memory.proofs.Counts.{its_parts}
+use Rattle.log_memory.proofs.Counts.{begun_at, flush_with, its_parts}
 
 -- the fields with this stage
 abbrev pub staged : Inside → Stage → Inside
@@ -63,6 +63,9 @@ module _ (l : Inside) (h : IsLog l) (log : LogValue) (same : log_in l ≡ log) (
 
 pub is_at : (log : LogValue) (s : At) → IsAt log s → (f : Flush) → log.flush ≡ Some f → f.stage ≡ s
 is_at log s is f begun = ap (λ (x : Flush). x.stage) (same_some log.flush f is.flush begun is.begun) ∙ is.at
+
+pub held_at : (l : Inside) → IsLog l → (log : LogValue) → log_in l ≡ log → (s : Stage) → l.stage ≡ Some s → IsAt log (stage_of s)
+held_at l h log same s is = record { flush = begun_at l h s; begun = ap (λ (x : LogValue). x.flush) (sym same) ∙ flush_with l h s is; at = refl }
 
 pub all_written : (log : LogValue) → IsAllWritten log → (f : Flush) → log.flush ≡ Some f → f.stage ≡ Writing (length (flush_chunks log f))
 all_written log is f begun = subst (λ (x : Flush). x.stage ≡ Writing (length (flush_chunks log x))) (same_some log.flush is.flush f is.begun begun) is.at

@@ -3,6 +3,7 @@ ghost use Rattle.std.specs.Prelude.{◌≡◌, ◌<◌, ℕ, List, Some, length,
 ghost use Rattle.log_values.specs.Log.{Flush};
 ghost use Rattle.log_values.specs.Log.Stage.{Ending, Headed, Writing};
 ghost use Rattle.log_values.specs.Flushing.{FlushStep, flush_chunks, head_place, place_of};
+ghost use Rattle.log_memory.specs.Inside.{stage_of};
 ghost use Rattle.log_memory.specs.Flushing.{IsAllWritten, IsAt, IsBegun, IsChunk};
 
 use crate::beginning::{Beginning, start};
@@ -108,6 +109,19 @@ fn go_on(log: &mut Log, index: u32, into: &mut [u8]) -> LogStep
     }
 }
 
+// The next step of a flush that has come so far.
+fn step_from(log: &mut Log, stage: Stage, into: &mut [u8]) -> LogStep
+    requires size { length into.old ≡ log.old.journal.size }
+    requires at { IsAt log.old (stage_of stage) }
+    ensures { (f : Flush) → log.old.flush ≡ Some f → FlushStep log.old log.new f into.new result }
+{
+    match stage {
+        Stage::Writing(index) => go_on(log, index, into),
+        Stage::Ending => write_head(log, into),
+        Stage::Headed(tail) => land(log, tail),
+    }
+}
+
 // The next step of the flush that was begun.
 fn step(log: &mut Log, into: &mut [u8]) -> LogStep
     requires size { length into.old ≡ log.old.journal.size }
@@ -115,9 +129,7 @@ fn step(log: &mut Log, into: &mut [u8]) -> LogStep
     ensures { (f : Flush) → log.old.flush ≡ Some f → FlushStep log.old log.new f into.new result }
 {
     match log.stage {
-        Some(Stage::Writing(index)) => go_on(log, index, into),
-        Some(Stage::Ending) => write_head(log, into),
-        Some(Stage::Headed(tail)) => land(log, tail),
+        Some(stage) => step_from(log, stage, into),
         None => unreachable!(),
     }
 }

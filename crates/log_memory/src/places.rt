@@ -1,8 +1,9 @@
 // The places of a flush in the journal.
-ghost use Rattle.std.specs.Prelude.{◌≡◌, ◌+◌, ◌<◌, ◌≤◌, ◌↔◌, IsTrue, Some, length};
+ghost use Rattle.std.specs.Prelude.{◌≡◌, ◌+◌, ◌<◌, ◌≤◌, ◌↔◌, ℕ, IsTrue, Some, length};
 ghost use Rattle.log_layout.specs.Journal.{way};
 ghost use Rattle.node_journal.specs.Places.{place_on};
 ghost use Rattle.log_values.specs.Log.{Flush};
+ghost use Rattle.log_values.specs.Log.Stage.{Writing};
 ghost use Rattle.log_values.specs.Flushing.{block_at, first_place, flush_chunks, free_in};
 
 use crate::log::Log;
@@ -64,6 +65,7 @@ pub(crate) fn block_of(log: &Log, place: u32) -> u64
 pub(crate) fn chunk_count(log: &Log) -> u32
     ensures count { (f : Flush) → log.now.flush ≡ Some f → result ≡ length (flush_chunks log.now f) }
     ensures free { (f : Flush) → log.now.flush ≡ Some f → result + 1 ≤ free_in log.now }
+    ensures reached { (f : Flush) (done : ℕ) → log.now.flush ≡ Some f → f.stage ≡ Writing done → done ≤ result }
 {
     let content = log.content.len() as u32;
     let metadata = log.metadata.len() as u32;

@@ -1,5 +1,6 @@
 use Rattle.std.proofs.Common.{◌≡◌, ◌+◌, ◌≤◌, ◌-◌, ℕ, ap, sym, subst, ◌∙◌, arith, rules, length, Fits, w32}
-use Rattle.log_values.specs.Flushing.{flush_chunks, free_in}
+use Rattle.log_values.specs.Flushing.{free_in}
+use Rattle.log_values.specs.Sound.{IsSoundLog}
 use Rattle.log_memory.proofs.Counts.{chunks_counted, chunks_free, few_blocks}
 use Rattle.log_memory.proofs.places.chunk_count.Goals as goal
 
@@ -23,3 +24,9 @@ returns-clause-free c = λ f is.
     let count = chunks_counted c.log.inside c.log.invariant c.len-content.result c.len-metadata.result c.len-revokes.result c.size_with.result c.len-content.ensures c.len-metadata.ensures c.len-revokes.ensures c.size_with.ensures c.args.log.now c.log.view_is f is in
     let free = chunks_free c.log.inside c.log.invariant c.args.log.now c.log.view_is f is in
     subst (λ n. n + 1 ≤ free_in c.args.log.now) (sym count) free
+
+pub returns-clause-reached : goal.returns-clause-reached
+returns-clause-reached c = λ f done is at.
+    let count = chunks_counted c.log.inside c.log.invariant c.len-content.result c.len-metadata.result c.len-revokes.result c.size_with.result c.len-content.ensures c.len-metadata.ensures c.len-revokes.ensures c.size_with.ensures c.args.log.now c.log.view_is f is in
+    let sound : IsSoundLog c.args.log.now = subst IsSoundLog c.log.view_is c.log.invariant.sound in
+    subst (λ n. done ≤ n) (sym count) (sound.reached f done is at)
