@@ -1,6 +1,6 @@
 -- What a call for the next step of a flush answers.
-use Rattle.std.proofs.Common.{◌≡◌, ℕ, List, true, Option, None, Some, refl, sym, ap, subst, ◌∙◌, true≢false, is_some}
-use Rattle.log_values.specs.Log.{Flush, LogValue}
+use Rattle.std.proofs.Common.{◌≡◌, ℕ, List, true, Option, None, Some, refl, sym, ap, ◌∙◌, true≢false, is_some}
+use Rattle.log_values.specs.Log.{LogValue}
 use Rattle.log_values.specs.Flushing.{Begins, FlushAnswer, FlushStep}
 use Rattle.log_values.specs.Flushing.Begins.{with_all, alone, goes_on}
 use Rattle.log_values.specs.Flushing.FlushAnswer.{nothing, no_room, a_step}
@@ -13,7 +13,7 @@ use Rattle.log_memory.specs.declared.beginning.Beginning.{Beginning}
 use Rattle.log_memory.specs.declared.beginning.Beginning.TheVariants as beginning
 use Rattle.log_memory.specs.declared.kinds.Stage.{Stage}
 use Rattle.log_memory.specs.declared.log.Log.TheInside.{Inside}
-use Rattle.log_memory.proofs.Counts.{begun_at, flush_with, flush_without}
+use Rattle.log_memory.proofs.Counts.{begun_at, flush_with}
 
 module _ (l : Inside) (h : IsLog l) (log : LogValue) (same : log_in l ≡ log) where
   pub begun_then : is_some l.stage ≡ true → IsBegun log

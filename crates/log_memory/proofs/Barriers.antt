@@ -1,6 +1,6 @@
 -- Live blocks that were on their way are home, row by row.
 use Rattle.std.proofs.Common.{◌≡◌, ℕ, zero, suc, ◌+◌, ◌<◌, ◌≤◌, Bool, true, false, List, [], ◌∷◌, length, Option, None, Some, ◌⊎◌, inl, inr, refl, sym, ap, subst, ◌∙◌, true≢false, is_some, slice_get, get_or, set, arith}
-use Rattle.std.proofs.lemmas.Bool.{cases_eq, cases_lt}
+use Rattle.std.proofs.lemmas.Bool.{cases_eq}
 use Rattle.std.proofs.lemmas.Cmp.{nat_cmp_total}
 use Rattle.std.proofs.lemmas.List.{length-set}
 use Rattle.std.proofs.lemmas.Option.{get_or_from_slice_get, slice_get_within}
@@ -117,7 +117,7 @@ module _ (log : LogValue) (live : table.FinMap nat_cmp Entry) (place : ℕ) (h :
   entries_are =
       table.entries-insert nat_cmp_total live e.0 value
       ∙ put_at (table.entries live) e.0 place value e (table.entries_sorted live) (slice_get_within (table.entries live) place e here)
-          (ap (λ (x : ℕ × Entry). x.0) (get_or_from_slice_get (table.entries live) place e e here))
+      (ap (λ (x : ℕ × Entry). x.0) (get_or_from_slice_get (table.entries live) place e e here))
 
   its_value : table.get log.live e.0 ≡ Some e.1
   its_value = row_gets log.live place e row

@@ -1,5 +1,5 @@
 -- A log whose flush begins.
-use Rattle.std.proofs.Common.{◌≡◌, ℕ, ◌+◌, ◌<◌, ◌≤◌, not, true, false, List, [], ◌∷◌, length, map, filter, Option, None, Some, refl, sym, ap, subst, ◌∙◌, true≢false, is_some, slice_index, vec_capacity, Vec, Global, arith}
+use Rattle.std.proofs.Common.{◌≡◌, ℕ, ◌<◌, ◌≤◌, not, true, false, List, [], length, map, filter, Option, None, Some, refl, sym, ap, subst, ◌∙◌, true≢false, is_some, slice_index, vec_capacity, Vec, Global, arith}
 use Rattle.std.proofs.lemmas.List.{length-map}
 use Rattle.std.specs.Ordering.{nat_cmp}
 use Rattle.std.specs.FinMap as table
@@ -7,7 +7,7 @@ use Rattle.fixed_tables.specs.Fixed.{Fixed}
 use Rattle.log_layout.specs.Chunks.{Logged}
 use Rattle.log_tables.specs.Kept.{Kept}
 use Rattle.log_values.specs.Blocks as set
-use Rattle.log_values.specs.Log.{Flush, LogValue, Version}
+use Rattle.log_values.specs.Log.{LogValue, Version}
 use Rattle.log_values.specs.Log.Stage.{Writing, Ending as ending}
 use Rattle.log_values.specs.Flushing.{Begins, HasRoom, IsDue, begun, begun_alone}
 use Rattle.log_values.specs.Flushing.Begins.{with_all}
@@ -17,7 +17,7 @@ use Rattle.log_values.proofs.Fitting.{gone_fits}
 use Rattle.log_values.proofs.Going.{begins_sound}
 use Rattle.log_values.proofs.Landing.{no_entries, no_items, no_list}
 use Rattle.log_memory.specs.Flushing.{is_of_kind}
-use Rattle.log_memory.specs.Inside.{AreKinds, IsLog, flush_in, log_in}
+use Rattle.log_memory.specs.Inside.{AreKinds, IsLog, log_in}
 use Rattle.log_memory.specs.Rows.{row_of, rows}
 use Rattle.log_memory.specs.declared.kinds.Stage.{Stage}
 use Rattle.log_memory.specs.declared.kinds.Stage.TheVariants as held

@@ -1,19 +1,17 @@
 -- The blocks of a flush's chunks.
-use Rattle.std.proofs.Common.{◌≡◌, ℕ, suc, ◌+◌, ◌-◌, ◌<◌, ◌≤◌, not, List, [], ◌∷◌, length, map, filter, Option, None, Some, refl, sym, ap, subst, ◌∙◌, slice_get, arith}
+use Rattle.std.proofs.Common.{◌≡◌, ℕ, suc, ◌+◌, ◌-◌, ◌<◌, ◌≤◌, not, List, [], ◌∷◌, length, map, Option, None, Some, refl, sym, ap, subst, ◌∙◌, slice_get, arith}
 use Rattle.std.specs.List.{All}
 use Rattle.std.proofs.lemmas.List.{length-map}
 use Rattle.std.proofs.lemmas.List.Elements.{All-cons, All-filter, All-map, All-nil}
 use Rattle.std.specs.FinMap as table
 use Rattle.log_layout.specs.Chunks.{Logged, Transaction}
-use Rattle.node_journal.specs.Encoding.{chunks, chunks_with, content_of, metadata_of}
 use Rattle.node_journal.specs.Written.{AreWhole}
 use Rattle.log_tables.proofs.Reading.{row_gets}
-use Rattle.log_values.specs.Log.{Flush, LogValue, Version}
-use Rattle.log_values.specs.Changes.{flushed_count}
+use Rattle.log_values.specs.Log.{LogValue, Version}
 use Rattle.log_values.specs.Flushing.{free_in}
-use Rattle.log_values.specs.Transactions.{flushed_as, logged_as, transaction}
+use Rattle.log_values.specs.Transactions.{logged_as, transaction}
 use Rattle.log_memory.specs.Flushing.{IsChunk}
-use Rattle.log_memory.specs.Inside.{IsLog, flush_in, log_in}
+use Rattle.log_memory.specs.Inside.{IsLog, log_in}
 use Rattle.log_memory.specs.Rows.{row_of}
 use Rattle.log_memory.specs.declared.kinds.Stage.{Stage}
 use Rattle.log_memory.specs.declared.log.Log.TheInside.{Inside}

@@ -1,14 +1,13 @@
 -- How many blocks a flush writes.
-use Rattle.std.proofs.Common.{◌≡◌, ℕ, ◌+◌, ◌-◌, ◌<◌, ◌≤◌, true, List, length, map, Option, None, Some, inl, refl, sym, ap, subst, ◌∙◌, is_some, vec_len, arith}
+use Rattle.std.proofs.Common.{◌≡◌, ℕ, ◌+◌, ◌-◌, ◌≤◌, length, Option, None, Some, inl, refl, sym, ap, subst, ◌∙◌, vec_len, arith}
 use Rattle.std.proofs.lemmas.List.{length-map}
 use Rattle.std.specs.Ordering.{nat_cmp}
 use Rattle.std.specs.FinMap as table
 use Rattle.log_layout.specs.Chunks.{Logged, Transaction}
-use Rattle.node_journal.specs.Encoding.{chunks, content_of, metadata_of, size_of, size_with}
+use Rattle.node_journal.specs.Encoding.{content_of, metadata_of, size_of, size_with}
 use Rattle.node_journal.proofs.Lengths.{chunks_length}
 use Rattle.log_values.specs.Blocks as set
 use Rattle.log_values.specs.Log.{Flush, LogValue, Version}
-use Rattle.log_values.specs.Changes.{flushed_count}
 use Rattle.log_values.specs.Flushing.{flush_chunks, free_in}
 use Rattle.log_values.specs.Transactions.{flushed_as, logged_as, transaction}
 use Rattle.log_values.proofs.Fitting.{live_fits}

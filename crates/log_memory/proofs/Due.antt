@@ -1,5 +1,5 @@
 -- What is due, and what it takes.
-use Rattle.std.proofs.Common.{◌≡◌, ℕ, zero, suc, ◌+◌, ◌-◌, ◌<◌, ◌≤◌, Bool, true, false, cond, List, [], ◌∷◌, length, map, filter, Option, None, Some, ◌⊎◌, inl, inr, refl, sym, ap, subst, ◌∙◌, true≢false, slice_get, arith}
+use Rattle.std.proofs.Common.{◌≡◌, ℕ, suc, ◌+◌, ◌-◌, ◌<◌, ◌≤◌, Bool, true, false, cond, List, [], ◌∷◌, length, map, filter, Some, ◌⊎◌, inl, inr, refl, sym, ap, ◌∙◌, true≢false, slice_get, arith}
 use Rattle.std.specs.List.{count_by}
 use Rattle.std.proofs.lemmas.List.{length-map}
 use Rattle.std.proofs.lemmas.List.Sums.{count_by-le-length, length-filter}
@@ -8,13 +8,11 @@ use Rattle.std.specs.Ordering.{nat_cmp}
 use Rattle.std.specs.FinMap as table
 use Rattle.log_layout.specs.Chunks.{Logged}
 use Rattle.node_journal.specs.Encoding.{content_of, metadata_of, size_of, size_with}
-use Rattle.log_tables.specs.Kept.{away_count, is_home}
+use Rattle.log_tables.specs.Kept.{is_home}
 use Rattle.log_tables.specs.Versions.Way.{Home, Away, Flying}
 use Rattle.log_tables.proofs.Reading.{row_gets}
-use Rattle.log_tables.proofs.Steps.{same_some}
 use Rattle.log_values.specs.Blocks as set
 use Rattle.log_values.specs.Log.{Entry, LogValue, Version, Way}
-use Rattle.log_values.specs.Changes.{flushed_count, frames_taken}
 use Rattle.log_values.specs.Flushing.{AllAreHome, IsDue}
 use Rattle.log_values.specs.Sound.{IsSoundLog}
 use Rattle.log_values.specs.Transactions.{due, logged_as}

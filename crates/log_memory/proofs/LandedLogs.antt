@@ -1,12 +1,11 @@
 -- A log whose flush is in the journal.
-use Rattle.std.proofs.Common.{◌≡◌, ℕ, ◌+◌, ◌≤◌, ◌<◌, not, false, true, List, [], map, filter, length, Option, None, Some, refl, sym, ap, subst, ◌∙◌, vec_capacity, Vec, Global, arith}
+use Rattle.std.proofs.Common.{◌≡◌, ℕ, ◌+◌, ◌≤◌, not, false, true, List, [], map, filter, None, Some, refl, sym, ap, subst, ◌∙◌, vec_capacity, Vec, Global}
 use Rattle.std.specs.Ordering.{nat_cmp}
 use Rattle.std.specs.FinMap as table
 use Rattle.fixed_tables.specs.Fixed.{Fixed, left_by}
 use Rattle.log_layout.specs.Chunks.{Logged}
 use Rattle.log_layout.specs.Transactions.{after}
 use Rattle.log_tables.specs.Kept.{Kept, is_home}
-use Rattle.log_values.specs.Blocks as set
 use Rattle.log_values.specs.Log.{Entry, Flush, LogValue, Version}
 use Rattle.log_values.specs.Log.Stage.{Headed}
 use Rattle.log_values.specs.Flushing.{FlushStep, IsTail, first_place, head_place}

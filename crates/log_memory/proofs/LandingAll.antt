@@ -1,7 +1,6 @@
 -- Blocks of a flush that are live, one by one.
-use Rattle.std.proofs.Common.{◌≡◌, ℕ, ◌+◌, ◌-◌, ◌<◌, ◌≤◌, Bool, true, false, cond, Option, None, Some, ◌⊎◌, inl, inr, refl, sym, ap, subst, ◌∙◌, true≢false, is_some, slice_get, arith}
+use Rattle.std.proofs.Common.{◌≡◌, ℕ, ◌+◌, ◌<◌, ◌≤◌, true, Option, None, Some, ◌⊎◌, inl, inr, refl, sym, ap, subst, ◌∙◌, is_some, slice_get, arith}
 use Rattle.std.proofs.lemmas.Bool.{cases_eq}
-use Rattle.std.proofs.lemmas.Cmp.{nat_cmp_total}
 use Rattle.std.specs.Ordering.{nat_cmp}
 use Rattle.std.specs.FinMap as table
 use Rattle.log_tables.specs.Kept.{Kept, landed}
@@ -84,7 +83,7 @@ module _ (old now new : Kept) (first count : ℕ) (h : IsLandedUpTo old now firs
       by b (inl k) = inr (
         ap (λ (m : Flushed). table.get m b) flushed_is ∙ ap (table.get (table.remove now.flushed e.0)) k ∙ gone now.flushed e.0,
         ap (λ (m : Live). table.get m b) live_is ∙ ap (table.get (table.insert now.live e.0 (landed e.1 first))) k ∙ at_key now.live e.0 (landed e.1 first)
-        ∙ sym (ap (λ (o : Option Version). logged_over o first (table.get old.live b)) (ap (table.get old.flushed) k ∙ was)),
+            ∙ sym (ap (λ (o : Option Version). logged_over o first (table.get old.live b)) (ap (table.get old.flushed) k ∙ was)),
       )
       by b (inr ne) =
           let flushed = ap (λ (m : Flushed). table.get m b) flushed_is ∙ left now.flushed e.0 b ne in

@@ -1,9 +1,8 @@
 -- A log that is new.
-use Rattle.std.proofs.Common.{◌≡◌, ℕ, ◌+◌, ◌<◌, ◌≤◌, true, List, [], length, map, filter, not, Option, None, Some, refl, sym, ap, subst, ◌∙◌, vec_capacity, Vec, Global, arith}
+use Rattle.std.proofs.Common.{◌≡◌, ℕ, ◌+◌, ◌<◌, ◌≤◌, true, List, [], length, map, filter, not, None, refl, sym, ap, subst, ◌∙◌, vec_capacity, Vec, Global, arith}
 use Rattle.std.specs.FinMap as table
 use Rattle.fixed_tables.specs.Fixed.{Fixed}
 use Rattle.log_tables.specs.Kept.{Kept, nothing_kept}
-use Rattle.log_values.specs.Blocks as set
 use Rattle.log_layout.specs.Chunks.{Logged}
 use Rattle.log_values.specs.Log.{LogValue, Version}
 use Rattle.log_values.specs.Laws.{IsJournal, empty_log}

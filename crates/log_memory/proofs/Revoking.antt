@@ -1,5 +1,5 @@
 -- Which live blocks are to be revoked, row by row.
-use Rattle.std.proofs.Common.{◌≡◌, ℕ, zero, suc, ◌+◌, ◌<◌, ◌≤◌, ◌||◌, ◌&&◌, not, Bool, true, false, List, [], ◌∷◌, length, Option, None, Some, ◌⊎◌, inl, inr, refl, sym, ap, subst, ◌∙◌, true≢false, is_some, cond, slice_get, if◌then◌else◌, arith}
+use Rattle.std.proofs.Common.{◌≡◌, ℕ, zero, suc, ◌+◌, ◌<◌, ◌≤◌, ◌||◌, ◌&&◌, not, Bool, true, false, List, [], ◌∷◌, length, Option, Some, ◌⊎◌, inl, inr, refl, sym, ap, subst, ◌∙◌, true≢false, is_some, cond, slice_get, if◌then◌else◌, arith}
 use Rattle.std.proofs.lemmas.Bool.{cases_eq}
 use Rattle.std.proofs.lemmas.Cmp.{nat_cmp_total}
 use Rattle.std.specs.Ordering.{eq_by_cmp, nat_cmp}
@@ -31,7 +31,7 @@ pub marks : (log : LogValue) (lock : LockName) (b : ℕ) → to_revoke log lock 
     ≡ (let n : LogValue = record log { gone = if to_revoke log lock b then set.insert log.gone b else log.gone } in n)
 marks log lock b is =
     ap (λ (m : table.FinMap nat_cmp Version). let n : LogValue = record log { fresh = m; gone = with_freed (has_entry log) (b ∷ []) log.gone } in n)
-        (remove_absent log.fresh b (lacks log.fresh b (not_tells (table.contains_key log.fresh b) (is_flushed log.flush b) parts.1)))
+    (remove_absent log.fresh b (lacks log.fresh b (not_tells (table.contains_key log.fresh b) (is_flushed log.flush b) parts.1)))
     ∙ ap (λ (t : Bool). let n : LogValue = record log { gone = if t then set.insert log.gone b else log.gone } in n) (entry ∙ sym is)
   where
     parts : (is_under lock (table.get log.live b) ≡ true) × (not (newer log b) ≡ true)

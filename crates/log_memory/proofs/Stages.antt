@@ -1,9 +1,7 @@
 -- A flush that goes on, and changes nothing else.
 use Rattle.std.proofs.Common.{◌≡◌, ℕ, ◌+◌, List, length, slice_get, Option, None, Some, refl, sym, ap, subst, ◌∙◌, is_some, true≢false}
-use Rattle.std.specs.Ordering.{nat_cmp}
 use Rattle.std.specs.FinMap as table
-use Rattle.log_tables.specs.Kept.{Kept}
-use Rattle.log_values.specs.Log.{Entry, Flush, LogValue, Version}
+use Rattle.log_values.specs.Log.{Entry, Flush, LogValue}
 use Rattle.log_values.specs.Log.Stage.{Ending, Headed, Writing}
 use Rattle.log_values.specs.Log.{Stage as At, Way}
 use Rattle.log_tables.specs.Versions.Way.{Home, Away, Flying}
@@ -13,7 +11,7 @@ use Rattle.node_journal.specs.Encoding.{header_of, zeros}
 use Rattle.node_journal.specs.Places.{place_on}
 use Rattle.node_journal.specs.declared.place.Place.{Place}
 use Rattle.log_values.specs.Flushing.{FlushStep, IsTail, at_stage, block_at, first_place, flush_chunks, head_place, place_of, settled, settled_way}
-use Rattle.log_values.specs.Flushing.FlushStep.{a_barrier, a_block, a_header, the_last}
+use Rattle.log_values.specs.Flushing.FlushStep.{a_barrier, a_block, a_header}
 use Rattle.log_values.specs.Homing.{Settles}
 use Rattle.log_values.specs.declared.steps.LogStep.TheVariants as step
 use Rattle.log_memory.specs.Flushing.{IsAllWritten, IsAt}

@@ -44,5 +44,6 @@ fn put(log: &mut Log, written: &Written, lock: LockName)
     ensures { log.new ≡ record log.old { fresh = table.insert log.old.fresh written.now.block (version_of written.now lock); gone = set.remove log.old.gone written.now.block } }
 {
     let _ = log.gone.take(written.block);
-    log.tables.put(lock, written.block, written.plain, written.bytes.bytes());
+    log.tables
+        .put(lock, written.block, written.plain, written.bytes.bytes());
 }

@@ -63,15 +63,11 @@ impl<'a> LiveTest for Left<'a> {
 // A flush is in the journal: what it logs is live, and of the rest what is left.
 fn take_in(tables: &mut Tables, first: u32, left: &Left<'_>)
     requires room { table.len tables.old.live + table.len tables.old.flushed ≤ tables.old.places }
-    requires home {
-        (b : ℕ) (e : Entry) → with_flush left.now.revoked.now.at tables.old.flushed first tables.old.live b ≡ Some e
-            → stays left.now.revoked.now.at left.now.length left.now.old_tail left.now.tail b e.first ≡ false → is_home e.way ≡ true
-    }
+    requires home { (b : ℕ) (e : Entry) → with_flush left.now.revoked.now.at tables.old.flushed first tables.old.live b ≡ Some e
+        → stays left.now.revoked.now.at left.now.length left.now.old_tail left.now.tail b e.first ≡ false → is_home e.way ≡ true }
     ensures same { tables.new ≡ record tables.old { flushed = table.empty; live = tables.new.live } }
-    ensures lives {
-        (b : ℕ) → table.get tables.new.live b
-            ≡ left_by (λ (e : Entry). stays left.now.revoked.now.at left.now.length left.now.old_tail left.now.tail b e.first) (with_flush left.now.revoked.now.at tables.old.flushed first tables.old.live b)
-    }
+    ensures lives { (b : ℕ) → table.get tables.new.live b
+        ≡ left_by (λ (e : Entry). stays left.now.revoked.now.at left.now.length left.now.old_tail left.now.tail b e.first) (with_flush left.now.revoked.now.at tables.old.flushed first tables.old.live b) }
 {
     rest_all(tables, left.revoked);
     land_all(tables, first);

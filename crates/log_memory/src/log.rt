@@ -45,12 +45,7 @@ impl Log {
     ghost use Rattle.log_memory.specs.Journals.{journal_in};
 
     /// An empty log of a journal whose last header is at this place, of this sequence, and is a clean one. Takes all the memory that the log will need.
-    pub fn new(
-        alloc: Global,
-        journal: Journal,
-        head: u32,
-        sequence: u64,
-    ) -> Result<Log, NoMemory>
+    pub fn new(alloc: Global, journal: Journal, head: u32, sequence: u64) -> Result<Log, NoMemory>
         requires journal { IsJournal (journal_in journal) }
         requires frames { 1 ≤ journal.frames }
         requires head { head < journal.length }

@@ -1,4 +1,4 @@
-use Rattle.std.proofs.Common.{◌≡◌, ◌<◌, ◌≤◌, ℕ, Some, length, slice_get, sym, ap, subst, ◌∙◌, arith}
+use Rattle.std.proofs.Common.{◌≡◌, ◌<◌, Some, length, slice_get, sym, ap, subst, ◌∙◌, arith}
 use Rattle.std.specs.FinMap as table
 use Rattle.log_values.specs.Log.{LogValue}
 use Rattle.log_memory.proofs.Due.{all_home, one_away}

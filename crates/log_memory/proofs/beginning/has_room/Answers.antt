@@ -1,4 +1,4 @@
-use Rattle.std.proofs.Common.{◌≡◌, ◌+◌, ◌<◌, ◌≤◌, ℕ, refl, sym, ap, subst, ◌∙◌, arith, Fits, w32, rules}
+use Rattle.std.proofs.Common.{◌≡◌, ◌+◌, ◌≤◌, refl, sym, ap, subst, ◌∙◌, arith}
 use Rattle.std.specs.FinMap as table
 use Rattle.node_journal.specs.Encoding.{size_of}
 use Rattle.log_values.specs.Log.{LogValue}
@@ -31,10 +31,9 @@ size_with-blocks-requires-clause-few c =
 pub returns : goal.returns
 returns c =
     let takes : c.size_with-blocks.result ≡ size_of c.args.log.now.journal.size (due c.args.log.now) =
-        c.size_with-blocks.ensures
-        ∙ due_takes (log_in c.log.inside) c.log.invariant.sound c.fresh_content-content.result c.fresh_len.result c.len-revokes.result c.fresh_content-content.ensures c.fresh_len.ensures c.len-revokes.ensures c.log.inside.journal.block_size
-        ∙ ap (λ (x : LogValue). size_of x.journal.size (due x)) c.log.view_is in
-    (
+    c.size_with-blocks.ensures
+    ∙ due_takes (log_in c.log.inside) c.log.invariant.sound c.fresh_content-content.result c.fresh_len.result c.len-revokes.result c.fresh_content-content.ensures c.fresh_len.ensures c.len-revokes.ensures c.log.inside.journal.block_size
+    ∙ ap (λ (x : LogValue). size_of x.journal.size (due x)) c.log.view_is in (
       λ yes. subst (λ n. n + 1 ≤ free_in c.args.log.now) takes (c.has_free.ensures.0 yes),
       λ room. c.has_free.ensures.1 (subst (λ n. n + 1 ≤ free_in c.args.log.now) (sym takes) room),
     )

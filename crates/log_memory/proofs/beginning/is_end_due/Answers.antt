@@ -1,5 +1,4 @@
-use Rattle.std.proofs.Common.{◌≡◌, ◌<◌, ◌≤◌, ℕ, ◌⊎◌, inl, true, false, nat_lt, ap, ◌∙◌, arith}
-use Rattle.std.proofs.lemmas.Bool.Decides.{nat_tests}
+use Rattle.std.proofs.Common.{inl, ap, ◌∙◌, arith}
 use Rattle.std.specs.FinMap as table
 use Rattle.log_values.specs.Log.{LogValue}
 use Rattle.log_memory.proofs.RowsFound.{no_rows, some_row}

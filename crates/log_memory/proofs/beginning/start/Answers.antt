@@ -1,5 +1,4 @@
-use Rattle.std.proofs.Common.{◌≡◌, ap, refl, subst, sym}
-use Rattle.log_values.specs.Log.{LogValue}
+use Rattle.std.proofs.Common.{refl, subst, sym}
 use Rattle.log_values.specs.Flushing.{Begins}
 use Rattle.log_values.specs.Flushing.Begins.{alone, with_all}
 use Rattle.log_memory.specs.Flushing.Starts.{begins, no_room, nothing}

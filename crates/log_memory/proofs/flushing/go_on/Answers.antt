@@ -1,4 +1,4 @@
-use Rattle.std.proofs.Common.{◌≡◌, ◌<◌, ◌≤◌, ℕ, ap, subst, ◌∙◌, arith}
+use Rattle.std.proofs.Common.{◌≡◌, ◌<◌, ap, subst, ◌∙◌, arith}
 use Rattle.log_values.specs.Log.Stage.{Writing}
 use Rattle.log_memory.proofs.flushing.go_on.Goals as goal
 

@@ -1,7 +1,6 @@
-use Rattle.std.proofs.Common.{◌≡◌, ℕ, List, [], ap, sym, subst, ◌∙◌}
-use Rattle.log_values.specs.Log.{Flush, LogValue}
-use Rattle.log_values.specs.Log.Stage.{Ending}
-use Rattle.log_values.specs.Flushing.{FlushStep, at_stage}
+use Rattle.std.proofs.Common.{[], ap, sym, subst, ◌∙◌}
+use Rattle.log_values.specs.Log.{LogValue}
+use Rattle.log_values.specs.Flushing.{FlushStep}
 use Rattle.log_values.specs.declared.steps.LogStep.TheVariants as step
 use Rattle.log_memory.specs.declared.kinds.Stage.TheVariants as held
 use Rattle.log_memory.proofs.Stages.{all_written, barrier_from_here, barrier_from_there, staged_is, step_stays}

@@ -1,4 +1,4 @@
-use Rattle.std.proofs.Common.{◌≡◌, ℕ, List, length, sym, ap, ◌∙◌}
+use Rattle.std.proofs.Common.{length, sym, ap, ◌∙◌}
 use Rattle.log_values.specs.Log.{LogValue}
 use Rattle.log_memory.proofs.Chunks.{content_whole, few_content, few_metadata, few_revokes, metadata_whole}
 use Rattle.log_memory.proofs.flushing.put_chunk.Goals as goal

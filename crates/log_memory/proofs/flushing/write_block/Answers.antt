@@ -1,4 +1,4 @@
-use Rattle.std.proofs.Common.{◌≡◌, ◌+◌, ◌≤◌, ℕ, arith}
+use Rattle.std.proofs.Common.{◌+◌, arith}
 use Rattle.log_values.specs.Log.Stage.{Writing}
 use Rattle.log_values.specs.declared.steps.LogStep.TheVariants as step
 use Rattle.log_memory.specs.declared.kinds.Stage.TheVariants as held
@@ -18,10 +18,10 @@ invariant_of-log c =
     let begun = c.requires.at.begun in
     step_stays c.log.inside c.log.invariant c.args.log.now c.log.view_is f begun (held.Writing (c.args.index + 1)) c.put_chunk.new.into (step.Write c.block_of-block.result)
     (writes c.args.log.now f c.args.index c.put_chunk.new.into c.place.result c.block_of-block.result (is_at c.args.log.now (Writing c.args.index) c.requires.at f begun) (c.put_chunk.ensures f begun)
-        c.place.ensures.value c.block_of-block.ensures)
+    c.place.ensures.value c.block_of-block.ensures)
 
 pub returns : goal.returns
 returns c = λ f begun.
     stepped c.log.inside c.log.invariant c.args.log.now c.log.view_is f begun (held.Writing (c.args.index + 1)) c.put_chunk.new.into (step.Write c.block_of-block.result)
     (writes c.args.log.now f c.args.index c.put_chunk.new.into c.place.result c.block_of-block.result (is_at c.args.log.now (Writing c.args.index) c.requires.at f begun) (c.put_chunk.ensures f begun)
-        c.place.ensures.value c.block_of-block.ensures)
+    c.place.ensures.value c.block_of-block.ensures)

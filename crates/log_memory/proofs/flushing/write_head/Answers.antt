@@ -1,4 +1,4 @@
-use Rattle.std.proofs.Common.{◌≡◌, ℕ, Some, length, ap, ◌∙◌}
+use Rattle.std.proofs.Common.{length, ap, ◌∙◌}
 use Rattle.node_journal.specs.Places.{place_on}
 use Rattle.log_values.specs.Log.Stage.{Ending}
 use Rattle.log_values.specs.Flushing.{first_place}
@@ -15,7 +15,7 @@ invariant_of-log c =
     let head_is = c.place-head.ensures.value ∙ ap (place_on log.journal.length (first_place log)) (c.chunk_count.ensures.count f begun) in
     step_stays c.log.inside c.log.invariant log c.log.view_is f begun (held.Headed c.tail_of-tail.result) c.put_header.new.into (step.Head c.place_with-at.result.head_addr c.place_with-at.result.sequence)
     (heads log f c.place-head.result c.tail_of-tail.result (length c.args.into.now) c.place_with-at.result c.put_header.new.into (is_at log Ending c.requires.at f begun) head_is (c.tail_of-tail.ensures f begun)
-        (c.place_with-at.ensures f begun head_is) c.put_header.ensures.bytes c.requires.size)
+    (c.place_with-at.ensures f begun head_is) c.put_header.ensures.bytes c.requires.size)
 
 pub returns : goal.returns
 returns c = λ f begun.
@@ -23,4 +23,4 @@ returns c = λ f begun.
     let head_is = c.place-head.ensures.value ∙ ap (place_on log.journal.length (first_place log)) (c.chunk_count.ensures.count f begun) in
     stepped c.log.inside c.log.invariant log c.log.view_is f begun (held.Headed c.tail_of-tail.result) c.put_header.new.into (step.Head c.place_with-at.result.head_addr c.place_with-at.result.sequence)
     (heads log f c.place-head.result c.tail_of-tail.result (length c.args.into.now) c.place_with-at.result c.put_header.new.into (is_at log Ending c.requires.at f begun) head_is (c.tail_of-tail.ensures f begun)
-        (c.place_with-at.ensures f begun head_is) c.put_header.ensures.bytes c.requires.size)
+    (c.place_with-at.ensures f begun head_is) c.put_header.ensures.bytes c.requires.size)

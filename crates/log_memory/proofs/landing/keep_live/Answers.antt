@@ -1,4 +1,3 @@
-use Rattle.std.proofs.Common.{◌≡◌, ℕ}
 use Rattle.fixed_tables.specs.Fixed.{Fixed}
 use Rattle.log_memory.proofs.Left.{among_is}
 use Rattle.log_memory.proofs.landing.keep_live.Goals as goal

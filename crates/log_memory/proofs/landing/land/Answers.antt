@@ -1,7 +1,5 @@
-use Rattle.std.proofs.Common.{◌≡◌, ◌∙◌, ◌+◌, ℕ, Some, refl, ap}
+use Rattle.std.proofs.Common.{◌∙◌, refl, ap}
 use Rattle.node_journal.specs.Places.{place_on}
-use Rattle.fixed_tables.specs.Fixed.{Fixed}
-use Rattle.log_tables.specs.Kept.{Kept}
 use Rattle.log_values.specs.Log.Stage.{Headed}
 use Rattle.log_values.specs.Flushing.{first_place}
 use Rattle.log_memory.proofs.LandedLogs.{home_to_drop, lands_so, lands_step, room_to_land}

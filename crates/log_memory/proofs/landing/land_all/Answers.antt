@@ -1,4 +1,4 @@
-use Rattle.std.proofs.Common.{◌≡◌, ◌<◌, ◌-◌, ℕ, arith}
+use Rattle.std.proofs.Common.{◌<◌, ◌-◌, arith}
 use Rattle.std.specs.FinMap as table
 use Rattle.log_memory.proofs.LandingAll.{landed_then, row_contains, row_landed, same_then}
 use Rattle.log_memory.proofs.landing.land_all.Goals as goal

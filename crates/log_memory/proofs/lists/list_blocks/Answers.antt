@@ -1,5 +1,4 @@
-use Rattle.std.proofs.Common.{◌≡◌, ◌<◌, ◌≤◌, ◌+◌, ℕ, ◌∙◌, ap, arith, vec_capacity, vec_len}
-use Rattle.std.specs.FinMap as table
+use Rattle.std.proofs.Common.{◌+◌, ◌∙◌, ap, arith}
 use Rattle.log_memory.proofs.Listing.{all_listed, one_listed}
 use Rattle.log_memory.proofs.lists.list_blocks.Goals as goal
 

@@ -1,4 +1,4 @@
-use Rattle.std.proofs.Common.{◌≡◌, ◌<◌, ◌≤◌, ◌+◌, ℕ, List, Vec, Global, ◌∙◌, sym, ap, subst, arith, vec_capacity, vec_len}
+use Rattle.std.proofs.Common.{◌<◌, ◌≤◌, ◌+◌, ℕ, Vec, Global, ◌∙◌, sym, subst, arith, vec_capacity}
 use Rattle.std.specs.FinMap as table
 use Rattle.log_memory.proofs.Listing.{IsListedUpTo, all_rows, kind_passed, kind_taken, row}
 use Rattle.log_memory.proofs.lists.list_kind.Goals as goal

@@ -1,4 +1,4 @@
-use Rattle.std.proofs.Common.{◌≡◌, ◌+◌, ◌≤◌, ◌-◌, ℕ, ap, sym, subst, ◌∙◌, arith, rules, length, Fits, w32}
+use Rattle.std.proofs.Common.{◌+◌, ◌≤◌, sym, subst, arith}
 use Rattle.log_values.specs.Flushing.{free_in}
 use Rattle.log_values.specs.Sound.{IsSoundLog}
 use Rattle.log_memory.proofs.Counts.{chunks_counted, chunks_free, few_blocks}

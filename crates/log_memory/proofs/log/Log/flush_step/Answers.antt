@@ -1,4 +1,4 @@
-use Rattle.std.proofs.Common.{◌≡◌, None, sym, ap, ◌∙◌}
+use Rattle.std.proofs.Common.{sym, ap, ◌∙◌}
 use Rattle.log_values.specs.Log.{LogValue}
 use Rattle.log_memory.proofs.Answering.{begins_so, begun_now, begun_then, goes_so, no_room_so, nothing_so, size_then}
 use Rattle.log_memory.proofs.Sending.{none_begun}
