@@ -15,21 +15,21 @@ bytes-requires c = live_out c.self.inside c.self.invariant c.args.place c.in-Awa
 pub returns-in-Away : goal.returns-in-Away
 returns-in-Away c = record {
   bytes = λ e at.
-    ap Some (out_bytes c.self.inside.pool c.in-Away.frame c.bytes.result.now c.bytes.ensures.bytes)
-    ∙ sym (ap (λ (h : Hold). away_bytes (way_in c.self.inside.pool h)) c.in-Away.is) ∙ ap (λ (x : ℕ × Entry). away_bytes x.1.way) (row_seen (entry_in c.self.inside.pool) c.self.inside.live.at c.args.self.now.live (ap (λ (k : Kept). k.live) c.self.view_is) c.args.place c.row.result.now e c.row.ensures at);
+      ap Some (out_bytes c.self.inside.pool c.in-Away.frame c.bytes.result.now c.bytes.ensures.bytes)
+      ∙ sym (ap (λ (h : Hold). away_bytes (way_in c.self.inside.pool h)) c.in-Away.is) ∙ ap (λ (x : ℕ × Entry). away_bytes x.1.way) (row_seen (entry_in c.self.inside.pool) c.self.inside.live.at c.args.self.now.live (ap (λ (k : Kept). k.live) c.self.view_is) c.args.place c.row.result.now e c.row.ensures at);
   whole = c.bytes.ensures.whole ∙ ap (λ (k : Kept). k.size) c.self.view_is;
 }
 
 pub returns-in-Home : goal.returns-in-Home
 returns-in-Home c = record {
   bytes = λ e at.
-    sym (ap (λ (h : Hold). away_bytes (way_in c.self.inside.pool h)) c.in-Home.is) ∙ ap (λ (x : ℕ × Entry). away_bytes x.1.way) (row_seen (entry_in c.self.inside.pool) c.self.inside.live.at c.args.self.now.live (ap (λ (k : Kept). k.live) c.self.view_is) c.args.place c.row.result.now e c.row.ensures at);
+      sym (ap (λ (h : Hold). away_bytes (way_in c.self.inside.pool h)) c.in-Home.is) ∙ ap (λ (x : ℕ × Entry). away_bytes x.1.way) (row_seen (entry_in c.self.inside.pool) c.self.inside.live.at c.args.self.now.live (ap (λ (k : Kept). k.live) c.self.view_is) c.args.place c.row.result.now e c.row.ensures at);
   whole = tt;
 }
 
 pub returns-in-Flying : goal.returns-in-Flying
 returns-in-Flying c = record {
   bytes = λ e at.
-    sym (ap (λ (h : Hold). away_bytes (way_in c.self.inside.pool h)) c.in-Flying.is) ∙ ap (λ (x : ℕ × Entry). away_bytes x.1.way) (row_seen (entry_in c.self.inside.pool) c.self.inside.live.at c.args.self.now.live (ap (λ (k : Kept). k.live) c.self.view_is) c.args.place c.row.result.now e c.row.ensures at);
+      sym (ap (λ (h : Hold). away_bytes (way_in c.self.inside.pool h)) c.in-Flying.is) ∙ ap (λ (x : ℕ × Entry). away_bytes x.1.way) (row_seen (entry_in c.self.inside.pool) c.self.inside.live.at c.args.self.now.live (ap (λ (k : Kept). k.live) c.self.view_is) c.args.place c.row.result.now e c.row.ensures at);
   whole = tt;
 }
