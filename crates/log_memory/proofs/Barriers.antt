@@ -72,6 +72,7 @@ module _ (l : Inside) (h : IsLog l) (e : ℕ × Entry) (here : table.get l.table
       sound = record {
         sound = let with_bytes = flying_with e.1.way flies in settled_sound (log_in l) e.0 with_bytes.0 e.1 h.sound here with_bytes.1;
         idle = h.idle;
+        few_changes = h.few_changes;
         size = h.size;
         frames = h.frames;
         places = h.places;

@@ -48,6 +48,7 @@ module _ (l : Inside) (h : IsLog l) (log : LogValue) (same : log_in l ≡ log) (
   alone_stays begins = record {
     sound = subst IsSoundLog (sym alone_is) (begins_sound log (begun_alone log) sound begins);
     idle = λ no_stage. absurd (true≢false (ap is_some no_stage));
+    few_changes = h.few_changes;
     size = h.size;
     frames = h.frames;
     places = h.places;
@@ -121,6 +122,7 @@ module _ (l : Inside) (h : IsLog l) (log : LogValue) (same : log_in l ≡ log) (
       begins_stays = record {
         sound = subst IsSoundLog (sym begins_is) (begins_sound log (begun log) sound (with_all none is_due room));
         idle = λ no_stage. absurd (true≢false (ap is_some no_stage));
+        few_changes = (let same = ap (λ (k : Kept). table.len k.fresh) tables_are in let zero = table.len-empty nat_cmp Version in omega arith);
         size = ap (λ (k : Kept). k.size) tables_are ∙ h.size;
         frames = ap (λ (k : Kept). k.frames) tables_are ∙ h.frames;
         places = ap (λ (k : Kept). k.places) tables_are ∙ h.places;

@@ -110,6 +110,7 @@ module _ (l : Inside) (h : IsLog l) (log : LogValue) (same : log_in l ≡ log) (
       stays_so = record {
         sound = step_sound (log_in l) new_log f0 [] step.Barrier h.sound is0 (last_step []);
         idle = λ none. (refl, refl);
+        few_changes = h.few_changes;
         size = h.size;
         frames = h.frames;
         places = h.places;

@@ -1,5 +1,6 @@
 -- A log that is new.
 use Rattle.std.proofs.Common.{◌≡◌, ℕ, ◌+◌, ◌<◌, ◌≤◌, true, List, [], length, map, filter, not, None, refl, sym, ap, subst, ◌∙◌, vec_capacity, Vec, Global, arith}
+use Rattle.std.specs.Ordering.{nat_cmp}
 use Rattle.std.specs.FinMap as table
 use Rattle.fixed_tables.specs.Fixed.{Fixed}
 use Rattle.log_tables.specs.Kept.{Kept, nothing_kept}
@@ -77,6 +78,7 @@ module _ (journal : Journal) (head sequence : ℕ) (revokes content metadata : V
       sound = record {
         sound = empty_sound (journal_in journal) head sequence is inside;
         idle = λ _. (refl, refl);
+        few_changes = (let zero = table.len-empty nat_cmp Version in omega arith);
         size = refl;
         frames = refl;
         places = refl;

@@ -72,6 +72,7 @@ module _ (l : Inside) (h : IsLog l) (e : ℕ × Entry) (at : table.get l.tables.
       sound = record {
         sound = way_sound (log_in l) e.0 (Flying bytes) e.1 h.sound at (ap is_home away) (λ f is behind. no_some f (sym is ∙ none));
         idle = h.idle;
+        few_changes = h.few_changes;
         size = h.size;
         frames = h.frames;
         places = h.places;

@@ -45,6 +45,7 @@ module _ (l : Inside) (h : IsLog l) (log : LogValue) (same : log_in l ≡ log) (
     step_stays = record {
       sound = step_sound log (log_in (staged l s)) f bytes answer (subst IsSoundLog same h.sound) is stepped;
       idle = λ none. absurd (true≢false (ap is_some none));
+      few_changes = h.few_changes;
       size = h.size;
       frames = h.frames;
       places = h.places;

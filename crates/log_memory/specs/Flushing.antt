@@ -1,5 +1,5 @@
 -- The steps of a flush, as the parts of a log take them.
-use Rattle.std.specs.Prelude.{◌≡◌, ◌<◌, ◌&&◌, ℕ, Bool, not, nat_le, nat_lt, length, Option, None, Some, if◌then◌else◌}
+use Rattle.std.specs.Prelude.{◌≡◌, ◌<◌, ◌⊎◌, ◌&&◌, ℕ, Bool, not, nat_le, nat_lt, length, Option, None, Some, if◌then◌else◌}
 use Rattle.std.specs.Option.{option_map}
 use Rattle.std.specs.Ordering.{nat_cmp}
 use Rattle.std.specs.FinMap as table
@@ -10,7 +10,7 @@ use Rattle.log_tables.specs.Versions.Way.{Home}
 use Rattle.log_values.specs.Blocks as set
 use Rattle.log_values.specs.Log.{Entry, Flush, LogValue, Stage, Version}
 use Rattle.log_values.specs.Log.Stage.{Writing}
-use Rattle.log_values.specs.Flushing.{Begins, HasRoom, IsDue, NoneAlone, behind_tail, flush_chunks, logged_over}
+use Rattle.log_values.specs.Flushing.{AllAreHome, Begins, HasRoom, IsDue, NothingIsLive, behind_tail, flush_chunks, logged_over}
 use Rattle.log_values.specs.Transactions.{due}
 use Rattle.log_memory.specs.declared.beginning.Beginning.{Beginning}
 use Rattle.log_memory.specs.declared.beginning.Beginning.TheVariants as beginning
@@ -68,8 +68,8 @@ is_of_kind plain e = if plain then e.plain else not e.plain
 
 -- ---- whether one begins
 
--- where no flush was begun: nothing is due, or there is no room for it; or one begins
+-- where no flush was begun: nothing is due; or there is no room for it, since some live block isn't home; or one begins
 pub data Starts (log new : LogValue) : Beginning → Type 0 where
-  nothing : (IsDue log → ⊥) → NoneAlone log → new ≡ log → Starts log new beginning.Nothing
-  no_room : IsDue log → (HasRoom log (due log) → ⊥) → NoneAlone log → new ≡ log → Starts log new beginning.NoRoom
+  nothing : (IsDue log → ⊥) → NothingIsLive log ⊎ (AllAreHome log → ⊥) → new ≡ log → Starts log new beginning.Nothing
+  no_room : IsDue log → (HasRoom log (due log) → ⊥) → (AllAreHome log → ⊥) → new ≡ log → Starts log new beginning.NoRoom
   begins : Begins log new → Starts log new beginning.Begun

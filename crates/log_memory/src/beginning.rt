@@ -1,9 +1,9 @@
 // Whether a flush begins, and with what.
-ghost use Rattle.std.specs.Prelude.{◌≡◌, ◌↔◌, ℕ, IsTrue, None, Some, true, false};
+ghost use Rattle.std.specs.Prelude.{◌≡◌, ◌↔◌, ◌⊎◌, ℕ, IsTrue, None, Some, true, false};
 ghost use Rattle.std.specs.FinMap as table;
 ghost use Rattle.log_tables.specs.Versions.Way.{Home};
 ghost use Rattle.log_values.specs.Log.{Entry};
-ghost use Rattle.log_values.specs.Flushing.{AllAreHome, HasRoom, IsDue, NoneAlone, NothingIsLive, begun, begun_alone};
+ghost use Rattle.log_values.specs.Flushing.{AllAreHome, HasRoom, IsDue, NothingIsLive, begun, begun_alone};
 ghost use Rattle.log_values.specs.Transactions.{due};
 ghost use Rattle.log_memory.specs.Flushing.{Starts};
 
@@ -35,7 +35,8 @@ fn is_due(log: &Log) -> bool
 
 // Whether there is room for all that is due. It goes over the changes.
 fn has_room(log: &Log) -> bool
-    ensures { IsTrue result ↔ HasRoom log.now (due log.now) }
+    ensures room { IsTrue result ↔ HasRoom log.now (due log.now) }
+    ensures empty { log.now.flush ≡ None → NothingIsLive log.now → IsTrue result }
 {
     let content = log.tables.fresh_content();
     let metadata = log.tables.fresh_len() - content;
@@ -92,6 +93,7 @@ fn begin_alone(log: &mut Log)
 fn fits(log: &Log) -> bool
     ensures yes { result ≡ true → IsDue log.now × HasRoom log.now (due log.now) }
     ensures no { result ≡ false → IsDue log.now → HasRoom log.now (due log.now) → ⊥ }
+    ensures empty { result ≡ false → IsDue log.now → log.now.flush ≡ None → NothingIsLive log.now → ⊥ }
 {
     is_due(log) && has_room(log)
 }
@@ -99,7 +101,7 @@ fn fits(log: &Log) -> bool
 // Whether a header alone would move the tail, and nothing is to go home first.
 fn is_end_due(log: &Log) -> bool
     ensures yes { result ≡ true → AllAreHome log.now × (NothingIsLive log.now → ⊥) }
-    ensures no { result ≡ false → NoneAlone log.now }
+    ensures no { result ≡ false → NothingIsLive log.now ⊎ (AllAreHome log.now → ⊥) }
 {
     log.tables.live_len() > 0 && all_are_home(log)
 }

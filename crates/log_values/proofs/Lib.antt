@@ -8,3 +8,4 @@ pub mod Homing
 pub mod Changing
 pub mod Fitting
 pub mod Tails
+pub mod Rooms

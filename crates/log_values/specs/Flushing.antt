@@ -157,12 +157,8 @@ pub data FlushStep (log new : LogValue) (f : Flush) (bytes : List ℕ) : LogStep
       → ((b : ℕ) → table.get new.live b ≡ live_behind log f tail b)
       → FlushStep log new f bytes step.Barrier
 
--- no header alone is due: it would move no tail, or some live block isn't home
-abbrev pub NoneAlone : LogValue → Type 0
-NoneAlone log = NothingIsLive log ⊎ (AllAreHome log → ⊥)
-
--- What a call for the next step answers: nothing is to be flushed; or there is no room for what is; or a step of the flush that was begun, or begins now.
+-- What a call for the next step answers: nothing is to be flushed; or there is no room, since some live block isn't home; or a step of the flush that was begun, or begins now.
 pub data FlushAnswer (log new : LogValue) (bytes : List ℕ) : Option LogStep → Type 0 where
-  nothing : log.flush ≡ None → (IsDue log → ⊥) → NoneAlone log → new ≡ log → FlushAnswer log new bytes None
-  no_room : log.flush ≡ None → IsDue log → (HasRoom log (due log) → ⊥) → NoneAlone log → new ≡ log → FlushAnswer log new bytes (Some step.NoRoom)
+  nothing : log.flush ≡ None → (IsDue log → ⊥) → NothingIsLive log ⊎ (AllAreHome log → ⊥) → new ≡ log → FlushAnswer log new bytes None
+  no_room : log.flush ≡ None → IsDue log → (HasRoom log (due log) → ⊥) → (AllAreHome log → ⊥) → new ≡ log → FlushAnswer log new bytes (Some step.NoRoom)
   a_step : (m : LogValue) (f : Flush) (s : LogStep) → Begins log m → m.flush ≡ Some f → FlushStep m new f bytes s → FlushAnswer log new bytes (Some s)
