@@ -10,6 +10,7 @@ use Rattle.log_values.specs.Laws.{IsJournal, empty_log}
 use Rattle.log_values.specs.Transactions.{logged_as}
 use Rattle.log_values.proofs.Keeping.{empty_sound}
 use Rattle.log_values.proofs.Landing.{no_entries}
+use Rattle.log_memory.specs.Empty.{no_rows}
 use Rattle.log_memory.specs.Inside.{AreKinds, IsLog, log_in}
 use Rattle.log_memory.specs.Rows.{row_of}
 use Rattle.log_memory.specs.Journals.{journal_in}
@@ -19,10 +20,6 @@ use Rattle.log_memory.specs.declared.log.Log.TheInside.{Inside}
 -- the log is sound, and stands for this
 abbrev pub Gives : Inside → LogValue → Type 0
 Gives l log = IsLog l × (log_in l ≡ log)
-
--- a table that is empty
-abbrev pub no_rows : ℕ → Fixed (Unit {0})
-no_rows room = record { at = table.empty; room = room }
 
 pub none_inside : (P : ℕ → Type 0) (xs : List ℕ) → xs ≡ [] → (i : ℕ) → i < length xs → P i
 none_inside P xs none i inside = absurd (impossible (subst (λ ys. i < length ys) none inside))

@@ -1,3 +1,4 @@
+pub mod Empty
 pub mod Rows
 pub mod Journals
 pub mod Inside
