@@ -89,16 +89,6 @@ home_way (Flying bytes) is = absurd (true≢false (sym is))
 abbrev pub AreHome : LogValue → ℕ → Type 0
 AreHome log count = (i : ℕ) (e : ℕ × Entry) → i < count → slice_get (table.entries log.live) i ≡ Some e → is_home e.1.way ≡ true
 
-pub none_home : (log : LogValue) → AreHome log 0
-none_home log i e few at = absurd (omega arith)
-
-pub one_home : (log : LogValue) (count : ℕ) → AreHome log count → ((e : ℕ × Entry) → slice_get (table.entries log.live) count ≡ Some e → is_home e.1.way ≡ true) → AreHome log (count + 1)
-one_home log count are is i e few at = by (cases_eq i count)
-  where
-    by : (i ≡ count) ⊎ (i ≡ count → ⊥) → is_home e.1.way ≡ true
-    by (inl same) = is e (ap (slice_get (table.entries log.live)) (sym same) ∙ at)
-    by (inr ne) = are i e (omega arith) at
-
 pub all_home : (log : LogValue) (count : ℕ) → table.len log.live ≤ count → AreHome log count → AllAreHome log
 all_home log count all are b e at = let row = found log.live b e at in home_way e.way (are row.0 (b, e) (omega (arith, row.1.0)) row.1.1)
 

@@ -28,17 +28,6 @@ pub record IsLandedUpTo (old now : Kept) (first count : ℕ) : Type 0 where
   pub each : (b : ℕ) → ((table.get now.flushed b ≡ table.get old.flushed b) × (table.get now.live b ≡ table.get old.live b))
       ⊎ ((table.get now.flushed b ≡ None) × (table.get now.live b ≡ logged_over (table.get old.flushed b) first (table.get old.live b)))
 
-pub none_landed : (old : Kept) (first : ℕ) → table.len old.live + table.len old.flushed ≤ old.places → IsLandedUpTo old old first 0
-none_landed old first room = record { same = refl; left_over = omega arith; room = room; each = λ b. inl (refl, refl) }
-
--- there is room for one more, where one is left
-pub room_for : (old now : Kept) (first count : ℕ) (b : ℕ) → IsLandedUpTo old now first count → count < table.len old.flushed → (table.contains_key now.live b ≡ true) ⊎ (table.len now.live < now.places)
-room_for old now first count b h few =
-    let places : now.places ≡ old.places = ap (λ (k : Kept). k.places) h.same in
-    let over = h.left_over in
-    let room = h.room in
-    inr (omega arith)
-
 insert_len : (m : Live) (k : ℕ) (e : Entry) → table.len (table.insert m k e) ≤ table.len m + 1
 insert_len m k e = by (table.get m k) refl
   where

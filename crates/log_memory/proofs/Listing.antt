@@ -59,10 +59,6 @@ pub record IsListedUpTo (k : Kept) (plain : Bool) (places : List ℕ) (count : �
   pub inside : All (λ p. p < table.len k.flushed) places
   pub are : map (row_of k) places ≡ filter (is_of_kind plain) (take count (rows k))
 
-pub none_listed : (k : Kept) (plain : Bool) (places : List ℕ) → places ≡ [] → IsListedUpTo k plain places 0
-none_listed k plain places none =
-    subst (λ ps. IsListedUpTo k plain ps 0) (sym none) (record { few = omega arith; inside = All-nil (λ p. p < table.len k.flushed); are = refl })
-
 module _ (k : Kept) (plain : Bool) (places : List ℕ) (count : ℕ) (h : IsListedUpTo k plain places count) (less : count < table.len k.flushed) where
   pub row : (e : ℕ × Version) × (slice_get (table.entries k.flushed) count ≡ Some e)
   row = entry_at (table.entries k.flushed) count (subst (λ n. count < n) (table.len-entries k.flushed) less)

@@ -47,9 +47,6 @@ pub record IsRestedUpTo (old now : Live) (revoked : set.Blocks) (count : ℕ) : 
   pub each : (b : ℕ) → (table.get now b ≡ table.get old b) ⊎ ((set.contains revoked b ≡ true) × (table.get now b ≡ rested_if true (table.get old b)))
   pub done : (i : ℕ) (e : ℕ × Unit {0}) → i < count → slice_get (table.entries revoked) i ≡ Some e → table.get now e.0 ≡ rested_if true (table.get old e.0)
 
-pub none_rested : (old : Live) (revoked : set.Blocks) → IsRestedUpTo old old revoked 0
-none_rested old revoked = record { each = λ b. inl refl; done = λ i e few at. absurd (omega arith) }
-
 module _ (old now : Live) (revoked : set.Blocks) (place : ℕ) (h : IsRestedUpTo old now revoked place) (e : ℕ × Unit {0}) (row : slice_get (table.entries revoked) place ≡ Some e) where
   abbrev after : Live
   after = rested now e.0 (table.get now e.0)
