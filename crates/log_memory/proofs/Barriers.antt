@@ -1,6 +1,6 @@
 -- Live blocks that were on their way are home, row by row.
 use Rattle.std.proofs.Common.{◌≡◌, ℕ, zero, suc, ◌+◌, ◌<◌, ◌≤◌, Bool, true, false, List, [], ◌∷◌, length, Option, None, Some, ◌⊎◌, inl, inr, refl, sym, ap, subst, ◌∙◌, true≢false, is_some, slice_get, get_or, set, arith}
-use Rattle.std.proofs.lemmas.Bool.{cases_eq, cases_lt}
+use Rattle.std.proofs.lemmas.Bool.{cases_eq}
 use Rattle.std.proofs.lemmas.Cmp.{nat_cmp_total}
 use Rattle.std.proofs.lemmas.List.{length-set}
 use Rattle.std.proofs.lemmas.Option.{get_or_from_slice_get, slice_get_within}
@@ -72,6 +72,7 @@ module _ (l : Inside) (h : IsLog l) (e : ℕ × Entry) (here : table.get l.table
       sound = record {
         sound = let with_bytes = flying_with e.1.way flies in settled_sound (log_in l) e.0 with_bytes.0 e.1 h.sound here with_bytes.1;
         idle = h.idle;
+        few_changes = h.few_changes;
         size = h.size;
         frames = h.frames;
         places = h.places;

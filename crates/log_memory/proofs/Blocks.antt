@@ -1,6 +1,5 @@
 -- A log with one block freed, or written.
-use Rattle.std.proofs.Common.{◌≡◌, ℕ, ◌+◌, ◌-◌, ◌<◌, ◌≤◌, ◌||◌, Bool, true, false, cond, List, [], ◌∷◌, length, Option, None, Some, ◌⊎◌, inl, inr, refl, sym, ap, subst, ◌∙◌, is_some, if◌then◌else◌, arith}
-use Rattle.std.specs.List.{All}
+use Rattle.std.proofs.Common.{◌≡◌, ℕ, ◌+◌, ◌-◌, ◌<◌, ◌≤◌, ◌||◌, Bool, true, false, cond, [], ◌∷◌, Option, None, Some, refl, sym, ap, subst, ◌∙◌, is_some, arith}
 use Rattle.std.proofs.lemmas.List.Elements.{All-cons, All-nil}
 use Rattle.std.proofs.lemmas.Cmp.{nat_cmp_total}
 use Rattle.std.specs.Ordering.{nat_cmp}
@@ -14,7 +13,7 @@ use Rattle.log_tables.specs.Kept.{Kept, frames_taken as kept_taken}
 use Rattle.log_tables.proofs.Counting.{gone, insert_removed, len_with}
 use Rattle.log_values.specs.Blocks as set
 use Rattle.log_values.specs.Log.{LogValue, Version}
-use Rattle.log_values.specs.Changes.{flushed_count, frames_taken, has_entry, is_flushed, version_of, with_freed}
+use Rattle.log_values.specs.Changes.{flushed_count, frames_taken, has_entry, is_flushed, most_unflushed, version_of, with_freed}
 use Rattle.log_values.proofs.Changing.{lists_sound}
 use Rattle.log_values.proofs.Fitting.{gone_fits}
 use Rattle.log_memory.specs.Inside.{IsLog, flush_in, log_in}
@@ -36,7 +35,7 @@ module _ (l : Inside) (h : IsLog l) where
   pub entry_is : (b : ℕ) → has_entry (log_in l) b ≡ (table.contains_key l.tables.live b || table.contains_key l.tables.flushed b)
   entry_is b = ap (λ (x : Bool). table.contains_key l.tables.live b || x) (flushed_is b)
 
-  flushed_counted : flushed_count (flush_in l) ≡ table.len l.tables.flushed
+  pub flushed_counted : flushed_count (flush_in l) ≡ table.len l.tables.flushed
   flushed_counted = by l.stage refl
     where
       by : (o : Option Stage) → l.stage ≡ o → flushed_count (flush_in l) ≡ table.len l.tables.flushed
@@ -78,6 +77,7 @@ module _ (l : Inside) (h : IsLog l) where
       sound = record {
         sound = lists_sound (log_in l) [] [] (b ∷ []) h.sound refl (All-nil (λ (w : Written). IsLoggable l.journal.block_size (logged w))) (let less = fewer b in let frames = h.sound.frames in omega arith);
         idle = h.idle;
+        few_changes = (let less = fewer b in let few = h.few_changes in omega arith);
         size = h.size;
         frames = h.frames;
         places = h.places;
@@ -94,10 +94,10 @@ module _ (l : Inside) (h : IsLog l) where
   with_one b v = ap (λ (m : table.FinMap nat_cmp Version). table.len m) (sym (insert_removed l.tables.fresh b v)) ∙ len_with (table.remove l.tables.fresh b) b v (gone l.tables.fresh b)
 
   pub put_gives : (w : Written) (lock : LockName) (tables : Kept) (revoked : Fixed (Unit {0})) → IsLoggable l.journal.block_size (logged w)
-      → frames_taken (record (log_in l) { fresh = table.remove l.tables.fresh w.block }) < l.journal.frames → tables ≡ record l.tables { fresh = table.insert l.tables.fresh w.block (version_of w lock) }
+      → table.len (table.remove l.tables.fresh w.block) + 1 < most_unflushed → frames_taken (record (log_in l) { fresh = table.remove l.tables.fresh w.block }) < l.journal.frames → tables ≡ record l.tables { fresh = table.insert l.tables.fresh w.block (version_of w lock) }
       → revoked ≡ record l.gone { at = set.remove l.gone.at w.block }
       → Gives (changed tables revoked) (record (log_in l) { fresh = table.insert l.tables.fresh w.block (version_of w lock); gone = set.remove l.gone.at w.block })
-  put_gives w lock tables revoked may room = beside (table.insert l.tables.fresh w.block (version_of w lock)) (set.remove l.gone.at w.block) sound tables revoked
+  put_gives w lock tables revoked may few room = beside (table.insert l.tables.fresh w.block (version_of w lock)) (set.remove l.gone.at w.block) sound tables revoked
     where
       sound : IsLog (changed (record l.tables { fresh = table.insert l.tables.fresh w.block (version_of w lock) }) (record l.gone { at = set.remove l.gone.at w.block }))
       sound = record {
@@ -105,6 +105,7 @@ module _ (l : Inside) (h : IsLog l) where
             (All-cons (λ (x : Written). IsLoggable l.journal.block_size (logged x)) w [] may (All-nil (λ (x : Written). IsLoggable l.journal.block_size (logged x))))
             (let more = with_one w.block (version_of w lock) in omega arith);
         idle = h.idle;
+        few_changes = (let more = with_one w.block (version_of w lock) in omega arith);
         size = h.size;
         frames = h.frames;
         places = h.places;

@@ -12,3 +12,16 @@ mod Rises
 mod Written
 mod Sufficing
 mod Questions
+mod RowsFound
+mod Resting
+mod LandingAll
+mod Counts
+mod Chunks
+mod Stages
+mod Oldest
+mod Left
+mod LandedLogs
+mod Listing
+mod Due
+mod Begun
+mod Answering

@@ -1,15 +1,16 @@
 -- A log that is new.
-use Rattle.std.proofs.Common.{◌≡◌, ℕ, ◌+◌, ◌<◌, ◌≤◌, true, List, [], length, map, filter, not, Option, None, Some, refl, sym, ap, subst, ◌∙◌, vec_capacity, Vec, Global, arith}
+use Rattle.std.proofs.Common.{◌≡◌, ℕ, ◌+◌, ◌<◌, ◌≤◌, true, List, [], length, map, filter, not, None, refl, sym, ap, subst, ◌∙◌, vec_capacity, Vec, Global, arith}
+use Rattle.std.specs.Ordering.{nat_cmp}
 use Rattle.std.specs.FinMap as table
 use Rattle.fixed_tables.specs.Fixed.{Fixed}
 use Rattle.log_tables.specs.Kept.{Kept, nothing_kept}
-use Rattle.log_values.specs.Blocks as set
 use Rattle.log_layout.specs.Chunks.{Logged}
 use Rattle.log_values.specs.Log.{LogValue, Version}
 use Rattle.log_values.specs.Laws.{IsJournal, empty_log}
 use Rattle.log_values.specs.Transactions.{logged_as}
 use Rattle.log_values.proofs.Keeping.{empty_sound}
 use Rattle.log_values.proofs.Landing.{no_entries}
+use Rattle.log_memory.specs.Empty.{no_rows}
 use Rattle.log_memory.specs.Inside.{AreKinds, IsLog, log_in}
 use Rattle.log_memory.specs.Rows.{row_of}
 use Rattle.log_memory.specs.Journals.{journal_in}
@@ -20,11 +21,7 @@ use Rattle.log_memory.specs.declared.log.Log.TheInside.{Inside}
 abbrev pub Gives : Inside → LogValue → Type 0
 Gives l log = IsLog l × (log_in l ≡ log)
 
--- a table that is empty
-abbrev pub no_rows : ℕ → Fixed (Unit {0})
-no_rows room = record { at = table.empty; room = room }
-
-none_inside : (P : ℕ → Type 0) (xs : List ℕ) → xs ≡ [] → (i : ℕ) → i < length xs → P i
+pub none_inside : (P : ℕ → Type 0) (xs : List ℕ) → xs ≡ [] → (i : ℕ) → i < length xs → P i
 none_inside P xs none i inside = absurd (impossible (subst (λ ys. i < length ys) none inside))
   where
     impossible : i < 0 → ⊥
@@ -78,6 +75,7 @@ module _ (journal : Journal) (head sequence : ℕ) (revokes content metadata : V
       sound = record {
         sound = empty_sound (journal_in journal) head sequence is inside;
         idle = λ _. (refl, refl);
+        few_changes = (let zero = table.len-empty nat_cmp Version in omega arith);
         size = refl;
         frames = refl;
         places = refl;

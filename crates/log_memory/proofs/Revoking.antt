@@ -1,5 +1,5 @@
 -- Which live blocks are to be revoked, row by row.
-use Rattle.std.proofs.Common.{◌≡◌, ℕ, zero, suc, ◌+◌, ◌<◌, ◌≤◌, ◌||◌, ◌&&◌, not, Bool, true, false, List, [], ◌∷◌, length, Option, None, Some, ◌⊎◌, inl, inr, refl, sym, ap, subst, ◌∙◌, true≢false, is_some, cond, slice_get, if◌then◌else◌, arith}
+use Rattle.std.proofs.Common.{◌≡◌, ℕ, zero, suc, ◌+◌, ◌<◌, ◌≤◌, ◌||◌, ◌&&◌, not, Bool, true, false, List, [], ◌∷◌, length, Option, Some, ◌⊎◌, inl, inr, refl, sym, ap, subst, ◌∙◌, true≢false, is_some, cond, slice_get, if◌then◌else◌, arith}
 use Rattle.std.proofs.lemmas.Bool.{cases_eq}
 use Rattle.std.proofs.lemmas.Cmp.{nat_cmp_total}
 use Rattle.std.specs.Ordering.{eq_by_cmp, nat_cmp}
@@ -108,12 +108,12 @@ row_revoked log mid new lock place same h inside step =
     gone_is = ap (λ (x : LogValue). x.gone) is
 
 -- the row of a number that has a value
-pub row_of : (es : List (ℕ × Entry)) (b : ℕ) → is_some (table.find nat_cmp b es) ≡ true → (i : ℕ) × (d : ℕ × Entry) × ((i < length es) × (slice_get es i ≡ Some d) × (d.0 ≡ b))
+pub row_of : {V : Type 0} (es : List (ℕ × V)) (b : ℕ) → is_some (table.find nat_cmp b es) ≡ true → (i : ℕ) × (d : ℕ × V) × ((i < length es) × (slice_get es i ≡ Some d) × (d.0 ≡ b))
 row_of [] b there = absurd (true≢false (sym there))
-row_of (d ∷ es) b there = by (cases_eq b d.0) (row_of es b)
+row_of {V} (d ∷ es) b there = by (cases_eq b d.0) (row_of es b)
   where
-    by : (b ≡ d.0) ⊎ (b ≡ d.0 → ⊥) → (is_some (table.find nat_cmp b es) ≡ true → (i : ℕ) × (x : ℕ × Entry) × ((i < length es) × (slice_get es i ≡ Some x) × (x.0 ≡ b)))
-        → (i : ℕ) × (x : ℕ × Entry) × ((i < length (d ∷ es)) × (slice_get (d ∷ es) i ≡ Some x) × (x.0 ≡ b))
+    by : (b ≡ d.0) ⊎ (b ≡ d.0 → ⊥) → (is_some (table.find nat_cmp b es) ≡ true → (i : ℕ) × (x : ℕ × V) × ((i < length es) × (slice_get es i ≡ Some x) × (x.0 ≡ b)))
+        → (i : ℕ) × (x : ℕ × V) × ((i < length (d ∷ es)) × (slice_get (d ∷ es) i ≡ Some x) × (x.0 ≡ b))
     by (inl is) later = (zero, d, (omega arith, refl, sym is))
     by (inr ne) later =
         let rest = later (ap (λ (t : Bool). is_some (cond t (Some d.1) (table.find nat_cmp b es))) (sym (untied table.nat_cmp-IsAntisymmetric b d.0 ne)) ∙ there) in

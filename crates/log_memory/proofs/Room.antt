@@ -49,3 +49,11 @@ next_frame log w l ws ls room =
     let more = inserted_len log.fresh w.block (version_of w l) in
     let grows = written_grows ws ls (table.insert log.fresh w.block (version_of w l)) in
     omega arith
+
+-- and one more change than there is without it
+pub next_change : (log : LogValue) (w : Written) (l : LockName) (ws : List Written) (ls : List LockName) (most : ℕ) → table.len (with_written_all log (w ∷ ws) (l ∷ ls)).fresh < most
+    → table.len (table.remove log.fresh w.block) + 1 < most
+next_change log w l ws ls most few =
+    let more = inserted_len log.fresh w.block (version_of w l) in
+    let grows = written_grows ws ls (table.insert log.fresh w.block (version_of w l)) in
+    omega arith

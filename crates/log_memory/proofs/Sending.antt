@@ -2,7 +2,7 @@
 use Rattle.std.proofs.Common.{◌≡◌, ◌≢◌, ℕ, ◌<◌, ◌≤◌, ◌&&◌, Bool, true, false, List, length, Option, None, Some, ◌⊎◌, inl, inr, refl, sym, ap, subst, ◌∙◌, true≢false, is_some, slice_get, get_or, arith}
 use Rattle.std.proofs.lemmas.Option.{get_or_from_slice_get}
 use Rattle.std.proofs.lemmas.Bool.{cases_lt}
-use Rattle.std.specs.Option.{option_copied, option_map}
+use Rattle.std.specs.Option.{option_map}
 use Rattle.std.specs.Ordering.{nat_cmp}
 use Rattle.std.specs.FinMap as table
 use Rattle.log_tables.specs.Kept.{Kept, away_bytes, flown, is_home, place_of_way, sent}
@@ -72,6 +72,7 @@ module _ (l : Inside) (h : IsLog l) (e : ℕ × Entry) (at : table.get l.tables.
       sound = record {
         sound = way_sound (log_in l) e.0 (Flying bytes) e.1 h.sound at (ap is_home away) (λ f is behind. no_some f (sym is ∙ none));
         idle = h.idle;
+        few_changes = h.few_changes;
         size = h.size;
         frames = h.frames;
         places = h.places;

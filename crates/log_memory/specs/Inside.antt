@@ -1,11 +1,12 @@
 -- What the fields of a log stand for, and what always holds of them.
-use Rattle.std.specs.Prelude.{◌≡◌, ◌+◌, ◌<◌, ◌≤◌, ℕ, List, map, length, slice_index, Option, None, Some, option_map, vec_capacity}
+use Rattle.std.specs.Prelude.{◌≡◌, ◌+◌, ◌<◌, ◌≤◌, ℕ, List, map, length, slice_index, Option, None, option_map, vec_capacity}
 use Rattle.std.specs.FinMap as table
 use Rattle.node_journal.specs.Encoding.{content_of, metadata_of}
 use Rattle.log_tables.specs.Kept.{Kept}
 use Rattle.log_values.specs.Blocks as set
 use Rattle.log_values.specs.Log.{Flush, LogValue, Stage}
 use Rattle.log_values.specs.Log.Stage.{Ending, Headed, Writing}
+use Rattle.log_values.specs.Changes.{most_unflushed}
 use Rattle.log_values.specs.Sound.{IsSoundLog}
 use Rattle.log_values.specs.Transactions.{transaction}
 use Rattle.log_memory.specs.Journals.{journal_in}
@@ -46,6 +47,8 @@ pub record IsLog (l : Inside) : Type 0 where
   pub sound : IsSoundLog (log_in l)
   -- where no flush was begun, none logs or revokes
   pub idle : l.stage ≡ None → (l.tables.flushed ≡ table.empty) × (l.revoked.at ≡ set.empty)
+  -- fewer blocks are changed than the part that isn't flushed may take of the journal, so an empty journal has room for them
+  pub few_changes : table.len l.tables.fresh < most_unflushed
   -- the tables are of the journal
   pub size : l.tables.size ≡ l.journal.block_size
   pub frames : l.tables.frames ≡ l.journal.frames

@@ -1,4 +1,6 @@
+pub mod Empty
 pub mod Rows
 pub mod Journals
 pub mod Inside
 pub mod Adding
+pub mod Flushing

@@ -5,7 +5,7 @@ ghost use Rattle.std.specs.FinMap as table;
 ghost use Rattle.glock_names.specs.declared.LockName.{LockName as LockValue};
 ghost use Rattle.log_values.specs.Blocks as set;
 ghost use Rattle.log_values.specs.Log.{LogValue, Version};
-ghost use Rattle.log_values.specs.Changes.{CanBeAdded, Suffices, frames_taken, has_entry, with_change};
+ghost use Rattle.log_values.specs.Changes.{CanBeAdded, Suffices, frames_taken, has_entry, most_unflushed, with_change};
 ghost use Rattle.log_values.specs.Sound.{IsSoundLog};
 ghost use Rattle.log_memory.specs.Adding.{CountsFor, IsAlike, IsAmong, counts_of, less, more, with_freed_all, with_written_all};
 
@@ -180,6 +180,7 @@ fn free_all(log: &mut Log, freed: &[u64])
 
 fn put_all(log: &mut Log, change: &Change)
     requires can { CanBeAdded log.old.journal.size change.now }
+    requires few { table.len (with_written_all log.old change.now.blocks.items change.now.locks.items).fresh < most_unflushed }
     requires room { frames_taken (with_written_all log.old change.now.blocks.items change.now.locks.items) ≤ log.old.journal.frames }
     ensures { log.new ≡ with_written_all log.old change.now.blocks.items change.now.locks.items }
 {

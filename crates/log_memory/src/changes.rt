@@ -1,10 +1,10 @@
 // What a change of a call does to the log, block by block.
-ghost use Rattle.std.specs.Prelude.{◌≡◌, ◌<◌, [], ◌∷◌, if◌then◌else◌};
+ghost use Rattle.std.specs.Prelude.{◌≡◌, ◌+◌, ◌<◌, [], ◌∷◌, if◌then◌else◌};
 ghost use Rattle.std.specs.FinMap as table;
 ghost use Rattle.journal_scan.specs.Said.{logged};
 ghost use Rattle.node_journal.specs.Written.{IsLoggable};
 ghost use Rattle.log_values.specs.Blocks as set;
-ghost use Rattle.log_values.specs.Changes.{frames_taken, has_entry, version_of, with_freed};
+ghost use Rattle.log_values.specs.Changes.{frames_taken, has_entry, most_unflushed, version_of, with_freed};
 
 use crate::log::Log;
 use drafts::Written;
@@ -40,6 +40,7 @@ pub(crate) fn free(log: &mut Log, block: u64)
 // A block is written.
 pub(crate) fn put(log: &mut Log, written: &Written, lock: LockName)
     requires loggable { IsLoggable log.old.journal.size (logged written.now) }
+    requires few { table.len (table.remove log.old.fresh written.now.block) + 1 < most_unflushed }
     requires room { frames_taken (record log.old { fresh = table.remove log.old.fresh written.now.block }) < log.old.journal.frames }
     ensures { log.new ≡ record log.old { fresh = table.insert log.old.fresh written.now.block (version_of written.now lock); gone = set.remove log.old.gone written.now.block } }
 {

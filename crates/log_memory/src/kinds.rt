@@ -18,6 +18,7 @@ pub enum Stage {
 }
 
 /// The blocks of a flush of one kind, by their places among all that it logs.
+#[derive(Drop)]
 pub(crate) struct Kind<'a> {
     pub tables: &'a Tables,
     pub places: &'a [u32],

@@ -2,13 +2,19 @@
 #![tactic(auto)]
 
 mod adding;
+mod beginning;
 mod changes;
+mod flushing;
 mod homing;
 mod journal;
 mod kinds;
+mod landing;
+mod lists;
 mod log;
+mod places;
 mod revokes;
 mod settling;
+mod tails;
 mod telling;
 
 pub use journal::Journal;

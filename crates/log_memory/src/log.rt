@@ -1,4 +1,7 @@
 // The log and its making.
+ghost use Rattle.std.specs.Prelude.{◌≡◌, IfOk};
+ghost use Rattle.log_memory.specs.Empty.{IsEmptyList, no_rows};
+
 use crate::journal::Journal;
 use crate::kinds::Stage;
 use fixed_tables::FixedTable;
@@ -39,6 +42,47 @@ impl Model for Log {
     ghost invariant = { IsLog };
 }
 
+// The blocks that are to be revoked, and those that the flush revokes that was begun.
+#[derive(Drop)]
+struct Sets {
+    gone: FixedTable<()>,
+    revoked: FixedTable<()>,
+}
+
+// Of the flush that was begun what it revokes, and the places of its rows of each kind.
+#[derive(Drop)]
+struct Lists {
+    revokes: Vec<u64>,
+    content: Vec<u32>,
+    metadata: Vec<u32>,
+}
+
+// Both sets are empty, and have room for so many blocks.
+fn empty_sets(alloc: Global, most: usize) -> Result<Sets, NoMemory>
+    ensures gone { IfOk result (λ s. s.gone ≡ no_rows most) }
+    ensures revoked { IfOk result (λ s. s.revoked ≡ no_rows most) }
+{
+    let gone = FixedTable::new(alloc, most)?;
+    let revoked = FixedTable::new(alloc, most)?;
+    Ok(Sets { gone, revoked })
+}
+
+// The lists are empty, and have room for so many revokes, and for so many rows of each kind.
+fn empty_lists(alloc: Global, most_revokes: usize, most: usize) -> Result<Lists, NoMemory>
+    ensures revokes { IfOk result (λ l. IsEmptyList l.revokes most_revokes) }
+    ensures content { IfOk result (λ l. IsEmptyList l.content most) }
+    ensures metadata { IfOk result (λ l. IsEmptyList l.metadata most) }
+{
+    let revokes = Vec::with_capacity(alloc, most_revokes)?;
+    let content = Vec::with_capacity(alloc, most)?;
+    let metadata = Vec::with_capacity(alloc, most)?;
+    Ok(Lists {
+        revokes,
+        content,
+        metadata,
+    })
+}
+
 impl Log {
     ghost use Rattle.std.specs.Prelude.{◌≡◌, ◌<◌, ◌≤◌, IfOk};
     ghost use Rattle.log_values.specs.Laws.{IsJournal, empty_log};
@@ -54,11 +98,12 @@ impl Log {
         let tables = Tables::new(alloc, journal.frames, journal.block_size, journal.length)?;
         let frames = journal.frames as usize;
         let most_revokes = frames + journal.length as usize;
-        let gone = FixedTable::new(alloc, most_revokes)?;
-        let revoked = FixedTable::new(alloc, most_revokes)?;
-        let revokes = Vec::with_capacity(alloc, most_revokes)?;
-        let content = Vec::with_capacity(alloc, frames)?;
-        let metadata = Vec::with_capacity(alloc, frames)?;
+        let Sets { gone, revoked } = empty_sets(alloc, most_revokes)?;
+        let Lists {
+            revokes,
+            content,
+            metadata,
+        } = empty_lists(alloc, most_revokes, frames)?;
         Ok(Log {
             journal,
             head,

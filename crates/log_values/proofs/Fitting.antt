@@ -30,12 +30,18 @@ module _ (log : LogValue) (sound : IsSoundLog log) where
       by None at there = absurd (true≢false (sym there))
       by (Some e) at there = to_only passes log.live b e at (each_passes (behind_tail log e.first))
 
-  pub live_fits : table.len log.live < log.journal.length
-  live_fits =
+  -- no more blocks are live than places are behind the tail
+  pub live_used : table.len log.live ≤ used log
+  live_used =
       let all = within_both log.live (only passes log.live) nothing (λ b there. inl (passing b there)) in
       let none = table.len-empty nat_cmp Version in
       let count = count-only passes log.live in
       let room : live_from log 0 + 0 ≤ used log = sound.room 0 (omega arith) in
+      omega arith
+
+  pub live_fits : table.len log.live < log.journal.length
+  live_fits =
+      let few = live_used in
       let below : used log < log.journal.length = way_below log.journal.length log.tail log.head sound.tail sound.head in
       omega arith
 

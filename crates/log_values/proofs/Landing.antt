@@ -2,21 +2,19 @@
 use Rattle.std.proofs.Common.{◌≡◌, ℕ, suc, ◌+◌, ◌-◌, ◌<◌, ◌≤◌, Bool, true, false, cond, not, ◌||◌, ◌&&◌, List, [], ◌∷◌, map, length, Option, None, Some, ◌⊎◌, inl, inr, refl, sym, ap, subst, ◌∙◌, true≢false, is_some, if◌then◌else◌, nat_lt, nat_le, arith}
 use Rattle.std.proofs.lemmas.Bool.{cases_lt}
 use Rattle.std.proofs.lemmas.Bool.Decides.{leb_tells}
-use Rattle.std.proofs.lemmas.Cmp.{nat_cmp_total, ranked}
-use Rattle.std.specs.declared.cmp.Ordering.TheVariants.{Equal}
+use Rattle.std.proofs.lemmas.Cmp.{nat_cmp_total}
 use Rattle.std.proofs.lemmas.List.{length-map}
-use Rattle.std.specs.List.{count_by, filter, list_any}
-use Rattle.std.specs.Ordering.{eq_by_cmp, nat_cmp}
+use Rattle.std.specs.List.{count_by, filter}
+use Rattle.std.specs.Ordering.{nat_cmp}
 use Rattle.std.specs.FinMap as table
 use Rattle.log_values.specs.Blocks as set
-use Rattle.log_values.proofs.BlocksHad.{contains-empty, contains-retain}
+use Rattle.log_values.proofs.BlocksHad.{contains-retain}
 use Rattle.gfs2_layout.specs.Device.{IsBlockSize}
 use Rattle.log_layout.specs.Chunks.{Logged, Transaction, content_room, numbers_room}
 use Rattle.log_layout.specs.Journal.{way}
 use Rattle.node_journal.specs.Encoding.{chunks, content_of, metadata_of, size_of}
 use Rattle.node_journal.proofs.Lengths.{chunks_length}
 use Rattle.node_journal.proofs.Pieces.{none_counted, rooms}
-use Rattle.finite_maps.proofs.Keys.{tied}
 use Rattle.fixed_tables.specs.Fixed.{left_by}
 use Rattle.log_tables.specs.Kept.{away_count, is_home}
 use Rattle.log_tables.specs.Versions.Way.{Away}
@@ -54,7 +52,7 @@ blocks_fit log f sound =
     enough k c m x y r n p q = omega arith
 
 -- nothing takes no chunk
-no_list : {A : Type 0} (xs : List A) → length xs ≡ 0 → xs ≡ []
+pub no_list : {A : Type 0} (xs : List A) → length xs ≡ 0 → xs ≡ []
 no_list [] e = refl
 no_list (x ∷ xs) e = absurd (omega arith)
 

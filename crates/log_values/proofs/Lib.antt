@@ -9,3 +9,5 @@ pub mod Changing
 pub mod Fitting
 pub mod Resting
 pub mod Growing
+pub mod Tails
+pub mod Rooms

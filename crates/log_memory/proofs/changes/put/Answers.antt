@@ -1,11 +1,11 @@
-use Rattle.std.proofs.Common.{◌≡◌, ◌<◌, ℕ, List, sym, ap, subst, ◌∙◌}
+use Rattle.std.proofs.Common.{◌+◌, ◌<◌, ℕ, List, sym, ap, subst, ◌∙◌}
 use Rattle.std.specs.FinMap as table
 use Rattle.journal_scan.specs.Said.{logged}
 use Rattle.node_journal.specs.Written.{IsLoggable}
 use Rattle.log_tables.specs.Kept.{Kept}
 use Rattle.log_values.specs.Blocks as set
 use Rattle.log_values.specs.Log.{LogValue}
-use Rattle.log_values.specs.Changes.{frames_taken, version_of}
+use Rattle.log_values.specs.Changes.{frames_taken, most_unflushed, version_of}
 use Rattle.log_memory.specs.Inside.{log_in}
 use Rattle.log_memory.proofs.Blocks.{changed, frame_left, put_gives}
 use Rattle.log_memory.proofs.NewLogs.{Gives}
@@ -23,6 +23,7 @@ written : (c : After-put) → Gives (changed c.log.inside c.log.invariant c.put.
 written c =
     put_gives c.log.inside c.log.invariant c.args.written.now c.args.lock c.put.new.self c.take.new.self
     (subst (λ (log : LogValue). IsLoggable log.journal.size (logged c.args.written.now)) (sym c.log.view_is) c.requires.loggable)
+    (subst (λ (log : LogValue). table.len (table.remove log.fresh c.args.written.now.block) + 1 < most_unflushed) (sym c.log.view_is) c.requires.few)
     (subst (λ (log : LogValue). frames_taken (record log { fresh = table.remove log.fresh c.args.written.now.block }) < log.journal.frames) (sym c.log.view_is) c.requires.room)
     (c.put.ensures ∙ ap (λ (bytes : List ℕ). let k : Kept = record c.log.inside.tables { fresh = table.insert c.log.inside.tables.fresh c.args.written.now.block (record { lock = c.args.lock; plain = c.args.written.now.plain; bytes = bytes }) } in k) c.bytes.ensures)
     c.take.ensures.is

@@ -1,6 +1,6 @@
-use Rattle.std.proofs.Common.{◌≡◌, ◌<◌, ℕ, length, sym, ap, subst, ◌∙◌, arith}
+use Rattle.std.proofs.Common.{◌<◌, length, sym, ap, ◌∙◌, arith}
 use Rattle.std.specs.FinMap as table
-use Rattle.log_values.specs.Log.{Entry, LogValue}
+use Rattle.log_values.specs.Log.{LogValue}
 use Rattle.log_memory.proofs.RowsRead.{entry_at}
 use Rattle.log_memory.proofs.homing.first_that_goes.Goals as goal
 

@@ -1,5 +1,4 @@
-use Rattle.std.proofs.Common.{◌≡◌, ◌<◌, ℕ, None, Some, slice_get, sym, ap, ◌∙◌, subst}
-use Rattle.std.specs.Ordering.{nat_cmp}
+use Rattle.std.proofs.Common.{◌≡◌, ◌<◌, ℕ, Some, slice_get, sym, ap, ◌∙◌, subst}
 use Rattle.std.specs.FinMap as table
 use Rattle.log_tables.specs.Kept.{Kept, flown}
 use Rattle.log_tables.specs.Versions.Way.{Flying}
@@ -8,7 +7,7 @@ use Rattle.log_values.specs.Log.{Entry, LogValue}
 use Rattle.log_memory.specs.Inside.{log_in}
 use Rattle.log_memory.proofs.NewLogs.{Gives}
 use Rattle.log_memory.proofs.RowsRead.{entry_at}
-use Rattle.log_memory.proofs.Sending.{on_its_way, sends}
+use Rattle.log_memory.proofs.Sending.{sends}
 use Rattle.log_memory.proofs.homing.send.Goals as goal
 use Rattle.log_memory.proofs.homing.send.Goals.{After-fly}
 

@@ -2,7 +2,6 @@ use Rattle.std.proofs.Common.{◌||◌, Bool, sym, ap, ◌∙◌}
 use Rattle.log_values.specs.Log.{LogValue}
 use Rattle.log_values.specs.Changes.{is_flushed}
 use Rattle.log_memory.proofs.Blocks.{flushed_is}
-use Rattle.log_memory.proofs.Revoking.{newer}
 use Rattle.log_memory.proofs.revokes.has_newer.Goals as goal
 
 pub returns-else-is_fresh : goal.returns-else-is_fresh

@@ -1,8 +1,8 @@
-use Rattle.std.proofs.Common.{◌≡◌, ◌&&◌, not, ℕ, Bool, true, false, Some, slice_get, sym, ap, subst, ◌∙◌}
+use Rattle.std.proofs.Common.{◌≡◌, ◌&&◌, not, Bool, true, false, Some, slice_get, sym, ap, subst, ◌∙◌}
 use Rattle.std.specs.FinMap as table
 use Rattle.glock_names.specs.LockMaps.{same_lock}
 use Rattle.log_tables.proofs.Reading.{row_gets}
-use Rattle.log_values.specs.Log.{Entry, LogValue}
+use Rattle.log_values.specs.Log.{LogValue}
 use Rattle.log_memory.proofs.Revoking.{newer, revoke_is}
 use Rattle.log_memory.proofs.revokes.is_to_revoke.Goals as goal
 

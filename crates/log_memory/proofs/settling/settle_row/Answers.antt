@@ -1,4 +1,4 @@
-use Rattle.std.proofs.Common.{◌≡◌, ◌<◌, ℕ, true, false, Some, slice_get, sym, ap, ◌∙◌, subst}
+use Rattle.std.proofs.Common.{◌≡◌, ◌<◌, ℕ, Some, slice_get, sym, ap, ◌∙◌, subst}
 use Rattle.std.specs.Ordering.{nat_cmp}
 use Rattle.std.specs.FinMap as table
 use Rattle.log_tables.specs.Kept.{Kept, rested}
@@ -6,7 +6,6 @@ use Rattle.log_tables.proofs.Reading.{row_gets}
 use Rattle.log_values.specs.Log.{Entry, LogValue, Way}
 use Rattle.log_values.specs.Flushing.{settled_way}
 use Rattle.log_memory.specs.Inside.{log_in}
-use Rattle.log_memory.specs.Rows.{is_flying}
 use Rattle.log_memory.proofs.NewLogs.{Gives}
 use Rattle.log_memory.proofs.RowsRead.{entry_at}
 use Rattle.log_memory.proofs.Barriers.{resting, same_insert, settles_it}

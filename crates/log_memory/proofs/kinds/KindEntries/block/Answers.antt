@@ -1,4 +1,4 @@
-use Rattle.std.proofs.Common.{◌≡◌, ◌<◌, ap, sym, subst, ◌∙◌, get_or}
+use Rattle.std.proofs.Common.{◌<◌, ap, sym, subst, ◌∙◌, get_or}
 use Rattle.std.proofs.lemmas.List.{length-map}
 use Rattle.log_layout.specs.Chunks.{Logged}
 use Rattle.log_memory.specs.Rows.{row_of}

@@ -1,4 +1,4 @@
-use Rattle.std.proofs.Common.{◌≡◌, ◌<◌, ℕ, ap, sym, subst, ◌∙◌, arith}
+use Rattle.std.proofs.Common.{◌<◌, ap, ◌∙◌, arith}
 use Rattle.std.specs.FinMap as table
 use Rattle.log_values.specs.Log.{LogValue}
 use Rattle.log_memory.proofs.Barriers.{all_settled, row_settled}
