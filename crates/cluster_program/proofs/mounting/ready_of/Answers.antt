@@ -37,6 +37,9 @@ returns-then-not-are_groups-clause-ends g c first now =
     subst (λ (b : ℕ). MountEnds d first now (status.Damaged b 18)) (sym place)
     (odd_groups d c.args.mounted c.what_stands_breaks_nothing.ensures c.replays_keep_system_files.ensures.kept (image_there d c.blocks-2.ensures.sound c.requires.size) c.requires.mounted c.requires.alike c.mounted_groups_are_as_seen.ensures odd first now)
 
+pub returns-then-not-are_groups-clause-image : goal.returns-then-not-are_groups-clause-image
+returns-then-not-are_groups-clause-image g c = image_there (g.D.SharedDisk.state c.args.disk.now) c.blocks-2.ensures.sound c.requires.size
+
 module _ (g : Over) (c : goal.After-drop-mounted-inside-in-Some g) where
   is : c.new-view.result ≡ as_mounted (g.D.SharedDisk.state c.args.disk.now) c.args.mounted
   is = search rules
