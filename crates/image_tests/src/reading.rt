@@ -289,6 +289,28 @@ const IMAGE: [Part; 151] = [
     (81_975, b"\xa1\x00\x00\x00\x04\x00\x00\x00\x01"),
 ];
 
+// A journal of four places instead, outside of the profile: behind the header there is a transaction of one block, the root, with the name `b` where the image has `a`.
+const DIRTY: [Part; 15] = [
+    (65_563, b"\x08"),
+    (66_079, b"\x04"),
+    (66_181, b"_"),
+    (68_670, b"\x08"),
+    (68_679, b"\x05"),
+    (68_863, b"\x98\x00\x00\x00\x00\x00\x00\x00\x99"),
+    (69_632, b"\x01\x16\x19p\x00\x00\x00\x09"),
+    (69_650, b"\x03\x84"),
+    (69_658, b"\x01,\x00\x00\x00\x02\x00\x00\x00\x01"),
+    (69_711, b"\x83"),
+    (78_168, b"q\xbe\xef\xf9"),
+    (78_192, b"b"),
+    (78_336, b"\x01\x16\x19p\x00\x00\x00\x08"),
+    (78_354, b"\x03 "),
+    (
+        78_367,
+        b"\x02\x00\x00\x00\x00\x00\x00\x00\x01\x00\x00\x00\x03r\xf8\x13\x1f",
+    ),
+];
+
 const BROKEN: [(&[Part], u64, u16); 33] = [
     (&[(65_539, b"q")], 128, 1),
     (&[(66_055, b"\x03")], 129, 1),
@@ -432,6 +454,23 @@ fn an_image_outside_of_the_profile_is_read(rt: HostRuntime) -> Result<(), Fail> 
     assert!(rt; !tree.lacks(b"a"));
     assert!(rt; !tree.lacks(b"h"));
     assert!(rt; tree.lacks(b"b"));
+    Ok(())
+}
+
+// What its journal says is in place, though none of it is at home.
+#[test]
+fn a_dirty_journal_is_replayed_outside_of_the_profile(rt: HostRuntime) -> Result<(), Fail> {
+    let mut bytes = bytes_of(rt.alloc(), &[])?;
+    let mut root = [0u8; 512];
+    root.copy_from_slice(&bytes[67_072..67_584]);
+    bytes[77_824..78_336].copy_from_slice(&root);
+    lay(&mut bytes, &DIRTY);
+    let Ok(tree) = read_replayed_image(rt.alloc(), 512, bytes) else {
+        return Err(Fail::from("no tree"));
+    };
+    assert!(rt; !tree.lacks(b"b"));
+    assert!(rt; tree.lacks(b"a"));
+    assert!(rt; !tree.lacks(b"h"));
     Ok(())
 }
 
