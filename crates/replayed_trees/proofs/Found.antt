@@ -35,7 +35,7 @@ use Rattle.replay_looks.specs.declared.faults.LookFault.{LookFault}
 use Rattle.replay_looks.specs.declared.faults.LookFault.TheVariants as look
 use Rattle.replay_marks.specs.declared.marks.Mark.{Mark}
 use Rattle.shared_disk.specs.Disk.{DiskState}
-use Rattle.replayed_trees.specs.Answers.{GivesTree, HasNoSystem, IfBroken, IfDamaged, IsTold, IsUnreadable, broken, of_look, of_tree, stopped}
+use Rattle.replayed_trees.specs.Answers.{GivesTree, HasNoSystem, IfBroken, IfDamaged, IfDamagedAsItLies, IsTold, IsToldAsItLies, IsUnreadable, broken, of_look, of_tree, stopped}
 use Rattle.replayed_trees.specs.Marking.{AreMarked}
 use Rattle.replayed_trees.specs.Planning.{AreInside, StopsReplay, by_live, headless}
 use Rattle.replayed_trees.specs.declared.unread.Unread.{Unread}
@@ -208,27 +208,54 @@ module _ (size : ℕ) (bytes seen seen2 : List ℕ) (seen_is : seen ≡ bytes) (
 pub sharing : (im : Image) (t : Tree) (is : StandsReplayed im t) → ReplayedShareTheirSystem → HasSameSystem is.replayed im
 sharing im t is law = law im is.replayed is.stands.owners is.layout is.stands.layout is.is is.stands.laid
 
-pub lies_told : (im : Image) (u : Unread) → HasNoSystem im → IfDamaged u (λ block rule. IsBrokenBlock im rule block) → IfDamaged u (IsTold im)
-lies_told im (unread.Damaged block rule) none told = inl (none, told)
+pub lies_told : (im : Image) (u : Unread) → HasNoSystem im → IfDamagedAsItLies u (λ block rule. IsBrokenBlock im rule block) → IfDamagedAsItLies u (IsToldAsItLies im)
+lies_told im (unread.Damaged block rule) none told = tt
+lies_told im (unread.DamagedAsItLies block rule) none told = record { none = none; broken = told }
 lies_told im unread.Broken none told = tt
 lies_told im unread.NoMemory none told = tt
 
+pub untold : (im : Image) (u : Unread) → IfDamaged u (λ block rule. ⊥) → IfDamaged u (IsTold im)
+untold im (unread.Damaged block rule) none = absurd none
+untold im (unread.DamagedAsItLies block rule) none = tt
+untold im unread.Broken none = tt
+untold im unread.NoMemory none = tt
+
 pub lies_broken : (im : Image) (u : Unread) → HasNoSystem im → IfBroken u (HasNoSystem im)
 lies_broken im (unread.Damaged block rule) none = tt
+lies_broken im (unread.DamagedAsItLies block rule) none = tt
 lies_broken im unread.Broken none = none
 lies_broken im unread.NoMemory none = tt
 
 pub by_told : (im : Image) (result : Result Tree Unread) → IfErr result (λ u. ((r : Image) (o : Owners) (l : Layout) → HasSameSystem r im → IsLaid r o l → IfDamaged u (IsUnreadable im l))) → IfErr result (λ u. IfDamaged u (IsTold im))
 by_told im (Ok t) told = tt
-by_told im (Err (unread.Damaged block rule)) told = inr told
+by_told im (Err (unread.Damaged block rule)) told = told
+by_told im (Err (unread.DamagedAsItLies block rule)) told = tt
 by_told im (Err unread.Broken) told = tt
 by_told im (Err unread.NoMemory) told = tt
 
 pub never_broken : (im : Image) (result : Result Tree Unread) → IfErr result (λ u. IfBroken u ⊥) → IfErr result (λ u. IfBroken u (HasNoSystem im))
 never_broken im (Ok t) told = tt
 never_broken im (Err (unread.Damaged block rule)) told = tt
+never_broken im (Err (unread.DamagedAsItLies block rule)) told = tt
 never_broken im (Err unread.Broken) told = absurd told
 never_broken im (Err unread.NoMemory) told = tt
+
+pub never_lies : (im : Image) (result : Result Tree Unread) → IfErr result (λ u. IfDamagedAsItLies u (λ block rule. ⊥)) → IfErr result (λ u. IfDamagedAsItLies u (IsToldAsItLies im))
+never_lies im (Ok t) told = tt
+never_lies im (Err (unread.Damaged block rule)) told = tt
+never_lies im (Err (unread.DamagedAsItLies block rule)) told = absurd told
+never_lies im (Err unread.Broken) told = tt
+never_lies im (Err unread.NoMemory) told = tt
+
+pub look_not_lying : (f : LookFault) → IfDamagedAsItLies (of_look f) (λ block rule. ⊥)
+look_not_lying (look.Damaged block rule) = tt
+look_not_lying (look.DiskFailed block rise) = tt
+look_not_lying look.NoMemory = tt
+
+pub tree_not_lying : (f : TreeFault) → IfDamagedAsItLies (of_tree f) (λ block rule. ⊥)
+tree_not_lying (tree.Damaged block rule) = tt
+tree_not_lying (tree.DiskFailed block rise) = tt
+tree_not_lying tree.NoMemory = tt
 
 pub err_so : {A : Type 0} (result : Result A Unread) (P Q : Unread → Type 0) → ((u : Unread) → P u → Q u) → IfErr result P → IfErr result Q
 err_so (Ok a) P Q so is = tt

@@ -1,5 +1,5 @@
 -- What reading the tree of an image, its journals replayed, answers.
-use Rattle.std.specs.Prelude.{ℕ, ◌≡◌, ◌⊎◌, ◌<◌, ⊤, Result, Ok, Err}
+use Rattle.std.specs.Prelude.{ℕ, ◌≡◌, ◌<◌, ⊤, Result, Ok, Err}
 use Rattle.fault_counts.specs.Causes.{WentUp}
 use Rattle.file_tree.specs.Tree.{Tree}
 use Rattle.disk_trees.specs.Reading.{ending}
@@ -17,12 +17,13 @@ use Rattle.replay_looks.specs.declared.faults.LookFault.{LookFault}
 use Rattle.replay_looks.specs.declared.faults.LookFault.TheVariants as look
 use Rattle.replayed_trees.specs.Planning.{StopsReplay}
 use Rattle.replayed_trees.specs.declared.unread.Unread.{Unread}
-use Rattle.replayed_trees.specs.declared.unread.Unread.TheVariants.{Damaged, Broken, NoMemory}
+use Rattle.replayed_trees.specs.declared.unread.Unread.TheVariants.{Damaged, DamagedAsItLies, Broken, NoMemory}
 
 -- exactly this tree, unless there was no memory
 abbrev pub GivesTree : Tree → Result Tree Unread → Type 0
 GivesTree t (Ok given) = given ≡ t
 GivesTree t (Err (Damaged block rule)) = ⊥
+GivesTree t (Err (DamagedAsItLies block rule)) = ⊥
 GivesTree t (Err Broken) = ⊥
 GivesTree t (Err NoMemory) = ⊤
 
@@ -37,20 +38,33 @@ pub data IsUnreadable (im : Image) (l : Layout) (b rule : ℕ) : Type 0 where
   stopped : StopsReplay im l rule b → b < im.count → IsUnreadable im l b rule
   broken : (replayed : Image) → Replayed im l replayed → IsBrokenBlock (ending replayed) rule b → IsUnreadable im l b rule
 
--- What is told of a block: it breaks the rule in the image as it lies, and that has the system files of no image that stands; or, where it has those of one that stands, it stops the replay of the
--- journals, or breaks the rule once they are replayed.
+-- What is told of a block, where the system files are those of an image that stands: it stops the replay of the journals, or breaks the rule once they are replayed.
 abbrev pub IsTold : Image → ℕ → ℕ → Type 0
-IsTold im b rule = (HasNoSystem im × IsBrokenBlock im rule b) ⊎ ((r : Image) (o : Owners) (l : Layout) → HasSameSystem r im → IsLaid r o l → IsUnreadable im l b rule)
+IsTold im b rule = (r : Image) (o : Owners) (l : Layout) → HasSameSystem r im → IsLaid r o l → IsUnreadable im l b rule
+
+-- What is told of a block, where the journals weren't replayed: the system files are those of no image that stands, and the image as it lies breaks the rule there.
+pub record IsToldAsItLies (im : Image) (b rule : ℕ) : Type 0 where
+  pub none : HasNoSystem im
+  pub broken : IsBrokenBlock im rule b
 
 -- a fact for a block that is told, with its rule
 abbrev pub IfDamaged : Unread → (ℕ → ℕ → Type 0) → Type 0
 IfDamaged (Damaged block rule) P = P block rule
+IfDamaged (DamagedAsItLies block rule) P = ⊤
 IfDamaged Broken P = ⊤
 IfDamaged NoMemory P = ⊤
+
+-- one for a block that is told of the image as it lies
+abbrev pub IfDamagedAsItLies : Unread → (ℕ → ℕ → Type 0) → Type 0
+IfDamagedAsItLies (Damaged block rule) P = ⊤
+IfDamagedAsItLies (DamagedAsItLies block rule) P = P block rule
+IfDamagedAsItLies Broken P = ⊤
+IfDamagedAsItLies NoMemory P = ⊤
 
 -- and one where no rule is told
 abbrev pub IfBroken : Unread → Type 0 → Type 0
 IfBroken (Damaged block rule) P = ⊤
+IfBroken (DamagedAsItLies block rule) P = ⊤
 IfBroken Broken P = P
 IfBroken NoMemory P = ⊤
 
@@ -89,5 +103,5 @@ of_tree tree.NoMemory = NoMemory
 
 -- or of the image as it lies
 abbrev pub of_read : ImageFault → Unread
-of_read (image.Damaged block rule) = Damaged block rule
+of_read (image.Damaged block rule) = DamagedAsItLies block rule
 of_read image.NoMemory = NoMemory

@@ -9,7 +9,7 @@ ghost use Rattle.image_model.specs.Replays.{HasItsJournals, IsReplayable, Replay
 ghost use Rattle.image_model.specs.Rules.{IsBrokenBlock};
 ghost use Rattle.image_model.specs.Stands.{IsLaid, Layout, Stands};
 ghost use Rattle.image_model.specs.SystemFiles.{HasSameSystem};
-ghost use Rattle.replayed_trees.specs.Answers.{GivesTree, HasNoSystem, IfBroken, IfDamaged, IsTold, IsUnreadable};
+ghost use Rattle.replayed_trees.specs.Answers.{GivesTree, HasNoSystem, IfBroken, IfDamaged, IfDamagedAsItLies, IsTold, IsToldAsItLies, IsUnreadable};
 ghost use Rattle.replayed_trees.specs.Marking.{AreMarked};
 ghost use Rattle.replayed_trees.specs.Planning.{AreInside};
 
@@ -30,7 +30,8 @@ use sure_disk::SureDisk;
 fn told_as_it_lies(alloc: Global, block_size: u32, bytes: Vec<u8>) -> Unread
     requires size { IsBlockSize block_size }
     requires whole { length bytes.items % block_size ≡ 0 }
-    ensures { IfDamaged result (λ block rule. IsBrokenBlock (image_in block_size bytes.items) rule block) }
+    ensures lies { IfDamagedAsItLies result (λ block rule. IsBrokenBlock (image_in block_size bytes.items) rule block) }
+    ensures damaged { IfDamaged result (λ block rule. ⊥) }
 {
     let image = Image {
         block_size,
@@ -59,6 +60,7 @@ fn read_by(
         → IsReplayable (image_in block_size bytes.items) l) }
     ensures damaged { IfErr result (λ unread. (l : Layout) → HasItsJournals (image_in block_size bytes.items) l → AreJournals (image_in block_size bytes.items) l journals.now → AreMarked (image_in block_size bytes.items) l marks
         → AreInside (length bytes.items / block_size) journals.now → IfDamaged unread (IsUnreadable (image_in block_size bytes.items) l)) }
+    ensures lies { IfErr result (λ unread. IfDamagedAsItLies unread (λ block rule. ⊥)) }
     ensures broken { IfErr result (λ unread. IfBroken unread ⊥) }
 {
     stopped_images_have_no_replay();
@@ -85,8 +87,10 @@ pub fn read_replayed_image(alloc: Global, block_size: u32, bytes: Vec<u8>) -> Re
     ensures stands { (t : Tree) → StandsReplayed (image_in block_size bytes.items) t → GivesTree t result }
     // Where there is a tree, and the system files are those of an image that stands, the journals can be replayed.
     ensures replayable { IfOk result (λ tree. (r : ImageValue) (o : Owners) (l : Layout) → HasSameSystem r (image_in block_size bytes.items) → IsLaid r o l → IsReplayable (image_in block_size bytes.items) l) }
-    // A block that is told breaks its rule.
+    // A block that is told stops the replay, or breaks its rule once the journals are replayed.
     ensures damaged { IfErr result (λ unread. IfDamaged unread (IsTold (image_in block_size bytes.items))) }
+    // Or it breaks its rule in the image as it lies, and then the system files are those of no image that stands.
+    ensures lies { IfErr result (λ unread. IfDamagedAsItLies unread (IsToldAsItLies (image_in block_size bytes.items))) }
     // No rule is told only where the system files are those of no image that stands.
     ensures broken { IfErr result (λ unread. IfBroken unread (HasNoSystem (image_in block_size bytes.items))) }
 {

@@ -8,9 +8,10 @@ use replay_looks::LookFault;
 /// Why the tree of an image was not read.
 #[derive(Clone, Copy, Debug, PartialEq, Eq)]
 pub enum Unread {
-    /// The image stands for no tree. The block and the rule are what stopped the replay, or what was told of the image with the journals' blocks in place;
-    /// or, where the system files are those of no image that stands, of the image as it lies.
+    /// The image stands for no tree. The block and the rule are what stopped the replay, or what was told of the image with the journals' blocks in place.
     Damaged { block: u64, rule: u16 },
+    /// The image stands for no tree: its system files are those of no image that stands, so its journals weren't replayed. As it lies, it breaks the rule at the block.
+    DamagedAsItLies { block: u64, rule: u16 },
     /// The image stands for no tree: its system files are those of no image that stands. No rule is told.
     Broken,
     /// There was no memory.
@@ -46,7 +47,7 @@ pub(crate) fn of_read(fault: ImageFault) -> Unread
     ensures { result ≡ of_read_fault fault }
 {
     match fault {
-        ImageFault::Damaged { block, rule } => Unread::Damaged { block, rule },
+        ImageFault::Damaged { block, rule } => Unread::DamagedAsItLies { block, rule },
         ImageFault::NoMemory => Unread::NoMemory,
     }
 }

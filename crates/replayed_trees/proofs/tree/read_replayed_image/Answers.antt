@@ -1,6 +1,6 @@
 use Rattle.image_model.specs.Image.{image_in}
 use Rattle.replayed_trees.specs.Answers.{HasNoSystem}
-use Rattle.replayed_trees.proofs.Found.{all_found, by_layout, by_told, err_so, lies_broken, lies_told, no_system, ok_so, sharing}
+use Rattle.replayed_trees.proofs.Found.{all_found, by_layout, by_told, err_so, lies_broken, lies_told, no_system, ok_so, sharing, untold}
 use Rattle.replayed_trees.proofs.tree.read_replayed_image.Goals as goal
 
 pub returns-in-Err-Broken-first_marks-clause-stands : goal.returns-in-Err-Broken-first_marks-clause-stands
@@ -12,12 +12,15 @@ returns-in-Err-Broken-first_marks-clause-stands c t is =
     absurd (none is.replayed is.stands.owners is.stands.layout (sharing im t is c.standing_replays_share_their_system.ensures) is.stands.laid)
 
 pub returns-in-Err-Broken-first_marks-clause-damaged : goal.returns-in-Err-Broken-first_marks-clause-damaged
-returns-in-Err-Broken-first_marks-clause-damaged c =
+returns-in-Err-Broken-first_marks-clause-damaged c = untold (image_in c.args.block_size c.args.bytes.items) c.told_as_it_lies-in-Err-Broken-first_marks.result c.told_as_it_lies-in-Err-Broken-first_marks.ensures.damaged
+
+pub returns-in-Err-Broken-first_marks-clause-lies : goal.returns-in-Err-Broken-first_marks-clause-lies
+returns-in-Err-Broken-first_marks-clause-lies c =
     let im = image_in c.args.block_size c.args.bytes.items in
     lies_told im c.told_as_it_lies-in-Err-Broken-first_marks.result
     (no_system c.args.block_size c.args.bytes.items c.deref.result.now c.deref-2.result.now c.deref.ensures.value c.deref-2.ensures.value c.in-Ok.journals.items c.deref-3.result.now c.deref-3.ensures.value c.in-Ok.ensures
     c.in-Err-Broken-first_marks.field-0 c.in-Err-Broken-first_marks.field-0-is c.in-Err-Broken-first_marks.ensures.marks)
-    c.told_as_it_lies-in-Err-Broken-first_marks.ensures
+    c.told_as_it_lies-in-Err-Broken-first_marks.ensures.lies
 
 pub returns-in-Err-Broken-first_marks-clause-broken : goal.returns-in-Err-Broken-first_marks-clause-broken
 returns-in-Err-Broken-first_marks-clause-broken c =
