@@ -79,14 +79,14 @@ is_clean_head (Some head) = head.clean
 abbrev pub is_clean_in : Image → Journal → Bool
 is_clean_in im journal = is_clean_head (head_in (ring_of (every im journal.dinode)))
 
--- a damage that the system files show: it is told rightly of each image, whole in its layout, that has them as they are here
+-- A damage of the system files: it is told rightly of each image, whole in its layout, that has them as they are here. Such an image breaks no rule; so there is none.
 abbrev pub IsToldBySystem : DiskState → ℕ → ℕ → Type 0
 IsToldBySystem disk block rule =
     OfImage disk (λ im. (other : Image) (o : Owners) (l : Layout) → HasSameSystem im other → IsLaid other o l → RefusesRightly other (fault.Damaged block rule))
 
 -- Why an image isn't mounted: the disk failed at a block of it, one of the system files where it tells its blocks; a field is outside the profile; a block of the device
 -- breaks a rule, or it is too short for a superblock, and behind the superblock that is told only where the formats are those of
--- the profile; and it is the system files that show it. A root that is none of the groups' data blocks is looked for last: its number stands in the superblock.
+-- the profile; and no image that is whole in its layout has the system files as they are. A root that is none of the groups' data blocks is looked for last: its number stands in the superblock.
 pub data MountEnds (disk : DiskState) (faults faults_now : ℕ → ℕ) : Status → Type 0 where
   DiskFails : (block x y : ℕ) → WentUp (faults 0) (faults_now 0) x y → block < disk.count → OfImage disk (λ im. IsReached im block) → MountEnds disk faults faults_now (status.DeviceFault 0 (Some block) x y)
   LiesOutside : (what : Field) (value : ℕ) → OfImage disk (λ im. IsOutside im what value) → OfImage disk (λ im. HasProfile im → ⊥)

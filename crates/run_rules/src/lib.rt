@@ -16,7 +16,7 @@ pub fn crash_lines_are_carried_out()
     ensures { CrashLinesAreCarriedOut }
 {}
 
-/// A law: a run in which a node joins again behind its crash doesn't follow a script without a join line, however many nodes that has.
+/// A law of one run: where a node joins again behind its crash, it doesn't follow a script of four nodes without a join line.
 pub fn joins_are_ordered()
     ensures { JoinsAreOrdered }
 {}
