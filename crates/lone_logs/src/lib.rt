@@ -4,6 +4,9 @@
 
 ghost use Rattle.lone_logs.specs.Laws.{Begins, BarriersSettle, BlocksAreWritten, BlocksGoHome, CallsAreLogged, FirstBarriersSettle, FlushesBegin, HeadersAreWritten, HeadersBegin, ItsHistoryIsLegal, ItsOutcomesStand, LastBarriersLand, QuietCallsAreLogged, ReadsAreLogged, SpacelessCallsAreLogged, SyncsAreLogged};
 
+use image_disks::what_is_left_of_one_node_stands;
+use machine_outcomes::outcomes_are_the_machines;
+
 /// A law: on an image that stands as it lies, each journal clean, the node begins with an empty log.
 pub fn a_logged_node_begins()
     ensures { Begins }
@@ -59,4 +62,7 @@ pub fn its_live_blocks_go_home()
 pub fn what_remains_of_it()
     ensures outcomes { ItsOutcomesStand }
     ensures history { ItsHistoryIsLegal }
-{}
+{
+    outcomes_are_the_machines();
+    what_is_left_of_one_node_stands();
+}
