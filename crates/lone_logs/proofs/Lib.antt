@@ -1,2 +1,5 @@
 pub mod Remaining
 pub mod Beginning
+pub mod Flying
+pub mod Places
+pub mod Writing

@@ -156,13 +156,13 @@ HeadersBegin = (v : Volume) (s : Begun (trees_on v)) (w : World (trees_on v)) (d
 -- a block of it is written
 abbrev pub BlocksAreWritten : Type 0
 BlocksAreWritten = (v : Volume) (s : Begun (trees_on v)) (w : World (trees_on v)) (d : ℕ) (st : NodeState) (new : LogValue) (f : Flush) (b : ℕ) (bytes : List ℕ) (flying : InFlight)
-    → IsLoggedNode v s w d st → st.log.flush ≡ Some f → HasNumbers st.log f → FlushStep st.log new f bytes (step.Write b) → FliesBesides st.flying flying b bytes
+    → IsLoggedNode v s w d st → st.log.flush ≡ Some f → HasNumbers st.log f → FlushStep st.log new f bytes (step.Write b) → FliesBesides st.image st.flying flying b bytes
     → StaysLogged v s w d (record st { log = new; flying = flying })
 
 -- its header is written
 abbrev pub HeadersAreWritten : Type 0
 HeadersAreWritten = (v : Volume) (s : Begun (trees_on v)) (w : World (trees_on v)) (d : ℕ) (st : NodeState) (new : LogValue) (f : Flush) (b sequence : ℕ) (bytes : List ℕ) (flying : InFlight)
-    → IsLoggedNode v s w d st → st.log.flush ≡ Some f → HasNumbers st.log f → FlushStep st.log new f bytes (step.Head b sequence) → FliesBesides st.flying flying b bytes
+    → IsLoggedNode v s w d st → st.log.flush ≡ Some f → HasNumbers st.log f → FlushStep st.log new f bytes (step.Head b sequence) → FliesBesides st.image st.flying flying b bytes
     → StaysLogged v s w d (record st { log = new; flying = flying })
 
 -- ---- barriers
@@ -193,7 +193,7 @@ LastBarriersLand = (v : Volume) (s : Begun (trees_on v)) (w : World (trees_on v)
 -- a live block is written to its place
 abbrev pub BlocksGoHome : Type 0
 BlocksGoHome = (v : Volume) (s : Begun (trees_on v)) (w : World (trees_on v)) (d : ℕ) (st : NodeState) (new : LogValue) (lock : LockName) (b : ℕ) (bytes : List ℕ) (flying : InFlight)
-    → IsLoggedNode v s w d st → HomeAnswer st.log new lock bytes (Some (step.Write b)) → FliesBesides st.flying flying b bytes → StaysLogged v s w d (record st { log = new; flying = flying })
+    → IsLoggedNode v s w d st → HomeAnswer st.log new lock bytes (Some (step.Write b)) → FliesBesides st.image st.flying flying b bytes → StaysLogged v s w d (record st { log = new; flying = flying })
 
 -- ---- what remains
 

@@ -108,8 +108,9 @@ pub record HasHeads (v : Volume) (s : Begun (trees_on v)) (w : World (trees_on v
   pub headed : IsHeaded o → (head_of (trees_on v) s w true).cut ≡ begun
   pub one : (IsHeaded o → ⊥) → head_of (trees_on v) s w true ≡ head_of (trees_on v) s w false
 
--- one more write is in flight
-pub record FliesBesides (flying flying' : InFlight) (b : ℕ) (bytes : List ℕ) : Type 0 where
+-- one more write is in flight, of a whole block of the image
+pub record FliesBesides (im : Image) (flying flying' : InFlight) (b : ℕ) (bytes : List ℕ) : Type 0 where
+  pub whole : length bytes ≡ im.size
   pub there : flying' b ≡ Some bytes
   pub others : (c : ℕ) → c ≢ b → flying' c ≡ flying c
 

@@ -4,6 +4,7 @@
 
 ghost use Rattle.lone_logs.specs.Laws.{Begins, BarriersSettle, BlocksAreWritten, BlocksGoHome, CallsAreLogged, FirstBarriersSettle, FlushesBegin, HeadersAreWritten, HeadersBegin, ItsHistoryIsLegal, ItsOutcomesStand, LastBarriersLand, QuietCallsAreLogged, ReadsAreLogged, SpacelessCallsAreLogged, SyncsAreLogged};
 
+use log_rings::blocks_of_flushes_say_nothing;
 use image_disks::what_is_left_of_one_node_stands;
 use machine_outcomes::outcomes_are_the_machines;
 
@@ -35,7 +36,9 @@ pub fn its_flushes_begin()
 /// A law: a block of a flush is in flight.
 pub fn its_blocks_are_written()
     ensures { BlocksAreWritten }
-{}
+{
+    blocks_of_flushes_say_nothing();
+}
 
 /// A law: the header of a flush is in flight.
 pub fn its_headers_are_written()
