@@ -5,3 +5,6 @@ pub mod Places
 pub mod Writing
 pub mod Booking
 pub mod Reading
+pub mod Adding
+pub mod Calling
+pub mod Quiet
