@@ -90,6 +90,7 @@ module _ (v : Volume) (s : Begun (trees_on v)) (w : World (trees_on v)) (d : ℕ
         flies = flies;
         homeward = is.homeward;
         elsewhere = is.elsewhere;
+        only_headed = λ h. absurd (unheaded (is.only_headed h));
         heads = record {
           headed = λ h. absurd (early h.1 (ap (λ (x : Flush). x.stage) (same_flush h.2) ∙ h.3));
           one = λ not. is.heads.one unheaded;

@@ -117,6 +117,7 @@ module _ (v : Volume) (s : Begun (trees_on v)) (w : World (trees_on v)) (d : ℕ
     flies = flies_with (ring_at st.image d) (to_journal st.image d st.flying) st.log fresh gone st.log.flush is.flies;
     homeward = is.homeward;
     elsewhere = is.elsewhere;
+    only_headed = is.only_headed;
     heads = record { headed = λ h. is.heads.headed h ∙ sym begun; one = is.heads.one };
     numbers = numbers;
     versions = versions;

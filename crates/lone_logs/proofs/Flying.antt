@@ -46,7 +46,7 @@ module _ (v : Volume) (d : Disk (trees_on v)) (rings : Rings (trees_on v) d) (im
     (off : (b : ℕ) → (IsPlace v b → ⊥) → flying' b ≡ flying b)
     (journals : (j k : ℕ) → IsJournalAt v.layout j k → (head : LogHeader) × (head_in (ring_at im k) ≡ Some head) × OnlyBlocksFly (ring_at im k) head (to_journal im k flying'))
     (whole : (b : ℕ) (bytes : List ℕ) → flying' b ≡ Some bytes → length bytes ≡ im.size) where
-  no_header : (j k : ℕ) → IsJournalAt v.layout j k → HeaderFliesTo im k flying' → ⊥
+  pub no_header : (j k : ℕ) → IsJournalAt v.layout j k → HeaderFliesTo im k flying' → ⊥
   no_header j k at flies = (let its = journals j k at in no_header_among_blocks (ring_at im k) its.0 flies.0.head (to_journal im k flying') its.2 flies.1)
 
   place_in : (b : ℕ) → IsPlace v b → IsPlaceIn im v.layout b

@@ -8,3 +8,7 @@ pub mod Reading
 pub mod Adding
 pub mod Calling
 pub mod Quiet
+pub mod Staying
+pub mod Landed
+pub mod Living
+pub mod Settling

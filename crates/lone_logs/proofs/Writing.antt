@@ -26,7 +26,7 @@ use Rattle.lone_machine.specs.Alone.{Begun}
 use Rattle.lone_logs.specs.Laws.{BlocksAreWritten, StaysLogged}
 use Rattle.lone_logs.specs.States.{FliesAs, FliesBesides, FliesToJournal, HasVersions, IsHeaded, IsLoggedNode, IsSent, NodeState, trees_on}
 use Rattle.lone_logs.specs.States.FliesAs.{writes}
-use Rattle.lone_logs.proofs.Flying.{OnlyBlocksFly, none_are_blocks, still_disk}
+use Rattle.lone_logs.proofs.Flying.{OnlyBlocksFly, no_header, none_are_blocks, still_disk}
 use Rattle.lone_logs.proofs.Places.{back_within, content_at, flies_here, flies_still, none_elsewhere, off_places, still_elsewhere, within}
 use Rattle.lone_logs.proofs.Remaining.{same_flush, writing_headed}
 
@@ -164,6 +164,7 @@ module _ (fly : FlushesFly) (v : Volume) (s : Begun (trees_on v)) (w : World (tr
       flies = writes (k + 1) after.sent after.only;
       homeward = λ b not. off_places v s w d st is (chunk_place st.log k) place_low bytes flying besides b not ∙ is.homeward b not;
       elsewhere = still_elsewhere v s w d st is (chunk_place st.log k) place_low bytes flying besides;
+      only_headed = λ h. absurd (no_header v w.disk is.rings st.image st.flying flying is.disk (off_places v s w d st is (chunk_place st.log k) place_low bytes flying besides) journals whole 0 d is.journal.is h);
       heads = record {
         headed = λ h. absurd (writing_headed (k + 1) h.1 (ap (λ (x : Flush). x.stage) (same_flush h.2) ∙ h.3));
         one = λ not. is.heads.one unheaded;

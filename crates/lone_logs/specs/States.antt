@@ -13,7 +13,7 @@ use Rattle.image_machine.specs.Cells.{BlockCell}
 use Rattle.image_machine.specs.Volumes.{IsPlace, Volume, images_of}
 use Rattle.image_model.specs.Image.{Image}
 use Rattle.image_model.specs.Stands.{IsJournalAt}
-use Rattle.journal_outcomes.specs.Images.{ring_at, to_journal}
+use Rattle.journal_outcomes.specs.Images.{HeaderFliesTo, ring_at, to_journal}
 use Rattle.journal_outcomes.specs.Rings.{InFlight}
 use Rattle.log_layout.specs.Journal.{Ring}
 use Rattle.log_layout.specs.Live.{live_in}
@@ -159,6 +159,7 @@ pub record IsLoggedNode (v : Volume) (s : Begun (trees_on v)) (w : World (trees_
   pub flies : FliesToJournal (ring_at st.image d) (to_journal st.image d st.flying) st.log st.log.flush
   pub homeward : (b : ℕ) → (IsPlace v b → ⊥) → st.flying b ≡ flies_home (table.get st.log.live b)
   pub elsewhere : (j k p : ℕ) → IsJournalAt v.layout j k → k ≢ d → p < v.places k → st.flying (v.place k p) ≡ None
+  pub only_headed : HeaderFliesTo st.image d st.flying → IsHeaded st.log.flush
   pub heads : HasHeads v s w st.numbers.begun st.log.flush
   -- its calls
   pub numbers : HasCallNumbers v s w st.numbers

@@ -49,7 +49,9 @@ pub fn its_headers_are_written()
 pub fn its_barriers_settle()
     ensures settles { BarriersSettle }
     ensures first { FirstBarriersSettle }
-{}
+{
+    outcomes_are_the_machines();
+}
 
 /// A law: with the last barrier of a flush it is in the journal.
 pub fn its_flushes_land()
