@@ -40,16 +40,10 @@ no_header_among_blocks ring head other flying only flies = none_some (sym (only 
 pub none_are_blocks : (ring : Ring) (head : LogHeader) (flying : InFlight) → ((p : ℕ) → p < ring.places → flying p ≡ None) → OnlyBlocksFly ring head flying
 none_are_blocks ring head flying none p bytes low e = absurd (none_some (sym (none p low) ∙ e))
 
--- ---- to the disk
+-- ---- places of journals
 
-module _ (v : Volume) (d : Disk (trees_on v)) (rings : Rings (trees_on v) d) (im : Image) (flying flying' : InFlight) (is : IsDiskOf v d rings im flying)
-    (off : (b : ℕ) → (IsPlace v b → ⊥) → flying' b ≡ flying b)
-    (journals : (j k : ℕ) → IsJournalAt v.layout j k → (head : LogHeader) × (head_in (ring_at im k) ≡ Some head) × OnlyBlocksFly (ring_at im k) head (to_journal im k flying'))
-    (whole : (b : ℕ) (bytes : List ℕ) → flying' b ≡ Some bytes → length bytes ≡ im.size) where
-  pub no_header : (j k : ℕ) → IsJournalAt v.layout j k → HeaderFliesTo im k flying' → ⊥
-  no_header j k at flies = (let its = journals j k at in no_header_among_blocks (ring_at im k) its.0 flies.0.head (to_journal im k flying') its.2 flies.1)
-
-  place_in : (b : ℕ) → IsPlace v b → IsPlaceIn im v.layout b
+module _ (v : Volume) (d : Disk (trees_on v)) (rings : Rings (trees_on v) d) (im : Image) (flying : InFlight) (is : IsDiskOf v d rings im flying) where
+  pub place_in : (b : ℕ) → IsPlace v b → IsPlaceIn im v.layout b
   place_in b p = record {
     journal = p.journal;
     dinode = p.dinode;
@@ -59,7 +53,7 @@ module _ (v : Volume) (d : Disk (trees_on v)) (rings : Rings (trees_on v) d) (im
     is = is.there p.journal p.dinode p.place p.at p.low ∙ p.is;
   }
 
-  place_out : (b : ℕ) → IsPlaceIn im v.layout b → IsPlace v b
+  pub place_out : (b : ℕ) → IsPlaceIn im v.layout b → IsPlace v b
   place_out b p = (let low : p.place < v.places p.dinode = subst (λ n. p.place < n) (is.many p.journal p.dinode p.at) p.low in record {
     journal = p.journal;
     dinode = p.dinode;
@@ -69,11 +63,20 @@ module _ (v : Volume) (d : Disk (trees_on v)) (rings : Rings (trees_on v) d) (im
     is = sym (is.there p.journal p.dinode p.place p.at low) ∙ p.is;
   })
 
+-- ---- to the disk
+
+module _ (v : Volume) (d : Disk (trees_on v)) (rings : Rings (trees_on v) d) (im : Image) (flying flying' : InFlight) (is : IsDiskOf v d rings im flying)
+    (off : (b : ℕ) → (IsPlace v b → ⊥) → flying' b ≡ flying b)
+    (journals : (j k : ℕ) → IsJournalAt v.layout j k → (head : LogHeader) × (head_in (ring_at im k) ≡ Some head) × OnlyBlocksFly (ring_at im k) head (to_journal im k flying'))
+    (whole : (b : ℕ) (bytes : List ℕ) → flying' b ≡ Some bytes → length bytes ≡ im.size) where
+  pub no_header : (j k : ℕ) → IsJournalAt v.layout j k → HeaderFliesTo im k flying' → ⊥
+  no_header j k at flies = (let its = journals j k at in no_header_among_blocks (ring_at im k) its.0 flies.0.head (to_journal im k flying') its.2 flies.1)
+
   others : (b : ℕ) (bytes : List ℕ) → flying' b ≡ Some bytes → IsPlaceIn im v.layout b ⊎ PutsHome im v.layout flying' b bytes
   others b bytes e = elim (place_or_not v b) [
-    | inl place ↦ inl (place_in b place)
+    | inl place ↦ inl (place_in v d rings im flying is b place)
     | inr not ↦ elim (is.may.others b bytes (sym (off b not) ∙ e)) [
-      | inl place ↦ absurd (not (place_out b place))
+      | inl place ↦ absurd (not (place_out v d rings im flying is b place))
       | inr home ↦ inr (record { journal = home.journal; dinode = home.dinode; at = home.at; live = home.live; still_live = λ flies. absurd (no_header home.journal home.dinode home.at flies) })
     ]
   ]

@@ -12,3 +12,6 @@ pub mod Staying
 pub mod Landed
 pub mod Living
 pub mod Settling
+pub mod Tables
+pub mod Heading
+pub mod Headed

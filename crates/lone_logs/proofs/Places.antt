@@ -36,11 +36,11 @@ module _ (v : Volume) (s : Begun (trees_on v)) (w : World (trees_on v)) (d : ℕ
     pub flies_still : (q : ℕ) → q < (ring_at st.image d).places → q ≢ p → to_journal st.image d flying q ≡ to_journal st.image d st.flying q
     flies_still q inside other =
         besides.others (content_block (every st.image d) q)
-        (λ e. other (is.apart 0 d q 0 d p is.journal.is is.journal.is (within q inside) (within p low) (sym (content_at q inside) ∙ e ∙ block_is p low)).1)
+        (λ e. other (is.apart 0 d q 0 d p is.journal.is is.journal.is (within q inside) (within p low) (sym (content_at q inside) ∙ e ∙ block_is p low)).2)
 
     pub off_places : (b : ℕ) → (IsPlace v b → ⊥) → flying b ≡ st.flying b
     off_places b not = besides.others b (λ e. not (record { journal = 0; dinode = d; place = p; at = is.journal.is; low = within p low; is = sym (block_is p low) ∙ sym e }))
 
     pub still_elsewhere : (j k q : ℕ) → IsJournalAt v.layout j k → k ≢ d → q < v.places k → flying (v.place k q) ≡ None
     still_elsewhere j k q at other inside =
-        besides.others (v.place k q) (λ e. other (is.apart j k q 0 d p at is.journal.is inside (within p low) (e ∙ block_is p low)).0) ∙ is.elsewhere j k q at other inside
+        besides.others (v.place k q) (λ e. other (is.apart j k q 0 d p at is.journal.is inside (within p low) (e ∙ block_is p low)).1) ∙ is.elsewhere j k q at other inside

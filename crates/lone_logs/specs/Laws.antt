@@ -17,7 +17,7 @@ use Rattle.glock_names.specs.declared.LockName.{LockName}
 use Rattle.drafts.specs.declared.change.Change.{Change}
 use Rattle.image_model.specs.Image.{Image}
 use Rattle.image_model.specs.Owners.{Owners}
-use Rattle.image_model.specs.Replays.{StandsReplayed}
+use Rattle.image_model.specs.Replays.{MayChange, StandsReplayed}
 use Rattle.image_model.specs.Stands.{IsJournalAt, Layout}
 use Rattle.image_changes.specs.Changes.{cover, is_free}
 use Rattle.image_changes.specs.Does.{AreInside, Does, IsOf, is_nothing}
@@ -159,10 +159,11 @@ BlocksAreWritten = (v : Volume) (s : Begun (trees_on v)) (w : World (trees_on v)
     → IsLoggedNode v s w d st → st.log.flush ≡ Some f → HasNumbers st.log f → FlushStep st.log new f bytes (step.Write b) → FliesBesides st.image st.flying flying b bytes
     → StaysLogged v s w d (record st { log = new; flying = flying })
 
--- its header is written
+-- its header is written, where each block that it logs is one that a replay may change
 abbrev pub HeadersAreWritten : Type 0
 HeadersAreWritten = (v : Volume) (s : Begun (trees_on v)) (w : World (trees_on v)) (d : ℕ) (st : NodeState) (new : LogValue) (f : Flush) (b sequence : ℕ) (bytes : List ℕ) (flying : InFlight)
-    → IsLoggedNode v s w d st → st.log.flush ≡ Some f → HasNumbers st.log f → FlushStep st.log new f bytes (step.Head b sequence) → FliesBesides st.image st.flying flying b bytes
+    → IsLoggedNode v s w d st → st.log.flush ≡ Some f → HasNumbers st.log f → ((c : ℕ) → table.contains_key f.versions c ≡ true → MayChange st.image v.layout c)
+    → FlushStep st.log new f bytes (step.Head b sequence) → FliesBesides st.image st.flying flying b bytes
     → StaysLogged v s w d (record st { log = new; flying = flying })
 
 -- ---- barriers

@@ -125,7 +125,7 @@ pub record HasLandedAs (im : Image) (flying : InFlight) (left : Image) : Type 0 
 
 -- no block is two places of journals
 abbrev pub ArePlacesApart : Volume → Type 0
-ArePlacesApart v = (j d p i e q : ℕ) → IsJournalAt v.layout j d → IsJournalAt v.layout i e → p < v.places d → q < v.places e → v.place d p ≡ v.place e q → (d ≡ e) × (p ≡ q)
+ArePlacesApart v = (j d p i e q : ℕ) → IsJournalAt v.layout j d → IsJournalAt v.layout i e → p < v.places d → q < v.places e → v.place d p ≡ v.place e q → (j ≡ i) × (d ≡ e) × (p ≡ q)
 
 -- the log's journal is the one with its dinode in block d
 pub record IsJournalOf (v : Volume) (d : ℕ) (journal : Journal) : Type 0 where

@@ -4,7 +4,7 @@
 
 ghost use Rattle.lone_logs.specs.Laws.{Begins, BarriersSettle, BlocksAreWritten, BlocksGoHome, CallsAreLogged, FirstBarriersSettle, FlushesBegin, HeadersAreWritten, HeadersBegin, ItsHistoryIsLegal, ItsOutcomesStand, LastBarriersLand, QuietCallsAreLogged, ReadsAreLogged, SpacelessCallsAreLogged, SyncsAreLogged};
 
-use log_rings::blocks_of_flushes_say_nothing;
+use log_rings::{blocks_of_flushes_say_nothing, flushes_land, headers_of_flushes_fly};
 use image_disks::what_is_left_of_one_node_stands;
 use machine_outcomes::outcomes_are_the_machines;
 
@@ -43,7 +43,10 @@ pub fn its_blocks_are_written()
 /// A law: the header of a flush is in flight.
 pub fn its_headers_are_written()
     ensures { HeadersAreWritten }
-{}
+{
+    headers_of_flushes_fly();
+    flushes_land();
+}
 
 /// A law: a barrier while no header is in flight settles what was, also that between the blocks of a flush and its header.
 pub fn its_barriers_settle()
