@@ -60,7 +60,7 @@ is_there Home e = refl
 is_there (Away bytes) e = absurd (true≢false (sym e))
 is_there (Flying bytes) e = absurd (true≢false (sym e))
 
-rests_home : (e : Entry) → settled_way e.way ≡ e.way → flies_home (Some e) ≡ None
+pub rests_home : (e : Entry) → settled_way e.way ≡ e.way → flies_home (Some e) ≡ None
 rests_home e same = by e.way same
   where
     home_flying : (bytes : List ℕ) → Home ≡ Flying bytes → ⊥

@@ -15,3 +15,4 @@ pub mod Settling
 pub mod Tables
 pub mod Heading
 pub mod Headed
+pub mod Ending

@@ -59,7 +59,11 @@ pub fn its_barriers_settle()
 /// A law: with the last barrier of a flush it is in the journal.
 pub fn its_flushes_land()
     ensures { LastBarriersLand }
-{}
+{
+    outcomes_are_the_machines();
+    headers_of_flushes_fly();
+    flushes_land();
+}
 
 /// A law: a live block is on its way home.
 pub fn its_live_blocks_go_home()
