@@ -16,3 +16,4 @@ pub mod Tables
 pub mod Heading
 pub mod Headed
 pub mod Ending
+pub mod Homing
