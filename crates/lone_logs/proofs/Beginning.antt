@@ -29,7 +29,7 @@ use Rattle.lone_logs.specs.States.FliesAs.{writes, ends}
 use Rattle.lone_logs.proofs.Remaining.{ending_headed, no_flush, same_flush, writing_headed}
 
 -- no call leaves no version, and no block has gone
-nothing_logged : (v : Volume) (B : Book (trees_on v)) (i lo : ℕ) → AreVersions (trees_on v) B i lo lo (bytes_of table.empty) (set.contains set.empty)
+pub nothing_logged : (v : Volume) (B : Book (trees_on v)) (i lo : ℕ) → AreVersions (trees_on v) B i lo lo (bytes_of table.empty) (set.contains set.empty)
 nothing_logged v B i lo b =
     subst (λ o. IsVersion (trees_on v) B i lo lo b o (set.contains set.empty b)) (sym (ap (option_map (λ (x : Version). x.bytes)) (table.get-empty nat_cmp b)))
     (subst (λ g. IsVersion (trees_on v) B i lo lo b None g) (sym (contains-empty b)) (no_versions (trees_on v) B i lo b))

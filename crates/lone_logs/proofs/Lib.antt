@@ -17,3 +17,4 @@ pub mod Heading
 pub mod Headed
 pub mod Ending
 pub mod Homing
+pub mod Starting

@@ -42,7 +42,7 @@ use Rattle.lone_images.specs.Lone.{begun_on, version_with}
 use Rattle.lone_machine.specs.Alone as alone
 use Rattle.lone_machine.specs.Alone.{Begun, next_item, now}
 use Rattle.image_disks.specs.Lone.{remaining}
-use Rattle.lone_logs.specs.States.{FliesBesides, HasLandedAs, IsHeaded, IsJournalOf, IsLoggedNode, NodeState, Numbers, trees_on}
+use Rattle.lone_logs.specs.States.{ArePlacesApart, FliesBesides, HasLandedAs, IsHeaded, IsJournalOf, IsLoggedNode, NodeState, Numbers, trees_on}
 
 -- ---- after a step
 
@@ -70,10 +70,10 @@ no_numbers = record { answered = 0; changed = 0; low = 0; begun = 0 }
 abbrev pub at_rest : Image → Journal → LogHeader → NodeState
 at_rest im journal head = record { image = im; flying = λ b. None; log = empty_log journal head.blkno head.sequence; kept = table.empty; numbers = no_numbers }
 
--- An image that stands for a tree as it lies, each journal clean, with nothing in flight and an empty log of journal 0, is one on which the node begins.
+-- An image that stands for a tree as it lies, each journal clean and no two places of journals in one block, with nothing in flight and an empty log of journal 0, is one on which the node begins.
 abbrev pub Begins : Type 0
 Begins = (im : Image) (o : Owners) (l : Layout) (t : Tree) (d : ℕ) (journal : Journal) (head : LogHeader) → StandsBy im o l t → ((j k : ℕ) → IsJournalAt l j k → IsClean (ring_at im k))
-    → IsJournal journal → IsJournalOf (volume_of im l) d journal → head_in (ring_at im d) ≡ Some head
+    → ArePlacesApart (volume_of im l) → IsJournal journal → IsJournalOf (volume_of im l) d journal → head_in (ring_at im d) ≡ Some head
     → IsLoggedNode (volume_of im l) (begun_on im o l t) (alone.begun (trees_on (volume_of im l)) (begun_on im o l t)) d (at_rest im journal head)
 
 -- ---- calls

@@ -4,14 +4,16 @@
 
 ghost use Rattle.lone_logs.specs.Laws.{Begins, BarriersSettle, BlocksAreWritten, BlocksGoHome, CallsAreLogged, FirstBarriersSettle, FlushesBegin, HeadersAreWritten, HeadersBegin, ItsHistoryIsLegal, ItsOutcomesStand, LastBarriersLand, QuietCallsAreLogged, ReadsAreLogged, SpacelessCallsAreLogged, SyncsAreLogged};
 
-use log_rings::{blocks_of_flushes_say_nothing, flushes_land, headers_of_flushes_fly};
+use log_rings::{blocks_of_flushes_say_nothing, clean_rings_begin, flushes_land, headers_of_flushes_fly};
 use image_disks::what_is_left_of_one_node_stands;
 use machine_outcomes::outcomes_are_the_machines;
 
 /// A law: on an image that stands as it lies, each journal clean, the node begins with an empty log.
 pub fn a_logged_node_begins()
     ensures { Begins }
-{}
+{
+    clean_rings_begin();
+}
 
 /// A law: it answers a call, and its log and what it keeps have the change; so it goes on with a call that changes nothing, with one for which there is no space, and with a sync, once all that
 /// changed anything is in the journal.
