@@ -1,5 +1,5 @@
 -- What a call's change makes of a log's versions, block by block.
-use Rattle.std.proofs.Common.{◌≡◌, ℕ, zero, suc, ◌<◌, ◌≤◌, inl, inr, ◌⊎◌, Bool, true, false, not, ◌||◌, ◌&&◌, List, [], ◌∷◌, map, length, Option, None, Some, refl, sym, ap, subst, ◌∙◌, true≢false, is_some, arith}
+use Rattle.std.proofs.Common.{◌≡◌, ℕ, ◌<◌, inl, inr, ◌⊎◌, Bool, true, false, not, ◌||◌, ◌&&◌, List, [], ◌∷◌, map, length, Option, None, Some, refl, sym, ap, subst, ◌∙◌, true≢false, is_some, arith}
 use Rattle.std.specs.Prelude.{◌==◌, if◌then◌else◌}
 use Rattle.std.specs.FinMap as table
 use Rattle.std.specs.List.{AllByRecursion, list_any}
@@ -13,8 +13,8 @@ use Rattle.finite_maps.proofs.Keys.{tied, untied}
 use Rattle.drafts.specs.declared.change.Change.{Change}
 use Rattle.drafts.specs.declared.change.Written.{Written}
 use Rattle.glock_names.specs.declared.LockName.{LockName}
-use Rattle.image_changes.specs.Does.{IsFormed, bytes_for, frees, has_block, writes}
-use Rattle.image_model.proofs.Held.{none_some, some_same}
+use Rattle.image_changes.specs.Does.{IsFormed, bytes_for, frees, writes}
+use Rattle.image_model.proofs.Held.{none_some}
 use Rattle.log_tables.proofs.Counting.{apart, at_key, gone, left}
 use Rattle.log_values.specs.Blocks as set
 use Rattle.log_values.specs.Changes.{has_entry, version_of, with_change, with_freed, with_written, without_all, without_written}

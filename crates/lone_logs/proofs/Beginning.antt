@@ -1,10 +1,9 @@
 -- A flush begins.
-use Rattle.std.proofs.Common.{◌≡◌, ◌⊎◌, ℕ, ◌<◌, ◌≤◌, inl, inr, Bool, true, false, List, Option, None, Some, refl, sym, ap, subst, ◌∙◌, length, arith}
+use Rattle.std.proofs.Common.{◌≡◌, ℕ, ◌<◌, ◌≤◌, None, Some, refl, sym, ap, subst, ◌∙◌, length, arith}
 use Rattle.std.specs.FinMap as table
 use Rattle.std.specs.Ordering.{nat_cmp}
 use Rattle.std.specs.Option.{option_map}
 use Rattle.cluster_laws.specs.Book.{Book}
-use Rattle.cluster_laws.specs.Files.{Files}
 use Rattle.cluster_laws.specs.World.{World}
 use Rattle.image_machine.specs.Volumes.{Volume}
 use Rattle.image_model.proofs.Held.{none_some}
@@ -12,14 +11,13 @@ use Rattle.journal_outcomes.specs.Images.{ring_at, to_journal}
 use Rattle.log_values.specs.Blocks as set
 use Rattle.log_values.specs.Flushing.{begun, begun_alone, flush_chunks}
 use Rattle.log_values.specs.Flushing.Begins.{with_all, alone as begins_alone}
-use Rattle.log_values.specs.Log.{Flush, LogValue, Stage, Version}
+use Rattle.log_values.specs.Log.{Flush, LogValue, Version}
 use Rattle.log_values.specs.Log.Stage.{Ending, Headed, Writing}
 use Rattle.log_values.specs.Sound.{IsSoundLog}
 use Rattle.log_values.proofs.BlocksHad.{contains-empty}
 use Rattle.log_values.proofs.Going.{begins_sound}
 use Rattle.log_values.proofs.Landing.{alone_takes}
 use Rattle.log_rings.specs.Flights.{AreWritten}
-use Rattle.log_rings.specs.Laid.{IsRingOf}
 use Rattle.lone_machine.specs.Alone.{Begun}
 use Rattle.lone_machine.specs.Versions.{AreVersions, IsVersion}
 use Rattle.lone_machine.proofs.Logging.{no_versions}

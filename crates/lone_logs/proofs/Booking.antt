@@ -1,5 +1,5 @@
 -- A step that changes what the machine notes of the node's calls and of what it keeps, and nothing on its disk.
-use Rattle.std.proofs.Common.{◌≡◌, ℕ, ◌<◌, ◌≤◌, inl, inr, suc, Bool, true, false, List, Option, None, Some, refl, sym, ap, subst, ◌∙◌, arith}
+use Rattle.std.proofs.Common.{◌≡◌, ℕ, ◌<◌, ◌≤◌, inl, inr, suc, Bool, true, false, List, Option, None, Some, sym, ◌∙◌, arith}
 use Rattle.std.specs.FinMap as table
 use Rattle.std.specs.Option.{option_map}
 use Rattle.std.specs.Ordering.{nat_cmp}

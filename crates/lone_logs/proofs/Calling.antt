@@ -1,41 +1,35 @@
 -- A node with its log answers calls.
-use Rattle.std.proofs.Common.{◌≡◌, ℕ, suc, ◌<◌, ◌≤◌, ◌⊎◌, ◌++◌, inl, inr, Bool, true, false, not, ◌&&◌, ◌||◌, List, [], ◌∷◌, Option, None, Some, refl, sym, ap, subst, ◌∙◌, true≢false, arith}
-use Rattle.std.specs.Prelude.{◌==◌, if◌then◌else◌}
+use Rattle.std.proofs.Common.{◌≡◌, ℕ, suc, ◌<◌, ◌≤◌, ◌⊎◌, inl, inr, true, false, List, Option, None, Some, refl, sym, ap, subst, ◌∙◌, arith}
+use Rattle.std.specs.Prelude.{if◌then◌else◌}
 use Rattle.std.specs.FinMap as table
-use Rattle.std.specs.List.{list_any}
 use Rattle.std.specs.Option.{option_map}
 use Rattle.std.specs.Ordering.{nat_cmp}
-use Rattle.std.proofs.lemmas.Bool.{cases_Bool, cases_eq, cond-true, cond-false}
+use Rattle.std.proofs.lemmas.Bool.{cases_Bool, cond-true, cond-false}
 use Rattle.file_tree.specs.declared.call.Call.TheVariants as calls
 use Rattle.file_tree.specs.declared.reply.Reply.TheVariants as replies
-use Rattle.cluster_laws.specs.Book.{at, publish, tried}
-use Rattle.cluster_laws.specs.Files.{Ex, Part, laid}
-use Rattle.cluster_laws.specs.Log.{Calm}
-use Rattle.cluster_laws.specs.Notes.{Caches, IsHome}
+use Rattle.cluster_laws.specs.Book.{at}
+use Rattle.cluster_laws.specs.Files.{Part, laid}
+use Rattle.cluster_laws.specs.Notes.{Caches}
 use Rattle.cluster_laws.specs.World.{World}
 use Rattle.cluster_laws.proofs.Cells.{at-other, at-same}
 use Rattle.glock_names.specs.Views.{Seen}
-use Rattle.glock_names.specs.declared.LockName.{LockName}
 use Rattle.drafts.specs.declared.change.Change.{Change}
-use Rattle.drafts.specs.declared.change.Written.{Written}
-use Rattle.image_changes.specs.Does.{AreInside, Does, is_empty, is_nothing}
-use Rattle.image_machine.specs.Cells.{BlockCell, HoldsAll, cells_of, free_cell, group_of, or_else, written_cell}
+use Rattle.image_changes.specs.Does.{AreInside, Does}
+use Rattle.image_machine.specs.Cells.{BlockCell, HoldsAll, cells_of}
 use Rattle.image_machine.specs.Volumes.{Volume}
-use Rattle.image_model.proofs.Held.{none_some, some_same}
 use Rattle.log_tables.specs.Kept.{is_home}
 use Rattle.log_values.specs.Blocks as set
 use Rattle.log_values.specs.Changes.{CanBeAdded, Suffices, with_change}
 use Rattle.log_values.specs.Log.{Entry, Flush}
-use Rattle.log_values.specs.Sound.{IsSoundLog}
 use Rattle.log_values.proofs.Changing.{change_sound}
 use Rattle.lone_images.specs.Lone.{answered, cache_after, kept_cell, version_with}
-use Rattle.lone_images.proofs.Calling.{calls_go_on, changes_make_versions, spaceless_goes_on, sync_goes_on}
-use Rattle.lone_machine.specs.Alone.{Begun, IsAlone, next_item, now, publishes, syncs}
+use Rattle.lone_images.proofs.Calling.{calls_go_on, changes_make_versions}
+use Rattle.lone_machine.specs.Alone.{Begun, now}
 use Rattle.lone_machine.specs.Laws.{GoesOnWith}
-use Rattle.lone_machine.specs.Versions.{AreVersions, IsWithChange}
+use Rattle.lone_machine.specs.Versions.{AreVersions}
 use Rattle.lone_machine.proofs.Logging.{versions_grow}
 use Rattle.tree_histories.specs.Trees.{Told}
-use Rattle.lone_logs.specs.Laws.{AnswersLogged, CallsAreLogged, IsItsView, QuietCallsAreLogged, SpacelessCallsAreLogged, StaysAnswered, SyncsAreLogged, counted, with_call, with_quiet}
+use Rattle.lone_logs.specs.Laws.{AnswersLogged, CallsAreLogged, IsItsView, counted, with_call}
 use Rattle.lone_logs.specs.States.{HasCallNumbers, HasVersions, IsLoggedNode, NodeState, Numbers, bytes_of, trees_on}
 use Rattle.lone_logs.proofs.Adding.{fresh_with, gone_with}
 use Rattle.lone_logs.proofs.Booking.{booked, versions_still}

@@ -1,5 +1,5 @@
 -- The last barrier of a flush: it is in the journal.
-use Rattle.std.proofs.Common.{◌≡◌, ◌≢◌, ◌⊎◌, ℕ, zero, suc, ◌<◌, ◌≤◌, ◌+◌, ◌&&◌, inl, inr, Bool, true, false, List, length, Option, None, Some, refl, sym, ap, subst, ◌∙◌, true≢false, arith}
+use Rattle.std.proofs.Common.{◌≡◌, ◌≢◌, ◌⊎◌, ℕ, suc, ◌<◌, ◌≤◌, ◌&&◌, inl, inr, Bool, true, false, List, length, Option, None, Some, refl, sym, ap, subst, ◌∙◌, arith}
 use Rattle.std.specs.Prelude.{if◌then◌else◌, nat_lt}
 use Rattle.std.specs.FinMap as table
 use Rattle.std.specs.Option.{option_map}
@@ -11,8 +11,7 @@ use Rattle.cluster_laws.specs.Log.{Last}
 use Rattle.cluster_laws.specs.Mirror.{Head}
 use Rattle.cluster_laws.specs.World.{World}
 use Rattle.cluster_laws.proofs.Cells.{at-other, at-same}
-use Rattle.image_machine.specs.Cells.{BlockCell}
-use Rattle.image_machine.specs.Volumes.{IsPlace, Volume}
+use Rattle.image_machine.specs.Volumes.{Volume}
 use Rattle.image_model.specs.Image.{Image}
 use Rattle.image_model.proofs.Held.{none_some, some_same}
 use Rattle.journal_outcomes.specs.Images.{HeaderFliesTo, ring_at, to_journal}
@@ -23,19 +22,18 @@ use Rattle.log_layout.specs.Transactions.{after}
 use Rattle.log_rings.specs.Flights.{AreWritten, HasLanded, HasPut, MayHeadAt, left_live, live_with, logged_bytes}
 use Rattle.log_rings.specs.Laws.{FlushesLand, HasNumbers, HeadersFly}
 use Rattle.log_tables.specs.Kept.{is_home}
-use Rattle.log_tables.specs.Versions.{Way}
-use Rattle.log_tables.specs.Versions.Way.{Home, Away, Flying}
+use Rattle.log_tables.specs.Versions.Way.{Home, Away}
 use Rattle.log_values.specs.Blocks as set
 use Rattle.log_values.specs.Flushing.{FlushStep, behind_tail, first_place, flush_chunks, head_place, header_bytes, left_from, live_behind, logged_over}
 use Rattle.log_values.specs.Flushing.FlushStep.{a_barrier, the_last}
-use Rattle.log_values.specs.Log.{Entry, Flush, LogValue, Stage, Version}
-use Rattle.log_values.specs.Log.Stage.{Ending, Headed, Writing}
-use Rattle.log_values.specs.Sound.{IsBehindBarrier, IsSoundLog}
+use Rattle.log_values.specs.Log.{Entry, Flush, LogValue, Version}
+use Rattle.log_values.specs.Log.Stage.{Headed}
+use Rattle.log_values.specs.Sound.{IsBehindBarrier}
 use Rattle.log_values.specs.Transactions.{live_among}
 use Rattle.log_values.specs.declared.steps.LogStep.TheVariants as step
 use Rattle.log_values.proofs.BlocksHad.{contains-retain}
 use Rattle.log_values.proofs.Going.{step_sound}
-use Rattle.lone_machine.specs.Alone.{Begun, ends_header, head_of, now, settles}
+use Rattle.lone_machine.specs.Alone.{Begun, ends_header, now, settles}
 use Rattle.lone_machine.specs.Laws.{StaysAlone}
 use Rattle.lone_machine.specs.Versions.{AreVersions, IsVersion}
 use Rattle.lone_machine.proofs.Going.{sound}

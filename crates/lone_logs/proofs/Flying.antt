@@ -1,18 +1,13 @@
 -- What is in flight to the disk of a node: blocks of a flush, each of which may be there.
-use Rattle.std.proofs.Common.{◌≡◌, ◌≢◌, ◌⊎◌, ℕ, ◌<◌, ◌+◌, inl, inr, Bool, true, false, List, length, Option, None, Some, refl, sym, ap, subst, ◌∙◌, arith}
-use Rattle.std.specs.Prelude.{slice_get, get_or}
-use Rattle.std.proofs.lemmas.Bool.{cases_eq}
-use Rattle.std.proofs.lemmas.Option.{slice_get-get_or, slice_get_within}
+use Rattle.std.proofs.Common.{◌≡◌, ◌⊎◌, ℕ, ◌<◌, inl, inr, List, length, None, Some, sym, subst, ◌∙◌}
 use Rattle.cluster_laws.specs.Mirror.{Disk}
 use Rattle.cluster_laws.specs.Rings.{Rings}
-use Rattle.gfs2_layout.specs.Inode.{content_block}
 use Rattle.image_disks.specs.Disks.{IsDiskOf}
 use Rattle.image_disks.proofs.Finding.{place_or_not}
 use Rattle.image_machine.specs.Volumes.{IsPlace, Volume}
-use Rattle.image_model.specs.Claims.{every}
 use Rattle.image_model.specs.Image.{Image}
 use Rattle.image_model.specs.Stands.{IsJournalAt}
-use Rattle.image_model.proofs.Held.{none_some, some_same}
+use Rattle.image_model.proofs.Held.{none_some}
 use Rattle.journal_outcomes.specs.Images.{HeaderFliesTo, IsPlaceIn, PutsHome, ring_at, to_journal}
 use Rattle.journal_outcomes.specs.Rings.{HeaderFlies, InFlight, MayFly}
 use Rattle.log_layout.specs.Journal.{Ring, head_in}

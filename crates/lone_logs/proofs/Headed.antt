@@ -1,8 +1,8 @@
 -- The node behind the write of a header.
-use Rattle.std.proofs.Common.{◌≡◌, ◌≢◌, ◌⊎◌, ℕ, zero, suc, ◌<◌, ◌≤◌, ◌+◌, inl, inr, Bool, true, false, List, [], length, Option, None, Some, refl, sym, ap, subst, ◌∙◌, is_some, true≢false, arith}
+use Rattle.std.proofs.Common.{◌≡◌, ◌≢◌, ◌⊎◌, ℕ, suc, ◌<◌, inl, inr, Bool, true, false, List, [], length, Option, None, Some, refl, sym, ap, subst, ◌∙◌, is_some, arith}
 use Rattle.std.specs.Prelude.{if◌then◌else◌, unwrap_or}
 use Rattle.std.specs.FinMap as table
-use Rattle.std.proofs.lemmas.Bool.{cases_Bool, cases_eq}
+use Rattle.std.proofs.lemmas.Bool.{cases_eq}
 use Rattle.cluster_laws.specs.Mirror.{Head}
 use Rattle.cluster_laws.specs.Rings.{Rings}
 use Rattle.cluster_laws.specs.World.{World}
@@ -10,38 +10,37 @@ use Rattle.cluster_laws.proofs.Cells.{at-other, at-same}
 use Rattle.image_disks.specs.Disks.{IsDiskOf}
 use Rattle.image_disks.proofs.Finding.{place_or_not}
 use Rattle.image_machine.specs.Volumes.{IsPlace, Volume}
-use Rattle.image_model.specs.Replays.{MayChange, live_at}
+use Rattle.image_model.specs.Replays.{MayChange}
 use Rattle.image_model.specs.Stands.{IsJournalAt}
 use Rattle.image_model.proofs.Held.{none_some, some_same}
 use Rattle.journal_outcomes.specs.Images.{HeaderFliesTo, IsPlaceIn, PutsHome, landed_at, ring_at, to_journal}
-use Rattle.journal_outcomes.specs.Rings.{HeaderFlies, InFlight, MayFly}
+use Rattle.journal_outcomes.specs.Rings.{InFlight, MayFly}
 use Rattle.log_layout.specs.Journal.{Ring}
 use Rattle.log_layout.specs.Transactions.{after}
 use Rattle.log_layout.specs.Live.{IsReadable, live_in}
-use Rattle.log_rings.specs.Flights.{AreWritten, HasLanded, HasPut, MayHeadAt, left_live, live_with, logged_bytes}
+use Rattle.log_rings.specs.Flights.{HasLanded, HasPut, MayHeadAt, left_live, live_with, logged_bytes}
 use Rattle.log_rings.specs.Laid.{IsRingOf}
 use Rattle.log_rings.specs.Laws.{FlushesLand, HasNumbers, HeadersFly}
 use Rattle.log_values.specs.Blocks as set
-use Rattle.log_values.specs.Flushing.{FlushStep, IsTail, at_stage, block_at, flush_chunks, head_place, header_bytes, left_from}
+use Rattle.log_values.specs.Flushing.{FlushStep, IsTail, at_stage, block_at, head_place, header_bytes, left_from}
 use Rattle.log_values.specs.Flushing.FlushStep.{a_header, the_last}
-use Rattle.log_values.specs.Log.{Entry, Flush, LogValue, Stage, Version}
-use Rattle.log_values.specs.Log.Stage.{Ending, Headed, Writing}
+use Rattle.log_values.specs.Log.{Entry, Flush, LogValue, Version}
+use Rattle.log_values.specs.Log.Stage.{Ending, Headed}
 use Rattle.log_values.specs.Sound.{IsSoundLog}
 use Rattle.log_values.specs.Transactions.{live_among}
 use Rattle.log_values.specs.declared.steps.LogStep.TheVariants as step
 use Rattle.log_values.proofs.Going.{step_sound}
-use Rattle.lone_machine.specs.Alone.{Begun, begins_header, head_of}
+use Rattle.lone_machine.specs.Alone.{Begun, begins_header}
 use Rattle.lone_machine.specs.Laws.{AreOwnRings, StaysAlone}
 use Rattle.lone_machine.proofs.Remaining.{rings_alone}
 use Rattle.lone_logs.specs.Laws.{HeadersAreWritten, StaysLogged}
-use Rattle.lone_logs.specs.States.{FliesBesides, HasVersions, IsHeaded, IsLoggedNode, NodeState, trees_on}
+use Rattle.lone_logs.specs.States.{FliesBesides, HasVersions, IsLoggedNode, NodeState, trees_on}
 use Rattle.lone_logs.specs.States.FliesAs.{headed}
 use Rattle.lone_logs.proofs.Booking.{has_versions}
 use Rattle.lone_logs.proofs.Flying.{blocks_may_fly, none_are_blocks, place_in}
 use Rattle.lone_logs.proofs.Heading.{begins, chunks_stand, new_head, none_flies, none_homeward, tail_back}
 use Rattle.lone_logs.proofs.Living.{changes_at}
-use Rattle.lone_logs.proofs.Places.{flies_here, flies_still, off_places, still_elsewhere, within}
-use Rattle.lone_logs.proofs.Remaining.{same_flush}
+use Rattle.lone_logs.proofs.Places.{flies_here, flies_still, off_places, still_elsewhere}
 use Rattle.lone_logs.proofs.Tables.{live_table}
 
 module _ (fly : HeadersFly) (land : FlushesLand) (v : Volume) (s : Begun (trees_on v)) (w : World (trees_on v)) (d : ℕ) (st : NodeState) (f : Flush) (flying : InFlight) (is : IsLoggedNode v s w d st)
@@ -188,9 +187,9 @@ module _ (fly : HeadersFly) (land : FlushesLand) (v : Volume) (s : Begun (trees_
   flies_to j k at flies = elim (cases_eq k d) [
     | inr other ↦ absurd (none_some (sym (none_to j k flies.1.place at other flies.1.inside) ∙ flies.1.flies))
     | inl same ↦ (
-        (is.apart j k 0 0 d 0 at is.journal.is (subst (λ n. 0 < v.places n) (sym same) some_place) some_place (ap (λ n. v.place n 0) same)).0,
-        same,
-      )
+      (is.apart j k 0 0 d 0 at is.journal.is (subst (λ n. 0 < v.places n) (sym same) some_place) some_place (ap (λ n. v.place n 0) same)).0,
+      same,
+    )
   ]
     where
       some_place : 0 < v.places d
@@ -199,20 +198,20 @@ module _ (fly : HeadersFly) (land : FlushesLand) (v : Volume) (s : Begun (trees_
   may_fly : (j k : ℕ) → IsJournalAt v.layout j k → MayFly (ring_at st.image k) (to_journal st.image k flying)
   may_fly j k at = elim (cases_eq k d) [
     | inl same ↦ subst (λ n. MayFly (ring_at st.image n) (to_journal st.image n flying)) (sym same) (record {
-        head = is.ring.head;
-        headed = is.ring.headed;
-        writes = inr (record {
-          place = hp;
-          bytes = header_bytes st.log f tail;
-          header = its_head.header;
-          inside = its_head.inside;
-          free = its_head.free;
-          flies = here;
-          reads = its_head.reads;
-          next = its_head.next;
-          alone = none_else;
-        });
-      })
+      head = is.ring.head;
+      headed = is.ring.headed;
+      writes = inr (record {
+        place = hp;
+        bytes = header_bytes st.log f tail;
+        header = its_head.header;
+        inside = its_head.inside;
+        free = its_head.free;
+        flies = here;
+        reads = its_head.reads;
+        next = its_head.next;
+        alone = none_else;
+      });
+    })
     | inr other ↦ (let r = is.disk.readable j k at in
         blocks_may_fly (ring_at st.image k) r.head (to_journal st.image k flying) r.headed (none_are_blocks (ring_at st.image k) r.head (to_journal st.image k flying) (λ p low. none_to j k p at other low)))
   ]

@@ -1,45 +1,38 @@
 -- The header of a flush is in flight: what it makes live.
-use Rattle.std.proofs.Common.{◌≡◌, ◌≢◌, ◌⊎◌, ℕ, zero, suc, ◌<◌, ◌≤◌, ◌+◌, inl, inr, Bool, true, false, List, length, Option, None, Some, refl, sym, ap, subst, ◌∙◌, is_some, true≢false, arith}
-use Rattle.std.specs.Prelude.{if◌then◌else◌, nat_lt, unwrap_or}
+use Rattle.std.proofs.Common.{◌≡◌, ◌⊎◌, ℕ, ◌<◌, inl, inr, Bool, true, false, List, length, Option, None, Some, refl, sym, ap, subst, ◌∙◌, is_some, true≢false, arith}
+use Rattle.std.specs.Prelude.{if◌then◌else◌, nat_lt}
 use Rattle.std.specs.FinMap as table
 use Rattle.std.specs.Option.{option_map}
-use Rattle.std.proofs.lemmas.Bool.{cases_Bool, cases_eq}
+use Rattle.std.proofs.lemmas.Bool.{cases_Bool}
 use Rattle.std.proofs.lemmas.Bool.Decides.{nat_tests}
 use Rattle.cluster_laws.specs.Mirror.{Head}
 use Rattle.cluster_laws.specs.World.{World}
 use Rattle.image_disks.proofs.Finding.{place_or_not}
 use Rattle.image_machine.specs.Volumes.{IsPlace, Volume}
-use Rattle.image_model.proofs.Held.{none_some, some_same}
-use Rattle.journal_outcomes.specs.Images.{landed_at, ring_at, to_journal}
+use Rattle.image_model.proofs.Held.{some_same}
+use Rattle.journal_outcomes.specs.Images.{ring_at, to_journal}
 use Rattle.journal_outcomes.specs.Rings.{InFlight}
 use Rattle.log_layout.specs.Journal.{Ring}
 use Rattle.log_layout.specs.Live.{live_in}
-use Rattle.log_rings.specs.Flights.{AreWritten, HasLanded, HasPut, MayHeadAt, left_live, live_with, logged_bytes}
-use Rattle.log_rings.specs.Laid.{IsRingOf}
-use Rattle.log_rings.specs.Laws.{FlushesLand, HasNumbers, HeadersFly}
+use Rattle.log_rings.specs.Flights.{AreWritten, left_live, live_with, logged_bytes}
 use Rattle.log_tables.specs.Kept.{is_home}
 use Rattle.log_tables.specs.Versions.{Way}
 use Rattle.log_tables.specs.Versions.Way.{Home, Away, Flying}
 use Rattle.log_values.specs.Blocks as set
-use Rattle.log_values.specs.Flushing.{FlushStep, IsNeeded, IsTail, at_stage, behind_tail, block_at, flush_chunks, head_place, header_bytes, left_from, settled_way}
-use Rattle.log_values.specs.Flushing.FlushStep.{a_header, the_last}
+use Rattle.log_values.specs.Flushing.{IsNeeded, IsTail, at_stage, behind_tail, flush_chunks, left_from, settled_way}
 use Rattle.log_values.specs.Flushing.IsTail.{of_itself, of_none, of_oldest}
 use Rattle.log_values.specs.Log.{Entry, Flush, LogValue, Stage, Version}
-use Rattle.log_values.specs.Log.Stage.{Ending, Headed, Writing}
-use Rattle.log_values.specs.Sound.{IsBehindBarrier, IsSoundLog}
-use Rattle.log_values.specs.Transactions.{live_among}
-use Rattle.log_values.specs.declared.steps.LogStep.TheVariants as step
+use Rattle.log_values.specs.Log.Stage.{Ending}
+use Rattle.log_values.specs.Sound.{IsBehindBarrier}
 use Rattle.lone_machine.specs.Alone.{Begun, begins_header, head_of}
 use Rattle.lone_machine.specs.Laws.{StaysAlone}
 use Rattle.lone_machine.specs.Versions.{AreVersions, IsLiveAfter}
 use Rattle.lone_machine.proofs.Going.{sound}
 use Rattle.lone_machine.proofs.Logging.{header_begins}
-use Rattle.lone_logs.specs.States.{FliesAs, FliesBesides, FliesToJournal, HasVersions, IsHeaded, IsLoggedNode, NodeState, bytes_of, flies_home, trees_on}
+use Rattle.lone_logs.specs.States.{FliesAs, FliesToJournal, HasVersions, IsHeaded, IsLoggedNode, NodeState, bytes_of, flies_home, trees_on}
 use Rattle.lone_logs.specs.States.FliesAs.{ends}
 use Rattle.lone_logs.proofs.Living.{live_head, live_none, off_entry, off_live}
-use Rattle.lone_logs.proofs.Places.{flies_here, flies_still}
 use Rattle.lone_logs.proofs.Remaining.{ending_headed, same_flush}
-use Rattle.lone_logs.proofs.Tables.{live_table}
 
 -- ---- a flush whose header is told is one with the tail that it had
 
@@ -138,13 +131,16 @@ module _ (v : Volume) (s : Begun (trees_on v)) (w : World (trees_on v)) (d : ℕ
           → (left_live (if t then None else Some e) (live_in ring b) ≡ (head_of (trees_on v) s w false).live b)
           ⊎ ((left_live (if t then None else Some e) (live_in ring b) ≡ None) × ((bytes : List ℕ) → (head_of (trees_on v) s w false).live b ≡ Some bytes → w.disk.blocks b ≡ bytes))
       left_or e none kept at false less = inl (sym (live_head v s w d st is b))
-      left_or e none kept at true less = inr (refl, λ bytes lives.
-          let below : behind_tail st.log e.first < behind_tail st.log tail = grind (arith, nat_tests, less) in
-          let home : e.way ≡ Home = elim (cases_Bool (is_home e.way)) [
-            | inl there ↦ is_there e.way there
-            | inr away ↦ absurd (dropped_needs st.log f tail b e tells below (record { live = at; away = away; unlogged = ap is_some none; unrevoked = kept }))
-          ] in
-          is.disk.blocks b (off_entry v s w d st is b e at) ∙ some_same (sym (is.home b e at home) ∙ sym (live_head v s w d st is b) ∙ lives))
+      left_or e none kept at true less = inr (
+        refl,
+        λ bytes lives.
+            let below : behind_tail st.log e.first < behind_tail st.log tail = grind (arith, nat_tests, less) in
+            let home : e.way ≡ Home = elim (cases_Bool (is_home e.way)) [
+              | inl there ↦ is_there e.way there
+              | inr away ↦ absurd (dropped_needs st.log f tail b e tells below (record { live = at; away = away; unlogged = ap is_some none; unrevoked = kept }))
+            ] in
+            is.disk.blocks b (off_entry v s w d st is b e at) ∙ some_same (sym (is.home b e at home) ∙ sym (live_head v s w d st is b) ∙ lives),
+      )
 
       by : (o : Option Version) → table.get f.versions b ≡ o → (c : Bool) → set.contains f.revokes b ≡ c → (x : Option Entry) → table.get st.log.live b ≡ x
           → ((bytes : List ℕ) × (bytes_of f.versions b ≡ Some bytes) × (live_with ring st.log f tail b ≡ Some bytes))

@@ -1,5 +1,5 @@
 -- A live block of a node is on its way home.
-use Rattle.std.proofs.Common.{◌≡◌, ◌≢◌, ◌⊎◌, ℕ, suc, ◌<◌, ◌≤◌, inl, inr, Bool, true, false, List, length, Option, None, Some, refl, sym, ap, subst, ◌∙◌, arith}
+use Rattle.std.proofs.Common.{◌≡◌, ◌⊎◌, ℕ, ◌<◌, inl, inr, Bool, true, false, List, length, Option, None, Some, refl, sym, ap, subst, ◌∙◌}
 use Rattle.std.specs.FinMap as table
 use Rattle.std.specs.Ordering.{nat_cmp}
 use Rattle.std.proofs.lemmas.Bool.{cases_eq}
@@ -9,23 +9,20 @@ use Rattle.cluster_laws.specs.Rings.{Rings}
 use Rattle.cluster_laws.specs.World.{World}
 use Rattle.cluster_laws.proofs.Cells.{at-other, at-same}
 use Rattle.gfs2_layout.specs.Inode.{content_block}
-use Rattle.glock_names.specs.declared.LockName.{LockName}
 use Rattle.image_disks.specs.Disks.{IsDiskOf}
 use Rattle.image_machine.specs.Volumes.{IsPlace, Volume}
 use Rattle.image_model.specs.Claims.{every}
 use Rattle.image_model.specs.Stands.{IsJournalAt}
 use Rattle.image_model.proofs.Held.{none_some, some_same}
 use Rattle.journal_outcomes.specs.Images.{HeaderFliesTo, IsPlaceIn, PutsHome, ring_at, to_journal}
-use Rattle.journal_outcomes.specs.Rings.{InFlight, MayFly}
-use Rattle.log_layout.specs.Chunks.{Logged}
+use Rattle.journal_outcomes.specs.Rings.{InFlight}
 use Rattle.log_layout.specs.Journal.{Ring}
 use Rattle.log_layout.specs.Live.{live_in}
-use Rattle.log_rings.specs.Laid.{HasContent, IsEntryOf, IsLiveAs, IsRingOf}
+use Rattle.log_rings.specs.Laid.{HasContent, IsEntryOf, IsLiveAs}
 use Rattle.log_tables.specs.Kept.{is_home}
-use Rattle.log_tables.specs.Versions.{Way}
 use Rattle.log_tables.specs.Versions.Way.{Home, Away, Flying}
 use Rattle.log_tables.proofs.Counting.{apart, at_key}
-use Rattle.log_values.specs.Homing.{HomeAnswer, IsAwayUnder}
+use Rattle.log_values.specs.Homing.{HomeAnswer}
 use Rattle.log_values.specs.Homing.HomeAnswer.{goes_home}
 use Rattle.log_values.specs.Log.{Entry, Flush, LogValue}
 use Rattle.log_values.specs.Sound.{IsSoundLog}
@@ -115,12 +112,12 @@ module _ (v : Volume) (s : Begun (trees_on v)) (w : World (trees_on v)) (d : ℕ
   others : (c : ℕ) (x : List ℕ) → flying c ≡ Some x → IsPlaceIn st.image v.layout c ⊎ PutsHome st.image v.layout flying c x
   others c x f = elim (cases_eq c b) [
     | inl same ↦ inr (record {
-        journal = 0;
-        dinode = d;
-        at = is.journal.is;
-        live = ap (live_in ring) same ∙ lives ∙ sym (ap flying same ∙ besides.there) ∙ f;
-        still_live = λ flies. absurd (no_header 0 d is.journal.is flies);
-      })
+      journal = 0;
+      dinode = d;
+      at = is.journal.is;
+      live = ap (live_in ring) same ∙ lives ∙ sym (ap flying same ∙ besides.there) ∙ f;
+      still_live = λ flies. absurd (no_header 0 d is.journal.is flies);
+    })
     | inr other ↦ elim (is.disk.may.others c x (sym (besides.others c other) ∙ f)) [
       | inl place ↦ inl place
       | inr home ↦ inr (record { journal = home.journal; dinode = home.dinode; at = home.at; live = home.live; still_live = λ flies. absurd (no_header home.journal home.dinode home.at flies) })

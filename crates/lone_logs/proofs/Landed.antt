@@ -1,7 +1,5 @@
 -- All that was in flight to the disk of a node is in its place: the machine's disk then, and the node's journal.
-use Rattle.std.proofs.Common.{◌≡◌, ◌≢◌, ◌⊎◌, ℕ, zero, suc, ◌<◌, ◌≤◌, inl, inr, Bool, true, false, List, length, Option, None, Some, refl, sym, ap, subst, ◌∙◌, arith}
-use Rattle.std.proofs.lemmas.Bool.{cases_eq}
-use Rattle.cluster_laws.specs.Mirror.{Disk}
+use Rattle.std.proofs.Common.{◌≡◌, ◌⊎◌, ℕ, suc, ◌<◌, inl, inr, Bool, List, length, Option, None, Some, refl, sym, ap, ◌∙◌}
 use Rattle.cluster_laws.specs.Rings.{Rings}
 use Rattle.cluster_laws.specs.World.{World}
 use Rattle.gfs2_layout.specs.Inode.{content_block}
@@ -10,7 +8,6 @@ use Rattle.image_disks.proofs.Finding.{pick, place_or_not}
 use Rattle.image_machine.specs.Volumes.{IsPlace, Volume}
 use Rattle.image_model.specs.Claims.{every}
 use Rattle.image_model.specs.Image.{Image}
-use Rattle.image_model.proofs.Held.{none_some, some_same}
 use Rattle.journal_outcomes.specs.Images.{IsImageOutcome, NoFalseHeader, ring_at, to_journal}
 use Rattle.log_layout.specs.Journal.{accepted}
 use Rattle.lone_machine.specs.Alone.{Begun, IsAlone, MaySettle, begun}

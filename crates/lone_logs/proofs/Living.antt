@@ -1,5 +1,5 @@
 -- Live blocks of a node's log: what is live of them in its journal, and that none is a place of a journal.
-use Rattle.std.proofs.Common.{◌≡◌, ◌⊎◌, ℕ, ◌<◌, inl, inr, Bool, true, false, List, ◌++◌, ◌∷◌, Option, None, Some, refl, sym, ap, subst, ◌∙◌}
+use Rattle.std.proofs.Common.{◌≡◌, ◌⊎◌, ℕ, ◌<◌, inl, inr, false, List, ◌∷◌, None, Some, sym, ap, subst, ◌∙◌}
 use Rattle.std.specs.FinMap as table
 use Rattle.std.specs.Option.{option_map}
 use Rattle.cluster_laws.specs.World.{World}
@@ -8,14 +8,13 @@ use Rattle.image_model.specs.Replays.{MayChange}
 use Rattle.journal_outcomes.specs.Images.{ring_at}
 use Rattle.log_layout.specs.Chunks.{Logged}
 use Rattle.log_layout.specs.Live.{live_entry, live_in}
-use Rattle.log_rings.specs.Laid.{HasContent, IsEntryOf, Laid, SequencesRise, sequenced_all}
+use Rattle.log_rings.specs.Laid.{HasContent, IsEntryOf, SequencesRise, sequenced_all}
 use Rattle.log_rings.proofs.Cancelling.{live_laid}
 use Rattle.log_rings.proofs.Tails.{entry_of, live_is, none_of}
-use Rattle.log_tables.specs.Versions.Way.{Home, Away, Flying}
+use Rattle.log_tables.specs.Versions.Way.{Away, Flying}
 use Rattle.log_values.specs.Log.{Entry}
 use Rattle.lone_machine.specs.Alone.{Begun, head_of}
-use Rattle.lone_logs.specs.States.{IsLoggedNode, NodeState, flies_home, trees_on}
-use Rattle.lone_logs.proofs.Places.{back_within}
+use Rattle.lone_logs.specs.States.{IsLoggedNode, NodeState, trees_on}
 
 module _ (v : Volume) (s : Begun (trees_on v)) (w : World (trees_on v)) (d : ℕ) (st : NodeState) (is : IsLoggedNode v s w d st) where
   pub entry_at : (b : ℕ) (e : Entry) → table.get st.log.live b ≡ Some e → IsEntryOf is.laid b e

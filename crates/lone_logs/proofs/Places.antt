@@ -1,5 +1,5 @@
 -- A write to a place of the node's journal: what is in flight with it.
-use Rattle.std.proofs.Common.{◌≡◌, ◌≢◌, ℕ, ◌<◌, List, length, Option, None, Some, refl, sym, ap, subst, ◌∙◌}
+use Rattle.std.proofs.Common.{◌≡◌, ◌≢◌, ℕ, ◌<◌, List, None, Some, sym, ap, subst, ◌∙◌}
 use Rattle.cluster_laws.specs.World.{World}
 use Rattle.gfs2_layout.specs.Inode.{content_block}
 use Rattle.image_machine.specs.Volumes.{IsPlace, Volume}

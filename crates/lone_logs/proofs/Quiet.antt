@@ -1,16 +1,15 @@
 -- A node with its log answers calls that change nothing.
-use Rattle.std.proofs.Common.{◌≡◌, ℕ, suc, ◌<◌, ◌≤◌, ◌⊎◌, ◌++◌, inl, inr, Bool, true, false, not, ◌&&◌, ◌||◌, List, [], ◌∷◌, Option, None, Some, refl, sym, ap, subst, ◌∙◌, true≢false, arith}
+use Rattle.std.proofs.Common.{◌≡◌, ℕ, suc, ◌<◌, ◌≤◌, inl, inr, Bool, true, false, not, ◌&&◌, List, [], ◌∷◌, Option, None, Some, refl, sym, ap, subst, ◌∙◌, true≢false, arith}
 use Rattle.std.specs.Prelude.{◌==◌, if◌then◌else◌}
-use Rattle.std.specs.FinMap as table
 use Rattle.std.specs.List.{list_any}
 use Rattle.std.specs.Option.{option_map}
-use Rattle.std.proofs.lemmas.Bool.{cases_eq, cond-false}
+use Rattle.std.proofs.lemmas.Bool.{cases_eq}
 use Rattle.file_tree.specs.declared.call.Call.TheVariants as calls
 use Rattle.file_tree.specs.declared.reply.Reply.TheVariants as replies
 use Rattle.cluster_laws.specs.Book.{at, taken, tried}
 use Rattle.cluster_laws.specs.Files.{Part, laid}
 use Rattle.cluster_laws.specs.Log.{Calm, Untouched}
-use Rattle.cluster_laws.specs.Notes.{Caches, IsHome}
+use Rattle.cluster_laws.specs.Notes.{Caches}
 use Rattle.cluster_laws.specs.World.{World, nothing}
 use Rattle.cluster_laws.proofs.Cells.{at-other, at-same}
 use Rattle.glock_names.specs.declared.LockName.{LockName}
@@ -19,9 +18,8 @@ use Rattle.drafts.specs.declared.change.Written.{Written}
 use Rattle.image_changes.specs.Does.{is_empty, is_nothing}
 use Rattle.image_machine.specs.Cells.{BlockCell, cells_of, free_cell, group_of, or_else, written_cell}
 use Rattle.image_machine.specs.Volumes.{Volume}
-use Rattle.log_tables.specs.Kept.{is_home}
 use Rattle.log_values.specs.Blocks as set
-use Rattle.log_values.specs.Log.{Entry, Flush}
+use Rattle.log_values.specs.Log.{Flush}
 use Rattle.lone_images.specs.Lone.{cache_after, kept_cell}
 use Rattle.lone_images.proofs.Calling.{calls_go_on, spaceless_goes_on, sync_goes_on}
 use Rattle.lone_machine.specs.Alone.{Begun, now, publishes}

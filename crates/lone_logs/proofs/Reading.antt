@@ -1,6 +1,6 @@
 -- A node with its log reads a block that it doesn't keep.
-use Rattle.std.proofs.Common.{◌≡◌, ◌≢◌, ℕ, zero, suc, ◌<◌, ◌≤◌, inl, inr, Bool, true, false, List, [], ◌∷◌, Option, None, Some, refl, sym, ap, subst, ◌∙◌, arith}
-use Rattle.std.specs.Prelude.{◌==◌, ◌||◌, if◌then◌else◌, slice_get, cond}
+use Rattle.std.proofs.Common.{◌≡◌, ℕ, zero, suc, inl, inr, Bool, true, false, List, [], ◌∷◌, Option, None, Some, refl, sym, ap, ◌∙◌, arith}
+use Rattle.std.specs.Prelude.{◌==◌, ◌||◌, slice_get, cond}
 use Rattle.std.specs.FinMap as table
 use Rattle.std.specs.List.{list_any}
 use Rattle.std.specs.Option.{option_map}
@@ -9,7 +9,7 @@ use Rattle.std.proofs.lemmas.Bool.{cases_eq, cond-true, eq-eqb}
 use Rattle.std.proofs.lemmas.Cmp.{nat_cmp_total}
 use Rattle.finite_maps.proofs.Keys.{tied, untied}
 use Rattle.file_tree.specs.Tree.{Tree}
-use Rattle.cluster_laws.specs.Book.{Seen as SeenBy, W}
+use Rattle.cluster_laws.specs.Book.{Seen as SeenBy}
 use Rattle.cluster_laws.specs.Contents.{contents, places}
 use Rattle.cluster_laws.specs.Files.{Agrees, Un, laid}
 use Rattle.cluster_laws.specs.World.{World}
@@ -17,7 +17,7 @@ use Rattle.cluster_laws.proofs.Bridging.{needs_are_done}
 use Rattle.cluster_laws.proofs.Cells.{at-other, at-same, seen_in}
 use Rattle.glock_names.specs.Views.{Seen}
 use Rattle.glock_names.specs.declared.LockName.{LockName}
-use Rattle.image_changes.specs.Changes.{IsRingPlace, Place, cover, inode_lock, is_free}
+use Rattle.image_changes.specs.Changes.{Place, cover, inode_lock, is_free}
 use Rattle.image_changes.specs.Does.{IsOf}
 use Rattle.image_machine.specs.Cells.{BlockCell, HasBlocksOf}
 use Rattle.image_machine.specs.Volumes.{IsPlace, StandsAt, Volume, images_of}
@@ -28,13 +28,12 @@ use Rattle.image_model.specs.Owners.{Owners}
 use Rattle.image_model.specs.Stands.{IsJournalAt, Layout}
 use Rattle.image_model.proofs.Held.{none_some, some_same}
 use Rattle.lone_images.specs.Lone.{all_locks}
-use Rattle.lone_machine.specs.Alone.{Begun, IsAlone, now, reads}
+use Rattle.lone_machine.specs.Alone.{Begun, now, reads}
 use Rattle.lone_machine.specs.Laws.{StaysAlone}
 use Rattle.lone_machine.proofs.Going.{reads_alone, sound}
-use Rattle.log_values.specs.Log.{Entry}
 use Rattle.tree_histories.specs.Trees.{rules_of}
 use Rattle.lone_logs.specs.Laws.{IsItsView, ReadsAreLogged, StaysLogged, read_of}
-use Rattle.lone_logs.specs.States.{HasVersions, IsLoggedNode, NodeState, trees_on}
+use Rattle.lone_logs.specs.States.{IsLoggedNode, NodeState, trees_on}
 use Rattle.lone_logs.proofs.Booking.{booked, has_versions}
 
 -- ---- journals have no lock

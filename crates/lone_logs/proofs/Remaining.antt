@@ -1,6 +1,5 @@
 -- What remains of a node with its log.
 use Rattle.std.proofs.Common.{◌≡◌, ◌⊎◌, ℕ, ◌≤◌, inl, inr, Bool, true, false, Option, None, Some, refl, sym, ap, subst, ◌∙◌}
-use Rattle.std.proofs.lemmas.Bool.{cases_Bool}
 use Rattle.file_tree.specs.Tree.{Tree}
 use Rattle.cluster_history.specs.History.{tree_of}
 use Rattle.cluster_history.specs.History as history
@@ -19,7 +18,7 @@ use Rattle.image_disks.specs.Disks.{IsOutcomeOf}
 use Rattle.image_disks.specs.Lone.{LoneOutcomesStand, remaining}
 use Rattle.machine_outcomes.specs.Outcomes.{OutcomesAreTheMachines}
 use Rattle.lone_logs.specs.Laws.{IsHeadNumber, ItsHistoryIsLegal, ItsOutcomesStand, RemainsWith}
-use Rattle.lone_logs.specs.States.{HasHeads, IsHeaded, IsLoggedNode, NodeState, trees_on}
+use Rattle.lone_logs.specs.States.{IsHeaded, IsLoggedNode, NodeState, trees_on}
 
 pub no_flush : (f : Flush) → None ≡ Some f → ⊥
 no_flush f e = cc

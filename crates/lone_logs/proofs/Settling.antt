@@ -1,6 +1,5 @@
 -- A barrier while no header is in flight.
-use Rattle.std.proofs.Common.{◌≡◌, ◌≢◌, ◌⊎◌, ℕ, zero, suc, ◌<◌, ◌≤◌, ◌+◌, inl, inr, Bool, true, false, List, length, Option, None, Some, refl, sym, ap, subst, ◌∙◌, arith}
-use Rattle.std.specs.Prelude.{slice_get}
+use Rattle.std.proofs.Common.{◌≡◌, ◌⊎◌, ℕ, suc, ◌<◌, inl, inr, Bool, true, false, List, length, Option, None, Some, refl, sym, ap, subst, ◌∙◌, arith}
 use Rattle.std.specs.FinMap as table
 use Rattle.std.specs.Ordering.{nat_cmp}
 use Rattle.std.proofs.lemmas.Bool.{cases_eq}
@@ -8,7 +7,7 @@ use Rattle.std.proofs.lemmas.Option.{slice_get_within}
 use Rattle.cluster_laws.specs.Mirror.{Head}
 use Rattle.cluster_laws.specs.World.{World}
 use Rattle.cluster_laws.proofs.Cells.{at-same}
-use Rattle.image_machine.specs.Volumes.{IsPlace, Volume}
+use Rattle.image_machine.specs.Volumes.{Volume}
 use Rattle.image_model.specs.Image.{Image}
 use Rattle.image_model.proofs.Held.{none_some, some_same}
 use Rattle.journal_outcomes.specs.Images.{ring_at, to_journal}
@@ -17,19 +16,19 @@ use Rattle.log_layout.specs.Journal.{Ring}
 use Rattle.log_layout.specs.Chunks.{Logged}
 use Rattle.log_layout.specs.Live.{live_in}
 use Rattle.log_layout.specs.declared.log_header.LogHeader.{LogHeader}
-use Rattle.log_rings.specs.Flights.{AreWritten, MayFlyTo, chunk_place}
+use Rattle.log_rings.specs.Flights.{MayFlyTo, chunk_place}
 use Rattle.log_rings.proofs.Whole.{fits_in}
-use Rattle.log_rings.specs.Laid.{HasContent, IsEntryOf, IsLiveAs, IsRingOf, Laid}
+use Rattle.log_rings.specs.Laid.{HasContent, IsLiveAs, IsRingOf, Laid}
 use Rattle.log_tables.specs.Kept.{is_home}
 use Rattle.log_tables.specs.Versions.{Way}
 use Rattle.log_tables.specs.Versions.Way.{Home, Away, Flying}
 use Rattle.node_journal.specs.Places.{place_on}
 use Rattle.written_journals.proofs.RingsWritten.{on_inside}
-use Rattle.log_values.specs.Flushing.{FlushStep, at_stage, first_place, flush_chunks, settled, settled_way}
+use Rattle.log_values.specs.Flushing.{FlushStep, first_place, flush_chunks, settled, settled_way}
 use Rattle.log_values.specs.Flushing.FlushStep.{a_barrier, the_last}
 use Rattle.log_values.specs.Homing.{Settles}
 use Rattle.log_values.specs.Log.{Entry, Flush, LogValue, Stage}
-use Rattle.log_values.specs.Log.Stage.{Ending, Headed, Writing}
+use Rattle.log_values.specs.Log.Stage.{Ending, Headed}
 use Rattle.log_values.specs.Sound.{IsSoundLog}
 use Rattle.log_values.specs.declared.steps.LogStep.TheVariants as step
 use Rattle.log_values.proofs.Going.{settling_sound, step_sound}
@@ -41,9 +40,9 @@ use Rattle.lone_logs.specs.Laws.{BarriersSettle, FirstBarriersSettle, StaysLogge
 use Rattle.lone_logs.specs.States.{FliesAs, FliesToJournal, HasLandedAs, HasVersions, IsHeaded, IsLoggedNode, IsSent, NodeState, flies_home, trees_on}
 use Rattle.lone_logs.specs.States.FliesAs.{ends, headed, writes}
 use Rattle.lone_logs.proofs.Booking.{has_versions}
-use Rattle.lone_logs.proofs.Landed.{blocks_then, disk_then, flown_there, may_settle, of, others_none, places_then, rings_then, settled_to, size_then, still_there}
+use Rattle.lone_logs.proofs.Landed.{blocks_then, disk_then, flown_there, may_settle, of, others_none, places_then, rings_then, settled_to, still_there}
 use Rattle.lone_logs.proofs.Living.{live_away, off_entry}
-use Rattle.lone_logs.proofs.Remaining.{ending_headed, no_flush, same_flush, writing_headed}
+use Rattle.lone_logs.proofs.Remaining.{ending_headed, same_flush, writing_headed}
 use Rattle.lone_logs.proofs.Staying.{live_stays, stays}
 use Rattle.lone_logs.proofs.Writing.{AreSent, are_sent}
 

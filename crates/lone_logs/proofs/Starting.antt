@@ -1,21 +1,19 @@
 -- A node with an empty log begins on an image at rest.
-use Rattle.std.proofs.Common.{◌≡◌, ℕ, suc, ◌<◌, ◌≤◌, true, List, [], Option, None, Some, refl, sym, ap, subst, ◌∙◌, arith}
+use Rattle.std.proofs.Common.{◌≡◌, ℕ, ◌<◌, true, [], Some, refl, sym, ap, subst, ◌∙◌, arith}
 use Rattle.std.specs.FinMap as table
 use Rattle.std.specs.Ordering.{nat_cmp}
-use Rattle.std.specs.Option.{option_map}
 use Rattle.file_tree.specs.Tree.{Tree}
 use Rattle.cluster_laws.specs.Rings.{Rings}
 use Rattle.cluster_laws.specs.World.{World}
 use Rattle.image_changes.specs.Instances.{StandsBy}
 use Rattle.image_disks.proofs.Lone.{images_begin_at_rest}
-use Rattle.image_machine.specs.Cells.{BlockCell}
 use Rattle.image_machine.specs.Volumes.{Volume, volume_of}
 use Rattle.image_model.specs.Image.{Image}
 use Rattle.image_model.specs.Owners.{Owners}
 use Rattle.image_model.specs.Stands.{IsJournalAt, Layout}
 use Rattle.image_model.proofs.Held.{none_some, some_same}
 use Rattle.journal_outcomes.specs.Images.{ring_at}
-use Rattle.log_layout.specs.Journal.{IsClean, Ring, head_in}
+use Rattle.log_layout.specs.Journal.{IsClean, head_in}
 use Rattle.log_layout.specs.declared.log_header.LogHeader.{LogHeader}
 use Rattle.log_layout.proofs.BestHeaders.{head_there}
 use Rattle.log_rings.specs.Laws.{CleanRingsBegin}

@@ -1,11 +1,10 @@
 -- A journal with other bytes at places outside tail to head is still that of the log.
-use Rattle.std.proofs.Common.{◌≡◌, ◌≢◌, ◌⊎◌, ◌+◌, ◌<◌, ◌≤◌, ℕ, suc, inl, inr, true, false, List, Option, None, Some, refl, sym, ap, subst, ◌∙◌, arith}
+use Rattle.std.proofs.Common.{◌≡◌, ◌⊎◌, ◌+◌, ◌<◌, ◌≤◌, ℕ, inl, inr, List, None, Some, sym, ap, subst, ◌∙◌, arith}
 use Rattle.journal_outcomes.proofs.Heads.{behind_head, head_is_first}
 use Rattle.log_layout.specs.Journal.{Ring, accepted, head_in, next, tail_of, way}
 use Rattle.log_layout.specs.Live.{live_in}
-use Rattle.log_layout.specs.declared.log_header.LogHeader.{LogHeader}
 use Rattle.log_layout.proofs.BestHeaders.{head_there}
-use Rattle.image_model.proofs.Held.{none_some, some_same}
+use Rattle.image_model.proofs.Held.{none_some}
 use Rattle.node_journal.specs.Places.{place_on}
 use Rattle.written_journals.proofs.RingsWritten.{on_inside, way_back}
 use Rattle.log_values.specs.Log.{LogValue}

@@ -1,5 +1,5 @@
 -- There is a table of what is live behind a flush.
-use Rattle.std.proofs.Common.{◌≡◌, ℕ, Bool, true, false, not, cond, List, [], ◌∷◌, Option, None, Some, refl, sym, ap, ◌∙◌, is_some}
+use Rattle.std.proofs.Common.{◌≡◌, ℕ, Bool, true, false, cond, List, [], ◌∷◌, Option, None, Some, refl, sym, ap, ◌∙◌, is_some}
 use Rattle.std.specs.Prelude.{if◌then◌else◌, nat_lt}
 use Rattle.std.specs.FinMap as table
 use Rattle.std.specs.Ordering.{eq_by_cmp, nat_cmp}
@@ -49,6 +49,6 @@ module _ (log : LogValue) (f : Flush) (tail : ℕ) where
   live_table = (
     put_over (table.entries f.versions) (first_place log) (table.retain_keys log.live (λ b. is_some (rest b))),
     λ b.
-    put_is (table.entries f.versions) (first_place log) (table.retain_keys log.live (λ b. is_some (rest b))) b
-    ∙ (λ i. logged_over (sym (table.get-entries f.versions b) i) (first_place log) ((table.get-retain_keys log.live (λ b. is_some (rest b)) b (λ x e. ap (λ q. is_some (rest q)) (sym (ranked b x Equal (sym e)))) ∙ kept_is b) i)),
+        put_is (table.entries f.versions) (first_place log) (table.retain_keys log.live (λ b. is_some (rest b))) b
+        ∙ (λ i. logged_over (sym (table.get-entries f.versions b) i) (first_place log) ((table.get-retain_keys log.live (λ b. is_some (rest b)) b (λ x e. ap (λ q. is_some (rest q)) (sym (ranked b x Equal (sym e)))) ∙ kept_is b) i)),
   )

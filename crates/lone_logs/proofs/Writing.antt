@@ -1,10 +1,9 @@
 -- A block of a flush is in flight to its place.
-use Rattle.std.proofs.Common.{◌≡◌, ◌≢◌, ◌⊎◌, ℕ, ◌<◌, ◌+◌, inl, inr, Bool, true, false, List, length, Option, None, Some, refl, sym, ap, subst, ◌∙◌, arith}
+use Rattle.std.proofs.Common.{◌≡◌, ◌≢◌, ℕ, ◌<◌, ◌+◌, inl, inr, List, length, Some, refl, sym, ap, subst, ◌∙◌, arith}
 use Rattle.std.specs.Prelude.{slice_get, get_or}
 use Rattle.std.proofs.lemmas.Bool.{cases_eq}
 use Rattle.std.proofs.lemmas.Option.{slice_get-get_or, slice_get_within}
 use Rattle.cluster_laws.specs.World.{World}
-use Rattle.image_disks.specs.Disks.{IsDiskOf}
 use Rattle.image_machine.specs.Volumes.{Volume}
 use Rattle.image_model.specs.Stands.{IsJournalAt}
 use Rattle.image_model.proofs.Held.{none_some, some_same}
@@ -13,12 +12,11 @@ use Rattle.journal_outcomes.specs.Rings.{InFlight}
 use Rattle.log_layout.specs.Journal.{Ring, head_in}
 use Rattle.log_layout.specs.declared.log_header.LogHeader.{LogHeader}
 use Rattle.log_rings.specs.Flights.{MayFlyTo, chunk_place}
-use Rattle.log_rings.specs.Laid.{IsRingOf}
 use Rattle.log_rings.specs.Laws.{AreBlocksOf, FlushesFly, HasNumbers}
 use Rattle.log_values.specs.Flushing.{FlushStep, at_stage, block_at, flush_chunks}
 use Rattle.log_values.specs.Flushing.FlushStep.{a_block}
-use Rattle.log_values.specs.Log.{Flush, LogValue, Stage}
-use Rattle.log_values.specs.Log.Stage.{Ending, Headed, Writing}
+use Rattle.log_values.specs.Log.{Flush, LogValue}
+use Rattle.log_values.specs.Log.Stage.{Writing}
 use Rattle.log_values.specs.Sound.{IsSoundLog}
 use Rattle.log_values.specs.declared.steps.LogStep.TheVariants as step
 use Rattle.log_values.proofs.Going.{step_sound}
@@ -27,7 +25,7 @@ use Rattle.lone_logs.specs.Laws.{BlocksAreWritten, StaysLogged}
 use Rattle.lone_logs.specs.States.{FliesAs, FliesBesides, FliesToJournal, HasVersions, IsHeaded, IsLoggedNode, IsSent, NodeState, trees_on}
 use Rattle.lone_logs.specs.States.FliesAs.{writes}
 use Rattle.lone_logs.proofs.Flying.{OnlyBlocksFly, no_header, none_are_blocks, still_disk}
-use Rattle.lone_logs.proofs.Places.{back_within, content_at, flies_here, flies_still, none_elsewhere, off_places, still_elsewhere, within}
+use Rattle.lone_logs.proofs.Places.{flies_here, flies_still, off_places, still_elsewhere}
 use Rattle.lone_logs.proofs.Remaining.{same_flush, writing_headed}
 
 -- of a flush whose blocks are being written
@@ -104,11 +102,14 @@ module _ (fly : FlushesFly) (v : Volume) (s : Begun (trees_on v)) (w : World (tr
     | inl same ↦ subst (λ n. (head : LogHeader) × (head_in (ring_at st.image n) ≡ Some head) × OnlyBlocksFly (ring_at st.image n) head (to_journal st.image n flying)) (sym same)
         (is.ring.head, is.ring.headed, blocks_alone ring now_flies st.log f (k + 1) is.ring.head (omega (arith, inside)) blocks after)
     | inr other ↦
-        let r = is.disk.readable j m at in
-        (r.head, r.headed, none_are_blocks (ring_at st.image m) r.head (to_journal st.image m flying)
-        (λ p low.
-        let low' : p < v.places m = subst (λ n. p < n) (is.disk.many j m at) low in
-        ap flying (is.disk.there j m p at low') ∙ still_elsewhere v s w d st is (chunk_place st.log k) place_low bytes flying besides j m p at other low'))
+        let r = is.disk.readable j m at in (
+          r.head,
+          r.headed,
+          none_are_blocks (ring_at st.image m) r.head (to_journal st.image m flying)
+              (λ p low.
+              let low' : p < v.places m = subst (λ n. p < n) (is.disk.many j m at) low in
+              ap flying (is.disk.there j m p at low') ∙ still_elsewhere v s w d st is (chunk_place st.log k) place_low bytes flying besides j m p at other low'),
+        )
   ]
 
   whole : (b : ℕ) (x : List ℕ) → flying b ≡ Some x → length x ≡ st.image.size

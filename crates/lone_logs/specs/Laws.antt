@@ -1,5 +1,5 @@
 -- Laws of one node alone on an image, with its log: one for each of its steps, and what remains of it.
-use Rattle.std.specs.Prelude.{ℕ, ◌≡◌, ◌≢◌, ◌⊎◌, ◌+◌, ◌≤◌, ◌++◌, true, false, if◌then◌else◌, suc, List, [], ◌∷◌, length, None, Some}
+use Rattle.std.specs.Prelude.{ℕ, ◌≡◌, ◌⊎◌, ◌≤◌, ◌++◌, true, false, suc, List, [], ◌∷◌, None, Some}
 use Rattle.std.specs.FinMap as table
 use Rattle.std.specs.Ordering.{nat_cmp}
 use Rattle.file_tree.specs.Tree.{Tree}
@@ -30,7 +30,7 @@ use Rattle.tree_histories.specs.Trees.{Told, TreeHeadline}
 use Rattle.image_machine.specs.Cells.{IsOfVolume, cells_of}
 use Rattle.image_machine.specs.Volumes.{Volume, images_of, volume_of}
 use Rattle.log_values.specs.Log.{Flush, Journal, LogValue}
-use Rattle.log_values.specs.Log.Stage.{Ending, Headed, Writing}
+use Rattle.log_values.specs.Log.Stage.{Headed, Writing}
 use Rattle.log_values.specs.Changes.{CanBeAdded, Suffices, with_change}
 use Rattle.log_values.specs.Flushing.{AllAreHome, FlushStep, HasRoom, IsDue, NothingIsLive, begun, begun_alone}
 use Rattle.log_values.specs.Homing.{HomeAnswer, Settles}
