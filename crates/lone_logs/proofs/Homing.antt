@@ -235,6 +235,7 @@ module _ (v : Volume) (s : Begun (trees_on v)) (w : World (trees_on v)) (d : ℕ
       only_headed = λ h. absurd (no_header 0 d is.journal.is h);
       heads = record { headed = is.heads.headed; one = is.heads.one };
       numbers = record { answered = is.numbers.answered; low = is.numbers.low; begun = is.numbers.begun; changed = is.numbers.changed; calm = is.numbers.calm };
+      may = is.may;
       versions = has_versions v s w w' log' st.numbers st.log.flush is.numbers.begun.1 (λ m c less. refl) (versions_with v s w st.log (table.insert st.log.live b sent) st.numbers st.log.flush is.versions);
       cached = stays.cached is.cached;
       keeps = is.keeps;

@@ -1,11 +1,13 @@
 -- A block of a flush is in flight to its place.
-use Rattle.std.proofs.Common.{◌≡◌, ◌≢◌, ℕ, ◌<◌, ◌+◌, inl, inr, List, length, Some, refl, sym, ap, subst, ◌∙◌, arith}
+use Rattle.std.proofs.Common.{◌≡◌, ◌≢◌, ℕ, ◌<◌, ◌+◌, inl, inr, List, length, Some, refl, sym, ap, subst, ◌∙◌, arith, Option}
 use Rattle.std.specs.Prelude.{slice_get, get_or}
 use Rattle.std.proofs.lemmas.Bool.{cases_eq}
 use Rattle.std.proofs.lemmas.Option.{slice_get-get_or, slice_get_within}
 use Rattle.cluster_laws.specs.World.{World}
 use Rattle.image_machine.specs.Volumes.{Volume}
 use Rattle.image_model.specs.Stands.{IsJournalAt}
+use Rattle.image_model.specs.Replays.{MayChange}
+use Rattle.log_values.specs.Changes.{is_flushed}
 use Rattle.image_model.proofs.Held.{none_some, some_same}
 use Rattle.journal_outcomes.specs.Images.{ring_at, to_journal}
 use Rattle.journal_outcomes.specs.Rings.{InFlight}
@@ -22,7 +24,7 @@ use Rattle.log_values.specs.declared.steps.LogStep.TheVariants as step
 use Rattle.log_values.proofs.Going.{step_sound}
 use Rattle.lone_machine.specs.Alone.{Begun}
 use Rattle.lone_logs.specs.Laws.{BlocksAreWritten, StaysLogged}
-use Rattle.lone_logs.specs.States.{FliesAs, FliesBesides, FliesToJournal, HasVersions, IsHeaded, IsLoggedNode, IsSent, NodeState, trees_on}
+use Rattle.lone_logs.specs.States.{HasUnlogged, FliesAs, FliesBesides, FliesToJournal, HasVersions, IsHeaded, IsLoggedNode, IsSent, NodeState, trees_on}
 use Rattle.lone_logs.specs.States.FliesAs.{writes}
 use Rattle.lone_logs.proofs.Flying.{OnlyBlocksFly, no_header, none_are_blocks, still_disk}
 use Rattle.lone_logs.proofs.Places.{flies_here, flies_still, off_places, still_elsewhere}
@@ -127,6 +129,10 @@ module _ (fly : FlushesFly) (v : Volume) (s : Begun (trees_on v)) (w : World (tr
   unheaded : IsHeaded st.log.flush → ⊥
   unheaded h = writing_headed k h.1 (sym stage ∙ ap (λ (x : Flush). x.stage) (same_flush (sym some ∙ h.2)) ∙ h.3)
 
+  may : (b : ℕ) → HasUnlogged log' b → MayChange st.image v.layout b
+  may b (inl e) = is.may b (inl e)
+  may b (inr e) = is.may b (inr (ap (λ (o : Option Flush). is_flushed o b) some ∙ e))
+
   written : IsSoundLog log' → StaysLogged v s w d (record st { log = log'; flying = flying })
   written sound = record {
     world = w;
@@ -171,6 +177,7 @@ module _ (fly : FlushesFly) (v : Volume) (s : Begun (trees_on v)) (w : World (tr
         one = λ not. is.heads.one unheaded;
       };
       numbers = is.numbers;
+      may = may;
       versions = subst (HasVersions v s w st.log st.numbers) some is.versions;
       cached = is.cached;
       keeps = is.keeps;
