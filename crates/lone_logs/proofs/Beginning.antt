@@ -25,6 +25,7 @@ use Rattle.lone_logs.specs.Laws.{FlushesBegin, HeadersBegin, StaysLogged}
 use Rattle.lone_logs.specs.States.{HasUnlogged, FliesAs, FliesToJournal, HasVersions, IsHeaded, IsLoggedNode, NodeState, bytes_of, trees_on}
 use Rattle.lone_logs.specs.States.FliesAs.{writes, ends}
 use Rattle.lone_logs.proofs.Remaining.{ending_headed, no_flush, same_flush, writing_headed}
+use Rattle.lone_logs.proofs.Rings.{ring_still}
 
 -- no call leaves no version, and no block has gone
 pub nothing_logged : (v : Volume) (B : Book (trees_on v)) (i lo : ℕ) → AreVersions (trees_on v) B i lo lo (bytes_of table.empty) (set.contains set.empty)
@@ -68,22 +69,7 @@ module _ (v : Volume) (s : Begun (trees_on v)) (w : World (trees_on v)) (d : ℕ
         journal = is.journal;
         sound = sound;
         laid = is.laid;
-        ring = record {
-          size = is.ring.size;
-          places = is.ring.places;
-          head = is.ring.head;
-          headed = is.ring.headed;
-          place = is.ring.place;
-          sequence = is.ring.sequence;
-          clean = is.ring.clean;
-          tail = is.ring.tail;
-          none = is.ring.none;
-          are = is.ring.are;
-          whole = is.ring.whole;
-          rise = is.ring.rise;
-          last = is.ring.last;
-          live = is.ring.live;
-        };
+        ring = ring_still (ring_at st.image d) st.log is.laid fresh gone (Some f) st.log.live is.ring is.ring.live;
         home = is.home;
         flies = flies;
         homeward = is.homeward;

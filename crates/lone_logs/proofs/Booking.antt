@@ -23,6 +23,7 @@ use Rattle.lone_machine.specs.Alone.{Begun, IsAlone, now}
 use Rattle.lone_machine.specs.Versions.{AreVersions, IsVersion}
 use Rattle.lone_logs.specs.States.{FliesAs, FliesToJournal, HasCallNumbers, HasUnlogged, HasVersions, IsLoggedNode, NodeState, Numbers, trees_on}
 use Rattle.lone_logs.specs.States.FliesAs.{ends, headed, writes}
+use Rattle.lone_logs.proofs.Rings.{ring_still}
 
 -- ---- versions, where no call is another one
 
@@ -98,22 +99,7 @@ module _ (v : Volume) (s : Begun (trees_on v)) (w : World (trees_on v)) (d : ℕ
     journal = is.journal;
     sound = sound;
     laid = is.laid;
-    ring = record {
-      size = is.ring.size;
-      places = is.ring.places;
-      head = is.ring.head;
-      headed = is.ring.headed;
-      place = is.ring.place;
-      sequence = is.ring.sequence;
-      clean = is.ring.clean;
-      tail = is.ring.tail;
-      none = is.ring.none;
-      are = is.ring.are;
-      whole = is.ring.whole;
-      rise = is.ring.rise;
-      last = is.ring.last;
-      live = is.ring.live;
-    };
+    ring = ring_still (ring_at st.image d) st.log is.laid fresh gone st.log.flush st.log.live is.ring is.ring.live;
     home = is.home;
     flies = flies_with (ring_at st.image d) (to_journal st.image d st.flying) st.log fresh gone st.log.flush is.flies;
     homeward = is.homeward;

@@ -43,6 +43,7 @@ use Rattle.lone_logs.proofs.Heading.{begins, chunks_stand, new_head, none_flies,
 use Rattle.lone_logs.proofs.Living.{changes_at}
 use Rattle.lone_logs.proofs.Places.{flies_here, flies_still, off_places, still_elsewhere}
 use Rattle.lone_logs.proofs.Tables.{live_table}
+use Rattle.lone_logs.proofs.Rings.{ring_still}
 
 module _ (fly : HeadersFly) (land : FlushesLand) (v : Volume) (s : Begun (trees_on v)) (w : World (trees_on v)) (d : ℕ) (st : NodeState) (f : Flush) (flying : InFlight) (is : IsLoggedNode v s w d st)
     (some : st.log.flush ≡ Some f) (tail : ℕ) (stage : f.stage ≡ Ending) (tells : IsTail st.log f tail) (numbers : HasNumbers st.log f)
@@ -94,22 +95,7 @@ module _ (fly : HeadersFly) (land : FlushesLand) (v : Volume) (s : Begun (trees_
   -- ---- the journal with the header in its place
 
   ring_of : IsRingOf ring log' is.laid
-  ring_of = record {
-    size = is.ring.size;
-    places = is.ring.places;
-    head = is.ring.head;
-    headed = is.ring.headed;
-    place = is.ring.place;
-    sequence = is.ring.sequence;
-    clean = is.ring.clean;
-    tail = is.ring.tail;
-    none = is.ring.none;
-    are = is.ring.are;
-    whole = is.ring.whole;
-    rise = is.ring.rise;
-    last = is.ring.last;
-    live = is.ring.live;
-  }
+  ring_of = ring_still ring st.log is.laid st.log.fresh st.log.gone (Some f') st.log.live is.ring is.ring.live
 
   abbrev behind : LogValue
   behind = record log' {

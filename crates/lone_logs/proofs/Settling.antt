@@ -46,6 +46,7 @@ use Rattle.lone_logs.proofs.Living.{live_away, off_entry}
 use Rattle.lone_logs.proofs.Remaining.{ending_headed, same_flush, writing_headed}
 use Rattle.lone_logs.proofs.Staying.{live_stays, stays}
 use Rattle.lone_logs.proofs.Writing.{AreSent, are_sent}
+use Rattle.lone_logs.proofs.Rings.{ring_still}
 
 -- ---- an entry that has settled
 
@@ -195,22 +196,7 @@ module _ (they_are : OutcomesAreTheMachines) (v : Volume) (s : Begun (trees_on v
         journal = is.journal;
         sound = sound;
         laid = is.laid;
-        ring = record {
-          size = ring_stays.size;
-          places = ring_stays.places;
-          head = ring_stays.head;
-          headed = ring_stays.headed;
-          place = ring_stays.place;
-          sequence = ring_stays.sequence;
-          clean = ring_stays.clean;
-          tail = ring_stays.tail;
-          none = ring_stays.none;
-          are = ring_stays.are;
-          whole = ring_stays.whole;
-          rise = ring_stays.rise;
-          last = ring_stays.last;
-          live = λ b. subst (IsLiveAs is.laid b) (sym (lives b)) (settled_live is.laid b (table.get st.log.live b) (is.ring.live b));
-        };
+        ring = ring_still ring' st.log is.laid st.log.fresh st.log.gone flush live ring_stays (λ b. subst (IsLiveAs is.laid b) (sym (lives b)) (settled_live is.laid b (table.get st.log.live b) (is.ring.live b)));
         home = home;
         flies = flies;
         homeward = λ b off. sym (ap flies_home (lives b) ∙ settled_rests (table.get st.log.live b));

@@ -29,6 +29,7 @@ use Rattle.lone_logs.specs.States.FliesAs.{writes}
 use Rattle.lone_logs.proofs.Flying.{OnlyBlocksFly, no_header, none_are_blocks, still_disk}
 use Rattle.lone_logs.proofs.Places.{flies_here, flies_still, off_places, still_elsewhere}
 use Rattle.lone_logs.proofs.Remaining.{same_flush, writing_headed}
+use Rattle.lone_logs.proofs.Rings.{ring_still}
 
 -- of a flush whose blocks are being written
 pub record AreSent (ring : Ring) (flying : InFlight) (log : LogValue) (f : Flush) (done : ℕ) : Type 0 where
@@ -151,22 +152,7 @@ module _ (fly : FlushesFly) (v : Volume) (s : Begun (trees_on v)) (w : World (tr
       journal = is.journal;
       sound = sound;
       laid = is.laid;
-      ring = record {
-        size = is.ring.size;
-        places = is.ring.places;
-        head = is.ring.head;
-        headed = is.ring.headed;
-        place = is.ring.place;
-        sequence = is.ring.sequence;
-        clean = is.ring.clean;
-        tail = is.ring.tail;
-        none = is.ring.none;
-        are = is.ring.are;
-        whole = is.ring.whole;
-        rise = is.ring.rise;
-        last = is.ring.last;
-        live = is.ring.live;
-      };
+      ring = ring_still ring st.log is.laid st.log.fresh st.log.gone (Some (record f { stage = Writing (k + 1) })) st.log.live is.ring is.ring.live;
       home = is.home;
       flies = writes (k + 1) after.sent after.only;
       homeward = λ b not. off_places v s w d st is (chunk_place st.log k) place_low bytes flying besides b not ∙ is.homeward b not;
