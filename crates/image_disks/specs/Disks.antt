@@ -67,6 +67,8 @@ pub record IsOutcomeOf (v : Volume) (d : Disk (Trees (images_of v))) (rings : Ri
   pub outcome : IsOutcome (Trees (images_of v)) d became
   pub replay : IsReplayOfRings (Trees (images_of v)) d rings choice became replayed
   pub near : (b : ℕ) → (replayed b ≡ full.at b) ⊎ IsPlace v b
+  -- a replay may still change what it might
+  pub change : (b : ℕ) → MayChange im v.layout b → MayChange left v.layout b
   -- a header that has come to its place, with all else that flew to its journal, counts
   pub landed : (j k : ℕ) → IsJournalAt v.layout j k → HeaderFliesTo im k flying → HasLandedAt im k flying left → choice j ≡ true
   -- and it is the machine's disk once all has settled so, with nothing in flight

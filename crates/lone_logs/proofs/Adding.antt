@@ -151,6 +151,17 @@ module _ (log : LogValue) (change : Change) (form : IsFormed change) where
           ∙ cond-false (frees change b) None (bytes_of log.fresh b) kept
           ∙ sym (ap (option_map (λ (x : Version). x.bytes)) (unwritten_version ws change.locks.items (without_all change.freed.items log.fresh) b e ∙ unfreed_version change.freed.items log.fresh b kept))
 
+  -- what is changed then was changed before, or is written
+  pub written_or_was : (b : ℕ) → table.contains_key (with_change log change).fresh b ≡ true → (writes change b ≡ true) ⊎ (table.contains_key log.fresh b ≡ true)
+  written_or_was b there = by (bytes_for ws b) refl (cases_Bool (frees change b))
+    where
+      by : (o : Option (List ℕ)) → bytes_for ws b ≡ o → (frees change b ≡ true) ⊎ (frees change b ≡ false) → (writes change b ≡ true) ⊎ (table.contains_key log.fresh b ≡ true)
+      by (Some bytes) e test = inl (ap is_some e)
+      by None e (inl freed) =
+          absurd (true≢false (sym there ∙ ap is_some (unwritten_version ws change.locks.items (without_all change.freed.items log.fresh) b e ∙ freed_version change.freed.items log.fresh b freed)))
+      by None e (inr kept) =
+          inr (sym (ap is_some (unwritten_version ws change.locks.items (without_all change.freed.items log.fresh) b e ∙ unfreed_version change.freed.items log.fresh b kept)) ∙ there)
+
   is_none : (o : Option (List ℕ)) → is_some o ≡ false → o ≡ None
   is_none None e = refl
   is_none (Some x) e = absurd (true≢false e)

@@ -1,5 +1,5 @@
 -- A flush begins.
-use Rattle.std.proofs.Common.{◌≡◌, ℕ, ◌<◌, ◌≤◌, None, Some, refl, sym, ap, subst, ◌∙◌, length, arith}
+use Rattle.std.proofs.Common.{◌≡◌, ℕ, ◌<◌, ◌≤◌, None, Some, refl, sym, ap, subst, ◌∙◌, length, arith, ◌⊎◌, inl, inr, true, true≢false, is_some}
 use Rattle.std.specs.FinMap as table
 use Rattle.std.specs.Ordering.{nat_cmp}
 use Rattle.std.specs.Option.{option_map}
@@ -22,9 +22,10 @@ use Rattle.lone_machine.specs.Alone.{Begun}
 use Rattle.lone_machine.specs.Versions.{AreVersions, IsVersion}
 use Rattle.lone_machine.proofs.Logging.{no_versions}
 use Rattle.lone_logs.specs.Laws.{FlushesBegin, HeadersBegin, StaysLogged}
-use Rattle.lone_logs.specs.States.{FliesAs, FliesToJournal, HasVersions, IsHeaded, IsLoggedNode, NodeState, bytes_of, trees_on}
+use Rattle.lone_logs.specs.States.{HasUnlogged, FliesAs, FliesToJournal, HasVersions, IsHeaded, IsLoggedNode, NodeState, bytes_of, trees_on}
 use Rattle.lone_logs.specs.States.FliesAs.{writes, ends}
 use Rattle.lone_logs.proofs.Remaining.{ending_headed, no_flush, same_flush, writing_headed}
+use Rattle.lone_logs.proofs.Rings.{ring_still}
 
 -- no call leaves no version, and no block has gone
 pub nothing_logged : (v : Volume) (B : Book (trees_on v)) (i lo : ℕ) → AreVersions (trees_on v) B i lo lo (bytes_of table.empty) (set.contains set.empty)
@@ -50,8 +51,8 @@ module _ (v : Volume) (s : Begun (trees_on v)) (w : World (trees_on v)) (d : ℕ
 
     pub begins_with : IsSoundLog with_flush → FliesAs (ring_at st.image d) (to_journal st.image d st.flying) with_flush f f.stage → ((t : ℕ) → f.stage ≡ Headed t → ⊥)
         → (st.numbers.low ≤ at) × (at ≤ st.numbers.answered) → HasVersions v s w with_flush (record st.numbers { begun = at }) (Some f)
-        → StaysLogged v s w d (record st { log = with_flush; numbers = record st.numbers { begun = at } })
-    begins_with sound flies early between versions = record {
+        → ((b : ℕ) → HasUnlogged with_flush b → HasUnlogged st.log b) → StaysLogged v s w d (record st { log = with_flush; numbers = record st.numbers { begun = at } })
+    begins_with sound flies early between versions unlogged = record {
       world = w;
       now = refl;
       items = refl;
@@ -68,22 +69,7 @@ module _ (v : Volume) (s : Begun (trees_on v)) (w : World (trees_on v)) (d : ℕ
         journal = is.journal;
         sound = sound;
         laid = is.laid;
-        ring = record {
-          size = is.ring.size;
-          places = is.ring.places;
-          head = is.ring.head;
-          headed = is.ring.headed;
-          place = is.ring.place;
-          sequence = is.ring.sequence;
-          clean = is.ring.clean;
-          tail = is.ring.tail;
-          none = is.ring.none;
-          are = is.ring.are;
-          whole = is.ring.whole;
-          rise = is.ring.rise;
-          last = is.ring.last;
-          live = is.ring.live;
-        };
+        ring = ring_still (ring_at st.image d) st.log is.laid fresh gone (Some f) st.log.live is.ring is.ring.live;
         home = is.home;
         flies = flies;
         homeward = is.homeward;
@@ -101,6 +87,7 @@ module _ (v : Volume) (s : Begun (trees_on v)) (w : World (trees_on v)) (d : ℕ
           calm = is.numbers.calm;
         };
         versions = versions;
+        may = λ b its. is.may b (unlogged b its);
         cached = is.cached;
         keeps = is.keeps;
         away = is.away;
@@ -113,7 +100,11 @@ flushes_begin v s w d st is none due room =
     (begins_sound st.log (begun st.log) is.sound (with_all none due room))
     (writes 0 (λ k bytes low e. absurd (omega (arith, low))) (λ p bytes low e. absurd (none_some (sym (idle v s w d st is none p low) ∙ e))))
     (λ t e. writing_headed 0 t e) ((let b = is.numbers.begun in omega (arith, b.0, b.1)), omega arith)
-    (fresh_is v s w d st is none, nothing_logged v w.book s.node st.numbers.answered)
+    (fresh_is v s w d st is none, nothing_logged v w.book s.node st.numbers.answered) unlogged
+  where
+    unlogged : (b : ℕ) → (table.contains_key (table.empty {X = Version} {R = nat_cmp}) b ≡ true) ⊎ (table.contains_key st.log.fresh b ≡ true) → HasUnlogged st.log b
+    unlogged b (inl e) = absurd (true≢false (sym e ∙ ap is_some (table.get-empty nat_cmp b)))
+    unlogged b (inr e) = inl e
 
 -- a header alone
 abbrev bare : Flush
@@ -124,7 +115,11 @@ headers_begin v s w d st is none home some less =
     begins_with v s w d st is none st.log.fresh st.log.gone bare st.numbers.low (begins_sound st.log (begun_alone st.log) is.sound (begins_alone none home some less))
     (ends no_chunks (idle v s w d st is none))
     (λ t e. ending_headed t e) (omega arith, (let b = is.numbers.begun in omega (arith, b.0, b.1)))
-    (nothing_logged v w.book s.node st.numbers.low, fresh_is v s w d st is none)
+    (nothing_logged v w.book s.node st.numbers.low, fresh_is v s w d st is none) unlogged
   where
+    unlogged : (b : ℕ) → (table.contains_key st.log.fresh b ≡ true) ⊎ (table.contains_key (table.empty {X = Version} {R = nat_cmp}) b ≡ true) → HasUnlogged st.log b
+    unlogged b (inl e) = inl e
+    unlogged b (inr e) = absurd (true≢false (sym e ∙ ap is_some (table.get-empty nat_cmp b)))
+
     no_chunks : AreWritten (ring_at st.image d) (begun_alone st.log) bare (length (flush_chunks (begun_alone st.log) bare))
     no_chunks k bytes low e = absurd (let none = alone_takes st.log.journal.size st.log.journal.jid bare is.sound.size refl refl in omega (arith, low, none))

@@ -11,6 +11,7 @@ use Rattle.cluster_laws.specs.Notes.{Caches}
 use Rattle.cluster_laws.specs.World.{World}
 use Rattle.image_machine.specs.Cells.{BlockCell}
 use Rattle.image_machine.specs.Volumes.{Volume}
+use Rattle.image_model.specs.Replays.{MayChange}
 use Rattle.journal_outcomes.specs.Images.{ring_at, to_journal}
 use Rattle.journal_outcomes.specs.Rings.{InFlight}
 use Rattle.log_layout.specs.Journal.{Ring}
@@ -20,8 +21,9 @@ use Rattle.log_values.specs.Log.{Entry, Flush, LogValue, Stage, Version}
 use Rattle.log_values.specs.Sound.{IsSoundLog}
 use Rattle.lone_machine.specs.Alone.{Begun, IsAlone, now}
 use Rattle.lone_machine.specs.Versions.{AreVersions, IsVersion}
-use Rattle.lone_logs.specs.States.{FliesAs, FliesToJournal, HasCallNumbers, HasVersions, IsLoggedNode, NodeState, Numbers, trees_on}
+use Rattle.lone_logs.specs.States.{FliesAs, FliesToJournal, HasCallNumbers, HasUnlogged, HasVersions, IsLoggedNode, NodeState, Numbers, trees_on}
 use Rattle.lone_logs.specs.States.FliesAs.{ends, headed, writes}
+use Rattle.lone_logs.proofs.Rings.{ring_still}
 
 -- ---- versions, where no call is another one
 
@@ -83,8 +85,8 @@ module _ (v : Volume) (s : Begun (trees_on v)) (w : World (trees_on v)) (d : ℕ
       → HasVersions v s booked_world booked_state.log n st.log.flush → Caches (trees_on v) B w.disk s.node
       → ((b : ℕ) → table.get kept b ≡ option_map (λ (x : BlockCell). x.content) (B.cache s.node b))
       → ((b : ℕ) (e : Entry) → table.get st.log.live b ≡ Some e → is_home e.way ≡ false → (((now (trees_on v) booked_world b).place).free ≡ true → ⊥) → B.cache s.node b ≡ Some (now (trees_on v) booked_world b))
-      → IsLoggedNode v s booked_world d booked_state
-  booked alone start sound begun numbers versions cached keeps away = record {
+      → ((b : ℕ) → HasUnlogged booked_state.log b → MayChange st.image v.layout b) → IsLoggedNode v s booked_world d booked_state
+  booked alone start sound begun numbers versions cached keeps away may = record {
     alone = alone;
     node = is.node;
     held = is.held;
@@ -97,22 +99,7 @@ module _ (v : Volume) (s : Begun (trees_on v)) (w : World (trees_on v)) (d : ℕ
     journal = is.journal;
     sound = sound;
     laid = is.laid;
-    ring = record {
-      size = is.ring.size;
-      places = is.ring.places;
-      head = is.ring.head;
-      headed = is.ring.headed;
-      place = is.ring.place;
-      sequence = is.ring.sequence;
-      clean = is.ring.clean;
-      tail = is.ring.tail;
-      none = is.ring.none;
-      are = is.ring.are;
-      whole = is.ring.whole;
-      rise = is.ring.rise;
-      last = is.ring.last;
-      live = is.ring.live;
-    };
+    ring = ring_still (ring_at st.image d) st.log is.laid fresh gone st.log.flush st.log.live is.ring is.ring.live;
     home = is.home;
     flies = flies_with (ring_at st.image d) (to_journal st.image d st.flying) st.log fresh gone st.log.flush is.flies;
     homeward = is.homeward;
@@ -121,6 +108,7 @@ module _ (v : Volume) (s : Begun (trees_on v)) (w : World (trees_on v)) (d : ℕ
     heads = record { headed = λ h. is.heads.headed h ∙ sym begun; one = is.heads.one };
     numbers = numbers;
     versions = versions;
+    may = may;
     cached = cached;
     keeps = keeps;
     away = away;

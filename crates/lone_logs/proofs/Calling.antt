@@ -14,9 +14,10 @@ use Rattle.cluster_laws.specs.World.{World}
 use Rattle.cluster_laws.proofs.Cells.{at-other, at-same}
 use Rattle.glock_names.specs.Views.{Seen}
 use Rattle.drafts.specs.declared.change.Change.{Change}
-use Rattle.image_changes.specs.Does.{AreInside, Does}
+use Rattle.image_changes.specs.Does.{AreInside, Does, writes}
 use Rattle.image_machine.specs.Cells.{BlockCell, HoldsAll, cells_of}
 use Rattle.image_machine.specs.Volumes.{Volume}
+use Rattle.image_model.specs.Replays.{MayChange}
 use Rattle.log_tables.specs.Kept.{is_home}
 use Rattle.log_values.specs.Blocks as set
 use Rattle.log_values.specs.Changes.{CanBeAdded, Suffices, with_change}
@@ -30,8 +31,8 @@ use Rattle.lone_machine.specs.Versions.{AreVersions}
 use Rattle.lone_machine.proofs.Logging.{versions_grow}
 use Rattle.tree_histories.specs.Trees.{Told}
 use Rattle.lone_logs.specs.Laws.{AnswersLogged, CallsAreLogged, IsItsView, counted, with_call}
-use Rattle.lone_logs.specs.States.{HasCallNumbers, HasVersions, IsLoggedNode, NodeState, Numbers, bytes_of, trees_on}
-use Rattle.lone_logs.proofs.Adding.{fresh_with, gone_with}
+use Rattle.lone_logs.specs.States.{HasCallNumbers, HasUnlogged, HasVersions, IsLoggedNode, NodeState, Numbers, bytes_of, trees_on}
+use Rattle.lone_logs.proofs.Adding.{fresh_with, gone_with, written_or_was}
 use Rattle.lone_logs.proofs.Booking.{booked, versions_still}
 use Rattle.lone_logs.proofs.Reading.{view_cached}
 
@@ -42,7 +43,7 @@ held_all v s w d st is seen lock e = ap (λ f. f (Some lock)) is.held
 
 module _ (v : Volume) (s : Begun (trees_on v)) (w : World (trees_on v)) (d : ℕ) (st : NodeState) (seen : Seen) (said : Told) (change : Change) (kept : table.FinMap nat_cmp (List ℕ)) (is : IsLoggedNode v s w d st)
     (no_sync : (said.call ≡ calls.Sync) × (said.reply ≡ replies.Ok) → ⊥) (its : IsItsView v st seen) (inside : AreInside seen change) (does : Does seen said.call said.reply change)
-    (can : CanBeAdded st.log.journal.size change) (room : Suffices (with_change st.log change)) (keeps_it : (b : ℕ) → table.get kept b ≡ version_with change (table.get st.kept) b) where
+    (can : CanBeAdded st.log.journal.size change) (room : Suffices (with_change st.log change)) (changes_it : (b : ℕ) → writes change b ≡ true → MayChange st.image v.layout b) (keeps_it : (b : ℕ) → table.get kept b ≡ version_with change (table.get st.kept) b) where
   abbrev cells : Part (trees_on v)
   cells = cells_of v change
 
@@ -125,14 +126,18 @@ module _ (v : Volume) (s : Begun (trees_on v)) (w : World (trees_on v)) (d : ℕ
     calm = λ m above below. absurd (omega (arith, above, below));
   }
 
+  may : (b : ℕ) → HasUnlogged (with_change st.log change) b → MayChange st.image v.layout b
+  may b (inl there) = elim (written_or_was st.log change does.form b there) [ inl new ↦ changes_it b new | inr was ↦ is.may b (inl was) ]
+  may b (inr flushed) = is.may b (inr flushed)
+
   pub logged : AnswersLogged v s w d (with_call st change kept) said change
   logged = record {
     world = w';
     is = booked v s w d st is w'.book w'.items w'.sure (with_change st.log change).fresh (with_change st.log change).gone kept n' goes.alone is.start (change_sound st.log change is.sound can room) refl numbers
-        versions cached keeps away;
+        versions cached keeps away may;
     now = goes.now;
     items = goes.items;
   }
 
 pub calls_are_logged : CallsAreLogged
-calls_are_logged v s w d st seen said change kept is no_sync its inside does can room keeps_it = logged v s w d st seen said change kept is no_sync its inside does can room keeps_it
+calls_are_logged v s w d st seen said change kept is no_sync its inside does can room changes_it keeps_it = logged v s w d st seen said change kept is no_sync its inside does can room changes_it keeps_it

@@ -1,5 +1,5 @@
 -- The last barrier of a flush: it is in the journal.
-use Rattle.std.proofs.Common.{◌≡◌, ◌≢◌, ◌⊎◌, ℕ, suc, ◌<◌, ◌≤◌, ◌&&◌, inl, inr, Bool, true, false, List, length, Option, None, Some, refl, sym, ap, subst, ◌∙◌, arith}
+use Rattle.std.proofs.Common.{◌≡◌, ◌≢◌, ◌⊎◌, ℕ, suc, ◌<◌, ◌≤◌, ◌&&◌, inl, inr, Bool, true, false, List, length, Option, None, Some, refl, sym, ap, subst, ◌∙◌, arith, true≢false}
 use Rattle.std.specs.Prelude.{if◌then◌else◌, nat_lt}
 use Rattle.std.specs.FinMap as table
 use Rattle.std.specs.Option.{option_map}
@@ -13,6 +13,7 @@ use Rattle.cluster_laws.specs.World.{World}
 use Rattle.cluster_laws.proofs.Cells.{at-other, at-same}
 use Rattle.image_machine.specs.Volumes.{Volume}
 use Rattle.image_model.specs.Image.{Image}
+use Rattle.image_model.specs.Replays.{MayChange}
 use Rattle.image_model.proofs.Held.{none_some, some_same}
 use Rattle.journal_outcomes.specs.Images.{HeaderFliesTo, ring_at, to_journal}
 use Rattle.journal_outcomes.specs.Rings.{ChunksFly, HeaderFlies, InFlight, MayFly}
@@ -40,7 +41,7 @@ use Rattle.lone_machine.proofs.Going.{sound}
 use Rattle.lone_machine.proofs.Logging.{header_ends, settles_alone}
 use Rattle.machine_outcomes.specs.Outcomes.{OutcomesAreTheMachines}
 use Rattle.lone_logs.specs.Laws.{LastBarriersLand, StaysLogged, landed_node}
-use Rattle.lone_logs.specs.States.{FliesAs, FliesToJournal, HasLandedAs, HasVersions, IsLoggedNode, NodeState, bytes_of, flies_home, trees_on}
+use Rattle.lone_logs.specs.States.{HasUnlogged, FliesAs, FliesToJournal, HasLandedAs, HasVersions, IsLoggedNode, NodeState, bytes_of, flies_home, trees_on}
 use Rattle.lone_logs.specs.States.FliesAs.{headed}
 use Rattle.lone_logs.proofs.Booking.{versions_still}
 use Rattle.lone_logs.proofs.Heading.{rests_home}
@@ -244,6 +245,10 @@ module _ (they_are : OutcomesAreTheMachines) (fly : HeadersFly) (land : FlushesL
   fewer : (b : ℕ) → set.contains st.log.gone b ≡ false → set.contains (live_among live st.log.gone) b ≡ false
   fewer b none = contains-retain st.log.gone (table.contains_key live) b ∙ ap (λ t. t && table.contains_key live b) none
 
+  may : (b : ℕ) → HasUnlogged log' b → MayChange left v.layout b
+  may b (inl e) = (of they_are v s w d st is left landed).change b (is.may b (inl e))
+  may b (inr e) = absurd (true≢false (sym e))
+
   pub landed_so : StaysLogged v s w d (record (landed_node st left log') { numbers = record st.numbers { low = st.numbers.begun } })
   landed_so = record {
     world = w';
@@ -276,6 +281,7 @@ module _ (they_are : OutcomesAreTheMachines) (fly : HeadersFly) (land : FlushesL
         changed = is.numbers.changed;
         calm = is.numbers.calm;
       };
+      may = may;
       versions = versions_still (trees_on v) w.book w'.book s.node st.numbers.begun st.numbers.answered (λ m b less. refl) (bytes_of st.log.fresh) (set.contains (live_among live st.log.gone))
           (fewer_gone (trees_on v) w.book s.node st.numbers.begun st.numbers.answered (bytes_of st.log.fresh) (set.contains st.log.gone) (set.contains (live_among live st.log.gone)) fewer its_versions.1);
       cached = settles_so.cached (ends_so.cached is.cached);

@@ -22,6 +22,7 @@ use Rattle.log_rings.specs.Flights.{HasLanded, HasPut, MayHeadAt, left_live, liv
 use Rattle.log_rings.specs.Laid.{IsRingOf}
 use Rattle.log_rings.specs.Laws.{FlushesLand, HasNumbers, HeadersFly}
 use Rattle.log_values.specs.Blocks as set
+use Rattle.log_values.specs.Changes.{is_flushed}
 use Rattle.log_values.specs.Flushing.{FlushStep, IsTail, at_stage, block_at, head_place, header_bytes, left_from}
 use Rattle.log_values.specs.Flushing.FlushStep.{a_header, the_last}
 use Rattle.log_values.specs.Log.{Entry, Flush, LogValue, Version}
@@ -34,7 +35,7 @@ use Rattle.lone_machine.specs.Alone.{Begun, begins_header}
 use Rattle.lone_machine.specs.Laws.{AreOwnRings, StaysAlone}
 use Rattle.lone_machine.proofs.Remaining.{rings_alone}
 use Rattle.lone_logs.specs.Laws.{HeadersAreWritten, StaysLogged}
-use Rattle.lone_logs.specs.States.{FliesBesides, HasVersions, IsLoggedNode, NodeState, trees_on}
+use Rattle.lone_logs.specs.States.{HasUnlogged, FliesBesides, HasVersions, IsLoggedNode, NodeState, trees_on}
 use Rattle.lone_logs.specs.States.FliesAs.{headed}
 use Rattle.lone_logs.proofs.Booking.{has_versions}
 use Rattle.lone_logs.proofs.Flying.{blocks_may_fly, none_are_blocks, place_in}
@@ -42,10 +43,10 @@ use Rattle.lone_logs.proofs.Heading.{begins, chunks_stand, new_head, none_flies,
 use Rattle.lone_logs.proofs.Living.{changes_at}
 use Rattle.lone_logs.proofs.Places.{flies_here, flies_still, off_places, still_elsewhere}
 use Rattle.lone_logs.proofs.Tables.{live_table}
+use Rattle.lone_logs.proofs.Rings.{ring_still}
 
 module _ (fly : HeadersFly) (land : FlushesLand) (v : Volume) (s : Begun (trees_on v)) (w : World (trees_on v)) (d : ℕ) (st : NodeState) (f : Flush) (flying : InFlight) (is : IsLoggedNode v s w d st)
     (some : st.log.flush ≡ Some f) (tail : ℕ) (stage : f.stage ≡ Ending) (tells : IsTail st.log f tail) (numbers : HasNumbers st.log f)
-    (may : (c : ℕ) → table.contains_key f.versions c ≡ true → MayChange st.image v.layout c)
     (besides : FliesBesides st.image st.flying flying (block_at st.log.journal (head_place st.log f)) (header_bytes st.log f tail))
     (sound : IsSoundLog (at_stage st.log f (Headed tail))) where
   abbrev ring : Ring
@@ -87,25 +88,14 @@ module _ (fly : HeadersFly) (land : FlushesLand) (v : Volume) (s : Begun (trees_
   none_to : (j k p : ℕ) → IsJournalAt v.layout j k → k ≢ d → p < (ring_at st.image k).places → to_journal st.image k flying p ≡ None
   none_to j k p at other low = (let low' : p < v.places k = subst (λ n. p < n) (is.disk.many j k at) low in ap flying (is.disk.there j k p at low') ∙ none_elsewhere j k p at other low')
 
+  -- what the flush logs may be changed by a replay
+  may : (c : ℕ) → table.contains_key f.versions c ≡ true → MayChange st.image v.layout c
+  may c e = is.may c (inr (ap (λ (o : Option Flush). is_flushed o c) some ∙ e))
+
   -- ---- the journal with the header in its place
 
   ring_of : IsRingOf ring log' is.laid
-  ring_of = record {
-    size = is.ring.size;
-    places = is.ring.places;
-    head = is.ring.head;
-    headed = is.ring.headed;
-    place = is.ring.place;
-    sequence = is.ring.sequence;
-    clean = is.ring.clean;
-    tail = is.ring.tail;
-    none = is.ring.none;
-    are = is.ring.are;
-    whole = is.ring.whole;
-    rise = is.ring.rise;
-    last = is.ring.last;
-    live = is.ring.live;
-  }
+  ring_of = ring_still ring st.log is.laid st.log.fresh st.log.gone (Some f') st.log.live is.ring is.ring.live
 
   abbrev behind : LogValue
   behind = record log' {
@@ -255,6 +245,10 @@ module _ (fly : HeadersFly) (land : FlushesLand) (v : Volume) (s : Begun (trees_
     whole = λ j b c bytes e. (ring_inside j b c bytes e).1;
   }
 
+  may_still : (b : ℕ) → HasUnlogged log' b → MayChange st.image v.layout b
+  may_still b (inl e) = is.may b (inl e)
+  may_still b (inr e) = may b e
+
   pub header_written : StaysLogged v s w d (record st { log = log'; flying = flying })
   header_written = record {
     world = w';
@@ -281,6 +275,7 @@ module _ (fly : HeadersFly) (land : FlushesLand) (v : Volume) (s : Begun (trees_
       only_headed = λ h. (f', tail, refl, refl);
       heads = record { headed = λ h. ap (λ (x : Head (trees_on v)). x.cut) head_new; one = λ not. absurd (not (f', tail, refl, refl)) };
       numbers = record { answered = is.numbers.answered; low = is.numbers.low; begun = is.numbers.begun; changed = is.numbers.changed; calm = is.numbers.calm };
+      may = may_still;
       versions = has_versions v s w w' log' st.numbers (Some f') is.numbers.begun.1 (λ m b less. refl) (subst (HasVersions v s w st.log st.numbers) some is.versions);
       cached = stays.cached is.cached;
       keeps = is.keeps;
@@ -289,10 +284,10 @@ module _ (fly : HeadersFly) (land : FlushesLand) (v : Volume) (s : Begun (trees_
   }
 
 pub headers_are_written : HeadersFly → FlushesLand → HeadersAreWritten
-headers_are_written fly land v s w d st new f b sequence bytes flying is some numbers may wrote besides = by b sequence wrote besides
+headers_are_written fly land v s w d st new f b sequence bytes flying is some numbers wrote besides = by b sequence wrote besides
   where
     by : (b sequence : ℕ) → FlushStep st.log new f bytes (step.Head b sequence) → FliesBesides st.image st.flying flying b bytes → StaysLogged v s w d (record st { log = new; flying = flying })
     by b sequence (a_header tail stage tells header same) besides =
         subst (λ l. StaysLogged v s w d (record st { log = l; flying = flying })) (sym same)
-        (header_written fly land v s w d st f flying is some tail stage tells numbers may (subst (FliesBesides st.image st.flying flying b) header besides)
+        (header_written fly land v s w d st f flying is some tail stage tells numbers (subst (FliesBesides st.image st.flying flying b) header besides)
         (subst IsSoundLog same (step_sound st.log new f bytes (step.Head b sequence) is.sound some (a_header tail stage tells header same))))

@@ -39,6 +39,7 @@ use Rattle.lone_logs.proofs.Booking.{has_versions}
 use Rattle.lone_logs.proofs.Flying.{blocks_may_fly, none_are_blocks}
 use Rattle.lone_logs.proofs.Living.{entry_at, live_away, live_head, off_entry}
 use Rattle.lone_logs.proofs.Places.{none_elsewhere}
+use Rattle.lone_logs.proofs.Rings.{ring_still}
 
 flying_home : (bytes : List ℕ) → Flying bytes ≡ Home → ⊥
 flying_home bytes e = cc
@@ -205,22 +206,7 @@ module _ (v : Volume) (s : Begun (trees_on v)) (w : World (trees_on v)) (d : ℕ
       journal = is.journal;
       sound = sound;
       laid = is.laid;
-      ring = record {
-        size = is.ring.size;
-        places = is.ring.places;
-        head = is.ring.head;
-        headed = is.ring.headed;
-        place = is.ring.place;
-        sequence = is.ring.sequence;
-        clean = is.ring.clean;
-        tail = is.ring.tail;
-        none = is.ring.none;
-        are = is.ring.are;
-        whole = is.ring.whole;
-        rise = is.ring.rise;
-        last = is.ring.last;
-        live = live_as;
-      };
+      ring = ring_still ring st.log is.laid st.log.fresh st.log.gone st.log.flush log'.live is.ring live_as;
       home = λ c x f at_home. elim (its_entry c x f) [
         | inl it ↦ absurd (flying_home bytes (ap (λ (y : Entry). y.way) it.1 ∙ at_home))
         | inr old ↦ is.home c x old.1 at_home
@@ -235,6 +221,7 @@ module _ (v : Volume) (s : Begun (trees_on v)) (w : World (trees_on v)) (d : ℕ
       only_headed = λ h. absurd (no_header 0 d is.journal.is h);
       heads = record { headed = is.heads.headed; one = is.heads.one };
       numbers = record { answered = is.numbers.answered; low = is.numbers.low; begun = is.numbers.begun; changed = is.numbers.changed; calm = is.numbers.calm };
+      may = is.may;
       versions = has_versions v s w w' log' st.numbers st.log.flush is.numbers.begun.1 (λ m c less. refl) (versions_with v s w st.log (table.insert st.log.live b sent) st.numbers st.log.flush is.versions);
       cached = stays.cached is.cached;
       keeps = is.keeps;

@@ -1,4 +1,5 @@
 pub mod Remaining
+pub mod Rings
 pub mod Beginning
 pub mod Flying
 pub mod Places

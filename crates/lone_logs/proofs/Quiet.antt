@@ -127,6 +127,7 @@ module _ (v : Volume) (s : Begun (trees_on v)) (w : World (trees_on v)) (d : ℕ
     quiet_is = booked v s w d st is quiet_world.book quiet_world.items sure st.log.fresh st.log.gone st.kept n' goes.alone is.start is.sound refl numbers versions cached
         (λ b. is.keeps b ∙ sym (ap (option_map (λ (x : BlockCell). x.content)) (cache_still b)))
         (λ b e live off_home used. cache_still b ∙ is.away b e live off_home (λ free. used (ap (λ (x : BlockCell). (x.place).free) (now_still b) ∙ free)) ∙ ap Some (sym (now_still b)))
+        is.may
 
 -- ---- a call that changes nothing
 

@@ -139,7 +139,8 @@ module _ (v : Volume) (s : Begun (trees_on v)) (w : World (trees_on v)) (d : ℕ
           (λ c e at off_home used. elim (cases_eq c b) [
             | inl same ↦ ap (w'.book.cache s.node) same ∙ cache_here ∙ sym (ap (λ q. Some (now (trees_on v) w q)) same)
             | inr other ↦ cache_other c other ∙ is.away c e at off_home used
-          ]);
+          ])
+          is.may;
     }
 
 pub reads_are_logged : ReadsAreLogged

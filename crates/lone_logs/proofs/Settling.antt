@@ -24,6 +24,7 @@ use Rattle.log_tables.specs.Versions.{Way}
 use Rattle.log_tables.specs.Versions.Way.{Home, Away, Flying}
 use Rattle.node_journal.specs.Places.{place_on}
 use Rattle.written_journals.proofs.RingsWritten.{on_inside}
+use Rattle.log_values.specs.Changes.{is_flushed}
 use Rattle.log_values.specs.Flushing.{FlushStep, first_place, flush_chunks, settled, settled_way}
 use Rattle.log_values.specs.Flushing.FlushStep.{a_barrier, the_last}
 use Rattle.log_values.specs.Homing.{Settles}
@@ -37,7 +38,7 @@ use Rattle.lone_machine.specs.Laws.{StaysAlone}
 use Rattle.lone_machine.proofs.Logging.{settles_alone}
 use Rattle.machine_outcomes.specs.Outcomes.{OutcomesAreTheMachines}
 use Rattle.lone_logs.specs.Laws.{BarriersSettle, FirstBarriersSettle, StaysLogged, landed_node}
-use Rattle.lone_logs.specs.States.{FliesAs, FliesToJournal, HasLandedAs, HasVersions, IsHeaded, IsLoggedNode, IsSent, NodeState, flies_home, trees_on}
+use Rattle.lone_logs.specs.States.{HasUnlogged, FliesAs, FliesToJournal, HasLandedAs, HasVersions, IsHeaded, IsLoggedNode, IsSent, NodeState, flies_home, trees_on}
 use Rattle.lone_logs.specs.States.FliesAs.{ends, headed, writes}
 use Rattle.lone_logs.proofs.Booking.{has_versions}
 use Rattle.lone_logs.proofs.Landed.{blocks_then, disk_then, flown_there, may_settle, of, others_none, places_then, rings_then, settled_to, still_there}
@@ -45,6 +46,7 @@ use Rattle.lone_logs.proofs.Living.{live_away, off_entry}
 use Rattle.lone_logs.proofs.Remaining.{ending_headed, same_flush, writing_headed}
 use Rattle.lone_logs.proofs.Staying.{live_stays, stays}
 use Rattle.lone_logs.proofs.Writing.{AreSent, are_sent}
+use Rattle.lone_logs.proofs.Rings.{ring_still}
 
 -- ---- an entry that has settled
 
@@ -176,8 +178,8 @@ module _ (they_are : OutcomesAreTheMachines) (v : Volume) (s : Begun (trees_on v
             by_way (Flying bytes) e' =
                 live_still b ∙ live_away v s w d st is b x bytes old (inr e') ∙ ap Some (sym (landed.new b bytes (flies ∙ ap (λ k. flies_home (Some (record x { way = k }))) e')))
 
-    pub settled_node : IsSoundLog log' → FliesToJournal ring' (λ p. None) log' flush → (IsHeaded flush → ⊥) → HasVersions v s w log' st.numbers flush → StaysLogged v s w d (landed_node st left log')
-    settled_node sound flies not versions = record {
+    pub settled_node : IsSoundLog log' → FliesToJournal ring' (λ p. None) log' flush → (IsHeaded flush → ⊥) → HasVersions v s w log' st.numbers flush → ((b : ℕ) → HasUnlogged log' b → HasUnlogged st.log b) → StaysLogged v s w d (landed_node st left log')
+    settled_node sound flies not versions unlogged = record {
       world = w';
       now = refl;
       items = refl;
@@ -194,22 +196,7 @@ module _ (they_are : OutcomesAreTheMachines) (v : Volume) (s : Begun (trees_on v
         journal = is.journal;
         sound = sound;
         laid = is.laid;
-        ring = record {
-          size = ring_stays.size;
-          places = ring_stays.places;
-          head = ring_stays.head;
-          headed = ring_stays.headed;
-          place = ring_stays.place;
-          sequence = ring_stays.sequence;
-          clean = ring_stays.clean;
-          tail = ring_stays.tail;
-          none = ring_stays.none;
-          are = ring_stays.are;
-          whole = ring_stays.whole;
-          rise = ring_stays.rise;
-          last = ring_stays.last;
-          live = λ b. subst (IsLiveAs is.laid b) (sym (lives b)) (settled_live is.laid b (table.get st.log.live b) (is.ring.live b));
-        };
+        ring = ring_still ring' st.log is.laid st.log.fresh st.log.gone flush live ring_stays (λ b. subst (IsLiveAs is.laid b) (sym (lives b)) (settled_live is.laid b (table.get st.log.live b) (is.ring.live b)));
         home = home;
         flies = flies;
         homeward = λ b off. sym (ap flies_home (lives b) ∙ settled_rests (table.get st.log.live b));
@@ -217,6 +204,7 @@ module _ (they_are : OutcomesAreTheMachines) (v : Volume) (s : Begun (trees_on v
         only_headed = λ h. absurd (none_some h.1.flies);
         heads = record { headed = λ h. absurd (not h); one = λ unheaded. one };
         numbers = record { answered = is.numbers.answered; low = is.numbers.low; begun = is.numbers.begun; changed = is.numbers.changed; calm = is.numbers.calm };
+        may = λ b its. (of they_are v s w d st is left landed).change b (is.may b (unlogged b its));
         versions = has_versions v s w w' log' st.numbers flush is.numbers.begun.1 (λ m b less. refl) versions;
         cached = alone.cached is.cached;
         keeps = is.keeps;
@@ -253,7 +241,7 @@ module _ (they_are : OutcomesAreTheMachines) (v : Volume) (s : Begun (trees_on v
   pub settles_so : (new : LogValue) → Settles st.log new → StaysLogged v s w d (landed_node st left new)
   settles_so new so = subst (λ l. StaysLogged v s w d (landed_node st left l)) (sym so.same)
       (settled_node new.live st.log.flush so.settles (subst IsSoundLog so.same (settling_sound st.log new is.sound so)) (flies_settled new.live st.log.flush refl is.flies) unheaded
-      (has_versions_with new.live st.log.flush is.versions))
+      (has_versions_with new.live st.log.flush is.versions) (λ b its. its))
     where
       has_versions_with : (live : table.FinMap nat_cmp Entry) (o : Option Flush) → HasVersions v s w st.log st.numbers o → HasVersions v s w (record st.log { live = live }) st.numbers o
       has_versions_with live None are = are
@@ -275,8 +263,12 @@ first_barriers_settle they_are v s w d st new f done bytes left is some stage wr
         (subst IsSoundLog same (step_sound st.log new f bytes step.Barrier is.sound some (a_barrier all same lives)))
         (ends (λ k x less at. sent_there they_are v s w d st is left landed unheaded f some k x less (before.sent k x less at)) (λ p low. refl))
         (λ h. ending_headed h.1 (ap (λ (x : Flush). x.stage) (same_flush h.2) ∙ h.3))
-        (subst (HasVersions v s w st.log st.numbers) some is.versions))
+        (subst (HasVersions v s w st.log st.numbers) some is.versions) unlogged)
       where
+        unlogged : (b : ℕ) → (table.contains_key st.log.fresh b ≡ true) ⊎ (table.contains_key f.versions b ≡ true) → HasUnlogged st.log b
+        unlogged b (inl e) = inl e
+        unlogged b (inr e) = inr (ap (λ (o : Option Flush). is_flushed o b) some ∙ e)
+
         before : AreSent (ring_at st.image d) (to_journal st.image d st.flying) st.log f (length (flush_chunks st.log f))
         before = are_sent (ring_at st.image d) (to_journal st.image d st.flying) st.log f (length (flush_chunks st.log f))
             (subst (FliesAs (ring_at st.image d) (to_journal st.image d st.flying) st.log f) all (subst (FliesToJournal (ring_at st.image d) (to_journal st.image d st.flying) st.log) some is.flies))

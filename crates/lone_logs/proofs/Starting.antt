@@ -1,5 +1,5 @@
 -- A node with an empty log begins on an image at rest.
-use Rattle.std.proofs.Common.{◌≡◌, ℕ, ◌<◌, true, [], Some, refl, sym, ap, subst, ◌∙◌, arith}
+use Rattle.std.proofs.Common.{◌≡◌, ℕ, ◌<◌, true, [], Some, refl, sym, ap, subst, ◌∙◌, inl, inr, true≢false, is_some, arith}
 use Rattle.std.specs.FinMap as table
 use Rattle.std.specs.Ordering.{nat_cmp}
 use Rattle.file_tree.specs.Tree.{Tree}
@@ -27,7 +27,7 @@ use Rattle.lone_machine.specs.Laws.{AreOwnRings}
 use Rattle.lone_machine.proofs.Going.{begins_alone}
 use Rattle.lone_machine.proofs.Remaining.{rings_alone}
 use Rattle.lone_logs.specs.Laws.{Begins, at_rest}
-use Rattle.lone_logs.specs.States.{ArePlacesApart, IsJournalOf, IsLoggedNode, flies_home, trees_on}
+use Rattle.lone_logs.specs.States.{HasUnlogged, ArePlacesApart, IsJournalOf, IsLoggedNode, flies_home, trees_on}
 use Rattle.lone_logs.proofs.Beginning.{nothing_logged}
 use Rattle.lone_logs.proofs.Remaining.{no_flush}
 
@@ -58,6 +58,10 @@ module _ (begin : CleanRingsBegin) (im : Image) (o : Owners) (l : Layout) (t : T
   no_entry : (b : ℕ) (e : Entry) → table.get (table.empty {X = Entry} {R = nat_cmp}) b ≡ Some e → ⊥
   no_entry b e at = none_some (sym (table.get-empty nat_cmp b) ∙ at)
 
+  none_unlogged : (b : ℕ) → HasUnlogged (at_rest im journal head).log b → ⊥
+  none_unlogged b (inl e) = true≢false (sym e ∙ ap is_some (table.get-empty nat_cmp b))
+  none_unlogged b (inr e) = true≢false (sym e)
+
   pub it_begins : IsLoggedNode v s w d (at_rest im journal head)
   it_begins = record {
     alone = alone;
@@ -81,6 +85,7 @@ module _ (begin : CleanRingsBegin) (im : Image) (o : Owners) (l : Layout) (t : T
     heads = record { headed = λ h. absurd (no_flush h.0 h.2); one = λ not. refl };
     numbers = record { answered = refl; low = refl; begun = (omega arith, omega arith); changed = omega arith; calm = λ n above below. absurd (omega (arith, below)) };
     versions = nothing_logged v w.book s.node 0;
+    may = λ b unlogged. absurd (none_unlogged b unlogged);
     cached = λ b own used. absurd (none_some own);
     keeps = λ b. table.get-empty nat_cmp b;
     away = λ b e at off_home used. absurd (no_entry b e at);

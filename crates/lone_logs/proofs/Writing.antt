@@ -1,11 +1,13 @@
 -- A block of a flush is in flight to its place.
-use Rattle.std.proofs.Common.{◌≡◌, ◌≢◌, ℕ, ◌<◌, ◌+◌, inl, inr, List, length, Some, refl, sym, ap, subst, ◌∙◌, arith}
+use Rattle.std.proofs.Common.{◌≡◌, ◌≢◌, ℕ, ◌<◌, ◌+◌, inl, inr, List, length, Some, refl, sym, ap, subst, ◌∙◌, arith, Option}
 use Rattle.std.specs.Prelude.{slice_get, get_or}
 use Rattle.std.proofs.lemmas.Bool.{cases_eq}
 use Rattle.std.proofs.lemmas.Option.{slice_get-get_or, slice_get_within}
 use Rattle.cluster_laws.specs.World.{World}
 use Rattle.image_machine.specs.Volumes.{Volume}
 use Rattle.image_model.specs.Stands.{IsJournalAt}
+use Rattle.image_model.specs.Replays.{MayChange}
+use Rattle.log_values.specs.Changes.{is_flushed}
 use Rattle.image_model.proofs.Held.{none_some, some_same}
 use Rattle.journal_outcomes.specs.Images.{ring_at, to_journal}
 use Rattle.journal_outcomes.specs.Rings.{InFlight}
@@ -22,11 +24,12 @@ use Rattle.log_values.specs.declared.steps.LogStep.TheVariants as step
 use Rattle.log_values.proofs.Going.{step_sound}
 use Rattle.lone_machine.specs.Alone.{Begun}
 use Rattle.lone_logs.specs.Laws.{BlocksAreWritten, StaysLogged}
-use Rattle.lone_logs.specs.States.{FliesAs, FliesBesides, FliesToJournal, HasVersions, IsHeaded, IsLoggedNode, IsSent, NodeState, trees_on}
+use Rattle.lone_logs.specs.States.{HasUnlogged, FliesAs, FliesBesides, FliesToJournal, HasVersions, IsHeaded, IsLoggedNode, IsSent, NodeState, trees_on}
 use Rattle.lone_logs.specs.States.FliesAs.{writes}
 use Rattle.lone_logs.proofs.Flying.{OnlyBlocksFly, no_header, none_are_blocks, still_disk}
 use Rattle.lone_logs.proofs.Places.{flies_here, flies_still, off_places, still_elsewhere}
 use Rattle.lone_logs.proofs.Remaining.{same_flush, writing_headed}
+use Rattle.lone_logs.proofs.Rings.{ring_still}
 
 -- of a flush whose blocks are being written
 pub record AreSent (ring : Ring) (flying : InFlight) (log : LogValue) (f : Flush) (done : ℕ) : Type 0 where
@@ -127,6 +130,10 @@ module _ (fly : FlushesFly) (v : Volume) (s : Begun (trees_on v)) (w : World (tr
   unheaded : IsHeaded st.log.flush → ⊥
   unheaded h = writing_headed k h.1 (sym stage ∙ ap (λ (x : Flush). x.stage) (same_flush (sym some ∙ h.2)) ∙ h.3)
 
+  may : (b : ℕ) → HasUnlogged log' b → MayChange st.image v.layout b
+  may b (inl e) = is.may b (inl e)
+  may b (inr e) = is.may b (inr (ap (λ (o : Option Flush). is_flushed o b) some ∙ e))
+
   written : IsSoundLog log' → StaysLogged v s w d (record st { log = log'; flying = flying })
   written sound = record {
     world = w;
@@ -145,22 +152,7 @@ module _ (fly : FlushesFly) (v : Volume) (s : Begun (trees_on v)) (w : World (tr
       journal = is.journal;
       sound = sound;
       laid = is.laid;
-      ring = record {
-        size = is.ring.size;
-        places = is.ring.places;
-        head = is.ring.head;
-        headed = is.ring.headed;
-        place = is.ring.place;
-        sequence = is.ring.sequence;
-        clean = is.ring.clean;
-        tail = is.ring.tail;
-        none = is.ring.none;
-        are = is.ring.are;
-        whole = is.ring.whole;
-        rise = is.ring.rise;
-        last = is.ring.last;
-        live = is.ring.live;
-      };
+      ring = ring_still ring st.log is.laid st.log.fresh st.log.gone (Some (record f { stage = Writing (k + 1) })) st.log.live is.ring is.ring.live;
       home = is.home;
       flies = writes (k + 1) after.sent after.only;
       homeward = λ b not. off_places v s w d st is (chunk_place st.log k) place_low bytes flying besides b not ∙ is.homeward b not;
@@ -171,6 +163,7 @@ module _ (fly : FlushesFly) (v : Volume) (s : Begun (trees_on v)) (w : World (tr
         one = λ not. is.heads.one unheaded;
       };
       numbers = is.numbers;
+      may = may;
       versions = subst (HasVersions v s w st.log st.numbers) some is.versions;
       cached = is.cached;
       keeps = is.keeps;

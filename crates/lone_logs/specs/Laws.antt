@@ -20,7 +20,7 @@ use Rattle.image_model.specs.Owners.{Owners}
 use Rattle.image_model.specs.Replays.{MayChange, StandsReplayed}
 use Rattle.image_model.specs.Stands.{IsJournalAt, Layout}
 use Rattle.image_changes.specs.Changes.{cover, is_free}
-use Rattle.image_changes.specs.Does.{AreInside, Does, IsOf, is_nothing}
+use Rattle.image_changes.specs.Does.{AreInside, Does, IsOf, is_nothing, writes}
 use Rattle.image_changes.specs.Instances.{StandsBy}
 use Rattle.log_layout.specs.Journal.{IsClean, head_in}
 use Rattle.log_layout.specs.declared.log_header.LogHeader.{LogHeader}
@@ -95,11 +95,11 @@ with_call st change kept = record st { log = with_change st.log change; kept = k
 abbrev pub with_quiet : NodeState → NodeState
 with_quiet st = record st { numbers = counted st.numbers (λ n. n.changed) }
 
--- A call that does what it should over what the node keeps, and changes something for which the log has room: it keeps what the call writes, and not what it frees.
+-- A call that does what it should over what the node keeps, with a change for which the log has room, and which writes blocks that a replay may change: it keeps what the call writes, and not what it frees.
 abbrev pub CallsAreLogged : Type 0
 CallsAreLogged = (v : Volume) (s : Begun (trees_on v)) (w : World (trees_on v)) (d : ℕ) (st : NodeState) (seen : Seen) (said : Told) (change : Change) (kept : table.FinMap nat_cmp (List ℕ))
     → IsLoggedNode v s w d st → ((said.call ≡ calls.Sync) × (said.reply ≡ replies.Ok) → ⊥) → IsItsView v st seen → AreInside seen change → Does seen said.call said.reply change
-    → CanBeAdded st.log.journal.size change → Suffices (with_change st.log change) → ((b : ℕ) → table.get kept b ≡ version_with change (table.get st.kept) b)
+    → CanBeAdded st.log.journal.size change → Suffices (with_change st.log change) → ((b : ℕ) → writes change b ≡ true → MayChange st.image v.layout b) → ((b : ℕ) → table.get kept b ≡ version_with change (table.get st.kept) b)
     → AnswersLogged v s w d (with_call st change kept) said change
 
 -- one that does what it should, and changes nothing
@@ -159,11 +159,10 @@ BlocksAreWritten = (v : Volume) (s : Begun (trees_on v)) (w : World (trees_on v)
     → IsLoggedNode v s w d st → st.log.flush ≡ Some f → HasNumbers st.log f → FlushStep st.log new f bytes (step.Write b) → FliesBesides st.image st.flying flying b bytes
     → StaysLogged v s w d (record st { log = new; flying = flying })
 
--- its header is written, where each block that it logs is one that a replay may change
+-- its header is written
 abbrev pub HeadersAreWritten : Type 0
 HeadersAreWritten = (v : Volume) (s : Begun (trees_on v)) (w : World (trees_on v)) (d : ℕ) (st : NodeState) (new : LogValue) (f : Flush) (b sequence : ℕ) (bytes : List ℕ) (flying : InFlight)
-    → IsLoggedNode v s w d st → st.log.flush ≡ Some f → HasNumbers st.log f → ((c : ℕ) → table.contains_key f.versions c ≡ true → MayChange st.image v.layout c)
-    → FlushStep st.log new f bytes (step.Head b sequence) → FliesBesides st.image st.flying flying b bytes
+    → IsLoggedNode v s w d st → st.log.flush ≡ Some f → HasNumbers st.log f → FlushStep st.log new f bytes (step.Head b sequence) → FliesBesides st.image st.flying flying b bytes
     → StaysLogged v s w d (record st { log = new; flying = flying })
 
 -- ---- barriers

@@ -12,6 +12,7 @@ use Rattle.image_disks.specs.Disks.{IsDiskOf}
 use Rattle.image_machine.specs.Cells.{BlockCell}
 use Rattle.image_machine.specs.Volumes.{IsPlace, Volume, images_of}
 use Rattle.image_model.specs.Image.{Image}
+use Rattle.image_model.specs.Replays.{MayChange}
 use Rattle.image_model.specs.Stands.{IsJournalAt}
 use Rattle.journal_outcomes.specs.Images.{HeaderFliesTo, ring_at, to_journal}
 use Rattle.journal_outcomes.specs.Rings.{InFlight}
@@ -22,6 +23,7 @@ use Rattle.log_rings.specs.Laid.{IsRingOf, Laid}
 use Rattle.log_tables.specs.Kept.{is_home}
 use Rattle.log_tables.specs.Versions.Way.{Home, Away, Flying}
 use Rattle.log_values.specs.Blocks as set
+use Rattle.log_values.specs.Changes.{is_flushed}
 use Rattle.log_values.specs.Flushing.{block_at, flush_chunks, head_place, header_bytes}
 use Rattle.log_values.specs.Log.{Entry, Flush, Journal, LogValue, Stage, Version}
 use Rattle.log_values.specs.Log.Stage.{Ending, Headed, Writing}
@@ -127,6 +129,10 @@ pub record HasLandedAs (im : Image) (flying : InFlight) (left : Image) : Type 0 
 abbrev pub ArePlacesApart : Volume → Type 0
 ArePlacesApart v = (j d p i e q : ℕ) → IsJournalAt v.layout j d → IsJournalAt v.layout i e → p < v.places d → q < v.places e → v.place d p ≡ v.place e q → (j ≡ i) × (d ≡ e) × (p ≡ q)
 
+-- the log has content of the block that isn't in its journal yet
+abbrev pub HasUnlogged : LogValue → ℕ → Type 0
+HasUnlogged log b = (table.contains_key log.fresh b ≡ true) ⊎ (is_flushed log.flush b ≡ true)
+
 -- the log's journal is the one with its dinode in block d
 pub record IsJournalOf (v : Volume) (d : ℕ) (journal : Journal) : Type 0 where
   pub is : IsJournalAt v.layout 0 d
@@ -137,7 +143,7 @@ pub record IsJournalOf (v : Volume) (d : ℕ) (journal : Journal) : Type 0 where
 -- ---- what always holds
 
 -- The machine has come here with node 1 alone, which holds all locks, and its disk is the node's; the journal on that is the log's; live blocks that the log holds for home are there; what is in
--- flight is what the log says; its versions are its calls'; what the node keeps of blocks is what it works on, and of what isn't home it keeps all that isn't free.
+-- flight is what the log says; its versions are its calls', of blocks that a replay may change; what the node keeps of blocks is what it works on, and of what isn't home it keeps all that isn't free.
 pub record IsLoggedNode (v : Volume) (s : Begun (trees_on v)) (w : World (trees_on v)) (d : ℕ) (st : NodeState) : Type 0 where
   pub alone : IsAlone (trees_on v) s w
   pub node : s.node ≡ 1
@@ -164,6 +170,7 @@ pub record IsLoggedNode (v : Volume) (s : Begun (trees_on v)) (w : World (trees_
   -- its calls
   pub numbers : HasCallNumbers v s w st.numbers
   pub versions : HasVersions v s w st.log st.numbers st.log.flush
+  pub may : (b : ℕ) → HasUnlogged st.log b → MayChange st.image v.layout b
   -- what it keeps
   pub cached : Caches (trees_on v) w.book w.disk s.node
   pub keeps : (b : ℕ) → table.get st.kept b ≡ option_map (λ (x : BlockCell). x.content) (w.book.cache s.node b)

@@ -279,6 +279,7 @@ module _ (v : Volume) (u w : World (Trees (images_of v))) (rings : Rings (Trees 
 
     the_outcome : IsOutcomeOf v w.disk rings im flying left
     the_outcome = record {
+      change = left_change;
       landed = choice_landed;
       rests = at_rest;
       choice = choice;
