@@ -1,2 +1,3 @@
 pub mod Nothing
+pub mod Passing
 pub mod Heads
