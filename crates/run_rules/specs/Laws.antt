@@ -58,3 +58,17 @@ list_and_crash = record crash_and_list { lines = line.Call 0 (call.List []) ∷ 
 -- in the run that passes over the crash not each of its lines has its place
 abbrev pub LastLinesAreCarriedOut : Type 0
 LastLinesAreCarriedOut = ¬ (AllPlaced list_alone list_and_crash)
+
+-- ---- a crash and a join that are carried out: a worked row
+
+-- the script `nodes 2`, `client c on 1`, `c: list /`, `crash 1`, `join 1`, `c: list /`
+abbrev pub crash_and_join : ScriptValue
+crash_and_join = record crash_and_list { nodes = 2; lines = line.Call 0 (call.List []) ∷ line.Crash 2 ∷ line.Join 1 ∷ line.Call 0 (call.List []) ∷ [] }
+
+abbrev pub carried_out : List TraceItem
+carried_out =
+    trace.Join 1 ∷ trace.Join 2 ∷ trace.Call 1 (codes "c") 1 (call.List []) (reply.Names []) ∷ trace.Crash 1 ∷ trace.Fence 1 ∷ trace.Join 1 ∷ trace.Call 1 (codes "c") 2 (call.List []) (reply.Names []) ∷ []
+
+-- these items follow that script, and each of its lines has its place
+abbrev pub CarriedOutFollows : Type 0
+CarriedOutFollows = Follows carried_out crash_and_join × AllPlaced carried_out crash_and_join

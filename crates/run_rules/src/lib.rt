@@ -2,7 +2,7 @@
 //! tree's, and which follows the script.
 #![tactic(auto)]
 
-ghost use Rattle.run_rules.specs.Laws.{CrashLinesAreCarriedOut, JoinsAreOrdered, LastLinesAreCarriedOut, NoneCrashesAtTheStart, NothingFollows, NothingIsLegal};
+ghost use Rattle.run_rules.specs.Laws.{CrashLinesAreCarriedOut, JoinsAreOrdered, CarriedOutFollows, LastLinesAreCarriedOut, NoneCrashesAtTheStart, NothingFollows, NothingIsLegal};
 ghost use Rattle.run_rules.specs.Heads.{RowsOfHeads, RowsOfRecoveries, EachLossHasALife};
 
 /// A law: a run that has no items yet follows its script, whatever that is, is numbered, and is legal.
@@ -27,6 +27,12 @@ pub fn joins_are_ordered()
 /// lines, also where no line stands below that crash.
 pub fn last_lines_are_carried_out()
     ensures { LastLinesAreCarriedOut }
+{}
+
+/// A law: a run of two nodes, of which the first crashes and joins again, as two lines of its script say, follows that script,
+/// and each of its lines has its place.
+pub fn orders_can_be_carried_out()
+    ensures { CarriedOutFollows }
 {}
 
 /// A law: the number that a loss counts from, in worked rows, one for each of its cases; and a loss without a life is refused.
