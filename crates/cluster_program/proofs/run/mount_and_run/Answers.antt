@@ -8,7 +8,7 @@ use Rattle.lone_node.specs.Ends.{IfNotBuilt}
 use Rattle.lone_node.specs.Standing.{StandsFor}
 use Rattle.cluster_program.specs.Beginning.{HasBegun}
 use Rattle.cluster_program.specs.EndStatuses.{status_of_end}
-use Rattle.cluster_program.specs.Runs.{Runs, first_line}
+use Rattle.cluster_program.specs.Runs.{Runs}
 use Rattle.cluster_program.specs.World.{inputs}
 use Rattle.cluster_program.proofs.Quiet.{quiet, answers_of_run}
 use Rattle.cluster_program.proofs.Runs.{HasRunScript, never_done, no_calls, none_done, of_ends, small_number, whole_blocks}
