@@ -1,5 +1,5 @@
 -- A command that may be carried out is, but for want of memory.
-use Rattle.std.proofs.Common.{◌≡◌, inl, inr, ℕ, ◌+◌, ◌≤◌, true, false, List, ◌++◌, refl, sym, ap, ◌∙◌, subst, arith, append-nil}
+use Rattle.std.proofs.Common.{◌≡◌, inl, inr, ℕ, ◌≤◌, true, false, List, ◌++◌, refl, sym, ap, ◌∙◌, subst, arith, append-nil}
 use Rattle.profile_limits.specs.Limits.{most_blocks}
 use Rattle.std.specs.Prelude.{Option, Some, None, Ok}
 use Rattle.std.specs.Io.KnownBytes.{Consumes, IsAtEnd}
@@ -85,7 +85,7 @@ module _ (words : List (List ℕ)) (given left : Inputs) (sinks sinks_now : Outp
   of_begin may own (IsStopped block rule why never) = absurd (never may.is.tells may.tree may.is.stands)
 
   of_run : IsMountable given.disk → (s : ScriptValue) (time : ℕ) (items : List TraceItem) (what : Option MountedValue) (replayed : Option Moment) (own : Status) → RunEnds given left s time items what replayed own → IsWhole own
-  of_run may s time items what replayed own (IsDone m r all whole) = inl refl
+  of_run may s time items what replayed own (IsDone m r all placed whole) = inl refl
   of_run may s time items what replayed own (NotBegun own' none_yet same ends) = of_begin may own ends
   of_run may s time items what replayed own (ReplayFailed m plans block x y are up within failed stand) = absurd (none.disk 1 (rose (given.disk_faults 1) (left.disk_faults 1) x y up))
   of_run may s time items what replayed own (ReplayLacksRoom m plans are some stand) = inr refl

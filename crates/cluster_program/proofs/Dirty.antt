@@ -79,7 +79,7 @@ some_items clients items (Joined replays calls end of is are) = inr (λ none. le
 -- where all was done, behind some item, an image was mounted, and its journals were replayed
 all_replayed : (given left : Inputs) (s : ScriptValue) (time : ℕ) (items : List TraceItem) (value : Option MountedValue) (replayed : Option Moment) (own : Status) → RunEnds given left s time items value replayed own → own ≡ status.Done → items ≢ []
     → (m : MountedValue) × (r : Moment) × (value ≡ Some m) × (replayed ≡ Some r)
-all_replayed given left s time items value replayed own (IsDone m r all whole) is some = (m, r, refl, refl)
+all_replayed given left s time items value replayed own (IsDone m r all placed whole) is some = (m, r, refl, refl)
 all_replayed given left s time items value replayed own (NotBegun own' none same ends) is some = absurd (some none)
 all_replayed given left s time items value replayed own (ReplayFailed m plans block x y are up within failed stand) is some = absurd (let both : status.DeviceFault 1 block x y ≡ status.Done = is in cc)
 all_replayed given left s time items value replayed own (ReplayLacksRoom m plans are front stand) is some = absurd (let both : status.NoMemory ≡ status.Done = is in cc)

@@ -69,7 +69,7 @@ module _ (given left : Inputs) (sinks sinks_now : Outputs) where
   show_fault lines own NothingHeld = tt
 
   run_fault : (s : ScriptValue) (time : ℕ) (items : List TraceItem) (what : Option MountedValue) (replayed : Option Moment) (own : Status) → RunEnds given left s time items what replayed own → FaultHasCause given left sinks sinks_now own
-  run_fault s time items what replayed own (IsDone m r all whole) = tt
+  run_fault s time items what replayed own (IsDone m r all placed whole) = tt
   run_fault s time items what replayed own (NotBegun own' none same ends) = begin_fault own ends
   run_fault s time items what replayed own (ReplayFailed m plans block x y are up within failed stand) = up
   run_fault s time items what replayed own (ReplayLacksRoom m plans are some stand) = tt

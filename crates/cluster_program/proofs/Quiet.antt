@@ -101,11 +101,11 @@ module _ (clients : List Client) (end : List TraceItem) (is : IsEnd end) where
       by_full (Some f) rest = rest (suc (suc p))
 
 -- no line orders the first join, which is one of the start
-no_order : (s : ScriptValue) (items : List TraceItem) (x : Line) → s.nodes ≡ 1 → orders s items 0 (trace.Join 1) x ≡ false
-no_order s items (line.Call client call) one = refl
-no_order s items line.Wait one = refl
-no_order s items (line.Crash nodes) one = refl
-no_order s items (line.Join node) one = rw one (and_false (node == 1))
+no_order : (s : ScriptValue) (x : Line) → s.nodes ≡ 1 → orders s 0 (trace.Join 1) x ≡ false
+no_order s (line.Call client call) one = refl
+no_order s line.Wait one = refl
+no_order s (line.Crash nodes) one = refl
+no_order s (line.Join node) one = rw one (and_false (node == 1))
   where
     and_false : (b : Bool) → (b && false) ≡ false
     and_false true = refl
@@ -113,7 +113,7 @@ no_order s items (line.Join node) one = rw one (and_false (node == 1))
 
 no_line : (s : ScriptValue) (items : List TraceItem) (l : ℕ) (lines : List Line) → s.nodes ≡ 1 → line_for s items 0 1 (trace.Join 1) [] l lines ≡ None
 no_line s items l [] one = refl
-no_line s items l (x ∷ xs) one = rw (no_order s items x one) (no_line s items (suc l) xs one)
+no_line s items l (x ∷ xs) one = rw (no_order s x one) (no_line s items (suc l) xs one)
 
 module _ (clients : List Client) (items : List TraceItem) where
   uses_none : (s : ScriptValue) → s.nodes ≡ 1 → IsAnswers clients items → uses s items ≡ []

@@ -13,7 +13,7 @@ use Rattle.script_lang.specs.declared.script.Client.{Client}
 use Rattle.script_lang.specs.declared.script.Line.{Line}
 use Rattle.script_lang.specs.declared.script.Line.TheVariants as line
 use Rattle.run_rules.specs.Follows.{history_of}
-use Rattle.run_rules.specs.History.{HoldsHistory, NoneStopped, AllAnswered}
+use Rattle.run_rules.specs.History.{AllAnswered, AllPlaced, HoldsHistory, NoneStopped}
 use Rattle.run_rules.proofs.Nothing.{nothing_follows, nothing_is_legal}
 use Rattle.shared_disk.specs.Disk.{DiskState, IsIdle, IsSound, Operation}
 use Rattle.gfs2_layout.specs.Device.{IsBlockSize}
@@ -91,6 +91,7 @@ pub record HasRunScript (d d' : DiskState) (list list' : Option (List Operation)
   pub members : NoneStopped items
   pub none_lost : NoneLost (history_of s.clients items)
   pub answered : OnOk r (AllAnswered items s)
+  pub placed : OnOk r (AllPlaced items s)
   pub sound : IfErr r (λ e. IfDamaged e (λ b rule. (t : Tree) → StandsFor d n t → ⊥))
   pub damaged : IfErr r (λ e. IfDamaged e (λ b rule. EndsAtCall (λ call. IsDamagedOn d' n call b rule) s.clients s.lines items (StandsFor d n)))
   pub unbuilt : IfErr r (λ e. IfNotBuilt e (λ place. EndsAt place (λ call. IsUnbuiltOn d' n call) s.clients s.lines items (StandsFor d n)))
@@ -179,7 +180,7 @@ module _ (given left : Inputs) (replayed : Moment) (m : MountedValue) (s : Scrip
         legal = λ tree is. r.legal tree (from tree is);
         replays = replays;
         ran = ran_whole (Ok tt) r.course r.untouched r.same r.idle r.stands;
-        ends = IsDone m replayed r.answered (whole_from s.clients s.lines items (StandsFor replayed.disk n) (IsImageOf given.disk) from r.whole);
+        ends = IsDone m replayed r.answered r.placed (whole_from s.clients s.lines items (StandsFor replayed.disk n) (IsImageOf given.disk) from r.whole);
       }
 
       ran_until : (e : RunEnd) → Ran (Err e) → UnlessFault (status_of_end (first_line s) e) (HasRun given left replayed m s time items)
@@ -253,7 +254,7 @@ only_begun law s items start form begins =
 -- a run that ended without all its journals replayed
 pub of_ends : BegunHasNoCall → (given left : Inputs) (s : ScriptValue) (time : ℕ) (items : List TraceItem) (own : Status) (value : Option MountedValue) (replayed : Option Moment) → replayed ≡ None → IsOneNode s
     → RunEnds given left s time items value replayed own → HasNoCall s items (IsImageOf given.disk)
-of_ends law given left s time items own value replayed is form (IsDone m r all whole) = cc
+of_ends law given left s time items own value replayed is form (IsDone m r all placed whole) = cc
 of_ends law given left s time items own value replayed is form (NotBegun own' none same ends) = no_items s items (IsImageOf given.disk) none
 of_ends law given left s time items own value replayed is form (ReplayFailed m plans block x y are up within failed stand) =
     only_begun law s items (IsImageOf given.disk) form (begun_failed time (moment given.disk given.disk_list) (moment left.disk left.disk_list) m.journals plans items block failed)
@@ -267,7 +268,7 @@ of_ends law given left s time items own value replayed is form (NoRoom m r) = cc
 -- which was not done
 pub none_done : (given left : Inputs) (s : ScriptValue) (time : ℕ) (items : List TraceItem) (own : Status) (value : Option MountedValue) (replayed : Option Moment) → replayed ≡ None → RunEnds given left s time items value replayed own
     → own ≡ status.Done → ⊥
-none_done given left s time items own value replayed is (IsDone m r all whole) done = let both : ◌≡◌ {A = Option Moment} (Some r) None = is in cc
+none_done given left s time items own value replayed is (IsDone m r all placed whole) done = let both : ◌≡◌ {A = Option Moment} (Some r) None = is in cc
 none_done given left s time items own value replayed is (NotBegun own' none same ends) done = begin_never_done given.disk given.disk_faults left.disk_faults own ends done
 none_done given left s time items own value replayed is (ReplayFailed m plans block x y are up within failed stand) done = cc
 none_done given left s time items own value replayed is (ReplayLacksRoom m plans are some stand) done = cc
@@ -278,7 +279,7 @@ none_done given left s time items own value replayed is (NoRoom m r) done = cc
 
 -- what was mounted, if there is an item
 some_value : (given left : Inputs) (s : ScriptValue) (time : ℕ) (items : List TraceItem) (own : Status) (value : Option MountedValue) (replayed : Option Moment) → RunEnds given left s time items value replayed own → items ≢ [] → IsSome value
-some_value given left s time items own value replayed (IsDone m r all whole) some = refl
+some_value given left s time items own value replayed (IsDone m r all placed whole) some = refl
 some_value given left s time items own value replayed (NotBegun own' none same ends) some = absurd (some none)
 some_value given left s time items own value replayed (ReplayFailed m plans block x y are up within failed stand) some = refl
 some_value given left s time items own value replayed (ReplayLacksRoom m plans are front stand) some = refl
@@ -318,7 +319,7 @@ never_done first (end.NotBuilt place) is = cc
 never_done first end.NoMemory is = cc
 
 pub no_run_fault : (given left : Inputs) (s : ScriptValue) (time : ℕ) (items : List TraceItem) (what : Option MountedValue) (replayed : Option Moment) (own : Status) → RunEnds given left s time items what replayed own → IsSinkFault own → ⊥
-no_run_fault given left s time items what replayed own (IsDone m r all whole) never = never
+no_run_fault given left s time items what replayed own (IsDone m r all placed whole) never = never
 no_run_fault given left s time items what replayed own (NotBegun own' none same ends) never = no_begin_fault given.disk given.disk_faults left.disk_faults own ends never
 no_run_fault given left s time items what replayed own (ReplayFailed m plans block x y are up within failed stand) never = never
 no_run_fault given left s time items what replayed own (ReplayLacksRoom m plans are some stand) never = never

@@ -7,7 +7,7 @@ use Rattle.script_lang.specs.declared.script.Line.{Line}
 use Rattle.script_lang.specs.declared.script.Line.TheVariants as line
 use Rattle.script_lang.specs.Script.{ScriptValue}
 use Rattle.fencing.specs.NodeSets.{has}
-use Rattle.run_rules.specs.Follows.{Standing, Member, NotJoined, Stopped, is_write_of, answered, above, standing}
+use Rattle.run_rules.specs.Follows.{is_write_of, answered, above}
 
 -- ---- a crash that was armed: it comes directly behind the write of its node that it waits for
 
@@ -23,17 +23,11 @@ is_of_armed (a ∷ as') node before =
 
 -- ---- the line of an item: the first that orders it, is not carried out yet, and may have its item there
 
--- the node hasn't joined yet
-abbrev pub is_new : Standing → Bool
-is_new NotJoined = true
-is_new Member = false
-is_new Stopped = false
-
--- this line orders item p; the first joins of so many nodes are those of the start
-abbrev pub orders : ScriptValue → List TraceItem → ℕ → TraceItem → Line → Bool
-orders s items p (trace.Crash node) (line.Crash nodes) = has nodes node
-orders s items p (trace.Join node) (line.Join joined) = (joined == node) && (nat_le s.nodes p || not (is_new (standing items node p)))
-orders s items p _ _ = false
+-- this line orders item p; the first items, as many as the script has nodes, are the joins of the start
+abbrev pub orders : ScriptValue → ℕ → TraceItem → Line → Bool
+orders s p (trace.Crash node) (line.Crash nodes) = has nodes node
+orders s p (trace.Join node) (line.Join joined) = (joined == node) && nat_le s.nodes p
+orders s p _ _ = false
 
 -- after the answers to this client's lines above the line, and before those to its lines below
 abbrev pub fits_client : ScriptValue → List TraceItem → ℕ → ℕ → ℕ → Bool
@@ -55,7 +49,7 @@ is_used [] l node = false
 is_used (u ∷ us) l node = ((u.line == l) && (u.node == node)) || is_used us l node
 
 abbrev pub may_have : ScriptValue → List TraceItem → ℕ → ℕ → TraceItem → List Use → ℕ → Line → Bool
-may_have s items p node it used l x = orders s items p it x && not (is_used used l node) && fits_clients s items p l (length s.clients)
+may_have s items p node it used l x = orders s p it x && not (is_used used l node) && fits_clients s items p l (length s.clients)
 
 abbrev pub line_for : ScriptValue → List TraceItem → ℕ → ℕ → TraceItem → List Use → ℕ → List Line → Option ℕ
 line_for s items p node it used l [] = None

@@ -16,7 +16,7 @@ use Rattle.trace_text.specs.declared.item.TraceItem.{TraceItem}
 use Rattle.trace_text.specs.declared.item.TraceItem.TheVariants as trace
 use Rattle.script_lang.specs.Script.{ScriptValue}
 use Rattle.run_rules.specs.Follows.{history_of}
-use Rattle.run_rules.specs.History.{HoldsHistory, NoneStopped, AllAnswered}
+use Rattle.run_rules.specs.History.{AllAnswered, AllPlaced, HoldsHistory, NoneStopped}
 use Rattle.shared_disk.specs.Disk.{DiskState, IsIdle}
 use Rattle.log_layout.specs.declared.log_header.LogHeader.{LogHeader}
 use Rattle.lone_view.specs.Seeing.{Lone, seen_alone}
@@ -158,12 +158,12 @@ StandsWhateverBecomes given left m = (tree : Tree) → IsImageOf given tree → 
 
 -- ---- how it ends
 
--- How a run ends, of what was mounted, if anything was, and of the disk that the replay left, if that was whole: each line is answered and the node has unmounted;
+-- How a run ends, of what was mounted, if anything was, and of the disk that the replay left, if that was whole: each call is answered, each crash and join line has its place, and the node has unmounted;
 -- the run didn't begin, before the first item; in the replay of a journal the disk failed, or there was no memory for it, behind the replays of those before it, and what is left stands for what the image stood for; or, in
 -- a call behind the lines above it: the disk failed as its blocks were read or written; the call isn't built for what stands there, in an image that stands for
 -- no tree; or, in such an image too, a block is met that is told as broken (`MeetsDamage`); or there was no memory.
 pub data RunEnds (given left : Inputs) (s : ScriptValue) (time : ℕ) (items : List TraceItem) : Option MountedValue → Option Moment → Status → Type 0 where
-  IsDone : (m : MountedValue) (replayed : Moment) → AllAnswered items s → IsWholeRun s.clients s.lines items (IsImageOf given.disk)
+  IsDone : (m : MountedValue) (replayed : Moment) → AllAnswered items s → AllPlaced items s → IsWholeRun s.clients s.lines items (IsImageOf given.disk)
       → RunEnds given left s time items (Some m) (Some replayed) status.Done
   NotBegun : (own : Status) → items ≡ [] → KeepsDisk given left → BeginEnds given.disk given.disk_faults left.disk_faults own → RunEnds given left s time items None None own
   ReplayFailed : (m : MountedValue) (plans : List Plan) (block : Option ℕ) (x y : ℕ) → ArePlansOf given.disk m plans

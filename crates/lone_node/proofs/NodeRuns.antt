@@ -18,9 +18,9 @@ use Rattle.script_lang.specs.declared.script.Line.{Line}
 use Rattle.script_lang.specs.declared.script.Line.TheVariants as line
 use Rattle.script_lang.specs.Script.{ScriptValue, call_by, calls_by}
 use Rattle.script_lang.specs.OneNode.{HaveOwnClientNames, IsOneNode, IsOwnLine}
-use Rattle.run_rules.specs.Follows.{Follows, ByLine, IsAfterStart, history_of, call_items, above, answered, IsAfterAbove, IsOrderLine, IsOnItsNode}
+use Rattle.run_rules.specs.Follows.{Follows, ByLine, IsAfterStart, history_of, call_items, above, answered, IsAfterAbove, IsOnItsNode}
 use Rattle.run_rules.specs.History.{HoldsHistory, NoneStopped, AllAnswered}
-use Rattle.run_rules.proofs.Nothing.{nothing_follows, nothing_is_legal}
+use Rattle.run_rules.proofs.Nothing.{no_order_at, nothing_follows, nothing_is_legal}
 use Rattle.lone_node.specs.Items.{AnsweredCall, IsOfReplay, full_item, is_call_line, items_from, its_answer, its_line, name_at}
 use Rattle.lone_node.specs.Run.{IsRunOf, IsRunUpTo, IsWholeRun, NotJoined, Taken, Unmounted}
 use Rattle.lone_node.specs.declared.answering.Full.{Full}
@@ -261,12 +261,6 @@ replay_on_node clients (trace.Barrier node) of = tt
 replay_on_node clients (trace.Recovered node by) of = tt
 replay_on_node clients _ of = absurd of
 
-no_order : (n : ℕ) (l : Line) → IsOwnLine n l → IsOrderLine l → ⊥
-no_order n (line.Call c call) form order = order
-no_order n line.Wait form order = order
-no_order n (line.Crash nodes) form order = form
-no_order n (line.Join node) form order = form
-
 none_at : {A : Type 0} (p : ℕ) (x : A) → slice_get [] p ≡ Some x → ⊥
 none_at p x at = cc
 
@@ -397,17 +391,21 @@ module _ (s : ScriptValue) (form : IsOneNode s) (count : ℕ) (rs : List Answere
 
   -- ---- all together
 
-  -- the first item alone is a join, and its node hadn't joined before
-  no_later : {A : Type 0} (p node : ℕ) → slice_get items p ≡ Some (trace.Join node) → IsAfterStart s items p node → A
-  no_later zero node at (inl more) = absurd (omega (arith, more, form.nodes))
-  no_later zero node at (inr again) = absurd (again refl)
-  no_later (suc p) node at later = absurd (no_join (suc p) node (omega arith) at)
+  -- the first item alone is a join: that of the script's one node
+  start : (p : ℕ) (it : TraceItem) → slice_get items p ≡ Some it → p < s.nodes → it ≡ trace.Join (p + 1)
+  start zero it at low = cc
+  start (suc p) it at low = absurd (omega (arith, low, form.nodes))
+
+  no_later : {A : Type 0} (p node : ℕ) → slice_get items p ≡ Some (trace.Join node) → IsAfterStart s p → A
+  no_later zero node at past = absurd (omega (arith, past, form.nodes))
+  no_later (suc p) node at past = absurd (no_join (suc p) node (omega arith) at)
 
   follows : Follows items s
   follows = record {
     in_order = in_order;
     on_node = on_node;
     waits = λ l p client barrier at is_barrier more rises. waits l p client more rises;
+    start = start;
     order = λ p. ByLine 0;
     crashes = λ p node at. absurd (no_crash p node at);
     joins = λ p node at later. no_later p node at later;
@@ -415,7 +413,7 @@ module _ (s : ScriptValue) (form : IsOneNode s) (count : ℕ) (rs : List Answere
     once_joined = λ p q i j at also later latter same. no_later p i at later;
     armed = λ p a armed at write. absurd (none_at a armed (ap (λ (as' : List _). slice_get as' a) (sym form.armed) ∙ at));
     place = λ l. 0;
-    placed = λ l order_line at is_order below. absurd (no_order (length s.clients) order_line (all_at (IsOwnLine (length s.clients)) s.lines l order_line form.lines at) is_order);
+    placed = λ l order_line at is_order below. absurd (no_order_at (length s.clients) s.lines l order_line form.lines at is_order);
     rising = λ l latter before below. omega arith;
   }
 

@@ -1,2 +1,4 @@
 pub mod Nothing
+pub mod Passing
+pub mod CarriedOut
 pub mod Heads

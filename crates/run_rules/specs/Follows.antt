@@ -1,5 +1,5 @@
 -- The items of a run follow its script.
-use Rattle.std.specs.Prelude.{ℕ, suc, ◌≡◌, ◌≢◌, ◌⊎◌, ◌+◌, ◌-◌, ◌<◌, ◌≤◌, ◌==◌, Bool, false, IsTrue, min, List, [], ◌∷◌, length, take, slice_get, Some, if◌then◌else◌, ⊤, count_by}
+use Rattle.std.specs.Prelude.{ℕ, suc, ◌≡◌, ◌⊎◌, ◌+◌, ◌-◌, ◌<◌, ◌≤◌, ◌==◌, Bool, false, IsTrue, min, List, [], ◌∷◌, length, take, slice_get, Some, if◌then◌else◌, ⊤, count_by}
 use Rattle.std.specs.Str.{bytes_eq}
 use Rattle.fencing.specs.NodeSets.{has}
 use Rattle.file_tree.specs.declared.call.Call.{Call}
@@ -109,23 +109,28 @@ pub data Order : Type 0 where
 abbrev pub IsKthWrite : List TraceItem → ℕ → ℕ → ℕ → Type 0
 IsKthWrite items node k p = (it : TraceItem) × (slice_get items p ≡ Some it) × IsTrue (is_write_of node it) × (count_by (is_write_of node) (take (p + 1) items) ≡ k)
 
+-- a line that is carried out by an item has it behind the answers to the lines above it, and before those to the lines below it
 abbrev pub CrashesBy : ScriptValue → List TraceItem → ℕ → ℕ → Order → Type 0
-CrashesBy s items p node (ByLine l) = (nodes : ℕ) × (slice_get s.lines l ≡ Some (line.Crash nodes)) × IsTrue (has nodes node) × IsAfterAbove s items l p
+CrashesBy s items p node (ByLine l) = (nodes : ℕ) × (slice_get s.lines l ≡ Some (line.Crash nodes)) × IsTrue (has nodes node) × IsAfterAbove s items l p × IsBeforeBelow s items l p
 CrashesBy s items p node (ByArmed a) = (armed : Armed) × (slice_get s.armed a ≡ Some armed) × (armed.node ≡ node) × (0 < p) × IsKthWrite items node armed.write (p - 1)
 
 abbrev pub JoinsBy : ScriptValue → List TraceItem → ℕ → ℕ → Order → Type 0
-JoinsBy s items p node (ByLine l) = (slice_get s.lines l ≡ Some (line.Join node)) × IsAfterAbove s items l p
+JoinsBy s items p node (ByLine l) = (slice_get s.lines l ≡ Some (line.Join node)) × IsAfterAbove s items l p × IsBeforeBelow s items l p
 JoinsBy s items p node (ByArmed a) = ⊥
 
--- A join after the start: as many items stand before it as the script has nodes; or its node isn't one that hasn't joined yet.
-abbrev pub IsAfterStart : ScriptValue → List TraceItem → ℕ → ℕ → Type 0
-IsAfterStart s items p node = (s.nodes ≤ p) ⊎ (standing items node p ≢ NotJoined)
+-- an item after the start, which is one join for each node of the script
+abbrev pub IsAfterStart : ScriptValue → ℕ → Type 0
+IsAfterStart s p = s.nodes ≤ p
 
 -- at the place of a crash line each node that it names is stopped, and at that of a join line its node is a member
 abbrev pub StandsAt : ScriptValue → List TraceItem → Line → ℕ → Type 0
 StandsAt s items (line.Crash nodes) p = (node : ℕ) → IsTrue (has nodes node) → node ≤ s.nodes → standing items node p ≡ Stopped
 StandsAt s items (line.Join node) p = standing items node p ≡ Member
 StandsAt s items _ p = ⊥
+
+-- a place of a crash or join line: behind the answers to the lines above it, before those to the lines below it, and there all is as it says
+abbrev pub IsPlaceOf : ScriptValue → List TraceItem → ℕ → Line → ℕ → Type 0
+IsPlaceOf s items l order_line p = IsAfterAbove s items l p × IsBeforeBelow s items l p × StandsAt s items order_line p
 
 pub record Follows (items : List TraceItem) (s : ScriptValue) : Type 0 where
   -- each client's calls are its lines in order, up to the first without one, and are made on its node
@@ -134,18 +139,20 @@ pub record Follows (items : List TraceItem) (s : ScriptValue) : Type 0 where
   -- a line below a wait, crash or join line is answered after the lines above it
   pub waits : (l p client : ℕ) (barrier : Line) → slice_get s.lines l ≡ Some barrier → IsBarrierLine barrier
       → above s client l ≤ answered s items client p → answered s items client p < answered s items client (p + 1) → IsAfterAbove s items l p
+  -- it begins with the joins of the script's nodes, in rising order, and nothing comes before all of them have joined
+  pub start : (p : ℕ) (it : TraceItem) → slice_get items p ≡ Some it → p < s.nodes → it ≡ trace.Join (p + 1)
   -- what each crash and each join after the start carries out
   pub order : ℕ → Order
   pub crashes : (p node : ℕ) → slice_get items p ≡ Some (trace.Crash node) → CrashesBy s items p node (order p)
-  pub joins : (p node : ℕ) → slice_get items p ≡ Some (trace.Join node) → IsAfterStart s items p node → JoinsBy s items p node (order p)
+  pub joins : (p node : ℕ) → slice_get items p ≡ Some (trace.Join node) → IsAfterStart s p → JoinsBy s items p node (order p)
   -- each order at most once, a line once for each of its nodes
   pub once : (p q node : ℕ) → slice_get items p ≡ Some (trace.Crash node) → slice_get items q ≡ Some (trace.Crash node) → order p ≡ order q → p ≡ q
-  pub once_joined : (p q i j : ℕ) → slice_get items p ≡ Some (trace.Join i) → slice_get items q ≡ Some (trace.Join j) → IsAfterStart s items p i → IsAfterStart s items q j → order p ≡ order q → p ≡ q
+  pub once_joined : (p q i j : ℕ) → slice_get items p ≡ Some (trace.Join i) → slice_get items q ≡ Some (trace.Join j) → IsAfterStart s p → IsAfterStart s q → order p ≡ order q → p ≡ q
   -- an armed crash comes directly after its write
   pub armed : (p k : ℕ) (a : Armed) → slice_get s.armed k ≡ Some a → IsKthWrite items a.node a.write p
       → (p + 1 ≡ length items) ⊎ (slice_get items (p + 1) ≡ Some (trace.Crash a.node))
   -- a crash or join line above an answered line has its place, and the places rise
   pub place : ℕ → ℕ
   pub placed : (l : ℕ) (order_line : Line) → slice_get s.lines l ≡ Some order_line → IsOrderLine order_line → HasBelow s items l
-      → IsAfterAbove s items l (place l) × IsBeforeBelow s items l (place l) × StandsAt s items order_line (place l)
+      → IsPlaceOf s items l order_line (place l)
   pub rising : (l later : ℕ) → l < later → HasBelow s items later → place l ≤ place later

@@ -2,7 +2,7 @@
 //! tree's, and which follows the script.
 #![tactic(auto)]
 
-ghost use Rattle.run_rules.specs.Laws.{CrashLinesAreCarriedOut, JoinsAreOrdered, NothingFollows, NothingIsLegal};
+ghost use Rattle.run_rules.specs.Laws.{CrashLinesAreCarriedOut, JoinsAreOrdered, CarriedOutFollows, LastLinesAreCarriedOut, NoneCrashesAtTheStart, NothingFollows, NothingIsLegal};
 ghost use Rattle.run_rules.specs.Heads.{RowsOfHeads, RowsOfRecoveries, EachLossHasALife};
 
 /// A law: a run that has no items yet follows its script, whatever that is, is numbered, and is legal.
@@ -16,9 +16,23 @@ pub fn crash_lines_are_carried_out()
     ensures { CrashLinesAreCarriedOut }
 {}
 
-/// A law of one run: where a node joins again behind its crash, it doesn't follow a script of four nodes without a join line.
+/// A law: where items follow a script, they begin with the joins of its nodes, in rising order (`start`): each join is
+/// one of these, or that of a join line; and no node crashes before all have joined (`crashes`).
 pub fn joins_are_ordered()
-    ensures { JoinsAreOrdered }
+    ensures start { JoinsAreOrdered }
+    ensures crashes { NoneCrashesAtTheStart }
+{}
+
+/// A law: a run that passes over a crash line, as one of `c: list /` and `crash 1` that only lists, hasn't the place of each of its
+/// lines, also where no line stands below that crash.
+pub fn last_lines_are_carried_out()
+    ensures { LastLinesAreCarriedOut }
+{}
+
+/// A law: a run of two nodes, of which the first crashes and joins again, as two lines of its script say, follows that script,
+/// and each of its lines has its place.
+pub fn orders_can_be_carried_out()
+    ensures { CarriedOutFollows }
 {}
 
 /// A law: the number that a loss counts from, in worked rows, one for each of its cases; and a loss without a life is refused.

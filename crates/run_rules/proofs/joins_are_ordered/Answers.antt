@@ -1,17 +1,24 @@
-use Rattle.std.proofs.Common.{◌≡◌, ℕ, zero, suc, inr, refl}
-use Rattle.run_rules.specs.Follows.{ByArmed, ByLine, JoinsBy, NotJoined, Order, Stopped}
-use Rattle.run_rules.specs.Laws.{crash_of_four, joined_twice}
+use Rattle.std.proofs.Common.{◌≡◌, inl, inr, ◌+◌, ℕ, List, Some}
+use Rattle.std.proofs.lemmas.Bool.{cases_lt}
+use Rattle.std.specs.List.{slice_get}
+use Rattle.trace_text.specs.declared.item.TraceItem.{TraceItem}
+use Rattle.script_lang.specs.Script.{ScriptValue}
+use Rattle.script_lang.specs.declared.script.Line.TheVariants as line
+use Rattle.run_rules.specs.Follows.{ByArmed, ByLine, JoinsBy, Order}
 use Rattle.run_rules.proofs.joins_are_ordered.Goals as goal
 
--- no line of the script orders a join
-none_orders : (o : Order) → JoinsBy crash_of_four joined_twice 3 1 o → ⊥
-none_orders (ByLine zero) joins = let bad = joins.0 in cc
-none_orders (ByLine (suc zero)) joins = let bad = joins.0 in cc
-none_orders (ByLine (suc (suc l))) joins = let bad = joins.0 in cc
-none_orders (ByArmed a) joins = joins
+its_line : (s : ScriptValue) (items : List TraceItem) (p node : ℕ) (o : Order) → JoinsBy s items p node o → (l : ℕ) × (slice_get s.lines l ≡ Some (line.Join node))
+its_line s items p node (ByLine l) joins = (l, joins.0)
+its_line s items p node (ByArmed a) joins = absurd joins
 
-stopped : Stopped ≡ NotJoined → ⊥
-stopped is = cc
+pub returns-clause-start : goal.returns-clause-start
+returns-clause-start c s items follows p node is = elim (cases_lt p s.nodes) [
+  | inl low ↦ let same = follows.start p _ is low in let its : node ≡ p + 1 = cc in inl (low, its)
+  | inr past ↦ let its = its_line s items p node (follows.order p) (follows.joins p node is past) in inr (past, its.0, its.1)
+]
 
-pub returns : goal.returns
-returns c = λ follows. none_orders (follows.order 3) (follows.joins 3 1 refl (inr stopped))
+pub returns-clause-crashes : goal.returns-clause-crashes
+returns-clause-crashes c s items follows p node is = elim (cases_lt p s.nodes) [
+  | inl low ↦ let same = follows.start p _ is low in cc
+  | inr past ↦ past
+]

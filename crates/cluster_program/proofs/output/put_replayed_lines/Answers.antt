@@ -1,5 +1,5 @@
-use Rattle.std.proofs.Common.{◌≡◌, ℕ, ◌-◌, ◌++◌, List, length, drop, take, sym, subst, ap, ◌∙◌, arith, length-drop, length-take}
-use Rattle.cluster_program.specs.Out.{line_of_replay, replayed_lines, replayed_lines_behind}
+use Rattle.std.proofs.Common.{ℕ, ◌-◌, ◌++◌, length, drop, take, sym, ap, ◌∙◌, arith, length-drop, length-take}
+use Rattle.cluster_program.specs.Out.{replayed_lines, replayed_lines_behind}
 use Rattle.cluster_program.proofs.Passing.{step_more, step_cut}
 use Rattle.cluster_program.proofs.ReplayedLines.{next_item}
 use Rattle.cluster_program.proofs.output.put_replayed_lines.Goals as goal

@@ -1,5 +1,6 @@
 use Rattle.std.proofs.Common.{◌+◌, ◌<◌, ℕ, None, refl, sym, ap, ◌∙◌, subst}
 use Rattle.std.specs.Prelude.{Ok, Err}
+use Rattle.run_rules.proofs.Nothing.{nothing_to_place}
 use Rattle.lone_node.specs.Turns.{moment}
 use Rattle.gfs2_layout.specs.Device.{IsBlockSize}
 use Rattle.lone_node.specs.Answering.{IsUnbuiltOn}
@@ -7,7 +8,7 @@ use Rattle.lone_node.specs.Ends.{IfNotBuilt}
 use Rattle.lone_node.specs.Standing.{StandsFor}
 use Rattle.cluster_program.specs.Beginning.{HasBegun}
 use Rattle.cluster_program.specs.EndStatuses.{status_of_end}
-use Rattle.cluster_program.specs.Runs.{Runs, first_line}
+use Rattle.cluster_program.specs.Runs.{Runs}
 use Rattle.cluster_program.specs.World.{inputs}
 use Rattle.cluster_program.proofs.Quiet.{quiet, answers_of_run}
 use Rattle.cluster_program.proofs.Runs.{HasRunScript, never_done, no_calls, none_done, of_ends, small_number, whole_blocks}
@@ -44,6 +45,7 @@ returns-in-Ok-run_script-clause-runs g c left left_now failed failed_now =
       stands = c.in-Ok-run_script.ensures.stands;
       whole = c.in-Ok-run_script.ensures.whole;
       answered = c.in-Ok-run_script.ensures.answered;
+      placed = nothing_to_place c.args.script.now c.run_script.new.items.items c.requires.form;
       sound = c.in-Ok-run_script.ensures.sound;
       damaged = c.in-Ok-run_script.ensures.damaged;
       unbuilt = c.in-Ok-run_script.ensures.unbuilt;
@@ -85,6 +87,7 @@ returns-clause-runs g c left left_now failed failed_now =
       stands = c.in-Err-run_script.ensures.stands;
       whole = c.in-Err-run_script.ensures.whole;
       answered = c.in-Err-run_script.ensures.answered;
+      placed = tt;
       sound = c.in-Err-run_script.ensures.sound;
       damaged = c.in-Err-run_script.ensures.damaged;
       unbuilt = c.in-Err-run_script.ensures.unbuilt;

@@ -1,4 +1,4 @@
-use Rattle.std.proofs.Common.{◌≡◌, ℕ, List, Bool, Ok, None, Some, true, ◌∙◌, if◌then◌else◌, subst, sym, map, string_bytes}
+use Rattle.std.proofs.Common.{◌≡◌, ℕ, List, Ok, None, Some, true, ◌∙◌, if◌then◌else◌, subst, sym, map, string_bytes}
 use Rattle.command_words.specs.Commands.{words_read}
 use Rattle.command_words.specs.Limits.{IsWithinLimits}
 use Rattle.command_words.specs.declared.command.Command.{Command}
