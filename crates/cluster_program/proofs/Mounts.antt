@@ -16,6 +16,7 @@ use Rattle.image_model.specs.Rules.{Breaks, beyond_groups}
 use Rattle.image_mount.specs.Found.{HasFormat}
 use Rattle.image_mount.specs.Mounted.{MountedValue, IsMounted, IsOfProfile, GroupsAreAsSeen}
 use Rattle.image_mount.specs.Refusals.{RefusesRightly, HasRisen, LiesWithin, IsExcused}
+use Rattle.image_mount.specs.Searching.{ShowsSystem}
 use Rattle.image_mount.specs.declared.fault.MountFault.{MountFault}
 use Rattle.image_mount.specs.declared.fault.MountFault.TheVariants as fault
 use Rattle.shared_disk.specs.Disk.{DiskState, IsSound}
@@ -24,25 +25,26 @@ use Rattle.lone_view.specs.Seeing.{seen_alone}
 use Rattle.lone_node.specs.Standing.{IsOn}
 use Rattle.damage_laws.specs.Telling.{HasRootInside, IsOfMounted, MountedAreRead}
 use Rattle.cluster_program.specs.EndStatuses.{status_of_mount}
-use Rattle.cluster_program.specs.Mounting.{OfImage, IsMountedAlike, IsMountedOn, IsToldBySystem, BeginEnds, MountEnds, DiskFails, IsStopped, LiesOutside, IsDamaged, LacksRoom, NeverStands, NotMounted, NotRead}
+use Rattle.cluster_program.specs.Mounting.{OfImage, IsMountedAlike, IsMountedOn, IsMountedReplayed, IsToldBySystem, BeginEnds, MountEnds, DiskFails, IsStopped, LiesOutside, IsDamaged, LacksRoom, NeverStands, NotMounted, NotRead}
 use Rattle.cluster_program.specs.Report.{IsSinkFault}
 use Rattle.cluster_program.specs.declared.status.Status.{Status}
 use Rattle.cluster_program.specs.Runs.{as_mounted}
 use Rattle.cluster_program.specs.declared.status.Status.TheVariants as status
 
--- what a mount that fails tells of each image with the same system files
+-- what a mount that fails tells of each image of which the disk shows the system files
 pub record IsToldRightly (d : DiskState) (f : MountFault) : Type 0 where
   pub right : OfImage d (λ im. RefusesRightly im f)
-  pub alike : OfImage d (λ im. (other : Image) (o : Owners) (l : Layout) → HasSameSystem im other → IsLaid other o l → RefusesRightly other f)
+  pub told : (other : Image) → ShowsSystem d other → RefusesRightly other f
+  pub standing : OfImage d (λ im. (other : Image) (o : Owners) (l : Layout) → HasSameSystem im other → IsLaid other o l → RefusesRightly other f)
   pub excused : OfImage d (λ im. (other : Image) → HasSameSystem im other → IsOfProfile other → IsExcused f)
 
 pub mount_end : (d : DiskState) (first now : ℕ → ℕ) (f : MountFault) → NothingBreaks → ReplaysKeepSystem → IsToldRightly d f → HasRisen first now f → LiesWithin d.count f → MountEnds d first now (status_of_mount f)
 mount_end d first now (fault.NotProfile what value) law keeps told risen within =
     LiesOutside what value told.right (λ tells has. told.excused tells has.replayed (keeps (image_of d) has.replayed has.layout has.is) has.profile)
 mount_end d first now (fault.Damaged block rule) law keeps told risen within =
-    IsDamaged block rule told.right told.alike (λ tells tree is.
-    let alike = told.alike tells is.replayed is.stands.owners is.stands.layout (keeps (image_of d) is.replayed is.layout is.is) is.stands.laid in
-    law is.replayed tree is.stands rule block alike.0.breaks)
+    IsDamaged block rule told.right (λ other image. told.told other) (λ tells tree is.
+    let standing = told.standing tells is.replayed is.stands.owners is.stands.layout (keeps (image_of d) is.replayed is.layout is.is) is.stands.laid in
+    law is.replayed tree is.stands rule block standing.0.breaks)
 mount_end d first now (fault.DeviceFault block x y) law keeps told risen within = DiskFails block x y risen within told.right
 mount_end d first now fault.NoMemory law keeps told risen within = LacksRoom
 
@@ -77,10 +79,10 @@ some_groups d m mounted =
     let same : length m.groups ≡ length mounted.layout.groups = ap length mounted.groups ∙ length-map mounted.layout.groups group_of_entry in
     let some = mounted.profile.groups.0 in omega (arith, same, some)
 
-module _ (d : DiskState) (m : MountedValue) (law : NothingBreaks) (keeps : ReplaysKeepSystem) (is : OfImage d IsImage) (on : IsMountedOn d m) (replays : IsMountedAlike d m) where
+module _ (d : DiskState) (m : MountedValue) (law : NothingBreaks) (keeps : ReplaysKeepSystem) (is : OfImage d IsImage) (on : IsMountedOn d m) (replayed : IsMountedReplayed d m) (alike : IsMountedAlike d m) where
   -- groups such as no node can work with are not those of a disk that tells its blocks
   pub odd_groups : GroupsAreAsSeen → ¬ (AreGroupsOn d.size d.count m.groups) → (first now : ℕ → ℕ) → MountEnds d first now (status.Damaged (superblock_place d.size) 18)
-  odd_groups seen odd first now = IsDamaged (superblock_place d.size) 18 (λ tells. absurd (never tells)) (λ tells. absurd (never tells)) (λ tells tree stands. never tells)
+  odd_groups seen odd first now = IsDamaged (superblock_place d.size) 18 (λ tells. absurd (never tells)) (λ other image shows. absurd (never shows.tells)) (λ tells tree stands. never tells)
     where
       never : IsTrue d.tells → ⊥
       never tells =
@@ -89,7 +91,7 @@ module _ (d : DiskState) (m : MountedValue) (law : NothingBreaks) (keeps : Repla
 
   -- a root that is in no group is told at the superblock, in each image from which the node may read
   pub stray_root : MountedAreRead → ¬ (HasRootInside (seen_alone (as_mounted d m))) → (first now : ℕ → ℕ) → MountEnds d first now (status.Damaged (superblock_place d.size) 2)
-  stray_root read stray first now = IsDamaged (superblock_place d.size) 2 told alike never
+  stray_root read stray first now = IsDamaged (superblock_place d.size) 2 told shown never
     where
       breaks : (im : Image) → IsImage im → im.size ≡ d.size → IsMounted im m → Breaks im 2 (superblock_place d.size)
       breaks im image size mounted =
@@ -104,21 +106,18 @@ module _ (d : DiskState) (m : MountedValue) (law : NothingBreaks) (keeps : Repla
           let format : HasFormat (image_of d) = (on tells).found.groups.list.master.format in
           (record { breaks = breaks (image_of d) (is tells) refl (on tells); there = inl format.super.inside }, inr format)
 
-      -- of each image with the same system files
-      breaks_too : IsTrue d.tells → (other : Image) → IsImage other → HasSameSystem (image_of d) other → Breaks other 2 (superblock_place d.size)
-      breaks_too tells other image same = breaks other image same.size (replays tells other same)
-
-      alike : IsToldBySystem d (superblock_place d.size) 2
-      alike tells other o l same laid =
-          let mounted = replays tells other same in
+      -- and so in each image of which the disk shows the system files
+      shown : IsToldBySystem d (superblock_place d.size) 2
+      shown other image shows =
+          let mounted = alike other shows in
           let format : HasFormat other = mounted.found.groups.list.master.format in
-          let inside : superblock_place d.size < other.count = subst (λ n. superblock_place n < other.count) same.size format.super.inside in
-          (record { breaks = breaks_too tells other laid.image same; there = inl inside }, inr format)
+          let inside : superblock_place d.size < other.count = subst (λ n. superblock_place n < other.count) shows.size format.super.inside in
+          (record { breaks = breaks other image shows.size mounted; there = inl inside }, inr format)
 
       never : OfImage d NeverStands
       never tells tree it =
           let same = keeps (image_of d) it.replayed it.layout it.is in
-          law it.replayed tree it.stands 2 (superblock_place d.size) (breaks_too tells it.replayed it.stands.laid.image same)
+          law it.replayed tree it.stands 2 (superblock_place d.size) (breaks it.replayed it.stands.laid.image same.size (replayed tells it.layout it.replayed it.is))
 
 -- ---- such an end is not told to be done, nor a sink's fault
 

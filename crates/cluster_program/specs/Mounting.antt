@@ -3,13 +3,12 @@ use Rattle.std.specs.Prelude.{ℕ, ◌≡◌, ◌<◌, Bool, false, true, IsTrue
 use Rattle.fault_counts.specs.Causes.{WentUp}
 use Rattle.file_tree.specs.Tree.{Tree}
 use Rattle.image_model.specs.Claims.{every}
-use Rattle.image_model.specs.Image.{Image, image_of}
+use Rattle.image_model.specs.Image.{Image, IsImage, image_of}
 use Rattle.image_model.specs.Replays.{Replayed, StandsReplayed}
-use Rattle.image_model.specs.Owners.{Owners}
-use Rattle.image_model.specs.Stands.{IsLaid, Layout}
-use Rattle.image_model.specs.SystemFiles.{HasSameSystem}
+use Rattle.image_model.specs.Stands.{Layout}
 use Rattle.image_mount.specs.Mounted.{Journal, MountedValue, IsMounted, IsOfProfile}
 use Rattle.image_mount.specs.Refusals.{IsOutside, IsReached, RefusesRightly}
+use Rattle.image_mount.specs.Searching.{ShowsSystem}
 use Rattle.image_mount.specs.declared.field.Field.{Field}
 use Rattle.image_mount.specs.declared.fault.MountFault.TheVariants as fault
 use Rattle.image_replays.specs.Replays.{IsReadPlace, Stops}
@@ -55,9 +54,9 @@ IsMountedOn disk m = OfImage disk (λ im. IsMounted im m)
 abbrev pub IsMountedReplayed : DiskState → MountedValue → Type 0
 IsMountedReplayed disk m = OfImage disk (λ im. (l : Layout) (replayed : Image) → Replayed im l replayed → IsMounted replayed m)
 
--- and so it would be of each image with the same system files
+-- and so it would be of each image of which the disk shows the system files
 abbrev pub IsMountedAlike : DiskState → MountedValue → Type 0
-IsMountedAlike disk m = OfImage disk (λ im. (other : Image) → HasSameSystem im other → IsMounted other m)
+IsMountedAlike disk m = (other : Image) → ShowsSystem disk other → IsMounted other m
 
 -- The image on the disk, with what its journals say in place, stands for a tree and is one of the profile.
 pub record IsMountable (disk : DiskState) : Type 0 where
@@ -79,10 +78,10 @@ is_clean_head (Some head) = head.clean
 abbrev pub is_clean_in : Image → Journal → Bool
 is_clean_in im journal = is_clean_head (head_in (ring_of (every im journal.dinode)))
 
--- A damage of the system files: it is told rightly of each image, whole in its layout, that has them as they are here. Such an image breaks no rule; so there is none.
+-- A damage that the system files show, on a disk that tells its blocks: it is told rightly of each image, of whole blocks, that has in each block of
+-- its own system files what the disk has there. Whatever its other blocks hold, that block breaks that rule.
 abbrev pub IsToldBySystem : DiskState → ℕ → ℕ → Type 0
-IsToldBySystem disk block rule =
-    OfImage disk (λ im. (other : Image) (o : Owners) (l : Layout) → HasSameSystem im other → IsLaid other o l → RefusesRightly other (fault.Damaged block rule))
+IsToldBySystem disk block rule = (other : Image) → IsImage other → ShowsSystem disk other → RefusesRightly other (fault.Damaged block rule)
 
 -- Why an image isn't mounted: the disk failed at a block of it, one of the system files where it tells its blocks; a field is outside the profile; a block of the device
 -- breaks a rule, or it is too short for a superblock, and behind the superblock that is told only where the formats are those of

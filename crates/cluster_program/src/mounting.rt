@@ -56,6 +56,7 @@ pub(crate) fn ready_of<D: SharedDisk>(
 ) -> Result<Ready, Status>
     requires size { IsBlockSize (D.state disk.now).size }
     requires mounted { IsMountedOn (D.state disk.now) mounted }
+    requires replayed { IsMountedReplayed (D.state disk.now) mounted }
     requires alike { IsMountedAlike (D.state disk.now) mounted }
     ensures view { IfOk result (λ ready. ready.view ≡ as_mounted (D.state disk.now) mounted) }
     ensures journals { IfOk result (λ ready. ready.journals.items ≡ mounted.journals) }

@@ -43,7 +43,12 @@ use Rattle.image_mount.proofs.Systems.{read_on}
 pub refused_where : {T : Type 0} (s : DiskState) (r : Result T MountFault) (f : MountFault) → IsErrAnd r (λ g. g ≡ f) → ((im : Image) → ShowsSystem s im → RefusesRightly im f) → IfErr r (λ g. IsTrue s.tells → RefusesRightly (image_of s) g)
 refused_where {T} s r f is right = handed {T = T} r (λ g. g ≡ f) (λ g. IsTrue s.tells → RefusesRightly (image_of s) g) is (λ g e tells. subst (RefusesRightly (image_of s)) (sym e) (right (image_of s) (shows_own s tells)))
 
--- and of one that stands and has its system files
+-- and of each image of which the disk shows the system files
+pub told_where : {T : Type 0} (s : DiskState) (r : Result T MountFault) (f : MountFault) → IsErrAnd r (λ g. g ≡ f) → ((im : Image) → ShowsSystem s im → RefusesRightly im f)
+    → IfErr r (λ g. (im : Image) → ShowsSystem s im → RefusesRightly im g)
+told_where {T} s r f is right = handed {T = T} r (λ g. g ≡ f) (λ g. (im : Image) → ShowsSystem s im → RefusesRightly im g) is (λ g e im shows. subst (RefusesRightly im) (sym e) (right im shows))
+
+-- so of one that stands and has its system files
 pub standing_where : {T : Type 0} (s : DiskState) (r : Result T MountFault) (f : MountFault) → IsErrAnd r (λ g. g ≡ f) → ((im : Image) → ShowsSystem s im → RefusesRightly im f)
     → IfErr r (λ g. IsTrue s.tells → (im : Image) (o : Owners) (l : Layout) → HasSameSystem (image_of s) im → IsLaid im o l → RefusesRightly im g)
 standing_where {T} s r f is right =

@@ -1,5 +1,5 @@
 -- What is known of the blocks that are kept and of those that are places of journals, as more are read and found.
-use Rattle.std.proofs.Common.{◌≡◌, ◌≢◌, inl, inr, ℕ, zero, suc, ◌+◌, ◌<◌, ◌≤◌, Bool, true, false, List, [], ◌∷◌, ◌++◌, Option, None, Some, refl, sym, ap, subst, ◌∙◌, arith}
+use Rattle.std.proofs.Common.{◌≡◌, ◌≢◌, ◌⊎◌, inl, inr, ℕ, zero, suc, ◌+◌, ◌<◌, ◌≤◌, Bool, true, false, List, [], ◌∷◌, ◌++◌, Option, None, Some, refl, sym, ap, subst, ◌∙◌, arith}
 use Rattle.std.specs.Prelude.{Contains, slice_get, slice_set, IsTrue, Result, Ok, Err, OnOk}
 use Rattle.std.specs.List.{All}
 use Rattle.std.proofs.lemmas.Bool.{cases_eq}
@@ -259,6 +259,11 @@ above_super im system b groups looked same inside e =
 pub wanted_system : (im : Image) (block from : ℕ) → IsWanted im block from → IsSystemBlock im block
 wanted_system im block from (inl super) = of_superblock super
 wanted_system im block from (inr by) = by.1.4
+
+-- and behind the superblock the formats are those of the profile
+pub wanted_format : (im : Image) (block from : ℕ) → IsWanted im block from → (block ≡ superblock_place im.size) ⊎ HasFormat im
+wanted_format im block from (inl super) = inl super
+wanted_format im block from (inr by) = inr by.0
 
 -- why what is wanted isn't read, of a disk that holds what it held before
 pub go_refused : (old now : DiskState) (im : Image) (s : Stop) (k : Kept) (f : MountFault) (done : List ℕ) (d n : ℕ) → now ≡ old

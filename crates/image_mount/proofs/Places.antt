@@ -165,9 +165,9 @@ above_wanted im journal v place m of needed inside other within = each needed.wa
 pub blocks_none : (im : Image) (d : ℕ) → AreBlocksOf im d 0 []
 blocks_none im d = record { all = refl; reached = λ k x low. absurd (omega (arith, low)); system = λ k x low. absurd (omega (arith, low)); headed = λ p low. absurd (omega (arith, low)) }
 
-pub blocks_more : (im : Image) (d n by k : ℕ) (located : Located) (old new : List ℕ) → AreBlocksOf im d n old → IsPlaceAt im d n located → located.block < im.count → Claims im by located.block (Below d by k 0 n) → IsSystemBlock im located.block → new ≡ old ++ located.block ∷ []
+pub blocks_more : (im : Image) (d n by k : ℕ) (located : Located) (old new : List ℕ) → AreBlocksOf im d n old → IsPlaceAt im d n located → HasFormat im → located.block < im.count → Claims im by located.block (Below d by k 0 n) → IsSystemBlock im located.block → new ≡ old ++ located.block ∷ []
     → AreBlocksOf im d (n + 1) new
-blocks_more im d n by k located old new are at low claim system is = record {
+blocks_more im d n by k located old new are at format low claim system is = record {
   system = subst (All (IsSystemBlock im)) (sym is) (All-push (IsSystemBlock im) old located.block are.system system);
   all = is ∙ ap (λ xs. xs ++ located.block ∷ []) are.all ∙ ap (λ b. map (content_block (every im d)) (range_with_len 0 n) ++ b ∷ []) at.block
       ∙ sym (map-range_with_len_more (content_block (every im d)) 0 n n (omega arith));
@@ -175,7 +175,7 @@ blocks_more im d n by k located old new are at low claim system is = record {
     | inl same ↦ subst (IsHeadedWay (every im d)) (sym same) at.headed
     | inr other ↦ are.headed p (omega (arith, below, other))
   ];
-  reached = subst (All (IsReached im)) (sym is) (All-push (IsReached im) old located.block are.reached (record { inside = low; system = system }));
+  reached = subst (All (IsReached im)) (sym is) (All-push (IsReached im) old located.block are.reached (record { inside = low; system = system; format = inr format }));
 }
 
 -- the block at a place is that of content

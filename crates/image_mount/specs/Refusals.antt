@@ -63,10 +63,12 @@ pub data IsOutside (im : Image) : Field → ℕ → Type 0 where
   sequence : (l : Layout) (j d : ℕ) (head : LogHeader) → HasNames im l → ((i c : ℕ) → IsJournalAt l i c → IsJournalSized im c) → ((i c : ℕ) → i < j → IsJournalAt l i c → HasLowHead im c)
       → IsJournalAt l j d → head_in (ring_of (every im d)) ≡ Some head → 2 ^ 63 ≤ head.sequence → IsOutside im field.Sequence head.sequence
 
--- a block that mounting may read: the device has it, and it is one of the system files, or one by which they are found
+-- A block that mounting may read: the device has it, and it is one of the system files, or one by which they are found. Behind the superblock
+-- none is read but where the formats are those of the profile.
 pub record IsReached (im : Image) (b : ℕ) : Type 0 where
   pub inside : b < im.count
   pub system : IsSystemBlock im b
+  pub format : (b ≡ superblock_place im.size) ⊎ HasFormat im
 
 -- The cause of each refusal in the image. But for a superblock that lacks its header, or isn't there, a broken rule is told only where the formats are those of the profile.
 abbrev pub RefusesRightly : Image → MountFault → Type 0

@@ -137,9 +137,11 @@ pub fn mount_image<D: SharedDisk>(alloc: Global, disk: &mut D) -> Result<Mounted
     requires idle { IsIdle (D.state disk.old) }
     requires size { IsBlockSize (D.state disk.old).size }
     ensures mounted { IfOk result (λ m. IsTrue (D.state disk.old).tells → IsMounted (image_of (D.state disk.old)) m) }
+    ensures shown { IfOk result (λ m. (im : Image) → ShowsSystem (D.state disk.old) im → IsMounted im m) }
     ensures alike { IfOk result (λ m. (im : Image) → HasSameBlocks (D.state disk.old) m.system im → IsMounted im m) }
     ensures rise { IfOk result (λ m. IsStrictlyIncreasing m.system) }
     ensures refused { IfErr result (λ fault. IsTrue (D.state disk.old).tells → RefusesRightly (image_of (D.state disk.old)) fault) }
+    ensures told { IfErr result (λ fault. (im : Image) → ShowsSystem (D.state disk.old) im → RefusesRightly im fault) }
     ensures standing { IfErr result (λ fault. IsTrue (D.state disk.old).tells → (im : Image) (o : Owners) (l : Layout) → HasSameSystem (image_of (D.state disk.old)) im → IsLaid im o l → RefusesRightly im fault) }
     ensures accepts { IfErr result (λ fault. IsTrue (D.state disk.old).tells → (im : Image) → HasSameSystem (image_of (D.state disk.old)) im → IsOfProfile im → IsExcused fault) }
     ensures risen { IfErr result (HasRisen (D.faults disk.old) (D.faults disk.new)) }

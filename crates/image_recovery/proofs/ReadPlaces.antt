@@ -84,7 +84,7 @@ module _ (im : Image) (m : MountedValue) (is : IsMounted im m) (large : 512 ≤ 
     place_reached : IsReached im b
     place_reached =
         let led = place_led in
-        record { inside = place_inside.0; system = of_content d led.0 led.1.0 0 p (is_journal j (has_journal im m is j d at)) led.1.1 place_low }
+        record { inside = place_inside.0; system = of_content d led.0 led.1.0 0 p (is_journal j (has_journal im m is j d at)) led.1.1 place_low; format = inr is.found.groups.list.master.format }
 
   -- a block that is read for a replay is reached
   pub read_reached : (b : ℕ) → IsReadPlace m.journals b → IsReached im b

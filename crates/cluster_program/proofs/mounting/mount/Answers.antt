@@ -7,7 +7,7 @@ pub returns-in-Err-clause-ends : goal.returns-in-Err-clause-ends
 returns-in-Err-clause-ends g c =
     subst (MountEnds _ _ _) (sym c.not_mounted.ensures)
     (mount_end (g.D.SharedDisk.state c.args.disk.now) (g.D.SharedDisk.faults c.args.disk.now) (g.D.SharedDisk.faults c.mount_image.new.disk) c.in-Err.fault c.what_stands_breaks_nothing.ensures c.replays_keep_system_files.ensures.kept
-    (record { right = c.in-Err.ensures.refused; alike = c.in-Err.ensures.standing; excused = c.in-Err.ensures.accepts }) c.in-Err.ensures.risen c.in-Err.ensures.within)
+    (record { right = c.in-Err.ensures.refused; told = c.in-Err.ensures.told; standing = c.in-Err.ensures.standing; excused = c.in-Err.ensures.accepts }) c.in-Err.ensures.risen c.in-Err.ensures.within)
 
 pub returns-in-Ok-clause-replayed : goal.returns-in-Ok-clause-replayed
 returns-in-Ok-clause-replayed g c tells l replayed is =
@@ -15,5 +15,4 @@ returns-in-Ok-clause-replayed g c tells l replayed is =
     c.in-Ok.ensures.alike replayed (c.replayed_images_have_the_same_system.ensures d c.in-Ok.mounted l replayed tells (c.in-Ok.ensures.mounted tells) is)
 
 pub returns-in-Ok-clause-alike : goal.returns-in-Ok-clause-alike
-returns-in-Ok-clause-alike g c tells other same =
-    c.in-Ok.ensures.alike other (record { tells = tells; size = same.size; count = same.count; same = λ b has. same.same b (((c.in-Ok.ensures.mounted tells).system b).0 has) })
+returns-in-Ok-clause-alike g c = c.in-Ok.ensures.shown

@@ -35,7 +35,7 @@ returns-then-not-are_groups-clause-ends g c first now =
     let groups = c.deref.ensures.value ∙ ap (λ (m : MountedValue). m.groups) c.mounted.view_is in
     let odd = not_on_disk d c.block_size-size.result c.blocks-2.result c.deref.result.now c.args.mounted.groups c.block_size-size.ensures c.blocks-2.ensures.value groups (never c.are_groups.result c.if-not-are_groups.true c.are_groups.ensures.1) in
     subst (λ (b : ℕ). MountEnds d first now (status.Damaged b 18)) (sym place)
-    (odd_groups d c.args.mounted c.what_stands_breaks_nothing.ensures c.replays_keep_system_files.ensures.kept (image_there d c.blocks-2.ensures.sound c.requires.size) c.requires.mounted c.requires.alike c.mounted_groups_are_as_seen.ensures odd first now)
+    (odd_groups d c.args.mounted c.what_stands_breaks_nothing.ensures c.replays_keep_system_files.ensures.kept (image_there d c.blocks-2.ensures.sound c.requires.size) c.requires.mounted c.requires.replayed c.requires.alike c.mounted_groups_are_as_seen.ensures odd first now)
 
 pub returns-then-not-are_groups-clause-image : goal.returns-then-not-are_groups-clause-image
 returns-then-not-are_groups-clause-image g c = image_there (g.D.SharedDisk.state c.args.disk.now) c.blocks-2.ensures.sound c.requires.size
@@ -68,4 +68,4 @@ returns-clause-ends g c first now =
     let stray : ¬ (HasRootInside (seen_alone (as_mounted d c.args.mounted))) = λ inside.
     c.in-None.ensures.none (subst (HasDataBlock (seen_alone c.new-view.result)) (ap (λ (v : Lone). v.root) c.new-view.ensures) (subst (λ (v : Lone). HasRootInside (seen_alone v)) (sym (is_too g c)) inside)) in
     subst (λ (b : ℕ). MountEnds d first now (status.Damaged b 2)) (sym place)
-    (stray_root d c.args.mounted c.what_stands_breaks_nothing.ensures c.replays_keep_system_files.ensures.kept (image_there d c.blocks-2.ensures.sound c.requires.size) c.requires.mounted c.requires.alike c.views_may_be_read_from_mounted_images.ensures stray first now)
+    (stray_root d c.args.mounted c.what_stands_breaks_nothing.ensures c.replays_keep_system_files.ensures.kept (image_there d c.blocks-2.ensures.sound c.requires.size) c.requires.mounted c.requires.replayed c.requires.alike c.views_may_be_read_from_mounted_images.ensures stray first now)

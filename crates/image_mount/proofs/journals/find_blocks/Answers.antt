@@ -61,7 +61,7 @@ loop-place-preserved g c =
       found = λ done im shows next has known.
           let at = found.found done d c.loop-place.place c.args.places im (shows_now _ _ im inv.reads.same shows) next.named has c.loop-place-test.true (inv.searched done im shows next has known) in
           let within = place_within im d c.args.places c.loop-place.place has c.loop-place-test.true in
-          blocks_more im d c.loop-place.place located.from at.leads.0 located c.loop-place.blocks.items _ (inv.found done im shows next has known) at (subst (λ n. located.block < n) (sym shows.count) low)
+          blocks_more im d c.loop-place.place located.from at.leads.0 located c.loop-place.blocks.items _ (inv.found done im shows next has known) at next.looked.names.groups.list.master.format (subst (λ n. located.block < n) (sym shows.count) low)
           (place_claim im done c.args.system.now c.args.journal.now next c.loop-place.place located at) (place_system im done c.args.system.now c.args.journal.now next c.loop-place.place located at within) items;
       searched = λ done im shows next has known.
           let shows1 = shows_now _ _ im inv.reads.same shows in
