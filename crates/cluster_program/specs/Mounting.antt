@@ -85,7 +85,7 @@ IsToldBySystem disk block rule = (other : Image) → IsImage other → ShowsSyst
 
 -- Why an image isn't mounted: the disk failed at a block of it, one of the system files where it tells its blocks; a field is outside the profile; a block of the device
 -- breaks a rule, or it is too short for a superblock, and behind the superblock that is told only where the formats are those of
--- the profile; and no image that is whole in its layout has the system files as they are. A root that is none of the groups' data blocks is looked for last: its number stands in the superblock.
+-- the profile, and it is the system files that show it. A root that is none of the groups' data blocks is looked for last: its number stands in the superblock.
 pub data MountEnds (disk : DiskState) (faults faults_now : ℕ → ℕ) : Status → Type 0 where
   DiskFails : (block x y : ℕ) → WentUp (faults 0) (faults_now 0) x y → block < disk.count → OfImage disk (λ im. IsReached im block) → MountEnds disk faults faults_now (status.DeviceFault 0 (Some block) x y)
   LiesOutside : (what : Field) (value : ℕ) → OfImage disk (λ im. IsOutside im what value) → OfImage disk (λ im. HasProfile im → ⊥)
