@@ -1,5 +1,5 @@
 -- An image that has the frame of one that stands finds that one's journals and groups, and has the same system files.
-use Rattle.std.proofs.Common.{◌≡◌, ◌≢◌, ℕ, suc, ◌+◌, ◌*◌, ◌/◌, ◌<◌, ◌≤◌, true, Bool, List, refl, sym, ap, ap₂, subst, ◌∙◌, arith}
+use Rattle.std.proofs.Common.{◌≡◌, ◌≢◌, ℕ, suc, ◌+◌, ◌-◌, ◌*◌, ◌/◌, ◌<◌, ◌≤◌, true, Bool, List, refl, sym, ap, ap₂, subst, ◌∙◌, arith}
 use Rattle.std.specs.Prelude.{◌↔◌, ◌&&◌, codes, if◌then◌else◌}
 use Rattle.gfs2_layout.specs.Bytes.{u64_at}
 use Rattle.gfs2_layout.specs.Device.{superblock_place}
@@ -44,6 +44,7 @@ level_of (Pointed b k level first) = level
 level_of _ = 0
 
 above_content : (p k level first above j start : ℕ) → Pointed p k (suc level) first ≢ Pointed above j 0 start
+unfolding level_of
 above_content p k level first above j start e = let zero_level : suc level ≡ 0 = ap level_of e in absurd (omega (arith, zero_level))
 
 module _ (im : Image) (o : Owners) (m : Layout) (laid : IsLaid im o m) (g : Blocks) (same : (b : ℕ) → IsSystemBlock im b → ¬ (IsPlace im b) → im.at b ≡ g b) where
@@ -188,9 +189,10 @@ module _ (im : Image) (o : Owners) (m : Layout) (laid : IsLaid im o m) (g : Bloc
 
     -- one with leaves is a directory
     hashed_index : is_hashed_in a ≡ true → IsIndex m d
-    hashed_index hashed = directory_index im o m laid d file (directory_is im o m laid d (dinode d file) ∙ and_left _ _ hashed)
+    hashed_index hashed = directory_index im o m laid d file (directory_is im o m laid d (dinode d file) ∙ and_left (is_directory (dinode_in a)) (has_hash_flag (dinode_in a)) hashed)
 
     hashed_back : is_hashed_in b ≡ true → is_hashed_in a ≡ true
+    unfolding hash_test
     hashed_back hashed = ap hash_test dinode_same ∙ hashed
 
     chain_there : (by x hash place : ℕ) → Claims im by x (Chained d hash place) → (by' : ℕ) × Claims other by' x (Chained d hash place)
@@ -253,7 +255,7 @@ module _ (im : Image) (o : Owners) (m : Layout) (laid : IsLaid im o m) (g : Bloc
     groups = groups_same;
     system = λ c. (block_back c, block_there c);
     many = many_same;
-    place = place_there;
+    place = λ j d p at low. place_there j d at p low;
   }
 
 -- so it is with each image that has the frame
