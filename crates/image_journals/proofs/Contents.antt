@@ -1,5 +1,5 @@
 -- The content of a system file, and the list of groups.
-use Rattle.std.proofs.Common.{◌≡◌, ℕ, List, sym, ap, subst, ◌∙◌, arith}
+use Rattle.std.proofs.Common.{◌≡◌, ℕ, List, ap, ◌∙◌, arith}
 use Rattle.std.proofs.lemmas.List.{take_all}
 use Rattle.gfs2_layout.specs.Inode.{content_of, dinode_in}
 use Rattle.glock_names.specs.Views.{Seen}

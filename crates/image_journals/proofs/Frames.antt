@@ -6,7 +6,7 @@ use Rattle.gfs2_layout.specs.Holding.{InChain, Itself, Part, Pointed, part_at}
 use Rattle.image_model.specs.Claims.{HasJournal, IsJindex, IsRindex, below, master_of}
 use Rattle.image_model.specs.Image.{Image}
 use Rattle.image_model.specs.Journals.{journal_name}
-use Rattle.image_model.specs.Owners.{Below, Chained, Master, Named, Owner, Owners, Super, holding, is_dinode}
+use Rattle.image_model.specs.Owners.{Below, Chained, Master, Named, Owners, Super, holding, is_dinode}
 use Rattle.image_model.specs.Stands.{IsLaid, Layout}
 use Rattle.image_model.specs.SystemFiles.{HasSameSystem, is_journal}
 use Rattle.image_model.proofs.Facts.{has_jindex, has_rindex, jindex_is, leads_row}

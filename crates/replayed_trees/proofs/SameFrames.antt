@@ -4,7 +4,7 @@ use Rattle.std.specs.Prelude.{◌↔◌, ◌&&◌, codes, if◌then◌else◌}
 use Rattle.gfs2_layout.specs.Bytes.{u64_at}
 use Rattle.gfs2_layout.specs.Device.{superblock_place}
 use Rattle.gfs2_layout.specs.Holding.{Holding, InChain, Part, Pointed}
-use Rattle.gfs2_layout.specs.Inode.{Fits, Leads, from_block, from_dinode, content_block, content_count, content_of, dinode_in, has_hash_flag, header_length, height_in, is_hashed_in, pieces, pointer, span}
+use Rattle.gfs2_layout.specs.Inode.{Fits, Leads, from_block, from_dinode, content_block, content_count, content_of, dinode_in, has_hash_flag, header_length, is_hashed_in, pieces, pointer, span}
 use Rattle.gfs2_layout.specs.Structures.{dinode_length, dinode_of, is_directory, superblock_of}
 use Rattle.gfs2_layout.specs.declared.dinode.Dinode.{Dinode}
 use Rattle.gfs2_layout.specs.declared.rindex.Rindex.{Rindex}
@@ -12,11 +12,11 @@ use Rattle.image_journals.specs.Frames.{HasSameFrame, IsPlace}
 use Rattle.image_journals.specs.Shown.{IsIndex, jindex, master, rindex}
 use Rattle.image_journals.proofs.Frames.{dinode_off, index_off, part_off, super_off}
 use Rattle.image_journals.proofs.Held.{directory_index, index_file}
-use Rattle.image_model.specs.Claims.{every, Claims, below, first_leaf, next_leaf, HasGroup, HasInode, HasJournal, IsJindex, IsRindex, LeadsTo, master_of}
+use Rattle.image_model.specs.Claims.{every, Claims, below, first_leaf, next_leaf, HasGroup, HasJournal, IsJindex, IsRindex, LeadsTo, master_of}
 use Rattle.image_model.specs.Groups.{IsListed, groups_in}
 use Rattle.image_model.specs.Image.{Blocks, Image}
 use Rattle.image_model.specs.Journals.{journal_name}
-use Rattle.image_model.specs.Owners.{Below, Chained, Owners, holding, is_dinode}
+use Rattle.image_model.specs.Owners.{Below, Chained, Owners, is_dinode}
 use Rattle.image_model.specs.Stands.{IsJournalAt, IsLaid, Layout}
 use Rattle.image_model.specs.SystemFiles.{IsSystemBlock, IsSystemFile, is_jindex, is_journal, is_master, is_rindex, of_content, of_dinode, of_leaf, of_superblock}
 use Rattle.image_model.proofs.Facts.{has_dinode, has_jindex, has_rindex, jindex_is, list_is, master_is, rindex_is}
