@@ -13,7 +13,7 @@ use Rattle.image_journals.specs.Frames.{IsPlace}
 use Rattle.image_journals.specs.declared.unfound.Unfound.{Unfound}
 use Rattle.image_journals.specs.declared.unfound.Unfound.TheVariants.{Broken, NoMemory}
 
--- the directory of the system, the list of groups, or the directory of journals: the files by which journals and groups are found
+-- the master directory, the list of groups, or the directory of journals: the files by which journals and groups are found
 pub data IsIndex (l : Layout) (d : ℕ) : Type 0 where
   master : d ≡ l.master → IsIndex l d
   rindex : d ≡ l.rindex → IsIndex l d
