@@ -1,7 +1,7 @@
 -- The places of a journal of an image that stands, and what the calls over a view that shows it can't tell.
-use Rattle.std.proofs.Common.{◌≡◌, ◌<◌, ◌≤◌, ◌*◌, ◌/◌, ℕ, suc, true, None, Some, sym, ap, subst, ◌∙◌, arith}
+use Rattle.std.proofs.Common.{◌≡◌, ◌<◌, ◌≤◌, ◌*◌, ◌/◌, ℕ, suc, true, None, Some, sym, ap, ap₂, subst, ◌∙◌, arith}
 use Rattle.std.proofs.lemmas.Bool.{cond-true, cond-false, lt-ltb, ne_eqb}
-use Rattle.std.specs.Prelude.{IsSome}
+use Rattle.std.specs.Prelude.{IsSome, if◌then◌else◌, nat_lt}
 use Rattle.gfs2_layout.specs.Holding.{Holding, bytes_at}
 use Rattle.gfs2_layout.specs.Inode.{IsInode, content_block, content_count, dinode_in, fan, height_in, span}
 use Rattle.gfs2_layout.specs.Structures.{dinode_length}
@@ -14,6 +14,7 @@ use Rattle.glock_names.specs.declared.steps.Missing.{Missing}
 use Rattle.dinode_tree.specs.Broken.{IsBroken}
 use Rattle.dinode_tree.specs.Reading.{IsNeeded, IsOnWay, block_at, led_to, reach, target, the_dinode}
 use Rattle.dinode_tree.specs.Shown.{IsShown}
+use Rattle.image_changes.proofs.FileContent.{content_block_after}
 use Rattle.image_model.specs.Claims.{HasJournal, every}
 use Rattle.image_model.specs.Image.{Image}
 use Rattle.image_model.specs.Journals.{IsJournal}
@@ -24,7 +25,7 @@ use Rattle.image_model.proofs.Facts.{journal_is}
 use Rattle.image_model.proofs.Held.{none_some, some_same}
 use Rattle.image_model.proofs.Lengths.{place_high, place_is, place_low, places_same, size_large}
 use Rattle.log_layout.specs.Journal.{ring_of}
-use Rattle.image_journals.specs.Shown.{ShowsSystem}
+use Rattle.image_journals.specs.Shown.{ShowsFrame}
 use Rattle.image_journals.proofs.Held as held
 
 -- ---- what can't be told of an inode that is sound, and whole in a view
@@ -52,7 +53,10 @@ unneeded v a h wanted least m shown all needed = by needed.way
     by (the_dinode block from plain) = never_none v h h.own all shown.dinode (ap v.block_at (sym block) ∙ needed.absent)
     by (led_to i k level first is high leads begins ends plain) = never_none v h m.block all (shown.led_to m.from k level first m.block leads) needed.absent
 
-module _ (v : Seen) (r : Image) (o : Owners) (l : Layout) (s : ShowsSystem v r o l) (j d : ℕ) (has : HasJournal r j d) where
+module _ (v : Seen) (r : Image) (o : Owners) (l : Layout) (s : ShowsFrame v r o l) (j d : ℕ) (has : HasJournal r j d) where
+  abbrev now : Holding
+  now = holding (held.seen_image v r) o d
+
   pub file : IsSystemFile r d
   file = is_journal j has
 
@@ -69,8 +73,8 @@ module _ (v : Seen) (r : Image) (o : Owners) (l : Layout) (s : ShowsSystem v r o
   as_held = places_same r o wide d journal.0 sound journal.1
 
   -- how many places there are, by a dinode that was read
-  pub places_read : (size : ℕ) (read : Dinode) → size ≡ r.size → read ≡ dinode_in (holding r o d) → read.size / size ≡ (ring_of (every r d)).places
-  places_read size read same is = ap (λ n. read.size / n) same ∙ ap (λ (x : Dinode). x.size / r.size) is ∙ as_held
+  pub places_read : (size : ℕ) (read : Dinode) → size ≡ r.size → read ≡ dinode_in now → read.size / size ≡ (ring_of (every r d)).places
+  places_read size read same is = ap (λ n. read.size / n) same ∙ ap (λ (x : Dinode). x.size / r.size) (is ∙ held.dinode_now v r o l s d file) ∙ as_held
 
   module _ (p : ℕ) (low : p < (ring_of (every r d)).places) where
     low_held : p < (ring_of (holding r o d)).places
@@ -94,8 +98,15 @@ module _ (v : Seen) (r : Image) (o : Owners) (l : Layout) (s : ShowsSystem v r o
         ∙ cond-false _ None (Some (content_block (holding r o d) p)) (ne_eqb (content_block (holding r o d) p) 0 (journal.1.filled p low_held))
         ∙ ap Some (place_is r o wide d journal.0 sound journal.1 p low_held).0
 
-    pub is_block : (b : ℕ) → Some b ≡ block_at (holding r o d) p → b ≡ content_block (every r d) p
-    is_block b found = some_same (found ∙ block_there)
+    -- the bytes that the view has at the places don't lead elsewhere
+    block_now : block_at now p ≡ block_at (holding r o d) p
+    block_now =
+        ap₂ (λ (n b : ℕ). if nat_lt p (reach r.size n) then target b else None) (ap (λ (x : Dinode). x.height) (held.dinode_now v r o l s d file))
+        (content_block_after (holding r o d) now journal.1.file (held.own v r o l s d file) (held.same_but_content v r o l s d file) sound high.0 high.1 p
+        (let inside = within in omega (arith, inside, sound.fits.under high.0 high.1)))
 
-    pub not_hole : None ≡ block_at (holding r o d) p → ⊥
-    not_hole found = none_some (found ∙ block_there)
+    pub is_block : (b : ℕ) → Some b ≡ block_at now p → b ≡ content_block (every r d) p
+    is_block b found = some_same (found ∙ block_now ∙ block_there)
+
+    pub not_hole : None ≡ block_at now p → ⊥
+    not_hole found = none_some (found ∙ block_now ∙ block_there)

@@ -15,21 +15,24 @@ use Rattle.image_model.specs.Image.{Image, image_in}
 use Rattle.image_model.specs.Journals.{journal_name}
 use Rattle.image_model.specs.Owners.{Below, Chained, Owner, Owners}
 use Rattle.image_model.specs.Stands.{IsJournalAt, IsLaid, Layout, flat_of}
-use Rattle.image_model.specs.SystemFiles.{HasSameSystem, IsSystemBlock, IsSystemFile, is_jindex, is_master, of_content, of_dinode, of_leaf, of_superblock}
-use Rattle.image_model.proofs.Facts.{claimed_used, has_jindex, master_is}
+use Rattle.image_model.specs.SystemFiles.{IsSystemBlock, of_content, of_dinode, of_leaf, of_superblock}
+use Rattle.image_model.proofs.Facts.{claimed_used, master_is}
 use Rattle.image_model.proofs.Held.{none_some, some_same}
 use Rattle.image_model.proofs.Reach.{used_low}
 use Rattle.image_model.proofs.Replaying.{journals_of_standing}
 use Rattle.image_model.proofs.SystemStays.{file_inode}
 use Rattle.shared_disk.specs.Blocks.{block_in}
+use Rattle.shared_disk.proofs.BlockLaws.{block_length}
 use Rattle.image_journals.specs.Blocks.{seen_in, seen_of}
 use Rattle.image_journals.specs.Found.{AreJournals}
-use Rattle.image_journals.specs.Shown.{AreItsBlocks, ShowsSystem}
+use Rattle.image_journals.specs.Frames.{HasSameFrame}
+use Rattle.image_journals.specs.Shown.{AreItsBlocks, ShowsFrame}
 use Rattle.image_journals.specs.declared.blocks.ImageBlocks.{ImageBlocks}
 use Rattle.image_journals.specs.declared.finding.JournalPlaces.{JournalPlaces}
+use Rattle.image_journals.proofs.Frames.{super_off}
 use Rattle.image_journals.proofs.Read.{superblock_reads}
 
--- ---- the view of an image in memory that has the system files
+-- ---- the view of an image in memory that has the frame
 
 module _ (r : Image) (o : Owners) (l : Layout) (laid : IsLaid r o l) where
   claimed_low : (by b : ℕ) (p : Owner) → Claims r by b p → b < r.count
@@ -43,52 +46,53 @@ module _ (r : Image) (o : Owners) (l : Layout) (laid : IsLaid r o l) where
       claimed_low p b (Below d p k level first) (below has.1.by d has.0 p k level first b has.1.claimed has.1.dinode leads)
   system_low b (of_leaf d by hash place file claim) = claimed_low by b (Chained d hash place) claim
 
-  pub shows : (size count : ℕ) (bytes : List ℕ) → count ≡ length bytes / size → HasSameSystem r (image_in size bytes) → ShowsSystem (seen_in size count bytes) r o l
+  pub shows : (size count : ℕ) (bytes : List ℕ) → count ≡ length bytes / size → HasSameFrame r (image_in size bytes) → ShowsFrame (seen_in size count bytes) r o l
   shows size count bytes counted same = record {
     laid = laid;
     size = same.size;
-    same = λ b of.
-        let inside = system_low b of in
-        let low : b < count = omega (arith, inside, counted, same.count) in
-        cond-true _ (Some (block_in size bytes b)) None (lt-ltb b count low) ∙ ap Some (same.same b of);
+    whole = λ b of. (block_in size bytes b, there b of, block_length b size bytes (subst (λ n. b < n) counted (low b of)));
+    same = λ b of off. there b of ∙ ap Some (same.same b of off);
   }
+    where
+      low : (b : ℕ) → IsSystemBlock r b → b < count
+      low b of = let inside = system_low b of in omega (arith, inside, counted, same.count)
+
+      there : (b : ℕ) → IsSystemBlock r b → (seen_in size count bytes).block_at b ≡ Some (block_in size bytes b)
+      there b of = cond-true _ (Some (block_in size bytes b)) None (lt-ltb b count (low b of))
 
 -- the view that the code has of these bytes
-pub shown_by : (r : Image) (o : Owners) (l : Layout) (size : ℕ) (bytes : List ℕ) (b : ImageBlocks) → b.size ≡ size → b.bytes.now ≡ bytes → HasSameSystem r (image_in size bytes) → IsLaid r o l → ShowsSystem (seen_of b) r o l
+pub shown_by : (r : Image) (o : Owners) (l : Layout) (size : ℕ) (bytes : List ℕ) (b : ImageBlocks) → b.size ≡ size → b.bytes.now ≡ bytes → HasSameFrame r (image_in size bytes) → IsLaid r o l → ShowsFrame (seen_of b) r o l
 shown_by r o l size bytes b sized are same laid =
-    shows r o l laid b.size b.count b.bytes.now b.counted (subst₂ (λ (n : ℕ) (bs : List ℕ). HasSameSystem r (image_in n bs)) (sym sized) (sym are) same)
+    shows r o l laid b.size b.count b.bytes.now b.counted (subst₂ (λ (n : ℕ) (bs : List ℕ). HasSameFrame r (image_in n bs)) (sym sized) (sym are) same)
 
 -- ---- what is found in it
 
 ok_same : {A E : Type 0} {x y : A} → ◌≡◌ {A = Result A E} (Ok x) (Ok y) → x ≡ y
 ok_same e = cc
 
-module _ (v : Seen) (r : Image) (o : Owners) (l : Layout) (s : ShowsSystem v r o l) where
+module _ (v : Seen) (r : Image) (o : Owners) (l : Layout) (s : ShowsFrame v r o l) where
+  super_same : v.block_at (superblock_place r.size) ≡ Some (r.at (superblock_place r.size))
+  super_same = s.same (superblock_place r.size) (of_superblock refl) (super_off r o l s.laid (superblock_place r.size) refl)
+
   -- the superblock is there, and is read
   pub super_there : (place size : ℕ) → place ≡ superblock_place size → size ≡ r.size → v.block_at place ≡ Some (r.at (superblock_place r.size))
-  super_there place size is same = ap v.block_at (is ∙ ap superblock_place same) ∙ s.same (superblock_place r.size) (of_superblock refl)
+  super_there place size is same = ap v.block_at (is ∙ ap superblock_place same) ∙ super_same
 
   pub super_reads : (bytes : List ℕ) (result : Result SuperBlock LayoutFault) → v.block_at (superblock_place r.size) ≡ Some bytes → 512 ≤ length bytes → result ≡ superblock_read bytes → result ≡ Ok (superblock_of bytes)
   super_reads bytes result there long is =
-      let same : r.at (superblock_place r.size) ≡ bytes = some_same (sym (s.same (superblock_place r.size) (of_superblock refl)) ∙ there) in
+      let same : r.at (superblock_place r.size) ≡ bytes = some_same (sym super_same ∙ there) in
       is ∙ superblock_reads bytes (omega (arith, long)) (subst (HasHeader 1 100) same s.laid.super.header)
 
   pub super_is : (bytes : List ℕ) (result : Result SuperBlock LayoutFault) (read : SuperBlock) → v.block_at (superblock_place r.size) ≡ Some bytes → 512 ≤ length bytes → result ≡ superblock_read bytes → result ≡ Ok read → read ≡ superblock_of (r.at (superblock_place r.size))
   super_is bytes result read there long is found =
-      let same : r.at (superblock_place r.size) ≡ bytes = some_same (sym (s.same (superblock_place r.size) (of_superblock refl)) ∙ there) in
+      let same : r.at (superblock_place r.size) ≡ bytes = some_same (sym super_same ∙ there) in
       ok_same (sym found ∙ super_reads bytes result there long is) ∙ ap superblock_of (sym same)
-
-  pub master_file : (read : SuperBlock) → read ≡ superblock_of (r.at (superblock_place r.size)) → IsSystemFile r read.master.address
-  master_file read is = is_master (ap (λ (x : SuperBlock). x.master.address) is)
 
   pub master_at : (read : SuperBlock) → read ≡ superblock_of (r.at (superblock_place r.size)) → read.master.address ≡ l.master
   master_at read is = ap (λ (x : SuperBlock). x.master.address) is ∙ master_is r o l s.laid
 
   pub jindex_child : (read : SuperBlock) → read ≡ superblock_of (r.at (superblock_place r.size)) → (flat_of r o read.master.address).child (codes "jindex") ≡ Some l.jindex
   jindex_child read is = ap (λ a. (flat_of r o a).child (codes "jindex")) (master_at read is) ∙ s.laid.system.jindex
-
-  pub jindex_file : (d : ℕ) → d ≡ l.jindex → IsSystemFile r d
-  jindex_file d is = subst (IsSystemFile r) (sym is) (is_jindex (has_jindex r o l s.laid))
 
 -- so many journals were found, the first of the layout's
 pub record AreFirst (r : Image) (l : Layout) (number : ℕ) (journals : List JournalPlaces) : Type 0 where

@@ -1,4 +1,5 @@
 pub mod Sizes
+pub mod Frames
 pub mod Held
 pub mod Journals
 pub mod Read

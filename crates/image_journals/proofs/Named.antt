@@ -20,14 +20,14 @@ use Rattle.image_model.specs.Image.{Image}
 use Rattle.image_model.specs.Journals.{journal_name}
 use Rattle.image_model.specs.Owners.{Owners, holding}
 use Rattle.image_model.specs.Stands.{Layout}
-use Rattle.image_model.specs.SystemFiles.{IsSystemFile, is_jindex}
+use Rattle.image_model.specs.SystemFiles.{IsSystemFile}
 use Rattle.image_model.proofs.Facts.{has_jindex, is_directory_row, jindex_directory, jindex_is, leads_child_of}
 use Rattle.image_model.proofs.Held.{some_same}
 use Rattle.image_model.proofs.Members.{contained, from_flat_map, in_either, in_flat_map, in_left, in_right, is_in}
 use Rattle.image_model.proofs.Reach.{inode_claim, leading, record_claim}
 use Rattle.gfs2_layout.specs.Inode.{is_directory_in}
 use Rattle.image_journals.specs.Adding.{AreAdded, IsJournalFile, IsLeafOf, IsNamedAmong}
-use Rattle.image_journals.specs.Shown.{ShowsSystem}
+use Rattle.image_journals.specs.Shown.{ShowsFrame, jindex}
 use Rattle.image_journals.specs.Sound.{IsDirectoryIn}
 use Rattle.image_journals.proofs.Adding.{IsAmongFirst, added_as, added_both, added_one, contained_at, contained_by, parted}
 use Rattle.image_journals.proofs.Held as held
@@ -149,9 +149,9 @@ areas_are h sound hashed a b are =
 
 -- ---- the directory of journals
 
-module _ (v : Seen) (r : Image) (o : Owners) (l : Layout) (s : ShowsSystem v r o l) (d : ℕ) (at : d ≡ l.jindex) where
-  pub jindex_is_file : IsSystemFile r d
-  jindex_is_file = subst (IsSystemFile r) (sym at) (is_jindex (has_jindex r o l s.laid))
+module _ (v : Seen) (r : Image) (o : Owners) (l : Layout) (s : ShowsFrame v r o l) (d : ℕ) (at : d ≡ l.jindex) where
+  jindex_is_file : IsSystemFile r d
+  jindex_is_file = held.index_file r o l s.laid d (jindex at)
 
   pub jindex_is_directory : is_directory_in (holding r o d) ≡ true
   jindex_is_directory =
@@ -171,7 +171,7 @@ module _ (v : Seen) (r : Image) (o : Owners) (l : Layout) (s : ShowsSystem v r o
       let j = has.0 in
       let one : has.1.0 ≡ d = jindex_is r o l s.laid has.1.0 has.1.1 ∙ sym at in
       let child = leads_child_of r o l s.laid d (journal_name j) x (subst (λ a. LeadsTo r a (journal_name j) x) one has.1.2) in
-      let records = sym (child_is v r o l s d jindex_is_file (journal_name j) jindex_is_directory refl) ∙ child in
+      let records = sym (child_is v r o l s d (jindex at) (journal_name j) jindex_is_directory refl) ∙ child in
       let found = leading (records_of (holding r o d)) (journal_name j) x records in
       (found.entry, found.there, (j, found.named), found.address))
 

@@ -28,7 +28,7 @@ use Rattle.dinode_tree.specs.Shown.{IsAsSeen, IsShown}
 use Rattle.image_model.proofs.Reach.{used_low}
 use Rattle.image_model.proofs.Unique.{unused_part, used_or_not}
 use Rattle.linear_dirs.specs.Shown.{entry_of}
-use Rattle.image_journals.specs.Shown.{ShowsSystem}
+use Rattle.image_journals.specs.Shown.{IsIndex, ShowsFrame}
 use Rattle.image_journals.specs.Sound.{IsDirectoryIn}
 use Rattle.image_journals.proofs.Held as held
 
@@ -42,7 +42,7 @@ module _ (r : Image) (o : Owners) (d b : ℕ) where
   unfolding cell_in
   unused none = no_cell (part_in d b (o b)) (r.at b) (unused_part d b (o b) none)
 
-module _ (v : Seen) (r : Image) (o : Owners) (l : Layout) (s : ShowsSystem v r o l) (d : ℕ) (file : IsSystemFile r d) where
+module _ (v : Seen) (r : Image) (o : Owners) (l : Layout) (s : ShowsFrame v r o l) (d : ℕ) (file : IsSystemFile r d) where
   h : Holding
   h = holding r o d
 
@@ -57,17 +57,21 @@ module _ (v : Seen) (r : Image) (o : Owners) (l : Layout) (s : ShowsSystem v r o
     ];
   }
 
+module _ (v : Seen) (r : Image) (o : Owners) (l : Layout) (s : ShowsFrame v r o l) (d : ℕ) (index : IsIndex l d) where
+  file : IsSystemFile r d
+  file = held.index_file r o l s.laid d index
+
   pub directory : is_directory_in (holding r o d) ≡ true → IsDirectoryIn v (holding r o d)
   directory dir = record {
     sound = record {
       block_size = s.laid.image.block_size;
-      inode = held.sound v r o l s d file;
-      placed = placed;
+      inode = held.index_sound v r o l s d index;
+      placed = placed v r o l s d file;
       once = (s.laid.directories d (held.dinode v r o l s d file) dir).once;
     };
     directory = dir;
     size = sym s.size;
-    has = held.seen v r o l s d file;
+    has = held.seen v r o l s d index;
   }
 
   -- a file names nothing

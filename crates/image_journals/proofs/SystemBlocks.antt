@@ -20,7 +20,7 @@ use Rattle.image_model.proofs.Rows.{claim_row}
 use Rattle.image_model.proofs.SystemStays.{file_inode}
 use Rattle.hash_dirs.proofs.Gathered.{the_one, one_there}
 use Rattle.image_journals.specs.Adding.{AreAdded, IsBlockOf, IsJournalFile, IsLeafOf}
-use Rattle.image_journals.specs.Shown.{ShowsSystem}
+use Rattle.image_journals.specs.Shown.{ShowsFrame}
 use Rattle.image_journals.proofs.Adding.{added_as, added_both, added_one, all_of, contained_at, contained_by, parted}
 use Rattle.image_journals.proofs.Held as held
 use Rattle.image_journals.proofs.Names.{placed}
@@ -52,12 +52,31 @@ pointed_all h list k all led told a b are =
 
 -- ---- an inode's blocks
 
-module _ (v : Seen) (r : Image) (o : Owners) (l : Layout) (s : ShowsSystem v r o l) (d : ℕ) (file : IsSystemFile r d) where
+module _ (v : Seen) (r : Image) (o : Owners) (l : Layout) (s : ShowsFrame v r o l) (d : ℕ) (file : IsSystemFile r d) where
   pub leafless : is_hashed_in (holding r o d) ≡ false → (x : ℕ) → IsLeafOf (holding r o d) x → ⊥
   leafless plain x leaf = (held.sound v r o l s d file).leafless plain x leaf.0 leaf.1 leaf.2
 
   pub no_directory : (b : Bool) (read : Dinode) → read ≡ dinode_in (holding r o d) → b ≡ is_directory read → b ≡ false → is_hashed_in (holding r o d) ≡ false
   no_directory b read is told off = ap (λ t. t && has_hash_flag (dinode_in (holding r o d))) (ap is_directory (sym is) ∙ sym told ∙ off)
+
+  -- what its pointers lead to, as the view has it, they lead to in the image
+  pub below_now : ((h : Holding) (b : ℕ) → IsInode h → IsBelow h b → (from k level first : ℕ) × (part_at h b ≡ Some (Pointed from k level first)))
+      → ((h : Holding) (b from k level first : ℕ) → IsInode h → part_at h 0 ≡ None → part_at h b ≡ Some (Pointed from k level first) → IsBelow h b)
+      → (a b : List ℕ) → AreAdded a b (IsBelow (holding (held.seen_image v r) o d)) → AreAdded a b (IsBelow (holding r o d))
+  below_now parts led a b are = added_as a b (IsBelow (holding (held.seen_image v r) o d)) (IsBelow (holding r o d)) are there back
+    where
+      nobody : part_at (holding r o d) 0 ≡ None
+      nobody = (placed v r o l s d file).nobody
+
+      there : (x : ℕ) → IsBelow (holding (held.seen_image v r) o d) x → IsBelow (holding r o d) x
+      there x under =
+          let p = parts (holding (held.seen_image v r) o d) x (held.sound_now v r o l s d file) under in
+          led (holding r o d) x p.0 p.1 p.2 p.3 (held.sound v r o l s d file) nobody (sym (held.same_parts v r o d x) ∙ p.4)
+
+      back : (x : ℕ) → IsBelow (holding r o d) x → IsBelow (holding (held.seen_image v r) o d) x
+      back x under =
+          let p = parts (holding r o d) x (held.sound v r o l s d file) under in
+          led (holding (held.seen_image v r) o d) x p.0 p.1 p.2 p.3 (held.sound_now v r o l s d file) (held.same_parts v r o d 0 ∙ nobody) (held.same_parts v r o d x ∙ p.4)
 
   pub blocks_are : ((h : Holding) (b : ℕ) → IsInode h → IsBelow h b → (from k level first : ℕ) × (part_at h b ≡ Some (Pointed from k level first)))
       → ((h : Holding) (b from k level first : ℕ) → IsInode h → part_at h 0 ≡ None → part_at h b ≡ Some (Pointed from k level first) → IsBelow h b)
@@ -82,7 +101,7 @@ module _ (v : Seen) (r : Image) (o : Owners) (l : Layout) (s : ShowsSystem v r o
 
 -- ---- the system files
 
-module _ (v : Seen) (r : Image) (o : Owners) (l : Layout) (s : ShowsSystem v r o l) where
+module _ (v : Seen) (r : Image) (o : Owners) (l : Layout) (s : ShowsFrame v r o l) where
   pub files_are : (m x y : ℕ) → m ≡ l.master → x ≡ l.rindex → y ≡ l.jindex → (none one two three all : List ℕ) → none ≡ [] → one ≡ none ++ m ∷ [] → two ≡ one ++ x ∷ [] → three ≡ two ++ y ∷ []
       → AreAdded three all (IsJournalFile r) → (d : ℕ) → Contains all d ↔ IsSystemFile r d
   files_are m x y at_m at_x at_y none one two three all empty first second third more d =
@@ -112,7 +131,7 @@ pub record AreFound (r : Image) (o : Owners) (files : List ℕ) (count : ℕ) (f
   pub first : Contains found (superblock_place r.size)
   pub come : (k d b : ℕ) → k < count → slice_get files k ≡ Some d → IsBlockOf (holding r o d) b → Contains found b
 
-module _ (v : Seen) (r : Image) (o : Owners) (l : Layout) (s : ShowsSystem v r o l) (files : List ℕ) (are : (d : ℕ) → Contains files d ↔ IsSystemFile r d) where
+module _ (v : Seen) (r : Image) (o : Owners) (l : Layout) (s : ShowsFrame v r o l) (files : List ℕ) (are : (d : ℕ) → Contains files d ↔ IsSystemFile r d) where
   pub found_first : (place size : ℕ) → place ≡ superblock_place size → size ≡ r.size → (none found : List ℕ) → none ≡ [] → found ≡ none ++ place ∷ [] → AreFound r o files 0 found
   found_first place size is same none found empty added =
       let at : place ≡ superblock_place r.size = is ∙ ap superblock_place same in

@@ -1,5 +1,6 @@
 pub mod Sizes
 pub mod Blocks
+pub mod Frames
 pub mod Shown
 pub mod Sound
 pub mod Found

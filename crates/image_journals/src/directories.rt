@@ -8,11 +8,10 @@ ghost use Rattle.gfs2_layout.specs.Records.{is_dots as has_dots, record_named};
 ghost use Rattle.image_model.specs.Image.{Image};
 ghost use Rattle.image_model.specs.Owners.{Owners};
 ghost use Rattle.image_model.specs.Stands.{Layout, flat_of};
-ghost use Rattle.image_model.specs.SystemFiles.{IsSystemFile};
 ghost use Rattle.linear_dirs.specs.Shown.{entry_of};
 ghost use Rattle.hash_dirs.specs.Finding.{IsFoundBy};
 ghost use Rattle.image_journals.specs.Blocks.{seen_of};
-ghost use Rattle.image_journals.specs.Shown.{IfMemory, ShowsSystem};
+ghost use Rattle.image_journals.specs.Shown.{IfMemory, IsIndex, ShowsFrame};
 ghost use Rattle.image_journals.specs.Sound.{IsDirectoryIn};
 
 use crate::Unfound;
@@ -134,7 +133,7 @@ pub(crate) fn look(
     dir: u64,
     name: &[u8],
 ) -> Result<Option<u64>, Unfound>
-    ensures { (r : Image) (o : Owners) (l : Layout) → ShowsSystem (seen_of blocks.now) r o l → IsSystemFile r dir → has_dots name.now ≡ false
+    ensures { (r : Image) (o : Owners) (l : Layout) → ShowsFrame (seen_of blocks.now) r o l → IsIndex l dir → has_dots name.now ≡ false
         → IfMemory result (λ found. found ≡ (flat_of r o dir).child name.now) }
 {
     sound_inodes_are_shown();

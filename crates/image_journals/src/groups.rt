@@ -6,9 +6,9 @@ ghost use Rattle.image_model.specs.Groups.{groups_in};
 ghost use Rattle.image_model.specs.Image.{Image, image_in};
 ghost use Rattle.image_model.specs.Owners.{Owners, holding};
 ghost use Rattle.image_model.specs.Stands.{IsLaid, Layout};
-ghost use Rattle.image_model.specs.SystemFiles.{HasSameSystem, IsSystemFile};
 ghost use Rattle.image_journals.specs.Blocks.{seen_of};
-ghost use Rattle.image_journals.specs.Shown.{IfMemory, ShowsSystem};
+ghost use Rattle.image_journals.specs.Frames.{HasSameFrame};
+ghost use Rattle.image_journals.specs.Shown.{IfMemory, IsIndex, ShowsFrame};
 
 use crate::Unfound;
 use crate::blocks::ImageBlocks;
@@ -24,9 +24,9 @@ use std::alloc::Global;
 // How many bytes an entry of the list of groups has.
 const ENTRY: usize = 96;
 
-// The size of a system file.
+// The size of a file by which journals and groups are found.
 fn size_of(blocks: &ImageBlocks<'_>, dinode: u64) -> Result<u64, Unfound>
-    ensures { (r : Image) (o : Owners) (l : Layout) → ShowsSystem (seen_of blocks.now) r o l → IsSystemFile r dinode → IfMemory result (λ size. size ≡ (dinode_in (holding r o dinode)).size) }
+    ensures { (r : Image) (o : Owners) (l : Layout) → ShowsFrame (seen_of blocks.now) r o l → IsIndex l dinode → IfMemory result (λ size. size ≡ (dinode_in (holding r o dinode)).size) }
 {
     sound_inodes_are_shown();
     sound_inodes_break_nothing();
@@ -40,9 +40,9 @@ fn size_of(blocks: &ImageBlocks<'_>, dinode: u64) -> Result<u64, Unfound>
     }
 }
 
-// What a system file contains, at once. For one of 4 GiB and more there is no room.
+// What such a file contains, at once. For one of 4 GiB and more there is no room.
 fn content(alloc: Global, blocks: &ImageBlocks<'_>, dinode: u64) -> Result<Vec<u8>, Unfound>
-    ensures { (r : Image) (o : Owners) (l : Layout) → ShowsSystem (seen_of blocks.now) r o l → IsSystemFile r dinode → IfMemory result (λ bytes. bytes.items ≡ content_of (holding r o dinode)) }
+    ensures { (r : Image) (o : Owners) (l : Layout) → ShowsFrame (seen_of blocks.now) r o l → IsIndex l dinode → IfMemory result (λ bytes. bytes.items ≡ content_of (holding r o dinode)) }
 {
     sound_inodes_are_shown();
     sound_inodes_are_whole();
@@ -84,8 +84,8 @@ fn entries(alloc: Global, content: &[u8]) -> Result<Vec<Rindex>, Unfound>
 pub fn find_groups(alloc: Global, block_size: u32, bytes: &[u8]) -> Result<Vec<Rindex>, Unfound>
     requires size { IsBlockSize block_size }
     requires whole { length bytes.now % block_size ≡ 0 }
-    // Of an image that has the system files of one that stands they are that one's groups.
-    ensures { (r : Image) (o : Owners) (l : Layout) → HasSameSystem r (image_in block_size bytes.now) → IsLaid r o l → IfMemory result (λ groups. groups.items ≡ l.groups) }
+    // Of an image that has the frame of one that stands they are that one's groups.
+    ensures { (r : Image) (o : Owners) (l : Layout) → HasSameFrame r (image_in block_size bytes.now) → IsLaid r o l → IfMemory result (λ groups. groups.items ≡ l.groups) }
 {
     let blocks = ImageBlocks::of(block_size, bytes);
     let rindex = find_rindex(alloc, &blocks)?;

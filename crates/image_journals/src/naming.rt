@@ -10,7 +10,7 @@ ghost use Rattle.image_model.specs.Owners.{Owners};
 ghost use Rattle.image_model.specs.Stands.{Layout};
 ghost use Rattle.image_journals.specs.Adding.{AreAdded, IsJournalFile, IsLeafOf, IsNamedAmong};
 ghost use Rattle.image_journals.specs.Blocks.{seen_of};
-ghost use Rattle.image_journals.specs.Shown.{IfMemory, ShowsSystem};
+ghost use Rattle.image_journals.specs.Shown.{IfMemory, ShowsFrame};
 ghost use Rattle.image_journals.specs.Sound.{IsDirectoryIn};
 
 use crate::Unfound;
@@ -118,7 +118,7 @@ pub(crate) fn add_journal_files(
     jindex: u64,
     found: &mut Vec<u64>,
 ) -> Result<(), Unfound>
-    ensures { (r : Image) (o : Owners) (l : Layout) → ShowsSystem (seen_of blocks.now) r o l → jindex ≡ l.jindex
+    ensures { (r : Image) (o : Owners) (l : Layout) → ShowsFrame (seen_of blocks.now) r o l → jindex ≡ l.jindex
         → IfMemory result (λ done. AreAdded found.old.items found.new.items (IsJournalFile r)) }
 {
     sound_inodes_are_shown();

@@ -7,7 +7,7 @@ ghost use Rattle.image_model.specs.Owners.{Owners};
 ghost use Rattle.image_model.specs.Stands.{Layout};
 ghost use Rattle.log_layout.specs.Journal.{ring_of};
 ghost use Rattle.image_journals.specs.Blocks.{seen_of};
-ghost use Rattle.image_journals.specs.Shown.{AreItsBlocks, IfMemory, ShowsSystem};
+ghost use Rattle.image_journals.specs.Shown.{AreItsBlocks, IfMemory, ShowsFrame};
 
 use crate::Unfound;
 use crate::blocks::ImageBlocks;
@@ -17,7 +17,7 @@ use std::alloc::Global;
 
 // The block at a place of the journal with its dinode in this block.
 fn block_at(blocks: &ImageBlocks<'_>, dinode: u64, index: u64) -> Result<u64, Unfound>
-    ensures { (r : Image) (o : Owners) (l : Layout) (j : ℕ) → ShowsSystem (seen_of blocks.now) r o l → HasJournal r j dinode → index < (ring_of (every r dinode)).places
+    ensures { (r : Image) (o : Owners) (l : Layout) (j : ℕ) → ShowsFrame (seen_of blocks.now) r o l → HasJournal r j dinode → index < (ring_of (every r dinode)).places
         → IfMemory result (λ b. b ≡ content_block (every r dinode) index) }
 {
     sound_inodes_are_shown();
@@ -38,7 +38,7 @@ fn block_at(blocks: &ImageBlocks<'_>, dinode: u64, index: u64) -> Result<u64, Un
 
 // How many places it has.
 fn place_count(blocks: &ImageBlocks<'_>, dinode: u64) -> Result<u64, Unfound>
-    ensures { (r : Image) (o : Owners) (l : Layout) (j : ℕ) → ShowsSystem (seen_of blocks.now) r o l → HasJournal r j dinode → IfMemory result (λ n. n ≡ (ring_of (every r dinode)).places) }
+    ensures { (r : Image) (o : Owners) (l : Layout) (j : ℕ) → ShowsFrame (seen_of blocks.now) r o l → HasJournal r j dinode → IfMemory result (λ n. n ≡ (ring_of (every r dinode)).places) }
 {
     sound_inodes_are_shown();
     sound_inodes_break_nothing();
@@ -58,7 +58,7 @@ pub(crate) fn places_of(
     blocks: &ImageBlocks<'_>,
     dinode: u64,
 ) -> Result<Vec<u64>, Unfound>
-    ensures { (r : Image) (o : Owners) (l : Layout) (j : ℕ) → ShowsSystem (seen_of blocks.now) r o l → HasJournal r j dinode → IfMemory result (λ found. AreItsBlocks r dinode found.items) }
+    ensures { (r : Image) (o : Owners) (l : Layout) (j : ℕ) → ShowsFrame (seen_of blocks.now) r o l → HasJournal r j dinode → IfMemory result (λ found. AreItsBlocks r dinode found.items) }
 {
     let mut found = Vec::new(alloc);
     let count = place_count(blocks, dinode)?;

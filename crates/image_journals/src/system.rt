@@ -5,10 +5,11 @@ ghost use Rattle.gfs2_layout.specs.Device.{IsBlockSize};
 ghost use Rattle.image_model.specs.Image.{Image, image_in};
 ghost use Rattle.image_model.specs.Owners.{Owners, holding};
 ghost use Rattle.image_model.specs.Stands.{IsLaid, Layout};
-ghost use Rattle.image_model.specs.SystemFiles.{HasSameSystem, IsSystemBlock, IsSystemFile};
+ghost use Rattle.image_model.specs.SystemFiles.{IsSystemBlock, IsSystemFile};
 ghost use Rattle.image_journals.specs.Adding.{AreAdded, IsBlockOf, IsLeafOf};
 ghost use Rattle.image_journals.specs.Blocks.{seen_of};
-ghost use Rattle.image_journals.specs.Shown.{IfMemory, ShowsSystem};
+ghost use Rattle.image_journals.specs.Frames.{HasSameFrame};
+ghost use Rattle.image_journals.specs.Shown.{IfMemory, ShowsFrame};
 
 use crate::Unfound;
 use crate::blocks::ImageBlocks;
@@ -31,11 +32,12 @@ fn add_below(
     dinode: u64,
     found: &mut Vec<u64>,
 ) -> Result<(), Unfound>
-    ensures { (r : Image) (o : Owners) (l : Layout) → ShowsSystem (seen_of blocks.now) r o l → IsSystemFile r dinode
+    ensures { (r : Image) (o : Owners) (l : Layout) → ShowsFrame (seen_of blocks.now) r o l → IsSystemFile r dinode
         → IfMemory result (λ done. AreAdded found.old.items found.new.items (IsBelow (holding r o dinode))) }
 {
     sound_inodes_are_shown();
     sound_inodes_break_nothing();
+    sound_pointers_are_parts();
     let step = match blocks_below(alloc, blocks, dinode) {
         Ok(step) => step,
         Err(CallFault::NoMemory) => return Err(Unfound::NoMemory),
@@ -58,7 +60,7 @@ fn add_own_leaves(
     dinode: u64,
     found: &mut Vec<u64>,
 ) -> Result<(), Unfound>
-    ensures { (r : Image) (o : Owners) (l : Layout) → ShowsSystem (seen_of blocks.now) r o l → IsSystemFile r dinode
+    ensures { (r : Image) (o : Owners) (l : Layout) → ShowsFrame (seen_of blocks.now) r o l → IsSystemFile r dinode
         → IfMemory result (λ done. AreAdded found.old.items found.new.items (IsLeafOf (holding r o dinode))) }
 {
     sound_inodes_are_shown();
@@ -87,7 +89,7 @@ fn add_file(
     dinode: u64,
     found: &mut Vec<u64>,
 ) -> Result<(), Unfound>
-    ensures { (r : Image) (o : Owners) (l : Layout) → ShowsSystem (seen_of blocks.now) r o l → IsSystemFile r dinode
+    ensures { (r : Image) (o : Owners) (l : Layout) → ShowsFrame (seen_of blocks.now) r o l → IsSystemFile r dinode
         → IfMemory result (λ done. AreAdded found.old.items found.new.items (IsBlockOf (holding r o dinode))) }
 {
     sound_pointers_are_parts();
@@ -98,7 +100,7 @@ fn add_file(
 
 // The dinodes of the system files: those of the master directory, the list of groups, the directory of journals and all journals.
 fn system_files(alloc: Global, blocks: &ImageBlocks<'_>) -> Result<Vec<u64>, Unfound>
-    ensures { (r : Image) (o : Owners) (l : Layout) → ShowsSystem (seen_of blocks.now) r o l → IfMemory result (λ files. (d : ℕ) → Contains files.items d ↔ IsSystemFile r d) }
+    ensures { (r : Image) (o : Owners) (l : Layout) → ShowsFrame (seen_of blocks.now) r o l → IfMemory result (λ files. (d : ℕ) → Contains files.items d ↔ IsSystemFile r d) }
 {
     let mut files = Vec::new(alloc);
     let master = find_master(blocks)?;
@@ -116,8 +118,8 @@ fn system_files(alloc: Global, blocks: &ImageBlocks<'_>) -> Result<Vec<u64>, Unf
 pub fn find_system_blocks(alloc: Global, block_size: u32, bytes: &[u8]) -> Result<Vec<u64>, Unfound>
     requires size { IsBlockSize block_size }
     requires whole { length bytes.now % block_size ≡ 0 }
-    // Of an image that has the system files of one that stands they are that one's.
-    ensures { (r : Image) (o : Owners) (l : Layout) → HasSameSystem r (image_in block_size bytes.now) → IsLaid r o l → IfMemory result (λ found. (b : ℕ) → Contains found.items b ↔ IsSystemBlock r b) }
+    // Of an image that has the frame of one that stands they are that one's.
+    ensures { (r : Image) (o : Owners) (l : Layout) → HasSameFrame r (image_in block_size bytes.now) → IsLaid r o l → IfMemory result (λ found. (b : ℕ) → Contains found.items b ↔ IsSystemBlock r b) }
 {
     let blocks = ImageBlocks::of(block_size, bytes);
     let files = system_files(alloc, &blocks)?;

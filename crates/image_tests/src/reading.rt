@@ -385,6 +385,19 @@ fn bytes_of(alloc: Global, later: &[Part]) -> Result<Vec<u8>, Fail>
     Ok(bytes)
 }
 
+// The same with the journal that isn't clean.
+fn dirty_bytes_of(alloc: Global, later: &[Part]) -> Result<Vec<u8>, Fail>
+    ensures { IfOk result (λ bytes. length bytes.items ≡ 86016) }
+{
+    let mut bytes = bytes_of(alloc, &[])?;
+    let mut root = [0u8; 512];
+    root.copy_from_slice(&bytes[67_072..67_584]);
+    bytes[77_824..78_336].copy_from_slice(&root);
+    lay(&mut bytes, &DIRTY);
+    lay(&mut bytes, later);
+    Ok(bytes)
+}
+
 fn image(alloc: Global, later: &[Part]) -> Result<Image, Fail>
     ensures size { IfOk result (λ image. image.block_size ≡ 512) }
     ensures bytes { IfOk result (λ image. length image.bytes ≡ 86016) }
@@ -460,11 +473,7 @@ fn an_image_outside_of_the_profile_is_read(rt: HostRuntime) -> Result<(), Fail> 
 // What its journal says is in place, though none of it is at home.
 #[test]
 fn a_dirty_journal_is_replayed_outside_of_the_profile(rt: HostRuntime) -> Result<(), Fail> {
-    let mut bytes = bytes_of(rt.alloc(), &[])?;
-    let mut root = [0u8; 512];
-    root.copy_from_slice(&bytes[67_072..67_584]);
-    bytes[77_824..78_336].copy_from_slice(&root);
-    lay(&mut bytes, &DIRTY);
+    let bytes = dirty_bytes_of(rt.alloc(), &[])?;
     let Ok(tree) = read_replayed_image(rt.alloc(), 512, bytes) else {
         return Err(Fail::from("no tree"));
     };
@@ -493,6 +502,21 @@ fn what_is_broken_outside_of_the_profile_is_told(rt: HostRuntime) -> Result<(), 
         Some(Unread::Damaged {
             block: 134,
             rule: 16
+        })
+    );
+    Ok(())
+}
+
+// A descriptor without its magic number, at the second place.
+#[test]
+fn a_bad_chunk_outside_of_the_profile_is_told(rt: HostRuntime) -> Result<(), Fail> {
+    let chunk = dirty_bytes_of(rt.alloc(), &[(69_635, b"q")])?;
+    let fault = read_replayed_image(rt.alloc(), 512, chunk).err();
+    assert_eq!(rt;
+        fault,
+        Some(Unread::Damaged {
+            block: 136,
+            rule: 17
         })
     );
     Ok(())

@@ -1,5 +1,5 @@
 -- What is answered of an image, by what was found in it.
-use Rattle.std.proofs.Common.{◌≡◌, inl, inr, ◌+◌, ◌<◌, ◌≤◌, ℕ, zero, suc, true, false, List, ◌∷◌, length, Some, Result, Ok, Err, get_or, refl, sym, ap, ap₂, subst, ◌∙◌, arith}
+use Rattle.std.proofs.Common.{◌≡◌, ◌+◌, ◌<◌, ◌≤◌, ℕ, zero, suc, true, false, List, ◌∷◌, length, Some, Result, Ok, Err, get_or, refl, sym, ap, ap₂, subst, ◌∙◌, arith}
 use Rattle.std.specs.Prelude.{IfErr, IfOk, IsTrue, map, slice_get}
 use Rattle.std.specs.List.{range_with_len}
 use Rattle.std.proofs.lemmas.List.FromFn.{get_or-map-range_with_len, length-map-range_with_len}
@@ -11,7 +11,9 @@ use Rattle.disk_trees.specs.declared.faults.TreeFault.{TreeFault}
 use Rattle.disk_trees.specs.declared.faults.TreeFault.TheVariants as tree
 use Rattle.image_journals.specs.Found.{AreJournals}
 use Rattle.image_journals.specs.Laws.{ReplayedShareTheirSystem}
+use Rattle.image_journals.specs.Frames.{HasSameFrame}
 use Rattle.image_journals.specs.Shown.{IfMemory}
+use Rattle.image_journals.proofs.Frames.{same_frame}
 use Rattle.image_journals.specs.declared.unfound.Unfound.{Unfound}
 use Rattle.image_journals.specs.declared.unfound.Unfound.TheVariants as unfound
 use Rattle.image_journals.specs.declared.finding.JournalPlaces.{JournalPlaces}
@@ -21,11 +23,10 @@ use Rattle.image_model.specs.Owners.{IsUsed, Master, Named, Owner, Owners, Root,
 use Rattle.image_model.specs.Replays.{HasItsJournals, Replayed, StandsReplayed}
 use Rattle.image_model.specs.Rules.{IsBrokenBlock}
 use Rattle.image_model.specs.Stands.{IsLaid, Layout, Stands}
-use Rattle.image_model.specs.SystemFiles.{HasSameSystem}
 use Rattle.image_model.proofs.Facts.{journal_is}
 use Rattle.image_model.proofs.Reach.{used_low}
 use Rattle.image_model.proofs.Replaying.{journals_of_standing, one_replay, replayed_by_any}
-use Rattle.image_outcomes.proofs.SameFiles.{HasSameFiles, place_row, same_files}
+use Rattle.image_outcomes.proofs.SameFiles.{HasSameFiles, place_row}
 use Rattle.image_replays.specs.Laws.{StoppedAreNotReplayed}
 use Rattle.image_replays.specs.Replays.{IfDamaged as IfDamagedLook, put_over}
 use Rattle.image_replays.proofs.Lists.{none_some}
@@ -37,6 +38,7 @@ use Rattle.replay_marks.specs.declared.marks.Mark.{Mark}
 use Rattle.shared_disk.specs.Disk.{DiskState}
 use Rattle.replayed_trees.specs.Answers.{GivesTree, HasNoSystem, IfBroken, IfDamaged, IfDamagedAsItLies, IsTold, IsToldAsItLies, IsUnreadable, broken, of_look, of_tree, stopped}
 use Rattle.replayed_trees.specs.Marking.{AreMarked}
+use Rattle.replayed_trees.proofs.SameFrames.{same_frames}
 use Rattle.replayed_trees.specs.Planning.{AreInside, StopsReplay, by_live, headless}
 use Rattle.replayed_trees.specs.declared.unread.Unread.{Unread}
 use Rattle.replayed_trees.specs.declared.unread.Unread.TheVariants as unread
@@ -48,10 +50,10 @@ map_same f g from (suc n) same =
     ap₂ (λ (x : ℕ) (xs : List ℕ). x ∷ xs) (same from (omega arith) (omega arith))
     (map_same f g (from + 1) n (λ k low high. same k (omega (arith, low)) (omega (arith, high))))
 
--- an image that has the system files of one that stands
-module _ (im r : Image) (o : Owners) (m : Layout) (laid : IsLaid r o m) (shared : HasSameSystem r im) where
+-- an image that has the frame of one that stands
+module _ (im r : Image) (o : Owners) (m : Layout) (laid : IsLaid r o m) (shared : HasSameFrame r im) where
   files : HasSameFiles r m im
-  files = same_files r o m laid im shared
+  files = same_frames r o m laid im shared
 
   pub its_journals : HasItsJournals im m
   its_journals = files.journals
@@ -95,7 +97,7 @@ module _ (im r : Image) (o : Owners) (m : Layout) (laid : IsLaid r o m) (shared 
         dinode_used _ e = absurd (let f : false ≡ true = e in cc)
 
 -- where an image stands once its journals are replayed
-pub by_layout : (im : Image) (t : Tree) (is : StandsReplayed im t) → HasSameSystem is.replayed im → Replayed im is.stands.layout is.replayed
+pub by_layout : (im : Image) (t : Tree) (is : StandsReplayed im t) → HasSameFrame is.replayed im → Replayed im is.stands.layout is.replayed
 by_layout im t is shared = replayed_by_any im is.replayed is.stands.layout is.layout (its_journals im is.replayed is.stands.owners is.stands.layout is.stands.laid shared) is.is
 
 -- ---- what is answered, of an image that a disk in memory has
@@ -175,22 +177,22 @@ pub record HasAll (im : Image) (l : Layout) (journals : List JournalPlaces) (mar
   pub inside : AreInside im.count journals
 
 module _ (size : ℕ) (bytes seen seen2 : List ℕ) (seen_is : seen ≡ bytes) (seen2_is : seen2 ≡ bytes) (journals row : List JournalPlaces) (row_is : row ≡ journals)
-    (found : (r : Image) (o : Owners) (l : Layout) → HasSameSystem r (image_in size seen) → IsLaid r o l → AreJournals r l journals) where
-  module _ (r : Image) (o : Owners) (l : Layout) (same : HasSameSystem r (image_in size bytes)) (laid : IsLaid r o l) where
+    (found : (r : Image) (o : Owners) (l : Layout) → HasSameFrame r (image_in size seen) → IsLaid r o l → AreJournals r l journals) where
+  module _ (r : Image) (o : Owners) (l : Layout) (same : HasSameFrame r (image_in size bytes)) (laid : IsLaid r o l) where
     in_standing : AreJournals r l journals
-    in_standing = found r o l (subst (λ b. HasSameSystem r (image_in size b)) (sym seen_is) same) laid
+    in_standing = found r o l (subst (λ b. HasSameFrame r (image_in size b)) (sym seen_is) same) laid
 
     here : AreJournals (image_in size bytes) l journals
     here = as_it_lies (image_in size bytes) r o l laid same journals in_standing
 
-    as_seen : HasSameSystem r (image_in size seen2)
-    as_seen = subst (λ b. HasSameSystem r (image_in size b)) (sym seen2_is) same
+    as_seen : HasSameFrame r (image_in size seen2)
+    as_seen = subst (λ b. HasSameFrame r (image_in size b)) (sym seen2_is) same
 
     here_seen : AreJournals (image_in size seen2) l row
     here_seen = subst (λ b. AreJournals (image_in size b) l row) (sym seen2_is) (subst (AreJournals (image_in size bytes) l) (sym row_is) here)
 
     pub all_found : (marks : List Mark) (last : List JournalPlaces) → last ≡ journals
-        → ((r : Image) (o : Owners) (l : Layout) → HasSameSystem r (image_in size seen2) → IsLaid r o l → AreJournals (image_in size seen2) l row → AreMarked (image_in size seen2) l marks)
+        → ((r : Image) (o : Owners) (l : Layout) → HasSameFrame r (image_in size seen2) → IsLaid r o l → AreJournals (image_in size seen2) l row → AreMarked (image_in size seen2) l marks)
         → HasAll (image_in size bytes) l last marks
     all_found marks last last_is marked = record {
       its = its_journals (image_in size bytes) r o l laid same;
@@ -200,13 +202,13 @@ module _ (size : ℕ) (bytes seen seen2 : List ℕ) (seen_is : seen ≡ bytes) (
     }
 
   pub no_system : (f : Unfound) → f ≡ unfound.Broken
-      → ((r : Image) (o : Owners) (l : Layout) → HasSameSystem r (image_in size seen2) → IsLaid r o l → AreJournals (image_in size seen2) l row → IfMemory {A = List Mark} (Err f) (AreMarked (image_in size seen2) l))
+      → ((r : Image) (o : Owners) (l : Layout) → HasSameFrame r (image_in size seen2) → IsLaid r o l → AreJournals (image_in size seen2) l row → IfMemory {A = List Mark} (Err f) (AreMarked (image_in size seen2) l))
       → HasNoSystem (image_in size bytes)
   no_system f is none r o l same laid =
       subst (λ g. IfMemory {A = List Mark} (Err g) (AreMarked (image_in size seen2) l)) is (none r o l (as_seen r o l same laid) laid (here_seen r o l same laid))
 
-pub sharing : (im : Image) (t : Tree) (is : StandsReplayed im t) → ReplayedShareTheirSystem → HasSameSystem is.replayed im
-sharing im t is law = law im is.replayed is.stands.owners is.layout is.stands.layout is.is is.stands.laid
+pub sharing : (im : Image) (t : Tree) (is : StandsReplayed im t) → ReplayedShareTheirSystem → HasSameFrame is.replayed im
+sharing im t is law = same_frame is.replayed im (law im is.replayed is.stands.owners is.layout is.stands.layout is.is is.stands.laid)
 
 pub lies_told : (im : Image) (u : Unread) → HasNoSystem im → IfDamagedAsItLies u (λ block rule. IsBrokenBlock im rule block) → IfDamagedAsItLies u (IsToldAsItLies im)
 lies_told im (unread.Damaged block rule) none told = tt
@@ -226,7 +228,7 @@ lies_broken im (unread.DamagedAsItLies block rule) none = tt
 lies_broken im unread.Broken none = none
 lies_broken im unread.NoMemory none = tt
 
-pub by_told : (im : Image) (result : Result Tree Unread) → IfErr result (λ u. ((r : Image) (o : Owners) (l : Layout) → HasSameSystem r im → IsLaid r o l → IfDamaged u (IsUnreadable im l))) → IfErr result (λ u. IfDamaged u (IsTold im))
+pub by_told : (im : Image) (result : Result Tree Unread) → IfErr result (λ u. ((r : Image) (o : Owners) (l : Layout) → HasSameFrame r im → IsLaid r o l → IfDamaged u (IsUnreadable im l))) → IfErr result (λ u. IfDamaged u (IsTold im))
 by_told im (Ok t) told = tt
 by_told im (Err (unread.Damaged block rule)) told = told
 by_told im (Err (unread.DamagedAsItLies block rule)) told = tt

@@ -1,5 +1,6 @@
 pub mod Causes
 pub mod SoFar
 pub mod Replay
+pub mod SameFrames
 pub mod Found
 pub mod Marked

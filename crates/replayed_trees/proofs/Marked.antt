@@ -10,6 +10,7 @@ use Rattle.std.proofs.lemmas.Option.{get_or_from_slice_get, slice_get-get_or, sl
 use Rattle.gfs2_layout.specs.Inode.{content_block}
 use Rattle.gfs2_layout.specs.declared.rindex.Rindex.{Rindex}
 use Rattle.image_journals.specs.Found.{AreJournals}
+use Rattle.image_journals.specs.Frames.{HasSameFrame}
 use Rattle.image_journals.specs.Shown.{IfMemory}
 use Rattle.image_journals.specs.declared.unfound.Unfound.{Unfound}
 use Rattle.image_journals.specs.declared.unfound.Unfound.TheVariants.{Broken, NoMemory}
@@ -21,14 +22,15 @@ use Rattle.image_model.specs.Image.{Image}
 use Rattle.image_model.specs.Owners.{Owners}
 use Rattle.image_model.specs.Replays.{MayChange}
 use Rattle.image_model.specs.Stands.{IsJournalAt, IsLaid, Layout}
-use Rattle.image_model.specs.SystemFiles.{HasSameSystem, IsSystemBlock}
-use Rattle.image_outcomes.proofs.SameFiles.{HasSameFiles, same_files}
+use Rattle.image_model.specs.SystemFiles.{IsSystemBlock}
+use Rattle.image_outcomes.proofs.SameFiles.{HasSameFiles}
 use Rattle.image_replays.proofs.Lists.{any_at, any_is, barred_live, barred_open, false_true, open_barred, open_live}
 use Rattle.image_replays.proofs.System.{some_at}
 use Rattle.log_layout.specs.Journal.{ring_of}
 use Rattle.replay_marks.specs.Marking.{is_among, is_between, mark_of}
 use Rattle.replay_marks.specs.declared.marks.Mark.{Mark}
 use Rattle.replay_marks.specs.declared.marks.Mark.TheVariants.{Barred, Live, Open}
+use Rattle.replayed_trees.proofs.SameFrames.{same_frames}
 use Rattle.replayed_trees.specs.Marking.{AreMarked, first_mark, is_in_groups, is_of_group, is_place}
 
 among_of : (bs : List ℕ) (b : ℕ) → Contains bs b → is_among bs b ≡ true
@@ -57,10 +59,10 @@ group_of b g (inr d) =
     or_true true = refl
     or_true false = refl
 
-module _ (r : Image) (o : Owners) (l : Layout) (laid : IsLaid r o l) (im : Image) (same : HasSameSystem r im) (groups : List Rindex) (groups_are : groups ≡ l.groups) (system : List ℕ) (system_is : (b : ℕ) → Contains system b ↔ IsSystemBlock r b)
+module _ (r : Image) (o : Owners) (l : Layout) (laid : IsLaid r o l) (im : Image) (same : HasSameFrame r im) (groups : List Rindex) (groups_are : groups ≡ l.groups) (system : List ℕ) (system_is : (b : ℕ) → Contains system b ↔ IsSystemBlock r b)
     (journals : List JournalPlaces) (found : AreJournals im l journals) where
   files : HasSameFiles r l im
-  files = same_files r o l laid im same
+  files = same_frames r o l laid im same
 
   in_group : (b : ℕ) → is_in_groups groups b ≡ true → (g : Rindex) × HasGroup im g × (IsHeaderOf g b ⊎ IsDataOf g b)
   in_group b is =

@@ -5,12 +5,12 @@ use Rattle.file_tree.specs.Tree.{Tree}
 use Rattle.disk_trees.specs.Reading.{ending}
 use Rattle.disk_trees.specs.declared.faults.TreeFault.{TreeFault}
 use Rattle.disk_trees.specs.declared.faults.TreeFault.TheVariants as tree
+use Rattle.image_journals.specs.Frames.{HasSameFrame}
 use Rattle.image_model.specs.Image.{Image}
 use Rattle.image_model.specs.Owners.{Owners}
 use Rattle.image_model.specs.Replays.{Replayed}
 use Rattle.image_model.specs.Rules.{IsBrokenBlock}
 use Rattle.image_model.specs.Stands.{IsLaid, Layout}
-use Rattle.image_model.specs.SystemFiles.{HasSameSystem}
 use Rattle.image_reader.specs.declared.image.ImageFault.{ImageFault}
 use Rattle.image_reader.specs.declared.image.ImageFault.TheVariants as image
 use Rattle.replay_looks.specs.declared.faults.LookFault.{LookFault}
@@ -29,20 +29,20 @@ GivesTree t (Err NoMemory) = ⊤
 
 -- ---- why no tree is given
 
--- the system files of the image are those of no image that stands: so it stands for no tree, whatever its journals say
+-- the frame of the image, its system files but for what stands at the places of its journals, is that of no image that stands: so it stands for no tree, whatever its journals say
 abbrev pub HasNoSystem : Image → Type 0
-HasNoSystem im = (r : Image) (o : Owners) (l : Layout) → HasSameSystem r im → IsLaid r o l → ⊥
+HasNoSystem im = (r : Image) (o : Owners) (l : Layout) → HasSameFrame r im → IsLaid r o l → ⊥
 
 -- Why the tree of an image with this layout isn't read: block b of the image stops the replay of its journals; or, as far as the image goes, it breaks a rule once what they say is in place.
 pub data IsUnreadable (im : Image) (l : Layout) (b rule : ℕ) : Type 0 where
   stopped : StopsReplay im l rule b → b < im.count → IsUnreadable im l b rule
   broken : (replayed : Image) → Replayed im l replayed → IsBrokenBlock (ending replayed) rule b → IsUnreadable im l b rule
 
--- What is told of a block, where the system files are those of an image that stands: it stops the replay of the journals, or breaks the rule once they are replayed.
+-- What is told of a block, where the frame is that of an image that stands: it stops the replay of the journals, or breaks the rule once they are replayed.
 abbrev pub IsTold : Image → ℕ → ℕ → Type 0
-IsTold im b rule = (r : Image) (o : Owners) (l : Layout) → HasSameSystem r im → IsLaid r o l → IsUnreadable im l b rule
+IsTold im b rule = (r : Image) (o : Owners) (l : Layout) → HasSameFrame r im → IsLaid r o l → IsUnreadable im l b rule
 
--- What is told of a block, where the journals weren't replayed: the system files are those of no image that stands, and the image as it lies breaks the rule there.
+-- What is told of a block, where the journals weren't replayed: the frame is that of no image that stands, and the image as it lies breaks the rule there.
 pub record IsToldAsItLies (im : Image) (b rule : ℕ) : Type 0 where
   pub none : HasNoSystem im
   pub broken : IsBrokenBlock im rule b

@@ -2,11 +2,11 @@
 ghost use Rattle.std.specs.Prelude.{◌≡◌, ◌<◌, ◌^◌, ◌/◌, ◌%◌, ℕ, IfOk, if◌then◌else◌, length};
 ghost use Rattle.gfs2_layout.specs.Device.{IsBlockSize};
 ghost use Rattle.image_journals.specs.Found.{AreJournals};
+ghost use Rattle.image_journals.specs.Frames.{HasSameFrame};
 ghost use Rattle.image_journals.specs.Shown.{IfMemory};
 ghost use Rattle.image_model.specs.Image.{Image, image_in};
 ghost use Rattle.image_model.specs.Owners.{Owners};
 ghost use Rattle.image_model.specs.Stands.{IsLaid, Layout};
-ghost use Rattle.image_model.specs.SystemFiles.{HasSameSystem};
 ghost use Rattle.replay_marks.specs.Marking.{mark_of};
 ghost use Rattle.replay_marks.specs.declared.marks.Mark.TheVariants as variant;
 ghost use Rattle.replayed_trees.specs.Marking.{AreMarked, first_mark, is_in_groups, is_of_group, is_place};
@@ -82,8 +82,8 @@ pub(crate) fn first_marks(
     requires size { IsBlockSize block_size }
     requires whole { length bytes.now % block_size ≡ 0 }
     ensures length { IfOk result (λ marks. length marks ≡ length bytes.now / block_size) }
-    // Where the image has the system files of one that stands, with these journals, exactly the blocks are open that a replay may change.
-    ensures marks { (r : Image) (o : Owners) (l : Layout) → HasSameSystem r (image_in block_size bytes.now) → IsLaid r o l → AreJournals (image_in block_size bytes.now) l journals.now
+    // Where the image has the frame of one that stands, with these journals, exactly the blocks are open that a replay may change.
+    ensures marks { (r : Image) (o : Owners) (l : Layout) → HasSameFrame r (image_in block_size bytes.now) → IsLaid r o l → AreJournals (image_in block_size bytes.now) l journals.now
         → IfMemory result (AreMarked (image_in block_size bytes.now) l) }
 {
     let groups = find_groups(alloc, block_size, bytes)?;

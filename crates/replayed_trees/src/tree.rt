@@ -3,12 +3,12 @@ ghost use Rattle.std.specs.Prelude.{◌≡◌, ◌%◌, ◌/◌, IfErr, IfOk, le
 ghost use Rattle.file_tree.specs.Tree.{Tree};
 ghost use Rattle.gfs2_layout.specs.Device.{IsBlockSize};
 ghost use Rattle.image_journals.specs.Found.{AreJournals};
+ghost use Rattle.image_journals.specs.Frames.{HasSameFrame};
 ghost use Rattle.image_model.specs.Image.{Image as ImageValue, image_in};
 ghost use Rattle.image_model.specs.Owners.{Owners};
 ghost use Rattle.image_model.specs.Replays.{HasItsJournals, IsReplayable, Replayed, StandsReplayed};
 ghost use Rattle.image_model.specs.Rules.{IsBrokenBlock};
 ghost use Rattle.image_model.specs.Stands.{IsLaid, Layout, Stands};
-ghost use Rattle.image_model.specs.SystemFiles.{HasSameSystem};
 ghost use Rattle.replayed_trees.specs.Answers.{GivesTree, HasNoSystem, IfBroken, IfDamaged, IfDamagedAsItLies, IsTold, IsToldAsItLies, IsUnreadable};
 ghost use Rattle.replayed_trees.specs.Marking.{AreMarked};
 ghost use Rattle.replayed_trees.specs.Planning.{AreInside};
@@ -26,7 +26,7 @@ use replay_marks::Marks;
 use std::alloc::Global;
 use sure_disk::SureDisk;
 
-// The rule that an image whose system files are not those of one that stands breaks as it lies, where one is told.
+// The rule that an image whose frame is not that of one that stands breaks as it lies, where one is told.
 fn told_as_it_lies(alloc: Global, block_size: u32, bytes: Vec<u8>) -> Unread
     requires size { IsBlockSize block_size }
     requires whole { length bytes.items % block_size ≡ 0 }
@@ -85,13 +85,13 @@ pub fn read_replayed_image(alloc: Global, block_size: u32, bytes: Vec<u8>) -> Re
     requires whole { length bytes.items % block_size ≡ 0 }
     // Of an image that stands for a tree, its journals replayed, exactly that one, or there was no memory.
     ensures stands { (t : Tree) → StandsReplayed (image_in block_size bytes.items) t → GivesTree t result }
-    // Where there is a tree, and the system files are those of an image that stands, the journals can be replayed.
-    ensures replayable { IfOk result (λ tree. (r : ImageValue) (o : Owners) (l : Layout) → HasSameSystem r (image_in block_size bytes.items) → IsLaid r o l → IsReplayable (image_in block_size bytes.items) l) }
-    // A block that is told stops the replay, or breaks its rule once the journals are replayed.
+    // Where there is a tree, and the frame is that of an image that stands, the journals can be replayed.
+    ensures replayable { IfOk result (λ tree. (r : ImageValue) (o : Owners) (l : Layout) → HasSameFrame r (image_in block_size bytes.items) → IsLaid r o l → IsReplayable (image_in block_size bytes.items) l) }
+    // A block that is told stops the replay, as the dinode of a journal without a header does, or breaks its rule once the journals are replayed.
     ensures damaged { IfErr result (λ unread. IfDamaged unread (IsTold (image_in block_size bytes.items))) }
-    // Or it breaks its rule in the image as it lies, and then the system files are those of no image that stands.
+    // Or it breaks its rule in the image as it lies, and then the frame is that of no image that stands.
     ensures lies { IfErr result (λ unread. IfDamagedAsItLies unread (IsToldAsItLies (image_in block_size bytes.items))) }
-    // No rule is told only where the system files are those of no image that stands.
+    // No rule is told only where the frame is that of no image that stands.
     ensures broken { IfErr result (λ unread. IfBroken unread (HasNoSystem (image_in block_size bytes.items))) }
 {
     standing_replays_share_their_system();

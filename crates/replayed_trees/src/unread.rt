@@ -10,9 +10,9 @@ use replay_looks::LookFault;
 pub enum Unread {
     /// The image stands for no tree. The block and the rule are what stopped the replay, or what was told of the image with the journals' blocks in place.
     Damaged { block: u64, rule: u16 },
-    /// The image stands for no tree: its system files are those of no image that stands, so its journals weren't replayed. As it lies, it breaks the rule at the block.
+    /// The image stands for no tree: its system files, whatever stands at the places of its journals, are those of no image that stands, so its journals weren't replayed. As it lies, it breaks the rule at the block.
     DamagedAsItLies { block: u64, rule: u16 },
-    /// The image stands for no tree: its system files are those of no image that stands. No rule is told.
+    /// The image stands for no tree: its system files, whatever stands at the places of its journals, are those of no image that stands. No rule is told.
     Broken,
     /// There was no memory.
     NoMemory,

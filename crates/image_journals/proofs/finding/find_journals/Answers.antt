@@ -2,8 +2,8 @@ use Rattle.std.proofs.Common.{◌≡◌, refl, sym, ap, subst, ◌∙◌}
 use Rattle.gfs2_layout.specs.Records.{is_dots}
 use Rattle.image_model.specs.Journals.{journal_name}
 use Rattle.image_model.specs.Stands.{flat_of}
-use Rattle.image_journals.specs.Blocks.{seen_of}
-use Rattle.image_journals.proofs.Layouts.{AreFirst, has_next, jindex_file, no_more, none_yet, one_more, shown_by}
+use Rattle.image_journals.specs.Shown.{jindex}
+use Rattle.image_journals.proofs.Layouts.{AreFirst, has_next, no_more, none_yet, one_more, shown_by}
 use Rattle.image_journals.proofs.Read.{handed}
 use Rattle.image_journals.proofs.finding.find_journals.Goals as goal
 
@@ -24,14 +24,14 @@ returns-in_err-found c r o l same laid =
     let at = c.in_ok-jindex.ensures r o l s in
     let named : c.deref.result.now ≡ journal_name c.loop-number.number = c.deref.ensures.value ∙ c.in_ok-name.ensures in
     handed c.from_residual-in_err-found.result _ _ _ c.from_residual-in_err-found.ensures.1
-    (c.in_err-found.ensures r o l s (jindex_file (seen_of c.of-blocks.result) r o l s c.in_ok-jindex.jindex at) (ap is_dots named ∙ refl))
+    (c.in_err-found.ensures r o l s (jindex at) (ap is_dots named ∙ refl))
 
 pub returns-in_default : goal.returns-in_default
 returns-in_default c r o l same laid =
     let s = shown_by r o l c.args.block_size c.args.bytes.now c.of-blocks.result c.of-blocks.ensures.size c.of-blocks.ensures.bytes same laid in
     let at = c.in_ok-jindex.ensures r o l s in
     let named : c.deref.result.now ≡ journal_name c.loop-number.number = c.deref.ensures.value ∙ c.in_ok-name.ensures in
-    let leads = c.in_ok-found.ensures r o l s (jindex_file (seen_of c.of-blocks.result) r o l s c.in_ok-jindex.jindex at) (ap is_dots named ∙ refl) ∙ ap (flat_of r o c.in_ok-jindex.jindex).child named in
+    let leads = c.in_ok-found.ensures r o l s (jindex at) (ap is_dots named ∙ refl) ∙ ap (flat_of r o c.in_ok-jindex.jindex).child named in
     no_more r o l laid c.in_ok-jindex.jindex c.loop-number.number c.loop-number.journals.items (c.loop-number.invariant r o l same laid) at (sym c.in_default.is ∙ leads)
 
 pub returns-in_err-places : goal.returns-in_err-places
@@ -39,7 +39,7 @@ returns-in_err-places c r o l same laid =
     let s = shown_by r o l c.args.block_size c.args.bytes.now c.of-blocks.result c.of-blocks.ensures.size c.of-blocks.ensures.bytes same laid in
     let at = c.in_ok-jindex.ensures r o l s in
     let named : c.deref.result.now ≡ journal_name c.loop-number.number = c.deref.ensures.value ∙ c.in_ok-name.ensures in
-    let leads = c.in_ok-found.ensures r o l s (jindex_file (seen_of c.of-blocks.result) r o l s c.in_ok-jindex.jindex at) (ap is_dots named ∙ refl) ∙ ap (flat_of r o c.in_ok-jindex.jindex).child named in
+    let leads = c.in_ok-found.ensures r o l s (jindex at) (ap is_dots named ∙ refl) ∙ ap (flat_of r o c.in_ok-jindex.jindex).child named in
     handed c.from_residual-in_err-places.result _ _ _ c.from_residual-in_err-places.ensures.1
     (c.in_err-places.ensures r o l c.loop-number.number s (has_next r o l laid c.in_ok-jindex.jindex c.loop-number.number c.loop-number.journals.items (c.loop-number.invariant r o l same laid) at c.in-Some.dinode (sym c.in-Some.is ∙ leads)))
 
@@ -49,6 +49,6 @@ loop-number-preserved c r o l same laid =
     let at = c.in_ok-jindex.ensures r o l s in
     let inv = c.loop-number.invariant r o l same laid in
     let named : c.deref.result.now ≡ journal_name c.loop-number.number = c.deref.ensures.value ∙ c.in_ok-name.ensures in
-    let leads = sym c.in-Some.is ∙ c.in_ok-found.ensures r o l s (jindex_file (seen_of c.of-blocks.result) r o l s c.in_ok-jindex.jindex at) (ap is_dots named ∙ refl) ∙ ap (flat_of r o c.in_ok-jindex.jindex).child named in
+    let leads = sym c.in-Some.is ∙ c.in_ok-found.ensures r o l s (jindex at) (ap is_dots named ∙ refl) ∙ ap (flat_of r o c.in_ok-jindex.jindex).child named in
     let its = c.in_ok-places.ensures r o l c.loop-number.number s (has_next r o l laid c.in_ok-jindex.jindex c.loop-number.number c.loop-number.journals.items inv at c.in-Some.dinode leads) in
     one_more r o l laid c.in_ok-jindex.jindex c.loop-number.number c.loop-number.journals.items inv at _ _ leads its c.in_ok-push.ensures.items

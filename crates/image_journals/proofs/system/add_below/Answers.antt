@@ -9,25 +9,25 @@ use Rattle.dinode_tree.specs.Broken.{IsBroken}
 use Rattle.image_model.specs.Owners.{holding}
 use Rattle.image_journals.specs.Blocks.{seen_of}
 use Rattle.image_journals.proofs.Adding.{added_none}
-use Rattle.image_journals.proofs.Held.{seen, shown, sound}
+use Rattle.image_journals.proofs.Held.{seen_image, seen_now, shown_now, sound_now}
 use Rattle.image_journals.proofs.Journals.{unneeded, untold}
-use Rattle.image_journals.proofs.SystemBlocks.{IsPointedFirst, pointed_all, pointed_more}
+use Rattle.image_journals.proofs.SystemBlocks.{IsPointedFirst, below_now, pointed_all, pointed_more}
 use Rattle.image_journals.proofs.system.add_below.Goals as goal
 
 pub returns-in-Err-Damaged : goal.returns-in-Err-Damaged
 returns-in-Err-Damaged c r o l s file =
     let v = seen_of c.args.blocks.now in
     let d = c.args.dinode in
-    let h = holding r o d in
-    untold h c.in-Err-Damaged.field-0-0 c.in-Err-Damaged.field-0-1 c.sound_inodes_break_nothing.ensures (sound v r o l s d file)
-    (subst (TellsOf (IsBroken h)) c.in-Err-Damaged.field-0-is (c.in-Err-Damaged.ensures.damaged h (shown v r o l s d file c.sound_inodes_are_shown.ensures)))
+    let h = holding (seen_image v r) o d in
+    untold h c.in-Err-Damaged.field-0-0 c.in-Err-Damaged.field-0-1 c.sound_inodes_break_nothing.ensures (sound_now v r o l s d file)
+    (subst (TellsOf (IsBroken h)) c.in-Err-Damaged.field-0-is (c.in-Err-Damaged.ensures.damaged h (shown_now v r o l s d file c.sound_inodes_are_shown.ensures)))
 
 pub returns-in-NeedBlock : goal.returns-in-NeedBlock
 returns-in-NeedBlock c r o l s file =
     let v = seen_of c.args.blocks.now in
     let d = c.args.dinode in
-    let is = shown v r o l s d file c.sound_inodes_are_shown.ensures in
-    unneeded v d (holding r o d) _ _ _ is (seen v r o l s d file) (needed_at _ _ _ c.in-NeedBlock.is (c.in-Ok.ensures.needed (holding r o d) is))
+    let is = shown_now v r o l s d file c.sound_inodes_are_shown.ensures in
+    unneeded v d (holding (seen_image v r) o d) _ _ _ is (seen_now v r o l s d file) (needed_at _ _ _ c.in-NeedBlock.is (c.in-Ok.ensures.needed (holding (seen_image v r) o d) is))
 
 pub loop-pointed-init : goal.loop-pointed-init
 loop-pointed-init c = added_none _ (IsPointedFirst c.deref-pointed-items.result.now 0) (λ x one. let low : one.0 < 0 = one.2 in omega (arith, low))
@@ -42,9 +42,10 @@ pub returns : goal.returns
 returns c r o l s file =
     let v = seen_of c.args.blocks.now in
     let d = c.args.dinode in
-    let h = holding r o d in
-    let is = shown v r o l s d file c.sound_inodes_are_shown.ensures in
+    let h = holding (seen_image v r) o d in
+    let is = shown_now v r o l s d file c.sound_inodes_are_shown.ensures in
     let row = c.deref-pointed-items.result.now in
-    pointed_all h row c.loop-pointed.pointed-index (omega (arith, c.loop-pointed-test.false))
+    below_now v r o l s d file c.sound_pointers_are_parts.ensures.parts c.sound_pointers_are_parts.ensures.led _ _
+    (pointed_all h row c.loop-pointed.pointed-index (omega (arith, c.loop-pointed-test.false))
     (subst (λ ps. (p : PointedBlock) → Contains ps p → IsLedFrom h p.from p.block) (sym c.deref-pointed-items.ensures.value) (answer_at _ _ _ c.in-Is.is (c.in-Ok.ensures.led h is)))
-    (subst (λ ps. (b : ℕ) → IsBelow h b → TellsOfBlock ps b) (sym c.deref-pointed-items.ensures.value) (answer_at _ _ _ c.in-Is.is (c.in-Ok.ensures.all h is))) _ _ c.loop-pointed.invariant
+    (subst (λ ps. (b : ℕ) → IsBelow h b → TellsOfBlock ps b) (sym c.deref-pointed-items.ensures.value) (answer_at _ _ _ c.in-Is.is (c.in-Ok.ensures.all h is))) _ _ c.loop-pointed.invariant)

@@ -1,7 +1,17 @@
+use Rattle.std.proofs.Common.{sym, subst}
+use Rattle.image_journals.specs.Frames.{HasSameFrame}
 use Rattle.image_model.specs.Image.{image_in}
 use Rattle.replayed_trees.specs.Answers.{HasNoSystem}
 use Rattle.replayed_trees.proofs.Found.{all_found, by_layout, by_told, err_so, lies_broken, lies_told, no_system, ok_so, sharing, untold}
 use Rattle.replayed_trees.proofs.tree.read_replayed_image.Goals as goal
+
+pub returns-in-Err-Broken-clause-stands : goal.returns-in-Err-Broken-clause-stands
+returns-in-Err-Broken-clause-stands c t is =
+    let im = image_in c.args.block_size c.args.bytes.items in
+    let same = sharing im t is c.standing_replays_share_their_system.ensures in
+    let seen = subst (λ b. HasSameFrame is.replayed (image_in c.args.block_size b)) (sym c.deref.ensures.value) same in
+    let none = c.in-Err-Broken.ensures is.replayed is.stands.owners is.stands.layout seen is.stands.laid in
+    absurd (rw c.in-Err-Broken.field-0-is at none)
 
 pub returns-in-Err-Broken-first_marks-clause-stands : goal.returns-in-Err-Broken-first_marks-clause-stands
 returns-in-Err-Broken-first_marks-clause-stands c t is =
