@@ -68,7 +68,7 @@ module _ (words : List (List ℕ)) (given left : Inputs) (sinks sinks_now : Outp
 
   of_mount : IsMountable given.disk → (own : Status) → MountEnds given.disk given.disk_faults left.disk_faults own → IsWhole own
   of_mount may own (DiskFails block x y up inside reached) = absurd (none.disk 0 (rose (given.disk_faults 0) (left.disk_faults 0) x y up))
-  of_mount may own (LiesOutside what value outside never) = absurd (never may.is.tells may.profile)
+  of_mount may own (LiesOutside what value outside shown never) = absurd (never may.is.tells may.profile)
   of_mount may own (IsDamaged block rule breaks shown never) = absurd (never may.is.tells may.tree may.is.stands)
   of_mount may own LacksRoom = inr refl
 

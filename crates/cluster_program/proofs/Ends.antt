@@ -52,7 +52,7 @@ module _ (given left : Inputs) (sinks sinks_now : Outputs) where
 
   mount_fault : (own : Status) → MountEnds given.disk given.disk_faults left.disk_faults own → FaultHasCause given left sinks sinks_now own
   mount_fault own (DiskFails block x y up inside reached) = up
-  mount_fault own (LiesOutside what value outside never) = tt
+  mount_fault own (LiesOutside what value outside shown never) = tt
   mount_fault own (IsDamaged block rule breaks shown never) = tt
   mount_fault own LacksRoom = tt
 

@@ -11,11 +11,11 @@ use Rattle.image_model.specs.Image.{Image, IsImage, image_of, superblock_in}
 use Rattle.image_model.specs.Laws.{NothingBreaks, ReplaysKeepSystem}
 use Rattle.image_model.specs.Owners.{Owners, Root}
 use Rattle.image_model.specs.Stands.{IsLaid, Layout}
-use Rattle.image_model.specs.SystemFiles.{HasSameSystem}
+use Rattle.image_model.specs.SystemFiles.{HasSameSystem, of_superblock}
 use Rattle.image_model.specs.Rules.{Breaks, beyond_groups}
-use Rattle.image_mount.specs.Found.{HasFormat}
+use Rattle.image_mount.specs.Found.{HasFormat, IsReached}
 use Rattle.image_mount.specs.Mounted.{MountedValue, IsMounted, IsOfProfile, GroupsAreAsSeen}
-use Rattle.image_mount.specs.Refusals.{RefusesRightly, HasRisen, LiesWithin, IsExcused}
+use Rattle.image_mount.specs.Refusals.{RefusesRightly, HasRisen, LiesWithin, IsExcused, come_to}
 use Rattle.image_mount.specs.Searching.{ShowsSystem}
 use Rattle.image_mount.specs.declared.fault.MountFault.{MountFault}
 use Rattle.image_mount.specs.declared.fault.MountFault.TheVariants as fault
@@ -40,7 +40,7 @@ pub record IsToldRightly (d : DiskState) (f : MountFault) : Type 0 where
 
 pub mount_end : (d : DiskState) (first now : ℕ → ℕ) (f : MountFault) → NothingBreaks → ReplaysKeepSystem → IsToldRightly d f → HasRisen first now f → LiesWithin d.count f → MountEnds d first now (status_of_mount f)
 mount_end d first now (fault.NotProfile what value) law keeps told risen within =
-    LiesOutside what value told.right (λ tells has. told.excused tells has.replayed (keeps (image_of d) has.replayed has.layout has.is) has.profile)
+    LiesOutside what value told.right (λ other image. told.told other) (λ tells has. told.excused tells has.replayed (keeps (image_of d) has.replayed has.layout has.is) has.profile)
 mount_end d first now (fault.Damaged block rule) law keeps told risen within =
     IsDamaged block rule told.right (λ other image. told.told other) (λ tells tree is.
     let standing = told.standing tells is.replayed is.stands.owners is.stands.layout (keeps (image_of d) is.replayed is.layout is.is) is.stands.laid in
@@ -101,18 +101,19 @@ module _ (d : DiskState) (m : MountedValue) (law : NothingBreaks) (keeps : Repla
           beyond_groups (superblock_place d.size) m.superblock.root.address Root (subst (λ n. Claims im (superblock_place n) m.superblock.root.address Root) size claims)
           (λ g has inside. stray (group_of_entry g, (from.groups (group_of_entry g)).1 (g, has, refl), record { low = inside.low; high = inside.high }))
 
+      right : (im : Image) → IsImage im → im.size ≡ d.size → IsMounted im m → RefusesRightly im (fault.Damaged (superblock_place d.size) 2)
+      right im image size mounted =
+          let format : HasFormat im = mounted.found.groups.list.master.format in
+          let reached : IsReached im (superblock_place d.size)
+          = subst (λ n. IsReached im (superblock_place n)) size (record { inside = format.super.inside; system = of_superblock refl; format = inr format }) in
+          (record { breaks = breaks im image size mounted; there = inl reached.inside }, come_to 2 (superblock_place d.size) format reached)
+
       told : OfImage d (λ im. RefusesRightly im (fault.Damaged (superblock_place d.size) 2))
-      told tells =
-          let format : HasFormat (image_of d) = (on tells).found.groups.list.master.format in
-          (record { breaks = breaks (image_of d) (is tells) refl (on tells); there = inl format.super.inside }, inr format)
+      told tells = right (image_of d) (is tells) refl (on tells)
 
       -- and so in each image of which the disk shows the system files
       shown : IsToldBySystem d (superblock_place d.size) 2
-      shown other image shows =
-          let mounted = alike other shows in
-          let format : HasFormat other = mounted.found.groups.list.master.format in
-          let inside : superblock_place d.size < other.count = subst (λ n. superblock_place n < other.count) shows.size format.super.inside in
-          (record { breaks = breaks other image shows.size mounted; there = inl inside }, inr format)
+      shown other image shows = right other image shows.size (alike other shows)
 
       never : OfImage d NeverStands
       never tells tree it =
@@ -123,13 +124,13 @@ module _ (d : DiskState) (m : MountedValue) (law : NothingBreaks) (keeps : Repla
 
 pub mount_never_done : (disk : DiskState) (first now : ℕ → ℕ) (own : Status) → MountEnds disk first now own → own ≡ status.Done → ⊥
 mount_never_done disk first now own (DiskFails block x y up inside reached) is = cc
-mount_never_done disk first now own (LiesOutside what value outside never) is = cc
+mount_never_done disk first now own (LiesOutside what value outside shown never) is = cc
 mount_never_done disk first now own (IsDamaged block rule breaks shown never) is = cc
 mount_never_done disk first now own LacksRoom is = cc
 
 pub no_mount_fault : (d : DiskState) (first now : ℕ → ℕ) (own : Status) → MountEnds d first now own → IsSinkFault own → ⊥
 no_mount_fault d first now own (DiskFails block x y up inside reached) never = never
-no_mount_fault d first now own (LiesOutside what value outside none) never = never
+no_mount_fault d first now own (LiesOutside what value outside shown none) never = never
 no_mount_fault d first now own (IsDamaged block rule breaks shown none) never = never
 no_mount_fault d first now own LacksRoom never = never
 

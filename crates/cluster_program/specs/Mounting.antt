@@ -6,8 +6,9 @@ use Rattle.image_model.specs.Claims.{every}
 use Rattle.image_model.specs.Image.{Image, IsImage, image_of}
 use Rattle.image_model.specs.Replays.{Replayed, StandsReplayed}
 use Rattle.image_model.specs.Stands.{Layout}
+use Rattle.image_mount.specs.Found.{IsReached}
 use Rattle.image_mount.specs.Mounted.{Journal, MountedValue, IsMounted, IsOfProfile}
-use Rattle.image_mount.specs.Refusals.{IsOutside, IsReached, RefusesRightly}
+use Rattle.image_mount.specs.Refusals.{IsOutside, RefusesRightly}
 use Rattle.image_mount.specs.Searching.{ShowsSystem}
 use Rattle.image_mount.specs.declared.field.Field.{Field}
 use Rattle.image_mount.specs.declared.fault.MountFault.TheVariants as fault
@@ -83,12 +84,15 @@ is_clean_in im journal = is_clean_head (head_in (ring_of (every im journal.dinod
 abbrev pub IsToldBySystem : DiskState → ℕ → ℕ → Type 0
 IsToldBySystem disk block rule = (other : Image) → IsImage other → ShowsSystem disk other → RefusesRightly other (fault.Damaged block rule)
 
--- Why an image isn't mounted: the disk failed at a block of it, one of the system files where it tells its blocks; a field is outside the profile; a block of the device
--- breaks a rule, or it is too short for a superblock, and behind the superblock that is told only where the formats are those of
--- the profile, and it is the system files that show it. A root that is none of the groups' data blocks is looked for last: its number stands in the superblock.
+-- So is a field that the system files show to be outside the profile.
+abbrev pub IsOutsideBySystem : DiskState → Field → ℕ → Type 0
+IsOutsideBySystem disk what value = (other : Image) → IsImage other → ShowsSystem disk other → IsOutside other what value
+
+-- Why an image isn't mounted: the disk failed at a block of it, one of the system files where it tells its blocks; a field is outside the profile; a block
+-- breaks a rule, which is one to which mounting comes, or the first that no group has, or a superblock that isn't one. It is the system files that show each of the two. A root that is none of the groups' data blocks is looked for last: its number stands in the superblock.
 pub data MountEnds (disk : DiskState) (faults faults_now : ℕ → ℕ) : Status → Type 0 where
   DiskFails : (block x y : ℕ) → WentUp (faults 0) (faults_now 0) x y → block < disk.count → OfImage disk (λ im. IsReached im block) → MountEnds disk faults faults_now (status.DeviceFault 0 (Some block) x y)
-  LiesOutside : (what : Field) (value : ℕ) → OfImage disk (λ im. IsOutside im what value) → OfImage disk (λ im. HasProfile im → ⊥)
+  LiesOutside : (what : Field) (value : ℕ) → OfImage disk (λ im. IsOutside im what value) → IsOutsideBySystem disk what value → OfImage disk (λ im. HasProfile im → ⊥)
       → MountEnds disk faults faults_now (status.NotProfile what value)
   IsDamaged : (block rule : ℕ) → OfImage disk (λ im. RefusesRightly im (fault.Damaged block rule)) → IsToldBySystem disk block rule → OfImage disk NeverStands
       → MountEnds disk faults faults_now (status.Damaged block rule)

@@ -55,7 +55,7 @@ record_leads im a _ r (from_leaves leaves dir hashed are) there leads =
 
 -- a leaf to which the table leads is one of the directory
 pub chain_leaf : (im : Image) (a i place x : ℕ) → IsHashedAt im a → IsInChain (every im a) i place x → (by : ℕ) × Claims im by x (Chained a (first_hash (every im a) i) place)
-chain_leaf im a i _ _ hashed (chain_head low) =
+chain_leaf im a i _ _ hashed (chain_head low some) =
     (entry_block (every im a) i, first_leaf hashed.0.1.by a hashed.0.0 i hashed.0.1.claimed hashed.0.1.dinode hashed.1 low)
 chain_leaf im a i _ _ hashed (chain_next place x chain more) =
     let from = chain_leaf im a i place x hashed chain in
@@ -146,20 +146,20 @@ module _ (im : Image) (owners : Owners) (l : Layout) (laid : IsLaid im owners l)
   none_outside _ _ (outside.multihost_format super fs other) = other inside.multihost_format
   none_outside _ _ (outside.bsize super fs multihost other) = other inside.bsize
   none_outside _ _ (outside.bsize_shift super fs multihost bsize other) = other inside.bsize_shift
-  none_outside _ _ (outside.master r format first) =
+  none_outside _ _ (outside.master r format looked first) =
       let here = other_leads im (master_of im) r first in
       let way = subst (λ a. LeadsTo im a r.name r.address) (master_is im owners l laid) here.1 in
       elim (inside.master r.name r.address way) [
         | inl j ↦ true≢false (ap is_system_name (sym j) ∙ here.0)
         | inr d ↦ true≢false (ap is_system_name (sym d) ∙ here.0)
       ]
-  none_outside _ _ (outside.groups m has whole bad) =
+  none_outside _ _ (outside.groups m has right whole bad) =
       let count : (dinode_in (every im m.rindex)).size / entry_length ≡ length l.groups = ap (λ a. (dinode_in (every im a)).size / entry_length) (one_rindex m has) ∙ list_length in
       elim bad [ inl none ↦ absurd (omega (arith, none, count, inside.groups.0)) | inr many ↦ absurd (omega (arith, many, count, inside.groups.1)) ]
-  none_outside _ _ (outside.group_blocks m list some few fit long) =
+  none_outside _ _ (outside.group_blocks m list looked some few fit long) =
       let same : m.groups ≡ l.groups = sym list.listed ∙ list_of im owners l laid m.rindex list.master.rindex in
       absurd (omega (arith, long, ap group_length same, inside.group_blocks))
-  none_outside _ _ (outside.journals m records groups has bad) =
+  none_outside _ _ (outside.journals m records groups looked has bad) =
       let has' = subst (λ a. HasRecords im a records) (one_jindex m groups.list.master) has in
       let are = names records has' in
       bad (
@@ -167,10 +167,10 @@ module _ (im : Image) (owners : Owners) (l : Layout) (laid : IsLaid im owners l)
         omega (arith, are.0, inside.journals.few),
         subst (AreJournalNames records) (sym are.0) are,
       )
-  none_outside _ _ (outside.journal m j d names before at bad) =
+  none_outside _ _ (outside.journal m j d names before at looked whole bad) =
       let here = journal_is m j d names at in
       bad (inside.journal here.0 d here.1)
-  none_outside _ _ (outside.sequence m j d head names sized before at is high) =
+  none_outside _ _ (outside.sequence m j d head names sized before at looked whole is high) =
       let here = journal_is m j d names at in
       absurd (omega (arith, high, inside.sequence here.0 d head here.1 is))
 

@@ -10,7 +10,7 @@ use Rattle.std.proofs.lemmas.Option.{slice_get-get_or, slice_get_within, get_or_
 use Rattle.gfs2_layout.specs.Records.{Record}
 use Rattle.image_model.specs.Image.{Image}
 use Rattle.image_model.specs.Rules.{HasRecordIn, twice}
-use Rattle.image_mount.specs.Found.{HasFormat}
+use Rattle.image_mount.specs.Found.{HasFormat, IsReached}
 use Rattle.image_mount.specs.Listing.{said, standing, AreDistinct}
 use Rattle.image_mount.specs.Refusals.{RefusesRightly}
 use Rattle.image_mount.specs.declared.fault.MountFault.{MountFault}
@@ -124,7 +124,7 @@ distinct_more found new y distinct is other i j r s at at' same =
     last_or (w ∷ xs) x (suc k) z e = elim (last_or xs x k z e) [ inl here ↦ inl here | inr there ↦ inr (ap suc there.0, there.1) ]
 
 -- a name that was found already
-pub twice_found : (im : Image) (a block k i : ℕ) (f : MountFault) (initial records found : List Named) (d n : Named) → HasFormat im → block < im.count → f ≡ fault.Damaged block 10
+pub twice_found : (im : Image) (a block k i : ℕ) (f : MountFault) (initial records found : List Named) (d n : Named) → HasFormat im → IsReached im block → f ≡ fault.Damaged block 10
     → All (λ m. HasRecordIn im a m.block (said m) × (m.block ≢ block)) initial → All (λ m. HasRecordIn im a block (said m)) records → AreDistinct (map said records) → IsAdded initial records k found
     → k < length records → slice_get found i ≡ Some n → n.name.now ≡ (get_or records k d).name.now → RefusesRightly im f
 twice_found im a block k i f initial records found d n format inside is before here distinct added low at named =

@@ -1,5 +1,5 @@
 -- The records of an area, as they are read one after another.
-use Rattle.std.proofs.Common.{◌≡◌, ◌≢◌, ◌<◌, ℕ, suc, List, [], ◌∷◌, ◌++◌, Bool, true, false, IsTrue, refl, sym, ap, subst, ◌∙◌, arith, append_assoc}
+use Rattle.std.proofs.Common.{◌≡◌, ◌≢◌, ℕ, suc, List, [], ◌∷◌, ◌++◌, Bool, true, false, IsTrue, refl, sym, ap, subst, ◌∙◌, arith, append_assoc}
 use Rattle.std.specs.Prelude.{map, filter, Contains}
 use Rattle.std.specs.List.{AllByRecursion}
 use Rattle.std.proofs.lemmas.Bool.{both_ways}
@@ -13,7 +13,7 @@ use Rattle.gfs2_layout.specs.declared.dirent.Dirent.{Dirent}
 use Rattle.image_model.specs.Claims.{HasArea}
 use Rattle.image_model.specs.Image.{Image}
 use Rattle.image_model.specs.Rules.{other_hash}
-use Rattle.image_mount.specs.Found.{HasFormat}
+use Rattle.image_mount.specs.Found.{HasFormat, IsReached}
 use Rattle.image_mount.specs.Listing.{said_in}
 use Rattle.image_mount.specs.Refusals.{RefusesRightly}
 use Rattle.image_mount.specs.declared.fault.MountFault.{MountFault}
@@ -72,7 +72,7 @@ idle_hashed head name s at idle used = absurd (both_ways (is_in_use s.head) (ap 
 pub hash_found : (head : Dirent) (name : List ℕ) (hash : ℕ) (s : Slot) → IsShown head name s → hash ≡ crc32_of name → head.hash ≡ hash → HasItsHash s
 hash_found head name hash s at hash_is same used = ap (λ (d : Dirent). d.hash) (sym at.head_is) ∙ same ∙ hash_is ∙ ap crc32_of (at.name_is (is_true used))
 
-pub wrong_hash : (im : Image) (f : MountFault) (a block hash : ℕ) (area name : List ℕ) (head : Dirent) (s : Slot) → f ≡ fault.Damaged block 9 → IsShown head name s → HasFormat im → block < im.count → HasArea im a block area
+pub wrong_hash : (im : Image) (f : MountFault) (a block hash : ℕ) (area name : List ℕ) (head : Dirent) (s : Slot) → f ≡ fault.Damaged block 9 → IsShown head name s → HasFormat im → IsReached im block → HasArea im a block area
     → Contains (slots_of area) s → is_in_use head ≡ true → hash ≡ crc32_of name → head.hash ≢ hash → RefusesRightly im f
 wrong_hash im f a block hash area name head s is at format low has there used hash_is other =
     let use_s : is_in_use s.head ≡ true = ap is_in_use (sym at.head_is) ∙ used in

@@ -12,7 +12,7 @@ use Rattle.gfs2_layout.specs.Holding.{Holding}
 use Rattle.gfs2_layout.specs.Inode.{dinode_in, content_of, unit}
 use Rattle.gfs2_layout.specs.declared.dinode.Dinode.{Dinode}
 use Rattle.gfs2_layout.specs.declared.rindex.Rindex.{Rindex}
-use Rattle.dinode_tree.specs.Reading.{AreHeaded, content_range, AreWholeBefore}
+use Rattle.dinode_tree.specs.Reading.{AreHeaded, content_range, AreWholeBefore, IsRightDinode}
 use Rattle.image_model.specs.Claims.{every, HasGroup, IsRindex}
 use Rattle.gfs2_layout.specs.Bitmap.{bitmap_room}
 use Rattle.image_model.specs.Groups.{groups_in, IsGroupAt, IsListed, IsNear, GroupFits, GroupsFit, end_of}
@@ -21,12 +21,14 @@ use Rattle.image_model.specs.Listing.{RiseFrom, end_after}
 use Rattle.image_model.specs.Profile.{group_length}
 use Rattle.image_model.specs.Rules.{Breaks, part_of_entry}
 use Rattle.image_model.specs.Stands.{Layout}
-use Rattle.image_model.proofs.Listing.{all_fit, all_above, rise_more, end_more, unfit_entry, early_entry, groups_count}
-use Rattle.image_mount.specs.Found.{HasFormat, HasMaster}
+use Rattle.image_model.proofs.Listing.{IsCoveredTo, IsPast, all_fit, bare_at, far, all_above, rise_more, end_more, unfit_entry, early_entry, groups_count}
+use Rattle.image_mount.specs.Found.{HasFormat, HasMaster, IsReached}
 use Rattle.image_mount.specs.Groups.{IsListLink, IsListOf, AreGroups}
-use Rattle.image_mount.specs.Looks.{HasHeadedContent}
-use Rattle.image_mount.specs.Refusals.{IsOutside, RefusesRightly}
+use Rattle.image_mount.specs.Looks.{HasHeadedContent, IsLookedAt}
+use Rattle.image_mount.specs.Refusals.{IsOutside, RefusesRightly, first_bare}
 use Rattle.image_mount.specs.Refusals as outside
+use Rattle.profile_limits.specs.Limits.{most_groups}
+use Rattle.shared_disk.proofs.FlightLaws.{all_append}
 use Rattle.image_mount.specs.declared.fault.MountFault.{MountFault}
 use Rattle.image_mount.specs.declared.listing.Link.{Link}
 use Rattle.image_mount.specs.declared.fault.MountFault.TheVariants as fault
@@ -142,17 +144,50 @@ groups_fit im groups bare rise near all = record {
   rest = λ b above before. near b above (omega (arith, before, all));
 }
 
+all_from : {X : Type 0} (P Q : X → Type 0) (xs : List X) → ((x : X) → P x → Q x) → AllByRecursion P xs → AllByRecursion Q xs
+all_from P Q [] each all = tt
+all_from P Q (x ∷ xs) each all = (each x all.0, all_from P Q xs each all.1)
+
+-- no group that is listed is near a block behind those that were gone over and before the others
+never_near : (im : Image) (groups : List Rindex) (k b : ℕ) (to : IsCoveredTo im groups k b) → b < 2 ^ 64 - 1 → AllByRecursion (far im groups b) (drop k groups) → (g : Rindex) → IsListed groups g → ¬ (IsNear g b)
+never_near im groups k b to small ahead g listed =
+    let past : AllByRecursion (far im groups b) (take k groups) = all_from (IsPast to.end b) (far im groups b) (take k groups) (λ h p near. omega (arith, p.apart, near.high, small)) to.past in
+    let both : AllByRecursion (far im groups b) groups
+    = subst (AllByRecursion (far im groups b)) (take-append-drop k groups) (all_append (far im groups b) (take k groups) (drop k groups) past ahead) in
+    all_at (far im groups b) groups listed.0 g both listed.1
+
+-- such a block is the first that is bare, where those before it are near a group
+pub bare_told : (im : Image) (f : MountFault) (size count list k b : ℕ) (groups : List Rindex) → f ≡ fault.Damaged b 18 → IsListOf im size count list groups → RiseFrom im 0 groups → 1 ≤ length groups → length groups ≤ most_groups
+    → IsCoveredTo im groups k b → AreNear im groups b → b < im.count → AllByRecursion (far im groups b) (drop k groups) → RefusesRightly im f
+bare_told im f size count list k b groups is of rise some few to near inside ahead =
+    let small : b < 2 ^ 64 - 1 = omega (arith, inside, list_few im size count list groups of) in
+    subst (RefusesRightly im) (sym is) (
+      record { breaks = bare_at im groups b k to (list_known im size count list groups of) inside small ahead; there = inl inside },
+      first_bare b (record {
+        layout = with_groups of.layout groups;
+        listed = record { master = master_with im of.layout groups of.found.master; whole = of.found.whole; listed = of.found.listed ∙ of.groups };
+        some = some;
+        few = few;
+        fit = λ g listed. all_at (GroupFits im) groups listed.0 g (all_fit im 0 groups rise) listed.1;
+        rise = rise_apart im 0 groups rise;
+        above = to.above;
+        inside = inside;
+        bare = never_near im groups k b to small ahead;
+        first = near;
+      }),
+    )
+
 -- ---- how many groups are listed
 
-pub wrong_count : (im : Image) (f : MountFault) (l : Layout) (a : ℕ) (d : Dinode) → f ≡ fault.NotProfile field.Groups (d.size / 96) → HasMaster im l → l.rindex ≡ a → d ≡ dinode_in (every im a)
+pub wrong_count : (im : Image) (f : MountFault) (l : Layout) (a : ℕ) (d : Dinode) → f ≡ fault.NotProfile field.Groups (d.size / 96) → HasMaster im l → IsRightDinode (every im a) → l.rindex ≡ a → d ≡ dinode_in (every im a)
     → d.size % 96 ≡ 0 → (d.size / 96 ≡ 0) ⊎ (64 < d.size / 96) → RefusesRightly im f
-wrong_count im f l a d is has at read whole other =
+wrong_count im f l a d is has right at read whole other =
     let size : d.size ≡ (dinode_in (every im l.rindex)).size = ap (λ (x : Dinode). x.size) read ∙ ap (λ b. (dinode_in (every im b)).size) (sym at) in
     let P : ℕ → Type 0 = λ n. (n % 96 ≡ 0) → (n / 96 ≡ 0) ⊎ (64 < n / 96) → IsOutside im field.Groups (n / 96) in
-    let of_size : P d.size = subst P (sym size) (λ w o. outside.groups l has w o) in
+    let of_size : P d.size = subst P (sym size) (λ w o. outside.groups l has (subst (λ b. IsRightDinode (every im b)) (sym at) right) w o) in
     told_outside im f field.Groups (d.size / 96) is (of_size whole other)
 
-pub wrong_part : (im : Image) (f : MountFault) (l : Layout) (a : ℕ) (d : Dinode) → f ≡ fault.Damaged a 18 → HasMaster im l → a < im.count → l.rindex ≡ a → d ≡ dinode_in (every im a) → d.size % 96 ≢ 0 → RefusesRightly im f
+pub wrong_part : (im : Image) (f : MountFault) (l : Layout) (a : ℕ) (d : Dinode) → f ≡ fault.Damaged a 18 → HasMaster im l → IsReached im a → l.rindex ≡ a → d ≡ dinode_in (every im a) → d.size % 96 ≢ 0 → RefusesRightly im f
 wrong_part im f l a d is has inside at read other =
     told im f a 18 is has.format inside (part_of_entry a (subst (IsRindex im) at has.rindex) (λ e. other (ap (λ (x : Dinode). x.size % 96) read ∙ e)))
 
@@ -165,14 +200,15 @@ pub content_all : (im : Image) (a n : ℕ) (bytes : List ℕ) → (dinode_in (ev
 content_all im a n bytes size read = read ∙ ap (λ k. take k (content_of (every im a))) (sym size) ∙ cut (every im a)
 
 -- what was read there is the list
-pub list_of : (im : Image) (size count a : ℕ) (link : Link) (groups : List Rindex) (content : List ℕ) → IsListLink im link → size ≡ im.size → count ≡ im.count → a ≡ link.entry.addr → a < im.count
+pub list_of : (im : Image) (size count a : ℕ) (link : Link) (groups : List Rindex) (content : List ℕ) → IsListLink im link → size ≡ im.size → count ≡ im.count → a ≡ link.entry.addr → IsReached im a → IsLookedAt im a
     → (dinode_in (every im a)).size % 96 ≡ 0 → content ≡ content_of (every im a) → groups ≡ groups_in content → IsListOf im size count a groups
-list_of im size count a link groups content is of_size of_count at inside whole read listed =
+list_of im size count a link groups content is of_size of_count at reached looked whole read listed =
     let here : a ≡ is.layout.rindex = at ∙ sym is.rindex in
     record {
       block_size = of_size;
       blocks = of_count;
-      inside = inside;
+      reached = reached;
+      looked = looked;
       layout = with_groups is.layout groups;
       found = record {
         master = master_with im is.layout groups is.found;
@@ -195,7 +231,7 @@ pub long_groups : (im : Image) (f : MountFault) (size count list n : ℕ) (group
     → 1 ≤ length groups → length groups ≤ 64 → GroupsFit im groups → 128 < n → RefusesRightly im f
 long_groups im f size count list n groups is of counted some few fit many =
     let P : List Rindex → Type 0 = λ gs. 1 ≤ length gs → length gs ≤ 64 → GroupsFit im gs → 128 < group_length gs → IsOutside im field.GroupBlocks (group_length gs) in
-    let long : P groups = subst P of.groups (λ a b c d. outside.group_blocks of.layout of.found a b c d) in
+    let long : P groups = subst P of.groups (λ a b c d. outside.group_blocks of.layout of.found (subst (IsLookedAt im) (sym of.rindex) of.looked) a b c d) in
     told_outside im f field.GroupBlocks n is (subst (IsOutside im field.GroupBlocks) (sym counted) (long some few fit (omega (arith, many, counted))))
 
 -- no block of content stands before the first

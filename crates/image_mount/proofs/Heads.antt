@@ -12,9 +12,9 @@ use Rattle.image_model.specs.Claims.{every}
 use Rattle.image_model.specs.Image.{Image}
 use Rattle.image_model.specs.Rules.{headless}
 use Rattle.image_model.specs.Stands.{Layout, IsJournalAt}
-use Rattle.image_mount.specs.Found.{HasNames}
+use Rattle.image_mount.specs.Found.{HasNames, IsReached}
 use Rattle.image_mount.specs.Mounted.{Journal}
-use Rattle.image_mount.specs.Refusals.{RefusesRightly, HasLowHead, IsJournalSized, IsReached}
+use Rattle.image_mount.specs.Refusals.{RefusesRightly, HasLowHead, IsJournalSized}
 use Rattle.image_mount.specs.Refusals as outside
 use Rattle.image_mount.specs.Rings.{ring_at, AreBlocksOf, IsRingOf, IsHeadOf, IsLowJournal, AreJournals}
 use Rattle.image_mount.specs.Searching.{FailsAt}
@@ -67,11 +67,11 @@ module _ (im : Image) (d : ℕ) (blocks now : List ℕ) (best : Option LogHeader
 
   pub headless_told : (l : Layout) (j : ℕ) (f : MountFault) → HasNames im l → IsJournalAt l j d → best ≡ None → f ≡ fault.Damaged d 16 → RefusesRightly im f
   headless_told l j f names at none is =
-      told im f d 16 is names.groups.list.master.format ring.places.inside (headless j d (l.jindex, names.groups.list.master.jindex, names.there j d at) (sym head_of_ring ∙ none))
+      told im f d 16 is names.groups.list.master.format ring.places.reached (headless j d (l.jindex, names.groups.list.master.jindex, names.there j d at) (sym head_of_ring ∙ none))
 
   pub late_told : (l : Layout) (j : ℕ) (f : MountFault) (head : LogHeader) → HasNames im l → ((i c : ℕ) → IsJournalAt l i c → IsJournalSized im c) → ((i c : ℕ) → i < j → IsJournalAt l i c → HasLowHead im c) → IsJournalAt l j d → best ≡ Some head → 2 ^ 63 ≤ head.sequence → f ≡ fault.NotProfile field.Sequence head.sequence → RefusesRightly im f
   late_told l j f head names sized before at some high is =
-      told_outside im f field.Sequence head.sequence is (outside.sequence l j d head names sized before at (sym head_of_ring ∙ some) high)
+      told_outside im f field.Sequence head.sequence is (outside.sequence l j d head names sized before at ring.places.looked ring.places.whole (sym head_of_ring ∙ some) high)
 
   pub head_is : (head : LogHeader) → best ≡ Some head → head.sequence < 2 ^ 63 → IsHeadOf im d head
   head_is head some low = record { head_is = sym head_of_ring ∙ some; low = low }

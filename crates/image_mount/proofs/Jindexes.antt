@@ -1,8 +1,7 @@
 -- The records of the directory of journals, linear or hashed.
-use Rattle.std.proofs.Common.{◌≡◌, ℕ, ◌+◌, ◌<◌, true, List, refl, sym, ap, subst, ◌∙◌, arith}
+use Rattle.std.proofs.Common.{◌≡◌, ℕ, ◌+◌, ◌<◌, List, refl, sym, ap, subst, ◌∙◌, arith}
 use Rattle.std.specs.Prelude.{map, flat_map, Contains, Some}
 use Rattle.std.proofs.lemmas.Bool.{both_ways}
-use Rattle.dinode_tree.specs.Reading.{IsRightDinode}
 use Rattle.gfs2_layout.specs.Inode.{is_hashed_in, leaf_area}
 use Rattle.gfs2_layout.specs.Records.{Record, records_in}
 use Rattle.image_model.specs.Claims.{every, HasArea, behind_dinode, of_leaf}
@@ -15,7 +14,7 @@ use Rattle.image_reader.specs.Leaves.{leaf_records}
 use Rattle.image_mount.specs.Found.{HasGroups, name_count, AreJournalNames}
 use Rattle.image_mount.specs.Leaves.{IsGoneOver, LooksFor}
 use Rattle.image_mount.specs.Listing.{said, AreAllRecords, AreCountedIn, AreRecordsOf}
-use Rattle.image_mount.specs.Looks.{IsLookedAt, IsTableSized}
+use Rattle.image_mount.specs.Looks.{IsLookedAt}
 use Rattle.image_mount.specs.Refusals.{RefusesRightly}
 use Rattle.image_mount.specs.Refusals as outside
 use Rattle.image_mount.specs.System.{AreRecordsAnew}
@@ -38,12 +37,6 @@ linear_anew im a items are = record { all = map said items; has = has_records im
 
 pub looks_for_journals : (im : Image) (a : ℕ) → LooksFor im a Journals
 looks_for_journals im a files = let no : Journals ≡ Files = files in cc
-
-pub hashed_looked : (im : Image) (a : ℕ) → IsRightDinode (every im a) → is_hashed_in (every im a) ≡ true → IsTableSized im a → IsLookedAt im a
-hashed_looked im a right hashed sized = record {
-  dinode = right;
-  sized = record { linear = λ directory linear. absurd (both_ways (is_hashed_in (every im a)) linear hashed); hashed = λ yes. sized };
-}
 
 module _ (im : Image) (a : ℕ) (walk : LeafWalk) (over : IsGoneOver im a walk) where
   rows : List Record
@@ -112,13 +105,13 @@ module _ (im : Image) (a : ℕ) (walk : LeafWalk) (over : IsGoneOver im a walk) 
       subst (λ rs. AreJournalNames rs n) (sym (rows_only records has)) (names_anew (map said walk.records.items) rows n anew.count anew.there anew.other names)
 
   -- other names than those of journals
-  pub beside_told : (l : Layout) (f : MountFault) (count : ℕ) → walk.names ≡ Journals → HasGroups im l → l.jindex ≡ a → 0 < walk.others → count ≡ name_count (map said walk.records.items) + walk.others
+  pub beside_told : IsLookedAt im a → (l : Layout) (f : MountFault) (count : ℕ) → walk.names ≡ Journals → HasGroups im l → l.jindex ≡ a → 0 < walk.others → count ≡ name_count (map said walk.records.items) + walk.others
       → f ≡ fault.NotProfile field.Journals count → RefusesRightly im f
   unfolding rows
-  beside_told l f count journals groups at some counted is =
+  beside_told looked l f count journals groups at some counted is =
       let b = over.walked.beside some in
       let listed = over.walked.leaves.all b.block b.hash b.place b.claimed in
       let there : Contains rows b.row = contained b.row _ (in_flat_map (leaf_records (every im a)) b.block b.row over.walked.leaves.leaves (is_in b.block _ listed) (is_in b.row _ b.there)) in
       let beside = subst (λ ns. IsBeside ns b.row.name) journals b.beside in
       told_outside im f field.Journals (name_count rows) (is ∙ ap (fault.NotProfile field.Journals) (counted ∙ sym over.walked.leaves.names))
-      (outside.journals l rows groups (subst (λ d. HasRecords im d rows) (sym at) rows_have) (λ all. beside_journals rows (name_count rows) b.row all.1 there beside all.2))
+      (outside.journals l rows groups (subst (IsLookedAt im) (sym at) looked) (subst (λ d. HasRecords im d rows) (sym at) rows_have) (λ all. beside_journals rows (name_count rows) b.row all.1 there beside all.2))

@@ -22,7 +22,7 @@ use Rattle.image_model.specs.Image.{Image}
 use Rattle.image_model.specs.Owners.{Chained}
 use Rattle.image_model.specs.Rules.{HasRecordIn, IsHashedAt, table_too_small, table_too_large, table_size, records_format, leaf_too_deep, leaf_hash, leaf_entries, chain_depth, no_header, of_leaf as needs_leaf}
 use Rattle.image_reader.proofs.LeafFaults.{leaf_reads, leaf_well}
-use Rattle.image_mount.specs.Found.{HasFormat, IsInChain, chain_next}
+use Rattle.image_mount.specs.Found.{HasFormat, IsInChain, chain_next, IsReached}
 use Rattle.image_mount.specs.Leaves.{HasHashOf, IsLeafHead, IsLeafIn}
 use Rattle.image_mount.specs.Listing.{said, is_hashed_by}
 use Rattle.image_mount.specs.Looks.{IsInRun, LeadsToLeaf}
@@ -40,7 +40,7 @@ use Rattle.image_mount.proofs.Names.{all_at, at_contains, contains_at, from_mapp
 pub hashed_at : (im : Image) (a : ℕ) (d : Dinode) → d ≡ dinode_in (every im a) → HasDirectory im a → is_hashed_by d ≡ true → IsHashedAt im a
 hashed_at im a d read directory hashed = (directory.inode, hashed_as im a d true read hashed)
 
-module _ (im : Image) (f : MountFault) (a size : ℕ) (d : Dinode) (is : f ≡ fault.Damaged a 13) (read : d ≡ dinode_in (every im a)) (of : size ≡ im.size) (format : HasFormat im) (inside : a < im.count) (hashed : IsHashedAt im a) where
+module _ (im : Image) (f : MountFault) (a size : ℕ) (d : Dinode) (is : f ≡ fault.Damaged a 13) (read : d ≡ dinode_in (every im a)) (of : size ≡ im.size) (format : HasFormat im) (inside : IsReached im a) (hashed : IsHashedAt im a) where
   pub table_large : 8 * size < 2 ^ d.depth → RefusesRightly im f
   table_large high =
       let here : 8 * im.size < 2 ^ d.depth = subst (λ s. 8 * s < 2 ^ d.depth) of high in
@@ -63,7 +63,7 @@ module _ (im : Image) (f : MountFault) (a size : ℕ) (d : Dinode) (is : f ≡ f
 
 -- ---- the head of a leaf
 
-module _ (im : Image) (f : MountFault) (a x : ℕ) (format : HasFormat im) (inside : x < im.count) (leaf : HasLeaf im a x) where
+module _ (im : Image) (f : MountFault) (a x : ℕ) (format : HasFormat im) (inside : IsReached im x) (leaf : HasLeaf im a x) where
   pub leaf_header : f ≡ fault.Damaged x 1 → ¬ (HasHeader 6 600 (im.at x)) → RefusesRightly im f
   leaf_header is lacks = told im f x 1 is format inside (no_header x 6 600 (needs_leaf a x leaf) lacks)
 
@@ -83,12 +83,12 @@ pub leaf_there : (im : Image) (a : ℕ) (at : LeafAt) → IsLeafIn im a at → H
 leaf_there im a at is = (is.claimed.0, at.hash, at.place, is.claimed.1)
 
 -- the next of a chain is another one's depth
-pub depth_differs : (im : Image) (a : ℕ) (tail : LeafAt) (head : Leaf) (f : MountFault) → HasFormat im → IsLeafIn im a tail → tail.head.next ≢ 0 → tail.head.next < im.count → f ≡ fault.Damaged tail.head.next 14 → head ≡ leaf_of (im.at tail.head.next)
+pub depth_differs : (im : Image) (a : ℕ) (tail : LeafAt) (head : Leaf) (f : MountFault) → HasFormat im → IsLeafIn im a tail → tail.head.next ≢ 0 → IsReached im tail.head.next → f ≡ fault.Damaged tail.head.next 14 → head ≡ leaf_of (im.at tail.head.next)
     → head.depth ≢ tail.head.depth → RefusesRightly im f
 depth_differs im a tail head f format is more inside told_at read other =
     let next : tail.head.next ≡ (leaf_in (every im a) tail.block).next = ap (λ (l : Leaf). l.next) is.head in
     let there : head ≡ leaf_in (every im a) (leaf_in (every im a) tail.block).next = read ∙ ap (λ n. leaf_of (im.at n)) next in
-    told im f (leaf_in (every im a) tail.block).next 14 (told_at ∙ ap (λ n. fault.Damaged n 14) next) format (subst (λ n. n < im.count) next inside)
+    told im f (leaf_in (every im a) tail.block).next 14 (told_at ∙ ap (λ n. fault.Damaged n 14) next) format (subst (IsReached im) next inside)
     (chain_depth a tail.block (leaf_there im a tail is) (λ e. more (next ∙ e)) (λ e. other (ap (λ (l : Leaf). l.depth) there ∙ e ∙ sym (ap (λ (l : Leaf). l.depth) is.head))))
 
 -- the next of a chain
@@ -100,12 +100,12 @@ behind_claim im a tail is more =
 pub behind_leaf : (im : Image) (a : ℕ) (tail : LeafAt) → IsLeafIn im a tail → tail.head.next ≢ 0 → HasLeaf im a tail.head.next
 behind_leaf im a tail is more = (tail.block, tail.hash, tail.place + 1, behind_claim im a tail is more)
 
-pub behind_is : (im : Image) (a : ℕ) (tail at : LeafAt) → IsLeafIn im a tail → IsLeafHead im a tail.head.next → tail.head.next ≢ 0 → tail.head.next < im.count → at.head ≡ leaf_of (im.at tail.head.next) → at.block ≡ tail.head.next → at.hash ≡ tail.hash → at.place ≡ tail.place + 1
+pub behind_is : (im : Image) (a : ℕ) (tail at : LeafAt) → IsLeafIn im a tail → IsLeafHead im a tail.head.next → tail.head.next ≢ 0 → IsReached im tail.head.next → at.head ≡ leaf_of (im.at tail.head.next) → at.block ≡ tail.head.next → at.hash ≡ tail.hash → at.place ≡ tail.place + 1
     → at.pointer ≡ tail.pointer → at.behind ≡ tail.behind → IsLeafIn im a at
 behind_is im a tail at is well more inside read block hash place pointer behind =
     let next : tail.head.next ≡ (leaf_in (every im a) tail.block).next = ap (λ (l : Leaf). l.next) is.head in
     record {
-      inside = subst (λ n. n < im.count) (sym block) inside;
+      reached = subst (IsReached im) (sym block) inside;
       head = read ∙ ap (λ n. leaf_of (im.at n)) (sym block);
       well = subst (IsLeafHead im a) (sym block) well;
       pointed = subst (LeadsToLeaf (every im a)) (sym pointer) is.pointed;
@@ -124,7 +124,7 @@ behind_is im a tail at is well more inside read block hash place pointer behind 
 pub wrong_count : (im : Image) (a : ℕ) (at : LeafAt) (f : MountFault) (records : List Named) (entries : ℕ) → HasFormat im → IsLeafIn im a at → f ≡ fault.Damaged at.block 14 → entries ≡ at.head.entries
     → map said records ≡ records_in (drop 104 (im.at at.block)) → length records ≢ entries → RefusesRightly im f
 wrong_count im a at f records entries format is told_at entries_is read other =
-    told im f at.block 14 told_at format is.inside
+    told im f at.block 14 told_at format is.reached
     (leaf_entries a at.block (leaf_there im a at is) (λ e. other (sym (length-map records said) ∙ ap length read ∙ sym e ∙ sym (ap (λ (l : Leaf). l.entries) is.head) ∙ sym entries_is)))
 
 pub wrong_hash : (im : Image) (a : ℕ) (at : LeafAt) (f : MountFault) (records : List Named) (k shift crc : ℕ) (d : Named) (name : List ℕ) → HasFormat im → IsLeafIn im a at → f ≡ fault.Damaged at.block 14
@@ -137,7 +137,7 @@ wrong_hash im a at f records k shift crc d name format is told_at read low name_
     let hash : crc ≡ crc32_of r.name = crc_is ∙ ap crc32_of name_is in
     let wrong : crc32_of r.name / 2 ^ (32 - (leaf_in (every im a) at.block).depth) ≢ at.hash / 2 ^ (32 - (leaf_in (every im a) at.block).depth)
     = subst (λ s. crc32_of r.name / 2 ^ s ≢ at.hash / 2 ^ s) depth (subst (λ n. n / 2 ^ shift ≢ at.hash / 2 ^ shift) hash other) in
-    told im f at.block 14 told_at format is.inside (leaf_hash a at.block is.claimed.0 at.hash at.place r is.claimed.1 there wrong)
+    told im f at.block 14 told_at format is.reached (leaf_hash a at.block is.claimed.0 at.hash at.place r is.claimed.1 there wrong)
 
 -- what stands behind a leaf's head
 pub taken_leaf : (bytes : List ℕ) → take (length bytes - 104) (drop 104 bytes) ≡ drop 104 bytes

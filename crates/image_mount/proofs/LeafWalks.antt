@@ -31,15 +31,16 @@ use Rattle.image_reader.proofs.Leaves.{unrise, in_rising, in_split, split_in, sp
 use Rattle.image_model.proofs.Members.{IsIn, contained, is_in}
 use Rattle.image_model.proofs.Rising.{rising}
 use Rattle.image_reader.proofs.WalkFaults.{clash, empty_claims, entered_if}
-use Rattle.image_mount.specs.Found.{HasFormat, IsFirstOther, IsInChain, chain_head, ComesBefore, is_other, first_other, name_count, in_leaf}
+use Rattle.image_mount.proofs.Looks.{hashed_looked}
+use Rattle.image_mount.specs.Found.{HasFormat, IsFirstOther, IsInChain, chain_head, ComesBefore, is_other, first_other, name_count, in_leaf, IsReached}
 use Rattle.image_mount.specs.Found.{chain_next as chain_behind}
 use Rattle.image_mount.specs.Leaves.{AreAllLeaves, AreDeep, HasBeside, IsBehind, IsSoundLeaf, IsLeafIn, IsPassed, block_of, IsListed, AreLeavesOf, IsFoundIn, IsGoneOver, IsOpen, IsTold, IsWalked, IsClosed, ComesNext, IsNextLeaf, IsFirstTold, IsTableOf, HasEnded, LooksFor}
 use Rattle.image_mount.specs.Marked.{IsTaken}
 use Rattle.image_mount.specs.Sifting.{AreAdded}
 use Rattle.image_mount.proofs.Marked.{got_other}
 use Rattle.image_mount.specs.Listing.{said, standing, AreAllRecords, AreCountedIn, AreDistinct}
-use Rattle.image_mount.specs.Looks.{HasSoundLeaves, IsInRun, LeadsToLeaf}
-use Rattle.image_mount.specs.Refusals.{IsOutside, RefusesRightly, of_image}
+use Rattle.image_mount.specs.Looks.{HasSoundLeaves, IsInRun, LeadsToLeaf, IsLookedAt}
+use Rattle.image_mount.specs.Refusals.{IsOutside, RefusesRightly, of_image, come_to}
 use Rattle.image_mount.specs.Refusals as outside
 use Rattle.image_mount.specs.Kept.{Kept}
 use Rattle.image_mount.specs.System.{ArePlainRecords}
@@ -60,15 +61,15 @@ use Rattle.image_mount.proofs.Numbered.{at_some}
 -- ---- the order of leaves
 
 head_is : (h : Holding) (i place x : ℕ) → IsInChain h i place x → place ≡ 0 → x ≡ entry h i
-head_is h i _ _ (chain_head low) e = refl
+head_is h i _ _ (chain_head low some) e = refl
 head_is h i _ _ (chain_behind place x chain more) e = absurd (omega (arith, e))
 
 step_back : (h : Holding) (i place y n : ℕ) → IsInChain h i place y → place ≡ n + 1 → (x : ℕ) × IsInChain h i n x × (y ≡ (leaf_in h x).next)
-step_back h i _ _ n (chain_head low) e = absurd (omega (arith, e))
+step_back h i _ _ n (chain_head low some) e = absurd (omega (arith, e))
 step_back h i _ _ n (chain_behind place x chain more) e = let same : place ≡ n = omega (arith, e) in (x, subst (λ p. IsInChain h i p x) same chain, refl)
 
 chain_same : (h : Holding) (i place x y : ℕ) → IsInChain h i place x → IsInChain h i place y → x ≡ y
-chain_same h i _ _ y (chain_head low) other = sym (head_is h i 0 y other refl)
+chain_same h i _ _ y (chain_head low some) other = sym (head_is h i 0 y other refl)
 chain_same h i _ _ y (chain_behind place x chain more) other =
     let back = step_back h i (place + 1) y place other refl in
     ap (λ n. (leaf_in h n).next) (chain_same h i place x back.0 chain back.1) ∙ sym back.2
@@ -79,7 +80,7 @@ no_some x e = cc
 -- where each leaf that is claimed has its next one claimed, each of a chain is whose first is
 entered_along : (h : Holding) (entries : List (Option Claim)) (j place y : ℕ) → AreChained h entries None → HasClaim entries (entry h j) (Chained h.own (first_hash h j) 0) → IsInChain h j place y
     → HasClaim entries y (Chained h.own (first_hash h j) place)
-entered_along h entries j _ _ chained headed (chain_head low) = headed
+entered_along h entries j _ _ chained headed (chain_head low some) = headed
 entered_along h entries j _ _ chained headed (chain_behind place x chain more) =
     chained x (first_hash h j) place (entered_along h entries j place x chained headed chain) (λ e. absurd (no_some x e)) more
 
@@ -142,10 +143,10 @@ passed_by im a walk tail t j place is before = subst (λ o. IsPassed o walk.inde
 
 -- what is said of a record that was found, by what it says and where it stands
 abbrev IsFoundAt : Image → ℕ → List (Option Claim) → Record × ℕ → Type 0
-IsFoundAt im a entries p = HasRecordIn im a p.1 p.0 × ((hash place : ℕ) × HasClaim entries p.1 (Chained a hash place)) × (p.1 < im.count)
+IsFoundAt im a entries p = HasRecordIn im a p.1 p.0 × ((hash place : ℕ) × HasClaim entries p.1 (Chained a hash place)) × IsReached im p.1
 
 found_record : (im : Image) (a : ℕ) (entries : List (Option Claim)) (n : Named) → IsFoundAt im a entries (standing n) → IsFoundIn im a entries n
-found_record im a entries n is = record { stands = is.0; inside = is.2; leaf = is.1 }
+found_record im a entries n is = record { stands = is.0; reached = is.2; leaf = is.1 }
 
 -- the record leads on
 abbrev name_test : Record → Bool
@@ -409,12 +410,12 @@ module _ (im : Image) (walk : LeafWalk) (at : LeafAt) (of : IsNextLeaf im walk a
           | inl old ↦
               let f = of.walked.found k old.0 old.1 in
               found_record im walk.directory later.owners.entries.items n (subst (IsFoundAt im walk.directory later.owners.entries.items) old.2
-              (f.stands, (f.leaf.0, f.leaf.1, kept later claim owner index true entered old.0.block (Chained walk.directory f.leaf.0 f.leaf.1) f.leaf.2), f.inside))
+              (f.stands, (f.leaf.0, f.leaf.1, kept later claim owner index true entered old.0.block (Chained walk.directory f.leaf.0 f.leaf.1) f.leaf.2), f.reached))
           | inr new ↦
               let r = from_mapped (λ (q : Record). (q, at.block)) rs new.0 (standing n) new.1 in
               let area = of_leaf at.block (of.leaf.claimed.0, at.hash, at.place, of.leaf.claimed.1) in
               found_record im walk.directory later.owners.entries.items n (subst (IsFoundAt im walk.directory later.owners.entries.items) r.2
-              ((leaf_area h at.block, area, are.there r.0 (at_contains rs new.0 r.0 r.1)), (at.hash, at.place, mine_now), of.leaf.inside))
+              ((leaf_area h at.block, area, are.there r.0 (at_contains rs new.0 r.0 r.1)), (at.hash, at.place, mine_now), of.leaf.reached))
         ];
         distinct = distinct;
         leaves = leaves_more im walk.directory walk.owners.entries.items later.owners.entries.items at.block at.hash at.place claim owner (map said walk.records.items) rs (map said later.records.items) walk.others more later.others of.walked.leaves entered
@@ -479,7 +480,7 @@ pub all_found : (im : Image) (a : ℕ) (walk : LeafWalk) → IsHashedAt im a →
 all_found im a walk hashed directory w all none = record {
   directory = directory;
   each = λ i n at. (w.found i n at).stands;
-  inside = λ i n at. (w.found i n at).inside;
+  reached = λ i n at. (w.found i n at).reached;
   all = λ x r has. from x has.0 has.1 r has.2;
 }
   where
@@ -544,6 +545,7 @@ pub next_leaf_in : (im : Image) (inode : Inode) (table : HashTable) (walk : Leaf
     → ComesNext walk at → IsNextLeaf im walk at
 next_leaf_in im inode table walk at of is for w leaf next = record {
   format = of.file.format;
+  looked = subst (IsLookedAt im) (sym is) (hashed_looked im inode.block of.file.right of.hashed of.sized);
   hashed = subst (IsHashedAt im) (sym is) (table_hashed im inode table of);
   leaf = subst (λ a. IsLeafIn im a at) (sym is) leaf;
   next = next;
@@ -591,16 +593,21 @@ module _ (im : Image) (inode : Inode) (table : HashTable) (walk : LeafWalk) (of 
 -- ---- a leaf that is entered
 
 -- a block that is claimed otherwise
-pub clash_told : (im : Image) (entries : List (Option Claim)) (x by : ℕ) (claim : Claim) (found : ImageFault) → HasFormat im → x < im.count → AreClaims im entries → Claims im by x (owner_of claim) → IsClash entries x claim found
+pub clash_told : (im : Image) (entries : List (Option Claim)) (x by : ℕ) (claim : Claim) (found : ImageFault) → HasFormat im → IsReached im x → AreClaims im entries → Claims im by x (owner_of claim) → IsClash entries x claim found
     → RefusesRightly im (of_image found)
-clash_told im entries x by claim (image.Damaged block rule) format inside claims claimed c = (clash im entries x by claim (image.Damaged block rule) inside claims claimed c, inr format)
-clash_told im entries x by claim image.NoMemory format inside claims claimed c = tt
+clash_told im entries x by claim (image.Damaged block rule) format reached claims claimed c =
+    let here : block ≡ x = elim c.told [ inl three ↦ same_block block rule x 3 three | inr fifteen ↦ same_block block rule x 15 fifteen.0 ] in
+    (clash im entries x by claim (image.Damaged block rule) reached.inside claims claimed c, come_to rule block format (subst (IsReached im) (sym here) reached))
+  where
+    same_block : (b r c s : ℕ) → image.Damaged b r ≡ image.Damaged c s → b ≡ c
+    same_block b r c s e = cc
+clash_told im entries x by claim image.NoMemory format reached claims claimed c = tt
 
 pub told_next : (im : Image) (walk : LeafWalk) (at : LeafAt) → IsNextLeaf im walk at → IsTold im walk.names walk.directory at
 told_next im walk at of = record {
   format = of.format;
   leaf = of.leaf;
-  first = λ files. record { master = of.master files; hashed = of.hashed; before = none_before im walk at of files };
+  first = λ files. record { master = of.master files; looked = of.looked; hashed = of.hashed; before = none_before im walk at of files };
 }
 
 -- by the claim that is entered the leaf is claimed
@@ -618,7 +625,7 @@ other_told im a at f other records o format leaf told_first read is found some =
     let first = mapped_some (λ (r : Record). r.address) (first_other (map said records)) other (sym found ∙ some) in
     let here : first_other (leaf_records (every im a) at.block) ≡ Some first.0 = ap first_other (sym read) ∙ first.1 in
     let is_first : IsFirstOther im a first.0 = in_leaf at.pointer at.place at.block first.0 told_first.hashed leaf.chain here told_first.before in
-    told_outside im f field.Master other is (subst (IsOutside im field.Master) first.2 (outside.master first.0 format (subst (λ b. IsFirstOther im b first.0) told_first.master is_first)))
+    told_outside im f field.Master other is (subst (IsOutside im field.Master) first.2 (outside.master first.0 format (subst (IsLookedAt im) told_first.master told_first.looked) (subst (λ b. IsFirstOther im b first.0) told_first.master is_first)))
 
 -- a claim that is new leaves one block less
 pub fell : (fresh : Bool) (less free : ℕ) → fresh ≡ true → less + (if fresh then 1 else 0) ≡ free → less + 1 ≡ free

@@ -8,9 +8,10 @@ use Rattle.glock_names.specs.declared.steps.Entry.{Entry}
 use Rattle.image_model.specs.Claims.{every}
 use Rattle.image_model.specs.Image.{Image}
 use Rattle.image_model.proofs.Rows.{and_left}
+use Rattle.dinode_tree.specs.Reading.{IsRightDinode}
 use Rattle.image_mount.specs.Groups.{IsNamedIn}
 use Rattle.image_mount.specs.Listing.{is_hashed_by}
-use Rattle.image_mount.specs.Looks.{IsTrueEntry, HasTrueRecord, IsSized, IsTableSized}
+use Rattle.image_mount.specs.Looks.{IsTrueEntry, HasTrueRecord, IsSized, IsTableSized, IsLookedAt}
 use Rattle.image_mount.proofs.Causes.{hashed_as}
 
 -- ---- sizes
@@ -53,6 +54,12 @@ pub either_sized : (im : Image) (a : ℕ) → (is_hashed_in (every im a) ≡ tru
 either_sized im a table plain = record {
   linear = λ directory linear. (plain linear).linear directory linear;
   hashed = table;
+}
+
+pub hashed_looked : (im : Image) (a : ℕ) → IsRightDinode (every im a) → is_hashed_in (every im a) ≡ true → IsTableSized im a → IsLookedAt im a
+hashed_looked im a right hashed sized = record {
+  dinode = right;
+  sized = record { linear = λ directory linear. absurd (both_ways (is_hashed_in (every im a)) linear hashed); hashed = λ yes. sized };
 }
 
 -- ---- records

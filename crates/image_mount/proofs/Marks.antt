@@ -17,10 +17,10 @@ use Rattle.image_model.specs.Owners.{Below, Named}
 use Rattle.image_model.specs.Rules.{Breaks, no_superblock, beyond_device, beyond_groups, two_owners, IsOutside}
 use Rattle.image_model.specs.Journals.{journal_name}
 use Rattle.image_model.specs.SystemFiles.{IsSystemBlock, of_content, of_superblock}
-use Rattle.image_mount.specs.Found.{HasFormat}
+use Rattle.image_mount.specs.Found.{HasFormat, IsReached}
 use Rattle.profile_limits.specs.Limits.{most_blocks}
 use Rattle.image_mount.specs.Looks.{IsInGroups}
-use Rattle.image_mount.specs.Refusals.{RefusesRightly}
+use Rattle.image_mount.specs.Refusals.{IsToldAt, RefusesRightly, no_super}
 use Rattle.image_mount.specs.Rings.{IsPlace, IsSearched, IsNext, IsPlaceAt}
 use Rattle.image_mount.specs.Searching.{IsRead, IsWanted, IsWorking, ShowsSystem, StopsRightly}
 use Rattle.image_mount.specs.System.{IsSystemOf}
@@ -34,26 +34,28 @@ use Rattle.image_mount.specs.declared.system.System.{System}
 use Rattle.image_mount.proofs.Causes.{told}
 use Rattle.image_mount.proofs.Names.{contains_at}
 use Rattle.image_mount.proofs.Places.{journal_file}
+use Rattle.image_mount.proofs.Shown.{kept_inside}
 use Rattle.image_mount.proofs.KeptLaws.{get_kept}
 
 -- ---- a block that is wanted is not read
 
-pub beyond_super : (im : Image) (f : MountFault) (block : ℕ) → f ≡ fault.Damaged block 1 → block ≡ superblock_place im.size → im.count ≤ block → RefusesRightly im f
-beyond_super im f block is at high =
-    let breaks : Breaks im 1 block = subst (Breaks im 1) (sym at) (no_superblock (omega (arith, high, at))) in
-    subst (RefusesRightly im) (sym is) (record { breaks = breaks; there = inr (refl, at) }, inl (refl, at))
+pub beyond_super : (im : Image) (f : MountFault) (block : ℕ) → f ≡ fault.Damaged block 1 → block ≡ superblock_place im.size → im.count ≤ most_blocks → im.count ≤ block → RefusesRightly im f
+beyond_super im f block is at few high =
+    let short : im.count ≤ superblock_place im.size = omega (arith, high, at) in
+    let breaks : Breaks im 1 block = subst (Breaks im 1) (sym at) (no_superblock short) in
+    subst (RefusesRightly im) (sym is) (record { breaks = breaks; there = inr (refl, at) }, subst (IsToldAt im 1) (sym at) (no_super (record { few = few; lacks = inl short })))
 
 pub beyond_all : (im : Image) (f : MountFault) (block from : ℕ) → f ≡ fault.Damaged from 2 → IsWanted im block from → im.count ≤ block → block ≢ superblock_place im.size → RefusesRightly im f
 beyond_all im f block from is wanted high other = elim wanted [
-  | inl super ↦ absurd (other super)
+  | inl super ↦ absurd (other super.0)
   | inr by ↦ told im f from 2 is by.0 by.1.3 (beyond_device from block by.1.0 by.1.1 high)
 ]
 
 pub place_wanted : (im : Image) (f : MountFault) (block from : ℕ) (done : List ℕ) (d n : ℕ) → f ≡ fault.Damaged block 3 → block < im.count → IsWanted im block from → IsPlace im done d n block → RefusesRightly im f
 place_wanted im f block from done d n is inside wanted place = elim wanted [
-  | inl super ↦ absurd (place.apart super)
+  | inl super ↦ absurd (place.apart super.0)
   | inr by ↦
-      told im f block 3 is by.0 inside (two_owners block from place.by by.1.0 (Below place.inode place.by place.pointer 0 place.index) by.1.1 place.claimed
+      told im f block 3 is by.0 (record { inside = inside; system = by.1.4; format = inr by.0 }) (two_owners block from place.by by.1.0 (Below place.inode place.by place.pointer 0 place.index) by.1.1 place.claimed
       (λ e. place.plain (by.1.2 place.inode place.by place.pointer place.index e)))
 ]
 
@@ -178,11 +180,11 @@ module _ (im : Image) (done : List ℕ) (system : System) (journal : Link) (next
 
   pub place_beyond : (f : MountFault) (place : ℕ) (located : Located) → f ≡ fault.Damaged located.from 2 → IsPlaceAt im journal.entry.addr place located → im.count ≤ located.block → RefusesRightly im f
   place_beyond f place located is at high =
-      told im f located.from 2 is format at.inside (beyond_device located.from located.block (Below journal.entry.addr located.from at.leads.0 0 place) (place_claim place located at) high)
+      told im f located.from 2 is format at.reached (beyond_device located.from located.block (Below journal.entry.addr located.from at.leads.0 0 place) (place_claim place located at) high)
 
   pub place_outside : (f : MountFault) (place : ℕ) (located : Located) → f ≡ fault.Damaged located.from 2 → IsPlaceAt im journal.entry.addr place located → IsOutside im located.block → RefusesRightly im f
   place_outside f place located is at out =
-      told im f located.from 2 is format at.inside (beyond_groups located.from located.block (Below journal.entry.addr located.from at.leads.0 0 place) (place_claim place located at) out)
+      told im f located.from 2 is format at.reached (beyond_groups located.from located.block (Below journal.entry.addr located.from at.leads.0 0 place) (place_claim place located at) out)
 
   one_place : (a b k i d c j p : ℕ) → Below a b k 0 i ≡ Below d c j 0 p → (a ≡ d) × (i ≡ p)
   one_place a b k i d c j p e = (cc, cc)
@@ -190,7 +192,7 @@ module _ (im : Image) (done : List ℕ) (system : System) (journal : Link) (next
   pub place_again : (f : MountFault) (place : ℕ) (located : Located) → f ≡ fault.Damaged located.block 3 → located.block < im.count → IsPlaceAt im journal.entry.addr place located → IsPlace im done journal.entry.addr place located.block
       → RefusesRightly im f
   place_again f place located is inside at old =
-      told im f located.block 3 is format inside
+      told im f located.block 3 is format (record { inside = inside; system = old.system; format = inr format })
       (two_owners located.block old.by located.from (Below old.inode old.by old.pointer 0 old.index) (Below journal.entry.addr located.from at.leads.0 0 place) old.claimed (place_claim place located at)
       (λ e. let same = one_place old.inode old.by old.pointer old.index journal.entry.addr located.from at.leads.0 place e in elim old.of [
         | inl before ↦ next.new (subst (Contains done) same.0 before)
@@ -200,9 +202,9 @@ module _ (im : Image) (done : List ℕ) (system : System) (journal : Link) (next
   pub place_kept : (f : MountFault) (place : ℕ) (located : Located) (by : ℕ) → f ≡ fault.Damaged located.block 3 → located.block < im.count → IsPlaceAt im journal.entry.addr place located → IsWanted im located.block by
       → located.block ≢ superblock_place im.size → RefusesRightly im f
   place_kept f place located by is inside at wanted apart = elim wanted [
-    | inl super ↦ absurd (apart super)
+    | inl super ↦ absurd (apart super.0)
     | inr from ↦
-        told im f located.block 3 is format inside
+        told im f located.block 3 is format (record { inside = inside; system = from.1.4; format = inr format })
         (two_owners located.block by located.from from.1.0 (Below journal.entry.addr located.from at.leads.0 0 place) from.1.1 (place_claim place located at)
         (λ e. next.plain (from.1.2 journal.entry.addr located.from at.leads.0 place e)))
   ]
@@ -257,13 +259,22 @@ above_super im system b groups looked same inside e =
 
 -- what is wanted is a block of them
 pub wanted_system : (im : Image) (block from : ℕ) → IsWanted im block from → IsSystemBlock im block
-wanted_system im block from (inl super) = of_superblock super
+wanted_system im block from (inl super) = of_superblock super.0
 wanted_system im block from (inr by) = by.1.4
 
 -- and behind the superblock the formats are those of the profile
 pub wanted_format : (im : Image) (block from : ℕ) → IsWanted im block from → (block ≡ superblock_place im.size) ⊎ HasFormat im
-wanted_format im block from (inl super) = inl super
+wanted_format im block from (inl super) = inl super.0
 wanted_format im block from (inr by) = inr by.0
+
+-- so mounting comes to it, where the device has it
+pub wanted_reached : (im : Image) (block from : ℕ) → IsWanted im block from → block < im.count → IsReached im block
+wanted_reached im block from wanted inside = record { inside = inside; system = wanted_system im block from wanted; format = wanted_format im block from wanted }
+
+-- on a device that has no more blocks than are mounted
+pub wanted_few : (im : Image) (block from : ℕ) → IsWanted im block from → im.count ≤ most_blocks
+wanted_few im block from (inl super) = super.1
+wanted_few im block from (inr by) = by.0.super.few
 
 -- why what is wanted isn't read, of a disk that holds what it held before
 pub go_refused : (old now : DiskState) (im : Image) (s : Stop) (k : Kept) (f : MountFault) (done : List ℕ) (d n : ℕ) → now ≡ old
@@ -276,6 +287,9 @@ pub read_shown : (old now : DiskState) (im : Image) (done : List ℕ) (d n : ℕ
 read_shown old now im done d n k same work shows known = record {
   size = work.size ∙ ap (λ (t : DiskState). t.size) same ∙ sym shows.size;
   count = work.count ∙ ap (λ (t : DiskState). t.count) same ∙ sym shows.count;
+  reached = λ b bytes at.
+      let wanted = known.wanted b bytes at in
+      wanted_reached im b wanted.0 wanted.1 (omega (arith, kept_inside k.entries b bytes at, work.count, ap (λ (t : DiskState). t.count) same, shows.count));
   same = λ b bytes at.
       let wanted = known.wanted b bytes at in
       let here : IsWorking old k = subst (λ (t : DiskState). IsWorking t k) same work in

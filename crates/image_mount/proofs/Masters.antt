@@ -19,7 +19,7 @@ use Rattle.image_model.specs.Rules.{IsHashedAt, no_leaf, pointer_missing}
 use Rattle.image_reader.specs.declared.hash_table.HashTable.{HashTable}
 use Rattle.image_reader.proofs.Chains.{same_bits, run_some}
 use Rattle.image_reader.proofs.Pieces.{pieces_cover}
-use Rattle.image_mount.specs.Found.{IsInChain, chain_head}
+use Rattle.image_mount.specs.Found.{IsInChain, chain_head, IsReached}
 use Rattle.image_mount.specs.Leaves.{IsMasterIn, IsSystemDirectory, IsTableOf, IsLeafHead, IsLeafIn}
 use Rattle.image_mount.specs.Looks.{HasHeadedContent, IsInRun, IsTableSized, LeadsToLeaf}
 use Rattle.image_mount.specs.Refusals.{RefusesRightly}
@@ -29,7 +29,7 @@ use Rattle.image_mount.specs.declared.fault.MountFault.{MountFault}
 use Rattle.image_mount.specs.declared.fault.MountFault.TheVariants as fault
 use Rattle.image_mount.specs.declared.inodes.Inode.{Inode}
 use Rattle.image_mount.specs.declared.leaf.LeafAt.{LeafAt}
-use Rattle.image_mount.proofs.Causes.{told}
+use Rattle.image_mount.proofs.Causes.{super_reached, told}
 use Rattle.image_mount.proofs.Places.{found_block, hole_block}
 use Rattle.image_mount.proofs.SystemFiles.{is_master}
 
@@ -41,10 +41,10 @@ master_directory_of im inode is = record {
   claimed = is_master im inode.from inode.block is.from is.block;
   is_inode = refl;
   read = inr (inl is.block);
-  from_inside = subst (λ n. n < im.count) (sym is.from) is.format.super.inside;
+  from_reached = subst (IsReached im) (sym is.from) (super_reached im is.format);
   dinode = is.dinode;
   right = is.right;
-  inside = is.inside;
+  reached = is.reached;
   directory = is.directory;
 }
 
@@ -56,10 +56,10 @@ jindex_directory_of im master inode is = record {
   claimed = is.directory.claimed;
   is_inode = is.directory.is_inode;
   read = inr (inr is.is);
-  from_inside = is.directory.from_inside;
+  from_reached = is.directory.from_reached;
   dinode = is.directory.dinode;
   right = is.right;
-  inside = is.directory.inside;
+  reached = is.directory.reached;
   directory = sym (ap is_directory is.directory.dinode) ∙ is.directory.directory;
 }
 
@@ -78,10 +78,10 @@ kept_file im inode kept is block from dinode = record {
   claimed = subst (λ a. Claims im kept.from a is.owner) (sym block) (subst (λ b. Claims im b inode.block is.owner) (sym from) is.claimed);
   is_inode = is.is_inode;
   read = subst (IsListingFile im) (sym block) is.read;
-  from_inside = subst (λ n. n < im.count) (sym from) is.from_inside;
+  from_reached = subst (IsReached im) (sym from) is.from_reached;
   dinode = dinode ∙ ap (λ a. dinode_in (every im a)) (sym block);
   right = subst (λ a. IsRightDinode (every im a)) (sym block) is.right;
-  inside = subst (λ a. a < im.count) (sym block) is.inside;
+  reached = subst (IsReached im) (sym block) is.reached;
   directory = ap (λ a. is_directory_in (every im a)) block ∙ is.directory;
 }
 
@@ -124,10 +124,10 @@ module _ (im : Image) (inode : Inode) (table : HashTable) (of : IsTableOf im ino
   pub in_table : (i : ℕ) → i < 2 ^ table.depth → i < table_count (every im inode.block)
   in_table i low = subst (λ d. i < 2 ^ d) of.depth low
 
-  pub no_leaf_told : (i by number : ℕ) (f : MountFault) → i < 2 ^ table.depth → by ≡ entry_block (every im inode.block) i → number ≡ u64_at (8 * i) table.bytes.items → number ≡ 0 → by < im.count → f ≡ fault.Damaged by 14
+  pub no_leaf_told : (i by number : ℕ) (f : MountFault) → i < 2 ^ table.depth → by ≡ entry_block (every im inode.block) i → number ≡ u64_at (8 * i) table.bytes.items → number ≡ 0 → IsReached im by → f ≡ fault.Damaged by 14
       → RefusesRightly im f
   no_leaf_told i by number f low by_is number_is none inside is =
-      told im f (entry_block (every im inode.block) i) 14 (is ∙ ap (λ n. fault.Damaged n 14) by_is) of.file.format (subst (λ n. n < im.count) by_is inside)
+      told im f (entry_block (every im inode.block) i) 14 (is ∙ ap (λ n. fault.Damaged n 14) by_is) of.file.format (subst (IsReached im) by_is inside)
       (no_leaf inode.block i table_hashed (in_table i low) (sym (entry_is i) ∙ sym number_is ∙ none))
 
   pub first_claim : (i by number : ℕ) → i < 2 ^ table.depth → by ≡ entry_block (every im inode.block) i → number ≡ u64_at (8 * i) table.bytes.items
@@ -149,17 +149,17 @@ module _ (im : Image) (inode : Inode) (table : HashTable) (of : IsTableOf im ino
     pub hash_by_run : (j : ℕ) → number ≡ entry (every im inode.block) j → j / run * 2 ^ (32 - head.depth) ≡ first_hash (every im inode.block) j
     hash_by_run j at = λ k. j / (run_is ∙ (λ m. 2 ^ (of.depth m - depth_of j at m))) k * 2 ^ (32 - depth_of j at k)
 
-    pub missing_told : (j : ℕ) (f : MountFault) → j < 2 ^ table.depth → i - i % run ≤ j → j < i - i % run + run → u64_at (8 * j) table.bytes.items ≢ number → number < im.count → f ≡ fault.Damaged number 14 → RefusesRightly im f
+    pub missing_told : (j : ℕ) (f : MountFault) → j < 2 ^ table.depth → i - i % run ≤ j → j < i - i % run + run → u64_at (8 * j) table.bytes.items ≢ number → IsReached im number → f ≡ fault.Damaged number 14 → RefusesRightly im f
     missing_told j f below start end other inside is =
         let h = every im inode.block in
         let bits = same_bits i j run (run_some run (table.depth - head.depth) run_is) start end in
         let here : run ≡ 2 ^ (depth_in h - (leaf_in h (entry h i)).depth) = run_is ∙ (λ k. 2 ^ (of.depth k - depth_of i at_pointer k)) in
         let same : index_bits h (leaf_in h (entry h i)).depth j ≡ index_bits h (leaf_in h (entry h i)).depth i = subst (λ r. j / r ≡ i / r) here bits in
-        told im f (entry h i) 14 (is ∙ ap (λ n. fault.Damaged n 14) at_pointer) of.file.format (subst (λ n. n < im.count) at_pointer inside)
+        told im f (entry h i) 14 (is ∙ ap (λ n. fault.Damaged n 14) at_pointer) of.file.format (subst (IsReached im) at_pointer inside)
         (pointer_missing inode.block i j table_hashed (in_table i low) (in_table j below) same (λ e. other (entry_is j ∙ e ∙ sym at_pointer)))
 
     -- the leaf of a pointer, where its whole run leads to it
-    pub leaf_is : (at : LeafAt) (by hash : ℕ) → IsLeafHead im inode.block number → number ≢ 0 → number < im.count → by ≡ entry_block (every im inode.block) i → hash ≡ i / run * 2 ^ (32 - head.depth) → at.block ≡ number → at.head ≡ head → at.hash ≡ hash → at.place ≡ 0 → at.pointer ≡ i
+    pub leaf_is : (at : LeafAt) (by hash : ℕ) → IsLeafHead im inode.block number → number ≢ 0 → IsReached im number → by ≡ entry_block (every im inode.block) i → hash ≡ i / run * 2 ^ (32 - head.depth) → at.block ≡ number → at.head ≡ head → at.hash ≡ hash → at.place ≡ 0 → at.pointer ≡ i
         → at.behind ≡ i - i % run + run → i < at.behind → at.behind ≤ 2 ^ table.depth
         → ((j : ℕ) → i - i % run ≤ j → j < i - i % run + run → u64_at (8 * j) table.bytes.items ≡ number) → IsLeafIn im inode.block at
     leaf_is at by hash well some_number inside by_is hash_is block head_same hash_same place pointer behind some within all =
@@ -168,11 +168,11 @@ module _ (im : Image) (inode : Inode) (table : HashTable) (of : IsTableOf im ino
         let some_run = run_some run (table.depth - head.depth) run_is in
         let run_there : run ≡ 2 ^ (depth_in h - (leaf_in h (entry h i)).depth) = run_is ∙ (λ k. 2 ^ (of.depth k - depth_of i at_pointer k)) in
         record {
-          inside = subst (λ n. n < im.count) (sym block) inside;
+          reached = subst (IsReached im) (sym block) inside;
           head = head_same ∙ head_is ∙ ap (λ n. leaf_of (im.at n)) (sym block);
           well = subst (IsLeafHead im inode.block) (sym block) well;
           claimed = (by, transport (λ k. Claims im by (sym block k) (Chained inode.block (sym mine k) (sym place k))) (first_claim i by number low by_is number_is));
-          chain = transport (λ k. IsInChain h (sym pointer k) (sym place k) ((sym at_pointer ∙ sym block) k)) (chain_head (in_table i low));
+          chain = transport (λ k. IsInChain h (sym pointer k) (sym place k) ((sym at_pointer ∙ sym block) k)) (chain_head (in_table i low) (λ e. some_number (at_pointer ∙ e)));
           hash = mine ∙ ap (first_hash h) (sym pointer);
           some = omega (arith, pointer, some);
           within = subst (λ d. at.behind ≤ 2 ^ d) of.depth within;

@@ -7,6 +7,7 @@ use Rattle.std.proofs.lemmas.List.{map-append}
 use Rattle.std.proofs.lemmas.List.Elements.{All-push}
 use Rattle.gfs2_layout.specs.Device.{superblock_place}
 use Rattle.gfs2_layout.specs.declared.superblock.SuperBlock.{SuperBlock}
+use Rattle.image_mount.specs.Found.{IsReached}
 use Rattle.image_mount.specs.declared.listing.Link.{Link}
 use Rattle.image_model.specs.Claims.{Claims, master, master_of}
 use Rattle.image_model.specs.Image.{Image}
@@ -97,7 +98,7 @@ pub twice_master : (im : Image) (system : System) (j : ℕ) (entry : Link) (f : 
 twice_master im system j entry f looked at same is =
     let there : entry.entry.addr ≡ master_of im = same ∙ ap (λ (s : SuperBlock). s.master.address) looked.superblock in
     let claim = subst (λ b. Claims im (superblock_place im.size) b Master) (sym there) master in
-    told im f entry.entry.addr 3 is looked.names.groups.list.master.format (subst (λ n. n < im.count) (sym same) looked.master_inside)
+    told im f entry.entry.addr 3 is looked.names.groups.list.master.format (subst (IsReached im) (sym same) looked.master_reached)
     (two_owners entry.entry.addr entry.from (superblock_place im.size) (Named system.jindex (journal_name j)) Master (looked.journals.each j entry at).claimed claim (λ e. no_name e))
   where
     no_name : Named system.jindex (journal_name j) ≡ Master → ⊥
@@ -108,7 +109,7 @@ pub twice_list : (im : Image) (system : System) (j : ℕ) (entry : Link) (f : Mo
 twice_list im system j entry f looked at same is =
     let list = looked.names.groups.list.master.rindex in
     let claim = subst (λ b. Claims im list.0 b (Named (master_of im) (codes "rindex"))) (sym same) list.1 in
-    told im f entry.entry.addr 3 is looked.names.groups.list.master.format (subst (λ n. n < im.count) (sym same) looked.rindex_inside)
+    told im f entry.entry.addr 3 is looked.names.groups.list.master.format (subst (IsReached im) (sym same) looked.rindex_reached)
     (two_owners entry.entry.addr entry.from list.0 (Named system.jindex (journal_name j)) (Named (master_of im) (codes "rindex")) (looked.journals.each j entry at).claimed claim
     (λ e. absurd (omega (arith, ap (λ name. get_or name 0 0) (same_name system.jindex (master_of im) (journal_name j) (codes "rindex") e)))))
 
@@ -117,7 +118,7 @@ pub twice_jindex : (im : Image) (system : System) (j : ℕ) (entry : Link) (f : 
 twice_jindex im system j entry f looked at same is =
     let file = looked.names.groups.list.master.jindex in
     let claim = subst (λ b. Claims im file.0 b (Named (master_of im) (codes "jindex"))) (sym same) file.1 in
-    told im f entry.entry.addr 3 is looked.names.groups.list.master.format (subst (λ n. n < im.count) (sym same) looked.jindex_inside)
+    told im f entry.entry.addr 3 is looked.names.groups.list.master.format (subst (IsReached im) (sym same) looked.jindex_reached)
     (two_owners entry.entry.addr entry.from file.0 (Named system.jindex (journal_name j)) (Named (master_of im) (codes "jindex")) (looked.journals.each j entry at).claimed claim
     (λ e. absurd (omega (arith, ap (λ name. get_or name 1 0) (same_name system.jindex (master_of im) (journal_name j) (codes "jindex") e)))))
 
@@ -142,13 +143,13 @@ twice_journal im system j entry rings f looked at are there is =
     (two_owners entry.entry.addr entry.from other.0.from (Named system.jindex (journal_name j)) (Named system.jindex (journal_name i)) (looked.journals.each j entry at).claimed claim
     (λ e. absurd (omega (arith, early.0, one_number j i (omega (arith, few, low)) (omega (arith, few, low, early.0)) (same_name system.jindex system.jindex (journal_name j) (journal_name i) e)))))
   where
-    dinode_inside : entry.entry.addr < im.count
+    dinode_inside : IsReached im entry.entry.addr
     dinode_inside = ring_inside (from_mapped (λ (r : Ring). r.dinode) rings there.0 entry.entry.addr (contains_at _ entry.entry.addr there))
       where
-        ring_inside : (r : Ring) × (slice_get rings there.0 ≡ Some r) × (r.dinode ≡ entry.entry.addr) → entry.entry.addr < im.count
+        ring_inside : (r : Ring) × (slice_get rings there.0 ≡ Some r) × (r.dinode ≡ entry.entry.addr) → IsReached im entry.entry.addr
         ring_inside one =
             let is_ring = subst (λ (r : Ring). IsRingOf im r.dinode r.blocks.items) (get_or_from_slice_get rings there.0 one.0 one.0 one.1) (are.each there.0 one.0 (slice_get_within rings there.0 one.0 one.1)) in
-            subst (λ n. n < im.count) one.2 is_ring.places.inside
+            subst (IsReached im) one.2 is_ring.places.reached
 
     within : (xs : List Link) (k : ℕ) (x : Link) → slice_get xs k ≡ Some x → k < length xs
     within [] k x e = cc

@@ -59,12 +59,12 @@ other_name items n d count low leads none names =
 pub names_anew : (xs ys : List Record) (n : ℕ) → name_count ys ≡ name_count xs → ((r : Record) → Contains ys r → Contains xs r) → ((r : Record) → Contains xs r → Contains ys r) → AreJournalNames xs n → AreJournalNames ys n
 names_anew xs ys n count there other names = (count ∙ names.0, λ j low. let r = names.1 j low in (r.0, other r.0 r.1, r.2), λ r has leads. names.2 r (there r has) leads)
 
-pub wrong_journals : (im : Image) (l : Layout) (records : List Record) (f : MountFault) (count : ℕ) → HasGroups im l → AreRecordsAnew im l.jindex records → f ≡ fault.NotProfile field.Journals count
+pub wrong_journals : (im : Image) (l : Layout) (records : List Record) (f : MountFault) (count : ℕ) → HasGroups im l → IsLookedAt im l.jindex → AreRecordsAnew im l.jindex records → f ≡ fault.NotProfile field.Journals count
     → count ≡ name_count records → ((1 ≤ count) × (count ≤ 8) × AreJournalNames records count → ⊥) → RefusesRightly im f
-wrong_journals im l records f count groups are is counted wrong =
+wrong_journals im l records f count groups looked are is counted wrong =
     let same : count ≡ name_count are.all = counted ∙ sym are.count in
     told_outside im f field.Journals (name_count are.all) (is ∙ ap (fault.NotProfile field.Journals) same)
-    (outside.journals l are.all groups are.has
+    (outside.journals l are.all groups looked are.has
     (λ all. wrong (omega (arith, all.0, same), omega (arith, all.1, same), subst (AreJournalNames records) (sym same) (names_anew are.all records (name_count are.all) (sym are.count) are.other are.there all.2))))
 
 pub lacks_journal : (items : List Item) (n count : ℕ) → n ≡ count → (j : ℕ) × (j < n) × LacksName items (journal_name j) → AreJournalNames (map said items) count → ⊥

@@ -25,8 +25,9 @@ use Rattle.image_model.specs.Owners.{Below, Named}
 use Rattle.image_model.specs.Rules.{journal_hole, journal_part}
 use Rattle.image_model.specs.SystemFiles.{IsSystemBlock, IsSystemFile, is_journal, of_content, of_dinode}
 use Rattle.image_model.proofs.Lengths.{whole_pieces}
-use Rattle.image_mount.specs.Found.{HasFormat}
-use Rattle.image_mount.specs.Refusals.{RefusesRightly, IsReached}
+use Rattle.image_mount.specs.Looks.{IsLookedAt}
+use Rattle.image_mount.specs.Found.{HasFormat, IsReached}
+use Rattle.image_mount.specs.Refusals.{RefusesRightly}
 use Rattle.image_mount.specs.Refusals as outside
 use Rattle.image_mount.specs.Rings.{IsJournalIn, HasPlaces, IsPlaceAt, AreBlocksOf}
 use Rattle.image_mount.specs.Searching.{IsWanted}
@@ -114,32 +115,32 @@ journal_format im journal of = of.names.groups.list.master.format
 pub journal_inode : (im : Image) (journal : Link) → IsJournalIn im journal → HasInode im journal.entry.addr
 journal_inode im journal of = (Named of.layout.jindex (journal_name of.index), record { by = journal.from; claimed = of.named.claimed; dinode = refl })
 
-pub wrong_part : (im : Image) (journal : Link) (f : MountFault) (d size : ℕ) (dinode : Dinode) → IsJournalIn im journal → f ≡ fault.Damaged d 8 → d ≡ journal.entry.addr → d < im.count
+pub wrong_part : (im : Image) (journal : Link) (f : MountFault) (d size : ℕ) (dinode : Dinode) → IsJournalIn im journal → f ≡ fault.Damaged d 8 → d ≡ journal.entry.addr → IsReached im d
     → dinode ≡ dinode_in (every im journal.entry.addr) → size ≡ im.size → dinode.size % size ≢ 0 → RefusesRightly im f
 wrong_part im journal f d size dinode of is at inside read sized part =
-    told im f journal.entry.addr 8 (is ∙ ap (λ b. fault.Damaged b 8) at) (journal_format im journal of) (subst (λ n. n < im.count) at inside)
+    told im f journal.entry.addr 8 (is ∙ ap (λ b. fault.Damaged b 8) at) (journal_format im journal of) (subst (IsReached im) at inside)
     (journal_part of.index journal.entry.addr (journal_of im journal of) (λ e. part (ap (λ (x : Dinode). x.size % size) read ∙ ap (λ n. (dinode_in (every im journal.entry.addr)).size % n) sized ∙ e)))
 
 pub wrong_places : (im : Image) (journal : Link) (f : MountFault) (places : ℕ) → IsJournalIn im journal → f ≡ fault.NotProfile field.Journal places
-    → places ≡ (ring_of (every im journal.entry.addr)).places → ((512 ≤ places) × (places ≤ 65536) → ⊥) → RefusesRightly im f
-wrong_places im journal f places of is count wrong =
+    → IsLookedAt im journal.entry.addr → (dinode_in (every im journal.entry.addr)).size % im.size ≡ 0 → places ≡ (ring_of (every im journal.entry.addr)).places → ((512 ≤ places) × (places ≤ 65536) → ⊥) → RefusesRightly im f
+wrong_places im journal f places of is looked whole count wrong =
     told_outside im f field.Journal (ring_of (every im journal.entry.addr)).places (is ∙ ap (fault.NotProfile field.Journal) count)
-    (outside.journal of.layout of.index journal.entry.addr of.names of.before of.at (λ both. wrong (omega (arith, both.0, count), omega (arith, both.1, count))))
+    (outside.journal of.layout of.index journal.entry.addr of.names of.before of.at looked whole (λ both. wrong (omega (arith, both.0, count), omega (arith, both.1, count))))
 
 pub wrong_hole : (im : Image) (journal : Link) (f : MountFault) (places place : ℕ) → IsJournalIn im journal → f ≡ fault.Damaged journal.entry.addr 8 → HasPlaces im journal.entry.addr places
     → place < places → None ≡ block_at (every im journal.entry.addr) place → RefusesRightly im f
 wrong_hole im journal f places place of is has low hole =
-    told im f journal.entry.addr 8 is (journal_format im journal of) has.inside
+    told im f journal.entry.addr 8 is (journal_format im journal of) has.reached
     (journal_hole of.index journal.entry.addr place (journal_of im journal of) (omega (arith, low, has.count)) (hole_block (every im journal.entry.addr) place hole (within_reach im journal.entry.addr places place has low)))
 
 -- ---- blocks that are wanted on the way to a place
 
 pub journal_wanted : (im : Image) (journal : Link) → IsJournalIn im journal → IsWanted im journal.entry.addr journal.from
 journal_wanted im journal of =
-    inr (journal_format im journal of, (Named of.layout.jindex (journal_name of.index), of.named.claimed, dinode_leads im (Named of.layout.jindex (journal_name of.index)) refl, of.named.inside, of_dinode (journal_file im journal of)))
+    inr (journal_format im journal of, (Named of.layout.jindex (journal_name of.index), of.named.claimed, dinode_leads im (Named of.layout.jindex (journal_name of.index)) refl, of.named.reached, of_dinode (journal_file im journal of)))
 
 pub above_wanted : (im : Image) (journal : Link) (v : Seen) (place : ℕ) (m : Missing) → IsJournalIn im journal → IsNeeded v (every im journal.entry.addr) (λ i. i ≡ place) 1 m
-    → m.from < im.count → m.block ≢ journal.entry.addr → place < content_count (every im journal.entry.addr) → IsWanted im m.block m.from
+    → IsReached im m.from → m.block ≢ journal.entry.addr → place < content_count (every im journal.entry.addr) → IsWanted im m.block m.from
 above_wanted im journal v place m of needed inside other within = each needed.way
   where
     at : (k level first : ℕ) → 1 ≤ level → Leads (every im journal.entry.addr) m.from k level first m.block → first < content_count (every im journal.entry.addr) → IsWanted im m.block m.from

@@ -1,5 +1,5 @@
 -- The records of a directory.
-use Rattle.std.proofs.Common.{◌≡◌, ◌<◌, ◌≢◌, ℕ, ◌-◌, false, List, length, take, drop, get_or, Some, refl, sym, ap, subst, ◌∙◌}
+use Rattle.std.proofs.Common.{◌≡◌, ◌≢◌, ℕ, ◌-◌, false, List, length, take, drop, get_or, Some, refl, sym, ap, subst, ◌∙◌}
 use Rattle.std.specs.Prelude.{map, slice_get, codes, Contains}
 use Rattle.std.specs.List.{All}
 use Rattle.std.proofs.lemmas.Option.{slice_get-get_or, slice_get-map, slice_get_within, get_or_from_slice_get}
@@ -12,6 +12,7 @@ use Rattle.image_model.specs.Image.{Image}
 use Rattle.image_model.specs.Owners.{Owner, parent_of, Named as named_by}
 use Rattle.image_model.specs.Rules.{Breaks, HasRecordIn, HasRecords, from_dinode_block, no_dot, no_dots, other_dot, other_dots}
 use Rattle.image_reader.proofs.Directories.{leaf_is_hashed, not_both}
+use Rattle.image_mount.specs.Found.{IsReached}
 use Rattle.image_mount.specs.Groups.{IsNamedIn}
 use Rattle.image_mount.specs.Listing.{said, AreAllRecords, AreCountedIn, AreRecordsOf, AreDistinct, IsDirectoryIn}
 use Rattle.image_mount.specs.declared.inodes.Inode.{Inode}
@@ -74,15 +75,15 @@ module _ (im : Image) (a : ℕ) (records : List Named) (are : AreRecordsOf im a 
       from _ _ (of_leaf x leaf) there = absurd (not_both (is_hashed_in (every im a)) (leaf_is_hashed im leaf.0 x a leaf.1 leaf.2 leaf.3) are.linear)
 
 -- those that were read behind a dinode, each with its block
-pub all_records : (im : Image) (a : ℕ) (records : List Named) → a < im.count → AreRecordsOf im a (map said records) → All (λ n. n.block ≡ a) records → AreAllRecords im a records
+pub all_records : (im : Image) (a : ℕ) (records : List Named) → IsReached im a → AreRecordsOf im a (map said records) → All (λ n. n.block ≡ a) records → AreAllRecords im a records
 all_records im a records inside are here = record {
   directory = are.directory;
   each = λ i n at.
       let there : n.block ≡ a = ap (λ (m : Named). m.block) (sym (get_or_from_slice_get records i n n at)) ∙ here i n (slice_get_within records i n at) in
       subst (λ x. HasRecordIn im a x (said n)) (sym there) (record_in im a records are i n at);
-  inside = λ i n at.
+  reached = λ i n at.
       let there : n.block ≡ a = ap (λ (m : Named). m.block) (sym (get_or_from_slice_get records i n n at)) ∙ here i n (slice_get_within records i n at) in
-      subst (λ x. x < im.count) (sym there) inside;
+      subst (IsReached im) (sym there) inside;
   all = complete im a records are;
 }
 
@@ -161,6 +162,6 @@ module _ (im : Image) (a : ℕ) (records : List Named) (are : AreAllRecords im a
     there = are.each i n at;
     named = refl;
     one = one_row;
-    inside = are.inside i n at;
+    reached = are.reached i n at;
     is = record { number = refl; address = refl; kind = refl };
   }

@@ -1,5 +1,5 @@
 -- What the blocks that are kept show of an inode, and what a call over them breaks of the image's rules.
-use Rattle.std.proofs.Common.{◌≡◌, ◌≢◌, ◌+◌, ◌*◌, ◌<◌, inl, inr, ℕ, zero, suc, List, [], ◌∷◌, length, Option, None, Some, true, refl, sym, arith}
+use Rattle.std.proofs.Common.{◌≡◌, ◌≢◌, ◌+◌, ◌*◌, ◌<◌, ℕ, zero, suc, List, [], ◌∷◌, length, Option, None, Some, true, refl, sym, arith}
 use Rattle.std.specs.Prelude.{slice_get, unwrap_or}
 use Rattle.gfs2_layout.specs.Bytes.{u64_at}
 use Rattle.gfs2_layout.specs.Inode.{Leads, from_dinode, from_block}
@@ -18,8 +18,9 @@ use Rattle.image_model.specs.Image.{Image}
 use Rattle.image_model.specs.Owners.{Owner, is_dinode}
 use Rattle.image_model.specs.Rules.{Breaks}
 use Rattle.image_model.specs.Rules as rules
+use Rattle.image_mount.proofs.Causes.{told}
 use Rattle.image_mount.proofs.Steps.{seen_in}
-use Rattle.image_mount.specs.Found.{HasFormat}
+use Rattle.image_mount.specs.Found.{HasFormat, IsReached}
 use Rattle.image_mount.specs.Refusals.{RefusesRightly}
 use Rattle.image_mount.specs.Searching.{IsRead, of_call}
 use Rattle.image_mount.specs.Kept.{Kept, seen_of, bytes_of}
@@ -33,14 +34,15 @@ shown im k a read = record {
   same = λ b bytes some at. read.same b bytes at;
 }
 
--- a block that is kept is on the device
+-- a block that is kept is one of the table
 pub kept_inside : (entries : List (Option (List ℕ))) (b : ℕ) (bytes : List ℕ) → bytes_of (slice_get entries b) ≡ Some bytes → b < length entries
 kept_inside [] b bytes at = absurd cc
 kept_inside (e ∷ es) zero bytes at = omega arith
 kept_inside (e ∷ es) (suc b) bytes at = omega (arith, kept_inside es b bytes at)
 
-pub kept_on : (im : Image) (k : Kept) (b : ℕ) → IsRead im k → HasBlock (seen_of k) b → b < im.count
-kept_on im k b read has = omega (arith, read.count, kept_inside k.entries b has.0 has.1)
+-- mounting comes to it in the image
+pub kept_on : (im : Image) (k : Kept) (b : ℕ) → IsRead im k → HasBlock (seen_of k) b → IsReached im b
+kept_on im k b read has = read.reached b has.0 has.1
 
 -- a block in which a pointer stands is kept
 some_kept : (o : Option (List ℕ)) (n : ℕ) → u64_at n (unwrap_or o []) ≢ 0 → (bytes : List ℕ) × (o ≡ Some bytes)
@@ -52,10 +54,10 @@ leads_kept k a _ _ _ _ _ (from_dinode j level high low some) = some_kept ((seen_
 leads_kept k a _ _ _ _ _ (from_block b j level first c i leads low some) = some_kept ((seen_of k).block_at c) (24 + 8 * i) some
 
 -- what leads to a block that is missing is kept, if that isn't the dinode
-pub needed_inside : (im : Image) (k : Kept) (a : ℕ) (P : ℕ → Type 0) (least : ℕ) (m : Missing) → IsRead im k → IsNeeded (seen_of k) (seen_in (seen_of k) a) P least m → m.block ≢ a → m.from < im.count
+pub needed_inside : (im : Image) (k : Kept) (a : ℕ) (P : ℕ → Type 0) (least : ℕ) (m : Missing) → IsRead im k → IsNeeded (seen_of k) (seen_in (seen_of k) a) P least m → m.block ≢ a → IsReached im m.from
 needed_inside im k a P least m read needed other = each needed.way
   where
-    each : IsOnWay (seen_in (seen_of k) a) P least m → m.from < im.count
+    each : IsOnWay (seen_in (seen_of k) a) P least m → IsReached im m.from
     each (the_dinode same from plain) = absurd (other same)
     each (led_to i j level first wants low leads before within plain) = kept_on im k m.from read (leads_kept k a m.from j level first m.block leads)
 
@@ -83,11 +85,9 @@ breaks im a _ _ has (broken.past_end b k level first c leads past) = rules.past_
 
 -- the fault of a call over the blocks that are kept
 pub call_told : (im : Image) (k : Kept) (a : ℕ) (f : CallFault) → HasInode im a → HasFormat im → IsRead im k → TellsOf (IsBroken (every im a)) f → TellsOf (IsOfView (seen_of k)) f → RefusesRightly im (of_call f)
-call_told im k a (call.Damaged block rule) has format read tells kept =
-    (record { breaks = breaks im a rule block has tells; there = inl (kept_on im k block read kept) }, inr format)
+call_told im k a (call.Damaged block rule) has format read tells kept = told im _ block rule refl format (kept_on im k block read kept) (breaks im a rule block has tells)
 call_told im k a call.NoMemory has format read tells kept = tt
 
 pub damage_told : (im : Image) (k : Kept) (a : ℕ) (f : CallFault) → HasInode im a → HasFormat im → IsRead im k → IsDamage (IsBroken (every im a)) f → IsDamage (IsOfView (seen_of k)) f → RefusesRightly im (of_call f)
-damage_told im k a (call.Damaged block rule) has format read tells kept =
-    (record { breaks = breaks im a rule block has tells; there = inl (kept_on im k block read kept) }, inr format)
+damage_told im k a (call.Damaged block rule) has format read tells kept = told im _ block rule refl format (kept_on im k block read kept) (breaks im a rule block has tells)
 damage_told im k a call.NoMemory has format read tells kept = absurd tells

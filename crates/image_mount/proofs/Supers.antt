@@ -1,5 +1,5 @@
 -- The superblock that was read.
-use Rattle.std.proofs.Common.{◌≡◌, ◌≤◌, ◌<◌, inl, ℕ, List, length, Option, None, Some, Ok, Err, refl, sym, ap, subst, ◌∙◌, arith}
+use Rattle.std.proofs.Common.{inr, ◌≡◌, ◌≤◌, ◌<◌, inl, ℕ, List, length, Option, None, Some, Ok, Err, refl, sym, ap, subst, ◌∙◌, arith}
 use Rattle.profile_limits.specs.Limits.{most_blocks}
 use Rattle.std.proofs.lemmas.Bool.Decides.{nat_tests}
 use Rattle.gfs2_layout.specs.Device.{superblock_place}
@@ -10,7 +10,7 @@ use Rattle.gfs2_layout.specs.declared.superblock.SuperBlock.{SuperBlock}
 use Rattle.image_model.specs.Image.{Image, superblock_in}
 use Rattle.image_model.specs.Rules.{Breaks, no_header, of_superblock}
 use Rattle.image_mount.specs.Found.{HasSuper}
-use Rattle.image_mount.specs.Refusals.{RefusesRightly}
+use Rattle.image_mount.specs.Refusals.{IsToldAt, RefusesRightly, no_super}
 use Rattle.image_mount.specs.declared.fault.MountFault.{MountFault}
 use Rattle.image_mount.specs.declared.fault.MountFault.TheVariants as fault
 pub use Rattle.image_reader.proofs.LeafFaults.{header_well}
@@ -45,9 +45,9 @@ has_super im bytes s place at same read few inside whole = record {
 }
 
 pub lacks_super : (im : Image) (bytes : List ℕ) (e : LayoutFault) (place : ℕ) (f : MountFault) → place ≡ superblock_place im.size → im.at place ≡ bytes → 272 ≤ length bytes
-    → Err e ≡ superblock_read bytes → place < im.count → f ≡ fault.Damaged place 1 → RefusesRightly im f
-lacks_super im bytes e place f at same long read inside is =
+    → Err e ≡ superblock_read bytes → im.count ≤ most_blocks → place < im.count → f ≡ fault.Damaged place 1 → RefusesRightly im f
+lacks_super im bytes e place f at same long read few inside is =
     let lacks : ¬ (HasHeader 1 100 (im.at (superblock_place im.size))) = λ has.
     answered_err (header_fault 272 1 100 bytes) (superblock_of bytes) e read (header_well 272 1 100 bytes long (subst (HasHeader 1 100) (ap im.at (sym at) ∙ same) has)) in
     let breaks : Breaks im 1 (superblock_place im.size) = no_header (superblock_place im.size) 1 100 of_superblock lacks in
-    subst (RefusesRightly im) (sym is) (record { breaks = subst (Breaks im 1) (sym at) breaks; there = inl inside }, inl (refl, at))
+    subst (RefusesRightly im) (sym is) (record { breaks = subst (Breaks im 1) (sym at) breaks; there = inl inside }, subst (IsToldAt im 1) (sym at) (no_super (record { few = few; lacks = inr lacks })))

@@ -1,5 +1,5 @@
 -- The files that the master directory names.
-use Rattle.std.proofs.Common.{◌≡◌, ◌≢◌, ◌⊎◌, ◌<◌, inl, inr, ℕ, ◌||◌, ◌&&◌, Bool, true, false, List, Option, None, Some, refl, sym, ap, subst, ◌∙◌}
+use Rattle.std.proofs.Common.{◌≡◌, ◌≢◌, ◌⊎◌, inl, inr, ℕ, ◌||◌, ◌&&◌, Bool, true, false, List, Option, None, Some, refl, sym, ap, subst, ◌∙◌}
 use Rattle.std.specs.Prelude.{map, not, codes, slice_get}
 use Rattle.std.specs.Option.{option_map}
 use Rattle.std.specs.Str.{bytes_eq}
@@ -14,13 +14,14 @@ use Rattle.image_model.specs.Claims.{every, Claims, master, LeadsTo, master_of}
 use Rattle.image_model.specs.Image.{Image}
 use Rattle.image_model.specs.Owners.{Owner, Master, is_dinode, parent_of}
 use Rattle.image_model.specs.Rules.{Breaks, HasRecordIn, no_rindex, no_jindex}
-use Rattle.image_mount.specs.Found.{HasFormat, IsFirstOther, behind_dinode, first_other, is_other, is_system_name}
+use Rattle.image_mount.specs.Looks.{IsLookedAt}
+use Rattle.image_mount.specs.Found.{HasFormat, IsFirstOther, behind_dinode, first_other, is_other, is_system_name, IsReached}
 use Rattle.image_mount.specs.Leaves.{IsMasterIn}
 use Rattle.image_model.specs.SystemFiles.{IsSystemFile}
 use Rattle.image_model.specs.SystemFiles.{is_master as is_master_file}
 use Rattle.image_mount.specs.Listing.{said, link_of, AreAllRecords, AreRecordsOf, IsDirectoryIn}
 use Rattle.image_mount.specs.Groups.{IsNamedIn}
-use Rattle.image_mount.specs.Refusals.{RefusesRightly, IsOutside}
+use Rattle.image_mount.specs.Refusals.{IsOutside, RefusesRightly}
 use Rattle.image_mount.specs.Refusals as outside
 use Rattle.image_mount.specs.System.{ArePlainRecords, IsAmong, IsLinkOf}
 use Rattle.image_mount.specs.declared.fault.MountFault.{MountFault}
@@ -29,13 +30,13 @@ use Rattle.image_mount.specs.declared.field.Field.TheVariants as field
 use Rattle.image_mount.specs.declared.inodes.Inode.{Inode}
 use Rattle.image_mount.specs.declared.listing.Link.{Link}
 use Rattle.image_mount.specs.declared.listing.Named.{Named as Item}
-use Rattle.image_mount.proofs.Causes.{told, told_outside}
+use Rattle.image_mount.proofs.Causes.{super_reached, told, told_outside}
 use Rattle.image_mount.proofs.Names.{mapped_at, mapped_none, mapped_some, named_in, none_found, led_among, led_by_file, none_among}
 
 -- ---- an inode that is claimed, and is a directory
 
 pub directory_in : (im : Image) (inode : Inode) (by addr parent : ℕ) (o : Owner) → HasFormat im → Claims im by addr o → is_dinode o ≡ true → inode.block ≡ addr → inode.from ≡ by
-    → inode.dinode ≡ dinode_in (every im addr) → is_directory inode.dinode ≡ true → addr < im.count → by < im.count → parent ≡ parent_of addr o → IsSystemFile im addr → IsDirectoryIn im inode parent
+    → inode.dinode ≡ dinode_in (every im addr) → is_directory inode.dinode ≡ true → IsReached im addr → IsReached im by → parent ≡ parent_of addr o → IsSystemFile im addr → IsDirectoryIn im inode parent
 directory_in im inode by addr parent o format claimed dinode at from read directory inside by_inside above file = record {
   file = subst (IsSystemFile im) (sym at) file;
   format = format;
@@ -44,8 +45,8 @@ directory_in im inode by addr parent o format claimed dinode at from read direct
   is_inode = dinode;
   dinode = read ∙ ap (λ a. dinode_in (every im a)) (sym at);
   directory = directory;
-  inside = subst (λ a. a < im.count) (sym at) inside;
-  from_inside = subst (λ b. b < im.count) (sym from) by_inside;
+  reached = subst (IsReached im) (sym at) inside;
+  from_reached = subst (IsReached im) (sym from) by_inside;
   above = above ∙ ap (λ a. parent_of a o) (sym at);
 }
 
@@ -64,20 +65,20 @@ master_directory im inode is = record {
   is_inode = refl;
   dinode = is.dinode;
   directory = ap is_directory is.dinode ∙ is.directory;
-  inside = is.inside;
-  from_inside = subst (λ b. b < im.count) (sym is.from) is.format.super.inside;
+  reached = is.reached;
+  from_reached = subst (IsReached im) (sym is.from) (super_reached im is.format);
   file = is_master_file is.block;
   above = refl;
 }
 
 -- ---- what the master directory lacks
 
-pub master_file : (im : Image) (f : MountFault) (at : ℕ) → f ≡ fault.Damaged at 18 → HasFormat im → at < im.count → at ≡ master_of im → is_directory_in (every im at) ≡ false → RefusesRightly im f
+pub master_file : (im : Image) (f : MountFault) (at : ℕ) → f ≡ fault.Damaged at 18 → HasFormat im → IsReached im at → at ≡ master_of im → is_directory_in (every im at) ≡ false → RefusesRightly im f
 master_file im f at is format low same file =
     told im f at 18 is format low
     (subst (Breaks im 18) (sym same) (no_rindex (λ d way. led_by_file im (master_of im) (codes "rindex") d (subst (λ a. is_directory_in (every im a) ≡ false) same file) way)))
 
-module _ (im : Image) (f : MountFault) (at : ℕ) (items : List Item) (format : HasFormat im) (inside : at < im.count) (same : at ≡ master_of im) (are : AreAllRecords im at items) where
+module _ (im : Image) (f : MountFault) (at : ℕ) (items : List Item) (format : HasFormat im) (inside : IsReached im at) (same : at ≡ master_of im) (are : AreAllRecords im at items) where
   never_led : (name : List ℕ) (d : ℕ) → ((i : ℕ) (n : Item) → slice_get items i ≡ Some n → n.name.now ≢ name) → LeadsTo im (master_of im) name d → ⊥
   never_led name d none way =
       let led = led_among im at items name d are (subst (λ a. LeadsTo im a name d) (sym same) way) in
@@ -92,12 +93,12 @@ module _ (im : Image) (f : MountFault) (at : ℕ) (items : List Item) (format : 
 -- ---- other names
 
 -- behind the dinode of a linear one
-pub other_master : (im : Image) (f : MountFault) (at other : ℕ) (items : List Item) (o : Option ℕ) → f ≡ fault.NotProfile field.Master other → HasFormat im → at ≡ master_of im → AreRecordsOf im at (map said items)
+pub other_master : (im : Image) (f : MountFault) (at other : ℕ) (items : List Item) (o : Option ℕ) → f ≡ fault.NotProfile field.Master other → HasFormat im → IsLookedAt im at → at ≡ master_of im → AreRecordsOf im at (map said items)
     → o ≡ option_map (λ (r : Record). r.address) (first_other (map said items)) → o ≡ Some other → RefusesRightly im f
-other_master im f at other items o is format same are found some =
+other_master im f at other items o is format looked same are found some =
     let first = mapped_some (λ (r : Record). r.address) (first_other (map said items)) other (sym found ∙ some) in
     let told_here : IsFirstOther im at first.0 = behind_dinode first.0 are.directory are.linear (ap first_other (sym are.all) ∙ first.1) in
-    told_outside im f field.Master other is (subst (IsOutside im field.Master) first.2 (outside.master first.0 format (subst (λ a. IsFirstOther im a first.0) same told_here)))
+    told_outside im f field.Master other is (subst (IsOutside im field.Master) first.2 (outside.master first.0 format (subst (IsLookedAt im) same looked) (subst (λ a. IsFirstOther im a first.0) same told_here)))
 
 either : (p q : Bool) → (p || q) ≡ true → (p ≡ true) ⊎ (q ≡ true)
 either true q e = inl refl

@@ -1,5 +1,5 @@
 -- The system files that were found, as a layout of the image.
-use Rattle.std.proofs.Common.{◌≡◌, ◌<◌, ℕ, true, List, [], length, Vec, Global, refl, sym, ap, subst, ◌∙◌, arith}
+use Rattle.std.proofs.Common.{◌≡◌, ℕ, true, List, [], length, Vec, Global, refl, sym, ap, subst, ◌∙◌, arith}
 use Rattle.std.specs.Prelude.{codes, map}
 use Rattle.std.proofs.lemmas.List.{length-map}
 use Rattle.gfs2_layout.specs.declared.rindex.Rindex.{Rindex}
@@ -11,7 +11,7 @@ use Rattle.image_model.specs.Journals.{journal_name}
 use Rattle.image_model.specs.Owners.{Named}
 use Rattle.image_model.specs.Rules.{HasRecordIn}
 use Rattle.image_model.specs.Stands.{Layout}
-use Rattle.image_mount.specs.Found.{HasFormat, HasMaster, HasGroups, AreJournalNames}
+use Rattle.image_mount.specs.Found.{HasFormat, HasMaster, HasGroups, AreJournalNames, IsReached}
 use Rattle.image_mount.specs.Groups.{IsListLink, AreGroups}
 use Rattle.image_mount.specs.Kept.{Kept}
 use Rattle.image_mount.specs.Leaves.{HasReadDirectory}
@@ -56,7 +56,7 @@ module _ (im : Image) (sb : SuperBlock) (files : SystemFiles) (format : HasForma
     short = are.short;
   }
 
-  pub ground_of : (groups : Vec Rindex Global) (jindex : Inode) → jindex.block ≡ files.jindex.entry.addr → IsJindexOf im sb.master.address jindex → sb.master.address < im.count → IsLookedAt im sb.master.address
+  pub ground_of : (groups : Vec Rindex Global) (jindex : Inode) → jindex.block ≡ files.jindex.entry.addr → IsJindexOf im sb.master.address jindex → IsReached im sb.master.address → IsLookedAt im sb.master.address
       → IsSoundDirectory im sb.master.address sb.master.address → (is_hashed_in (every im sb.master.address) ≡ true → HasSoundLeaves im sb.master.address) → IsTrueEntry im files.rindex.entry → IsTrueEntry im files.jindex.entry
       → AreGroups im files.rindex.entry.addr groups.items → IsGroundOf im (record { superblock = sb; rindex = files.rindex.entry.addr; groups = groups; jindex = jindex })
   ground_of groups jindex at is inside looked sound leaves rindex true_entry are = record {
@@ -73,8 +73,8 @@ module _ (im : Image) (sb : SuperBlock) (files : SystemFiles) (format : HasForma
     master_leaves = leaves;
     rindex_looked = are.looked;
     rindex_headed = are.headed;
-    master_inside = inside;
-    rindex_inside = are.inside;
+    master_reached = inside;
+    rindex_reached = are.reached;
     jindex = record { of = is; layout = layout_with (record { superblock = sb; rindex = files.rindex.entry.addr; groups = groups; jindex = jindex }) []; groups = has_groups []; layout_is = refl };
   }
     where
@@ -110,9 +110,9 @@ system_of im g journals is names =
       master_leaves = is.master_leaves;
       rindex_looked = is.rindex_looked;
       rindex_headed = is.rindex_headed;
-      master_inside = is.master_inside;
-      rindex_inside = is.rindex_inside;
-      jindex_inside = is.jindex.of.directory.inside;
+      master_reached = is.master_reached;
+      rindex_reached = is.rindex_reached;
+      jindex_reached = is.jindex.of.directory.reached;
       journals = names;
     }
 

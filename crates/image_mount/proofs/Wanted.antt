@@ -7,7 +7,7 @@ use Rattle.image_model.specs.Claims.{every, Claims, below}
 use Rattle.image_model.specs.Image.{Image}
 use Rattle.image_model.specs.Owners.{Owner, Below, Chained, is_dinode}
 use Rattle.image_model.specs.SystemFiles.{IsSystemBlock, IsSystemFile, is_jindex, is_master, is_rindex, of_content, of_dinode, of_leaf}
-use Rattle.image_mount.specs.Found.{HasFormat}
+use Rattle.image_mount.specs.Found.{HasFormat, IsReached}
 use Rattle.image_mount.specs.Searching.{StopsRightly, IsLeading, IsWanted, IsRead, IsListingFile}
 use Rattle.image_mount.specs.Kept.{Kept, seen_of}
 use Rattle.image_mount.specs.declared.stop.Stop.{Stop}
@@ -44,7 +44,7 @@ list_leads im a b k level first list d c j other e = subst (IsListingFile im) (s
 -- ---- blocks that are wanted
 
 -- the block of an inode that is claimed is wanted by its number there
-pub wanted : (im : Image) (block from : ℕ) (o : Owner) (s : Stop) → s ≡ stop.Reads block from → Claims im from block o → is_dinode o ≡ true → HasFormat im → from < im.count → IsSystemFile im block → StopsRightly im s
+pub wanted : (im : Image) (block from : ℕ) (o : Owner) (s : Stop) → s ≡ stop.Reads block from → Claims im from block o → is_dinode o ≡ true → HasFormat im → IsReached im from → IsSystemFile im block → StopsRightly im s
 wanted im block from o s is claimed dinode format inside file = subst (StopsRightly im) (sym is) (inr (format, (o, claimed, dinode_leads im o dinode, inside, of_dinode file)))
 
 -- a leaf is no content
@@ -55,12 +55,12 @@ leaf_leads im a hash place d b k first e = absurd (apart a hash place d b k firs
     apart a hash place d b k first e = cc
 
 -- a leaf is wanted by its number in its directory
-pub leaf_wanted : (im : Image) (by x a hash place : ℕ) → Claims im by x (Chained a hash place) → HasFormat im → by < im.count → IsListingFile im a → IsWanted im x by
+pub leaf_wanted : (im : Image) (by x a hash place : ℕ) → Claims im by x (Chained a hash place) → HasFormat im → IsReached im by → IsListingFile im a → IsWanted im x by
 leaf_wanted im by x a hash place claimed format inside list = inr (format, (Chained a hash place, claimed, leaf_leads im a hash place, inside, of_leaf a by hash place (listing_file im a list) claimed))
 
 -- a block of content of a system file is wanted by its number in the block that leads to it
 pub content_wanted : (im : Image) (by a from k index block : ℕ) (o : Owner) (s : Stop) → s ≡ stop.Reads block from → Claims im by a o → is_dinode o ≡ true → HasFormat im → IsListingFile im a
-    → Leads (every im a) from k 0 index block → from < im.count → index < content_count (every im a) → StopsRightly im s
+    → Leads (every im a) from k 0 index block → IsReached im from → index < content_count (every im a) → StopsRightly im s
 content_wanted im by a from k index block o s is claimed dinode format list leads inside within =
     subst (StopsRightly im) (sym is) (inr (format, (Below a from k 0 index, below by a o from k 0 index block claimed dinode leads, list_leads im a from k 0 index list, inside, of_content a from k 0 index (listing_file im a list) leads within)))
 
@@ -69,10 +69,10 @@ pub wanted_below : (im : Image) (k : Kept) (by a : ℕ) (o : Owner) (bytes : Lis
     → HasFormat im → IsListingFile im a → (seen_of k).block_at a ≡ Some bytes → IsNeeded (seen_of k) (every im a) P least m → IsNeeded (seen_of k) (seen_in (seen_of k) a) Q least m → IsRead im k → ((i : ℕ) → P i → i < content_count (every im a)) → StopsRightly im s
 wanted_below im k by a o bytes P Q least m s is claimed dinode format list kept needed seen read low_of = subst (StopsRightly im) (sym is) (inr (format, on_way needed.way))
   where
-    inside : m.from < im.count
+    inside : IsReached im m.from
     inside = needed_inside im k a Q least m read seen (λ same. absurd (let none : Some bytes ≡ None = sym kept ∙ ap (seen_of k).block_at (sym same) ∙ needed.absent in cc))
 
-    on_way : IsOnWay (every im a) P least m → (p : Owner) × Claims im m.from m.block p × IsLeading im p × (m.from < im.count) × IsSystemBlock im m.block
+    on_way : IsOnWay (every im a) P least m → (p : Owner) × Claims im m.from m.block p × IsLeading im p × IsReached im m.from × IsSystemBlock im m.block
     on_way (the_dinode same from plain) = let none : Some bytes ≡ None = sym kept ∙ ap (seen_of k).block_at (sym same) ∙ needed.absent in cc
     on_way (led_to i j level first wants low leads before within plain) =
         let end : i < content_count (every im a) = low_of i wants in (

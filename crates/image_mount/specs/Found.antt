@@ -14,6 +14,7 @@ use Rattle.image_model.specs.Journals.{journal_name}
 use Rattle.image_model.specs.Profile.{group_length}
 use Rattle.image_model.specs.Rules.{HasRecordIn, HasRecords, IsHashedAt}
 use Rattle.image_model.specs.Stands.{Layout, IsJournalAt}
+use Rattle.image_model.specs.SystemFiles.{IsSystemBlock}
 
 -- ---- the device and the superblock
 
@@ -30,6 +31,13 @@ pub record HasFormat (im : Image) : Type 0 where
   pub bsize : (superblock_in im).bsize ≡ im.size
   pub bsize_shift : 2 ^ (superblock_in im).bsize_shift ≡ im.size
 
+-- A block that mounting may read: the device has it, and it is one of the system files, or one by which they are found. Behind the superblock
+-- none is read but where the formats are those of the profile.
+pub record IsReached (im : Image) (b : ℕ) : Type 0 where
+  pub inside : b < im.count
+  pub system : IsSystemBlock im b
+  pub format : (b ≡ superblock_place im.size) ⊎ HasFormat im
+
 -- ---- the master directory, linear or hashed: `jindex` and `rindex`, and no other name
 
 abbrev pub is_system_name : List ℕ → Bool
@@ -42,10 +50,10 @@ is_other r = not (is_dots r.name) && not (is_system_name r.name)
 abbrev pub first_other : List Record → Option Record
 first_other records = find is_other records
 
--- Block x is the leaf so many behind the one to which pointer i of the table leads. In this order a hashed directory has
+-- Block x is the leaf so many behind the one to which pointer i of the table leads; a pointer that is zero leads to none. In this order a hashed directory has
 -- its leaves: pointer by pointer, and each chain from its first leaf on.
 pub data IsInChain (h : Holding) (i : ℕ) : ℕ → ℕ → Type 0 where
-  chain_head : i < table_count h → IsInChain h i 0 (entry h i)
+  chain_head : i < table_count h → entry h i ≢ 0 → IsInChain h i 0 (entry h i)
   chain_next : (place x : ℕ) → IsInChain h i place x → (leaf_in h x).next ≢ 0 → IsInChain h i (place + 1) (leaf_in h x).next
 
 -- what comes so far behind pointer j comes before what comes so far behind pointer i

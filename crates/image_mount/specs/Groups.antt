@@ -1,6 +1,6 @@
 -- The list of groups, as it is found and read.
 use Rattle.profile_limits.specs.Limits.{most_group_blocks, most_groups}
-use Rattle.std.specs.Prelude.{ℕ, ◌≡◌, ◌<◌, ◌≤◌, ◌%◌, List, length, codes}
+use Rattle.std.specs.Prelude.{ℕ, ◌≡◌, ◌≤◌, ◌%◌, List, length, codes}
 use Rattle.gfs2_layout.specs.Inode.{dinode_in, content_of}
 use Rattle.gfs2_layout.specs.Records.{Record}
 use Rattle.gfs2_layout.specs.declared.rindex.Rindex.{Rindex}
@@ -12,7 +12,7 @@ use Rattle.image_model.specs.Owners.{Named}
 use Rattle.image_model.specs.Profile.{group_length}
 use Rattle.image_model.specs.Rules.{HasRecordIn}
 use Rattle.image_model.specs.Stands.{Layout}
-use Rattle.image_mount.specs.Found.{HasList, HasMaster}
+use Rattle.image_mount.specs.Found.{HasList, HasMaster, IsReached}
 use Rattle.image_mount.specs.Listing.{IsEntryOf}
 use Rattle.image_mount.specs.Looks.{HasHeadedContent, IsLookedAt}
 use Rattle.image_mount.specs.declared.listing.Link.{Link}
@@ -25,7 +25,7 @@ pub record IsNamedIn (im : Image) (a from : ℕ) (name : List ℕ) (entry : Entr
   pub there : HasRecordIn im a from row
   pub named : row.name ≡ name
   pub one : (x : ℕ) (r : Record) → HasRecordIn im a x r → r.name ≡ name → r ≡ row
-  pub inside : from < im.count
+  pub reached : IsReached im from
   pub is : IsEntryOf entry row
 
 -- what the record of `rindex` in the master directory says
@@ -40,16 +40,17 @@ pub record IsListLink (im : Image) (link : Link) : Type 0 where
 pub record IsListOf (im : Image) (size count list : ℕ) (listed : List Rindex) : Type 0 where
   pub block_size : size ≡ im.size
   pub blocks : count ≡ im.count
-  pub inside : list < im.count
+  pub reached : IsReached im list
   pub layout : Layout
   pub found : HasList im layout
   pub rindex : layout.rindex ≡ list
   pub groups : layout.groups ≡ listed
   pub only : (d : ℕ) → IsRindex im d → d ≡ list
+  pub looked : IsLookedAt im list
 
 -- these groups are listed there, fit the image, and are within the profile
 pub record AreGroups (im : Image) (list : ℕ) (groups : List Rindex) : Type 0 where
-  pub inside : list < im.count
+  pub reached : IsReached im list
   pub looked : IsLookedAt im list
   pub headed : HasHeadedContent im list
   pub whole : (dinode_in (every im list)).size % entry_length ≡ 0

@@ -18,10 +18,10 @@ use Rattle.image_reader.specs.Owning.{AreClaims}
 use Rattle.image_model.specs.Rules.{HasRecordIn, IsHashedAt}
 use Rattle.image_reader.specs.declared.hash_table.HashTable.{HashTable}
 use Rattle.image_reader.specs.declared.owners.Claim.{Claim}
-use Rattle.image_mount.specs.Found.{HasFormat, IsInChain, ComesBefore, first_other, name_count}
+use Rattle.image_mount.specs.Found.{HasFormat, IsInChain, ComesBefore, first_other, name_count, IsReached}
 use Rattle.image_mount.specs.Kept.{Kept}
 use Rattle.image_mount.specs.Listing.{said, AreDistinct}
-use Rattle.image_mount.specs.Looks.{HasHeadedContent, HasSoundLeaves, IsInRun, IsSoundArea, IsTableSized, LeadsToLeaf}
+use Rattle.image_mount.specs.Looks.{HasHeadedContent, HasSoundLeaves, IsInRun, IsSoundArea, IsTableSized, LeadsToLeaf, IsLookedAt}
 use Rattle.image_mount.specs.Marked.{HasKeptContent, IsTaken}
 use Rattle.image_mount.specs.Searching.{IsListingFile}
 use Rattle.image_mount.specs.Sifting.{IsBeside}
@@ -40,7 +40,7 @@ pub record IsMasterIn (im : Image) (inode : Inode) : Type 0 where
   pub from : inode.from ≡ superblock_place im.size
   pub dinode : inode.dinode ≡ dinode_in (every im inode.block)
   pub right : IsRightDinode (every im inode.block)
-  pub inside : inode.block < im.count
+  pub reached : IsReached im inode.block
   pub directory : is_directory_in (every im inode.block) ≡ true
 
 -- the inode is that of a directory of the system, and keeps the rules of its dinode
@@ -50,10 +50,10 @@ pub record IsSystemDirectory (im : Image) (inode : Inode) : Type 0 where
   pub claimed : Claims im inode.from inode.block owner
   pub is_inode : is_dinode owner ≡ true
   pub read : IsListingFile im inode.block
-  pub from_inside : inode.from < im.count
+  pub from_reached : IsReached im inode.from
   pub dinode : inode.dinode ≡ dinode_in (every im inode.block)
   pub right : IsRightDinode (every im inode.block)
-  pub inside : inode.block < im.count
+  pub reached : IsReached im inode.block
   pub directory : is_directory_in (every im inode.block) ≡ true
 
 -- the directory is a hashed one, and this is its table
@@ -76,7 +76,7 @@ pub record IsLeafHead (im : Image) (a x : ℕ) : Type 0 where
 
 -- the directory in block a has this leaf, at its place in the chain of a pointer; the pointers from that one to `behind` lead to the chain
 pub record IsLeafIn (im : Image) (a : ℕ) (at : LeafAt) : Type 0 where
-  pub inside : at.block < im.count
+  pub reached : IsReached im at.block
   pub head : at.head ≡ leaf_in (every im a) at.block
   pub well : IsLeafHead im a at.block
   pub claimed : (by : ℕ) × Claims im by at.block (Chained a at.hash at.place)
@@ -125,7 +125,7 @@ pub record AreLeavesOf (im : Image) (a : ℕ) (entries : List (Option Claim)) (r
 -- a record that was found stands in a leaf that is claimed
 pub record IsFoundIn (im : Image) (a : ℕ) (entries : List (Option Claim)) (n : Named) : Type 0 where
   pub stands : HasRecordIn im a n.block (said n)
-  pub inside : n.block < im.count
+  pub reached : IsReached im n.block
   pub leaf : (hash place : ℕ) × HasClaim entries n.block (Chained a hash place)
 
 -- a leaf that is claimed has a record with another name than are looked for
@@ -199,12 +199,13 @@ IsLinkOf walk table link = IsLinkBy walk table link.number link.tail
 -- the pointer leads to a block of the device, which has these bytes
 pub record IsPointed (im : Image) (table : HashTable) (i : ℕ) (bytes : List ℕ) : Type 0 where
   pub some : u64_at (8 * i) table.bytes.items ≢ 0
-  pub inside : u64_at (8 * i) table.bytes.items < im.count
+  pub reached : IsReached im (u64_at (8 * i) table.bytes.items)
   pub is : im.at (u64_at (8 * i) table.bytes.items) ≡ bytes
 
 -- the leaf is one of the master directory, and each record that comes before its own is a system file's, or leads nowhere on
 pub record IsFirstTold (im : Image) (a : ℕ) (at : LeafAt) : Type 0 where
   pub master : a ≡ master_of im
+  pub looked : IsLookedAt im a
   pub hashed : IsHashedAt im a
   pub before : (j earlier y : ℕ) → ComesBefore j earlier at.pointer at.place → IsInChain (every im a) j earlier y → first_other (leaf_records (every im a) y) ≡ None
 
@@ -217,6 +218,7 @@ pub record IsTold (im : Image) (names : Names) (a : ℕ) (at : LeafAt) : Type 0 
 -- the leaf comes next in a walk over its directory, which is the master directory where names of system files are looked for
 pub record IsNextLeaf (im : Image) (walk : LeafWalk) (at : LeafAt) : Type 0 where
   pub format : HasFormat im
+  pub looked : IsLookedAt im walk.directory
   pub hashed : IsHashedAt im walk.directory
   pub leaf : IsLeafIn im walk.directory at
   pub next : ComesNext walk at

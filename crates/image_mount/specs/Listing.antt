@@ -1,5 +1,5 @@
 -- The records of a directory, as the code has them.
-use Rattle.std.specs.Prelude.{ℕ, ◌≡◌, ◌+◌, ◌<◌, ◌&&◌, Bool, true, false, List, length, map, filter, codes, slice_get, Some}
+use Rattle.std.specs.Prelude.{ℕ, ◌≡◌, ◌+◌, ◌&&◌, Bool, true, false, List, length, map, filter, codes, slice_get, Some}
 use Rattle.file_tree.specs.Names.{IsName}
 use Rattle.gfs2_layout.specs.Area.{Slot}
 use Rattle.gfs2_layout.specs.Exchanges.{directory_count}
@@ -14,7 +14,7 @@ use Rattle.image_model.specs.Image.{Image}
 use Rattle.image_model.specs.Owners.{Owner, is_dinode, parent_of}
 use Rattle.image_model.specs.Rules.{HasRecordIn, HasRecords}
 use Rattle.image_model.specs.SystemFiles.{IsSystemFile}
-use Rattle.image_mount.specs.Found.{HasFormat}
+use Rattle.image_mount.specs.Found.{HasFormat, IsReached}
 use Rattle.image_mount.specs.Kept.{Kept, seen_of}
 use Rattle.image_mount.specs.declared.inodes.Inode.{Inode}
 use Rattle.image_mount.specs.declared.listing.Link.{Link}
@@ -63,7 +63,7 @@ pub record AreRecordsOf (im : Image) (a : ℕ) (records : List Record) : Type 0 
 pub record AreAllRecords (im : Image) (a : ℕ) (records : List Named) : Type 0 where
   pub directory : HasDirectory im a
   pub each : (i : ℕ) (n : Named) → slice_get records i ≡ Some n → HasRecordIn im a n.block (said n)
-  pub inside : (i : ℕ) (n : Named) → slice_get records i ≡ Some n → n.block < im.count
+  pub reached : (i : ℕ) (n : Named) → slice_get records i ≡ Some n → IsReached im n.block
   pub all : (x : ℕ) (r : Record) → HasRecordIn im a x r → (i : ℕ) × ((n : Named) × (slice_get records i ≡ Some n) × (said n ≡ r))
 
 -- a directory has so many records, and so many directories among them
@@ -101,7 +101,7 @@ pub record IsDirectoryIn (im : Image) (inode : Inode) (parent : ℕ) : Type 0 wh
   pub is_inode : is_dinode owner ≡ true
   pub dinode : inode.dinode ≡ dinode_in (every im inode.block)
   pub directory : is_directory inode.dinode ≡ true
-  pub inside : inode.block < im.count
-  pub from_inside : inode.from < im.count
+  pub reached : IsReached im inode.block
+  pub from_reached : IsReached im inode.from
   pub above : parent ≡ parent_of inode.block owner
   pub file : IsSystemFile im inode.block

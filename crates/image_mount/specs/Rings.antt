@@ -15,10 +15,10 @@ use Rattle.image_model.specs.Journals.{journal_name}
 use Rattle.image_model.specs.Owners.{Below}
 use Rattle.image_model.specs.Stands.{Layout, IsJournalAt}
 use Rattle.image_model.specs.SystemFiles.{IsSystemBlock}
-use Rattle.image_mount.specs.Found.{HasNames}
+use Rattle.image_mount.specs.Found.{HasNames, IsReached}
 use Rattle.image_mount.specs.Looks.{IsTrueEntry, IsLookedAt}
 use Rattle.image_mount.specs.Mounted.{Journal, IsJournalOf}
-use Rattle.image_mount.specs.Refusals.{IsJournalSized, IsReached}
+use Rattle.image_mount.specs.Refusals.{IsJournalSized}
 use Rattle.image_mount.specs.Searching.{IsListingFile, IsWanted}
 use Rattle.image_mount.specs.Groups.{IsNamedIn}
 use Rattle.image_mount.specs.System.{IsSystemOf}
@@ -72,7 +72,7 @@ pub record IsNext (im : Image) (done : List ℕ) (system : System) (journal : Li
 
 -- the journal with its dinode in block d has so many places
 pub record HasPlaces (im : Image) (d places : ℕ) : Type 0 where
-  pub inside : d < im.count
+  pub reached : IsReached im d
   pub count : places ≡ (ring_of (every im d)).places
   pub looked : IsLookedAt im d
   pub whole : (dinode_in (every im d)).size % im.size ≡ 0
@@ -82,7 +82,7 @@ pub record HasPlaces (im : Image) (d places : ℕ) : Type 0 where
 
 -- the block of content with index `place` is where the pointer in block `from` leads
 pub record IsPlaceAt (im : Image) (d place : ℕ) (located : Located) : Type 0 where
-  pub inside : located.from < im.count
+  pub reached : IsReached im located.from
   pub block : located.block ≡ content_block (every im d) place
   pub leads : (k : ℕ) × Leads (every im d) located.from k 0 place located.block
   pub headed : IsHeadedWay (every im d) place

@@ -1,5 +1,6 @@
 -- What a search in the blocks that are kept knows of the image, and why it stops.
-use Rattle.std.specs.Prelude.{ℕ, ◌≡◌, ◌<◌, ◌⊎◌, ⊤, IsTrue, List, length, None, Some}
+use Rattle.std.specs.Prelude.{ℕ, ◌≡◌, ◌≤◌, ◌⊎◌, ⊤, IsTrue, List, length, None, Some}
+use Rattle.profile_limits.specs.Limits.{most_blocks}
 use Rattle.gfs2_layout.specs.Device.{superblock_place}
 use Rattle.glock_names.specs.declared.steps.CallFault.{CallFault}
 use Rattle.glock_names.specs.declared.steps.CallFault.TheVariants as call
@@ -8,7 +9,7 @@ use Rattle.image_model.specs.Image.{Image}
 use Rattle.image_model.specs.Owners.{Owner, Below}
 use Rattle.image_model.specs.SystemFiles.{IsSystemBlock}
 use Rattle.shared_disk.specs.Disk.{DiskState, IsIdle}
-use Rattle.image_mount.specs.Found.{HasFormat}
+use Rattle.image_mount.specs.Found.{HasFormat, IsReached}
 use Rattle.image_mount.specs.Refusals.{RefusesRightly}
 use Rattle.image_mount.specs.Kept.{Kept, seen_of}
 use Rattle.image_mount.specs.declared.fault.MountFault.{MountFault}
@@ -21,10 +22,11 @@ abbrev pub of_call : CallFault → MountFault
 of_call (call.Damaged block rule) = fault.Damaged block rule
 of_call call.NoMemory = fault.NoMemory
 
--- the blocks that are kept hold what they hold in the image
+-- the blocks that are kept are such as mounting comes to in the image, and hold what they hold there
 pub record IsRead (im : Image) (k : Kept) : Type 0 where
   pub size : k.size ≡ im.size
   pub count : length k.entries ≡ im.count
+  pub reached : (b : ℕ) (bytes : List ℕ) → (seen_of k).block_at b ≡ Some bytes → IsReached im b
   pub same : (b : ℕ) (bytes : List ℕ) → (seen_of k).block_at b ≡ Some bytes → im.at b ≡ bytes
 
 -- the inode in block d is the list of groups, the master directory or the directory of journals, whose content is read block by block
@@ -35,9 +37,9 @@ IsListingFile im d = IsRindex im d ⊎ ((d ≡ master_of im) ⊎ IsJindex im d)
 abbrev pub IsLeading : Image → Owner → Type 0
 IsLeading im o = (d b k first : ℕ) → o ≡ Below d b k 0 first → IsListingFile im d
 
--- the superblock is to be read, or a block of a system file that is claimed by its number in block `from` of the device: of content that of those three files alone
+-- the superblock is to be read, on a device that has no more blocks than are mounted, or a block of a system file that is claimed by its number in block `from` of the device: of content that of those three files alone
 abbrev pub IsWanted : Image → ℕ → ℕ → Type 0
-IsWanted im block from = (block ≡ superblock_place im.size) ⊎ (HasFormat im × ((o : Owner) × Claims im from block o × IsLeading im o × (from < im.count) × IsSystemBlock im block))
+IsWanted im block from = ((block ≡ superblock_place im.size) × (im.count ≤ most_blocks)) ⊎ (HasFormat im × ((o : Owner) × Claims im from block o × IsLeading im o × IsReached im from × IsSystemBlock im block))
 
 -- the image is refused for a cause that it has, or a block is wanted
 abbrev pub StopsRightly : Image → Stop → Type 0

@@ -12,7 +12,7 @@ use Rattle.image_model.specs.Journals.{journal_name}
 use Rattle.image_model.specs.Profile.{HasPlainMaster}
 use Rattle.image_model.specs.Rules.{HasRecordIn, HasRecords}
 use Rattle.image_model.specs.Stands.{Layout}
-use Rattle.image_mount.specs.Found.{is_other, name_count, AreJournalNames, HasGroups, HasNames}
+use Rattle.image_mount.specs.Found.{is_other, name_count, AreJournalNames, HasGroups, HasNames, IsReached}
 use Rattle.image_mount.specs.Groups.{IsNamedIn}
 use Rattle.image_mount.specs.Kept.{Kept}
 use Rattle.image_mount.specs.Leaves.{HasReadDirectory, IsMasterIn}
@@ -152,8 +152,8 @@ pub record IsGroundOf (im : Image) (g : Groundwork) : Type 0 where
   pub master_leaves : is_hashed_in (every im g.superblock.master.address) ≡ true → HasSoundLeaves im g.superblock.master.address
   pub rindex_looked : IsLookedAt im g.rindex
   pub rindex_headed : HasHeadedContent im g.rindex
-  pub master_inside : g.superblock.master.address < im.count
-  pub rindex_inside : g.rindex < im.count
+  pub master_reached : IsReached im g.superblock.master.address
+  pub rindex_reached : IsReached im g.rindex
   pub jindex : IsJindexIn im g.superblock.master.address g.jindex
 
 -- where the system files lie
@@ -194,7 +194,7 @@ pub record IsSystemOf (im : Image) (s : System) : Type 0 where
   pub master_leaves : is_hashed_in (every im s.superblock.master.address) ≡ true → HasSoundLeaves im s.superblock.master.address
   pub rindex_looked : IsLookedAt im s.rindex
   pub rindex_headed : HasHeadedContent im s.rindex
-  pub master_inside : s.superblock.master.address < im.count
-  pub rindex_inside : s.rindex < im.count
-  pub jindex_inside : s.jindex < im.count
+  pub master_reached : IsReached im s.superblock.master.address
+  pub rindex_reached : IsReached im s.rindex
+  pub jindex_reached : IsReached im s.jindex
   pub journals : AreJournalsOf im s.jindex s.journals.items

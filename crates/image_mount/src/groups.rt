@@ -10,7 +10,8 @@ ghost use Rattle.image_model.specs.Listing.{RiseFrom};
 ghost use Rattle.image_model.specs.Owners.{Owner, is_dinode};
 ghost use Rattle.image_model.specs.Profile.{group_length};
 ghost use Rattle.image_model.specs.Stands.{Layout};
-ghost use Rattle.image_mount.specs.Found.{HasFormat, HasMaster};
+ghost use Rattle.dinode_tree.specs.Reading.{IsRightDinode};
+ghost use Rattle.image_mount.specs.Found.{HasFormat, HasMaster, IsReached};
 ghost use Rattle.image_mount.specs.Groups.{IsListLink, IsListOf, AreGroups};
 ghost use Rattle.image_mount.specs.Listing.{HasKeptDinode};
 ghost use Rattle.image_mount.specs.Looks.{HasHeadedContent, IsSized, IsTrueEntry};
@@ -134,7 +135,7 @@ fn check_rise(device: &Device, groups: &[Rindex], list: u64) -> Result<(), Mount
 // That each block above the superblock is near a group: at most three behind each belong to nobody.
 fn check_cover(device: &Device, groups: &[Rindex]) -> Result<(), MountFault>
     ensures fit { (im : Image) (list : ℕ) → IsListOf im device.now.size device.now.count list groups.now → RiseFrom im 0 groups.now → OnOk result (GroupsFit im groups.now) }
-    ensures refused { (im : Image) (list : ℕ) → IsListOf im device.now.size device.now.count list groups.now → RiseFrom im 0 groups.now → IfErr result (RefusesRightly im) }
+    ensures refused { (im : Image) (list : ℕ) → IsListOf im device.now.size device.now.count list groups.now → RiseFrom im 0 groups.now → 1 ≤ length groups.now → length groups.now ≤ most_groups → IfErr result (RefusesRightly im) }
     ensures steady { IfErr result IsSteady }
 {
     let mut bare = superblock_block(device.size) + 1;
@@ -188,7 +189,7 @@ fn list_length(inode: &Inode, size: u32) -> Result<u32, MountFault>
     ensures least { IfOk result (λ bytes. 96 ≤ bytes) }
     ensures short { IfOk result (λ bytes. bytes ≤ 6144) }
     ensures sized { (im : Image) → inode.now.dinode ≡ dinode_in (every im inode.now.block) → size ≡ im.size → OnOk result (IsSized im inode.now.block) }
-    ensures refused { (im : Image) (l : Layout) → HasMaster im l → inode.now.block < im.count → l.rindex ≡ inode.now.block → inode.now.dinode ≡ dinode_in (every im inode.now.block) → size ≡ im.size → IfErr result (RefusesRightly im) }
+    ensures refused { (im : Image) (l : Layout) → HasMaster im l → IsReached im inode.now.block → l.rindex ≡ inode.now.block → inode.now.dinode ≡ dinode_in (every im inode.now.block) → size ≡ im.size → IsRightDinode (every im inode.now.block) → IfErr result (RefusesRightly im) }
     ensures steady { IfErr result IsSteady }
 {
     let bytes = inode.dinode.size;
@@ -218,7 +219,7 @@ pub(crate) fn read_whole(
     ensures most { IfOk result (λ content. length content.items ≤ bytes) }
     ensures headed { (im : Image) → IsRead im table.now → (dinode_in (every im inode.now.block)).size ≡ bytes → OnOk result (HasHeadedContent im inode.now.block) }
     ensures kept { (im : Image) → IsRead im table.now → IsView (seen_of table.now) → (dinode_in (every im inode.now.block)).size ≡ bytes → OnOk result (HasKeptContent table.now (every im inode.now.block)) }
-    ensures stops { (im : Image) (o : Owner) → IsRead im table.now → Claims im inode.now.from inode.now.block o → is_dinode o ≡ true → HasFormat im → inode.now.from < im.count → IsListingFile im inode.now.block → IfErr result (StopsRightly im) }
+    ensures stops { (im : Image) (o : Owner) → IsRead im table.now → Claims im inode.now.from inode.now.block o → is_dinode o ≡ true → HasFormat im → IsReached im inode.now.from → IsListingFile im inode.now.block → IfErr result (StopsRightly im) }
     ensures lacks { IfErr result (LacksBlock table.now) }
 {
     // The dinode is kept, and what is missing is a block below it.

@@ -8,7 +8,7 @@ ghost use Rattle.image_model.specs.Image.{Image};
 ghost use Rattle.image_model.specs.Owners.{Owner, is_dinode};
 ghost use Rattle.image_model.specs.Rules.{HasRecordIn, IsHashedAt};
 ghost use Rattle.image_model.specs.SystemFiles.{IsSystemFile};
-ghost use Rattle.image_mount.specs.Found.{HasFormat};
+ghost use Rattle.image_mount.specs.Found.{HasFormat, IsReached};
 ghost use Rattle.image_mount.specs.Looks.{IsSized, IsTrueEntry};
 ghost use Rattle.image_mount.specs.Marked.{IsKept};
 ghost use Rattle.image_mount.specs.Refusals.{RefusesRightly};
@@ -41,9 +41,9 @@ impl Inode {
         ensures kept { IfOk result (HasKeptDinode table.now) }
         ensures fits { (im : Image) → IsRead im table.now → OnOk result (Fits (every im block)) }
         ensures right { (im : Image) → IsRead im table.now → OnOk result (IsRightDinode (every im block)) }
-        ensures inside { (im : Image) → IsRead im table.now → OnOk result (block < im.count) }
+        ensures reached { (im : Image) → IsRead im table.now → OnOk result (IsReached im block) }
         ensures there { OnOk result (IsKept table.now block) }
-        ensures stops { (im : Image) (o : Owner) → IsRead im table.now → Claims im from block o → is_dinode o ≡ true → HasFormat im → from < im.count → IsSystemFile im block → IfErr result (StopsRightly im) }
+        ensures stops { (im : Image) (o : Owner) → IsRead im table.now → Claims im from block o → is_dinode o ≡ true → HasFormat im → IsReached im from → IsSystemFile im block → IfErr result (StopsRightly im) }
         ensures lacks { IfErr result (LacksBlock table.now) }
     {
         match read_dinode(table, block)? {
@@ -66,7 +66,7 @@ impl Inode {
     /// That a record in block `from` repeats the kind and the formal number of this inode, to which it leads.
     pub fn check_record(&self, entry: &Entry) -> Result<(), MountFault>
         requires { entry.now.addr ≡ self.now.block }
-        ensures refused { (im : Image) (a : ℕ) (r : Record) → self.now.dinode ≡ dinode_in (every im self.now.block) → HasFormat im → self.now.from < im.count → HasRecordIn im a self.now.from r → IsEntryOf entry.now r → IfErr result (RefusesRightly im) }
+        ensures refused { (im : Image) (a : ℕ) (r : Record) → self.now.dinode ≡ dinode_in (every im self.now.block) → HasFormat im → IsReached im self.now.from → HasRecordIn im a self.now.from r → IsEntryOf entry.now r → IfErr result (RefusesRightly im) }
         ensures repeats { (im : Image) → self.now.dinode ≡ dinode_in (every im self.now.block) → OnOk result (IsTrueEntry im entry.now) }
         ensures steady { IfErr result IsSteady }
     {
@@ -90,7 +90,7 @@ impl Inode {
     pub fn check_linear(&self, size: u32) -> Result<(), MountFault>
         requires size { 512 ≤ size }
         requires linear { is_hashed_by self.now.dinode ≡ false }
-        ensures refused { (im : Image) → self.now.dinode ≡ dinode_in (every im self.now.block) → size ≡ im.size → HasFormat im → self.now.block < im.count → HasDirectory im self.now.block → IfErr result (RefusesRightly im) }
+        ensures refused { (im : Image) → self.now.dinode ≡ dinode_in (every im self.now.block) → size ≡ im.size → HasFormat im → IsReached im self.now.block → HasDirectory im self.now.block → IfErr result (RefusesRightly im) }
         ensures linear { OnOk result ((self.now.dinode.height ≡ 0) × (dinode_length + self.now.dinode.size ≡ size)) }
         ensures steady { IfErr result IsSteady }
     {
@@ -112,7 +112,7 @@ impl Inode {
         ensures bytes { IfOk result (λ depth. self.now.dinode.size ≡ 8 * 2 ^ depth) }
         ensures least { IfOk result (λ depth. size / 16 ≤ 2 ^ depth) }
         ensures greatest { IfOk result (λ depth. 2 ^ depth ≤ 8 * size) }
-        ensures refused { (im : Image) → self.now.dinode ≡ dinode_in (every im self.now.block) → size ≡ im.size → HasFormat im → self.now.block < im.count → IsHashedAt im self.now.block → IfErr result (RefusesRightly im) }
+        ensures refused { (im : Image) → self.now.dinode ≡ dinode_in (every im self.now.block) → size ≡ im.size → HasFormat im → IsReached im self.now.block → IsHashedAt im self.now.block → IfErr result (RefusesRightly im) }
         ensures steady { IfErr result IsSteady }
     {
         let depth = self.dinode.depth;
@@ -136,7 +136,7 @@ impl Inode {
     pub fn check_directory(&self, size: u32) -> Result<(), MountFault>
         requires size { 512 ≤ size }
         requires most { size ≤ 4096 }
-        ensures refused { (im : Image) → self.now.dinode ≡ dinode_in (every im self.now.block) → size ≡ im.size → HasFormat im → self.now.block < im.count → HasDirectory im self.now.block → IfErr result (RefusesRightly im) }
+        ensures refused { (im : Image) → self.now.dinode ≡ dinode_in (every im self.now.block) → size ≡ im.size → HasFormat im → IsReached im self.now.block → HasDirectory im self.now.block → IfErr result (RefusesRightly im) }
         ensures sized { (im : Image) → self.now.dinode ≡ dinode_in (every im self.now.block) → size ≡ im.size → OnOk result (IsSized im self.now.block) }
         ensures steady { IfErr result IsSteady }
     {

@@ -4,6 +4,7 @@ ghost use Rattle.image_model.specs.Claims.{every};
 ghost use Rattle.image_model.specs.Image.{Image};
 ghost use Rattle.image_model.specs.Journals.{journal_name as name_of_journal};
 ghost use Rattle.image_model.specs.Stands.{Layout};
+ghost use Rattle.image_mount.specs.Looks.{IsLookedAt};
 ghost use Rattle.image_mount.specs.Found.{HasGroups};
 ghost use Rattle.image_mount.specs.Leaves.{HasReadDirectory};
 ghost use Rattle.image_mount.specs.Listing.{said, is_hashed_by};
@@ -90,7 +91,7 @@ fn journals_in(
 // The records of the journals, which are one to eight, and beside which there are no names.
 fn check_journals(alloc: Global, records: &[Named<'_>]) -> Result<Vec<Link>, MountFault>
     ensures found { IfOk result (λ journals. AreJournalsAmong records.now journals.items) }
-    ensures refused { (im : Image) (l : Layout) → HasGroups im l → AreRecordsAnew im l.jindex (map said records.now) → IfErr result (RefusesRightly im) }
+    ensures refused { (im : Image) (l : Layout) → HasGroups im l → IsLookedAt im l.jindex → AreRecordsAnew im l.jindex (map said records.now) → IfErr result (RefusesRightly im) }
     ensures steady { IfErr result IsSteady }
 {
     let count = count_names(records);

@@ -8,7 +8,7 @@ ghost use Rattle.image_model.specs.Claims.{every, HasLeaf, master_of};
 ghost use Rattle.image_model.specs.Image.{Image};
 ghost use Rattle.image_model.specs.Rules.{HasRecordIn};
 ghost use Rattle.gfs2_layout.specs.Records.{Record};
-ghost use Rattle.image_mount.specs.Found.{HasFormat, is_other, first_other as first_other_in};
+ghost use Rattle.image_mount.specs.Found.{HasFormat, is_other, first_other as first_other_in, IsReached};
 ghost use Rattle.image_mount.specs.Kept.{Kept};
 ghost use Rattle.image_mount.specs.Marked.{HasKeptContent, IsTaken};
 ghost use Rattle.image_mount.specs.Leaves.{AreLeavesRead, HasHashOf, IsSystemDirectory, IsTableOf, IsTold, IsLeafHead, IsLeafIn, IsLinkOf, IsPointed, IsFirstTold, IsNextLeaf, IsWalked, ComesNext, HasEnded, steps_left};
@@ -61,7 +61,7 @@ pub(crate) fn read_pointers(
 fn entry_block(table: &KeptBlocks, inode: &Inode, pointers: &HashTable, i: u64) -> Result<u64, Stop>
     requires { i < 2 ^ pointers.now.depth }
     ensures found { (im : Image) → IsRead im table.now → IsTableOf im inode.now pointers.now → IfOk result (λ block. block ≡ block_of_entry (every im inode.now.block) i) }
-    ensures inside { (im : Image) → IsRead im table.now → IsTableOf im inode.now pointers.now → IfOk result (λ block. block < im.count) }
+    ensures reached { (im : Image) → IsRead im table.now → IsTableOf im inode.now pointers.now → IfOk result (λ block. IsReached im block) }
     ensures stops { (im : Image) → IsRead im table.now → IsTableOf im inode.now pointers.now → IfErr result (StopsRightly im) }
     ensures lacks { IfErr result (LacksBlock table.now) }
 {
@@ -88,7 +88,7 @@ fn read_head(bytes: &[u8], number: u64, depth: u16) -> Result<Leaf, MountFault>
     ensures found { (im : Image) → im.at number ≡ bytes.now → IfOk result (λ leaf. leaf ≡ leaf_of (im.at number)) }
     ensures low { IfOk result (λ leaf. leaf.depth ≤ depth) }
     ensures well { (im : Image) (a : ℕ) → im.at number ≡ bytes.now → depth ≡ depth_in (every im a) → OnOk result (IsLeafHead im a number) }
-    ensures refused { (im : Image) (a : ℕ) → im.at number ≡ bytes.now → HasFormat im → number < im.count → depth ≡ depth_in (every im a) → HasLeaf im a number → IfErr result (RefusesRightly im) }
+    ensures refused { (im : Image) (a : ℕ) → im.at number ≡ bytes.now → HasFormat im → IsReached im number → depth ≡ depth_in (every im a) → HasLeaf im a number → IfErr result (RefusesRightly im) }
     ensures steady { IfErr result IsSteady }
 {
     if !has_header(bytes, 6, 600) {
@@ -109,8 +109,8 @@ fn leaf_behind(tail: &LeafAt, bytes: &[u8], depth: u16) -> Result<LeafAt, MountF
     requires place { tail.now.place + 1 < 2 ^ 64 }
     requires whole { 104 ≤ length bytes.now }
     ensures behind { IfOk result (λ at. (at.block ≡ tail.now.head.next) × (at.hash ≡ tail.now.hash) × (at.place ≡ tail.now.place + 1) × (at.pointer ≡ tail.now.pointer) × (at.behind ≡ tail.now.behind) × (at.head.depth ≡ tail.now.head.depth)) }
-    ensures found { (im : Image) (a : ℕ) → im.at tail.now.head.next ≡ bytes.now → tail.now.head.next < im.count → depth ≡ depth_in (every im a) → IsLeafIn im a tail.now → tail.now.head.next ≢ 0 → IfOk result (IsLeafIn im a) }
-    ensures refused { (im : Image) (a : ℕ) → im.at tail.now.head.next ≡ bytes.now → tail.now.head.next < im.count → HasFormat im → depth ≡ depth_in (every im a) → IsLeafIn im a tail.now → tail.now.head.next ≢ 0 → IfErr result (RefusesRightly im) }
+    ensures found { (im : Image) (a : ℕ) → im.at tail.now.head.next ≡ bytes.now → IsReached im tail.now.head.next → depth ≡ depth_in (every im a) → IsLeafIn im a tail.now → tail.now.head.next ≢ 0 → IfOk result (IsLeafIn im a) }
+    ensures refused { (im : Image) (a : ℕ) → im.at tail.now.head.next ≡ bytes.now → IsReached im tail.now.head.next → HasFormat im → depth ≡ depth_in (every im a) → IsLeafIn im a tail.now → tail.now.head.next ≢ 0 → IfErr result (RefusesRightly im) }
     ensures steady { IfErr result IsSteady }
 {
     let number = tail.head.next;
@@ -241,7 +241,7 @@ fn add_records(
 ) -> Result<(), MountFault>
     ensures added { OnOk result (map standing found.new.items ≡ map standing found.old.items ++ map standing records.now) }
     ensures distinct { AreDistinct (map said found.old.items) → OnOk result (AreDistinct (map said found.new.items)) }
-    ensures refused { (im : Image) (a : ℕ) → HasFormat im → block < im.count → All (λ n. HasRecordIn im a n.block (said n) × (n.block ≢ block)) found.old.items → All (λ n. HasRecordIn im a block (said n)) records.now
+    ensures refused { (im : Image) (a : ℕ) → HasFormat im → IsReached im block → All (λ n. HasRecordIn im a n.block (said n) × (n.block ≢ block)) found.old.items → All (λ n. HasRecordIn im a block (said n)) records.now
         → AreDistinct (map said records.now) → IfErr result (RefusesRightly im) }
     ensures steady { IfErr result IsSteady }
 {
@@ -363,8 +363,8 @@ impl LeafWalk {
         ensures run { IfOk result (λ at. at.behind ≤ 2 ^ pointers.now.depth) }
         ensures on { IfOk result (λ at. (is_some self.now.tail ≡ true × at.behind ≡ self.now.index) ⊎ (self.now.index < at.behind)) }
         ensures short { IfOk result (λ at. at.place + self.now.owners.free ≤ vec_len self.now.owners.entries + 1) }
-        ensures found { (im : Image) (inode : InodeValue) → IsTableOf im inode pointers.now → IsWalked im inode.block self.now → im.at link.now.number ≡ bytes.now → link.now.number < im.count → IfOk result (IsLeafIn im inode.block) }
-        ensures refused { (im : Image) (inode : InodeValue) → IsTableOf im inode pointers.now → IsWalked im inode.block self.now → im.at link.now.number ≡ bytes.now → link.now.number < im.count → IfErr result (RefusesRightly im) }
+        ensures found { (im : Image) (inode : InodeValue) → IsTableOf im inode pointers.now → IsWalked im inode.block self.now → im.at link.now.number ≡ bytes.now → IsReached im link.now.number → IfOk result (IsLeafIn im inode.block) }
+        ensures refused { (im : Image) (inode : InodeValue) → IsTableOf im inode pointers.now → IsWalked im inode.block self.now → im.at link.now.number ≡ bytes.now → IsReached im link.now.number → IfErr result (RefusesRightly im) }
         ensures steady { IfErr result IsSteady }
     {
         match &link.tail {

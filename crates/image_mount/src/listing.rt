@@ -10,7 +10,7 @@ ghost use Rattle.gfs2_layout.specs.Exchanges.{directory_count};
 ghost use Rattle.image_model.specs.Claims.{every, HasArea};
 ghost use Rattle.image_model.specs.Image.{Image};
 ghost use Rattle.image_model.specs.Rules.{Breaks, HasRecordIn};
-ghost use Rattle.image_mount.specs.Found.{HasFormat, name_count, first_other as first_beside};
+ghost use Rattle.image_mount.specs.Found.{HasFormat, name_count, first_other as first_beside, IsReached};
 ghost use Rattle.image_mount.specs.Looks.{IsSized, IsSoundDirectory};
 ghost use Rattle.image_mount.specs.Refusals.{RefusesRightly};
 ghost use Rattle.image_mount.specs.Searching.{IsRead, IsSteady, StopsRightly, LacksBlock};
@@ -76,7 +76,7 @@ impl<'a> Named<'a> {
 
     fn check_name(&self, block: u64) -> Result<(), MountFault>
         ensures named { OnOk result (HasItsOwnName self.now) }
-        ensures refused { (im : Image) (a : ℕ) → HasFormat im → block < im.count → HasRecordIn im a block (said self.now) → IfErr result (RefusesRightly im) }
+        ensures refused { (im : Image) (a : ℕ) → HasFormat im → IsReached im block → HasRecordIn im a block (said self.now) → IfErr result (RefusesRightly im) }
         ensures steady { IfErr result IsSteady }
     {
         if is_dots(self.name) || is_name(self.name) {
@@ -91,7 +91,7 @@ fn add<'a>(records: &mut Vec<Named<'a>>, record: &Record<'a>, block: u64) -> Res
     ensures here { All (λ n. n.block ≡ block) records.old.items → OnOk result (All (λ n. n.block ≡ block) records.new.items) }
     ensures added { (s : Slot) → IsShown record.now.head record.now.name.now s → OnOk result (map said records.new.items ≡ map said records.old.items ++ said_in (s ∷ [])) }
     ensures hashed { (s : Slot) → IsShown record.now.head record.now.name.now s → OnOk result (HasItsHash s) }
-    ensures refused { (im : Image) (a : ℕ) (area : List ℕ) (s : Slot) → IsShown record.now.head record.now.name.now s → HasFormat im → block < im.count → HasArea im a block area → Contains (slots_of area) s → IfErr result (RefusesRightly im) }
+    ensures refused { (im : Image) (a : ℕ) (area : List ℕ) (s : Slot) → IsShown record.now.head record.now.name.now s → HasFormat im → IsReached im block → HasArea im a block area → Contains (slots_of area) s → IfErr result (RefusesRightly im) }
     ensures steady { IfErr result IsSteady }
 {
     if !record.head.is_in_use() {
@@ -113,7 +113,7 @@ pub(crate) fn read_area<'a>(
     ensures here { IfOk result (λ records. All (λ n. n.block ≡ block) records.items) }
     ensures found { IfOk result (λ records. map said records.items ≡ records_in area.now) }
     ensures filled { OnOk result (IsRecordArea area.now) }
-    ensures refused { (im : Image) (a : ℕ) → HasFormat im → block < im.count → HasArea im a block area.now → IfErr result (RefusesRightly im) }
+    ensures refused { (im : Image) (a : ℕ) → HasFormat im → IsReached im block → HasArea im a block area.now → IfErr result (RefusesRightly im) }
     ensures steady { IfErr result IsSteady }
 {
     if !is_area(area) {
@@ -131,7 +131,7 @@ pub(crate) fn read_area<'a>(
 /// That each record has a name, or is `.` or `..`.
 pub(crate) fn check_names(records: &[Named<'_>], block: u64) -> Result<(), MountFault>
     ensures named { OnOk result (All HasItsOwnName records.now) }
-    ensures refused { (im : Image) (a : ℕ) → HasFormat im → block < im.count → All (λ n. HasRecordIn im a block (said n)) records.now → IfErr result (RefusesRightly im) }
+    ensures refused { (im : Image) (a : ℕ) → HasFormat im → IsReached im block → All (λ n. HasRecordIn im a block (said n)) records.now → IfErr result (RefusesRightly im) }
     ensures steady { IfErr result IsSteady }
 {
     for record in records {
@@ -170,7 +170,7 @@ pub(crate) fn first_other(records: &[Named<'_>]) -> Option<u64>
 /// That no name comes twice.
 pub(crate) fn check_twice(records: &[Named<'_>], block: u64) -> Result<(), MountFault>
     ensures distinct { OnOk result (AreDistinct (map said records.now)) }
-    ensures refused { (im : Image) (a : ℕ) (area : List ℕ) → HasFormat im → block < im.count → HasArea im a block area → map said records.now ≡ records_in area → IfErr result (RefusesRightly im) }
+    ensures refused { (im : Image) (a : ℕ) (area : List ℕ) → HasFormat im → IsReached im block → HasArea im a block area → map said records.now ≡ records_in area → IfErr result (RefusesRightly im) }
     ensures steady { IfErr result IsSteady }
 {
     for i in 0..records.len() {
@@ -190,7 +190,7 @@ pub(crate) fn check_dot(
     leads: u64,
 ) -> Result<(), MountFault>
     ensures there { OnOk result (LeadsAmong records.now name.now leads) }
-    ensures refused { (im : Image) → HasFormat im → block < im.count → (((i : ℕ) (n : Named) → slice_get records.now i ≡ Some n → n.name.now ≢ name.now) → Breaks im 10 block)
+    ensures refused { (im : Image) → HasFormat im → IsReached im block → (((i : ℕ) (n : Named) → slice_get records.now i ≡ Some n → n.name.now ≢ name.now) → Breaks im 10 block)
         → ((i : ℕ) (n : Named) → slice_get records.now i ≡ Some n → n.name.now ≡ name.now → n.entry.addr ≢ leads → Breaks im 10 block)
         → IfErr result (RefusesRightly im) }
     ensures steady { IfErr result IsSteady }
@@ -231,7 +231,7 @@ fn count_directories(records: &[Named<'_>]) -> u64
 pub(crate) fn check_counts(inode: &Inode, records: &[Named<'_>]) -> Result<(), MountFault>
     ensures entries { OnOk result (inode.now.dinode.entries ≡ length records.now) }
     ensures links { OnOk result (inode.now.dinode.nlink ≡ 2 + directory_count (map said records.now)) }
-    ensures refused { (im : Image) → HasFormat im → inode.now.block < im.count → inode.now.dinode ≡ dinode_in (every im inode.now.block) → AreCountedIn im inode.now.block (map said records.now) → IfErr result (RefusesRightly im) }
+    ensures refused { (im : Image) → HasFormat im → IsReached im inode.now.block → inode.now.dinode ≡ dinode_in (every im inode.now.block) → AreCountedIn im inode.now.block (map said records.now) → IfErr result (RefusesRightly im) }
     ensures steady { IfErr result IsSteady }
 {
     if u64::from(inode.dinode.entries) != records.len() as u64 {

@@ -2,7 +2,7 @@ ghost use Rattle.std.specs.Prelude.{ℕ, ◌≡◌, ◌<◌, ◌≤◌, true, fa
 ghost use Rattle.gfs2_layout.specs.Inode.{is_hashed_in};
 ghost use Rattle.image_model.specs.Claims.{every, master_of};
 ghost use Rattle.image_model.specs.Image.{Image};
-ghost use Rattle.image_mount.specs.Found.{HasFormat, HasGroups};
+ghost use Rattle.image_mount.specs.Found.{HasFormat, HasGroups, IsReached};
 ghost use Rattle.image_mount.specs.Leaves.{IsMasterIn};
 ghost use Rattle.image_mount.specs.Listing.{AreAllRecords};
 ghost use Rattle.image_mount.specs.Looks.{IsSized, IsSoundDirectory, IsTrueEntry};
@@ -53,7 +53,7 @@ struct SystemFiles {
 // The files that these records of the master directory name.
 fn files_among(records: &[Named<'_>], master: u64) -> Result<SystemFiles, MountFault>
     ensures found { (im : Image) → ArePlainRecords im master records.now → master ≡ master_of im → IfOk result (AreFilesOf im) }
-    ensures refused { (im : Image) → HasFormat im → master < im.count → AreAllRecords im master records.now → master ≡ master_of im → IfErr result (RefusesRightly im) }
+    ensures refused { (im : Image) → HasFormat im → IsReached im master → AreAllRecords im master records.now → master ≡ master_of im → IfErr result (RefusesRightly im) }
     ensures steady { IfErr result IsSteady }
 {
     let Some(rindex) = find(records, b"rindex") else {
@@ -100,7 +100,7 @@ fn find_jindex(table: &KeptBlocks, master: u64, jindex: &Link) -> Result<Inode, 
     ensures block { IfOk result (λ inode. inode.block ≡ jindex.now.entry.addr) }
     ensures repeats { (im : Image) → IsRead im table.now → OnOk result (IsTrueEntry im jindex.now.entry) }
     ensures there { IfOk result (λ inode. IsKept table.now inode.block) }
-    ensures stops { (im : Image) → IsRead im table.now → HasFormat im → master ≡ master_of im → master < im.count → IsLinkOf im (codes "jindex") jindex.now → IfErr result (StopsRightly im) }
+    ensures stops { (im : Image) → IsRead im table.now → HasFormat im → master ≡ master_of im → IsReached im master → IsLinkOf im (codes "jindex") jindex.now → IfErr result (StopsRightly im) }
     ensures lacks { IfErr result (LacksBlock table.now) }
 {
     let inode = Inode::read(table, jindex.from, jindex.entry.addr)?;

@@ -12,8 +12,8 @@ use Rattle.image_model.specs.Claims.{every}
 use Rattle.image_model.specs.Image.{Image}
 use Rattle.image_model.specs.Stands.{IsJournalAt}
 use Rattle.image_model.specs.SystemFiles.{is_journal, of_content}
+use Rattle.image_mount.specs.Found.{IsReached}
 use Rattle.image_mount.specs.Mounted.{IsMounted, MountedValue}
-use Rattle.image_mount.specs.Refusals.{IsReached}
 use Rattle.image_replays.specs.Replays.{IsReadPlace}
 use Rattle.image_replays.proofs.System.{has_journal, some_at}
 use Rattle.image_recovery.proofs.JournalPlaces.{place_high, place_within}

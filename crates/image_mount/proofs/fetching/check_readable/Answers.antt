@@ -3,12 +3,12 @@ use Rattle.std.specs.Prelude.{slice_get}
 use Rattle.gfs2_layout.specs.Device.{superblock_place}
 use Rattle.image_mount.proofs.Causes.{lacks}
 use Rattle.image_mount.proofs.Marked.{unmarked}
-use Rattle.image_mount.proofs.Marks.{beyond_super, beyond_all, place_wanted}
+use Rattle.image_mount.proofs.Marks.{beyond_super, beyond_all, place_wanted, wanted_few}
 use Rattle.image_mount.proofs.fetching.check_readable.Goals as goal
 
 pub returns-then-block-count-clause-refused : goal.returns-then-block-count-clause-refused
 returns-then-block-count-clause-refused c im done d n size count wanted known =
-    beyond_super im _ c.args.block c.damaged.ensures (c.if-block-superblock_block.true ∙ c.superblock_block.ensures ∙ ap superblock_place (c.block_size.ensures.value ∙ size)) (omega (arith, c.if-block-count.true, count))
+    beyond_super im _ c.args.block c.damaged.ensures (c.if-block-superblock_block.true ∙ c.superblock_block.ensures ∙ ap superblock_place (c.block_size.ensures.value ∙ size)) (wanted_few im c.args.block c.args.from wanted) (omega (arith, c.if-block-count.true, count))
 
 pub returns-then-block-count-2-clause-refused : goal.returns-then-block-count-2-clause-refused
 returns-then-block-count-2-clause-refused c im done d n size count wanted known =

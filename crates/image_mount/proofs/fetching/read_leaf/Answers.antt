@@ -1,9 +1,9 @@
-use Rattle.std.proofs.Common.{◌≡◌, ◌<◌, ◌∙◌, sym, subst, arith}
+use Rattle.std.proofs.Common.{◌≡◌, ◌∙◌, sym, subst, arith}
 use Rattle.image_mount.specs.Marked.{of_kept}
 use Rattle.image_mount.specs.Refusals.{HasRisen}
 use Rattle.image_mount.proofs.Marked.{grown_leaf}
 use Rattle.image_mount.proofs.Heads.{device_told}
-use Rattle.image_mount.proofs.Marks.{searched_leaf, wanted_format, wanted_system}
+use Rattle.image_mount.proofs.Marks.{searched_leaf, wanted_reached}
 use Rattle.image_mount.proofs.Stops.{handed, refused}
 use Rattle.image_mount.proofs.Working.{working_same}
 use Rattle.image_mount.proofs.fetching.read_leaf.Goals as goal
@@ -35,4 +35,4 @@ pub returns-in_err-read_into-clause-refused : goal.returns-in_err-read_into-clau
 returns-in_err-read_into-clause-refused g c done d n im shows wanted known =
     refused im _ _ c.from_residual-in_err-read_into.ensures.1
     (device_told im c.in_err-read_into.field-0.0 c.args.block c.in_err-read_into.ensures.failed
-    (record { inside = omega (arith, c.in_ok-check_readable.ensures.inside, c.blocks-2.ensures.value, shows.count); system = wanted_system im c.args.block c.args.from wanted; format = wanted_format im c.args.block c.args.from wanted }))
+    (wanted_reached im c.args.block c.args.from wanted (omega (arith, c.in_ok-check_readable.ensures.inside, c.blocks-2.ensures.value, shows.count))))

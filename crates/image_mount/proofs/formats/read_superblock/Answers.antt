@@ -10,7 +10,7 @@ use Rattle.image_mount.proofs.formats.read_superblock.Goals as goal
 pub returns-in_default-clause-stops : goal.returns-in_default-clause-stops
 returns-in_default-clause-stops c im read few =
     let at : c.superblock_block-place.result ≡ superblock_place im.size = c.superblock_block-place.ensures ∙ ap superblock_place (c.block_size-size.ensures.value ∙ read.size) in
-    lacks_super im c.in_ok-bytes.bytes.now c.in_default.field-0 _ _ at (read.same _ _ c.in_ok-bytes.ensures.bytes) (grind (arith)) c.in_default.ensures
+    lacks_super im c.in_ok-bytes.bytes.now c.in_default.field-0 _ _ at (read.same _ _ c.in_ok-bytes.ensures.bytes) (grind (arith)) c.in_default.ensures few
     (omega (arith, read.count, kept_inside c.args.table.now.entries c.superblock_block-place.result c.in_ok-bytes.bytes.now c.in_ok-bytes.ensures.bytes)) c.damaged.ensures
 
 pub returns-in_err-check_formats-clause-stops : goal.returns-in_err-check_formats-clause-stops

@@ -3,9 +3,8 @@ use Rattle.std.specs.List.{AllByRecursion}
 use Rattle.std.proofs.lemmas.List.{length-drop, drop_more}
 use Rattle.gfs2_layout.specs.Device.{superblock_place}
 use Rattle.image_model.specs.Listing.{RiseFrom}
-use Rattle.image_model.proofs.Listing.{bare_at, far, ahead_of, covered_more, none_left}
-use Rattle.image_mount.proofs.Causes.{told}
-use Rattle.image_mount.proofs.Grouping.{list_format, list_few, list_known, near_none, near_more, groups_fit}
+use Rattle.image_model.proofs.Listing.{far, ahead_of, covered_more, none_left}
+use Rattle.image_mount.proofs.Grouping.{bare_told, list_few, near_none, near_more, groups_fit}
 use Rattle.image_mount.proofs.groups.check_cover.Goals as goal
 
 pub loop-group-init : goal.loop-group-init
@@ -20,7 +19,7 @@ loop-group-init c = record {
 }
 
 pub returns-then-bare-group-clause-refused : goal.returns-then-bare-group-clause-refused
-returns-then-bare-group-clause-refused c im list is from =
+returns-then-bare-group-clause-refused c im list is from some few =
     let groups = c.args.groups.now in
     let k = c.loop-group.group-index in
     let b = c.loop-group.bare in
@@ -29,7 +28,7 @@ returns-then-bare-group-clause-refused c im list is from =
     let rise = subst (RiseFrom im covered.end) more covered.rise in
     let ahead = subst (AllByRecursion (far im groups b)) (sym more) (ahead_of im groups b _ _ _ rise c.if-bare-group.true) in
     let within : b < im.count = omega (arith, c.if-bare-group.true, rise.0.inside, rise.0.first, rise.0.some) in
-    told im _ b 18 c.damaged.ensures (list_format im _ _ _ _ is) within (bare_at im groups b k covered (list_known im _ _ list groups is) within (omega (arith, within, list_few im _ _ _ _ is)) ahead)
+    bare_told im _ _ _ list k b groups c.damaged.ensures is from some few covered (c.loop-group.invariant.near im list is) within ahead
 
 pub loop-group-preserved : goal.loop-group-preserved
 loop-group-preserved c = record {
@@ -40,14 +39,13 @@ loop-group-preserved c = record {
 }
 
 pub returns-then-bare-device-clause-refused : goal.returns-then-bare-device-clause-refused
-returns-then-bare-device-clause-refused c im list is from =
+returns-then-bare-device-clause-refused c im list is from some few =
     let groups = c.args.groups.now in
     let k = c.loop-group.group-index in
     let b = c.loop-group.bare in
     let none = none_left (far im groups b) (drop k groups) (omega (arith, length-drop k groups, c.loop-group-test.false)) in
     let within : b < im.count = omega (arith, c.if-bare-device.true, is.blocks) in
-    told im _ b 18 c.damaged-then-bare-device.ensures (list_format im _ _ _ _ is) within
-    (bare_at im groups b k (c.loop-group.invariant.covered im list is from) (list_known im _ _ list groups is) within (omega (arith, within, list_few im _ _ _ _ is)) none)
+    bare_told im _ _ _ list k b groups c.damaged-then-bare-device.ensures is from some few (c.loop-group.invariant.covered im list is from) (c.loop-group.invariant.near im list is) within none
 
 pub returns-clause-fit : goal.returns-clause-fit
 returns-clause-fit c im list is from = groups_fit im c.args.groups.now c.loop-group.bare from (c.loop-group.invariant.near im list is) (omega (arith, c.if-bare-device.false, is.blocks))

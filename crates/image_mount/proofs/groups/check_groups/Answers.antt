@@ -3,7 +3,7 @@ use Rattle.image_mount.proofs.Stops.{refused}
 use Rattle.image_mount.proofs.groups.check_groups.Goals as goal
 
 pub returns-in_err-check_cover-clause-refused : goal.returns-in_err-check_cover-clause-refused
-returns-in_err-check_cover-clause-refused c im is some = refused im _ _ c.from_residual-in_err-check_cover.ensures.1 (c.in_err-check_cover.ensures.refused im c.args.list is (c.in_ok-check_rise.ensures.rise im is))
+returns-in_err-check_cover-clause-refused c im is some = refused im _ _ c.from_residual-in_err-check_cover.ensures.1 (c.in_err-check_cover.ensures.refused im c.args.list is (c.in_ok-check_rise.ensures.rise im is) some c.requires)
 
 pub returns-then-headers-gt128-clause-refused : goal.returns-then-headers-gt128-clause-refused
 returns-then-headers-gt128-clause-refused c im is some =

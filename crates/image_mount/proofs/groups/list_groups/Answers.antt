@@ -1,4 +1,4 @@
-use Rattle.std.proofs.Common.{◌≡◌, ◌<◌, inl, ◌%◌, length, refl, sym, ap, subst, ◌∙◌, arith}
+use Rattle.std.proofs.Common.{◌≡◌, inl, ◌%◌, length, refl, sym, ap, subst, ◌∙◌, arith}
 use Rattle.gfs2_layout.specs.Inode.{dinode_in}
 use Rattle.dinode_tree.specs.Reading.{IsRightDinode}
 use Rattle.gfs2_layout.specs.declared.dinode.Dinode.{Dinode}
@@ -8,6 +8,8 @@ use Rattle.image_model.specs.Owners.{Named}
 use Rattle.image_model.specs.Groups.{groups_in}
 use Rattle.image_model.specs.Rules.{HasRecordIn}
 use Rattle.image_model.specs.SystemFiles.{is_rindex}
+use Rattle.image_mount.specs.Looks.{IsLookedAt}
+use Rattle.image_mount.specs.Found.{IsReached}
 use Rattle.image_mount.specs.Marked.{HasKeptContent}
 use Rattle.image_mount.specs.Refusals.{RefusesRightly}
 use Rattle.image_mount.proofs.Grouping.{list_of, list_groups, groups_some, groups_are}
@@ -19,7 +21,7 @@ returns-in_err-check_record-clause-stops c im read of_count is =
     let inode = c.in_ok-inode.inode in
     let dinode : inode.dinode ≡ dinode_in (every im inode.block) = c.in_ok-inode.ensures.found im read ∙ ap (λ a. dinode_in (every im a)) (sym c.in_ok-inode.ensures.block) in
     stopped im _ _ c.from_residual-in_err-check_record.ensures.1
-    (c.in_err-check_record.ensures.refused im (master_of im) is.named.row dinode is.found.format (subst (λ n. n < im.count) (sym c.in_ok-inode.ensures.from) is.named.inside) (subst (λ x. HasRecordIn im (master_of im) x is.named.row) (sym c.in_ok-inode.ensures.from) is.named.there) is.named.is)
+    (c.in_err-check_record.ensures.refused im (master_of im) is.named.row dinode is.found.format (subst (IsReached im) (sym c.in_ok-inode.ensures.from) is.named.reached) (subst (λ x. HasRecordIn im (master_of im) x is.named.row) (sym c.in_ok-inode.ensures.from) is.named.there) is.named.is)
 
 pub returns-in_err-bytes-clause-stops : goal.returns-in_err-bytes-clause-stops
 returns-in_err-bytes-clause-stops c im read of_count is =
@@ -27,7 +29,7 @@ returns-in_err-bytes-clause-stops c im read of_count is =
     let block = c.in_ok-inode.ensures.block in
     let dinode : inode.dinode ≡ dinode_in (every im inode.block) = c.in_ok-inode.ensures.found im read ∙ ap (λ a. dinode_in (every im a)) (sym block) in
     stopped im _ _ c.from_residual-in_err-bytes.ensures.1
-    (c.in_err-bytes.ensures.refused im is.layout is.found (subst (λ n. n < im.count) (sym block) (c.in_ok-inode.ensures.inside im read)) (is.rindex ∙ sym block) dinode (c.block_size-size.ensures.value ∙ read.size))
+    (c.in_err-bytes.ensures.refused im is.layout is.found (subst (IsReached im) (sym block) (c.in_ok-inode.ensures.reached im read)) (is.rindex ∙ sym block) dinode (c.block_size-size.ensures.value ∙ read.size) (subst (λ a. IsRightDinode (every im a)) (sym block) (c.in_ok-inode.ensures.right im read)))
 
 pub returns-in_err-content-clause-stops : goal.returns-in_err-content-clause-stops
 returns-in_err-content-clause-stops c im read of_count is =
@@ -36,7 +38,7 @@ returns-in_err-content-clause-stops c im read of_count is =
     passed im _ _ c.from_residual-in_err-content.ensures.1
     (c.in_err-content.ensures.stops im (Named (master_of im) (codes "rindex")) read
     (subst (λ a. Claims im inode.from a (Named (master_of im) (codes "rindex"))) (sym at) (subst (λ b. Claims im b c.args.rindex.now.entry.addr (Named (master_of im) (codes "rindex"))) (sym c.in_ok-inode.ensures.from) is.named.claimed))
-    refl is.found.format (subst (λ n. n < im.count) (sym c.in_ok-inode.ensures.from) is.named.inside) (inl (subst (IsRindex im) (is.rindex ∙ sym at) is.found.rindex)))
+    refl is.found.format (subst (IsReached im) (sym c.in_ok-inode.ensures.from) is.named.reached) (inl (subst (IsRindex im) (is.rindex ∙ sym at) is.found.rindex)))
 
 pub returns-in_err-groups-clause-stops : goal.returns-in_err-groups-clause-stops
 returns-in_err-groups-clause-stops c im read of_count is = stopped im _ _ c.from_residual-in_err-groups.ensures.1 (subst (RefusesRightly im) (sym c.in_err-groups.ensures.memory) tt)
@@ -47,9 +49,13 @@ returns-in_err-check_groups-clause-stops c im read of_count is =
     let dinode : inode.dinode ≡ dinode_in (every im inode.block) = c.in_ok-inode.ensures.found im read ∙ ap (λ a. dinode_in (every im a)) (sym c.in_ok-inode.ensures.block) in
     let size : (dinode_in (every im inode.block)).size ≡ c.in_ok-bytes.bytes = ap (λ (d : Dinode). d.size) (sym dinode) ∙ sym c.in_ok-bytes.ensures.value in
     let whole : (dinode_in (every im inode.block)).size % 96 ≡ 0 = ap (λ (d : Dinode). d.size % 96) (sym dinode) ∙ c.in_ok-bytes.ensures.whole in
+    let looked : IsLookedAt im inode.block = record {
+      dinode = subst (λ a. IsRightDinode (every im a)) (sym c.in_ok-inode.ensures.block) (c.in_ok-inode.ensures.right im read);
+      sized = c.in_ok-bytes.ensures.sized im dinode (c.block_size-size.ensures.value ∙ read.size);
+    } in
     let content = c.in_ok-content.content.items in
     let listed : c.deref-2.result.now ≡ groups_in content = c.deref-2.ensures.value ∙ c.in_ok-groups.ensures.found ∙ ap groups_in c.deref.ensures.value in
-    let list = list_of im c.block_size-size.result c.args.count inode.block c.args.rindex.now c.deref-2.result.now content is (c.block_size-size.ensures.value ∙ read.size) of_count c.in_ok-inode.ensures.block (subst (λ n. n < im.count) (sym c.in_ok-inode.ensures.block) (c.in_ok-inode.ensures.inside im read)) whole
+    let list = list_of im c.block_size-size.result c.args.count inode.block c.args.rindex.now c.deref-2.result.now content is (c.block_size-size.ensures.value ∙ read.size) of_count c.in_ok-inode.ensures.block (subst (IsReached im) (sym c.in_ok-inode.ensures.block) (c.in_ok-inode.ensures.reached im read)) looked whole
     (c.in_ok-content.ensures.found im read size) listed in
     stopped im _ _ c.from_residual-in_err-check_groups.ensures.1
     (c.in_err-check_groups.ensures.refused im list (groups_some c.deref-2.result.now content c.in_ok-bytes.bytes listed (c.in_ok-content.ensures.length im read size) c.in_ok-bytes.ensures.least))
@@ -60,17 +66,18 @@ returns-clause-found c im read of_count is =
     let dinode : inode.dinode ≡ dinode_in (every im inode.block) = c.in_ok-inode.ensures.found im read ∙ ap (λ a. dinode_in (every im a)) (sym c.in_ok-inode.ensures.block) in
     let size : (dinode_in (every im inode.block)).size ≡ c.in_ok-bytes.bytes = ap (λ (d : Dinode). d.size) (sym dinode) ∙ sym c.in_ok-bytes.ensures.value in
     let whole : (dinode_in (every im inode.block)).size % 96 ≡ 0 = ap (λ (d : Dinode). d.size % 96) (sym dinode) ∙ c.in_ok-bytes.ensures.whole in
+    let looked : IsLookedAt im inode.block = record {
+      dinode = subst (λ a. IsRightDinode (every im a)) (sym c.in_ok-inode.ensures.block) (c.in_ok-inode.ensures.right im read);
+      sized = c.in_ok-bytes.ensures.sized im dinode (c.block_size-size.ensures.value ∙ read.size);
+    } in
     let content = c.in_ok-content.content.items in
     let listed : c.deref-2.result.now ≡ groups_in content = c.deref-2.ensures.value ∙ c.in_ok-groups.ensures.found ∙ ap groups_in c.deref.ensures.value in
-    let list = list_of im c.block_size-size.result c.args.count inode.block c.args.rindex.now c.deref-2.result.now content is (c.block_size-size.ensures.value ∙ read.size) of_count c.in_ok-inode.ensures.block (subst (λ n. n < im.count) (sym c.in_ok-inode.ensures.block) (c.in_ok-inode.ensures.inside im read)) whole
+    let list = list_of im c.block_size-size.result c.args.count inode.block c.args.rindex.now c.deref-2.result.now content is (c.block_size-size.ensures.value ∙ read.size) of_count c.in_ok-inode.ensures.block (subst (IsReached im) (sym c.in_ok-inode.ensures.block) (c.in_ok-inode.ensures.reached im read)) looked whole
     (c.in_ok-content.ensures.found im read size) listed in
     let value = c.deref-2.ensures.value in
     groups_are im inode.block c.args.rindex.now.entry.addr c.deref-2.result.now c.in_ok-groups.groups.items value c.in_ok-inode.ensures.block (record {
-      inside = list.inside;
-      looked = record {
-        dinode = subst (λ a. IsRightDinode (every im a)) (sym c.in_ok-inode.ensures.block) (c.in_ok-inode.ensures.right im read);
-        sized = c.in_ok-bytes.ensures.sized im dinode (c.block_size-size.ensures.value ∙ read.size);
-      };
+      reached = list.reached;
+      looked = looked;
       headed = c.in_ok-content.ensures.headed im read size;
       whole = whole;
       listed = list_groups im _ _ _ _ list;
@@ -88,7 +95,7 @@ returns-clause-repeats c im read =
 pub returns-in_err-inode-clause-stops : goal.returns-in_err-inode-clause-stops
 returns-in_err-inode-clause-stops c im read of_count is =
     passed im _ _ c.from_residual.ensures.1
-    (c.in_err-inode.ensures.stops im (Named (master_of im) (codes "rindex")) read is.named.claimed refl is.found.format is.named.inside (is_rindex (c.args.rindex.now.from, is.named.claimed)))
+    (c.in_err-inode.ensures.stops im (Named (master_of im) (codes "rindex")) read is.named.claimed refl is.found.format is.named.reached (is_rindex (c.args.rindex.now.from, is.named.claimed)))
 
 pub returns-clause-kept : goal.returns-clause-kept
 returns-clause-kept c im read =

@@ -9,8 +9,8 @@ use Rattle.image_mount.proofs.jindex.check_journals.Goals as goal
 use Rattle.image_mount.proofs.jindex.check_journals.Goals.{then-count-eq0-via-then-count-eq0, then-count-eq0-via-else-count-eq0+then-count-gt8, then-count-eq0-via-else-count-eq0+else-count-gt8+then-not-are_journal_names}
 
 pub returns-then-count-eq0-clause-refused : goal.returns-then-count-eq0-clause-refused
-returns-then-count-eq0-clause-refused c im l groups has =
-    wrong_journals im l (map said c.args.records.now) _ _ groups has c.outside-other.ensures c.count_names-count.ensures
+returns-then-count-eq0-clause-refused c im l groups looked has =
+    wrong_journals im l (map said c.args.records.now) _ _ groups looked has c.outside-other.ensures c.count_names-count.ensures
     (λ all. elim c.then-count-eq0.branch [
       | then-count-eq0-via-then-count-eq0 w ↦ absurd (omega (arith, all.0, w.if-count-eq0.true))
       | then-count-eq0-via-else-count-eq0+then-count-gt8 w ↦ absurd (omega (arith, all.1, w.if-count-gt8.true))
@@ -26,7 +26,7 @@ returns-in-Some-clause-found c =
     found.0 found.1 (c.are_journal_names.ensures.0 yes)
 
 pub returns-in-None-clause-refused : goal.returns-in-None-clause-refused
-returns-in-None-clause-refused c im l groups has =
-    wrong_journals im l (map said c.args.records.now) _ _ groups has c.outside-other.ensures c.count_names-count.ensures
+returns-in-None-clause-refused c im l groups looked has =
+    wrong_journals im l (map said c.args.records.now) _ _ groups looked has c.outside-other.ensures c.count_names-count.ensures
     (λ all. lacks_journal c.args.records.now c.count_names-count.result c.count_names-count.result refl
     (at_none c.in_ok-journals.field-0 ((j : ℕ) × (j < c.count_names-count.result) × LacksName c.args.records.now (journal_name j)) c.in-None.is c.in_ok-journals.ensures.none) all.2)

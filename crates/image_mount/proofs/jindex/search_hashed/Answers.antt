@@ -2,10 +2,11 @@ use Rattle.std.proofs.Common.{◌≡◌, ◌+◌, true, length, sym, ap, subst, 
 use Rattle.std.specs.Prelude.{map}
 use Rattle.image_mount.specs.Found.{name_count}
 use Rattle.image_mount.specs.Listing.{said, AreAllRecords, AreCountedIn, AreRowsOf}
-use Rattle.image_mount.specs.Looks.{IsSoundDirectory}
+use Rattle.image_mount.specs.Looks.{IsLookedAt, IsSoundDirectory}
 use Rattle.image_mount.specs.System.{AreJournalsAmong, AreRecordsAnew}
 use Rattle.image_mount.proofs.Causes.{hashed_as}
-use Rattle.image_mount.proofs.Jindexes.{beside_told, hashed_anew, hashed_looked, hashed_names, looks_for_journals, walk_all, walk_counted}
+use Rattle.image_mount.proofs.Jindexes.{beside_told, hashed_anew, hashed_names, looks_for_journals, walk_all, walk_counted}
+use Rattle.image_mount.proofs.Looks.{hashed_looked}
 use Rattle.image_mount.proofs.Masters.{jindex_directory_of}
 use Rattle.image_mount.proofs.Numbered.{journals_of}
 use Rattle.image_mount.proofs.SoundLeaves.{hashed_sound}
@@ -22,7 +23,7 @@ pub returns-then-walk-gt0-clause-refused : goal.returns-then-walk-gt0-clause-ref
 returns-then-walk-gt0-clause-refused g c im shows is known =
     let inode = c.args.inode.now in
     let over = c.in_ok-walk.ensures.found im shows (jindex_directory_of im c.args.master inode is.of) (hashed_as im inode.block _ true is.of.directory.dinode c.requires.hashed) (looks_for_journals im inode.block) known in
-    beside_told im inode.block c.in_ok-walk.walk over is.layout _ _ c.in_ok-walk.ensures.names is.groups is.layout_is c.if-walk-gt0.true
+    beside_told im inode.block c.in_ok-walk.walk over (hashed_looked im inode.block is.of.right (hashed_as im inode.block _ true is.of.directory.dinode c.requires.hashed) over.sized) is.layout _ _ c.in_ok-walk.ensures.names is.groups is.layout_is c.if-walk-gt0.true
     (ap (λ n. n + c.in_ok-walk.walk.others) (c.count_names.ensures ∙ ap (λ xs. name_count (map said xs)) c.deref.ensures.value)) c.outside.ensures
 
 pub returns-in_err-check_hashed-clause-refused : goal.returns-in_err-check_hashed-clause-refused
@@ -42,7 +43,7 @@ returns-in_err-journals-clause-refused g c im shows is known =
     let over = c.in_ok-walk.ensures.found im shows (jindex_directory_of im c.args.master inode is.of) (hashed_as im inode.block _ true is.of.directory.dinode c.requires.hashed) (looks_for_journals im inode.block) known in
     let none : walk.others ≡ 0 = omega (arith, c.if-walk-gt0.false) in
     refused im _ _ c.from_residual-in_err-journals.ensures.1
-    (c.in_err-journals.ensures.refused im is.layout is.groups
+    (c.in_err-journals.ensures.refused im is.layout is.groups (subst (IsLookedAt im) (sym is.layout_is) (hashed_looked im inode.block is.of.right (hashed_as im inode.block _ true is.of.directory.dinode c.requires.hashed) over.sized))
     (subst (λ xs. AreRecordsAnew im is.layout.jindex (map said xs)) (sym c.deref-3.ensures.value) (subst (λ a. AreRecordsAnew im a (map said walk.records.items)) (sym is.layout_is) (hashed_anew im inode.block walk over none))))
 
 pub returns-clause-found : goal.returns-clause-found

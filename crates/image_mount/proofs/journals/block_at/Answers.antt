@@ -29,7 +29,7 @@ returns-in-Is-Some-clause-found c im read =
     let is = c.in-Is-Some.is ∙ ap Is c.in-Is-Some.field-0-is in
     let seen = answer_at c.in_ok-located.field-0 (Some c.in-Is-Some.located) (λ o. IfSome o (λ (l : Located). (k : ℕ) × Leads (seen_in v d) l.from k 0 c.args.place l.block)) is (c.in_ok-located.ensures.leads (seen_in v d) (shown_by v d)) in
     record {
-      inside = kept_on im c.args.table.now c.in-Is-Some.located.from read (leads_kept c.args.table.now d c.in-Is-Some.located.from seen.0 0 c.args.place c.in-Is-Some.located.block seen.1);
+      reached = kept_on im c.args.table.now c.in-Is-Some.located.from read (leads_kept c.args.table.now d c.in-Is-Some.located.from seen.0 0 c.args.place c.in-Is-Some.located.block seen.1);
       block = found_block (every im d) c.args.place c.in-Is-Some.located.block
           (answer_at c.in_ok-located.field-0 (Some c.in-Is-Some.located) (λ o. option_map (λ (l : Located). l.block) o ≡ block_at (every im d) c.args.place) is
           (c.in_ok-located.ensures.found (every im d) (shown im c.args.table.now d read)));

@@ -1,6 +1,6 @@
 use Rattle.std.proofs.Common.{◌≡◌, None, sym, subst, arith}
 use Rattle.std.specs.List.{All}
-use Rattle.image_mount.specs.Refusals.{IsReached}
+use Rattle.image_mount.specs.Found.{IsReached}
 use Rattle.image_mount.proofs.Stops.{refused}
 use Rattle.image_model.specs.SystemFiles.{IsSystemBlock}
 use Rattle.image_mount.proofs.Heads.{headless_told, late_told, head_is}

@@ -26,7 +26,7 @@ returns-in_err-add_records-clause-refused c im a told same others =
     let sifted = subst (λ xs. AreSifted c.args.names xs (length xs) c.in_ok-sifted.sifted.records.items c.in_ok-sifted.sifted.others) c.deref-2.ensures.value c.in_ok-sifted.ensures.sifted in
     let listed = leaf_listed im a c.args.at.now c.args.bytes.now items told.leaf same c.in_ok-records.ensures.found in
     refused im _ _ c.from_residual-in_err-add_records.ensures.1
-    (c.in_err-add_records.ensures.refused im a told.format told.leaf.inside others
+    (c.in_err-add_records.ensures.refused im a told.format told.leaf.reached others
     (subst (All (λ (n : Named). HasRecordIn im a c.args.at.now.block (said n))) (sym c.deref-3.ensures.value)
     (kept_all (HasRecordIn im a c.args.at.now.block) c.args.names items c.in_ok-sifted.sifted.records.items c.in_ok-sifted.sifted.others sifted listed))
     (subst (λ xs. AreDistinct (map said xs)) (sym c.deref-3.ensures.value) (sifted.distinct c.in_ok-records.ensures.distinct)))

@@ -17,7 +17,7 @@ use Rattle.image_mount.proofs.leaves.entry_block.Goals as goal
 pub returns-in_err-get-clause-stops : goal.returns-in_err-get-clause-stops
 returns-in_err-get-clause-stops c im read of =
     let inode = c.args.inode.now in
-    passed im _ _ c.from_residual.ensures.1 (wanted im inode.block inode.from of.file.owner _ c.in_err-get.ensures.stops of.file.claimed of.file.is_inode of.file.format of.file.from_inside (listing_file im inode.block of.file.read))
+    passed im _ _ c.from_residual.ensures.1 (wanted im inode.block inode.from of.file.owner _ c.in_err-get.ensures.stops of.file.claimed of.file.is_inode of.file.format of.file.from_reached (listing_file im inode.block of.file.read))
 
 pub returns-in_err-located-clause-stops : goal.returns-in_err-located-clause-stops
 returns-in_err-located-clause-stops c im read of =
@@ -52,8 +52,8 @@ returns-in_ok-get-in-Is-Some-clause-found c im read of =
     (answer_at c.in_ok-located.field-0 (Some c.in-Is-Some.located) (λ o. option_map (λ (l : Located). l.block) o ≡ block_at (every im inode.block) (8 * c.args.i / (c.from-unit.result - 24)))
     (c.in-Is-Some.is ∙ ap Is c.in-Is-Some.field-0-is) (c.in_ok-located.ensures.found (every im inode.block) (shown im c.args.table.now inode.block read)))
 
-pub returns-in_ok-get-in-Is-Some-clause-inside : goal.returns-in_ok-get-in-Is-Some-clause-inside
-returns-in_ok-get-in-Is-Some-clause-inside c im read of = kept_on im c.args.table.now c.in-Is-Some.located.block read (_, c.in_ok-get-in-Is-Some.ensures.bytes)
+pub returns-in_ok-get-in-Is-Some-clause-reached : goal.returns-in_ok-get-in-Is-Some-clause-reached
+returns-in_ok-get-in-Is-Some-clause-reached c im read of = kept_on im c.args.table.now c.in-Is-Some.located.block read (_, c.in_ok-get-in-Is-Some.ensures.bytes)
 
 pub returns-in-Is-None-clause-found : goal.returns-in-Is-None-clause-found
 returns-in-Is-None-clause-found c im read of =

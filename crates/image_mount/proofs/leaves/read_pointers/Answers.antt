@@ -10,20 +10,20 @@ use Rattle.image_mount.proofs.Wanted.{listing_file}
 use Rattle.image_mount.proofs.leaves.read_pointers.Goals as goal
 
 pub returns-in_err-kept-clause-stops : goal.returns-in_err-kept-clause-stops
-returns-in_err-kept-clause-stops c im read is hashed = passed im _ _ c.from_residual.ensures.1 (c.in_err-kept.ensures.stops im is.owner read is.claimed is.is_inode is.format is.from_inside (listing_file im c.args.inode.now.block is.read))
+returns-in_err-kept-clause-stops c im read is hashed = passed im _ _ c.from_residual.ensures.1 (c.in_err-kept.ensures.stops im is.owner read is.claimed is.is_inode is.format is.from_reached (listing_file im c.args.inode.now.block is.read))
 
 pub returns-in_err-depth-clause-stops : goal.returns-in_err-depth-clause-stops
 returns-in_err-depth-clause-stops c im read is hashed =
     let kept = kept_file im c.args.inode.now c.in_ok-kept.kept is c.in_ok-kept.ensures.block c.in_ok-kept.ensures.from (c.in_ok-kept.ensures.found im read) in
     stopped im _ _ c.from_residual-in_err-depth.ensures.1
-    (c.in_err-depth.ensures.refused im kept.dinode (c.block_size.ensures.value ∙ read.size) kept.format kept.inside
+    (c.in_err-depth.ensures.refused im kept.dinode (c.block_size.ensures.value ∙ read.size) kept.format kept.reached
     (file_inode im c.in_ok-kept.kept kept, ap (λ a. is_hashed_in (every im a)) c.in_ok-kept.ensures.block ∙ hashed))
 
 pub returns-in_err-bytes-clause-stops : goal.returns-in_err-bytes-clause-stops
 returns-in_err-bytes-clause-stops c im read is hashed =
     let kept = kept_file im c.args.inode.now c.in_ok-kept.kept is c.in_ok-kept.ensures.block c.in_ok-kept.ensures.from (c.in_ok-kept.ensures.found im read) in
     passed im _ _ c.from_residual-in_err-bytes.ensures.1
-    (c.in_err-bytes.ensures.stops im kept.owner read kept.claimed kept.is_inode kept.format kept.from_inside kept.read)
+    (c.in_err-bytes.ensures.stops im kept.owner read kept.claimed kept.is_inode kept.format kept.from_reached kept.read)
 
 pub invariant_of-result : goal.invariant_of-result
 invariant_of-result c = record { deep = c.in_ok-depth.ensures.deep; whole = c.in_ok-bytes.ensures.whole c.in_ok-kept.ensures.kept (c.in_ok-depth.ensures.bytes ∙ sym (table_short c.in_ok-depth.depth c.in_ok-depth.ensures.deep)) ∙ table_short c.in_ok-depth.depth c.in_ok-depth.ensures.deep }

@@ -14,14 +14,14 @@ use Rattle.image_mount.proofs.listing.list_records.Goals as goal
 
 pub returns-in_err-bytes-clause-stops : goal.returns-in_err-bytes-clause-stops
 returns-in_err-bytes-clause-stops c im read is =
-    passed im _ _ c.from_residual.ensures.1 (wanted im c.args.inode.now.block c.args.inode.now.from is.owner _ c.in_err-bytes.ensures.stops is.claimed is.is_inode is.format is.from_inside is.file)
+    passed im _ _ c.from_residual.ensures.1 (wanted im c.args.inode.now.block c.args.inode.now.from is.owner _ c.in_err-bytes.ensures.stops is.claimed is.is_inode is.format is.from_reached is.file)
 
 pub returns-in_err-records-clause-stops : goal.returns-in_err-records-clause-stops
 returns-in_err-records-clause-stops c im read is =
     let a = c.args.inode.now.block in
     let area = area_of im a c.in_ok-bytes.bytes.now _ (read.same _ _ c.in_ok-bytes.ensures.bytes) refl in
     stopped im _ _ c.from_residual-in_err-records.ensures.1
-    (c.in_err-records.ensures.refused im a is.format is.inside (area_in im a _ (has_directory im c.args.inode.now c.args.parent is) (linear_of im a _ is.dinode c.requires.linear) area))
+    (c.in_err-records.ensures.refused im a is.format is.reached (area_in im a _ (has_directory im c.args.inode.now c.args.parent is) (linear_of im a _ is.dinode c.requires.linear) area))
 
 pub returns-in_err-check_records-clause-stops : goal.returns-in_err-check_records-clause-stops
 returns-in_err-check_records-clause-stops c im read is =
@@ -53,5 +53,10 @@ returns-clause-sound c im read is =
     let named : All HasItsOwnName items = subst (All HasItsOwnName) c.deref.ensures.value checked.named in
     let rows : AreRowsOf inode c.args.parent items = subst (AreRowsOf inode c.args.parent) c.deref.ensures.value checked.rows in
     let distinct : AreDistinct (map said items) = subst (λ rs. AreDistinct (map said rs)) c.deref.ensures.value checked.distinct in
-    linear_sound im inode c.args.parent items is.dinode are (all_records im a items is.inside are c.in_ok-records.ensures.here) (counted im a items are) c.in_ok-records.ensures.here
+    linear_sound im inode c.args.parent items is.dinode are (all_records im a items is.reached are c.in_ok-records.ensures.here) (counted im a items are) c.in_ok-records.ensures.here
     (subst IsSoundArea area (sound_area _ items c.in_ok-records.ensures.filled c.in_ok-records.ensures.found named distinct)) distinct rows
+
+pub returns-in_err-check_linear-clause-stops : goal.returns-in_err-check_linear-clause-stops
+returns-in_err-check_linear-clause-stops c im read is =
+    stopped im _ _ c.from_residual-in_err-check_linear.ensures.1
+    (c.in_err-check_linear.ensures.refused im is.dinode (c.block_size.ensures.value ∙ read.size) is.format is.reached (has_directory im c.args.inode.now c.args.parent is))

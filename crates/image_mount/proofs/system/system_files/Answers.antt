@@ -18,7 +18,7 @@ pub returns-in_err-files-clause-stops : goal.returns-in_err-files-clause-stops
 returns-in_err-files-clause-stops c im read is plain =
     let hashed : is_hashed_by c.args.inode.now.dinode ≡ true = sym c.is_hashed.ensures ∙ c.if-is_hashed.true in
     stopped im _ _ c.from_residual.ensures.1
-    (c.in_err-files.ensures.refused im is.format is.inside (plain (hashed_as im c.args.inode.now.block _ true is.dinode hashed)).all is.block)
+    (c.in_err-files.ensures.refused im is.format is.reached (plain (hashed_as im c.args.inode.now.block _ true is.dinode hashed)).all is.block)
 
 pub returns-then-is_hashed-clause-found : goal.returns-then-is_hashed-clause-found
 returns-then-is_hashed-clause-found c im read is plain =
@@ -34,16 +34,16 @@ returns-in-Some-clause-stops c im read is plain =
     let items = c.in_ok-records.records.items in
     let are = c.in_ok-records.ensures.found im read (master_directory im c.args.inode.now is) in
     let found = c.first_other.ensures ∙ ap (λ xs. option_map (λ (r : Record). r.address) (first_other (map said xs))) c.deref.ensures.value in
-    other_master im _ a c.in-Some.other items c.first_other.result c.outside.ensures is.format is.block are found c.in-Some.is
+    other_master im _ a c.in-Some.other items c.first_other.result c.outside.ensures is.format (record { dinode = is.right; sized = c.in_ok-records.ensures.sized im read (master_directory im c.args.inode.now is) }) is.block are found c.in-Some.is
 
 pub returns-in_err-files-2-clause-stops : goal.returns-in_err-files-2-clause-stops
 returns-in_err-files-2-clause-stops c im read is plain =
     let a = c.args.inode.now.block in
     let items = c.in_ok-records.records.items in
     let are = c.in_ok-records.ensures.found im read (master_directory im c.args.inode.now is) in
-    let all = all_records im a items is.inside are c.in_ok-records.ensures.here in
+    let all = all_records im a items is.reached are c.in_ok-records.ensures.here in
     stopped im _ _ c.from_residual-in_err-files-2.ensures.1
-    (c.in_err-files-2.ensures.refused im is.format is.inside (subst (AreAllRecords im a) (sym c.deref-2.ensures.value) all) is.block)
+    (c.in_err-files-2.ensures.refused im is.format is.reached (subst (AreAllRecords im a) (sym c.deref-2.ensures.value) all) is.block)
 
 pub returns-clause-found : goal.returns-clause-found
 returns-clause-found c im read is plain =
@@ -53,7 +53,7 @@ returns-clause-found c im read is plain =
     let found = c.first_other.ensures ∙ ap (λ xs. option_map (λ (r : Record). r.address) (first_other (map said xs))) c.deref.ensures.value in
     let none : c.first_other.result ≡ None = grind (arith, c.in_default.not-Some) in
     let plain_here : ArePlainRecords im a items = record {
-      all = all_records im a items is.inside are c.in_ok-records.ensures.here;
+      all = all_records im a items is.reached are c.in_ok-records.ensures.here;
       distinct = c.in_ok-records.ensures.distinct;
       plain = plain_items items (no_other items c.first_other.result found none);
     } in

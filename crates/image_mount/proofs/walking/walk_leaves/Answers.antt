@@ -1,5 +1,6 @@
-use Rattle.std.proofs.Common.{◌≡◌, ◌<◌, [], length, sym, ap, subst, arith, ◌∙◌}
+use Rattle.std.proofs.Common.{◌≡◌, [], length, sym, ap, subst, arith, ◌∙◌}
 use Rattle.shared_disk.specs.Disk.{DiskState}
+use Rattle.image_mount.specs.Found.{IsReached}
 use Rattle.image_mount.specs.Leaves.{AreLeavesRead, IsWalked}
 use Rattle.image_mount.specs.Marked.{IsTaken}
 use Rattle.image_mount.specs.Refusals.{HasRisen, LiesWithin}
@@ -8,7 +9,7 @@ use Rattle.image_mount.specs.declared.leaf.LeafLink.{LeafLink}
 use Rattle.image_mount.proofs.LeafWalks.{next_leaf_in}
 use Rattle.image_model.proofs.Lengths.{size_large}
 use Rattle.image_mount.proofs.Marked.{grown_none, grown_on}
-use Rattle.image_mount.proofs.Marks.{bytes_shown, go_refused, read_shown, shows_now, wanted_system}
+use Rattle.image_mount.proofs.Marks.{bytes_shown, go_refused, read_shown, shows_now, wanted_reached, wanted_system}
 use Rattle.image_mount.proofs.Numbered.{at_some}
 use Rattle.image_mount.proofs.Stops.{handed, refused, steady_risen, steady_within}
 use Rattle.image_mount.proofs.Working.{refilled}
@@ -51,11 +52,11 @@ returns-in_err-at-in-Ok-Some-clause-refused g c im shows of for known =
     let walk = inv.walked im shows of for known in
     let known' = inv.searched im shows of for known in
     let read = read_shown _ _ im [] 0 0 _ inv.reads.same inv.work shows known' in
-    let low : c.in-Ok-Some.link.number < im.count = omega (arith, c.in_ok-read_leaf-in-Ok-Some.ensures.inside, ap (λ (s : DiskState). s.count) inv.reads.same, shows.count) in
     let wanted = at_some c.in-Ok-Some.field-0 c.in-Ok-Some.link (λ (l : LeafLink). IsWanted im l.number l.by) c.in-Ok-Some.field-0-is (c.in-Ok-Some.ensures.wanted im read of walk) in
+    let reached : IsReached im c.in-Ok-Some.link.number = wanted_reached im c.in-Ok-Some.link.number c.in-Ok-Some.link.by wanted (omega (arith, c.in_ok-read_leaf-in-Ok-Some.ensures.inside, ap (λ (s : DiskState). s.count) inv.reads.same, shows.count)) in
     let same = bytes_shown _ _ im c.in-Ok-Some.link.number c.read_leaf.new.into inv.reads.same shows (wanted_system im c.in-Ok-Some.link.number c.in-Ok-Some.link.by wanted) c.in_ok-read_leaf-in-Ok-Some.ensures.bytes in
     refused im _ _ c.from_residual-in_err-at-in-Ok-Some.ensures.1
-    (c.in_err-at-in-Ok-Some.ensures.refused im c.args.inode.now of walk (same ∙ sym (refilled c.read_leaf.new.into c.loop-link.bytes.items c.loop-link.bytes.len c.loop-link.bytes.ok.0 (c.read_leaf.auto.into ∙ ap length c.deref_mut.ensures.value)) ∙ sym c.deref.ensures.value) low)
+    (c.in_err-at-in-Ok-Some.ensures.refused im c.args.inode.now of walk (same ∙ sym (refilled c.read_leaf.new.into c.loop-link.bytes.items c.loop-link.bytes.len c.loop-link.bytes.ok.0 (c.read_leaf.auto.into ∙ ap length c.deref_mut.ensures.value)) ∙ sym c.deref.ensures.value) reached)
 
 pub enter-requires-clause-whole : goal.enter-requires-clause-whole
 enter-requires-clause-whole g c =
@@ -78,11 +79,11 @@ loop-link-preserved-in-Continue-branch-5 g c =
           let walk = inv.walked im shows of for known in
           let known' = inv.searched im shows of for known in
           let read' = read_shown _ _ im [] 0 0 _ inv.reads.same inv.work shows known' in
-          let low : c.in-Ok-Some.link.number < im.count = omega (arith, c.in_ok-read_leaf-in-Ok-Some.ensures.inside, ap (λ (s : DiskState). s.count) inv.reads.same, shows.count) in
           let wanted = at_some c.in-Ok-Some.field-0 c.in-Ok-Some.link (λ (l : LeafLink). IsWanted im l.number l.by) c.in-Ok-Some.field-0-is (c.in-Ok-Some.ensures.wanted im read' of walk) in
+          let reached : IsReached im c.in-Ok-Some.link.number = wanted_reached im c.in-Ok-Some.link.number c.in-Ok-Some.link.by wanted (omega (arith, c.in_ok-read_leaf-in-Ok-Some.ensures.inside, ap (λ (s : DiskState). s.count) inv.reads.same, shows.count)) in
           let same = bytes_shown _ _ im c.in-Ok-Some.link.number c.read_leaf.new.into inv.reads.same shows (wanted_system im c.in-Ok-Some.link.number c.in-Ok-Some.link.by wanted) c.in_ok-read_leaf-in-Ok-Some.ensures.bytes in
           let full = sym (refilled c.read_leaf.new.into c.loop-link.bytes.items c.loop-link.bytes.len c.loop-link.bytes.ok.0 (c.read_leaf.auto.into ∙ ap length c.deref_mut.ensures.value)) in
-          let leaf = at.ensures.found im c.args.inode.now of walk (same ∙ full ∙ sym c.deref.ensures.value) low in
+          let leaf = at.ensures.found im c.args.inode.now of walk (same ∙ full ∙ sym c.deref.ensures.value) reached in
           subst (λ a. IsWalked im a c.enter.new.self) inv.directory (entered.walked im (next_leaf_in im c.args.inode.now c.args.pointers.now c.loop-link.walk at.at of inv.directory (λ files. for (sym inv.names ∙ files)) walk leaf at.ensures.next) (ap im.at at.ensures.block ∙ same ∙ full ∙ sym c.deref-in-Ok-Some.ensures.value));
       directory = entered.directory ∙ inv.directory;
       names = entered.names ∙ inv.names;
@@ -104,11 +105,11 @@ returns-in_err-enter-in-Ok-Some-clause-refused g c im shows of for known =
     let known' = inv.searched im shows of for known in
     let read = read_shown _ _ im [] 0 0 _ inv.reads.same inv.work shows known' in
     let at = c.in_ok-at-in-Ok-Some in
-    let low : c.in-Ok-Some.link.number < im.count = omega (arith, c.in_ok-read_leaf-in-Ok-Some.ensures.inside, ap (λ (s : DiskState). s.count) inv.reads.same, shows.count) in
     let wanted = at_some c.in-Ok-Some.field-0 c.in-Ok-Some.link (λ (l : LeafLink). IsWanted im l.number l.by) c.in-Ok-Some.field-0-is (c.in-Ok-Some.ensures.wanted im read of walk) in
+    let reached : IsReached im c.in-Ok-Some.link.number = wanted_reached im c.in-Ok-Some.link.number c.in-Ok-Some.link.by wanted (omega (arith, c.in_ok-read_leaf-in-Ok-Some.ensures.inside, ap (λ (s : DiskState). s.count) inv.reads.same, shows.count)) in
     let same = bytes_shown _ _ im c.in-Ok-Some.link.number c.read_leaf.new.into inv.reads.same shows (wanted_system im c.in-Ok-Some.link.number c.in-Ok-Some.link.by wanted) c.in_ok-read_leaf-in-Ok-Some.ensures.bytes in
     let full = sym (refilled c.read_leaf.new.into c.loop-link.bytes.items c.loop-link.bytes.len c.loop-link.bytes.ok.0 (c.read_leaf.auto.into ∙ ap length c.deref_mut.ensures.value)) in
-    let leaf = at.ensures.found im c.args.inode.now of walk (same ∙ full ∙ sym c.deref.ensures.value) low in
+    let leaf = at.ensures.found im c.args.inode.now of walk (same ∙ full ∙ sym c.deref.ensures.value) reached in
     refused im _ _ c.from_residual-in_err-enter-in-Ok-Some.ensures.1
     (c.in_err-enter-in-Ok-Some.ensures.refused im (next_leaf_in im c.args.inode.now c.args.pointers.now c.loop-link.walk at.at of inv.directory (λ files. for (sym inv.names ∙ files)) walk leaf at.ensures.next)
     (ap im.at at.ensures.block ∙ same ∙ full ∙ sym c.deref-in-Ok-Some.ensures.value))
@@ -153,3 +154,16 @@ returns-in_err-enter-in-Ok-Some-clause-within g c =
     let count = (g.D.SharedDisk.state c.args.disk.now).count in
     handed _ (λ f. f ≡ c.in_err-enter-in-Ok-Some.field-0.0) (LiesWithin count) c.from_residual-in_err-enter-in-Ok-Some.ensures.1
     (λ f e. subst (LiesWithin count) (sym e) (steady_within c.in_err-enter-in-Ok-Some.field-0.0 c.in_err-enter-in-Ok-Some.ensures.steady count))
+
+pub returns-in_err-at-in-Ok-Some-clause-risen : goal.returns-in_err-at-in-Ok-Some-clause-risen
+returns-in_err-at-in-Ok-Some-clause-risen g c =
+    let before = g.D.SharedDisk.faults c.args.disk.now in
+    let now = g.D.SharedDisk.faults c.read_leaf.new.disk in
+    handed _ (λ f. f ≡ c.in_err-at-in-Ok-Some.field-0.0) (HasRisen before now) c.from_residual-in_err-at-in-Ok-Some.ensures.1
+    (λ f e. subst (HasRisen before now) (sym e) (steady_risen c.in_err-at-in-Ok-Some.field-0.0 c.in_err-at-in-Ok-Some.ensures.steady before now))
+
+pub returns-in_err-at-in-Ok-Some-clause-within : goal.returns-in_err-at-in-Ok-Some-clause-within
+returns-in_err-at-in-Ok-Some-clause-within g c =
+    let count = (g.D.SharedDisk.state c.args.disk.now).count in
+    handed _ (λ f. f ≡ c.in_err-at-in-Ok-Some.field-0.0) (LiesWithin count) c.from_residual-in_err-at-in-Ok-Some.ensures.1
+    (λ f e. subst (LiesWithin count) (sym e) (steady_within c.in_err-at-in-Ok-Some.field-0.0 c.in_err-at-in-Ok-Some.ensures.steady count))

@@ -39,8 +39,8 @@ returns-in-Is-clause-fits c im read =
 pub returns-in-NeedBlock-clause-stops : goal.returns-in-NeedBlock-clause-stops
 returns-in-NeedBlock-clause-stops c im o read claimed dinode format low file = inr (format, (o, claimed, dinode_leads im o dinode, low, of_dinode file))
 
-pub returns-in-Is-clause-inside : goal.returns-in-Is-clause-inside
-returns-in-Is-clause-inside c im read =
+pub returns-in-Is-clause-reached : goal.returns-in-Is-clause-reached
+returns-in-Is-clause-reached c im read =
     kept_on im c.args.table.now c.args.block read (answer_at c.in_ok-dinode.field-0 c.in-Is.dinode (λ d. HasBlock (seen_of c.args.table.now) c.args.block) c.in-Is.is c.in_ok-dinode.ensures.there)
 
 pub returns-in-Is-clause-right : goal.returns-in-Is-clause-right
