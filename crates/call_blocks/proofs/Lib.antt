@@ -1,0 +1,4 @@
+pub mod Lists
+pub mod SystemRows
+pub mod SameSystem
+pub mod Replaying
