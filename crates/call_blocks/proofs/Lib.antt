@@ -2,3 +2,4 @@ pub mod Lists
 pub mod SystemRows
 pub mod SameSystem
 pub mod Replaying
+pub mod Lone

@@ -1,7 +1,10 @@
 //! What the calls write, a replay may change. The functions do nothing: their contracts are the laws.
 #![tactic(auto)]
 
+ghost use Rattle.call_blocks.specs.Lone.{ItsBlocksMayChange, MayChangeAtTheStart, MayChangeBehindBarriers, MayChangeBehindCalls, MayChangeWithoutCalls};
 ghost use Rattle.call_blocks.specs.Replaying.{CallsKeepTheSystem, ListsAreOfTheTree, ReplaysMayChangeIt, SameMayChange};
+
+use machine_outcomes::outcomes_are_the_machines;
 
 /// A law: the inodes whose locks a call takes are found from the root, or weren't there.
 pub fn calls_lock_inodes_of_the_tree()
@@ -22,3 +25,19 @@ pub fn images_with_one_system_may_change_alike()
 pub fn calls_keep_the_system()
     ensures { CallsKeepTheSystem }
 {}
+
+/// A law: each block that a call of one node alone writes is one that a replay of the image on its disk may change.
+pub fn what_one_node_writes_a_replay_may_change()
+    ensures { ItsBlocksMayChange }
+{}
+
+/// A law: what a replay may change of the image that one node alone works on, it may change of the image on its disk: so it is at the start, and stays with calls, with barriers, and with all else
+/// that the node does.
+pub fn its_disk_may_change_alike()
+    ensures start { MayChangeAtTheStart }
+    ensures calls { MayChangeBehindCalls }
+    ensures barriers { MayChangeBehindBarriers }
+    ensures others { MayChangeWithoutCalls }
+{
+    outcomes_are_the_machines();
+}
