@@ -1,0 +1,4 @@
+pub mod Counting
+pub mod Removing
+pub mod Need
+pub mod Writing

@@ -1,0 +1,43 @@
+-- How many blocks a call writes.
+use Rattle.std.specs.Prelude.{ℕ, ◌≡◌, ◌+◌, ◌≤◌, List, length}
+use Rattle.profile_limits.specs.Limits.{most_group_blocks}
+use Rattle.file_tree.specs.Tree.{Tree}
+use Rattle.file_tree.specs.declared.call.Call.{Call}
+use Rattle.file_tree.specs.declared.reply.Reply.{Reply}
+use Rattle.glock_names.specs.Views.{Seen}
+use Rattle.drafts.specs.declared.change.Change.{Change}
+use Rattle.image_model.specs.Image.{Image}
+use Rattle.image_model.specs.Owners.{Owners}
+use Rattle.image_model.specs.Profile.{group_length}
+use Rattle.image_model.specs.Stands.{Layout}
+use Rattle.image_changes.specs.Does.{IsOf}
+use Rattle.image_changes.specs.Instances.{IsAt}
+use Rattle.image_model.specs.Flat.{Path}
+use Rattle.glock_names.specs.Views.{IsView}
+use Rattle.file_changes.specs.Drafting.{IsWriteDraft}
+use Rattle.file_changes.specs.Making.{IsRoomIn}
+use Rattle.removing_calls.specs.Removing as removing
+
+-- the change writes at most so many blocks
+abbrev pub WritesAtMost : ℕ → Change → Type 0
+WritesAtMost most change = length change.blocks.items ≤ most
+
+-- the view may be of an image that stands, whose groups have no more blocks of headers and bitmaps than the profile allows
+pub record IsOfProfile (v : Seen) (im : Image) (o : Owners) (l : Layout) (t : Tree) : Type 0 where
+  pub is : IsOf v im o l t
+  pub few : group_length l.groups ≤ most_group_blocks
+
+-- where a name is removed: the directory, the block of the name's record, and the groups
+abbrev pub RemovalsAreSmall : {V : Type 0} → (V → Seen) → Type 0
+RemovalsAreSmall {V = V} seen = (view : V) (im : Image) (o : Owners) (l : Layout) (t : Tree) (call : Call) (time : ℕ) (change : Change) → IsOfProfile (seen view) im o l t
+    → removing.IsRemovedBy seen view call time change → WritesAtMost (2 + most_group_blocks) change
+
+-- a write puts at most so many bytes
+abbrev pub most_bytes : ℕ
+most_bytes = 16384
+
+-- Where bytes are written into a file with the blocks of a room that are as many as it needs: the dinode, the blocks that are taken, those above them, those of the content that is written, the last one
+-- before, and the groups.
+abbrev pub WritesAreSmall : Type 0
+WritesAreSmall = (v : Seen) (im : Image) (o : Owners) (l : Layout) (t : Tree) (path : Path) (a at : ℕ) (new : List ℕ) (time : ℕ) (room : List ℕ) (change : Change) → IsOfProfile v im o l t → IsView v
+    → IsAt im o l path a → IsWriteDraft v a at new time room change → IsRoomIn im o l a at (length new) room → length new ≤ most_bytes → WritesAtMost (160 + most_group_blocks) change
