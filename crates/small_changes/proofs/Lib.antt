@@ -2,3 +2,5 @@ pub mod Counting
 pub mod Removing
 pub mod Need
 pub mod Writing
+pub mod Ends
+pub mod Cutting

@@ -41,7 +41,7 @@ height_low h bytes low = raised_low h.size (height_in h) bytes (10 - height_in h
 fan_large : (size : ℕ) → 512 ≤ size → 61 ≤ fan size header_length
 fan_large size wide = omega (arith, wide)
 
-span_some : (size level : ℕ) → 512 ≤ size → 1 ≤ span size level
+pub span_some : (size level : ℕ) → 512 ≤ size → 1 ≤ span size level
 span_some size zero wide = omega arith
 span_some size (suc level) wide =
     let f : 1 ≤ fan size header_length = (let g = fan_large size wide in omega (arith, g)) in

@@ -39,6 +39,7 @@ use Rattle.file_growth.specs.Written.{HasWritten, IsWrittenAt}
 use Rattle.file_changes.specs.Drafting.{IsWriteDraft}
 use Rattle.small_changes.specs.Counting.{IsOfProfile, WritesAreSmall}
 use Rattle.small_changes.proofs.Counting.{after_insert, headers, in_headers, in_or_not, not_none, puts_few}
+use Rattle.small_changes.proofs.Ends.{last_index, last_is}
 use Rattle.small_changes.proofs.Need.{few_needed, over}
 use Rattle.small_changes.proofs.Removing.{headers_of}
 
@@ -49,29 +50,18 @@ above (Some Itself) = 0
 above (Some (InChain hash place)) = 0
 above None = 0
 
-in_map : (f : ℕ → ℕ) (x : ℕ) (xs : List ℕ) → IsIn x xs → IsIn (f x) (map f xs)
+pub in_map : (f : ℕ → ℕ) (x : ℕ) (xs : List ℕ) → IsIn x xs → IsIn (f x) (map f xs)
 in_map f x [] there = elim there [ ]
 in_map f x (y ∷ ys) (inl e) = inl (ap f e)
 in_map f x (y ∷ ys) (inr later) = inr (in_map f x ys later)
 
 module _ (h g : Holding) (at len : ℕ) (taken : List ℕ) (file : IsFile h) (file' : IsFile g) where
-  -- the block of content with the last byte of the file
-  abbrev last_index : ℕ
-  last_index = ((dinode_in h).size - 1) / h.size
-
   -- what a write does something to, beside the dinode
   abbrev blocks : List ℕ
-  blocks = taken ++ (map (λ c. above (part_at g c)) taken ++ (map (content_block g) (range_with_len (at / g.size) (len / g.size + 2)) ++ (content_block h last_index ∷ [])))
+  blocks = taken ++ (map (λ c. above (part_at g c)) taken ++ (map (content_block g) (range_with_len (at / g.size) (len / g.size + 2)) ++ (content_block h (last_index h (dinode_in h).size) ∷ [])))
 
   some : 0 < g.size
   some = let wide = size_large g.size file'.block_size in omega (arith, wide)
-
-  last_is : (b : ℕ) → (u : IsUnclear h (dinode_in h).size b) → content_block h last_index ≡ b
-  last_is b u =
-      let large : 0 < h.size = (let wide = size_large h.size file.block_size in omega (arith, wide)) in
-      let low : last_index < u.index + 1 = (div-lt_iff_lt-mul large).1 (omega (arith, u.ends, u.some, u.within)) in
-      let high : u.index ≤ last_index = le-div u.index ((dinode_in h).size - 1) h.size large (omega (arith, u.ends, u.some)) in
-      ap (content_block h) (omega (arith, low, high)) ∙ block_of_placed h b u.index file u.placed
 
   written_in : (b : ℕ) → IsWrittenAt h g at (at + len) taken b → (b ≡ h.own) ⊎ IsIn b blocks
   written_in b (inl own) = inl own
@@ -84,13 +74,13 @@ module _ (h g : Holding) (at len : ℕ) (taken : List ℕ) (file : IsFile h) (fi
       inr (in_right b taken _ (in_right b (map (λ x. above (part_at g x)) taken) _ (in_left b (map (content_block g) (range_with_len (at / g.size) (len / g.size + 2))) _
       (subst (λ z. IsIn z (map (content_block g) (range_with_len (at / g.size) (len / g.size + 2)))) (block_of_placed g b i file' placed) there))))
   written_in b (inr (inr (less, unclear))) =
-      inr (in_right b taken _ (in_right b (map (λ x. above (part_at g x)) taken) _ (in_right b (map (content_block g) (range_with_len (at / g.size) (len / g.size + 2))) _ (inl (sym (last_is b unclear))))))
+      inr (in_right b taken _ (in_right b (map (λ x. above (part_at g x)) taken) _ (in_right b (map (content_block g) (range_with_len (at / g.size) (len / g.size + 2))) _ (inl (sym (last_is h file (dinode_in h).size b unclear))))))
 
   blocks_many : length blocks ≡ length taken + (length taken + (len / g.size + 2 + 1))
   blocks_many =
-      let one = length-append taken (map (λ x. above (part_at g x)) taken ++ (map (content_block g) (range_with_len (at / g.size) (len / g.size + 2)) ++ (content_block h last_index ∷ []))) in
-      let two = length-append (map (λ x. above (part_at g x)) taken) (map (content_block g) (range_with_len (at / g.size) (len / g.size + 2)) ++ (content_block h last_index ∷ [])) in
-      let three = length-append (map (content_block g) (range_with_len (at / g.size) (len / g.size + 2))) (content_block h last_index ∷ []) in
+      let one = length-append taken (map (λ x. above (part_at g x)) taken ++ (map (content_block g) (range_with_len (at / g.size) (len / g.size + 2)) ++ (content_block h (last_index h (dinode_in h).size) ∷ []))) in
+      let two = length-append (map (λ x. above (part_at g x)) taken) (map (content_block g) (range_with_len (at / g.size) (len / g.size + 2)) ++ (content_block h (last_index h (dinode_in h).size) ∷ [])) in
+      let three = length-append (map (content_block g) (range_with_len (at / g.size) (len / g.size + 2))) (content_block h (last_index h (dinode_in h).size) ∷ []) in
       omega (arith, one, two, three, length-map taken (λ x. above (part_at g x)), length-map (range_with_len (at / g.size) (len / g.size + 2)) (content_block g), length-range_with_len (at / g.size) (len / g.size + 2))
 
   blocks_few : 512 ≤ h.size → len ≤ 16384 → length taken ≡ needed h at len → length blocks ≤ 159

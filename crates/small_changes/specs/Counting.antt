@@ -1,4 +1,6 @@
 -- How many blocks a call writes.
+use Rattle.std.specs.FinMap.{FinMap}
+use Rattle.std.specs.Ordering.{nat_cmp}
 use Rattle.std.specs.Prelude.{ℕ, ◌≡◌, ◌+◌, ◌≤◌, List, length}
 use Rattle.profile_limits.specs.Limits.{most_group_blocks}
 use Rattle.file_tree.specs.Tree.{Tree}
@@ -6,6 +8,7 @@ use Rattle.file_tree.specs.declared.call.Call.{Call}
 use Rattle.file_tree.specs.declared.reply.Reply.{Reply}
 use Rattle.glock_names.specs.Views.{Seen}
 use Rattle.drafts.specs.declared.change.Change.{Change}
+use Rattle.drafts.specs.declared.fate.Fate.{Fate}
 use Rattle.image_model.specs.Image.{Image}
 use Rattle.image_model.specs.Owners.{Owners}
 use Rattle.image_model.specs.Profile.{group_length}
@@ -14,8 +17,8 @@ use Rattle.image_changes.specs.Does.{IsOf}
 use Rattle.image_changes.specs.Instances.{IsAt}
 use Rattle.image_model.specs.Flat.{Path}
 use Rattle.glock_names.specs.Views.{IsView}
-use Rattle.file_changes.specs.Drafting.{IsWriteDraft}
-use Rattle.file_changes.specs.Making.{IsRoomIn}
+use Rattle.file_changes.specs.Drafting.{IsCutDraft, IsFreedAndDone, IsWriteDraft}
+use Rattle.file_changes.specs.Making.{CanBeCut, IsRoomIn}
 use Rattle.removing_calls.specs.Removing as removing
 
 -- the change writes at most so many blocks
@@ -41,3 +44,8 @@ most_bytes = 16384
 abbrev pub WritesAreSmall : Type 0
 WritesAreSmall = (v : Seen) (im : Image) (o : Owners) (l : Layout) (t : Tree) (path : Path) (a at : ℕ) (new : List ℕ) (time : ℕ) (room : List ℕ) (change : Change) → IsOfProfile v im o l t → IsView v
     → IsAt im o l path a → IsWriteDraft v a at new time room change → IsRoomIn im o l a at (length new) room → length new ≤ most_bytes → WritesAtMost (160 + most_group_blocks) change
+
+-- Where a file is cut: the dinode, the block at the new end, of each level of indirect blocks the one that stands over that end, and the groups.
+abbrev pub CutsAreSmall : Type 0
+CutsAreSmall = (v : Seen) (im : Image) (o : Owners) (l : Layout) (t : Tree) (path : Path) (a size time : ℕ) (freed : List ℕ) (fates : FinMap nat_cmp Fate) (change : Change) → IsOfProfile v im o l t
+    → IsAt im o l path a → IsCutDraft v a size time freed fates → IsFreedAndDone v fates freed change → CanBeCut im o a size → WritesAtMost (12 + most_group_blocks) change

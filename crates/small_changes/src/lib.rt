@@ -1,7 +1,7 @@
 //! The calls write few blocks. The functions do nothing: their contracts are the laws.
 #![tactic(auto)]
 
-ghost use Rattle.small_changes.specs.Counting.{RemovalsAreSmall, WritesAreSmall};
+ghost use Rattle.small_changes.specs.Counting.{CutsAreSmall, RemovalsAreSmall, WritesAreSmall};
 
 use glock_names::View;
 use growth_laws::files_are_inodes;
@@ -14,6 +14,13 @@ pub fn removals_write_few_blocks<V: View>()
 /// A law: bytes that are written into a file with blocks that are taken for it write few blocks.
 pub fn writes_write_few_blocks()
     ensures { WritesAreSmall }
+{
+    files_are_inodes();
+}
+
+/// A law: a file that is cut writes few blocks.
+pub fn cuts_write_few_blocks()
+    ensures { CutsAreSmall }
 {
     files_are_inodes();
 }
