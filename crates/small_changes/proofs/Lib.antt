@@ -4,3 +4,4 @@ pub mod Need
 pub mod Writing
 pub mod Ends
 pub mod Cutting
+pub mod NameNeed

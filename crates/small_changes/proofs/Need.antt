@@ -12,11 +12,11 @@ use Rattle.image_model.proofs.Members.{IsIn, in_range}
 use Rattle.image_model.proofs.Rising.{rising_range}
 use Rattle.small_changes.proofs.Counting.{count_few}
 
-first_of : (p q : Bool) → (p && q) ≡ true → p ≡ true
+pub first_of : (p q : Bool) → (p && q) ≡ true → p ≡ true
 first_of true q e = refl
 first_of false q e = e
 
-second_of : (p q : Bool) → (p && q) ≡ true → q ≡ true
+pub second_of : (p q : Bool) → (p && q) ≡ true → q ≡ true
 second_of true q e = e
 second_of false q e = absurd (true≢false (sym e))
 
@@ -25,7 +25,7 @@ one_of true q e = inl refl
 one_of false q e = inr e
 
 -- how high a file gets
-raised_low : (size height bytes more most : ℕ) → height + more ≤ most → raised_to size height bytes more ≤ most
+pub raised_low : (size height bytes more most : ℕ) → height + more ≤ most → raised_to size height bytes more ≤ most
 raised_low size height bytes zero most low = omega (arith, low)
 raised_low size height bytes (suc more) most low = by (nat_lt (capacity size height) bytes) (raised_low size (suc height) bytes more most (omega (arith, low)))
   where
@@ -38,7 +38,7 @@ height_low h bytes low = raised_low h.size (height_in h) bytes (10 - height_in h
 
 -- ---- how wide a place is
 
-fan_large : (size : ℕ) → 512 ≤ size → 61 ≤ fan size header_length
+pub fan_large : (size : ℕ) → 512 ≤ size → 61 ≤ fan size header_length
 fan_large size wide = omega (arith, wide)
 
 pub span_some : (size level : ℕ) → 512 ≤ size → 1 ≤ span size level
@@ -61,8 +61,7 @@ pub over : (at len width j : ℕ) → 0 < width → at < (j + 1) * width → j *
 over at len width j some high low =
     let first : at / width < j + 1 = (div-lt_iff_lt-mul some).1 high in
     let a : at < at / width * width + width = lt-div-mul-add some in
-    let l : len < len / width * width + width = lt-div-mul-add some in
-    (
+    let l : len < len / width * width + width = lt-div-mul-add some in (
       omega (arith, first),
       elim (cases_lt j (at / width + (len / width + 2))) [
         | inl less ↦ less

@@ -1,12 +1,17 @@
 -- How many blocks a call writes.
 use Rattle.std.specs.FinMap.{FinMap}
 use Rattle.std.specs.Ordering.{nat_cmp}
-use Rattle.std.specs.Prelude.{ℕ, ◌≡◌, ◌+◌, ◌≤◌, List, length}
+use Rattle.std.specs.Prelude.{ℕ, ◌≡◌, ◌+◌, ◌*◌, ◌^◌, ◌≤◌, true, List, length}
 use Rattle.profile_limits.specs.Limits.{most_group_blocks}
 use Rattle.file_tree.specs.Tree.{Tree}
 use Rattle.file_tree.specs.declared.call.Call.{Call}
 use Rattle.file_tree.specs.declared.reply.Reply.{Reply}
+use Rattle.gfs2_layout.specs.Device.{IsBlockSize}
+use Rattle.gfs2_layout.specs.Holding.{Holding}
+use Rattle.gfs2_layout.specs.Inode.{is_hashed_in}
 use Rattle.glock_names.specs.Views.{Seen}
+use Rattle.name_inserts.specs.Need.{chain_of, name_need}
+use Rattle.name_inserts.specs.Needing.{Chain}
 use Rattle.drafts.specs.declared.change.Change.{Change}
 use Rattle.drafts.specs.declared.fate.Fate.{Fate}
 use Rattle.image_model.specs.Image.{Image}
@@ -49,3 +54,15 @@ WritesAreSmall = (v : Seen) (im : Image) (o : Owners) (l : Layout) (t : Tree) (p
 abbrev pub CutsAreSmall : Type 0
 CutsAreSmall = (v : Seen) (im : Image) (o : Owners) (l : Layout) (t : Tree) (path : Path) (a size time : ℕ) (freed : List ℕ) (fates : FinMap nat_cmp Fate) (change : Change) → IsOfProfile v im o l t
     → IsAt im o l path a → IsCutDraft v a size time freed fates → IsFreedAndDone v fates freed change → CanBeCut im o a size → WritesAtMost (12 + most_group_blocks) change
+
+-- a chain in blocks of a size that there is, with a table that is no deeper than one may be, and leaves no deeper than the table
+pub record IsSmallChain (c : Chain) : Type 0 where
+  pub wide : 512 ≤ c.size
+  pub narrow : c.size ≤ 4096
+  pub table : 2 ^ c.table ≤ 8 * c.size
+  pub height : c.height ≤ 10
+  pub depth : c.depth ≤ c.table
+
+-- at most so many blocks a name takes that comes into a directory, whatever its form, with a table that is no deeper than one may be
+abbrev pub NamesTakeFew : Type 0
+NamesTakeFew = (h : Holding) (name : List ℕ) → IsBlockSize h.size → (is_hashed_in h ≡ true → IsSmallChain (chain_of h name)) → name_need h name ≤ 105

@@ -1,7 +1,7 @@
 //! The calls write few blocks. The functions do nothing: their contracts are the laws.
 #![tactic(auto)]
 
-ghost use Rattle.small_changes.specs.Counting.{CutsAreSmall, RemovalsAreSmall, WritesAreSmall};
+ghost use Rattle.small_changes.specs.Counting.{CutsAreSmall, NamesTakeFew, RemovalsAreSmall, WritesAreSmall};
 
 use glock_names::View;
 use growth_laws::files_are_inodes;
@@ -24,3 +24,8 @@ pub fn cuts_write_few_blocks()
 {
     files_are_inodes();
 }
+
+/// A law: a name that comes into a directory takes few blocks.
+pub fn names_take_few_blocks()
+    ensures { NamesTakeFew }
+{}
