@@ -61,14 +61,14 @@ pub no_more : (xs ys : List ℕ) → Rising xs → ((x : ℕ) → IsIn x xs → 
 no_more [] ys rise all = omega arith
 no_more (x ∷ xs) ys rise all =
     let fewer : length xs ≤ length (without x ys) =
-        no_more xs (without x ys) rise.1 (λ z there. still_in x z ys (λ e. let above : x < z = all_in (λ y. x < y) z xs rise.0 there in absurd (omega (arith, above, e))) (all z (inr there))) in
+    no_more xs (without x ys) rise.1 (λ z there. still_in x z ys (λ e. let above : x < z = all_in (λ y. x < y) z xs rise.0 there in absurd (omega (arith, above, e))) (all z (inr there))) in
     omega (arith, fewer, one_less x ys (all x (inl refl)))
 
 -- of rising numbers no more pass than a list has that has each that passes
 pub count_few : (test : ℕ → Bool) (xs list : List ℕ) → Rising xs → ((x : ℕ) → IsIn x xs → test x ≡ true → IsIn x list) → count_by test xs ≤ length list
 count_few test xs list rises all =
     let few : length (filter test xs) ≤ length list =
-        no_more (filter test xs) list (rising_filter test xs rises) (λ x there. let both = from_filter test x xs there in all x both.0 both.1) in
+    no_more (filter test xs) list (rising_filter test xs rises) (λ x there. let both = from_filter test x xs there in all x both.0 both.1) in
     omega (arith, few, count_filter test xs)
 
 -- ---- the blocks that a change writes
@@ -100,8 +100,8 @@ pub puts_few : (fates : FinMap nat_cmp Fate) (change : Change) → IsFinished fa
 puts_few fates change finished list all =
     let d : IsOfDraft fates change = finish_makes fates change finished in
     let few : length (map (λ (w : Written). w.block) change.blocks.items) ≤ length list =
-        no_more (map (λ (w : Written). w.block) change.blocks.items) list (rise (map (λ (w : Written). w.block) change.blocks.items) d.form.blocks)
-        (λ b there. let put = put_there (get fates b) (sym (d.puts b) ∙ is_written change.blocks.items b there) in all b put.0 put.1 put.2 put.3) in
+    no_more (map (λ (w : Written). w.block) change.blocks.items) list (rise (map (λ (w : Written). w.block) change.blocks.items) d.form.blocks)
+    (λ b there. let put = put_there (get fates b) (sym (d.puts b) ∙ is_written change.blocks.items b there) in all b put.0 put.1 put.2 put.3) in
     let same : length (map (λ (w : Written). w.block) change.blocks.items) ≡ length change.blocks.items = length-map change.blocks.items (λ (w : Written). w.block) in
     omega (arith, few, same)
 

@@ -61,8 +61,7 @@ pub over : (at len width j : ℕ) → 0 < width → at < (j + 1) * width → j *
 over at len width j some high low =
     let first : at / width < j + 1 = (div-lt_iff_lt-mul some).1 high in
     let a : at < at / width * width + width = lt-div-mul-add some in
-    let l : len < len / width * width + width = lt-div-mul-add some in
-    (
+    let l : len < len / width * width + width = lt-div-mul-add some in (
       omega (arith, first),
       elim (cases_lt j (at / width + (len / width + 2))) [
         | inl less ↦ less
