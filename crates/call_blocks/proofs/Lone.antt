@@ -1,5 +1,5 @@
 -- What the calls of one node alone write, a replay of the image on its disk may change.
-use Rattle.std.proofs.Common.{◌≡◌, ℕ, Bool, true, false, List, Some, refl, sym, ap, subst, ◌∙◌, true≢false}
+use Rattle.std.proofs.Common.{◌≡◌, ℕ, Bool, true, false, refl, sym, ap, subst, ◌∙◌, true≢false}
 use Rattle.std.specs.Prelude.{◌||◌, is_some}
 use Rattle.file_tree.specs.Tree.{Tree}
 use Rattle.file_tree.specs.declared.call.Call.{Call}
@@ -9,7 +9,6 @@ use Rattle.cluster_laws.specs.Files.{laid}
 use Rattle.cluster_laws.specs.World.{World}
 use Rattle.glock_names.specs.Views.{Seen}
 use Rattle.drafts.specs.declared.change.Change.{Change}
-use Rattle.image_model.specs.Image.{Image}
 use Rattle.image_model.specs.Replays.{MayChange}
 use Rattle.image_changes.specs.Does.{IsOf, frees, has_block, writes}
 use Rattle.image_machine.specs.Cells.{BlockCell, cells_of}

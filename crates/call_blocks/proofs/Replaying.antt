@@ -1,5 +1,5 @@
 -- What an answered call writes or frees, a replay may change.
-use Rattle.std.proofs.Common.{◌≡◌, ◌+◌, ◌<◌, ◌≤◌, ◌⊎◌, ℕ, inl, inr, Bool, true, false, List, [], ◌∷◌, length, Option, None, Some, slice_get, refl, sym, ap, subst, ◌∙◌, arith, true≢false}
+use Rattle.std.proofs.Common.{◌≡◌, ◌+◌, ◌<◌, ◌≤◌, ◌⊎◌, ℕ, inl, inr, Bool, true, false, List, [], ◌∷◌, Option, None, Some, slice_get, refl, sym, ap, subst, ◌∙◌, arith, true≢false}
 use Rattle.std.specs.Prelude.{◌==◌, Contains, if◌then◌else◌, is_some, map}
 use Rattle.std.specs.List.{AllByRecursion}
 use Rattle.std.specs.Option.{option_map}
@@ -25,7 +25,7 @@ use Rattle.image_model.proofs.Counts.{at_in}
 use Rattle.image_model.proofs.Facts.{listed_group}
 use Rattle.image_model.proofs.Held.{none_some, some_same}
 use Rattle.image_model.proofs.Members.{contained}
-use Rattle.image_changes.specs.Changes.{cover, inode_of}
+use Rattle.image_changes.specs.Changes.{inode_of}
 use Rattle.image_changes.specs.Does.{AreInside, Does, DoesIn, IsHeld, IsInside, IsOf, LiesInGroup, bytes_for, frees, has_block, writes}
 use Rattle.image_changes.proofs.Drafting.{either}
 use Rattle.image_changes.proofs.Frame.{dinode_its}

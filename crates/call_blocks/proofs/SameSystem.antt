@@ -1,11 +1,9 @@
 -- Of images with the same blocks of the system files a replay may change the same blocks.
-use Rattle.std.proofs.Common.{◌≡◌, ◌<◌, ℕ, sym, subst, ◌∙◌}
-use Rattle.gfs2_layout.specs.Inode.{content_block}
+use Rattle.std.proofs.Common.{◌<◌, ℕ, sym, subst, ◌∙◌}
 use Rattle.image_model.specs.Image.{Image}
 use Rattle.image_model.specs.Owners.{Owners}
 use Rattle.image_model.specs.Replays.{MayChange}
 use Rattle.image_model.specs.Stands.{IsLaid, Layout}
-use Rattle.image_model.specs.SystemFiles.{HasSameSystem}
 use Rattle.image_model.proofs.Facts.{group_listed, listed_group}
 use Rattle.image_outcomes.proofs.SameFiles.{HasSameFiles, same_files}
 use Rattle.call_blocks.specs.Replaying.{SameMayChange}

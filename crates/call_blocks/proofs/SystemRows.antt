@@ -1,6 +1,6 @@
 -- Where the blocks of the system files stand in an image that stands: under the master directory, and so not under the root.
 use Rattle.std.proofs.Common.{◌≡◌, ◌≢◌, ◌<◌, ◌⊎◌, ℕ, zero, suc, inl, inr, Bool, true, false, List, [], ◌∷◌, None, Some, refl, sym, ap, subst, ◌∙◌, arith, slice_get, true≢false}
-use Rattle.std.specs.Prelude.{◌==◌, ◌||◌, codes, if◌then◌else◌, Option}
+use Rattle.std.specs.Prelude.{◌==◌, ◌||◌, codes, if◌then◌else◌}
 use Rattle.std.specs.List.{list_any}
 use Rattle.std.proofs.lemmas.Bool.{eq-eqb}
 use Rattle.gfs2_layout.specs.Device.{superblock_place}
@@ -21,7 +21,6 @@ use Rattle.image_model.proofs.Held.{none_some, pointed_owner, some_same}
 use Rattle.image_model.proofs.Rows.{claim_row, leads_child}
 use Rattle.image_model.proofs.SystemStays.{file_inode}
 use Rattle.image_changes.specs.Changes.{cover, inode_lock, inode_of}
-use Rattle.image_changes.specs.Instances.{IsAt}
 use Rattle.image_changes.proofs.Frame.{dinode_its, inode_cover}
 use Rattle.image_changes.proofs.Laid.{apart}
 use Rattle.image_outcomes.proofs.SameFiles.{place_row}

@@ -13,7 +13,7 @@ use Rattle.image_model.specs.Replays.{MayChange}
 use Rattle.image_model.specs.Stands.{IsLaid, Layout}
 use Rattle.image_model.specs.SystemFiles.{HasSameSystem}
 use Rattle.image_changes.specs.Does.{AreInside, Does, IsOf, has_block}
-use Rattle.image_changes.specs.Instances.{IsAt, StandsBy}
+use Rattle.image_changes.specs.Instances.{IsAt}
 use Rattle.file_calls.specs.Calls.{IsCallList, IsUnderItsLocks}
 use Rattle.file_calls.specs.Holds.{Hold, hold_of}
 

@@ -1,7 +1,7 @@
 -- How many blocks a draft puts: no more than a list has that has each of them.
-use Rattle.std.proofs.Common.{◌≡◌, ◌≢◌, ◌+◌, ◌<◌, ◌≤◌, ◌⊎◌, ℕ, suc, inl, inr, Bool, true, false, List, [], ◌∷◌, ◌++◌, length, map, Option, None, Some, refl, sym, ap, subst, ◌∙◌, arith, true≢false}
+use Rattle.std.proofs.Common.{◌≡◌, ◌≢◌, ◌+◌, ◌<◌, ◌≤◌, ◌⊎◌, ℕ, suc, inl, inr, Bool, true, List, [], ◌∷◌, length, map, Option, None, Some, refl, sym, ap, subst, ◌∙◌, arith, true≢false}
 use Rattle.std.specs.Prelude.{◌==◌, Contains, count_by, filter, flat_map, if◌then◌else◌, is_some}
-use Rattle.std.specs.FinMap.{FinMap, entries, get, insert, nat_cmp-IsAntisymmetric}
+use Rattle.std.specs.FinMap.{FinMap, get, insert, nat_cmp-IsAntisymmetric}
 use Rattle.std.specs.FinMap as table
 use Rattle.std.specs.List.{AllByRecursion, range_with_len}
 use Rattle.std.specs.List.Sorted.{IsStrictlySortedBy}
@@ -28,7 +28,7 @@ use Rattle.image_model.proofs.Held.{none_some}
 use Rattle.image_model.proofs.Members.{IsIn, from_filter, in_flat_map, in_range, is_in}
 use Rattle.image_model.proofs.Rising.{Rising, count_filter, rising_filter}
 use Rattle.image_changes.specs.Drafted.{IsFinished, IsOfDraft}
-use Rattle.image_changes.specs.Does.{bytes_for, writes}
+use Rattle.image_changes.specs.Does.{bytes_for}
 use Rattle.image_changes.proofs.Finishing.{finish_makes}
 use Rattle.resource_groups.specs.Shown.{IsHeaderOf}
 

@@ -1,5 +1,5 @@
 -- A file that is cut: few blocks are written.
-use Rattle.std.proofs.Common.{◌≡◌, ◌+◌, ◌-◌, ◌*◌, ◌/◌, ◌<◌, ◌≤◌, ◌⊎◌, ℕ, suc, inl, inr, Bool, false, List, [], ◌∷◌, ◌++◌, length, map, None, Some, refl, sym, ap, subst, ◌∙◌, arith}
+use Rattle.std.proofs.Common.{◌≡◌, ◌+◌, ◌*◌, ◌/◌, ◌<◌, ◌≤◌, ◌⊎◌, ℕ, suc, inl, inr, Bool, false, List, ◌∷◌, ◌++◌, length, map, Some, sym, ap, subst, ◌∙◌, arith}
 use Rattle.std.specs.Prelude.{Contains}
 use Rattle.std.specs.FinMap.{FinMap, empty, get, get-empty, insert}
 use Rattle.std.specs.List.{range_with_len}
@@ -20,7 +20,7 @@ use Rattle.drafts.specs.declared.fate.Fate.TheVariants.{Put, Freed}
 use Rattle.gfs2_layout.specs.Holding.{Holding, Pointed, part_at}
 use Rattle.gfs2_layout.specs.Inode.{IsPointed, by_block, by_dinode, content_block, fan, header_length, span}
 use Rattle.dinode_tree.specs.Reading.{inode_lock}
-use Rattle.growth_laws.specs.Files.{IsFile, IsPlaced, block_on}
+use Rattle.growth_laws.specs.Files.{IsFile, block_on}
 use Rattle.growth_laws.specs.Laws.{InodesAreFiles}
 use Rattle.growth_laws.proofs.Places.{place_of_part}
 use Rattle.image_model.specs.Flat.{Path}
@@ -31,7 +31,7 @@ use Rattle.image_model.proofs.Lengths.{size_large}
 use Rattle.image_model.proofs.Members.{IsIn, in_left, in_range, in_right}
 use Rattle.image_changes.specs.Instances.{IsAt}
 use Rattle.group_locks.proofs.Images.{is_shown}
-use Rattle.file_cuts.specs.Cut.{HasCut, IsCut, IsCutBlock, IsPastEnd, end_of}
+use Rattle.file_cuts.specs.Cut.{HasCut, IsCut, IsCutBlock, end_of}
 use Rattle.file_fills.specs.Causes.{LeadsToOne}
 use Rattle.file_changes.specs.Drafting.{IsCutDraft, IsFreedAndDone}
 use Rattle.file_changes.specs.Making.{CanBeCut}

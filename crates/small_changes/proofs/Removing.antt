@@ -1,12 +1,12 @@
 -- A call that removes a name writes few blocks.
-use Rattle.std.proofs.Common.{◌≡◌, ◌+◌, ◌≤◌, ◌⊎◌, ℕ, inl, inr, Bool, List, [], ◌∷◌, length, map, None, Some, refl, sym, ap, subst, ◌∙◌, arith}
+use Rattle.std.proofs.Common.{◌≡◌, ◌+◌, ◌≤◌, ℕ, inl, inr, Bool, List, ◌∷◌, length, Some, sym, ap, ◌∙◌, arith}
 use Rattle.std.specs.Prelude.{Contains}
 use Rattle.std.specs.FinMap.{FinMap, get}
 use Rattle.std.specs.Ordering.{nat_cmp}
 use Rattle.std.proofs.lemmas.Bool.{cases_eq}
 use Rattle.file_tree.specs.Tree.{Tree}
 use Rattle.file_tree.specs.declared.call.Call.{Call}
-use Rattle.glock_names.specs.Views.{Seen, group_of_entry}
+use Rattle.glock_names.specs.Views.{Seen}
 use Rattle.glock_names.specs.declared.LockName.{LockName}
 use Rattle.drafts.specs.declared.change.Change.{Change}
 use Rattle.drafts.specs.declared.fate.Fate.{Fate}
@@ -15,7 +15,7 @@ use Rattle.image_model.specs.Image.{Image}
 use Rattle.image_model.specs.Owners.{Owners}
 use Rattle.image_model.specs.Profile.{group_length}
 use Rattle.image_model.specs.Stands.{Layout}
-use Rattle.image_model.proofs.Members.{IsIn, contained}
+use Rattle.image_model.proofs.Members.{IsIn}
 use Rattle.removing_calls.specs.Removing.{IsRemovedBy}
 use Rattle.small_changes.specs.Counting.{IsOfProfile, RemovalsAreSmall}
 use Rattle.small_changes.proofs.Counting.{headers, headers_many, in_headers, in_or_not, not_none, puts_few}

@@ -1,12 +1,10 @@
 -- A call that writes bytes into a file writes few blocks.
-use Rattle.std.proofs.Common.{◌≡◌, ◌+◌, ◌-◌, ◌*◌, ◌/◌, ◌<◌, ◌≤◌, ◌⊎◌, ℕ, suc, inl, inr, Bool, false, List, [], ◌∷◌, ◌++◌, length, map, Option, None, Some, refl, sym, ap, subst, ◌∙◌, arith}
-use Rattle.std.specs.Prelude.{Contains}
+use Rattle.std.proofs.Common.{◌≡◌, ◌+◌, ◌/◌, ◌<◌, ◌≤◌, ◌⊎◌, ℕ, inl, inr, Bool, false, List, [], ◌∷◌, ◌++◌, length, map, Option, None, Some, sym, ap, subst, ◌∙◌, arith}
 use Rattle.std.specs.FinMap.{FinMap, empty, get, get-empty, insert}
 use Rattle.std.specs.List.{range_with_len}
 use Rattle.std.specs.Ordering.{nat_cmp}
 use Rattle.std.proofs.Math.ListN.{length-append, length-map}
 use Rattle.std.proofs.Math.Nat.{div-lt_iff_lt-mul}
-use Rattle.std.proofs.lemmas.Nat.{le-div}
 use Rattle.std.proofs.lemmas.List.FromFn.{length-range_with_len}
 use Rattle.file_tree.specs.Tree.{Tree}
 use Rattle.glock_names.specs.Views.{Seen, IsView}
@@ -15,7 +13,7 @@ use Rattle.profile_limits.specs.Limits.{most_group_blocks}
 use Rattle.drafts.specs.Fates.{seen_with}
 use Rattle.drafts.specs.declared.change.Change.{Change}
 use Rattle.drafts.specs.declared.fate.Fate.{Fate}
-use Rattle.drafts.specs.declared.fate.Fate.TheVariants.{Put, Freed}
+use Rattle.drafts.specs.declared.fate.Fate.TheVariants.{Put}
 use Rattle.gfs2_layout.specs.Holding.{Holding, InChain, Itself, Part, Pointed, part_at}
 use Rattle.gfs2_layout.specs.Inode.{content_block, dinode_in}
 use Rattle.growth_laws.specs.Files.{IsFile}
@@ -24,7 +22,6 @@ use Rattle.growth_laws.specs.Need.{needed}
 use Rattle.image_model.specs.Flat.{Path}
 use Rattle.image_model.specs.Image.{Image}
 use Rattle.image_model.specs.Owners.{Owners, holding}
-use Rattle.image_model.specs.Profile.{group_length}
 use Rattle.image_model.specs.Stands.{Layout}
 use Rattle.image_model.proofs.Lengths.{size_large}
 use Rattle.image_model.proofs.Members.{IsIn, in_left, in_range, in_right, is_in}
@@ -33,7 +30,6 @@ use Rattle.file_fills.proofs.Tails.{block_of_placed}
 use Rattle.draft_changes.proofs.Saying.{free_blocks_are_new}
 use Rattle.file_changes.proofs.Writing.{can_write, has_written}
 use Rattle.file_changes.specs.Making.{IsRoomIn}
-use Rattle.file_heights.specs.Grown.{IsUnclear}
 use Rattle.dinode_tree.specs.Reading.{inode_lock}
 use Rattle.file_growth.specs.Written.{HasWritten, IsWrittenAt}
 use Rattle.file_changes.specs.Drafting.{IsWriteDraft}

@@ -5,7 +5,6 @@ use Rattle.std.specs.Prelude.{ℕ, ◌≡◌, ◌+◌, ◌*◌, ◌^◌, ◌≤�
 use Rattle.profile_limits.specs.Limits.{most_group_blocks}
 use Rattle.file_tree.specs.Tree.{Tree}
 use Rattle.file_tree.specs.declared.call.Call.{Call}
-use Rattle.file_tree.specs.declared.reply.Reply.{Reply}
 use Rattle.gfs2_layout.specs.Device.{IsBlockSize}
 use Rattle.gfs2_layout.specs.Holding.{Holding}
 use Rattle.gfs2_layout.specs.Inode.{is_hashed_in}
