@@ -1,23 +1,22 @@
 -- How many blocks a name takes at most.
-use Rattle.std.proofs.Common.{◌≡◌, ◌+◌, ◌-◌, ◌*◌, ◌/◌, ◌^◌, ◌<◌, ◌≤◌, ◌⊎◌, ℕ, zero, suc, inl, inr, Bool, true, false, List, [], ◌∷◌, length, refl, sym, ap, subst, ◌∙◌, arith, true≢false}
-use Rattle.std.specs.Prelude.{◌==◌, ◌&&◌, if◌then◌else◌, nat_le, nat_lt}
+use Rattle.std.proofs.Common.{◌≡◌, ◌+◌, ◌-◌, ◌*◌, ◌^◌, ◌<◌, ◌≤◌, ℕ, zero, suc, inl, inr, Bool, true, false, List, length, refl, sym, ap, subst, ◌∙◌, arith}
+use Rattle.std.specs.Prelude.{◌&&◌, if◌then◌else◌, nat_lt}
 use Rattle.std.specs.List.{list_any}
 use Rattle.std.proofs.Math.Nat.{div-lt_iff_lt-mul, div-mul-le_self, mul-le-mul, pow-le-pow_right, pow-succ'}
-use Rattle.std.proofs.lemmas.Bool.{cases_lt, cond-false, cond-true, eq-eqb, leb-true, ltb-true, ne_eqb}
+use Rattle.std.proofs.lemmas.Bool.{cases_lt, leb-true, ltb-true}
 use Rattle.std.proofs.lemmas.Nat.{le-div}
 use Rattle.crc_words.specs.Remainder.{crc32_of}
 use Rattle.gfs2_layout.specs.Device.{IsBlockSize}
 use Rattle.gfs2_layout.specs.Holding.{Holding}
-use Rattle.gfs2_layout.specs.Inode.{depth_in, dinode_in, header_length, is_hashed_in, pieces, span}
+use Rattle.gfs2_layout.specs.Inode.{header_length, is_hashed_in, pieces, span}
 use Rattle.growth_laws.specs.Need.{capacity, raised_to}
-use Rattle.hash_dirs.specs.Shown.{index_for}
-use Rattle.hash_steps.specs.Leaves.{has_room_for, leaf_depth}
+use Rattle.hash_steps.specs.Leaves.{has_room_for}
 use Rattle.name_inserts.specs.Need.{chain_of, first_chain, first_depth, first_leaf, has_linear_room, has_one, is_growable, most_steps, name_need, need_in_hashed, need_in_linear, need_within}
 use Rattle.name_inserts.specs.Needing.{Chain, doubled, split_for}
 use Rattle.table_growth.specs.Tables.{doubling_need, table_blocks, table_height, tree_blocks}
 use Rattle.image_model.proofs.Lengths.{size_large}
 use Rattle.small_changes.specs.Counting.{IsSmallChain, NamesTakeFew}
-use Rattle.small_changes.proofs.Need.{fan_large, first_of, raised_low, second_of, span_some}
+use Rattle.small_changes.proofs.Need.{fan_large, raised_low, second_of, span_some}
 
 -- ---- the blocks of a table
 
