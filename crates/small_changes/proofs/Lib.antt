@@ -1,0 +1,7 @@
+pub mod Counting
+pub mod Removing
+pub mod Need
+pub mod Writing
+pub mod Ends
+pub mod Cutting
+pub mod NameNeed
