@@ -1,0 +1,106 @@
+-- A node with its log, on a disk.
+use Rattle.std.specs.Prelude.{ℕ, ◌≡◌, ◌⊎◌, ◌<◌, ◌≤◌, ◌-◌, ⊤, false, List, [], ◌∷◌, length, Option, None, Some, IsTrue}
+use Rattle.std.specs.FinMap as table
+use Rattle.std.specs.List.{AllByRecursion}
+use Rattle.glock_names.specs.Views.{end_of}
+use Rattle.log_rings.specs.Flights.{chunk_place}
+use Rattle.log_tables.specs.Versions.Way.{Flying}
+use Rattle.log_values.specs.Flushing.{block_at, flush_chunks, head_place}
+use Rattle.log_values.specs.Log.{Entry, Flush, LogValue, Stage}
+use Rattle.log_values.specs.Log.Stage.{Ending, Headed, Writing}
+use Rattle.lone_logs.specs.States.{Numbers}
+use Rattle.lone_view.specs.Seeing.{Lone}
+use Rattle.shared_disk.specs.Disk.{DiskState, Gains, Operation, Write, after_write, flight_to}
+use Rattle.trace_text.specs.declared.item.TraceItem.{TraceItem}
+use Rattle.logged_steps.specs.Points.{Point}
+use Rattle.logged_steps.specs.Steps.{Steps}
+use Rattle.logged_node.specs.declared.ends.Stop.{Stop}
+use Rattle.logged_node.specs.declared.ends.Stop.TheVariants as stop
+use Rattle.logged_node.specs.declared.node.CallNumbers.{CallNumbers}
+use Rattle.logged_node.specs.declared.node.Node.{Node}
+
+-- ---- where it has come to
+
+abbrev pub numbers_of : CallNumbers → Numbers
+numbers_of n = record { answered = n.answered; changed = n.changed; low = n.low; begun = n.begun }
+
+abbrev pub point_of : DiskState → Option (List Operation) → Node → Point
+point_of disk list n = record { disk = disk; list = list; log = n.log; view = n.view; numbers = numbers_of n.numbers; items = n.items.items }
+
+-- ---- what always holds of it
+
+-- It is a node of this disk: block, journal and view are of its size, the journal's places are blocks of it, each another one, and so are the groups and the blocks that are kept; it isn't fenced;
+-- and the count of its writes in flight is right.
+pub record IsNodeOn (d : DiskState) (n : Node) : Type 0 where
+  pub block : length n.block.items ≡ d.size
+  pub journal : n.log.journal.size ≡ d.size
+  pub view : n.view.size ≡ d.size
+  pub places : (p : ℕ) → p < n.log.journal.length → block_at n.log.journal p < d.count
+  pub apart : (p q : ℕ) → p < n.log.journal.length → q < n.log.journal.length → block_at n.log.journal p ≡ block_at n.log.journal q → p ≡ q
+  pub some : 1 ≤ length n.view.groups
+  pub groups : AllByRecursion (λ g. end_of g ≤ d.count) n.view.groups
+  pub kept : (b : ℕ) (bytes : List ℕ) → table.get n.view.blocks b ≡ Some bytes → b < d.count
+  pub open : d.is_fenced 1 ≡ false
+  pub flying : n.flying ≡ length (d.in_flight 1)
+  pub few : n.flying ≤ 512
+
+-- ---- what is in flight
+
+-- of the flush the blocks of the chunks that are written may be, or its header
+abbrev pub IsFlownBlock : LogValue → Flush → Stage → ℕ → Type 0
+IsFlownBlock log f (Writing done) b = (k : ℕ) × (k < done) × (k < length (flush_chunks log f)) × (b ≡ block_at log.journal (chunk_place log k))
+IsFlownBlock log f Ending b = ⊥
+IsFlownBlock log f (Headed tail) b = b ≡ block_at log.journal (head_place log f)
+
+abbrev pub IsFlownBy : LogValue → Option Flush → ℕ → Type 0
+IsFlownBy log None b = ⊥
+IsFlownBy log (Some f) b = IsFlownBlock log f f.stage b
+
+abbrev pub FliesAsFlushed : DiskState → LogValue → Type 0
+FliesAsFlushed d log = (b : ℕ) (bytes : List ℕ) → flight_to (d.in_flight 1) b ≡ Some bytes → IsFlownBy log log.flush b
+
+-- nothing is on its way home
+abbrev pub NoneGoesHome : LogValue → Type 0
+NoneGoesHome log = (b : ℕ) (e : Entry) (bytes : List ℕ) → table.get log.live b ≡ Some e → e.way ≡ Flying bytes → ⊥
+
+-- only what is on its way home flies
+abbrev pub FliesHome : DiskState → LogValue → Type 0
+FliesHome d log = (b : ℕ) (bytes : List ℕ) → flight_to (d.in_flight 1) b ≡ Some bytes → (e : Entry) × (flown : List ℕ) × (table.get log.live b ≡ Some e) × (e.way ≡ Flying flown)
+
+-- it rests: no flush is under way, and nothing is in flight
+pub record IsResting (d : DiskState) (n : Node) : Type 0 where
+  pub on : IsNodeOn d n
+  pub idle : n.log.flush ≡ None
+  pub none : d.in_flight 1 ≡ []
+  pub home : NoneGoesHome n.log
+
+-- ---- where it crashes
+
+-- how many writes it makes until it crashes, behind one more
+abbrev pub one_less : Option ℕ → Option ℕ
+one_less None = None
+one_less (Some left) = Some (left - 1)
+
+-- the write at which it crashes is the last of those that it makes until then
+abbrev pub IsLastWrite : Option ℕ → Type 0
+IsLastWrite None = ⊥
+IsLastWrite (Some left) = left ≤ 1
+
+-- ---- how it stops
+
+-- the disk is that of the point, or it failed in a write that may have come in flight
+pub data FailsBehind (p : Point) (d : DiskState) (list : Option (List Operation)) : Type 0 where
+  as_it_was : d ≡ p.disk → list ≡ p.list → FailsBehind p d list
+  in_a_write : (b : ℕ) (bytes : List ℕ) → d ≡ after_write p.disk 1 b bytes → Gains p.list list (Write 1 b bytes ∷ []) → FailsBehind p d list
+
+-- It came by steps to a point with these items, and the disk is that of the point; where the disk failed, it may have one write more.
+abbrev pub LeavesDisk : Point → DiskState → Option (List Operation) → Stop → Type 0
+LeavesDisk p d list (stop.DiskFailed block rise) = FailsBehind p d list
+LeavesDisk p d list stop.Crashed = (d ≡ p.disk) × (list ≡ p.list)
+LeavesDisk p d list stop.NoMemory = (d ≡ p.disk) × (list ≡ p.list)
+
+pub record StopsBehind (time : ℕ) (p : Point) (d : DiskState) (list : Option (List Operation)) (items : List TraceItem) (why : Stop) : Type 0 where
+  pub last : Point
+  pub steps : Steps time p last
+  pub items : last.items ≡ items
+  pub disk : LeavesDisk last d list why
