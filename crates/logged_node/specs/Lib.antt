@@ -1,2 +1,3 @@
 pub mod Nodes
 pub mod Ends
+pub mod Flushing

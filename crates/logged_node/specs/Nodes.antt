@@ -104,3 +104,10 @@ pub record StopsBehind (time : ℕ) (p : Point) (d : DiskState) (list : Option (
   pub steps : Steps time p last
   pub items : last.items ≡ items
   pub disk : LeavesDisk last d list why
+
+-- it is the same disk, whatever its blocks hold, and what is in flight
+pub record IsSameDisk (d d' : DiskState) : Type 0 where
+  pub size : d'.size ≡ d.size
+  pub count : d'.count ≡ d.count
+  pub tells : d'.tells ≡ d.tells
+  pub fenced : d'.is_fenced ≡ d.is_fenced

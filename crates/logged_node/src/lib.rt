@@ -3,7 +3,9 @@
 
 mod deeds;
 mod ends;
+mod flushing;
 mod node;
 
 pub use ends::Stop;
+pub use flushing::Flushed;
 pub use node::{CallNumbers, Node};

@@ -1,0 +1,104 @@
+// Flushes: all that is due, or a header alone, comes into the journal.
+ghost use Rattle.std.specs.Prelude.{ℕ, ◌≡◌, ◌+◌, ◌++◌, ◌<◌, ◌≤◌, [], ◌∷◌, false, length, OnOk, IfErr};
+ghost use Rattle.std.specs.Vec.{vec_capacity, vec_len};
+ghost use Rattle.shared_disk.specs.Disk.{after_barrier};
+ghost use Rattle.logged_node.specs.Ends.{HasCause, IfFailed, IfMade, IsOfDisk};
+ghost use Rattle.logged_node.specs.Flushing.{FliesBehind, IsCarried, MayCarry};
+ghost use Rattle.logged_node.specs.Nodes.{FailsBehind, IsSameDisk, point_of};
+
+use crate::deeds::{put_barrier, put_write};
+use crate::ends::Stop;
+use crate::node::Node;
+use disk_items::put_in_room;
+use log_values::LogStep;
+use shared_disk::SharedDisk;
+use trace_text::TraceItem;
+
+/// What came of a flush.
+#[derive(Clone, Copy, Debug, PartialEq, Eq)]
+pub enum Flushed {
+    /// One is in the journal.
+    Done,
+    /// There was nothing to be flushed.
+    Nothing,
+    /// The journal has no room until live blocks are home.
+    NoRoom,
+}
+
+// The last barrier of a flush was made: what it logs is in the journal, and that is committed.
+fn commit(node: &mut Node)
+    requires room { vec_len node.old.items < vec_capacity node.old.items }
+    ensures node { node.new ≡ record node.old { items = node.new.items; numbers = record node.old.numbers { low = node.old.numbers.begun } } }
+    ensures items { node.new.items.items ≡ node.old.items.items ++ TraceItem.Commit 1 node.old.log.sequence node.old.numbers.begun ∷ [] }
+{
+    let upto = node.numbers.begun;
+    node.numbers.low = upto;
+    let sequence = node.log.sequence();
+    put_in_room(
+        &mut node.items,
+        TraceItem::Commit {
+            node: 1,
+            sequence,
+            upto,
+        },
+    );
+}
+
+// Makes a barrier of a flush. With the last one the flush is in the journal.
+fn end_part<D: SharedDisk>(disk: &mut D, node: &mut Node) -> Result<(), Stop>
+    requires open { (D.state disk.old).is_fenced 1 ≡ false }
+    requires room { vec_len node.old.items + 2 ≤ vec_capacity node.old.items }
+    ensures carried { OnOk result (IsCarried node.old.block.items (point_of (D.state disk.old) (D.list disk.old) node.old) (point_of (D.state disk.new) (D.list disk.new) node.new) LogStep.Barrier) }
+    ensures node { OnOk result (node.new ≡ record node.old { items = node.new.items; flying = 0; numbers = node.new.numbers }) }
+    ensures none { OnOk result ((D.state disk.new).in_flight 1 ≡ []) }
+    ensures disk { OnOk result (D.state disk.new ≡ after_barrier (D.state disk.old) 1) }
+    ensures why { IfErr result IsOfDisk }
+    ensures failed { IfErr result (λ why. (D.state disk.new ≡ D.state disk.old) × (D.list disk.new ≡ D.list disk.old) × (node.new ≡ node.old)) }
+    ensures later { (i : ℕ) → D.faults disk.old i ≤ D.faults disk.new i }
+    ensures cause { IfErr result (HasCause (D.state disk.old).count (D.faults disk.old) (D.faults disk.new)) }
+{
+    put_barrier(disk, node)?;
+    if !node.log.is_flushing() {
+        commit(node);
+    }
+    Ok(())
+}
+
+// Carries out a step of a flush on the disk that the log has made: its bytes are the node's block.
+fn carry<D: SharedDisk>(disk: &mut D, node: &mut Node, step: LogStep) -> Result<(), Stop>
+    requires may { MayCarry (D.state disk.old) step }
+    requires size { length node.old.block.items ≡ (D.state disk.old).size }
+    requires count { node.old.flying ≡ length ((D.state disk.old).in_flight 1) }
+    requires open { (D.state disk.old).is_fenced 1 ≡ false }
+    requires room { vec_len node.old.items + 2 ≤ vec_capacity node.old.items }
+    ensures carried { IfMade result (IsCarried node.old.block.items (point_of (D.state disk.old) (D.list disk.old) node.old) (point_of (D.state disk.new) (D.list disk.new) node.new) step) }
+    ensures node { OnOk result (node.new ≡ record node.old { items = node.new.items; flying = node.new.flying; numbers = node.new.numbers; armed = node.new.armed }) }
+    ensures flies { OnOk result (FliesBehind (D.state disk.old) (D.state disk.new) step) }
+    ensures flying { OnOk result (node.new.flying ≡ length ((D.state disk.new).in_flight 1)) }
+    ensures disk { OnOk result (IsSameDisk (D.state disk.old) (D.state disk.new)) }
+    ensures failed { IfErr result (λ why. IfFailed why (FailsBehind (point_of (D.state disk.old) (D.list disk.old) node.old) (D.state disk.new) (D.list disk.new) × (node.new.items.items ≡ node.old.items.items))) }
+    ensures later { (i : ℕ) → D.faults disk.old i ≤ D.faults disk.new i }
+    ensures cause { IfErr result (HasCause (D.state disk.old).count (D.faults disk.old) (D.faults disk.new)) }
+{
+    match step {
+        LogStep::Write { block } => {
+            put_write(disk, node, block, TraceItem::WriteLog { node: 1, block })
+        }
+        LogStep::Head { block, sequence } => {
+            let upto = node.numbers.begun;
+            put_write(
+                disk,
+                node,
+                block,
+                TraceItem::WriteHead {
+                    node: 1,
+                    block,
+                    sequence,
+                    upto,
+                },
+            )
+        }
+        LogStep::Barrier => end_part(disk, node),
+        LogStep::NoRoom => unreachable!(),
+    }
+}
