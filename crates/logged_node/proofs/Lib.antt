@@ -1,0 +1,3 @@
+pub mod Flushes
+pub mod Carried
+pub mod Going

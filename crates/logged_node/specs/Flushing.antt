@@ -1,5 +1,5 @@
 -- A flush, as a node carries it out.
-use Rattle.std.specs.Prelude.{ℕ, ◌≡◌, ◌≢◌, ◌+◌, ◌-◌, ◌<◌, ⊤, List, [], ◌∷◌, ◌++◌, length, Option, None, Some}
+use Rattle.std.specs.Prelude.{ℕ, ◌≡◌, ◌≢◌, ◌+◌, ◌-◌, ◌<◌, ◌≤◌, ⊤, List, [], ◌∷◌, ◌++◌, length, Option, None, Some}
 use Rattle.log_values.specs.Flushing.{flush_chunks}
 use Rattle.log_values.specs.Log.{Flush, LogValue, Stage}
 use Rattle.log_values.specs.Log.Stage.{Ending, Headed, Writing}
@@ -9,15 +9,38 @@ use Rattle.shared_disk.specs.Disk.{DiskState, Operation, flight_to}
 use Rattle.trace_text.specs.declared.item.TraceItem.TheVariants as trace
 use Rattle.logged_steps.specs.Points.{Point, telling}
 use Rattle.logged_steps.specs.Steps.{GainsBarrier, GainsWrite, with_barrier, with_write}
-use Rattle.logged_node.specs.Nodes.{FliesAsFlushed, IsNodeOn, NoneGoesHome}
+use Rattle.log_widths.specs.Widths.{HasLogWidths}
+use Rattle.logged_steps.specs.Steps.{Steps}
+use Rattle.logged_node.specs.Nodes.{FliesAsFlushed, IsNodeOn, IsResting, IsSameDisk, NoneGoesHome, point_of}
+use Rattle.std.specs.FinMap as table
+use Rattle.log_layout.specs.Transactions.{after}
+use Rattle.log_values.specs.Blocks as set
+use Rattle.trace_text.specs.declared.item.TraceItem.{TraceItem}
 use Rattle.logged_node.specs.declared.node.Node.{Node}
 
--- a flush is under way: of it alone something is in flight
-pub record IsFlushing (d : DiskState) (n : Node) : Type 0 where
+-- how many of its writes may be in flight
+abbrev pub most_flown : Stage → ℕ
+most_flown (Writing done) = done
+most_flown Ending = 0
+most_flown (Headed tail) = 1
+
+-- the last item is that of its header
+abbrev pub TellsHead : Node → ℕ → Stage → Type 0
+TellsHead n sequence (Writing done) = ⊤
+TellsHead n sequence Ending = ⊤
+TellsHead n sequence (Headed tail) = (b : ℕ) × (before : List TraceItem) × (n.items.items ≡ before ++ trace.WriteHead 1 b sequence n.numbers.begun ∷ [])
+
+-- A flush is under way: of it alone something is in flight, and not too much; and nothing was changed since it began.
+pub record IsFlushing (d : DiskState) (n : Node) (f : Flush) : Type 0 where
   pub on : IsNodeOn d n
-  pub some : n.log.flush ≢ None
-  pub flies : FliesAsFlushed d n.log
+  pub is : n.log.flush ≡ Some f
+  pub small : length (flush_chunks n.log f) < 400
+  pub flies : FliesAsFlushed d n.log f
+  pub few : length (d.in_flight 1) ≤ most_flown f.stage
   pub home : NoneGoesHome n.log
+  pub told : TellsHead n (after n.log.sequence) f.stage
+  pub fresh : n.log.fresh ≡ table.empty
+  pub gone : n.log.gone ≡ set.empty
 
 -- ---- how many steps are left
 
@@ -57,3 +80,33 @@ FliesBehind d d' (step.Write b) = (c : ℕ) (bytes : List ℕ) → flight_to (d'
 FliesBehind d d' (step.Head b sequence) = (c : ℕ) (bytes : List ℕ) → flight_to (d'.in_flight 1) c ≡ Some bytes → (c ≡ b → ⊥) → flight_to (d.in_flight 1) c ≡ Some bytes
 FliesBehind d d' step.Barrier = d'.in_flight 1 ≡ []
 FliesBehind d d' step.NoRoom = ⊤
+
+-- ---- the flush goes on
+
+-- what no step of a flush changes: the node's view and its calls
+pub record KeepsCalls (n n' : Node) : Type 0 where
+  pub view : n'.view ≡ n.view
+  pub answered : n'.numbers.answered ≡ n.numbers.answered
+  pub changed : n'.numbers.changed ≡ n.numbers.changed
+  pub begun : n'.numbers.begun ≡ n.numbers.begun
+  pub journal : n'.log.journal ≡ n.log.journal
+
+-- a flush is in the journal: the node rests, and nothing is to be flushed
+pub record HasFlushed (d d' : DiskState) (n n' : Node) : Type 0 where
+  pub resting : IsResting d' n'
+  pub fresh : n'.log.fresh ≡ table.empty
+  pub gone : n'.log.gone ≡ set.empty
+  pub low : n'.numbers.low ≡ n.numbers.begun
+  pub sequence : n'.log.sequence ≡ n.log.sequence + 1
+
+-- one step of a flush: it is under way still, with one step less to go, or it is in the journal
+pub data GoesTo (d d' : DiskState) (n n' : Node) : Type 0 where
+  further : (f : Flush) → IsFlushing d' n' f → steps_left n'.log < steps_left n.log → n'.numbers.low ≡ n.numbers.low → n'.log.sequence ≡ n.log.sequence → GoesTo d d' n n'
+  through : HasFlushed d d' n n' → GoesTo d d' n n'
+
+pub record GoesOn (d : DiskState) (list : Option (List Operation)) (n : Node) (d' : DiskState) (list' : Option (List Operation)) (n' : Node) : Type 0 where
+  pub steps : (time : ℕ) → Steps time (point_of d list n) (point_of d' list' n')
+  pub kept : KeepsCalls n n'
+  pub disk : IsSameDisk d d'
+  pub widths : HasLogWidths n'.log
+  pub to : GoesTo d d' n n'

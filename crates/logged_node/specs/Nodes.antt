@@ -6,7 +6,10 @@ use Rattle.glock_names.specs.Views.{end_of}
 use Rattle.log_rings.specs.Flights.{chunk_place}
 use Rattle.log_tables.specs.Versions.Way.{Flying}
 use Rattle.log_values.specs.Flushing.{block_at, flush_chunks, head_place}
+use Rattle.log_values.specs.Changes.{most_unflushed}
 use Rattle.log_values.specs.Log.{Entry, Flush, LogValue, Stage}
+use Rattle.log_values.specs.Transactions.{due}
+use Rattle.node_journal.specs.Encoding.{size_of}
 use Rattle.log_values.specs.Log.Stage.{Ending, Headed, Writing}
 use Rattle.lone_logs.specs.States.{Numbers}
 use Rattle.lone_view.specs.Seeing.{Lone}
@@ -52,12 +55,8 @@ IsFlownBlock log f (Writing done) b = (k : ℕ) × (k < done) × (k < length (fl
 IsFlownBlock log f Ending b = ⊥
 IsFlownBlock log f (Headed tail) b = b ≡ block_at log.journal (head_place log f)
 
-abbrev pub IsFlownBy : LogValue → Option Flush → ℕ → Type 0
-IsFlownBy log None b = ⊥
-IsFlownBy log (Some f) b = IsFlownBlock log f f.stage b
-
-abbrev pub FliesAsFlushed : DiskState → LogValue → Type 0
-FliesAsFlushed d log = (b : ℕ) (bytes : List ℕ) → flight_to (d.in_flight 1) b ≡ Some bytes → IsFlownBy log log.flush b
+abbrev pub FliesAsFlushed : DiskState → LogValue → Flush → Type 0
+FliesAsFlushed d log f = (b : ℕ) (bytes : List ℕ) → flight_to (d.in_flight 1) b ≡ Some bytes → IsFlownBlock log f f.stage b
 
 -- nothing is on its way home
 abbrev pub NoneGoesHome : LogValue → Type 0
@@ -67,12 +66,17 @@ NoneGoesHome log = (b : ℕ) (e : Entry) (bytes : List ℕ) → table.get log.li
 abbrev pub FliesHome : DiskState → LogValue → Type 0
 FliesHome d log = (b : ℕ) (bytes : List ℕ) → flight_to (d.in_flight 1) b ≡ Some bytes → (e : Entry) × (flown : List ℕ) × (table.get log.live b ≡ Some e) × (e.way ≡ Flying flown)
 
+-- what is due fits into the part of the journal that isn't flushed
+abbrev pub IsSmall : LogValue → Type 0
+IsSmall log = size_of log.journal.size (due log) ≤ most_unflushed
+
 -- it rests: no flush is under way, and nothing is in flight
 pub record IsResting (d : DiskState) (n : Node) : Type 0 where
   pub on : IsNodeOn d n
   pub idle : n.log.flush ≡ None
   pub none : d.in_flight 1 ≡ []
   pub home : NoneGoesHome n.log
+  pub small : IsSmall n.log
 
 -- ---- where it crashes
 
@@ -99,9 +103,9 @@ LeavesDisk p d list (stop.DiskFailed block rise) = FailsBehind p d list
 LeavesDisk p d list stop.Crashed = (d ≡ p.disk) × (list ≡ p.list)
 LeavesDisk p d list stop.NoMemory = (d ≡ p.disk) × (list ≡ p.list)
 
-pub record StopsBehind (time : ℕ) (p : Point) (d : DiskState) (list : Option (List Operation)) (items : List TraceItem) (why : Stop) : Type 0 where
+pub record StopsBehind (p : Point) (d : DiskState) (list : Option (List Operation)) (items : List TraceItem) (why : Stop) : Type 0 where
   pub last : Point
-  pub steps : Steps time p last
+  pub steps : (time : ℕ) → Steps time p last
   pub items : last.items ≡ items
   pub disk : LeavesDisk last d list why
 

@@ -1,16 +1,19 @@
 // Flushes: all that is due, or a header alone, comes into the journal.
-ghost use Rattle.std.specs.Prelude.{ℕ, ◌≡◌, ◌+◌, ◌++◌, ◌<◌, ◌≤◌, [], ◌∷◌, false, length, OnOk, IfErr};
+ghost use Rattle.std.specs.Prelude.{ℕ, ◌≡◌, ◌+◌, ◌++◌, ◌<◌, ◌≤◌, ◌^◌, [], ◌∷◌, false, length, OnOk, IfErr};
 ghost use Rattle.std.specs.Vec.{vec_capacity, vec_len};
 ghost use Rattle.shared_disk.specs.Disk.{after_barrier};
 ghost use Rattle.logged_node.specs.Ends.{HasCause, IfFailed, IfMade, IsOfDisk};
-ghost use Rattle.logged_node.specs.Flushing.{FliesBehind, IsCarried, MayCarry};
-ghost use Rattle.logged_node.specs.Nodes.{FailsBehind, IsSameDisk, point_of};
+ghost use Rattle.log_values.specs.Log.{Flush};
+ghost use Rattle.log_widths.specs.Widths.{HasLogWidths};
+ghost use Rattle.logged_node.specs.Flushing.{FliesBehind, GoesOn, IsCarried, IsFlushing, MayCarry};
+ghost use Rattle.logged_node.specs.Nodes.{FailsBehind, IsSameDisk, StopsBehind, point_of};
 
 use crate::deeds::{put_barrier, put_write};
 use crate::ends::Stop;
 use crate::node::Node;
 use disk_items::put_in_room;
-use log_values::LogStep;
+use log_values::{LogStep, a_flush_keeps};
+use log_widths::{widths_are_numbers, widths_stay};
 use shared_disk::SharedDisk;
 use trace_text::TraceItem;
 
@@ -100,5 +103,25 @@ fn carry<D: SharedDisk>(disk: &mut D, node: &mut Node, step: LogStep) -> Result<
         }
         LogStep::Barrier => end_part(disk, node),
         LogStep::NoRoom => unreachable!(),
+    }
+}
+
+// Makes the next step of a flush that is under way.
+fn go_on<D: SharedDisk>(disk: &mut D, node: &mut Node) -> Result<(), Stop>
+    requires flushing { (f : Flush) × IsFlushing (D.state disk.old) node.old f }
+    requires widths { HasLogWidths node.old.log }
+    requires sequence { node.old.log.sequence + 1 < 2 ^ 64 }
+    ensures came { OnOk result (GoesOn (D.state disk.old) (D.list disk.old) node.old (D.state disk.new) (D.list disk.new) node.new) }
+    ensures stopped { IfErr result (StopsBehind (point_of (D.state disk.old) (D.list disk.old) node.old) (D.state disk.new) (D.list disk.new) node.new.items.items) }
+    ensures later { (i : ℕ) → D.faults disk.old i ≤ D.faults disk.new i }
+    ensures cause { IfErr result (HasCause (D.state disk.old).count (D.faults disk.old) (D.faults disk.new)) }
+{
+    a_flush_keeps();
+    widths_are_numbers();
+    widths_stay();
+    node.items.reserve(2)?;
+    match node.log.flush_step(&mut node.block) {
+        Some(step) => carry(disk, node, step),
+        None => unreachable!(),
     }
 }

@@ -1,0 +1,223 @@
+-- Behind a step of a flush: it is under way still, or it is in the journal.
+use Rattle.std.proofs.Common.{◌≡◌, ◌≢◌, ◌≤◌, ◌<◌, ◌+◌, ℕ, zero, suc, ◌⊎◌, inl, inr, Bool, true, false, cond, List, [], ◌∷◌, ◌++◌, length, Option, None, Some, refl, sym, ap, ap₂, subst, subst₂, ◌∙◌, arith}
+use Rattle.std.specs.FinMap as table
+use Rattle.std.specs.Ordering.{nat_cmp}
+use Rattle.std.specs.Prelude.{slice_get, nat_lt, if◌then◌else◌}
+use Rattle.std.proofs.lemmas.Bool.{cases_eq}
+use Rattle.std.proofs.lemmas.Cmp.{nat_cmp_total, ranked}
+use Rattle.std.specs.declared.cmp.Ordering.TheVariants.{Equal}
+use Rattle.std.specs.List.{AllByRecursion}
+use Rattle.gfs2_layout.specs.Device.{IsBlockSize}
+use Rattle.glock_names.specs.Views.{end_of}
+use Rattle.log_layout.specs.Transactions.{after}
+use Rattle.log_rings.specs.Flights.{chunk_place}
+use Rattle.log_tables.specs.Versions.Way.{Away, Flying, Home}
+use Rattle.log_values.specs.Blocks as set
+use Rattle.log_values.specs.Changes.{most_unflushed}
+use Rattle.log_values.specs.Flushing.{FlushStep, a_barrier, a_block, a_header, at_stage, behind_tail, block_at, first_place, flush_chunks, head_place, left_from, live_behind, logged_over, settled, settled_way, the_last}
+use Rattle.log_values.specs.Log.{Entry, Flush, LogValue, Stage, Version, Way}
+use Rattle.log_values.specs.Log.Stage.{Ending, Headed, Writing}
+use Rattle.log_values.specs.Transactions.{due, live_among, transaction}
+use Rattle.log_values.specs.declared.steps.LogStep.{LogStep}
+use Rattle.log_values.specs.declared.steps.LogStep.TheVariants as step
+use Rattle.log_values.proofs.Landing.{nothing_is, nothing_takes}
+use Rattle.node_journal.specs.Encoding.{size_of}
+use Rattle.shared_disk.specs.Disk.{DiskState, Flight, Operation, after_write, flight_to, with_flight}
+use Rattle.trace_text.specs.declared.item.TraceItem.{TraceItem}
+use Rattle.trace_text.specs.declared.item.TraceItem.TheVariants as trace
+use Rattle.logged_node.specs.Flushing.{FliesBehind, GoesTo, HasFlushed, IsFlushing, TellsHead, further, left_at, left_of, most_flown, steps_left, through}
+use Rattle.logged_node.specs.Nodes.{FliesAsFlushed, IsFlownBlock, IsNodeOn, IsResting, IsSameDisk, IsSmall, NoneGoesHome}
+use Rattle.logged_node.specs.declared.node.Node.{Node}
+use Rattle.logged_node.proofs.Flushes.{none_some, slice_get_low}
+
+-- ---- it is the node that it was
+
+pub on_still : (d d' : DiskState) (n n' : Node) → IsNodeOn d n → IsSameDisk d d' → n'.log.journal ≡ n.log.journal → n'.view ≡ n.view → length n'.block.items ≡ length n.block.items
+    → n'.flying ≡ length (d'.in_flight 1) → n'.flying ≤ 512 → IsNodeOn d' n'
+on_still d d' n n' on same journal view block flying few = record {
+  block = block ∙ on.block ∙ sym same.size;
+  journal = ap (λ j. j.size) journal ∙ on.journal ∙ sym same.size;
+  view = ap (λ v. v.size) view ∙ on.view ∙ sym same.size;
+  places = λ p low. subst₂ (λ j c. block_at j p < c) (sym journal) (sym same.count) (on.places p (subst (λ j. p < j.length) journal low));
+  apart = λ p q a b e. on.apart p q (subst (λ j. p < j.length) journal a) (subst (λ j. q < j.length) journal b) (subst (λ j. block_at j p ≡ block_at j q) journal e);
+  some = subst (λ v. 1 ≤ length v.groups) (sym view) on.some;
+  groups = subst₂ (λ v c. AllByRecursion (λ g. end_of g ≤ c) v.groups) (sym view) (sym same.count) on.groups;
+  kept = λ b bytes at. subst (λ c. b < c) (sym same.count) (on.kept b bytes (subst (λ v. table.get v.blocks b ≡ Some bytes) view at));
+  open = ap (λ f. f 1) same.fenced ∙ on.open;
+  flying = flying;
+  few = few;
+}
+
+-- ---- nothing goes home
+
+abbrev Live : Type 0
+Live = table.FinMap nat_cmp Entry
+
+abbrev pub IsStill : Option Entry → Type 0
+IsStill o = (e : Entry) (bytes : List ℕ) → o ≡ Some e → e.way ≡ Flying bytes → ⊥
+
+home_flying : {bytes : List ℕ} → Home ≡ Flying bytes → ⊥
+home_flying e = cc
+
+away_flying : {a b : List ℕ} → Away a ≡ Flying b → ⊥
+away_flying e = cc
+
+entry_same : {a b : Entry} → Some a ≡ Some b → a ≡ b
+entry_same e = cc
+
+settled_still : (o : Option Entry) → IsStill (settled o)
+settled_still None e bytes is flies = none_some is
+settled_still (Some x) e bytes is flies = by x.way (ap (λ (y : Entry). y.way) (entry_same is) ∙ flies)
+  where
+    by : (w : Way) → settled_way w ≡ Flying bytes → ⊥
+    by Home h = home_flying h
+    by (Away a) h = away_flying h
+    by (Flying a) h = home_flying h
+
+none_still : IsStill None
+none_still e bytes is flies = none_some is
+
+if_still : (t : Bool) (o : Option Entry) → IsStill o → IsStill (if t then None else o)
+if_still true o still = none_still
+if_still false o still = still
+
+left_still : (log : LogValue) (tail : ℕ) (o : Option Entry) → IsStill o → IsStill (left_from log tail o)
+left_still log tail None still = none_still
+left_still log tail (Some x) still = if_still (nat_lt (behind_tail log x.first) (behind_tail log tail)) (Some x) still
+
+logged_still : (v : Option Version) (first : ℕ) (o : Option Entry) → IsStill o → IsStill (logged_over v first o)
+logged_still None first o still = still
+logged_still (Some v) first o still e bytes is flies = away_flying (ap (λ (y : Entry). y.way) (entry_same is) ∙ flies)
+
+behind_still : (log : LogValue) (f : Flush) (tail b : ℕ) → IsStill (table.get log.live b) → IsStill (live_behind log f tail b)
+behind_still log f tail b still =
+    logged_still (table.get f.versions b) (first_place log) _ (if_still (set.contains f.revokes b) (left_from log tail (table.get log.live b)) (left_still log tail (table.get log.live b) still))
+
+-- ---- one more write in flight
+
+length_with : (fs : List Flight) (new : Flight) → length (with_flight fs new) ≡ suc (length fs)
+length_with [] new = refl
+length_with (f ∷ fs) new = by (nat_lt new.block f.block)
+  where
+    by : (t : Bool) → length (if t then new ∷ f ∷ fs else f ∷ with_flight fs new) ≡ suc (suc (length fs))
+    by true = refl
+    by false = ap suc (length_with fs new)
+
+none_in : (fs : List Flight) → length fs ≤ 0 → fs ≡ []
+none_in [] low = refl
+none_in (f ∷ fs) low = absurd (omega (arith, low))
+
+-- ---- behind a step
+
+retained : (s : set.Blocks) (p : ℕ → Bool) → s ≡ set.empty → set.retain s p ≡ set.empty
+retained s p none = ap (λ x. set.retain x p) none ∙ table.same_map nat_cmp_total table.nat_cmp-IsAntisymmetric (set.retain set.empty p) set.empty (λ q. nothing q)
+  where
+    nothing : (q : ℕ) → table.get (set.retain set.empty p) q ≡ table.get set.empty q
+    nothing q = table.get-retain_keys set.empty p q (λ x e. ap p (sym (ranked q x Equal (sym e)))) ∙ by (p q)
+      where
+        by : (t : Bool) → cond t (table.get set.empty q) None ≡ table.get set.empty q
+        by true = refl
+        by false = sym (table.get-empty nat_cmp q)
+
+module _ (d d' : DiskState) (n n' : Node) (f : Flush) (bytes : List ℕ) (at : IsFlushing d n f) (sized : IsBlockSize n.log.journal.size) (on' : IsNodeOn d' n') (begun : n'.numbers.begun ≡ n.numbers.begun) where
+  left_is : (stage : Stage) → f.stage ≡ stage → steps_left n.log ≡ left_at (length (flush_chunks n.log f)) stage
+  left_is stage e = ap (λ (o : Option Flush). left_of n.log o) at.is ∙ ap (left_at (length (flush_chunks n.log f))) e
+
+  -- a block is in flight
+  pub behind_block : (k b : ℕ) → f.stage ≡ Writing k → slice_get (flush_chunks n.log f) k ≡ Some bytes → b ≡ block_at n.log.journal (chunk_place n.log k) → n'.log ≡ at_stage n.log f (Writing (k + 1))
+      → d'.in_flight 1 ≡ with_flight (d.in_flight 1) (record { block = b; bytes = bytes }) → FliesBehind d d' (step.Write b) → n'.numbers.low ≡ n.numbers.low → GoesTo d d' n n'
+  behind_block k b stage chunk block log flights others low = further (record f { stage = Writing (k + 1) }) (record {
+    on = on';
+    is = ap (λ (l : LogValue). l.flush) log;
+    small = subst (λ (l : LogValue). length (flush_chunks l (record f { stage = Writing (k + 1) })) < 400) (sym log) at.small;
+    flies = subst (λ (l : LogValue). FliesAsFlushed d' l (record f { stage = Writing (k + 1) })) (sym log) flies;
+    few = (let long = ap length flights ∙ length_with (d.in_flight 1) (record { block = b; bytes = bytes }) in let old = subst (λ s. length (d.in_flight 1) ≤ most_flown s) stage at.few in omega (arith, long, old));
+    home = subst NoneGoesHome (sym log) at.home;
+    told = tt;
+    fresh = ap (λ (l : LogValue). l.fresh) log ∙ at.fresh;
+    gone = ap (λ (l : LogValue). l.gone) log ∙ at.gone;
+  }) less low (ap (λ (l : LogValue). l.sequence) log)
+    where
+      inside : k < length (flush_chunks n.log f)
+      inside = slice_get_low (flush_chunks n.log f) k bytes chunk
+
+      flies : (c : ℕ) (x : List ℕ) → flight_to (d'.in_flight 1) c ≡ Some x → IsFlownBlock n.log f (Writing (k + 1)) c
+      flies c x is = elim (cases_eq c b) [
+        | inl same ↦ (k, ((omega arith), (inside, same ∙ block)))
+        | inr other ↦
+            let old = subst (λ s. IsFlownBlock n.log f s c) stage (at.flies c x (others c x is other)) in
+            (old.0, ((let l = old.1 in omega (arith, l)), (old.2, old.3)))
+      ]
+
+      less : steps_left n'.log < steps_left n.log
+      less = subst₂ (λ a c. a < c) (sym (ap steps_left log)) (sym (left_is (Writing k) stage)) (let l = inside in omega (arith, l))
+
+  -- a barrier was made between the blocks and the header
+  pub behind_barrier : (live : Live) → f.stage ≡ Writing (length (flush_chunks n.log f)) → n'.log ≡ record (at_stage n.log f Ending) { live = live } → ((b : ℕ) → table.get live b ≡ settled (table.get n.log.live b))
+      → d'.in_flight 1 ≡ [] → n'.numbers.low ≡ n.numbers.low → GoesTo d d' n n'
+  behind_barrier live stage log settles none low = further (record f { stage = Ending }) (record {
+    on = on';
+    is = ap (λ (l : LogValue). l.flush) log;
+    small = subst (λ (l : LogValue). length (flush_chunks l (record f { stage = Ending })) < 400) (sym log) at.small;
+    flies = λ b x is. absurd (none_some (ap (λ fs. flight_to fs b) (sym none) ∙ is));
+    few = (let long = ap length none in omega (arith, long));
+    home = subst NoneGoesHome (sym log) (λ b e x is flies. settled_still (table.get n.log.live b) e x (sym (settles b) ∙ is) flies);
+    told = tt;
+    fresh = ap (λ (l : LogValue). l.fresh) log ∙ at.fresh;
+    gone = ap (λ (l : LogValue). l.gone) log ∙ at.gone;
+  }) (subst₂ (λ a c. a < c) (sym (ap steps_left log)) (sym (left_is (Writing (length (flush_chunks n.log f))) stage)) (omega arith)) low (ap (λ (l : LogValue). l.sequence) log)
+
+  -- its header is in flight
+  pub behind_header : (tail b : ℕ) → f.stage ≡ Ending → b ≡ block_at n.log.journal (head_place n.log f) → n'.log ≡ at_stage n.log f (Headed tail)
+      → d'.in_flight 1 ≡ with_flight (d.in_flight 1) (record { block = b; bytes = bytes }) → FliesBehind d d' (step.Head b (after n.log.sequence))
+      → n'.items.items ≡ n.items.items ++ trace.WriteHead 1 b (after n.log.sequence) n.numbers.begun ∷ [] → n'.numbers.low ≡ n.numbers.low → GoesTo d d' n n'
+  behind_header tail b stage block log flights others items low = further (record f { stage = Headed tail }) (record {
+    on = on';
+    is = ap (λ (l : LogValue). l.flush) log;
+    small = subst (λ (l : LogValue). length (flush_chunks l (record f { stage = Headed tail })) < 400) (sym log) at.small;
+    flies = subst (λ (l : LogValue). FliesAsFlushed d' l (record f { stage = Headed tail })) (sym log) flies;
+    few = (let long = ap length flights ∙ length_with (d.in_flight 1) (record { block = b; bytes = bytes }) in let old = none_before in omega (arith, long, old));
+    home = subst NoneGoesHome (sym log) at.home;
+    told = (b, n.items.items, items ∙ ap₂ (λ (s u : ℕ). n.items.items ++ trace.WriteHead 1 b s u ∷ []) (ap after (sym (ap (λ (l : LogValue). l.sequence) log))) (sym begun));
+    fresh = ap (λ (l : LogValue). l.fresh) log ∙ at.fresh;
+    gone = ap (λ (l : LogValue). l.gone) log ∙ at.gone;
+  }) (subst₂ (λ a c. a < c) (sym (ap steps_left log)) (sym (left_is Ending stage)) (omega arith)) low (ap (λ (l : LogValue). l.sequence) log)
+    where
+      none_before : length (d.in_flight 1) ≤ 0
+      none_before = subst (λ s. length (d.in_flight 1) ≤ most_flown s) stage at.few
+
+      flies : (c : ℕ) (x : List ℕ) → flight_to (d'.in_flight 1) c ≡ Some x → IsFlownBlock n.log f (Headed tail) c
+      flies c x is = elim (cases_eq c b) [
+        | inl same ↦ same ∙ block
+        | inr other ↦ absurd (none_some (ap (λ fs. flight_to fs c) (sym (none_in (d.in_flight 1) none_before)) ∙ others c x is other))
+      ]
+
+  -- the last barrier: it is in the journal
+  pub behind_last : (tail : ℕ) (live : Live)
+      → n'.log ≡ record n.log { head = head_place n.log f; tail = tail; sequence = after n.log.sequence; clean = false; gone = live_among live n.log.gone; flush = None; live = live }
+      → ((b : ℕ) → table.get live b ≡ live_behind n.log f tail b) → d'.in_flight 1 ≡ [] → n'.numbers.low ≡ n.numbers.begun → after n.log.sequence ≡ n.log.sequence + 1 → GoesTo d d' n n'
+  behind_last tail live log lives none low sequence = through (record {
+    resting = record {
+      on = on';
+      idle = ap (λ (l : LogValue). l.flush) log;
+      none = none;
+      home = subst NoneGoesHome (sym log) (λ b e x is flies. behind_still n.log f tail b (λ y z h i. at.home b y z h i) e x (sym (lives b) ∙ is) flies);
+      small = nothing_due;
+    };
+    fresh = fresh;
+    gone = gone;
+    low = low;
+    sequence = ap (λ (l : LogValue). l.sequence) log ∙ sequence;
+  })
+    where
+      fresh : n'.log.fresh ≡ table.empty
+      fresh = ap (λ (l : LogValue). l.fresh) log ∙ at.fresh
+
+      gone : n'.log.gone ≡ set.empty
+      gone = ap (λ (l : LogValue). l.gone) log ∙ retained n.log.gone (table.contains_key live) at.gone
+
+      sized_still : IsBlockSize n'.log.journal.size
+      sized_still = subst (λ (l : LogValue). IsBlockSize l.journal.size) (sym log) sized
+
+      nothing_due : IsSmall n'.log
+      nothing_due = subst (λ (k : ℕ). k ≤ most_unflushed) (sym (ap (size_of n'.log.journal.size) ((λ i. transaction (fresh i) (gone i)) ∙ nothing_is) ∙ nothing_takes n'.log.journal.size sized_still)) (omega arith)
