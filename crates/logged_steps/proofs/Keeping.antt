@@ -34,11 +34,12 @@ use Rattle.log_values.specs.Log.{Flush, LogValue}
 use Rattle.lone_images.specs.Lone.{version_with}
 use Rattle.lone_logs.specs.Laws.{AnswersLogged, BarriersSettle, BlocksAreWritten, BlocksGoHome, CallsAreLogged, FirstBarriersSettle, FlushesBegin, HeadersAreWritten, HeadersBegin, IsItsView, LastBarriersLand, QuietCallsAreLogged, ReadsAreLogged, SpacelessCallsAreLogged, StaysAnswered, StaysLogged, SyncsAreLogged}
 use Rattle.lone_logs.specs.States.{IsLoggedNode, NodeState, trees_on}
-use Rattle.lone_machine.specs.Alone.{Begun, next_item}
+use Rattle.lone_machine.specs.Alone.{Begun, next_item, now}
+use Rattle.call_blocks.specs.Lone.{IsItsAnswer, ItsBlocksMayChange, MayChangeBehindBarriers, MayChangeBehindCalls, MayChangeThere, MayChangeWithoutCalls}
 use Rattle.lone_view.specs.Seeing.{Lone, seen_alone}
 use Rattle.run_rules.specs.Follows as run
 use Rattle.script_lang.specs.declared.script.Client.{Client}
-use Rattle.shared_disk.specs.Disk.{DiskState, IsSound, flight_to, read_gives}
+use Rattle.shared_disk.specs.Disk.{DiskState, IsSound, after_barrier, flight_to, read_gives}
 use Rattle.trace_text.specs.declared.item.TraceItem.{TraceItem}
 use Rattle.trace_text.specs.declared.item.TraceItem.TheVariants as trace
 use Rattle.tree_histories.specs.Trees.{Told, history_of}
@@ -125,14 +126,10 @@ sync_changes_none call reply is = ap (λ (c : Call). Changes (record { call = c;
 
 -- ---- one step
 
--- what a call writes, a replay may change
-abbrev pub WritesMayChange : Type 0
-WritesMayChange = (v : Volume) (s : Begun (trees_on v)) (w : World (trees_on v)) (d : ℕ) (st : NodeState) (view : Lone) (time : ℕ) (call : Call) (reply : Reply) (change : Change)
-    → IsLoggedNode v s w d st → IsItsView v st (seen_alone view) → IsDoneBy view time call reply change → (b : ℕ) → writes change b ≡ true → MayChange st.image v.layout b
-
 module _ (calls_are_logged : CallsAreLogged) (quiet_calls_are_logged : QuietCallsAreLogged) (spaceless_calls_are_logged : SpacelessCallsAreLogged) (syncs_are_logged : SyncsAreLogged)
     (reads_are_logged : ReadsAreLogged) (flushes_begin : FlushesBegin) (headers_begin : HeadersBegin) (blocks_are_written : BlocksAreWritten) (headers_are_written : HeadersAreWritten)
-    (barriers_settle : BarriersSettle) (first_barriers_settle : FirstBarriersSettle) (last_barriers_land : LastBarriersLand) (blocks_go_home : BlocksGoHome) (may_change : WritesMayChange) where
+    (barriers_settle : BarriersSettle) (first_barriers_settle : FirstBarriersSettle) (last_barriers_land : LastBarriersLand) (blocks_go_home : BlocksGoHome) (its_blocks_may_change : ItsBlocksMayChange)
+    (may_behind_calls : MayChangeBehindCalls) (may_behind_barriers : MayChangeBehindBarriers) (may_without_calls : MayChangeWithoutCalls) where
 
   module _ (v : Volume) (s : Begun (trees_on v)) (d : ℕ) (clients : List Client) (time : ℕ) (p : Point) (at : IsLoggedAt v s d clients p) where
     abbrev st : NodeState
@@ -142,21 +139,32 @@ module _ (calls_are_logged : CallsAreLogged) (quiet_calls_are_logged : QuietCall
     its = record { volume = at.volume; blocks = λ b. refl }
 
     -- a step that answers no call
-    stays : (q : Point) (item : List TraceItem) → IsTrue q.disk.tells → IsSound q.disk → q.view ≡ p.view → run.history_of clients q.items ≡ run.history_of clients p.items → StaysLogged v s at.world d (state_of q) → IsLoggedAt v s d clients q
-    stays q item tells sound view items stay = record {
+    stays : (q : Point) → IsTrue q.disk.tells → IsSound q.disk → q.view ≡ p.view → run.history_of clients q.items ≡ run.history_of clients p.items → (stay : StaysLogged v s at.world d (state_of q))
+        → MayChangeThere v stay.world (image_of q.disk) → IsLoggedAt v s d clients q
+    stays q tells sound view items stay may = record {
       tells = tells;
       sound = sound;
       world = stay.world;
       is = stay.is;
       volume = subst (λ (n : Lone). IsOfVolume v (seen_alone n)) (sym view) at.volume;
       history = items ∙ at.history ∙ sym (ap (history_of (images_of v)) stay.items);
+      may = may;
     }
+
+    -- where the blocks on the disk are as they were
+    on_same : (w' : World (trees_on v)) → now (trees_on v) w' ≡ now (trees_on v) at.world → MayChangeThere v w' (image_of p.disk)
+    on_same w' same = may_without_calls v at.world w' (image_of p.disk) (λ b. ap (λ f. f b) same) at.may
+
+    -- where all that was in flight is in its place
+    behind_barrier : (w' : World (trees_on v)) → now (trees_on v) w' ≡ now (trees_on v) at.world → MayChangeThere v w' (image_of (after_barrier p.disk 1))
+    behind_barrier w' same = may_behind_barriers v s at.world w' d st (image_of (after_barrier p.disk 1)) at.is (landed_as p.disk at.tells at.sound) (λ b. ap (λ f. f b) same) at.may
 
     -- one that answers one
     answers : (q : Point) (name : List ℕ) (call : Call) (reply : Reply) (w' : World (trees_on v)) → q.disk ≡ p.disk → q.items ≡ p.items ++ call_item p name call reply ∷ [] → IsOfVolume v (seen_alone q.view)
         → IsLoggedNode v s w' d (state_of q) → w'.items ≡ at.world.items ++ (next_item (trees_on v) s at.world (record { client = run.place_of clients name; call = call; reply = reply }) ∷ [])
-        → IsLoggedAt v s d clients q
-    answers q name call reply w' disk items volume is added = record {
+        → MayChangeThere v w' (image_of p.disk) → IsLoggedAt v s d clients q
+    answers q name call reply w' disk items volume is added may = record {
+      may = subst (λ (e : DiskState). MayChangeThere v w' (image_of e)) (sym disk) may;
       tells = subst (λ (e : DiskState). IsTrue e.tells) (sym disk) at.tells;
       sound = subst IsSound (sym disk) at.sound;
       world = w';
@@ -164,6 +172,9 @@ module _ (calls_are_logged : CallsAreLogged) (quiet_calls_are_logged : QuietCall
       volume = volume;
       history = ap (run.history_of clients) items ∙ with_next v s at.world w' clients p.items name call reply p.numbers.answered at.is.node at.is.numbers.answered at.history added;
     }
+
+    its_answer : (call : Call) (reply : Reply) (change : Change) → IsDoneBy p.view time call reply change → IsItsAnswer v st (seen_alone p.view) call 1 reply change
+    its_answer call reply change done = record { view = its; inside = done.inside; does = done.does; under = done.under }
 
     -- the call and its reply, as the machine has them
     abbrev told : List ℕ → Call → Reply → Told
@@ -183,6 +194,7 @@ module _ (calls_are_logged : CallsAreLogged) (quiet_calls_are_logged : QuietCall
       is = subst (λ (x : List ℕ). IsLoggedNode v s logged.1.world d (record st { kept = table.insert st.kept b x })) (sym is_read) logged.1.is;
       volume = of_volume v p.view (table.insert p.view.blocks b bytes) at.volume inserted_whole;
       history = at.history ∙ sym (ap (history_of (images_of v)) logged.1.items);
+      may = on_same logged.1.world logged.1.now;
     }
       where
         logged = reads_are_logged v s at.world d st (seen_alone p.view) b lock at.is its none asked
@@ -198,13 +210,16 @@ module _ (calls_are_logged : CallsAreLogged) (quiet_calls_are_logged : QuietCall
           | inr apart ↦ at.volume.view.whole c x (sym (inserted_apart nat_cmp_total nat_cmp-IsAntisymmetric p.view.blocks b bytes c apart) ∙ is)
         ]
     one _ (Answers name call reply change kept done some can room keeps) = answers _ name call reply logged.world refl refl (of_volume v p.view kept at.volume (kept_whole p.view change kept done.inside at.volume.view keeps)) logged.is logged.items
+        (may_behind_calls v s at.world logged.world d st (seen_alone p.view) call 1 reply change at.is (its_answer call reply change done) logged.now at.may)
       where
         logged = calls_are_logged v s at.world d st (seen_alone p.view) (told name call reply) change kept at.is (sync_is_quiet p.view call reply change done.does some) its done.inside done.does can room
-            (may_change v s at.world d st p.view time call reply change at.is its done) keeps
+            (its_blocks_may_change v s at.world d st (seen_alone p.view) call 1 reply change at.is (its_answer call reply change done) at.may) keeps
     one _ (AnswersQuietly name call reply change done none no_sync) = answers _ name call reply logged.world refl refl at.volume logged.is logged.items
+        (may_behind_calls v s at.world logged.world d st (seen_alone p.view) call 1 reply change at.is (its_answer call reply change done) logged.now at.may)
       where
         logged = quiet_calls_are_logged v s at.world d st (seen_alone p.view) (told name call reply) change at.is no_sync its done.inside done.does none
     one _ (Syncs name low) = answers _ name calls.Sync replies.Ok logged.world refl refl at.volume logged.is logged.items
+        (may_without_calls v at.world logged.world (image_of p.disk) logged.now at.may)
       where
         logged = syncs_are_logged v s at.world d st (run.place_of clients name) at.is low
     one _ (TellsFull call need free spaceless low) = record {
@@ -214,20 +229,30 @@ module _ (calls_are_logged : CallsAreLogged) (quiet_calls_are_logged : QuietCall
       is = at.is;
       volume = at.volume;
       history = with_other clients p.items (trace.Full 1 need free) refl ∙ at.history;
+      may = at.may;
     }
     one _ (HasNoSpace name call need free spaceless ends) = answers _ name call replies.NoSpace logged.world refl refl at.volume logged.is logged.items
+        (may_without_calls v at.world logged.world (image_of p.disk) logged.now at.may)
       where
         logged = spaceless_calls_are_logged v s at.world d st (seen_alone p.view) (run.place_of clients name) call at.is its spaceless.takes (λ im o l t of. taken_by (seen_alone p.view) call t need free spaceless.takes im o l (spaceless.few im o l t of))
-    one _ (BeginsFlush none due room) = stays _ [] at.tells at.sound refl refl (flushes_begin v s at.world d st at.is none due room)
-    one _ (BeginsHeader none home some no_more) = stays _ [] at.tells at.sound refl refl (headers_begin v s at.world d st at.is none home some no_more)
-    one _ (WritesLog new f b bytes list flush numbers step may gains) = stays _ [] at.tells (sound_write p b bytes may at.sound) refl (with_other clients p.items (trace.WriteLog 1 b) refl)
-        (blocks_are_written v s at.world d st new f b bytes _ at.is flush numbers step (flies_besides p b bytes may at.sound))
-    one _ (EndsBlocks new f done bytes list flush stage step gains) = stays _ [] at.tells (sound_barrier p.disk at.tells at.sound) refl (with_other clients p.items (trace.Barrier 1) refl)
-        (first_barriers_settle v s at.world d st new f done bytes _ at.is flush stage step (landed_as p.disk at.tells at.sound))
-    one _ (WritesHead new f b sequence bytes list flush numbers step may gains) = stays _ [] at.tells (sound_write p b bytes may at.sound) refl (with_other clients p.items (trace.WriteHead 1 b sequence p.numbers.begun) refl)
-        (headers_are_written v s at.world d st new f b sequence bytes _ at.is flush numbers step (flies_besides p b bytes may at.sound))
-    one _ (EndsFlush new f tail bytes list flush numbers stage step gains) = stays _ [] at.tells (sound_barrier p.disk at.tells at.sound) refl (with_other clients p.items (trace.Barrier 1) refl)
-        (last_barriers_land v s at.world d st new f tail bytes _ at.is flush numbers stage step (landed_as p.disk at.tells at.sound))
+    one _ (BeginsFlush none due room) = stays _ at.tells at.sound refl refl logged (on_same logged.world logged.now)
+      where
+        logged = flushes_begin v s at.world d st at.is none due room
+    one _ (BeginsHeader none home some no_more) = stays _ at.tells at.sound refl refl logged (on_same logged.world logged.now)
+      where
+        logged = headers_begin v s at.world d st at.is none home some no_more
+    one _ (WritesLog new f b bytes list flush numbers step may gains) = stays _ at.tells (sound_write p b bytes may at.sound) refl (with_other clients p.items (trace.WriteLog 1 b) refl) logged (on_same logged.world logged.now)
+      where
+        logged = blocks_are_written v s at.world d st new f b bytes _ at.is flush numbers step (flies_besides p b bytes may at.sound)
+    one _ (EndsBlocks new f done bytes list flush stage step gains) = stays _ at.tells (sound_barrier p.disk at.tells at.sound) refl (with_other clients p.items (trace.Barrier 1) refl) logged (behind_barrier logged.world logged.now)
+      where
+        logged = first_barriers_settle v s at.world d st new f done bytes _ at.is flush stage step (landed_as p.disk at.tells at.sound)
+    one _ (WritesHead new f b sequence bytes list flush numbers step may gains) = stays _ at.tells (sound_write p b bytes may at.sound) refl (with_other clients p.items (trace.WriteHead 1 b sequence p.numbers.begun) refl) logged (on_same logged.world logged.now)
+      where
+        logged = headers_are_written v s at.world d st new f b sequence bytes _ at.is flush numbers step (flies_besides p b bytes may at.sound)
+    one _ (EndsFlush new f tail bytes list flush numbers stage step gains) = stays _ at.tells (sound_barrier p.disk at.tells at.sound) refl (with_other clients p.items (trace.Barrier 1) refl) logged (behind_barrier logged.world logged.now)
+      where
+        logged = last_barriers_land v s at.world d st new f tail bytes _ at.is flush numbers stage step (landed_as p.disk at.tells at.sound)
     one _ (Commits b ends) = record {
       tells = at.tells;
       sound = at.sound;
@@ -235,11 +260,14 @@ module _ (calls_are_logged : CallsAreLogged) (quiet_calls_are_logged : QuietCall
       is = at.is;
       volume = at.volume;
       history = with_other clients p.items (trace.Commit 1 p.log.sequence p.numbers.low) refl ∙ at.history;
+      may = at.may;
     }
-    one _ (GoesHome new lock b bytes list answer may gains) = stays _ [] at.tells (sound_write p b bytes may at.sound) refl (with_other clients p.items (trace.WriteHome 1 b) refl)
-        (blocks_go_home v s at.world d st new lock b bytes _ at.is answer (flies_besides p b bytes may at.sound))
-    one _ (Rests new list no_header settles gains) = stays _ [] at.tells (sound_barrier p.disk at.tells at.sound) refl (with_other clients p.items (trace.Barrier 1) refl)
-        (barriers_settle v s at.world d st new _ at.is no_header settles (landed_as p.disk at.tells at.sound))
+    one _ (GoesHome new lock b bytes list answer may gains) = stays _ at.tells (sound_write p b bytes may at.sound) refl (with_other clients p.items (trace.WriteHome 1 b) refl) logged (on_same logged.world logged.now)
+      where
+        logged = blocks_go_home v s at.world d st new lock b bytes _ at.is answer (flies_besides p b bytes may at.sound)
+    one _ (Rests new list no_header settles gains) = stays _ at.tells (sound_barrier p.disk at.tells at.sound) refl (with_other clients p.items (trace.Barrier 1) refl) logged (behind_barrier logged.world logged.now)
+      where
+        logged = barriers_settle v s at.world d st new _ at.is no_header settles (landed_as p.disk at.tells at.sound)
     one _ Unmounts = record {
       tells = at.tells;
       sound = at.sound;
@@ -247,6 +275,7 @@ module _ (calls_are_logged : CallsAreLogged) (quiet_calls_are_logged : QuietCall
       is = at.is;
       volume = at.volume;
       history = with_other clients p.items (trace.Unmount 1) refl ∙ at.history;
+      may = at.may;
     }
 
   pub steps_keep : StepsKeep

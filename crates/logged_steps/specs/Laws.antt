@@ -1,9 +1,11 @@
 -- Laws of the steps of one node with its log.
 use Rattle.std.specs.Prelude.{ℕ, ◌≡◌, ◌≤◌, ◌++◌, IsTrue, List, length, take}
+use Rattle.call_blocks.specs.Lone.{MayChangeThere}
 use Rattle.cluster_laws.specs.World.{World}
 use Rattle.disk_items.specs.Deeds.{AreDoneBy}
 use Rattle.image_machine.specs.Cells.{IsOfVolume}
 use Rattle.image_machine.specs.Volumes.{Volume, images_of}
+use Rattle.image_model.specs.Image.{image_of}
 use Rattle.lone_logs.specs.States.{IsLoggedNode, trees_on}
 use Rattle.lone_machine.specs.Alone.{Begun}
 use Rattle.lone_view.specs.Seeing.{seen_alone}
@@ -25,6 +27,8 @@ pub record IsLoggedAt (v : Volume) (s : Begun (trees_on v)) (d : ℕ) (clients :
   pub is : IsLoggedNode v s world d (state_of p)
   pub volume : IsOfVolume v (seen_alone p.view)
   pub history : run.history_of clients p.items ≡ history_of (images_of v) world.items
+  -- what a replay may change of the image that the node works on, it may change of that on the disk
+  pub may : MayChangeThere v world (image_of p.disk)
 
 abbrev pub StepsKeep : Type 0
 StepsKeep = (v : Volume) (s : Begun (trees_on v)) (d : ℕ) (clients : List Client) (time : ℕ) (p q : Point) → IsLoggedAt v s d clients p → Steps time p q → IsLoggedAt v s d clients q

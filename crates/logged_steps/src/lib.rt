@@ -3,6 +3,7 @@
 
 ghost use Rattle.logged_steps.specs.Laws.{FrontsArePassed, StepsAreTold, StepsGoOn, StepsKeep};
 
+use call_blocks::{its_disk_may_change_alike, what_one_node_writes_a_replay_may_change};
 use disk_items::items_go_on;
 use lone_logs::{
     its_barriers_settle, its_blocks_are_written, its_calls_are_logged, its_flushes_begin,
@@ -21,6 +22,8 @@ pub fn steps_keep()
     its_barriers_settle();
     its_flushes_land();
     its_live_blocks_go_home();
+    what_one_node_writes_a_replay_may_change();
+    its_disk_may_change_alike();
 }
 
 /// A law: the operations on the disk are those that the items tell, in order; and the run came by each front of the items.

@@ -1,0 +1,5 @@
+pub mod Lists
+pub mod SystemRows
+pub mod SameSystem
+pub mod Replaying
+pub mod Lone
