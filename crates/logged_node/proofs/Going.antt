@@ -1,8 +1,8 @@
 -- Behind a step of a flush: it is under way still, or it is in the journal.
-use Rattle.std.proofs.Common.{◌≡◌, ◌≢◌, ◌≤◌, ◌<◌, ◌+◌, ℕ, zero, suc, ◌⊎◌, inl, inr, Bool, true, false, cond, List, [], ◌∷◌, ◌++◌, length, Option, None, Some, refl, sym, ap, ap₂, subst, subst₂, ◌∙◌, arith}
+use Rattle.std.proofs.Common.{◌≡◌, ◌≢◌, ◌≤◌, ◌<◌, ◌+◌, ℕ, zero, suc, ◌⊎◌, inl, inr, Bool, true, false, cond, List, [], ◌∷◌, ◌++◌, length, Option, None, Some, is_some, true≢false, refl, sym, ap, ap₂, subst, subst₂, ◌∙◌, arith}
 use Rattle.std.specs.FinMap as table
 use Rattle.std.specs.Ordering.{nat_cmp}
-use Rattle.std.specs.Prelude.{slice_get, nat_lt, if◌then◌else◌}
+use Rattle.std.specs.Prelude.{slice_get, nat_le, nat_lt, not, filter, count_by, if◌then◌else◌}
 use Rattle.std.proofs.lemmas.Bool.{cases_eq}
 use Rattle.std.proofs.lemmas.Cmp.{nat_cmp_total, ranked}
 use Rattle.std.specs.declared.cmp.Ordering.TheVariants.{Equal}
@@ -14,18 +14,23 @@ use Rattle.log_rings.specs.Flights.{chunk_place}
 use Rattle.log_tables.specs.Versions.Way.{Away, Flying, Home}
 use Rattle.log_values.specs.Blocks as set
 use Rattle.log_values.specs.Changes.{most_unflushed}
-use Rattle.log_values.specs.Flushing.{FlushStep, a_barrier, a_block, a_header, at_stage, behind_tail, block_at, first_place, flush_chunks, head_place, left_from, live_behind, logged_over, settled, settled_way, the_last}
+use Rattle.log_tables.specs.Kept.{is_home}
+use Rattle.log_values.specs.Flushing.{AllAreHome, IsTail, NoneIsNeeded, NothingIsLive, at_stage, behind_tail, block_at, first_place, flush_chunks, head_place, left_from, live_behind, logged_over, of_itself, of_none as of_no_versions, of_oldest, settled, settled_way}
+use Rattle.log_values.specs.Sound.{IsSoundLog, used}
 use Rattle.log_values.specs.Log.{Entry, Flush, LogValue, Stage, Version, Way}
 use Rattle.log_values.specs.Log.Stage.{Ending, Headed, Writing}
 use Rattle.log_values.specs.Transactions.{due, live_among, transaction}
 use Rattle.log_values.specs.declared.steps.LogStep.{LogStep}
 use Rattle.log_values.specs.declared.steps.LogStep.TheVariants as step
 use Rattle.log_values.proofs.Landing.{nothing_is, nothing_takes}
-use Rattle.node_journal.specs.Encoding.{size_of}
+use Rattle.log_layout.specs.Chunks.{Logged, Transaction}
+use Rattle.log_layout.specs.Journal.{way}
+use Rattle.std.proofs.lemmas.Bool.Decides.{nat_tests}
+use Rattle.node_journal.specs.Encoding.{content_of, metadata_of, size_of, size_with}
 use Rattle.shared_disk.specs.Disk.{DiskState, Flight, Operation, after_write, flight_to, with_flight}
 use Rattle.trace_text.specs.declared.item.TraceItem.{TraceItem}
 use Rattle.trace_text.specs.declared.item.TraceItem.TheVariants as trace
-use Rattle.logged_node.specs.Flushing.{FliesBehind, GoesTo, HasFlushed, IsFlushing, TellsHead, further, left_at, left_of, most_flown, steps_left, through}
+use Rattle.logged_node.specs.Flushing.{FliesBehind, GoesTo, HasFlushed, IsFlushing, IsKind, IsLeft, nothing, of_all, of_none, what_was, TellsHead, further, left_at, left_of, most_flown, steps_left, through}
 use Rattle.logged_node.specs.Nodes.{FliesAsFlushed, IsFlownBlock, IsNodeOn, IsResting, IsSameDisk, IsSmall, NoneGoesHome}
 use Rattle.logged_node.specs.declared.node.Node.{Node}
 use Rattle.logged_node.proofs.Flushes.{none_some, slice_get_low}
@@ -119,9 +124,69 @@ retained s p none = ap (λ x. set.retain x p) none ∙ table.same_map nat_cmp_to
         by true = refl
         by false = sym (table.get-empty nat_cmp q)
 
+-- what is live among nothing
+none_among : (live : Live) (gone : set.Blocks) → live ≡ table.empty → live_among live gone ≡ set.empty
+none_among live gone none = ap (λ l. live_among l gone) none ∙ table.same_map nat_cmp_total table.nat_cmp-IsAntisymmetric (live_among table.empty gone) set.empty (λ q. dropped q)
+  where
+    dropped : (q : ℕ) → table.get (set.retain gone (table.contains_key (table.empty {X = Entry} {R = nat_cmp}))) q ≡ table.get set.empty q
+    dropped q = table.get-retain_keys gone (table.contains_key (table.empty {X = Entry} {R = nat_cmp})) q (λ x e. ap (table.contains_key (table.empty {X = Entry} {R = nat_cmp})) (sym (ranked q x Equal (sym e))))
+        ∙ ap (λ t. cond t (table.get gone q) None) (ap is_some (table.get-empty nat_cmp q)) ∙ sym (table.get-empty nat_cmp q)
+
+-- where the tail is the head, nothing is live
+none_used : (log : LogValue) → IsSoundLog log → log.tail ≡ log.head → NothingIsLive log
+none_used log sound same = table.same_map nat_cmp_total table.nat_cmp-IsAntisymmetric log.live table.empty (λ q. table.get-entries log.live q ∙ ap (table.find nat_cmp q) none ∙ sym (table.get-empty nat_cmp q))
+  where
+    all_counted : (es : List (ℕ × Entry)) → count_by (λ (e : ℕ × Entry). nat_le 0 (behind_tail log e.1.first)) es ≡ length es
+    all_counted [] = refl
+    all_counted (e ∷ es) = ap suc (all_counted es)
+
+    no_way : used log ≡ 0
+    no_way = (let at : way log.journal.length log.tail log.head ≡ way log.journal.length log.head log.head = ap (λ t. way log.journal.length t log.head) same in at ∙ here log.journal.length log.head)
+      where
+        here : (n p : ℕ) → way n p p ≡ 0
+        here n p = grind (arith, nat_tests)
+
+    none_long : length (table.entries log.live) ≤ 0
+    none_long = (let room = sound.room 0 (omega arith) in let all = all_counted (table.entries log.live) in let w = no_way in omega (arith, room, all, w))
+
+    none : table.entries log.live ≡ []
+    none = by (table.entries log.live) none_long
+      where
+        by : (es : List (ℕ × Entry)) → length es ≤ 0 → es ≡ []
+        by [] low = refl
+        by (e ∷ es) low = absurd (omega (arith, low))
+
+-- without revokes a transaction is no larger
+smaller : (log new : LogValue) → new.fresh ≡ log.fresh → new.gone ≡ set.empty → new.journal ≡ log.journal → IsSmall log → IsSmall new
+smaller log new fresh gone journal small =
+    subst (λ (k : ℕ). k ≤ most_unflushed) (sym (ap₂ (λ (s : ℕ) (t : Transaction). size_of s t) (ap (λ j. j.size) journal) (λ i. transaction (fresh i) (gone i))))
+    (let less = fewer log.journal.size (transaction log.fresh set.empty) (due log) refl none in omega (arith, less, small))
+  where
+    none : length (set.items set.empty) ≡ 0
+    none = ap (λ (t : Transaction). length t.revokes) nothing_is
+
+    no_revokes : (s c m r r' : ℕ) → r ≡ 0 → size_with s c m r ≤ size_with s c m r'
+    no_revokes s c m r r' is = subst (λ k. size_with s c m k ≤ size_with s c m r') (sym is) (omega arith)
+
+    fewer : (s : ℕ) (t u : Transaction) → t.blocks ≡ u.blocks → length t.revokes ≡ 0 → size_of s t ≤ size_of s u
+    fewer s t u blocks is = subst (λ (bs : List Logged). size_with s (length (filter (λ (e : Logged). e.plain) bs)) (length (filter (λ (e : Logged). not e.plain) bs)) (length t.revokes) ≤ size_of s u) (sym blocks)
+        (no_revokes s (length (content_of u)) (length (metadata_of u)) (length t.revokes) (length u.revokes) is)
+
 module _ (d d' : DiskState) (n n' : Node) (f : Flush) (bytes : List ℕ) (at : IsFlushing d n f) (sized : IsBlockSize n.log.journal.size) (on' : IsNodeOn d' n') (begun : n'.numbers.begun ≡ n.numbers.begun) where
   left_is : (stage : Stage) → f.stage ≡ stage → steps_left n.log ≡ left_at (length (flush_chunks n.log f)) stage
   left_is stage e = ap (λ (o : Option Flush). left_of n.log o) at.is ∙ ap (left_at (length (flush_chunks n.log f))) e
+
+  staged : (stage : Stage) → IsKind n.log f → IsKind (at_stage n.log f stage) (record f { stage = stage })
+  staged stage (of_all fresh gone) = of_all fresh gone
+  staged stage (of_none versions revokes home small) = of_none versions revokes home small
+
+  settled_kind : (live : Live) → ((b : ℕ) → table.get live b ≡ settled (table.get n.log.live b)) → IsKind n.log f → IsKind (record (at_stage n.log f Ending) { live = live }) (record f { stage = Ending })
+  settled_kind live settles (of_all fresh gone) = of_all fresh gone
+  settled_kind live settles (of_none versions revokes home small) = of_none versions revokes (λ b e is. by b e (table.get n.log.live b) refl (sym (settles b) ∙ is)) small
+    where
+      by : (b : ℕ) (e : Entry) (o : Option Entry) → table.get n.log.live b ≡ o → settled o ≡ Some e → e.way ≡ Home
+      by b e None was is = absurd (none_some is)
+      by b e (Some x) was is = sym (ap (λ (y : Entry). y.way) (entry_same is)) ∙ ap settled_way (home b x was)
 
   -- a block is in flight
   pub behind_block : (k b : ℕ) → f.stage ≡ Writing k → slice_get (flush_chunks n.log f) k ≡ Some bytes → b ≡ block_at n.log.journal (chunk_place n.log k) → n'.log ≡ at_stage n.log f (Writing (k + 1))
@@ -134,8 +199,7 @@ module _ (d d' : DiskState) (n n' : Node) (f : Flush) (bytes : List ℕ) (at : I
     few = (let long = ap length flights ∙ length_with (d.in_flight 1) (record { block = b; bytes = bytes }) in let old = subst (λ s. length (d.in_flight 1) ≤ most_flown s) stage at.few in omega (arith, long, old));
     home = subst NoneGoesHome (sym log) at.home;
     told = tt;
-    fresh = ap (λ (l : LogValue). l.fresh) log ∙ at.fresh;
-    gone = ap (λ (l : LogValue). l.gone) log ∙ at.gone;
+    kind = subst (λ (l : LogValue). IsKind l (record f { stage = Writing (k + 1) })) (sym log) (staged (Writing (k + 1)) at.kind);
   }) less low (ap (λ (l : LogValue). l.sequence) log)
     where
       inside : k < length (flush_chunks n.log f)
@@ -163,8 +227,7 @@ module _ (d d' : DiskState) (n n' : Node) (f : Flush) (bytes : List ℕ) (at : I
     few = (let long = ap length none in omega (arith, long));
     home = subst NoneGoesHome (sym log) (λ b e x is flies. settled_still (table.get n.log.live b) e x (sym (settles b) ∙ is) flies);
     told = tt;
-    fresh = ap (λ (l : LogValue). l.fresh) log ∙ at.fresh;
-    gone = ap (λ (l : LogValue). l.gone) log ∙ at.gone;
+    kind = subst (λ (l : LogValue). IsKind l (record f { stage = Ending })) (sym log) (settled_kind live settles at.kind);
   }) (subst₂ (λ a c. a < c) (sym (ap steps_left log)) (sym (left_is (Writing (length (flush_chunks n.log f))) stage)) (omega arith)) low (ap (λ (l : LogValue). l.sequence) log)
 
   -- its header is in flight
@@ -179,8 +242,7 @@ module _ (d d' : DiskState) (n n' : Node) (f : Flush) (bytes : List ℕ) (at : I
     few = (let long = ap length flights ∙ length_with (d.in_flight 1) (record { block = b; bytes = bytes }) in let old = none_before in omega (arith, long, old));
     home = subst NoneGoesHome (sym log) at.home;
     told = (b, n.items.items, items ∙ ap₂ (λ (s u : ℕ). n.items.items ++ trace.WriteHead 1 b s u ∷ []) (ap after (sym (ap (λ (l : LogValue). l.sequence) log))) (sym begun));
-    fresh = ap (λ (l : LogValue). l.fresh) log ∙ at.fresh;
-    gone = ap (λ (l : LogValue). l.gone) log ∙ at.gone;
+    kind = subst (λ (l : LogValue). IsKind l (record f { stage = Headed tail })) (sym log) (staged (Headed tail) at.kind);
   }) (subst₂ (λ a c. a < c) (sym (ap steps_left log)) (sym (left_is Ending stage)) (omega arith)) low (ap (λ (l : LogValue). l.sequence) log)
     where
       none_before : length (d.in_flight 1) ≤ 0
@@ -193,31 +255,50 @@ module _ (d d' : DiskState) (n n' : Node) (f : Flush) (bytes : List ℕ) (at : I
       ]
 
   -- the last barrier: it is in the journal
-  pub behind_last : (tail : ℕ) (live : Live)
+  pub behind_last : (tail : ℕ) (live : Live) → IsTail n.log f tail → IsSoundLog n'.log
       → n'.log ≡ record n.log { head = head_place n.log f; tail = tail; sequence = after n.log.sequence; clean = false; gone = live_among live n.log.gone; flush = None; live = live }
       → ((b : ℕ) → table.get live b ≡ live_behind n.log f tail b) → d'.in_flight 1 ≡ [] → n'.numbers.low ≡ n.numbers.begun → after n.log.sequence ≡ n.log.sequence + 1 → GoesTo d d' n n'
-  behind_last tail live log lives none low sequence = through (record {
+  behind_last tail live tells sound' log lives none low sequence = through (record {
     resting = record {
       on = on';
       idle = ap (λ (l : LogValue). l.flush) log;
       none = none;
       home = subst NoneGoesHome (sym log) (λ b e x is flies. behind_still n.log f tail b (λ y z h i. at.home b y z h i) e x (sym (lives b) ∙ is) flies);
-      small = nothing_due;
+      small = (by at.kind).1.1;
     };
-    fresh = fresh;
-    gone = gone;
+    left = (by at.kind).0;
+    gone = (by at.kind).1.0;
     low = low;
     sequence = ap (λ (l : LogValue). l.sequence) log ∙ sequence;
   })
     where
-      fresh : n'.log.fresh ≡ table.empty
-      fresh = ap (λ (l : LogValue). l.fresh) log ∙ at.fresh
-
-      gone : n'.log.gone ≡ set.empty
-      gone = ap (λ (l : LogValue). l.gone) log ∙ retained n.log.gone (table.contains_key live) at.gone
-
       sized_still : IsBlockSize n'.log.journal.size
       sized_still = subst (λ (l : LogValue). IsBlockSize l.journal.size) (sym log) sized
 
-      nothing_due : IsSmall n'.log
-      nothing_due = subst (λ (k : ℕ). k ≤ most_unflushed) (sym (ap (size_of n'.log.journal.size) ((λ i. transaction (fresh i) (gone i)) ∙ nothing_is) ∙ nothing_takes n'.log.journal.size sized_still)) (omega arith)
+      fresh_is : n'.log.fresh ≡ n.log.fresh
+      fresh_is = ap (λ (l : LogValue). l.fresh) log
+
+      gone_is : n'.log.gone ≡ live_among live n.log.gone
+      gone_is = ap (λ (l : LogValue). l.gone) log
+
+      -- behind a header alone nothing is live
+      none_needed : AllAreHome n.log → NoneIsNeeded n.log f
+      none_needed home b e needed = true≢false (sym (ap is_home (home b e needed.live)) ∙ needed.away)
+
+      its_own : f.versions ≡ table.empty → AllAreHome n.log → (t : ℕ) → IsTail n.log f t → t ≡ head_place n.log f
+      its_own versions home _ (of_oldest b e needed oldest) = absurd (none_needed home b e needed)
+      its_own versions home _ (of_itself none some) = absurd (some versions)
+      its_own versions home _ (of_no_versions none empty) = refl
+
+      none_live : f.versions ≡ table.empty → AllAreHome n.log → NothingIsLive n'.log
+      none_live versions home = none_used n'.log sound' (ap (λ (l : LogValue). l.tail) log ∙ its_own versions home tail tells ∙ sym (ap (λ (l : LogValue). l.head) log))
+
+      by : IsKind n.log f → IsLeft n.log n'.log × ((n'.log.gone ≡ set.empty) × IsSmall n'.log)
+      by (of_all fresh gone) =
+          let no_fresh : n'.log.fresh ≡ table.empty = fresh_is ∙ fresh in
+          let no_gone : n'.log.gone ≡ set.empty = gone_is ∙ retained n.log.gone (table.contains_key live) gone in
+          (nothing no_fresh, (no_gone, subst (λ (k : ℕ). k ≤ most_unflushed) (sym (ap (size_of n'.log.journal.size) ((λ i. transaction (no_fresh i) (no_gone i)) ∙ nothing_is) ∙ nothing_takes n'.log.journal.size sized_still)) (omega arith)))
+      by (of_none versions revokes home small) =
+          let live_none : live ≡ table.empty = sym (ap (λ (l : LogValue). l.live) log) ∙ none_live versions home in
+          let no_gone : n'.log.gone ≡ set.empty = gone_is ∙ none_among live n.log.gone live_none in
+          (what_was fresh_is (none_live versions home), (no_gone, smaller n.log n'.log fresh_is no_gone (ap (λ (l : LogValue). l.journal) log) small))

@@ -1,6 +1,6 @@
 -- A flush, as a node carries it out.
 use Rattle.std.specs.Prelude.{ℕ, ◌≡◌, ◌≢◌, ◌+◌, ◌-◌, ◌<◌, ◌≤◌, ⊤, List, [], ◌∷◌, ◌++◌, length, Option, None, Some}
-use Rattle.log_values.specs.Flushing.{flush_chunks}
+use Rattle.log_values.specs.Flushing.{AllAreHome, NothingIsLive, flush_chunks}
 use Rattle.log_values.specs.Log.{Flush, LogValue, Stage}
 use Rattle.log_values.specs.Log.Stage.{Ending, Headed, Writing}
 use Rattle.log_values.specs.declared.steps.LogStep.{LogStep}
@@ -11,7 +11,7 @@ use Rattle.logged_steps.specs.Points.{Point, telling}
 use Rattle.logged_steps.specs.Steps.{GainsBarrier, GainsWrite, with_barrier, with_write}
 use Rattle.log_widths.specs.Widths.{HasLogWidths}
 use Rattle.logged_steps.specs.Steps.{Steps}
-use Rattle.logged_node.specs.Nodes.{FliesAsFlushed, IsNodeOn, IsResting, IsSameDisk, NoneGoesHome, point_of}
+use Rattle.logged_node.specs.Nodes.{FliesAsFlushed, IsNodeOn, IsResting, IsSameDisk, IsSmall, NoneGoesHome, point_of}
 use Rattle.std.specs.FinMap as table
 use Rattle.log_layout.specs.Transactions.{after}
 use Rattle.log_values.specs.Blocks as set
@@ -30,7 +30,12 @@ TellsHead n sequence (Writing done) = ⊤
 TellsHead n sequence Ending = ⊤
 TellsHead n sequence (Headed tail) = (b : ℕ) × (before : List TraceItem) × (n.items.items ≡ before ++ trace.WriteHead 1 b sequence n.numbers.begun ∷ [])
 
--- A flush is under way: of it alone something is in flight, and not too much; and nothing was changed since it began.
+-- Its kind: it has all that was due, and nothing was changed since it began; or it is a header alone, and all that is live is home.
+pub data IsKind (log : LogValue) (f : Flush) : Type 0 where
+  of_all : log.fresh ≡ table.empty → log.gone ≡ set.empty → IsKind log f
+  of_none : f.versions ≡ table.empty → f.revokes ≡ set.empty → AllAreHome log → IsSmall log → IsKind log f
+
+-- A flush is under way: of it alone something is in flight, and not too much.
 pub record IsFlushing (d : DiskState) (n : Node) (f : Flush) : Type 0 where
   pub on : IsNodeOn d n
   pub is : n.log.flush ≡ Some f
@@ -39,8 +44,7 @@ pub record IsFlushing (d : DiskState) (n : Node) (f : Flush) : Type 0 where
   pub few : length (d.in_flight 1) ≤ most_flown f.stage
   pub home : NoneGoesHome n.log
   pub told : TellsHead n (after n.log.sequence) f.stage
-  pub fresh : n.log.fresh ≡ table.empty
-  pub gone : n.log.gone ≡ set.empty
+  pub kind : IsKind n.log f
 
 -- ---- how many steps are left
 
@@ -91,10 +95,15 @@ pub record KeepsCalls (n n' : Node) : Type 0 where
   pub begun : n'.numbers.begun ≡ n.numbers.begun
   pub journal : n'.log.journal ≡ n.log.journal
 
--- a flush is in the journal: the node rests, and nothing is to be flushed
+-- what is to be flushed behind it: nothing; or, behind a header alone, what was, and nothing is live
+pub data IsLeft (log new : LogValue) : Type 0 where
+  nothing : new.fresh ≡ table.empty → IsLeft log new
+  what_was : new.fresh ≡ log.fresh → NothingIsLive new → IsLeft log new
+
+-- a flush is in the journal, and the node rests
 pub record HasFlushed (d d' : DiskState) (n n' : Node) : Type 0 where
   pub resting : IsResting d' n'
-  pub fresh : n'.log.fresh ≡ table.empty
+  pub left : IsLeft n.log n'.log
   pub gone : n'.log.gone ≡ set.empty
   pub low : n'.numbers.low ≡ n.numbers.begun
   pub sequence : n'.log.sequence ≡ n.log.sequence + 1
