@@ -1,5 +1,5 @@
 -- The machine's disk as an image with writes in flight to it, and what becomes of them.
-use Rattle.std.specs.Prelude.{ℕ, ◌≡◌, ◌⊎◌, ◌<◌, Bool, true, false, List, ◌++◌, length, Some, None}
+use Rattle.std.specs.Prelude.{ℕ, ◌≡◌, ◌⊎◌, ◌<◌, if◌then◌else◌, Bool, true, false, List, ◌++◌, length, Some, None}
 use Rattle.gfs2_layout.specs.Inode.{content_block}
 use Rattle.cluster_history.specs.History.{tree_of}
 use Rattle.cluster_history.specs.History as history
@@ -13,7 +13,7 @@ use Rattle.image_model.specs.Image.{Image}
 use Rattle.image_model.specs.Replays.{HasItsJournals, MayChange, Replayed, StandsReplayed, live_at}
 use Rattle.image_model.specs.Stands.{IsJournalAt}
 use Rattle.journal_outcomes.specs.Images.{HeaderFliesTo, MayBeInFlight, landed_at, ring_at, to_journal}
-use Rattle.journal_outcomes.specs.Rings.{InFlight}
+use Rattle.journal_outcomes.specs.Rings.{InFlight, SaysAs}
 use Rattle.log_layout.specs.Live.{IsReadable, live_in}
 use Rattle.tree_histories.specs.Trees.{Trees, history_of}
 use Rattle.image_machine.specs.Laws.{HasBlocksFor}
@@ -71,6 +71,8 @@ pub record IsOutcomeOf (v : Volume) (d : Disk (Trees (images_of v))) (rings : Ri
   pub change : (b : ℕ) → MayChange im v.layout b → MayChange left v.layout b
   -- a header that has come to its place, with all else that flew to its journal, counts
   pub landed : (j k : ℕ) → IsJournalAt v.layout j k → HeaderFliesTo im k flying → HasLandedAt im k flying left → choice j ≡ true
+  -- each journal says what it said, or, where its new head is taken, what it says with that header in its place
+  pub says : (j k : ℕ) → IsJournalAt v.layout j k → SaysAs (ring_at left k) (if choice j then landed_at im k flying else ring_at im k)
   -- and it is the machine's disk once all has settled so, with nothing in flight
   pub rests : (e : Disk (Trees (images_of v))) (after : Rings (Trees (images_of v)) e) → HasSettledTo v left e → KeepsHeads v rings choice after → IsDiskOf v e after left (λ b. None)
 

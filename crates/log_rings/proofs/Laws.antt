@@ -91,7 +91,7 @@ module _ (ring : Ring) (log : LogValue) (laid : List Laid) (sound : IsSoundLog l
   to_head = λ i. way (of.places i) (tail_is i) (place_is i)
 
   -- a place so many behind the head is free, while it isn't round the ring
-  free_at : (i : ℕ) → used log + suc i < log.journal.length → (place_on log.journal.length (first_place log) i < ring.places) × IsFree ring.places head (place_on log.journal.length (first_place log) i)
+  pub free_at : (i : ℕ) → used log + suc i < log.journal.length → (place_on log.journal.length (first_place log) i < ring.places) × IsFree ring.places head (place_on log.journal.length (first_place log) i)
   free_at i room =
       let p = place_on log.journal.length (first_place log) i in
       let far : way log.journal.length log.tail p ≡ used log + suc i = way_on log.journal.length log.tail log.head (suc i) sound.tail sound.head room in

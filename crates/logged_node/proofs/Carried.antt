@@ -47,9 +47,9 @@ module _ (p q : Point) (f : Flush) (new : LogValue) (bytes : List ℕ) (is : p.l
 
   pub steps_by : (s : LogStep) → MayCarry p.disk s → FlushStep p.log new f bytes s → IsCarried bytes mid q s → (time : ℕ) → Steps time p q
   steps_by _ may made (carried.a_block b list gains q_is) time =
-      subst (Steps time p) (sym q_is) (Then p _ Here (WritesLog new f b bytes list is numbers made (record { inside = may.0; whole = whole; free = may.1.0 }) gains))
+      subst (Steps time p) (sym q_is) (Then p _ Here (WritesLog new f b bytes list is numbers made (record { inside = may.0; whole = whole; free = may.1 }) gains))
   steps_by _ may made (carried.a_header b sequence list gains q_is) time =
-      subst (Steps time p) (sym q_is) (Then p _ Here (WritesHead new f b sequence bytes list is numbers made (record { inside = may.0; whole = whole; free = may.1.0 }) gains))
+      subst (Steps time p) (sym q_is) (Then p _ Here (WritesHead new f b sequence bytes list is numbers made (record { inside = may.0; whole = whole; free = may.1 }) gains))
   steps_by _ may made (carried.a_barrier list some gains q_is) time = subst (Steps time p) (sym q_is) (by made)
     where
       by : FlushStep p.log new f bytes step.Barrier → Steps time p _

@@ -100,8 +100,8 @@ module _ (d : DiskState) (n : Node) (f : Flush) (sound : IsSoundLog n.log) (at :
   chunk_block : (k : ℕ) → f.stage ≡ Writing k → k < length (flush_chunks n.log f) → MayCarry d (step.Write (block_at n.log.journal (chunk_place n.log k)))
   chunk_block k stage low = (
     at.on.places (chunk_place n.log k) (chunk_in n.log f sound at.is k low),
-    (free_block (block_at n.log.journal (chunk_place n.log k)) taken,
-    (let few = subst (λ s. length (d.in_flight 1) ≤ most_flown s) stage at.few in let small = at.small in omega (arith, few, small, low))),
+    free_block (block_at n.log.journal (chunk_place n.log k)) taken,
+    (let few = subst (λ s. length (d.in_flight 1) ≤ most_flown s) stage at.few in let small = at.small in omega (arith, few, small, low)),
   )
     where
       chunks_low : length (flush_chunks n.log f) < n.log.journal.length
@@ -117,8 +117,8 @@ module _ (d : DiskState) (n : Node) (f : Flush) (sound : IsSoundLog n.log) (at :
   head_block : (sequence : ℕ) → f.stage ≡ Ending → MayCarry d (step.Head (block_at n.log.journal (head_place n.log f)) sequence)
   head_block sequence stage = (
     at.on.places (head_place n.log f) (head_in n.log f sound at.is),
-    (free_block (block_at n.log.journal (head_place n.log f)) (λ bytes flies. subst (λ s. IsFlownBlock n.log f s (block_at n.log.journal (head_place n.log f))) stage (at.flies (block_at n.log.journal (head_place n.log f)) bytes flies)),
-    (let few = subst (λ s. length (d.in_flight 1) ≤ most_flown s) stage at.few in omega (arith, few))),
+    free_block (block_at n.log.journal (head_place n.log f)) (λ bytes flies. subst (λ s. IsFlownBlock n.log f s (block_at n.log.journal (head_place n.log f))) stage (at.flies (block_at n.log.journal (head_place n.log f)) bytes flies)),
+    (let few = subst (λ s. length (d.in_flight 1) ≤ most_flown s) stage at.few in omega (arith, few)),
   )
 
   pub may_carry : (new : LogValue) (bytes : List ℕ) (s : LogStep) → FlushStep n.log new f bytes s → MayCarry d s

@@ -207,10 +207,10 @@ module _ (d d' : DiskState) (n n' : Node) (f : Flush) (bytes : List ℕ) (at : I
 
       flies : (c : ℕ) (x : List ℕ) → flight_to (d'.in_flight 1) c ≡ Some x → IsFlownBlock n.log f (Writing (k + 1)) c
       flies c x is = elim (cases_eq c b) [
-        | inl same ↦ (k, ((omega arith), (inside, same ∙ block)))
+        | inl same ↦ (k, omega arith, inside, same ∙ block)
         | inr other ↦
             let old = subst (λ s. IsFlownBlock n.log f s c) stage (at.flies c x (others c x is other)) in
-            (old.0, ((let l = old.1 in omega (arith, l)), (old.2, old.3)))
+            (old.0, (let l = old.1 in omega (arith, l)), old.2, old.3)
       ]
 
       less : steps_left n'.log < steps_left n.log
@@ -264,10 +264,10 @@ module _ (d d' : DiskState) (n n' : Node) (f : Flush) (bytes : List ℕ) (at : I
       idle = ap (λ (l : LogValue). l.flush) log;
       none = none;
       home = subst NoneGoesHome (sym log) (λ b e x is flies. behind_still n.log f tail b (λ y z h i. at.home b y z h i) e x (sym (lives b) ∙ is) flies);
-      small = (by at.kind).1.1;
+      small = (by at.kind).2;
     };
     left = (by at.kind).0;
-    gone = (by at.kind).1.0;
+    gone = (by at.kind).1;
     low = low;
     sequence = ap (λ (l : LogValue). l.sequence) log ∙ sequence;
   })
@@ -293,12 +293,12 @@ module _ (d d' : DiskState) (n n' : Node) (f : Flush) (bytes : List ℕ) (at : I
       none_live : f.versions ≡ table.empty → AllAreHome n.log → NothingIsLive n'.log
       none_live versions home = none_used n'.log sound' (ap (λ (l : LogValue). l.tail) log ∙ its_own versions home tail tells ∙ sym (ap (λ (l : LogValue). l.head) log))
 
-      by : IsKind n.log f → IsLeft n.log n'.log × ((n'.log.gone ≡ set.empty) × IsSmall n'.log)
+      by : IsKind n.log f → IsLeft n.log n'.log × (n'.log.gone ≡ set.empty) × IsSmall n'.log
       by (of_all fresh gone) =
           let no_fresh : n'.log.fresh ≡ table.empty = fresh_is ∙ fresh in
           let no_gone : n'.log.gone ≡ set.empty = gone_is ∙ retained n.log.gone (table.contains_key live) gone in
-          (nothing no_fresh, (no_gone, subst (λ (k : ℕ). k ≤ most_unflushed) (sym (ap (size_of n'.log.journal.size) ((λ i. transaction (no_fresh i) (no_gone i)) ∙ nothing_is) ∙ nothing_takes n'.log.journal.size sized_still)) (omega arith)))
+          (nothing no_fresh, no_gone, subst (λ (k : ℕ). k ≤ most_unflushed) (sym (ap (size_of n'.log.journal.size) ((λ i. transaction (no_fresh i) (no_gone i)) ∙ nothing_is) ∙ nothing_takes n'.log.journal.size sized_still)) (omega arith))
       by (of_none versions revokes home small) =
           let live_none : live ≡ table.empty = sym (ap (λ (l : LogValue). l.live) log) ∙ none_live versions home in
           let no_gone : n'.log.gone ≡ set.empty = gone_is ∙ none_among live n.log.gone live_none in
-          (what_was fresh_is (none_live versions home), (no_gone, smaller n.log n'.log fresh_is no_gone (ap (λ (l : LogValue). l.journal) log) small))
+          (what_was fresh_is (none_live versions home), no_gone, smaller n.log n'.log fresh_is no_gone (ap (λ (l : LogValue). l.journal) log) small)

@@ -1,6 +1,7 @@
 -- A flush, as a node carries it out.
-use Rattle.std.specs.Prelude.{ℕ, ◌≡◌, ◌≢◌, ◌+◌, ◌-◌, ◌<◌, ◌≤◌, ⊤, List, [], ◌∷◌, ◌++◌, length, Option, None, Some}
-use Rattle.log_values.specs.Flushing.{AllAreHome, NothingIsLive, flush_chunks}
+use Rattle.std.specs.Prelude.{ℕ, ◌≡◌, ◌≢◌, ◌⊎◌, ◌+◌, ◌-◌, ◌<◌, ◌≤◌, ⊤, List, [], ◌∷◌, ◌++◌, length, Option, None, Some}
+use Rattle.log_values.specs.Flushing.{AllAreHome, HasRoom, IsDue, NothingIsLive, flush_chunks}
+use Rattle.log_values.specs.Transactions.{due}
 use Rattle.log_values.specs.Log.{Flush, LogValue, Stage}
 use Rattle.log_values.specs.Log.Stage.{Ending, Headed, Writing}
 use Rattle.log_values.specs.declared.steps.LogStep.{LogStep}
@@ -16,6 +17,7 @@ use Rattle.std.specs.FinMap as table
 use Rattle.log_layout.specs.Transactions.{after}
 use Rattle.log_values.specs.Blocks as set
 use Rattle.trace_text.specs.declared.item.TraceItem.{TraceItem}
+use Rattle.logged_node.specs.declared.node.CallNumbers.{CallNumbers}
 use Rattle.logged_node.specs.declared.node.Node.{Node}
 
 -- how many of its writes may be in flight
@@ -119,3 +121,61 @@ pub record GoesOn (d : DiskState) (list : Option (List Operation)) (n : Node) (d
   pub disk : IsSameDisk d d'
   pub widths : HasLogWidths n'.log
   pub to : GoesTo d d' n n'
+
+-- ---- a flush begins, and comes to its end
+
+-- what it has: all that was due, up to the last call; or nothing, up to the last call that is in the journal
+pub data IsBegunWith (n n' : Node) : Type 0 where
+  all : n'.numbers.begun ≡ n.numbers.answered → n'.log.fresh ≡ table.empty → IsBegunWith n n'
+  none : n'.numbers.begun ≡ n.numbers.low → n'.log.fresh ≡ n.log.fresh → IsBegunWith n n'
+
+-- what a flush leaves of the node: its view and its calls
+pub record KeepsView (n n' : Node) : Type 0 where
+  pub view : n'.view ≡ n.view
+  pub answered : n'.numbers.answered ≡ n.numbers.answered
+  pub changed : n'.numbers.changed ≡ n.numbers.changed
+  pub journal : n'.log.journal ≡ n.log.journal
+
+pub record HasBegun (d : DiskState) (list : Option (List Operation)) (n : Node) (d' : DiskState) (list' : Option (List Operation)) (n' : Node) : Type 0 where
+  pub steps : (time : ℕ) → Steps time (point_of d list n) (point_of d' list' n')
+  pub kept : KeepsView n n'
+  pub low : n'.numbers.low ≡ n.numbers.low
+  pub sequence : n'.log.sequence ≡ n.log.sequence
+  pub disk : IsSameDisk d d'
+  pub widths : HasLogWidths n'.log
+  pub flush : Flush
+  pub flushing : IsFlushing d' n' flush
+  pub what : IsBegunWith n n'
+
+-- it is in the journal: all that was due, up to the last call; or a header alone, behind which nothing is live
+pub data IsDone (n n' : Node) : Type 0 where
+  all : n'.numbers.low ≡ n.numbers.answered → n'.log.fresh ≡ table.empty → IsDone n n'
+  none : n'.numbers.low ≡ n.numbers.low → n'.log.fresh ≡ n.log.fresh → NothingIsLive n'.log → IsDone n n'
+
+pub record HasCome (d : DiskState) (list : Option (List Operation)) (n : Node) (d' : DiskState) (list' : Option (List Operation)) (n' : Node) : Type 0 where
+  pub steps : (time : ℕ) → Steps time (point_of d list n) (point_of d' list' n')
+  pub kept : KeepsView n n'
+  pub sequence : n'.log.sequence ≡ n.log.sequence + 1
+  pub disk : IsSameDisk d d'
+  pub widths : HasLogWidths n'.log
+  pub resting : IsResting d' n'
+  pub gone : n'.log.gone ≡ set.empty
+  pub done : IsDone n n'
+
+-- ---- it doesn't begin
+
+-- the number of the calls of a flush whose first step is this
+abbrev pub number_of : CallNumbers → LogStep → ℕ
+number_of n (step.Head b sequence) = n.low
+number_of n _ = n.answered
+
+-- the node, its disk and the items are as they were
+pub record IsAsItWas (d : DiskState) (list : Option (List Operation)) (n : Node) (d' : DiskState) (list' : Option (List Operation)) (n' : Node) : Type 0 where
+  pub point : point_of d' list' n' ≡ point_of d list n
+  pub resting : IsResting d' n'
+
+abbrev pub HasNothingToFlush : LogValue → Type 0
+HasNothingToFlush log = (IsDue log → ⊥) × (NothingIsLive log ⊎ (AllAreHome log → ⊥))
+
+abbrev pub HasNoRoom : LogValue → Type 0
+HasNoRoom log = IsDue log × (HasRoom log (due log) → ⊥) × (AllAreHome log → ⊥)

@@ -1,12 +1,12 @@
 // Flushes: all that is due, or a header alone, comes into the journal.
-ghost use Rattle.std.specs.Prelude.{ℕ, ◌≡◌, ◌+◌, ◌++◌, ◌<◌, ◌≤◌, ◌^◌, [], ◌∷◌, false, length, OnOk, IfErr};
+ghost use Rattle.std.specs.Prelude.{ℕ, ◌≡◌, ◌≢◌, Ok, IfOk, ◌+◌, ◌++◌, ◌<◌, ◌≤◌, ◌^◌, [], ◌∷◌, false, length, OnOk, IfErr};
 ghost use Rattle.std.specs.Vec.{vec_capacity, vec_len};
 ghost use Rattle.shared_disk.specs.Disk.{after_barrier};
 ghost use Rattle.logged_node.specs.Ends.{HasCause, IfFailed, IfMade, IsOfDisk};
 ghost use Rattle.log_values.specs.Log.{Flush};
 ghost use Rattle.log_widths.specs.Widths.{HasLogWidths};
-ghost use Rattle.logged_node.specs.Flushing.{FliesBehind, GoesOn, IsCarried, IsFlushing, MayCarry};
-ghost use Rattle.logged_node.specs.Nodes.{FailsBehind, IsSameDisk, StopsBehind, point_of};
+ghost use Rattle.logged_node.specs.Flushing.{FliesBehind, GoesOn, HasBegun, HasCome, HasNoRoom, HasNothingToFlush, IsAsItWas, IsCarried, IsFlushing, MayCarry, number_of};
+ghost use Rattle.logged_node.specs.Nodes.{FailsBehind, IsResting, IsSameDisk, StopsBehind, point_of};
 
 use crate::deeds::{put_barrier, put_write};
 use crate::ends::Stop;
@@ -14,6 +14,7 @@ use crate::node::Node;
 use disk_items::put_in_room;
 use log_values::{LogStep, a_flush_keeps};
 use log_widths::{widths_are_numbers, widths_stay};
+use logged_steps::steps_are_told;
 use shared_disk::SharedDisk;
 use trace_text::TraceItem;
 
@@ -124,4 +125,84 @@ fn go_on<D: SharedDisk>(disk: &mut D, node: &mut Node) -> Result<(), Stop>
         Some(step) => carry(disk, node, step),
         None => unreachable!(),
     }
+}
+
+/// What came of asking for a flush.
+#[derive(Clone, Copy, Debug, PartialEq, Eq)]
+enum Began {
+    Begun,
+    Nothing,
+    NoRoom,
+}
+
+// The number of the calls that a flush has whose first step this is: a header alone begins with its header.
+fn number_with(node: &Node, step: LogStep) -> u64
+    ensures { result ≡ number_of node.now.numbers step }
+{
+    match step {
+        LogStep::Head { .. } => node.numbers.low,
+        _ => node.numbers.answered,
+    }
+}
+
+// Begins a flush of a node at rest, if one is due, and makes its first step.
+fn begin<D: SharedDisk>(disk: &mut D, node: &mut Node) -> Result<Began, Stop>
+    requires resting { IsResting (D.state disk.old) node.old }
+    requires widths { HasLogWidths node.old.log }
+    requires sequence { node.old.log.sequence + 1 < 2 ^ 64 }
+    ensures begun { result ≡ Ok Began.Begun → HasBegun (D.state disk.old) (D.list disk.old) node.old (D.state disk.new) (D.list disk.new) node.new }
+    ensures not { IfOk result (λ b. b ≢ Began.Begun → IsAsItWas (D.state disk.old) (D.list disk.old) node.old (D.state disk.new) (D.list disk.new) node.new) }
+    ensures nothing { result ≡ Ok Began.Nothing → HasNothingToFlush node.old.log }
+    ensures no_room { result ≡ Ok Began.NoRoom → HasNoRoom node.old.log }
+    ensures stopped { IfErr result (StopsBehind (point_of (D.state disk.old) (D.list disk.old) node.old) (D.state disk.new) (D.list disk.new) node.new.items.items) }
+    ensures later { (i : ℕ) → D.faults disk.old i ≤ D.faults disk.new i }
+    ensures cause { IfErr result (HasCause (D.state disk.old).count (D.faults disk.old) (D.faults disk.new)) }
+{
+    a_flush_keeps();
+    widths_are_numbers();
+    widths_stay();
+    steps_are_told();
+    node.items.reserve(2)?;
+    match node.log.flush_step(&mut node.block) {
+        None => Ok(Began::Nothing),
+        Some(LogStep::NoRoom) => Ok(Began::NoRoom),
+        Some(step) => {
+            node.numbers.begun = number_with(node, step);
+            match carry(disk, node, step) {
+                Ok(()) => Ok(Began::Begun),
+                Err(why) => Err(why),
+            }
+        }
+    }
+}
+
+/// Flushes the log of a node at rest: all that is due comes into the journal, and is committed; or, where nothing is due or there is no room for it, and all
+/// live blocks are home, a header alone, behind which the journal is empty. Where it has no room until live blocks are home, nothing is done. Costs a write for
+/// each block that is due, one for each descriptor and for the header, and two barriers; memory for the items.
+pub fn flush<D: SharedDisk>(disk: &mut D, node: &mut Node) -> Result<Flushed, Stop>
+    requires resting { IsResting (D.state disk.old) node.old }
+    requires widths { HasLogWidths node.old.log }
+    requires sequence { node.old.log.sequence + 1 < 2 ^ 64 }
+    ensures done { result ≡ Ok Flushed.Done → HasCome (D.state disk.old) (D.list disk.old) node.old (D.state disk.new) (D.list disk.new) node.new }
+    ensures not { IfOk result (λ b. b ≢ Flushed.Done → IsAsItWas (D.state disk.old) (D.list disk.old) node.old (D.state disk.new) (D.list disk.new) node.new) }
+    ensures nothing { result ≡ Ok Flushed.Nothing → HasNothingToFlush node.old.log }
+    ensures no_room { result ≡ Ok Flushed.NoRoom → HasNoRoom node.old.log }
+    ensures stopped { IfErr result (StopsBehind (point_of (D.state disk.old) (D.list disk.old) node.old) (D.state disk.new) (D.list disk.new) node.new.items.items) }
+    ensures later { (i : ℕ) → D.faults disk.old i ≤ D.faults disk.new i }
+    ensures cause { IfErr result (HasCause (D.state disk.old).count (D.faults disk.old) (D.faults disk.new)) }
+{
+    steps_are_told();
+    match begin(disk, node) {
+        Ok(Began::Begun) => {}
+        Ok(Began::Nothing) => return Ok(Flushed::Nothing),
+        Ok(Began::NoRoom) => return Ok(Flushed::NoRoom),
+        Err(why) => return Err(why),
+    }
+    while node.log.is_flushing() {
+        match go_on(disk, node) {
+            Ok(()) => {}
+            Err(why) => return Err(why),
+        }
+    }
+    Ok(Flushed::Done)
 }

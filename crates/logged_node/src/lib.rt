@@ -7,5 +7,5 @@ mod flushing;
 mod node;
 
 pub use ends::Stop;
-pub use flushing::Flushed;
+pub use flushing::{Flushed, flush};
 pub use node::{CallNumbers, Node};

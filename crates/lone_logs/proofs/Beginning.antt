@@ -24,7 +24,7 @@ use Rattle.lone_machine.proofs.Logging.{no_versions}
 use Rattle.lone_logs.specs.Laws.{FlushesBegin, HeadersBegin, StaysLogged}
 use Rattle.lone_logs.specs.States.{HasUnlogged, FliesAs, FliesToJournal, HasVersions, IsHeaded, IsLoggedNode, NodeState, bytes_of, trees_on}
 use Rattle.lone_logs.specs.States.FliesAs.{writes, ends}
-use Rattle.lone_logs.proofs.Remaining.{ending_headed, no_flush, same_flush, writing_headed}
+use Rattle.lone_logs.proofs.Stages.{ending_headed, no_flush, same_flush, writing_headed}
 use Rattle.lone_logs.proofs.Rings.{ring_still}
 
 -- no call leaves no version, and no block has gone
@@ -71,10 +71,12 @@ module _ (v : Volume) (s : Begun (trees_on v)) (w : World (trees_on v)) (d : ℕ
         laid = is.laid;
         ring = ring_still (ring_at st.image d) st.log is.laid fresh gone (Some f) st.log.live is.ring is.ring.live;
         home = is.home;
+        others = is.others;
         flies = flies;
         homeward = is.homeward;
         elsewhere = is.elsewhere;
         only_headed = λ h. absurd (unheaded (is.only_headed h));
+        read = λ g t its at. absurd (early t (ap (λ (x : Flush). x.stage) (same_flush its) ∙ at));
         heads = record {
           headed = λ h. absurd (early h.1 (ap (λ (x : Flush). x.stage) (same_flush h.2) ∙ h.3));
           one = λ not. is.heads.one unheaded;

@@ -101,10 +101,12 @@ module _ (v : Volume) (s : Begun (trees_on v)) (w : World (trees_on v)) (d : ℕ
     laid = is.laid;
     ring = ring_still (ring_at st.image d) st.log is.laid fresh gone st.log.flush st.log.live is.ring is.ring.live;
     home = is.home;
+    others = is.others;
     flies = flies_with (ring_at st.image d) (to_journal st.image d st.flying) st.log fresh gone st.log.flush is.flies;
     homeward = is.homeward;
     elsewhere = is.elsewhere;
     only_headed = is.only_headed;
+    read = is.read;
     heads = record { headed = λ h. is.heads.headed h ∙ sym begun; one = is.heads.one };
     numbers = numbers;
     versions = versions;

@@ -1,5 +1,5 @@
 -- The last barrier of a flush: it is in the journal.
-use Rattle.std.proofs.Common.{◌≡◌, ◌≢◌, ◌⊎◌, ℕ, suc, ◌<◌, ◌≤◌, ◌&&◌, inl, inr, Bool, true, false, List, length, Option, None, Some, refl, sym, ap, subst, ◌∙◌, arith, true≢false}
+use Rattle.std.proofs.Common.{◌≡◌, ◌⊎◌, ℕ, suc, ◌<◌, ◌≤◌, ◌&&◌, inl, inr, Bool, true, false, List, length, Option, None, Some, refl, sym, ap, subst, ◌∙◌, arith, true≢false}
 use Rattle.std.specs.Prelude.{if◌then◌else◌, nat_lt}
 use Rattle.std.specs.FinMap as table
 use Rattle.std.specs.Option.{option_map}
@@ -20,7 +20,7 @@ use Rattle.journal_outcomes.specs.Rings.{ChunksFly, HeaderFlies, InFlight, MayFl
 use Rattle.log_layout.specs.Journal.{Ring}
 use Rattle.log_layout.specs.Live.{live_in}
 use Rattle.log_layout.specs.Transactions.{after}
-use Rattle.log_rings.specs.Flights.{AreWritten, HasLanded, HasPut, MayHeadAt, left_live, live_with, logged_bytes}
+use Rattle.log_rings.specs.Flights.{HasLanded, HasPut, MayHeadAt, left_live, live_with, logged_bytes}
 use Rattle.log_rings.specs.Laws.{FlushesLand, HasNumbers, HeadersFly}
 use Rattle.log_tables.specs.Kept.{is_home}
 use Rattle.log_tables.specs.Versions.Way.{Home, Away}
@@ -42,12 +42,12 @@ use Rattle.lone_machine.proofs.Logging.{header_ends, settles_alone}
 use Rattle.machine_outcomes.specs.Outcomes.{OutcomesAreTheMachines}
 use Rattle.lone_logs.specs.Laws.{LastBarriersLand, StaysLogged, landed_node}
 use Rattle.lone_logs.specs.States.{HasUnlogged, FliesAs, FliesToJournal, HasLandedAs, HasVersions, IsLoggedNode, NodeState, bytes_of, flies_home, trees_on}
-use Rattle.lone_logs.specs.States.FliesAs.{headed}
 use Rattle.lone_logs.proofs.Booking.{versions_still}
 use Rattle.lone_logs.proofs.Heading.{rests_home}
 use Rattle.lone_logs.proofs.Landed.{blocks_then, disk_then, flown_there, may_settle, of, others_none, places_then, rings_then, settled_to, still_there}
 use Rattle.lone_logs.proofs.Living.{off_entry}
-use Rattle.lone_logs.proofs.Remaining.{no_flush, writing_headed}
+use Rattle.lone_logs.proofs.Others.{others_clean}
+use Rattle.lone_logs.proofs.Stages.{FliesHeaded, flies_headed, no_flush, writing_headed}
 
 -- with less to be revoked the versions are the same
 fewer_gone : (F : Files) (B : Book F) (i lo hi : ℕ) (versions : ℕ → Option F.Content) (gone gone' : ℕ → Bool) → ((b : ℕ) → gone b ≡ false → gone' b ≡ false)
@@ -58,18 +58,6 @@ fewer_gone F B i lo hi versions gone gone' fewer are b = by (are b)
     by (inl old) = inl (old.0, old.1, fewer b old.2)
     by (inr (l, inl free)) = inr (l, inl free)
     by (inr (l, inr used)) = inr (l, inr (used.0, used.1, fewer b used.2))
-
-headed_tells : (t u : ℕ) → Headed t ≡ Headed u → t ≡ u
-headed_tells t u e = cc
-
--- a flush whose header is in flight
-pub record FliesHeaded (ring : Ring) (flying : InFlight) (log : LogValue) (f : Flush) (tail : ℕ) : Type 0 where
-  pub written : AreWritten ring log f (length (flush_chunks log f))
-  pub here : flying (head_place log f) ≡ Some (header_bytes log f tail)
-  pub alone : (p : ℕ) → p < ring.places → p ≢ head_place log f → flying p ≡ None
-
-flies_headed : (ring : Ring) (flying : InFlight) (log : LogValue) (f : Flush) (tail : ℕ) → FliesAs ring flying log f (Headed tail) → FliesHeaded ring flying log f tail
-flies_headed ring flying log f tail (headed _ written here alone) = record { written = written; here = here; alone = alone }
 
 away_home : (bytes : List ℕ) → Away bytes ≡ Home → ⊥
 away_home bytes e = cc
@@ -269,10 +257,12 @@ module _ (they_are : OutcomesAreTheMachines) (fly : HeadersFly) (land : FlushesL
       laid = lands.laid;
       ring = lands.is;
       home = home;
+      others = others_clean v s w d st left is (of they_are v s w d st is left landed);
       flies = λ p low. refl;
       homeward = λ b off. none_homeward b;
       elsewhere = λ j k p at other low. refl;
       only_headed = λ h. absurd (none_some h.1.flies);
+      read = λ g t its at. absurd (no_flush g its);
       heads = record { headed = λ h. absurd (no_flush h.0 h.2); one = λ not. head_is true ∙ sym (head_is false) };
       numbers = record {
         answered = is.numbers.answered;

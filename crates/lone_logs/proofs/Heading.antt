@@ -7,7 +7,6 @@ use Rattle.std.proofs.lemmas.Bool.{cases_Bool}
 use Rattle.std.proofs.lemmas.Bool.Decides.{nat_tests}
 use Rattle.cluster_laws.specs.Mirror.{Head}
 use Rattle.cluster_laws.specs.World.{World}
-use Rattle.image_disks.proofs.Finding.{place_or_not}
 use Rattle.image_machine.specs.Volumes.{IsPlace, Volume}
 use Rattle.image_model.proofs.Held.{some_same}
 use Rattle.journal_outcomes.specs.Images.{ring_at, to_journal}
@@ -27,12 +26,11 @@ use Rattle.log_values.specs.Sound.{IsBehindBarrier}
 use Rattle.lone_machine.specs.Alone.{Begun, begins_header, head_of}
 use Rattle.lone_machine.specs.Laws.{StaysAlone}
 use Rattle.lone_machine.specs.Versions.{AreVersions, IsLiveAfter}
-use Rattle.lone_machine.proofs.Going.{sound}
 use Rattle.lone_machine.proofs.Logging.{header_begins}
 use Rattle.lone_logs.specs.States.{FliesAs, FliesToJournal, HasVersions, IsHeaded, IsLoggedNode, NodeState, bytes_of, flies_home, trees_on}
 use Rattle.lone_logs.specs.States.FliesAs.{ends}
-use Rattle.lone_logs.proofs.Living.{live_head, live_none, off_entry, off_live}
-use Rattle.lone_logs.proofs.Remaining.{ending_headed, same_flush}
+use Rattle.lone_logs.proofs.Living.{at_sea, live_head, live_none, off_entry}
+use Rattle.lone_logs.proofs.Stages.{ending_headed, same_flush}
 
 -- ---- a flush whose header is told is one with the tail that it had
 
@@ -102,18 +100,7 @@ module _ (v : Volume) (s : Begun (trees_on v)) (w : World (trees_on v)) (d : ℕ
       by (Some x) e = rests_home x (is.sound.rests f b x some (subst IsBehindBarrier (sym stage) tt) e)
 
   none_at_sea : (b : ℕ) → w.disk.flight s.node b ≡ None
-  none_at_sea b = elim (place_or_not v b) [
-    | inr off ↦ is.flights b off ∙ none_homeward b off
-    | inl place ↦ by place (w.disk.flight s.node b) refl
-  ]
-    where
-      by : IsPlace v b → (o : Option (List ℕ)) → w.disk.flight s.node b ≡ o → w.disk.flight s.node b ≡ None
-      by place None e = e
-      by place (Some bytes) e =
-          let mirror = (sound (trees_on v) s w is.alone).mirror in
-          let lives = mirror.flights s.node b bytes e in
-          let its : lives.0 ≡ s.node = is.alone.owners b lives.0 (mirror.lives lives.0 false b bytes (lives.1 false)) in
-          absurd (off_live v s w d st is b bytes (sym (live_head v s w d st is b) ∙ ap (λ n. (w.disk.heads n false).live b) (sym its) ∙ lives.1 false) place)
+  none_at_sea = at_sea v s w d st is none_homeward
 
   -- ---- the head that it tells
 

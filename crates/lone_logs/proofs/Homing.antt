@@ -211,6 +211,7 @@ module _ (v : Volume) (s : Begun (trees_on v)) (w : World (trees_on v)) (d : ℕ
         | inl it ↦ absurd (flying_home bytes (ap (λ (y : Entry). y.way) it.1 ∙ at_home))
         | inr old ↦ is.home c x old.1 at_home
       ];
+      others = is.others;
       flies = subst (FliesToJournal ring (to_journal st.image d flying) log') (sym none) (λ p low. none_flies 0 d p is.journal.is low);
       homeward = λ c not. elim (cases_eq c b) [
         | inl same ↦ ap flying same ∙ besides.there ∙ sym (ap (λ n. flies_home (table.get log'.live n)) same ∙ ap flies_home here)
@@ -219,6 +220,7 @@ module _ (v : Volume) (s : Begun (trees_on v)) (w : World (trees_on v)) (d : ℕ
       elsewhere = λ j k p listed other low.
           besides.others (v.place k p) (λ same. off (record { journal = j; dinode = k; place = p; at = listed; low = low; is = same })) ∙ is.elsewhere j k p listed other low;
       only_headed = λ h. absurd (no_header 0 d is.journal.is h);
+      read = is.read;
       heads = record { headed = is.heads.headed; one = is.heads.one };
       numbers = record { answered = is.numbers.answered; low = is.numbers.low; begun = is.numbers.begun; changed = is.numbers.changed; calm = is.numbers.calm };
       may = is.may;

@@ -8,7 +8,9 @@ use Rattle.image_disks.proofs.Finding.{pick, place_or_not}
 use Rattle.image_machine.specs.Volumes.{IsPlace, Volume}
 use Rattle.image_model.specs.Claims.{every}
 use Rattle.image_model.specs.Image.{Image}
+use Rattle.image_model.specs.Stands.{Layout}
 use Rattle.journal_outcomes.specs.Images.{IsImageOutcome, NoFalseHeader, ring_at, to_journal}
+use Rattle.journal_outcomes.specs.Rings.{InFlight}
 use Rattle.log_layout.specs.Journal.{accepted}
 use Rattle.lone_machine.specs.Alone.{Begun, IsAlone, MaySettle, begun}
 use Rattle.lone_machine.specs.Laws.{AreOwnRings}
@@ -18,22 +20,31 @@ use Rattle.machine_outcomes.specs.Outcomes.{OutcomesAreTheMachines}
 use Rattle.lone_logs.specs.States.{HasLandedAs, IsLoggedNode, NodeState, trees_on}
 use Rattle.lone_logs.proofs.Places.{content_at, within}
 
+-- ---- an image with all in its place is an outcome, and has no false header
+
+pub landed_outcome : (im left : Image) (flying : InFlight) → ((b : ℕ) (bytes : List ℕ) → flying b ≡ Some bytes → length bytes ≡ im.size) → HasLandedAs im flying left → IsImageOutcome im flying left
+landed_outcome im left flying whole landed =
+    record { size = landed.size; count = landed.count; still = landed.still; whole = λ b bytes e. ap length (landed.new b bytes e) ∙ whole b bytes e }
+
+pub landed_true : (im left : Image) (flying : InFlight) → HasLandedAs im flying left → (l : Layout) → NoFalseHeader im l flying left
+landed_true im left flying landed l j k p bytes at low flies h accepts =
+    inr (h, ap (accepted p) (sym (landed.new (content_block (every im k) p) bytes flies)) ∙ accepts, record { front = refl; later = λ fields e. e })
+
+-- other nodes' heads have nothing live
+pub none_of_others : (v : Volume) (s : Begun (trees_on v)) (w : World (trees_on v)) → IsAlone (trees_on v) s w → (j b : ℕ) (c : Bool) → (suc j ≡ s.node → ⊥) → (w.disk.heads (suc j) c).live b ≡ None
+none_of_others v s w alone j b c other = by ((w.disk.heads (suc j) c).live b) refl
+  where
+    by : (o : Option (List ℕ)) → (w.disk.heads (suc j) c).live b ≡ o → (w.disk.heads (suc j) c).live b ≡ None
+    by None e = e
+    by (Some bytes) e = absurd (other (alone.owners b (suc j) ((sound (trees_on v) s w alone).mirror.lives (suc j) c b bytes e)))
+
+-- ---- of the node's disk
+
 module _ (they_are : OutcomesAreTheMachines) (v : Volume) (s : Begun (trees_on v)) (w : World (trees_on v)) (d : ℕ) (st : NodeState) (is : IsLoggedNode v s w d st) (left : Image)
     (landed : HasLandedAs st.image st.flying left) where
-  outcome : IsImageOutcome st.image st.flying left
-  outcome = record {
-    size = landed.size;
-    count = landed.count;
-    still = landed.still;
-    whole = λ b bytes e. ap length (landed.new b bytes e) ∙ is.disk.may.whole b bytes e;
-  }
-
-  no_false : NoFalseHeader st.image v.layout st.flying left
-  no_false j k p bytes at low flies h accepts =
-      inr (h, ap (accepted p) (sym (landed.new (content_block (every st.image k) p) bytes flies)) ∙ accepts, record { front = refl; later = λ fields e. e })
-
   pub of : IsOutcomeOf v w.disk is.rings st.image st.flying left
-  of = they_are v (begun (trees_on v) s) w is.rings st.image left st.flying is.alone.begins is.alone.run is.disk outcome no_false
+  of = they_are v (begun (trees_on v) s) w is.rings st.image left st.flying is.alone.begins is.alone.run is.disk
+      (landed_outcome st.image left st.flying is.disk.may.whole landed) (landed_true st.image left st.flying landed v.layout)
 
   -- ---- the machine's blocks
 
@@ -58,13 +69,8 @@ module _ (they_are : OutcomesAreTheMachines) (v : Volume) (s : Begun (trees_on v
       by (inl place) = absurd (off place)
       by (inr not) = refl
 
-  -- other nodes' heads have nothing live
   pub others_none : (j b : ℕ) (c : Bool) → (suc j ≡ s.node → ⊥) → (w.disk.heads (suc j) c).live b ≡ None
-  others_none j b c other = by ((w.disk.heads (suc j) c).live b) refl
-    where
-      by : (o : Option (List ℕ)) → (w.disk.heads (suc j) c).live b ≡ o → (w.disk.heads (suc j) c).live b ≡ None
-      by None e = e
-      by (Some bytes) e = absurd (other (is.alone.owners b (suc j) ((sound (trees_on v) s w is.alone).mirror.lives (suc j) c b bytes e)))
+  others_none = none_of_others v s w is.alone
 
   -- ---- a world in which it has settled so
 

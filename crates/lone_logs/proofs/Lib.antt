@@ -1,3 +1,5 @@
+pub mod Stages
+pub mod Others
 pub mod Remaining
 pub mod Rings
 pub mod Beginning
@@ -15,6 +17,7 @@ pub mod Living
 pub mod Settling
 pub mod Tables
 pub mod Heading
+pub mod Headers
 pub mod Headed
 pub mod Ending
 pub mod Homing

@@ -1,8 +1,9 @@
 -- Live blocks of a node's log: what is live of them in its journal, and that none is a place of a journal.
-use Rattle.std.proofs.Common.{◌≡◌, ◌⊎◌, ℕ, ◌<◌, inl, inr, false, List, ◌∷◌, None, Some, sym, ap, subst, ◌∙◌}
+use Rattle.std.proofs.Common.{◌≡◌, ◌⊎◌, ℕ, ◌<◌, inl, inr, false, List, ◌∷◌, Option, None, Some, refl, sym, ap, subst, ◌∙◌}
 use Rattle.std.specs.FinMap as table
 use Rattle.std.specs.Option.{option_map}
 use Rattle.cluster_laws.specs.World.{World}
+use Rattle.image_disks.proofs.Finding.{place_or_not}
 use Rattle.image_machine.specs.Volumes.{IsPlace, Volume}
 use Rattle.image_model.specs.Replays.{MayChange}
 use Rattle.journal_outcomes.specs.Images.{ring_at}
@@ -14,6 +15,7 @@ use Rattle.log_rings.proofs.Tails.{entry_of, live_is, none_of}
 use Rattle.log_tables.specs.Versions.Way.{Away, Flying}
 use Rattle.log_values.specs.Log.{Entry}
 use Rattle.lone_machine.specs.Alone.{Begun, head_of}
+use Rattle.lone_machine.proofs.Going.{sound}
 use Rattle.lone_logs.specs.States.{IsLoggedNode, NodeState, trees_on}
 
 module _ (v : Volume) (s : Begun (trees_on v)) (w : World (trees_on v)) (d : ℕ) (st : NodeState) (is : IsLoggedNode v s w d st) where
@@ -54,3 +56,18 @@ module _ (v : Volume) (s : Begun (trees_on v)) (w : World (trees_on v)) (d : ℕ
 
   pub off_entry : (b : ℕ) (e : Entry) → table.get st.log.live b ≡ Some e → IsPlace v b → ⊥
   off_entry b e at = off_live b (entry_at b e at).copy.bytes (live_copy b e at)
+
+  -- where nothing is on its way home, nothing of the node is in flight in the machine
+  pub at_sea : ((b : ℕ) → (IsPlace v b → ⊥) → st.flying b ≡ None) → (b : ℕ) → w.disk.flight s.node b ≡ None
+  at_sea still b = elim (place_or_not v b) [
+    | inr off ↦ is.flights b off ∙ still b off
+    | inl place ↦ by place (w.disk.flight s.node b) refl
+  ]
+    where
+      by : IsPlace v b → (o : Option (List ℕ)) → w.disk.flight s.node b ≡ o → w.disk.flight s.node b ≡ None
+      by place None e = e
+      by place (Some bytes) e =
+          let mirror = (sound (trees_on v) s w is.alone).mirror in
+          let lives = mirror.flights s.node b bytes e in
+          let its : lives.0 ≡ s.node = is.alone.owners b lives.0 (mirror.lives lives.0 false b bytes (lives.1 false)) in
+          absurd (off_live b bytes (sym (live_head b) ∙ ap (λ n. (w.disk.heads n false).live b) (sym its) ∙ lives.1 false) place)

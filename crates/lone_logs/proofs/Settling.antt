@@ -43,7 +43,8 @@ use Rattle.lone_logs.specs.States.FliesAs.{ends, headed, writes}
 use Rattle.lone_logs.proofs.Booking.{has_versions}
 use Rattle.lone_logs.proofs.Landed.{blocks_then, disk_then, flown_there, may_settle, of, others_none, places_then, rings_then, settled_to, still_there}
 use Rattle.lone_logs.proofs.Living.{live_away, off_entry}
-use Rattle.lone_logs.proofs.Remaining.{ending_headed, same_flush, writing_headed}
+use Rattle.lone_logs.proofs.Others.{others_clean}
+use Rattle.lone_logs.proofs.Stages.{ending_headed, same_flush, writing_headed}
 use Rattle.lone_logs.proofs.Staying.{live_stays, stays}
 use Rattle.lone_logs.proofs.Writing.{AreSent, are_sent}
 use Rattle.lone_logs.proofs.Rings.{ring_still}
@@ -198,10 +199,12 @@ module _ (they_are : OutcomesAreTheMachines) (v : Volume) (s : Begun (trees_on v
         laid = is.laid;
         ring = ring_still ring' st.log is.laid st.log.fresh st.log.gone flush live ring_stays (λ b. subst (IsLiveAs is.laid b) (sym (lives b)) (settled_live is.laid b (table.get st.log.live b) (is.ring.live b)));
         home = home;
+        others = others_clean v s w d st left is (of they_are v s w d st is left landed);
         flies = flies;
         homeward = λ b off. sym (ap flies_home (lives b) ∙ settled_rests (table.get st.log.live b));
         elsewhere = λ j k p at other low. refl;
         only_headed = λ h. absurd (none_some h.1.flies);
+        read = λ g t its at. absurd (not (g, t, its, at));
         heads = record { headed = λ h. absurd (not h); one = λ unheaded. one };
         numbers = record { answered = is.numbers.answered; low = is.numbers.low; begun = is.numbers.begun; changed = is.numbers.changed; calm = is.numbers.calm };
         may = λ b its. (of they_are v s w d st is left landed).change b (is.may b (unlogged b its));

@@ -29,7 +29,7 @@ use Rattle.lone_machine.proofs.Remaining.{rings_alone}
 use Rattle.lone_logs.specs.Laws.{Begins, at_rest}
 use Rattle.lone_logs.specs.States.{HasUnlogged, ArePlacesApart, IsJournalOf, IsLoggedNode, flies_home, trees_on}
 use Rattle.lone_logs.proofs.Beginning.{nothing_logged}
-use Rattle.lone_logs.proofs.Remaining.{no_flush}
+use Rattle.lone_logs.proofs.Stages.{no_flush}
 
 module _ (begin : CleanRingsBegin) (im : Image) (o : Owners) (l : Layout) (t : Tree) (d : ℕ) (journal : Journal) (head : LogHeader) (stands : StandsBy im o l t)
     (clean : (j k : ℕ) → IsJournalAt l j k → IsClean (ring_at im k)) (apart : ArePlacesApart (volume_of im l)) (its : IsJournal journal) (of : IsJournalOf (volume_of im l) d journal)
@@ -78,10 +78,12 @@ module _ (begin : CleanRingsBegin) (im : Image) (o : Owners) (l : Layout) (t : T
     laid = [];
     ring = begin (ring_at im d) journal head its (sym of.size) (sym of.places) headed is_clean;
     home = λ b e at way. absurd (no_entry b e at);
+    others = λ j k at other. clean j k at;
     flies = λ p low. refl;
     homeward = λ b off. sym (ap flies_home (table.get-empty nat_cmp b));
     elsewhere = λ j k p at other low. refl;
     only_headed = λ h. absurd (none_some h.1.flies);
+    read = λ f tail some stage. absurd (no_flush f some);
     heads = record { headed = λ h. absurd (no_flush h.0 h.2); one = λ not. refl };
     numbers = record { answered = refl; low = refl; begun = (omega arith, omega arith); changed = omega arith; calm = λ n above below. absurd (omega (arith, below)) };
     versions = nothing_logged v w.book s.node 0;

@@ -28,7 +28,7 @@ use Rattle.lone_logs.specs.States.{HasUnlogged, FliesAs, FliesBesides, FliesToJo
 use Rattle.lone_logs.specs.States.FliesAs.{writes}
 use Rattle.lone_logs.proofs.Flying.{OnlyBlocksFly, no_header, none_are_blocks, still_disk}
 use Rattle.lone_logs.proofs.Places.{flies_here, flies_still, off_places, still_elsewhere}
-use Rattle.lone_logs.proofs.Remaining.{same_flush, writing_headed}
+use Rattle.lone_logs.proofs.Stages.{same_flush, writing_headed}
 use Rattle.lone_logs.proofs.Rings.{ring_still}
 
 -- of a flush whose blocks are being written
@@ -154,10 +154,12 @@ module _ (fly : FlushesFly) (v : Volume) (s : Begun (trees_on v)) (w : World (tr
       laid = is.laid;
       ring = ring_still ring st.log is.laid st.log.fresh st.log.gone (Some (record f { stage = Writing (k + 1) })) st.log.live is.ring is.ring.live;
       home = is.home;
+      others = is.others;
       flies = writes (k + 1) after.sent after.only;
       homeward = λ b not. off_places v s w d st is (chunk_place st.log k) place_low bytes flying besides b not ∙ is.homeward b not;
       elsewhere = still_elsewhere v s w d st is (chunk_place st.log k) place_low bytes flying besides;
       only_headed = λ h. absurd (no_header v w.disk is.rings st.image st.flying flying is.disk (off_places v s w d st is (chunk_place st.log k) place_low bytes flying besides) journals whole 0 d is.journal.is h);
+      read = λ g t its at. absurd (writing_headed (k + 1) t (ap (λ (x : Flush). x.stage) (same_flush its) ∙ at));
       heads = record {
         headed = λ h. absurd (writing_headed (k + 1) h.1 (ap (λ (x : Flush). x.stage) (same_flush h.2) ∙ h.3));
         one = λ not. is.heads.one unheaded;

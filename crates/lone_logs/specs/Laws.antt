@@ -1,5 +1,5 @@
 -- Laws of one node alone on an image, with its log: one for each of its steps, and what remains of it.
-use Rattle.std.specs.Prelude.{ℕ, ◌≡◌, ◌⊎◌, ◌≤◌, ◌++◌, true, false, suc, List, [], ◌∷◌, None, Some}
+use Rattle.std.specs.Prelude.{ℕ, ◌≡◌, ◌≢◌, ◌≤◌, ◌++◌, Bool, true, false, suc, List, [], ◌∷◌, None, Some}
 use Rattle.std.specs.FinMap as table
 use Rattle.std.specs.Ordering.{nat_cmp}
 use Rattle.file_tree.specs.Tree.{Tree}
@@ -23,6 +23,7 @@ use Rattle.image_changes.specs.Changes.{cover, is_free}
 use Rattle.image_changes.specs.Does.{AreInside, Does, IsOf, is_nothing, writes}
 use Rattle.image_changes.specs.Instances.{StandsBy}
 use Rattle.log_layout.specs.Journal.{IsClean, head_in}
+use Rattle.log_layout.specs.Transactions.{after}
 use Rattle.log_layout.specs.declared.log_header.LogHeader.{LogHeader}
 use Rattle.journal_outcomes.specs.Images.{IsImageOutcome, NoFalseHeader, ring_at}
 use Rattle.journal_outcomes.specs.Rings.{InFlight}
@@ -32,7 +33,7 @@ use Rattle.image_machine.specs.Volumes.{Volume, images_of, volume_of}
 use Rattle.log_values.specs.Log.{Flush, Journal, LogValue}
 use Rattle.log_values.specs.Log.Stage.{Headed, Writing}
 use Rattle.log_values.specs.Changes.{CanBeAdded, Suffices, with_change}
-use Rattle.log_values.specs.Flushing.{AllAreHome, FlushStep, HasRoom, IsDue, NothingIsLive, begun, begun_alone}
+use Rattle.log_values.specs.Flushing.{AllAreHome, FlushStep, HasRoom, IsDue, NothingIsLive, begun, begun_alone, head_place}
 use Rattle.log_values.specs.Homing.{HomeAnswer, Settles}
 use Rattle.log_values.specs.Laws.{IsJournal, empty_log}
 use Rattle.log_values.specs.Transactions.{due}
@@ -197,20 +198,35 @@ BlocksGoHome = (v : Volume) (s : Begun (trees_on v)) (w : World (trees_on v)) (d
 
 -- ---- what remains
 
--- the number of the journal's head, or of the header in flight
-abbrev pub IsHeadNumber : NodeState → ℕ → Type 0
-IsHeadNumber st n = (n ≡ st.numbers.low) ⊎ (IsHeaded st.log.flush × (n ≡ st.numbers.begun))
+-- a header at place p, with sequence n, clean or not
+pub record IsHeadAt (h : LogHeader) (p n : ℕ) (c : Bool) : Type 0 where
+  pub place : h.blkno ≡ p
+  pub sequence : h.sequence ≡ n
+  pub clean : h.clean ≡ c
+
+-- The head of the journal that is left, and the number of the last call in it: the log's; or that of the flush whose header is in flight.
+pub data IsHeadLeft (st : NodeState) (h : LogHeader) (n : ℕ) : Type 0 where
+  old : n ≡ st.numbers.low → IsHeadAt h st.log.head st.log.sequence st.log.clean → IsHeadLeft st h n
+  new : (f : Flush) (tail : ℕ) → st.log.flush ≡ Some f → f.stage ≡ Headed tail → n ≡ st.numbers.begun → IsHeadAt h (head_place st.log f) (after st.log.sequence) false → IsHeadLeft st h n
 
 -- with a loss that keeps the calls up to k the history is legal, and the image stands, its journals replayed, for its tree
 abbrev pub RemainsWith : (v : Volume) → Begun (trees_on v) → World (trees_on v) → Image → ℕ → Type 0
 RemainsWith v s w left k = history.Legal (remaining v s w k) s.tree × StandsReplayed left (tree_of (remaining v s w k) s.tree)
 
--- Each outcome without a false header of the image with what is in flight has the number of one of the heads, and stands for what remains with a loss that keeps the calls up to it, or more that
--- change nothing.
+-- What remains of a node that has answered so many calls, in an image that is left, where its journal's head and the number of the last call in that are such: with a loss that keeps the calls up to
+-- this number, or more that change nothing, the image stands for the tree of the history; and each other journal is clean.
+pub record Remains (v : Volume) (s : Begun (trees_on v)) (w : World (trees_on v)) (d answered : ℕ) (left : Image) (IsHead : LogHeader → ℕ → Type 0) : Type 0 where
+  pub head : LogHeader
+  pub number : ℕ
+  pub headed : head_in (ring_at left d) ≡ Some head
+  pub is : IsHead head number
+  pub stands : (k : ℕ) → number ≤ k → k ≤ answered → Calm (trees_on v) w.book s.node number k → RemainsWith v s w left k
+  pub others : (j k : ℕ) → IsJournalAt v.layout j k → k ≢ d → IsClean (ring_at left k)
+
+-- so it is in each outcome without a false header of the image with what is in flight
 abbrev pub ItsOutcomesStand : Type 0
 ItsOutcomesStand = (v : Volume) (s : Begun (trees_on v)) (w : World (trees_on v)) (d : ℕ) (st : NodeState) (left : Image) → IsLoggedNode v s w d st
-    → IsImageOutcome st.image st.flying left → NoFalseHeader st.image v.layout st.flying left
-    → (n : ℕ) × IsHeadNumber st n × ((k : ℕ) → n ≤ k → k ≤ st.numbers.answered → Calm (trees_on v) w.book s.node n k → RemainsWith v s w left k)
+    → IsImageOutcome st.image st.flying left → NoFalseHeader st.image v.layout st.flying left → Remains v s w d st.numbers.answered left (IsHeadLeft st)
 
 -- and what was answered so far is a legal history
 abbrev pub ItsHistoryIsLegal : Type 0

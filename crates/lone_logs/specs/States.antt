@@ -16,7 +16,7 @@ use Rattle.image_model.specs.Replays.{MayChange}
 use Rattle.image_model.specs.Stands.{IsJournalAt}
 use Rattle.journal_outcomes.specs.Images.{HeaderFliesTo, ring_at, to_journal}
 use Rattle.journal_outcomes.specs.Rings.{InFlight}
-use Rattle.log_layout.specs.Journal.{Ring}
+use Rattle.log_layout.specs.Journal.{IsClean, Ring}
 use Rattle.log_layout.specs.Live.{live_in}
 use Rattle.log_rings.specs.Flights.{AreWritten, chunk_place}
 use Rattle.log_rings.specs.Laid.{IsRingOf, Laid}
@@ -24,14 +24,16 @@ use Rattle.log_tables.specs.Kept.{is_home}
 use Rattle.log_tables.specs.Versions.Way.{Home, Away, Flying}
 use Rattle.log_values.specs.Blocks as set
 use Rattle.log_values.specs.Changes.{is_flushed}
-use Rattle.log_values.specs.Flushing.{block_at, flush_chunks, head_place, header_bytes}
+use Rattle.log_values.specs.Flushing.{block_at, flush_chunks, head_place, header_bytes, place_of}
 use Rattle.log_values.specs.Log.{Entry, Flush, Journal, LogValue, Stage, Version}
 use Rattle.log_values.specs.Log.Stage.{Ending, Headed, Writing}
 use Rattle.log_values.specs.Sound.{IsSoundLog}
+use Rattle.log_values.specs.Transactions.{flushed_as}
 use Rattle.lone_images.specs.Lone.{all_locks}
 use Rattle.lone_machine.specs.Alone.{Begun, IsAlone, head_of, now}
 use Rattle.lone_machine.specs.Laws.{AreOwnRings}
 use Rattle.lone_machine.specs.Versions.{AreVersions}
+use Rattle.node_journal.specs.Written.{IsHeaderRead}
 use Rattle.tree_histories.specs.Trees.{Trees}
 
 -- the images of a volume, as a file system of the machine
@@ -105,6 +107,10 @@ FliesToJournal ring flying log (Some f) = FliesAs ring flying log f f.stage
 abbrev pub IsHeaded : Option Flush → Type 0
 IsHeaded o = (f : Flush) × (tail : ℕ) × (o ≡ Some f) × (f.stage ≡ Headed tail)
 
+-- a header in flight is read as it was written
+abbrev pub IsRead : LogValue → Type 0
+IsRead log = (f : Flush) (tail : ℕ) → log.flush ≡ Some f → f.stage ≡ Headed tail → IsHeaderRead log.journal.size (place_of log f tail) (flushed_as f)
+
 -- the header in flight has the flush's calls; without one both heads are one
 pub record HasHeads (v : Volume) (s : Begun (trees_on v)) (w : World (trees_on v)) (begun : ℕ) (o : Option Flush) : Type 0 where
   pub headed : IsHeaded o → (head_of (trees_on v) s w true).cut ≡ begun
@@ -142,8 +148,9 @@ pub record IsJournalOf (v : Volume) (d : ℕ) (journal : Journal) : Type 0 where
 
 -- ---- what always holds
 
--- The machine has come here with node 1 alone, which holds all locks, and its disk is the node's; the journal on that is the log's; live blocks that the log holds for home are there; what is in
--- flight is what the log says; its versions are its calls', of blocks that a replay may change; what the node keeps of blocks is what it works on, and of what isn't home it keeps all that isn't free.
+-- The machine has come here with node 1 alone, which holds all locks, and its disk is the node's; the journal on that is the log's, and each other one is clean; live blocks that the log holds for
+-- home are there; what is in flight is what the log says; its versions are its calls', of blocks that a replay may change; what the node keeps of blocks is what it works on, and of what isn't home it
+-- keeps all that isn't free.
 pub record IsLoggedNode (v : Volume) (s : Begun (trees_on v)) (w : World (trees_on v)) (d : ℕ) (st : NodeState) : Type 0 where
   pub alone : IsAlone (trees_on v) s w
   pub node : s.node ≡ 1
@@ -161,11 +168,13 @@ pub record IsLoggedNode (v : Volume) (s : Begun (trees_on v)) (w : World (trees_
   pub laid : List Laid
   pub ring : IsRingOf (ring_at st.image d) st.log laid
   pub home : (b : ℕ) (e : Entry) → table.get st.log.live b ≡ Some e → e.way ≡ Home → live_in (ring_at st.image d) b ≡ Some (st.image.at b)
+  pub others : (j k : ℕ) → IsJournalAt v.layout j k → k ≢ d → IsClean (ring_at st.image k)
   -- what is in flight, and the heads
   pub flies : FliesToJournal (ring_at st.image d) (to_journal st.image d st.flying) st.log st.log.flush
   pub homeward : (b : ℕ) → (IsPlace v b → ⊥) → st.flying b ≡ flies_home (table.get st.log.live b)
   pub elsewhere : (j k p : ℕ) → IsJournalAt v.layout j k → k ≢ d → p < v.places k → st.flying (v.place k p) ≡ None
   pub only_headed : HeaderFliesTo st.image d st.flying → IsHeaded st.log.flush
+  pub read : IsRead st.log
   pub heads : HasHeads v s w st.numbers.begun st.log.flush
   -- its calls
   pub numbers : HasCallNumbers v s w st.numbers

@@ -1,6 +1,6 @@
 -- Each outcome of an image with writes in flight is one of the machine's disk.
 use Rattle.std.proofs.Common.{◌≡◌, ◌⊎◌, ℕ, ◌<◌, inl, inr, Bool, true, false, List, length, Option, None, Some, slice_get, refl, sym, ap, subst, ◌∙◌, arith}
-use Rattle.std.specs.Prelude.{unwrap_or}
+use Rattle.std.specs.Prelude.{if◌then◌else◌, unwrap_or}
 use Rattle.file_tree.specs.Tree.{Tree}
 use Rattle.cluster_laws.specs.Book.{W}
 use Rattle.cluster_laws.specs.Contents.{places}
@@ -19,10 +19,10 @@ use Rattle.image_model.specs.Stands.{IsJournalAt, Layout}
 use Rattle.image_model.proofs.Held.{none_some, some_same}
 use Rattle.image_outcomes.specs.CutShort.{ring_left}
 use Rattle.image_outcomes.specs.Outcomes.{IsLiveIn}
-use Rattle.image_outcomes.proofs.Chosen.{SaysNew, SaysOld}
+use Rattle.image_outcomes.proofs.Chosen.{SaysNew, SaysOld, says_before}
 use Rattle.image_outcomes.proofs.Found.{FindsTheSame, finds, ring_is}
 use Rattle.journal_outcomes.specs.Images.{HeaderFliesTo, IsImageOutcome, IsPlaceIn, MayBeInFlight, NoFalseHeader, landed_at, ring_at, to_journal}
-use Rattle.journal_outcomes.specs.Rings.{InFlight, IsRingOutcome}
+use Rattle.journal_outcomes.specs.Rings.{InFlight, IsRingOutcome, SaysAs}
 use Rattle.journal_outcomes.proofs.Outcomes.{landed_header, outcomes_say_one}
 use Rattle.log_layout.specs.Laws.{HasSamePlaces}
 use Rattle.gfs2_layout.specs.declared.log_header.LogHeader.{LogHeader as Front}
@@ -166,6 +166,19 @@ module _ (v : Volume) (u w : World (Trees (images_of v))) (rings : Rings (Trees 
             its (inl says) = says.live b ∙ sym (is.old j m b e)
             its (inr new) = new.1.live b ∙ sym (is.new j m b e new.0)
 
+    -- each journal says what it says with the heads of that choice
+    choice_says : (j k : ℕ) → IsJournalAt l j k → SaysAs (ring_at left k) (if choice j then landed_at im k flying else ring_at im k)
+    unfolding choice chosen_of
+    choice_says j k at = by (slice_get l.journals j) refl at
+      where
+        by : (o : Option ℕ) (e : slice_get l.journals j ≡ o) → o ≡ Some k → SaysAs (ring_at left k) (if chosen_of j o e then landed_at im k flying else ring_at im k)
+        by None e same = absurd (none_some same)
+        by (Some m) e same = subst (λ z. SaysAs (ring_at left z) (if is_second (each j m e) then landed_at im z flying else ring_at im z)) (some_same same) (its (each j m e))
+          where
+            its : (q : SaysOld im left flying m ⊎ (HeaderFliesTo im m flying × SaysNew im left flying m)) → SaysAs (ring_at left m) (if is_second q then landed_at im m flying else ring_at im m)
+            its (inl says) = says_before (ring_left im left m) (ring_at left m) (ring_at im m) (same_ring j m e) says
+            its (inr new) = says_before (ring_left im left m) (ring_at left m) (landed_at im m flying) (same_ring j m e) new.1
+
     -- ---- the image that is left, by that choice
 
     left_has : HasBlocksFor v left
@@ -281,6 +294,7 @@ module _ (v : Volume) (u w : World (Trees (images_of v))) (rings : Rings (Trees 
     the_outcome = record {
       change = left_change;
       landed = choice_landed;
+      says = choice_says;
       rests = at_rest;
       choice = choice;
       taken = choice_taken;
