@@ -64,6 +64,9 @@ module _ (p q : Point) (f : Flush) (new : LogValue) (bytes : List ℕ) (is : p.l
           let sequence : new.sequence ≡ after p.log.sequence = ap (λ (l : LogValue). l.sequence) new_is in
           subst (λ (items : List TraceItem). Steps time p (record (ended list) { items = items })) (append_assoc p.items (trace.Barrier 1 ∷ []) (trace.Commit 1 new.sequence p.numbers.begun ∷ []))
           (Then p _ (Then p _ Here (EndsFlush new f tail bytes list is numbers stage made gains))
-          (Commits head.0 (head.1, ap (λ (items : List TraceItem). items ++ trace.Barrier 1 ∷ []) head.2
-          ∙ append_assoc head.1 (trace.WriteHead 1 head.0 (after p.log.sequence) p.numbers.begun ∷ []) (trace.Barrier 1 ∷ [])
-          ∙ ap (λ (n : ℕ). head.1 ++ (trace.WriteHead 1 head.0 n p.numbers.begun ∷ trace.Barrier 1 ∷ [])) (sym sequence))))
+          (Commits head.0 (
+            head.1,
+            ap (λ (items : List TraceItem). items ++ trace.Barrier 1 ∷ []) head.2
+                ∙ append_assoc head.1 (trace.WriteHead 1 head.0 (after p.log.sequence) p.numbers.begun ∷ []) (trace.Barrier 1 ∷ [])
+                ∙ ap (λ (n : ℕ). head.1 ++ (trace.WriteHead 1 head.0 n p.numbers.begun ∷ trace.Barrier 1 ∷ [])) (sym sequence),
+          )))

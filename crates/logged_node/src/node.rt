@@ -1,6 +1,6 @@
 // A node with its log.
-use lone_view::LoneView;
 use log_memory::Log;
+use lone_view::LoneView;
 use trace_text::TraceItem;
 
 /// Numbers of a node's calls: of the last that it answered, of the last that changed anything, of the last in its journal, and of the last as the flush

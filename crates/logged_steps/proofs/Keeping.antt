@@ -130,7 +130,6 @@ module _ (calls_are_logged : CallsAreLogged) (quiet_calls_are_logged : QuietCall
     (reads_are_logged : ReadsAreLogged) (flushes_begin : FlushesBegin) (headers_begin : HeadersBegin) (blocks_are_written : BlocksAreWritten) (headers_are_written : HeadersAreWritten)
     (barriers_settle : BarriersSettle) (first_barriers_settle : FirstBarriersSettle) (last_barriers_land : LastBarriersLand) (blocks_go_home : BlocksGoHome) (its_blocks_may_change : ItsBlocksMayChange)
     (may_behind_calls : MayChangeBehindCalls) (may_behind_barriers : MayChangeBehindBarriers) (may_without_calls : MayChangeWithoutCalls) where
-
   module _ (v : Volume) (s : Begun (trees_on v)) (d : ℕ) (clients : List Client) (time : ℕ) (p : Point) (at : IsLoggedAt v s d clients p) where
     abbrev st : NodeState
     st = state_of p

@@ -66,7 +66,6 @@ pub data Step (time : ℕ) (p : Point) : Point → Type 0 where
   -- a block that a call asks for, and that isn't kept, is read
   Reads : (b : ℕ) (lock : LockName) (bytes : List ℕ) → IsAsked p.view b lock → table.get p.view.blocks b ≡ None → length bytes ≡ p.view.size → (IsTrue p.disk.tells → bytes ≡ read_gives p.disk 1 b)
       → Step time p (keeping p b bytes)
-
   -- a call is answered: what it changes comes into the log, and what it writes is kept, and not what it frees; or it changes nothing
   Answers : (name : List ℕ) (call : Call) (reply : Reply) (change : Change) (kept : table.FinMap nat_cmp (List ℕ)) → IsDoneBy p.view time call reply change → is_nothing change ≡ false
       → CanBeAdded p.log.journal.size change → Suffices (with_change p.log change) → ((b : ℕ) → table.get kept b ≡ version_with change (table.get p.view.blocks) b)
@@ -79,7 +78,6 @@ pub data Step (time : ℕ) (p : Point) : Point → Type 0 where
   TellsFull : (call : Call) (need free : ℕ) → IsSpaceless p.view call need free → p.numbers.changed ≤ p.numbers.low → Step time p (record p { items = telling p (trace.Full 1 need free) })
   HasNoSpace : (name : List ℕ) (call : Call) (need free : ℕ) → IsSpaceless p.view call need free → EndsWith p (trace.Full 1 need free ∷ [])
       → Step time p (with_quiet_answer p (call_item p name call replies.NoSpace))
-
   -- a flush begins: with all that is due, up to the last call; or as a header alone, up to the last one that is in the journal
   BeginsFlush : p.log.flush ≡ None → IsDue p.log → HasRoom p.log (due p.log) → Step time p (record p { log = begun p.log; numbers = record p.numbers { begun = p.numbers.answered } })
   BeginsHeader : p.log.flush ≡ None → AllAreHome p.log → (NothingIsLive p.log → ⊥) → (IsDue p.log → HasRoom p.log (due p.log) → ⊥)
@@ -94,12 +92,10 @@ pub data Step (time : ℕ) (p : Point) : Point → Type 0 where
   EndsFlush : (new : LogValue) (f : Flush) (tail : ℕ) (bytes : List ℕ) (list : Option (List Operation)) → p.log.flush ≡ Some f → HasNumbers p.log f → f.stage ≡ Headed tail → FlushStep p.log new f bytes step.Barrier
       → GainsBarrier p list → Step time p (record (with_barrier p list new) { numbers = record p.numbers { low = p.numbers.begun } })
   Commits : (b : ℕ) → EndsWith p (trace.WriteHead 1 b p.log.sequence p.numbers.low ∷ trace.Barrier 1 ∷ []) → Step time p (record p { items = telling p (trace.Commit 1 p.log.sequence p.numbers.low) })
-
   -- a live block of this lock is on its way home; and a barrier is made while no header is in flight
   GoesHome : (new : LogValue) (lock : LockName) (b : ℕ) (bytes : List ℕ) (list : Option (List Operation)) → HomeAnswer p.log new lock bytes (Some (step.Write b))
       → MayWrite p b bytes → GainsWrite p b bytes list → Step time p (with_write p b bytes list new (trace.WriteHome 1 b))
   Rests : (new : LogValue) (list : Option (List Operation)) → (IsHeaded p.log.flush → ⊥) → Settles p.log new → GainsBarrier p list → Step time p (with_barrier p list new)
-
   -- it unmounts: what it does from now on is to flush, to bring blocks home, and to leave its journal clean
   Unmounts : Step time p (record p { items = telling p (trace.Unmount 1) })
 
