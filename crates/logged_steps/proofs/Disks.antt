@@ -2,7 +2,7 @@
 use Rattle.std.proofs.Common.{◌≡◌, ◌<◌, ℕ, zero, suc, ◌⊎◌, inl, inr, Bool, true, false, List, [], ◌∷◌, length, Option, None, Some, refl, sym, ap, subst, ◌∙◌, arith}
 use Rattle.std.specs.Prelude.{◌==◌, ◌≢◌, IsTrue, nat_lt, if◌then◌else◌, unwrap_or}
 use Rattle.std.specs.List.{AllByRecursion}
-use Rattle.std.proofs.lemmas.Bool.{cases_Bool, cond-true, cond-false, eq-eqb, eqb-eq, ne_eqb}
+use Rattle.std.proofs.lemmas.Bool.{cases_Bool, cond-true, cond-false, eq-eqb, ne_eqb}
 use Rattle.image_model.specs.Image.{image_of}
 use Rattle.journal_outcomes.specs.Disks.{BarriersLeaveAll, flown_by}
 use Rattle.lone_logs.specs.States.{FliesBesides, HasLandedAs}
@@ -17,20 +17,20 @@ module _ (new : Flight) where
   there [] none = cond-true (new.block == new.block) (Some new.bytes) None (eq-eqb new.block new.block refl)
   there (f ∷ fs) none = elim (cases_Bool (f.block == new.block)) [
     | inl is ↦ absurd (let e : Some f.bytes ≡ None = sym (cond-true (f.block == new.block) (Some f.bytes) (flight_to fs new.block) is) ∙ none in cc)
-    | inr off ↦ by (nat_lt new.block f.block) off (sym (cond-false (f.block == new.block) (Some f.bytes) (flight_to fs new.block) off) ∙ none)
+    | inr off ↦ by (nat_lt new.block f.block) off (there fs (sym (cond-false (f.block == new.block) (Some f.bytes) (flight_to fs new.block) off) ∙ none))
   ]
     where
-      by : (t : Bool) → (f.block == new.block) ≡ false → flight_to fs new.block ≡ None → flight_to (if t then new ∷ f ∷ fs else f ∷ with_flight fs new) new.block ≡ Some new.bytes
-      by true off free = cond-true (new.block == new.block) (Some new.bytes) (flight_to (f ∷ fs) new.block) (eq-eqb new.block new.block refl)
-      by false off free = cond-false (f.block == new.block) (Some f.bytes) (flight_to (with_flight fs new) new.block) off ∙ there fs free
+      by : (t : Bool) → (f.block == new.block) ≡ false → flight_to (with_flight fs new) new.block ≡ Some new.bytes → flight_to (if t then new ∷ f ∷ fs else f ∷ with_flight fs new) new.block ≡ Some new.bytes
+      by true off behind = cond-true (new.block == new.block) (Some new.bytes) (flight_to (f ∷ fs) new.block) (eq-eqb new.block new.block refl)
+      by false off behind = cond-false (f.block == new.block) (Some f.bytes) (flight_to (with_flight fs new) new.block) off ∙ behind
 
   others : (fs : List Flight) (k : ℕ) → k ≢ new.block → flight_to (with_flight fs new) k ≡ flight_to fs k
   others [] k off = cond-false (new.block == k) (Some new.bytes) None (ne_eqb new.block k (λ e. off (sym e)))
-  others (f ∷ fs) k off = by (nat_lt new.block f.block)
+  others (f ∷ fs) k off = by (nat_lt new.block f.block) (others fs k off)
     where
-      by : (t : Bool) → flight_to (if t then new ∷ f ∷ fs else f ∷ with_flight fs new) k ≡ flight_to (f ∷ fs) k
-      by true = cond-false (new.block == k) (Some new.bytes) (flight_to (f ∷ fs) k) (ne_eqb new.block k (λ e. off (sym e)))
-      by false = ap (λ o. if f.block == k then Some f.bytes else o) (others fs k off)
+      by : (t : Bool) → flight_to (with_flight fs new) k ≡ flight_to fs k → flight_to (if t then new ∷ f ∷ fs else f ∷ with_flight fs new) k ≡ flight_to (f ∷ fs) k
+      by true behind = cond-false (new.block == k) (Some new.bytes) (flight_to (f ∷ fs) k) (ne_eqb new.block k (λ e. off (sym e)))
+      by false behind = ap (λ o. if f.block == k then Some f.bytes else o) behind
 
 -- ---- of one node
 

@@ -99,21 +99,21 @@ here_by time p q count steps low = record { point = q; before = steps; behind = 
 
 pub fronts_are_passed : FrontsArePassed
 fronts_are_passed time p _ count Here low high = here_by time p p count Here low
-fronts_are_passed time p _ count (Then q r before last) low high = by (adds time q r last)
+fronts_are_passed time p _ count (Then q r before last) low high = by (adds time q r last) (λ inside. fronts_are_passed time p q count before low inside)
   where
-    earlier : count ≤ length q.items → (more : List TraceItem) → r.items ≡ q.items ++ more → CameBy time p r count
-    earlier inside more items =
-        let came = fronts_are_passed time p q count before low inside in
-        record { point = came.point; before = came.before; behind = Then q r came.behind last; items = ap (take count) items ∙ take_front count q.items more inside ∙ came.items }
+    earlier : CameBy time p q count → count ≤ length q.items → (more : List TraceItem) → r.items ≡ q.items ++ more → CameBy time p r count
+    earlier came inside more items = record { point = came.point; before = came.before; behind = Then q r came.behind last; items = ap (take count) items ∙ take_front count q.items more inside ∙ came.items }
 
-    by : Adds q r → CameBy time p r count
-    by (nothing items list) = earlier (subst (λ (l : List TraceItem). count ≤ length l) items high) [] (items ∙ sym (append_nil q.items))
-    by (an_item item operations items done gains) = elim (dec count (length q.items)) [
-      | inl inside ↦ earlier inside (item ∷ []) items
+    dec : (a b : ℕ) → (a ≤ b) ⊎ (b < a)
+    dec zero b = inl (omega arith)
+    dec (suc a) zero = inr (omega arith)
+    dec (suc a) (suc b) = elim (dec a b) [ inl h ↦ inl (omega (arith, h)) | inr h ↦ inr (omega (arith, h)) ]
+
+    by : Adds q r → (count ≤ length q.items → CameBy time p q count) → CameBy time p r count
+    by (nothing items list) came =
+        let inside = subst (λ (l : List TraceItem). count ≤ length l) items high in
+        earlier (came inside) inside [] (items ∙ sym (append_nil q.items))
+    by (an_item item operations items done gains) came = elim (dec count (length q.items)) [
+      | inl inside ↦ earlier (came inside) inside (item ∷ []) items
       | inr behind ↦ here_by time p r count (Then q r before last) (let n = ap length items in let m = length-append q.items (item ∷ []) in omega (arith, n, m, behind))
     ]
-      where
-        dec : (a b : ℕ) → (a ≤ b) ⊎ (b < a)
-        dec zero b = inl (omega arith)
-        dec (suc a) zero = inr (omega arith)
-        dec (suc a) (suc b) = elim (dec a b) [ inl h ↦ inl (omega (arith, h)) | inr h ↦ inr (omega (arith, h)) ]
