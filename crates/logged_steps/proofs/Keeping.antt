@@ -1,6 +1,6 @@
 -- Whatever steps the node makes, it stays one alone on an image with its log.
 use Rattle.std.proofs.Common.{◌≡◌, ◌≤◌, ◌<◌, ℕ, suc, ◌⊎◌, inl, inr, Bool, true, false, List, [], ◌∷◌, ◌++◌, length, Option, None, Some, refl, sym, ap, ap₂, subst, ◌∙◌, arith}
-use Rattle.std.specs.Prelude.{IsTrue, ◌&&◌, if◌then◌else◌, not, slice_get, unwrap_or}
+use Rattle.std.specs.Prelude.{IsTrue, ◌==◌, ◌&&◌, if◌then◌else◌, not, slice_get, unwrap_or}
 use Rattle.std.specs.FinMap as table
 use Rattle.std.specs.FinMap.{nat_cmp-IsAntisymmetric}
 use Rattle.std.specs.List.{AllByRecursion}
@@ -186,18 +186,18 @@ module _ (calls_are_logged : CallsAreLogged) (quiet_calls_are_logged : QuietCall
         both is = ap not (sync_changes_none call reply is.0)
 
     one : (q : Point) → Step time p q → IsLoggedAt v s d clients q
-    one _ (Reads b lock bytes asked none whole read) = record {
-      tells = at.tells;
-      sound = at.sound;
-      world = logged.1.world;
-      is = subst (λ (x : List ℕ). IsLoggedNode v s logged.1.world d (record st { kept = table.insert st.kept b x })) (sym is_read) logged.1.is;
-      volume = of_volume v p.view (table.insert p.view.blocks b bytes) at.volume inserted_whole;
-      history = at.history ∙ sym (ap (history_of (images_of v)) logged.1.items);
-      may = on_same logged.1.world logged.1.now;
-    }
+    one _ (Reads b lock bytes asked none whole read) =
+        let logged = reads_are_logged v s at.world d st (seen_alone p.view) b lock at.is its none asked in
+        record {
+          tells = at.tells;
+          sound = at.sound;
+          world = logged.1.world;
+          is = subst (λ (x : List ℕ). IsLoggedNode v s logged.1.world d (record st { kept = table.insert st.kept b x })) (sym is_read) logged.1.is;
+          volume = of_volume v p.view (table.insert p.view.blocks b bytes) at.volume inserted_whole;
+          history = at.history ∙ sym (ap (history_of (images_of v)) logged.1.items);
+          may = on_same logged.1.world logged.1.now;
+        }
       where
-        logged = reads_are_logged v s at.world d st (seen_alone p.view) b lock at.is its none asked
-
         is_read : bytes ≡ laid (flown_by p.disk 1 b) (p.disk.block_at b)
         is_read = read at.tells ∙ read_is p.disk b
 
@@ -208,19 +208,19 @@ module _ (calls_are_logged : CallsAreLogged) (quiet_calls_are_logged : QuietCall
               sym (ap length (some_same e)) ∙ whole
           | inr apart ↦ at.volume.view.whole c x (sym (inserted_apart nat_cmp_total nat_cmp-IsAntisymmetric p.view.blocks b bytes c apart) ∙ is)
         ]
-    one _ (Answers name call reply change kept done some can room keeps) = answers _ name call reply logged.world refl refl (of_volume v p.view kept at.volume (kept_whole p.view change kept done.inside at.volume.view keeps)) logged.is logged.items
+    one _ (Answers name call reply change kept done some can room keeps) =
+        let logged = calls_are_logged v s at.world d st (seen_alone p.view) (told name call reply) change kept at.is (sync_is_quiet p.view call reply change done.does some) its done.inside done.does can room
+        (its_blocks_may_change v s at.world d st (seen_alone p.view) call 1 reply change at.is (its_answer call reply change done) at.may) keeps in
+        answers _ name call reply logged.world refl refl (of_volume v p.view kept at.volume (kept_whole p.view change kept done.inside at.volume.view keeps)) logged.is logged.items
         (may_behind_calls v s at.world logged.world d st (seen_alone p.view) call 1 reply change at.is (its_answer call reply change done) logged.now at.may)
-      where
-        logged = calls_are_logged v s at.world d st (seen_alone p.view) (told name call reply) change kept at.is (sync_is_quiet p.view call reply change done.does some) its done.inside done.does can room
-            (its_blocks_may_change v s at.world d st (seen_alone p.view) call 1 reply change at.is (its_answer call reply change done) at.may) keeps
-    one _ (AnswersQuietly name call reply change done none no_sync) = answers _ name call reply logged.world refl refl at.volume logged.is logged.items
+    one _ (AnswersQuietly name call reply change done none no_sync) =
+        let logged = quiet_calls_are_logged v s at.world d st (seen_alone p.view) (told name call reply) change at.is no_sync its done.inside done.does none in
+        answers _ name call reply logged.world refl refl at.volume logged.is logged.items
         (may_behind_calls v s at.world logged.world d st (seen_alone p.view) call 1 reply change at.is (its_answer call reply change done) logged.now at.may)
-      where
-        logged = quiet_calls_are_logged v s at.world d st (seen_alone p.view) (told name call reply) change at.is no_sync its done.inside done.does none
-    one _ (Syncs name low) = answers _ name calls.Sync replies.Ok logged.world refl refl at.volume logged.is logged.items
+    one _ (Syncs name low) =
+        let logged = syncs_are_logged v s at.world d st (run.place_of clients name) at.is low in
+        answers _ name calls.Sync replies.Ok logged.world refl refl at.volume logged.is logged.items
         (may_without_calls v at.world logged.world (image_of p.disk) logged.now at.may)
-      where
-        logged = syncs_are_logged v s at.world d st (run.place_of clients name) at.is low
     one _ (TellsFull call need free spaceless low) = record {
       tells = at.tells;
       sound = at.sound;
@@ -230,28 +230,28 @@ module _ (calls_are_logged : CallsAreLogged) (quiet_calls_are_logged : QuietCall
       history = with_other clients p.items (trace.Full 1 need free) refl ∙ at.history;
       may = at.may;
     }
-    one _ (HasNoSpace name call need free spaceless ends) = answers _ name call replies.NoSpace logged.world refl refl at.volume logged.is logged.items
+    one _ (HasNoSpace name call need free spaceless ends) =
+        let logged = spaceless_calls_are_logged v s at.world d st (seen_alone p.view) (run.place_of clients name) call at.is its spaceless.takes (λ im o l t of. taken_by (seen_alone p.view) call t need free spaceless.takes im o l (spaceless.few im o l t of)) in
+        answers _ name call replies.NoSpace logged.world refl refl at.volume logged.is logged.items
         (may_without_calls v at.world logged.world (image_of p.disk) logged.now at.may)
-      where
-        logged = spaceless_calls_are_logged v s at.world d st (seen_alone p.view) (run.place_of clients name) call at.is its spaceless.takes (λ im o l t of. taken_by (seen_alone p.view) call t need free spaceless.takes im o l (spaceless.few im o l t of))
-    one _ (BeginsFlush none due room) = stays _ at.tells at.sound refl refl logged (on_same logged.world logged.now)
-      where
-        logged = flushes_begin v s at.world d st at.is none due room
-    one _ (BeginsHeader none home some no_more) = stays _ at.tells at.sound refl refl logged (on_same logged.world logged.now)
-      where
-        logged = headers_begin v s at.world d st at.is none home some no_more
-    one _ (WritesLog new f b bytes list flush numbers step may gains) = stays _ at.tells (sound_write p b bytes may at.sound) refl (with_other clients p.items (trace.WriteLog 1 b) refl) logged (on_same logged.world logged.now)
-      where
-        logged = blocks_are_written v s at.world d st new f b bytes _ at.is flush numbers step (flies_besides p b bytes may at.sound)
-    one _ (EndsBlocks new f done bytes list flush stage step gains) = stays _ at.tells (sound_barrier p.disk at.tells at.sound) refl (with_other clients p.items (trace.Barrier 1) refl) logged (behind_barrier logged.world logged.now)
-      where
-        logged = first_barriers_settle v s at.world d st new f done bytes _ at.is flush stage step (landed_as p.disk at.tells at.sound)
-    one _ (WritesHead new f b sequence bytes list flush numbers step may gains) = stays _ at.tells (sound_write p b bytes may at.sound) refl (with_other clients p.items (trace.WriteHead 1 b sequence p.numbers.begun) refl) logged (on_same logged.world logged.now)
-      where
-        logged = headers_are_written v s at.world d st new f b sequence bytes _ at.is flush numbers step (flies_besides p b bytes may at.sound)
-    one _ (EndsFlush new f tail bytes list flush numbers stage step gains) = stays _ at.tells (sound_barrier p.disk at.tells at.sound) refl (with_other clients p.items (trace.Barrier 1) refl) logged (behind_barrier logged.world logged.now)
-      where
-        logged = last_barriers_land v s at.world d st new f tail bytes _ at.is flush numbers stage step (landed_as p.disk at.tells at.sound)
+    one _ (BeginsFlush none due room) =
+        let logged = flushes_begin v s at.world d st at.is none due room in
+        stays _ at.tells at.sound refl refl logged (on_same logged.world logged.now)
+    one _ (BeginsHeader none home some no_more) =
+        let logged = headers_begin v s at.world d st at.is none home some no_more in
+        stays _ at.tells at.sound refl refl logged (on_same logged.world logged.now)
+    one _ (WritesLog new f b bytes list flush numbers step may gains) =
+        let logged = blocks_are_written v s at.world d st new f b bytes _ at.is flush numbers step (flies_besides p b bytes may at.sound) in
+        stays _ at.tells (sound_write p b bytes may at.sound) refl (with_other clients p.items (trace.WriteLog 1 b) refl) logged (on_same logged.world logged.now)
+    one _ (EndsBlocks new f done bytes list flush stage step gains) =
+        let logged = first_barriers_settle v s at.world d st new f done bytes _ at.is flush stage step (landed_as p.disk at.tells at.sound) in
+        stays _ at.tells (sound_barrier p.disk at.tells at.sound) refl (with_other clients p.items (trace.Barrier 1) refl) logged (behind_barrier logged.world logged.now)
+    one _ (WritesHead new f b sequence bytes list flush numbers step may gains) =
+        let logged = headers_are_written v s at.world d st new f b sequence bytes _ at.is flush numbers step (flies_besides p b bytes may at.sound) in
+        stays _ at.tells (sound_write p b bytes may at.sound) refl (with_other clients p.items (trace.WriteHead 1 b sequence p.numbers.begun) refl) logged (on_same logged.world logged.now)
+    one _ (EndsFlush new f tail bytes list flush numbers stage step gains) =
+        let logged = last_barriers_land v s at.world d st new f tail bytes _ at.is flush numbers stage step (landed_as p.disk at.tells at.sound) in
+        stays _ at.tells (sound_barrier p.disk at.tells at.sound) refl (with_other clients p.items (trace.Barrier 1) refl) logged (behind_barrier logged.world logged.now)
     one _ (Commits b ends) = record {
       tells = at.tells;
       sound = at.sound;
@@ -261,12 +261,12 @@ module _ (calls_are_logged : CallsAreLogged) (quiet_calls_are_logged : QuietCall
       history = with_other clients p.items (trace.Commit 1 p.log.sequence p.numbers.low) refl ∙ at.history;
       may = at.may;
     }
-    one _ (GoesHome new lock b bytes list answer may gains) = stays _ at.tells (sound_write p b bytes may at.sound) refl (with_other clients p.items (trace.WriteHome 1 b) refl) logged (on_same logged.world logged.now)
-      where
-        logged = blocks_go_home v s at.world d st new lock b bytes _ at.is answer (flies_besides p b bytes may at.sound)
-    one _ (Rests new list no_header settles gains) = stays _ at.tells (sound_barrier p.disk at.tells at.sound) refl (with_other clients p.items (trace.Barrier 1) refl) logged (behind_barrier logged.world logged.now)
-      where
-        logged = barriers_settle v s at.world d st new _ at.is no_header settles (landed_as p.disk at.tells at.sound)
+    one _ (GoesHome new lock b bytes list answer may gains) =
+        let logged = blocks_go_home v s at.world d st new lock b bytes _ at.is answer (flies_besides p b bytes may at.sound) in
+        stays _ at.tells (sound_write p b bytes may at.sound) refl (with_other clients p.items (trace.WriteHome 1 b) refl) logged (on_same logged.world logged.now)
+    one _ (Rests new list no_header settles gains) =
+        let logged = barriers_settle v s at.world d st new _ at.is no_header settles (landed_as p.disk at.tells at.sound) in
+        stays _ at.tells (sound_barrier p.disk at.tells at.sound) refl (with_other clients p.items (trace.Barrier 1) refl) logged (behind_barrier logged.world logged.now)
     one _ Unmounts = record {
       tells = at.tells;
       sound = at.sound;
