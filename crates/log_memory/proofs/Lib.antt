@@ -25,3 +25,4 @@ mod Listing
 mod Due
 mod Begun
 mod Answering
+pub mod LeastLocks

@@ -4,3 +4,4 @@ pub mod Journals
 pub mod Inside
 pub mod Adding
 pub mod Flushing
+pub mod Locks

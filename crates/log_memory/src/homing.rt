@@ -1,8 +1,9 @@
 // Live blocks on their way home.
-ghost use Rattle.std.specs.Prelude.{◌≡◌, ◌<◌, ℕ, IfSome, IfNone, None, Some, List, length, slice_get, true};
+ghost use Rattle.std.specs.Prelude.{◌≡◌, ◌+◌, ◌<◌, ℕ, IfSome, IfNone, None, Some, List, length, slice_get, true};
 ghost use Rattle.std.specs.FinMap as table;
 ghost use Rattle.log_values.specs.Log.{Entry};
 ghost use Rattle.log_tables.specs.Versions.Way.{Away, Flying};
+ghost use Rattle.log_memory.specs.Locks.{IsLeastFound, comes_before as before, lesser_of};
 ghost use Rattle.log_memory.specs.Rows.{IsFirstThatGoes, NoneGoes, goes_home, is_away};
 
 use crate::log::Log;
@@ -75,9 +76,51 @@ fn send(log: &mut Log, place: usize, into: &mut [u8]) -> u64
     block
 }
 
+// Whether the lock stands before the other one.
+fn comes_before(lock: LockName, other: LockName) -> bool
+    ensures { result ≡ before lock other }
+{
+    lock.kind < other.kind || (lock.kind == other.kind && lock.number < other.number)
+}
+
+// The lesser of the two, if there are two.
+fn lesser(least: Option<LockName>, lock: LockName) -> LockName
+    ensures { result ≡ lesser_of least lock }
+{
+    match least {
+        Some(other) if !comes_before(lock, other) => other,
+        _ => lock,
+    }
+}
+
+// With the lock of this row, if its block is away.
+fn least_with(tables: &Tables, least: Option<LockName>, place: usize) -> Option<LockName>
+    requires there { place < table.len tables.now.live }
+    requires before { IsLeastFound (table.entries tables.now.live) place least }
+    ensures { IsLeastFound (table.entries tables.now.live) (place + 1) result }
+{
+    if is_away(tables, place) {
+        Some(lesser(least, tables.live_lock(place)))
+    } else {
+        least
+    }
+}
+
+// The least lock of the live blocks that are away.
+fn least_lock(tables: &Tables) -> Option<LockName>
+    ensures { IsLeastFound (table.entries tables.now.live) (table.len tables.now.live) result }
+{
+    let mut least = None;
+    for place in 0..tables.live_len() {
+        least = least_with(tables, least, place);
+    }
+    least
+}
+
 impl Log {
-    ghost use Rattle.std.specs.Prelude.{◌≡◌, length};
+    ghost use Rattle.std.specs.Prelude.{◌≡◌, IfSome, None, length};
     ghost use Rattle.log_values.specs.Homing.{HomeAnswer};
+    ghost use Rattle.log_memory.specs.Locks.{IsNextLock, NoneIsAway};
 
     /// The next write that takes the lock's live blocks home: the least block that isn't home nor on its way, whose content is copied to `into`, a block long. None where there
     /// is none, or while a flush is under way. It goes over the live blocks.
@@ -93,5 +136,13 @@ impl Log {
         };
         let block = send(self, place, into);
         Some(LogStep::Write { block })
+    }
+
+    /// The least lock, by kind and then by number, under which a live block is away from home and not on its way there. It goes over the live blocks.
+    pub fn next_lock(&self) -> Option<LockName>
+        ensures some { IfSome result (IsNextLock self.now) }
+        ensures none { result ≡ None → NoneIsAway self.now }
+    {
+        least_lock(&self.tables)
     }
 }

@@ -55,4 +55,11 @@ impl Log {
     {
         self.clean
     }
+
+    /// The sequence of the journal's head. It costs no search.
+    pub fn sequence(&self) -> u64
+        ensures { result ≡ self.now.sequence }
+    {
+        self.sequence
+    }
 }

@@ -82,7 +82,7 @@ revokes_of f b = any_key (table.entries f.revokes) b ∙ ap is_some (sym (table.
 -- ---- it may be written
 
 -- what a map has at each of its entries
-each_entry : {V : Type 0} (A : Type 0) (f : ℕ × V → A) (P : A → Type 0) (m : table.FinMap nat_cmp V) → ((b : ℕ) (v : V) → table.get m b ≡ Some v → P (f (b, v))) → All P (map f (table.entries m))
+pub each_entry : {V : Type 0} (A : Type 0) (f : ℕ × V → A) (P : A → Type 0) (m : table.FinMap nat_cmp V) → ((b : ℕ) (v : V) → table.get m b ≡ Some v → P (f (b, v))) → All P (map f (table.entries m))
 each_entry {V} A f P m each = of (table.entries m) (λ i e at. each e.0 e.1 (row_gets m i e at))
   where
     of : (es : List (ℕ × V)) → ((i : ℕ) (e : ℕ × V) → slice_get es i ≡ Some e → P (f e)) → All P (map f es)

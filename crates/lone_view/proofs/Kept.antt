@@ -1,12 +1,12 @@
 -- The blocks that a node has, as a finite map.
-use Rattle.std.proofs.Common.{◌≡◌, ℕ, cond, Bor, List, [], ◌∷◌, length, Option, None, Some, refl, sym, ap, ◌∙◌, inl, inr}
+use Rattle.std.proofs.Common.{◌≡◌, ℕ, cond, Bor, Bool, true, false, List, [], ◌∷◌, length, Option, None, Some, refl, sym, ap, ◌∙◌, inl, inr}
 use Rattle.std.specs.Ordering.{nat_cmp, eq_by_cmp, is_eq}
 use Rattle.std.specs.Cmp.{nat_cmp_total}
 use Rattle.std.specs.List.Sorted.{IsStrictlySortedBy}
 use Rattle.std.specs.Map.{lookup, keys_of}
-use Rattle.std.specs.FinMap.{FinMap, get, insert, from_entries, get-empty, nat_cmp-IsAntisymmetric}
+use Rattle.std.specs.FinMap.{FinMap, get, insert, remove, from_entries, get-empty, get-remove, nat_cmp-IsAntisymmetric}
 use Rattle.std.proofs.lemmas.Bool.{cases_eq}
-use Rattle.finite_maps.proofs.Seen.{get-seen, seen_insert}
+use Rattle.finite_maps.proofs.Seen.{get-seen, seen_insert, seen_remove}
 use Rattle.finite_maps.proofs.Keys.{inserted_at, inserted_apart}
 use Rattle.glock_names.specs.Views.{IsView, AreGroups}
 use Rattle.glock_names.specs.declared.views.Group.{Group}
@@ -19,6 +19,10 @@ get_kept = get-seen nat_cmp_total nat_cmp-IsAntisymmetric (eq_by_cmp nat_cmp) (�
 pub kept_insert : (es fs : List (ℕ × List ℕ)) (k : ℕ) (v : List ℕ) → ((q : ℕ) → lookup (λ x. is_eq (nat_cmp q x)) fs ≡ cond (is_eq (nat_cmp k q)) (Some v) (lookup (λ x. is_eq (nat_cmp q x)) es))
     → from_entries {R = nat_cmp} fs ≡ insert (from_entries es) k v
 kept_insert = seen_insert nat_cmp_total nat_cmp-IsAntisymmetric (eq_by_cmp nat_cmp) (λ a b. refl)
+
+pub kept_remove : (es fs : List (ℕ × List ℕ)) (k : ℕ) → ((q : ℕ) → lookup (λ x. is_eq (nat_cmp q x)) fs ≡ cond (is_eq (nat_cmp k q)) None (lookup (λ x. is_eq (nat_cmp q x)) es))
+    → from_entries {R = nat_cmp} fs ≡ remove (from_entries es) k
+kept_remove = seen_remove nat_cmp_total nat_cmp-IsAntisymmetric (eq_by_cmp nat_cmp) (λ a b. refl)
 
 pub rises_empty : (es : List (ℕ × List ℕ)) → es ≡ [] → IsStrictlySortedBy nat_cmp (keys_of es)
 unfolding IsStrictlySortedBy
@@ -53,3 +57,14 @@ larger_view n k bytes is long = record { block_size = is.block_size; whole = who
       | inl same ↦ ap length (some_is (sym e ∙ ap (get (insert n.blocks k bytes)) same ∙ inserted_at nat_cmp_total nat_cmp-IsAntisymmetric n.blocks k bytes)) ∙ long
       | inr other ↦ is.whole b found (sym (inserted_apart nat_cmp_total nat_cmp-IsAntisymmetric n.blocks k bytes b other) ∙ e)
     ]
+
+-- and with one less
+pub smaller_view : (n : Lone) (k : ℕ) → IsView (seen_alone n) → IsView (seen_alone (record n { blocks = remove n.blocks k }))
+smaller_view n k is = record { block_size = is.block_size; whole = whole; groups = is.groups }
+  where
+    chosen : (t : Bool) (o : Option (List ℕ)) (found : List ℕ) → cond t None o ≡ Some found → o ≡ Some found
+    chosen true o found e = absurd (let f : None ≡ Some found = e in cc)
+    chosen false o found e = e
+
+    whole : (b : ℕ) (found : List ℕ) → get (remove n.blocks k) b ≡ Some found → length found ≡ n.size
+    whole b found e = is.whole b found (chosen (eq_by_cmp nat_cmp b k) (get n.blocks b) found (sym (get-remove nat_cmp_total n.blocks k b) ∙ e))

@@ -63,6 +63,13 @@ impl LoneView {
         self.blocks.insert(block, bytes)?;
         Ok(())
     }
+
+    /// The block isn't there any more. Costs a look-up in a tree, and takes no memory.
+    pub fn forget(&mut self, block: u64)
+        ensures { self.new ≡ record self.old { blocks = map.remove self.old.blocks block } }
+    {
+        let _ = self.blocks.remove(&block);
+    }
 }
 
 impl View for LoneView {

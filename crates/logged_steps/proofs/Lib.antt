@@ -1,0 +1,4 @@
+pub mod Histories
+pub mod Disks
+pub mod Keeping
+pub mod Telling

@@ -1,0 +1,64 @@
+-- Laws of the steps of one node with its log.
+use Rattle.std.specs.Prelude.{ℕ, ◌≡◌, ◌≤◌, ◌++◌, IsTrue, List, length, take}
+use Rattle.call_blocks.specs.Lone.{MayChangeThere}
+use Rattle.cluster_laws.specs.World.{World}
+use Rattle.disk_items.specs.Deeds.{AreDoneBy}
+use Rattle.image_machine.specs.Cells.{IsOfVolume}
+use Rattle.image_machine.specs.Volumes.{Volume, images_of}
+use Rattle.image_model.specs.Image.{image_of}
+use Rattle.lone_logs.specs.States.{IsLoggedNode, trees_on}
+use Rattle.lone_machine.specs.Alone.{Begun}
+use Rattle.lone_view.specs.Seeing.{seen_alone}
+use Rattle.run_rules.specs.Follows as run
+use Rattle.script_lang.specs.declared.script.Client.{Client}
+use Rattle.shared_disk.specs.Disk.{Gains, IsSound, Operation}
+use Rattle.trace_text.specs.declared.item.TraceItem.{TraceItem}
+use Rattle.tree_histories.specs.Trees.{history_of}
+use Rattle.logged_steps.specs.Points.{Point, state_of}
+use Rattle.logged_steps.specs.Steps.{Step, Steps}
+
+-- ---- what always holds
+
+-- On a disk that tells its blocks: there is a world of the machine in which the node is what it is at this point, and its history is that of the items.
+pub record IsLoggedAt (v : Volume) (s : Begun (trees_on v)) (d : ℕ) (clients : List Client) (p : Point) : Type 0 where
+  pub tells : IsTrue p.disk.tells
+  pub sound : IsSound p.disk
+  pub world : World (trees_on v)
+  pub is : IsLoggedNode v s world d (state_of p)
+  pub volume : IsOfVolume v (seen_alone p.view)
+  pub history : run.history_of clients p.items ≡ history_of (images_of v) world.items
+  -- what a replay may change of the image that the node works on, it may change of that on the disk
+  pub may : MayChangeThere v world (image_of p.disk)
+
+abbrev pub StepsKeep : Type 0
+StepsKeep = (v : Volume) (s : Begun (trees_on v)) (d : ℕ) (clients : List Client) (time : ℕ) (p q : Point) → IsLoggedAt v s d clients p → Steps time p q → IsLoggedAt v s d clients q
+
+-- ---- items and operations
+
+-- From one point to the other these items came, and the operations that the list gained are those that they tell.
+pub record TellsWhatItDoes (p q : Point) : Type 0 where
+  pub more : List TraceItem
+  pub items : q.items ≡ p.items ++ more
+  pub operations : List Operation
+  pub told : AreDoneBy more operations
+  pub gains : Gains p.list q.list operations
+
+abbrev pub StepsAreTold : Type 0
+StepsAreTold = (time : ℕ) (p q : Point) → Steps time p q → TellsWhatItDoes p q
+
+-- ---- fronts of the items
+
+-- the run came by this point, where it had so many items
+pub record CameBy (time : ℕ) (p q : Point) (count : ℕ) : Type 0 where
+  pub point : Point
+  pub before : Steps time p point
+  pub behind : Steps time point q
+  pub items : take count q.items ≡ point.items
+
+abbrev pub FrontsArePassed : Type 0
+FrontsArePassed = (time : ℕ) (p q : Point) (count : ℕ) → Steps time p q → length p.items ≤ count → count ≤ length q.items → CameBy time p q count
+
+-- ---- a run goes on
+
+abbrev pub StepsGoOn : Type 0
+StepsGoOn = (time : ℕ) (p q r : Point) → Steps time p q → Steps time q r → Steps time p r

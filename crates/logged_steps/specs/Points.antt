@@ -1,0 +1,39 @@
+-- Where the run of one node with its log has come to.
+use Rattle.std.specs.Prelude.{ℕ, ◌≡◌, ◌<◌, ◌++◌, suc, List, [], ◌∷◌, length, Option, None}
+use Rattle.file_tree.specs.declared.call.Call.{Call}
+use Rattle.file_tree.specs.declared.reply.Reply.{Reply}
+use Rattle.image_model.specs.Image.{image_of}
+use Rattle.journal_outcomes.specs.Disks.{flown_by}
+use Rattle.log_values.specs.Log.{LogValue}
+use Rattle.lone_logs.specs.States.{NodeState, Numbers}
+use Rattle.lone_view.specs.Seeing.{Lone}
+use Rattle.shared_disk.specs.Disk.{DiskState, Operation, flight_to}
+use Rattle.trace_text.specs.declared.item.TraceItem.{TraceItem}
+use Rattle.trace_text.specs.declared.item.TraceItem.TheVariants as trace
+
+-- The disk, and its list of operations as far as it is told; the node's log, the blocks that it keeps, with what mounting told, and the numbers of its calls; and the items so far.
+pub record Point : Type 0 where
+  pub disk : DiskState
+  pub list : Option (List Operation)
+  pub log : LogValue
+  pub view : Lone
+  pub numbers : Numbers
+  pub items : List TraceItem
+
+-- what node 1 has there, on the image of the disk
+abbrev pub state_of : Point → NodeState
+state_of p = record { image = image_of p.disk; flying = flown_by p.disk 1; log = p.log; kept = p.view.blocks; numbers = p.numbers }
+
+-- one more item
+abbrev pub telling : Point → TraceItem → List TraceItem
+telling p item = p.items ++ item ∷ []
+
+-- that of its next call
+abbrev pub call_item : Point → List ℕ → Call → Reply → TraceItem
+call_item p name call reply = trace.Call 1 name (suc p.numbers.answered) call reply
+
+-- a whole block of the disk, to which nothing of the node is in flight
+pub record MayWrite (p : Point) (b : ℕ) (bytes : List ℕ) : Type 0 where
+  pub inside : b < p.disk.count
+  pub whole : length bytes ≡ p.disk.size
+  pub free : flight_to (p.disk.in_flight 1) b ≡ None

@@ -1,0 +1,36 @@
+//! One node with its log on a disk, step by step: what each step does, and laws of runs of such steps. The functions do nothing: their contracts are the laws.
+#![tactic(auto)]
+
+ghost use Rattle.logged_steps.specs.Laws.{FrontsArePassed, StepsAreTold, StepsGoOn, StepsKeep};
+
+use call_blocks::{its_disk_may_change_alike, what_one_node_writes_a_replay_may_change};
+use disk_items::items_go_on;
+use lone_logs::{
+    its_barriers_settle, its_blocks_are_written, its_calls_are_logged, its_flushes_begin,
+    its_flushes_land, its_headers_are_written, its_live_blocks_go_home, its_reads_are_logged,
+};
+
+/// A law: whatever steps the node makes, it stays one alone on an image with its log, whose history is that of the items.
+pub fn steps_keep()
+    ensures { StepsKeep }
+{
+    its_calls_are_logged();
+    its_reads_are_logged();
+    its_flushes_begin();
+    its_blocks_are_written();
+    its_headers_are_written();
+    its_barriers_settle();
+    its_flushes_land();
+    its_live_blocks_go_home();
+    what_one_node_writes_a_replay_may_change();
+    its_disk_may_change_alike();
+}
+
+/// A law: the operations on the disk are those that the items tell, in order; and the run came by each front of the items.
+pub fn steps_are_told()
+    ensures told { StepsAreTold }
+    ensures fronts { FrontsArePassed }
+    ensures on { StepsGoOn }
+{
+    items_go_on();
+}
