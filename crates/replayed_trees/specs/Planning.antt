@@ -1,6 +1,6 @@
 -- What the plans of journals that were found answer.
-use Rattle.std.specs.Prelude.{ℕ, ◌≡◌, ◌<◌, List, slice_get, None, Some}
-use Rattle.std.specs.List.{All}
+use Rattle.std.specs.Prelude.{ℕ, ◌≡◌, ◌<◌, ◌&&◌, nat_lt, Bool, List, slice_get, None, Some}
+use Rattle.std.specs.List.{All, list_all}
 use Rattle.image_journals.specs.declared.finding.JournalPlaces.{JournalPlaces}
 use Rattle.image_model.specs.Claims.{every}
 use Rattle.image_model.specs.Image.{Image}
@@ -17,3 +17,11 @@ pub record AreInside (count : ℕ) (journals : List JournalPlaces) : Type 0 wher
 pub data StopsReplay (im : Image) (l : Layout) : ℕ → ℕ → Type 0 where
   headless : (j d : ℕ) → IsJournalAt l j d → head_in (ring_of (every im d)) ≡ None → StopsReplay im l 16 d
   by_live : (rule b : ℕ) → Stops im l rule b → StopsReplay im l rule b
+
+-- ---- as the code has them
+
+abbrev pub are_below : ℕ → List ℕ → Bool
+are_below count blocks = list_all (λ b. nat_lt b count) blocks
+
+abbrev pub is_inside : ℕ → JournalPlaces → Bool
+is_inside count journal = nat_lt journal.dinode count && are_below count journal.blocks.items

@@ -15,7 +15,7 @@ ghost use Rattle.replayed_trees.specs.Planning.{AreInside};
 
 use crate::Unread;
 use crate::marking::first_marks;
-use crate::plans::plan_journals;
+use crate::plans::{are_journals_inside, plan_journals};
 use crate::unread::{of_look, of_read, of_tree};
 use disk_trees::read_replayed_tree;
 use file_tree::{Content, Tree};
@@ -54,12 +54,13 @@ fn read_by(
     requires size { IsBlockSize block_size }
     requires whole { length bytes.items % block_size ≡ 0 }
     requires marks { length marks ≡ length bytes.items / block_size }
+    requires inside { AreInside (length bytes.items / block_size) journals.now }
     ensures stands { (l : Layout) (r : ImageValue) (t : Tree) → HasItsJournals (image_in block_size bytes.items) l → AreJournals (image_in block_size bytes.items) l journals.now → AreMarked (image_in block_size bytes.items) l marks
-        → AreInside (length bytes.items / block_size) journals.now → Replayed (image_in block_size bytes.items) l r → Stands r t → GivesTree t result }
+        → Replayed (image_in block_size bytes.items) l r → Stands r t → GivesTree t result }
     ensures replayable { IfOk result (λ tree. (l : Layout) → HasItsJournals (image_in block_size bytes.items) l → AreJournals (image_in block_size bytes.items) l journals.now → AreMarked (image_in block_size bytes.items) l marks
         → IsReplayable (image_in block_size bytes.items) l) }
     ensures damaged { IfErr result (λ unread. (l : Layout) → HasItsJournals (image_in block_size bytes.items) l → AreJournals (image_in block_size bytes.items) l journals.now → AreMarked (image_in block_size bytes.items) l marks
-        → AreInside (length bytes.items / block_size) journals.now → IfDamaged unread (IsUnreadable (image_in block_size bytes.items) l)) }
+        → IfDamaged unread (IsUnreadable (image_in block_size bytes.items) l)) }
     ensures lies { IfErr result (λ unread. IfDamagedAsItLies unread (λ block rule. ⊥)) }
     ensures broken { IfErr result (λ unread. IfBroken unread ⊥) }
 {
@@ -100,6 +101,10 @@ pub fn read_replayed_image(alloc: Global, block_size: u32, bytes: Vec<u8>) -> Re
         Err(Unfound::NoMemory) => return Err(Unread::NoMemory),
         Err(Unfound::Broken) => return Err(told_as_it_lies(alloc, block_size, bytes)),
     };
+    let count = (bytes.len() / block_size as usize) as u64;
+    if !are_journals_inside(&journals, count) {
+        return Err(told_as_it_lies(alloc, block_size, bytes));
+    }
     let marks = match first_marks(alloc, block_size, &bytes, &journals) {
         Ok(marks) => marks,
         Err(Unfound::NoMemory) => return Err(Unread::NoMemory),
