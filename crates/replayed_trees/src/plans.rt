@@ -13,9 +13,9 @@ ghost use Rattle.replay_looks.specs.Looks.{IsStopped};
 ghost use Rattle.replay_marks.specs.Marking.{has_block, mark_of};
 ghost use Rattle.replay_marks.specs.declared.marks.Mark.TheVariants as variant;
 ghost use Rattle.shared_disk.specs.Disk.{IsIdle, ReadsOnly};
-ghost use Rattle.replayed_trees.specs.Answers.{HasCause};
+ghost use Rattle.replayed_trees.specs.Answers.{HasCause, IsToldByPlans};
 ghost use Rattle.replayed_trees.specs.Marking.{AreMarked};
-ghost use Rattle.replayed_trees.specs.Planning.{AreInside, StopsReplay, are_below, is_inside};
+ghost use Rattle.replayed_trees.specs.Planning.{AreInside, ArePlansOf, StopsReplay, are_below, is_inside};
 
 use image_journals::JournalPlaces;
 use replay_looks::{LookFault, Plan, look_at_journal};
@@ -86,6 +86,7 @@ pub(crate) fn plan_journals<D: SharedDisk>(
     requires size { IsBlockSize (D.state disk.old).size }
     requires marks { length marks ≡ (D.state disk.old).count }
     requires inside { AreInside (D.state disk.old).count journals.now }
+    requires fresh { (block : ℕ) → mark_of marks block ≡ variant.Live → ⊥ }
     ensures writable { IfOk result (λ plans. AllByRecursion (IsWritable (D.state disk.old)) plans.items) }
     // Of an image with these journals, where the marks are right, the image with all that they write in its place is the replayed one: so it can be replayed.
     ensures plans { IfOk result (λ plans. IsTrue (D.state disk.old).tells → (l : Layout) → HasItsJournals (image_of (D.state disk.old)) l → AreJournals (image_of (D.state disk.old)) l journals.now → AreMarked (image_of (D.state disk.old)) l marks
@@ -93,6 +94,9 @@ pub(crate) fn plan_journals<D: SharedDisk>(
     // And what stops it is so.
     ensures stopped { IfErr result (λ fault. IsTrue (D.state disk.old).tells → (l : Layout) → HasItsJournals (image_of (D.state disk.old)) l → AreJournals (image_of (D.state disk.old)) l journals.now → AreMarked (image_of (D.state disk.old)) l marks
         → IfDamaged fault (λ block rule. StopsReplay (image_of (D.state disk.old)) l rule block × (block < (D.state disk.old).count))) }
+    // Of any image they are the plans of these journals, by what it has at their places; and what stops it is so at the next one.
+    ensures made { IfOk result (λ plans. IsTrue (D.state disk.old).tells → ArePlansOf (image_of (D.state disk.old)) journals.now plans.items × (length plans.items ≡ length journals.now)) }
+    ensures next { IfErr result (λ fault. IsTrue (D.state disk.old).tells → IfDamaged fault (IsToldByPlans (image_of (D.state disk.old)))) }
     ensures reads { ReadsOnly (D.state disk.old) (D.state disk.new) (D.list disk.old) (D.list disk.new) (D.faults disk.old) (D.faults disk.new) }
     ensures cause { IfErr result (HasCause (D.faults disk.old 0) (D.faults disk.new 0)) }
 {
