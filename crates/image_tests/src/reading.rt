@@ -311,6 +311,17 @@ const DIRTY: [Part; 15] = [
     ),
 ];
 
+// A journal whose two places stand under a block of pointers, where the second one is behind the device's end.
+const PAST_END: [Part; 7] = [
+    (66_177, b"\xc7"),
+    (66_181, b"\x1f"),
+    (68_747, b"\x02"),
+    (68_847, b"\x98\x00\x00\x00\x00\x00\x00\x00\x00"),
+    (77_824, b"\x01\x16\x19p\x00\x00\x00\x05"),
+    (77_842, b"\x01\xf4"),
+    (77_855, b"\x87\x00\x00\x00\x00\x00\x00\x00\xa8"),
+];
+
 const BROKEN: [(&[Part], u64, u16); 33] = [
     (&[(65_539, b"q")], 128, 1),
     (&[(66_055, b"\x03")], 129, 1),
@@ -517,6 +528,21 @@ fn a_bad_chunk_outside_of_the_profile_is_told(rt: HostRuntime) -> Result<(), Fai
         Some(Unread::Damaged {
             block: 136,
             rule: 17
+        })
+    );
+    Ok(())
+}
+
+// A place of the journal behind the device's end is told at the block of pointers that has its number.
+#[test]
+fn a_place_past_the_end_is_told_where_it_stands(rt: HostRuntime) -> Result<(), Fail> {
+    let past = bytes_of(rt.alloc(), &PAST_END)?;
+    let fault = read_replayed_image(rt.alloc(), 512, past).err();
+    assert_eq!(rt;
+        fault,
+        Some(Unread::DamagedAsItLies {
+            block: 152,
+            rule: 2
         })
     );
     Ok(())

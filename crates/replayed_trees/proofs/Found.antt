@@ -1,7 +1,7 @@
 -- What is answered of an image, by what was found in it.
-use Rattle.std.proofs.Common.{◌≡◌, ◌+◌, ◌<◌, ◌≤◌, ℕ, zero, suc, true, false, List, ◌∷◌, length, Some, Result, Ok, Err, get_or, refl, sym, ap, ap₂, subst, ◌∙◌, arith}
+use Rattle.std.proofs.Common.{◌≡◌, ◌+◌, ◌/◌, ◌<◌, ◌≤◌, ℕ, zero, suc, true, false, List, ◌∷◌, length, Some, Result, Ok, Err, get_or, refl, sym, ap, ap₂, subst, ◌∙◌, arith}
 use Rattle.std.specs.Prelude.{IfErr, IfOk, IsTrue, map, slice_get}
-use Rattle.std.specs.List.{range_with_len}
+use Rattle.std.specs.List.{list_all, range_with_len}
 use Rattle.std.proofs.lemmas.List.FromFn.{get_or-map-range_with_len, length-map-range_with_len}
 use Rattle.file_tree.specs.Tree.{Tree}
 use Rattle.gfs2_layout.specs.Inode.{content_block}
@@ -29,7 +29,7 @@ use Rattle.image_model.proofs.Replaying.{journals_of_standing, one_replay, repla
 use Rattle.image_outcomes.proofs.SameFiles.{HasSameFiles, place_row}
 use Rattle.image_replays.specs.Laws.{StoppedAreNotReplayed}
 use Rattle.image_replays.specs.Replays.{IfDamaged as IfDamagedLook, put_over}
-use Rattle.image_replays.proofs.Lists.{none_some}
+use Rattle.image_replays.proofs.Lists.{false_true, none_some}
 use Rattle.journal_outcomes.specs.Images.{ring_at}
 use Rattle.peer_replay.specs.declared.planned.Plan.{Plan}
 use Rattle.replay_looks.specs.declared.faults.LookFault.{LookFault}
@@ -38,8 +38,9 @@ use Rattle.replay_marks.specs.declared.marks.Mark.{Mark}
 use Rattle.shared_disk.specs.Disk.{DiskState}
 use Rattle.replayed_trees.specs.Answers.{GivesTree, HasNoSystem, IfBroken, IfDamaged, IfDamagedAsItLies, IsTold, IsToldAsItLies, IsUnreadable, broken, of_look, of_tree, stopped}
 use Rattle.replayed_trees.specs.Marking.{AreMarked}
+use Rattle.replayed_trees.proofs.Inside.{tested_inside}
 use Rattle.replayed_trees.proofs.SameFrames.{same_frames}
-use Rattle.replayed_trees.specs.Planning.{AreInside, StopsReplay, by_live, headless}
+use Rattle.replayed_trees.specs.Planning.{AreInside, StopsReplay, by_live, headless, is_inside}
 use Rattle.replayed_trees.specs.declared.unread.Unread.{Unread}
 use Rattle.replayed_trees.specs.declared.unread.Unread.TheVariants as unread
 
@@ -114,14 +115,13 @@ module _ (s : DiskState) (tells : IsTrue s.tells) (im : Image) (of : image_of s 
       subst (λ i. Replayed i l (put_over i plans)) of
       (give tells l (subst (λ i. HasItsJournals i l) (sym of) its) (subst (λ i. AreJournals i l journals) (sym of) found) (subst (λ i. AreMarked i l marks) (sym of) marked))
 
-  pub stopped_so : (f : LookFault) → AreInside im.count journals
-      → (IsTrue s.tells → (m : Layout) → HasItsJournals (image_of s) m → AreJournals (image_of s) m journals → AreMarked (image_of s) m marks → AreInside s.count journals
+  pub stopped_so : (f : LookFault)
+      → (IsTrue s.tells → (m : Layout) → HasItsJournals (image_of s) m → AreJournals (image_of s) m journals → AreMarked (image_of s) m marks
       → IfDamagedLook f (λ block rule. StopsReplay (image_of s) m rule block × (block < s.count)))
       → IfDamagedLook f (λ block rule. StopsReplay im l rule block × (block < im.count))
-  stopped_so f inside give =
+  stopped_so f give =
       subst (λ (i : Image). IfDamagedLook f (λ block rule. StopsReplay i l rule block × (block < i.count))) of
-      (give tells l (subst (λ i. HasItsJournals i l) (sym of) its) (subst (λ i. AreJournals i l journals) (sym of) found) (subst (λ i. AreMarked i l marks) (sym of) marked)
-      (subst (λ (i : Image). AreInside i.count journals) (sym of) inside))
+      (give tells l (subst (λ i. HasItsJournals i l) (sym of) its) (subst (λ i. AreJournals i l journals) (sym of) found) (subst (λ i. AreMarked i l marks) (sym of) marked))
 
 -- a look that was stopped
 pub look_stands : (im : Image) (l : Layout) (replayed : Image) (t : Tree) (f : LookFault) → StoppedAreNotReplayed → Replayed im l replayed → IfDamagedLook f (λ block rule. StopsReplay im l rule block × (block < im.count)) → GivesTree t (Err (of_look f))
@@ -174,7 +174,6 @@ pub record HasAll (im : Image) (l : Layout) (journals : List JournalPlaces) (mar
   pub its : HasItsJournals im l
   pub found : AreJournals im l journals
   pub marked : AreMarked im l marks
-  pub inside : AreInside im.count journals
 
 module _ (size : ℕ) (bytes seen seen2 : List ℕ) (seen_is : seen ≡ bytes) (seen2_is : seen2 ≡ bytes) (journals row : List JournalPlaces) (row_is : row ≡ journals)
     (found : (r : Image) (o : Owners) (l : Layout) → HasSameFrame r (image_in size seen) → IsLaid r o l → AreJournals r l journals) where
@@ -198,8 +197,17 @@ module _ (size : ℕ) (bytes seen seen2 : List ℕ) (seen_is : seen ≡ bytes) (
       its = its_journals (image_in size bytes) r o l laid same;
       found = subst (AreJournals (image_in size bytes) l) (sym last_is) here;
       marked = subst (λ b. AreMarked (image_in size b) l marks) seen2_is (marked r o l as_seen laid here_seen);
-      inside = subst (AreInside (image_in size bytes).count) (sym last_is) (are_inside (image_in size bytes) r o l laid same journals in_standing);
     }
+
+  -- so their dinodes and places are inside
+  pub outside : (long : ℕ) → long ≡ length bytes → (last : List JournalPlaces) → last ≡ journals → list_all (is_inside (long / size)) last ≡ false → HasNoSystem (image_in size bytes)
+  outside long long_is last last_is off r o l same laid =
+      false_true (
+      sym off
+      ∙ ap (λ n. list_all (is_inside (n / size)) last) long_is
+      ∙ ap (list_all (is_inside (image_in size bytes).count)) last_is
+      ∙ tested_inside (image_in size bytes).count journals (are_inside (image_in size bytes) r o l laid same journals (in_standing r o l same laid))
+      )
 
   pub no_system : (f : Unfound) → f ≡ unfound.Broken
       → ((r : Image) (o : Owners) (l : Layout) → HasSameFrame r (image_in size seen2) → IsLaid r o l → AreJournals (image_in size seen2) l row → IfMemory {A = List Mark} (Err f) (AreMarked (image_in size seen2) l))

@@ -59,6 +59,33 @@ group_of b g (inr d) =
     or_true true = refl
     or_true false = refl
 
+-- a block that isn't of the device is barred
+low_or : (count : ℕ) (marks : List Mark) → length marks ≡ count → (b : ℕ) → (b < count) ⊎ (mark_of marks b ≡ Barred)
+low_or count marks long b = by (nat_lt b count) refl
+  where
+    by : (t : Bool) → nat_lt b count ≡ t → (b < count) ⊎ (mark_of marks b ≡ Barred)
+    by true e = inl (grind (arith, nat_tests, e))
+    by false e = let high : count ≤ b = grind (arith, nat_tests, e) in inr (get_or-eq_default marks Barred (subst (λ k. k ≤ b) (sym long) high))
+
+-- none is live at first
+never_live : (count : ℕ) (groups : List Rindex) (journals : List JournalPlaces) (system : List ℕ) (marks : List Mark) → length marks ≡ count → ((b : ℕ) → b < count → mark_of marks b ≡ first_mark groups journals system b)
+    → (b : ℕ) → mark_of marks b ≡ Live → ⊥
+never_live count groups journals system marks long are b mark = elim (low_or count marks long b) [
+  | inr barred ↦ barred_live (sym barred ∙ mark)
+  | inl low ↦ by (is_among system b) (is_place journals b) (is_in_groups groups b) (sym (are b low) ∙ mark)
+]
+  where
+    by : (t u v : Bool) → (if t then Barred else if u then Barred else if v then Open else Barred) ≡ Live → ⊥
+    by true u v is = barred_live is
+    by false true v is = barred_live is
+    by false false true is = open_live is
+    by false false false is = barred_live is
+
+pub fresh_of : (count : ℕ) (groups : List Rindex) (journals : List JournalPlaces) (system : List ℕ) (result : Result (List Mark) Unfound) → IfOk result (λ marks. length marks ≡ count)
+    → IfMemory result (λ marks. (b : ℕ) → b < count → mark_of marks b ≡ first_mark groups journals system b) → IfOk result (λ marks. (b : ℕ) → mark_of marks b ≡ Live → ⊥)
+fresh_of count groups journals system (Ok marks) long are = never_live count groups journals system marks long are
+fresh_of count groups journals system (Err fault) long are = tt
+
 module _ (r : Image) (o : Owners) (l : Layout) (laid : IsLaid r o l) (im : Image) (same : HasSameFrame r im) (groups : List Rindex) (groups_are : groups ≡ l.groups) (system : List ℕ) (system_is : (b : ℕ) → Contains system b ↔ IsSystemBlock r b)
     (journals : List JournalPlaces) (found : AreJournals im l journals) where
   files : HasSameFiles r l im
@@ -107,16 +134,8 @@ module _ (r : Image) (o : Owners) (l : Layout) (laid : IsLaid r o l) (im : Image
       same_dinode e = cc
 
   module _ (marks : List Mark) (long : length marks ≡ im.count) (are : (b : ℕ) → b < im.count → mark_of marks b ≡ first_mark groups journals system b) where
-    -- a block that isn't of the device is barred
-    low_or : (b : ℕ) → (b < im.count) ⊎ (mark_of marks b ≡ Barred)
-    low_or b = by (nat_lt b im.count) refl
-      where
-        by : (t : Bool) → nat_lt b im.count ≡ t → (b < im.count) ⊎ (mark_of marks b ≡ Barred)
-        by true e = inl (grind (arith, nat_tests, e))
-        by false e = let high : im.count ≤ b = grind (arith, nat_tests, e) in inr (get_or-eq_default marks Barred (subst (λ k. k ≤ b) (sym long) high))
-
     may : (b : ℕ) → mark_of marks b ≡ Open → MayChange im l b
-    may b mark = elim (low_or b) [
+    may b mark = elim (low_or im.count marks long b) [
       | inr barred ↦ absurd (barred_open (sym barred ∙ mark))
       | inl low ↦ by (is_among system b) (is_place journals b) (is_in_groups groups b) refl refl refl low (sym (are b low) ∙ mark)
     ]
@@ -141,20 +160,8 @@ module _ (r : Image) (o : Owners) (l : Layout) (laid : IsLaid r o l) (im : Image
         by false false true e f g is = open_barred is
         by false false false e f g is = false_true (sym g ∙ of_groups b may_b.group.0 may_b.group.1 may_b.group.2)
 
-    fresh : (b : ℕ) → mark_of marks b ≡ Live → ⊥
-    fresh b mark = elim (low_or b) [
-      | inr barred ↦ barred_live (sym barred ∙ mark)
-      | inl low ↦ by (is_among system b) (is_place journals b) (is_in_groups groups b) (sym (are b low) ∙ mark)
-    ]
-      where
-        by : (t u v : Bool) → (if t then Barred else if u then Barred else if v then Open else Barred) ≡ Live → ⊥
-        by true u v is = barred_live is
-        by false true v is = barred_live is
-        by false false true is = open_live is
-        by false false false is = barred_live is
-
     pub are_marked : AreMarked im l marks
-    are_marked = record { may = may; may_not = may_not; fresh = fresh }
+    are_marked = record { may = may; may_not = may_not; fresh = never_live im.count groups journals system marks long are }
 
 -- what was made has its length, too
 pub with_length : {A : Type 0} (result : Result A Unfound) (P Q : A → Type 0) → IfOk result P → IfMemory result Q → IfMemory result (λ a. P a × Q a)

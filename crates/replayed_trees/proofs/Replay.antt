@@ -233,8 +233,14 @@ module _ (s : DiskState) (idle : IsIdle s) (tells : IsTrue s.tells) (l : Layout)
 pub stopped_on : (s t : DiskState) → t ≡ s → IsIdle s → IsTrue s.tells → (l : Layout) → HasItsJournals (image_of s) l → (journals : List JournalPlaces) → AreJournals (image_of s) l journals → AreInside s.count journals
     → (first : List Mark) → AreMarked (image_of s) l first → (n : ℕ) (plans : List Plan) (marks : List Mark) → IsSoFar s first journals n plans marks
     → (x : JournalPlaces) → slice_get journals n ≡ Some x → (fault : LookFault)
-    → (IsTrue t.tells → All (λ b. b < t.count) x.blocks.items → IsStopped (ring_read t 0 x.blocks.items) x.dinode x.blocks.items marks fault)
+    → (IsTrue t.tells → IsStopped (ring_read t 0 x.blocks.items) x.dinode x.blocks.items marks fault)
     → IfDamaged fault (λ block rule. StopsReplay (image_of s) l rule block × (block < s.count))
 stopped_on s t same idle tells l its journals found inside first marked n plans marks so x there fault why =
     stopped s idle tells l its journals found first marked n plans marks so x there inside fault
-    (subst (λ (u : DiskState). IsTrue u.tells → All (λ b. b < u.count) x.blocks.items → IsStopped (ring_read u 0 x.blocks.items) x.dinode x.blocks.items marks fault) same why tells (inside.places n x there))
+    (subst (λ (u : DiskState). IsTrue u.tells → IsStopped (ring_read u 0 x.blocks.items) x.dinode x.blocks.items marks fault) same why tells)
+
+-- the blocks at the places of a journal are blocks of the disk as it then is
+pub places_on : (s t : DiskState) → t ≡ s → (journals : List JournalPlaces) → AreInside s.count journals → (n : ℕ) (x : JournalPlaces) → slice_get journals n ≡ Some x → (blocks : List ℕ) → blocks ≡ x.blocks.items
+    → All (λ b. b < t.count) blocks
+places_on s t same journals inside n x there blocks are =
+    subst (All (λ b. b < t.count)) (sym are) (subst (λ (u : DiskState). All (λ b. b < u.count) x.blocks.items) (sym same) (inside.places n x there))

@@ -1,11 +1,12 @@
 -- What reading the tree of an image, its journals replayed, answers.
-use Rattle.std.specs.Prelude.{ℕ, ◌≡◌, ◌<◌, ⊤, Result, Ok, Err}
+use Rattle.std.specs.Prelude.{ℕ, ◌≡◌, ◌<◌, ⊤, List, length, Result, Ok, Err}
 use Rattle.fault_counts.specs.Causes.{WentUp}
 use Rattle.file_tree.specs.Tree.{Tree}
 use Rattle.disk_trees.specs.Reading.{ending}
 use Rattle.disk_trees.specs.declared.faults.TreeFault.{TreeFault}
 use Rattle.disk_trees.specs.declared.faults.TreeFault.TheVariants as tree
 use Rattle.image_journals.specs.Frames.{HasSameFrame}
+use Rattle.image_journals.specs.declared.finding.JournalPlaces.{JournalPlaces}
 use Rattle.image_model.specs.Image.{Image}
 use Rattle.image_model.specs.Owners.{Owners}
 use Rattle.image_model.specs.Replays.{Replayed}
@@ -13,9 +14,11 @@ use Rattle.image_model.specs.Rules.{IsBrokenBlock}
 use Rattle.image_model.specs.Stands.{IsLaid, Layout}
 use Rattle.image_reader.specs.declared.image.ImageFault.{ImageFault}
 use Rattle.image_reader.specs.declared.image.ImageFault.TheVariants as image
+use Rattle.image_replays.specs.Replays.{put_over}
+use Rattle.peer_replay.specs.declared.planned.Plan.{Plan}
 use Rattle.replay_looks.specs.declared.faults.LookFault.{LookFault}
 use Rattle.replay_looks.specs.declared.faults.LookFault.TheVariants as look
-use Rattle.replayed_trees.specs.Planning.{StopsReplay}
+use Rattle.replayed_trees.specs.Planning.{ArePlansOf, StopsNext, StopsReplay}
 use Rattle.replayed_trees.specs.declared.unread.Unread.{Unread}
 use Rattle.replayed_trees.specs.declared.unread.Unread.TheVariants.{Damaged, DamagedAsItLies, Broken, NoMemory}
 
@@ -41,6 +44,11 @@ pub data IsUnreadable (im : Image) (l : Layout) (b rule : ℕ) : Type 0 where
 -- What is told of a block, where the frame is that of an image that stands: it stops the replay of the journals, or breaks the rule once they are replayed.
 abbrev pub IsTold : Image → ℕ → ℕ → Type 0
 IsTold im b rule = (r : Image) (o : Owners) (l : Layout) → HasSameFrame r im → IsLaid r o l → IsUnreadable im l b rule
+
+-- What is told of a block, whatever the frame: of some journals with blocks of the device at their places it stops the replay, behind the plans of those before; or it breaks the rule, as far as the image goes, once the plans of all of them are put home.
+pub data IsToldByPlans (im : Image) (b rule : ℕ) : Type 0 where
+  by_next : (journals : List JournalPlaces) (plans : List Plan) → ArePlansOf im journals plans → StopsNext im journals plans rule b → b < im.count → IsToldByPlans im b rule
+  by_all : (journals : List JournalPlaces) (plans : List Plan) → ArePlansOf im journals plans → length plans ≡ length journals → IsBrokenBlock (ending (put_over im plans)) rule b → IsToldByPlans im b rule
 
 -- What is told of a block, where the journals weren't replayed: the frame is that of no image that stands, and the image as it lies breaks the rule there.
 pub record IsToldAsItLies (im : Image) (b rule : ℕ) : Type 0 where

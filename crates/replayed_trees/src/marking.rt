@@ -82,6 +82,7 @@ pub(crate) fn first_marks(
     requires size { IsBlockSize block_size }
     requires whole { length bytes.now % block_size ≡ 0 }
     ensures length { IfOk result (λ marks. length marks ≡ length bytes.now / block_size) }
+    ensures fresh { IfOk result (λ marks. (block : ℕ) → mark_of marks block ≡ variant.Live → ⊥) }
     // Where the image has the frame of one that stands, with these journals, exactly the blocks are open that a replay may change.
     ensures marks { (r : Image) (o : Owners) (l : Layout) → HasSameFrame r (image_in block_size bytes.now) → IsLaid r o l → AreJournals (image_in block_size bytes.now) l journals.now
         → IfMemory result (AreMarked (image_in block_size bytes.now) l) }

@@ -1,5 +1,5 @@
 // The tree of an image, its journals replayed.
-ghost use Rattle.std.specs.Prelude.{◌≡◌, ◌%◌, ◌/◌, IfErr, IfOk, length};
+ghost use Rattle.std.specs.Prelude.{◌≡◌, ◌%◌, ◌/◌, ℕ, IfErr, IfOk, length};
 ghost use Rattle.file_tree.specs.Tree.{Tree};
 ghost use Rattle.gfs2_layout.specs.Device.{IsBlockSize};
 ghost use Rattle.image_journals.specs.Found.{AreJournals};
@@ -9,13 +9,15 @@ ghost use Rattle.image_model.specs.Owners.{Owners};
 ghost use Rattle.image_model.specs.Replays.{HasItsJournals, IsReplayable, Replayed, StandsReplayed};
 ghost use Rattle.image_model.specs.Rules.{IsBrokenBlock};
 ghost use Rattle.image_model.specs.Stands.{IsLaid, Layout, Stands};
-ghost use Rattle.replayed_trees.specs.Answers.{GivesTree, HasNoSystem, IfBroken, IfDamaged, IfDamagedAsItLies, IsTold, IsToldAsItLies, IsUnreadable};
+ghost use Rattle.replayed_trees.specs.Answers.{GivesTree, HasNoSystem, IfBroken, IfDamaged, IfDamagedAsItLies, IsTold, IsToldAsItLies, IsToldByPlans, IsUnreadable};
+ghost use Rattle.replay_marks.specs.Marking.{mark_of};
+ghost use Rattle.replay_marks.specs.declared.marks.Mark.TheVariants as variant;
 ghost use Rattle.replayed_trees.specs.Marking.{AreMarked};
 ghost use Rattle.replayed_trees.specs.Planning.{AreInside};
 
 use crate::Unread;
 use crate::marking::first_marks;
-use crate::plans::plan_journals;
+use crate::plans::{are_journals_inside, plan_journals};
 use crate::unread::{of_look, of_read, of_tree};
 use disk_trees::read_replayed_tree;
 use file_tree::{Content, Tree};
@@ -54,12 +56,15 @@ fn read_by(
     requires size { IsBlockSize block_size }
     requires whole { length bytes.items % block_size ≡ 0 }
     requires marks { length marks ≡ length bytes.items / block_size }
+    requires inside { AreInside (length bytes.items / block_size) journals.now }
+    requires fresh { (block : ℕ) → mark_of marks block ≡ variant.Live → ⊥ }
     ensures stands { (l : Layout) (r : ImageValue) (t : Tree) → HasItsJournals (image_in block_size bytes.items) l → AreJournals (image_in block_size bytes.items) l journals.now → AreMarked (image_in block_size bytes.items) l marks
-        → AreInside (length bytes.items / block_size) journals.now → Replayed (image_in block_size bytes.items) l r → Stands r t → GivesTree t result }
+        → Replayed (image_in block_size bytes.items) l r → Stands r t → GivesTree t result }
     ensures replayable { IfOk result (λ tree. (l : Layout) → HasItsJournals (image_in block_size bytes.items) l → AreJournals (image_in block_size bytes.items) l journals.now → AreMarked (image_in block_size bytes.items) l marks
         → IsReplayable (image_in block_size bytes.items) l) }
     ensures damaged { IfErr result (λ unread. (l : Layout) → HasItsJournals (image_in block_size bytes.items) l → AreJournals (image_in block_size bytes.items) l journals.now → AreMarked (image_in block_size bytes.items) l marks
-        → AreInside (length bytes.items / block_size) journals.now → IfDamaged unread (IsUnreadable (image_in block_size bytes.items) l)) }
+        → IfDamaged unread (IsUnreadable (image_in block_size bytes.items) l)) }
+    ensures told { IfErr result (λ unread. IfDamaged unread (IsToldByPlans (image_in block_size bytes.items))) }
     ensures lies { IfErr result (λ unread. IfDamagedAsItLies unread (λ block rule. ⊥)) }
     ensures broken { IfErr result (λ unread. IfBroken unread ⊥) }
 {
@@ -89,6 +94,8 @@ pub fn read_replayed_image(alloc: Global, block_size: u32, bytes: Vec<u8>) -> Re
     ensures replayable { IfOk result (λ tree. (r : ImageValue) (o : Owners) (l : Layout) → HasSameFrame r (image_in block_size bytes.items) → IsLaid r o l → IsReplayable (image_in block_size bytes.items) l) }
     // A block that is told stops the replay, as the dinode of a journal without a header does, or breaks its rule once the journals are replayed.
     ensures damaged { IfErr result (λ unread. IfDamaged unread (IsTold (image_in block_size bytes.items))) }
+    // Of any image, whatever its frame, it does so by what the image has at the places of some journals, which are those that were found.
+    ensures told { IfErr result (λ unread. IfDamaged unread (IsToldByPlans (image_in block_size bytes.items))) }
     // Or it breaks its rule in the image as it lies, and then the frame is that of no image that stands.
     ensures lies { IfErr result (λ unread. IfDamagedAsItLies unread (IsToldAsItLies (image_in block_size bytes.items))) }
     // No rule is told only where the frame is that of no image that stands.
@@ -100,6 +107,10 @@ pub fn read_replayed_image(alloc: Global, block_size: u32, bytes: Vec<u8>) -> Re
         Err(Unfound::NoMemory) => return Err(Unread::NoMemory),
         Err(Unfound::Broken) => return Err(told_as_it_lies(alloc, block_size, bytes)),
     };
+    let count = (bytes.len() / block_size as usize) as u64;
+    if !are_journals_inside(&journals, count) {
+        return Err(told_as_it_lies(alloc, block_size, bytes));
+    }
     let marks = match first_marks(alloc, block_size, &bytes, &journals) {
         Ok(marks) => marks,
         Err(Unfound::NoMemory) => return Err(Unread::NoMemory),

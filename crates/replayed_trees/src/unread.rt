@@ -8,9 +8,9 @@ use replay_looks::LookFault;
 /// Why the tree of an image was not read.
 #[derive(Clone, Copy, Debug, PartialEq, Eq)]
 pub enum Unread {
-    /// The image stands for no tree. The block and the rule are what stopped the replay, or what was told of the image with the journals' blocks in place.
+    /// The image stands for no tree. Where the frame is that of an image that stands, the block stops the replay, or breaks the rule with the journals' blocks in place. Where it is that of none, this is so of the journals that were found.
     Damaged { block: u64, rule: u16 },
-    /// The image stands for no tree: its system files, whatever stands at the places of its journals, are those of no image that stands, so its journals weren't replayed. As it lies, it breaks the rule at the block.
+    /// The image stands for no tree: its system files, whatever stands at the places of its journals, are those of no image that stands, so its journals weren't replayed. As it lies, it breaks the rule at the block, which may be one that a replay would mend.
     DamagedAsItLies { block: u64, rule: u16 },
     /// The image stands for no tree: its system files, whatever stands at the places of its journals, are those of no image that stands. No rule is told.
     Broken,
