@@ -1,10 +1,10 @@
 -- What a write and a barrier of node 1 make of a disk.
-use Rattle.std.proofs.Common.{◌≡◌, ◌<◌, ℕ, zero, suc, ◌⊎◌, inl, inr, Bool, true, false, List, [], ◌∷◌, length, Option, None, Some, refl, sym, ap, subst, ◌∙◌, arith}
+use Rattle.std.proofs.Common.{◌≡◌, ◌<◌, ℕ, inl, inr, Bool, true, false, List, [], ◌∷◌, length, Option, None, Some, refl, sym, ap, subst, ◌∙◌}
 use Rattle.std.specs.Prelude.{◌==◌, ◌≢◌, IsTrue, nat_lt, if◌then◌else◌, unwrap_or}
 use Rattle.std.specs.List.{AllByRecursion}
 use Rattle.std.proofs.lemmas.Bool.{cases_Bool, cond-true, cond-false, eq-eqb, ne_eqb}
 use Rattle.image_model.specs.Image.{image_of}
-use Rattle.journal_outcomes.specs.Disks.{BarriersLeaveAll, flown_by}
+use Rattle.journal_outcomes.specs.Disks.{flown_by}
 use Rattle.lone_logs.specs.States.{FliesBesides, HasLandedAs}
 use Rattle.shared_disk.specs.Disk.{AreFlights, DiskState, Flight, IsSound, after_barrier, after_write, flight_to, settled, with_flight, with_value, written}
 use Rattle.shared_disk.proofs.NodeLaws.{flights_with}

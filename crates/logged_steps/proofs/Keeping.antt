@@ -1,6 +1,6 @@
 -- Whatever steps the node makes, it stays one alone on an image with its log.
-use Rattle.std.proofs.Common.{◌≡◌, ◌≤◌, ◌<◌, ℕ, suc, ◌⊎◌, inl, inr, Bool, true, false, List, [], ◌∷◌, ◌++◌, length, Option, None, Some, refl, sym, ap, ap₂, subst, ◌∙◌, arith}
-use Rattle.std.specs.Prelude.{IsTrue, ◌==◌, ◌&&◌, if◌then◌else◌, not, slice_get, unwrap_or}
+use Rattle.std.proofs.Common.{◌≡◌, ℕ, inl, inr, Bool, true, false, List, [], ◌∷◌, ◌++◌, length, Option, None, Some, refl, sym, ap, subst, ◌∙◌}
+use Rattle.std.specs.Prelude.{IsTrue, ◌==◌, ◌&&◌, if◌then◌else◌, not, unwrap_or}
 use Rattle.std.specs.FinMap as table
 use Rattle.std.specs.FinMap.{nat_cmp-IsAntisymmetric}
 use Rattle.std.specs.List.{AllByRecursion}
@@ -23,16 +23,13 @@ use Rattle.image_model.specs.Stands.{Layout}
 use Rattle.drafts.specs.declared.change.Change.{Change}
 use Rattle.drafts.specs.declared.change.Written.{Written}
 use Rattle.glock_names.specs.Views.{IsView, Seen}
-use Rattle.glock_names.specs.declared.LockName.{LockName}
-use Rattle.image_changes.specs.Does.{AreInside, Does, IsInside, IsOf, bytes_for, frees, is_nothing, writes}
+use Rattle.image_changes.specs.Does.{AreInside, Does, IsInside, bytes_for, frees, is_nothing}
 use Rattle.image_machine.specs.Cells.{IsOfVolume}
 use Rattle.image_machine.specs.Volumes.{Volume, images_of}
 use Rattle.image_model.specs.Image.{Image, image_of}
-use Rattle.image_model.specs.Replays.{MayChange}
 use Rattle.journal_outcomes.specs.Disks.{flown_by}
-use Rattle.log_values.specs.Log.{Flush, LogValue}
 use Rattle.lone_images.specs.Lone.{version_with}
-use Rattle.lone_logs.specs.Laws.{AnswersLogged, BarriersSettle, BlocksAreWritten, BlocksGoHome, CallsAreLogged, FirstBarriersSettle, FlushesBegin, HeadersAreWritten, HeadersBegin, IsItsView, LastBarriersLand, QuietCallsAreLogged, ReadsAreLogged, SpacelessCallsAreLogged, StaysAnswered, StaysLogged, SyncsAreLogged}
+use Rattle.lone_logs.specs.Laws.{BarriersSettle, BlocksAreWritten, BlocksGoHome, CallsAreLogged, FirstBarriersSettle, FlushesBegin, HeadersAreWritten, HeadersBegin, IsItsView, LastBarriersLand, QuietCallsAreLogged, ReadsAreLogged, SpacelessCallsAreLogged, StaysLogged, SyncsAreLogged}
 use Rattle.lone_logs.specs.States.{IsLoggedNode, NodeState, trees_on}
 use Rattle.lone_machine.specs.Alone.{Begun, next_item, now}
 use Rattle.call_blocks.specs.Lone.{IsItsAnswer, ItsBlocksMayChange, MayChangeBehindBarriers, MayChangeBehindCalls, MayChangeThere, MayChangeWithoutCalls}
@@ -40,13 +37,12 @@ use Rattle.lone_view.specs.Seeing.{Lone, seen_alone}
 use Rattle.run_rules.specs.Follows as run
 use Rattle.script_lang.specs.declared.script.Client.{Client}
 use Rattle.shared_disk.specs.Disk.{DiskState, IsSound, after_barrier, flight_to, read_gives}
-use Rattle.trace_text.specs.declared.item.TraceItem.{TraceItem}
 use Rattle.trace_text.specs.declared.item.TraceItem.TheVariants as trace
 use Rattle.tree_histories.specs.Trees.{Told, history_of}
-use Rattle.logged_steps.specs.Answers.{IsAsked, IsDoneBy, IsSpaceless}
+use Rattle.logged_steps.specs.Answers.{IsDoneBy}
 use Rattle.logged_steps.specs.Laws.{IsLoggedAt, StepsKeep}
-use Rattle.logged_steps.specs.Points.{MayWrite, Point, call_item, state_of}
-use Rattle.logged_steps.specs.Steps.{Step, Steps, Reads, Answers, AnswersQuietly, Syncs, TellsFull, HasNoSpace, BeginsFlush, BeginsHeader, WritesLog, EndsBlocks, WritesHead, EndsFlush, Commits, GoesHome, Rests, Unmounts, Here, Then, keeping, with_answer, with_barrier, with_quiet_answer, with_write}
+use Rattle.logged_steps.specs.Points.{Point, call_item, state_of}
+use Rattle.logged_steps.specs.Steps.{Step, Reads, Answers, AnswersQuietly, Syncs, TellsFull, HasNoSpace, BeginsFlush, BeginsHeader, WritesLog, EndsBlocks, WritesHead, EndsFlush, Commits, GoesHome, Rests, Unmounts, Here, Then}
 use Rattle.logged_steps.proofs.Disks.{flies_besides, landed_as, sound_barrier, sound_write}
 use Rattle.logged_steps.proofs.Histories.{with_next, with_other}
 

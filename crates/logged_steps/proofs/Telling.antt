@@ -1,11 +1,10 @@
 -- The items of steps tell the operations on the disk, and a run came by each front of its items.
-use Rattle.std.proofs.Common.{◌≡◌, ◌≤◌, ◌<◌, ◌+◌, ℕ, zero, suc, ◌⊎◌, inl, inr, List, [], ◌∷◌, ◌++◌, length, take, Option, None, Some, refl, sym, ap, subst, ◌∙◌, arith}
+use Rattle.std.proofs.Common.{◌≡◌, ◌≤◌, ◌<◌, ℕ, zero, suc, ◌⊎◌, inl, inr, List, [], ◌∷◌, ◌++◌, length, take, Option, None, Some, refl, sym, ap, subst, ◌∙◌, arith}
 use Rattle.std.proofs.lemmas.List.{length-append}
-use Rattle.disk_items.specs.Deeds.{AreDoneBy, deed_of, deed_told}
+use Rattle.disk_items.specs.Deeds.{AreDoneBy}
 use Rattle.disk_items.specs.Laws.{ItemsGoOn}
 use Rattle.shared_disk.specs.Disk.{Barrier, Gains, Operation, Write}
 use Rattle.trace_text.specs.declared.item.TraceItem.{TraceItem}
-use Rattle.trace_text.specs.declared.item.TraceItem.TheVariants as trace
 use Rattle.logged_steps.specs.Laws.{CameBy, FrontsArePassed, StepsAreTold, StepsGoOn, TellsWhatItDoes}
 use Rattle.logged_steps.specs.Points.{Point}
 use Rattle.logged_steps.specs.Steps.{Step, Steps, Reads, Answers, AnswersQuietly, Syncs, TellsFull, HasNoSpace, BeginsFlush, BeginsHeader, WritesLog, EndsBlocks, WritesHead, EndsFlush, Commits, GoesHome, Rests, Unmounts, Here, Then}

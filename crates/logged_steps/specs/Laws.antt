@@ -15,7 +15,7 @@ use Rattle.shared_disk.specs.Disk.{Gains, IsSound, Operation}
 use Rattle.trace_text.specs.declared.item.TraceItem.{TraceItem}
 use Rattle.tree_histories.specs.Trees.{history_of}
 use Rattle.logged_steps.specs.Points.{Point, state_of}
-use Rattle.logged_steps.specs.Steps.{Step, Steps}
+use Rattle.logged_steps.specs.Steps.{Steps}
 
 -- ---- what always holds
 

@@ -1,5 +1,5 @@
 -- The steps of one node with its log: what each does to the disk, to the log, to what the node keeps, and to the items.
-use Rattle.std.specs.Prelude.{ℕ, ◌≡◌, ◌≤◌, ◌<◌, ◌++◌, suc, false, true, IsTrue, List, [], ◌∷◌, length, Option, None, Some}
+use Rattle.std.specs.Prelude.{ℕ, ◌≡◌, ◌≤◌, ◌++◌, suc, false, true, IsTrue, List, [], ◌∷◌, length, Option, None, Some}
 use Rattle.std.specs.FinMap as table
 use Rattle.std.specs.Ordering.{nat_cmp}
 use Rattle.file_tree.specs.declared.call.Call.{Call}
