@@ -48,7 +48,7 @@ on_still d d' n n' on same journal view block flying few = record {
   some = subst (λ v. 1 ≤ length v.groups) (sym view) on.some;
   groups = subst₂ (λ v c. AllByRecursion (λ g. end_of g ≤ c) v.groups) (sym view) (sym same.count) on.groups;
   kept = λ b bytes at. subst (λ c. b < c) (sym same.count) (on.kept b bytes (subst (λ v. table.get v.blocks b ≡ Some bytes) view at));
-  open = ap (λ f. f 1) same.fenced ∙ on.open;
+  unfenced = ap (λ f. f 1) same.fenced ∙ on.unfenced;
   flying = flying;
   few = few;
 }

@@ -43,7 +43,7 @@ pub record IsNodeOn (d : DiskState) (n : Node) : Type 0 where
   pub some : 1 ≤ length n.view.groups
   pub groups : AllByRecursion (λ g. end_of g ≤ d.count) n.view.groups
   pub kept : (b : ℕ) (bytes : List ℕ) → table.get n.view.blocks b ≡ Some bytes → b < d.count
-  pub open : d.is_fenced 1 ≡ false
+  pub unfenced : d.is_fenced 1 ≡ false
   pub flying : n.flying ≡ length (d.in_flight 1)
   pub few : n.flying ≤ 512
 
