@@ -37,6 +37,10 @@ module _ (new : Flight) where
 own : {A : Type 0} (f : ℕ → A) (value : A) → with_value f 1 value 1 ≡ value
 own f value = refl
 
+-- the others' are as they were
+pub others_still : {A : Type 0} (f : ℕ → A) (value was : A) (j : ℕ) → j ≢ 1 → f j ≡ was → with_value f 1 value j ≡ was
+others_still f value was j off is = cond-false (j == 1) value (f j) (ne_eqb j 1 off) ∙ is
+
 module _ (p : Point) (b : ℕ) (bytes : List ℕ) (may : MayWrite p b bytes) (sound : IsSound p.disk) where
   abbrev new : Flight
   new = record { block = b; bytes = bytes }

@@ -40,10 +40,10 @@ use Rattle.shared_disk.specs.Disk.{DiskState, IsSound, after_barrier, flight_to,
 use Rattle.trace_text.specs.declared.item.TraceItem.TheVariants as trace
 use Rattle.tree_histories.specs.Trees.{Told, history_of}
 use Rattle.logged_steps.specs.Answers.{IsDoneBy}
-use Rattle.logged_steps.specs.Laws.{IsLoggedAt, StepsKeep}
+use Rattle.logged_steps.specs.Laws.{IsLoggedAt, OthersRest, StepsKeep}
 use Rattle.logged_steps.specs.Points.{Point, call_item, state_of}
 use Rattle.logged_steps.specs.Steps.{Step, Reads, Answers, AnswersQuietly, Syncs, TellsFull, HasNoSpace, BeginsFlush, BeginsHeader, WritesLog, EndsBlocks, WritesHead, EndsFlush, Commits, GoesHome, Rests, Unmounts, Here, Then}
-use Rattle.logged_steps.proofs.Disks.{flies_besides, landed_as, sound_barrier, sound_write}
+use Rattle.logged_steps.proofs.Disks.{flies_besides, landed_as, others_still, sound_barrier, sound_write}
 use Rattle.logged_steps.proofs.Histories.{with_next, with_other}
 
 -- ---- a view that keeps other blocks
@@ -134,11 +134,12 @@ module _ (calls_are_logged : CallsAreLogged) (quiet_calls_are_logged : QuietCall
     its = record { volume = at.volume; blocks = λ b. refl }
 
     -- a step that answers no call
-    stays : (q : Point) → IsTrue q.disk.tells → IsSound q.disk → q.view ≡ p.view → run.history_of clients q.items ≡ run.history_of clients p.items → (stay : StaysLogged v s at.world d (state_of q))
+    stays : (q : Point) → IsTrue q.disk.tells → IsSound q.disk → OthersRest q.disk → q.view ≡ p.view → run.history_of clients q.items ≡ run.history_of clients p.items → (stay : StaysLogged v s at.world d (state_of q))
         → MayChangeThere v stay.world (image_of q.disk) → IsLoggedAt v s d clients q
-    stays q tells sound view items stay may = record {
+    stays q tells sound others view items stay may = record {
       tells = tells;
       sound = sound;
+      others = others;
       world = stay.world;
       is = stay.is;
       volume = subst (λ (n : Lone). IsOfVolume v (seen_alone n)) (sym view) at.volume;
@@ -162,6 +163,7 @@ module _ (calls_are_logged : CallsAreLogged) (quiet_calls_are_logged : QuietCall
       may = subst (λ (e : DiskState). MayChangeThere v w' (image_of e)) (sym disk) may;
       tells = subst (λ (e : DiskState). IsTrue e.tells) (sym disk) at.tells;
       sound = subst IsSound (sym disk) at.sound;
+      others = subst OthersRest (sym disk) at.others;
       world = w';
       is = is;
       volume = volume;
@@ -182,11 +184,12 @@ module _ (calls_are_logged : CallsAreLogged) (quiet_calls_are_logged : QuietCall
         both is = ap not (sync_changes_none call reply is.0)
 
     one : (q : Point) → Step time p q → IsLoggedAt v s d clients q
-    one _ (Reads b lock bytes asked none whole read) =
+    one _ (Reads ok b lock bytes asked none whole read) =
         let logged = reads_are_logged v s at.world d st (seen_alone p.view) b lock at.is its none asked in
         record {
           tells = at.tells;
           sound = at.sound;
+          others = at.others;
           world = logged.1.world;
           is = subst (λ (x : List ℕ). IsLoggedNode v s logged.1.world d (record st { kept = table.insert st.kept b x })) (sym is_read) logged.1.is;
           volume = of_volume v p.view (table.insert p.view.blocks b bytes) at.volume inserted_whole;
@@ -204,68 +207,71 @@ module _ (calls_are_logged : CallsAreLogged) (quiet_calls_are_logged : QuietCall
               sym (ap length (some_same e)) ∙ whole
           | inr apart ↦ at.volume.view.whole c x (sym (inserted_apart nat_cmp_total nat_cmp-IsAntisymmetric p.view.blocks b bytes c apart) ∙ is)
         ]
-    one _ (Answers name call reply change kept done some can room keeps) =
+    one _ (Answers ok name call reply change kept done some can room keeps) =
         let logged = calls_are_logged v s at.world d st (seen_alone p.view) (told name call reply) change kept at.is (sync_is_quiet p.view call reply change done.does some) its done.inside done.does can room
         (its_blocks_may_change v s at.world d st (seen_alone p.view) call 1 reply change at.is (its_answer call reply change done) at.may) keeps in
         answers _ name call reply logged.world refl refl (of_volume v p.view kept at.volume (kept_whole p.view change kept done.inside at.volume.view keeps)) logged.is logged.items
         (may_behind_calls v s at.world logged.world d st (seen_alone p.view) call 1 reply change at.is (its_answer call reply change done) logged.now at.may)
-    one _ (AnswersQuietly name call reply change done none no_sync) =
+    one _ (AnswersQuietly ok name call reply change done none no_sync) =
         let logged = quiet_calls_are_logged v s at.world d st (seen_alone p.view) (told name call reply) change at.is no_sync its done.inside done.does none in
         answers _ name call reply logged.world refl refl at.volume logged.is logged.items
         (may_behind_calls v s at.world logged.world d st (seen_alone p.view) call 1 reply change at.is (its_answer call reply change done) logged.now at.may)
-    one _ (Syncs name low) =
+    one _ (Syncs ok name low) =
         let logged = syncs_are_logged v s at.world d st (run.place_of clients name) at.is low in
         answers _ name calls.Sync replies.Ok logged.world refl refl at.volume logged.is logged.items
         (may_without_calls v at.world logged.world (image_of p.disk) logged.now at.may)
-    one _ (TellsFull call need free spaceless low) = record {
+    one _ (TellsFull ok call need free spaceless low) = record {
       tells = at.tells;
       sound = at.sound;
+      others = at.others;
       world = at.world;
       is = at.is;
       volume = at.volume;
       history = with_other clients p.items (trace.Full 1 need free) refl ∙ at.history;
       may = at.may;
     }
-    one _ (HasNoSpace name call need free spaceless ends) =
+    one _ (HasNoSpace name call need free awaited spaceless ends) =
         let logged = spaceless_calls_are_logged v s at.world d st (seen_alone p.view) (run.place_of clients name) call at.is its spaceless.takes (λ im o l t of. taken_by (seen_alone p.view) call t need free spaceless.takes im o l (spaceless.few im o l t of)) in
         answers _ name call replies.NoSpace logged.world refl refl at.volume logged.is logged.items
         (may_without_calls v at.world logged.world (image_of p.disk) logged.now at.may)
-    one _ (BeginsFlush none due room) =
+    one _ (BeginsFlush ok none due room) =
         let logged = flushes_begin v s at.world d st at.is none due room in
-        stays _ at.tells at.sound refl refl logged (on_same logged.world logged.now)
-    one _ (BeginsHeader none home some no_more) =
+        stays _ at.tells at.sound at.others refl refl logged (on_same logged.world logged.now)
+    one _ (BeginsHeader ok none home some no_more) =
         let logged = headers_begin v s at.world d st at.is none home some no_more in
-        stays _ at.tells at.sound refl refl logged (on_same logged.world logged.now)
+        stays _ at.tells at.sound at.others refl refl logged (on_same logged.world logged.now)
     one _ (WritesLog new f b bytes list flush numbers step may gains) =
         let logged = blocks_are_written v s at.world d st new f b bytes _ at.is flush numbers step (flies_besides p b bytes may at.sound) in
-        stays _ at.tells (sound_write p b bytes may at.sound) refl (with_other clients p.items (trace.WriteLog 1 b) refl) logged (on_same logged.world logged.now)
+        stays _ at.tells (sound_write p b bytes may at.sound) (λ j off. others_still p.disk.in_flight _ [] j off (at.others j off)) refl (with_other clients p.items (trace.WriteLog 1 b) refl) logged (on_same logged.world logged.now)
     one _ (EndsBlocks new f done bytes list flush stage step gains) =
         let logged = first_barriers_settle v s at.world d st new f done bytes _ at.is flush stage step (landed_as p.disk at.tells at.sound) in
-        stays _ at.tells (sound_barrier p.disk at.tells at.sound) refl (with_other clients p.items (trace.Barrier 1) refl) logged (behind_barrier logged.world logged.now)
+        stays _ at.tells (sound_barrier p.disk at.tells at.sound) (λ j off. others_still p.disk.in_flight _ [] j off (at.others j off)) refl (with_other clients p.items (trace.Barrier 1) refl) logged (behind_barrier logged.world logged.now)
     one _ (WritesHead new f b sequence bytes list flush numbers step may gains) =
         let logged = headers_are_written v s at.world d st new f b sequence bytes _ at.is flush numbers step (flies_besides p b bytes may at.sound) in
-        stays _ at.tells (sound_write p b bytes may at.sound) refl (with_other clients p.items (trace.WriteHead 1 b sequence p.numbers.begun) refl) logged (on_same logged.world logged.now)
+        stays _ at.tells (sound_write p b bytes may at.sound) (λ j off. others_still p.disk.in_flight _ [] j off (at.others j off)) refl (with_other clients p.items (trace.WriteHead 1 b sequence p.numbers.begun) refl) logged (on_same logged.world logged.now)
     one _ (EndsFlush new f tail bytes list flush numbers stage step gains) =
         let logged = last_barriers_land v s at.world d st new f tail bytes _ at.is flush numbers stage step (landed_as p.disk at.tells at.sound) in
-        stays _ at.tells (sound_barrier p.disk at.tells at.sound) refl (with_other clients p.items (trace.Barrier 1) refl) logged (behind_barrier logged.world logged.now)
-    one _ (Commits b ends) = record {
+        stays _ at.tells (sound_barrier p.disk at.tells at.sound) (λ j off. others_still p.disk.in_flight _ [] j off (at.others j off)) refl (with_other clients p.items (trace.Barrier 1) refl) logged (behind_barrier logged.world logged.now)
+    one _ (Commits b awaited ends) = record {
       tells = at.tells;
       sound = at.sound;
+      others = at.others;
       world = at.world;
       is = at.is;
       volume = at.volume;
       history = with_other clients p.items (trace.Commit 1 p.log.sequence p.numbers.low) refl ∙ at.history;
       may = at.may;
     }
-    one _ (GoesHome new lock b bytes list answer may gains) =
+    one _ (GoesHome ok unheaded new lock b bytes list answer may gains) =
         let logged = blocks_go_home v s at.world d st new lock b bytes _ at.is answer (flies_besides p b bytes may at.sound) in
-        stays _ at.tells (sound_write p b bytes may at.sound) refl (with_other clients p.items (trace.WriteHome 1 b) refl) logged (on_same logged.world logged.now)
-    one _ (Rests new list no_header settles gains) =
+        stays _ at.tells (sound_write p b bytes may at.sound) (λ j off. others_still p.disk.in_flight _ [] j off (at.others j off)) refl (with_other clients p.items (trace.WriteHome 1 b) refl) logged (on_same logged.world logged.now)
+    one _ (Rests new list ok no_header settles gains) =
         let logged = barriers_settle v s at.world d st new _ at.is no_header settles (landed_as p.disk at.tells at.sound) in
-        stays _ at.tells (sound_barrier p.disk at.tells at.sound) refl (with_other clients p.items (trace.Barrier 1) refl) logged (behind_barrier logged.world logged.now)
-    one _ Unmounts = record {
+        stays _ at.tells (sound_barrier p.disk at.tells at.sound) (λ j off. others_still p.disk.in_flight _ [] j off (at.others j off)) refl (with_other clients p.items (trace.Barrier 1) refl) logged (behind_barrier logged.world logged.now)
+    one _ (Unmounts ok) = record {
       tells = at.tells;
       sound = at.sound;
+      others = at.others;
       world = at.world;
       is = at.is;
       volume = at.volume;

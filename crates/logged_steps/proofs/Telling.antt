@@ -29,22 +29,22 @@ gains_none None = tt
 gains_none (Some operations) = sym (append_nil operations)
 
 adds : (time : ℕ) (p q : Point) → Step time p q → Adds p q
-adds time p _ (Reads b lock bytes asked none whole read) = nothing refl refl
-adds time p _ (Answers name call reply change kept done some can room keeps) = an_item _ [] refl refl (gains_none p.list)
-adds time p _ (AnswersQuietly name call reply change done none no_sync) = an_item _ [] refl refl (gains_none p.list)
-adds time p _ (Syncs name low) = an_item _ [] refl refl (gains_none p.list)
-adds time p _ (TellsFull call need free spaceless low) = an_item _ [] refl refl (gains_none p.list)
-adds time p _ (HasNoSpace name call need free spaceless ends) = an_item _ [] refl refl (gains_none p.list)
-adds time p _ (BeginsFlush none due room) = nothing refl refl
-adds time p _ (BeginsHeader none home some no_more) = nothing refl refl
+adds time p _ (Reads ok b lock bytes asked none whole read) = nothing refl refl
+adds time p _ (Answers ok name call reply change kept done some can room keeps) = an_item _ [] refl refl (gains_none p.list)
+adds time p _ (AnswersQuietly ok name call reply change done none no_sync) = an_item _ [] refl refl (gains_none p.list)
+adds time p _ (Syncs ok name low) = an_item _ [] refl refl (gains_none p.list)
+adds time p _ (TellsFull ok call need free spaceless low) = an_item _ [] refl refl (gains_none p.list)
+adds time p _ (HasNoSpace name call need free awaited spaceless ends) = an_item _ [] refl refl (gains_none p.list)
+adds time p _ (BeginsFlush ok none due room) = nothing refl refl
+adds time p _ (BeginsHeader ok none home some no_more) = nothing refl refl
 adds time p _ (WritesLog new f b bytes list flush numbers step may gains) = an_item _ (Write 1 b bytes ∷ []) refl refl gains
 adds time p _ (EndsBlocks new f done bytes list flush stage step gains) = an_item _ (Barrier 1 ∷ []) refl refl gains
 adds time p _ (WritesHead new f b sequence bytes list flush numbers step may gains) = an_item _ (Write 1 b bytes ∷ []) refl refl gains
 adds time p _ (EndsFlush new f tail bytes list flush numbers stage step gains) = an_item _ (Barrier 1 ∷ []) refl refl gains
-adds time p _ (Commits b ends) = an_item _ [] refl refl (gains_none p.list)
-adds time p _ (GoesHome new lock b bytes list answer may gains) = an_item _ (Write 1 b bytes ∷ []) refl refl gains
-adds time p _ (Rests new list no_header settles gains) = an_item _ (Barrier 1 ∷ []) refl refl gains
-adds time p _ Unmounts = an_item _ [] refl refl (gains_none p.list)
+adds time p _ (Commits b awaited ends) = an_item _ [] refl refl (gains_none p.list)
+adds time p _ (GoesHome ok unheaded new lock b bytes list answer may gains) = an_item _ (Write 1 b bytes ∷ []) refl refl gains
+adds time p _ (Rests new list ok no_header settles gains) = an_item _ (Barrier 1 ∷ []) refl refl gains
+adds time p _ (Unmounts ok) = an_item _ [] refl refl (gains_none p.list)
 
 -- ---- many
 

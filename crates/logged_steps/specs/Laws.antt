@@ -1,5 +1,5 @@
 -- Laws of the steps of one node with its log.
-use Rattle.std.specs.Prelude.{ℕ, ◌≡◌, ◌≤◌, ◌++◌, IsTrue, List, length, take}
+use Rattle.std.specs.Prelude.{ℕ, ◌≡◌, ◌≢◌, ◌≤◌, ◌++◌, IsTrue, List, [], length, take}
 use Rattle.call_blocks.specs.Lone.{MayChangeThere}
 use Rattle.cluster_laws.specs.World.{World}
 use Rattle.disk_items.specs.Deeds.{AreDoneBy}
@@ -11,7 +11,7 @@ use Rattle.lone_machine.specs.Alone.{Begun}
 use Rattle.lone_view.specs.Seeing.{seen_alone}
 use Rattle.run_rules.specs.Follows as run
 use Rattle.script_lang.specs.declared.script.Client.{Client}
-use Rattle.shared_disk.specs.Disk.{Gains, IsSound, Operation}
+use Rattle.shared_disk.specs.Disk.{DiskState, Gains, IsSound, Operation}
 use Rattle.trace_text.specs.declared.item.TraceItem.{TraceItem}
 use Rattle.tree_histories.specs.Trees.{history_of}
 use Rattle.logged_steps.specs.Points.{Point, state_of}
@@ -19,10 +19,15 @@ use Rattle.logged_steps.specs.Steps.{Steps}
 
 -- ---- what always holds
 
+-- nothing is in flight of any other node's
+abbrev pub OthersRest : DiskState → Type 0
+OthersRest d = (j : ℕ) → j ≢ 1 → d.in_flight j ≡ []
+
 -- On a disk that tells its blocks: there is a world of the machine in which the node is what it is at this point, and its history is that of the items.
 pub record IsLoggedAt (v : Volume) (s : Begun (trees_on v)) (d : ℕ) (clients : List Client) (p : Point) : Type 0 where
   pub tells : IsTrue p.disk.tells
   pub sound : IsSound p.disk
+  pub others : OthersRest p.disk
   pub world : World (trees_on v)
   pub is : IsLoggedNode v s world d (state_of p)
   pub volume : IsOfVolume v (seen_alone p.view)

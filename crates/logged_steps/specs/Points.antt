@@ -1,5 +1,5 @@
 -- Where the run of one node with its log has come to.
-use Rattle.std.specs.Prelude.{ℕ, ◌≡◌, ◌<◌, ◌++◌, suc, List, [], ◌∷◌, length, Option, None}
+use Rattle.std.specs.Prelude.{ℕ, ◌≡◌, ◌<◌, ◌++◌, suc, Bool, List, [], ◌∷◌, length, Option, None}
 use Rattle.file_tree.specs.declared.call.Call.{Call}
 use Rattle.file_tree.specs.declared.reply.Reply.{Reply}
 use Rattle.image_model.specs.Image.{image_of}
@@ -11,7 +11,13 @@ use Rattle.shared_disk.specs.Disk.{DiskState, Operation, flight_to}
 use Rattle.trace_text.specs.declared.item.TraceItem.{TraceItem}
 use Rattle.trace_text.specs.declared.item.TraceItem.TheVariants as trace
 
--- The disk, and its list of operations as far as it is told; the node's log, the blocks that it keeps, with what mounting told, and the numbers of its calls; and the items so far.
+-- What has to come next: the commit of a flush that came into the journal, or the answer of a call for which too few blocks are free, which was told.
+pub data Next : Type 0 where
+  Anything : Next
+  ItsCommit : Next
+  ItsNoSpace : Call → ℕ → ℕ → Next
+
+-- The disk, and its list of operations as far as it is told; the node's log, the blocks that it keeps, with what mounting told, and the numbers of its calls; the items so far; and whether it unmounts.
 pub record Point : Type 0 where
   pub disk : DiskState
   pub list : Option (List Operation)
@@ -19,6 +25,8 @@ pub record Point : Type 0 where
   pub view : Lone
   pub numbers : Numbers
   pub items : List TraceItem
+  pub unmounts : Bool
+  pub next : Next
 
 -- what node 1 has there, on the image of the disk
 abbrev pub state_of : Point → NodeState

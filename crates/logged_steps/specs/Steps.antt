@@ -24,7 +24,7 @@ use Rattle.shared_disk.specs.Disk.{Barrier, Gains, Operation, Write, after_barri
 use Rattle.trace_text.specs.declared.item.TraceItem.{TraceItem}
 use Rattle.trace_text.specs.declared.item.TraceItem.TheVariants as trace
 use Rattle.logged_steps.specs.Answers.{IsAsked, IsDoneBy, IsSpaceless}
-use Rattle.logged_steps.specs.Points.{MayWrite, Point, call_item, telling}
+use Rattle.logged_steps.specs.Points.{Anything, ItsCommit, ItsNoSpace, MayWrite, Point, call_item, telling}
 
 -- ---- the points behind a step
 
@@ -60,27 +60,33 @@ GainsBarrier p list = Gains p.list list (Barrier 1 ∷ [])
 abbrev pub EndsWith : Point → List TraceItem → Type 0
 EndsWith p last = (before : List TraceItem) × (p.items ≡ before ++ last)
 
+-- ---- when
+
+-- it answers calls: no flush is under way, nothing else has to come next, and it doesn't unmount
+abbrev pub IsAnswering : Point → Type 0
+IsAnswering p = (p.log.flush ≡ None) × (p.next ≡ Anything) × (p.unmounts ≡ false)
+
 -- ---- one step, at this time
 
 pub data Step (time : ℕ) (p : Point) : Point → Type 0 where
   -- a block that a call asks for, and that isn't kept, is read
-  Reads : (b : ℕ) (lock : LockName) (bytes : List ℕ) → IsAsked p.view b lock → table.get p.view.blocks b ≡ None → length bytes ≡ p.view.size → (IsTrue p.disk.tells → bytes ≡ read_gives p.disk 1 b)
+  Reads : IsAnswering p → (b : ℕ) (lock : LockName) (bytes : List ℕ) → IsAsked p.view b lock → table.get p.view.blocks b ≡ None → length bytes ≡ p.view.size → (IsTrue p.disk.tells → bytes ≡ read_gives p.disk 1 b)
       → Step time p (keeping p b bytes)
   -- a call is answered: what it changes comes into the log, and what it writes is kept, and not what it frees; or it changes nothing
-  Answers : (name : List ℕ) (call : Call) (reply : Reply) (change : Change) (kept : table.FinMap nat_cmp (List ℕ)) → IsDoneBy p.view time call reply change → is_nothing change ≡ false
+  Answers : IsAnswering p → (name : List ℕ) (call : Call) (reply : Reply) (change : Change) (kept : table.FinMap nat_cmp (List ℕ)) → IsDoneBy p.view time call reply change → is_nothing change ≡ false
       → CanBeAdded p.log.journal.size change → Suffices (with_change p.log change) → ((b : ℕ) → table.get kept b ≡ version_with change (table.get p.view.blocks) b)
       → Step time p (with_answer p change kept (call_item p name call reply))
-  AnswersQuietly : (name : List ℕ) (call : Call) (reply : Reply) (change : Change) → IsDoneBy p.view time call reply change → is_nothing change ≡ true → ((call ≡ calls.Sync) × (reply ≡ replies.Ok) → ⊥)
+  AnswersQuietly : IsAnswering p → (name : List ℕ) (call : Call) (reply : Reply) (change : Change) → IsDoneBy p.view time call reply change → is_nothing change ≡ true → ((call ≡ calls.Sync) × (reply ≡ replies.Ok) → ⊥)
       → Step time p (with_quiet_answer p (call_item p name call reply))
   -- a sync is, once the last call that changed anything is in the journal
-  Syncs : (name : List ℕ) → p.numbers.changed ≤ p.numbers.low → Step time p (with_quiet_answer p (call_item p name calls.Sync replies.Ok))
+  Syncs : IsAnswering p → (name : List ℕ) → p.numbers.changed ≤ p.numbers.low → Step time p (with_quiet_answer p (call_item p name calls.Sync replies.Ok))
   -- once it is, it is told how many blocks are free where these are too few for a call, and the call is answered so
-  TellsFull : (call : Call) (need free : ℕ) → IsSpaceless p.view call need free → p.numbers.changed ≤ p.numbers.low → Step time p (record p { items = telling p (trace.Full 1 need free) })
-  HasNoSpace : (name : List ℕ) (call : Call) (need free : ℕ) → IsSpaceless p.view call need free → EndsWith p (trace.Full 1 need free ∷ [])
-      → Step time p (with_quiet_answer p (call_item p name call replies.NoSpace))
+  TellsFull : IsAnswering p → (call : Call) (need free : ℕ) → IsSpaceless p.view call need free → p.numbers.changed ≤ p.numbers.low → Step time p (record p { items = telling p (trace.Full 1 need free); next = ItsNoSpace call need free })
+  HasNoSpace : (name : List ℕ) (call : Call) (need free : ℕ) → p.next ≡ ItsNoSpace call need free → IsSpaceless p.view call need free → EndsWith p (trace.Full 1 need free ∷ [])
+      → Step time p (record (with_quiet_answer p (call_item p name call replies.NoSpace)) { next = Anything })
   -- a flush begins: with all that is due, up to the last call; or as a header alone, up to the last one that is in the journal
-  BeginsFlush : p.log.flush ≡ None → IsDue p.log → HasRoom p.log (due p.log) → Step time p (record p { log = begun p.log; numbers = record p.numbers { begun = p.numbers.answered } })
-  BeginsHeader : p.log.flush ≡ None → AllAreHome p.log → (NothingIsLive p.log → ⊥) → (IsDue p.log → HasRoom p.log (due p.log) → ⊥)
+  BeginsFlush : p.next ≡ Anything → p.log.flush ≡ None → IsDue p.log → HasRoom p.log (due p.log) → Step time p (record p { log = begun p.log; numbers = record p.numbers { begun = p.numbers.answered } })
+  BeginsHeader : p.next ≡ Anything → p.log.flush ≡ None → AllAreHome p.log → (NothingIsLive p.log → ⊥) → (IsDue p.log → HasRoom p.log (due p.log) → ⊥)
       → Step time p (record p { log = begun_alone p.log; numbers = record p.numbers { begun = p.numbers.low } })
   -- a block of it is written, then a barrier made, its header written, and the last barrier made, with which it is in the journal; that is committed
   WritesLog : (new : LogValue) (f : Flush) (b : ℕ) (bytes : List ℕ) (list : Option (List Operation)) → p.log.flush ≡ Some f → HasNumbers p.log f → FlushStep p.log new f bytes (step.Write b)
@@ -90,14 +96,14 @@ pub data Step (time : ℕ) (p : Point) : Point → Type 0 where
   WritesHead : (new : LogValue) (f : Flush) (b sequence : ℕ) (bytes : List ℕ) (list : Option (List Operation)) → p.log.flush ≡ Some f → HasNumbers p.log f → FlushStep p.log new f bytes (step.Head b sequence)
       → MayWrite p b bytes → GainsWrite p b bytes list → Step time p (with_write p b bytes list new (trace.WriteHead 1 b sequence p.numbers.begun))
   EndsFlush : (new : LogValue) (f : Flush) (tail : ℕ) (bytes : List ℕ) (list : Option (List Operation)) → p.log.flush ≡ Some f → HasNumbers p.log f → f.stage ≡ Headed tail → FlushStep p.log new f bytes step.Barrier
-      → GainsBarrier p list → Step time p (record (with_barrier p list new) { numbers = record p.numbers { low = p.numbers.begun } })
-  Commits : (b : ℕ) → EndsWith p (trace.WriteHead 1 b p.log.sequence p.numbers.low ∷ trace.Barrier 1 ∷ []) → Step time p (record p { items = telling p (trace.Commit 1 p.log.sequence p.numbers.low) })
-  -- a live block of this lock is on its way home; and a barrier is made while no header is in flight
-  GoesHome : (new : LogValue) (lock : LockName) (b : ℕ) (bytes : List ℕ) (list : Option (List Operation)) → HomeAnswer p.log new lock bytes (Some (step.Write b))
+      → GainsBarrier p list → Step time p (record (with_barrier p list new) { numbers = record p.numbers { low = p.numbers.begun }; next = ItsCommit })
+  Commits : (b : ℕ) → p.next ≡ ItsCommit → EndsWith p (trace.WriteHead 1 b p.log.sequence p.numbers.low ∷ trace.Barrier 1 ∷ []) → Step time p (record p { items = telling p (trace.Commit 1 p.log.sequence p.numbers.low); next = Anything })
+  -- while no header is in flight, a live block of this lock is on its way home, or a barrier is made
+  GoesHome : p.next ≡ Anything → (IsHeaded p.log.flush → ⊥) → (new : LogValue) (lock : LockName) (b : ℕ) (bytes : List ℕ) (list : Option (List Operation)) → HomeAnswer p.log new lock bytes (Some (step.Write b))
       → MayWrite p b bytes → GainsWrite p b bytes list → Step time p (with_write p b bytes list new (trace.WriteHome 1 b))
-  Rests : (new : LogValue) (list : Option (List Operation)) → (IsHeaded p.log.flush → ⊥) → Settles p.log new → GainsBarrier p list → Step time p (with_barrier p list new)
-  -- it unmounts: what it does from now on is to flush, to bring blocks home, and to leave its journal clean
-  Unmounts : Step time p (record p { items = telling p (trace.Unmount 1) })
+  Rests : (new : LogValue) (list : Option (List Operation)) → p.next ≡ Anything → (IsHeaded p.log.flush → ⊥) → Settles p.log new → GainsBarrier p list → Step time p (with_barrier p list new)
+  -- it unmounts: from now on it answers no call, and what it does is to flush, and to bring blocks home
+  Unmounts : IsAnswering p → Step time p (record p { items = telling p (trace.Unmount 1); unmounts = true })
 
 -- ---- one step after another
 
