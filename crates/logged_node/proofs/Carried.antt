@@ -1,5 +1,5 @@
 -- A step of a flush that was carried out is one of the node's steps, and the flush goes on, or is in the journal.
-use Rattle.std.proofs.Common.{◌≡◌, ◌≢◌, ◌≤◌, ◌<◌, ◌+◌, ℕ, zero, suc, ◌⊎◌, inl, inr, Bool, true, false, List, [], ◌∷◌, ◌++◌, length, Option, None, Some, refl, sym, ap, subst, ◌∙◌, arith}
+use Rattle.std.proofs.Common.{◌≡◌, ◌≢◌, ◌≤◌, ◌<◌, ◌+◌, ℕ, zero, suc, ◌⊎◌, inl, inr, Bool, true, false, List, [], ◌∷◌, ◌++◌, length, Option, None, Some, refl, sym, ap, subst, subst₂, ◌∙◌, arith}
 use Rattle.std.specs.FinMap as table
 use Rattle.std.specs.Ordering.{nat_cmp}
 use Rattle.std.specs.Prelude.{slice_get, nat_lt, if◌then◌else◌}
@@ -19,7 +19,7 @@ use Rattle.log_values.specs.declared.steps.LogStep.TheVariants as step
 use Rattle.shared_disk.specs.Disk.{DiskState, Flight, Operation, after_barrier, flight_to, with_flight}
 use Rattle.trace_text.specs.declared.item.TraceItem.{TraceItem}
 use Rattle.trace_text.specs.declared.item.TraceItem.TheVariants as trace
-use Rattle.logged_steps.specs.Points.{MayWrite, Point}
+use Rattle.logged_steps.specs.Points.{Anything, ItsCommit, MayWrite, Next, Point}
 use Rattle.logged_steps.specs.Steps.{Commits, EndsBlocks, EndsFlush, Here, Step, Steps, Then, WritesHead, WritesLog}
 use Rattle.logged_node.specs.Flushing.{IsCarried, MayCarry}
 use Rattle.logged_node.specs.Flushing as carried
@@ -37,13 +37,13 @@ TellsItsHead p sequence (Writing done) = ⊤
 TellsItsHead p sequence Ending = ⊤
 TellsItsHead p sequence (Headed tail) = (b : ℕ) × (before : List TraceItem) × (p.items ≡ before ++ trace.WriteHead 1 b sequence p.numbers.begun ∷ [])
 
-module _ (p q : Point) (f : Flush) (new : LogValue) (bytes : List ℕ) (is : p.log.flush ≡ Some f) (numbers : HasNumbers p.log f) (whole : length bytes ≡ p.disk.size) (told : TellsItsHead p (after p.log.sequence) f.stage) where
+module _ (p q : Point) (f : Flush) (new : LogValue) (bytes : List ℕ) (is : p.log.flush ≡ Some f) (numbers : HasNumbers p.log f) (whole : length bytes ≡ p.disk.size) (told : TellsItsHead p (after p.log.sequence) f.stage) (free : p.next ≡ Anything) where
   abbrev mid : Point
   mid = record p { log = new }
 
   -- the point behind the last barrier, but for its items
   abbrev ended : Option (List Operation) → Point
-  ended l = record p { disk = after_barrier p.disk 1; list = l; log = new; numbers = record p.numbers { low = p.numbers.begun } }
+  ended l = record p { disk = after_barrier p.disk 1; list = l; log = new; numbers = record p.numbers { low = p.numbers.begun }; next = ItsCommit }
 
   pub steps_by : (s : LogStep) → MayCarry p.disk s → FlushStep p.log new f bytes s → IsCarried bytes mid q s → (time : ℕ) → Steps time p q
   steps_by _ may made (carried.a_block b list gains q_is) time =
@@ -62,9 +62,9 @@ module _ (p q : Point) (f : Flush) (new : LogValue) (bytes : List ℕ) (is : p.l
       by (the_last tail stage new_is live) =
           let head = subst (TellsItsHead p (after p.log.sequence)) stage told in
           let sequence : new.sequence ≡ after p.log.sequence = ap (λ (l : LogValue). l.sequence) new_is in
-          subst (λ (items : List TraceItem). Steps time p (record (ended list) { items = items })) (append_assoc p.items (trace.Barrier 1 ∷ []) (trace.Commit 1 new.sequence p.numbers.begun ∷ []))
+          subst₂ (λ (items : List TraceItem) (next : Next). Steps time p (record (ended list) { items = items; next = next })) (append_assoc p.items (trace.Barrier 1 ∷ []) (trace.Commit 1 new.sequence p.numbers.begun ∷ [])) (sym free)
           (Then p _ (Then p _ Here (EndsFlush new f tail bytes list is numbers stage made gains))
-          (Commits head.0 (
+          (Commits head.0 refl (
             head.1,
             ap (λ (items : List TraceItem). items ++ trace.Barrier 1 ∷ []) head.2
                 ∙ append_assoc head.1 (trace.WriteHead 1 head.0 (after p.log.sequence) p.numbers.begun ∷ []) (trace.Barrier 1 ∷ [])

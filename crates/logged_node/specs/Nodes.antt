@@ -15,7 +15,7 @@ use Rattle.lone_logs.specs.States.{Numbers}
 use Rattle.lone_view.specs.Seeing.{Lone}
 use Rattle.shared_disk.specs.Disk.{DiskState, Gains, Operation, Write, after_write, flight_to}
 use Rattle.trace_text.specs.declared.item.TraceItem.{TraceItem}
-use Rattle.logged_steps.specs.Points.{Point}
+use Rattle.logged_steps.specs.Points.{Anything, Point}
 use Rattle.logged_steps.specs.Steps.{Steps}
 use Rattle.logged_node.specs.declared.ends.Stop.{Stop}
 use Rattle.logged_node.specs.declared.ends.Stop.TheVariants as stop
@@ -28,7 +28,7 @@ abbrev pub numbers_of : CallNumbers → Numbers
 numbers_of n = record { answered = n.answered; changed = n.changed; low = n.low; begun = n.begun }
 
 abbrev pub point_of : DiskState → Option (List Operation) → Node → Point
-point_of disk list n = record { disk = disk; list = list; log = n.log; view = n.view; numbers = numbers_of n.numbers; items = n.items.items }
+point_of disk list n = record { disk = disk; list = list; log = n.log; view = n.view; numbers = numbers_of n.numbers; items = n.items.items; unmounts = n.unmounts; next = Anything }
 
 -- ---- what always holds of it
 

@@ -24,6 +24,8 @@ pub struct Node {
     pub items: Vec<TraceItem>,
     /// Room for the bytes of one block on their way to the disk.
     pub block: Vec<u8>,
+    /// Whether it unmounts: it answers no call any more.
+    pub unmounts: bool,
     /// How many writes it has in flight.
     pub flying: usize,
     /// Where it is to crash at a write, how many it makes until then, that one among them.
