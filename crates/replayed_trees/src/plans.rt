@@ -94,7 +94,7 @@ pub(crate) fn plan_journals<D: SharedDisk>(
     // And what stops it is so.
     ensures stopped { IfErr result (λ fault. IsTrue (D.state disk.old).tells → (l : Layout) → HasItsJournals (image_of (D.state disk.old)) l → AreJournals (image_of (D.state disk.old)) l journals.now → AreMarked (image_of (D.state disk.old)) l marks
         → IfDamaged fault (λ block rule. StopsReplay (image_of (D.state disk.old)) l rule block × (block < (D.state disk.old).count))) }
-    // Of any image they are the plans of these journals, by what it has at their places; and what stops it is so at the next one.
+    // Of any image they are the plans of these journals, by what it has at their places; and what stops it does so of some journals.
     ensures made { IfOk result (λ plans. IsTrue (D.state disk.old).tells → ArePlansOf (image_of (D.state disk.old)) journals.now plans.items × (length plans.items ≡ length journals.now)) }
     ensures next { IfErr result (λ fault. IsTrue (D.state disk.old).tells → IfDamaged fault (IsToldByPlans (image_of (D.state disk.old)))) }
     ensures reads { ReadsOnly (D.state disk.old) (D.state disk.new) (D.list disk.old) (D.list disk.new) (D.faults disk.old) (D.faults disk.new) }

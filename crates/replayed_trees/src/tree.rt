@@ -94,7 +94,7 @@ pub fn read_replayed_image(alloc: Global, block_size: u32, bytes: Vec<u8>) -> Re
     ensures replayable { IfOk result (λ tree. (r : ImageValue) (o : Owners) (l : Layout) → HasSameFrame r (image_in block_size bytes.items) → IsLaid r o l → IsReplayable (image_in block_size bytes.items) l) }
     // A block that is told stops the replay, as the dinode of a journal without a header does, or breaks its rule once the journals are replayed.
     ensures damaged { IfErr result (λ unread. IfDamaged unread (IsTold (image_in block_size bytes.items))) }
-    // Of any image, whatever its frame, it does so by what the image has at the places of some journals, which are those that were found.
+    // Of any image, whatever its frame, it does so of some journals, by what the image has at their places; which these are isn't said.
     ensures told { IfErr result (λ unread. IfDamaged unread (IsToldByPlans (image_in block_size bytes.items))) }
     // Or it breaks its rule in the image as it lies, and then the frame is that of no image that stands.
     ensures lies { IfErr result (λ unread. IfDamagedAsItLies unread (IsToldAsItLies (image_in block_size bytes.items))) }

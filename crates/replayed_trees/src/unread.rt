@@ -8,7 +8,7 @@ use replay_looks::LookFault;
 /// Why the tree of an image was not read.
 #[derive(Clone, Copy, Debug, PartialEq, Eq)]
 pub enum Unread {
-    /// The image stands for no tree. Where the frame is that of an image that stands, the block stops the replay, or breaks the rule with the journals' blocks in place. Where it is that of none, this is so of the journals that were found.
+    /// The image stands for no tree. Where the frame is that of an image that stands, the block stops the replay, or breaks the rule with the journals' blocks in place. Where it is that of none, this is so of some journals.
     Damaged { block: u64, rule: u16 },
     /// The image stands for no tree: its system files, whatever stands at the places of its journals, are those of no image that stands, so its journals weren't replayed. As it lies, it breaks the rule at the block, which may be one that a replay would mend.
     DamagedAsItLies { block: u64, rule: u16 },
