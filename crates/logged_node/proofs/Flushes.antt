@@ -1,5 +1,5 @@
 -- A step of a flush, carried out on the disk.
-use Rattle.std.proofs.Common.{◌≡◌, ◌≢◌, ◌≤◌, ◌<◌, ◌+◌, ℕ, zero, suc, ◌⊎◌, inl, inr, List, [], ◌∷◌, ◌++◌, length, Option, None, Some, refl, sym, ap, subst, ◌∙◌, arith}
+use Rattle.std.proofs.Common.{◌≡◌, ◌≢◌, ◌≤◌, ◌<◌, ◌+◌, ℕ, zero, suc, ◌⊎◌, inl, inr, List, [], ◌∷◌, ◌++◌, length, Option, None, Some, refl, sym, ap, subst, subst₂, ◌∙◌, arith}
 use Rattle.std.specs.FinMap as table
 use Rattle.std.specs.Prelude.{slice_get}
 use Rattle.log_layout.specs.Transactions.{after}
@@ -14,10 +14,11 @@ use Rattle.log_values.specs.Sound.{Fits, IsSoundLog, alone, with_room}
 use Rattle.log_values.specs.declared.steps.LogStep.{LogStep}
 use Rattle.log_values.specs.declared.steps.LogStep.TheVariants as step
 use Rattle.log_values.proofs.Landing.{alone_takes}
-use Rattle.log_values.proofs.Ways.{on_below, on_is}
+use Rattle.log_values.proofs.Ways.{on_below, way_on}
 use Rattle.node_journal.proofs.Lengths.{chunks_length}
 use Rattle.node_journal.specs.Places.{place_on}
-use Rattle.log_layout.specs.Journal.{next}
+use Rattle.log_layout.specs.Journal.{next, way}
+use Rattle.std.proofs.lemmas.Bool.Decides.{nat_tests}
 use Rattle.log_values.specs.Transactions.{flushed_as}
 use Rattle.shared_disk.specs.Disk.{DiskState, flight_to}
 use Rattle.logged_steps.specs.Points.{MayWrite, Point}
@@ -33,10 +34,14 @@ use Rattle.logged_node.specs.declared.node.Node.{Node}
 some_same : {f g : Flush} → Some f ≡ Some g → f ≡ g
 some_same e = cc
 
-slice_get_low : {A : Type 0} (xs : List A) (k : ℕ) (a : A) → slice_get xs k ≡ Some a → k < length xs
+pub slice_get_low : {A : Type 0} (xs : List A) (k : ℕ) (a : A) → slice_get xs k ≡ Some a → k < length xs
 slice_get_low [] k a is = absurd (let e : None ≡ Some a = is in cc)
 slice_get_low (x ∷ xs) zero a is = omega arith
 slice_get_low (x ∷ xs) (suc k) a is = (let low = slice_get_low xs k a is in omega (arith, low))
+
+-- it is no way to where one is
+pub way_here : (n p : ℕ) → way n p p ≡ 0
+way_here n p = grind (arith, nat_tests)
 
 module _ (log : LogValue) (f : Flush) (sound : IsSoundLog log) (is : log.flush ≡ Some f) where
   abbrev n : ℕ
@@ -67,26 +72,31 @@ module _ (log : LogValue) (f : Flush) (sound : IsSoundLog log) (is : log.flush �
 
   -- chunks have places of their own
   apart : (k m : ℕ) → k < n → m < n → chunk_place log k ≡ chunk_place log m → k ≡ m
-  apart k m a b same = elim (on_is n (first_place log) k first_in a) [
-    | inl x ↦ elim (on_is n (first_place log) m first_in b) [ inl y ↦ (let e = x.1 in let g = y.1 in omega (arith, e, g, same)) | inr y ↦ absurd (let e = x.1 in let g = y.1 in let h = y.0 in omega (arith, e, g, h, b, same)) ]
-    | inr x ↦ elim (on_is n (first_place log) m first_in b) [ inl y ↦ absurd (let e = x.1 in let g = y.1 in let h = x.0 in omega (arith, e, g, h, a, same)) | inr y ↦ (let e = x.1 in let g = y.1 in let h = x.0 in let i = y.0 in omega (arith, e, g, h, i, a, b, same)) ]
-  ]
+  apart k m a b same =
+      let here = way_here n (first_place log) in
+      let one = way_on n (first_place log) (first_place log) k first_in first_in (omega (arith, here, a)) in
+      let other = way_on n (first_place log) (first_place log) m first_in first_in (omega (arith, here, b)) in
+      let ways = ap (way n (first_place log)) same in
+      omega (arith, one, other, ways)
 
 -- ---- a step of the flush that is under way
 
-none_some : {A : Type 0} {a : A} → None ≡ Some a → ⊥
+pub none_some : {A : Type 0} {a : A} → None ≡ Some a → ⊥
 none_some e = cc
 
-step_of : (log new : LogValue) (bytes : List ℕ) (s : LogStep) (f : Flush) → log.flush ≡ Some f → FlushAnswer log new bytes (Some s) → FlushStep log new f bytes s
-step_of log new bytes _ f is (no_room none due room home same) = absurd (none_some (sym none ∙ is))
-step_of log new bytes s f is (a_step m g _ begins flush made) = by begins
-  where
-    by : Begins log m → FlushStep log new f bytes s
-    by (steps.with_all none due room) = absurd (none_some (sym none ∙ is))
-    by (steps.alone none home some no_more) = absurd (none_some (sym none ∙ is))
-    by (steps.goes_on h there) = subst (λ (x : Flush). FlushStep log new x bytes s) (some_same (sym flush ∙ is)) made
+-- none begins where one is under way
+begun_still : (log m : LogValue) (f : Flush) → log.flush ≡ Some f → Begins log m → m ≡ log
+begun_still log _ f is (steps.with_all none due room) = absurd (none_some (sym none ∙ is))
+begun_still log _ f is (steps.alone none home some no_more) = absurd (none_some (sym none ∙ is))
+begun_still log _ f is (steps.goes_on h there) = refl
 
-no_answer : (log new : LogValue) (bytes : List ℕ) (f : Flush) → log.flush ≡ Some f → FlushAnswer log new bytes None → ⊥
+pub step_of : (log new : LogValue) (bytes : List ℕ) (s : LogStep) (f : Flush) → log.flush ≡ Some f → FlushAnswer log new bytes (Some s) → FlushStep log new f bytes s
+step_of log new bytes _ f is (no_room none due room home same) = absurd (none_some (sym none ∙ is))
+step_of log new bytes s f is (a_step m g _ begins flush made) =
+    let still = begun_still log m f is begins in
+    subst₂ (λ (l : LogValue) (x : Flush). FlushStep l new x bytes s) still (some_same (sym flush ∙ ap (λ (l : LogValue). l.flush) still ∙ is)) made
+
+pub no_answer : (log new : LogValue) (bytes : List ℕ) (f : Flush) → log.flush ≡ Some f → FlushAnswer log new bytes None → ⊥
 no_answer log new bytes f is (nothing none due live same) = none_some (sym none ∙ is)
 
 module _ (d : DiskState) (n : Node) (f : Flush) (sound : IsSoundLog n.log) (at : IsFlushing d n f) where

@@ -33,7 +33,8 @@ use Rattle.trace_text.specs.declared.item.TraceItem.TheVariants as trace
 use Rattle.logged_node.specs.Flushing.{FliesBehind, GoesTo, HasFlushed, IsFlushing, IsKind, IsLeft, nothing, of_all, of_none, what_was, TellsHead, further, left_at, left_of, most_flown, steps_left, through}
 use Rattle.logged_node.specs.Nodes.{FliesAsFlushed, IsFlownBlock, IsNodeOn, IsResting, IsSameDisk, IsSmall, NoneGoesHome}
 use Rattle.logged_node.specs.declared.node.Node.{Node}
-use Rattle.logged_node.proofs.Flushes.{none_some, slice_get_low}
+use Rattle.std.proofs.lemmas.List.Sums.{length-filter}
+use Rattle.logged_node.proofs.Flushes.{none_some, slice_get_low, way_here}
 
 -- ---- it is the node that it was
 
@@ -91,7 +92,7 @@ left_still log tail None still = none_still
 left_still log tail (Some x) still = if_still (nat_lt (behind_tail log x.first) (behind_tail log tail)) (Some x) still
 
 logged_still : (v : Option Version) (first : ℕ) (o : Option Entry) → IsStill o → IsStill (logged_over v first o)
-logged_still None first o still = still
+logged_still None first o still e bytes is flies = still e bytes is flies
 logged_still (Some v) first o still e bytes is flies = away_flying (ap (λ (y : Entry). y.way) (entry_same is) ∙ flies)
 
 behind_still : (log : LogValue) (f : Flush) (tail b : ℕ) → IsStill (table.get log.live b) → IsStill (live_behind log f tail b)
@@ -102,11 +103,11 @@ behind_still log f tail b still =
 
 length_with : (fs : List Flight) (new : Flight) → length (with_flight fs new) ≡ suc (length fs)
 length_with [] new = refl
-length_with (f ∷ fs) new = by (nat_lt new.block f.block)
+length_with (f ∷ fs) new = by (nat_lt new.block f.block) (length_with fs new)
   where
-    by : (t : Bool) → length (if t then new ∷ f ∷ fs else f ∷ with_flight fs new) ≡ suc (suc (length fs))
-    by true = refl
-    by false = ap suc (length_with fs new)
+    by : (t : Bool) → length (with_flight fs new) ≡ suc (length fs) → length (if t then new ∷ f ∷ fs else f ∷ with_flight fs new) ≡ suc (suc (length fs))
+    by true behind = refl
+    by false behind = ap suc behind
 
 none_in : (fs : List Flight) → length fs ≤ 0 → fs ≡ []
 none_in [] low = refl
@@ -136,15 +137,18 @@ none_among live gone none = ap (λ l. live_among l gone) none ∙ table.same_map
 none_used : (log : LogValue) → IsSoundLog log → log.tail ≡ log.head → NothingIsLive log
 none_used log sound same = table.same_map nat_cmp_total table.nat_cmp-IsAntisymmetric log.live table.empty (λ q. table.get-entries log.live q ∙ ap (table.find nat_cmp q) none ∙ sym (table.get-empty nat_cmp q))
   where
-    all_counted : (es : List (ℕ × Entry)) → count_by (λ (e : ℕ × Entry). nat_le 0 (behind_tail log e.1.first)) es ≡ length es
-    all_counted [] = refl
-    all_counted (e ∷ es) = ap suc (all_counted es)
+    passes : ℕ × Entry → Bool
+    passes e = nat_le 0 (behind_tail log e.1.first)
+
+    kept : (es : List (ℕ × Entry)) → filter passes es ≡ es
+    kept [] = refl
+    kept (e ∷ es) = ap (λ (xs : List (ℕ × Entry)). e ∷ xs) (kept es)
+
+    all_counted : (es : List (ℕ × Entry)) → count_by passes es ≡ length es
+    all_counted es = sym (length-filter passes es) ∙ ap length (kept es)
 
     no_way : used log ≡ 0
-    no_way = (let at : way log.journal.length log.tail log.head ≡ way log.journal.length log.head log.head = ap (λ t. way log.journal.length t log.head) same in at ∙ here log.journal.length log.head)
-      where
-        here : (n p : ℕ) → way n p p ≡ 0
-        here n p = grind (arith, nat_tests)
+    no_way = ap (λ t. way log.journal.length t log.head) same ∙ way_here log.journal.length log.head
 
     none_long : length (table.entries log.live) ≤ 0
     none_long = (let room = sound.room 0 (omega arith) in let all = all_counted (table.entries log.live) in let w = no_way in omega (arith, room, all, w))

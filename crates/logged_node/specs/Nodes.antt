@@ -106,7 +106,7 @@ LeavesDisk p d list stop.NoMemory = (d ≡ p.disk) × (list ≡ p.list)
 pub record StopsBehind (p : Point) (d : DiskState) (list : Option (List Operation)) (items : List TraceItem) (why : Stop) : Type 0 where
   pub last : Point
   pub steps : (time : ℕ) → Steps time p last
-  pub items : last.items ≡ items
+  pub told : last.items ≡ items
   pub disk : LeavesDisk last d list why
 
 -- it is the same disk, whatever its blocks hold, and what is in flight
