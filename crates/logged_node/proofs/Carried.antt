@@ -20,7 +20,7 @@ use Rattle.shared_disk.specs.Disk.{DiskState, Flight, Operation, after_barrier, 
 use Rattle.trace_text.specs.declared.item.TraceItem.{TraceItem}
 use Rattle.trace_text.specs.declared.item.TraceItem.TheVariants as trace
 use Rattle.logged_steps.specs.Points.{Anything, ItsCommit, MayWrite, Next, Point}
-use Rattle.logged_steps.specs.Steps.{Commits, EndsBlocks, EndsFlush, Here, Step, Steps, Then, WritesHead, WritesLog}
+use Rattle.logged_steps.specs.Steps.{Commits, EndsBlocks, EndsFlush, Here, Step, Steps, Then, WritesHead, WritesLog, with_barrier}
 use Rattle.logged_node.specs.Flushing.{IsCarried, MayCarry}
 use Rattle.logged_node.specs.Flushing as carried
 use Rattle.logged_node.proofs.Flushes.{none_some}
@@ -52,12 +52,13 @@ module _ (p q : Point) (f : Flush) (new : LogValue) (bytes : List ℕ) (is : p.l
       subst (Steps time p) (sym q_is) (Then p _ Here (WritesHead new f b sequence bytes list is numbers made (record { inside = may.0; whole = whole; free = may.1 }) gains))
   steps_by _ may made (carried.a_barrier list some gains q_is) time = subst (Steps time p) (sym q_is) (by made)
     where
-      by : FlushStep p.log new f bytes step.Barrier → Steps time p _
+      by : FlushStep p.log new f bytes step.Barrier → Steps time p (with_barrier p list new)
       by (a_barrier stage new_is live) = Then p _ Here (EndsBlocks new f (length (flush_chunks p.log f)) bytes list is stage made gains)
       by (the_last tail stage new_is live) = absurd (some (ap (λ (l : LogValue). l.flush) new_is))
   steps_by _ may made (carried.the_last list none gains q_is) time = subst (Steps time p) (sym q_is) (by made)
     where
-      by : FlushStep p.log new f bytes step.Barrier → Steps time p _
+      by : FlushStep p.log new f bytes step.Barrier
+          → Steps time p (record (with_barrier p list new) { numbers = record p.numbers { low = p.numbers.begun }; items = p.items ++ (trace.Barrier 1 ∷ trace.Commit 1 new.sequence p.numbers.begun ∷ []) })
       by (a_barrier stage new_is live) = absurd (none_some (sym none ∙ ap (λ (l : LogValue). l.flush) new_is))
       by (the_last tail stage new_is live) =
           let head = subst (TellsItsHead p (after p.log.sequence)) stage told in

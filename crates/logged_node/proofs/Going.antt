@@ -3,7 +3,7 @@ use Rattle.std.proofs.Common.{◌≡◌, ◌≢◌, ◌≤◌, ◌<◌, ◌+◌,
 use Rattle.std.specs.FinMap as table
 use Rattle.std.specs.Ordering.{nat_cmp}
 use Rattle.std.specs.Prelude.{slice_get, nat_le, nat_lt, not, filter, count_by, if◌then◌else◌}
-use Rattle.std.proofs.lemmas.Bool.{cases_eq}
+use Rattle.std.proofs.lemmas.Bool.{cases_eq, cond-true}
 use Rattle.std.proofs.lemmas.Cmp.{nat_cmp_total, ranked}
 use Rattle.std.specs.declared.cmp.Ordering.TheVariants.{Equal}
 use Rattle.std.specs.List.{AllByRecursion}
@@ -137,12 +137,15 @@ none_among live gone none = ap (λ l. live_among l gone) none ∙ table.same_map
 none_used : (log : LogValue) → IsSoundLog log → log.tail ≡ log.head → NothingIsLive log
 none_used log sound same = table.same_map nat_cmp_total table.nat_cmp-IsAntisymmetric log.live table.empty (λ q. table.get-entries log.live q ∙ ap (table.find nat_cmp q) none ∙ sym (table.get-empty nat_cmp q))
   where
+    zero_least : (n : ℕ) → nat_le 0 n ≡ true
+    zero_least n = grind (arith, nat_tests)
+
     passes : ℕ × Entry → Bool
     passes e = nat_le 0 (behind_tail log e.1.first)
 
     kept : (es : List (ℕ × Entry)) → filter passes es ≡ es
     kept [] = refl
-    kept (e ∷ es) = ap (λ (xs : List (ℕ × Entry)). e ∷ xs) (kept es)
+    kept (e ∷ es) = cond-true (passes e) (e ∷ filter passes es) (filter passes es) (zero_least (behind_tail log e.1.first)) ∙ ap (λ (xs : List (ℕ × Entry)). e ∷ xs) (kept es)
 
     all_counted : (es : List (ℕ × Entry)) → count_by passes es ≡ length es
     all_counted es = sym (length-filter passes es) ∙ ap length (kept es)
