@@ -64,7 +64,7 @@ module _ (p q : Point) (f : Flush) (new : LogValue) (bytes : List ℕ) (is : p.l
           let head = subst (TellsItsHead p (after p.log.sequence)) stage told in
           let sequence : new.sequence ≡ after p.log.sequence = ap (λ (l : LogValue). l.sequence) new_is in
           subst₂ (λ (items : List TraceItem) (next : Next). Steps time p (record (ended list) { items = items; next = next })) (append_assoc p.items (trace.Barrier 1 ∷ []) (trace.Commit 1 new.sequence p.numbers.begun ∷ [])) (sym free)
-          (Then p _ (Then p _ Here (EndsFlush new f tail bytes list is numbers stage made gains))
+          (Then _ _ (Then p _ Here (EndsFlush new f tail bytes list is numbers stage made gains))
           (Commits head.0 refl (
             head.1,
             ap (λ (items : List TraceItem). items ++ trace.Barrier 1 ∷ []) head.2
