@@ -262,7 +262,7 @@ module _ (calls_are_logged : CallsAreLogged) (quiet_calls_are_logged : QuietCall
       history = with_other clients p.items (trace.Commit 1 p.log.sequence p.numbers.low) refl ∙ at.history;
       may = at.may;
     }
-    one _ (GoesHome ok unheaded new lock b bytes list answer may gains) =
+    one _ (GoesHome ok new lock b bytes list answer may gains) =
         let logged = blocks_go_home v s at.world d st new lock b bytes _ at.is answer (flies_besides p b bytes may at.sound) in
         stays _ at.tells (sound_write p b bytes may at.sound) (λ j off. others_still p.disk.in_flight _ [] j off (at.others j off)) refl (with_other clients p.items (trace.WriteHome 1 b) refl) logged (on_same logged.world logged.now)
     one _ (Rests new list ok no_header settles gains) =

@@ -42,7 +42,7 @@ adds time p _ (EndsBlocks new f done bytes list flush stage step gains) = an_ite
 adds time p _ (WritesHead new f b sequence bytes list flush numbers step may gains) = an_item _ (Write 1 b bytes ∷ []) refl refl gains
 adds time p _ (EndsFlush new f tail bytes list flush numbers stage step gains) = an_item _ (Barrier 1 ∷ []) refl refl gains
 adds time p _ (Commits b awaited ends) = an_item _ [] refl refl (gains_none p.list)
-adds time p _ (GoesHome ok unheaded new lock b bytes list answer may gains) = an_item _ (Write 1 b bytes ∷ []) refl refl gains
+adds time p _ (GoesHome ok new lock b bytes list answer may gains) = an_item _ (Write 1 b bytes ∷ []) refl refl gains
 adds time p _ (Rests new list ok no_header settles gains) = an_item _ (Barrier 1 ∷ []) refl refl gains
 adds time p _ (Unmounts ok) = an_item _ [] refl refl (gains_none p.list)
 

@@ -98,8 +98,8 @@ pub data Step (time : ℕ) (p : Point) : Point → Type 0 where
   EndsFlush : (new : LogValue) (f : Flush) (tail : ℕ) (bytes : List ℕ) (list : Option (List Operation)) → p.log.flush ≡ Some f → HasNumbers p.log f → f.stage ≡ Headed tail → FlushStep p.log new f bytes step.Barrier
       → GainsBarrier p list → Step time p (record (with_barrier p list new) { numbers = record p.numbers { low = p.numbers.begun }; next = ItsCommit })
   Commits : (b : ℕ) → p.next ≡ ItsCommit → EndsWith p (trace.WriteHead 1 b p.log.sequence p.numbers.low ∷ trace.Barrier 1 ∷ []) → Step time p (record p { items = telling p (trace.Commit 1 p.log.sequence p.numbers.low); next = Anything })
-  -- while no header is in flight, a live block of this lock is on its way home, or a barrier is made
-  GoesHome : p.next ≡ Anything → (IsHeaded p.log.flush → ⊥) → (new : LogValue) (lock : LockName) (b : ℕ) (bytes : List ℕ) (list : Option (List Operation)) → HomeAnswer p.log new lock bytes (Some (step.Write b))
+  -- a live block of this lock is on its way home; and a barrier is made while no header is in flight
+  GoesHome : p.next ≡ Anything → (new : LogValue) (lock : LockName) (b : ℕ) (bytes : List ℕ) (list : Option (List Operation)) → HomeAnswer p.log new lock bytes (Some (step.Write b))
       → MayWrite p b bytes → GainsWrite p b bytes list → Step time p (with_write p b bytes list new (trace.WriteHome 1 b))
   Rests : (new : LogValue) (list : Option (List Operation)) → p.next ≡ Anything → (IsHeaded p.log.flush → ⊥) → Settles p.log new → GainsBarrier p list → Step time p (with_barrier p list new)
   -- it unmounts: from now on it answers no call, and what it does is to flush, and to bring blocks home
