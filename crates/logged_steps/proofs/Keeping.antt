@@ -1,6 +1,6 @@
 -- Whatever steps the node makes, it stays one alone on an image with its log.
 use Rattle.std.proofs.Common.{◌≡◌, ℕ, inl, inr, Bool, true, false, List, [], ◌∷◌, ◌++◌, length, Option, None, Some, refl, sym, ap, subst, ◌∙◌}
-use Rattle.std.specs.Prelude.{IsTrue, ◌==◌, ◌&&◌, if◌then◌else◌, not, unwrap_or}
+use Rattle.std.specs.Prelude.{IsTrue, ◌==◌, ◌≢◌, ◌&&◌, if◌then◌else◌, not, unwrap_or}
 use Rattle.std.specs.FinMap as table
 use Rattle.std.specs.FinMap.{nat_cmp-IsAntisymmetric}
 use Rattle.std.specs.List.{AllByRecursion}
@@ -36,12 +36,13 @@ use Rattle.call_blocks.specs.Lone.{IsItsAnswer, ItsBlocksMayChange, MayChangeBeh
 use Rattle.lone_view.specs.Seeing.{Lone, seen_alone}
 use Rattle.run_rules.specs.Follows as run
 use Rattle.script_lang.specs.declared.script.Client.{Client}
-use Rattle.shared_disk.specs.Disk.{DiskState, IsSound, after_barrier, flight_to, read_gives}
+use Rattle.shared_disk.specs.Disk.{DiskState, Flight, IsSound, after_barrier, flight_to, read_gives, with_value}
+use Rattle.trace_text.specs.declared.item.TraceItem.{TraceItem}
 use Rattle.trace_text.specs.declared.item.TraceItem.TheVariants as trace
 use Rattle.tree_histories.specs.Trees.{Told, history_of}
 use Rattle.logged_steps.specs.Answers.{IsDoneBy}
 use Rattle.logged_steps.specs.Laws.{IsLoggedAt, OthersRest, StepsKeep}
-use Rattle.logged_steps.specs.Points.{Point, call_item, state_of}
+use Rattle.logged_steps.specs.Points.{Anything, ItsNoSpace, Next, Point, call_item, state_of, telling}
 use Rattle.logged_steps.specs.Steps.{Step, Reads, Answers, AnswersQuietly, Syncs, TellsFull, HasNoSpace, BeginsFlush, BeginsHeader, WritesLog, EndsBlocks, WritesHead, EndsFlush, Commits, GoesHome, Rests, Unmounts, Here, Then}
 use Rattle.logged_steps.proofs.Disks.{flies_besides, landed_as, others_still, sound_barrier, sound_write}
 use Rattle.logged_steps.proofs.Histories.{with_next, with_other}
@@ -133,6 +134,24 @@ module _ (calls_are_logged : CallsAreLogged) (quiet_calls_are_logged : QuietCall
     its : IsItsView v st (seen_alone p.view)
     its = record { volume = at.volume; blocks = λ b. refl }
 
+    -- whatever is in flight of the node's own, nothing is of any other's
+    others_rest : (own : List Flight) (j : ℕ) → j ≢ 1 → with_value p.disk.in_flight 1 own j ≡ []
+    others_rest own j off = others_still p.disk.in_flight own [] j off (at.others j off)
+
+    -- a step that only tells an item, which is no call's
+    tells_only : (item : TraceItem) (unmounts : Bool) (next : Next) → run.history_of clients (item ∷ []) ≡ []
+        → IsLoggedAt v s d clients (record p { items = telling p item; unmounts = unmounts; next = next })
+    tells_only item unmounts next none = record {
+      tells = at.tells;
+      sound = at.sound;
+      others = at.others;
+      world = at.world;
+      is = at.is;
+      volume = at.volume;
+      history = with_other clients p.items item none ∙ at.history;
+      may = at.may;
+    }
+
     -- a step that answers no call
     stays : (q : Point) → IsTrue q.disk.tells → IsSound q.disk → OthersRest q.disk → q.view ≡ p.view → run.history_of clients q.items ≡ run.history_of clients p.items → (stay : StaysLogged v s at.world d (state_of q))
         → MayChangeThere v stay.world (image_of q.disk) → IsLoggedAt v s d clients q
@@ -220,16 +239,7 @@ module _ (calls_are_logged : CallsAreLogged) (quiet_calls_are_logged : QuietCall
         let logged = syncs_are_logged v s at.world d st (run.place_of clients name) at.is low in
         answers _ name calls.Sync replies.Ok logged.world refl refl at.volume logged.is logged.items
         (may_without_calls v at.world logged.world (image_of p.disk) logged.now at.may)
-    one _ (TellsFull ok call need free spaceless low) = record {
-      tells = at.tells;
-      sound = at.sound;
-      others = at.others;
-      world = at.world;
-      is = at.is;
-      volume = at.volume;
-      history = with_other clients p.items (trace.Full 1 need free) refl ∙ at.history;
-      may = at.may;
-    }
+    one _ (TellsFull ok call need free spaceless low) = tells_only (trace.Full 1 need free) p.unmounts (ItsNoSpace call need free) refl
     one _ (HasNoSpace name call need free awaited spaceless ends) =
         let logged = spaceless_calls_are_logged v s at.world d st (seen_alone p.view) (run.place_of clients name) call at.is its spaceless.takes (λ im o l t of. taken_by (seen_alone p.view) call t need free spaceless.takes im o l (spaceless.few im o l t of)) in
         answers _ name call replies.NoSpace logged.world refl refl at.volume logged.is logged.items
@@ -242,42 +252,24 @@ module _ (calls_are_logged : CallsAreLogged) (quiet_calls_are_logged : QuietCall
         stays _ at.tells at.sound at.others refl refl logged (on_same logged.world logged.now)
     one _ (WritesLog new f b bytes list flush numbers step may gains) =
         let logged = blocks_are_written v s at.world d st new f b bytes _ at.is flush numbers step (flies_besides p b bytes may at.sound) in
-        stays _ at.tells (sound_write p b bytes may at.sound) (λ j off. others_still p.disk.in_flight _ [] j off (at.others j off)) refl (with_other clients p.items (trace.WriteLog 1 b) refl) logged (on_same logged.world logged.now)
+        stays _ at.tells (sound_write p b bytes may at.sound) (others_rest _) refl (with_other clients p.items (trace.WriteLog 1 b) refl) logged (on_same logged.world logged.now)
     one _ (EndsBlocks new f done bytes list flush stage step gains) =
         let logged = first_barriers_settle v s at.world d st new f done bytes _ at.is flush stage step (landed_as p.disk at.tells at.sound) in
-        stays _ at.tells (sound_barrier p.disk at.tells at.sound) (λ j off. others_still p.disk.in_flight _ [] j off (at.others j off)) refl (with_other clients p.items (trace.Barrier 1) refl) logged (behind_barrier logged.world logged.now)
+        stays _ at.tells (sound_barrier p.disk at.tells at.sound) (others_rest _) refl (with_other clients p.items (trace.Barrier 1) refl) logged (behind_barrier logged.world logged.now)
     one _ (WritesHead new f b sequence bytes list flush numbers step may gains) =
         let logged = headers_are_written v s at.world d st new f b sequence bytes _ at.is flush numbers step (flies_besides p b bytes may at.sound) in
-        stays _ at.tells (sound_write p b bytes may at.sound) (λ j off. others_still p.disk.in_flight _ [] j off (at.others j off)) refl (with_other clients p.items (trace.WriteHead 1 b sequence p.numbers.begun) refl) logged (on_same logged.world logged.now)
+        stays _ at.tells (sound_write p b bytes may at.sound) (others_rest _) refl (with_other clients p.items (trace.WriteHead 1 b sequence p.numbers.begun) refl) logged (on_same logged.world logged.now)
     one _ (EndsFlush new f tail bytes list flush numbers stage step gains) =
         let logged = last_barriers_land v s at.world d st new f tail bytes _ at.is flush numbers stage step (landed_as p.disk at.tells at.sound) in
-        stays _ at.tells (sound_barrier p.disk at.tells at.sound) (λ j off. others_still p.disk.in_flight _ [] j off (at.others j off)) refl (with_other clients p.items (trace.Barrier 1) refl) logged (behind_barrier logged.world logged.now)
-    one _ (Commits b awaited ends) = record {
-      tells = at.tells;
-      sound = at.sound;
-      others = at.others;
-      world = at.world;
-      is = at.is;
-      volume = at.volume;
-      history = with_other clients p.items (trace.Commit 1 p.log.sequence p.numbers.low) refl ∙ at.history;
-      may = at.may;
-    }
+        stays _ at.tells (sound_barrier p.disk at.tells at.sound) (others_rest _) refl (with_other clients p.items (trace.Barrier 1) refl) logged (behind_barrier logged.world logged.now)
+    one _ (Commits b awaited ends) = tells_only (trace.Commit 1 p.log.sequence p.numbers.low) p.unmounts Anything refl
     one _ (GoesHome ok new lock b bytes list answer may gains) =
         let logged = blocks_go_home v s at.world d st new lock b bytes _ at.is answer (flies_besides p b bytes may at.sound) in
-        stays _ at.tells (sound_write p b bytes may at.sound) (λ j off. others_still p.disk.in_flight _ [] j off (at.others j off)) refl (with_other clients p.items (trace.WriteHome 1 b) refl) logged (on_same logged.world logged.now)
+        stays _ at.tells (sound_write p b bytes may at.sound) (others_rest _) refl (with_other clients p.items (trace.WriteHome 1 b) refl) logged (on_same logged.world logged.now)
     one _ (Rests new list ok no_header settles gains) =
         let logged = barriers_settle v s at.world d st new _ at.is no_header settles (landed_as p.disk at.tells at.sound) in
-        stays _ at.tells (sound_barrier p.disk at.tells at.sound) (λ j off. others_still p.disk.in_flight _ [] j off (at.others j off)) refl (with_other clients p.items (trace.Barrier 1) refl) logged (behind_barrier logged.world logged.now)
-    one _ (Unmounts ok) = record {
-      tells = at.tells;
-      sound = at.sound;
-      others = at.others;
-      world = at.world;
-      is = at.is;
-      volume = at.volume;
-      history = with_other clients p.items (trace.Unmount 1) refl ∙ at.history;
-      may = at.may;
-    }
+        stays _ at.tells (sound_barrier p.disk at.tells at.sound) (others_rest _) refl (with_other clients p.items (trace.Barrier 1) refl) logged (behind_barrier logged.world logged.now)
+    one _ (Unmounts ok) = tells_only (trace.Unmount 1) true p.next refl
 
   pub steps_keep : StepsKeep
   steps_keep v s d clients time p _ at Here = at
