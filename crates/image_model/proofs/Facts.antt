@@ -23,7 +23,7 @@ pub claims_used : (im : Image) (by c : ℕ) (o : Owner) → Claims im by c o →
 claims_used im _ _ _ root = tt
 claims_used im _ _ _ master = tt
 claims_used im _ _ _ (below by a o b k level first c claim dinode leads) = tt
-claims_used im _ _ _ (first_leaf by a o i claim dinode hashed low) = tt
+claims_used im _ _ _ (first_leaf by a o i claim dinode hashed low some) = tt
 claims_used im _ _ _ (next_leaf by x a hash place claim more) = tt
 claims_used im _ _ _ (in_dinode by a o r claim dinode dir plain there name) = tt
 claims_used im _ _ _ (in_leaf by x a hash place r claim there name) = tt

@@ -14,7 +14,7 @@ use Rattle.gfs2_layout.specs.Inode.{content_of}
 use Rattle.image_model.specs.Groups.{groups_in, entry_length, IsGroupAt, IsListed, IsNear, GroupFits, end_of}
 use Rattle.image_model.specs.Image.{Image}
 use Rattle.image_model.specs.Listing.{RiseFrom, end_after}
-use Rattle.image_model.specs.Rules.{Breaks, unfit, not_rising, bare}
+use Rattle.image_model.specs.Rules.{Breaks, IsSoundList, unfit, not_rising, bare}
 use Rattle.shared_disk.proofs.FlightLaws.{all_append}
 
 -- ---- the list, entry by entry
@@ -154,8 +154,10 @@ module _ (im : Image) (groups : List Rindex) (b : ℕ) where
       subst (AllByRecursion far) (take-append-drop k groups) (all_append far (take k groups) (drop k groups) past ahead)
 
   -- the block lies behind the last group that is near it, and before the next
-  pub bare_at : (k : ℕ) → IsCoveredTo im groups k b → ((g : Rindex) → HasGroup im g → IsListed groups g) → b < im.count → b < 2 ^ 64 - 1 → AllByRecursion far (drop k groups) → Breaks im 18 b
-  bare_at k to known within small ahead = bare b to.above within (λ g has near. let at = known g has in all_at far groups at.0 g (all_far k to small ahead) at.1 near)
+  pub bare_at : (k : ℕ) → IsCoveredTo im groups k b → IsSoundList im groups → 1 ≤ length groups → b < im.count → b < 2 ^ 64 - 1 → AllByRecursion far (drop k groups)
+      → ((c : ℕ) → superblock_place im.size < c → c < b → (g : Rindex) × IsListed groups g × IsNear g c) → Breaks im 18 b
+  bare_at k to list some within small ahead near =
+      bare b groups list some (record { above = to.above; inside = within; bare = λ g at. all_at far groups at.0 g (all_far k to small ahead) at.1; first = near })
 
   pub ahead_of : (e : ℕ) (g : Rindex) (gs : List Rindex) → RiseFrom im e (g ∷ gs) → b < g.address → AllByRecursion far (g ∷ gs)
   ahead_of e g gs rise before = (λ near. omega (arith, before, near.low), all_from (λ h. end_of g ≤ h.address) far gs (λ h low near. omega (arith, before, low, near.low, grows im g rise.0)) (all_above im (end_of g) gs rise.2))

@@ -64,8 +64,8 @@ module _ (im : Image) (owners : Owners) (l : Layout) (laid : IsLaid im owners l)
   laid_breaks_nothing _ _ (Rules.leaf_too_deep a x has deep) = absurd (omega (arith, deep, inodes.leaf_shallow im owners l laid a x has))
   laid_breaks_nothing _ _ (Rules.chain_depth a x has more d) = d (inodes.chain_deep im owners l laid a x has more)
   laid_breaks_nothing _ _ (Rules.no_leaf a i at low e) = inodes.entry_some im owners l laid a at i low e
-  laid_breaks_nothing _ _ (Rules.pointer_missing a i j at low low' e d) = d (inodes.pointer_there im owners l laid a at i low j low' e)
-  laid_breaks_nothing _ _ (Rules.pointer_astray a i j at low low' e d) = d (system.pointer_right im owners l laid a i j at low low' e)
+  laid_breaks_nothing _ _ (Rules.pointer_missing a i j at low some low' e d) = d (inodes.pointer_there im owners l laid a at i low j low' e)
+  laid_breaks_nothing _ _ (Rules.pointer_astray a i j at low some low' e d) = d (system.pointer_right im owners l laid a i j at low low' e)
   laid_breaks_nothing _ _ (Rules.leaf_entries a x has d) = d (inodes.leaf_counted im owners l laid a x has)
   laid_breaks_nothing _ _ (Rules.leaf_hash a x by hash place r claim there d) = d (inodes.leaf_hashes im owners l laid a x (by, hash, place, claim) r there)
   laid_breaks_nothing _ _ (Rules.comes_again a hash x by by' place later claim other low) = absurd (omega (arith, low, inodes.chain_once im owners l laid a hash x by by' place later claim other))
@@ -78,7 +78,7 @@ module _ (im : Image) (owners : Owners) (l : Layout) (laid : IsLaid im owners l)
   laid_breaks_nothing _ _ (Rules.too_many d is many) = absurd (omega (arith, many, system.list_short im owners l laid d is))
   laid_breaks_nothing _ _ (Rules.unfit d g is at not) = not (system.groups_fit im owners l laid d g is at)
   laid_breaks_nothing _ _ (Rules.not_rising d i j g h is at at' low high) = absurd (omega (arith, high, system.groups_rise im owners l laid d i j g h is at at' low))
-  laid_breaks_nothing _ _ (Rules.bare b low high none) = system.none_bare im owners l laid b low high none
+  laid_breaks_nothing _ _ (Rules.bare b groups list some bare) = system.none_bare im owners l laid b groups list bare
   laid_breaks_nothing _ _ (Rules.blocks_count a blocks has are d) = d (counts.blocks_counted im owners l laid a (has_dinode im owners l laid a has) blocks are)
 
 pub nothing_breaks : (im : Image) (t : Tree) → Stands im t → (rule b : ℕ) → Breaks im rule b → ⊥

@@ -137,7 +137,7 @@ module _ (im : Image) (owners : Owners) (l : Layout) (laid : IsLaid im owners l)
           entry_block (every im a) at.0,
           subst (λ z. Claims im (entry_block (every im a) at.0) z (Chained a hash 0)) same
               (subst (λ z. Claims im (entry_block (every im a) at.0) (entry (every im a) at.0) (Chained a z 0)) begins
-              (first_leaf claim.0 a (owners a) at.0 claim.1 dinode (sym (hashed_is im owners l laid a dinode) ∙ hashed) low)),
+              (first_leaf claim.0 a (owners a) at.0 claim.1 dinode (sym (hashed_is im owners l laid a dinode) ∙ hashed) low (λ e. used_some x (subst IsUsed (sym row) tt) (sym same ∙ e)))),
         )
     leaf_claim (suc place) hash x row =
         let part = chained_part im owners a x hash (suc place) row in

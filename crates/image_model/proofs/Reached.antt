@@ -1,5 +1,5 @@
 -- A look over the image comes to each block that breaks a rule.
-use Rattle.std.proofs.Common.{◌≡◌, ◌==◌, ℕ, suc, ◌+◌, ◌*◌, ◌/◌, ◌<◌, if◌then◌else◌, inl, inr, true, List, refl, sym, ◌∙◌, subst, arith}
+use Rattle.std.proofs.Common.{◌≢◌, ◌≡◌, ◌==◌, ℕ, suc, ◌+◌, ◌*◌, ◌/◌, ◌<◌, if◌then◌else◌, inl, inr, true, List, refl, sym, ◌∙◌, subst, arith}
 use Rattle.std.proofs.lemmas.Bool.{cases_Bool, cond-true, cond-false}
 use Rattle.gfs2_layout.specs.Inode.{Leads, from_dinode, from_block, content_block, entry, entry_block, first_hash, height_in, table_count, unit}
 use Rattle.gfs2_layout.specs.declared.rindex.Rindex.{Rindex}
@@ -61,7 +61,7 @@ module _ (im : Image) where
   claimer _ _ _ root = the_superblock
   claimer _ _ _ master = the_superblock
   claimer _ _ _ (below by a o b k level first c claim dinode leads) = pointing by a o b k level first c claim dinode leads
-  claimer _ _ _ (first_leaf by a o i claim dinode hashed low) = entry_place a i (o, record { by = by; claimed = claim; dinode = dinode })
+  claimer _ _ _ (first_leaf by a o i claim dinode hashed low some) = entry_place a i (o, record { by = by; claimed = claim; dinode = dinode })
   claimer _ _ _ (next_leaf by x a hash place claim more) = by_claim by x (Chained a hash place) claim
   claimer _ _ _ (in_dinode by a o r claim dinode dir plain there name) = by_claim by a o claim
   claimer _ _ _ (in_leaf by x a hash place r claim there name) = by_claim by x (Chained a hash place) claim
@@ -71,16 +71,16 @@ module _ (im : Image) where
 
   needs : (b kind format : ℕ) → Needs im b kind format → IsReached im b
   needs _ _ _ of_superblock = the_superblock
-  needs _ _ _ (of_group g has) = header_of g has
-  needs _ _ _ (of_bitmap g k has some low) = in_group g (g.address + k) has (inr (inl (record { low = omega arith; high = omega (arith, low) })))
+  needs _ _ _ (of_group g has fits) = header_of g has
+  needs _ _ _ (of_bitmap g k has fits some low) = in_group g (g.address + k) has (inr (inl (record { low = omega arith; high = omega (arith, low) })))
   needs _ _ _ (of_dinode a has) = inode a has
   needs _ _ _ (of_indirect by a x b k level first claim) = by_claim by x (Below a b k (suc level) first) claim
   needs _ _ _ (of_table by a x b k first claim dir) = by_claim by x (Below a b k 0 first) claim
   needs _ _ _ (Rules.of_leaf a x has) = leaf a x has
 
-  first_of : (a i : ℕ) → IsHashedAt im a → i < table_count (every im a) → IsReached im (entry (every im a) i)
-  first_of a i at low =
-      by_claim (entry_block (every im a) i) (entry (every im a) i) (Chained a (first_hash (every im a) i) 0) (first_leaf at.0.1.by a at.0.0 i at.0.1.claimed at.0.1.dinode at.1 low)
+  first_of : (a i : ℕ) → IsHashedAt im a → i < table_count (every im a) → entry (every im a) i ≢ 0 → IsReached im (entry (every im a) i)
+  first_of a i at low some =
+      by_claim (entry_block (every im a) i) (entry (every im a) i) (Chained a (first_hash (every im a) i) 0) (first_leaf at.0.1.by a at.0.0 i at.0.1.claimed at.0.1.dinode at.1 low some)
 
   pub broken_reached : (rule b : ℕ) → Breaks im rule b → IsReached im b
   broken_reached _ _ (Rules.no_superblock low) = the_superblock
@@ -124,7 +124,7 @@ module _ (im : Image) where
           of_area a _ _ (of_leaf x has) = leaf_directory has.0 x a has.1 has.2 has.3
             where
               leaf_directory : (by x a hash place : ℕ) → Claims im by x (Chained a hash place) → IsReached im a
-              leaf_directory _ _ _ _ _ (first_leaf by a o i claim dinode hashed low) = by_claim by a o claim
+              leaf_directory _ _ _ _ _ (first_leaf by a o i claim dinode hashed low some) = by_claim by a o claim
               leaf_directory _ _ _ _ _ (next_leaf by x a hash place claim more) = leaf_directory by x a hash place claim
   broken_reached _ _ (Rules.other_dots a x o r at has e d) = by_claim at.by a o at.claimed
   broken_reached _ _ (Rules.other_kind a x r has d) = record_in a x r has
@@ -139,8 +139,8 @@ module _ (im : Image) where
   broken_reached _ _ (Rules.leaf_too_deep a x has deep) = leaf a x has
   broken_reached _ _ (Rules.chain_depth a x has more d) = by_claim x _ (Chained a has.1 (has.2 + 1)) (next_leaf has.0 x a has.1 has.2 has.3 more)
   broken_reached _ _ (Rules.no_leaf a i at low e) = entry_place a i at.0
-  broken_reached _ _ (Rules.pointer_missing a i j at low low' e d) = first_of a i at low
-  broken_reached _ _ (Rules.pointer_astray a i j at low low' e d) = first_of a i at low
+  broken_reached _ _ (Rules.pointer_missing a i j at low some low' e d) = first_of a i at low some
+  broken_reached _ _ (Rules.pointer_astray a i j at low some low' e d) = first_of a i at low some
   broken_reached _ _ (Rules.leaf_entries a x has d) = leaf a x has
   broken_reached _ _ (Rules.leaf_hash a x by hash place r claim there d) = by_claim by x (Chained a hash place) claim
   broken_reached _ _ (Rules.comes_again a hash x by by' place later claim other low) = by_claim by x (Chained a hash place) claim
@@ -153,5 +153,5 @@ module _ (im : Image) where
   broken_reached _ _ (Rules.too_many d is many) = named _ d _ is
   broken_reached _ _ (Rules.unfit d g is at not) = named _ d _ is
   broken_reached _ _ (Rules.not_rising d i j g h is at at' low high) = named _ d _ is
-  broken_reached _ _ (Rules.bare b low high none) = left_out b low none
+  broken_reached _ _ (Rules.bare b groups list listed bare) = left_out b groups list bare.above bare.bare
   broken_reached _ _ (Rules.blocks_count a blocks has are d) = inode a has

@@ -108,7 +108,7 @@ module _ (im : Image) (owners : Owners) (l : Layout) (laid : IsLaid im owners l)
   claim_row _ _ _ (below by a o b k level first c claim dinode leads) =
       let d : is_dinode (owners a) ≡ true = ap is_dinode (claim_row by a o claim) ∙ dinode in
       pointed_owner im owners a c b k level first (leads_child a d b k level first c leads).part
-  claim_row _ _ _ (first_leaf by a o i claim dinode hashed low) =
+  claim_row _ _ _ (first_leaf by a o i claim dinode hashed low some) =
       let d : is_dinode (owners a) ≡ true = ap is_dinode (claim_row by a o claim) ∙ dinode in
       let so : is_hashed_in (holding im owners a) ≡ true = hashed_is a d ∙ hashed in
       ap owners (sym (entry_same im owners a d (sound a d) i))

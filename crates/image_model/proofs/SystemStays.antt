@@ -164,15 +164,15 @@ module _ (s n : ℕ) (f g : Blocks) where
     -- ---- the leaves and the names of a directory of both
 
     leaf_alike : (d : ℕ) → IsSystemFile first_image d → IsSystemFile other_image d → (by x hash place : ℕ) → Claims first_image by x (Chained d hash place) → (by' : ℕ) × Claims other_image by' x (Chained d hash place)
-    leaf_alike _ here there _ _ _ _ (first_leaf by d o i claim dinode hashed low) =
+    leaf_alike _ here there _ _ _ _ (first_leaf by d o i claim dinode hashed low some) =
         let inode = file_inode other_image d there in
         let flags = dinode_same d here there in
         let hashed' : is_hashed_in (every other_image d) ≡ true = ap (λ x. is_directory x && has_hash_flag x) (sym flags) ∙ hashed in
         let depth : depth_in (every first_image d) ≡ depth_in (every other_image d) = ap (λ (x : Dinode). x.depth) flags in
         let to : entry (every first_image d) i ≡ entry (every other_image d) i = ap (u64_at (8 * i)) (content_alike d here there) in
         let claim' = subst (λ x. Claims other_image (entry_block (every other_image d) i) x (Chained d (first_hash (every other_image d) i) 0)) (sym to)
-        (first_leaf inode.1.by d inode.0 i inode.1.claimed inode.1.dinode hashed' (subst (λ m. i < 2 ^ m) depth low)) in
-        let bytes = same (entry (every first_image d) i) (of_leaf d (entry_block (every first_image d) i) (first_hash (every first_image d) i) 0 here (first_leaf by d o i claim dinode hashed low))
+        (first_leaf inode.1.by d inode.0 i inode.1.claimed inode.1.dinode hashed' (subst (λ m. i < 2 ^ m) depth low) (λ e. some (to ∙ e))) in
+        let bytes = same (entry (every first_image d) i) (of_leaf d (entry_block (every first_image d) i) (first_hash (every first_image d) i) 0 here (first_leaf by d o i claim dinode hashed low some))
         (of_leaf d (entry_block (every other_image d) i) (first_hash (every other_image d) i) 0 there claim') in
         let leaf : leaf_of (f (entry (every first_image d) i)) ≡ leaf_of (g (entry (every other_image d) i)) = ap leaf_of bytes ∙ ap (λ x. leaf_of (g x)) to in
         let hash : first_hash (every first_image d) i ≡ first_hash (every other_image d) i = ap₂ (λ (m : ℕ) (x : Leaf). i / 2 ^ (m - x.depth) * 2 ^ (32 - x.depth)) depth leaf in

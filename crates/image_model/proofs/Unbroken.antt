@@ -15,7 +15,7 @@ use Rattle.image_model.specs.Rules.{Needs, of_superblock, of_group, of_bitmap, o
 use Rattle.image_model.proofs.Held.{own_block, block_same, pointed_part, chained_part}
 use Rattle.image_model.proofs.Rows.{sound, directory_is, claim_row, leaf_row, leaf_hashed}
 use Rattle.image_model.proofs.Reach.{used_low, used_claim}
-use Rattle.image_model.proofs.Facts.{has_dinode, has_leaf_row, claimed_used, group_listed, listed_group}
+use Rattle.image_model.proofs.Facts.{has_dinode, has_leaf_row, claimed_used, group_listed, list_of}
 
 module _ (im : Image) (owners : Owners) (l : Layout) (laid : IsLaid im owners l) where
   -- ---- headers
@@ -32,10 +32,10 @@ module _ (im : Image) (owners : Owners) (l : Layout) (laid : IsLaid im owners l)
 
   pub header_there : (b kind format : ℕ) → Needs im b kind format → HasHeader kind format (im.at b)
   header_there _ _ _ of_superblock = laid.super.header
-  header_there _ _ _ (of_group g has) =
+  header_there _ _ _ (of_group g has fits) =
       let at = group_listed im owners l laid g has in
       subst (HasHeader 2 200) (first_block g at) (laid.groups g at).header
-  header_there _ _ _ (of_bitmap g k has some low) =
+  header_there _ _ _ (of_bitmap g k has fits some low) =
       let at = group_listed im owners l laid g has in
       subst (HasHeader 3 300) (group_block g k low) ((laid.groups g at).more k some low)
   header_there _ _ _ (of_dinode a has) =
@@ -66,7 +66,7 @@ module _ (im : Image) (owners : Owners) (l : Layout) (laid : IsLaid im owners l)
   pub in_a_group : (by c : ℕ) (o : Owner) → Claims im by c o → IsOutside im c → ⊥
   in_a_group by c o claim out =
       let g = laid.zoned.placed c (claimed_used im owners l laid by c o claim) in
-      out g.0 (listed_group im owners l laid g.0 g.1) g.2
+      out.2 g.0 (subst (λ gs. IsListed gs g.0) (sym (list_of im owners l laid out.1.inode out.1.rindex) ∙ out.1.listed) g.1) g.2
 
   pub one_owner : (by by' b : ℕ) (o p : Owner) → Claims im by b o → Claims im by' b p → o ≡ p
   one_owner by by' b o p claim other = sym (claim_row im owners l laid by b o claim) ∙ claim_row im owners l laid by' b p other

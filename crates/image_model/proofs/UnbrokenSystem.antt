@@ -1,5 +1,5 @@
 -- An image that stands breaks none of the rules on system files, and none on long files and stray pointers.
-use Rattle.std.proofs.Common.{◌≡◌, ◌≢◌, ℕ, ◌-◌, ◌*◌, ◌/◌, ◌%◌, ◌^◌, ◌<◌, ◌≤◌, true, length, None, Some, Result, Ok, Err, sym, ap, ◌∙◌, subst, arith}
+use Rattle.std.proofs.Common.{List, ◌≡◌, ◌≢◌, ℕ, ◌-◌, ◌*◌, ◌/◌, ◌%◌, ◌^◌, ◌<◌, ◌≤◌, true, length, None, Some, Result, Ok, Err, sym, ap, ◌∙◌, subst, arith}
 use Rattle.std.proofs.lemmas.Nat.{pow_pos}
 use Rattle.std.proofs.Math.Nat.{mul-div_cancel}
 use Rattle.file_tree.specs.Apply.{file_limit}
@@ -17,7 +17,7 @@ use Rattle.log_layout.specs.Transactions.{transactions_of}
 use Rattle.log_layout.specs.declared.log_header.LogHeader.{LogHeader}
 use Rattle.image_model.specs.Stands.{Layout, IsLaid}
 use Rattle.image_model.specs.Claims.{every, IsUnder, itself, by_name, IsRindex, HasGroup, HasJournal}
-use Rattle.image_model.specs.Rules.{IsHashedAt}
+use Rattle.image_model.specs.Rules.{IsFirstBare, IsHashedAt, IsSoundList}
 use Rattle.image_model.proofs.Held.{none_some, some_same}
 use Rattle.image_model.proofs.Listing.{rising, few_groups, groups_count}
 use Rattle.image_model.proofs.Same.{entry_same}
@@ -110,8 +110,10 @@ module _ (im : Image) (owners : Owners) (l : Layout) (laid : IsLaid im owners l)
       let same = list_of im owners l laid d is in
       laid.fit.rise i j g h (subst (λ gs. IsGroupAt gs i g) same at) (subst (λ gs. IsGroupAt gs j h) same at') low
 
-  pub none_bare : (b : ℕ) → superblock_place im.size < b → b < im.count → ((g : Rindex) → HasGroup im g → ¬ (IsNear g b)) → ⊥
-  none_bare b low high bare = let g = laid.fit.rest b low high in bare g.0 (listed_group im owners l laid g.0 g.1) g.2
+  pub none_bare : (b : ℕ) (groups : List Rindex) → IsSoundList im groups → IsFirstBare im groups b → ⊥
+  none_bare b groups list bare =
+      let g = laid.fit.rest b bare.above bare.inside in
+      bare.bare g.0 (subst (λ gs. IsListed gs g.0) (sym (list_of im owners l laid list.inode list.rindex) ∙ list.listed) g.1) g.2
 
   -- ---- pointers of a table
 

@@ -20,7 +20,7 @@ pub data Claims (im : Image) : ℕ → ℕ → Owner → Type 0 where
   master : Claims im (superblock_place im.size) (superblock_in im).master.address Master
   below : (by a : ℕ) (o : Owner) (b k level first c : ℕ) → Claims im by a o → is_dinode o ≡ true → Leads (every im a) b k level first c
       → Claims im b c (Below a b k level first)
-  first_leaf : (by a : ℕ) (o : Owner) (i : ℕ) → Claims im by a o → is_dinode o ≡ true → is_hashed_in (every im a) ≡ true → i < table_count (every im a)
+  first_leaf : (by a : ℕ) (o : Owner) (i : ℕ) → Claims im by a o → is_dinode o ≡ true → is_hashed_in (every im a) ≡ true → i < table_count (every im a) → entry (every im a) i ≢ 0
       → Claims im (entry_block (every im a) i) (entry (every im a) i) (Chained a (first_hash (every im a) i) 0)
   next_leaf : (by x a hash place : ℕ) → Claims im by x (Chained a hash place) → (leaf_in (every im a) x).next ≢ 0
       → Claims im x (leaf_in (every im a) x).next (Chained a hash (place + 1))

@@ -25,19 +25,38 @@ use Rattle.gfs2_layout.specs.Records.{Record, records_in, is_dots}
 use Rattle.gfs2_layout.specs.Exchanges.{directory_count}
 use Rattle.image_model.specs.Stands.{kind_of}
 
--- the header that a place needs
+-- ---- the list of groups
+
+-- These groups are listed in a file that is `rindex`, and they fit, and rise without overlapping.
+pub record IsSoundList (im : Image) (groups : List Rindex) : Type 0 where
+  pub inode : ℕ
+  pub rindex : IsRindex im inode
+  pub listed : groups_in (content_of (every im inode)) ≡ groups
+  pub fit : (g : Rindex) → IsListed groups g → GroupFits im g
+  pub rise : (i j : ℕ) (g h : Rindex) → IsGroupAt groups i g → IsGroupAt groups j h → i < j → end_of g ≤ h.address
+
+-- the first block of the device above the superblock that has none of these groups, and none leaves behind it
+pub record IsFirstBare (im : Image) (groups : List Rindex) (b : ℕ) : Type 0 where
+  pub above : superblock_place im.size < b
+  pub inside : b < im.count
+  pub bare : (g : Rindex) → IsListed groups g → ¬ (IsNear g b)
+  pub first : (c : ℕ) → superblock_place im.size < c → c < b → (g : Rindex) × IsListed groups g × IsNear g c
+
+-- ---- what stands where
+
+-- the header that a place needs; that of a group or its bitmap, where the group fits
 pub data Needs (im : Image) : ℕ → ℕ → ℕ → Type 0 where
   of_superblock : Needs im (superblock_place im.size) 1 100
-  of_group : (g : Rindex) → HasGroup im g → Needs im g.address 2 200
-  of_bitmap : (g : Rindex) (k : ℕ) → HasGroup im g → 0 < k → k < g.length → Needs im (g.address + k) 3 300
+  of_group : (g : Rindex) → HasGroup im g → GroupFits im g → Needs im g.address 2 200
+  of_bitmap : (g : Rindex) (k : ℕ) → HasGroup im g → GroupFits im g → 0 < k → k < g.length → Needs im (g.address + k) 3 300
   of_dinode : (a : ℕ) → HasInode im a → Needs im a 4 400
   of_indirect : (by a x b k level first : ℕ) → Claims im by x (Below a b k (suc level) first) → Needs im x 5 500
   of_table : (by a x b k first : ℕ) → Claims im by x (Below a b k 0 first) → is_directory_in (every im a) ≡ true → Needs im x 7 700
   of_leaf : (a x : ℕ) → HasLeaf im a x → Needs im x 6 600
 
--- the block lies in no group's data blocks
+-- the block lies in no group's data blocks, by a list whose groups fit and rise
 abbrev pub IsOutside : Image → ℕ → Type 0
-IsOutside im c = (g : Rindex) → HasGroup im g → ¬ (IsDataOf g c)
+IsOutside im c = (groups : List Rindex) × IsSoundList im groups × ((g : Rindex) → IsListed groups g → ¬ (IsDataOf g c))
 
 abbrev pub bits_of : Image → Rindex → ℕ → ℕ
 bits_of im g b = state_at (bitmap_of (group_blocks im.at g)) (b - g.data0)
@@ -146,10 +165,10 @@ pub data Breaks (im : Image) : ℕ → ℕ → Type 0 where
   chain_depth : (a x : ℕ) → HasLeaf im a x → (leaf_in (every im a) x).next ≢ 0
       → (leaf_in (every im a) (leaf_in (every im a) x).next).depth ≢ (leaf_in (every im a) x).depth → Breaks im 14 (leaf_in (every im a) x).next
   no_leaf : (a i : ℕ) → IsHashedAt im a → i < table_count (every im a) → entry (every im a) i ≡ 0 → Breaks im 14 (entry_block (every im a) i)
-  pointer_missing : (a i j : ℕ) → IsHashedAt im a → i < table_count (every im a) → j < table_count (every im a)
+  pointer_missing : (a i j : ℕ) → IsHashedAt im a → i < table_count (every im a) → entry (every im a) i ≢ 0 → j < table_count (every im a)
       → index_bits (every im a) (leaf_in (every im a) (entry (every im a) i)).depth j ≡ index_bits (every im a) (leaf_in (every im a) (entry (every im a) i)).depth i
       → entry (every im a) j ≢ entry (every im a) i → Breaks im 14 (entry (every im a) i)
-  pointer_astray : (a i j : ℕ) → IsHashedAt im a → i < table_count (every im a) → j < table_count (every im a)
+  pointer_astray : (a i j : ℕ) → IsHashedAt im a → i < table_count (every im a) → entry (every im a) i ≢ 0 → j < table_count (every im a)
       → entry (every im a) j ≡ entry (every im a) i
       → index_bits (every im a) (leaf_in (every im a) (entry (every im a) i)).depth j ≢ index_bits (every im a) (leaf_in (every im a) (entry (every im a) i)).depth i
       → Breaks im 14 (entry (every im a) i)
@@ -165,14 +184,14 @@ pub data Breaks (im : Image) : ℕ → ℕ → Type 0 where
   -- 17: a journal has a bad chunk; the block is that place's. A hole is no block: it breaks the eighth
   bad_chunk : (j d p : ℕ) (head : LogHeader) → HasJournal im j d → head_in (ring_of (every im d)) ≡ Some head
       → transactions_of (ring_of (every im d)) head ≡ Err p → content_block (every im d) p ≢ 0 → Breaks im 17 (content_block (every im d) p)
-  -- 18: the list of groups is missing, has a part of an entry or more entries than the device has blocks, groups don't fit, rise or lie apart, or a block above the superblock's is in none and isn't one of at most three behind one
+  -- 18: the list of groups is missing, has a part of an entry or more entries than the device has blocks, groups don't fit, rise or lie apart, or, where some are listed and all do, a block above the superblock's, the first, is in none and isn't one of at most three behind one
   no_rindex : ((d : ℕ) → IsRindex im d → ⊥) → Breaks im 18 (master_of im)
   part_of_entry : (d : ℕ) → IsRindex im d → (dinode_in (every im d)).size % entry_length ≢ 0 → Breaks im 18 d
   too_many : (d : ℕ) → IsRindex im d → entry_length * im.count < (dinode_in (every im d)).size → Breaks im 18 d
   unfit : (d : ℕ) (g : Rindex) → IsRindex im d → IsListed (groups_in (content_of (every im d))) g → ¬ (GroupFits im g) → Breaks im 18 d
   not_rising : (d i j : ℕ) (g h : Rindex) → IsRindex im d → IsGroupAt (groups_in (content_of (every im d))) i g → IsGroupAt (groups_in (content_of (every im d))) j h
       → i < j → h.address < end_of g → Breaks im 18 d
-  bare : (b : ℕ) → superblock_place im.size < b → b < im.count → ((g : Rindex) → HasGroup im g → ¬ (IsNear g b)) → Breaks im 18 b
+  bare : (b : ℕ) (groups : List Rindex) → IsSoundList im groups → 1 ≤ length groups → IsFirstBare im groups b → Breaks im 18 b
   -- 19: a dinode's `blocks` isn't the count
   blocks_count : (a : ℕ) (blocks : List ℕ) → HasInode im a → AreWithin im a blocks → (dinode_in (every im a)).blocks ≢ 1 + length blocks → Breaks im 19 a
 
@@ -188,4 +207,4 @@ pub data IsReached (im : Image) : ℕ → Type 0 where
   by_claim : (by b : ℕ) (o : Owner) → Claims im by b o → IsReached im b
   of_content : (a i : ℕ) → HasInode im a → IsReached im (content_block (every im a) i)
   in_group : (g : Rindex) (b : ℕ) → HasGroup im g → (b ≡ g.address) ⊎ (IsHeaderOf g b ⊎ IsDataOf g b) → IsReached im b
-  left_out : (b : ℕ) → superblock_place im.size < b → ((g : Rindex) → HasGroup im g → ¬ (IsNear g b)) → IsReached im b
+  left_out : (b : ℕ) (groups : List Rindex) → IsSoundList im groups → superblock_place im.size < b → ((g : Rindex) → IsListed groups g → ¬ (IsNear g b)) → IsReached im b
