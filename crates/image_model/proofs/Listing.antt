@@ -1,4 +1,6 @@
 -- What is found on going over the list of groups.
+use Rattle.std.proofs.lemmas.Bool.{cases_lt}
+use Rattle.std.proofs.lemmas.Option.{slice_get-get_or}
 use Rattle.std.proofs.Common.{◌≡◌, ℕ, zero, suc, min, ◌^◌, ◌+◌, ◌-◌, ◌*◌, ◌/◌, ◌<◌, ◌≤◌, ◌⊎◌, inl, inr, List, [], ◌∷◌, ◌++◌, length, take, drop, map, get_or, Some, slice_get, Option, None, Ok, refl, sym, ap, ◌∙◌, subst, arith}
 use Rattle.std.proofs.lemmas.List.{length_push, append_assoc, length-drop, drop-drop, drop_more, take-append-drop}
 use Rattle.std.proofs.lemmas.List.FromFn.{length-map-range_with_len}
@@ -143,6 +145,42 @@ pub none_left : {X : Type 0} (P : X → Type 0) (xs : List X) → length xs ≡ 
 none_left P [] none = tt
 none_left P (x ∷ xs) none = absurd (omega (arith, none))
 
+-- groups that rise lie apart
+pub rise_apart : (im : Image) (e : ℕ) (gs : List Rindex) → RiseFrom im e gs → (i j : ℕ) (g h : Rindex) → IsGroupAt gs i g → IsGroupAt gs j h → i < j → end_of g ≤ h.address
+rise_apart im e [] rise i j g h at there low = cc
+rise_apart im e (x ∷ gs) rise i zero g h at there low = absurd (omega (arith, low))
+rise_apart im e (x ∷ gs) rise zero (suc j) g h at there low =
+    let same : end_of x ≡ end_of g = ap end_of (some_is x g at) in
+    omega (arith, same, all_at (λ (y : Rindex). end_of x ≤ y.address) gs j h (all_above im (end_of x) gs rise.2) there)
+  where
+    some_is : (y x : Rindex) → Some y ≡ Some x → y ≡ x
+    some_is y x e = cc
+rise_apart im e (x ∷ gs) rise (suc i) (suc j) g h at there low = rise_apart im (end_of x) gs rise.2 i j g h at there (omega (arith, low))
+
+-- a list that was gone over is a sound one
+pub sound_list : (im : Image) (d : ℕ) (groups : List Rindex) → IsRindex im d → groups ≡ groups_in (content_of (every im d)) → RiseFrom im 0 groups → IsSoundList im groups
+sound_list im d groups is listed rise = record {
+  inode = d;
+  rindex = is;
+  listed = sym listed;
+  fit = λ g at. all_at (GroupFits im) groups at.0 g (all_fit im 0 groups rise) at.1;
+  rise = rise_apart im 0 groups rise;
+}
+
+-- each block above the superblock's and before this one is near a group
+abbrev pub AreNear : Image → List Rindex → ℕ → Type 0
+AreNear im groups end = (b : ℕ) → superblock_place im.size < b → b < end → (g : Rindex) × IsListed groups g × IsNear g b
+
+pub near_none : (im : Image) (groups : List Rindex) (end : ℕ) → end ≤ superblock_place im.size + 1 → AreNear im groups end
+near_none im groups end low b above before = absurd (omega (arith, low, above, before))
+
+pub near_more : (im : Image) (groups : List Rindex) (k b c : ℕ) (d : Rindex) → AreNear im groups b → k < length groups → (get_or groups k d).address ≤ b
+    → c ≡ min (min (end_of (get_or groups k d)) (2 ^ 64 - 1) + 3) (2 ^ 64 - 1) → AreNear im groups c
+near_more im groups k b c d near low reached is x above before = elim (cases_lt x b) [
+  | inl old ↦ near x above old
+  | inr new ↦ (get_or groups k d, (k, slice_get-get_or groups k d low), record { low = omega (arith, new, reached); high = omega (arith, is, before) })
+]
+
 module _ (im : Image) (groups : List Rindex) (b : ℕ) where
   -- no group is near the block
   abbrev pub far : Rindex → Type 0
@@ -154,10 +192,9 @@ module _ (im : Image) (groups : List Rindex) (b : ℕ) where
       subst (AllByRecursion far) (take-append-drop k groups) (all_append far (take k groups) (drop k groups) past ahead)
 
   -- the block lies behind the last group that is near it, and before the next
-  pub bare_at : (k : ℕ) → IsCoveredTo im groups k b → IsSoundList im groups → 1 ≤ length groups → b < im.count → b < 2 ^ 64 - 1 → AllByRecursion far (drop k groups)
-      → ((c : ℕ) → superblock_place im.size < c → c < b → (g : Rindex) × IsListed groups g × IsNear g c) → Breaks im 18 b
-  bare_at k to list some within small ahead near =
-      bare b groups list some (record { above = to.above; inside = within; bare = λ g at. all_at far groups at.0 g (all_far k to small ahead) at.1; first = near })
+  pub bare_at : (k : ℕ) → IsCoveredTo im groups k b → IsSoundList im groups → b < im.count → b < 2 ^ 64 - 1 → AllByRecursion far (drop k groups) → AreNear im groups b → Breaks im 18 b
+  bare_at k to list within small ahead near =
+      bare b groups list (record { above = to.above; inside = within; bare = λ g at. all_at far groups at.0 g (all_far k to small ahead) at.1; first = near })
 
   pub ahead_of : (e : ℕ) (g : Rindex) (gs : List Rindex) → RiseFrom im e (g ∷ gs) → b < g.address → AllByRecursion far (g ∷ gs)
   ahead_of e g gs rise before = (λ near. omega (arith, before, near.low), all_from (λ h. end_of g ≤ h.address) far gs (λ h low near. omega (arith, before, low, near.low, grows im g rise.0)) (all_above im (end_of g) gs rise.2))

@@ -78,7 +78,7 @@ module _ (im : Image) (owners : Owners) (l : Layout) (laid : IsLaid im owners l)
   laid_breaks_nothing _ _ (Rules.too_many d is many) = absurd (omega (arith, many, system.list_short im owners l laid d is))
   laid_breaks_nothing _ _ (Rules.unfit d g is at not) = not (system.groups_fit im owners l laid d g is at)
   laid_breaks_nothing _ _ (Rules.not_rising d i j g h is at at' low high) = absurd (omega (arith, high, system.groups_rise im owners l laid d i j g h is at at' low))
-  laid_breaks_nothing _ _ (Rules.bare b groups list some bare) = system.none_bare im owners l laid b groups list bare
+  laid_breaks_nothing _ _ (Rules.bare b groups list bare) = system.none_bare im owners l laid b groups list bare
   laid_breaks_nothing _ _ (Rules.blocks_count a blocks has are d) = d (counts.blocks_counted im owners l laid a (has_dinode im owners l laid a has) blocks are)
 
 pub nothing_breaks : (im : Image) (t : Tree) → Stands im t → (rule b : ℕ) → Breaks im rule b → ⊥

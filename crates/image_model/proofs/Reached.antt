@@ -153,5 +153,5 @@ module _ (im : Image) where
   broken_reached _ _ (Rules.too_many d is many) = named _ d _ is
   broken_reached _ _ (Rules.unfit d g is at not) = named _ d _ is
   broken_reached _ _ (Rules.not_rising d i j g h is at at' low high) = named _ d _ is
-  broken_reached _ _ (Rules.bare b groups list listed bare) = left_out b groups list bare.above bare.bare
+  broken_reached _ _ (Rules.bare b groups list bare) = left_out b groups list bare.above bare.bare
   broken_reached _ _ (Rules.blocks_count a blocks has are d) = inode a has

@@ -184,14 +184,14 @@ pub data Breaks (im : Image) : ℕ → ℕ → Type 0 where
   -- 17: a journal has a bad chunk; the block is that place's. A hole is no block: it breaks the eighth
   bad_chunk : (j d p : ℕ) (head : LogHeader) → HasJournal im j d → head_in (ring_of (every im d)) ≡ Some head
       → transactions_of (ring_of (every im d)) head ≡ Err p → content_block (every im d) p ≢ 0 → Breaks im 17 (content_block (every im d) p)
-  -- 18: the list of groups is missing, has a part of an entry or more entries than the device has blocks, groups don't fit, rise or lie apart, or, where some are listed and all do, a block above the superblock's, the first, is in none and isn't one of at most three behind one
+  -- 18: the list of groups is missing, has a part of an entry or more entries than the device has blocks, groups don't fit, rise or lie apart, or, where all do, a block above the superblock's, the first, is in none and isn't one of at most three behind one
   no_rindex : ((d : ℕ) → IsRindex im d → ⊥) → Breaks im 18 (master_of im)
   part_of_entry : (d : ℕ) → IsRindex im d → (dinode_in (every im d)).size % entry_length ≢ 0 → Breaks im 18 d
   too_many : (d : ℕ) → IsRindex im d → entry_length * im.count < (dinode_in (every im d)).size → Breaks im 18 d
   unfit : (d : ℕ) (g : Rindex) → IsRindex im d → IsListed (groups_in (content_of (every im d))) g → ¬ (GroupFits im g) → Breaks im 18 d
   not_rising : (d i j : ℕ) (g h : Rindex) → IsRindex im d → IsGroupAt (groups_in (content_of (every im d))) i g → IsGroupAt (groups_in (content_of (every im d))) j h
       → i < j → h.address < end_of g → Breaks im 18 d
-  bare : (b : ℕ) (groups : List Rindex) → IsSoundList im groups → 1 ≤ length groups → IsFirstBare im groups b → Breaks im 18 b
+  bare : (b : ℕ) (groups : List Rindex) → IsSoundList im groups → IsFirstBare im groups b → Breaks im 18 b
   -- 19: a dinode's `blocks` isn't the count
   blocks_count : (a : ℕ) (blocks : List ℕ) → HasInode im a → AreWithin im a blocks → (dinode_in (every im a)).blocks ≢ 1 + length blocks → Breaks im 19 a
 

@@ -24,7 +24,7 @@ above : (im : Image) (by c : ℕ) (o : Owner) → Claims im by c o → HasAbove 
 above im by c o (root) = tt
 above im by c o (master) = tt
 above im by c o (below by' a p b k level first d claim dinode leads) = tt
-above im by c o (first_leaf by' a p i claim dinode hashed low) = hashed
+above im by c o (first_leaf by' a p i claim dinode hashed low some) = hashed
 above im by c o (next_leaf by' x a hash place claim some) = above im by' x (Chained a hash place) claim
 above im by c o (in_dinode by' a p r claim dinode dir plain there name) = dir
 above im by c o (in_leaf by' x a hash place r claim there name) = hashed_directory im a (above im by' x (Chained a hash place) claim)

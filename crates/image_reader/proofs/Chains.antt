@@ -108,15 +108,15 @@ no_leaf_there image inode table i by number fault own hashed of below by_is numb
     subst P own here hashed
 
 pub first_claim : (image : Blocks) (visit : Visit) (table : HashTable) (i by number : ℕ) → IsVisitIn image visit → IsHashedAt (image_at image) visit.inode.block.number
-    → IsTableOf visit.inode table → i < 2 ^ table.depth → by ≡ entry_block (held visit.inode) i → number ≡ u64_at (8 * i) table.bytes.items
+    → IsTableOf visit.inode table → i < 2 ^ table.depth → by ≡ entry_block (held visit.inode) i → number ≡ u64_at (8 * i) table.bytes.items → number ≢ 0
     → Claims (image_at image) by number (Chained visit.inode.block.number (first_hash (held visit.inode) i) 0)
-first_claim image visit table i by number v hashed of below by_is number_is =
+first_claim image visit table i by number v hashed of below by_is number_is some =
     let inode = visit.inode in
     let a = inode.block.number in
     let P : Blocks → Type 0 = λ im. HasInode (image_at im) a → is_hashed_in (every (image_at im) a) ≡ true → Claims (image_at im) by number (Chained a (first_hash (held inode) i) 0) in
     let here : P inode.block.image = λ has is.
-    let plain = first_leaf has.1.by a has.0 i has.1.claimed has.1.dinode is (in_table inode table i of below) in
     let at : number ≡ entry (held inode) i = number_is ∙ entry_is inode table i of in
+    let plain = first_leaf has.1.by a has.0 i has.1.claimed has.1.dinode is (in_table inode table i of below) (λ e. some (at ∙ e)) in
     subst (λ n. Claims (image_at inode.block.image) by n (Chained a (first_hash (held inode) i) 0)) (sym at)
     (subst (λ n. Claims (image_at inode.block.image) n (entry (held inode) i) (Chained a (first_hash (held inode) i) 0)) (sym by_is) plain) in
     subst P v.same here (v.owner, v.at) hashed.1
@@ -138,9 +138,9 @@ same_bits i j run some low high =
     omega (arith, below, above)
 
 pub missing : (image : Blocks) (inode : Inode) (table : HashTable) (i j number run : ℕ) (leaf : Leaf) (fault : ImageFault) → inode.block.image ≡ image → IsHashedAt (image_at image) inode.block.number
-    → IsTableOf inode table → i < 2 ^ table.depth → j < 2 ^ table.depth → number ≡ u64_at (8 * i) table.bytes.items → leaf ≡ leaf_in (held inode) number → run ≡ 2 ^ (table.depth - leaf.depth)
+    → IsTableOf inode table → i < 2 ^ table.depth → j < 2 ^ table.depth → number ≡ u64_at (8 * i) table.bytes.items → number ≢ 0 → leaf ≡ leaf_in (held inode) number → run ≡ 2 ^ (table.depth - leaf.depth)
     → j / run ≡ i / run → u64_at (8 * j) table.bytes.items ≢ number → fault ≡ Damaged number 14 → number < inode.block.image.count → IsTrueOf (image_at image) fault
-missing image inode table i j number run leaf fault own hashed of below j_below number_is leaf_is run_is bits other is inside =
+missing image inode table i j number run leaf fault own hashed of below j_below number_is some leaf_is run_is bits other is inside =
     let h = held inode in
     let at : number ≡ entry h i = number_is ∙ entry_is inode table i of in
     let depth : leaf.depth ≡ (leaf_in h (entry h i)).depth = ap (λ (l : Leaf). l.depth) (leaf_is ∙ ap (leaf_in h) at) in
@@ -149,7 +149,7 @@ missing image inode table i j number run leaf fault own hashed of below j_below 
     let P : Blocks → Type 0 = λ im. IsHashedAt (image_at im) inode.block.number → IsTrueOf (image_at im) fault in
     let here : P inode.block.image = λ has.
     told_at inode.block.image fault (entry h i) 14 (is ∙ ap (λ n. Damaged n 14) at) (subst (λ n. n < inode.block.image.count) at inside)
-    (pointer_missing inode.block.number i j has (in_table inode table i of below) (in_table inode table j of j_below) same (λ e. other (entry_is inode table j of ∙ e ∙ sym at))) in
+    (pointer_missing inode.block.number i j has (in_table inode table i of below) (λ e. some (at ∙ e)) (in_table inode table j of j_below) same (λ e. other (entry_is inode table j of ∙ e ∙ sym at))) in
     subst P own here hashed
 
 -- the first hash of a pointer's chain, by the run of pointers that it is in

@@ -68,7 +68,7 @@ wrong_size inode fault room is dir plain room_is other =
 -- ---- leaves are those of a hashed directory
 
 pub leaf_is_hashed : (im : Image) (by x a hash place : ℕ) → Claims im by x (Chained a hash place) → is_hashed_in (every im a) ≡ true
-leaf_is_hashed im _ _ a _ _ (first_leaf by _ o i claimed dinode hashed low) = hashed
+leaf_is_hashed im _ _ a _ _ (first_leaf by _ o i claimed dinode hashed low some) = hashed
 leaf_is_hashed im _ _ a _ _ (next_leaf by x _ hash place claimed more) = leaf_is_hashed im by x a hash place claimed
 
 pub not_both : (b : Bool) → b ≡ true → b ≡ false → ⊥

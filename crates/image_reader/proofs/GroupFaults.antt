@@ -36,19 +36,19 @@ use Rattle.image_reader.proofs.Inside.{block_inside}
 header_inside : (im : Image) (g : Rindex) → GroupFits im g → g.address < im.count
 header_inside im g fits = omega (arith, fits.some, fits.first, fits.inside)
 
-pub lacks_group_header : (image : Blocks) (block : Block) (g : Rindex) (fault : ImageFault) → fault ≡ Damaged g.address 1 → HasGroup (image_at image) g → block.number ≡ g.address
+pub lacks_group_header : (image : Blocks) (block : Block) (g : Rindex) (fault : ImageFault) → fault ≡ Damaged g.address 1 → GroupFits (image_at image) g → HasGroup (image_at image) g → block.number ≡ g.address
     → block.image ≡ image → ¬ (HasHeader 2 200 ((image_at block.image).at block.number)) → IsTrueOf (image_at image) fault
-lacks_group_header image block g fault is has number same lacks =
+lacks_group_header image block g fault is fits has number same lacks =
     let lacks' : ¬ (HasHeader 2 200 ((image_at image).at g.address))
     = subst (λ n. ¬ (HasHeader 2 200 ((image_at image).at n))) number (subst (λ (b : Blocks). ¬ (HasHeader 2 200 ((image_at b).at block.number))) same lacks) in
-    told_at image fault g.address 1 is (subst (λ n. n < image.count) number (block_inside block image same)) (no_header g.address 2 200 (of_group g has) lacks')
+    told_at image fault g.address 1 is (subst (λ n. n < image.count) number (block_inside block image same)) (no_header g.address 2 200 (of_group g has fits) lacks')
 
-pub lacks_bitmap_header : (image : Blocks) (block : Block) (g : Rindex) (k number : ℕ) (fault : ImageFault) → fault ≡ Damaged number 1 → HasGroup (image_at image) g → 0 < k → k < g.length
+pub lacks_bitmap_header : (image : Blocks) (block : Block) (g : Rindex) (k number : ℕ) (fault : ImageFault) → fault ≡ Damaged number 1 → GroupFits (image_at image) g → HasGroup (image_at image) g → 0 < k → k < g.length
     → number ≡ g.address + k → block.number ≡ number → block.image ≡ image → ¬ (HasHeader 3 300 ((image_at block.image).at block.number)) → IsTrueOf (image_at image) fault
-lacks_bitmap_header image block g k number fault is has some within at here same lacks =
+lacks_bitmap_header image block g k number fault is fits has some within at here same lacks =
     let lacks' : ¬ (HasHeader 3 300 ((image_at image).at (g.address + k)))
     = subst (λ n. ¬ (HasHeader 3 300 ((image_at image).at n))) (here ∙ at) (subst (λ (b : Blocks). ¬ (HasHeader 3 300 ((image_at b).at block.number))) same lacks) in
-    told_at image fault number 1 is (subst (λ n. n < image.count) here (block_inside block image same)) (subst (Breaks (image_at image) 1) (sym at) (no_header (g.address + k) 3 300 (of_bitmap g k has some within) lacks'))
+    told_at image fault number 1 is (subst (λ n. n < image.count) here (block_inside block image same)) (subst (Breaks (image_at image) 1) (sym at) (no_header (g.address + k) 3 300 (of_bitmap g k has fits some within) lacks'))
 
 group_is : (bytes : List ℕ) (h : GroupHeader) → Ok h ≡ group_read bytes → h ≡ group_of bytes
 group_is bytes h e = each (header_fault 128 2 200 bytes) e

@@ -306,7 +306,7 @@ chained_end h entries x chained none z k p has not_open more = elim (same_or_not
 -- every leaf that is reached is claimed
 pub all_claimed : (im : Image) (a : ℕ) (entries : List (Option Claim)) (by x hash place : ℕ) → Claims im by x (Chained a hash place) → AreChained (every im a) entries None
     → ((j : ℕ) → j < table_count (every im a) → HasClaim entries (entry (every im a) j) (Chained a (first_hash (every im a) j) 0)) → HasClaim entries x (Chained a hash place)
-all_claimed im a entries _ _ _ _ (first_leaf by _ o i claimed dinode hashed low) chained headed = headed i low
+all_claimed im a entries _ _ _ _ (first_leaf by _ o i claimed dinode hashed low some) chained headed = headed i low
 all_claimed im a entries _ _ _ _ (next_leaf by x _ hash place claimed more) chained headed =
     chained x hash place (all_claimed im a entries by x hash place claimed chained headed) (λ e. absurd (let f : None ≡ Some x = e in cc)) more
 

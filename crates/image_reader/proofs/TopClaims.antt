@@ -90,9 +90,9 @@ all_entered im entries of_root of_master entire _ _ _ master = (of_master, λ a 
 all_entered im entries of_root of_master entire _ _ _ (below by a o b k level first c claimed dinode leads) =
     let here = entire a o (all_entered im entries of_root of_master entire by a o claimed).0 dinode in
     (here b c (Below a b k level first) (below by a o b k level first c claimed dinode leads) refl, λ d of. subst (λ n. IsEntire im n entries) of here)
-all_entered im entries of_root of_master entire _ _ _ (first_leaf by a o i claimed dinode hashed low) =
+all_entered im entries of_root of_master entire _ _ _ (first_leaf by a o i claimed dinode hashed low some) =
     let here = entire a o (all_entered im entries of_root of_master entire by a o claimed).0 dinode in
-    (here _ _ _ (first_leaf by a o i claimed dinode hashed low) refl, λ d of. subst (λ n. IsEntire im n entries) of here)
+    (here _ _ _ (first_leaf by a o i claimed dinode hashed low some) refl, λ d of. subst (λ n. IsEntire im n entries) of here)
 all_entered im entries of_root of_master entire _ _ _ (next_leaf by x a hash place claimed more) =
     let here = (all_entered im entries of_root of_master entire by x (Chained a hash place) claimed).1 a refl in
     (here _ _ _ (next_leaf by x a hash place claimed more) refl, λ d of. subst (λ n. IsEntire im n entries) of here)

@@ -1,4 +1,5 @@
 -- What claiming a block finds broken.
+use Rattle.image_reader.proofs.MasterFound.{is_contained}
 use Rattle.std.proofs.Common.{◌≡◌, ◌≢◌, ◌⊎◌, Bool, true, false, ℕ, zero, suc, [], ◌∷◌, ◌++◌, ◌<◌, ◌≤◌, List, Bor, Option, Some, None, inl, inr, refl, sym, ap, subst, ◌∙◌, arith}
 use Rattle.std.specs.Prelude.{if◌then◌else◌, Contains, MatchOption, slice_get, slice_set}
 use Rattle.std.specs.List.{All}
@@ -11,7 +12,7 @@ use Rattle.image_model.specs.Image.{Image}
 use Rattle.image_model.specs.Owners.{Owner, Chained}
 use Rattle.image_reader.specs.Owning.{owner_of, AreClaims, AreOneChain, IsClash, IsEmpty}
 use Rattle.image_reader.specs.Reading.{image_at, IsTrueOf}
-use Rattle.image_model.specs.Rules.{Breaks, IsOutside, beyond_device, beyond_groups, two_owners, comes_again}
+use Rattle.image_model.specs.Rules.{Breaks, IsOutside, beyond_device, beyond_groups, two_owners, comes_again, IsSoundList}
 use Rattle.image_reader.specs.Walking.{IsSound, IsOutsideKnown}
 use Rattle.image_reader.specs.declared.image.ImageFault.{ImageFault}
 use Rattle.image_reader.specs.declared.image.ImageFault.TheVariants.{Damaged}
@@ -27,10 +28,10 @@ beyond walk fault by number o is inside claimed past =
     let counted = walk.image.counted in
     told_at walk.image fault _ _ is inside (beyond_device by number o claimed (omega (arith, counted, past)))
 
-outside_of : (im : Image) (groups : Option (Bor (List Rindex))) (number : ℕ) → MatchOption groups (Unit {0}) (λ known. (g : Rindex) → HasGroup im g → Contains known.now g)
+outside_of : (im : Image) (groups : Option (Bor (List Rindex))) (number : ℕ) → MatchOption groups (Unit {0}) (λ known. IsSoundList im known.now)
     → MatchOption groups ⊥ (λ known. All (λ g. ¬ (IsDataOf g number)) known.now) → IsOutside im number
 outside_of im None number all outside = absurd outside
-outside_of im (Some known) number all outside = λ g has inside. All-contains (λ g. ¬ (IsDataOf g number)) known.now g outside (all g has) inside
+outside_of im (Some known) number all outside = (known.now, all, λ g at inside. All-contains (λ g. ¬ (IsDataOf g number)) known.now g outside (is_contained known.now g at) inside)
 
 pub past_groups : (walk : Walk) (fault : ImageFault) (by number : ℕ) (o : Owner) → fault ≡ Damaged by 2 → by < walk.image.count → Claims (image_at walk.image) by number o
     → IsSound walk → IsOutsideKnown walk number → IsTrueOf (image_at walk.image) fault

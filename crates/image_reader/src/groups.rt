@@ -1,3 +1,4 @@
+ghost use Rattle.image_model.specs.Rules.{IsSoundList};
 ghost use Rattle.std.specs.Prelude.{◌≡◌, ◌+◌, ◌-◌, ◌*◌, ◌/◌, ◌^◌, ◌<◌, ◌≤◌, ◌↔◌, ◌++◌, ◌∷◌, List, min, drop, false, length, vec_len, IsTrue, IfOk, IfErr, OnOk};
 ghost use Rattle.std.specs.List.{All};
 ghost use Rattle.image_reader.specs.Bitmaps.{header_of, bits_in, AreAllClaims, Repeats};
@@ -118,7 +119,7 @@ pub(crate) fn list_groups(
 /// That each block above the superblock is near a group: at most three behind each belong to nobody.
 pub(crate) fn check_cover(image: &Blocks<'_>, groups: &[Rindex]) -> Result<(), ImageFault>
     requires rise { RiseFrom (image_at image.now) 0 groups.now }
-    requires known { (g : IndexEntry) → HasGroup (image_at image.now) g → IsListed groups.now g }
+    requires list { IsSoundList (image_at image.now) groups.now }
     ensures damaged { IfErr result (IsTrueOf (image_at image.now)) }
 {
     let mut bare = image.superblock_place() + 1;

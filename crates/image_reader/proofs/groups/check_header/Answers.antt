@@ -5,7 +5,7 @@ use Rattle.image_reader.proofs.groups.check_header.Goals as goal
 
 pub returns-then-not-has_header-clause-damaged : goal.returns-then-not-has_header-clause-damaged
 returns-then-not-has_header-clause-damaged c =
-    lacks_group_header c.args.image.now c.in-Some.block c.args.group.now _ c.damaged.ensures c.requires.listed c.in-Some.ensures.some.0 c.in-Some.ensures.some.1
+    lacks_group_header c.args.image.now c.in-Some.block c.args.group.now _ c.damaged.ensures c.requires.fits c.requires.listed c.in-Some.ensures.some.0 c.in-Some.ensures.some.1
     (lacking _ _ c.if-not-has_header.true c.has_header.ensures)
 
 pub returns-then-not-repeats-clause-damaged : goal.returns-then-not-repeats-clause-damaged

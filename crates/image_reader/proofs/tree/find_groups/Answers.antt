@@ -2,22 +2,22 @@ use Rattle.std.proofs.Common.{◌≡◌, ℕ, List, ap, sym, subst, ◌∙◌}
 use Rattle.gfs2_layout.specs.Inode.{content_of}
 use Rattle.gfs2_layout.specs.declared.rindex.Rindex.{Rindex}
 use Rattle.image_model.specs.Claims.{every, IsRindex, HasGroup}
-use Rattle.image_model.specs.Groups.{groups_in, IsListed}
+use Rattle.image_model.specs.Groups.{groups_in}
+use Rattle.image_model.specs.Rules.{IsSoundList}
 use Rattle.image_reader.specs.Reading.{image_at}
 use Rattle.image_reader.specs.declared.blocks.Blocks.{Blocks}
-use Rattle.image_model.proofs.Listing.{all_fit, all_by_index}
+use Rattle.image_model.proofs.Listing.{all_fit, all_by_index, sound_list}
 use Rattle.image_reader.proofs.MasterFound.{are_groups, are_listed, is_contained}
 use Rattle.image_reader.proofs.tree.find_groups.Goals as goal
 
-pub check_cover-requires-clause-known : goal.check_cover-requires-clause-known
-check_cover-requires-clause-known c =
+pub check_cover-requires-clause-list : goal.check_cover-requires-clause-list
+check_cover-requires-clause-list c =
     let im = image_at c.args.image in
     let d = c.in_ok-rindex.rindex.block.number in
     let same = c.in_ok-rindex.ensures.image ∙ c.in_ok-walk.ensures.image in
     let listed = c.in_ok-groups.ensures.listed ∙ ap groups_in (c.deref.ensures.value ∙ c.in_ok-content.ensures.content ∙ ap (λ (b : Blocks). content_of (every (image_at b) d)) same) in
     let rindex = subst (λ (b : Blocks). IsRindex (image_at b) d) c.in_ok-walk.ensures.image c.in_ok-rindex.ensures.rindex in
-    let only = subst (λ (b : Blocks). (e : ℕ) → IsRindex (image_at b) e → e ≡ d) c.in_ok-walk.ensures.image c.in_ok-rindex.ensures.only in
-    subst (λ (l : List Rindex). (g : Rindex) → HasGroup im g → IsListed l g) (sym c.deref-2.ensures.value) (are_listed im d rindex c.in_ok-groups.groups.items listed only)
+    subst (IsSoundList im) (sym c.deref-2.ensures.value) (sound_list im d c.in_ok-groups.groups.items rindex listed c.in_ok-groups.ensures.rise)
 
 pub returns-clause-fit : goal.returns-clause-fit
 returns-clause-fit c = all_by_index _ c.in_ok-groups.groups.items (all_fit (image_at c.args.image) 0 c.in_ok-groups.groups.items c.in_ok-groups.ensures.rise)
@@ -31,12 +31,11 @@ returns-clause-listed c =
     let rindex = subst (λ (b : Blocks). IsRindex (image_at b) d) c.in_ok-walk.ensures.image c.in_ok-rindex.ensures.rindex in
     are_groups im d rindex c.in_ok-groups.groups.items listed
 
-pub returns-clause-known : goal.returns-clause-known
-returns-clause-known c g has =
+pub returns-clause-list : goal.returns-clause-list
+returns-clause-list c =
     let im = image_at c.args.image in
     let d = c.in_ok-rindex.rindex.block.number in
     let same = c.in_ok-rindex.ensures.image ∙ c.in_ok-walk.ensures.image in
     let listed = c.in_ok-groups.ensures.listed ∙ ap groups_in (c.deref.ensures.value ∙ c.in_ok-content.ensures.content ∙ ap (λ (b : Blocks). content_of (every (image_at b) d)) same) in
     let rindex = subst (λ (b : Blocks). IsRindex (image_at b) d) c.in_ok-walk.ensures.image c.in_ok-rindex.ensures.rindex in
-    let only = subst (λ (b : Blocks). (e : ℕ) → IsRindex (image_at b) e → e ≡ d) c.in_ok-walk.ensures.image c.in_ok-rindex.ensures.only in
-    is_contained c.in_ok-groups.groups.items g (are_listed im d rindex c.in_ok-groups.groups.items listed only g has)
+    sound_list im d c.in_ok-groups.groups.items rindex listed c.in_ok-groups.ensures.rise

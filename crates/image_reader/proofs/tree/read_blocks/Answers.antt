@@ -3,11 +3,12 @@ use Rattle.std.specs.Prelude.{Contains}
 use Rattle.std.specs.List.{All}
 use Rattle.gfs2_layout.specs.declared.rindex.Rindex.{Rindex}
 use Rattle.image_model.specs.Claims.{HasGroup}
+use Rattle.image_model.specs.Rules.{IsSoundList}
 use Rattle.image_reader.specs.Reading.{image_at}
 use Rattle.image_reader.proofs.tree.read_blocks.Goals as goal
 
 pub read_from-requires-clause-listed : goal.read_from-requires-clause-listed
 read_from-requires-clause-listed c = subst (All (HasGroup (image_at c.args.image))) (sym c.deref.ensures.value) c.in_ok-groups.ensures.listed
 
-pub read_from-requires-clause-known : goal.read_from-requires-clause-known
-read_from-requires-clause-known c = subst (λ (l : List Rindex). (g : Rindex) → HasGroup (image_at c.args.image) g → Contains l g) (sym c.deref.ensures.value) c.in_ok-groups.ensures.known
+pub read_from-requires-clause-list : goal.read_from-requires-clause-list
+read_from-requires-clause-list c = subst (IsSoundList (image_at c.args.image)) (sym c.deref.ensures.value) c.in_ok-groups.ensures.list

@@ -28,13 +28,13 @@ pub returns-in_default-clause-damaged : goal.returns-in_default-clause-damaged
 returns-in_default-clause-damaged c =
     beyond c.args.self.now _ c.in_ok-by.by c.pointer-number.result _ c.damaged-in_default.ensures (subst (λ (i : Blocks). c.in_ok-by.by < i.count) c.requires.leaves.going.visited.same c.in_ok-by.ensures.inside)
     (first_claim c.args.self.now.image c.args.visit.now c.args.table.now c.args.i c.in_ok-by.by c.pointer-number.result c.requires.leaves.going.visited c.requires.hashed c.requires.table c.requires.within
-    c.in_ok-by.ensures.block c.pointer-number.ensures) c.in_default.ensures.none
+    c.in_ok-by.ensures.block c.pointer-number.ensures c.if-number-eq0.false) c.in_default.ensures.none
 
 pub read_leaf-requires-clause-leaf : goal.read_leaf-requires-clause-leaf
 read_leaf-requires-clause-leaf c =
     leaf_there c.args.self.now.image c.args.visit.now.inode c.in_ok-by.by c.pointer-number.result c.in-Some.block.number _ 0 c.requires.leaves.going.visited.same c.in-Some.ensures.some.0
     (first_claim c.args.self.now.image c.args.visit.now c.args.table.now c.args.i c.in_ok-by.by c.pointer-number.result c.requires.leaves.going.visited c.requires.hashed c.requires.table c.requires.within
-    c.in_ok-by.ensures.block c.pointer-number.ensures)
+    c.in_ok-by.ensures.block c.pointer-number.ensures c.if-number-eq0.false)
 
 pub returns-then-not-leads_to-clause-damaged : goal.returns-then-not-leads_to-clause-damaged
 returns-then-not-leads_to-clause-damaged c =
@@ -43,7 +43,7 @@ returns-then-not-leads_to-clause-damaged c =
     let start : ℕ = c.args.i - c.args.i % c.run-run.result in
     let room = aligned_run start c.run-run.result c.args.table.now.depth c.in_ok-leaf.leaf.depth c.run-run.ensures (omega (arith, c.requires.within)) (start_whole c.args.i c.run-run.result some) in
     missing c.args.self.now.image c.args.visit.now.inode c.args.table.now c.args.i no.0 c.pointer-number.result c.run-run.result c.in_ok-leaf.leaf _ c.requires.leaves.going.visited.same c.requires.hashed
-    c.requires.table c.requires.within (omega (arith, room, no.1.1)) c.pointer-number.ensures (c.in_ok-leaf.ensures.read ∙ ap (leaf_in (held c.args.visit.now.inode)) c.in-Some.ensures.some.0) c.run-run.ensures
+    c.requires.table c.requires.within (omega (arith, room, no.1.1)) c.pointer-number.ensures c.if-number-eq0.false (c.in_ok-leaf.ensures.read ∙ ap (leaf_in (held c.args.visit.now.inode)) c.in-Some.ensures.some.0) c.run-run.ensures
     (same_bits c.args.i no.0 c.run-run.result some no.1.0 no.1.1) no.1.2 c.damaged-then-not-leads_to.ensures
     (subst (λ n. n < c.args.visit.now.inode.block.image.count) c.in-Some.ensures.some.0 (block_inside c.in-Some.block c.args.visit.now.inode.block.image (c.in-Some.ensures.some.1 ∙ sym c.requires.leaves.going.visited.same)))
 
@@ -56,7 +56,7 @@ head-requires-clause-claimed c =
     (hash_claim c.args.self.now.image c.args.visit.now.inode c.args.table.now c.args.i c.in_ok-by.by c.pointer-number.result c.run-run.result c.first_hash_of.result c.in_ok-leaf.leaf c.requires.table
     c.pointer-number.ensures (c.in_ok-leaf.ensures.read ∙ ap (leaf_in (held c.args.visit.now.inode)) c.in-Some.ensures.some.0) c.run-run.ensures c.first_hash_of.ensures
     (first_claim c.args.self.now.image c.args.visit.now c.args.table.now c.args.i c.in_ok-by.by c.pointer-number.result c.requires.leaves.going.visited c.requires.hashed c.requires.table c.requires.within
-    c.in_ok-by.ensures.block c.pointer-number.ensures))
+    c.in_ok-by.ensures.block c.pointer-number.ensures c.if-number-eq0.false))
 
 pub returns-clause-headed : goal.returns-clause-headed
 returns-clause-headed c j low high =
