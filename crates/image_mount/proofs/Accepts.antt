@@ -56,7 +56,7 @@ record_leads im a _ r (from_leaves leaves dir hashed are) there leads =
 -- a leaf to which the table leads is one of the directory
 pub chain_leaf : (im : Image) (a i place x : ℕ) → IsHashedAt im a → IsInChain (every im a) i place x → (by : ℕ) × Claims im by x (Chained a (first_hash (every im a) i) place)
 chain_leaf im a i _ _ hashed (chain_head low some) =
-    (entry_block (every im a) i, first_leaf hashed.0.1.by a hashed.0.0 i hashed.0.1.claimed hashed.0.1.dinode hashed.1 low)
+    (entry_block (every im a) i, first_leaf hashed.0.1.by a hashed.0.0 i hashed.0.1.claimed hashed.0.1.dinode hashed.1 low some)
 chain_leaf im a i _ _ hashed (chain_next place x chain more) =
     let from = chain_leaf im a i place x hashed chain in
     (x, next_leaf from.0 x a (first_hash (every im a) i) place from.1 more)

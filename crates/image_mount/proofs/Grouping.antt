@@ -21,7 +21,7 @@ use Rattle.image_model.specs.Listing.{RiseFrom, end_after}
 use Rattle.image_model.specs.Profile.{group_length}
 use Rattle.image_model.specs.Rules.{Breaks, part_of_entry}
 use Rattle.image_model.specs.Stands.{Layout}
-use Rattle.image_model.proofs.Listing.{IsCoveredTo, IsPast, all_fit, bare_at, far, all_above, rise_more, end_more, unfit_entry, early_entry, groups_count}
+use Rattle.image_model.proofs.Listing.{IsCoveredTo, IsPast, all_fit, bare_at, far, all_above, rise_more, end_more, unfit_entry, early_entry, groups_count, AreNear, rise_apart, sound_list}
 use Rattle.image_mount.specs.Found.{HasFormat, HasMaster, IsReached}
 use Rattle.image_mount.specs.Groups.{IsListLink, IsListOf, AreGroups}
 use Rattle.image_mount.specs.Looks.{HasHeadedContent, IsLookedAt}
@@ -110,32 +110,7 @@ all_at P (y ∷ xs) zero x all there = subst P (some_is y x there) all.0
     some_is y x same = cc
 all_at P (y ∷ xs) (suc i) x all there = all_at P xs i x all.1 there
 
-rise_apart : (im : Image) (e : ℕ) (gs : List Rindex) → RiseFrom im e gs → (i j : ℕ) (g h : Rindex) → IsGroupAt gs i g → IsGroupAt gs j h → i < j → end_of g ≤ h.address
-rise_apart im e [] rise i j g h at there low = cc
-rise_apart im e (x ∷ gs) rise i zero g h at there low = absurd (omega (arith, low))
-rise_apart im e (x ∷ gs) rise zero (suc j) g h at there low =
-    let same : end_of x ≡ end_of g = ap end_of (some_is x g at) in
-    omega (arith, same, all_at (λ (y : Rindex). end_of x ≤ y.address) gs j h (all_above im (end_of x) gs rise.2) there)
-  where
-    some_is : (y x : Rindex) → Some y ≡ Some x → y ≡ x
-    some_is y x e = cc
-rise_apart im e (x ∷ gs) rise (suc i) (suc j) g h at there low = rise_apart im (end_of x) gs rise.2 i j g h at there (omega (arith, low))
-
 -- ---- they leave few blocks between them
-
--- each block above the superblock's and before this one is near a group
-abbrev pub AreNear : Image → List Rindex → ℕ → Type 0
-AreNear im groups bare = (b : ℕ) → superblock_place im.size < b → b < bare → (g : Rindex) × IsListed groups g × IsNear g b
-
-pub near_none : (im : Image) (groups : List Rindex) (bare : ℕ) → bare ≤ superblock_place im.size + 1 → AreNear im groups bare
-near_none im groups bare low b above before = absurd (omega (arith, low, above, before))
-
-pub near_more : (im : Image) (groups : List Rindex) (k b c : ℕ) (d : Rindex) → AreNear im groups b → k < length groups → (get_or groups k d).address ≤ b
-    → c ≡ min (min (end_of (get_or groups k d)) (2 ^ 64 - 1) + 3) (2 ^ 64 - 1) → AreNear im groups c
-near_more im groups k b c d near low reached is x above before = elim (cases_lt x b) [
-  | inl old ↦ near x above old
-  | inr new ↦ (get_or groups k d, (k, slice_get-get_or groups k d low), record { low = omega (arith, new, reached); high = omega (arith, is, before) })
-]
 
 pub groups_fit : (im : Image) (groups : List Rindex) (bare : ℕ) → RiseFrom im 0 groups → AreNear im groups bare → im.count ≤ bare → GroupsFit im groups
 groups_fit im groups bare rise near all = record {
@@ -162,7 +137,7 @@ pub bare_told : (im : Image) (f : MountFault) (size count list k b : ℕ) (group
 bare_told im f size count list k b groups is of rise some few to near inside ahead =
     let small : b < 2 ^ 64 - 1 = omega (arith, inside, list_few im size count list groups of) in
     subst (RefusesRightly im) (sym is) (
-      record { breaks = bare_at im groups b k to (list_known im size count list groups of) inside small ahead; there = inl inside },
+      record { breaks = bare_at im groups b k to (sound_list im list groups (list_rindex im size count list groups of) (sym (list_groups im size count list groups of)) rise) inside small ahead near; there = inl inside },
       first_bare b (record {
         layout = with_groups of.layout groups;
         listed = record { master = master_with im of.layout groups of.found.master; whole = of.found.whole; listed = of.found.listed ∙ of.groups };

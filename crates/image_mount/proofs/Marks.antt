@@ -14,7 +14,7 @@ use Rattle.image_model.specs.Groups.{groups_in, IsDataOf}
 use Rattle.shared_disk.specs.Disk.{DiskState}
 use Rattle.image_model.specs.Image.{Image}
 use Rattle.image_model.specs.Owners.{Below, Named}
-use Rattle.image_model.specs.Rules.{Breaks, no_superblock, beyond_device, beyond_groups, two_owners, IsOutside}
+use Rattle.image_model.specs.Rules.{Breaks, no_superblock, beyond_device, beyond_groups, two_owners, IsOutside, IsSoundList}
 use Rattle.image_model.specs.Journals.{journal_name}
 use Rattle.image_model.specs.SystemFiles.{IsSystemBlock, of_content, of_superblock}
 use Rattle.image_mount.specs.Found.{HasFormat, IsReached}
@@ -241,12 +241,19 @@ in_groups groups same b is inside =
     (inside.0, (there.0, contains_at same inside.0 there), inside.2)
 
 pub outside_groups : (im : Image) (system : System) (b : ℕ) (groups : List Rindex) → IsSystemOf im system → groups ≡ system.groups.items → All (λ g. ¬ (IsDataOf g b)) groups → IsOutside im b
-outside_groups im system b groups looked same none g has inside =
-    let list : groups_in (content_of (every im has.0)) ≡ groups
-    = ap (λ d. groups_in (content_of (every im d))) (looked.one_rindex has.0 has.1) ∙ looked.names.groups.list.listed ∙ sym same in
-    let at : slice_get groups has.2.0 ≡ Some g = ap (λ gs. slice_get gs has.2.0) (sym list) ∙ has.2.1 in
-    let low = slice_get_within groups has.2.0 g at in
-    subst (λ (h : Rindex). ¬ (IsDataOf h b)) (get_or_from_slice_get groups has.2.0 g g at) (none has.2.0 g low) inside
+outside_groups im system b groups looked same none = (
+  groups,
+  subst (IsSoundList im) (sym same) (record {
+    inode = system.rindex;
+    rindex = looked.names.groups.list.master.rindex;
+    listed = looked.names.groups.list.listed;
+    fit = looked.names.groups.fit.each;
+    rise = looked.names.groups.fit.rise;
+  }),
+  λ g at inside.
+      let low = slice_get_within groups at.0 g at.1 in
+      subst (λ (h : Rindex). ¬ (IsDataOf h b)) (get_or_from_slice_get groups at.0 g g at.1) (none at.0 g low) inside,
+)
 
 pub above_super : (im : Image) (system : System) (b : ℕ) (groups : List Rindex) → IsSystemOf im system → groups ≡ system.groups.items → (g : Rindex) × Contains groups g × IsDataOf g b → b ≢ superblock_place im.size
 above_super im system b groups looked same inside e =

@@ -130,11 +130,11 @@ module _ (im : Image) (inode : Inode) (table : HashTable) (of : IsTableOf im ino
       told im f (entry_block (every im inode.block) i) 14 (is ∙ ap (λ n. fault.Damaged n 14) by_is) of.file.format (subst (IsReached im) by_is inside)
       (no_leaf inode.block i table_hashed (in_table i low) (sym (entry_is i) ∙ sym number_is ∙ none))
 
-  pub first_claim : (i by number : ℕ) → i < 2 ^ table.depth → by ≡ entry_block (every im inode.block) i → number ≡ u64_at (8 * i) table.bytes.items
+  pub first_claim : (i by number : ℕ) → i < 2 ^ table.depth → by ≡ entry_block (every im inode.block) i → number ≡ u64_at (8 * i) table.bytes.items → number ≢ 0
       → Claims im by number (Chained inode.block (first_hash (every im inode.block) i) 0)
-  first_claim i by number low by_is number_is =
-      let plain = first_leaf inode.from inode.block of.file.owner i of.file.claimed of.file.is_inode of.hashed (in_table i low) in
+  first_claim i by number low by_is number_is some =
       let at : number ≡ entry (every im inode.block) i = number_is ∙ entry_is i in
+      let plain = first_leaf inode.from inode.block of.file.owner i of.file.claimed of.file.is_inode of.hashed (in_table i low) (λ e. some (at ∙ e)) in
       subst (λ n. Claims im by n (Chained inode.block (first_hash (every im inode.block) i) 0)) (sym at)
       (subst (λ n. Claims im n (entry (every im inode.block) i) (Chained inode.block (first_hash (every im inode.block) i) 0)) (sym by_is) plain)
 
@@ -149,14 +149,14 @@ module _ (im : Image) (inode : Inode) (table : HashTable) (of : IsTableOf im ino
     pub hash_by_run : (j : ℕ) → number ≡ entry (every im inode.block) j → j / run * 2 ^ (32 - head.depth) ≡ first_hash (every im inode.block) j
     hash_by_run j at = λ k. j / (run_is ∙ (λ m. 2 ^ (of.depth m - depth_of j at m))) k * 2 ^ (32 - depth_of j at k)
 
-    pub missing_told : (j : ℕ) (f : MountFault) → j < 2 ^ table.depth → i - i % run ≤ j → j < i - i % run + run → u64_at (8 * j) table.bytes.items ≢ number → IsReached im number → f ≡ fault.Damaged number 14 → RefusesRightly im f
-    missing_told j f below start end other inside is =
+    pub missing_told : (j : ℕ) (f : MountFault) → j < 2 ^ table.depth → i - i % run ≤ j → j < i - i % run + run → u64_at (8 * j) table.bytes.items ≢ number → number ≢ 0 → IsReached im number → f ≡ fault.Damaged number 14 → RefusesRightly im f
+    missing_told j f below start end other some inside is =
         let h = every im inode.block in
         let bits = same_bits i j run (run_some run (table.depth - head.depth) run_is) start end in
         let here : run ≡ 2 ^ (depth_in h - (leaf_in h (entry h i)).depth) = run_is ∙ (λ k. 2 ^ (of.depth k - depth_of i at_pointer k)) in
         let same : index_bits h (leaf_in h (entry h i)).depth j ≡ index_bits h (leaf_in h (entry h i)).depth i = subst (λ r. j / r ≡ i / r) here bits in
         told im f (entry h i) 14 (is ∙ ap (λ n. fault.Damaged n 14) at_pointer) of.file.format (subst (IsReached im) at_pointer inside)
-        (pointer_missing inode.block i j table_hashed (in_table i low) (in_table j below) same (λ e. other (entry_is j ∙ e ∙ sym at_pointer)))
+        (pointer_missing inode.block i j table_hashed (in_table i low) (λ e. some (at_pointer ∙ e)) (in_table j below) same (λ e. other (entry_is j ∙ e ∙ sym at_pointer)))
 
     -- the leaf of a pointer, where its whole run leads to it
     pub leaf_is : (at : LeafAt) (by hash : ℕ) → IsLeafHead im inode.block number → number ≢ 0 → IsReached im number → by ≡ entry_block (every im inode.block) i → hash ≡ i / run * 2 ^ (32 - head.depth) → at.block ≡ number → at.head ≡ head → at.hash ≡ hash → at.place ≡ 0 → at.pointer ≡ i
@@ -171,7 +171,7 @@ module _ (im : Image) (inode : Inode) (table : HashTable) (of : IsTableOf im ino
           reached = subst (IsReached im) (sym block) inside;
           head = head_same ∙ head_is ∙ ap (λ n. leaf_of (im.at n)) (sym block);
           well = subst (IsLeafHead im inode.block) (sym block) well;
-          claimed = (by, transport (λ k. Claims im by (sym block k) (Chained inode.block (sym mine k) (sym place k))) (first_claim i by number low by_is number_is));
+          claimed = (by, transport (λ k. Claims im by (sym block k) (Chained inode.block (sym mine k) (sym place k))) (first_claim i by number low by_is number_is some_number));
           chain = transport (λ k. IsInChain h (sym pointer k) (sym place k) ((sym at_pointer ∙ sym block) k)) (chain_head (in_table i low) (λ e. some_number (at_pointer ∙ e)));
           hash = mine ∙ ap (first_hash h) (sym pointer);
           some = omega (arith, pointer, some);

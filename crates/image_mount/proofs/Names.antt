@@ -89,7 +89,7 @@ unfolding NamesBy
 names_by im _ _ _ root = tt
 names_by im _ _ _ master = tt
 names_by im _ _ _ (below by a o b k level first c claim dinode leads) = tt
-names_by im _ _ _ (first_leaf by a o i claim dinode hashed low) = tt
+names_by im _ _ _ (first_leaf by a o i claim dinode hashed low some) = tt
 names_by im _ _ _ (next_leaf by x a hash place claim more) = tt
 names_by im _ _ _ (in_dinode by a o r claim dinode dir plain there name) = λ linear. record { entry = r; there = there; named = refl; address = refl; leads = name; directory = dir }
 names_by im _ _ _ (in_leaf by x a hash place r claim there name) = λ linear. absurd (not_both (is_hashed_in (every im a)) (leaf_is_hashed im by x a hash place claim) linear)

@@ -3,8 +3,8 @@ use Rattle.std.specs.List.{AllByRecursion}
 use Rattle.std.proofs.lemmas.List.{length-drop, drop_more}
 use Rattle.gfs2_layout.specs.Device.{superblock_place}
 use Rattle.image_model.specs.Listing.{RiseFrom}
-use Rattle.image_model.proofs.Listing.{far, ahead_of, covered_more, none_left}
-use Rattle.image_mount.proofs.Grouping.{bare_told, list_few, near_none, near_more, groups_fit}
+use Rattle.image_model.proofs.Listing.{far, ahead_of, covered_more, none_left, near_more, near_none}
+use Rattle.image_mount.proofs.Grouping.{bare_told, list_few, groups_fit}
 use Rattle.image_mount.proofs.groups.check_cover.Goals as goal
 
 pub loop-group-init : goal.loop-group-init

@@ -1,9 +1,8 @@
 use Rattle.std.proofs.Common.{ℕ}
 use Rattle.image_model.specs.Image.{Image}
 use Rattle.image_model.specs.Listing.{RiseFrom}
-use Rattle.image_model.proofs.Listing.{IsCoveredTo}
+use Rattle.image_model.proofs.Listing.{AreNear, IsCoveredTo}
 use Rattle.image_mount.specs.Groups.{IsListOf}
-use Rattle.image_mount.proofs.Grouping.{AreNear}
 use Rattle.image_mount.proofs.groups.check_cover.Given as goal
 
 abbrev pub invariant-loop-group : goal.invariant-loop-group

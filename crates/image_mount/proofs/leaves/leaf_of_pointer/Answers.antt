@@ -15,7 +15,7 @@ returns-in_err-head-clause-refused c im inode of at =
     let number = c.pointer-number.ensures in
     refused im _ _ c.from_residual.ensures.1
     (c.in_err-head.ensures.refused im a (ap im.at number ∙ at.is) of.file.format (subst (IsReached im) (sym number) at.reached) of.depth
-    (entry_block (every im a) i, first_hash (every im a) i, 0, first_claim im inode c.args.pointers.now of i (entry_block (every im a) i) c.pointer-number.result c.requires.low refl number))
+    (entry_block (every im a) i, first_hash (every im a) i, 0, first_claim im inode c.args.pointers.now of i (entry_block (every im a) i) c.pointer-number.result c.requires.low refl number (λ e. at.some (sym number ∙ e))))
 
 pub leads_to-requires : goal.leads_to-requires
 leads_to-requires c =
@@ -31,7 +31,7 @@ returns-then-not-leads_to-clause-refused c im inode of at =
     let start : ℕ = c.args.i - c.args.i % c.run-run.result in
     let room = aligned_run start c.run-run.result c.args.pointers.now.depth c.in_ok-head.head.depth c.run-run.ensures (omega (arith, c.requires.low)) (start_whole c.args.i c.run-run.result some) in
     missing_told im inode c.args.pointers.now of c.args.i c.pointer-number.result c.run-run.result c.in_ok-head.head c.requires.low number (c.in_ok-head.ensures.found im (ap im.at number ∙ at.is)) c.run-run.ensures
-    no.0 _ (omega (arith, room, no.1.1)) no.1.0 no.1.1 no.1.2 (subst (IsReached im) (sym number) at.reached) c.damaged.ensures
+    no.0 _ (omega (arith, room, no.1.1)) no.1.0 no.1.1 no.1.2 (λ e. at.some (sym number ∙ e)) (subst (IsReached im) (sym number) at.reached) c.damaged.ensures
 
 pub returns-clause-run : goal.returns-clause-run
 returns-clause-run c =

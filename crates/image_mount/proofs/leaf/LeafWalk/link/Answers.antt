@@ -30,4 +30,4 @@ returns-clause-wanted c im read of walk =
     let i = c.args.self.now.index in
     let low : i < 2 ^ c.args.pointers.now.depth = omega (arith, c.requires, c.if-self-count.false, c.count.ensures) in
     leaf_wanted im c.in_ok-by.by c.pointer-number.result a (first_hash (every im a) i) 0
-    (first_claim im c.args.inode.now c.args.pointers.now of i c.in_ok-by.by c.pointer-number.result low (c.in_ok-by.ensures.found im read of) c.pointer-number.ensures) of.file.format (c.in_ok-by.ensures.reached im read of) of.file.read
+    (first_claim im c.args.inode.now c.args.pointers.now of i c.in_ok-by.by c.pointer-number.result low (c.in_ok-by.ensures.found im read of) c.pointer-number.ensures c.if-number-eq0.false) of.file.format (c.in_ok-by.ensures.reached im read of) of.file.read
