@@ -156,12 +156,12 @@ module _ (s n : ℕ) (f g : Blocks) (d : ℕ) where
 
       module _ (inode : HasInode other_image d) where
         pub leaf_there : (by x hash place : ℕ) → Claims one_image by x (Chained d hash place) → (by' : ℕ) × Claims other_image by' x (Chained d hash place)
-        leaf_there _ _ _ _ (first_leaf by _ o i claim dinode hashed low) =
+        leaf_there _ _ _ _ (first_leaf by _ o i claim dinode hashed low some) =
             let hashed' : is_hashed_in b ≡ true = ap (λ x. is_directory x && has_hash_flag x) (sym same_dinode) ∙ hashed in
             let to = entry_same i in
             let claim' = subst (λ x. Claims other_image (entry_block b i) x (Chained d (first_hash b i) 0)) (sym to)
-            (first_leaf inode.1.by d inode.0 i inode.1.claimed inode.1.dinode hashed' (subst (λ m. i < 2 ^ m) depth_same low)) in
-            let bytes = leaves (entry_block a i) (entry a i) (first_hash a i) 0 (first_leaf by d o i claim dinode hashed low) in
+            (first_leaf inode.1.by d inode.0 i inode.1.claimed inode.1.dinode hashed' (subst (λ m. i < 2 ^ m) depth_same low) (λ e. some (to ∙ e))) in
+            let bytes = leaves (entry_block a i) (entry a i) (first_hash a i) 0 (first_leaf by d o i claim dinode hashed low some) in
             let leaf : leaf_of (f (entry a i)) ≡ leaf_of (g (entry b i)) = ap leaf_of bytes ∙ ap (λ x. leaf_of (g x)) to in
             let hash : first_hash a i ≡ first_hash b i = ap₂ (λ (m : ℕ) (x : Leaf). i / 2 ^ (m - x.depth) * 2 ^ (32 - x.depth)) depth_same leaf in
             (entry_block b i, subst (λ z. Claims other_image (entry_block b i) (entry a i) (Chained d z 0)) (sym hash) claim')
@@ -182,10 +182,10 @@ module _ (s n : ℕ) (f g : Blocks) (d : ℕ) where
 
       module _ (inode : HasInode one_image d) where
         pub leaf_back : (by x hash place : ℕ) → Claims other_image by x (Chained d hash place) → (by' : ℕ) × Claims one_image by' x (Chained d hash place)
-        leaf_back _ _ _ _ (first_leaf by _ o i claim dinode hashed low) =
+        leaf_back _ _ _ _ (first_leaf by _ o i claim dinode hashed low some) =
             let hashed' : is_hashed_in a ≡ true = ap (λ x. is_directory x && has_hash_flag x) same_dinode ∙ hashed in
             let to = entry_same i in
-            let claim' = first_leaf inode.1.by d inode.0 i inode.1.claimed inode.1.dinode hashed' (subst (λ m. i < 2 ^ m) (sym depth_same) low) in
+            let claim' = first_leaf inode.1.by d inode.0 i inode.1.claimed inode.1.dinode hashed' (subst (λ m. i < 2 ^ m) (sym depth_same) low) (λ e. some (sym to ∙ e)) in
             let bytes = leaves (entry_block a i) (entry a i) (first_hash a i) 0 claim' in
             let leaf : leaf_of (f (entry a i)) ≡ leaf_of (g (entry b i)) = ap leaf_of bytes ∙ ap (λ x. leaf_of (g x)) to in
             let hash : first_hash a i ≡ first_hash b i = ap₂ (λ (m : ℕ) (x : Leaf). i / 2 ^ (m - x.depth) * 2 ^ (32 - x.depth)) depth_same leaf in

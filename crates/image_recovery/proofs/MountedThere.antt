@@ -37,7 +37,7 @@ use Rattle.image_recovery.proofs.Ways.{count_is, dinode_is, headed_forth, leads_
 
 -- a directory with a leaf is a hashed one
 chained_hashed : (im : Image) (by x d hash place : ℕ) → Claims im by x (Chained d hash place) → is_hashed_in (every im d) ≡ true
-chained_hashed im _ _ _ _ _ (first_leaf by d o i claim dinode hashed low) = hashed
+chained_hashed im _ _ _ _ _ (first_leaf by d o i claim dinode hashed low some) = hashed
 chained_hashed im _ _ _ _ _ (next_leaf by x d hash place claim more) = chained_hashed im by x d hash place claim
 
 module _ (im : Image) (m : MountedValue) (is : IsMounted im m) (large : 512 ≤ im.size) (g : Blocks) (super : im.at (superblock_place im.size) ≡ g (superblock_place im.size))

@@ -132,25 +132,25 @@ module _ (im : Image) (g : Blocks) (d : ℕ) (fits : Fits (every im d)) (alike :
   content_is i = ap (u64_at (8 * i)) (content_is_same im.size im.count im.at g d fits bytes_same (λ p k level first x leads within. alike x (led p k level first leads within)))
 
   module _ (hashed : is_hashed_in a ≡ true) where
-    entry_has : (i : ℕ) → i < table_count a → HasLeaf im d (entry a i)
-    entry_has i low = (entry_block a i, first_hash a i, 0, first_leaf here.1.by d here.0 i here.1.claimed here.1.dinode hashed low)
+    entry_has : (i : ℕ) → i < table_count a → entry a i ≢ 0 → HasLeaf im d (entry a i)
+    entry_has i low some = (entry_block a i, first_hash a i, 0, first_leaf here.1.by d here.0 i here.1.claimed here.1.dinode hashed low some)
 
-    leaf_at_entry : (i : ℕ) → i < table_count a → leaf_in a (entry a i) ≡ leaf_in b (entry b i)
-    leaf_at_entry i low = ap leaf_of (leaf_same (entry a i) (entry_has i low)) ∙ ap (λ x. leaf_of (g x)) (content_is i)
+    leaf_at_entry : (i : ℕ) → i < table_count a → entry a i ≢ 0 → leaf_in a (entry a i) ≡ leaf_in b (entry b i)
+    leaf_at_entry i low some = ap leaf_of (leaf_same (entry a i) (entry_has i low some)) ∙ ap (λ x. leaf_of (g x)) (content_is i)
 
     low_home : (i : ℕ) → i < table_count b → i < table_count a
     low_home i low = subst (λ n. i < 2 ^ n) (sym depth_is) low
 
-    in_run_home : (i j : ℕ) → i < table_count a → IsInRun b i j → IsInRun a i j
-    in_run_home i j low run =
-        let depth : (leaf_in a (entry a i)).depth ≡ (leaf_in b (entry b i)).depth = ap (λ (x : Leaf). x.depth) (leaf_at_entry i low) in
+    in_run_home : (i j : ℕ) → i < table_count a → entry a i ≢ 0 → IsInRun b i j → IsInRun a i j
+    in_run_home i j low some run =
+        let depth : (leaf_in a (entry a i)).depth ≡ (leaf_in b (entry b i)).depth = ap (λ (x : Leaf). x.depth) (leaf_at_entry i low some) in
         let to : (k : ℕ) → index_bits a (leaf_in a (entry a i)).depth k ≡ index_bits b (leaf_in b (entry b i)).depth k = λ k. ap₂ (λ (n m : ℕ). k / 2 ^ (n - m)) depth_is depth in
         to j ∙ run ∙ sym (to i)
 
     pointers_forth : (i : ℕ) → LeadsToLeaf a i → i < table_count a → LeadsToLeaf b i
     pointers_forth i is low = record {
       some = λ none. is.some (content_is i ∙ none);
-      run = λ j low' run. sym (content_is j) ∙ is.run j (low_home j low') (in_run_home i j low run) ∙ content_is i;
+      run = λ j low' run. sym (content_is j) ∙ is.run j (low_home j low') (in_run_home i j low is.some run) ∙ content_is i;
     }
 
     is_leaf_forth : (hash x : ℕ) → im.at x ≡ g x → IsLeaf a hash x → IsLeaf b hash x
