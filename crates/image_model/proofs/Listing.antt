@@ -11,7 +11,7 @@ use Rattle.gfs2_layout.specs.Structures.{rindex_of, rindex_read, answer, length_
 use Rattle.gfs2_layout.specs.declared.fault.LayoutFault.{LayoutFault}
 use Rattle.gfs2_layout.specs.declared.rindex.Rindex.{Rindex}
 use Rattle.gfs2_layout.specs.Device.{superblock_place}
-use Rattle.image_model.specs.Claims.{every, IsRindex, HasGroup}
+use Rattle.image_model.specs.Claims.{every, IsRindex}
 use Rattle.gfs2_layout.specs.Inode.{content_of}
 use Rattle.image_model.specs.Groups.{groups_in, entry_length, IsGroupAt, IsListed, IsNear, GroupFits, end_of}
 use Rattle.image_model.specs.Image.{Image}

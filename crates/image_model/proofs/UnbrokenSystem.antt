@@ -8,21 +8,20 @@ use Rattle.gfs2_layout.specs.declared.rindex.Rindex.{Rindex}
 use Rattle.gfs2_layout.specs.declared.dinode.Dinode.{Dinode}
 use Rattle.image_model.specs.Image.{Image, superblock_in}
 use Rattle.image_model.specs.Owners.{Owners, is_dinode, holding}
-use Rattle.image_model.specs.Groups.{IsListed, IsGroupAt, groups_in, entry_length, end_of, IsNear, GroupFits}
-use Rattle.gfs2_layout.specs.Device.{superblock_place}
+use Rattle.image_model.specs.Groups.{IsListed, IsGroupAt, groups_in, entry_length, end_of, GroupFits}
 use Rattle.gfs2_layout.specs.Holding.{InChain, part_at}
 use Rattle.gfs2_layout.specs.Inode.{dinode_in, is_hashed_in, content_block, content_of, table_count, entry, index_bits, first_hash, leaf_in}
 use Rattle.log_layout.specs.Journal.{ring_of, head_in}
 use Rattle.log_layout.specs.Transactions.{transactions_of}
 use Rattle.log_layout.specs.declared.log_header.LogHeader.{LogHeader}
 use Rattle.image_model.specs.Stands.{Layout, IsLaid}
-use Rattle.image_model.specs.Claims.{every, IsUnder, itself, by_name, IsRindex, HasGroup, HasJournal}
+use Rattle.image_model.specs.Claims.{every, IsUnder, itself, by_name, IsRindex, HasJournal}
 use Rattle.image_model.specs.Rules.{IsFirstBare, IsHashedAt, IsSoundList}
 use Rattle.image_model.proofs.Held.{none_some, some_same}
 use Rattle.image_model.proofs.Listing.{rising, few_groups, groups_count}
 use Rattle.image_model.proofs.Same.{entry_same}
 use Rattle.image_model.proofs.Rows.{sound, dinode_is, hashed_is, entry_part, first_hash_is}
-use Rattle.image_model.proofs.Facts.{has_dinode, under_path, leads_row, rindex_is, rindex_dinode, rindex_file, list_of, listed_group, journal_is}
+use Rattle.image_model.proofs.Facts.{has_dinode, under_path, leads_row, rindex_is, rindex_dinode, rindex_file, list_of, journal_is}
 use Rattle.image_model.proofs.Lengths.{size_large, length_content, place_is, places_same, head_same, rings_say_the_same}
 
 module _ (im : Image) (owners : Owners) (l : Layout) (laid : IsLaid im owners l) where

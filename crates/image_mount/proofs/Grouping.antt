@@ -1,10 +1,8 @@
 -- The list of groups: what its file says, that its groups rise, and that no block is far from all of them.
-use Rattle.std.proofs.Common.{◌≡◌, ◌≢◌, ◌⊎◌, inl, inr, ℕ, zero, suc, ◌+◌, ◌-◌, ◌*◌, ◌/◌, ◌%◌, ◌^◌, ◌<◌, ◌≤◌, min, List, [], ◌∷◌, ◌++◌, length, take, drop, get_or, Some, refl, sym, ap, subst, ◌∙◌, arith}
+use Rattle.std.proofs.Common.{◌≡◌, ◌≢◌, ◌⊎◌, inl, ℕ, zero, suc, ◌+◌, ◌-◌, ◌*◌, ◌/◌, ◌%◌, ◌^◌, ◌<◌, ◌≤◌, min, List, [], ◌∷◌, ◌++◌, length, take, drop, get_or, Some, refl, sym, ap, subst, ◌∙◌, arith}
 use Rattle.std.specs.Prelude.{slice_get}
 use Rattle.std.specs.List.{AllByRecursion}
-use Rattle.std.proofs.lemmas.Bool.{cases_lt}
 use Rattle.std.proofs.lemmas.List.{drop_more, take-append-drop, take-take, take_all}
-use Rattle.std.proofs.lemmas.Option.{slice_get-get_or}
 use Rattle.std.proofs.Math.Nat.{div-mul-le_self, mul-le-mul_right, zero-div}
 use Rattle.std.proofs.Math.Seq.{take-suc}
 use Rattle.gfs2_layout.specs.Device.{superblock_place}
@@ -15,13 +13,13 @@ use Rattle.gfs2_layout.specs.declared.rindex.Rindex.{Rindex}
 use Rattle.dinode_tree.specs.Reading.{AreHeaded, content_range, AreWholeBefore, IsRightDinode}
 use Rattle.image_model.specs.Claims.{every, HasGroup, IsRindex}
 use Rattle.gfs2_layout.specs.Bitmap.{bitmap_room}
-use Rattle.image_model.specs.Groups.{groups_in, IsGroupAt, IsListed, IsNear, GroupFits, GroupsFit, end_of}
+use Rattle.image_model.specs.Groups.{groups_in, IsListed, IsNear, GroupFits, GroupsFit, end_of}
 use Rattle.image_model.specs.Image.{Image}
 use Rattle.image_model.specs.Listing.{RiseFrom, end_after}
 use Rattle.image_model.specs.Profile.{group_length}
 use Rattle.image_model.specs.Rules.{Breaks, part_of_entry}
 use Rattle.image_model.specs.Stands.{Layout}
-use Rattle.image_model.proofs.Listing.{IsCoveredTo, IsPast, all_fit, bare_at, far, all_above, rise_more, end_more, unfit_entry, early_entry, groups_count, AreNear, rise_apart, sound_list}
+use Rattle.image_model.proofs.Listing.{IsCoveredTo, IsPast, all_fit, bare_at, far, rise_more, end_more, unfit_entry, early_entry, groups_count, AreNear, rise_apart, sound_list}
 use Rattle.image_mount.specs.Found.{HasFormat, HasMaster, IsReached}
 use Rattle.image_mount.specs.Groups.{IsListLink, IsListOf, AreGroups}
 use Rattle.image_mount.specs.Looks.{HasHeadedContent, IsLookedAt}

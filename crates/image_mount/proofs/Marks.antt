@@ -7,10 +7,10 @@ use Rattle.std.proofs.lemmas.Option.{slice_get-get_or, slice_get_within, get_or_
 use Rattle.std.proofs.lemmas.List.Elements.{Contains-append_left, Contains-push}
 use Rattle.dinode_tree.specs.declared.locating.Located.{Located}
 use Rattle.gfs2_layout.specs.Device.{superblock_place}
-use Rattle.gfs2_layout.specs.Inode.{content_count, content_of}
+use Rattle.gfs2_layout.specs.Inode.{content_count}
 use Rattle.gfs2_layout.specs.declared.rindex.Rindex.{Rindex}
 use Rattle.image_model.specs.Claims.{every, Claims, below}
-use Rattle.image_model.specs.Groups.{groups_in, IsDataOf}
+use Rattle.image_model.specs.Groups.{IsDataOf}
 use Rattle.shared_disk.specs.Disk.{DiskState}
 use Rattle.image_model.specs.Image.{Image}
 use Rattle.image_model.specs.Owners.{Below, Named}

@@ -1,6 +1,6 @@
 -- What shows that a block is on the device: its number in what was read, or that something stands in it, since blocks behind the
 -- device's end hold no bytes.
-use Rattle.std.proofs.Common.{◌≡◌, ◌≢◌, ℕ, ◌+◌, ◌*◌, ◌<◌, ◌≤◌, List, [], length, take, drop, inl, inr, refl, sym, ap, subst, ◌∙◌, arith}
+use Rattle.std.proofs.Common.{◌≡◌, ℕ, ◌+◌, ◌*◌, ◌<◌, ◌≤◌, List, [], take, drop, inl, inr, refl, sym, ap, subst, ◌∙◌, arith}
 use Rattle.std.specs.Prelude.{Contains}
 use Rattle.std.specs.Int.{w64, from_be_bytes}
 use Rattle.std.proofs.lemmas.Bool.{cases_lt}
@@ -9,10 +9,9 @@ use Rattle.std.proofs.Math.Nat.{mul-le-mul_right}
 use Rattle.std.proofs.Math.Seq.{drop-nil, take-nil}
 use Rattle.gfs2_layout.specs.Area.{Slot, slots_of, IsArea}
 use Rattle.gfs2_layout.specs.Bytes.{number_at, u64_at}
-use Rattle.gfs2_layout.specs.Inode.{Leads, from_dinode, from_block, linear_area, leaf_area}
+use Rattle.gfs2_layout.specs.Inode.{Leads, from_dinode, from_block}
 use Rattle.gfs2_layout.specs.Records.{Record, records_in}
 use Rattle.image_model.specs.Claims.{every, HasArea, behind_dinode, of_leaf}
-use Rattle.image_model.specs.Image.{Image}
 use Rattle.image_model.specs.Rules.{Breaks, IsBrokenBlock, HasRecordIn}
 use Rattle.image_model.proofs.Members.{is_in}
 use Rattle.image_reader.specs.Reading.{held, image_at}

@@ -21,7 +21,7 @@ use Rattle.image_reader.specs.declared.directory.Found.{Found}
 use Rattle.image_reader.specs.declared.image.ImageFault.{ImageFault}
 use Rattle.image_reader.specs.declared.image.ImageFault.TheVariants.{Damaged}
 use Rattle.image_reader.specs.declared.inode.Inode.{Inode}
-use Rattle.image_reader.proofs.InodeFaults.{broken, told_at}
+use Rattle.image_reader.proofs.InodeFaults.{told_at}
 use Rattle.image_reader.proofs.Inside.{record_inside, slot_inside}
 use Rattle.image_reader.proofs.Pieces.{dinode_is}
 

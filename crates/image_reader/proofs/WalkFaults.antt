@@ -1,12 +1,12 @@
 -- What claiming a block finds broken.
 use Rattle.image_reader.proofs.MasterFound.{is_contained}
 use Rattle.std.proofs.Common.{◌≡◌, ◌≢◌, ◌⊎◌, Bool, true, false, ℕ, zero, suc, [], ◌∷◌, ◌++◌, ◌<◌, ◌≤◌, List, Bor, Option, Some, None, inl, inr, refl, sym, ap, subst, ◌∙◌, arith}
-use Rattle.std.specs.Prelude.{if◌then◌else◌, Contains, MatchOption, slice_get, slice_set}
+use Rattle.std.specs.Prelude.{if◌then◌else◌, MatchOption, slice_get, slice_set}
 use Rattle.std.specs.List.{All}
 use Rattle.std.proofs.lemmas.Bool.{cases_lt}
 use Rattle.std.proofs.lemmas.List.Elements.{All-contains}
 use Rattle.gfs2_layout.specs.declared.rindex.Rindex.{Rindex}
-use Rattle.image_model.specs.Claims.{Claims, HasGroup}
+use Rattle.image_model.specs.Claims.{Claims}
 use Rattle.image_model.specs.Groups.{IsDataOf}
 use Rattle.image_model.specs.Image.{Image}
 use Rattle.image_model.specs.Owners.{Owner, Chained}

@@ -1,10 +1,10 @@
 -- What a walk over an image holds.
 use Rattle.image_model.specs.Rules.{IsSoundList}
 use Rattle.std.proofs.Common.{Bor}
-use Rattle.std.specs.Prelude.{ℕ, suc, ◌≡◌, ◌⊎◌, Contains, List, Option, MatchOption}
+use Rattle.std.specs.Prelude.{ℕ, suc, ◌≡◌, ◌⊎◌, List, Option, MatchOption}
 use Rattle.std.specs.List.{All}
 use Rattle.gfs2_layout.specs.declared.rindex.Rindex.{Rindex}
-use Rattle.image_model.specs.Claims.{HasGroup, Claims}
+use Rattle.image_model.specs.Claims.{Claims}
 use Rattle.image_model.specs.Groups.{IsDataOf}
 use Rattle.image_reader.specs.Owning.{AreClaims}
 use Rattle.gfs2_layout.specs.Inode.{Leads, height_in, header_length}

@@ -1,4 +1,4 @@
-use Rattle.std.proofs.Common.{◌%◌, ◌*◌, ◌/◌, ◌<◌, ◌≢◌, arith}
+use Rattle.std.proofs.Common.{◌%◌, ◌/◌, ◌<◌, ◌≢◌, arith}
 use Rattle.image_model.specs.Rules.{part_of_entry, too_many}
 use Rattle.image_reader.proofs.InodeFaults.{told_of, said}
 use Rattle.image_reader.proofs.tree.check_entries.Goals as goal

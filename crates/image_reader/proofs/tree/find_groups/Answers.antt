@@ -1,13 +1,12 @@
-use Rattle.std.proofs.Common.{◌≡◌, ℕ, List, ap, sym, subst, ◌∙◌}
+use Rattle.std.proofs.Common.{ap, sym, subst, ◌∙◌}
 use Rattle.gfs2_layout.specs.Inode.{content_of}
-use Rattle.gfs2_layout.specs.declared.rindex.Rindex.{Rindex}
-use Rattle.image_model.specs.Claims.{every, IsRindex, HasGroup}
+use Rattle.image_model.specs.Claims.{every, IsRindex}
 use Rattle.image_model.specs.Groups.{groups_in}
 use Rattle.image_model.specs.Rules.{IsSoundList}
 use Rattle.image_reader.specs.Reading.{image_at}
 use Rattle.image_reader.specs.declared.blocks.Blocks.{Blocks}
 use Rattle.image_model.proofs.Listing.{all_fit, all_by_index, sound_list}
-use Rattle.image_reader.proofs.MasterFound.{are_groups, are_listed, is_contained}
+use Rattle.image_reader.proofs.MasterFound.{are_groups}
 use Rattle.image_reader.proofs.tree.find_groups.Goals as goal
 
 pub check_cover-requires-clause-list : goal.check_cover-requires-clause-list

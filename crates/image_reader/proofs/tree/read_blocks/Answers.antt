@@ -1,7 +1,5 @@
-use Rattle.std.proofs.Common.{List, sym, subst}
-use Rattle.std.specs.Prelude.{Contains}
+use Rattle.std.proofs.Common.{sym, subst}
 use Rattle.std.specs.List.{All}
-use Rattle.gfs2_layout.specs.declared.rindex.Rindex.{Rindex}
 use Rattle.image_model.specs.Claims.{HasGroup}
 use Rattle.image_model.specs.Rules.{IsSoundList}
 use Rattle.image_reader.specs.Reading.{image_at}
