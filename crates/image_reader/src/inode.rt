@@ -2,7 +2,6 @@ ghost use Rattle.std.specs.Prelude.{◌≡◌, ◌≢◌, ◌+◌, ◌-◌, ◌*
 ghost use Rattle.gfs2_layout.specs.Structures.{dinode_of, dinode_length};
 ghost use Rattle.gfs2_layout.specs.Headers.{HasHeader};
 ghost use Rattle.shared_disk.specs.Blocks.{block_in};
-ghost use Rattle.image_reader.specs.Reading.{image_at};
 
 use crate::blocks::Block;
 use crate::image::{ImageFault, damaged};
@@ -17,7 +16,7 @@ pub(crate) struct Inode<'a> {
     pub block: Block<'a>,
     pub dinode: Dinode,
     ghost is: { dinode ≡ dinode_of (block_in block.image.size block.image.bytes.now block.number) },
-    ghost headed: { HasHeader 4 400 ((image_at block.image).at block.number) },
+    ghost headed: { HasHeader 4 400 (block_in block.image.size block.image.bytes.now block.number) },
 }
 
 impl<'a> Inode<'a> {
