@@ -125,7 +125,7 @@ module _ (im : Image) (a : ℕ) (has : HasDirectory im a) (hashed : is_hashed_in
 
   beyond_is : (x : ℕ) → is_beyond x ≡ true → (x ≢ 0) × (im.count ≤ x)
   beyond_is x e = elim (cases_eq x 0) [
-    | inl zero ↦ absurd (true≢false (sym e ∙ cond-true (x == 0) false _ (eq-eqb x 0 zero)))
+    | inl none ↦ absurd (true≢false (sym e ∙ cond-true (x == 0) false _ (eq-eqb x 0 none)))
     | inr some ↦ elim (cases_lt x im.count) [
       | inl low ↦ absurd (true≢false (sym e ∙ cond-false (x == 0) false _ (ne_eqb x 0 some) ∙ cond-true (nat_lt x im.count) false true (lt-ltb x im.count low)))
       | inr beyond ↦ (some, beyond)
@@ -144,7 +144,7 @@ module _ (im : Image) (a : ℕ) (has : HasDirectory im a) (hashed : is_hashed_in
 
   first_is : (x : ℕ) → is_first x ≡ true → (x ≢ 0) × ((i : ℕ) × (i < table_count (every im a)) × (x ≡ entry (every im a) i))
   first_is x e = elim (cases_eq x 0) [
-    | inl zero ↦ absurd (true≢false (sym e ∙ cond-true (x == 0) false _ (eq-eqb x 0 zero)))
+    | inl none ↦ absurd (true≢false (sym e ∙ cond-true (x == 0) false _ (eq-eqb x 0 none)))
     | inr some ↦ (some, head_of x (table_count (every im a)) (sym (cond-false (x == 0) false _ (ne_eqb x 0 some)) ∙ e))
   ]
 
