@@ -1,4 +1,7 @@
 pub mod Points
 pub mod Answers
 pub mod Steps
+pub mod Disks
+pub mod Heads
+pub mod Fails
 pub mod Laws
