@@ -57,10 +57,10 @@ dirty_on clean (g ∷ hs) h = refl
 
 -- ---- which header is in flight
 
-none_begun : (log : LogValue) (begun : ℕ) → log.flush ≡ None → flying_head log begun log.flush ≡ []
+pub none_begun : (log : LogValue) (begun : ℕ) → log.flush ≡ None → flying_head log begun log.flush ≡ []
 none_begun log begun none = ap (flying_head log begun) none
 
-at_stage_of : (log : LogValue) (begun : ℕ) (f : Flush) (stage : Stage) → log.flush ≡ Some f → f.stage ≡ stage → flying_head log begun log.flush ≡ headed_by log begun f stage
+pub at_stage_of : (log : LogValue) (begun : ℕ) (f : Flush) (stage : Stage) → log.flush ≡ Some f → f.stage ≡ stage → flying_head log begun log.flush ≡ headed_by log begun f stage
 at_stage_of log begun f stage some is = ap (flying_head log begun) some ∙ ap (headed_by log begun f) is
 
 unheaded : (log : LogValue) (begun : ℕ) → (IsHeaded log.flush → ⊥) → flying_head log begun log.flush ≡ []

@@ -110,7 +110,7 @@ take_all (suc n) (x ∷ xs) low = ap (λ l. x ∷ l) (take_all n xs (omega (arit
 
 -- ---- what the lists of the two ends tell
 
-left_same : {A : Type 0} (xs ys zs : List A) → xs ++ ys ≡ xs ++ zs → ys ≡ zs
+pub left_same : {A : Type 0} (xs ys zs : List A) → xs ++ ys ≡ xs ++ zs → ys ≡ zs
 left_same [] ys zs e = e
 left_same (x ∷ xs) ys zs e = left_same xs ys zs (tail e)
   where

@@ -1,0 +1,77 @@
+-- Laws of the runs of one node with its log: what remains of one, told by its items.
+use Rattle.std.specs.Prelude.{ℕ, ◌≡◌, ◌≤◌, ◌+◌, ◌++◌, List, [], ◌∷◌, length, take, IsTrue}
+use Rattle.cluster_history.specs.History.{Legal, tree_of}
+use Rattle.cluster_history.specs.Losses.{LossIsRight}
+use Rattle.image_machine.specs.Volumes.{Volume}
+use Rattle.image_model.specs.Image.{Image, image_of}
+use Rattle.image_model.specs.Replays.{StandsReplayed}
+use Rattle.journal_outcomes.specs.Disks.{flown_by}
+use Rattle.journal_outcomes.specs.Images.{IsImageOutcome, NoFalseHeader}
+use Rattle.logged_steps.specs.Fails.{FailsTo}
+use Rattle.logged_steps.specs.Laws.{CameBy}
+use Rattle.logged_steps.specs.Points.{Point}
+use Rattle.logged_steps.specs.Steps.{Steps}
+use Rattle.lone_logs.specs.States.{trees_on}
+use Rattle.lone_machine.specs.Alone.{Begun}
+use Rattle.run_rules.specs.Follows.{history_of}
+use Rattle.run_rules.specs.Lives.{AcceptedHead, DiskHeads, TraceKeptRight, upto_of}
+use Rattle.script_lang.specs.declared.script.Client.{Client}
+use Rattle.shared_disk.specs.Disk.{Flight, IsOutcome, after_fence}
+use Rattle.trace_text.specs.declared.item.TraceItem.{TraceItem}
+use Rattle.trace_text.specs.declared.item.TraceItem.TheVariants as trace
+use Rattle.logged_runs.specs.Heads.{HasFirst, IsAcceptedIn}
+use Rattle.logged_runs.specs.Standing.{StandsAsTold}
+use Rattle.logged_runs.specs.Starts.{BeginsAt, only_life}
+
+-- the node's writes in flight may have become this, with no false header
+pub record MayLeave (v : Volume) (p : Point) (left : Image) : Type 0 where
+  pub outcome : IsImageOutcome (image_of p.disk) (flown_by p.disk 1) left
+  pub no_false : NoFalseHeader (image_of p.disk) v.layout (flown_by p.disk 1) left
+
+-- ---- at a front of the items
+
+-- where the run is, also behind a write that failed and has no item
+abbrev pub WhatRemainsIsTold : Type 0
+WhatRemainsIsTold = (v : Volume) (s : Begun (trees_on v)) (d : ℕ) (clients : List Client) (time : ℕ) (a p q : Point) (disks : DiskHeads) (left : Image) → BeginsAt v s d clients a → Steps time a p → FailsTo time p q
+    → HasFirst v d a disks.behind → MayLeave v q left → IsAcceptedIn v d left (disks.now 1) → StandsAsTold clients disks q.items s.tree left
+
+-- and behind each front of its items, of the disk as it was there
+pub record FrontStands (v : Volume) (s : Begun (trees_on v)) (d : ℕ) (clients : List Client) (time : ℕ) (a p : Point) (count : ℕ) : Type 0 where
+  pub came : CameBy time a p count
+  pub stands : (disks : DiskHeads) (left : Image) → HasFirst v d a disks.behind → MayLeave v came.point left → IsAcceptedIn v d left (disks.now 1)
+      → StandsAsTold clients disks (take count p.items) s.tree left
+
+abbrev pub FrontsStand : Type 0
+FrontsStand = (v : Volume) (s : Begun (trees_on v)) (d : ℕ) (clients : List Client) (time : ℕ) (a p : Point) (count : ℕ) → BeginsAt v s d clients a → Steps time a p → length a.items ≤ count → count ≤ length p.items
+    → FrontStands v s d clients time a p count
+
+-- ---- behind a crash
+
+-- also with the crash, until the fence
+abbrev pub CrashesAreTold : Type 0
+CrashesAreTold = (v : Volume) (s : Begun (trees_on v)) (d : ℕ) (clients : List Client) (time : ℕ) (a p q : Point) (disks : DiskHeads) (left : Image) → BeginsAt v s d clients a → Steps time a p → FailsTo time p q
+    → HasFirst v d a disks.behind → MayLeave v q left → IsAcceptedIn v d left (disks.now 1) → StandsAsTold clients disks (q.items ++ trace.Crash 1 ∷ []) s.tree left
+
+-- these items, and then the crash and the fence; and the loss, which keeps the calls up to k
+abbrev pub fenced : List TraceItem → List TraceItem
+fenced items = items ++ trace.Crash 1 ∷ trace.Fence 1 ∷ []
+
+abbrev pub lost : List TraceItem → ℕ → List TraceItem
+lost items k = items ++ trace.Crash 1 ∷ trace.Fence 1 ∷ trace.Lost 1 k ∷ []
+
+-- With a right loss the history is legal, each loss in it is right, and the image stands, its journals replayed, for its tree.
+pub record StandsLost (clients : List Client) (disks : DiskHeads) (items : List TraceItem) (v : Volume) (s : Begun (trees_on v)) (left : Image) (k : ℕ) : Type 0 where
+  pub legal : Legal (history_of clients (lost items k)) s.tree
+  pub right : TraceKeptRight clients disks.behind (lost items k)
+  pub stands : StandsReplayed left (tree_of (history_of clients (lost items k)) s.tree)
+
+-- Behind the fence the image is that of the disk there, whose head the disks have behind the fence's item: what remains stands, and so it does with a right loss.
+pub record StandsFenced (clients : List Client) (disks : DiskHeads) (items : List TraceItem) (v : Volume) (s : Begun (trees_on v)) (left : Image) : Type 0 where
+  pub told : StandsAsTold clients disks (fenced items) s.tree left
+  pub lost : (k : ℕ) → LossIsRight (history_of clients items) 1 (upto_of disks only_life (fenced items)) k → StandsLost clients disks items v s left k
+
+abbrev pub FencesAreTold : Type 0
+FencesAreTold = (v : Volume) (s : Begun (trees_on v)) (d : ℕ) (clients : List Client) (time : ℕ) (a p q : Point) (disks : DiskHeads) (became : List Flight) → BeginsAt v s d clients a → Steps time a p → FailsTo time p q
+    → IsOutcome q.disk 1 became → HasFirst v d a disks.behind
+    → let left = image_of (after_fence q.disk 1 became) in
+    NoFalseHeader (image_of q.disk) v.layout (flown_by q.disk 1) left → IsAcceptedIn v d left (disks.behind 1 (length (fenced q.items))) → StandsFenced clients disks q.items v s left

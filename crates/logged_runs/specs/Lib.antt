@@ -1,0 +1,4 @@
+pub mod Starts
+pub mod Heads
+pub mod Standing
+pub mod Laws

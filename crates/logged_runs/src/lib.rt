@@ -1,0 +1,35 @@
+//! The runs of one node with its log, told by their items: what remains of one at each front, and what a crash, a fence and a loss leave of it. The functions do
+//! nothing: their contracts are the laws.
+#![tactic(auto)]
+
+ghost use Rattle.logged_runs.specs.Laws.{CrashesAreTold, FencesAreTold, FrontsStand, WhatRemainsIsTold};
+
+use logged_steps::{failed_writes_keep, heads_are_told, steps_are_told, steps_keep};
+use lone_ends::fences_leave_what_remains;
+use lone_logs::what_remains_of_it;
+
+/// A law: behind each front of a run's items, and where a write failed that has no item, each outcome of the disk without a false header stands, its journals replayed,
+/// for the tree of what remains of the items by the journal's head; this is legal, and has what was synced.
+pub fn what_remains_is_told()
+    ensures told { WhatRemainsIsTold }
+    ensures fronts { FrontsStand }
+{
+    steps_keep();
+    failed_writes_keep();
+    heads_are_told();
+    steps_are_told();
+    what_remains_of_it();
+}
+
+/// A law: so it is behind a crash, and behind the fence of the disk that it leaves, also with a right loss.
+pub fn crashes_are_told()
+    ensures crashes { CrashesAreTold }
+    ensures fences { FencesAreTold }
+{
+    steps_keep();
+    failed_writes_keep();
+    heads_are_told();
+    steps_are_told();
+    what_remains_of_it();
+    fences_leave_what_remains();
+}
