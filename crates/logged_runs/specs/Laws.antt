@@ -53,25 +53,25 @@ CrashesAreTold = (v : Volume) (s : Begun (trees_on v)) (d : ℕ) (clients : List
     → HasFirst v d a disks.behind → MayLeave v q left → IsAcceptedIn v d left (disks.now 1) → StandsAsTold clients disks (q.items ++ trace.Crash 1 ∷ []) s.tree left
 
 -- these items, and then the crash and the fence; and the loss, which keeps the calls up to k
-abbrev pub fenced : List TraceItem → List TraceItem
-fenced items = items ++ trace.Crash 1 ∷ trace.Fence 1 ∷ []
+abbrev pub to_fence : List TraceItem → List TraceItem
+to_fence items = items ++ trace.Crash 1 ∷ trace.Fence 1 ∷ []
 
-abbrev pub lost : List TraceItem → ℕ → List TraceItem
-lost items k = items ++ trace.Crash 1 ∷ trace.Fence 1 ∷ trace.Lost 1 k ∷ []
+abbrev pub to_loss : List TraceItem → ℕ → List TraceItem
+to_loss items k = items ++ trace.Crash 1 ∷ trace.Fence 1 ∷ trace.Lost 1 k ∷ []
 
 -- With a right loss the history is legal, each loss in it is right, and the image stands, its journals replayed, for its tree.
 pub record StandsLost (clients : List Client) (disks : DiskHeads) (items : List TraceItem) (v : Volume) (s : Begun (trees_on v)) (left : Image) (k : ℕ) : Type 0 where
-  pub legal : Legal (history_of clients (lost items k)) s.tree
-  pub right : TraceKeptRight clients disks.behind (lost items k)
-  pub stands : StandsReplayed left (tree_of (history_of clients (lost items k)) s.tree)
+  pub legal : Legal (history_of clients (to_loss items k)) s.tree
+  pub right : TraceKeptRight clients disks.behind (to_loss items k)
+  pub stands : StandsReplayed left (tree_of (history_of clients (to_loss items k)) s.tree)
 
 -- Behind the fence the image is that of the disk there, whose head the disks have behind the fence's item: what remains stands, and so it does with a right loss.
 pub record StandsFenced (clients : List Client) (disks : DiskHeads) (items : List TraceItem) (v : Volume) (s : Begun (trees_on v)) (left : Image) : Type 0 where
-  pub told : StandsAsTold clients disks (fenced items) s.tree left
-  pub lost : (k : ℕ) → LossIsRight (history_of clients items) 1 (upto_of disks only_life (fenced items)) k → StandsLost clients disks items v s left k
+  pub told : StandsAsTold clients disks (to_fence items) s.tree left
+  pub lost : (k : ℕ) → LossIsRight (history_of clients items) 1 (upto_of disks only_life (to_fence items)) k → StandsLost clients disks items v s left k
 
 abbrev pub FencesAreTold : Type 0
 FencesAreTold = (v : Volume) (s : Begun (trees_on v)) (d : ℕ) (clients : List Client) (time : ℕ) (a p q : Point) (disks : DiskHeads) (became : List Flight) → BeginsAt v s d clients a → Steps time a p → FailsTo time p q
     → IsOutcome q.disk 1 became → HasFirst v d a disks.behind
     → let left = image_of (after_fence q.disk 1 became) in
-    NoFalseHeader (image_of q.disk) v.layout (flown_by q.disk 1) left → IsAcceptedIn v d left (disks.behind 1 (length (fenced q.items))) → StandsFenced clients disks q.items v s left
+    NoFalseHeader (image_of q.disk) v.layout (flown_by q.disk 1) left → IsAcceptedIn v d left (disks.behind 1 (length (to_fence q.items))) → StandsFenced clients disks q.items v s left

@@ -97,12 +97,12 @@ steps_go_on time p q _ first (Then r t before last) = Then r t (steps_go_on time
 
 -- ---- fronts of lists
 
-take_front : {A : Type 0} (count : ℕ) (xs ys : List A) → count ≤ length xs → take count (xs ++ ys) ≡ take count xs
+pub take_front : {A : Type 0} (count : ℕ) (xs ys : List A) → count ≤ length xs → take count (xs ++ ys) ≡ take count xs
 take_front zero xs ys low = refl
 take_front (suc n) [] ys low = absurd (omega (arith, low))
 take_front (suc n) (x ∷ xs) ys low = ap (λ l. x ∷ l) (take_front n xs ys (omega (arith, low)))
 
-take_all : {A : Type 0} (count : ℕ) (xs : List A) → length xs ≤ count → take count xs ≡ xs
+pub take_all : {A : Type 0} (count : ℕ) (xs : List A) → length xs ≤ count → take count xs ≡ xs
 take_all zero [] low = refl
 take_all zero (x ∷ xs) low = absurd (omega (arith, low))
 take_all (suc n) [] low = refl

@@ -1,0 +1,10 @@
+pub mod Kinds
+pub mod Naming
+pub mod Upto
+pub mod Noting
+pub mod Numbers
+pub mod Losing
+pub mod Chunks
+pub mod Machine
+pub mod Runs
+pub mod Laws
