@@ -6,6 +6,7 @@ use Rattle.trace_text.specs.declared.item.TraceItem.{TraceItem}
 use Rattle.trace_text.specs.declared.item.TraceItem.TheVariants as trace
 use Rattle.run_rules.specs.Lives.{Life, fenced_behind, lives_from, losses_of, or_else, recovered_behind, to_its_end}
 use Rattle.logged_steps.specs.Points.{IsOfRun}
+use Rattle.logged_steps.proofs.Telling.{append_nil}
 use Rattle.logged_runs.specs.Starts.{IsOfReplay}
 
 -- no join, crash, withdraw, fence or loss, and no clean header
@@ -53,17 +54,14 @@ stay_on (x ∷ xs) ys all more = (all.0, stay_on xs ys all.1 more)
 
 -- ---- the life's end
 
-pub no_end : (node : ℕ) (xs : List TraceItem) → AllStay xs → to_its_end node xs ≡ xs
-no_end node [] all = refl
-no_end node (trace.Crash i ∷ xs) all = absurd all.0
-no_end node (trace.Withdraw i before after ∷ xs) all = absurd all.0
-no_end node (x ∷ xs) all = ap (λ is. x ∷ is) (no_end node xs all.1)
+pub end_on : (xs ys : List TraceItem) → AllStay xs → to_its_end 1 (xs ++ ys) ≡ xs ++ to_its_end 1 ys
+end_on [] ys all = refl
+end_on (trace.Crash i ∷ xs) ys all = absurd all.0
+end_on (trace.Withdraw i before after ∷ xs) ys all = absurd all.0
+end_on (x ∷ xs) ys all = ap (λ is. x ∷ is) (end_on xs ys all.1)
 
-pub ends_there : (xs ys : List TraceItem) → AllStay xs → to_its_end 1 (xs ++ trace.Crash 1 ∷ ys) ≡ xs
-ends_there [] ys all = refl
-ends_there (trace.Crash i ∷ xs) ys all = absurd all.0
-ends_there (trace.Withdraw i before after ∷ xs) ys all = absurd all.0
-ends_there (x ∷ xs) ys all = ap (λ is. x ∷ is) (ends_there xs ys all.1)
+pub no_end : (xs : List TraceItem) → AllStay xs → to_its_end 1 xs ≡ xs
+no_end xs all = ap (to_its_end 1) (sym (append_nil xs)) ∙ end_on xs [] all ∙ append_nil xs
 
 -- ---- its fence
 
@@ -86,7 +84,8 @@ no_losses node (x ∷ xs) ys all = no_losses node xs ys all.1
 
 -- ---- recoveries
 
-none_recovered : (node p : ℕ) (xs : List TraceItem) → AllByRecursion IsOfRun xs → recovered_behind node p xs ≡ None
+-- steps recover no slot
+pub none_recovered : (node p : ℕ) (xs : List TraceItem) → AllByRecursion IsOfRun xs → recovered_behind node p xs ≡ None
 none_recovered node p [] all = refl
 none_recovered node p (trace.Recovered i r ∷ xs) all = absurd all.0
 none_recovered node p (x ∷ xs) all = none_recovered node (suc p) xs all.1
@@ -96,8 +95,8 @@ same_recovered : (node p i : ℕ) (t : Bool) (xs ys : List TraceItem) → recove
 same_recovered node p i true xs ys behind = refl
 same_recovered node p i false xs ys behind = behind
 
--- steps recover no slot
-pub recovered_on : (node p : ℕ) (xs ys : List TraceItem) → AllByRecursion IsOfRun ys → recovered_behind node p (xs ++ ys) ≡ recovered_behind node p xs
-recovered_on node p [] ys all = none_recovered node p ys all
-recovered_on node p (trace.Recovered i r ∷ xs) ys all = same_recovered node p i (i == node) xs ys (recovered_on node (suc p) xs ys all)
-recovered_on node p (x ∷ xs) ys all = recovered_on node (suc p) xs ys all
+-- where nothing is recovered behind items, it is as it was
+pub recovered_on : (node p : ℕ) (xs ys : List TraceItem) → ((n : ℕ) → recovered_behind node n ys ≡ None) → recovered_behind node p (xs ++ ys) ≡ recovered_behind node p xs
+recovered_on node p [] ys none = none p
+recovered_on node p (trace.Recovered i r ∷ xs) ys none = same_recovered node p i (i == node) xs ys (recovered_on node (suc p) xs ys none)
+recovered_on node p (x ∷ xs) ys none = recovered_on node (suc p) xs ys none

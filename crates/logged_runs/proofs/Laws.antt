@@ -34,9 +34,18 @@ use Rattle.logged_runs.specs.Laws.{CrashesAreTold, FencesAreTold, FrontsStand, M
 use Rattle.logged_runs.specs.Standing.{StandsAsTold}
 use Rattle.logged_runs.specs.Starts.{BeginsAt, only_life}
 use Rattle.logged_runs.proofs.Kinds.{AllStay}
-use Rattle.logged_runs.proofs.Losing.{IsTheLoss, crashed, fenced_too, head_fenced, head_now, its_place, life_fenced, no_loss, not_yet}
+use Rattle.logged_runs.proofs.Losing.{IsItsEnd, IsTheLoss, head_fenced, head_now, its_place, life_fenced, no_loss}
 use Rattle.logged_runs.proofs.Machine.{all_answered, calm}
 use Rattle.logged_runs.proofs.Runs.{at, history_is, items_are, remaining_is, stands_as_told, stay, upto_is, xs}
+
+not_yet : (clients : List Client) → IsItsEnd clients []
+not_yet clients = record { lives = λ p. refl; losses = refl; silent = refl }
+
+crashed : (clients : List Client) → IsItsEnd clients (trace.Crash 1 ∷ [])
+crashed clients = record { lives = λ p. refl; losses = refl; silent = refl }
+
+fenced_too : (clients : List Client) → IsItsEnd clients (trace.Crash 1 ∷ trace.Fence 1 ∷ [])
+fenced_too clients = record { lives = λ p. refl; losses = refl; silent = refl }
 
 module _ (keep : StepsKeep) (fails : FailedWritesKeep) (heads : HeadsAreTold) (tells : StepsAreTold) (legal : ItsHistoryIsLegal) (outcomes : ItsOutcomesStand) where
   pub what_remains_is_told : WhatRemainsIsTold
@@ -46,7 +55,7 @@ module _ (keep : StepsKeep) (fails : FailedWritesKeep) (heads : HeadsAreTold) (t
       let is = xs keep fails heads tells legal v s d clients time a p q begins steps fail in
       subst (λ is. StandsAsTold clients disks is s.tree left) (append_nil q.items)
       (stands_as_told keep fails heads tells legal v s d clients time a p q begins steps fail left (disks.now 1)
-      (outcomes v s logged.world d (state_of q) left logged.is may.outcome may.no_false) its disks first [] (not_yet clients)
+      (outcomes v s logged.world d (state_of q) left logged.is may.outcome may.no_false) its disks first [] (not_yet clients) refl
       (head_now clients is [] all (not_yet clients) disks (λ n. refl)))
 
   pub fronts_stand : FrontsArePassed → FrontsStand
@@ -65,7 +74,7 @@ module _ (keep : StepsKeep) (fails : FailedWritesKeep) (heads : HeadsAreTold) (t
       let all = stay keep fails heads tells legal v s d clients time a p q begins steps fail in
       let is = xs keep fails heads tells legal v s d clients time a p q begins steps fail in
       stands_as_told keep fails heads tells legal v s d clients time a p q begins steps fail left (disks.now 1)
-      (outcomes v s logged.world d (state_of q) left logged.is may.outcome may.no_false) its disks first (trace.Crash 1 ∷ []) (crashed clients)
+      (outcomes v s logged.world d (state_of q) left logged.is may.outcome may.no_false) its disks first (trace.Crash 1 ∷ []) (crashed clients) refl
       (head_now clients is (trace.Crash 1 ∷ []) all (crashed clients) disks (λ n. refl))
 
   -- ---- behind a fence
@@ -106,10 +115,10 @@ module _ (keep : StepsKeep) (fails : FailedWritesKeep) (heads : HeadsAreTold) (t
 
       upto_there : upto_of others only_life (to_fence q.items) ≡ rem.number
       upto_there = ap (upto_of others only_life) (sym fenced_is)
-          ∙ upto_is keep fails heads tells legal v s d clients time a p q begins steps fail left (disks.behind 1 (length (to_fence q.items))) rem its others (subst (HasFirst v d a) (sym same) first) end (fenced_too clients) there
+          ∙ upto_is keep fails heads tells legal v s d clients time a p q begins steps fail left (disks.behind 1 (length (to_fence q.items))) rem its others (subst (HasFirst v d a) (sym same) first) end (fenced_too clients) refl there
 
     told : StandsAsTold clients disks (to_fence q.items) s.tree left
-    told = stands_as_told keep fails heads tells legal v s d clients time a p q begins steps fail left (disks.behind 1 (length (to_fence q.items))) rem its disks first end (fenced_too clients) (there disks refl)
+    told = stands_as_told keep fails heads tells legal v s d clients time a p q begins steps fail left (disks.behind 1 (length (to_fence q.items))) rem its disks first end (fenced_too clients) refl (there disks refl)
 
     fenced_history : run.history_of clients (to_fence q.items) ≡ run.history_of clients q.items
     fenced_history = history_on clients q.items end ∙ append_nil (run.history_of clients q.items)

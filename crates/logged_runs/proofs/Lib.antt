@@ -3,8 +3,10 @@ pub mod Naming
 pub mod Upto
 pub mod Noting
 pub mod Numbers
+pub mod Lasting
 pub mod Losing
 pub mod Chunks
 pub mod Machine
 pub mod Runs
 pub mod Laws
+pub mod Endings

@@ -16,32 +16,22 @@ use Rattle.trace_text.specs.declared.item.TraceItem.TheVariants as trace
 use Rattle.logged_steps.proofs.Histories.{history_on}
 use Rattle.logged_steps.proofs.Telling.{append_nil}
 use Rattle.logged_runs.specs.Starts.{only_life}
-use Rattle.logged_runs.proofs.Kinds.{AllStay, Stays, ends_there, fence_on, no_end, no_lives, no_losses}
+use Rattle.logged_runs.proofs.Kinds.{AllStay, Stays, end_on, fence_on, no_lives, no_losses}
 
 -- ---- what may come behind the items of the life
 
--- nothing, or a crash, which ends the life; in it no life begins, and none is lost
+-- in it no life begins, none is lost, and no call is answered
 pub record IsItsEnd (clients : List Client) (end : List TraceItem) : Type 0 where
-  pub cut : (xs : List TraceItem) → AllStay xs → to_its_end 1 (xs ++ end) ≡ xs
   pub lives : (p : ℕ) → lives_from p end ≡ []
   pub losses : losses_of 1 end ≡ 0
   pub silent : history_of clients end ≡ []
-
-pub not_yet : (clients : List Client) → IsItsEnd clients []
-not_yet clients = record { cut = λ xs all. ap (to_its_end 1) (append_nil xs) ∙ no_end 1 xs all; lives = λ p. refl; losses = refl; silent = refl }
-
-pub crashed : (clients : List Client) → IsItsEnd clients (trace.Crash 1 ∷ [])
-crashed clients = record { cut = λ xs all. ends_there xs [] all; lives = λ p. refl; losses = refl; silent = refl }
-
-pub fenced_too : (clients : List Client) → IsItsEnd clients (trace.Crash 1 ∷ trace.Fence 1 ∷ [])
-fenced_too clients = record { cut = λ xs all. ends_there xs (trace.Fence 1 ∷ []) all; lives = λ p. refl; losses = refl; silent = refl }
 
 module _ (clients : List Client) (xs end : List TraceItem) (all : AllStay xs) (ends : IsItsEnd clients end) where
   abbrev pub whole : List TraceItem
   whole = trace.Join 1 ∷ (xs ++ end)
 
-  pub its_part : items_of only_life whole ≡ xs
-  its_part = ends.cut xs all
+  pub its_part : items_of only_life whole ≡ xs ++ to_its_end 1 end
+  its_part = end_on xs end all
 
   pub one_life : lives_of whole ≡ only_life ∷ []
   one_life = ap (λ ls. only_life ∷ ls) (no_lives 1 xs end all ∙ ends.lives (1 + length xs))
@@ -79,7 +69,10 @@ module _ (clients : List Client) (xs : List TraceItem) (all : AllStay xs) where
   head_fenced disks = ap (λ o. head_behind o disks 1) (fence_on 1 1 xs fence all) ∙ ap (disks.behind 1) (let n = length-append xs fence in omega (arith, n))
 
   pub life_fenced : life_lost 1 (trace.Join 1 ∷ (xs ++ fence)) ≡ Some only_life
-  life_fenced = (λ i. life_at 1 (none_lost clients xs fence all (fenced_too clients) i) (one_life clients xs fence all (fenced_too clients) i))
+  life_fenced = (λ i. life_at 1 (none_lost clients xs fence all its i) (one_life clients xs fence all its i))
+    where
+      its : IsItsEnd clients fence
+      its = record { lives = λ p. refl; losses = refl; silent = refl }
 
 -- ---- the numbers of calls
 

@@ -13,6 +13,8 @@ use Rattle.file_tree.specs.declared.reply.Reply.TheVariants as replies
 use Rattle.image_machine.specs.Volumes.{Volume, images_of}
 use Rattle.image_model.proofs.Held.{none_some, some_same}
 use Rattle.log_layout.specs.declared.log_header.LogHeader.{LogHeader}
+use Rattle.lone_ends.specs.Ends.{IsHeadAtEnd}
+use Rattle.lone_ends.specs.Ends.IsHeadAtEnd as end
 use Rattle.lone_logs.specs.Laws.{IsHeadLeft}
 use Rattle.lone_logs.specs.Laws.IsHeadLeft.{new, old}
 use Rattle.lone_logs.specs.States.{IsLoggedNode, NodeState, trees_on}
@@ -52,6 +54,12 @@ said_of v published told (Called k ∷ items) each zero node client number call 
 said_of v published told (Gone i upto kept ∷ items) each (suc p) node client number call reply e = said_of v published told items each p node client number call reply e
 said_of v published told (Called k ∷ items) each (suc p) node client number call reply e = said_of v published told items each.1 p node client number call reply e
 
+-- no call changes anything that is behind this number and up to a sync that was answered Ok
+abbrev pub SyncsThere : (v : Volume) → World (trees_on v) → ℕ → Type 0
+SyncsThere v w n = (p q client other number earlier : ℕ) (call : Call) (reply : Reply)
+    → slice_get (history_of (images_of v) w.items) p ≡ Some (item.Call 1 client number calls.Sync replies.Ok) → slice_get (history_of (images_of v) w.items) q ≡ Some (item.Call 1 other earlier call reply)
+    → n < earlier → earlier ≤ number → Changes (record { call = call; reply = reply }) ≡ false
+
 -- ---- of a node with its log
 
 module _ (v : Volume) (s : Begun (trees_on v)) (w : World (trees_on v)) (d : ℕ) (st : NodeState) (is : IsLoggedNode v s w d st) where
@@ -65,12 +73,23 @@ module _ (v : Volume) (s : Begun (trees_on v)) (w : World (trees_on v)) (d : ℕ
   within h n (new f tail some stage begun at) = (let b = is.numbers.begun in omega (arith, begun, b.1))
 
   -- what was synced is in it
-  pub syncs : TreeHeadline (images_of v) w → (h : LogHeader) (n : ℕ) → IsHeadLeft st h n → (p q client other number earlier : ℕ) (call : Call) (reply : Reply)
-      → slice_get (history_of (images_of v) w.items) p ≡ Some (item.Call 1 client number calls.Sync replies.Ok) → slice_get (history_of (images_of v) w.items) q ≡ Some (item.Call 1 other earlier call reply)
-      → n < earlier → earlier ≤ number → Changes (record { call = call; reply = reply }) ≡ false
-  syncs legal h n left p q client other number earlier call reply sync at above below =
-      let cut = cut_is h n left in
-      legal.synced (λ i. cut.0) p q 1 client other number earlier call reply sync at (subst (λ m. m < earlier) (sym cut.1) above) below
+  by_cut : TreeHeadline (images_of v) w → (c : Bool) (n : ℕ) → (w.disk.heads 1 c).cut ≡ n → SyncsThere v w n
+  by_cut legal c n cut p q client other number earlier call reply sync at above below = legal.synced (λ i. c) p q 1 client other number earlier call reply sync at (subst (λ m. m < earlier) (sym cut) above) below
+
+  pub syncs : TreeHeadline (images_of v) w → (h : LogHeader) (n : ℕ) → IsHeadLeft st h n → SyncsThere v w n
+  syncs legal h n left = (let cut = cut_is h n left in by_cut legal cut.0 n cut.1)
+
+  -- at the end too: no call is behind the number of the last one
+  pub end_syncs : TreeHeadline (images_of v) w → (h : LogHeader) (n : ℕ) → IsHeadAtEnd st h n → SyncsThere v w n
+  end_syncs legal h n (end.old low at) = syncs legal h n (old low at)
+  end_syncs legal h n (end.last all at) p q client other number earlier call reply sync called above below =
+      (let low = (said_of v w.book.published w.book.told w.items (sound (trees_on v) s w is.alone).heard q 1 other earlier call reply called).low in
+      let most : w.book.published 1 ≡ st.numbers.answered = ap w.book.published (sym is.node) ∙ is.alone.told ∙ is.numbers.answered in
+      absurd (omega (arith, low, most, all, above)))
+
+  pub end_within : (h : LogHeader) (n : ℕ) → IsHeadAtEnd st h n → n ≤ st.numbers.answered
+  end_within h n (end.old low at) = within h n (old low at)
+  end_within h n (end.last all at) = omega (arith, all)
 
   -- ---- calls that change nothing
 

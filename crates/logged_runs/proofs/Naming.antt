@@ -29,16 +29,34 @@ named_is h (trace.WriteHead node block sequence upto ∷ xs) all =
 named_is h (trace.WriteClean node block sequence upto ∷ xs) all = absurd all.0
 named_is h (x ∷ xs) all = named_is h xs all.1
 
+-- ---- behind one another
+
+abbrev pub or_named : Option ℕ → Option ℕ → Option ℕ
+or_named (Some upto) later = Some upto
+or_named None later = later
+
+if_named : (t : Bool) (upto : ℕ) (both first later : Option ℕ) → both ≡ or_named first later → (if t then Some upto else both) ≡ or_named (if t then Some upto else first) later
+if_named true upto both first later is = refl
+if_named false upto both first later is = is
+
+pub named_on : (h : AcceptedHead) (xs ys : List TraceItem) → named 1 h (xs ++ ys) ≡ or_named (named 1 h xs) (named 1 h ys)
+named_on h [] ys = refl
+named_on h (trace.WriteHead i block sequence upto ∷ xs) ys =
+    if_named ((i == 1) && ((block == h.block) && (sequence == h.sequence))) upto (named 1 h (xs ++ ys)) (named 1 h xs) (named 1 h ys) (named_on h xs ys)
+named_on h (trace.WriteClean i block sequence upto ∷ xs) ys =
+    if_named ((i == 1) && ((block == h.block) && (sequence == h.sequence))) upto (named 1 h (xs ++ ys)) (named 1 h xs) (named 1 h ys) (named_on h xs ys)
+named_on h (x ∷ xs) ys = named_on h xs ys
+
 -- ---- of headers one behind the other
 
 and_false : (b : Bool) → (b && false) ≡ false
 and_false true = refl
 and_false false = refl
 
-is_other : (block sequence : ℕ) (h : HeadTold) → h.sequence ≢ sequence → is_head block sequence h ≡ false
+pub is_other : (block sequence : ℕ) (h : HeadTold) → h.sequence ≢ sequence → is_head block sequence h ≡ false
 is_other block sequence h off = ap (λ t. (h.block == block) && t) (ne_eqb h.sequence sequence off) ∙ and_false (h.block == block)
 
-is_itself : (h : HeadTold) → is_head h.block h.sequence h ≡ true
+pub is_itself : (h : HeadTold) → is_head h.block h.sequence h ≡ true
 is_itself h = (λ i. eq-eqb h.block h.block refl i && eq-eqb h.sequence h.sequence refl i)
 
 above : (n : ℕ) (front : List HeadTold) (h : HeadTold) (back : List HeadTold) → AreNext n (front ++ h ∷ back) → n < h.sequence

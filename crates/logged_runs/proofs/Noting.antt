@@ -22,7 +22,7 @@ use Rattle.lone_logs.specs.Laws.{counted}
 use Rattle.lone_logs.specs.States.{Numbers}
 use Rattle.lone_logs.proofs.Stages.{writing_headed}
 use Rattle.node_journal.specs.Encoding.{chunks}
-use Rattle.run_rules.specs.Lives.{Unnamed, unnamed}
+use Rattle.run_rules.specs.Lives.{Unnamed, last_number, unnamed}
 use Rattle.shared_disk.specs.Disk.{Operation}
 use Rattle.trace_text.specs.declared.item.TraceItem.{TraceItem}
 use Rattle.trace_text.specs.declared.item.TraceItem.TheVariants as trace
@@ -49,6 +49,24 @@ note_is s (trace.Call i name number call reply ∷ xs) = note_is (note_with s (t
 note_is s (trace.WriteHead i block sequence upto ∷ xs) = note_is (note_with s (trace.WriteHead i block sequence upto)) xs
 note_is s (trace.WriteLog i block ∷ xs) = note_is (note_with s (trace.WriteLog i block)) xs
 note_is s (x ∷ xs) = note_is s xs
+
+same_last : (t : Bool) (s r : Unnamed) → s.last ≡ r.last → s.last ≡ (if t then r else s).last
+same_last true s r e = e
+same_last false s r e = refl
+
+if_last : (t : Bool) (s : Unnamed) (number : ℕ) (xs : List TraceItem) → last_number 1 (if t then number else s.last) xs ≡ last_number 1 (if t then record s { last = number } else s).last xs
+if_last true s number xs = refl
+if_last false s number xs = refl
+
+-- it has the number of the last call
+pub last_is : (s : Unnamed) (xs : List TraceItem) → last_number 1 s.last xs ≡ (note_after s xs).last
+last_is s [] = refl
+last_is s (trace.Call i name number call reply ∷ xs) = if_last (i == 1) s number xs ∙ last_is (note_with s (trace.Call i name number call reply)) xs
+last_is s (trace.WriteHead i block sequence upto ∷ xs) = ap (λ n. last_number 1 n xs) (same_last (i == 1) s (record s { upto = upto; is_logged = false }) refl) ∙ last_is (note_with s (trace.WriteHead i block sequence upto)) xs
+last_is s (trace.WriteLog i block ∷ xs) =
+    ap (λ n. last_number 1 n xs) (same_last (i == 1) s (if s.is_logged then s else record s { upto = s.last; is_logged = true }) (same_last s.is_logged (record s { upto = s.last; is_logged = true }) s refl))
+    ∙ last_is (note_with s (trace.WriteLog i block)) xs
+last_is s (x ∷ xs) = last_is s xs
 
 pub note_on : (s : Unnamed) (xs ys : List TraceItem) → note_after s (xs ++ ys) ≡ note_after (note_after s xs) ys
 note_on s [] ys = refl

@@ -17,13 +17,13 @@ use Rattle.log_values.specs.Homing.HomeAnswer.{goes_home}
 use Rattle.log_values.specs.Log.{Flush, LogValue}
 use Rattle.log_values.specs.Log.Stage.{Ending, Headed, Writing}
 use Rattle.log_values.specs.declared.steps.LogStep.TheVariants as step
-use Rattle.run_rules.specs.Lives.{AcceptedHead, DiskHeads, head_of, items_of, or_else, own_from, recovered_behind, upto_of}
+use Rattle.run_rules.specs.Lives.{AcceptedHead, DiskHeads, head_of, items_of, own_from, upto_of}
 use Rattle.shared_disk.specs.Disk.{DiskState, Operation}
 use Rattle.trace_text.specs.declared.item.TraceItem.{TraceItem}
 use Rattle.trace_text.specs.declared.item.TraceItem.TheVariants as trace
 use Rattle.logged_steps.specs.Fails.{AsItWas, FailsTo, InAWrite}
 use Rattle.logged_steps.specs.Heads.{HeadTold, TellsItsHeads, flying_head, head_of_flush, head_of_log}
-use Rattle.logged_steps.specs.Points.{IsOfRun, Point}
+use Rattle.logged_steps.specs.Points.{Point}
 use Rattle.logged_steps.specs.Steps.{Step, Reads, Answers, AnswersQuietly, Syncs, TellsFull, HasNoSpace, BeginsFlush, BeginsHeader, WritesLog, EndsBlocks, WritesHead, EndsFlush, Commits, GoesHome, Rests, Unmounts, with_write}
 use Rattle.logged_steps.proofs.Heads.{at_stage_of, none_begun}
 use Rattle.logged_steps.proofs.Telling.{left_same}
@@ -96,11 +96,11 @@ pub data IsLeftAs (q : Point) (h : AcceptedHead) (n : ℕ) : Type 0 where
       → IsLeftAs q h n
 
 module _ (a p : Point) (replays : List TraceItem) (of_replay : AllByRecursion IsOfReplay replays) (told : TellsItsHeads a p) (noted : NotesItsCalls note a p) (same_more : noted.more ≡ told.more)
-    (stay : AllStay (its_items a p replays of_replay told)) (of_run : AllByRecursion IsOfRun told.more) (disks : DiskHeads) (items : List TraceItem) (h : AcceptedHead)
-    (its : items_of only_life items ≡ its_items a p replays of_replay told) (there : head_of disks only_life items ≡ h) (replays_only : or_else (recovered_behind 1 1 replays) 0 ≡ own_from only_life a.items)
-    (begins : (disks.behind 1 (own_from only_life a.items)).sequence ≡ a.log.sequence) (zero : a.numbers.low ≡ 0) (n : ℕ) where
+    (stay : AllStay (its_items a p replays of_replay told)) (disks : DiskHeads) (items : List TraceItem) (h : AcceptedHead)
+    (its : items_of only_life items ≡ its_items a p replays of_replay told) (there : head_of disks only_life items ≡ h)
+    (first_at : (disks.behind 1 (own_from only_life items)).sequence ≡ a.log.sequence) (zero : a.numbers.low ≡ 0) (n : ℕ) where
   at_head : h.block ≡ (head_of_log p.log p.numbers.low).block → h.sequence ≡ p.log.sequence → n ≡ p.numbers.low → upto_of disks only_life items ≡ n
-  at_head block sequence is = upto_low a p replays of_replay told stay of_run disks items h its there replays_only begins zero block sequence ∙ sym is
+  at_head block sequence is = upto_low a p replays of_replay told stay disks items h its there first_at zero block sequence ∙ sym is
 
   -- the note behind all items
   note_there : (note_after note (its_items a p replays of_replay told)) ≡ note_after note noted.more
@@ -109,7 +109,7 @@ module _ (a p : Point) (replays : List TraceItem) (of_replay : AllByRecursion Is
   -- of the header that is due the items tell what it has
   unsaid : (f : Flush) → p.log.flush ≡ Some f → f.stage ≡ Ending → p.log.sequence + 1 < 2 ^ 64 → h.sequence ≡ after p.log.sequence → h.is_clean ≡ false → upto_of disks only_life items ≡ p.numbers.begun
   unsaid f some stage more sequence dirty =
-      upto_unsaid a p replays of_replay told stay of_run disks items h its there replays_only begins (at_stage_of p.log p.numbers.begun f Ending some stage) (sequence ∙ mod-eq_of_lt more) dirty
+      upto_unsaid a p replays of_replay told stay disks items h its there first_at (at_stage_of p.log p.numbers.begun f Ending some stage) (sequence ∙ mod-eq_of_lt more) dirty
       ∙ note_is note (its_items a p replays of_replay told) ∙ ap (λ m. m.upto) note_there ∙ staged p (note_after note noted.more) noted.noted f Ending some stage
 
   one_flies : (log : LogValue) (f : Flush) (tail : ℕ) → log.flush ≡ Some f → f.stage ≡ Headed tail → flying_head log p.numbers.begun log.flush ≡ [] → ⊥
@@ -128,5 +128,5 @@ module _ (a p : Point) (replays : List TraceItem) (of_replay : AllByRecursion Is
   pub number : (time : ℕ) (q : Point) → FailsTo time p q → IsLeftAs q h n → upto_of disks only_life items ≡ n
   number time q AsItWas (old is block sequence) = at_head block sequence is
   number time q AsItWas (new f tail some stage is block sequence dirty) =
-      upto_begun a p replays of_replay told stay of_run disks items h its there replays_only begins f tail some stage block sequence ∙ sym is
+      upto_begun a p replays of_replay told stay disks items h its there first_at f tail some stage block sequence ∙ sym is
   number time q (InAWrite b bytes list log item tells does) left = behind list _ log (wrote p item b tells time (with_write p b bytes list log item) does refl) left

@@ -12,6 +12,8 @@ use Rattle.image_machine.specs.Volumes.{Volume, images_of}
 use Rattle.image_model.specs.Image.{Image, image_of}
 use Rattle.image_model.specs.Replays.{StandsReplayed}
 use Rattle.image_model.proofs.Held.{some_same}
+use Rattle.journal_outcomes.specs.Images.{ring_at}
+use Rattle.log_layout.specs.Journal.{head_in}
 use Rattle.log_layout.specs.declared.log_header.LogHeader.{LogHeader}
 use Rattle.log_rings.proofs.Whole.{fits_in}
 use Rattle.log_values.specs.Flushing.{block_at, flush_chunks, head_place}
@@ -23,7 +25,7 @@ use Rattle.lone_logs.specs.States.{IsHeaded, NodeState, Numbers, trees_on}
 use Rattle.lone_logs.proofs.Stages.{no_flush}
 use Rattle.lone_machine.specs.Alone.{Begun}
 use Rattle.run_rules.specs.Follows as run
-use Rattle.run_rules.specs.Lives.{AcceptedHead, DiskHeads, head_of, items_of, or_else, own_from, recovered_behind, remains, upto_of}
+use Rattle.run_rules.specs.Lives.{AcceptedHead, DiskHeads, head_of, items_of, or_else, own_from, recovered_behind, remains, to_its_end, upto_of}
 use Rattle.script_lang.specs.declared.script.Client.{Client}
 use Rattle.trace_text.specs.declared.item.TraceItem.{TraceItem}
 use Rattle.trace_text.specs.declared.item.TraceItem.TheVariants as trace
@@ -34,18 +36,18 @@ use Rattle.logged_steps.specs.Heads.{TellsItsHeads}
 use Rattle.logged_steps.specs.Laws.{FailedWritesKeep, HeadsAreTold, IsLoggedAt, StepsAreTold, StepsKeep, TellsWhatItDoes}
 use Rattle.logged_steps.specs.Points.{IsOfRun, Point, state_of}
 use Rattle.logged_steps.specs.Steps.{Steps}
-use Rattle.logged_steps.proofs.Telling.{left_same}
+use Rattle.logged_steps.proofs.Telling.{append_nil, left_same}
 use Rattle.logged_runs.specs.Heads.{HasFirst, IsAcceptedIn}
 use Rattle.logged_runs.specs.Standing.{StandsAsTold, SyncsStand}
 use Rattle.logged_runs.specs.Starts.{BeginsAt, only_life}
 use Rattle.logged_runs.proofs.Chunks.{due_is_some}
 use Rattle.logged_runs.proofs.Kinds.{AllStay, no_end, stay_on, stay_replays, stay_steps}
 use Rattle.logged_runs.proofs.Losing.{IsItsEnd, its_part, remains_are, same_history}
-use Rattle.logged_runs.proofs.Machine.{syncs, within}
+use Rattle.logged_runs.proofs.Machine.{SyncsThere, syncs, within}
 use Rattle.logged_runs.proofs.Noting.{IsNoted, IsNotedBy, NotesItsCalls, calls_noted}
 use Rattle.logged_runs.proofs.Numbers.{IsLeftAs, number}
 use Rattle.logged_runs.proofs.Numbers.IsLeftAs as left_as
-use Rattle.logged_runs.proofs.Upto.{its_items, note}
+use Rattle.logged_runs.proofs.Upto.{first_is, its_items, note}
 
 -- a flush's header goes to a place of the journal
 head_inside : (log : LogValue) (f : Flush) → IsSoundLog log → log.flush ≡ Some f → head_place log f < log.journal.length
@@ -63,13 +65,13 @@ module _ (keep : StepsKeep) (fails : FailedWritesKeep) (heads : HeadsAreTold) (t
 
   -- ---- its items
 
-  abbrev replays : List TraceItem
+  abbrev pub replays : List TraceItem
   replays = begins.replays
 
   idle : a.log.flush ≡ None
   idle = ap (λ (l : LogValue). l.flush) begins.log
 
-  told : TellsItsHeads a p
+  pub told : TellsItsHeads a p
   told = heads time a p (λ h. no_flush h.0 (sym idle ∙ h.2)) steps
 
   runs : TellsWhatItDoes a p
@@ -87,7 +89,7 @@ module _ (keep : StepsKeep) (fails : FailedWritesKeep) (heads : HeadsAreTold) (t
   pub items_are : q.items ≡ trace.Join 1 ∷ xs
   items_are = same_items time p q fail ∙ told.items ∙ ap (λ is. is ++ told.more) begins.items
 
-  noted : NotesItsCalls note a p
+  pub noted : NotesItsCalls note a p
   noted = calls_noted note a time p (λ m before. due_is_some m.log (keep v s d clients time a m begins.at before).is.sound.size) begins_noted steps
     where
       begins_noted : IsNoted a note
@@ -97,11 +99,11 @@ module _ (keep : StepsKeep) (fails : FailedWritesKeep) (heads : HeadsAreTold) (t
         spaceless = λ call need free e. idle;
       }
 
-  same_noted : noted.more ≡ told.more
+  pub same_noted : noted.more ≡ told.more
   same_noted = left_same a.items noted.more told.more (sym noted.items ∙ told.items)
 
   own_is : or_else (recovered_behind 1 1 replays) 0 ≡ own_from only_life a.items
-  own_is = ap (λ is. or_else (recovered_behind 1 1 is) 0) (sym (no_end 1 replays (stay_replays replays begins.of_replay))) ∙ ap (own_from only_life) (sym begins.items)
+  own_is = ap (λ is. or_else (recovered_behind 1 1 is) 0) (sym (no_end replays (stay_replays replays begins.of_replay))) ∙ ap (own_from only_life) (sym begins.items)
 
   -- ---- its history
 
@@ -114,56 +116,75 @@ module _ (keep : StepsKeep) (fails : FailedWritesKeep) (heads : HeadsAreTold) (t
       map-append (item_of (images_of v)) at.world.items (Gone s.node k k ∷ [])
       ∙ (λ i. sym history_is i ++ item.Lost (at.is.node i) k ∷ [])
 
-  -- ---- the head that is left
+  -- ---- what stands so
 
-  module _ (left : Image) (h : AcceptedHead) (rem : Remains v s at.world d q.numbers.answered left (IsHeadLeft (state_of q))) (its : IsAcceptedIn v d left h) where
-    header_is : its.header ≡ rem.head
-    header_is = some_same (sym its.headed ∙ rem.headed)
+  -- where what remains by this number stands, and the items tell it, it stands as they tell
+  module _ (left : Image) (n : ℕ) (remain : RemainsWith v s at.world left n) (sync : SyncsThere v at.world n) (disks : DiskHeads) (end : List TraceItem) (ends : IsItsEnd clients end)
+      (upto_is : upto_of disks only_life (trace.Join 1 ∷ (xs ++ end)) ≡ n) where
+    remains_so : remaining v s at.world n ≡ remains clients disks (trace.Join 1 ∷ (xs ++ end))
+    remains_so = remaining_is n ∙ ap (λ m. run.history_of clients xs ++ item.Lost 1 m ∷ []) (sym upto_is) ∙ sym (remains_are clients xs end stay ends disks)
 
-    block_is : (place : ℕ) → rem.head.blkno ≡ place → place < q.log.journal.length → h.block ≡ block_at q.log.journal place
+    in_history : (z : ℕ) {i : Item} → slice_get (run.history_of clients (trace.Join 1 ∷ (xs ++ end))) z ≡ Some i → slice_get (history_of (images_of v) at.world.items) z ≡ Some i
+    in_history z e = ap (λ (is : List Item). slice_get is z) (sym (same_history clients xs end stay ends ∙ history_is)) ∙ e
+
+    synced : SyncsStand clients (upto_of disks only_life (trace.Join 1 ∷ (xs ++ end))) (trace.Join 1 ∷ (xs ++ end))
+    synced x y client other count earlier call reply synced called above below = sync x y client other count earlier call reply (in_history x synced) (in_history y called) (subst (λ m. m < earlier) upto_is above) below
+
+    pub stands_by : StandsAsTold clients disks (q.items ++ end) s.tree left
+    stands_by = subst (λ is. StandsAsTold clients disks is s.tree left) (ap (λ is. is ++ end) (sym items_are)) (record {
+      legal = subst (λ is. history.Legal is s.tree) remains_so remain.0;
+      stands = subst (λ is. StandsReplayed left (tree_of is s.tree)) remains_so remain.1;
+      synced = synced;
+    })
+
+  -- ---- the head in an image
+
+  module _ (left : Image) (h : AcceptedHead) (head : LogHeader) (headed : head_in (ring_at left d) ≡ Some head) (its : IsAcceptedIn v d left h) where
+    header_is : its.header ≡ head
+    header_is = some_same (sym its.headed ∙ headed)
+
+    pub block_is : (place : ℕ) → head.blkno ≡ place → place < q.log.journal.length → h.block ≡ block_at q.log.journal place
     block_is place e low =
         ap (λ (x : AcceptedHead). x.block) its.is ∙ ap (λ (x : LogHeader). v.place d x.blkno) header_is ∙ ap (v.place d) e
         ∙ sym (at.is.journal.place place (subst (λ n. place < n) at.is.journal.places low))
 
-    sequence_is : h.sequence ≡ rem.head.sequence
+    pub sequence_is : h.sequence ≡ head.sequence
     sequence_is = ap (λ (x : AcceptedHead). x.sequence) its.is ∙ ap (λ (x : LogHeader). x.sequence) header_is
 
-    clean_is : h.is_clean ≡ rem.head.clean
+    pub clean_is : h.is_clean ≡ head.clean
     clean_is = ap (λ (x : AcceptedHead). x.is_clean) its.is ∙ ap (λ (x : LogHeader). x.clean) header_is
 
-    left_so : IsHeadLeft (state_of q) rem.head rem.number → IsLeftAs q h rem.number
-    left_so (old low at_head) = left_as.old low (block_is q.log.head at_head.place at.is.sound.head) (sequence_is ∙ at_head.sequence)
-    left_so (new f tail some stage begun at_head) =
-        left_as.new f tail some stage begun (block_is (head_place q.log f) at_head.place (head_inside q.log f at.is.sound some)) (sequence_is ∙ at_head.sequence) (clean_is ∙ at_head.clean)
+  -- where the life's own headers begin the disks have the head of the start
+  module _ (disks : DiskHeads) (has_first : HasFirst v d a disks.behind) where
+    begins_at : (disks.behind 1 (own_from only_life a.items)).sequence ≡ a.log.sequence
+    begins_at =
+        ap (λ (x : AcceptedHead). x.sequence) has_first.is
+        ∙ ap (λ (x : LogHeader). x.sequence) (some_same (sym has_first.headed ∙ begins.at.is.ring.headed)) ∙ begins.at.is.ring.sequence
 
-    module _ (disks : DiskHeads) (first : HasFirst v d a disks.behind) (end : List TraceItem) (ends : IsItsEnd clients end) (there : head_of disks only_life (trace.Join 1 ∷ (xs ++ end)) ≡ h) where
-      first_is : (disks.behind 1 (own_from only_life a.items)).sequence ≡ a.log.sequence
-      first_is =
-          ap (λ (x : AcceptedHead). x.sequence) first.is
-          ∙ ap (λ (x : LogHeader). x.sequence) (some_same (sym first.headed ∙ begins.at.is.ring.headed)) ∙ begins.at.is.ring.sequence
+    pub first_at : (items more : List TraceItem) → ((n : ℕ) → recovered_behind 1 n more ≡ None) → items_of only_life items ≡ xs ++ more
+        → (disks.behind 1 (own_from only_life items)).sequence ≡ a.log.sequence
+    first_at items more silent its = first_is a p replays begins.of_replay told disks.behind own_is begins_at items more of_run silent its
+
+  -- ---- what remains where the run is
+
+  module _ (left : Image) (h : AcceptedHead) (rem : Remains v s at.world d q.numbers.answered left (IsHeadLeft (state_of q))) (its : IsAcceptedIn v d left h) where
+    left_so : IsHeadLeft (state_of q) rem.head rem.number → IsLeftAs q h rem.number
+    left_so (old low at_head) = left_as.old low (block_is left h rem.head rem.headed its q.log.head at_head.place at.is.sound.head) (sequence_is left h rem.head rem.headed its ∙ at_head.sequence)
+    left_so (new f tail some stage begun at_head) =
+        left_as.new f tail some stage begun (block_is left h rem.head rem.headed its (head_place q.log f) at_head.place (head_inside q.log f at.is.sound some))
+        (sequence_is left h rem.head rem.headed its ∙ at_head.sequence) (clean_is left h rem.head rem.headed its ∙ at_head.clean)
+
+    module _ (disks : DiskHeads) (has_first : HasFirst v d a disks.behind) (end : List TraceItem) (ends : IsItsEnd clients end) (cut : to_its_end 1 end ≡ []) (there : head_of disks only_life (trace.Join 1 ∷ (xs ++ end)) ≡ h) where
+      its_items_are : items_of only_life (trace.Join 1 ∷ (xs ++ end)) ≡ xs
+      its_items_are = its_part clients xs end stay ends ∙ ap (λ is. xs ++ is) cut ∙ append_nil xs
 
       -- its number is what the items tell
       pub upto_is : upto_of disks only_life (trace.Join 1 ∷ (xs ++ end)) ≡ rem.number
-      upto_is = number a p replays begins.of_replay told noted same_noted stay of_run disks (trace.Join 1 ∷ (xs ++ end)) h (its_part clients xs end stay ends) there own_is first_is
+      upto_is = number a p replays begins.of_replay told noted same_noted stay disks (trace.Join 1 ∷ (xs ++ end)) h its_items_are there
+          (first_at disks has_first (trace.Join 1 ∷ (xs ++ end)) [] (λ n. refl) (its_items_are ∙ sym (append_nil xs)))
           (ap (λ (n : Numbers). n.low) begins.numbers) rem.number time q fail (left_so rem.is)
 
-      stands_there : RemainsWith v s at.world left rem.number
-      stands_there = rem.stands rem.number (omega arith) (within v s at.world d (state_of q) at.is rem.head rem.number rem.is) (λ m above less. absurd (omega (arith, above, less)))
-
-      remains_so : remaining v s at.world rem.number ≡ remains clients disks (trace.Join 1 ∷ (xs ++ end))
-      remains_so = remaining_is rem.number ∙ ap (λ n. run.history_of clients xs ++ item.Lost 1 n ∷ []) (sym upto_is) ∙ sym (remains_are clients xs end stay ends disks)
-
-      synced : SyncsStand clients (upto_of disks only_life (trace.Join 1 ∷ (xs ++ end))) (trace.Join 1 ∷ (xs ++ end))
-      synced x y client other count earlier call reply sync called above below =
-          syncs v s at.world d (state_of q) at.is (legal v s at.world d (state_of q) at.is) rem.head rem.number rem.is x y client other count earlier call reply
-          (in_history x sync) (in_history y called) (subst (λ n. n < earlier) upto_is above) below
-        where
-          in_history : (z : ℕ) {i : Item} → slice_get (run.history_of clients (trace.Join 1 ∷ (xs ++ end))) z ≡ Some i → slice_get (history_of (images_of v) at.world.items) z ≡ Some i
-          in_history z e = ap (λ (is : List Item). slice_get is z) (sym (same_history clients xs end stay ends ∙ history_is)) ∙ e
-
       pub stands_as_told : StandsAsTold clients disks (q.items ++ end) s.tree left
-      stands_as_told = subst (λ is. StandsAsTold clients disks is s.tree left) (ap (λ is. is ++ end) (sym items_are)) (record {
-        legal = subst (λ is. history.Legal is s.tree) remains_so stands_there.0;
-        stands = subst (λ is. StandsReplayed left (tree_of is s.tree)) remains_so stands_there.1;
-        synced = synced;
-      })
+      stands_as_told = stands_by left rem.number
+          (rem.stands rem.number (omega arith) (within v s at.world d (state_of q) at.is rem.head rem.number rem.is) (λ m above less. absurd (omega (arith, above, less))))
+          (syncs v s at.world d (state_of q) at.is (legal v s at.world d (state_of q) at.is) rem.head rem.number rem.is) disks end ends upto_is

@@ -19,6 +19,7 @@ use Rattle.script_lang.specs.declared.script.Client.{Client}
 use Rattle.shared_disk.specs.Disk.{Flight, IsOutcome, after_fence}
 use Rattle.trace_text.specs.declared.item.TraceItem.{TraceItem}
 use Rattle.trace_text.specs.declared.item.TraceItem.TheVariants as trace
+use Rattle.logged_runs.specs.Ends.{EndsTo}
 use Rattle.logged_runs.specs.Heads.{HasFirst, IsAcceptedIn}
 use Rattle.logged_runs.specs.Standing.{StandsAsTold}
 use Rattle.logged_runs.specs.Starts.{BeginsAt, only_life}
@@ -44,6 +45,13 @@ pub record FrontStands (v : Volume) (s : Begun (trees_on v)) (d : ℕ) (clients 
 abbrev pub FrontsStand : Type 0
 FrontsStand = (v : Volume) (s : Begun (trees_on v)) (d : ℕ) (clients : List Client) (time : ℕ) (a p : Point) (count : ℕ) → BeginsAt v s d clients a → Steps time a p → length a.items ≤ count → count ≤ length p.items
     → FrontStands v s d clients time a p count
+
+-- ---- at its end
+
+-- while the clean header is in flight with which the run ends, and behind the barrier that brings it to its place
+abbrev pub EndsAreTold : Type 0
+EndsAreTold = (v : Volume) (s : Begun (trees_on v)) (d : ℕ) (clients : List Client) (time : ℕ) (a p q : Point) (disks : DiskHeads) (left : Image) → BeginsAt v s d clients a → Steps time a p → EndsTo p q
+    → HasFirst v d a disks.behind → MayLeave v q left → IsAcceptedIn v d left (disks.now 1) → StandsAsTold clients disks q.items s.tree left
 
 -- ---- behind a crash
 

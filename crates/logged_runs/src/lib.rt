@@ -2,10 +2,10 @@
 //! nothing: their contracts are the laws.
 #![tactic(auto)]
 
-ghost use Rattle.logged_runs.specs.Laws.{CrashesAreTold, FencesAreTold, FrontsStand, WhatRemainsIsTold};
+ghost use Rattle.logged_runs.specs.Laws.{CrashesAreTold, EndsAreTold, FencesAreTold, FrontsStand, WhatRemainsIsTold};
 
 use logged_steps::{failed_writes_keep, heads_are_told, steps_are_told, steps_keep};
-use lone_ends::fences_leave_what_remains;
+use lone_ends::{fences_leave_what_remains, what_remains_at_its_end};
 use lone_logs::what_remains_of_it;
 
 /// A law: behind each front of a run's items, and where a write failed that has no item, each outcome of the disk without a false header stands, its journals replayed,
@@ -19,6 +19,19 @@ pub fn what_remains_is_told()
     heads_are_told();
     steps_are_told();
     what_remains_of_it();
+}
+
+/// A law: so it is while the clean header is in flight with which a run ends, and behind the barrier that brings it to its place.
+pub fn ends_are_told()
+    ensures { EndsAreTold }
+{
+    steps_keep();
+    failed_writes_keep();
+    heads_are_told();
+    steps_are_told();
+    what_remains_of_it();
+    what_remains_at_its_end();
+    fences_leave_what_remains();
 }
 
 /// A law: so it is behind a crash, and behind the fence of the disk that it leaves, also with a right loss.
