@@ -127,7 +127,7 @@ module _ (a : Point) where
   -- it comes into the journal
   landed : (p : Point) (f : Flush) (tail : ℕ) (gone : set.Blocks) (live : table.FinMap nat_cmp Entry) (list : Option (List Operation)) → TellsItsHeads a p → p.log.flush ≡ Some f → f.stage ≡ Headed tail
       → TellsItsHeads a (record (with_barrier p list (record p.log { head = head_place p.log f; tail = tail; sequence = after p.log.sequence; clean = false; gone = gone; flush = None; live = live }))
-        { numbers = record p.numbers { low = p.numbers.begun }; next = ItsCommit })
+      { numbers = record p.numbers { low = p.numbers.begun }; next = ItsCommit })
   landed p f tail gone live list had some stage = record {
     more = had.more ++ trace.Barrier 1 ∷ [];
     items = ap (λ (is : List TraceItem). is ++ trace.Barrier 1 ∷ []) had.items ∙ append_assoc a.items had.more (trace.Barrier 1 ∷ []);
