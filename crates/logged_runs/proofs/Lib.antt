@@ -1,3 +1,4 @@
+pub mod Starting
 pub mod Kinds
 pub mod Naming
 pub mod Upto

@@ -1,28 +1,47 @@
 -- Laws of the runs of one node with its log: what remains of one, told by its items.
-use Rattle.std.specs.Prelude.{ℕ, ◌≡◌, ◌≤◌, ◌+◌, ◌++◌, List, [], ◌∷◌, length, take, IsTrue}
+use Rattle.std.specs.Prelude.{ℕ, ◌≡◌, ◌≤◌, ◌+◌, ◌++◌, List, [], ◌∷◌, length, take, Option}
+use Rattle.std.specs.List.{AllByRecursion}
 use Rattle.cluster_history.specs.History.{Legal, tree_of}
 use Rattle.cluster_history.specs.Losses.{LossIsRight}
-use Rattle.image_machine.specs.Volumes.{Volume}
+use Rattle.file_tree.specs.Tree.{Tree}
+use Rattle.image_machine.specs.Volumes.{Volume, volume_of}
 use Rattle.image_model.specs.Image.{Image, image_of}
+use Rattle.image_model.specs.Owners.{Owners}
 use Rattle.image_model.specs.Replays.{StandsReplayed}
+use Rattle.image_model.specs.Stands.{Layout}
 use Rattle.journal_outcomes.specs.Disks.{flown_by}
 use Rattle.journal_outcomes.specs.Images.{IsImageOutcome, NoFalseHeader}
+use Rattle.log_layout.specs.declared.log_header.LogHeader.{LogHeader}
+use Rattle.log_values.specs.Log.{Journal}
+use Rattle.lone_images.specs.Lone.{begun_on}
+use Rattle.lone_view.specs.Seeing.{Lone}
 use Rattle.logged_steps.specs.Fails.{FailsTo}
 use Rattle.logged_steps.specs.Laws.{CameBy}
 use Rattle.logged_steps.specs.Points.{Point}
+use Rattle.logged_steps.specs.Starts.{IsAtRest, starting}
 use Rattle.logged_steps.specs.Steps.{Steps}
 use Rattle.lone_logs.specs.States.{trees_on}
 use Rattle.lone_machine.specs.Alone.{Begun}
 use Rattle.run_rules.specs.Follows.{history_of}
 use Rattle.run_rules.specs.Lives.{AcceptedHead, DiskHeads, TraceKeptRight, upto_of}
 use Rattle.script_lang.specs.declared.script.Client.{Client}
-use Rattle.shared_disk.specs.Disk.{Flight, IsOutcome, after_fence}
+use Rattle.shared_disk.specs.Disk.{DiskState, Flight, IsOutcome, Operation, after_fence}
 use Rattle.trace_text.specs.declared.item.TraceItem.{TraceItem}
 use Rattle.trace_text.specs.declared.item.TraceItem.TheVariants as trace
 use Rattle.logged_runs.specs.Ends.{EndsTo}
 use Rattle.logged_runs.specs.Heads.{HasFirst, IsAcceptedIn}
 use Rattle.logged_runs.specs.Standing.{StandsAsTold}
-use Rattle.logged_runs.specs.Starts.{BeginsAt, only_life}
+use Rattle.logged_runs.specs.Starts.{BeginsAt, IsOfReplay, only_life}
+
+-- ---- the start
+
+-- so a run begins on a disk at rest, whatever was replayed there
+abbrev pub RunsBeginSo : Type 0
+RunsBeginSo = (disk : DiskState) (o : Owners) (l : Layout) (t : Tree) (d : ℕ) (journal : Journal) (head : LogHeader) (view : Lone) (clients : List Client) (list : Option (List Operation)) (replays : List TraceItem)
+    → IsAtRest disk o l t d journal head view → AllByRecursion IsOfReplay replays
+    → BeginsAt (volume_of (image_of disk) l) (begun_on (image_of disk) o l t) d clients (starting disk list journal head view (trace.Join 1 ∷ replays))
+
+-- ---- an outcome
 
 -- the node's writes in flight may have become this, with no false header
 pub record MayLeave (v : Volume) (p : Point) (left : Image) : Type 0 where

@@ -2,11 +2,18 @@
 //! nothing: their contracts are the laws.
 #![tactic(auto)]
 
-ghost use Rattle.logged_runs.specs.Laws.{CrashesAreTold, EndsAreTold, FencesAreTold, FrontsStand, WhatRemainsIsTold};
+ghost use Rattle.logged_runs.specs.Laws.{CrashesAreTold, EndsAreTold, FencesAreTold, FrontsStand, RunsBeginSo, WhatRemainsIsTold};
 
-use logged_steps::{failed_writes_keep, heads_are_told, steps_are_told, steps_keep};
+use logged_steps::{failed_writes_keep, heads_are_told, runs_begin, steps_are_told, steps_keep};
 use lone_ends::{fences_leave_what_remains, what_remains_at_its_end};
 use lone_logs::what_remains_of_it;
+
+/// A law: such a run begins on a disk at rest, whatever was replayed there.
+pub fn a_run_begins()
+    ensures { RunsBeginSo }
+{
+    runs_begin();
+}
 
 /// A law: behind each front of a run's items, and where a write failed that has no item, each outcome of the disk without a false header stands, its journals replayed,
 /// for the tree of what remains of the items by the journal's head; this is legal, and has what was synced.

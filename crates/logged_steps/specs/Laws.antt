@@ -1,15 +1,21 @@
 -- Laws of the steps of one node with its log.
-use Rattle.std.specs.Prelude.{ℕ, ◌≡◌, ◌≢◌, ◌≤◌, ◌++◌, IsTrue, List, [], drop, length, take, Some}
+use Rattle.std.specs.Prelude.{ℕ, ◌≡◌, ◌≢◌, ◌≤◌, ◌++◌, IsTrue, List, [], drop, length, take, Option, Some}
 use Rattle.std.specs.List.{AllByRecursion}
 use Rattle.call_blocks.specs.Lone.{MayChangeThere}
 use Rattle.cluster_laws.specs.World.{World}
+use Rattle.file_tree.specs.Tree.{Tree}
 use Rattle.disk_items.specs.Deeds.{AreDoneBy}
 use Rattle.image_machine.specs.Cells.{IsOfVolume}
-use Rattle.image_machine.specs.Volumes.{Volume, images_of}
+use Rattle.image_machine.specs.Volumes.{Volume, images_of, volume_of}
 use Rattle.image_model.specs.Image.{image_of}
+use Rattle.image_model.specs.Owners.{Owners}
+use Rattle.image_model.specs.Stands.{Layout}
+use Rattle.log_layout.specs.declared.log_header.LogHeader.{LogHeader}
+use Rattle.log_values.specs.Log.{Journal}
+use Rattle.lone_images.specs.Lone.{begun_on}
 use Rattle.lone_logs.specs.States.{IsHeaded, IsLoggedNode, trees_on}
 use Rattle.lone_machine.specs.Alone.{Begun}
-use Rattle.lone_view.specs.Seeing.{seen_alone}
+use Rattle.lone_view.specs.Seeing.{Lone, seen_alone}
 use Rattle.run_rules.specs.Follows as run
 use Rattle.script_lang.specs.declared.script.Client.{Client}
 use Rattle.shared_disk.specs.Disk.{DiskState, Gains, IsSound, Operation}
@@ -19,6 +25,7 @@ use Rattle.logged_steps.specs.Disks.{disk_after, first_told}
 use Rattle.logged_steps.specs.Fails.{FailsTo}
 use Rattle.logged_steps.specs.Heads.{TellsItsHeads}
 use Rattle.logged_steps.specs.Points.{IsOfRun, Point, state_of}
+use Rattle.logged_steps.specs.Starts.{IsAtRest, starting}
 use Rattle.logged_steps.specs.Steps.{Steps}
 
 -- ---- what always holds
@@ -39,6 +46,13 @@ pub record IsLoggedAt (v : Volume) (s : Begun (trees_on v)) (d : ℕ) (clients :
   -- what a replay may change of the image that the node works on, it may change of that on the disk
   pub may : MayChangeThere v world (image_of p.disk)
 
+-- so it does on a disk at rest, behind items without a call
+abbrev pub RunsBegin : Type 0
+RunsBegin = (disk : DiskState) (o : Owners) (l : Layout) (t : Tree) (d : ℕ) (journal : Journal) (head : LogHeader) (view : Lone) (clients : List Client) (list : Option (List Operation)) (items : List TraceItem)
+    → IsAtRest disk o l t d journal head view → run.history_of clients items ≡ []
+    → IsLoggedAt (volume_of (image_of disk) l) (begun_on (image_of disk) o l t) d clients (starting disk list journal head view items)
+
+-- and with each step
 abbrev pub StepsKeep : Type 0
 StepsKeep = (v : Volume) (s : Begun (trees_on v)) (d : ℕ) (clients : List Client) (time : ℕ) (p q : Point) → IsLoggedAt v s d clients p → Steps time p q → IsLoggedAt v s d clients q
 

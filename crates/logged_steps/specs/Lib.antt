@@ -4,4 +4,5 @@ pub mod Steps
 pub mod Disks
 pub mod Heads
 pub mod Fails
+pub mod Starts
 pub mod Laws
