@@ -1,10 +1,9 @@
 -- What is due makes some chunk.
-use Rattle.std.proofs.Common.{◌≡◌, ℕ, zero, suc, ◌+◌, ◌≤◌, inl, inr, List, [], ◌∷◌, length, filter, refl, sym, ap, ◌∙◌, arith}
-use Rattle.std.specs.Prelude.{◌≢◌, Bool, true, false, not, if◌then◌else◌}
+use Rattle.std.proofs.Common.{◌≡◌, ℕ, suc, ◌+◌, ◌≤◌, inl, inr, List, [], ◌∷◌, length, filter, refl, arith}
+use Rattle.std.specs.Prelude.{◌≢◌, not}
 use Rattle.std.proofs.lemmas.List.Filters.{length-filter_both}
 use Rattle.gfs2_layout.specs.Device.{IsBlockSize}
 use Rattle.log_layout.specs.Chunks.{Logged, Transaction, content_room, further_count, numbers_room}
-use Rattle.log_values.specs.Flushing.{IsDue}
 use Rattle.log_values.specs.Log.{LogValue}
 use Rattle.log_values.specs.Transactions.{due}
 use Rattle.node_journal.specs.Encoding.{chunks, content_of, metadata_of, piece_count, revoke_size}

@@ -1,6 +1,6 @@
 -- The end of a run of one node with its log, by its items.
-use Rattle.std.proofs.Common.{◌≡◌, ◌≢◌, ℕ, zero, suc, ◌+◌, ◌<◌, ◌≤◌, inl, inr, List, [], ◌∷◌, ◌++◌, length, Option, None, Some, refl, sym, ap, subst, ◌∙◌, arith}
-use Rattle.std.specs.Prelude.{IsTrue, if◌then◌else◌, unwrap_or}
+use Rattle.std.proofs.Common.{◌≡◌, ℕ, ◌+◌, ◌<◌, inl, inr, List, [], ◌∷◌, ◌++◌, length, None, Some, refl, sym, ap, subst, ◌∙◌, arith}
+use Rattle.std.specs.Prelude.{IsTrue, unwrap_or}
 use Rattle.std.proofs.Math.Nat.{mod-eq_of_lt}
 use Rattle.std.proofs.lemmas.Bool.{cases_eq, cond-true}
 use Rattle.image_machine.specs.Volumes.{Volume}
@@ -11,17 +11,16 @@ use Rattle.journal_outcomes.specs.Images.{IsImageOutcome, NoFalseHeader}
 use Rattle.journal_outcomes.specs.Rings.{InFlight}
 use Rattle.log_layout.specs.Transactions.{after}
 use Rattle.log_values.specs.Flushing.{block_at, first_place}
-use Rattle.log_values.specs.Log.{LogValue}
 use Rattle.lone_ends.specs.Ends.{FliesLast, IsHeadAtEnd, ItsEndsStand}
 use Rattle.lone_ends.specs.Ends.IsHeadAtEnd as end_head
 use Rattle.lone_ends.specs.Fences.{ImagesAtRestStay}
-use Rattle.lone_logs.specs.Laws.{IsHeadAt, ItsHistoryIsLegal, Remains}
+use Rattle.lone_logs.specs.Laws.{ItsHistoryIsLegal, Remains}
 use Rattle.lone_logs.specs.States.{HasLandedAs, NodeState, Numbers, trees_on}
 use Rattle.lone_logs.proofs.Landed.{landed_outcome, landed_true}
 use Rattle.lone_machine.specs.Alone.{Begun}
-use Rattle.run_rules.specs.Lives.{AcceptedHead, DiskHeads, fenced_behind, items_of, named, recovered_behind, to_its_end, upto_of}
+use Rattle.run_rules.specs.Lives.{DiskHeads, fenced_behind, items_of, named, recovered_behind, to_its_end, upto_of}
 use Rattle.script_lang.specs.declared.script.Client.{Client}
-use Rattle.shared_disk.specs.Disk.{DiskState, after_barrier, flight_to, settled, written}
+use Rattle.shared_disk.specs.Disk.{DiskState, after_barrier, settled, written}
 use Rattle.trace_text.specs.declared.item.TraceItem.{TraceItem}
 use Rattle.trace_text.specs.declared.item.TraceItem.TheVariants as trace
 use Rattle.written_journals.proofs.RingsWritten.{on_inside}
@@ -30,9 +29,9 @@ use Rattle.logged_steps.specs.Laws.{FailedWritesKeep, HeadsAreTold, IsLoggedAt, 
 use Rattle.logged_steps.specs.Points.{Point, state_of}
 use Rattle.logged_steps.specs.Steps.{Steps}
 use Rattle.logged_steps.proofs.Telling.{append_nil}
-use Rattle.logged_runs.specs.Ends.{EndsTo, Landed, Said, Unsaid, clean_item, last_block, with_clean}
+use Rattle.logged_runs.specs.Ends.{Landed, Said, Unsaid, clean_item, last_block, with_clean}
 use Rattle.logged_runs.specs.Heads.{HasFirst, IsAcceptedIn}
-use Rattle.logged_runs.specs.Laws.{EndsAreTold, MayLeave}
+use Rattle.logged_runs.specs.Laws.{EndsAreTold}
 use Rattle.logged_runs.specs.Standing.{StandsAsTold}
 use Rattle.logged_runs.specs.Starts.{BeginsAt, only_life}
 use Rattle.logged_runs.proofs.Kinds.{AllStay}

@@ -1,10 +1,10 @@
 -- Items among which no life begins or ends.
-use Rattle.std.proofs.Common.{◌≡◌, ℕ, ◌+◌, suc, List, [], ◌∷◌, ◌++◌, length, Option, None, Some, refl, sym, ap, ◌∙◌, arith}
+use Rattle.std.proofs.Common.{◌≡◌, ℕ, ◌+◌, suc, List, [], ◌∷◌, ◌++◌, length, None, Some, refl, sym, ap, ◌∙◌, arith}
 use Rattle.std.specs.Prelude.{◌==◌, if◌then◌else◌, Bool, true, false, ⊤}
 use Rattle.std.specs.List.{AllByRecursion}
 use Rattle.trace_text.specs.declared.item.TraceItem.{TraceItem}
 use Rattle.trace_text.specs.declared.item.TraceItem.TheVariants as trace
-use Rattle.run_rules.specs.Lives.{Life, fenced_behind, lives_from, losses_of, or_else, recovered_behind, to_its_end}
+use Rattle.run_rules.specs.Lives.{fenced_behind, lives_from, losses_of, recovered_behind, to_its_end}
 use Rattle.logged_steps.specs.Points.{IsOfRun}
 use Rattle.logged_steps.proofs.Telling.{append_nil}
 use Rattle.logged_runs.specs.Starts.{IsOfReplay}

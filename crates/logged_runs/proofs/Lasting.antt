@@ -1,14 +1,13 @@
 -- The number of the last call that the last header has, a clean one, or the log's head before it.
-use Rattle.std.proofs.Common.{◌≡◌, ℕ, ◌+◌, ◌<◌, ◌≤◌, List, [], ◌∷◌, ◌++◌, Option, None, Some, refl, sym, ap, subst, ◌∙◌, arith}
-use Rattle.std.specs.Prelude.{Bool, true, false, ◌==◌, ◌&&◌}
+use Rattle.std.proofs.Common.{◌≡◌, ℕ, ◌+◌, List, [], ◌∷◌, ◌++◌, Option, None, Some, sym, ap, ◌∙◌, arith}
+use Rattle.std.specs.Prelude.{Bool, true, ◌==◌, ◌&&◌}
 use Rattle.std.specs.List.{AllByRecursion}
 use Rattle.std.proofs.lemmas.Bool.{cond-true, cond-false}
-use Rattle.log_layout.specs.Transactions.{after}
 use Rattle.log_values.specs.Flushing.{block_at, first_place}
 use Rattle.run_rules.specs.Lives.{AcceptedHead, DiskHeads, head_of, items_of, last_number, named, own_from, upto_of}
 use Rattle.trace_text.specs.declared.item.TraceItem.{TraceItem}
 use Rattle.trace_text.specs.declared.item.TraceItem.TheVariants as trace
-use Rattle.logged_steps.specs.Heads.{TellsItsHeads, flying_head, head_of_log}
+use Rattle.logged_steps.specs.Heads.{TellsItsHeads, flying_head}
 use Rattle.logged_steps.specs.Points.{Point}
 use Rattle.logged_steps.proofs.Heads.{none_begun}
 use Rattle.logged_runs.specs.Starts.{IsOfReplay, only_life}

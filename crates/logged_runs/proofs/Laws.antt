@@ -1,10 +1,9 @@
 -- What remains of a run of one node with its log, told by its items.
-use Rattle.std.proofs.Common.{◌≡◌, ℕ, zero, suc, ◌+◌, ◌<◌, ◌≤◌, List, [], ◌∷◌, ◌++◌, length, take, None, Some, slice_get, refl, sym, ap, subst, ◌∙◌, arith}
+use Rattle.std.proofs.Common.{◌≡◌, ℕ, zero, suc, ◌+◌, List, [], ◌∷◌, ◌++◌, length, take, Some, slice_get, refl, sym, ap, subst, ◌∙◌, arith}
 use Rattle.std.proofs.lemmas.List.{length-append}
 use Rattle.cluster_history.specs.History as history
 use Rattle.cluster_history.specs.History.{tree_of}
 use Rattle.cluster_history.specs.Losses.{LossIsRight}
-use Rattle.cluster_history.specs.declared.Item.{Item}
 use Rattle.cluster_history.specs.declared.Item.TheVariants as item
 use Rattle.image_disks.specs.Lone.{remaining}
 use Rattle.image_machine.specs.Volumes.{Volume, images_of}
@@ -30,13 +29,13 @@ use Rattle.logged_steps.specs.Steps.{Steps}
 use Rattle.logged_steps.proofs.Histories.{history_on}
 use Rattle.logged_steps.proofs.Telling.{append_assoc, append_nil, take_all, take_front}
 use Rattle.logged_runs.specs.Heads.{HasFirst, IsAcceptedIn}
-use Rattle.logged_runs.specs.Laws.{CrashesAreTold, FencesAreTold, FrontsStand, MayLeave, StandsFenced, StandsLost, WhatRemainsIsTold, to_fence, to_loss}
+use Rattle.logged_runs.specs.Laws.{CrashesAreTold, FencesAreTold, FrontsStand, StandsFenced, StandsLost, WhatRemainsIsTold, to_fence, to_loss}
 use Rattle.logged_runs.specs.Standing.{StandsAsTold}
 use Rattle.logged_runs.specs.Starts.{BeginsAt, only_life}
 use Rattle.logged_runs.proofs.Kinds.{AllStay}
 use Rattle.logged_runs.proofs.Losing.{IsItsEnd, IsTheLoss, head_fenced, head_now, its_place, life_fenced, no_loss}
 use Rattle.logged_runs.proofs.Machine.{all_answered, calm}
-use Rattle.logged_runs.proofs.Runs.{at, history_is, items_are, remaining_is, stands_as_told, stay, upto_is, xs}
+use Rattle.logged_runs.proofs.Runs.{at, items_are, remaining_is, stands_as_told, stay, upto_is, xs}
 
 not_yet : (clients : List Client) → IsItsEnd clients []
 not_yet clients = record { lives = λ p. refl; losses = refl; silent = refl }

@@ -1,5 +1,5 @@
 -- What the machine has of a node alone with its log: the numbers of the heads that may be left, and its calls.
-use Rattle.std.proofs.Common.{◌≡◌, ◌⊎◌, ℕ, zero, suc, ◌+◌, ◌<◌, ◌≤◌, inl, inr, Bool, true, false, List, [], ◌∷◌, Some, slice_get, refl, sym, ap, subst, ◌∙◌, arith}
+use Rattle.std.proofs.Common.{◌≡◌, ℕ, zero, suc, ◌<◌, ◌≤◌, Bool, true, false, List, [], ◌∷◌, Some, slice_get, sym, ap, subst, ◌∙◌, arith}
 use Rattle.cluster_history.specs.Changes.{Changes}
 use Rattle.cluster_history.specs.History.{IsNumbered, calls_of}
 use Rattle.cluster_history.specs.declared.Item.TheVariants as item

@@ -1,16 +1,14 @@
 -- What the items tell of a header that has no item yet.
-use Rattle.std.proofs.Common.{◌≡◌, ℕ, zero, suc, ◌+◌, ◌<◌, ◌≤◌, ◌⊎◌, inl, inr, Bool, true, false, List, [], ◌∷◌, ◌++◌, length, Option, None, Some, refl, sym, ap, subst, ◌∙◌, arith}
+use Rattle.std.proofs.Common.{◌≡◌, ℕ, zero, suc, ◌<◌, ◌≤◌, Bool, true, false, List, [], ◌∷◌, ◌++◌, length, Option, None, Some, refl, sym, ap, subst, ◌∙◌, arith}
 use Rattle.std.specs.Prelude.{◌==◌, if◌then◌else◌}
-use Rattle.std.specs.FinMap as table
 use Rattle.std.specs.List.{AllByRecursion}
 use Rattle.file_tree.specs.declared.call.Call.{Call}
 use Rattle.file_tree.specs.declared.call.Call.TheVariants as calls
 use Rattle.file_tree.specs.declared.reply.Reply.{Reply}
 use Rattle.file_tree.specs.declared.reply.Reply.TheVariants as replies
 use Rattle.glock_names.specs.declared.LockName.{LockName}
-use Rattle.log_tables.specs.Versions.Way.{Flying}
 use Rattle.log_values.specs.Changes.{with_change}
-use Rattle.log_values.specs.Flushing.{FlushStep, IsDue, at_stage, flush_chunks}
+use Rattle.log_values.specs.Flushing.{FlushStep, IsDue, flush_chunks}
 use Rattle.log_values.specs.Flushing.FlushStep.{a_barrier, a_block, a_header, the_last}
 use Rattle.log_values.specs.Homing.{HomeAnswer, Settles}
 use Rattle.log_values.specs.Homing.HomeAnswer.{goes_home}
@@ -26,7 +24,7 @@ use Rattle.run_rules.specs.Lives.{Unnamed, last_number, unnamed}
 use Rattle.shared_disk.specs.Disk.{Operation}
 use Rattle.trace_text.specs.declared.item.TraceItem.{TraceItem}
 use Rattle.trace_text.specs.declared.item.TraceItem.TheVariants as trace
-use Rattle.logged_steps.specs.Points.{Anything, ItsCommit, ItsNoSpace, Next, Point, call_item}
+use Rattle.logged_steps.specs.Points.{Anything, ItsCommit, ItsNoSpace, Point, call_item}
 use Rattle.logged_steps.specs.Steps.{Step, Steps, with_barrier, with_write, Reads, Answers, AnswersQuietly, Syncs, TellsFull, HasNoSpace, BeginsFlush, BeginsHeader, WritesLog, EndsBlocks, WritesHead, EndsFlush, Commits, GoesHome, Rests, Unmounts, Here, Then}
 use Rattle.logged_steps.proofs.Telling.{append_assoc, append_nil}
 use Rattle.logged_runs.specs.Starts.{IsOfReplay}

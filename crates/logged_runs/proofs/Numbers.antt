@@ -1,5 +1,5 @@
 -- Of the head that the journal is left with the items tell the number of the last call in it.
-use Rattle.std.proofs.Common.{◌≡◌, ℕ, zero, suc, ◌+◌, ◌<◌, ◌≤◌, List, [], ◌∷◌, ◌++◌, length, Option, None, Some, refl, sym, ap, subst, ◌∙◌, arith}
+use Rattle.std.proofs.Common.{◌≡◌, ℕ, zero, ◌+◌, ◌<◌, List, [], ◌∷◌, ◌++◌, length, Option, None, Some, refl, sym, ap, subst, ◌∙◌, arith}
 use Rattle.std.specs.Prelude.{◌^◌, false}
 use Rattle.std.specs.FinMap as table
 use Rattle.std.specs.List.{AllByRecursion}
@@ -15,7 +15,7 @@ use Rattle.log_values.specs.Flushing.FlushStep.{a_block, a_header}
 use Rattle.log_values.specs.Homing.{HomeAnswer}
 use Rattle.log_values.specs.Homing.HomeAnswer.{goes_home}
 use Rattle.log_values.specs.Log.{Flush, LogValue}
-use Rattle.log_values.specs.Log.Stage.{Ending, Headed, Writing}
+use Rattle.log_values.specs.Log.Stage.{Ending, Headed}
 use Rattle.log_values.specs.declared.steps.LogStep.TheVariants as step
 use Rattle.run_rules.specs.Lives.{AcceptedHead, DiskHeads, head_of, items_of, own_from, upto_of}
 use Rattle.shared_disk.specs.Disk.{DiskState, Operation}
@@ -29,7 +29,7 @@ use Rattle.logged_steps.proofs.Heads.{at_stage_of, none_begun}
 use Rattle.logged_steps.proofs.Telling.{left_same}
 use Rattle.logged_runs.specs.Starts.{IsOfReplay, only_life}
 use Rattle.logged_runs.proofs.Kinds.{AllStay}
-use Rattle.logged_runs.proofs.Noting.{IsNoted, NotesItsCalls, note_after, note_is, note_on, note_still, staged}
+use Rattle.logged_runs.proofs.Noting.{NotesItsCalls, note_after, note_is, note_on, note_still, staged}
 use Rattle.logged_runs.proofs.Upto.{its_items, note, upto_begun, upto_low, upto_unsaid}
 
 -- ---- a step that writes

@@ -1,5 +1,5 @@
 -- A run of one node with its log, by its items.
-use Rattle.std.proofs.Common.{◌≡◌, ℕ, zero, suc, ◌+◌, ◌<◌, ◌≤◌, Bool, true, false, List, [], ◌∷◌, ◌++◌, length, take, Option, None, Some, slice_get, refl, sym, ap, subst, ◌∙◌, arith}
+use Rattle.std.proofs.Common.{◌≡◌, ℕ, suc, ◌<◌, List, [], ◌∷◌, ◌++◌, length, None, Some, slice_get, refl, sym, ap, subst, ◌∙◌, arith}
 use Rattle.std.specs.List.{AllByRecursion}
 use Rattle.std.proofs.lemmas.List.{map-append}
 use Rattle.cluster_history.specs.History as history
@@ -9,7 +9,7 @@ use Rattle.cluster_history.specs.declared.Item.TheVariants as item
 use Rattle.cluster_laws.specs.History.{Gone}
 use Rattle.image_disks.specs.Lone.{remaining}
 use Rattle.image_machine.specs.Volumes.{Volume, images_of}
-use Rattle.image_model.specs.Image.{Image, image_of}
+use Rattle.image_model.specs.Image.{Image}
 use Rattle.image_model.specs.Replays.{StandsReplayed}
 use Rattle.image_model.proofs.Held.{some_same}
 use Rattle.journal_outcomes.specs.Images.{ring_at}
@@ -19,9 +19,9 @@ use Rattle.log_rings.proofs.Whole.{fits_in}
 use Rattle.log_values.specs.Flushing.{block_at, flush_chunks, head_place}
 use Rattle.log_values.specs.Log.{Flush, LogValue}
 use Rattle.log_values.specs.Sound.{IsSoundLog}
-use Rattle.lone_logs.specs.Laws.{IsHeadAt, IsHeadLeft, ItsHistoryIsLegal, Remains, RemainsWith}
+use Rattle.lone_logs.specs.Laws.{IsHeadLeft, ItsHistoryIsLegal, Remains, RemainsWith}
 use Rattle.lone_logs.specs.Laws.IsHeadLeft.{new, old}
-use Rattle.lone_logs.specs.States.{IsHeaded, NodeState, Numbers, trees_on}
+use Rattle.lone_logs.specs.States.{Numbers, trees_on}
 use Rattle.lone_logs.proofs.Stages.{no_flush}
 use Rattle.lone_machine.specs.Alone.{Begun}
 use Rattle.run_rules.specs.Follows as run
@@ -29,7 +29,7 @@ use Rattle.run_rules.specs.Lives.{AcceptedHead, DiskHeads, head_of, items_of, or
 use Rattle.script_lang.specs.declared.script.Client.{Client}
 use Rattle.trace_text.specs.declared.item.TraceItem.{TraceItem}
 use Rattle.trace_text.specs.declared.item.TraceItem.TheVariants as trace
-use Rattle.tree_histories.specs.Trees.{TreeHeadline, history_of, item_of}
+use Rattle.tree_histories.specs.Trees.{history_of, item_of}
 use Rattle.written_journals.proofs.RingsWritten.{on_inside}
 use Rattle.logged_steps.specs.Fails.{AsItWas, FailsTo, InAWrite}
 use Rattle.logged_steps.specs.Heads.{TellsItsHeads}

@@ -1,12 +1,12 @@
 -- The number of the last call that a head has, as the items tell it.
-use Rattle.std.proofs.Common.{◌≡◌, ℕ, ◌+◌, ◌<◌, ◌≤◌, List, [], ◌∷◌, ◌++◌, Option, None, Some, refl, sym, ap, subst, ◌∙◌, arith}
-use Rattle.std.specs.Prelude.{Bool, true, false, nat_lt, if◌then◌else◌}
+use Rattle.std.proofs.Common.{◌≡◌, ℕ, ◌+◌, ◌<◌, ◌≤◌, List, [], ◌∷◌, ◌++◌, None, Some, refl, sym, ap, subst, ◌∙◌, arith}
+use Rattle.std.specs.Prelude.{true, false, nat_lt, if◌then◌else◌}
 use Rattle.std.specs.List.{AllByRecursion}
 use Rattle.std.proofs.lemmas.Bool.{cond-true, cond-false, lt-ltb, le-ltb}
 use Rattle.trace_text.specs.declared.item.TraceItem.{TraceItem}
 use Rattle.trace_text.specs.declared.item.TraceItem.TheVariants as trace
 use Rattle.log_layout.specs.Transactions.{after}
-use Rattle.run_rules.specs.Lives.{AcceptedHead, DiskHeads, Unnamed, head_of, is_own, items_of, last_number, named, or_else, own_from, recovered_behind, to_its_end, unnamed, upto_by, upto_of}
+use Rattle.run_rules.specs.Lives.{AcceptedHead, DiskHeads, Unnamed, head_of, items_of, last_number, named, or_else, own_from, recovered_behind, unnamed, upto_by, upto_of}
 use Rattle.log_values.specs.Log.{Flush}
 use Rattle.log_values.specs.Log.Stage.{Headed}
 use Rattle.logged_steps.specs.Heads.{AreNext, HeadTold, TellsItsHeads, flying_head, head_of_flush, head_of_log, heads_told, last_head}

@@ -1,5 +1,5 @@
 -- Laws of the runs of one node with its log: what remains of one, told by its items.
-use Rattle.std.specs.Prelude.{ℕ, ◌≡◌, ◌≤◌, ◌+◌, ◌++◌, List, [], ◌∷◌, length, take, Option}
+use Rattle.std.specs.Prelude.{ℕ, ◌≤◌, ◌++◌, List, [], ◌∷◌, length, take, Option}
 use Rattle.std.specs.List.{AllByRecursion}
 use Rattle.cluster_history.specs.History.{Legal, tree_of}
 use Rattle.cluster_history.specs.Losses.{LossIsRight}
@@ -23,7 +23,7 @@ use Rattle.logged_steps.specs.Steps.{Steps}
 use Rattle.lone_logs.specs.States.{trees_on}
 use Rattle.lone_machine.specs.Alone.{Begun}
 use Rattle.run_rules.specs.Follows.{history_of}
-use Rattle.run_rules.specs.Lives.{AcceptedHead, DiskHeads, TraceKeptRight, upto_of}
+use Rattle.run_rules.specs.Lives.{DiskHeads, TraceKeptRight, upto_of}
 use Rattle.script_lang.specs.declared.script.Client.{Client}
 use Rattle.shared_disk.specs.Disk.{DiskState, Flight, IsOutcome, Operation, after_fence}
 use Rattle.trace_text.specs.declared.item.TraceItem.{TraceItem}

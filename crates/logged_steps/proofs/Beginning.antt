@@ -1,19 +1,17 @@
 -- A run begins on a disk at rest.
-use Rattle.std.proofs.Common.{◌≡◌, ℕ, List, [], Option, None, refl, sym, subst}
-use Rattle.std.specs.FinMap as table
+use Rattle.std.proofs.Common.{◌≡◌, ℕ, List, Option, sym, subst}
 use Rattle.call_blocks.specs.Lone.{MayChangeAtTheStart}
 use Rattle.file_tree.specs.Tree.{Tree}
-use Rattle.image_machine.specs.Volumes.{Volume, volume_of}
-use Rattle.image_model.specs.Image.{Image, image_of}
+use Rattle.image_machine.specs.Volumes.{volume_of}
+use Rattle.image_model.specs.Image.{image_of}
 use Rattle.image_model.specs.Owners.{Owners}
 use Rattle.image_model.specs.Stands.{Layout}
-use Rattle.journal_outcomes.specs.Disks.{flown_by}
 use Rattle.log_layout.specs.declared.log_header.LogHeader.{LogHeader}
 use Rattle.log_values.specs.Laws.{empty_log}
 use Rattle.log_values.specs.Log.{Journal}
 use Rattle.lone_images.specs.Lone.{begun_on}
 use Rattle.lone_logs.specs.Laws.{Begins, at_rest, no_numbers}
-use Rattle.lone_logs.specs.States.{IsLoggedNode, NodeState, trees_on}
+use Rattle.lone_logs.specs.States.{IsLoggedNode, trees_on}
 use Rattle.lone_machine.specs.Alone as alone
 use Rattle.lone_view.specs.Seeing.{Lone}
 use Rattle.shared_disk.specs.Disk.{DiskState, Operation, flight_to}

@@ -1,5 +1,5 @@
 -- The items of steps tell the headers of the journal, with the numbers that they have.
-use Rattle.std.proofs.Common.{◌≡◌, ℕ, ◌+◌, Bool, true, false, List, [], ◌∷◌, ◌++◌, length, Option, None, Some, refl, sym, ap, subst, ◌∙◌}
+use Rattle.std.proofs.Common.{◌≡◌, ℕ, ◌+◌, Bool, true, false, List, [], ◌∷◌, ◌++◌, Option, None, Some, refl, sym, ap, subst, ◌∙◌}
 use Rattle.std.specs.Prelude.{◌==◌, if◌then◌else◌}
 use Rattle.std.specs.FinMap as table
 use Rattle.std.specs.Ordering.{nat_cmp}
@@ -28,7 +28,7 @@ use Rattle.trace_text.specs.declared.item.TraceItem.TheVariants as trace
 use Rattle.logged_steps.specs.Heads.{AreNext, HeadTold, TellsItsHeads, clean_behind, flying_head, head_of_flush, head_of_log, headed_by, heads_told, last_head}
 use Rattle.logged_steps.specs.Laws.{HeadsAreTold}
 use Rattle.logged_steps.specs.Points.{ItsCommit, Point, call_item}
-use Rattle.logged_steps.specs.Steps.{Step, Steps, with_barrier, with_write, Reads, Answers, AnswersQuietly, Syncs, TellsFull, HasNoSpace, BeginsFlush, BeginsHeader, WritesLog, EndsBlocks, WritesHead, EndsFlush, Commits, GoesHome, Rests, Unmounts, Here, Then}
+use Rattle.logged_steps.specs.Steps.{Step, with_barrier, with_write, Reads, Answers, AnswersQuietly, Syncs, TellsFull, HasNoSpace, BeginsFlush, BeginsHeader, WritesLog, EndsBlocks, WritesHead, EndsFlush, Commits, GoesHome, Rests, Unmounts, Here, Then}
 use Rattle.logged_steps.proofs.Telling.{append_assoc, append_nil}
 
 -- ---- lists of headers
