@@ -15,6 +15,7 @@ use Rattle.trace_text.specs.declared.item.TraceItem.{TraceItem}
 use Rattle.trace_text.specs.declared.item.TraceItem.TheVariants as trace
 use Rattle.logged_steps.proofs.Histories.{history_on}
 use Rattle.logged_steps.proofs.Telling.{append_nil}
+use Rattle.logged_runs.specs.Laws.{IsStop}
 use Rattle.logged_runs.specs.Starts.{only_life}
 use Rattle.logged_runs.proofs.Kinds.{AllStay, Stays, end_on, fence_on, no_lives, no_losses}
 
@@ -59,20 +60,63 @@ module _ (clients : List Client) (xs end : List TraceItem) (all : AllStay xs) (e
   pub head_now : (disks : DiskHeads) → ((p : ℕ) → fenced_behind 1 p end ≡ None) → head_of disks only_life whole ≡ disks.now 1
   head_now disks none = ap (λ o. head_behind o disks 1) (fence_on 1 1 xs end all ∙ none (1 + length xs))
 
+-- ---- the stop
+
+-- it ends the life, and says nothing else of lives, fences, losses and calls
+pub record IsItsStop (clients : List Client) (x : TraceItem) : Type 0 where
+  pub cut : (ys : List TraceItem) → to_its_end 1 (x ∷ ys) ≡ []
+  pub fence : (n : ℕ) (ys : List TraceItem) → fenced_behind 1 n (x ∷ ys) ≡ fenced_behind 1 (suc n) ys
+  pub lives : (p : ℕ) (ys : List TraceItem) → lives_from p (x ∷ ys) ≡ lives_from (suc p) ys
+  pub losses : (ys : List TraceItem) → losses_of 1 (x ∷ ys) ≡ losses_of 1 ys
+  pub silent : (ys : List TraceItem) → history_of clients (x ∷ ys) ≡ history_of clients ys
+  pub other : (node kept : ℕ) → trace.Lost node kept ≡ x → ⊥
+
+cut_there : (node : ℕ) (xs : List TraceItem) → node ≡ 1 → (if node == 1 then [] else xs) ≡ []
+cut_there node xs is = cond-true (node == 1) [] xs (eq-eqb node 1 is)
+
+no_crash : (node kept i : ℕ) → trace.Lost node kept ≡ trace.Crash i → ⊥
+no_crash node kept i e = cc
+
+no_withdraw : (node kept i before after : ℕ) → trace.Lost node kept ≡ trace.Withdraw i before after → ⊥
+no_withdraw node kept i before after e = cc
+
+pub stops : (clients : List Client) (x : TraceItem) → IsStop x → IsItsStop clients x
+stops clients (trace.Crash i) is = record {
+  cut = λ ys. cut_there i (trace.Crash i ∷ to_its_end 1 ys) is;
+  fence = λ n ys. refl;
+  lives = λ p ys. refl;
+  losses = λ ys. refl;
+  silent = λ ys. refl;
+  other = λ node kept e. no_crash node kept i e;
+}
+stops clients (trace.Withdraw i before after) is = record {
+  cut = λ ys. cut_there i (trace.Withdraw i before after ∷ to_its_end 1 ys) is;
+  fence = λ n ys. refl;
+  lives = λ p ys. refl;
+  losses = λ ys. refl;
+  silent = λ ys. refl;
+  other = λ node kept e. no_withdraw node kept i before after e;
+}
+stops clients x is = absurd is
+
 -- ---- behind the fence
 
-abbrev fence : List TraceItem
-fence = trace.Crash 1 ∷ trace.Fence 1 ∷ []
+module _ (clients : List Client) (x : TraceItem) (stop : IsItsStop clients x) where
+  pub stopped : IsItsEnd clients (x ∷ [])
+  stopped = record { lives = λ p. stop.lives p []; losses = stop.losses []; silent = stop.silent [] }
 
-module _ (clients : List Client) (xs : List TraceItem) (all : AllStay xs) where
-  pub head_fenced : (disks : DiskHeads) → head_of disks only_life (trace.Join 1 ∷ (xs ++ fence)) ≡ disks.behind 1 (length (trace.Join 1 ∷ (xs ++ fence)))
-  head_fenced disks = ap (λ o. head_behind o disks 1) (fence_on 1 1 xs fence all) ∙ ap (disks.behind 1) (let n = length-append xs fence in omega (arith, n))
+  abbrev fence : List TraceItem
+  fence = x ∷ trace.Fence 1 ∷ []
 
-  pub life_fenced : life_lost 1 (trace.Join 1 ∷ (xs ++ fence)) ≡ Some only_life
-  life_fenced = (λ i. life_at 1 (none_lost clients xs fence all its i) (one_life clients xs fence all its i))
-    where
-      its : IsItsEnd clients fence
-      its = record { lives = λ p. refl; losses = refl; silent = refl }
+  pub fenced_too : IsItsEnd clients fence
+  fenced_too = record { lives = λ p. stop.lives p (trace.Fence 1 ∷ []); losses = stop.losses (trace.Fence 1 ∷ []); silent = stop.silent (trace.Fence 1 ∷ []) }
+
+  module _ (xs : List TraceItem) (all : AllStay xs) where
+    pub head_fenced : (disks : DiskHeads) → head_of disks only_life (trace.Join 1 ∷ (xs ++ fence)) ≡ disks.behind 1 (length (trace.Join 1 ∷ (xs ++ fence)))
+    head_fenced disks = ap (λ o. head_behind o disks 1) (fence_on 1 1 xs fence all ∙ stop.fence (1 + length xs) (trace.Fence 1 ∷ [])) ∙ ap (disks.behind 1) (let n = length-append xs fence in omega (arith, n))
+
+    pub life_fenced : life_lost 1 (trace.Join 1 ∷ (xs ++ fence)) ≡ Some only_life
+    life_fenced = (λ i. life_at 1 (none_lost clients xs fence all fenced_too i) (one_life clients xs fence all fenced_too i))
 
 -- ---- the numbers of calls
 
@@ -126,10 +170,11 @@ lost_same k node kept e = (cc, cc)
 none_there : (x : TraceItem) → None ≡ Some x → ⊥
 none_there x e = cc
 
-pub its_place : (xs : List TraceItem) (k p node kept : ℕ) → AllStay xs → slice_get (xs ++ trace.Crash 1 ∷ trace.Fence 1 ∷ trace.Lost 1 k ∷ []) p ≡ Some (trace.Lost node kept) → IsTheLoss xs k p node kept
-its_place [] k zero node kept all e = absurd (no_loss (trace.Crash 1) node kept (λ same. absurd cc) e)
-its_place [] k (suc zero) node kept all e = absurd (no_loss (trace.Fence 1) node kept (λ same. absurd cc) e)
-its_place [] k (suc (suc zero)) node kept all e = (let is = lost_same k node kept e in record { at = refl; own = is.0; same = is.1 })
-its_place [] k (suc (suc (suc p))) node kept all e = absurd (none_there (trace.Lost node kept) e)
-its_place (x ∷ xs) k zero node kept all e = absurd (no_loss x node kept (λ same. subst Stays (sym same) all.0) e)
-its_place (x ∷ xs) k (suc p) node kept all e = (let is = its_place xs k p node kept all.1 e in record { at = (let at = is.at in omega (arith, at)); own = is.own; same = is.same })
+module _ (clients : List Client) (stop_item : TraceItem) (stop : IsItsStop clients stop_item) where
+  pub its_place : (xs : List TraceItem) (k p node kept : ℕ) → AllStay xs → slice_get (xs ++ stop_item ∷ trace.Fence 1 ∷ trace.Lost 1 k ∷ []) p ≡ Some (trace.Lost node kept) → IsTheLoss xs k p node kept
+  its_place [] k zero node kept all e = absurd (no_loss stop_item node kept (stop.other node kept) e)
+  its_place [] k (suc zero) node kept all e = absurd (no_loss (trace.Fence 1) node kept (λ same. absurd cc) e)
+  its_place [] k (suc (suc zero)) node kept all e = (let is = lost_same k node kept e in record { at = refl; own = is.0; same = is.1 })
+  its_place [] k (suc (suc (suc p))) node kept all e = absurd (none_there (trace.Lost node kept) e)
+  its_place (x ∷ xs) k zero node kept all e = absurd (no_loss x node kept (λ same. subst Stays (sym same) all.0) e)
+  its_place (x ∷ xs) k (suc p) node kept all e = (let is = its_place xs k p node kept all.1 e in record { at = (let at = is.at in omega (arith, at)); own = is.own; same = is.same })

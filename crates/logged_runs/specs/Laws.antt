@@ -72,33 +72,40 @@ abbrev pub EndsAreTold : Type 0
 EndsAreTold = (v : Volume) (s : Begun (trees_on v)) (d : ℕ) (clients : List Client) (time : ℕ) (a p q : Point) (disks : DiskHeads) (left : Image) → BeginsAt v s d clients a → Steps time a p → EndsTo p q
     → HasFirst v d a disks.behind → MayLeave v q left → IsAcceptedIn v d left (disks.now 1) → StandsAsTold clients disks q.items s.tree left
 
--- ---- behind a crash
+-- ---- behind its stop
 
--- also with the crash, until the fence
-abbrev pub CrashesAreTold : Type 0
-CrashesAreTold = (v : Volume) (s : Begun (trees_on v)) (d : ℕ) (clients : List Client) (time : ℕ) (a p q : Point) (disks : DiskHeads) (left : Image) → BeginsAt v s d clients a → Steps time a p → FailsTo time p q
-    → HasFirst v d a disks.behind → MayLeave v q left → IsAcceptedIn v d left (disks.now 1) → StandsAsTold clients disks (q.items ++ trace.Crash 1 ∷ []) s.tree left
+-- node 1 crashes, or withdraws
+abbrev pub IsStop : TraceItem → Type 0
+IsStop (trace.Crash node) = node ≡ 1
+IsStop (trace.Withdraw node before after) = node ≡ 1
+IsStop _ = ⊥
 
--- these items, and then the crash and the fence; and the loss, which keeps the calls up to k
-abbrev pub to_fence : List TraceItem → List TraceItem
-to_fence items = items ++ trace.Crash 1 ∷ trace.Fence 1 ∷ []
+-- also with the stop, until the fence
+abbrev pub StopsAreTold : Type 0
+StopsAreTold = (v : Volume) (s : Begun (trees_on v)) (d : ℕ) (clients : List Client) (time : ℕ) (a p q : Point) (x : TraceItem) (disks : DiskHeads) (left : Image) → BeginsAt v s d clients a → Steps time a p → FailsTo time p q
+    → IsStop x → HasFirst v d a disks.behind → MayLeave v q left → IsAcceptedIn v d left (disks.now 1) → StandsAsTold clients disks (q.items ++ x ∷ []) s.tree left
 
-abbrev pub to_loss : List TraceItem → ℕ → List TraceItem
-to_loss items k = items ++ trace.Crash 1 ∷ trace.Fence 1 ∷ trace.Lost 1 k ∷ []
+-- these items, and then the stop and the fence; and the loss, which keeps the calls up to k
+abbrev pub to_fence : TraceItem → List TraceItem → List TraceItem
+to_fence x items = items ++ x ∷ trace.Fence 1 ∷ []
+
+abbrev pub to_loss : TraceItem → List TraceItem → ℕ → List TraceItem
+to_loss x items k = items ++ x ∷ trace.Fence 1 ∷ trace.Lost 1 k ∷ []
 
 -- With a right loss the history is legal, each loss in it is right, and the image stands, its journals replayed, for its tree.
-pub record StandsLost (clients : List Client) (disks : DiskHeads) (items : List TraceItem) (v : Volume) (s : Begun (trees_on v)) (left : Image) (k : ℕ) : Type 0 where
-  pub legal : Legal (history_of clients (to_loss items k)) s.tree
-  pub right : TraceKeptRight clients disks.behind (to_loss items k)
-  pub stands : StandsReplayed left (tree_of (history_of clients (to_loss items k)) s.tree)
+pub record StandsLost (clients : List Client) (disks : DiskHeads) (x : TraceItem) (items : List TraceItem) (start : Tree) (left : Image) (k : ℕ) : Type 0 where
+  pub legal : Legal (history_of clients (to_loss x items k)) start
+  pub right : TraceKeptRight clients disks.behind (to_loss x items k)
+  pub stands : StandsReplayed left (tree_of (history_of clients (to_loss x items k)) start)
 
--- Behind the fence the image is that of the disk there, whose head the disks have behind the fence's item: what remains stands, and so it does with a right loss.
-pub record StandsFenced (clients : List Client) (disks : DiskHeads) (items : List TraceItem) (v : Volume) (s : Begun (trees_on v)) (left : Image) : Type 0 where
-  pub told : StandsAsTold clients disks (to_fence items) s.tree left
-  pub lost : (k : ℕ) → LossIsRight (history_of clients items) 1 (upto_of disks only_life (to_fence items)) k → StandsLost clients disks items v s left k
+-- Behind the fence what remains stands, and so it does with a right loss.
+pub record StandsFenced (clients : List Client) (disks : DiskHeads) (x : TraceItem) (items : List TraceItem) (start : Tree) (left : Image) : Type 0 where
+  pub told : StandsAsTold clients disks (to_fence x items) start left
+  pub lost : (k : ℕ) → LossIsRight (history_of clients items) 1 (upto_of disks only_life (to_fence x items)) k → StandsLost clients disks x items start left k
 
+-- so it is of the image on the disk there, whose head the disks have behind the fence's item
 abbrev pub FencesAreTold : Type 0
-FencesAreTold = (v : Volume) (s : Begun (trees_on v)) (d : ℕ) (clients : List Client) (time : ℕ) (a p q : Point) (disks : DiskHeads) (became : List Flight) → BeginsAt v s d clients a → Steps time a p → FailsTo time p q
-    → IsOutcome q.disk 1 became → HasFirst v d a disks.behind
+FencesAreTold = (v : Volume) (s : Begun (trees_on v)) (d : ℕ) (clients : List Client) (time : ℕ) (a p q : Point) (x : TraceItem) (disks : DiskHeads) (became : List Flight) → BeginsAt v s d clients a → Steps time a p → FailsTo time p q
+    → IsStop x → IsOutcome q.disk 1 became → HasFirst v d a disks.behind
     → let left = image_of (after_fence q.disk 1 became) in
-    NoFalseHeader (image_of q.disk) v.layout (flown_by q.disk 1) left → IsAcceptedIn v d left (disks.behind 1 (length (to_fence q.items))) → StandsFenced clients disks q.items v s left
+    NoFalseHeader (image_of q.disk) v.layout (flown_by q.disk 1) left → IsAcceptedIn v d left (disks.behind 1 (length (to_fence x q.items))) → StandsFenced clients disks x q.items s.tree left

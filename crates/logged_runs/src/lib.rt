@@ -1,8 +1,8 @@
-//! The runs of one node with its log, told by their items: what remains of one at each front, and what a crash, a fence and a loss leave of it. The functions do
+//! The runs of one node with its log, told by their items: what remains of one at each front, and what a stop, a fence and a loss leave of it. The functions do
 //! nothing: their contracts are the laws.
 #![tactic(auto)]
 
-ghost use Rattle.logged_runs.specs.Laws.{CrashesAreTold, EndsAreTold, FencesAreTold, FrontsStand, RunsBeginSo, WhatRemainsIsTold};
+ghost use Rattle.logged_runs.specs.Laws.{EndsAreTold, FencesAreTold, FrontsStand, RunsBeginSo, StopsAreTold, WhatRemainsIsTold};
 
 use logged_steps::{failed_writes_keep, heads_are_told, runs_begin, steps_are_told, steps_keep};
 use lone_ends::{fences_leave_what_remains, what_remains_at_its_end};
@@ -41,9 +41,9 @@ pub fn ends_are_told()
     fences_leave_what_remains();
 }
 
-/// A law: so it is behind a crash, and behind the fence of the disk that it leaves, also with a right loss.
-pub fn crashes_are_told()
-    ensures crashes { CrashesAreTold }
+/// A law: so it is behind a crash or a withdraw, and behind the fence, of the disk that it leaves, also with a right loss.
+pub fn stops_are_told()
+    ensures stops { StopsAreTold }
     ensures fences { FencesAreTold }
 {
     steps_keep();
