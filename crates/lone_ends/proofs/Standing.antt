@@ -257,11 +257,11 @@ its_ends_land they_are v s w d st flying left is flies landed = landed_so they_a
 
 module _ (they_are : OutcomesAreTheMachines) (v : Volume) (s : Begun (trees_on v)) (w : World (trees_on v)) (d : ℕ) (st : NodeState) (is : IsLoggedNode v s w d st) (done : IsDone st)
     (never : st.log.clean ≡ true) where
-  own_head : HasCleanHead st.image d st.log.head st.log.sequence
-  own_head = record { head = is.ring.head; headed = is.ring.headed; is = record { place = is.ring.place; sequence = is.ring.sequence; clean = is.ring.clean ∙ never } }
+  its_head : HasCleanHead st.image d st.log.head st.log.sequence
+  its_head = record { head = is.ring.head; headed = is.ring.headed; is = record { place = is.ring.place; sequence = is.ring.sequence; clean = is.ring.clean ∙ never } }
 
   own_clean : IsClean (ring_at st.image d)
-  own_clean = (own_head.head, own_head.headed, own_head.is.clean)
+  own_clean = (its_head.head, its_head.headed, its_head.is.clean)
 
   clean_all : (j k : ℕ) → IsJournalAt v.layout j k → IsClean (ring_at st.image k)
   clean_all j k at = elim (cases_eq k d) [
@@ -295,7 +295,7 @@ module _ (they_are : OutcomesAreTheMachines) (v : Volume) (s : Begun (trees_on v
   at_rest = itself.rests (ended_world v s w d st is done).disk (ended_rings v s w d st is done).0 is.disk.blocks keeps_so
 
   pub clean_so : HasEnded v s w d st.image st.log.head st.log.sequence
-  clean_so = ended_so v s w d st is done st.image at_rest clean_all st.log.head st.log.sequence own_head
+  clean_so = ended_so v s w d st is done st.image at_rest clean_all st.log.head st.log.sequence its_head
 
 pub clean_nodes_have_ended : OutcomesAreTheMachines → CleanNodesHaveEnded
 clean_nodes_have_ended they_are v s w d st is done never = clean_so they_are v s w d st is done never
