@@ -12,7 +12,7 @@ use Rattle.journal_outcomes.specs.Rings.{InFlight}
 use Rattle.log_layout.specs.Transactions.{after}
 use Rattle.log_values.specs.Flushing.{block_at, first_place}
 use Rattle.lone_ends.specs.Ends.{FliesLast, IsHeadAtEnd, ItsEndsStand}
-use Rattle.lone_ends.specs.Ends.IsHeadAtEnd as end_head
+use Rattle.lone_ends.specs.Ends.{IsHeadAtEnd as end_head}
 use Rattle.lone_ends.specs.Fences.{ImagesAtRestStay}
 use Rattle.lone_logs.specs.Laws.{ItsHistoryIsLegal, Remains}
 use Rattle.lone_logs.specs.States.{HasLandedAs, NodeState, Numbers, trees_on}
@@ -34,9 +34,9 @@ use Rattle.logged_runs.specs.Heads.{HasFirst, IsAcceptedIn}
 use Rattle.logged_runs.specs.Laws.{EndsAreTold}
 use Rattle.logged_runs.specs.Standing.{StandsAsTold}
 use Rattle.logged_runs.specs.Starts.{BeginsAt, only_life}
-use Rattle.logged_runs.proofs.Kinds.{AllStay}
+use Rattle.logged_runs.proofs.Staying.{AllStay}
 use Rattle.logged_runs.proofs.Lasting.{IsLastAs, said, unsaid}
-use Rattle.logged_runs.proofs.Lasting.IsLastAs as last_as
+use Rattle.logged_runs.proofs.Lasting.{IsLastAs as last_as}
 use Rattle.logged_runs.proofs.Losing.{IsItsEnd, head_now, its_part}
 use Rattle.logged_runs.proofs.Machine.{end_syncs, end_within}
 use Rattle.logged_runs.proofs.Runs.{at, block_is, clean_is, first_at, noted, replays, same_noted, sequence_is, stands_by, stay, told, xs}

@@ -11,7 +11,7 @@ use Rattle.logged_steps.specs.Heads.{TellsItsHeads, flying_head}
 use Rattle.logged_steps.specs.Points.{Point}
 use Rattle.logged_steps.proofs.Heads.{none_begun}
 use Rattle.logged_runs.specs.Starts.{IsOfReplay, only_life}
-use Rattle.logged_runs.proofs.Kinds.{AllStay}
+use Rattle.logged_runs.proofs.Staying.{AllStay}
 use Rattle.logged_runs.proofs.Naming.{is_itself, is_other, named_on, or_named}
 use Rattle.logged_runs.proofs.Noting.{NotesItsCalls, last_is, note_after, note_on, note_still}
 use Rattle.logged_runs.proofs.Upto.{LowIsTold, above_start, by_all, by_item, by_start, its_items, low_told, not_told, note, upto_low}

@@ -32,7 +32,7 @@ use Rattle.logged_runs.specs.Heads.{HasFirst, IsAcceptedIn}
 use Rattle.logged_runs.specs.Laws.{FencesAreTold, FrontsStand, IsStop, StandsFenced, StandsLost, StopsAreTold, WhatRemainsIsTold, to_fence, to_loss}
 use Rattle.logged_runs.specs.Standing.{StandsAsTold}
 use Rattle.logged_runs.specs.Starts.{BeginsAt, only_life}
-use Rattle.logged_runs.proofs.Kinds.{AllStay}
+use Rattle.logged_runs.proofs.Staying.{AllStay}
 use Rattle.logged_runs.proofs.Losing.{IsItsEnd, IsItsStop, IsTheLoss, fenced_too, head_fenced, head_now, its_place, life_fenced, no_loss, stopped, stops}
 use Rattle.logged_runs.proofs.Machine.{all_answered, calm}
 use Rattle.logged_runs.proofs.Runs.{at, items_are, remaining_is, stands_as_told, stay, upto_is, xs}

@@ -1,5 +1,5 @@
 pub mod Starting
-pub mod Kinds
+pub mod Staying
 pub mod Naming
 pub mod Upto
 pub mod Noting

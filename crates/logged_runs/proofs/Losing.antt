@@ -17,7 +17,7 @@ use Rattle.logged_steps.proofs.Histories.{history_on}
 use Rattle.logged_steps.proofs.Telling.{append_nil}
 use Rattle.logged_runs.specs.Laws.{IsStop}
 use Rattle.logged_runs.specs.Starts.{only_life}
-use Rattle.logged_runs.proofs.Kinds.{AllStay, Stays, end_on, fence_on, no_lives, no_losses}
+use Rattle.logged_runs.proofs.Staying.{AllStay, Stays, end_on, fence_on, no_lives, no_losses}
 
 -- ---- what may come behind the items of the life
 

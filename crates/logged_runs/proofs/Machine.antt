@@ -14,7 +14,7 @@ use Rattle.image_machine.specs.Volumes.{Volume, images_of}
 use Rattle.image_model.proofs.Held.{none_some, some_same}
 use Rattle.log_layout.specs.declared.log_header.LogHeader.{LogHeader}
 use Rattle.lone_ends.specs.Ends.{IsHeadAtEnd}
-use Rattle.lone_ends.specs.Ends.IsHeadAtEnd as end
+use Rattle.lone_ends.specs.Ends.{IsHeadAtEnd as end}
 use Rattle.lone_logs.specs.Laws.{IsHeadLeft}
 use Rattle.lone_logs.specs.Laws.IsHeadLeft.{new, old}
 use Rattle.lone_logs.specs.States.{IsLoggedNode, NodeState, trees_on}
@@ -81,7 +81,7 @@ module _ (v : Volume) (s : Begun (trees_on v)) (w : World (trees_on v)) (d : ℕ
 
   -- at the end too: no call is behind the number of the last one
   pub end_syncs : TreeHeadline (images_of v) w → (h : LogHeader) (n : ℕ) → IsHeadAtEnd st h n → SyncsThere v w n
-  end_syncs legal h n (end.old low at) = syncs legal h n (old low at)
+  end_syncs legal h n (end.old low at) p q client other number earlier call reply sync called above below = syncs legal h n (old low at) p q client other number earlier call reply sync called above below
   end_syncs legal h n (end.last all at) p q client other number earlier call reply sync called above below =
       (let low = (said_of v w.book.published w.book.told w.items (sound (trees_on v) s w is.alone).heard q 1 other earlier call reply called).low in
       let most : w.book.published 1 ≡ st.numbers.answered = ap w.book.published (sym is.node) ∙ is.alone.told ∙ is.numbers.answered in

@@ -6,7 +6,7 @@ use Rattle.trace_text.specs.declared.item.TraceItem.{TraceItem}
 use Rattle.trace_text.specs.declared.item.TraceItem.TheVariants as trace
 use Rattle.run_rules.specs.Lives.{AcceptedHead, named}
 use Rattle.logged_steps.specs.Heads.{AreNext, HeadTold, heads_told, last_head}
-use Rattle.logged_runs.proofs.Kinds.{AllStay}
+use Rattle.logged_runs.proofs.Staying.{AllStay}
 
 -- ---- the header of this block and sequence
 

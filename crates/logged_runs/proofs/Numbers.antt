@@ -28,7 +28,7 @@ use Rattle.logged_steps.specs.Steps.{Step, Reads, Answers, AnswersQuietly, Syncs
 use Rattle.logged_steps.proofs.Heads.{at_stage_of, none_begun}
 use Rattle.logged_steps.proofs.Telling.{left_same}
 use Rattle.logged_runs.specs.Starts.{IsOfReplay, only_life}
-use Rattle.logged_runs.proofs.Kinds.{AllStay}
+use Rattle.logged_runs.proofs.Staying.{AllStay}
 use Rattle.logged_runs.proofs.Noting.{NotesItsCalls, note_after, note_is, note_on, note_still, staged}
 use Rattle.logged_runs.proofs.Upto.{its_items, note, upto_begun, upto_low, upto_unsaid}
 

@@ -41,12 +41,12 @@ use Rattle.logged_runs.specs.Heads.{HasFirst, IsAcceptedIn}
 use Rattle.logged_runs.specs.Standing.{StandsAsTold, SyncsStand}
 use Rattle.logged_runs.specs.Starts.{BeginsAt, only_life}
 use Rattle.logged_runs.proofs.Chunks.{due_is_some}
-use Rattle.logged_runs.proofs.Kinds.{AllStay, no_end, stay_on, stay_replays, stay_steps}
+use Rattle.logged_runs.proofs.Staying.{AllStay, no_end, stay_on, stay_replays, stay_steps}
 use Rattle.logged_runs.proofs.Losing.{IsItsEnd, its_part, remains_are, same_history}
 use Rattle.logged_runs.proofs.Machine.{SyncsThere, syncs, within}
 use Rattle.logged_runs.proofs.Noting.{IsNoted, IsNotedBy, NotesItsCalls, calls_noted}
 use Rattle.logged_runs.proofs.Numbers.{IsLeftAs, number}
-use Rattle.logged_runs.proofs.Numbers.IsLeftAs as left_as
+use Rattle.logged_runs.proofs.Numbers.{IsLeftAs as left_as}
 use Rattle.logged_runs.proofs.Upto.{first_is, its_items, note}
 
 -- a flush's header goes to a place of the journal
@@ -128,7 +128,7 @@ module _ (keep : StepsKeep) (fails : FailedWritesKeep) (heads : HeadsAreTold) (t
     in_history z e = ap (λ (is : List Item). slice_get is z) (sym (same_history clients xs end stay ends ∙ history_is)) ∙ e
 
     synced : SyncsStand clients (upto_of disks only_life (trace.Join 1 ∷ (xs ++ end))) (trace.Join 1 ∷ (xs ++ end))
-    synced x y client other count earlier call reply synced called above below = sync x y client other count earlier call reply (in_history x synced) (in_history y called) (subst (λ m. m < earlier) upto_is above) below
+    synced x y client other count earlier call reply answered called above below = sync x y client other count earlier call reply (in_history x answered) (in_history y called) (subst (λ m. m < earlier) upto_is above) below
 
     pub stands_by : StandsAsTold clients disks (q.items ++ end) s.tree left
     stands_by = subst (λ is. StandsAsTold clients disks is s.tree left) (ap (λ is. is ++ end) (sym items_are)) (record {

@@ -14,7 +14,7 @@ use Rattle.logged_steps.specs.Points.{IsOfRun, Point}
 use Rattle.logged_steps.proofs.Heads.{at_stage_of, heads_on}
 use Rattle.logged_steps.proofs.Telling.{append_assoc, append_nil}
 use Rattle.logged_runs.specs.Starts.{IsOfReplay, only_life}
-use Rattle.logged_runs.proofs.Kinds.{AllStay, none_recovered, recovered_on}
+use Rattle.logged_runs.proofs.Staying.{AllStay, none_recovered, recovered_on}
 use Rattle.logged_runs.proofs.Naming.{IsLastOf, find_head, found, last_above, last_of, named_is, none_before, none_behind}
 use Rattle.logged_runs.proofs.Naming.IsLastOf.{none_came, the_last}
 

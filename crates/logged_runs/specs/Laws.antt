@@ -1,5 +1,5 @@
 -- Laws of the runs of one node with its log: what remains of one, told by its items.
-use Rattle.std.specs.Prelude.{ℕ, ◌≤◌, ◌++◌, List, [], ◌∷◌, length, take, Option}
+use Rattle.std.specs.Prelude.{ℕ, ◌≡◌, ◌≤◌, ◌++◌, List, [], ◌∷◌, length, take, Option}
 use Rattle.std.specs.List.{AllByRecursion}
 use Rattle.cluster_history.specs.History.{Legal, tree_of}
 use Rattle.cluster_history.specs.Losses.{LossIsRight}
