@@ -11,7 +11,7 @@ use Rattle.logged_steps.specs.Heads.{TellsItsHeads, flying_head}
 use Rattle.logged_steps.specs.Points.{Point}
 use Rattle.logged_steps.proofs.Heads.{none_begun}
 use Rattle.logged_runs.specs.Starts.{IsOfReplay, only_life}
-use Rattle.logged_runs.proofs.Staying.{AllStay}
+use Rattle.logged_runs.proofs.Staying.{NoneIsClean}
 use Rattle.logged_runs.proofs.Naming.{is_itself, is_other, named_on, or_named}
 use Rattle.logged_runs.proofs.Noting.{NotesItsCalls, last_is, note_after, note_on, note_still}
 use Rattle.logged_runs.proofs.Upto.{LowIsTold, above_start, by_all, by_item, by_start, its_items, low_told, not_told, note, upto_low}
@@ -24,7 +24,7 @@ pub data IsLastAs (p : Point) (h : AcceptedHead) (n : ℕ) : Type 0 where
   last : n ≡ p.numbers.answered → h.block ≡ block_at p.log.journal (first_place p.log) → h.sequence ≡ p.log.sequence + 1 → h.is_clean ≡ true → IsLastAs p h n
 
 module _ (a p : Point) (replays : List TraceItem) (of_replay : AllByRecursion IsOfReplay replays) (told : TellsItsHeads a p) (noted : NotesItsCalls note a p) (same_more : noted.more ≡ told.more)
-    (stay : AllStay (its_items a p replays of_replay told)) (idle : p.log.flush ≡ None) (disks : DiskHeads) (items : List TraceItem) (h : AcceptedHead) (there : head_of disks only_life items ≡ h)
+    (stay : NoneIsClean (its_items a p replays of_replay told)) (idle : p.log.flush ≡ None) (disks : DiskHeads) (items : List TraceItem) (h : AcceptedHead) (there : head_of disks only_life items ≡ h)
     (first_at : (disks.behind 1 (own_from only_life items)).sequence ≡ a.log.sequence) (zero : a.numbers.low ≡ 0) (n : ℕ) where
   abbrev xs : List TraceItem
   xs = its_items a p replays of_replay told
@@ -35,17 +35,17 @@ module _ (a p : Point) (replays : List TraceItem) (of_replay : AllByRecursion Is
   -- ---- where no item tells of the clean header
 
   -- the last call has the last number
-  answered_is : items ≡ trace.Join 1 ∷ xs → last_number 1 0 items ≡ p.numbers.answered
-  answered_is are =
-      ap (last_number 1 0) are ∙ last_is note xs
+  answered_is : last_number 1 0 (trace.Join 1 ∷ xs) ≡ p.numbers.answered
+  answered_is =
+      last_is note xs
       ∙ ap (λ m. m.last) (note_on note replays told.more ∙ ap (λ m. note_after m told.more) (note_still note replays of_replay) ∙ ap (note_after note) (sym same_more)) ∙ noted.noted.last
 
-  pub unsaid : items ≡ trace.Join 1 ∷ xs → items_of only_life items ≡ xs → IsLastAs p h n → upto_of disks only_life items ≡ n
-  unsaid are its (old is block sequence) = upto_low a p replays of_replay told stay disks items h its there first_at zero block sequence ∙ sym is
-  unsaid are its (last is block sequence clean) =
+  pub unsaid : last_number 1 0 items ≡ last_number 1 0 (trace.Join 1 ∷ xs) → items_of only_life items ≡ xs → IsLastAs p h n → upto_of disks only_life items ≡ n
+  unsaid counted its (old is block sequence) = upto_low a p replays of_replay told stay disks items h its there first_at zero block sequence ∙ sym is
+  unsaid counted its (last is block sequence clean) =
       by_all disks items xs h its there (not_told a p replays of_replay told stay h none_flies sequence)
       (let above = above_start a p replays of_replay told stay h none_flies sequence in let f = first_at in omega (arith, above, f)) clean
-      ∙ answered_is are ∙ sym is
+      ∙ counted ∙ answered_is ∙ sym is
 
   -- ---- where its item does
 

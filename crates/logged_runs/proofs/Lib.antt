@@ -8,6 +8,7 @@ pub mod Lasting
 pub mod Losing
 pub mod Chunks
 pub mod Machine
+pub mod Fronts
 pub mod Runs
-pub mod Laws
 pub mod Endings
+pub mod Laws

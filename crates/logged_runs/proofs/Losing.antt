@@ -9,7 +9,7 @@ use Rattle.cluster_history.specs.declared.Item.TheVariants as item
 use Rattle.file_tree.specs.declared.call.Call.{Call}
 use Rattle.file_tree.specs.declared.reply.Reply.{Reply}
 use Rattle.run_rules.specs.Follows.{history_of}
-use Rattle.run_rules.specs.Lives.{DiskHeads, Life, fenced_behind, head_behind, head_of, items_of, life_at, life_lost, lives_from, lives_of, losses_for, losses_of, remains, to_its_end, upto_of, without_loss}
+use Rattle.run_rules.specs.Lives.{DiskHeads, Life, fenced_behind, head_behind, head_of, items_of, last_number, life_at, life_lost, lives_from, lives_of, losses_for, losses_of, remains, to_its_end, upto_of, without_loss}
 use Rattle.script_lang.specs.declared.script.Client.{Client}
 use Rattle.trace_text.specs.declared.item.TraceItem.{TraceItem}
 use Rattle.trace_text.specs.declared.item.TraceItem.TheVariants as trace
@@ -19,6 +19,13 @@ use Rattle.logged_runs.specs.Laws.{IsStop}
 use Rattle.logged_runs.specs.Starts.{only_life}
 use Rattle.logged_runs.proofs.Staying.{AllStay, Stays, end_on, fence_on, no_lives, no_losses}
 
+-- ---- the number of the last call
+
+last_on : (n : ℕ) (xs ys : List TraceItem) → last_number 1 n (xs ++ ys) ≡ last_number 1 (last_number 1 n xs) ys
+last_on n [] ys = refl
+last_on n (trace.Call i name number call reply ∷ xs) ys = last_on (if i == 1 then number else n) xs ys
+last_on n (x ∷ xs) ys = last_on n xs ys
+
 -- ---- what may come behind the items of the life
 
 -- in it no life begins, none is lost, and no call is answered
@@ -26,6 +33,7 @@ pub record IsItsEnd (clients : List Client) (end : List TraceItem) : Type 0 wher
   pub lives : (p : ℕ) → lives_from p end ≡ []
   pub losses : losses_of 1 end ≡ 0
   pub silent : history_of clients end ≡ []
+  pub numbers : (n : ℕ) → last_number 1 n end ≡ n
 
 module _ (clients : List Client) (xs end : List TraceItem) (all : AllStay xs) (ends : IsItsEnd clients end) where
   abbrev pub whole : List TraceItem
@@ -42,6 +50,10 @@ module _ (clients : List Client) (xs end : List TraceItem) (all : AllStay xs) (e
 
   pub same_history : history_of clients whole ≡ history_of clients xs
   same_history = history_on clients xs end ∙ ap (λ (h : List Item). history_of clients xs ++ h) ends.silent ∙ append_nil (history_of clients xs)
+
+  -- the last call has its number
+  pub last_still : last_number 1 0 whole ≡ last_number 1 0 (trace.Join 1 ∷ xs)
+  last_still = last_on 0 xs end ∙ ends.numbers (last_number 1 0 xs)
 
   -- a loss for the one life
   pub remains_are : (disks : DiskHeads) → remains clients disks whole ≡ history_of clients xs ++ item.Lost 1 (upto_of disks only_life whole) ∷ []
@@ -69,6 +81,7 @@ pub record IsItsStop (clients : List Client) (x : TraceItem) : Type 0 where
   pub lives : (p : ℕ) (ys : List TraceItem) → lives_from p (x ∷ ys) ≡ lives_from (suc p) ys
   pub losses : (ys : List TraceItem) → losses_of 1 (x ∷ ys) ≡ losses_of 1 ys
   pub silent : (ys : List TraceItem) → history_of clients (x ∷ ys) ≡ history_of clients ys
+  pub numbers : (n : ℕ) (ys : List TraceItem) → last_number 1 n (x ∷ ys) ≡ last_number 1 n ys
   pub other : (node kept : ℕ) → trace.Lost node kept ≡ x → ⊥
 
 cut_there : (node : ℕ) (xs : List TraceItem) → node ≡ 1 → (if node == 1 then [] else xs) ≡ []
@@ -87,6 +100,7 @@ stops clients (trace.Crash i) is = record {
   lives = λ p ys. refl;
   losses = λ ys. refl;
   silent = λ ys. refl;
+  numbers = λ n ys. refl;
   other = λ node kept e. no_crash node kept i e;
 }
 stops clients (trace.Withdraw i before after) is = record {
@@ -95,6 +109,7 @@ stops clients (trace.Withdraw i before after) is = record {
   lives = λ p ys. refl;
   losses = λ ys. refl;
   silent = λ ys. refl;
+  numbers = λ n ys. refl;
   other = λ node kept e. no_withdraw node kept i before after e;
 }
 stops clients x is = absurd is
@@ -103,13 +118,13 @@ stops clients x is = absurd is
 
 module _ (clients : List Client) (x : TraceItem) (stop : IsItsStop clients x) where
   pub stopped : IsItsEnd clients (x ∷ [])
-  stopped = record { lives = λ p. stop.lives p []; losses = stop.losses []; silent = stop.silent [] }
+  stopped = record { lives = λ p. stop.lives p []; losses = stop.losses []; silent = stop.silent []; numbers = λ n. stop.numbers n [] }
 
   abbrev fence : List TraceItem
   fence = x ∷ trace.Fence 1 ∷ []
 
   pub fenced_too : IsItsEnd clients fence
-  fenced_too = record { lives = λ p. stop.lives p (trace.Fence 1 ∷ []); losses = stop.losses (trace.Fence 1 ∷ []); silent = stop.silent (trace.Fence 1 ∷ []) }
+  fenced_too = record { lives = λ p. stop.lives p (trace.Fence 1 ∷ []); losses = stop.losses (trace.Fence 1 ∷ []); silent = stop.silent (trace.Fence 1 ∷ []); numbers = λ n. stop.numbers n (trace.Fence 1 ∷ []) }
 
   module _ (xs : List TraceItem) (all : AllStay xs) where
     pub head_fenced : (disks : DiskHeads) → head_of disks only_life (trace.Join 1 ∷ (xs ++ fence)) ≡ disks.behind 1 (length (trace.Join 1 ∷ (xs ++ fence)))

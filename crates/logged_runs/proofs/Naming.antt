@@ -6,7 +6,7 @@ use Rattle.trace_text.specs.declared.item.TraceItem.{TraceItem}
 use Rattle.trace_text.specs.declared.item.TraceItem.TheVariants as trace
 use Rattle.run_rules.specs.Lives.{AcceptedHead, named}
 use Rattle.logged_steps.specs.Heads.{AreNext, HeadTold, heads_told, last_head}
-use Rattle.logged_runs.proofs.Staying.{AllStay}
+use Rattle.logged_runs.proofs.Staying.{NoneIsClean}
 
 -- ---- the header of this block and sequence
 
@@ -22,7 +22,7 @@ same_naming : (own : Bool) (block sequence : ℕ) (h : HeadTold) (hs : List Head
 same_naming true block sequence h hs o behind = ap (λ (z : Option ℕ). if is_head block sequence h then Some h.upto else z) behind
 same_naming false block sequence h hs o behind = behind
 
-pub named_is : (h : AcceptedHead) (xs : List TraceItem) → AllStay xs → named 1 h xs ≡ find_head h.block h.sequence (heads_told xs)
+pub named_is : (h : AcceptedHead) (xs : List TraceItem) → NoneIsClean xs → named 1 h xs ≡ find_head h.block h.sequence (heads_told xs)
 named_is h [] all = refl
 named_is h (trace.WriteHead node block sequence upto ∷ xs) all =
     same_naming (node == 1) h.block h.sequence (record { block = block; sequence = sequence; upto = upto }) (heads_told xs) (named 1 h xs) (named_is h xs all.1)

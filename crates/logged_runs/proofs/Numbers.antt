@@ -28,7 +28,7 @@ use Rattle.logged_steps.specs.Steps.{Step, Reads, Answers, AnswersQuietly, Syncs
 use Rattle.logged_steps.proofs.Heads.{at_stage_of, none_begun}
 use Rattle.logged_steps.proofs.Telling.{left_same}
 use Rattle.logged_runs.specs.Starts.{IsOfReplay, only_life}
-use Rattle.logged_runs.proofs.Staying.{AllStay}
+use Rattle.logged_runs.proofs.Staying.{NoneIsClean}
 use Rattle.logged_runs.proofs.Noting.{NotesItsCalls, note_after, note_is, note_on, note_still, staged}
 use Rattle.logged_runs.proofs.Upto.{its_items, note, upto_begun, upto_low, upto_unsaid}
 
@@ -96,7 +96,7 @@ pub data IsLeftAs (q : Point) (h : AcceptedHead) (n : ℕ) : Type 0 where
       → IsLeftAs q h n
 
 module _ (a p : Point) (replays : List TraceItem) (of_replay : AllByRecursion IsOfReplay replays) (told : TellsItsHeads a p) (noted : NotesItsCalls note a p) (same_more : noted.more ≡ told.more)
-    (stay : AllStay (its_items a p replays of_replay told)) (disks : DiskHeads) (items : List TraceItem) (h : AcceptedHead)
+    (stay : NoneIsClean (its_items a p replays of_replay told)) (disks : DiskHeads) (items : List TraceItem) (h : AcceptedHead)
     (its : items_of only_life items ≡ its_items a p replays of_replay told) (there : head_of disks only_life items ≡ h)
     (first_at : (disks.behind 1 (own_from only_life items)).sequence ≡ a.log.sequence) (zero : a.numbers.low ≡ 0) (n : ℕ) where
   at_head : h.block ≡ (head_of_log p.log p.numbers.low).block → h.sequence ≡ p.log.sequence → n ≡ p.numbers.low → upto_of disks only_life items ≡ n

@@ -1,16 +1,8 @@
 -- A run of one node with its log, by its items.
-use Rattle.std.proofs.Common.{◌≡◌, ℕ, suc, ◌<◌, List, [], ◌∷◌, ◌++◌, length, None, Some, slice_get, refl, sym, ap, subst, ◌∙◌, arith}
+use Rattle.std.proofs.Common.{◌≡◌, ℕ, suc, ◌<◌, List, [], ◌∷◌, ◌++◌, length, None, Some, refl, sym, ap, subst, ◌∙◌, arith}
 use Rattle.std.specs.List.{AllByRecursion}
-use Rattle.std.proofs.lemmas.List.{map-append}
-use Rattle.cluster_history.specs.History as history
-use Rattle.cluster_history.specs.History.{tree_of}
-use Rattle.cluster_history.specs.declared.Item.{Item}
-use Rattle.cluster_history.specs.declared.Item.TheVariants as item
-use Rattle.cluster_laws.specs.History.{Gone}
-use Rattle.image_disks.specs.Lone.{remaining}
 use Rattle.image_machine.specs.Volumes.{Volume, images_of}
 use Rattle.image_model.specs.Image.{Image}
-use Rattle.image_model.specs.Replays.{StandsReplayed}
 use Rattle.image_model.proofs.Held.{some_same}
 use Rattle.journal_outcomes.specs.Images.{ring_at}
 use Rattle.log_layout.specs.Journal.{head_in}
@@ -19,7 +11,7 @@ use Rattle.log_rings.proofs.Whole.{fits_in}
 use Rattle.log_values.specs.Flushing.{block_at, flush_chunks, head_place}
 use Rattle.log_values.specs.Log.{Flush, LogValue}
 use Rattle.log_values.specs.Sound.{IsSoundLog}
-use Rattle.lone_logs.specs.Laws.{IsHeadLeft, ItsHistoryIsLegal, Remains, RemainsWith}
+use Rattle.lone_logs.specs.Laws.{IsHeadLeft, ItsHistoryIsLegal, ItsOutcomesStand, Remains}
 use Rattle.lone_logs.specs.Laws.IsHeadLeft.{new, old}
 use Rattle.lone_logs.specs.States.{Numbers, trees_on}
 use Rattle.lone_logs.proofs.Stages.{no_flush}
@@ -29,7 +21,7 @@ use Rattle.run_rules.specs.Lives.{AcceptedHead, DiskHeads, head_of, items_of, or
 use Rattle.script_lang.specs.declared.script.Client.{Client}
 use Rattle.trace_text.specs.declared.item.TraceItem.{TraceItem}
 use Rattle.trace_text.specs.declared.item.TraceItem.TheVariants as trace
-use Rattle.tree_histories.specs.Trees.{history_of, item_of}
+use Rattle.tree_histories.specs.Trees.{history_of}
 use Rattle.written_journals.proofs.RingsWritten.{on_inside}
 use Rattle.logged_steps.specs.Fails.{AsItWas, FailsTo, InAWrite}
 use Rattle.logged_steps.specs.Heads.{TellsItsHeads}
@@ -38,12 +30,12 @@ use Rattle.logged_steps.specs.Points.{IsOfRun, Point, state_of}
 use Rattle.logged_steps.specs.Steps.{Steps}
 use Rattle.logged_steps.proofs.Telling.{append_nil, left_same}
 use Rattle.logged_runs.specs.Heads.{HasFirst, IsAcceptedIn}
-use Rattle.logged_runs.specs.Standing.{StandsAsTold, SyncsStand}
 use Rattle.logged_runs.specs.Starts.{BeginsAt, only_life}
 use Rattle.logged_runs.proofs.Chunks.{due_is_some}
-use Rattle.logged_runs.proofs.Staying.{AllStay, no_end, stay_on, stay_replays, stay_steps}
-use Rattle.logged_runs.proofs.Losing.{IsItsEnd, its_part, remains_are, same_history}
-use Rattle.logged_runs.proofs.Machine.{SyncsThere, syncs, within}
+use Rattle.logged_runs.proofs.Staying.{AllStay, NoneIsClean, no_end, none_clean, stay_on, stay_replays, stay_steps}
+use Rattle.logged_runs.proofs.Fronts.{IsFront}
+use Rattle.logged_runs.proofs.Losing.{IsItsEnd, its_part}
+use Rattle.logged_runs.proofs.Machine.{syncs, within}
 use Rattle.logged_runs.proofs.Noting.{IsNoted, IsNotedBy, NotesItsCalls, calls_noted}
 use Rattle.logged_runs.proofs.Numbers.{IsLeftAs, number}
 use Rattle.logged_runs.proofs.Numbers.{IsLeftAs as left_as}
@@ -83,6 +75,9 @@ module _ (keep : StepsKeep) (fails : FailedWritesKeep) (heads : HeadsAreTold) (t
   abbrev pub xs : List TraceItem
   xs = its_items a p replays begins.of_replay told
 
+  pub plain : NoneIsClean xs
+  plain = none_clean replays told.more begins.of_replay of_run
+
   pub stay : AllStay xs
   stay = stay_on replays told.more (stay_replays replays begins.of_replay) (stay_steps told.more of_run)
 
@@ -109,33 +104,6 @@ module _ (keep : StepsKeep) (fails : FailedWritesKeep) (heads : HeadsAreTold) (t
 
   pub history_is : run.history_of clients xs ≡ history_of (images_of v) at.world.items
   history_is = ap (run.history_of clients) (sym items_are) ∙ at.history
-
-  -- with a loss that keeps the calls up to k
-  pub remaining_is : (k : ℕ) → remaining v s at.world k ≡ run.history_of clients xs ++ item.Lost 1 k ∷ []
-  remaining_is k =
-      map-append (item_of (images_of v)) at.world.items (Gone s.node k k ∷ [])
-      ∙ (λ i. sym history_is i ++ item.Lost (at.is.node i) k ∷ [])
-
-  -- ---- what stands so
-
-  -- where what remains by this number stands, and the items tell it, it stands as they tell
-  module _ (left : Image) (n : ℕ) (remain : RemainsWith v s at.world left n) (sync : SyncsThere v at.world n) (disks : DiskHeads) (end : List TraceItem) (ends : IsItsEnd clients end)
-      (upto_is : upto_of disks only_life (trace.Join 1 ∷ (xs ++ end)) ≡ n) where
-    remains_so : remaining v s at.world n ≡ remains clients disks (trace.Join 1 ∷ (xs ++ end))
-    remains_so = remaining_is n ∙ ap (λ m. run.history_of clients xs ++ item.Lost 1 m ∷ []) (sym upto_is) ∙ sym (remains_are clients xs end stay ends disks)
-
-    in_history : (z : ℕ) {i : Item} → slice_get (run.history_of clients (trace.Join 1 ∷ (xs ++ end))) z ≡ Some i → slice_get (history_of (images_of v) at.world.items) z ≡ Some i
-    in_history z e = ap (λ (is : List Item). slice_get is z) (sym (same_history clients xs end stay ends ∙ history_is)) ∙ e
-
-    synced : SyncsStand clients (upto_of disks only_life (trace.Join 1 ∷ (xs ++ end))) (trace.Join 1 ∷ (xs ++ end))
-    synced x y client other count earlier call reply answered called above below = sync x y client other count earlier call reply (in_history x answered) (in_history y called) (subst (λ m. m < earlier) upto_is above) below
-
-    pub stands_by : StandsAsTold clients disks (q.items ++ end) s.tree left
-    stands_by = subst (λ is. StandsAsTold clients disks is s.tree left) (ap (λ is. is ++ end) (sym items_are)) (record {
-      legal = subst (λ is. history.Legal is s.tree) remains_so remain.0;
-      stands = subst (λ is. StandsReplayed left (tree_of is s.tree)) remains_so remain.1;
-      synced = synced;
-    })
 
   -- ---- the head in an image
 
@@ -167,24 +135,33 @@ module _ (keep : StepsKeep) (fails : FailedWritesKeep) (heads : HeadsAreTold) (t
 
   -- ---- what remains where the run is
 
-  module _ (left : Image) (h : AcceptedHead) (rem : Remains v s at.world d q.numbers.answered left (IsHeadLeft (state_of q))) (its : IsAcceptedIn v d left h) where
-    left_so : IsHeadLeft (state_of q) rem.head rem.number → IsLeftAs q h rem.number
-    left_so (old low at_head) = left_as.old low (block_is left h rem.head rem.headed its q.log.head at_head.place at.is.sound.head) (sequence_is left h rem.head rem.headed its ∙ at_head.sequence)
-    left_so (new f tail some stage begun at_head) =
-        left_as.new f tail some stage begun (block_is left h rem.head rem.headed its (head_place q.log f) at_head.place (head_inside q.log f at.is.sound some))
-        (sequence_is left h rem.head rem.headed its ∙ at_head.sequence) (clean_is left h rem.head rem.headed its ∙ at_head.clean)
+  left_so : (left : Image) (h : AcceptedHead) (rem : Remains v s at.world d q.numbers.answered left (IsHeadLeft (state_of q))) → IsAcceptedIn v d left h → IsHeadLeft (state_of q) rem.head rem.number → IsLeftAs q h rem.number
+  left_so left h rem its (old low at_head) = left_as.old low (block_is left h rem.head rem.headed its q.log.head at_head.place at.is.sound.head) (sequence_is left h rem.head rem.headed its ∙ at_head.sequence)
+  left_so left h rem its (new f tail some stage begun at_head) =
+      left_as.new f tail some stage begun (block_is left h rem.head rem.headed its (head_place q.log f) at_head.place (head_inside q.log f at.is.sound some))
+      (sequence_is left h rem.head rem.headed its ∙ at_head.sequence) (clean_is left h rem.head rem.headed its ∙ at_head.clean)
 
-    module _ (disks : DiskHeads) (has_first : HasFirst v d a disks.behind) (end : List TraceItem) (ends : IsItsEnd clients end) (cut : to_its_end 1 end ≡ []) (there : head_of disks only_life (trace.Join 1 ∷ (xs ++ end)) ≡ h) where
-      its_items_are : items_of only_life (trace.Join 1 ∷ (xs ++ end)) ≡ xs
-      its_items_are = its_part clients xs end stay ends ∙ ap (λ is. xs ++ is) cut ∙ append_nil xs
+  -- its number is what the items tell
+  upto_is : (left : Image) (h : AcceptedHead) (rem : Remains v s at.world d q.numbers.answered left (IsHeadLeft (state_of q))) → IsAcceptedIn v d left h → (disks : DiskHeads) → HasFirst v d a disks.behind
+      → (end : List TraceItem) → IsItsEnd clients end → to_its_end 1 end ≡ [] → head_of disks only_life (trace.Join 1 ∷ (xs ++ end)) ≡ h → upto_of disks only_life (trace.Join 1 ∷ (xs ++ end)) ≡ rem.number
+  upto_is left h rem its disks has_first end ends cut there =
+      let are : items_of only_life (trace.Join 1 ∷ (xs ++ end)) ≡ xs = its_part clients xs end stay ends ∙ ap (λ is. xs ++ is) cut ∙ append_nil xs in
+      number a p replays begins.of_replay told noted same_noted plain disks (trace.Join 1 ∷ (xs ++ end)) h are there
+      (first_at disks has_first (trace.Join 1 ∷ (xs ++ end)) [] (λ n. refl) (are ∙ sym (append_nil xs)))
+      (ap (λ (n : Numbers). n.low) begins.numbers) rem.number time q fail (left_so left h rem its rem.is)
 
-      -- its number is what the items tell
-      pub upto_is : upto_of disks only_life (trace.Join 1 ∷ (xs ++ end)) ≡ rem.number
-      upto_is = number a p replays begins.of_replay told noted same_noted stay disks (trace.Join 1 ∷ (xs ++ end)) h its_items_are there
-          (first_at disks has_first (trace.Join 1 ∷ (xs ++ end)) [] (λ n. refl) (its_items_are ∙ sym (append_nil xs)))
-          (ap (λ (n : Numbers). n.low) begins.numbers) rem.number time q fail (left_so rem.is)
-
-      pub stands_as_told : StandsAsTold clients disks (q.items ++ end) s.tree left
-      stands_as_told = stands_by left rem.number
-          (rem.stands rem.number (omega arith) (within v s at.world d (state_of q) at.is rem.head rem.number rem.is) (λ m above less. absurd (omega (arith, above, less))))
-          (syncs v s at.world d (state_of q) at.is (legal v s at.world d (state_of q) at.is) rem.head rem.number rem.is) disks end ends upto_is
+  pub front_of_run : ItsOutcomesStand → IsFront v s d clients a q (IsHeadLeft (state_of q))
+  front_of_run outcomes = record {
+    tells = at.tells;
+    world = at.world;
+    st = state_of q;
+    is = at.is;
+    its = xs;
+    items = items_are;
+    stay = stay;
+    history = history_is;
+    within = within v s at.world d (state_of q) at.is;
+    syncs = syncs v s at.world d (state_of q) at.is (legal v s at.world d (state_of q) at.is);
+    remains = λ left may. outcomes v s at.world d (state_of q) left at.is may.outcome may.no_false;
+    upto = upto_is;
+  }

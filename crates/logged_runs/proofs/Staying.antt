@@ -9,14 +9,13 @@ use Rattle.logged_steps.specs.Points.{IsOfRun}
 use Rattle.logged_steps.proofs.Telling.{append_nil}
 use Rattle.logged_runs.specs.Starts.{IsOfReplay}
 
--- no join, crash, withdraw, fence or loss, and no clean header
+-- no join, crash, withdraw, fence or loss
 abbrev pub Stays : TraceItem → Type 0
 Stays (trace.Join node) = ⊥
 Stays (trace.Crash node) = ⊥
 Stays (trace.Withdraw node before after) = ⊥
 Stays (trace.Fence node) = ⊥
 Stays (trace.Lost node kept) = ⊥
-Stays (trace.WriteClean node block sequence upto) = ⊥
 Stays _ = ⊤
 
 abbrev pub AllStay : List TraceItem → Type 0
@@ -28,7 +27,6 @@ of_run (trace.Crash node) is = is
 of_run (trace.Withdraw node before after) is = is
 of_run (trace.Fence node) is = is
 of_run (trace.Lost node kept) is = is
-of_run (trace.WriteClean node block sequence upto) is = is
 of_run _ is = tt
 
 of_replay : (x : TraceItem) → IsOfReplay x → Stays x
@@ -37,7 +35,6 @@ of_replay (trace.Crash node) is = is
 of_replay (trace.Withdraw node before after) is = is
 of_replay (trace.Fence node) is = is
 of_replay (trace.Lost node kept) is = is
-of_replay (trace.WriteClean node block sequence upto) is = is
 of_replay _ is = tt
 
 pub stay_replays : (xs : List TraceItem) → AllByRecursion IsOfReplay xs → AllStay xs
@@ -51,6 +48,28 @@ stay_steps (x ∷ xs) all = (of_run x all.0, stay_steps xs all.1)
 pub stay_on : (xs ys : List TraceItem) → AllStay xs → AllStay ys → AllStay (xs ++ ys)
 stay_on [] ys all more = more
 stay_on (x ∷ xs) ys all more = (all.0, stay_on xs ys all.1 more)
+
+-- ---- no clean header
+
+abbrev pub IsNoClean : TraceItem → Type 0
+IsNoClean (trace.WriteClean node block sequence upto) = ⊥
+IsNoClean _ = ⊤
+
+abbrev pub NoneIsClean : List TraceItem → Type 0
+NoneIsClean xs = AllByRecursion IsNoClean xs
+
+no_clean_run : (x : TraceItem) → IsOfRun x → IsNoClean x
+no_clean_run (trace.WriteClean node block sequence upto) is = is
+no_clean_run _ is = tt
+
+no_clean_replay : (x : TraceItem) → IsOfReplay x → IsNoClean x
+no_clean_replay (trace.WriteClean node block sequence upto) is = is
+no_clean_replay _ is = tt
+
+pub none_clean : (xs ys : List TraceItem) → AllByRecursion IsOfReplay xs → AllByRecursion IsOfRun ys → NoneIsClean (xs ++ ys)
+none_clean [] [] all more = tt
+none_clean [] (y ∷ ys) all more = (no_clean_run y more.0, none_clean [] ys tt more.1)
+none_clean (x ∷ xs) ys all more = (no_clean_replay x all.0, none_clean xs ys all.1 more)
 
 -- ---- the life's end
 

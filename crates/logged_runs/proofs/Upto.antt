@@ -14,7 +14,7 @@ use Rattle.logged_steps.specs.Points.{IsOfRun, Point}
 use Rattle.logged_steps.proofs.Heads.{at_stage_of, heads_on}
 use Rattle.logged_steps.proofs.Telling.{append_assoc, append_nil}
 use Rattle.logged_runs.specs.Starts.{IsOfReplay, only_life}
-use Rattle.logged_runs.proofs.Staying.{AllStay, none_recovered, recovered_on}
+use Rattle.logged_runs.proofs.Staying.{NoneIsClean, none_recovered, recovered_on}
 use Rattle.logged_runs.proofs.Naming.{IsLastOf, find_head, found, last_above, last_of, named_is, none_before, none_behind}
 use Rattle.logged_runs.proofs.Naming.IsLastOf.{none_came, the_last}
 
@@ -77,7 +77,7 @@ module _ (a p : Point) (replays : List TraceItem) (of_replay : AllByRecursion Is
     by_its_item : named 1 h its_items ≡ Some p.numbers.low → LowIsTold h
     by_the_start : named 1 h its_items ≡ None → h.sequence ≡ a.log.sequence → p.numbers.low ≡ 0 → LowIsTold h
 
-  module _ (stay : AllStay its_items) (h : AcceptedHead) where
+  module _ (stay : NoneIsClean its_items) (h : AcceptedHead) where
     named_told : named 1 h its_items ≡ find_head h.block h.sequence (heads_told told.more)
     named_told = named_is h its_items stay ∙ ap (find_head h.block h.sequence) heads_are
 
@@ -126,7 +126,7 @@ module _ (a p : Point) (replays : List TraceItem) (of_replay : AllByRecursion Is
         ∙ ap (λ n. (behind 1 n).sequence) replays_only ∙ begins
 
   -- the life's items are these, and behind them the disks have this head
-  module _ (stay : AllStay its_items) (disks : DiskHeads) (items : List TraceItem) (h : AcceptedHead) (its : items_of only_life items ≡ its_items) (there : head_of disks only_life items ≡ h)
+  module _ (stay : NoneIsClean its_items) (disks : DiskHeads) (items : List TraceItem) (h : AcceptedHead) (its : items_of only_life items ≡ its_items) (there : head_of disks only_life items ≡ h)
       (first_at : (disks.behind 1 (own_from only_life items)).sequence ≡ a.log.sequence) where
     -- the log's head has what is in the journal
     pub upto_low : a.numbers.low ≡ 0 → h.block ≡ (head_of_log p.log p.numbers.low).block → h.sequence ≡ p.log.sequence → upto_of disks only_life items ≡ p.numbers.low

@@ -1,5 +1,5 @@
 -- Laws of the runs of one node with its log: what remains of one, told by its items.
-use Rattle.std.specs.Prelude.{ℕ, ◌≡◌, ◌≤◌, ◌++◌, List, [], ◌∷◌, length, take, Option}
+use Rattle.std.specs.Prelude.{ℕ, ◌≡◌, ◌⊎◌, ◌≤◌, ◌++◌, List, [], ◌∷◌, length, take, Option}
 use Rattle.std.specs.List.{AllByRecursion}
 use Rattle.cluster_history.specs.History.{Legal, tree_of}
 use Rattle.cluster_history.specs.Losses.{LossIsRight}
@@ -82,7 +82,7 @@ IsStop _ = ⊥
 
 -- also with the stop, until the fence
 abbrev pub StopsAreTold : Type 0
-StopsAreTold = (v : Volume) (s : Begun (trees_on v)) (d : ℕ) (clients : List Client) (time : ℕ) (a p q : Point) (x : TraceItem) (disks : DiskHeads) (left : Image) → BeginsAt v s d clients a → Steps time a p → FailsTo time p q
+StopsAreTold = (v : Volume) (s : Begun (trees_on v)) (d : ℕ) (clients : List Client) (time : ℕ) (a p q : Point) (x : TraceItem) (disks : DiskHeads) (left : Image) → BeginsAt v s d clients a → Steps time a p → FailsTo time p q ⊎ EndsTo p q
     → IsStop x → HasFirst v d a disks.behind → MayLeave v q left → IsAcceptedIn v d left (disks.now 1) → StandsAsTold clients disks (q.items ++ x ∷ []) s.tree left
 
 -- these items, and then the stop and the fence; and the loss, which keeps the calls up to k
@@ -105,7 +105,7 @@ pub record StandsFenced (clients : List Client) (disks : DiskHeads) (x : TraceIt
 
 -- so it is of the image on the disk there, whose head the disks have behind the fence's item
 abbrev pub FencesAreTold : Type 0
-FencesAreTold = (v : Volume) (s : Begun (trees_on v)) (d : ℕ) (clients : List Client) (time : ℕ) (a p q : Point) (x : TraceItem) (disks : DiskHeads) (became : List Flight) → BeginsAt v s d clients a → Steps time a p → FailsTo time p q
+FencesAreTold = (v : Volume) (s : Begun (trees_on v)) (d : ℕ) (clients : List Client) (time : ℕ) (a p q : Point) (x : TraceItem) (disks : DiskHeads) (became : List Flight) → BeginsAt v s d clients a → Steps time a p → FailsTo time p q ⊎ EndsTo p q
     → IsStop x → IsOutcome q.disk 1 became → HasFirst v d a disks.behind
     → let left = image_of (after_fence q.disk 1 became) in
     NoFalseHeader (image_of q.disk) v.layout (flown_by q.disk 1) left → IsAcceptedIn v d left (disks.behind 1 (length (to_fence x q.items))) → StandsFenced clients disks x q.items s.tree left

@@ -4,6 +4,7 @@
 
 ghost use Rattle.logged_runs.specs.Laws.{EndsAreTold, FencesAreTold, FrontsStand, RunsBeginSo, StopsAreTold, WhatRemainsIsTold};
 
+use journal_outcomes::fences_leave_outcomes;
 use logged_steps::{failed_writes_keep, heads_are_told, runs_begin, steps_are_told, steps_keep};
 use lone_ends::{fences_leave_what_remains, what_remains_at_its_end};
 use lone_logs::what_remains_of_it;
@@ -51,5 +52,7 @@ pub fn stops_are_told()
     heads_are_told();
     steps_are_told();
     what_remains_of_it();
+    what_remains_at_its_end();
     fences_leave_what_remains();
+    fences_leave_outcomes();
 }
