@@ -46,17 +46,17 @@ pub record IsLoggedAt (v : Volume) (s : Begun (trees_on v)) (d : ℕ) (clients :
   -- what a replay may change of the image that the node works on, it may change of that on the disk
   pub may : MayChangeThere v world (image_of p.disk)
 
--- so it does on a disk at rest, behind items without a call
+-- so it is on a disk at rest, behind items without a call
 abbrev pub RunsBegin : Type 0
 RunsBegin = (disk : DiskState) (o : Owners) (l : Layout) (t : Tree) (d : ℕ) (journal : Journal) (head : LogHeader) (view : Lone) (clients : List Client) (list : Option (List Operation)) (items : List TraceItem)
     → IsAtRest disk o l t d journal head view → run.history_of clients items ≡ []
     → IsLoggedAt (volume_of (image_of disk) l) (begun_on (image_of disk) o l t) d clients (starting disk list journal head view items)
 
--- and with each step
+-- and it stays so with each step
 abbrev pub StepsKeep : Type 0
 StepsKeep = (v : Volume) (s : Begun (trees_on v)) (d : ℕ) (clients : List Client) (time : ℕ) (p q : Point) → IsLoggedAt v s d clients p → Steps time p q → IsLoggedAt v s d clients q
 
--- so it does where a write failed that may be in flight without an item
+-- also where a write failed that may be in flight without an item
 abbrev pub FailedWritesKeep : Type 0
 FailedWritesKeep = (v : Volume) (s : Begun (trees_on v)) (d : ℕ) (clients : List Client) (time : ℕ) (p q : Point) → IsLoggedAt v s d clients p → FailsTo time p q → IsLoggedAt v s d clients q
 
