@@ -149,7 +149,7 @@ module _ (keep : StepsKeep) (fails : FailedWritesKeep) (heads : HeadsAreTold) (t
         (first_at keep fails heads tells legal v s d clients time a p p begins steps AsItWas disks first (trace.Join 1 ∷ (these ++ end)) (clean_item p ∷ more) (λ n. no_recovery (suc n)) are)
         (ap (λ (n : Numbers). n.low) begins.numbers) rem.number (last_block p) (after p.log.sequence) more are (no_name h) refl after_is (head_so left h rem accepts rem.is)
 
-    said_front : (disk : DiskState) (list : Option (List Operation)) → IsTrue disk.tells → ((left : Image) → MayLeave v (record p { disk = disk; list = list }) left → Remains v s logged.world d p.numbers.answered left (IsHeadAtEnd (state_of p)))
+    said_front : (disk : DiskState) (list : Option (List Operation)) → IsTrue disk.tells → ((left : Image) → MayLeave v disk left → Remains v s logged.world d p.numbers.answered left (IsHeadAtEnd (state_of p)))
         → IsFront v s d clients a (record p { disk = disk; list = list; items = p.items ++ clean_item p ∷ more }) (IsHeadAtEnd (state_of p))
     said_front disk list told remain = record {
       tells = told;

@@ -49,7 +49,7 @@ pub record IsFront (v : Volume) (s : Begun (trees_on v)) (d : ℕ) (clients : Li
   pub history : run.history_of clients its ≡ history_of (images_of v) world.items
   pub within : (h : LogHeader) (n : ℕ) → IsHead h n → n ≤ st.numbers.answered
   pub syncs : (h : LogHeader) (n : ℕ) → IsHead h n → SyncsThere v world n
-  pub remains : (left : Image) → MayLeave v q left → Remains v s world d st.numbers.answered left IsHead
+  pub remains : (left : Image) → MayLeave v q.disk left → Remains v s world d st.numbers.answered left IsHead
   pub upto : (left : Image) (h : AcceptedHead) (rem : Remains v s world d st.numbers.answered left IsHead) → IsAcceptedIn v d left h → (disks : DiskHeads) → HasFirst v d a disks.behind
       → (end : List TraceItem) → IsItsEnd clients end → to_its_end 1 end ≡ [] → head_of disks only_life (trace.Join 1 ∷ (its ++ end)) ≡ h → upto_of disks only_life (trace.Join 1 ∷ (its ++ end)) ≡ rem.number
 
@@ -65,7 +65,7 @@ module _ (v : Volume) (s : Begun (trees_on v)) (d : ℕ) (clients : List Client)
 
   -- ---- behind an end of the life
 
-  module _ (left : Image) (h : AcceptedHead) (may : MayLeave v q left) (accepts : IsAcceptedIn v d left h) (disks : DiskHeads) (first : HasFirst v d a disks.behind) (end : List TraceItem) (ends : IsItsEnd clients end)
+  module _ (left : Image) (h : AcceptedHead) (may : MayLeave v q.disk left) (accepts : IsAcceptedIn v d left h) (disks : DiskHeads) (first : HasFirst v d a disks.behind) (end : List TraceItem) (ends : IsItsEnd clients end)
       (cut : to_its_end 1 end ≡ []) (there : head_of disks only_life (trace.Join 1 ∷ (is ++ end)) ≡ h) where
     abbrev rem : Remains v s front.world d front.st.numbers.answered left IsHead
     rem = front.remains left may
@@ -95,13 +95,13 @@ module _ (v : Volume) (s : Begun (trees_on v)) (d : ℕ) (clients : List Client)
 
   -- ---- there, and behind a stop
 
-  pub told_there : (left : Image) (disks : DiskHeads) → HasFirst v d a disks.behind → MayLeave v q left → IsAcceptedIn v d left (disks.now 1) → StandsAsTold clients disks q.items s.tree left
+  pub told_there : (left : Image) (disks : DiskHeads) → HasFirst v d a disks.behind → MayLeave v q.disk left → IsAcceptedIn v d left (disks.now 1) → StandsAsTold clients disks q.items s.tree left
   told_there left disks first may accepts =
       let quiet : IsItsEnd clients [] = record { lives = λ p. refl; losses = refl; silent = refl; numbers = λ n. refl } in
       subst (λ is. StandsAsTold clients disks is s.tree left) (append_nil q.items)
       (stands_as_told left (disks.now 1) may accepts disks first [] quiet refl (head_now clients is [] front.stay quiet disks (λ n. refl)))
 
-  pub told_stopped : (x : TraceItem) → IsStop x → (left : Image) (disks : DiskHeads) → HasFirst v d a disks.behind → MayLeave v q left → IsAcceptedIn v d left (disks.now 1) → StandsAsTold clients disks (q.items ++ x ∷ []) s.tree left
+  pub told_stopped : (x : TraceItem) → IsStop x → (left : Image) (disks : DiskHeads) → HasFirst v d a disks.behind → MayLeave v q.disk left → IsAcceptedIn v d left (disks.now 1) → StandsAsTold clients disks (q.items ++ x ∷ []) s.tree left
   told_stopped x is_stop left disks first may accepts =
       let stop = stops clients x is_stop in
       stands_as_told left (disks.now 1) may accepts disks first (x ∷ []) (stopped clients x stop) (stop.cut [])
@@ -109,7 +109,7 @@ module _ (v : Volume) (s : Begun (trees_on v)) (d : ℕ) (clients : List Client)
 
   -- ---- behind a fence
 
-  module _ (legal : ItsHistoryIsLegal) (x : TraceItem) (is_stop : IsStop x) (disks : DiskHeads) (left : Image) (first : HasFirst v d a disks.behind) (may : MayLeave v q left)
+  module _ (legal : ItsHistoryIsLegal) (x : TraceItem) (is_stop : IsStop x) (disks : DiskHeads) (left : Image) (first : HasFirst v d a disks.behind) (may : MayLeave v q.disk left)
       (accepts : IsAcceptedIn v d left (disks.behind 1 (length (to_fence x q.items)))) where
     abbrev fence : List TraceItem
     fence = x ∷ trace.Fence 1 ∷ []

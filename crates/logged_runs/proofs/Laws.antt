@@ -1,12 +1,13 @@
 -- What remains of a run of one node with its log, told by its items.
-use Rattle.std.proofs.Common.{inl, inr, sym, subst}
+use Rattle.std.proofs.Common.{◌≡◌, drop, length, take, inl, inr, sym, ap, subst, ◌∙◌}
 use Rattle.journal_outcomes.specs.Disks.{FencesLeaveOutcomes}
 use Rattle.lone_ends.specs.Ends.{ItsEndsStand}
 use Rattle.lone_ends.specs.Fences.{ImagesAtRestStay}
 use Rattle.lone_logs.specs.Laws.{ItsHistoryIsLegal, ItsOutcomesStand}
+use Rattle.logged_steps.specs.Disks.{disk_after, first_told}
 use Rattle.logged_steps.specs.Fails.{AsItWas}
 use Rattle.logged_steps.specs.Laws.{FailedWritesKeep, FrontsArePassed, HeadsAreTold, StepsAreTold, StepsKeep}
-use Rattle.logged_runs.specs.Laws.{EndsAreTold, FencesAreTold, FrontsStand, StopsAreTold, WhatRemainsIsTold}
+use Rattle.logged_runs.specs.Laws.{EndsAreTold, FencesAreTold, FrontsStand, MayLeave, PrefixesStand, StopsAreTold, WhatRemainsIsTold}
 use Rattle.logged_runs.specs.Standing.{StandsAsTold}
 use Rattle.logged_runs.proofs.Endings.{front_of_end}
 use Rattle.logged_runs.proofs.Fronts.{told_fenced, told_stopped, told_there}
@@ -26,6 +27,13 @@ module _ (keep : StepsKeep) (fails : FailedWritesKeep) (heads : HeadsAreTold) (t
             subst (λ is. StandsAsTold clients disks is s.tree left) (sym came.items)
             (what_remains_is_told v s d clients time a came.point came.point disks left begins came.before AsItWas first may accepts);
       }
+
+  pub prefixes_stand : FrontsArePassed → PrefixesStand
+  prefixes_stand passed v s d clients time a p count was operations disks left begins steps was_is all_is low high first may accepts =
+      let front = fronts_stand passed v s d clients time a p count begins steps low high in
+      let there : front.came.point.disk ≡ disk_after a.disk (first_told (drop (length a.items) (take count p.items)) operations)
+      = front.came.disk was operations was_is all_is ∙ ap (λ is. disk_after a.disk (first_told (drop (length a.items) is) operations)) (sym front.came.items) in
+      front.stands disks left first (subst (λ disk. MayLeave v disk left) (sym there) may) accepts
 
   module _ (ends : ItsEndsStand) (rest : ImagesAtRestStay) where
     pub ends_are_told : EndsAreTold

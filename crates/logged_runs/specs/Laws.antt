@@ -1,5 +1,5 @@
 -- Laws of the runs of one node with its log: what remains of one, told by its items.
-use Rattle.std.specs.Prelude.{ℕ, ◌≡◌, ◌⊎◌, ◌≤◌, ◌++◌, List, [], ◌∷◌, length, take, Option}
+use Rattle.std.specs.Prelude.{ℕ, ◌≡◌, ◌⊎◌, ◌≤◌, ◌++◌, List, [], ◌∷◌, drop, length, take, Option, Some}
 use Rattle.std.specs.List.{AllByRecursion}
 use Rattle.cluster_history.specs.History.{Legal, tree_of}
 use Rattle.cluster_history.specs.Losses.{LossIsRight}
@@ -15,6 +15,7 @@ use Rattle.log_layout.specs.declared.log_header.LogHeader.{LogHeader}
 use Rattle.log_values.specs.Log.{Journal}
 use Rattle.lone_images.specs.Lone.{begun_on}
 use Rattle.lone_view.specs.Seeing.{Lone}
+use Rattle.logged_steps.specs.Disks.{disk_after, first_told}
 use Rattle.logged_steps.specs.Fails.{FailsTo}
 use Rattle.logged_steps.specs.Laws.{CameBy}
 use Rattle.logged_steps.specs.Points.{Point}
@@ -43,34 +44,40 @@ RunsBeginSo = (disk : DiskState) (o : Owners) (l : Layout) (t : Tree) (d : ℕ) 
 
 -- ---- an outcome
 
--- the node's writes in flight may have become this, with no false header
-pub record MayLeave (v : Volume) (p : Point) (left : Image) : Type 0 where
-  pub outcome : IsImageOutcome (image_of p.disk) (flown_by p.disk 1) left
-  pub no_false : NoFalseHeader (image_of p.disk) v.layout (flown_by p.disk 1) left
+-- the node's writes in flight to the disk may have become this, with no false header
+pub record MayLeave (v : Volume) (disk : DiskState) (left : Image) : Type 0 where
+  pub outcome : IsImageOutcome (image_of disk) (flown_by disk 1) left
+  pub no_false : NoFalseHeader (image_of disk) v.layout (flown_by disk 1) left
 
 -- ---- at a front of the items
 
 -- where the run is, also behind a write that failed and has no item
 abbrev pub WhatRemainsIsTold : Type 0
 WhatRemainsIsTold = (v : Volume) (s : Begun (trees_on v)) (d : ℕ) (clients : List Client) (time : ℕ) (a p q : Point) (disks : DiskHeads) (left : Image) → BeginsAt v s d clients a → Steps time a p → FailsTo time p q
-    → HasFirst v d a disks.behind → MayLeave v q left → IsAcceptedIn v d left (disks.now 1) → StandsAsTold clients disks q.items s.tree left
+    → HasFirst v d a disks.behind → MayLeave v q.disk left → IsAcceptedIn v d left (disks.now 1) → StandsAsTold clients disks q.items s.tree left
 
 -- and behind each front of its items, of the disk as it was there
 pub record FrontStands (v : Volume) (s : Begun (trees_on v)) (d : ℕ) (clients : List Client) (time : ℕ) (a p : Point) (count : ℕ) : Type 0 where
   pub came : CameBy time a p count
-  pub stands : (disks : DiskHeads) (left : Image) → HasFirst v d a disks.behind → MayLeave v came.point left → IsAcceptedIn v d left (disks.now 1)
+  pub stands : (disks : DiskHeads) (left : Image) → HasFirst v d a disks.behind → MayLeave v came.point.disk left → IsAcceptedIn v d left (disks.now 1)
       → StandsAsTold clients disks (take count p.items) s.tree left
 
 abbrev pub FrontsStand : Type 0
 FrontsStand = (v : Volume) (s : Begun (trees_on v)) (d : ℕ) (clients : List Client) (time : ℕ) (a p : Point) (count : ℕ) → BeginsAt v s d clients a → Steps time a p → length a.items ≤ count → count ≤ length p.items
     → FrontStands v s d clients time a p count
 
+-- So it is of each front of the items, and of the disk as the operations that these tell have made it.
+abbrev pub PrefixesStand : Type 0
+PrefixesStand = (v : Volume) (s : Begun (trees_on v)) (d : ℕ) (clients : List Client) (time : ℕ) (a p : Point) (count : ℕ) (was operations : List Operation) (disks : DiskHeads) (left : Image) → BeginsAt v s d clients a → Steps time a p
+    → a.list ≡ Some was → p.list ≡ Some (was ++ operations) → length a.items ≤ count → count ≤ length p.items → HasFirst v d a disks.behind
+    → MayLeave v (disk_after a.disk (first_told (drop (length a.items) (take count p.items)) operations)) left → IsAcceptedIn v d left (disks.now 1) → StandsAsTold clients disks (take count p.items) s.tree left
+
 -- ---- at its end
 
 -- while the clean header is in flight with which the run ends, and behind the barrier that brings it to its place
 abbrev pub EndsAreTold : Type 0
 EndsAreTold = (v : Volume) (s : Begun (trees_on v)) (d : ℕ) (clients : List Client) (time : ℕ) (a p q : Point) (disks : DiskHeads) (left : Image) → BeginsAt v s d clients a → Steps time a p → EndsTo p q
-    → HasFirst v d a disks.behind → MayLeave v q left → IsAcceptedIn v d left (disks.now 1) → StandsAsTold clients disks q.items s.tree left
+    → HasFirst v d a disks.behind → MayLeave v q.disk left → IsAcceptedIn v d left (disks.now 1) → StandsAsTold clients disks q.items s.tree left
 
 -- ---- behind its stop
 
@@ -83,7 +90,7 @@ IsStop _ = ⊥
 -- also with the stop, until the fence
 abbrev pub StopsAreTold : Type 0
 StopsAreTold = (v : Volume) (s : Begun (trees_on v)) (d : ℕ) (clients : List Client) (time : ℕ) (a p q : Point) (x : TraceItem) (disks : DiskHeads) (left : Image) → BeginsAt v s d clients a → Steps time a p → FailsTo time p q ⊎ EndsTo p q
-    → IsStop x → HasFirst v d a disks.behind → MayLeave v q left → IsAcceptedIn v d left (disks.now 1) → StandsAsTold clients disks (q.items ++ x ∷ []) s.tree left
+    → IsStop x → HasFirst v d a disks.behind → MayLeave v q.disk left → IsAcceptedIn v d left (disks.now 1) → StandsAsTold clients disks (q.items ++ x ∷ []) s.tree left
 
 -- these items, and then the stop and the fence; and the loss, which keeps the calls up to k
 abbrev pub to_fence : TraceItem → List TraceItem → List TraceItem

@@ -2,7 +2,7 @@
 //! nothing: their contracts are the laws.
 #![tactic(auto)]
 
-ghost use Rattle.logged_runs.specs.Laws.{EndsAreTold, FencesAreTold, FrontsStand, RunsBeginSo, StopsAreTold, WhatRemainsIsTold};
+ghost use Rattle.logged_runs.specs.Laws.{EndsAreTold, FencesAreTold, FrontsStand, PrefixesStand, RunsBeginSo, StopsAreTold, WhatRemainsIsTold};
 
 use journal_outcomes::fences_leave_outcomes;
 use logged_steps::{failed_writes_keep, heads_are_told, runs_begin, steps_are_told, steps_keep};
@@ -21,6 +21,7 @@ pub fn a_run_begins()
 pub fn what_remains_is_told()
     ensures told { WhatRemainsIsTold }
     ensures fronts { FrontsStand }
+    ensures prefixes { PrefixesStand }
 {
     steps_keep();
     failed_writes_keep();
