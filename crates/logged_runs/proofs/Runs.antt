@@ -17,7 +17,7 @@ use Rattle.lone_logs.specs.States.{Numbers, trees_on}
 use Rattle.lone_logs.proofs.Stages.{no_flush}
 use Rattle.lone_machine.specs.Alone.{Begun}
 use Rattle.run_rules.specs.Follows as run
-use Rattle.run_rules.specs.Lives.{AcceptedHead, DiskHeads, head_of, items_of, or_else, own_from, recovered_behind, remains, to_its_end, upto_of}
+use Rattle.run_rules.specs.Lives.{AcceptedHead, DiskHeads, head_of, items_of, or_else, own_from, recovered_behind, to_its_end, upto_of}
 use Rattle.script_lang.specs.declared.script.Client.{Client}
 use Rattle.trace_text.specs.declared.item.TraceItem.{TraceItem}
 use Rattle.trace_text.specs.declared.item.TraceItem.TheVariants as trace
