@@ -3,15 +3,18 @@ use Rattle.std.proofs.Common.{◌≡◌, ℕ, ◌+◌, ◌<◌, inl, inr, List, 
 use Rattle.std.specs.Prelude.{IsTrue, unwrap_or}
 use Rattle.std.proofs.Math.Nat.{mod-eq_of_lt}
 use Rattle.std.proofs.lemmas.Bool.{cases_eq, cond-true}
+use Rattle.cluster_history.specs.History.{tree_of}
+use Rattle.image_changes.specs.Instances.{StandsBy}
 use Rattle.image_machine.specs.Volumes.{Volume, images_of}
 use Rattle.image_model.specs.Image.{Image, image_of}
+use Rattle.image_model.specs.Replays.{StandsReplayed}
 use Rattle.image_model.proofs.Held.{none_some, some_same}
 use Rattle.journal_outcomes.specs.Disks.{flown_by}
 use Rattle.journal_outcomes.specs.Images.{IsImageOutcome, NoFalseHeader}
 use Rattle.journal_outcomes.specs.Rings.{InFlight}
 use Rattle.log_layout.specs.Transactions.{after}
 use Rattle.log_values.specs.Flushing.{block_at, first_place}
-use Rattle.lone_ends.specs.Ends.{FliesLast, IsHeadAtEnd, ItsEndsStand}
+use Rattle.lone_ends.specs.Ends.{CleanNodesHaveEnded, FliesLast, IsHeadAtEnd, ItsEndsLand, ItsEndsStand}
 use Rattle.lone_ends.specs.Ends.{IsHeadAtEnd as end_head}
 use Rattle.lone_ends.specs.Fences.{ImagesAtRestStay}
 use Rattle.lone_logs.specs.Laws.{ItsHistoryIsLegal, Remains}
@@ -34,7 +37,7 @@ use Rattle.logged_steps.proofs.Histories.{history_on}
 use Rattle.logged_steps.proofs.Telling.{append_nil}
 use Rattle.logged_runs.specs.Ends.{EndsTo, Landed, Said, Unsaid, clean_item, last_block, with_clean}
 use Rattle.logged_runs.specs.Heads.{HasFirst, IsAcceptedIn}
-use Rattle.logged_runs.specs.Laws.{MayLeave}
+use Rattle.logged_runs.specs.Laws.{CleanRunsEnd, MayLeave, RunsEnd}
 use Rattle.logged_runs.specs.Starts.{BeginsAt, only_life}
 use Rattle.logged_runs.proofs.Staying.{AllStay, stay_on}
 use Rattle.logged_runs.proofs.Fronts.{IsFront}
@@ -182,6 +185,32 @@ module _ (keep : StepsKeep) (fails : FailedWritesKeep) (heads : HeadsAreTold) (t
   pub front_landed : (list : Option (List Operation)) → IsFront v s d clients a (record p { disk = after_barrier (with_clean p bytes) 1; list = list; items = p.items ++ clean_item p ∷ trace.Barrier 1 ∷ [] }) (IsHeadAtEnd (state_of p))
   front_landed list = said_front (trace.Barrier 1 ∷ []) (tt, tt) refl (λ n. refl) (λ h. refl) (after_barrier (with_clean p bytes) 1) list logged.tells
       (λ left may. landed_rem left (rest (image_of (after_barrier (with_clean p bytes) 1)) left may.outcome))
+
+-- ---- what it stands for then
+
+pub runs_end : StepsKeep → ItsEndsLand → RunsEnd
+runs_end keep lands v s d clients time a p bytes begins steps flight =
+    let logged : IsLoggedAt v s d clients p = keep v s d clients time a p begins.at steps in
+    let then = lands v s logged.world d (state_of p) (flown_by (with_clean p bytes) 1) (image_of (after_barrier (with_clean p bytes) 1)) logged.is flight (landed_as (with_clean p bytes) logged.tells) in
+    let same : history_of (images_of v) logged.world.items ≡ run.history_of clients (p.items ++ clean_item p ∷ trace.Barrier 1 ∷ [])
+    = sym (history_on clients p.items (clean_item p ∷ trace.Barrier 1 ∷ []) ∙ append_nil (run.history_of clients p.items) ∙ logged.history) in
+    record {
+      owners = then.owners;
+      stands = subst (λ is. StandsBy (image_of (after_barrier (with_clean p bytes) 1)) then.owners v.layout (tree_of is s.tree)) same then.stands;
+      replayed = subst (λ is. StandsReplayed (image_of (after_barrier (with_clean p bytes) 1)) (tree_of is s.tree)) same then.replayed;
+      clean = then.clean;
+    }
+
+pub clean_runs_end : StepsKeep → CleanNodesHaveEnded → CleanRunsEnd
+clean_runs_end keep ended v s d clients time a p begins steps done never =
+    let logged : IsLoggedAt v s d clients p = keep v s d clients time a p begins.at steps in
+    let then = ended v s logged.world d (state_of p) logged.is done never in
+    record {
+      owners = then.owners;
+      stands = subst (λ is. StandsBy (image_of p.disk) then.owners v.layout (tree_of is s.tree)) (sym logged.history) then.stands;
+      replayed = subst (λ is. StandsReplayed (image_of p.disk) (tree_of is s.tree)) (sym logged.history) then.replayed;
+      clean = then.clean;
+    }
 
 pub front_of_end : StepsKeep → FailedWritesKeep → HeadsAreTold → StepsAreTold → ItsHistoryIsLegal → ItsEndsStand → ImagesAtRestStay → (v : Volume) (s : Begun (trees_on v)) (d : ℕ) (clients : List Client) (time : ℕ) (a p q : Point)
     → BeginsAt v s d clients a → Steps time a p → EndsTo p q → IsFront v s d clients a q (IsHeadAtEnd (state_of p))

@@ -1,5 +1,5 @@
 -- Laws of the runs of one node with its log: what remains of one, told by its items.
-use Rattle.std.specs.Prelude.{ℕ, ◌≡◌, ◌⊎◌, ◌≤◌, ◌++◌, List, [], ◌∷◌, drop, length, take, Option, Some}
+use Rattle.std.specs.Prelude.{ℕ, ◌≡◌, ◌⊎◌, ◌≤◌, ◌++◌, true, List, [], ◌∷◌, drop, length, take, Option, Some}
 use Rattle.std.specs.List.{AllByRecursion}
 use Rattle.cluster_history.specs.History.{Legal, tree_of}
 use Rattle.cluster_history.specs.Losses.{LossIsRight}
@@ -18,18 +18,19 @@ use Rattle.lone_view.specs.Seeing.{Lone}
 use Rattle.logged_steps.specs.Disks.{disk_after, first_told}
 use Rattle.logged_steps.specs.Fails.{FailsTo}
 use Rattle.logged_steps.specs.Laws.{CameBy}
-use Rattle.logged_steps.specs.Points.{Point}
+use Rattle.logged_steps.specs.Points.{Point, state_of}
 use Rattle.logged_steps.specs.Starts.{IsAtRest, starting}
 use Rattle.logged_steps.specs.Steps.{Steps}
+use Rattle.lone_ends.specs.Ends.{FliesLast, IsDone}
 use Rattle.lone_logs.specs.States.{trees_on}
 use Rattle.lone_machine.specs.Alone.{Begun}
 use Rattle.run_rules.specs.Follows.{history_of}
 use Rattle.run_rules.specs.Lives.{DiskHeads, TraceKeptRight, upto_of}
 use Rattle.script_lang.specs.declared.script.Client.{Client}
-use Rattle.shared_disk.specs.Disk.{DiskState, Flight, IsOutcome, Operation, after_fence}
+use Rattle.shared_disk.specs.Disk.{DiskState, Flight, IsOutcome, Operation, after_barrier, after_fence}
 use Rattle.trace_text.specs.declared.item.TraceItem.{TraceItem}
 use Rattle.trace_text.specs.declared.item.TraceItem.TheVariants as trace
-use Rattle.logged_runs.specs.Ends.{EndsTo}
+use Rattle.logged_runs.specs.Ends.{EndsTo, HasEndedAs, clean_item, with_clean}
 use Rattle.logged_runs.specs.Heads.{HasFirst, IsAcceptedIn}
 use Rattle.logged_runs.specs.Standing.{StandsAsTold}
 use Rattle.logged_runs.specs.Starts.{BeginsAt, IsOfReplay, only_life}
@@ -78,6 +79,16 @@ PrefixesStand = (v : Volume) (s : Begun (trees_on v)) (d : ℕ) (clients : List 
 abbrev pub EndsAreTold : Type 0
 EndsAreTold = (v : Volume) (s : Begun (trees_on v)) (d : ℕ) (clients : List Client) (time : ℕ) (a p q : Point) (disks : DiskHeads) (left : Image) → BeginsAt v s d clients a → Steps time a p → EndsTo p q
     → HasFirst v d a disks.behind → MayLeave v q.disk left → IsAcceptedIn v d left (disks.now 1) → StandsAsTold clients disks q.items s.tree left
+
+-- once it is in its place
+abbrev pub RunsEnd : Type 0
+RunsEnd = (v : Volume) (s : Begun (trees_on v)) (d : ℕ) (clients : List Client) (time : ℕ) (a p : Point) (bytes : List ℕ) → BeginsAt v s d clients a → Steps time a p → FliesLast (state_of p) (flown_by (with_clean p bytes) 1)
+    → HasEndedAs v clients (p.items ++ clean_item p ∷ trace.Barrier 1 ∷ []) s.tree (image_of (after_barrier (with_clean p bytes) 1))
+
+-- and without one, where nothing was ever written to its journal
+abbrev pub CleanRunsEnd : Type 0
+CleanRunsEnd = (v : Volume) (s : Begun (trees_on v)) (d : ℕ) (clients : List Client) (time : ℕ) (a p : Point) → BeginsAt v s d clients a → Steps time a p → IsDone (state_of p) → p.log.clean ≡ true
+    → HasEndedAs v clients p.items s.tree (image_of p.disk)
 
 -- ---- behind its stop
 

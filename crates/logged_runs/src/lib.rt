@@ -2,11 +2,11 @@
 //! nothing: their contracts are the laws.
 #![tactic(auto)]
 
-ghost use Rattle.logged_runs.specs.Laws.{EndsAreTold, FencesAreTold, FrontsStand, PrefixesStand, RunsBeginSo, StopsAreTold, WhatRemainsIsTold};
+ghost use Rattle.logged_runs.specs.Laws.{CleanRunsEnd, EndsAreTold, FencesAreTold, FrontsStand, PrefixesStand, RunsBeginSo, RunsEnd, StopsAreTold, WhatRemainsIsTold};
 
 use journal_outcomes::fences_leave_outcomes;
 use logged_steps::{failed_writes_keep, heads_are_told, runs_begin, steps_are_told, steps_keep};
-use lone_ends::{fences_leave_what_remains, what_remains_at_its_end};
+use lone_ends::{fences_leave_what_remains, it_has_ended, what_remains_at_its_end};
 use lone_logs::what_remains_of_it;
 
 /// A law: such a run begins on a disk at rest, whatever was replayed there.
@@ -41,6 +41,16 @@ pub fn ends_are_told()
     what_remains_of_it();
     what_remains_at_its_end();
     fences_leave_what_remains();
+}
+
+/// A law: once that header is in its place the image stands, as it lies, for the tree of all that the items answer, each journal clean; so does that of a node that never
+/// wrote to its journal.
+pub fn runs_end()
+    ensures landed { RunsEnd }
+    ensures clean { CleanRunsEnd }
+{
+    steps_keep();
+    it_has_ended();
 }
 
 /// A law: so it is behind a crash or a withdraw, and behind the fence, of the disk that it leaves, also with a right loss.
