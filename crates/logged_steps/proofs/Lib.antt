@@ -1,4 +1,7 @@
 pub mod Histories
 pub mod Disks
 pub mod Keeping
+pub mod Failing
+pub mod Beginning
 pub mod Telling
+pub mod Heads

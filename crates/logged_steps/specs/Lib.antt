@@ -1,4 +1,8 @@
 pub mod Points
 pub mod Answers
 pub mod Steps
+pub mod Disks
+pub mod Heads
+pub mod Fails
+pub mod Starts
 pub mod Laws

@@ -45,3 +45,15 @@ pub record MayWrite (p : Point) (b : ℕ) (bytes : List ℕ) : Type 0 where
   pub inside : b < p.disk.count
   pub whole : length bytes ≡ p.disk.size
   pub free : flight_to (p.disk.in_flight 1) b ≡ None
+
+-- an item that a step tells
+abbrev pub IsOfRun : TraceItem → Type 0
+IsOfRun (trace.Call node name number call reply) = node ≡ 1
+IsOfRun (trace.Full node need free) = node ≡ 1
+IsOfRun (trace.WriteLog node block) = node ≡ 1
+IsOfRun (trace.WriteHead node block sequence upto) = node ≡ 1
+IsOfRun (trace.WriteHome node block) = node ≡ 1
+IsOfRun (trace.Barrier node) = node ≡ 1
+IsOfRun (trace.Commit node sequence upto) = node ≡ 1
+IsOfRun (trace.Unmount node) = node ≡ 1
+IsOfRun _ = ⊥

@@ -26,14 +26,18 @@ use Rattle.image_model.specs.Stands.{IsJournalAt}
 use Rattle.image_model.proofs.Held.{none_some, some_same}
 use Rattle.journal_outcomes.specs.Images.{IsImageOutcome, NoFalseHeader, ring_at}
 use Rattle.journal_outcomes.specs.Rings.{InFlight}
-use Rattle.log_layout.specs.Journal.{IsClean}
+use Rattle.log_layout.specs.Journal.{IsClean, head_in}
 use Rattle.log_layout.specs.Laws.{HasSamePlaces}
+use Rattle.log_layout.specs.Transactions.{after}
+use Rattle.log_layout.specs.declared.log_header.LogHeader.{LogHeader}
 use Rattle.log_layout.proofs.SamePlaces.{nothing_live, says_the_same}
 use Rattle.lone_machine.specs.Alone.{Begun, IsAlone, begun, ends_header}
 use Rattle.lone_machine.specs.Laws.{AreOwnRings, StaysAlone}
 use Rattle.lone_machine.proofs.Going.{sound}
 use Rattle.lone_machine.proofs.Logging.{header_ends}
 use Rattle.lone_machine.proofs.Remaining.{rings_alone}
+use Rattle.log_values.specs.Flushing.{first_place}
+use Rattle.lone_logs.specs.Laws.{IsHeadAt}
 use Rattle.lone_logs.specs.States.{ArePlacesApart, HasLandedAs, IsLoggedNode, NodeState, trees_on}
 use Rattle.lone_logs.proofs.Landed.{landed_outcome, landed_true, none_of_others}
 use Rattle.lone_logs.proofs.Living.{live_head}
@@ -58,6 +62,13 @@ number_of v published told (Called k ∷ items) each zero node client number cal
     both e = (cc, cc)
 number_of v published told (Gone i upto kept ∷ items) each (suc p) node client number call reply e = number_of v published told items each p node client number call reply e
 number_of v published told (Called k ∷ items) each (suc p) node client number call reply e = number_of v published told items each.1 p node client number call reply e
+
+-- ---- the head that its journal then has
+
+pub record HasCleanHead (left : Image) (d place sequence : ℕ) : Type 0 where
+  pub head : LogHeader
+  pub headed : head_in (ring_at left d) ≡ Some head
+  pub is : IsHeadAt head place sequence true
 
 -- ---- a world in which all calls are in the journal, and nothing is live
 
@@ -127,8 +138,19 @@ module _ (v : Volume) (s : Begun (trees_on v)) (w : World (trees_on v)) (d : ℕ
       let within' : q < v.places m = subst (λ n. q < n) (disk.many i m at') low' in
       apart j k p i m q at at' within within' (sym (disk.there j k p at within) ∙ e ∙ disk.there i m q at' within')
 
-  pub has_ended : HasEnded v s w left
-  has_ended = record { owners = stands_so.0; stands = stands_so.1; replayed = replayed; clean = clean; has = disk.has; places = its_places; apart = apart_there }
+  pub has_ended : (place sequence : ℕ) → HasCleanHead left d place sequence → HasEnded v s w d left place sequence
+  has_ended place sequence own = record {
+    owners = stands_so.0;
+    stands = stands_so.1;
+    replayed = replayed;
+    clean = clean;
+    has = disk.has;
+    places = its_places;
+    apart = apart_there;
+    head = own.head;
+    headed = own.headed;
+    is = own.is;
+  }
 
 -- ---- the header of the node has ended
 
@@ -170,12 +192,24 @@ module _ (v : Volume) (s : Begun (trees_on v)) (w : World (trees_on v)) (d : ℕ
   pub none_of_rings : (j b : ℕ) (c : Bool) → ended_rings.0.live j c b ≡ None
   none_of_rings j b c = ended_rings.1.live j b c ∙ none_after (suc j) b c
 
-  module _ (left : Image) (disk : IsDiskOf v ended_world.disk ended_rings.0 left (λ b. None)) (clean : (j k : ℕ) → IsJournalAt v.layout j k → IsClean (ring_at left k)) where
-    there : HasEnded v s ended_world left
-    there = has_ended v s ended_world d left stays.alone is.start ended_rings.0 disk cut_is (λ j b. none_after j b false) is.apart clean
+  module _ (left : Image) (disk : IsDiskOf v ended_world.disk ended_rings.0 left (λ b. None)) (clean : (j k : ℕ) → IsJournalAt v.layout j k → IsClean (ring_at left k)) (place sequence : ℕ)
+      (own : HasCleanHead left d place sequence) where
+    there : HasEnded v s ended_world d left place sequence
+    there = has_ended v s ended_world d left stays.alone is.start ended_rings.0 disk cut_is (λ j b. none_after j b false) is.apart clean place sequence own
 
-    pub ended_so : HasEnded v s w left
-    ended_so = (let e = there in record { owners = e.owners; stands = e.stands; replayed = e.replayed; clean = e.clean; has = e.has; places = e.places; apart = e.apart })
+    pub ended_so : HasEnded v s w d left place sequence
+    ended_so = (let e = there in record {
+      owners = e.owners;
+      stands = e.stands;
+      replayed = e.replayed;
+      clean = e.clean;
+      has = e.has;
+      places = e.places;
+      apart = e.apart;
+      head = e.head;
+      headed = e.headed;
+      is = e.is;
+    })
 
 -- ---- its block is in its place
 
@@ -193,16 +227,16 @@ module _ (they_are : OutcomesAreTheMachines) (v : Volume) (s : Begun (trees_on v
   counts : its_outcome.choice 0 ≡ true
   counts = its_outcome.landed 0 d is.journal.is (flies_here v s w d st flying is flies) (λ p bytes low e. landed.new _ bytes e)
 
+  own_head : HasCleanHead left d (first_place st.log) (after st.log.sequence)
+  own_head =
+      let says = subst (λ c. says_so v s w d st flying is flies they_are left outcome no_false c) counts (its_outcome.says 0 d is.journal.is) in
+      record { head = says.head; headed = says.headed; is = last_at v s w d st flying is flies they_are left outcome no_false says }
+
   clean : (j k : ℕ) → IsJournalAt v.layout j k → IsClean (ring_at left k)
   clean j k at = elim (cases_eq k d) [
     | inr other ↦ others v s w d st flying is flies they_are left outcome no_false j k at other
-    | inl same ↦ subst (λ m. IsClean (ring_at left m)) (sym same) mine
+    | inl same ↦ subst (λ m. IsClean (ring_at left m)) (sym same) (own_head.head, own_head.headed, own_head.is.clean)
   ]
-    where
-      mine : IsClean (ring_at left d)
-      mine =
-          let says = subst (λ c. says_so v s w d st flying is flies they_are left outcome no_false c) counts (its_outcome.says 0 d is.journal.is) in
-          (says.head, says.headed, (last_at v s w d st flying is flies they_are left outcome no_false says).clean)
 
   settled : (b : ℕ) → (IsPlace v b → ⊥) → (ended_world v s w d st is flies.done).disk.blocks b ≡ left.at b
   settled b off = is.disk.blocks b off ∙ sym (landed.still b (none_off v s w d st flying is flies b off))
@@ -213,8 +247,8 @@ module _ (they_are : OutcomesAreTheMachines) (v : Volume) (s : Begun (trees_on v
   disk_then : IsDiskOf v (ended_world v s w d st is flies.done).disk (ended_rings v s w d st is flies.done).0 left (λ b. None)
   disk_then = its_outcome.rests (ended_world v s w d st is flies.done).disk (ended_rings v s w d st is flies.done).0 settled keeps
 
-  pub landed_so : HasEnded v s w left
-  landed_so = ended_so v s w d st is flies.done left disk_then clean
+  pub landed_so : HasEnded v s w d left (first_place st.log) (after st.log.sequence)
+  landed_so = ended_so v s w d st is flies.done left disk_then clean (first_place st.log) (after st.log.sequence) own_head
 
 pub its_ends_land : OutcomesAreTheMachines → ItsEndsLand
 its_ends_land they_are v s w d st flying left is flies landed = landed_so they_are v s w d st flying left is flies landed
@@ -223,8 +257,11 @@ its_ends_land they_are v s w d st flying left is flies landed = landed_so they_a
 
 module _ (they_are : OutcomesAreTheMachines) (v : Volume) (s : Begun (trees_on v)) (w : World (trees_on v)) (d : ℕ) (st : NodeState) (is : IsLoggedNode v s w d st) (done : IsDone st)
     (never : st.log.clean ≡ true) where
+  its_head : HasCleanHead st.image d st.log.head st.log.sequence
+  its_head = record { head = is.ring.head; headed = is.ring.headed; is = record { place = is.ring.place; sequence = is.ring.sequence; clean = is.ring.clean ∙ never } }
+
   own_clean : IsClean (ring_at st.image d)
-  own_clean = (is.ring.head, is.ring.headed, is.ring.clean ∙ never)
+  own_clean = (its_head.head, its_head.headed, its_head.is.clean)
 
   clean_all : (j k : ℕ) → IsJournalAt v.layout j k → IsClean (ring_at st.image k)
   clean_all j k at = elim (cases_eq k d) [
@@ -257,8 +294,8 @@ module _ (they_are : OutcomesAreTheMachines) (v : Volume) (s : Begun (trees_on v
   at_rest : IsDiskOf v (ended_world v s w d st is done).disk (ended_rings v s w d st is done).0 st.image (λ b. None)
   at_rest = itself.rests (ended_world v s w d st is done).disk (ended_rings v s w d st is done).0 is.disk.blocks keeps_so
 
-  pub clean_so : HasEnded v s w st.image
-  clean_so = ended_so v s w d st is done st.image at_rest clean_all
+  pub clean_so : HasEnded v s w d st.image st.log.head st.log.sequence
+  clean_so = ended_so v s w d st is done st.image at_rest clean_all st.log.head st.log.sequence its_head
 
 pub clean_nodes_have_ended : OutcomesAreTheMachines → CleanNodesHaveEnded
 clean_nodes_have_ended they_are v s w d st is done never = clean_so they_are v s w d st is done never

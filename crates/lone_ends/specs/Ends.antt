@@ -14,7 +14,7 @@ use Rattle.journal_outcomes.specs.Images.{IsImageOutcome, NoFalseHeader, ring_at
 use Rattle.journal_outcomes.specs.Rings.{InFlight}
 use Rattle.journal_replays.specs.Headers.{clean_block, filled}
 use Rattle.log_layout.specs.Headers.{as_read, log_read}
-use Rattle.log_layout.specs.Journal.{IsClean, accepted}
+use Rattle.log_layout.specs.Journal.{IsClean, accepted, head_in}
 use Rattle.log_layout.specs.Transactions.{after}
 use Rattle.log_layout.specs.declared.log_header.LogHeader.{LogHeader}
 use Rattle.log_values.specs.Flushing.{AllAreHome, IsDue, block_at, first_place}
@@ -74,7 +74,8 @@ ItsEndsStand = (v : Volume) (s : Begun (trees_on v)) (w : World (trees_on v)) (d
 -- ---- once it has ended
 
 -- The image stands for the tree of all that the node answered, as it lies and so too when its journals are replayed: each is clean, and has its places where it had them, so that a node may begin on it.
-pub record HasEnded (v : Volume) (s : Begun (trees_on v)) (w : World (trees_on v)) (left : Image) : Type 0 where
+-- Its own journal's head is the clean one at this place, with this sequence.
+pub record HasEnded (v : Volume) (s : Begun (trees_on v)) (w : World (trees_on v)) (d : ℕ) (left : Image) (place sequence : ℕ) : Type 0 where
   pub owners : Owners
   pub stands : StandsBy left owners v.layout (tree_of (history_of (images_of v) w.items) s.tree)
   pub replayed : StandsReplayed left (tree_of (history_of (images_of v) w.items) s.tree)
@@ -82,12 +83,16 @@ pub record HasEnded (v : Volume) (s : Begun (trees_on v)) (w : World (trees_on v
   pub has : HasBlocksFor v left
   pub places : (j k : ℕ) → IsJournalAt v.layout j k → HasItsPlaces v k (every left k)
   pub apart : ArePlacesApart (volume_of left v.layout)
+  pub head : LogHeader
+  pub headed : head_in (ring_at left d) ≡ Some head
+  pub is : IsHeadAt head place sequence true
 
--- behind the barrier that brings the last header to its place
+-- behind the barrier that brings the last header to its place: its head is that one
 abbrev pub ItsEndsLand : Type 0
 ItsEndsLand = (v : Volume) (s : Begun (trees_on v)) (w : World (trees_on v)) (d : ℕ) (st : NodeState) (flying : InFlight) (left : Image) → IsLoggedNode v s w d st → FliesLast st flying
-    → HasLandedAs st.image flying left → HasEnded v s w left
+    → HasLandedAs st.image flying left → HasEnded v s w d left (first_place st.log) (after st.log.sequence)
 
--- and without one where the journal's head is clean, since nothing was ever written to it
+-- and without one where the journal's head is clean, since nothing was ever written to it: it is the log's
 abbrev pub CleanNodesHaveEnded : Type 0
-CleanNodesHaveEnded = (v : Volume) (s : Begun (trees_on v)) (w : World (trees_on v)) (d : ℕ) (st : NodeState) → IsLoggedNode v s w d st → IsDone st → st.log.clean ≡ true → HasEnded v s w st.image
+CleanNodesHaveEnded = (v : Volume) (s : Begun (trees_on v)) (w : World (trees_on v)) (d : ℕ) (st : NodeState) → IsLoggedNode v s w d st → IsDone st → st.log.clean ≡ true
+    → HasEnded v s w d st.image st.log.head st.log.sequence

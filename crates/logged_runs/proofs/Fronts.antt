@@ -1,0 +1,215 @@
+-- What remains at a front of the items, whatever the head that its journal is left with.
+use Rattle.std.proofs.Common.{◌≡◌, ℕ, zero, suc, ◌+◌, ◌<◌, ◌≤◌, List, [], ◌∷◌, ◌++◌, length, take, Some, slice_get, refl, sym, ap, subst, ◌∙◌, arith}
+use Rattle.std.specs.Prelude.{IsTrue}
+use Rattle.std.proofs.lemmas.List.{length-append, map-append}
+use Rattle.cluster_history.specs.History as history
+use Rattle.cluster_history.specs.History.{tree_of}
+use Rattle.cluster_history.specs.Losses.{LossIsRight}
+use Rattle.cluster_history.specs.declared.Item.{Item}
+use Rattle.cluster_history.specs.declared.Item.TheVariants as item
+use Rattle.cluster_laws.specs.History.{Gone}
+use Rattle.cluster_laws.specs.World.{World}
+use Rattle.image_disks.specs.Lone.{remaining}
+use Rattle.image_machine.specs.Volumes.{Volume, images_of}
+use Rattle.image_model.specs.Image.{Image, image_of}
+use Rattle.image_model.specs.Replays.{StandsReplayed}
+use Rattle.journal_outcomes.specs.Disks.{FencesLeaveOutcomes, flown_by}
+use Rattle.journal_outcomes.specs.Images.{NoFalseHeader}
+use Rattle.log_layout.specs.declared.log_header.LogHeader.{LogHeader}
+use Rattle.lone_logs.specs.Laws.{ItsHistoryIsLegal, Remains, RemainsWith}
+use Rattle.lone_logs.specs.States.{IsLoggedNode, NodeState, trees_on}
+use Rattle.lone_machine.specs.Alone.{Begun}
+use Rattle.run_rules.specs.Follows as run
+use Rattle.run_rules.specs.Lives.{AcceptedHead, DiskHeads, Life, TraceKeptRight, head_of, life_lost, remains, to_its_end, upto_of}
+use Rattle.script_lang.specs.declared.script.Client.{Client}
+use Rattle.shared_disk.specs.Disk.{Flight, IsOutcome, after_fence}
+use Rattle.trace_text.specs.declared.item.TraceItem.{TraceItem}
+use Rattle.trace_text.specs.declared.item.TraceItem.TheVariants as trace
+use Rattle.tree_histories.specs.Trees.{history_of, item_of}
+use Rattle.logged_steps.specs.Points.{Point}
+use Rattle.logged_steps.proofs.Histories.{history_on}
+use Rattle.logged_steps.proofs.Telling.{append_assoc, append_nil, take_all, take_front}
+use Rattle.logged_runs.specs.Heads.{HasFirst, IsAcceptedIn}
+use Rattle.logged_runs.specs.Laws.{IsStop, MayLeave, StandsFenced, StandsLost, to_fence, to_loss}
+use Rattle.logged_runs.specs.Standing.{StandsAsTold, SyncsStand}
+use Rattle.logged_runs.specs.Starts.{only_life}
+use Rattle.logged_runs.proofs.Staying.{AllStay}
+use Rattle.logged_runs.proofs.Losing.{IsItsEnd, IsItsStop, IsTheLoss, fenced_too, head_fenced, head_now, its_place, life_fenced, no_loss, remains_are, same_history, stopped, stops}
+use Rattle.logged_runs.proofs.Machine.{SyncsThere, all_answered, calm}
+
+-- A front: behind it the node is one alone on an image with its log; each outcome of the disk has what remains of it; and of the head that it has, one of these, the items tell the number.
+pub record IsFront (v : Volume) (s : Begun (trees_on v)) (d : ℕ) (clients : List Client) (a q : Point) (IsHead : LogHeader → ℕ → Type 0) : Type 0 where
+  pub tells : IsTrue q.disk.tells
+  pub world : World (trees_on v)
+  pub st : NodeState
+  pub is : IsLoggedNode v s world d st
+  pub its : List TraceItem
+  pub items : q.items ≡ trace.Join 1 ∷ its
+  pub stay : AllStay its
+  pub history : run.history_of clients its ≡ history_of (images_of v) world.items
+  pub within : (h : LogHeader) (n : ℕ) → IsHead h n → n ≤ st.numbers.answered
+  pub syncs : (h : LogHeader) (n : ℕ) → IsHead h n → SyncsThere v world n
+  pub remains : (left : Image) → MayLeave v q.disk left → Remains v s world d st.numbers.answered left IsHead
+  pub upto : (left : Image) (h : AcceptedHead) (rem : Remains v s world d st.numbers.answered left IsHead) → IsAcceptedIn v d left h → (disks : DiskHeads) → HasFirst v d a disks.behind
+      → (end : List TraceItem) → IsItsEnd clients end → to_its_end 1 end ≡ [] → head_of disks only_life (trace.Join 1 ∷ (its ++ end)) ≡ h → upto_of disks only_life (trace.Join 1 ∷ (its ++ end)) ≡ rem.number
+
+module _ (v : Volume) (s : Begun (trees_on v)) (d : ℕ) (clients : List Client) (a q : Point) (IsHead : LogHeader → ℕ → Type 0) (front : IsFront v s d clients a q IsHead) where
+  abbrev is : List TraceItem
+  is = front.its
+
+  -- with a loss that keeps the calls up to k
+  remaining_is : (k : ℕ) → remaining v s front.world k ≡ run.history_of clients is ++ item.Lost 1 k ∷ []
+  remaining_is k =
+      map-append (item_of (images_of v)) front.world.items (Gone s.node k k ∷ [])
+      ∙ (λ i. sym front.history i ++ item.Lost (front.is.node i) k ∷ [])
+
+  -- ---- behind an end of the life
+
+  module _ (left : Image) (h : AcceptedHead) (may : MayLeave v q.disk left) (accepts : IsAcceptedIn v d left h) (disks : DiskHeads) (first : HasFirst v d a disks.behind) (end : List TraceItem) (ends : IsItsEnd clients end)
+      (cut : to_its_end 1 end ≡ []) (there : head_of disks only_life (trace.Join 1 ∷ (is ++ end)) ≡ h) where
+    abbrev rem : Remains v s front.world d front.st.numbers.answered left IsHead
+    rem = front.remains left may
+
+    upto_is : upto_of disks only_life (trace.Join 1 ∷ (is ++ end)) ≡ rem.number
+    upto_is = front.upto left h rem accepts disks first end ends cut there
+
+    remain : RemainsWith v s front.world left rem.number
+    remain = rem.stands rem.number (omega arith) (front.within rem.head rem.number rem.is) (λ m above less. absurd (omega (arith, above, less)))
+
+    remains_so : remaining v s front.world rem.number ≡ remains clients disks (trace.Join 1 ∷ (is ++ end))
+    remains_so = remaining_is rem.number ∙ ap (λ m. run.history_of clients is ++ item.Lost 1 m ∷ []) (sym upto_is) ∙ sym (remains_are clients is end front.stay ends disks)
+
+    in_history : (z : ℕ) {i : Item} → slice_get (run.history_of clients (trace.Join 1 ∷ (is ++ end))) z ≡ Some i → slice_get (history_of (images_of v) front.world.items) z ≡ Some i
+    in_history z e = ap (λ (is : List Item). slice_get is z) (sym (same_history clients is end front.stay ends ∙ front.history)) ∙ e
+
+    synced : SyncsStand clients (upto_of disks only_life (trace.Join 1 ∷ (is ++ end))) (trace.Join 1 ∷ (is ++ end))
+    synced x y client other count earlier call reply answered called above below =
+        front.syncs rem.head rem.number rem.is x y client other count earlier call reply (in_history x answered) (in_history y called) (subst (λ m. m < earlier) upto_is above) below
+
+    pub stands_as_told : StandsAsTold clients disks (q.items ++ end) s.tree left
+    stands_as_told = subst (λ is. StandsAsTold clients disks is s.tree left) (ap (λ is. is ++ end) (sym front.items)) (record {
+      legal = subst (λ is. history.Legal is s.tree) remains_so remain.0;
+      stands = subst (λ is. StandsReplayed left (tree_of is s.tree)) remains_so remain.1;
+      synced = synced;
+    })
+
+  -- ---- there, and behind a stop
+
+  pub told_there : (left : Image) (disks : DiskHeads) → HasFirst v d a disks.behind → MayLeave v q.disk left → IsAcceptedIn v d left (disks.now 1) → StandsAsTold clients disks q.items s.tree left
+  told_there left disks first may accepts =
+      let quiet : IsItsEnd clients [] = record { lives = λ p. refl; losses = refl; silent = refl; numbers = λ n. refl } in
+      subst (λ is. StandsAsTold clients disks is s.tree left) (append_nil q.items)
+      (stands_as_told left (disks.now 1) may accepts disks first [] quiet refl (head_now clients is [] front.stay quiet disks (λ n. refl)))
+
+  pub told_stopped : (x : TraceItem) → IsStop x → (left : Image) (disks : DiskHeads) → HasFirst v d a disks.behind → MayLeave v q.disk left → IsAcceptedIn v d left (disks.now 1) → StandsAsTold clients disks (q.items ++ x ∷ []) s.tree left
+  told_stopped x is_stop left disks first may accepts =
+      let stop = stops clients x is_stop in
+      stands_as_told left (disks.now 1) may accepts disks first (x ∷ []) (stopped clients x stop) (stop.cut [])
+      (head_now clients is (x ∷ []) front.stay (stopped clients x stop) disks (λ n. stop.fence n []))
+
+  -- ---- behind a fence
+
+  module _ (legal : ItsHistoryIsLegal) (x : TraceItem) (is_stop : IsStop x) (disks : DiskHeads) (left : Image) (first : HasFirst v d a disks.behind) (may : MayLeave v q.disk left)
+      (accepts : IsAcceptedIn v d left (disks.behind 1 (length (to_fence x q.items)))) where
+    abbrev fence : List TraceItem
+    fence = x ∷ trace.Fence 1 ∷ []
+
+    abbrev fenced_rem : Remains v s front.world d front.st.numbers.answered left IsHead
+    fenced_rem = front.remains left may
+
+    stop : IsItsStop clients x
+    stop = stops clients x is_stop
+
+    fenced_is : trace.Join 1 ∷ (is ++ fence) ≡ to_fence x q.items
+    fenced_is = ap (λ is. is ++ fence) (sym front.items)
+
+    -- whatever other disks there are, the head is that behind the fence
+    module _ (others : DiskHeads) (same : others.behind ≡ disks.behind) where
+      fenced_there : head_of others only_life (trace.Join 1 ∷ (is ++ fence)) ≡ disks.behind 1 (length (to_fence x q.items))
+      fenced_there = head_fenced clients x stop is front.stay others ∙ (λ i. same i 1 (length (fenced_is i)))
+
+      upto_fenced : upto_of others only_life (to_fence x q.items) ≡ fenced_rem.number
+      upto_fenced = ap (upto_of others only_life) (sym fenced_is)
+          ∙ upto_is left (disks.behind 1 (length (to_fence x q.items))) may accepts others (subst (HasFirst v d a) (sym same) first) fence (fenced_too clients x stop) (stop.cut (trace.Fence 1 ∷ [])) fenced_there
+
+    told : StandsAsTold clients disks (to_fence x q.items) s.tree left
+    told = stands_as_told left (disks.behind 1 (length (to_fence x q.items))) may accepts disks first fence (fenced_too clients x stop) (stop.cut (trace.Fence 1 ∷ [])) (fenced_there disks refl)
+
+    history_there : run.history_of clients q.items ≡ history_of (images_of v) front.world.items
+    history_there = ap (run.history_of clients) front.items ∙ front.history
+
+    fenced_history : run.history_of clients (to_fence x q.items) ≡ run.history_of clients q.items
+    fenced_history = history_on clients q.items fence ∙ ap (λ is. run.history_of clients q.items ++ is) (stop.silent (trace.Fence 1 ∷ [])) ∙ append_nil (run.history_of clients q.items)
+
+    -- ---- with its loss
+
+    module _ (k : ℕ) (right : LossIsRight (run.history_of clients q.items) 1 (upto_of disks only_life (to_fence x q.items)) k) where
+      by_number : LossIsRight (run.history_of clients q.items) 1 fenced_rem.number k
+      by_number = subst (λ n. LossIsRight (run.history_of clients q.items) 1 n k) (upto_fenced disks refl) right
+
+      in_machine : LossIsRight (history_of (images_of v) front.world.items) 1 fenced_rem.number k
+      in_machine = subst (λ is. LossIsRight is 1 fenced_rem.number k) history_there by_number
+
+      numbered : history.IsNumbered (history_of (images_of v) front.world.items)
+      numbered = (legal v s front.world d front.st front.is).numbered
+
+      stands_there : RemainsWith v s front.world left k
+      stands_there = fenced_rem.stands k by_number.order
+          (all_answered v s front.world d front.st front.is numbered fenced_rem.number k in_machine.below in_machine.between)
+          (calm v s front.world d front.st front.is numbered fenced_rem.number k in_machine.below in_machine.between)
+
+      remaining_so : remaining v s front.world k ≡ run.history_of clients (to_loss x q.items k)
+      remaining_so =
+          remaining_is k
+          ∙ ap (λ is. run.history_of clients is ++ item.Lost 1 k ∷ []) (sym front.items)
+          ∙ ap (λ is. run.history_of clients q.items ++ is) (sym (stop.silent (trace.Fence 1 ∷ trace.Lost 1 k ∷ [])))
+          ∙ sym (history_on clients q.items (x ∷ trace.Fence 1 ∷ trace.Lost 1 k ∷ []))
+
+      -- the items before the loss
+      before : (n : ℕ) → n ≡ length is + 2 → take (suc n) (to_loss x q.items k) ≡ to_fence x q.items
+      before n e =
+          (λ i. take (suc n) (to_loss x (front.items i) k))
+          ∙ ap (take (suc n)) (sym (append_assoc (trace.Join 1 ∷ is) fence (trace.Lost 1 k ∷ [])))
+          ∙ ap (λ m. take m ((trace.Join 1 ∷ (is ++ fence)) ++ trace.Lost 1 k ∷ [])) count
+          ∙ take_front (length these) these (trace.Lost 1 k ∷ []) (omega arith) ∙ take_all (length these) these (omega arith) ∙ fenced_is
+        where
+          these : List TraceItem
+          these = trace.Join 1 ∷ (is ++ fence)
+
+          count : suc n ≡ length (trace.Join 1 ∷ (is ++ fence))
+          count = (let m = length-append is fence in omega (arith, e, m))
+
+      kept_right : TraceKeptRight clients disks.behind (to_loss x q.items k)
+      kept_right zero node kept e = absurd (no_loss (trace.Join 1) node kept (λ same. absurd cc) (ap (λ is. slice_get (to_loss x is k) zero) (sym front.items) ∙ e))
+      kept_right (suc n) node kept e = by (its_place clients x stop is k n node kept front.stay (ap (λ is. slice_get (to_loss x is k) (suc n)) (sym front.items) ∙ e))
+        where
+          disks_there : DiskHeads
+          disks_there = record { behind = disks.behind; now = λ i. disks.behind i (suc n) }
+
+          by : IsTheLoss is k n node kept → (life : Life) × (life_lost node (take (suc n) (to_loss x q.items k)) ≡ Some life)
+              × LossIsRight (run.history_of clients (take (suc n) (to_loss x q.items k))) node (upto_of disks_there life (take (suc n) (to_loss x q.items k))) kept
+          by loss = (
+            only_life,
+            (λ i. life_lost (loss.own i) (before n loss.at i)) ∙ ap (life_lost 1) (sym fenced_is) ∙ life_fenced clients x stop is front.stay,
+            subst (λ i. LossIsRight (run.history_of clients (take (suc n) (to_loss x q.items k))) i (upto_of disks_there only_life (take (suc n) (to_loss x q.items k))) kept) (sym loss.own)
+                (subst (λ m. LossIsRight (run.history_of clients (take (suc n) (to_loss x q.items k))) 1 (upto_of disks_there only_life (take (suc n) (to_loss x q.items k))) m) (sym loss.same)
+                (subst (λ is. LossIsRight (run.history_of clients is) 1 (upto_of disks_there only_life is) k) (sym (before n loss.at))
+                (subst (λ m. LossIsRight (run.history_of clients (to_fence x q.items)) 1 m k) (sym (upto_fenced disks_there refl))
+                (subst (λ is. LossIsRight is 1 fenced_rem.number k) (sym fenced_history) by_number)))),
+          )
+
+      stands_lost : StandsLost clients disks x q.items s.tree left k
+      stands_lost = record {
+        legal = subst (λ is. history.Legal is s.tree) remaining_so stands_there.0;
+        right = kept_right;
+        stands = subst (λ is. StandsReplayed left (tree_of is s.tree)) remaining_so stands_there.1;
+      }
+
+    stands_fenced : StandsFenced clients disks x q.items s.tree left
+    stands_fenced = record { told = told; lost = stands_lost }
+
+  pub told_fenced : FencesLeaveOutcomes → ItsHistoryIsLegal → (x : TraceItem) → IsStop x → (disks : DiskHeads) (became : List Flight) → IsOutcome q.disk 1 became → HasFirst v d a disks.behind
+      → NoFalseHeader (image_of q.disk) v.layout (flown_by q.disk 1) (image_of (after_fence q.disk 1 became)) → IsAcceptedIn v d (image_of (after_fence q.disk 1 became)) (disks.behind 1 (length (to_fence x q.items)))
+      → StandsFenced clients disks x q.items s.tree (image_of (after_fence q.disk 1 became))
+  told_fenced fences legal x is_stop disks became settles first no_false accepts =
+      stands_fenced legal x is_stop disks (image_of (after_fence q.disk 1 became)) first (record { outcome = (fences q.disk 1 became front.tells settles).outcome; no_false = no_false }) accepts

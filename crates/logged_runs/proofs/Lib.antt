@@ -1,0 +1,14 @@
+pub mod Starting
+pub mod Staying
+pub mod Naming
+pub mod Upto
+pub mod Noting
+pub mod Numbers
+pub mod Lasting
+pub mod Losing
+pub mod Chunks
+pub mod Machine
+pub mod Fronts
+pub mod Runs
+pub mod Endings
+pub mod Laws

@@ -1,0 +1,5 @@
+pub mod Starts
+pub mod Heads
+pub mod Ends
+pub mod Standing
+pub mod Laws
