@@ -1,3 +1,3 @@
 pub mod Lacking
-pub mod Reads
+pub mod Working
 pub mod Tries

@@ -1,17 +1,13 @@
-use Rattle.std.proofs.Common.{◌≡◌, ℕ, Option, Some, sym, ap, ◌∙◌, subst}
-use Rattle.std.specs.Prelude.{IfSome}
-use Rattle.file_tree.specs.Tree.{Tree}
-use Rattle.image_model.specs.Image.{Image}
-use Rattle.image_model.specs.Owners.{Owners}
-use Rattle.image_model.specs.Stands.{Layout}
+use Rattle.std.proofs.Common.{◌≡◌, Option, None, refl, sym, ap, ◌∙◌, subst, arith}
+use Rattle.std.specs.Prelude.{IfNone, IfSome}
 use Rattle.shared_disk.specs.Disk.{DiskState}
 use Rattle.lone_view.specs.Seeing.{Lone, seen_alone}
 use Rattle.lone_answers.specs.Answers.{IsDoneBy, IsSpaceless}
 use Rattle.lone_answers.specs.Faults.{IfDone, IfFull, IsDamagedFor, IsLackedBlock}
-use Rattle.lone_answers.specs.Reading.{HasRead, OneMore, ReadsOne, WorksOnNone}
+use Rattle.lone_answers.specs.Reading.{HasRead, Nothing, OneMore, ReadsOne, WorksOnNone}
 use Rattle.lone_answers.specs.declared.answers.Answered.{Answered}
 use Rattle.lone_answers.proofs.Lacking.{one_less}
-use Rattle.lone_answers.proofs.Reads.{reading_keeps}
+use Rattle.lone_answers.proofs.Working.{reading_keeps}
 use Rattle.lone_answers.proofs.Tries.{damaged_so, failed_so, unbuilt_so}
 use Rattle.lone_answers.proofs.answering.answer_call.Goals as goal
 
@@ -19,11 +15,24 @@ use Rattle.lone_answers.proofs.answering.answer_call.Goals as goal
 none_before : (d now : DiskState) (n later : Lone) → now ≡ d → HasRead d n later → WorksOnNone now later → WorksOnNone d n
 none_before d now n later same read none im o l t works = subst (λ (e : DiskState). WorksOnNone e later) same none im o l t (reading_keeps d n later im o l t read works)
 
+pub loop-found-init : goal.loop-found-init
+loop-found-init g c = record { same = refl; list = refl; later = λ i. omega arith; read = Nothing; size = refl; groups = refl }
+
+-- what was read of the disk as it now is was read of it as it was
+one_of : (d now : DiskState) (n next : Lone) (r : Option Answered) → now ≡ d → r ≡ None → IfNone r (ReadsOne now n next) → ReadsOne d n next
+one_of d now n next r same none read = subst (λ (e : DiskState). ReadsOne e n next) same (subst (λ (x : Option Answered). IfNone x (ReadsOne now n next)) none read)
+
+pub loop-found-smaller : goal.loop-found-smaller
+loop-found-smaller g c =
+    let d = g.D.SharedDisk.state c.args.disk.now in
+    one_less d c.loop-found.view c.try_once.new.view
+    (one_of d (g.D.SharedDisk.state c.loop-found.disk) c.loop-found.view c.try_once.new.view c.in-Ok-None.field-0 c.loop-found.invariant.same c.in-Ok-None.field-0-is c.in-Ok-None.ensures.read)
+
 pub loop-found-preserved : goal.loop-found-preserved
 loop-found-preserved g c =
     let d = g.D.SharedDisk.state c.args.disk.now in
     let so = c.loop-found.invariant in
-    let one = subst (λ (e : DiskState). ReadsOne e c.loop-found.view c.try_once.new.view) so.same c.in-Ok-None.ensures.read in
+    let one = one_of d (g.D.SharedDisk.state c.loop-found.disk) c.loop-found.view c.try_once.new.view c.in-Ok-None.field-0 so.same c.in-Ok-None.field-0-is c.in-Ok-None.ensures.read in
     record {
       same = c.try_once.ensures.reads.same ∙ so.same;
       list = c.try_once.ensures.reads.list ∙ so.list;

@@ -1,5 +1,5 @@
 -- The image on which a node works stays so behind what it reads.
-use Rattle.std.proofs.Common.{◌≡◌, ℕ, false, List, Option, None, Some, inl, inr, sym, ap, subst, ◌∙◌}
+use Rattle.std.proofs.Common.{◌≡◌, ℕ, false, List, [], Option, None, Some, inl, inr, sym, ap, subst, ◌∙◌}
 use Rattle.std.specs.Prelude.{unwrap_or}
 use Rattle.std.specs.Cmp.{nat_cmp_total}
 use Rattle.std.specs.FinMap.{get, insert, nat_cmp-IsAntisymmetric}
@@ -14,7 +14,7 @@ use Rattle.image_changes.specs.Changes.{cover, is_free}
 use Rattle.shared_disk.specs.Disk.{DiskState, read_gives}
 use Rattle.lone_view.specs.Seeing.{Lone}
 use Rattle.lone_answers.specs.Laws.{ReadingKeeps}
-use Rattle.lone_answers.specs.Reading.{HasRead, Nothing, OneMore, ReadsOne, WorksOn, keeping}
+use Rattle.lone_answers.specs.Reading.{Nothing, OneMore, ReadsOne, WorksOn}
 
 some_is : {x y : List ℕ} → ◌≡◌ {A = Option (List ℕ)} (Some x) (Some y) → x ≡ y
 some_is e = ap (λ (o : Option (List ℕ)). unwrap_or o []) e
