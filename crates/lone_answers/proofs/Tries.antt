@@ -24,7 +24,7 @@ use Rattle.image_changes.specs.Does.{AreInside, Does, IsOf}
 use Rattle.file_calls.specs.AnswerParts.{IfDone, IfNeedBlock, IfNoSpace}
 use Rattle.file_calls.specs.Answers.{IsAnswered, IsFullFor, IsMadeIn}
 use Rattle.file_calls.specs.Calls.{IsDamage, IsNeededFor, IsSoOfList, IsTooFew, IsUnderItsLocks}
-use Rattle.file_calls.specs.Holds.{IsAskedFor}
+use Rattle.file_calls.specs.Holds.{Hold, IsAskedFor}
 use Rattle.lone_view.specs.Seeing.{Lone, seen_alone}
 use Rattle.lone_answers.specs.Answers.{IsAsked, IsDoneBy, IsSpaceless}
 use Rattle.lone_answers.specs.Faults as faults
@@ -90,18 +90,18 @@ module _ (view : Lone) (call : Call) (node time : ℕ) (one : node ≡ 1) where
   pub is_absent : (a : Attempt) (m : Missing) → a ≡ attempts.NeedBlock m → IfNeedBlock (Ok a) (λ n. v.block_at n.block ≡ None) → v.block_at m.block ≡ None
   is_absent a m is absent = subst (λ x. IfNeedBlock (Ok x) (λ n. v.block_at n.block ≡ None)) is absent
 
-  -- of a call that moves a name, whose list of locks may be that of the inodes alone
-  module _ (p q : List (List ℕ)) (m : Missing) (im : Image) (o : Owners) (l : Layout) (t : Tree) (so : IsSoOfList im o l t (calls.Rename p q) node (λ list. IsAskedFor v im o l list m)) where
-    moved_covered : cover l m.block (o m.block) ≡ Some m.lock
-    moved_covered = grind arith
-
-    moved_used : is_free (o m.block) ≡ false
-    moved_used = grind arith
+  -- what holds by each list of locks holds of a call that moves a name
+  by_list : {A : Type 0} (x y : A) (p q : List (List ℕ)) (im : Image) (o : Owners) (l : Layout) (t : Tree) (P : List Hold → Type 0) → ((list : List Hold) → P list → x ≡ y)
+      → IsSoOfList im o l t (calls.Rename p q) node P → x ≡ y
+  by_list x y p q im o l t P so is = grind (arith, so)
 
   -- whatever list of locks covers it, in each image it is under this lock, and not free
   covered : (c : Call) (m : Missing) (im : Image) (o : Owners) (l : Layout) (t : Tree) → IsSoOfList im o l t c node (λ list. IsAskedFor v im o l list m)
       → (cover l m.block (o m.block) ≡ Some m.lock) × (is_free (o m.block) ≡ false)
-  covered (calls.Rename p q) m im o l t so = (moved_covered p q m im o l t so, moved_used p q m im o l t so)
+  covered (calls.Rename p q) m im o l t so = (
+    by_list (cover l m.block (o m.block)) (Some m.lock) p q im o l t (λ list. IsAskedFor v im o l list m) (λ list asked. asked.covered) so,
+    by_list (is_free (o m.block)) false p q im o l t (λ list. IsAskedFor v im o l list m) (λ list asked. asked.used) so,
+  )
   covered (calls.Create path) m im o l t so = (so.2.covered, so.2.used)
   covered (calls.Mkdir path) m im o l t so = (so.2.covered, so.2.used)
   covered (calls.Unlink path) m im o l t so = (so.2.covered, so.2.used)
