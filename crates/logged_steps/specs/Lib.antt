@@ -1,4 +1,3 @@
 pub mod Points
-pub mod Answers
 pub mod Steps
 pub mod Laws
