@@ -15,7 +15,6 @@ use Rattle.file_tree.specs.declared.call.Call.{Call}
 use Rattle.file_tree.specs.declared.call.Call.TheVariants as calls
 use Rattle.file_tree.specs.declared.reply.Reply.{Reply}
 use Rattle.file_tree.specs.declared.reply.Reply.TheVariants as replies
-use Rattle.file_calls.specs.Calls.{IsTooFew}
 use Rattle.file_tree.specs.Apply.{TakesSpace, apply}
 use Rattle.cluster_history.specs.Changes.{Changes, is_ok}
 use Rattle.image_model.specs.Owners.{Owners}
@@ -28,6 +27,8 @@ use Rattle.image_machine.specs.Cells.{IsOfVolume}
 use Rattle.image_machine.specs.Volumes.{Volume, images_of}
 use Rattle.image_model.specs.Image.{Image, image_of}
 use Rattle.journal_outcomes.specs.Disks.{flown_by}
+use Rattle.lone_answers.specs.Answers.{IsDoneBy}
+use Rattle.lone_answers.specs.Calls.{IsTooFew}
 use Rattle.lone_images.specs.Lone.{version_with}
 use Rattle.lone_logs.specs.Laws.{BarriersSettle, BlocksAreWritten, BlocksGoHome, CallsAreLogged, FirstBarriersSettle, FlushesBegin, HeadersAreWritten, HeadersBegin, IsItsView, LastBarriersLand, QuietCallsAreLogged, ReadsAreLogged, SpacelessCallsAreLogged, StaysLogged, SyncsAreLogged}
 use Rattle.lone_logs.specs.States.{IsLoggedNode, NodeState, trees_on}
@@ -40,7 +41,6 @@ use Rattle.shared_disk.specs.Disk.{DiskState, Flight, IsSound, after_barrier, fl
 use Rattle.trace_text.specs.declared.item.TraceItem.{TraceItem}
 use Rattle.trace_text.specs.declared.item.TraceItem.TheVariants as trace
 use Rattle.tree_histories.specs.Trees.{Told, history_of}
-use Rattle.logged_steps.specs.Answers.{IsDoneBy}
 use Rattle.logged_steps.specs.Laws.{IsLoggedAt, OthersRest, StepsKeep}
 use Rattle.logged_steps.specs.Points.{Anything, ItsNoSpace, Next, Point, call_item, state_of, telling}
 use Rattle.logged_steps.specs.Steps.{Step, Reads, Answers, AnswersQuietly, Syncs, TellsFull, HasNoSpace, BeginsFlush, BeginsHeader, WritesLog, EndsBlocks, WritesHead, EndsFlush, Commits, GoesHome, Rests, Unmounts, Here, Then}

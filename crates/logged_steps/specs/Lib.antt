@@ -1,5 +1,4 @@
 pub mod Points
-pub mod Answers
 pub mod Steps
 pub mod Disks
 pub mod Heads

@@ -1,0 +1,3 @@
+pub mod Lacking
+pub mod Working
+pub mod Tries
