@@ -33,7 +33,7 @@ use Rattle.journal_outcomes.specs.Images.{ring_at}
 
 -- a directory with a leaf is a hashed one
 chained_hashed : (im : Image) (by x d hash place : ℕ) → Claims im by x (Chained d hash place) → is_hashed_in (every im d) ≡ true
-chained_hashed im _ _ _ _ _ (first_leaf by a o i claim dinode hashed low) = hashed
+chained_hashed im _ _ _ _ _ (first_leaf by a o i claim dinode hashed low some) = hashed
 chained_hashed im _ _ _ _ _ (next_leaf by x a hash place claim more) = chained_hashed im by x a hash place claim
 
 hash_test : Dinode → Bool
