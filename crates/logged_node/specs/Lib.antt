@@ -1,0 +1,3 @@
+pub mod Nodes
+pub mod Ends
+pub mod Flushing

@@ -1,0 +1,11 @@
+//! Node 1 with its log, alone on a disk: it answers calls, flushes its log, takes blocks home, and leaves its journal clean.
+#![tactic(auto)]
+
+mod deeds;
+mod ends;
+mod flushing;
+mod node;
+
+pub use ends::Stop;
+pub use flushing::{Flushed, flush};
+pub use node::{CallNumbers, Node};
