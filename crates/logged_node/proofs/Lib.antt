@@ -6,3 +6,5 @@ pub mod Going
 pub mod Onward
 pub mod Beginning
 pub mod Flushed
+pub mod Waiting
+pub mod Homeward

@@ -1,3 +1,4 @@
 pub mod Nodes
 pub mod Ends
 pub mod Flushing
+pub mod Homing

@@ -4,8 +4,10 @@
 mod deeds;
 mod ends;
 mod flushing;
+mod homing;
 mod node;
 
 pub use ends::Stop;
 pub use flushing::{Flushed, flush};
+pub use homing::go_home;
 pub use node::{CallNumbers, Node};

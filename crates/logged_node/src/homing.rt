@@ -1,0 +1,104 @@
+// Live blocks go home.
+ghost use Rattle.std.specs.Prelude.{ℕ, ◌≡◌, ◌<◌, ◌≤◌, [], OnOk, IfErr};
+ghost use Rattle.log_memory.specs.Locks.{IsNextLock, NoneIsAway};
+ghost use Rattle.logged_node.specs.Ends.{HasCause};
+ghost use Rattle.logged_node.specs.Homing.{GoesHomeward, HasGoneHome, IsHoming, waiting};
+ghost use Rattle.logged_node.specs.Nodes.{IsResting, StopsBehind, point_of};
+
+use crate::deeds::{MOST_IN_FLIGHT, put_barrier, put_write};
+use crate::ends::Stop;
+use crate::node::Node;
+use glock_names::LockName;
+use log_values::LogStep;
+use shared_disk::SharedDisk;
+use trace_text::TraceItem;
+
+// Makes a barrier: what is on its way is home.
+fn rest<D: SharedDisk>(disk: &mut D, node: &mut Node) -> Result<(), Stop>
+    requires homing { IsHoming (D.state disk.old) node.old }
+    ensures rested { OnOk result (GoesHomeward (D.state disk.old) (D.list disk.old) node.old (D.state disk.new) (D.list disk.new) node.new) }
+    ensures none { OnOk result ((D.state disk.new).in_flight 1 ≡ []) }
+    ensures waiting { OnOk result (waiting node.new.log ≡ waiting node.old.log) }
+    ensures away { OnOk result (NoneIsAway node.old.log → NoneIsAway node.new.log) }
+    ensures stopped { IfErr result (StopsBehind (point_of (D.state disk.old) (D.list disk.old) node.old) (D.state disk.new) (D.list disk.new) node.new.items.items) }
+    ensures later { (i : ℕ) → D.faults disk.old i ≤ D.faults disk.new i }
+    ensures cause { IfErr result (HasCause (D.state disk.old).count (D.faults disk.old) (D.faults disk.new)) }
+{
+    node.items.reserve(1)?;
+    put_barrier(disk, node)?;
+    node.log.settle();
+    Ok(())
+}
+
+// Sends the first block home of those under the lock, which is the next one.
+fn send<D: SharedDisk>(disk: &mut D, node: &mut Node, lock: LockName) -> Result<(), Stop>
+    requires homing { IsHoming (D.state disk.old) node.old }
+    requires few { node.old.flying < 512 }
+    requires next { IsNextLock node.old.log lock }
+    ensures sent { OnOk result (GoesHomeward (D.state disk.old) (D.list disk.old) node.old (D.state disk.new) (D.list disk.new) node.new) }
+    ensures fewer { OnOk result (waiting node.new.log < waiting node.old.log) }
+    ensures stopped { IfErr result (StopsBehind (point_of (D.state disk.old) (D.list disk.old) node.old) (D.state disk.new) (D.list disk.new) node.new.items.items) }
+    ensures later { (i : ℕ) → D.faults disk.old i ≤ D.faults disk.new i }
+    ensures cause { IfErr result (HasCause (D.state disk.old).count (D.faults disk.old) (D.faults disk.new)) }
+{
+    node.items.reserve(1)?;
+    match node.log.home_step(lock, &mut node.block) {
+        Some(LogStep::Write { block }) => {
+            put_write(disk, node, block, TraceItem::WriteHome { node: 1, block })
+        }
+        _ => unreachable!(),
+    }
+}
+
+// Sends one, and makes a barrier where no more may be in flight.
+fn take_one<D: SharedDisk>(disk: &mut D, node: &mut Node, lock: LockName) -> Result<(), Stop>
+    requires homing { IsHoming (D.state disk.old) node.old }
+    requires few { node.old.flying < 512 }
+    requires next { IsNextLock node.old.log lock }
+    ensures taken { OnOk result (GoesHomeward (D.state disk.old) (D.list disk.old) node.old (D.state disk.new) (D.list disk.new) node.new) }
+    ensures few { OnOk result (node.new.flying < 512) }
+    ensures fewer { OnOk result (waiting node.new.log < waiting node.old.log) }
+    ensures stopped { IfErr result (StopsBehind (point_of (D.state disk.old) (D.list disk.old) node.old) (D.state disk.new) (D.list disk.new) node.new.items.items) }
+    ensures later { (i : ℕ) → D.faults disk.old i ≤ D.faults disk.new i }
+    ensures cause { IfErr result (HasCause (D.state disk.old).count (D.faults disk.old) (D.faults disk.new)) }
+{
+    send(disk, node, lock)?;
+    if node.flying >= MOST_IN_FLIGHT {
+        rest(disk, node)?;
+    }
+    Ok(())
+}
+
+// Makes a barrier where anything is in flight.
+fn rest_if_any<D: SharedDisk>(disk: &mut D, node: &mut Node) -> Result<(), Stop>
+    requires homing { IsHoming (D.state disk.old) node.old }
+    requires away { NoneIsAway node.old.log }
+    ensures home { OnOk result (HasGoneHome (D.state disk.old) (D.list disk.old) node.old (D.state disk.new) (D.list disk.new) node.new) }
+    ensures stopped { IfErr result (StopsBehind (point_of (D.state disk.old) (D.list disk.old) node.old) (D.state disk.new) (D.list disk.new) node.new.items.items) }
+    ensures later { (i : ℕ) → D.faults disk.old i ≤ D.faults disk.new i }
+    ensures cause { IfErr result (HasCause (D.state disk.old).count (D.faults disk.old) (D.faults disk.new)) }
+{
+    if node.flying > 0 {
+        rest(disk, node)?;
+    }
+    Ok(())
+}
+
+/// Takes all live blocks of a node at rest home: lock by lock, by kind and then by number, and under each by rising number of the block. It makes a barrier
+/// whenever 512 writes are in flight, and one at the end where any is. It keeps the locks. Costs a write for each block that isn't home, which each goes over the
+/// live blocks twice, and a barrier for each 512; memory for the items.
+pub fn go_home<D: SharedDisk>(disk: &mut D, node: &mut Node) -> Result<(), Stop>
+    requires resting { IsResting (D.state disk.old) node.old }
+    ensures home { OnOk result (HasGoneHome (D.state disk.old) (D.list disk.old) node.old (D.state disk.new) (D.list disk.new) node.new) }
+    ensures stopped { IfErr result (StopsBehind (point_of (D.state disk.old) (D.list disk.old) node.old) (D.state disk.new) (D.list disk.new) node.new.items.items) }
+    ensures later { (i : ℕ) → D.faults disk.old i ≤ D.faults disk.new i }
+    ensures cause { IfErr result (HasCause (D.state disk.old).count (D.faults disk.old) (D.faults disk.new)) }
+{
+    while let Some(lock) = node.log.next_lock() {
+        match take_one(disk, node, lock) {
+            Ok(()) => {}
+            Err(why) => return Err(why),
+        }
+    }
+    rest_if_any(disk, node)
+}
