@@ -24,15 +24,15 @@ use Rattle.shared_disk.specs.Disk.{DiskState, Operation, flight_to}
 use Rattle.trace_text.specs.declared.item.TraceItem.{TraceItem}
 use Rattle.logged_node.specs.declared.ends.Stop.{Stop}
 use Rattle.logged_node.specs.declared.node.Node.{Node}
-use Rattle.logged_node.specs.Ends.{IfFailed, IfMade}
-use Rattle.logged_node.specs.Flushing.{HasBegun, HasNoRoom, HasNothingToFlush, IsAsItWas, IsCarried, IsFlownBlock, IsFlushing, MayCarry, number_of, of_all, of_none}
-use Rattle.logged_node.specs.Nodes.{FailsBehind, IsLogOf, IsNodeOn, IsResting, IsSmall, KeepsView, NoneGoesHome, StopsBehind, point_of}
+use Rattle.logged_node.specs.Ends.{IfCrashed, IfFailed, IfMade}
+use Rattle.logged_node.specs.Flushing.{FailsAt, HasBegun, HasNoRoom, HasNothingToFlush, IsAsItWas, IsCarried, IsFlownBlock, IsFlushing, MayCarry, number_of, of_all, of_none}
+use Rattle.logged_node.specs.Nodes.{Awaits, IsLogOf, IsNodeOn, IsResting, IsSmall, KeepsView, NoneGoesHome, StopsBehind, crash_at, point_of, writes_in}
 use Rattle.logged_node.proofs.Blocks.{blocks_begin, none_some, some_same}
 use Rattle.logged_node.proofs.Disks.{same_disk}
 use Rattle.logged_node.proofs.Flushes.{may_carry}
 use Rattle.logged_node.proofs.Going.{on_still}
 use Rattle.logged_node.proofs.Onward as onward
-use Rattle.logged_node.proofs.Onward.{stops_on}
+use Rattle.logged_node.proofs.Onward.{map_err, stops_on}
 
 -- ---- answers
 
@@ -70,12 +70,13 @@ as_it_was_left d l n m rest m_is log items long = record {
   point = ap (point_of d l) m_is ∙ ap₂ (λ (x : LogValue) (is : List TraceItem). record (point_of d l n) { log = x; items = is }) log items;
   resting = record {
     on = on_still d d n m rest.on (same_disk d) (subst IsSoundLog (sym log) rest.on.sound) (subst HasLogWidths (sym log) rest.on.widths) (subst (IsLogOf d.count) (sym log) rest.on.blocks) (ap (λ (x : LogValue). x.journal) log)
-        (ap (λ (x : Node). x.view) m_is) long (ap (λ (x : Node). x.flying) m_is ∙ rest.on.flying) (subst (λ (k : ℕ). k ≤ 512) (sym (ap (λ (x : Node). x.flying) m_is)) rest.on.few);
+        (ap (λ (x : Node). x.view) m_is) long (ap (λ (x : Node). x.flying) m_is ∙ rest.on.flying) (subst (λ (k : ℕ). k ≤ 512) (sym (ap (λ (x : Node). x.flying) m_is)) rest.on.few) (subst Awaits (sym (ap (λ (x : Node). x.armed) m_is)) rest.on.awaits);
     idle = ap (λ (x : LogValue). x.flush) log ∙ rest.idle;
     none = rest.none;
     home = subst NoneGoesHome (sym log) rest.home;
     small = subst IsSmall (sym log) rest.small;
   };
+  armed = ap (λ (x : Node). x.armed) m_is;
 }
 
 -- ---- a flush begins
@@ -92,7 +93,7 @@ module _ (d : DiskState) (l : Option (List Operation)) (n : Node) (rest : IsRest
   on_begun : (m : LogValue) (k : ℕ) → Begins n.log m → IsNodeOn d (begun_at m k)
   on_begun m k begins =
       on_still d d n (begun_at m k) rest.on (same_disk d) (begins_sound n.log m rest.on.sound begins) (beginning_keeps_widths n.log m rest.on.widths begins) (blocks_begin d.count n.log rest.on.blocks m begins) (its_journal m begins) refl refl
-      rest.on.flying rest.on.few
+      rest.on.flying rest.on.few rest.on.awaits
 
   none_flies : (b : ℕ) (bytes : List ℕ) → flight_to (d.in_flight 1) b ≡ Some bytes → ⊥
   none_flies b bytes is = none_some (ap (λ fs. flight_to fs b) (sym rest.none) ∙ is)
@@ -172,10 +173,6 @@ module _ (d : DiskState) (l : Option (List Operation)) (n : Node) (rest : IsRest
 
 -- ---- and makes its first step
 
-map_err : (r : Result (Unit {0}) Stop) (P Q : Stop → Type 0) → ((why : Stop) → P why → Q why) → IfErr r P → IfErr r Q
-map_err (Ok _) P Q so is = tt
-map_err (Err why) P Q so is = so why is
-
 module _ (law : WidthsAreNumbers) (d d' : DiskState) (l l' : Option (List Operation)) (n m n' : Node) (s : LogStep) (rest : IsResting d n) (more : n.log.sequence + 1 < 2 ^ 64)
     (m_is : m ≡ record n { log = m.log; items = m.items; block = m.block; numbers = record n.numbers { begun = number_of n.numbers s } }) (items : m.items.items ≡ n.items.items)
     (long : length m.block.items ≡ length n.block.items) (answer : FlushAnswer n.log m.log m.block.items (Some s)) (off : s ≢ step.NoRoom) where
@@ -200,18 +197,20 @@ module _ (law : WidthsAreNumbers) (d d' : DiskState) (l l' : Option (List Operat
   abbrev Carried : Type 0
   Carried = IsCarried m.block.items (point_of d l m) (point_of d' l' n') s
 
-  pub has_begun : n' ≡ record m { items = n'.items; flying = n'.flying; numbers = record m.numbers { low = n'.numbers.low }; armed = n'.armed } → n'.flying ≡ length (d'.in_flight 1) → Carried → HasBegun d l n d' l' n'
-  has_begun n'_is flying done = record {
+  pub has_begun : n' ≡ record m { items = n'.items; flying = n'.flying; numbers = record m.numbers { low = n'.numbers.low }; armed = n'.armed } → n'.flying ≡ length (d'.in_flight 1) → Awaits n'.armed → crash_at n' ≡ crash_at m → Carried
+      → HasBegun d l n d' l' n'
+  has_begun n'_is flying awaits armed done = record {
     goes = record {
       steps = λ time. steps_go_on time (point_of d l n) (point_of d l one) (point_of d' l' n') (its_begin.steps time)
           (onward.steps law n d d' l l' one m n' its_start.flush s flushing more_still m_is items long its_start.made done time);
       disk = onward.disk_same law n d d' l l' one m n' its_start.flush s flushing more_still m_is items long its_start.made done;
+      armed = armed ∙ onward.armed_still law n d d' l l' one m n' its_start.flush s flushing more_still m_is items long its_start.made;
     };
-    to = (onward.comes law n d d' l l' one m n' its_start.flush s flushing more_still m_is items long its_start.made n'_is flying done).0;
+    to = (onward.comes law n d d' l l' one m n' its_start.flush s flushing more_still m_is items long its_start.made n'_is flying awaits done).0;
   }
 
-  pub stops_beginning : (r : Result (Unit {0}) Stop) → IfMade r Carried → IfErr r (λ why. IfFailed why (FailsBehind (point_of d l m) d' l' × (n'.items.items ≡ m.items.items)))
-      → IfErr r (λ why. StopsBehind (point_of d l n) d' l' n'.items.items why)
-  stops_beginning r done failed =
-      map_err r (StopsBehind (point_of d l one) d' l' n'.items.items) (StopsBehind (point_of d l n) d' l' n'.items.items) (λ why stops. stops_on (point_of d l n) (point_of d l one) d' l' n'.items.items why its_begin.steps stops)
-      (onward.stops law n d d' l l' one m n' its_start.flush s flushing more_still m_is items long its_start.made r done failed)
+  pub stops_beginning : (r : Result (Unit {0}) Stop) → IfMade r Carried → IfErr r (λ why. IfCrashed why (crash_at m ≡ Some (writes_in n'.items.items))) → IfErr r (λ why. IfFailed why (FailsAt m.block.items (point_of d l m) d' l' s))
+      → IfErr r (λ why. IfFailed why (n'.items.items ≡ m.items.items)) → IfErr r (λ why. StopsBehind d l n d' l' n'.items.items why)
+  stops_beginning r done crashed failed kept =
+      map_err r (StopsBehind d l one d' l' n'.items.items) (StopsBehind d l n d' l' n'.items.items) (λ why stops. stops_on d d d' l l l' n one n'.items.items why its_begin.steps refl stops)
+      (onward.stops law n d d' l l' one m n' its_start.flush s flushing more_still m_is items long its_start.made r done crashed failed kept)

@@ -15,7 +15,7 @@ use Rattle.logged_node.proofs.Blocks.{none_some}
 use Rattle.logged_node.proofs.Disks.{same_on}
 
 pub goes_behind : (d e f : DiskState) (l m k : Option (List Operation)) (a b c : Node) → GoesBySteps d l a e m b → GoesBySteps e m b f k c → GoesBySteps d l a f k c
-goes_behind d e f l m k a b c x y = record { steps = λ time. steps_go_on time (point_of d l a) (point_of e m b) (point_of f k c) (x.steps time) (y.steps time); disk = same_on d e f x.disk y.disk }
+goes_behind d e f l m k a b c x y = record { steps = λ time. steps_go_on time (point_of d l a) (point_of e m b) (point_of f k c) (x.steps time) (y.steps time); disk = same_on d e f x.disk y.disk; armed = y.armed ∙ x.armed }
 
 -- it is under way where the log says so
 pub still_under_way : (start : Node) (d : DiskState) (n : Node) → HasComeTo start d n → (n.log.flush ≡ None → ⊥) → (f : Flush) × IsFlushing start d n f

@@ -33,7 +33,7 @@ use Rattle.trace_text.specs.declared.item.TraceItem.{TraceItem}
 use Rattle.trace_text.specs.declared.item.TraceItem.TheVariants as trace
 use Rattle.logged_node.specs.Flushing.{FliesAsFlushed, HasComeTo, HasFlushed, IsDone, IsFlownBlock, IsFlushing, IsKind, in_journal, left_at, left_of, most_flown, of_all, of_none, steps_left, under_way}
 use Rattle.logged_node.specs.Flushing as came
-use Rattle.logged_node.specs.Nodes.{IsLogOf, IsNodeOn, IsResting, IsSameDisk, IsSmall, KeepsView, NoneGoesHome}
+use Rattle.logged_node.specs.Nodes.{Awaits, IsLogOf, IsNodeOn, IsResting, IsSameDisk, IsSmall, KeepsView, NoneGoesHome}
 use Rattle.logged_node.specs.declared.node.Node.{Node}
 use Rattle.std.proofs.lemmas.List.Sums.{length-filter}
 use Rattle.logged_node.proofs.Blocks.{none_some}
@@ -43,8 +43,8 @@ use Rattle.logged_node.proofs.Flushes.{slice_get_low, way_here}
 -- ---- it is the node that it was
 
 pub on_still : (d d' : DiskState) (n n' : Node) → IsNodeOn d n → IsSameDisk d d' → IsSoundLog n'.log → HasLogWidths n'.log → IsLogOf d.count n'.log → n'.log.journal ≡ n.log.journal → n'.view ≡ n.view
-    → length n'.block.items ≡ length n.block.items → n'.flying ≡ length (d'.in_flight 1) → n'.flying ≤ 512 → IsNodeOn d' n'
-on_still d d' n n' on same sound widths blocks journal view block flying few = record {
+    → length n'.block.items ≡ length n.block.items → n'.flying ≡ length (d'.in_flight 1) → n'.flying ≤ 512 → Awaits n'.armed → IsNodeOn d' n'
+on_still d d' n n' on same sound widths blocks journal view block flying few awaits = record {
   sound = sound;
   widths = widths;
   blocks = subst (λ c. IsLogOf c n'.log) (sym same.count) blocks;
@@ -59,6 +59,7 @@ on_still d d' n n' on same sound widths blocks journal view block flying few = r
   unfenced = ap (λ f. f 1) same.fenced ∙ on.unfenced;
   flying = flying;
   few = few;
+  awaits = awaits;
 }
 
 pub kept_on : (a b c : Node) → KeepsView a b → KeepsView b c → KeepsView a c
@@ -207,19 +208,22 @@ module _ (start : Node) (d d' : DiskState) (n n' : Node) (f : Flush) (bytes : Li
   -- a block is in flight
   pub behind_block : (k b : ℕ) → f.stage ≡ Writing k → slice_get (flush_chunks n.log f) k ≡ Some bytes → b ≡ block_at n.log.journal (chunk_place n.log k) → n'.log ≡ at_stage n.log f (Writing (k + 1))
       → d'.in_flight 1 ≡ with_flight (d.in_flight 1) (record { block = b; bytes = bytes }) → n'.numbers.low ≡ n.numbers.low → Comes
-  behind_block k b stage chunk block log flights low = (under_way (record f { stage = Writing (k + 1) }) (record {
-    on = on';
-    kept = kept_still;
-    low = low ∙ at.low;
-    sequence = ap (λ (l : LogValue). l.sequence) log ∙ at.sequence;
-    is = ap (λ (l : LogValue). l.flush) log;
-    small = subst (λ (l : LogValue). length (flush_chunks l (record f { stage = Writing (k + 1) })) < 400) (sym log) at.small;
-    flies = subst (λ (l : LogValue). FliesAsFlushed d' l (record f { stage = Writing (k + 1) })) (sym log) flies;
-    few = (let long = ap length flights ∙ length_with (d.in_flight 1) (record { block = b; bytes = bytes }) in let old = subst (λ s. length (d.in_flight 1) ≤ most_flown s) stage at.few in omega (arith, long, old));
-    home = subst NoneGoesHome (sym log) at.home;
-    told = tt;
-    kind = staged (Writing (k + 1)) log;
-  }), less)
+  behind_block k b stage chunk block log flights low = (
+    under_way (record f { stage = Writing (k + 1) }) (record {
+      on = on';
+      kept = kept_still;
+      low = low ∙ at.low;
+      sequence = ap (λ (l : LogValue). l.sequence) log ∙ at.sequence;
+      is = ap (λ (l : LogValue). l.flush) log;
+      small = subst (λ (l : LogValue). length (flush_chunks l (record f { stage = Writing (k + 1) })) < 400) (sym log) at.small;
+      flies = subst (λ (l : LogValue). FliesAsFlushed d' l (record f { stage = Writing (k + 1) })) (sym log) flies;
+      few = (let long = ap length flights ∙ length_with (d.in_flight 1) (record { block = b; bytes = bytes }) in let old = subst (λ s. length (d.in_flight 1) ≤ most_flown s) stage at.few in omega (arith, long, old));
+      home = subst NoneGoesHome (sym log) at.home;
+      told = tt;
+      kind = staged (Writing (k + 1)) log;
+    }),
+    less,
+  )
     where
       inside : k < length (flush_chunks n.log f)
       inside = slice_get_low (flush_chunks n.log f) k bytes chunk
@@ -239,37 +243,43 @@ module _ (start : Node) (d d' : DiskState) (n n' : Node) (f : Flush) (bytes : Li
   -- a barrier was made between the blocks and the header
   pub behind_barrier : (live : Live) → f.stage ≡ Writing (length (flush_chunks n.log f)) → n'.log ≡ record (at_stage n.log f Ending) { live = live } → ((b : ℕ) → table.get live b ≡ settled (table.get n.log.live b))
       → d'.in_flight 1 ≡ [] → n'.numbers.low ≡ n.numbers.low → Comes
-  behind_barrier live stage log settles none low = (under_way (record f { stage = Ending }) (record {
-    on = on';
-    kept = kept_still;
-    low = low ∙ at.low;
-    sequence = ap (λ (l : LogValue). l.sequence) log ∙ at.sequence;
-    is = ap (λ (l : LogValue). l.flush) log;
-    small = subst (λ (l : LogValue). length (flush_chunks l (record f { stage = Ending })) < 400) (sym log) at.small;
-    flies = λ b x is. absurd (none_some (ap (λ fs. flight_to fs b) (sym none) ∙ is));
-    few = (let long = ap length none in omega (arith, long));
-    home = subst NoneGoesHome (sym log) (λ b e x is flies. settled_still (table.get n.log.live b) e x (sym (settles b) ∙ is) flies);
-    told = tt;
-    kind = kind_still (record f { stage = Ending }) refl refl (ap (λ (l : LogValue). l.fresh) log) (ap (λ (l : LogValue). l.gone) log) (λ home. subst AllAreHome (sym log) (settled_home live settles home)) at.kind;
-  }), subst₂ (λ a c. a < c) (sym (ap steps_left log)) (sym (left_is (Writing (length (flush_chunks n.log f))) stage)) (omega arith))
+  behind_barrier live stage log settles none low = (
+    under_way (record f { stage = Ending }) (record {
+      on = on';
+      kept = kept_still;
+      low = low ∙ at.low;
+      sequence = ap (λ (l : LogValue). l.sequence) log ∙ at.sequence;
+      is = ap (λ (l : LogValue). l.flush) log;
+      small = subst (λ (l : LogValue). length (flush_chunks l (record f { stage = Ending })) < 400) (sym log) at.small;
+      flies = λ b x is. absurd (none_some (ap (λ fs. flight_to fs b) (sym none) ∙ is));
+      few = (let long = ap length none in omega (arith, long));
+      home = subst NoneGoesHome (sym log) (λ b e x is flies. settled_still (table.get n.log.live b) e x (sym (settles b) ∙ is) flies);
+      told = tt;
+      kind = kind_still (record f { stage = Ending }) refl refl (ap (λ (l : LogValue). l.fresh) log) (ap (λ (l : LogValue). l.gone) log) (λ home. subst AllAreHome (sym log) (settled_home live settles home)) at.kind;
+    }),
+    subst₂ (λ a c. a < c) (sym (ap steps_left log)) (sym (left_is (Writing (length (flush_chunks n.log f))) stage)) (omega arith),
+  )
 
   -- its header is in flight
   pub behind_header : (tail b : ℕ) → f.stage ≡ Ending → b ≡ block_at n.log.journal (head_place n.log f) → n'.log ≡ at_stage n.log f (Headed tail)
       → d'.in_flight 1 ≡ with_flight (d.in_flight 1) (record { block = b; bytes = bytes })
       → n'.items.items ≡ n.items.items ++ trace.WriteHead 1 b (after n.log.sequence) n.numbers.begun ∷ [] → n'.numbers.low ≡ n.numbers.low → Comes
-  behind_header tail b stage block log flights items low = (under_way (record f { stage = Headed tail }) (record {
-    on = on';
-    kept = kept_still;
-    low = low ∙ at.low;
-    sequence = ap (λ (l : LogValue). l.sequence) log ∙ at.sequence;
-    is = ap (λ (l : LogValue). l.flush) log;
-    small = subst (λ (l : LogValue). length (flush_chunks l (record f { stage = Headed tail })) < 400) (sym log) at.small;
-    flies = subst (λ (l : LogValue). FliesAsFlushed d' l (record f { stage = Headed tail })) (sym log) flies;
-    few = (let long = ap length flights ∙ length_with (d.in_flight 1) (record { block = b; bytes = bytes }) in let old = none_before in omega (arith, long, old));
-    home = subst NoneGoesHome (sym log) at.home;
-    told = (b, n.items.items, items ∙ ap₂ (λ (s u : ℕ). n.items.items ++ trace.WriteHead 1 b s u ∷ []) (ap after (sym (ap (λ (l : LogValue). l.sequence) log))) (sym same_begun));
-    kind = staged (Headed tail) log;
-  }), subst₂ (λ a c. a < c) (sym (ap steps_left log)) (sym (left_is Ending stage)) (omega arith))
+  behind_header tail b stage block log flights items low = (
+    under_way (record f { stage = Headed tail }) (record {
+      on = on';
+      kept = kept_still;
+      low = low ∙ at.low;
+      sequence = ap (λ (l : LogValue). l.sequence) log ∙ at.sequence;
+      is = ap (λ (l : LogValue). l.flush) log;
+      small = subst (λ (l : LogValue). length (flush_chunks l (record f { stage = Headed tail })) < 400) (sym log) at.small;
+      flies = subst (λ (l : LogValue). FliesAsFlushed d' l (record f { stage = Headed tail })) (sym log) flies;
+      few = (let long = ap length flights ∙ length_with (d.in_flight 1) (record { block = b; bytes = bytes }) in let old = none_before in omega (arith, long, old));
+      home = subst NoneGoesHome (sym log) at.home;
+      told = (b, n.items.items, items ∙ ap₂ (λ (s u : ℕ). n.items.items ++ trace.WriteHead 1 b s u ∷ []) (ap after (sym (ap (λ (l : LogValue). l.sequence) log))) (sym same_begun));
+      kind = staged (Headed tail) log;
+    }),
+    subst₂ (λ a c. a < c) (sym (ap steps_left log)) (sym (left_is Ending stage)) (omega arith),
+  )
     where
       none_before : length (d.in_flight 1) ≤ 0
       none_before = subst (λ s. length (d.in_flight 1) ≤ most_flown s) stage at.few
@@ -287,19 +297,22 @@ module _ (start : Node) (d d' : DiskState) (n n' : Node) (f : Flush) (bytes : Li
   pub behind_last : (tail : ℕ) (live : Live) → IsTail n.log f tail → f.stage ≡ Headed tail
       → n'.log ≡ record n.log { head = head_place n.log f; tail = tail; sequence = after n.log.sequence; clean = false; gone = live_among live n.log.gone; flush = None; live = live }
       → ((b : ℕ) → table.get live b ≡ live_behind n.log f tail b) → d'.in_flight 1 ≡ [] → n'.numbers.low ≡ n.numbers.begun → after n.log.sequence ≡ n.log.sequence + 1 → Comes
-  behind_last tail live tells stage log lives none low sequence = (in_journal (record {
-    resting = record {
-      on = on';
-      idle = ap (λ (l : LogValue). l.flush) log;
-      none = none;
-      home = subst NoneGoesHome (sym log) (λ b e x is flies. behind_still n.log f tail b (λ y z h i. at.home b y z h i) e x (sym (lives b) ∙ is) flies);
-      small = (by at.kind).2;
-    };
-    kept = kept_still;
-    gone = (by at.kind).1;
-    sequence = ap (λ (l : LogValue). l.sequence) log ∙ sequence ∙ ap (λ (k : ℕ). k + 1) at.sequence;
-    done = (by at.kind).0;
-  }), subst₂ (λ a c. a < c) (sym (ap steps_left log)) (sym (left_is (Headed tail) stage)) (omega arith))
+  behind_last tail live tells stage log lives none low sequence = (
+    in_journal (record {
+      resting = record {
+        on = on';
+        idle = ap (λ (l : LogValue). l.flush) log;
+        none = none;
+        home = subst NoneGoesHome (sym log) (λ b e x is flies. behind_still n.log f tail b (λ y z h i. at.home b y z h i) e x (sym (lives b) ∙ is) flies);
+        small = (by at.kind).2;
+      };
+      kept = kept_still;
+      gone = (by at.kind).1;
+      sequence = ap (λ (l : LogValue). l.sequence) log ∙ sequence ∙ ap (λ (k : ℕ). k + 1) at.sequence;
+      done = (by at.kind).0;
+    }),
+    subst₂ (λ a c. a < c) (sym (ap steps_left log)) (sym (left_is (Headed tail) stage)) (omega arith),
+  )
     where
       sized_still : IsBlockSize n'.log.journal.size
       sized_still = subst (λ (j : Journal). IsBlockSize j.size) (sym kept.journal) at.on.sound.size

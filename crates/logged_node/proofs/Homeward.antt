@@ -1,5 +1,5 @@
 -- A live block is sent home, or a barrier made: a step of the node, which takes blocks home still.
-use Rattle.std.proofs.Common.{◌≡◌, ◌≢◌, ◌≤◌, ◌<◌, ◌+◌, ℕ, suc, ◌⊎◌, inl, inr, Bool, true, false, List, [], ◌∷◌, length, Option, None, Some, Ok, Err, refl, sym, ap, subst, ◌∙◌, arith}
+use Rattle.std.proofs.Common.{◌≡◌, ◌≢◌, ◌≤◌, ◌<◌, ◌+◌, ℕ, suc, ◌⊎◌, inl, inr, Bool, true, false, List, [], ◌∷◌, length, Option, None, Some, Ok, Err, refl, sym, ap, ap₂, subst, ◌∙◌, arith}
 use Rattle.std.specs.Prelude.{◌==◌, IfErr, Result, nat_lt, if◌then◌else◌}
 use Rattle.std.specs.FinMap as table
 use Rattle.std.specs.Ordering.{nat_cmp}
@@ -29,15 +29,17 @@ use Rattle.trace_text.specs.declared.item.TraceItem.TheVariants as trace
 use Rattle.logged_node.specs.declared.ends.Stop.{Stop}
 use Rattle.logged_node.specs.declared.ends.Stop.TheVariants as stop
 use Rattle.logged_node.specs.declared.node.Node.{Node}
-use Rattle.logged_node.specs.Ends.{IfFailed, IfMade, IsOfDisk}
+use Rattle.logged_node.specs.Deeds.{MayBeWritten, a_write, no_write}
+use Rattle.logged_node.specs.Ends.{IfCrashed, IfFailed, IfMade, IsOfDisk}
 use Rattle.logged_node.specs.Flushing.{GoesBySteps}
 use Rattle.logged_node.specs.Homing.{GoesHomeward, HasGoneHome, IsHoming, MovesHome, at_home, waiting}
-use Rattle.logged_node.specs.Nodes.{FailsBehind, IsLogOf, IsNodeOn, IsResting, IsSameDisk, IsSmall, NoneGoesHome, StopsBehind, as_it_was, point_of}
+use Rattle.logged_node.specs.Nodes.{Awaits, FailsBehind, IsLogOf, IsNodeOn, IsResting, NoneGoesHome, StopsBehind, as_it_was, crash_at, crash_of, in_a_write, point_of, writes_in}
+use Rattle.logged_node.proofs.Arming.{crash_stays}
 use Rattle.logged_node.proofs.Blocks.{none_some, some_same, was_settled}
 use Rattle.logged_node.proofs.Disks.{flies_elsewhere, length_with, same_barrier, same_disk, same_written}
 use Rattle.logged_node.proofs.Flushed.{goes_behind}
 use Rattle.logged_node.proofs.Going.{on_still, small_on}
-use Rattle.logged_node.proofs.Onward.{fails_alike, stops_at}
+use Rattle.logged_node.proofs.Onward.{if_crashed, if_failed, map_err, stops_at}
 use Rattle.logged_node.proofs.Waiting.{as_many, none_away_still, one_fewer}
 
 -- ---- what flies
@@ -124,7 +126,7 @@ moves_behind a b c x y = record {
 }
 
 pub homeward_none : (d : DiskState) (l : Option (List Operation)) (n : Node) → IsHoming d n → GoesHomeward d l n d l n
-homeward_none d l n at = record { goes = record { steps = λ time. Here; disk = same_disk d }; homing = at; moves = moves_none n }
+homeward_none d l n at = record { goes = record { steps = λ time. Here; disk = same_disk d; armed = refl }; homing = at; moves = moves_none n }
 
 pub homeward_on : (d e f : DiskState) (l m k : Option (List Operation)) (a b c : Node) → GoesHomeward d l a e m b → GoesHomeward e m b f k c → GoesHomeward d l a f k c
 homeward_on d e f l m k a b c x y = record { goes = goes_behind d e f l m k a b c x.goes y.goes; homing = y.homing; moves = moves_behind a b c x.moves y.moves }
@@ -195,19 +197,27 @@ module _ (d d' : DiskState) (l l' : Option (List Operation)) (n m n' : Node) (lo
   q_is : Written → point_of d' l' n' ≡ with_write p b bytes l' m.log (trace.WriteHome 1 b)
   q_is made = made ∙ ap (λ (x : Point). with_write x b bytes l' m.log (trace.WriteHome 1 b)) mid_is
 
-  steps : Written × Gained → (time : ℕ) → Steps time p (point_of d' l' n')
-  steps both time =
-      subst (Steps time p) (sym (q_is both.0)) (Then p _ Here (GoesHome refl m.log lock b bytes l' answer (record { inside = inside; whole = long ∙ at.on.block; free = free }) both.1))
+  -- the write of the block is a step
+  sends : (q : Point) → q ≡ with_write p b bytes l' m.log (trace.WriteHome 1 b) → Gained → (time : ℕ) → Steps time p q
+  sends q is gained time =
+      subst (Steps time p) (sym is) (Then p _ Here (GoesHome refl m.log lock b bytes l' answer (record { inside = inside; whole = long ∙ at.on.block; free = free }) gained))
 
-  pub stops_sending : (r : Result (Unit {0}) Stop) → IfMade r (Written × Gained) → IfErr r (λ why. IfFailed why (FailsBehind (point_of d l m) d' l' × (n'.items.items ≡ m.items.items)))
-      → IfErr r (λ why. StopsBehind p d' l' n'.items.items why)
-  stops_sending r made failed = stops_at p (point_of d' l' n') d' l' n'.items.items r (Written × Gained) steps refl refl refl made (by r failed)
-    where
-      by : (r : Result (Unit {0}) Stop) → IfErr r (λ why. IfFailed why (FailsBehind (point_of d l m) d' l' × (n'.items.items ≡ m.items.items))) → IfErr r (λ why. IfFailed why (FailsBehind p d' l' × (n'.items.items ≡ p.items)))
-      by (Ok _) failed = tt
-      by (Err stop.Crashed) failed = tt
-      by (Err (stop.DiskFailed block rise)) failed = (fails_alike p (point_of d l m) d' l' refl refl failed.0, failed.1 ∙ items)
-      by (Err stop.NoMemory) failed = tt
+  steps : Written × Gained → (time : ℕ) → Steps time p (point_of d' l' n')
+  steps both time = sends (point_of d' l' n') (q_is both.0) both.1 time
+
+  fails : MayBeWritten d l b bytes d' l' → FailsBehind p d' l'
+  fails (no_write is same) = as_it_was is same
+  fails (a_write is gains) = in_a_write (with_write p b bytes l' m.log (trace.WriteHome 1 b)) (trace.WriteHome 1 b) (λ time. sends (with_write p b bytes l' m.log (trace.WriteHome 1 b)) refl gains time) refl refl is refl
+
+  armed_still : crash_at m ≡ crash_at n
+  armed_still = ap₂ crash_of (ap (λ (x : Node). x.armed) m_is) items
+
+  pub stops_sending : (r : Result (Unit {0}) Stop) → IfMade r (Written × Gained) → IfErr r (λ why. IfCrashed why (crash_at m ≡ Some (writes_in n'.items.items))) → IfErr r (λ why. IfFailed why (MayBeWritten d l b bytes d' l'))
+      → IfErr r (λ why. IfFailed why (n'.items.items ≡ m.items.items)) → IfErr r (λ why. StopsBehind d l n d' l' n'.items.items why)
+  stops_sending r made crashed failed kept = stops_at d d' l l' n n' r (Written × Gained) steps made
+      (map_err r _ _ (λ why. if_crashed (crash_at m ≡ Some (writes_in n'.items.items)) (crash_at n ≡ Some (writes_in n'.items.items)) (λ is. sym armed_still ∙ is) why) crashed)
+      (map_err r _ _ (λ why. if_failed (MayBeWritten d l b bytes d' l') (FailsBehind p d' l') fails why) failed)
+      (map_err r _ _ (λ why. if_failed (n'.items.items ≡ m.items.items) (n'.items.items ≡ n.items.items) (λ is. is ∙ items) why) kept)
 
   -- ---- it was sent
 
@@ -237,7 +247,7 @@ module _ (d d' : DiskState) (l l' : Option (List Operation)) (n m n' : Node) (lo
       subst (λ (k : ℕ). flight_to (with_flight (d.in_flight 1) (record { block = b; bytes = bytes })) k ≡ flies_home (table.get live' k)) (sym same) (flies_there (d.in_flight 1) (record { block = b; bytes = bytes }) free ∙ sym (ap flies_home here))
   flies_now c (inr off) = flies_elsewhere (d.in_flight 1) (record { block = b; bytes = bytes }) c off ∙ at.flies c ∙ sym (ap flies_home (other c off))
 
-  module _ (made : Written) (gained : Gained) (n'_is : n' ≡ record m { items = n'.items; flying = m.flying + 1; armed = n'.armed }) (few : n.flying < 512) where
+  module _ (made : Written) (gained : Gained) (n'_is : n' ≡ record m { items = n'.items; flying = m.flying + 1; armed = n'.armed }) (few : n.flying < 512) (awaits : Awaits n'.armed) (armed : crash_at n' ≡ crash_at m) where
     log_is : n'.log ≡ m.log
     log_is = ap (λ (x : Node). x.log) n'_is
 
@@ -256,11 +266,11 @@ module _ (d d' : DiskState) (l l' : Option (List Operation)) (n m n' : Node) (lo
         (ap (λ (x : LogValue). x.journal) (log_is ∙ goes.1)) (ap (λ (x : Node). x.view) n'_is ∙ ap (λ (x : Node). x.view) m_is) (ap (λ (x : Node). length x.block.items) n'_is ∙ long)
         (let more : length (d'.in_flight 1) ≡ suc (length (d.in_flight 1)) = ap (λ (x : DiskState). length (x.in_flight 1)) disk_is ∙ length_with (d.in_flight 1) (record { block = b; bytes = bytes }) in
         let was = at.on.flying in let is = flying_is in omega (arith, more, was, is))
-        (let is = flying_is in omega (arith, is, few))
+        (let is = flying_is in omega (arith, is, few)) awaits
 
     pub sent : GoesHomeward d l n d' l' n'
     sent = record {
-      goes = record { steps = steps (made, gained); disk = same_written d d' b bytes disk_is };
+      goes = record { steps = steps (made, gained); disk = same_written d d' b bytes disk_is; armed = armed ∙ armed_still };
       homing = record {
         on = on';
         idle = ap (λ (x : LogValue). x.flush) (log_is ∙ goes.1) ∙ at.idle;
@@ -287,8 +297,8 @@ module _ (d d' : DiskState) (l l' : Option (List Operation)) (n m k n' : Node) (
   m_at = ap (point_of d l) m_is ∙ ap (λ (is : List TraceItem). record (point_of d l n) { items = is }) items
 
   -- the disk failed
-  pub stops_resting : (why : Stop) → IsOfDisk why → d' ≡ d → l' ≡ l → k ≡ m → StopsBehind (point_of d l n) d' l' k.items.items why
-  stops_resting (stop.DiskFailed block rise) of disk list same = record { last = point_of d l n; steps = λ time. Here; told = sym (ap (λ (x : Node). x.items.items) same ∙ items); disk = as_it_was disk list }
+  pub stops_resting : (why : Stop) → IsOfDisk why → d' ≡ d → l' ≡ l → k ≡ m → StopsBehind d l n d' l' k.items.items why
+  stops_resting (stop.DiskFailed block rise) of disk list same = record { last = point_of d l n; steps = λ time. Here; told = sym (ap (λ (x : Node). x.items.items) same ∙ items); disk = as_it_was disk list; crashes = tt }
   stops_resting stop.Crashed of disk list same = absurd of
   stops_resting stop.NoMemory of disk list same = absurd of
 
@@ -315,17 +325,21 @@ module _ (d d' : DiskState) (l l' : Option (List Operation)) (n m k n' : Node) (
     its_flying : n'.flying ≡ 0
     its_flying = ap (λ (x : Node). x.flying) n'_is ∙ ap (λ (x : Node). x.flying) k_is
 
+    its_armed : n'.armed ≡ n.armed
+    its_armed = ap (λ (x : Node). x.armed) n'_is ∙ ap (λ (x : Node). x.armed) k_is ∙ ap (λ (x : Node). x.armed) m_is
+
     on_rest : IsNodeOn d' n'
     on_rest = on_still d d' n n' at.on (same_barrier d d' disk_is) (settling_sound n.log n'.log at.on.sound settles) (settling_keeps_widths n.log n'.log at.on.widths settles) blocks_rest
         (ap (λ (x : LogValue). x.journal) settles.same) (ap (λ (x : Node). x.view) n'_is ∙ ap (λ (x : Node). x.view) k_is ∙ ap (λ (x : Node). x.view) m_is)
         (ap (λ (x : Node). length x.block.items) n'_is ∙ ap (λ (x : Node). length x.block.items) k_is ∙ ap (λ (x : Node). length x.block.items) m_is)
-        (its_flying ∙ sym (ap length none_flies)) (let none = its_flying in omega (arith, none))
+        (its_flying ∙ sym (ap length none_flies)) (let none = its_flying in omega (arith, none)) (subst Awaits (sym its_armed) at.on.awaits)
 
     pub rested : GoesHomeward d l n d' l' n'
     rested = record {
       goes = record {
         steps = λ time. subst (Steps time (point_of d l n)) (sym q_is) (Then (point_of d l n) _ Here (Rests n'.log l' refl (λ headed. none_some (sym at.idle ∙ headed.2)) settles gained));
         disk = same_barrier d d' disk_is;
+        armed = ap₂ crash_of its_armed (ap (λ (x : Point). x.items) q_is) ∙ crash_stays n.armed n.items.items _ (trace.Barrier 1) refl refl;
       };
       homing = record {
         on = on_rest;

@@ -1,5 +1,6 @@
 pub mod Blocks
 pub mod Disks
+pub mod Arming
 pub mod Flushes
 pub mod Carried
 pub mod Going

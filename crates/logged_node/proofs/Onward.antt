@@ -1,5 +1,5 @@
 -- A step of a flush that was carried out: it is one of the node's steps, and the flush has come on; and how a node stops at it.
-use Rattle.std.proofs.Common.{◌≡◌, ◌≤◌, ◌<◌, ◌+◌, ◌^◌, ℕ, suc, List, [], ◌∷◌, ◌++◌, length, Option, None, Some, Ok, Err, refl, sym, ap, subst, ◌∙◌, arith}
+use Rattle.std.proofs.Common.{◌≡◌, ◌≤◌, ◌<◌, ◌+◌, ◌^◌, ℕ, suc, List, [], ◌∷◌, ◌++◌, length, Option, None, Some, Ok, Err, refl, sym, ap, ap₂, subst, ◌∙◌, arith}
 use Rattle.std.specs.Prelude.{IfErr, Result}
 use Rattle.std.proofs.Math.Nat.{mod-eq_of_lt}
 use Rattle.log_layout.specs.Transactions.{after}
@@ -16,16 +16,17 @@ use Rattle.log_widths.proofs.Staying.{steps_keep_widths}
 use Rattle.logged_steps.specs.Points.{Point}
 use Rattle.logged_steps.specs.Steps.{Here, Steps, GainsBarrier, GainsWrite, with_barrier, with_write}
 use Rattle.logged_steps.proofs.Telling.{steps_go_on}
-use Rattle.shared_disk.specs.Disk.{DiskState, Gains, Operation, Write, after_barrier, after_write}
+use Rattle.shared_disk.specs.Disk.{DiskState, Operation, after_barrier, after_write}
 use Rattle.trace_text.specs.declared.item.TraceItem.{TraceItem}
 use Rattle.trace_text.specs.declared.item.TraceItem.TheVariants as trace
 use Rattle.logged_node.specs.declared.ends.Stop.{Stop}
 use Rattle.logged_node.specs.declared.ends.Stop.TheVariants as stop
 use Rattle.logged_node.specs.declared.node.Node.{Node}
-use Rattle.logged_node.specs.Ends.{IfFailed, IfMade}
-use Rattle.logged_node.specs.Flushing.{HasComeTo, IsCarried, IsFlushing, MayCarry, steps_left}
+use Rattle.logged_node.specs.Deeds.{a_write, no_write}
+use Rattle.logged_node.specs.Ends.{IfCrashed, IfFailed, IfMade}
+use Rattle.logged_node.specs.Flushing.{FailsAt, HasComeTo, IsCarried, IsFlushing, MayCarry, steps_left}
 use Rattle.logged_node.specs.Flushing as carried
-use Rattle.logged_node.specs.Nodes.{FailsBehind, IsLogOf, IsNodeOn, IsSameDisk, KeepsView, LeavesDisk, StopsBehind, as_it_was, in_a_write, point_of}
+use Rattle.logged_node.specs.Nodes.{Awaits, FailsBehind, IsLogOf, IsNodeOn, IsSameDisk, KeepsView, StopsBehind, as_it_was, crash_at, crash_of, in_a_write, point_of, writes_in}
 use Rattle.logged_node.proofs.Blocks.{blocks_go_on, none_some}
 use Rattle.logged_node.proofs.Carried.{steps_by}
 use Rattle.logged_node.proofs.Disks.{length_with, same_barrier, same_written}
@@ -79,25 +80,49 @@ journal_still log new f bytes _ (the_last tail stage new_is lives) = ap (λ (l :
 
 -- ---- how a node stops
 
-pub fails_alike : (p p' : Point) (d : DiskState) (list : Option (List Operation)) → p'.disk ≡ p.disk → p'.list ≡ p.list → FailsBehind p' d list → FailsBehind p d list
-fails_alike p p' d list disk told (as_it_was is same) = as_it_was (is ∙ disk) (same ∙ told)
-fails_alike p p' d list disk told (in_a_write b bytes is gains) = in_a_write b bytes (is ∙ ap (λ (x : DiskState). after_write x 1 b bytes) disk) (subst (λ (l : Option (List Operation)). Gains l list (Write 1 b bytes ∷ [])) told gains)
-
 -- behind steps
-pub stops_on : (p q : Point) (d : DiskState) (list : Option (List Operation)) (items : List TraceItem) (why : Stop) → ((time : ℕ) → Steps time p q) → StopsBehind q d list items why → StopsBehind p d list items why
-stops_on p q d list items why first stops = record { last = stops.last; steps = λ time. steps_go_on time p q stops.last (first time) (stops.steps time); told = stops.told; disk = stops.disk }
+pub stops_on : (d e f : DiskState) (l k h : Option (List Operation)) (n m : Node) (items : List TraceItem) (why : Stop) → ((time : ℕ) → Steps time (point_of d l n) (point_of e k m)) → crash_at m ≡ crash_at n
+    → StopsBehind e k m f h items why → StopsBehind d l n f h items why
+stops_on d e f l k h n m items why first armed stops = record {
+  last = stops.last;
+  steps = λ time. steps_go_on time (point_of d l n) (point_of e k m) stops.last (first time) (stops.steps time);
+  told = stops.told;
+  disk = stops.disk;
+  crashes = crashes_on why (crash_at m) (crash_at n) items armed stops.crashes;
+}
+  where
+    crashes_on : (why : Stop) (x y : Option ℕ) (items : List TraceItem) → x ≡ y → IfCrashed why (x ≡ Some (writes_in items)) → IfCrashed why (y ≡ Some (writes_in items))
+    crashes_on stop.Crashed x y items same is = sym same ∙ is
+    crashes_on (stop.DiskFailed block rise) x y items same is = tt
+    crashes_on stop.NoMemory x y items same is = tt
 
 -- for want of memory, before anything was done
-pub stops_here : (p : Point) (d : DiskState) (list : Option (List Operation)) (items : List TraceItem) → d ≡ p.disk → list ≡ p.list → items ≡ p.items → StopsBehind p d list items stop.NoMemory
-stops_here p d list items disk told same = record { last = p; steps = λ time. Here; told = sym same; disk = (disk, told) }
+pub stops_here : (d : DiskState) (l : Option (List Operation)) (n : Node) (items : List TraceItem) → items ≡ n.items.items → StopsBehind d l n d l items stop.NoMemory
+stops_here d l n items same = record { last = point_of d l n; steps = λ time. Here; told = sym same; disk = (refl, refl); crashes = tt }
 
--- At a deed: where it was made, and crashed behind it, the deed is a step; where the disk failed, it stays where it was.
-pub stops_at : (p q : Point) (d : DiskState) (list : Option (List Operation)) (items : List TraceItem) (r : Result (Unit {0}) Stop) (made : Type 0) → (made → (time : ℕ) → Steps time p q) → d ≡ q.disk → list ≡ q.list → items ≡ q.items
-    → IfMade r made → IfErr r (λ why. IfFailed why (FailsBehind p d list × (items ≡ p.items))) → IfErr r (λ why. StopsBehind p d list items why)
-stops_at p q d list items (Ok _) made steps disk told same done failed = tt
-stops_at p q d list items (Err stop.Crashed) made steps disk told same done failed = record { last = q; steps = steps done; told = sym same; disk = (disk, told) }
-stops_at p q d list items (Err (stop.DiskFailed block rise)) made steps disk told same done failed = record { last = p; steps = λ time. Here; told = sym failed.1; disk = failed.0 }
-stops_at p q d list items (Err stop.NoMemory) made steps disk told same done failed = absurd done
+-- At a deed: where it was made, and it crashed behind it, that is a step; where the disk failed, it stays where it was.
+pub stops_at : (d d' : DiskState) (l l' : Option (List Operation)) (n n' : Node) (r : Result (Unit {0}) Stop) (made : Type 0) → (made → (time : ℕ) → Steps time (point_of d l n) (point_of d' l' n')) → IfMade r made
+    → IfErr r (λ why. IfCrashed why (crash_at n ≡ Some (writes_in n'.items.items))) → IfErr r (λ why. IfFailed why (FailsBehind (point_of d l n) d' l')) → IfErr r (λ why. IfFailed why (n'.items.items ≡ n.items.items))
+    → IfErr r (λ why. StopsBehind d l n d' l' n'.items.items why)
+stops_at d d' l l' n n' (Ok _) made steps done crashed failed kept = tt
+stops_at d d' l l' n n' (Err stop.Crashed) made steps done crashed failed kept = record { last = point_of d' l' n'; steps = steps done; told = refl; disk = (refl, refl); crashes = crashed }
+stops_at d d' l l' n n' (Err (stop.DiskFailed block rise)) made steps done crashed failed kept = record { last = point_of d l n; steps = λ time. Here; told = sym kept; disk = failed; crashes = tt }
+stops_at d d' l l' n n' (Err stop.NoMemory) made steps done crashed failed kept = absurd done
+
+-- facts of an end, one from another
+pub map_err : (r : Result (Unit {0}) Stop) (P Q : Stop → Type 0) → ((why : Stop) → P why → Q why) → IfErr r P → IfErr r Q
+map_err (Ok _) P Q so is = tt
+map_err (Err why) P Q so is = so why is
+
+pub if_failed : (P Q : Type 0) (so : P → Q) (why : Stop) → IfFailed why P → IfFailed why Q
+if_failed P Q so (stop.DiskFailed block rise) is = so is
+if_failed P Q so stop.Crashed is = tt
+if_failed P Q so stop.NoMemory is = tt
+
+pub if_crashed : (P Q : Type 0) (so : P → Q) (why : Stop) → IfCrashed why P → IfCrashed why Q
+if_crashed P Q so stop.Crashed is = so is
+if_crashed P Q so (stop.DiskFailed block rise) is = tt
+if_crashed P Q so stop.NoMemory is = tt
 
 -- ---- one step of a flush
 
@@ -130,17 +155,34 @@ module _ (law : WidthsAreNumbers) (start : Node) (d d' : DiskState) (l l' : Opti
   pub disk_same : Carried → IsSameDisk d d'
   disk_same done = carried_disk m.block.items mid (point_of d' l' n') s (from_mid done)
 
-  pub stops : (r : Result (Unit {0}) Stop) → IfMade r Carried → IfErr r (λ why. IfFailed why (FailsBehind (point_of d l m) d' l' × (n'.items.items ≡ m.items.items)))
-      → IfErr r (λ why. StopsBehind p d' l' n'.items.items why)
-  stops r done failed = stops_at p (point_of d' l' n') d' l' n'.items.items r Carried steps refl refl refl done (by r failed)
+  -- where the disk failed, it may be as if the step was made
+  fails : FailsAt m.block.items (point_of d l m) d' l' s → FailsBehind p d' l'
+  fails = by s made may
     where
-      by : (r : Result (Unit {0}) Stop) → IfErr r (λ why. IfFailed why (FailsBehind (point_of d l m) d' l' × (n'.items.items ≡ m.items.items))) → IfErr r (λ why. IfFailed why (FailsBehind p d' l' × (n'.items.items ≡ p.items)))
-      by (Ok _) failed = tt
-      by (Err stop.Crashed) failed = tt
-      by (Err (stop.DiskFailed block rise)) failed = (fails_alike p (point_of d l m) d' l' refl refl failed.0, failed.1 ∙ items)
-      by (Err stop.NoMemory) failed = tt
+      by : (t : LogStep) → FlushStep n.log m.log f m.block.items t → MayCarry d t → FailsAt m.block.items (point_of d l m) d' l' t → FailsBehind p d' l'
+      by (step.Write b) made may (no_write is same) = as_it_was is same
+      by (step.Write b) made may (a_write is gains) = in_a_write (with_write mid b m.block.items l' m.log (trace.WriteLog 1 b)) (trace.WriteLog 1 b)
+          (λ time. steps_by p (with_write mid b m.block.items l' m.log (trace.WriteLog 1 b)) f m.log m.block.items at.is its_numbers (long ∙ at.on.block) at.told refl (step.Write b) may made (carried.a_block b l' gains refl) time)
+          refl refl is refl
+      by (step.Head b sequence) made may (no_write is same) = as_it_was is same
+      by (step.Head b sequence) made may (a_write is gains) = in_a_write (with_write mid b m.block.items l' m.log (trace.WriteHead 1 b sequence mid.numbers.begun)) (trace.WriteHead 1 b sequence mid.numbers.begun)
+          (λ time. steps_by p (with_write mid b m.block.items l' m.log (trace.WriteHead 1 b sequence mid.numbers.begun)) f m.log m.block.items at.is its_numbers (long ∙ at.on.block) at.told refl (step.Head b sequence) may made
+          (carried.a_header b sequence l' gains refl) time)
+          refl refl is refl
+      by step.Barrier made may both = as_it_was both.0 both.1
+      by step.NoRoom made may never = absurd never
 
-  module _ (n'_is : n' ≡ record m { items = n'.items; flying = n'.flying; numbers = record m.numbers { low = n'.numbers.low }; armed = n'.armed }) (flying : n'.flying ≡ length (d'.in_flight 1)) (done : Carried) where
+  pub armed_still : crash_at m ≡ crash_at n
+  armed_still = ap₂ crash_of (ap (λ (x : Node). x.armed) m_is) items
+
+  pub stops : (r : Result (Unit {0}) Stop) → IfMade r Carried → IfErr r (λ why. IfCrashed why (crash_at m ≡ Some (writes_in n'.items.items))) → IfErr r (λ why. IfFailed why (FailsAt m.block.items (point_of d l m) d' l' s))
+      → IfErr r (λ why. IfFailed why (n'.items.items ≡ m.items.items)) → IfErr r (λ why. StopsBehind d l n d' l' n'.items.items why)
+  stops r done crashed failed kept = stops_at d d' l l' n n' r Carried steps done
+      (map_err r _ _ (λ why. if_crashed (crash_at m ≡ Some (writes_in n'.items.items)) (crash_at n ≡ Some (writes_in n'.items.items)) (λ is. sym armed_still ∙ is) why) crashed)
+      (map_err r _ _ (λ why. if_failed (FailsAt m.block.items (point_of d l m) d' l' s) (FailsBehind p d' l') fails why) failed)
+      (map_err r _ _ (λ why. if_failed (n'.items.items ≡ m.items.items) (n'.items.items ≡ n.items.items) (λ is. is ∙ items) why) kept)
+
+  module _ (n'_is : n' ≡ record m { items = n'.items; flying = n'.flying; numbers = record m.numbers { low = n'.numbers.low }; armed = n'.armed }) (flying : n'.flying ≡ length (d'.in_flight 1)) (awaits : Awaits n'.armed) (done : Carried) where
     log_is : n'.log ≡ m.log
     log_is = ap (λ (x : Node). x.log) n'_is
 
@@ -163,6 +205,7 @@ module _ (law : WidthsAreNumbers) (start : Node) (d d' : DiskState) (l l' : Opti
         (subst (IsLogOf d.count) (sym log_is) (blocks_go_on d.count n.log at.on.blocks m.log f m.block.items s at.is made))
         kept.journal kept.view (ap (λ (x : Node). length x.block.items) n'_is ∙ long) flying
         (subst (λ (k : ℕ). k ≤ 512) (sym flying) (carried_few m.block.items mid (point_of d' l' n') s may (from_mid done)))
+        awaits
 
     abbrev Comes : Type 0
     Comes = HasComeTo start d' n' × (steps_left n'.log < steps_left n.log)

@@ -15,7 +15,8 @@ use Rattle.trace_text.specs.declared.item.TraceItem.{TraceItem}
 use Rattle.trace_text.specs.declared.item.TraceItem.TheVariants as trace
 use Rattle.logged_steps.specs.Points.{Point}
 use Rattle.logged_steps.specs.Steps.{GainsBarrier, GainsWrite, Steps, with_barrier, with_write}
-use Rattle.logged_node.specs.Nodes.{IsNodeOn, IsResting, IsSameDisk, IsSmall, KeepsView, NoneGoesHome, point_of}
+use Rattle.logged_node.specs.Deeds.{MayBeWritten}
+use Rattle.logged_node.specs.Nodes.{IsNodeOn, IsResting, IsSameDisk, IsSmall, KeepsView, NoneGoesHome, crash_at, point_of}
 use Rattle.logged_node.specs.declared.node.CallNumbers.{CallNumbers}
 use Rattle.logged_node.specs.declared.node.Node.{Node}
 
@@ -116,16 +117,24 @@ pub data IsCarried (bytes : List ℕ) (p q : Point) : LogStep → Type 0 where
       → q ≡ record (with_barrier p list p.log) { numbers = record p.numbers { low = p.numbers.begun }; items = p.items ++ (trace.Barrier 1 ∷ trace.Commit 1 p.log.sequence p.numbers.begun ∷ []) }
       → IsCarried bytes p q step.Barrier
 
+-- the disk failed: at a write this may be in flight, at a barrier nothing changed
+abbrev pub FailsAt : (bytes : List ℕ) → Point → DiskState → Option (List Operation) → LogStep → Type 0
+FailsAt bytes p d list (step.Write b) = MayBeWritten p.disk p.list b bytes d list
+FailsAt bytes p d list (step.Head b sequence) = MayBeWritten p.disk p.list b bytes d list
+FailsAt bytes p d list step.Barrier = (d ≡ p.disk) × (list ≡ p.list)
+FailsAt bytes p d list step.NoRoom = ⊥
+
 -- ---- what its functions promise
 
 -- a flush is under way
 abbrev pub IsUnderWay : DiskState → Node → Type 0
 IsUnderWay d n = (start : Node) × (f : Flush) × IsFlushing start d n f
 
--- from one point to the other by steps, on the same disk
+-- from one point to the other by steps, on the same disk, and not by the write at which it is to crash
 pub record GoesBySteps (d : DiskState) (list : Option (List Operation)) (n : Node) (d' : DiskState) (list' : Option (List Operation)) (n' : Node) : Type 0 where
   pub steps : (time : ℕ) → Steps time (point_of d list n) (point_of d' list' n')
   pub disk : IsSameDisk d d'
+  pub armed : crash_at n' ≡ crash_at n
 
 -- one step more of whatever flush is under way
 pub record GoesOn (d : DiskState) (list : Option (List Operation)) (n : Node) (d' : DiskState) (list' : Option (List Operation)) (n' : Node) : Type 0 where
@@ -154,6 +163,7 @@ number_of n _ = n.answered
 pub record IsAsItWas (d : DiskState) (list : Option (List Operation)) (n : Node) (d' : DiskState) (list' : Option (List Operation)) (n' : Node) : Type 0 where
   pub point : point_of d' list' n' ≡ point_of d list n
   pub resting : IsResting d' n'
+  pub armed : n'.armed ≡ n.armed
 
 abbrev pub HasNothingToFlush : LogValue → Type 0
 HasNothingToFlush log = (IsDue log → ⊥) × (NothingIsLive log ⊎ (AllAreHome log → ⊥))

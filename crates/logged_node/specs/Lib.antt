@@ -1,4 +1,5 @@
-pub mod Nodes
 pub mod Ends
+pub mod Nodes
+pub mod Deeds
 pub mod Flushing
 pub mod Homing

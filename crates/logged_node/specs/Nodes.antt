@@ -1,7 +1,7 @@
 -- A node with its log, on a disk.
-use Rattle.std.specs.Prelude.{ℕ, ◌≡◌, ◌<◌, ◌≤◌, ◌-◌, false, List, [], ◌∷◌, length, Option, None, Some}
+use Rattle.std.specs.Prelude.{ℕ, ◌≡◌, ◌<◌, ◌≤◌, ◌+◌, ◌++◌, ⊤, true, false, List, [], ◌∷◌, length, Option, None, Some}
 use Rattle.std.specs.FinMap as table
-use Rattle.std.specs.List.{AllByRecursion}
+use Rattle.std.specs.List.{AllByRecursion, count_by}
 use Rattle.glock_names.specs.Views.{end_of}
 use Rattle.log_tables.specs.Versions.Way.{Flying}
 use Rattle.log_values.specs.Flushing.{block_at}
@@ -12,10 +12,12 @@ use Rattle.log_values.specs.Transactions.{due}
 use Rattle.log_widths.specs.Widths.{HasLogWidths}
 use Rattle.node_journal.specs.Encoding.{size_of}
 use Rattle.lone_logs.specs.States.{Numbers}
-use Rattle.shared_disk.specs.Disk.{DiskState, Gains, Operation, Write, after_write}
+use Rattle.run_rules.specs.Follows.{is_write_of}
+use Rattle.shared_disk.specs.Disk.{DiskState, Operation}
 use Rattle.trace_text.specs.declared.item.TraceItem.{TraceItem}
 use Rattle.logged_steps.specs.Points.{Anything, Point}
 use Rattle.logged_steps.specs.Steps.{Steps}
+use Rattle.logged_node.specs.Ends.{IfCrashed}
 use Rattle.logged_node.specs.declared.ends.Stop.{Stop}
 use Rattle.logged_node.specs.declared.ends.Stop.TheVariants as stop
 use Rattle.logged_node.specs.declared.node.CallNumbers.{CallNumbers}
@@ -29,6 +31,25 @@ numbers_of n = record { answered = n.answered; changed = n.changed; low = n.low;
 abbrev pub point_of : DiskState → Option (List Operation) → Node → Point
 point_of disk list n = record { disk = disk; list = list; log = n.log; view = n.view; numbers = numbers_of n.numbers; items = n.items.items; unmounts = n.unmounts; next = Anything }
 
+-- ---- where it crashes
+
+-- how many of its writes these items tell
+abbrev pub writes_in : List TraceItem → ℕ
+writes_in items = count_by (is_write_of 1) items
+
+-- which write of the trace it is at which it is to crash, where so many are left to be made, that one among them
+abbrev pub crash_of : Option ℕ → List TraceItem → Option ℕ
+crash_of None items = None
+crash_of (Some left) items = Some (writes_in items + left)
+
+abbrev pub crash_at : Node → Option ℕ
+crash_at n = crash_of n.armed n.items.items
+
+-- that one at least is left
+abbrev pub Awaits : Option ℕ → Type 0
+Awaits None = ⊤
+Awaits (Some left) = 1 ≤ left
+
 -- ---- what always holds of it
 
 -- all blocks that its log knows of are blocks of a disk of so many
@@ -38,7 +59,8 @@ pub record IsLogOf (count : ℕ) (log : LogValue) : Type 0 where
   pub live : (b : ℕ) (e : Entry) → table.get log.live b ≡ Some e → b < count
 
 -- It is a node of this disk: its log is sound, of blocks of the disk, with numbers within their widths; block, journal and view are of the disk's size; the journal's places are blocks of it, each
--- another one, and so are the groups and the blocks that are kept; it isn't fenced; and the count of its writes in flight is right.
+-- another one, and so are the groups and the blocks that are kept; it isn't fenced; the count of its writes in flight is right; and where it is to crash at a write, that is still to be
+-- made.
 pub record IsNodeOn (d : DiskState) (n : Node) : Type 0 where
   pub sound : IsSoundLog n.log
   pub widths : HasLogWidths n.log
@@ -54,6 +76,7 @@ pub record IsNodeOn (d : DiskState) (n : Node) : Type 0 where
   pub unfenced : d.is_fenced 1 ≡ false
   pub flying : n.flying ≡ length (d.in_flight 1)
   pub few : n.flying ≤ 512
+  pub awaits : Awaits n.armed
 
 -- nothing is on its way home
 abbrev pub NoneGoesHome : LogValue → Type 0
@@ -86,34 +109,23 @@ pub record KeepsView (n n' : Node) : Type 0 where
   pub journal : n'.log.journal ≡ n.log.journal
   pub unmounts : n'.unmounts ≡ n.unmounts
 
--- ---- where it crashes
-
--- how many writes it makes until it crashes, behind one more
-abbrev pub one_less : Option ℕ → Option ℕ
-one_less None = None
-one_less (Some left) = Some (left - 1)
-
--- the write at which it crashes is the last of those that it makes until then
-abbrev pub IsLastWrite : Option ℕ → Type 0
-IsLastWrite None = ⊥
-IsLastWrite (Some left) = left ≤ 1
-
 -- ---- how it stops
 
--- the disk is that of the point, or it failed in a write that may have come in flight
+-- The disk failed: it is that of the point; or that of a point one write further on, of which no item tells.
 pub data FailsBehind (p : Point) (d : DiskState) (list : Option (List Operation)) : Type 0 where
   as_it_was : d ≡ p.disk → list ≡ p.list → FailsBehind p d list
-  in_a_write : (b : ℕ) (bytes : List ℕ) → d ≡ after_write p.disk 1 b bytes → Gains p.list list (Write 1 b bytes ∷ []) → FailsBehind p d list
+  in_a_write : (q : Point) (item : TraceItem) → ((time : ℕ) → Steps time p q) → q.items ≡ p.items ++ item ∷ [] → is_write_of 1 item ≡ true → d ≡ q.disk → list ≡ q.list → FailsBehind p d list
 
--- the disk is that of the point; where the disk failed, it may have one write more
+-- else it is that of the point
 abbrev pub LeavesDisk : Point → DiskState → Option (List Operation) → Stop → Type 0
 LeavesDisk p d list (stop.DiskFailed block rise) = FailsBehind p d list
 LeavesDisk p d list stop.Crashed = (d ≡ p.disk) × (list ≡ p.list)
 LeavesDisk p d list stop.NoMemory = (d ≡ p.disk) × (list ≡ p.list)
 
--- It came by steps to a point with these items, and so it leaves the disk.
-pub record StopsBehind (p : Point) (d : DiskState) (list : Option (List Operation)) (items : List TraceItem) (why : Stop) : Type 0 where
+-- It came by steps to a point with these items, and so it leaves the disk; and where it crashed, it is behind the write at which it was to.
+pub record StopsBehind (d : DiskState) (list : Option (List Operation)) (n : Node) (d' : DiskState) (list' : Option (List Operation)) (items : List TraceItem) (why : Stop) : Type 0 where
   pub last : Point
-  pub steps : (time : ℕ) → Steps time p last
+  pub steps : (time : ℕ) → Steps time (point_of d list n) last
   pub told : last.items ≡ items
-  pub disk : LeavesDisk last d list why
+  pub disk : LeavesDisk last d' list' why
+  pub crashes : IfCrashed why (crash_at n ≡ Some (writes_in items))

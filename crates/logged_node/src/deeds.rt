@@ -1,10 +1,12 @@
 // A node's operations on the disk, with their items.
-ghost use Rattle.std.specs.Prelude.{ℕ, ◌≡◌, ◌+◌, ◌<◌, ◌≤◌, ◌⊎◌, None, Some, [], true, false, length, OnOk, IfErr};
+ghost use Rattle.std.specs.Prelude.{ℕ, ◌≡◌, ◌+◌, ◌<◌, ◌≤◌, None, Some, [], true, false, length, OnOk, IfErr};
 ghost use Rattle.std.specs.Vec.{vec_capacity, vec_len};
+ghost use Rattle.run_rules.specs.Follows.{is_write_of};
 ghost use Rattle.shared_disk.specs.Disk.{flight_to};
 ghost use Rattle.logged_steps.specs.Steps.{GainsBarrier, GainsWrite, with_barrier, with_write};
+ghost use Rattle.logged_node.specs.Deeds.{IsLastWrite, IsNotLastWrite, MayBeWritten, one_less};
 ghost use Rattle.logged_node.specs.Ends.{HasCause, IfCrashed, IfFailed, IfMade, IsOfDisk};
-ghost use Rattle.logged_node.specs.Nodes.{FailsBehind, IsLastWrite, one_less, point_of};
+ghost use Rattle.logged_node.specs.Nodes.{Awaits, crash_at, point_of, writes_in};
 
 use crate::ends::Stop;
 use crate::node::Node;
@@ -19,7 +21,7 @@ pub(crate) const MOST_IN_FLIGHT: usize = 512;
 // Counts a write: whether the node is to crash behind it.
 fn counts_as_last(node: &mut Node) -> bool
     ensures last { result ≡ true → IsLastWrite node.old.armed }
-    ensures before { result ≡ false → node.old.armed ≡ None ⊎ ((left : ℕ) × (node.old.armed ≡ Some left) × (1 < left)) }
+    ensures before { result ≡ false → IsNotLastWrite node.old.armed }
     ensures same { node.new ≡ record node.old { armed = node.new.armed } }
     ensures less { result ≡ false → node.new.armed ≡ one_less node.old.armed }
 {
@@ -47,14 +49,18 @@ pub(crate) fn put_write<D: SharedDisk>(
     requires count { node.old.flying < 512 }
     requires open { (D.state disk.old).is_fenced 1 ≡ false }
     requires room { vec_len node.old.items < vec_capacity node.old.items }
+    requires awaits { Awaits node.old.armed }
+    requires item { is_write_of 1 item ≡ true }
     ensures made { IfMade result (point_of (D.state disk.new) (D.list disk.new) node.new ≡ with_write (point_of (D.state disk.old) (D.list disk.old) node.old) block node.old.block.items (D.list disk.new) node.old.log item) }
     ensures gains { IfMade result (GainsWrite (point_of (D.state disk.old) (D.list disk.old) node.old) block node.old.block.items (D.list disk.new)) }
     ensures node { IfMade result (node.new ≡ record node.old { items = node.new.items; flying = node.old.flying + 1; armed = node.new.armed }) }
     ensures room { OnOk result (vec_len node.new.items ≡ vec_len node.old.items + 1) }
     ensures capacity { OnOk result (vec_capacity node.old.items ≤ vec_capacity node.new.items) }
-    ensures armed { OnOk result (node.new.armed ≡ one_less node.old.armed) }
-    ensures crashed { IfErr result (λ why. IfCrashed why (IsLastWrite node.old.armed)) }
-    ensures failed { IfErr result (λ why. IfFailed why (FailsBehind (point_of (D.state disk.old) (D.list disk.old) node.old) (D.state disk.new) (D.list disk.new) × (node.new.items.items ≡ node.old.items.items))) }
+    ensures armed { OnOk result (crash_at node.new ≡ crash_at node.old) }
+    ensures awaits { OnOk result (Awaits node.new.armed) }
+    ensures crashed { IfErr result (λ why. IfCrashed why (crash_at node.old ≡ Some (writes_in node.new.items.items))) }
+    ensures failed { IfErr result (λ why. IfFailed why (MayBeWritten (D.state disk.old) (D.list disk.old) block node.old.block.items (D.state disk.new) (D.list disk.new))) }
+    ensures kept { IfErr result (λ why. IfFailed why (node.new.items.items ≡ node.old.items.items)) }
     ensures later { (i : ℕ) → D.faults disk.old i ≤ D.faults disk.new i }
     ensures cause { IfErr result (HasCause (D.state disk.old).count (D.faults disk.old) (D.faults disk.new)) }
 {

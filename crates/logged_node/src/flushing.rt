@@ -1,10 +1,9 @@
 // Flushes: all that is due, or a header alone, comes into the journal.
 ghost use Rattle.std.specs.Prelude.{ℕ, ◌≡◌, ◌≢◌, Ok, IfOk, ◌+◌, ◌++◌, ◌<◌, ◌≤◌, ◌^◌, [], ◌∷◌, false, length, OnOk, IfErr};
 ghost use Rattle.std.specs.Vec.{vec_capacity, vec_len};
-ghost use Rattle.shared_disk.specs.Disk.{after_barrier};
-ghost use Rattle.logged_node.specs.Ends.{HasCause, IfFailed, IfMade, IsOfDisk};
-ghost use Rattle.logged_node.specs.Flushing.{GoesOn, HasBegun, HasCome, HasNoRoom, HasNothingToFlush, IsAsItWas, IsCarried, IsUnderWay, MayCarry, number_of};
-ghost use Rattle.logged_node.specs.Nodes.{FailsBehind, IsResting, StopsBehind, point_of};
+ghost use Rattle.logged_node.specs.Ends.{HasCause, IfCrashed, IfFailed, IfMade, IsOfDisk};
+ghost use Rattle.logged_node.specs.Flushing.{FailsAt, GoesOn, HasBegun, HasCome, HasNoRoom, HasNothingToFlush, IsAsItWas, IsCarried, IsUnderWay, MayCarry, number_of};
+ghost use Rattle.logged_node.specs.Nodes.{Awaits, IsResting, StopsBehind, crash_at, point_of, writes_in};
 
 use crate::deeds::{put_barrier, put_write};
 use crate::ends::Stop;
@@ -52,7 +51,7 @@ fn end_part<D: SharedDisk>(disk: &mut D, node: &mut Node) -> Result<(), Stop>
     ensures carried { OnOk result (IsCarried node.old.block.items (point_of (D.state disk.old) (D.list disk.old) node.old) (point_of (D.state disk.new) (D.list disk.new) node.new) LogStep.Barrier) }
     ensures node { OnOk result (node.new ≡ record node.old { items = node.new.items; flying = 0; numbers = record node.old.numbers { low = node.new.numbers.low } }) }
     ensures none { OnOk result ((D.state disk.new).in_flight 1 ≡ []) }
-    ensures disk { OnOk result (D.state disk.new ≡ after_barrier (D.state disk.old) 1) }
+    ensures armed { OnOk result (crash_at node.new ≡ crash_at node.old) }
     ensures why { IfErr result IsOfDisk }
     ensures failed { IfErr result (λ why. (D.state disk.new ≡ D.state disk.old) × (D.list disk.new ≡ D.list disk.old) × (node.new ≡ node.old)) }
     ensures later { (i : ℕ) → D.faults disk.old i ≤ D.faults disk.new i }
@@ -72,10 +71,15 @@ fn carry<D: SharedDisk>(disk: &mut D, node: &mut Node, step: LogStep) -> Result<
     requires count { node.old.flying ≡ length ((D.state disk.old).in_flight 1) }
     requires open { (D.state disk.old).is_fenced 1 ≡ false }
     requires room { vec_len node.old.items + 2 ≤ vec_capacity node.old.items }
+    requires awaits { Awaits node.old.armed }
     ensures carried { IfMade result (IsCarried node.old.block.items (point_of (D.state disk.old) (D.list disk.old) node.old) (point_of (D.state disk.new) (D.list disk.new) node.new) step) }
     ensures node { OnOk result (node.new ≡ record node.old { items = node.new.items; flying = node.new.flying; numbers = record node.old.numbers { low = node.new.numbers.low }; armed = node.new.armed }) }
     ensures flying { OnOk result (node.new.flying ≡ length ((D.state disk.new).in_flight 1)) }
-    ensures failed { IfErr result (λ why. IfFailed why (FailsBehind (point_of (D.state disk.old) (D.list disk.old) node.old) (D.state disk.new) (D.list disk.new) × (node.new.items.items ≡ node.old.items.items))) }
+    ensures armed { OnOk result (crash_at node.new ≡ crash_at node.old) }
+    ensures awaits { OnOk result (Awaits node.new.armed) }
+    ensures crashed { IfErr result (λ why. IfCrashed why (crash_at node.old ≡ Some (writes_in node.new.items.items))) }
+    ensures failed { IfErr result (λ why. IfFailed why (FailsAt node.old.block.items (point_of (D.state disk.old) (D.list disk.old) node.old) (D.state disk.new) (D.list disk.new) step)) }
+    ensures kept { IfErr result (λ why. IfFailed why (node.new.items.items ≡ node.old.items.items)) }
     ensures later { (i : ℕ) → D.faults disk.old i ≤ D.faults disk.new i }
     ensures cause { IfErr result (HasCause (D.state disk.old).count (D.faults disk.old) (D.faults disk.new)) }
 {
@@ -107,7 +111,7 @@ fn go_on<D: SharedDisk>(disk: &mut D, node: &mut Node) -> Result<(), Stop>
     requires flushing { IsUnderWay (D.state disk.old) node.old }
     requires sequence { node.old.log.sequence + 1 < 2 ^ 64 }
     ensures came { OnOk result (GoesOn (D.state disk.old) (D.list disk.old) node.old (D.state disk.new) (D.list disk.new) node.new) }
-    ensures stopped { IfErr result (StopsBehind (point_of (D.state disk.old) (D.list disk.old) node.old) (D.state disk.new) (D.list disk.new) node.new.items.items) }
+    ensures stopped { IfErr result (StopsBehind (D.state disk.old) (D.list disk.old) node.old (D.state disk.new) (D.list disk.new) node.new.items.items) }
     ensures later { (i : ℕ) → D.faults disk.old i ≤ D.faults disk.new i }
     ensures cause { IfErr result (HasCause (D.state disk.old).count (D.faults disk.old) (D.faults disk.new)) }
 {
@@ -145,7 +149,7 @@ fn begin<D: SharedDisk>(disk: &mut D, node: &mut Node) -> Result<Began, Stop>
     ensures not { IfOk result (λ b. b ≢ Began.Begun → IsAsItWas (D.state disk.old) (D.list disk.old) node.old (D.state disk.new) (D.list disk.new) node.new) }
     ensures nothing { result ≡ Ok Began.Nothing → HasNothingToFlush node.old.log }
     ensures no_room { result ≡ Ok Began.NoRoom → HasNoRoom node.old.log }
-    ensures stopped { IfErr result (StopsBehind (point_of (D.state disk.old) (D.list disk.old) node.old) (D.state disk.new) (D.list disk.new) node.new.items.items) }
+    ensures stopped { IfErr result (StopsBehind (D.state disk.old) (D.list disk.old) node.old (D.state disk.new) (D.list disk.new) node.new.items.items) }
     ensures later { (i : ℕ) → D.faults disk.old i ≤ D.faults disk.new i }
     ensures cause { IfErr result (HasCause (D.state disk.old).count (D.faults disk.old) (D.faults disk.new)) }
 {
@@ -174,7 +178,7 @@ pub fn flush<D: SharedDisk>(disk: &mut D, node: &mut Node) -> Result<Flushed, St
     ensures not { IfOk result (λ b. b ≢ Flushed.Done → IsAsItWas (D.state disk.old) (D.list disk.old) node.old (D.state disk.new) (D.list disk.new) node.new) }
     ensures nothing { result ≡ Ok Flushed.Nothing → HasNothingToFlush node.old.log }
     ensures no_room { result ≡ Ok Flushed.NoRoom → HasNoRoom node.old.log }
-    ensures stopped { IfErr result (StopsBehind (point_of (D.state disk.old) (D.list disk.old) node.old) (D.state disk.new) (D.list disk.new) node.new.items.items) }
+    ensures stopped { IfErr result (StopsBehind (D.state disk.old) (D.list disk.old) node.old (D.state disk.new) (D.list disk.new) node.new.items.items) }
     ensures later { (i : ℕ) → D.faults disk.old i ≤ D.faults disk.new i }
     ensures cause { IfErr result (HasCause (D.state disk.old).count (D.faults disk.old) (D.faults disk.new)) }
 {
