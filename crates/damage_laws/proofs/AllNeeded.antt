@@ -1,50 +1,17 @@
 -- A block that any call needs lies out of the device.
-use Rattle.std.proofs.Common.{◌≡◌, ◌≢◌, ℕ, suc, ◌+◌, ◌*◌, ◌≤◌, ◌⊎◌, inl, inr, List, [], ◌∷◌, length, replicate, Option, None, Some, refl, sym, ap, ◌∙◌, subst, arith}
-use Rattle.std.proofs.lemmas.Bool.{cases_Bool, cases_eq, cases_lt, cond-true, cond-false, eq-eqb, ne_eqb, true≢false}
-use Rattle.std.proofs.lemmas.List.{get_or-drop, get_or-take, get_or_past, length-replicate, length-take}
-use Rattle.std.specs.Int.{from_be_bytes, w32}
-use Rattle.growth_laws.proofs.Bytes.{byte, zero_byte}
-use Rattle.directories.proofs.Forms.{linear_here}
-use Rattle.std.specs.Prelude.{false, ◌==◌, ◌&&◌, ◌/◌, ◌%◌, take, drop, get_or, if◌then◌else◌}
-use Rattle.call_locks.specs.declared.want.Want.{Want}
+use Rattle.std.proofs.Common.{◌⊎◌, inl, inr, List}
+use Rattle.std.specs.Prelude.{false}
 use Rattle.call_locks.specs.Wants.{wanted}
 use Rattle.call_locks.specs.WantLaws.{path_of}
-use Rattle.dinode_tree.specs.Below.{AnyIndex}
-use Rattle.dinode_tree.specs.Reading.{IsInRange, IsNeeded, IsOnWay, the_dinode, led_to}
-use Rattle.dinode_tree.specs.Shown.{IsShown}
-use Rattle.dinode_tree.specs.Walking.{missing_dinode}
-use Rattle.directories.specs.Shown as dirs
+use Rattle.dinode_tree.specs.Reading.{IsInRange}
 use Rattle.file_tree.specs.declared.call.Call.{Call}
 use Rattle.file_tree.specs.declared.call.Call.TheVariants as calls
-use Rattle.gfs2_layout.specs.Bytes.{number_at, u32_at, u64_at}
-use Rattle.gfs2_layout.specs.Device.{superblock_place}
-use Rattle.gfs2_layout.specs.Holding.{Holding}
-use Rattle.gfs2_layout.specs.Inode.{Leads, from_dinode, from_block, has_hash_flag, header_length, dinode_in, is_hashed_in, span}
-use Rattle.gfs2_layout.specs.Structures.{dinode_length, dinode_of, is_directory as says_directory}
-use Rattle.glock_names.specs.Views.{Seen, HasBlock}
+use Rattle.glock_names.specs.Views.{Seen}
 use Rattle.glock_names.specs.declared.steps.Missing.{Missing}
-use Rattle.growth_laws.proofs.Numbers.{zeros_are_no_number}
-use Rattle.hash_dirs.specs.Shown as hashed
-use Rattle.file_calls.specs.HashInserting as inserts
-use Rattle.file_calls.specs.NameInserting as names
-use Rattle.image_model.specs.Claims.{every, below, HasInode, HasDirectory}
-use Rattle.image_model.specs.Flat.{Path}
-use Rattle.image_model.specs.Image.{Image, IsImage}
-use Rattle.image_model.specs.Owners.{Root, Below}
-use Rattle.image_model.specs.Rules.{Breaks, beyond_device}
-use Rattle.image_model.proofs.Held.{none_some}
-use Rattle.file_calls.specs.Making as making
-use Rattle.path_walks.specs.Walks.{IsDirectoryAt, LeadsTo, IsNext, the_root, the_child, IsUnread, a_dinode, in_directory}
+use Rattle.image_model.specs.Image.{Image}
 use Rattle.file_calls.specs.Reading as reading
-use Rattle.file_calls.specs.Removing as removing
-use Rattle.file_calls.specs.Writing as writing
-use Rattle.file_calls.specs.FileDrafting.{IsNeededAt, of_any, of_group, of_inode}
-use Rattle.growth_drafts.specs.Taken.{IsCutAt, IsLookedAt}
-use Rattle.damage_laws.specs.Telling.{IsReadFrom, HasWholeGroups, HasAstray, HasAstrayOn, IsAstray, IsBrokenSource, NeedsTell, its_own, source_of}
-use Rattle.damage_laws.proofs.Astray.{led_beyond, whole_or_out}
-use Rattle.damage_laws.proofs.Claimed.{shown, root_claimed, is_directory, directory_or, led_there, astray_at, further}
-use Rattle.damage_laws.proofs.Inodes.{led_inside}
-use Rattle.damage_laws.proofs.Owned.{from_parent}
+use Rattle.damage_laws.specs.Telling.{HasAstray, HasAstrayOn, IsBrokenSource, NeedsTell, its_own, source_of}
+use Rattle.damage_laws.proofs.Claimed.{shown}
 use Rattle.damage_laws.proofs.MovesNeeded.{moves_out}
 use Rattle.damage_laws.proofs.Needed.{all_way, directory_out, making_out, needed_out, removal_out, unread_out, writing_out}
 

@@ -1,5 +1,5 @@
 -- What a view shows is the image's: inodes, names, pointers and groups.
-use Rattle.std.proofs.Common.{◌≡◌, ℕ, ◌+◌, ◌⊎◌, inl, inr, List, [], ◌∷◌, ◌++◌, Option, Some, true, false, refl, sym, ap, ◌∙◌, subst}
+use Rattle.std.proofs.Common.{◌≡◌, ◌≢◌, ℕ, ◌+◌, ◌⊎◌, inl, inr, List, [], ◌∷◌, ◌++◌, Option, Some, true, false, refl, sym, ap, ◌∙◌, subst}
 use Rattle.std.proofs.lemmas.Bool.{cases_Bool, cond-false, true≢false}
 use Rattle.std.proofs.lemmas.List.{append-nil, append_assoc}
 use Rattle.std.specs.Prelude.{Contains}
@@ -7,6 +7,7 @@ use Rattle.std.specs.Option.{option_map}
 use Rattle.file_tree.specs.Names.{IsName}
 use Rattle.gfs2_layout.specs.Device.{superblock_place}
 use Rattle.gfs2_layout.specs.Inode.{first_hash, is_directory_in, is_hashed_in, leaf_area, records_of}
+use Rattle.gfs2_layout.specs.declared.rindex.Rindex.{Rindex}
 use Rattle.gfs2_layout.specs.Records.{Record, is_dots, record_named, records_in}
 use Rattle.glock_names.specs.Views.{Seen, group_of_entry}
 use Rattle.glock_names.specs.declared.steps.Entry.{Entry}
@@ -22,6 +23,7 @@ use Rattle.resource_groups.specs.Putting.{HasDataBlock}
 use Rattle.image_model.specs.Claims.{every, Claims, root, in_dinode, first_leaf, next_leaf, HasInode, HasDirectory, HasLeaf}
 use Rattle.image_model.specs.Claims as image
 use Rattle.image_model.specs.Flat.{Path}
+use Rattle.image_model.specs.Groups.{IsListed}
 use Rattle.image_model.specs.Image.{Image, IsImage}
 use Rattle.image_model.specs.Owners.{Root, Named, Chained}
 use Rattle.image_model.specs.Rules.{IsOutside}
@@ -38,15 +40,15 @@ use Rattle.damage_laws.proofs.Astray.{whole_or}
 module _ (im : Image) (a : ℕ) (has : HasInode im a) (hashed : is_hashed_in (every im a) ≡ true) where
   -- each leaf of a chain is claimed, and so is what leads to one
   pub chain_claims : (i place x : ℕ) → IsInChain (every im a) i place x → (by : ℕ) × Claims im by x (Chained a (first_hash (every im a) i) place)
-  chain_claims i _ _ (chain_head low) = (_, first_leaf has.1.by a has.0 i has.1.claimed has.1.dinode hashed low)
+  chain_claims i _ _ (chain_head low some) = (_, first_leaf has.1.by a has.0 i has.1.claimed has.1.dinode hashed low some)
   chain_claims i _ _ (chain_next place x chain more) = (x, next_leaf (chain_claims i place x chain).0 x a (first_hash (every im a) i) place (chain_claims i place x chain).1 more)
 
-  pub leaf_claims : (i from x : ℕ) → LeadsToLeaf (every im a) i from x → (hash place : ℕ) × Claims im from x (Chained a hash place)
-  leaf_claims i _ _ (by_pointer low) = (first_hash (every im a) i, 0, first_leaf has.1.by a has.0 i has.1.claimed has.1.dinode hashed low)
-  leaf_claims i _ _ (by_leaf place x chain more) = let c = chain_claims i place x chain in (first_hash (every im a) i, place + 1, next_leaf c.0 x a (first_hash (every im a) i) place c.1 more)
+  pub leaf_claims : (i from x : ℕ) → LeadsToLeaf (every im a) i from x → x ≢ 0 → (hash place : ℕ) × Claims im from x (Chained a hash place)
+  leaf_claims i _ _ (by_pointer low) some = (first_hash (every im a) i, 0, first_leaf has.1.by a has.0 i has.1.claimed has.1.dinode hashed low some)
+  leaf_claims i _ _ (by_leaf place x chain more) some = let c = chain_claims i place x chain in (first_hash (every im a) i, place + 1, next_leaf c.0 x a (first_hash (every im a) i) place c.1 more)
 
-  pub has_leaf : (i from x : ℕ) → LeadsToLeaf (every im a) i from x → HasLeaf im a x
-  has_leaf i from x leads = let c = leaf_claims i from x leads in (from, c.0, c.1, c.2)
+  pub has_leaf : (i from x : ℕ) → LeadsToLeaf (every im a) i from x → x ≢ 0 → HasLeaf im a x
+  has_leaf i from x leads some = let c = leaf_claims i from x leads some in (from, c.0, c.1, c.2)
 
 -- ---- names
 
@@ -76,7 +78,7 @@ module _ (im : Image) (a b : ℕ) (name : List ℕ) (has : HasInode im a) (dir :
       (λ r there dots. in_dinode has.1.by a has.0 r has.1.claimed has.1.dinode dir plain (subst (λ rs. Contains rs r) (cond-false _ _ _ plain) there) (dots ∙ is.not_dots))
 
   hashed_claims : is_hashed_in (every im a) ≡ true → (i : ℕ) (named : Option Record) (e : Entry) → IsFirstNamed (every im a) i name named → Some e ≡ option_map entry_of named → e.addr ≡ b → IsNamedBy im a b name
-  hashed_claims hashed i _ e (nowhere none) leads address = absurd (none_some (sym leads))
+  hashed_claims hashed i _ e (nowhere some none) leads address = absurd (none_some (sym leads))
   hashed_claims hashed i _ e (in_leaf place x r chain found later) leads address =
       let c = chain_claims im a has hashed i place x chain in
       let led = record_is (records_in (leaf_area (every im a) x)) name r found in
@@ -95,6 +97,10 @@ module _ (im : Image) (a b : ℕ) (name : List ℕ) (has : HasInode im a) (dir :
   name_claims child = says_claims (Some child.entry) child.entry child.says refl child.address
 
 -- ---- what a view shows
+
+-- the groups of the list are the image's
+pub has_group : (v : Seen) (im : Image) (read : IsReadFrom v im) (g : Rindex) → IsListed read.list g → image.HasGroup im g
+has_group v im read g there = (read.sound.inode, read.sound.rindex, subst (λ gs. IsListed gs g) (sym read.sound.listed) there)
 
 module _ (v : Seen) (im : Image) (read : IsReadFrom v im) (is_image : IsImage im) where
   -- an inode that is read as if it had every block of the image is one that the view shows
@@ -184,4 +190,4 @@ module _ (v : Seen) (im : Image) (read : IsReadFrom v im) (is_image : IsImage im
 
   -- a block in none of the view's groups is in none of the image's
   pub outside : (b : ℕ) → ¬ (HasDataBlock v b) → IsOutside im b
-  outside b out g has of = out (group_of_entry g, (read.groups (group_of_entry g)).1 (g, has, refl), record { low = of.low; high = of.high })
+  outside b out = (read.list, read.sound, λ g there of. out (group_of_entry g, (read.groups (group_of_entry g)).1 (g, there, refl), record { low = of.low; high = of.high }))

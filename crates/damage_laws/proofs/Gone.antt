@@ -42,7 +42,7 @@ lacks_one (x ∷ []) few = elim (cases_Bool (bytes_eq (codes ".") x.name)) [
 
 module _ (im : Image) (a : ℕ) (has : HasDirectory im a) (hashed : is_hashed_in (every im a) ≡ true) where
   pub chain_of : (by x hash place : ℕ) → Claims im by x (Chained a hash place) → IsLeaf (every im a) x
-  chain_of _ _ _ _ (first_leaf by d o i claimed dinode plain low) = (i, 0, chain_head low)
+  chain_of _ _ _ _ (first_leaf by d o i claimed dinode plain low some) = (i, 0, chain_head low some)
   chain_of _ _ _ _ (next_leaf by x d hash place claimed more) = let r = chain_of by x hash place claimed in (r.0, r.1 + 1, chain_next r.1 x r.2 more)
 
   leaf_there : (x : ℕ) → IsLeaf (every im a) x → HasLeaf im a x

@@ -1,5 +1,5 @@
 -- Damage that a call meets at an inode to which a path of it leads, below it, in a directory where a name comes, and in groups.
-use Rattle.std.proofs.Common.{◌≡◌, ℕ, zero, suc, ◌+◌, ◌⊎◌, inl, inr, List, [], ◌++◌, refl, sym, ◌∙◌, subst, arith}
+use Rattle.std.proofs.Common.{◌≡◌, ℕ, zero, suc, ◌+◌, ◌⊎◌, inl, inr, List, ◌++◌, refl, sym, ◌∙◌, subst, arith}
 use Rattle.std.specs.Prelude.{true, false}
 use Rattle.call_locks.specs.declared.want.Want.{Want}
 use Rattle.dinode_tree.specs.Below.{IsLedFrom}
@@ -11,11 +11,9 @@ use Rattle.file_calls.specs.HashInserting as inserts
 use Rattle.file_calls.specs.NameInserting as names
 use Rattle.file_calls.specs.NameWay.{IsOnWay, its_dinode, its_leaf, its_pointer}
 use Rattle.file_tree.specs.declared.call.Call.{Call}
-use Rattle.file_tree.specs.declared.call.Call.TheVariants as calls
 use Rattle.call_locks.specs.Wants.{wanted}
 use Rattle.call_locks.specs.WantLaws.{path_of}
-use Rattle.file_tree.specs.Names.{parent_of}
-use Rattle.file_calls.specs.FileDrafting.{IsWrongAt, in_group, in_inode, stray}
+use Rattle.file_calls.specs.FileDrafting.{IsWrongAt}
 use Rattle.gfs2_layout.specs.Device.{superblock_place}
 use Rattle.gfs2_layout.specs.Headers.{HasHeader}
 use Rattle.gfs2_layout.specs.declared.rindex.Rindex.{Rindex}
@@ -24,23 +22,19 @@ use Rattle.glock_names.specs.declared.views.Group.{Group}
 use Rattle.resource_groups.specs.Freeing.{BreaksSome}
 use Rattle.resource_groups.specs.Putting.{HasDataBlock}
 use Rattle.resource_groups.specs.Shown as group
-use Rattle.image_model.specs.Claims as image
 use Rattle.image_model.specs.Claims.{every, Claims, below, HasDirectory, HasInode}
 use Rattle.image_model.specs.Flat.{Path}
-use Rattle.image_model.specs.Groups.{state_of}
+use Rattle.image_model.specs.Groups.{IsListed, state_of}
 use Rattle.image_model.specs.Image.{Image, IsImage}
 use Rattle.image_model.specs.Owners.{Owner, Root, Below, Chained, is_dinode}
 use Rattle.image_model.specs.Rules.{Breaks, of_group, of_bitmap, of_owner, no_header, beyond_groups, bits_of, free_count, dinode_count, wrong_bits}
 use Rattle.path_walks.specs.Walks.{IsDirectoryAt, LeadsTo, at_root, by_name}
-use Rattle.file_calls.specs.Making as making
 use Rattle.path_walks.specs.Walks as path
-use Rattle.file_calls.specs.Removing as removing
 use Rattle.file_calls.specs.Removing.{Goes}
-use Rattle.file_calls.specs.Writing as writing
-use Rattle.damage_laws.specs.Telling.{IsAstray, IsReadFrom, HasRootInside, HasWholeGroups, HasAstray, IsTold, itself, astray, IsToldOf, IsToldOn, its_own, on_path, by_root, WritesTell, WritesTellExactly, RemovalsTell, RemovalsTellExactly, MakingsTell, MakingsTellExactly, CallsTell, CallsTellExactly}
-use Rattle.damage_laws.proofs.Claimed.{chain_claims, shown, root_claimed, directory_or, inode_or, is_directory, led_there, outside, astray_at, further}
+use Rattle.damage_laws.specs.Telling.{IsAstray, IsReadFrom, HasRootInside, HasWholeGroups, HasAstray, IsTold, itself, astray, IsToldOf, IsToldOn, its_own, on_path, by_root}
+use Rattle.damage_laws.proofs.Claimed.{chain_claims, has_group, root_claimed, directory_or, inode_or, is_directory, led_there, outside, astray_at, further}
 use Rattle.damage_laws.proofs.Owned.{dinode_state}
-use Rattle.damage_laws.proofs.Paths.{broken_directory_told, broken_inode, paths_tell, wrong_at}
+use Rattle.damage_laws.proofs.Paths.{broken_directory_told, wrong_at}
 
 -- ---- an inode in no group to which a path leads is the root
 
@@ -88,13 +82,13 @@ module _ (v : Seen) (im : Image) (read : IsReadFrom v im) where
     | inl has ↦ inl (beyond_groups from b (Below a from led.0 led.1 led.2) (below has.1.by a has.0 from led.0 led.1 led.2 b has.1.claimed has.1.dinode led.3) (outside v im read is_image b out))
   ]
 
-  broken_group : (g : Rindex) → image.HasGroup im g → (rule b : ℕ) → group.IsBroken im.at (group_of_entry g) rule b → Breaks im rule b
-  broken_group g has rule b (group.no_header zero low lacks) =
+  broken_group : (g : Rindex) → IsListed read.list g → (rule b : ℕ) → group.IsBroken im.at (group_of_entry g) rule b → Breaks im rule b
+  broken_group g there rule b (group.no_header zero low lacks) =
       let first : g.address ≡ g.address + 0 = omega arith in
-      subst (Breaks im 1) first (no_header g.address 2 200 (of_group g has) (λ header. lacks (subst (λ c. HasHeader 2 200 (im.at c)) first header)))
-  broken_group g has rule b (group.no_header (suc k) low lacks) = no_header (g.address + suc k) 3 300 (of_bitmap g (suc k) has (omega arith) low) lacks
-  broken_group g has rule b (group.wrong_free other) = free_count g has other
-  broken_group g has rule b (group.wrong_dinodes other) = dinode_count g has other
+      subst (Breaks im 1) first (no_header g.address 2 200 (of_group g (has_group v im read g there) (read.sound.fit g there)) (λ header. lacks (subst (λ c. HasHeader 2 200 (im.at c)) first header)))
+  broken_group g there rule b (group.no_header (suc k) low lacks) = no_header (g.address + suc k) 3 300 (of_bitmap g (suc k) (has_group v im read g there) (read.sound.fit g there) (omega arith) low) lacks
+  broken_group g there rule b (group.wrong_free other) = free_count g (has_group v im read g there) other
+  broken_group g there rule b (group.wrong_dinodes other) = dinode_count g (has_group v im read g there) other
 
   module _ (whole : HasWholeGroups v im) where
     pub group_shown : (g : Group) → HasGroup v g → group.IsShown v g im.at
@@ -117,7 +111,7 @@ module _ (v : Seen) (im : Image) (read : IsReadFrom v im) where
         let listed = (read.groups free.0).0 free.1 in
         let within : group.IsDataOf (group_of_entry listed.0) x = subst (λ k. group.IsDataOf k x) listed.2 free.2 in
         let bits : bits_of im listed.0 x ≡ 0 = subst (λ k. group.said im.at k x ≡ 0) listed.2 free.3 in
-        wrong_bits listed.0 x listed.1 (record { low = within.low; high = within.high }) (of_owner by o claimed (λ e. used (sym e ∙ bits)))
+        wrong_bits listed.0 x (has_group v im read listed.0 listed.1) (record { low = within.low; high = within.high }) (of_owner by o claimed (λ e. used (sym e ∙ bits)))
 
     dinode_used : (o : Owner) → is_dinode o ≡ true → state_of o ≡ 0 → ⊥
     dinode_used o is none = let three : state_of o ≡ 3 = dinode_state o is in absurd (omega (arith, three, none))

@@ -42,7 +42,7 @@ module _ (im : Image) (a : ℕ) (has : HasDirectory im a) (hashed : is_hashed_in
   record IsMarking (m : ℕ → Bool) : Type 0 where
     only : (x : ℕ) → m x ≡ true → HasLeaf im a x
     below : (x : ℕ) → m x ≡ true → x < im.count
-    heads : (i : ℕ) → i < table_count (every im a) → m (entry (every im a) i) ≡ true
+    heads : (i : ℕ) → i < table_count (every im a) → entry (every im a) i ≢ 0 → m (entry (every im a) i) ≡ true
 
   -- on all leaves
   pub record AreMarked (m : ℕ → Bool) : Type 0 where
@@ -57,7 +57,7 @@ module _ (im : Image) (a : ℕ) (has : HasDirectory im a) (hashed : is_hashed_in
   out by x hash place claimed beyond = record { directory = has; hashed = hashed; block = x; owner = Chained a hash place; claimed = claimed; within = refl; beyond = beyond }
 
   closed : (m : ℕ → Bool) → IsMarking m → ((x : ℕ) → m x ≡ true → next x ≢ 0 → m (next x) ≡ true) → (by x hash place : ℕ) → Claims im by x (Chained a hash place) → m x ≡ true
-  closed m is on _ _ _ _ (first_leaf by d o i claimed dinode plain low) = is.heads i low
+  closed m is on _ _ _ _ (first_leaf by d o i claimed dinode plain low some) = is.heads i low some
   closed m is on _ _ _ _ (next_leaf by x d hash place claimed more) = on x (closed m is on by x hash place claimed) more
 
   -- one more leaf is marked, or all are
@@ -85,7 +85,7 @@ module _ (im : Image) (a : ℕ) (has : HasDirectory im a) (hashed : is_hashed_in
             | inl low ↦ again (with_mark m (next x)) (record {
               only = λ y on. elim (mark_before m (next x) y on) [ inl e ↦ subst (HasLeaf im a) (sym e) (x, leaf.1, leaf.2 + 1, claimed) | inr old ↦ is.only y old ];
               below = λ y on. elim (mark_before m (next x) y on) [ inl e ↦ subst (λ z. z < im.count) (sym e) low | inr old ↦ is.below y old ];
-              heads = λ i small. mark_stays m (next x) (entry (every im a) i) (is.heads i small);
+              heads = λ i small some. mark_stays m (next x) (entry (every im a) i) (is.heads i small some);
             }) (bare_fewer m (next x) im.count low bare_next)
           ]
 
@@ -116,28 +116,51 @@ module _ (im : Image) (a : ℕ) (has : HasDirectory im a) (hashed : is_hashed_in
     ]
   ]
 
-  first_claims : (i : ℕ) → i < table_count (every im a) → Claims im (entry_block (every im a) i) (entry (every im a) i) (Chained a (first_hash (every im a) i) 0)
-  first_claims i low = first_leaf has.inode.1.by a has.inode.0 i has.inode.1.claimed has.inode.1.dinode hashed low
+  first_claims : (i : ℕ) → i < table_count (every im a) → entry (every im a) i ≢ 0 → Claims im (entry_block (every im a) i) (entry (every im a) i) (Chained a (first_hash (every im a) i) 0)
+  first_claims i low some = first_leaf has.inode.1.by a has.inode.0 i has.inode.1.claimed has.inode.1.dinode hashed low some
+
+  -- a pointer leads beyond the device
+  abbrev is_beyond : ℕ → Bool
+  is_beyond x = if x == 0 then false else if nat_lt x im.count then false else true
+
+  beyond_is : (x : ℕ) → is_beyond x ≡ true → (x ≢ 0) × (im.count ≤ x)
+  beyond_is x e = elim (cases_eq x 0) [
+    | inl zero ↦ absurd (true≢false (sym e ∙ cond-true (x == 0) false _ (eq-eqb x 0 zero)))
+    | inr some ↦ elim (cases_lt x im.count) [
+      | inl low ↦ absurd (true≢false (sym e ∙ cond-false (x == 0) false _ (ne_eqb x 0 some) ∙ cond-true (nat_lt x im.count) false true (lt-ltb x im.count low)))
+      | inr beyond ↦ (some, beyond)
+    ]
+  ]
+
+  not_beyond : (x : ℕ) → is_beyond x ≡ false → x ≢ 0 → x < im.count
+  not_beyond x e some = elim (cases_lt x im.count) [
+    | inl low ↦ low
+    | inr beyond ↦ absurd (true≢false (sym (cond-false (x == 0) false _ (ne_eqb x 0 some) ∙ cond-false (nat_lt x im.count) false true (le-ltb x im.count beyond)) ∙ e))
+  ]
+
+  -- the first leaves of chains
+  abbrev is_first : ℕ → Bool
+  is_first x = if x == 0 then false else is_head x (table_count (every im a))
+
+  first_is : (x : ℕ) → is_first x ≡ true → (x ≢ 0) × ((i : ℕ) × (i < table_count (every im a)) × (x ≡ entry (every im a) i))
+  first_is x e = elim (cases_eq x 0) [
+    | inl zero ↦ absurd (true≢false (sym e ∙ cond-true (x == 0) false _ (eq-eqb x 0 zero)))
+    | inr some ↦ (some, head_of x (table_count (every im a)) (sym (cond-false (x == 0) false _ (ne_eqb x 0 some)) ∙ e))
+  ]
 
   -- there is a list of all leaves
   pub marked_or : Found
-  marked_or = elim (seek (λ i. if nat_lt (entry (every im a) i) im.count then false else true) (table_count (every im a))) [
-    | inl found ↦ elim (cases_lt (entry (every im a) found.0) im.count) [
-      | inl low ↦ absurd (true≢false (sym found.2 ∙ cond-true (nat_lt (entry (every im a) found.0) im.count) false true (lt-ltb (entry (every im a) found.0) im.count low)))
-      | inr beyond ↦ inr (entry_block (every im a) found.0, out (entry_block (every im a) found.0) (entry (every im a) found.0) (first_hash (every im a) found.0) 0 (first_claims found.0 found.1) beyond)
-    ]
-    | inr none ↦ grow (bare (λ x. is_head x (table_count (every im a))) im.count) (λ x. is_head x (table_count (every im a))) (record {
-      only = λ x on. let f = head_of x (table_count (every im a)) on in subst (HasLeaf im a) (sym f.2) (entry_block (every im a) f.0, first_hash (every im a) f.0, 0, first_claims f.0 f.1);
-      below = λ x on. let f = head_of x (table_count (every im a)) on in subst (λ z. z < im.count) (sym f.2) (inside f.0 (none f.0 f.1));
-      heads = λ i low. is_head_of (entry (every im a) i) (table_count (every im a)) i low refl;
+  marked_or = elim (seek (λ i. is_beyond (entry (every im a) i)) (table_count (every im a))) [
+    | inl found ↦
+        let b = beyond_is (entry (every im a) found.0) found.2 in
+        inr (entry_block (every im a) found.0, out (entry_block (every im a) found.0) (entry (every im a) found.0) (first_hash (every im a) found.0) 0 (first_claims found.0 found.1 b.0) b.1)
+    | inr none ↦ grow (bare is_first im.count) is_first (record {
+      only = λ x on. let f = first_is x on in
+          subst (HasLeaf im a) (sym f.1.2) (entry_block (every im a) f.1.0, first_hash (every im a) f.1.0, 0, first_claims f.1.0 f.1.1 (λ e. f.0 (f.1.2 ∙ e)));
+      below = λ x on. let f = first_is x on in subst (λ z. z < im.count) (sym f.1.2) (not_beyond (entry (every im a) f.1.0) (none f.1.0 f.1.1) (λ e. f.0 (f.1.2 ∙ e)));
+      heads = λ i low some. cond-false (entry (every im a) i == 0) false _ (ne_eqb (entry (every im a) i) 0 some) ∙ is_head_of (entry (every im a) i) (table_count (every im a)) i low refl;
     }) (omega arith)
   ]
-    where
-      inside : (i : ℕ) → (if nat_lt (entry (every im a) i) im.count then false else true) ≡ false → entry (every im a) i < im.count
-      inside i none = elim (cases_lt (entry (every im a) i) im.count) [
-        | inl low ↦ low
-        | inr beyond ↦ absurd (true≢false (sym (cond-false (nat_lt (entry (every im a) i) im.count) false true (le-ltb (entry (every im a) i) im.count beyond)) ∙ none))
-      ]
 
 -- ---- the list of what is marked, and its records
 

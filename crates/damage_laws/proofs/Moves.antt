@@ -1,8 +1,7 @@
 -- Damage that a call meets which moves a name: on either of its paths, at their ends, and as the move is looked at and carried out.
 use Rattle.std.proofs.Common.{◌≡◌, ◌≢◌, ℕ, ◌==◌, ◌⊎◌, inl, inr, Bool, List, [], ◌∷◌, ◌++◌, Option, None, true, false, refl, sym, ap, ◌∙◌, subst, arith}
 use Rattle.std.proofs.lemmas.Bool.{eq-eqb}
-use Rattle.std.specs.Prelude.{◌&&◌, not, Contains}
-use Rattle.call_locks.specs.declared.want.Want.{Want}
+use Rattle.std.specs.Prelude.{not, Contains}
 use Rattle.call_locks.specs.Wants.{at_old_name}
 use Rattle.call_locks.specs.WantLaws.{path_of}
 use Rattle.directories.proofs.Forms.{is_directory_here}
@@ -25,7 +24,7 @@ use Rattle.path_walks.specs.declared.walk.Place.{Place}
 use Rattle.file_calls.specs.Removing.{Goes}
 use Rattle.file_calls.specs.Removing as removing
 use Rattle.file_calls.specs.Moving as moving
-use Rattle.file_calls.specs.Moving.{IsMeant, IsToMove}
+use Rattle.file_calls.specs.Moving.{IsMeant}
 use Rattle.file_calls.specs.MoveCarrying as carrying
 use Rattle.file_calls.specs.MoveCarrying.{HasRoom, IsInTheWay}
 use Rattle.file_calls.specs.MoveChecks as checks
@@ -36,7 +35,7 @@ use Rattle.file_calls.specs.NameMoving as drafted
 use Rattle.file_calls.specs.NameMoving.{Move, freed_by, is_reparented, is_within, lost_there}
 use Rattle.file_calls.specs.NameWay.{IsOnWay}
 use Rattle.damage_laws.specs.Telling.{HasAstray, HasWholeGroups, IsReadFrom, IsTold, itself, astray, IsToldOf, on_path, of_move, MovesTell, MovesTellExactly}
-use Rattle.damage_laws.proofs.Claimed.{led_there, shown}
+use Rattle.damage_laws.proofs.Claimed.{shown}
 use Rattle.file_calls.proofs.MoveGoings.{after_none, some_lost}
 use Rattle.damage_laws.proofs.Inodes.{IsSaidToBeFree, free_below_told, free_on_way_told, free_told, group_shown, group_told, inode_told, inside_told, longer, name_told, root_told, some_told, stray_told, told_or}
 use Rattle.damage_laws.proofs.Owned.{from_parent, inode_shared_told, named_twice, shared_told, way_shared_told}

@@ -19,7 +19,7 @@ use Rattle.image_model.specs.Image.{Image}
 use Rattle.path_walks.specs.Walks.{IsDirectoryAt, IsHeldAt, IsNext, IsUnread, LeadsTo}
 use Rattle.resource_groups.specs.Freeing as freeing
 use Rattle.file_calls.specs.Moving as moving
-use Rattle.file_calls.specs.Moving.{IsMeant, IsToMove}
+use Rattle.file_calls.specs.Moving.{IsMeant}
 use Rattle.file_calls.specs.MoveCarrying as carrying
 use Rattle.file_calls.specs.MoveChecks as checks
 use Rattle.file_calls.specs.MoveEnds as ends

@@ -10,12 +10,11 @@ use Rattle.call_locks.specs.declared.want.Want.{Want}
 use Rattle.call_locks.specs.Wants.{wanted}
 use Rattle.call_locks.specs.WantLaws.{path_of}
 use Rattle.dinode_tree.specs.Below.{AnyIndex}
-use Rattle.dinode_tree.specs.Reading.{IsInRange, IsNeeded, IsOnWay, the_dinode, led_to}
+use Rattle.dinode_tree.specs.Reading.{IsNeeded, IsOnWay, the_dinode, led_to}
 use Rattle.dinode_tree.specs.Shown.{IsShown}
 use Rattle.dinode_tree.specs.Walking.{missing_dinode}
 use Rattle.directories.specs.Shown as dirs
 use Rattle.file_tree.specs.declared.call.Call.{Call}
-use Rattle.file_tree.specs.declared.call.Call.TheVariants as calls
 use Rattle.gfs2_layout.specs.Bytes.{number_at, u32_at, u64_at}
 use Rattle.gfs2_layout.specs.Device.{superblock_place}
 use Rattle.gfs2_layout.specs.Holding.{Holding}
@@ -35,12 +34,11 @@ use Rattle.image_model.specs.Rules.{Breaks, beyond_device}
 use Rattle.image_model.proofs.Held.{none_some}
 use Rattle.file_calls.specs.Making as making
 use Rattle.path_walks.specs.Walks.{IsDirectoryAt, LeadsTo, IsNext, the_root, the_child, IsUnread, a_dinode, in_directory}
-use Rattle.file_calls.specs.Reading as reading
 use Rattle.file_calls.specs.Removing as removing
 use Rattle.file_calls.specs.Writing as writing
 use Rattle.file_calls.specs.FileDrafting.{IsNeededAt, of_any, of_group, of_inode}
 use Rattle.growth_drafts.specs.Taken.{IsCutAt, IsLookedAt}
-use Rattle.damage_laws.specs.Telling.{IsReadFrom, HasWholeGroups, HasAstray, HasAstrayOn, IsAstray, IsBrokenSource, NeedsTell, its_own, source_of}
+use Rattle.damage_laws.specs.Telling.{IsReadFrom, HasWholeGroups, HasAstray, IsAstray, IsBrokenSource, source_of}
 use Rattle.damage_laws.proofs.Astray.{led_beyond, whole_or_out}
 use Rattle.damage_laws.proofs.Claimed.{shown, root_claimed, is_directory, directory_or, led_there, astray_at, further}
 use Rattle.damage_laws.proofs.Inodes.{led_inside}

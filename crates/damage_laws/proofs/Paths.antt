@@ -25,7 +25,7 @@ use Rattle.image_model.proofs.Held.{none_some}
 use Rattle.image_model.proofs.Members.{IsIn, is_in}
 use Rattle.image_reader.proofs.Directories.{leaf_is_hashed, not_both}
 use Rattle.path_walks.specs.Walks as path
-use Rattle.path_walks.specs.Walks.{IsDirectoryAt, IsHeldAt, IsLinearAt, IsNext, IsWrongAt, LeadsTo, in_inode, in_directory, too_few, on_path, leads_out}
+use Rattle.path_walks.specs.Walks.{IsLinearAt, IsWrongAt, in_inode, in_directory, too_few, on_path, leads_out}
 use Rattle.path_walks.proofs.Images.{none_named}
 use Rattle.damage_laws.specs.Telling.{InodesAreThere, PathsTell, HasAstray, IsAstray, IsReadFrom, IsTold, itself, astray}
 use Rattle.damage_laws.proofs.Claimed.{shown, is_directory, directory_or, astray_at, further, led_there, next_there, next_led, outside, chain_claims, leaf_claims, has_leaf, record_is, name_claims, IsNamedBy}
@@ -116,20 +116,20 @@ module _ (v : Seen) (im : Image) (read : IsReadFrom v im) (is_image : IsImage im
 
     broken_hashed : (rule b : ℕ) → leaves.IsBroken (every im a) rule b → Breaks im rule b
     broken_hashed _ _ (leaves.of_inode rule b broken) = broken_inode im a has.inode rule b broken
-    broken_hashed _ _ (leaves.no_header i from x leads some lacks) = rules.no_header x 6 600 (rules.of_leaf a x (has_leaf im a has.inode hashed i from x leads)) lacks
-    broken_hashed _ _ (leaves.unfilled i from x leads some bad) = rules.unfilled a x (leaf_area (every im a) x) (of_leaf x (has_leaf im a has.inode hashed i from x leads)) bad
+    broken_hashed _ _ (leaves.no_header i from x leads some lacks) = rules.no_header x 6 600 (rules.of_leaf a x (has_leaf im a has.inode hashed i from x leads some)) lacks
+    broken_hashed _ _ (leaves.unfilled i from x leads some bad) = rules.unfilled a x (leaf_area (every im a) x) (of_leaf x (has_leaf im a has.inode hashed i from x leads some)) bad
     broken_hashed _ _ (leaves.no_name i from x r leads some there plain bad) =
-        rules.no_name a x r (leaf_area (every im a) x, of_leaf x (has_leaf im a has.inode hashed i from x leads), there) plain bad
-    broken_hashed _ _ (leaves.no_entries i from x r leads some there none) = counts_none x r (has_leaf im a has.inode hashed i from x leads) there none
+        rules.no_name a x r (leaf_area (every im a) x, of_leaf x (has_leaf im a has.inode hashed i from x leads some), there) plain bad
+    broken_hashed _ _ (leaves.no_entries i from x r leads some there none) = counts_none x r (has_leaf im a has.inode hashed i from x leads some) there none
     broken_hashed _ _ (leaves.wrong_entries list found other) = rules.entry_count a (all_records im a m) listed (λ e. other (e ∙ as_many im a has hashed list found m are))
     broken_hashed _ _ (leaves.no_links none) = links_none none
     broken_hashed _ _ (leaves.table_too_small small) = rules.table_too_small a (has.inode, hashed) small
     broken_hashed _ _ (leaves.table_too_large large) = rules.table_too_large a (has.inode, hashed) large
     broken_hashed _ _ (leaves.table_size other) = rules.table_size a (has.inode, hashed) other
     broken_hashed _ _ (leaves.no_leaf i low none) = rules.no_leaf a i (has.inode, hashed) low none
-    broken_hashed _ _ (leaves.records_format i from x leads some other) = rules.records_format a x (has_leaf im a has.inode hashed i from x leads) other
-    broken_hashed _ _ (leaves.too_deep i from x leads some deep) = rules.leaf_too_deep a x (has_leaf im a has.inode hashed i from x leads) deep
-    broken_hashed _ _ (leaves.leaf_entries i from x leads some other) = rules.leaf_entries a x (has_leaf im a has.inode hashed i from x leads) other
+    broken_hashed _ _ (leaves.records_format i from x leads some other) = rules.records_format a x (has_leaf im a has.inode hashed i from x leads some) other
+    broken_hashed _ _ (leaves.too_deep i from x leads some deep) = rules.leaf_too_deep a x (has_leaf im a has.inode hashed i from x leads some) deep
+    broken_hashed _ _ (leaves.leaf_entries i from x leads some other) = rules.leaf_entries a x (has_leaf im a has.inode hashed i from x leads some) other
     broken_hashed _ _ (leaves.comes_again i place later x first second before) =
         let one = chain_claims im a has.inode hashed i place x first in
         let other = chain_claims im a has.inode hashed i later x second in
@@ -137,11 +137,11 @@ module _ (v : Seen) (im : Image) (read : IsReadFrom v im) (is_image : IsImage im
 
     wrong_hashed : (rule b : ℕ) → leaves.IsWrongIn v (every im a) rule b → Breaks im rule b
     wrong_hashed _ _ (leaves.breaks rule b broken) = broken_hashed rule b broken
-    wrong_hashed _ _ (leaves.outside i from x leads out) =
-        let c = leaf_claims im a has.inode hashed i from x leads in
+    wrong_hashed _ _ (leaves.outside i from x leads some out) =
+        let c = leaf_claims im a has.inode hashed i from x leads some in
         rules.beyond_groups from x (Chained a c.0 c.1) c.2 (outside v im read is_image x out)
     wrong_hashed _ _ (leaves.stray i from x r leads some there plain out) =
-        let c = leaf_claims im a has.inode hashed i from x leads in
+        let c = leaf_claims im a has.inode hashed i from x leads some in
         rules.beyond_groups x r.address (Named a r.name) (image.in_leaf from x a c.0 c.1 r c.2 there plain) (outside v im read is_image r.address out)
 
     wrong_every : (rule b : ℕ) → dirs.IsBroken v (every im a) rule b → Breaks im rule b

@@ -11,7 +11,11 @@ use Rattle.image_model.specs.Groups.{IsListed, GroupFits}
 use Rattle.image_model.specs.Image.{Image}
 use Rattle.image_model.specs.Owners.{Owners, IsUsed}
 use Rattle.image_model.specs.Stands.{Layout, IsLaid}
-use Rattle.image_model.proofs.Facts.{group_listed, listed_group}
+use Rattle.image_model.proofs.Held.{own_block}
+use Rattle.image_model.proofs.Rows.{sound}
+use Rattle.image_model.proofs.UnbrokenSystem.{list_whole}
+use Rattle.gfs2_layout.specs.Headers.{HasHeader}
+use Rattle.image_model.proofs.Facts.{has_rindex, list_is, rindex_dinode}
 use Rattle.damage_laws.specs.Telling.{IsReadFrom, HasRootInside, HasWholeGroups, StandingAreRead}
 
 module _ (v : Seen) (im : Image) (o : Owners) (l : Layout) (t : Tree) (is : IsOf v im o l t) where
@@ -24,15 +28,17 @@ module _ (v : Seen) (im : Image) (o : Owners) (l : Layout) (t : Tree) (is : IsOf
   has_listed : (g : Rindex) → IsListed l.groups g → HasGroup v (group_of_entry g)
   has_listed g there = (groups_are_listed v im o l t (group_of_entry g) is).1 (g, there, refl)
 
+  header : HasHeader 4 400 (im.at l.rindex)
+  header = let dinode = rindex_dinode im o l laid in subst (HasHeader 4 400) (own_block im o l.rindex dinode) (sound im o l laid l.rindex dinode).header
+
   read : IsReadFrom v im
   read = record {
     size = is.size;
     root = laid.super.root ∙ is.root;
     agrees = is.agrees;
-    groups = λ k. (
-      (λ has. let f = listed k has in (f.0, listed_group im o l laid f.0 f.1, f.2)),
-      (λ f. subst (HasGroup v) (sym f.2) (has_listed f.0 (group_listed im o l laid f.0 f.1))),
-    );
+    list = l.groups;
+    sound = record { inode = l.rindex; rindex = has_rindex im o l laid; header = header; whole = list_whole im o l laid l.rindex (has_rindex im o l laid); listed = list_is im o l laid; fit = laid.fit.each; rise = laid.fit.rise };
+    groups = λ k. (listed k, λ f. subst (HasGroup v) (sym f.2) (has_listed f.0 f.1));
   }
 
   whole : HasWholeGroups v im

@@ -15,12 +15,12 @@ use Rattle.glock_names.specs.Views.{Seen, HasBlock, HasGroup, group_of_entry}
 use Rattle.glock_names.specs.declared.steps.Missing.{Missing}
 use Rattle.glock_names.specs.declared.views.Group.{Group}
 use Rattle.image_changes.specs.Does.{IsOf}
-use Rattle.image_model.specs.Claims as image
 use Rattle.image_model.specs.Claims.{Claims, every, HasInode, HasDirectory}
 use Rattle.image_model.specs.Flat.{Path}
 use Rattle.image_model.specs.Image.{Image, IsImage, superblock_in}
 use Rattle.image_model.specs.Owners.{Owner, Owners, IsWithin}
-use Rattle.image_model.specs.Rules.{Breaks}
+use Rattle.image_model.specs.Groups.{IsListed}
+use Rattle.image_model.specs.Rules.{Breaks, IsSoundList}
 use Rattle.image_model.specs.Stands.{Layout}
 use Rattle.image_mount.specs.Mounted.{IsMounted, MountedValue}
 use Rattle.file_calls.specs.Making as making
@@ -33,12 +33,14 @@ use Rattle.resource_groups.specs.Shown.{IsHeaderOf}
 use Rattle.file_calls.specs.Writing as writing
 
 -- The view may have been read from the image, be this right or wrong: they agree in the size of a block, in the root, in each block that
--- the view has, and in the groups, which are those of the image's list.
+-- the view has, and in the groups, which are those of the image's list; these fit, and rise.
 pub record IsReadFrom (v : Seen) (im : Image) : Type 0 where
   pub size : im.size ≡ v.size
   pub root : (superblock_in im).root.address ≡ v.root
   pub agrees : AgreesWith v im
-  pub groups : (k : Group) → HasGroup v k ↔ ((g : Rindex) × image.HasGroup im g × (k ≡ group_of_entry g))
+  pub list : List Rindex
+  pub sound : IsSoundList im list
+  pub groups : (k : Group) → HasGroup v k ↔ ((g : Rindex) × IsListed list g × (k ≡ group_of_entry g))
 
 -- the image's blocks are whole, and it has each block of the view's groups
 pub record HasWholeGroups (v : Seen) (im : Image) : Type 0 where

@@ -22,7 +22,7 @@ use Rattle.tree_tables.specs.Leaves.{records_among}
 use Rattle.tree_tables.proofs.Along.{chain_one}
 use Rattle.glock_names.specs.Views.{Seen}
 use Rattle.resource_groups.specs.Putting.{HasDataBlock}
-use Rattle.tree_tables.proofs.Chained.{cell_some, in_chain, in_leaves, rules, same_hash}
+use Rattle.tree_tables.proofs.Chained.{cell_some, head_some, in_chain, in_leaves, rules, same_hash}
 use Rattle.tree_tables.proofs.InAll.{all_records}
 use Rattle.tree_tables.proofs.Named.{records_are, tells}
 use Rattle.directories.specs.Shown.{HasName, IsBroken, Says}
@@ -39,7 +39,7 @@ says_sound h name _ sound (directory.Says.in_hashed found hashed small by) = by.
 module _ (h : Holding) (sound : IsSound h) (hashed : is_hashed_in h ≡ true) where
   -- what leads to a leaf leads along a chain
   led_chain : (i from x : ℕ) → LeadsToLeaf h i from x → (place : ℕ) × IsInChain h i place x
-  led_chain i _ _ (by_pointer low) = (0, chain_head low)
+  led_chain i _ _ (by_pointer low) = (0, chain_head low (head_some h sound hashed i low))
   led_chain i _ _ (by_leaf place x chain more) = (place + 1, chain_next place x chain more)
 
   pub leaf_part : (i from x : ℕ) → LeadsToLeaf h i from x → (place : ℕ) × (part_at h x ≡ Some (InChain (first_hash h i) place))
@@ -96,7 +96,7 @@ module _ (v : Seen) (h : Holding) (sound : IsSound h) (is : is_directory_in h �
   unbroken rule b (directory.IsBroken.of_inode broken) = sound_breaks_nothing h rule b sound.inode broken
   unbroken rule b (directory.IsBroken.in_linear dir plain broken) = linear_unbroken plain rule b broken
   unbroken rule b (directory.IsBroken.in_hashed hashed (leaves.IsWrongIn.breaks r c broken)) = hashed_unbroken h sound hashed down entries links r c broken
-  unbroken rule b (directory.IsBroken.in_hashed hashed (leaves.IsWrongIn.outside i from x leads away)) =
+  unbroken rule b (directory.IsBroken.in_hashed hashed (leaves.IsWrongIn.outside i from x leads some away)) =
       let p = leaf_part h sound hashed i from x leads in
       away (inside x (cell_some (h.cell x) _ p.1))
   unbroken rule b (directory.IsBroken.in_hashed hashed (leaves.IsWrongIn.stray i from x r leads some there low away)) =
@@ -117,9 +117,9 @@ module _ (h : Holding) (i : ℕ) (name : List ℕ) where
     where
       which : (a b : ℕ) → (a < b) ⊎ ((a ≡ b) ⊎ (b < a))
       which a b = grind arith
-  first_once _ _ (in_leaf place x r chain is later) (nowhere none) = absurd (none_some (sym (none (place + 1) place x (omega arith) chain) ∙ is))
-  first_once _ _ (nowhere none) (in_leaf place x r chain is later) = absurd (none_some (sym (none (place + 1) place x (omega arith) chain) ∙ is))
-  first_once _ _ (nowhere none) (nowhere none') = refl
+  first_once _ _ (in_leaf place x r chain is later) (nowhere some none) = absurd (none_some (sym (none (place + 1) place x (omega arith) chain) ∙ is))
+  first_once _ _ (nowhere some none) (in_leaf place x r chain is later) = absurd (none_some (sym (none (place + 1) place x (omega arith) chain) ∙ is))
+  first_once _ _ (nowhere some none) (nowhere some' none') = refl
 
 pub says_once : (h : Holding) (name : List ℕ) (a b : Option Entry) → Says h name a → Says h name b → a ≡ b
 says_once h name _ _ (directory.Says.in_linear plain) (directory.Says.in_linear plain') = refl

@@ -3,7 +3,7 @@ use Rattle.std.proofs.Common.{◌≡◌, ◌≢◌, ℕ, zero, suc, ◌+◌, ◌
 use Rattle.std.specs.Option.{option_map}
 use Rattle.profile_limits.specs.Limits.{most_blocks}
 use Rattle.gfs2_layout.specs.Holding.{Holding}
-use Rattle.gfs2_layout.specs.Inode.{leaf_in}
+use Rattle.gfs2_layout.specs.Inode.{entry, leaf_in}
 use Rattle.gfs2_layout.specs.Records.{Record}
 use Rattle.image_model.proofs.Held.{none_some}
 use Rattle.glock_names.specs.Views.{Seen, HasBlock}
@@ -23,16 +23,25 @@ use Rattle.hash_dirs.proofs.Returning.{repeats}
 module _ (h : Holding) (i : ℕ) where
   pub chain_is : (place x : ℕ) → IsInChain h i place x → x ≡ leaf_on h i place
   unfolding leaf_on
-  chain_is _ _ (chain_head low) = refl
+  chain_is _ _ (chain_head low some) = refl
   chain_is _ _ (chain_next place x chain more) = ap (λ y. (leaf_in h y).next) (chain_is place x chain) ∙ ap (leaf_on h i) (sym (add-one place))
 
   pub chain_one : (place x y : ℕ) → IsInChain h i place x → IsInChain h i place y → x ≡ y
   chain_one place x y a b = chain_is place x a ∙ sym (chain_is place y b)
 
+  -- its pointer leads somewhere, and what it comes to is a block
+  pub head_there : (place x : ℕ) → IsInChain h i place x → entry h i ≢ 0
+  head_there _ _ (chain_head low some) = some
+  head_there _ _ (chain_next place x chain more) = head_there place x chain
+
+  pub leaf_there : (place x : ℕ) → IsInChain h i place x → x ≢ 0
+  leaf_there _ _ (chain_head low some) = some
+  leaf_there _ _ (chain_next place x chain more) = more
+
   -- all places before one are there
   pub there_before : (place x : ℕ) → IsInChain h i place x → (k : ℕ) → k ≤ place → IsInChain h i k (leaf_on h i k)
   unfolding leaf_on
-  there_before _ _ (chain_head low) k le = subst (λ n. IsInChain h i n (leaf_on h i n)) (let z : 0 ≡ k = omega arith in z) (chain_head low)
+  there_before _ _ (chain_head low some) k le = subst (λ n. IsInChain h i n (leaf_on h i n)) (let z : 0 ≡ k = omega arith in z) (chain_head low some)
   there_before _ _ (chain_next place x chain more) k le = elim (last k place le) [
     | inl low ↦ there_before place x chain k low
     | inr top ↦ subst (λ n. IsInChain h i n (leaf_on h i n)) (sym top)
@@ -68,7 +77,7 @@ module _ (h : Holding) (i : ℕ) where
 
   -- behind a last leaf there is none
   pub ended : (place x earlier y : ℕ) → IsInChain h i place x → (leaf_in h x).next ≡ 0 → place < earlier → IsInChain h i earlier y → ⊥
-  ended place x _ _ chain last before (chain_head low) = let no : place < 0 = before in omega arith
+  ended place x _ _ chain last before (chain_head low some) = let no : place < 0 = before in omega arith
   ended place x _ _ chain last before (chain_next q y more_chain more) = elim (same_or place q before) [
     | inl same ↦ more (ap (λ z. (leaf_in h z).next) (chain_one q y x more_chain (subst (λ n. IsInChain h i n x) same chain)) ∙ last)
     | inr low ↦ ended place x q y chain last low more_chain
@@ -88,7 +97,7 @@ module _ (h : Holding) (i : ℕ) where
     pub found_nowhere : named_in h name x ≡ None → (leaf_in h x).next ≡ 0 → IsFoundAlong h i name None
     found_nowhere none last = record {
       named = None;
-      first = nowhere (λ some earlier y before there. elim (which earlier place) [
+      first = nowhere (head_there place x chain) (λ some earlier y before there. elim (which earlier place) [
         | inl low ↦ later earlier y low there
         | inr high ↦ elim high [
           | inl same ↦ ap (named_in h name) (chain_one place y x (subst (λ n. IsInChain h i n y) same there) chain) ∙ none
@@ -112,7 +121,7 @@ nowhere_named h name so = by so.named so.first (none_named so.named (sym so.lead
   where
     by : (o : Option Record) → IsFirstNamed h (index_for h name) name o → o ≡ None → IsLeafOfName h name None
     by _ (in_leaf place x r chain is later) e = absurd (none_some (sym e))
-    by _ (nowhere later) e = in_none later
+    by _ (nowhere some later) e = in_none some later
 
 -- ---- the link of a walk
 
@@ -125,7 +134,7 @@ module _ (v : Seen) (dir : ℕ) (head : Pointer) where
     from = from;
     at = λ h i shown is. record {
       leads = subst₂ (LeadsToLeaf h i) (sym is.from) (sym is.leaf) (by_pointer is.low);
-      chain = subst (IsInChain h i 0) (sym is.leaf) (chain_head is.low);
+      chain = λ some. subst (IsInChain h i 0) (sym is.leaf) (chain_head is.low (λ e. some (is.leaf ∙ e)));
       behind = λ none. absurd (none refl);
       low = λ earlier x before chain. absurd (let no : earlier < 0 = before in omega arith);
     };
@@ -138,17 +147,18 @@ module _ (v : Seen) (dir : ℕ) (head : Pointer) where
     from = subst (λ (p : Pointer). HasBlock v p.from) (sym next_is) there;
     at = λ h i shown is.
         let was = along.at h i shown is in
+        let here = was.chain small.0 in
         let lf = read h i shown is in
         let next_there : (leaf_in h link.leaf).next ≢ 0 = λ e. more (ap (λ l. l.next) lf.head ∙ e) in
         let leaf_is : (leaf_in h link.leaf).next ≡ next.leaf = sym (ap (λ (p : Pointer). p.leaf) next_is ∙ ap (λ l. l.next) lf.head) in
         let from_is : link.leaf ≡ next.from = sym (ap (λ (p : Pointer). p.from) next_is) in
         record {
-          leads = subst₂ (LeadsToLeaf h i) from_is leaf_is (by_leaf place link.leaf was.chain next_there);
-          chain = subst (IsInChain h i (place + 1)) leaf_is (chain_next place link.leaf was.chain next_there);
-          behind = λ some. (place, (refl, subst (IsInChain h i place) from_is was.chain));
+          leads = subst₂ (LeadsToLeaf h i) from_is leaf_is (by_leaf place link.leaf here next_there);
+          chain = λ some. subst (IsInChain h i (place + 1)) leaf_is (chain_next place link.leaf here next_there);
+          behind = λ some. (place, (refl, subst (IsInChain h i place) from_is here));
           low = λ earlier x before chain. elim (last_or earlier place before) [
             | inl low ↦ was.low earlier x low chain
-            | inr top ↦ subst IsSmall (chain_one h i place link.leaf x was.chain (subst (λ n. IsInChain h i n x) top chain)) small
+            | inr top ↦ subst IsSmall (chain_one h i place link.leaf x here (subst (λ n. IsInChain h i n x) top chain)) small
           ];
         };
   }
@@ -167,9 +177,9 @@ module _ (v : Seen) (dir : ℕ) (head : Pointer) where
   pub nameless : (name : List ℕ) → IsNameless v dir head name 0
   nameless name h i shown is earlier x before chain = absurd (let no : earlier < 0 = before in omega arith)
 
-  pub still_nameless : (name : List ℕ) (place : ℕ) (link : Pointer) → IsAlong v dir head place link → IsNameless v dir head name place → OfEach v dir head (λ h i. named_in h name link.leaf ≡ None)
+  pub still_nameless : (name : List ℕ) (place : ℕ) (link : Pointer) → IsAlong v dir head place link → link.leaf ≢ 0 → IsNameless v dir head name place → OfEach v dir head (λ h i. named_in h name link.leaf ≡ None)
       → IsNameless v dir head name (place + 1)
-  still_nameless name place link along none here h i shown is earlier x before chain = elim (last_or earlier place before) [
+  still_nameless name place link along some none here h i shown is earlier x before chain = elim (last_or earlier place before) [
     | inl low ↦ none h i shown is earlier x low chain
-    | inr top ↦ subst (λ y. named_in h name y ≡ None) (chain_one h i place link.leaf x (along.at h i shown is).chain (subst (λ n. IsInChain h i n x) top chain)) (here h i shown is)
+    | inr top ↦ subst (λ y. named_in h name y ≡ None) (chain_one h i place link.leaf x ((along.at h i shown is).chain some) (subst (λ n. IsInChain h i n x) top chain)) (here h i shown is)
   ]

@@ -53,8 +53,11 @@ module _ (h : Holding) (sound : IsSound h) (hashed : is_hashed_in h ≡ true) wh
 
   -- what a chain comes to is a leaf, at its place
   pub in_chain : (i place x : ℕ) → IsInChain h i place x → part_at h x ≡ Some (InChain (first_hash h i) place)
-  in_chain i _ _ (chain_head low) = rules.leads i low
+  in_chain i _ _ (chain_head low some) = rules.leads i low
   in_chain i _ _ (chain_next place x chain more) = (rules.next x (first_hash h i) place (in_chain i place x chain) more).part
+
+  pub head_some : (i : ℕ) → i < table_count h → entry h i ≢ 0
+  head_some i low = some_block (entry h i) (InChain (first_hash h i) 0) (rules.leads i low)
 
   pub inside : (x hash place : ℕ) → part_at h x ≡ Some (InChain hash place) → x < h.count
   inside x hash place part = sound.placed.inside x (cell_some (h.cell x) (InChain hash place) part)
@@ -77,7 +80,7 @@ module _ (h : Holding) (sound : IsSound h) (hashed : is_hashed_in h ≡ true) wh
     pub chain : (i : ℕ) → i < table_count h → entry h i ≡ first → IsInChain h i place x
 
   pub headed : (place x hash : ℕ) → part_at h x ≡ Some (InChain hash place) → Headed x place hash
-  headed zero x hash part = record { first = x; part = part; depth = refl; chain = λ i low leads. subst (IsInChain h i 0) leads (chain_head low) }
+  headed zero x hash part = record { first = x; part = part; depth = refl; chain = λ i low leads. subst (IsInChain h i 0) leads (chain_head low (λ e. some_block x (InChain hash 0) part (sym leads ∙ e))) }
   headed (suc place) x hash part =
       let before = rules.chained x hash place part in
       let up = headed place before.0 hash before.1 in

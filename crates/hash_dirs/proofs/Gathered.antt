@@ -20,7 +20,7 @@ use Rattle.hash_dirs.specs.Broken.{IsBroken, comes_again}
 use Rattle.hash_dirs.specs.Leaves.{AreLeaves, AreLeavesBefore, AreNew, AreNewIn, IsGathered, IsLeaf, IsRead}
 use Rattle.hash_dirs.specs.Walking.{IsAreaOfBlock, IsLeafIn, IsLeafOf, IsSmall, OfEach}
 use Rattle.hash_dirs.specs.declared.chains.LeafAt.{LeafAt}
-use Rattle.hash_dirs.proofs.Along.{begins, goes_on}
+use Rattle.hash_dirs.proofs.Along.{begins, goes_on, leaf_there}
 
 -- ---- lists of blocks
 
@@ -104,7 +104,7 @@ module _ (v : Seen) (dir : ℕ) (head : Pointer) (known : List ℕ) where
     pub round_again : Contains chain link.leaf → OfEach v dir head (λ h i. IsBroken h 15 link.leaf)
     round_again has h i shown is =
         let k = so.each h i shown is link.leaf has in
-        comes_again i k.0 place link.leaf k.2 (so.along.at h i shown is).chain k.1
+        comes_again i k.0 place link.leaf k.2 ((so.along.at h i shown is).chain (leaf_there h i k.0 link.leaf k.2)) k.1
 
     module _ (leaf : LeafAt) (other : Contains known link.leaf → ⊥) (fresh : Contains chain link.leaf → ⊥) (of : OfEach v dir head (λ h i. IsLeafOf h link.leaf leaf)) (read : IsRead v link.leaf) where
       abbrev more : List ℕ
@@ -113,7 +113,7 @@ module _ (v : Seen) (dir : ℕ) (head : Pointer) (known : List ℕ) where
       each_still : OfEach v dir head (λ h i. (x : ℕ) → Contains more x → (k : ℕ) × (k < place + 1) × IsInChain h i k x)
       each_still h i shown is x has = elim (in_one chain (link.leaf ∷ []) x has) [
         | inl at ↦ let k = so.each h i shown is x at in (k.0, (let low : k.0 < place = k.1 in omega (arith, low)), k.2)
-        | inr at ↦ (place, omega arith, subst (IsInChain h i place) (sym (the_one x link.leaf at)) (so.along.at h i shown is).chain)
+        | inr at ↦ (place, omega arith, subst (IsInChain h i place) (sym (the_one x link.leaf at)) ((so.along.at h i shown is).chain read.small.0))
       ]
 
       head_still : OfEach v dir head (λ h i. Contains more (entry h i))
@@ -182,5 +182,5 @@ pub all_leaves : (h : Holding) (n : ℕ) (leaves : List ℕ) → n ≡ table_cou
 all_leaves h n leaves end so once = record { each = λ x. (so.each x, λ leaf. there leaf.0 leaf.1 x leaf.2); once = once }
   where
     there : (i place x : ℕ) → IsInChain h i place x → Contains leaves x
-    there i _ _ (chain_head low) = elim (so.heads i) [ inl at ↦ at | inr high ↦ absurd (let l : i < table_count h = low in omega (arith, l, high, end)) ]
+    there i _ _ (chain_head low some) = elim (so.heads i) [ inl at ↦ at | inr high ↦ absurd (let l : i < table_count h = low in omega (arith, l, high, end)) ]
     there i _ _ (chain_next place x chain some) = so.next x (there i place x chain) some

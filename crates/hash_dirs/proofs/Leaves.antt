@@ -80,7 +80,7 @@ dinode_needed v h dir i wanted m own is missing absent = of_table i is (record {
 
 -- a leaf of a chain is led to
 pub led_to : (h : Holding) (i place x : ℕ) → IsInChain h i place x → (from : ℕ) × LeadsToLeaf h i from x
-led_to h i _ _ (chain_head low) = (entry_block h i, by_pointer low)
+led_to h i _ _ (chain_head low some) = (entry_block h i, by_pointer low)
 led_to h i _ _ (chain_next place x chain more) = (x, by_leaf place x chain more)
 
 -- what holds of what was found
@@ -90,7 +90,7 @@ found_at step o a P is some holds = subst (λ found. IfSome found P) some (answe
 -- ---- a leaf that is led to
 
 pub cell_there : (v : Seen) (dir : ℕ) (h : Holding) (i from x : ℕ) → IsShown v dir h → LeadsToLeaf h i from x → x ≢ 0 → IsSome (h.cell x)
-cell_there v dir h i _ _ shown (by_pointer low) some = shown.leaves i 0 _ (chain_head low) some
+cell_there v dir h i _ _ shown (by_pointer low) some = shown.leaves i 0 _ (chain_head low some) some
 cell_there v dir h i _ _ shown (by_leaf place x chain more) some = shown.leaves i (place + 1) _ (chain_next place x chain more) some
 
 pub bytes_there : (v : Seen) (dir : ℕ) (h : Holding) (i from x : ℕ) (bytes : List ℕ) → IsShown v dir h → LeadsToLeaf h i from x → x ≢ 0 → v.block_at x ≡ Some bytes → bytes_at h x ≡ bytes

@@ -182,11 +182,11 @@ module _ (h : Holding) (sound : IsSound h) (hashed : is_hashed_in h ≡ true) wh
 
   -- all leaves of a chain are as deep as its first
   pub chain_depth : (i place x : ℕ) → IsInChain h i place x → (leaf_in h x).depth ≡ (leaf_in h (entry h i)).depth
-  chain_depth i _ _ (chain_head low) = refl
+  chain_depth i _ _ (chain_head low some) = refl
   chain_depth i _ _ (chain_next place x chain more) = (own_rules.next x (first_hash h i) place (in_chain h sound hashed i place x chain) more).depth ∙ chain_depth i place x chain
 
   chain_low : (i place x : ℕ) → IsInChain h i place x → i < table_count h
-  chain_low i _ _ (chain_head low) = low
+  chain_low i _ _ (chain_head low some) = low
   chain_low i _ _ (chain_next place x chain more) = chain_low i place x chain
 
   module _ (names new : List (List ℕ)) (i depth : ℕ) (listed : IsListed h names i) (more : IsChainListed h i names new depth) where

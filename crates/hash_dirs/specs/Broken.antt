@@ -41,5 +41,5 @@ pub data IsBroken (h : Holding) : ℕ → ℕ → Type 0 where
 -- in which a name leads to a block that is none.
 pub data IsWrongIn (v : Seen) (h : Holding) : ℕ → ℕ → Type 0 where
   breaks : (rule b : ℕ) → IsBroken h rule b → IsWrongIn v h rule b
-  outside : (i from x : ℕ) → LeadsToLeaf h i from x → ¬ (HasDataBlock v x) → IsWrongIn v h 2 from
+  outside : (i from x : ℕ) → LeadsToLeaf h i from x → x ≢ 0 → ¬ (HasDataBlock v x) → IsWrongIn v h 2 from
   stray : (i from x : ℕ) (r : Record) → LeadsToLeaf h i from x → x ≢ 0 → Contains (records_in (leaf_area h x)) r → is_dots r.name ≡ false → ¬ (HasDataBlock v r.address) → IsWrongIn v h 2 x

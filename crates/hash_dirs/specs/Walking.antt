@@ -42,10 +42,10 @@ pub record IsAreaOfBlock (area : List ℕ) : Type 0 where
 abbrev pub IsSmall : ℕ → Type 0
 IsSmall x = (x ≢ 0) × (x < most_blocks)
 
--- the link leads on along a chain, to its leaf at this place
+-- the link leads on along a chain, and where it leads to a leaf, to that at this place
 pub record IsLinkAt (h : Holding) (i place : ℕ) (p : Pointer) : Type 0 where
   pub leads : LeadsToLeaf h i p.from p.leaf
-  pub chain : IsInChain h i place p.leaf
+  pub chain : p.leaf ≢ 0 → IsInChain h i place p.leaf
   pub behind : place ≢ 0 → (before : ℕ) × ((before + 1 ≡ place) × IsInChain h i before p.from)
   pub low : (earlier x : ℕ) → earlier < place → IsInChain h i earlier x → IsSmall x
 

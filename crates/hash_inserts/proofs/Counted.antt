@@ -11,7 +11,7 @@ use Rattle.resource_groups.specs.Putting.{HasDataBlock}
 use Rattle.pointer_tables.specs.Directories.{chain_head}
 use Rattle.table_changes.specs.Tables.{table_height}
 use Rattle.hash_dirs.specs.Shown.{IsInChain, index_for}
-use Rattle.hash_dirs.proofs.Along.{ended}
+use Rattle.hash_dirs.proofs.Along.{ended, head_there}
 use Rattle.hash_steps.specs.Leaves.{has_room_for, leaf_depth}
 use Rattle.hash_inserts.specs.Counting.{chain_with}
 use Rattle.hash_inserts.specs.Drafting.{SeesTree}
@@ -41,14 +41,14 @@ module _ (v : Seen) (h : Holding) (name : List ℕ) (w : Walked) (walked : IsWal
       record {
         chain = chain;
         is = is_chain;
-        needs = nothing chain (some_passes h i (has_room_for (length name)) 0 (entry h i) chain.leaves is_chain.leaves (chain_head low) first.at x first.chain (omega arith) first.room);
+        needs = nothing chain (some_passes h i (has_room_for (length name)) 0 (entry h i) chain.leaves is_chain.leaves (chain_head low (head_there h i first.at x first.chain)) first.at x first.chain (omega arith) first.room);
       }
 
   pub takes_one : w.with_room ≡ None → (leaf_in h (entry h (index_for h name))).next ≢ 0 → TakesBlocks h name 1
   takes_one none more = record {
     chain = chain;
     is = is_chain;
-    needs = a_leaf chain (none_passes h i (has_room_for (length name)) 0 (entry h i) chain.leaves is_chain.leaves (chain_head low) (none_walked v h i (length name) w walked none)) (inl (several_leaves h (entry h i) chain.leaves is_chain.leaves more));
+    needs = a_leaf chain (none_passes h i (has_room_for (length name)) 0 (entry h i) chain.leaves is_chain.leaves (chain_head low (head_there h i walked.at w.last walked.chain)) (none_walked v h i (length name) w walked none)) (inl (several_leaves h (entry h i) chain.leaves is_chain.leaves more));
   }
 
   which : (place : ℕ) → (place < walked.at + 1) ⊎ (walked.at < place)

@@ -22,14 +22,14 @@ use Rattle.growth_laws.specs.Need.{raised_to}
 use Rattle.pointer_tables.specs.Directories.{chain_head}
 use Rattle.table_changes.specs.Tables.{doubling_need, doubling_need_of, table_height}
 use Rattle.hash_dirs.specs.Shown.{IsInChain, IsShown, index_for}
-use Rattle.hash_dirs.proofs.Chained.{cell_some, deep, index_low, rules}
+use Rattle.hash_dirs.proofs.Chained.{cell_some, deep, head_some, index_low, rules}
 use Rattle.hash_dirs.proofs.Indexes.{bits_of_bits}
 use Rattle.hash_steps.specs.Laws.{Stays}
 use Rattle.hash_steps.specs.Leaves.{first_of, has_room_for, run_of}
 use Rattle.hash_inserts.specs.Advancing.{CanInsert, IsAtLeaf, IsFullLeaf, StepsOn, StepsTo}
 use Rattle.hash_inserts.specs.Drafting.{DoublesTable}
 use Rattle.hash_inserts.specs.Inserting as ins
-use Rattle.hash_inserts.specs.Inserting.{HasDoubled, HasNoRoom, HasOneLeafFor, IsInserted, IsInsertedAt, a_leaf_with_room, after_doubling, depth_for, one_taken, the_last_leaf}
+use Rattle.hash_inserts.specs.Inserting.{HasDoubled, HasNoRoom, HasOneLeafFor, IsInsertedAt, a_leaf_with_room, after_doubling, depth_for, one_taken, the_last_leaf}
 use Rattle.hash_inserts.specs.Needing.{AreLeavesFrom, Chain, Needs, TakesBlocks, a_doubling, a_leaf, a_split, doubled, nothing, one_more, the_last}
 use Rattle.hash_inserts.proofs.Pointing.{pointer_block, run_low}
 use Rattle.hash_inserts.proofs.Blockwise.{size_bounds}
@@ -112,7 +112,7 @@ module _ (v : Seen) (old new : FinMap nat_cmp Fate) (room left : List ℕ) (dir 
   -- ---- what it is to an insertion
 
   here : (x : ℕ) (g : Holding) (all : List ℕ) → x ≡ entry h i → IsInsertedAt h g name all x
-  here x g all is = subst (IsInsertedAt h g name all) (sym is) (the_last_leaf 0 no_room (chain_head low) at.one)
+  here x g all is = subst (IsInsertedAt h g name all) (sym is) (the_last_leaf 0 no_room (chain_head low (head_some h can.sound can.shown.hashed i low)) at.one)
 
   of_leaf : (place x : ℕ) (g : Holding) (all : List ℕ) → IsInChain m (index_for m name) place x → IsInsertedAt h g name all x
   of_leaf place x g all chain = here x g all (only_head m (index_for m name) one_after place x chain ∙ led)

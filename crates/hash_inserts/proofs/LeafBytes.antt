@@ -1,24 +1,19 @@
 -- A leaf's head that is written over old bytes, and records behind it.
-use Rattle.std.proofs.Common.{◌≡◌, ℕ, ◌+◌, ◌-◌, ◌≤◌, inl, inr, Bool, true, false, cond, List, [], ◌∷◌, ◌++◌, length, take, drop, Option, None, Some, Result, Ok, refl, sym, ap, ◌∙◌, subst, append_assoc, arith}
-use Rattle.std.proofs.lemmas.List.{drop-append-le, length-take-le, take-append-drop, take-append-le, take_at}
-use Rattle.std.specs.Int.{byte_len, to_be_bytes}
-use borrow.Rule.Slice.PartMut.{put_mid, take_put}
+use Rattle.std.proofs.Common.{◌≡◌, ℕ, ◌+◌, ◌-◌, ◌≤◌, inl, inr, Bool, true, false, cond, List, [], ◌∷◌, length, take, drop, Option, None, Some, Result, Ok, refl, sym, ap, ◌∙◌, subst, arith}
+use borrow.Rule.Slice.PartMut.{put_mid}
 use Rattle.gfs2_layout.specs.Area.{Slot, IsArea, name_of, slots_of}
-use Rattle.gfs2_layout.specs.Bytes.{u32_at, put_at, with_number}
-use Rattle.gfs2_layout.specs.Fields.{Field, end_of, value_of, width_of, with_field, with_fields}
+use Rattle.gfs2_layout.specs.Bytes.{u32_at}
 use Rattle.gfs2_layout.specs.Headers.{HasHeader}
 use Rattle.gfs2_layout.specs.Holding.{Holding, bytes_at}
 use Rattle.gfs2_layout.specs.Inode.{leaf_length}
 use Rattle.gfs2_layout.specs.Structures.{header_fault, is_in_use, leaf_of, leaf_read, or_else, records_fault}
-use Rattle.gfs2_layout.specs.Writing.{leaf_fields, leaf_put}
+use Rattle.gfs2_layout.specs.Writing.{leaf_put}
 use Rattle.gfs2_layout.specs.Putting.{put_slot}
 use Rattle.gfs2_layout.specs.declared.dirent.Dirent.{Dirent}
 use Rattle.gfs2_layout.specs.declared.fault.LayoutFault.{LayoutFault}
 use Rattle.gfs2_layout.specs.declared.fault.LayoutFault.TheVariants.{Value}
 use Rattle.gfs2_layout.specs.declared.leaf.Leaf.{Leaf}
-use Rattle.gfs2_layout.proofs.FieldsInPlace.{field_end, is_width, length-fields}
 use Rattle.gfs2_layout.proofs.HeaderLaws.{answer_ok, header_from}
-use Rattle.gfs2_layout.proofs.InPlace.{length-with}
 use Rattle.image_model.proofs.Held.{none_some}
 use Rattle.std.proofs.lemmas.Bool.{cases_Bool, cond-false, eqb-true}
 use Rattle.std.specs.Prelude.{◌==◌, ◌&&◌, not, filter, count_by}

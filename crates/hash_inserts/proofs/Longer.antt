@@ -39,7 +39,7 @@ module _ (h g : Holding) (i b : ℕ) (sound : IsSound h) (hashed : is_hashed_in 
   ]
 
   pub chain_still : (place x : ℕ) → IsInChain h i place x → IsInChain g i place x
-  chain_still _ _ (chain_head low) = subst (IsInChain g i 0) (entries i) (chain_head (subst (λ n. i < n) (sym tables_same) low))
+  chain_still _ _ (chain_head low some_head) = subst (IsInChain g i 0) (entries i) (chain_head (subst (λ n. i < n) (sym tables_same) low) (λ none. some_head (sym (entries i) ∙ none)))
   chain_still _ _ (chain_next place x chain more) =
       let other : x ≢ is.last = λ last. more (ap (λ y. (leaf_in h y).next) last ∙ is.ends) in
       let next : (leaf_in g x).next ≡ (leaf_in h x).next = ap (λ bytes. (leaf_of bytes).next) (is.others x (not_own place x chain) (not_new place x chain) other) in

@@ -10,7 +10,7 @@ use Rattle.gfs2_layout.specs.Inode.{depth_in, entry, leaf_area, leaf_in, table_c
 use Rattle.hash_dirs.specs.Shown.{IsInChain, index_for}
 use Rattle.hash_dirs.specs.Walking.{leaf_on}
 use Rattle.pointer_tables.specs.Directories.{chain_head, chain_next}
-use Rattle.hash_dirs.proofs.Along.{chain_is, chain_one, ended, there_before}
+use Rattle.hash_dirs.proofs.Along.{chain_is, chain_one, ended, head_there, there_before}
 use Rattle.hash_steps.specs.Leaves.{has_room_for, leaf_depth}
 use Rattle.hash_inserts.specs.Inserting.{HasNoRoom, HasOneLeafFor, IsDeepest}
 use Rattle.hash_inserts.specs.Needing.{AreLeavesFrom, Chain, Needs, TakesBlocks, a_doubling, a_leaf, a_split, has_room_in, is_full, nothing, one_more, the_last}
@@ -72,7 +72,7 @@ no_need len hash _ _ (a_leaf c full other) has = absurd (true≢false (sym has �
 pub needs_none : (h : Holding) (name : List ℕ) (need place x : ℕ) → TakesBlocks h name need → IsInChain h (index_for h name) place x → has_room_for (length name) (slots_of (leaf_area h x)) ≡ true → index_for h name < table_count h → need ≡ 0
 needs_none h name need place x takes chain room low =
     no_need (length name) (crc32_of name) takes.chain need takes.needs
-    (some_passes h (index_for h name) (has_room_for (length name)) 0 (entry h (index_for h name)) takes.chain.leaves takes.is.leaves (chain_head low) place x chain (omega arith) room)
+    (some_passes h (index_for h name) (has_room_for (length name)) 0 (entry h (index_for h name)) takes.chain.leaves takes.is.leaves (chain_head low (head_there h (index_for h name) place x chain)) place x chain (omega arith) room)
 
 one_need : (len hash : ℕ) (c : Chain) (n : ℕ) → Needs len hash c n → is_full len c → ((slots : List Slot) → c.leaves ≡ slots ∷ [] → (c.depth ≡ c.table) × (8 * c.size < 2 * 2 ^ c.table)) → n ≡ 1
 one_need len hash _ _ (nothing c room) full deepest = absurd (true≢false (sym room ∙ full))
@@ -80,10 +80,10 @@ one_need len hash _ _ (a_split c slots n is_full is deeper needs) full deepest =
 one_need len hash _ _ (a_doubling c slots n is_full is deep may needs) full deepest = absurd (omega (arith, may, (deepest slots is).1))
 one_need len hash _ _ (a_leaf c is_full other) full deepest = refl
 
-pub needs_one : (h : Holding) (name : List ℕ) (need : ℕ) → TakesBlocks h name need → HasNoRoom h name → (HasOneLeafFor h name → IsDeepest h name) → index_for h name < table_count h → need ≡ 1
-needs_one h name need takes full deepest low =
+pub needs_one : (h : Holding) (name : List ℕ) (need : ℕ) → TakesBlocks h name need → HasNoRoom h name → (HasOneLeafFor h name → IsDeepest h name) → index_for h name < table_count h → entry h (index_for h name) ≢ 0 → need ≡ 1
+needs_one h name need takes full deepest low some =
     one_need (length name) (crc32_of name) takes.chain need takes.needs
-    (none_passes h (index_for h name) (has_room_for (length name)) 0 (entry h (index_for h name)) takes.chain.leaves takes.is.leaves (chain_head low) full)
+    (none_passes h (index_for h name) (has_room_for (length name)) 0 (entry h (index_for h name)) takes.chain.leaves takes.is.leaves (chain_head low some) full)
     (λ slots is.
     let deep = deepest (one_is_last h (entry h (index_for h name)) takes.chain.leaves slots takes.is.leaves is) in (
       takes.is.depth ∙ deep.0 ∙ sym takes.is.table,
@@ -97,10 +97,10 @@ some_need len hash _ _ (a_split c slots n is_full is deeper needs) full less = o
 some_need len hash _ _ (a_doubling c slots n is_full is deep may needs) full less = absurd (omega (arith, deep, less))
 some_need len hash _ _ (a_leaf c is_full other) full less = omega arith
 
-pub needs_some : (h : Holding) (name : List ℕ) (need : ℕ) → TakesBlocks h name need → HasNoRoom h name → leaf_depth h (index_for h name) < depth_in h → index_for h name < table_count h → 1 ≤ need
-needs_some h name need takes full less low =
+pub needs_some : (h : Holding) (name : List ℕ) (need : ℕ) → TakesBlocks h name need → HasNoRoom h name → leaf_depth h (index_for h name) < depth_in h → index_for h name < table_count h → entry h (index_for h name) ≢ 0 → 1 ≤ need
+needs_some h name need takes full less low some =
     some_need (length name) (crc32_of name) takes.chain need takes.needs
-    (none_passes h (index_for h name) (has_room_for (length name)) 0 (entry h (index_for h name)) takes.chain.leaves takes.is.leaves (chain_head low) full)
+    (none_passes h (index_for h name) (has_room_for (length name)) 0 (entry h (index_for h name)) takes.chain.leaves takes.is.leaves (chain_head low some) full)
     (omega (arith, less, takes.is.depth, takes.is.table))
 
 -- ---- the leaves of a chain that ends

@@ -28,7 +28,7 @@ use Rattle.pointer_tables.specs.Directories.{IsTreeSound, IsPlaced, chain_head}
 use Rattle.table_changes.specs.Pointers.{HasPointerOf}
 use Rattle.pointer_tables.specs.Tables.{is_within}
 use Rattle.hash_dirs.specs.Shown.{IsInChain, IsSound}
-use Rattle.hash_dirs.proofs.Chained.{cell_some, rules}
+use Rattle.hash_dirs.proofs.Chained.{cell_some, head_some, rules}
 use Rattle.hash_steps.specs.Leaves.{HasOneLeaf, blank, first_of, leaf_depth, middle_hash, run_of}
 use Rattle.hash_steps.specs.Steps.{IsSplit}
 use Rattle.hash_steps.proofs.Sound.{tree_of}
@@ -169,7 +169,7 @@ module _ (v : Seen) (fates set_fates : FinMap nat_cmp Fate) (h : Holding) (i b f
       | inr pointer ↦ inr (of_pointer y pointer)
     ]
     | inr (inl own) ↦ inr (its_dinode own)
-    | inr (inr (inl here)) ↦ inr (the_leaf (subst (IsInChain h i 0) (sym here) (chain_head small)))
+    | inr (inr (inl here)) ↦ inr (the_leaf (subst (IsInChain h i 0) (sym here) (chain_head small (head_some h sound hashed i small))))
     | inr (inr (inr taken)) ↦ inr (the_new_one taken)
   ]
 

@@ -12,8 +12,8 @@ use Rattle.glock_names.specs.declared.steps.Entry.{Entry}
 use Rattle.no_memory.specs.declared.NoMemory.{NoMemory}
 use Rattle.hash_dirs.specs.Shown.{IsInChain, IsShown, index_for}
 use Rattle.pointer_tables.specs.Directories.{chain_head}
-use Rattle.hash_dirs.proofs.Along.{chain_one, ended}
-use Rattle.hash_dirs.proofs.Chained.{cell_some, deep, index_low, rules}
+use Rattle.hash_dirs.proofs.Along.{chain_one, ended, head_there}
+use Rattle.hash_dirs.proofs.Chained.{cell_some, deep, head_some, index_low, rules}
 use Rattle.hash_steps.specs.Laws.{ExchangesJoin}
 use Rattle.hash_steps.specs.Leaves.{IsFull, IsFullBefore}
 use Rattle.hash_inserts.specs.Advancing.{CanInsert, IsAtLeaf, StepsOn}
@@ -66,7 +66,7 @@ module _ (v : Seen) (dir : ℕ) (h : Holding) (name room : List ℕ) (need leaf 
   sees_own = subst (HasBlock v) can.shown.inode.own (at.sees h.own (cell_some (h.cell h.own) Itself can.sound.placed.own) (ap is_leaf_part can.sound.placed.own))
 
   pub at_head : IsInChain h (index_for h name) 0 leaf
-  at_head = subst (IsInChain h (index_for h name) 0) (sym at.leaf_is) (chain_head low)
+  at_head = subst (IsInChain h (index_for h name) 0) (sym at.leaf_is) (chain_head low (head_some h can.sound can.shown.hashed (index_for h name) low))
 
   pub ends_there : (leaf_in h leaf).next ≡ 0
   ends_there = ap (λ x. (leaf_in h x).next) at.leaf_is ∙ at.one
@@ -111,14 +111,14 @@ module _ (v : Seen) (h : Holding) (i len : ℕ) (w : Walked) (walked : IsWalked 
   pub one_walked : w.single ≡ true → i < table_count h → (w.last ≡ entry h i) × ((leaf_in h (entry h i)).next ≡ 0)
   one_walked single low =
       let first : walked.at ≡ 0 = zero_of walked.at (sym walked.single ∙ single) in
-      let is : w.last ≡ entry h i = chain_one h i 0 w.last (entry h i) (subst (λ n. IsInChain h i n w.last) first walked.chain) (chain_head low) in
+      let is : w.last ≡ entry h i = chain_one h i 0 w.last (entry h i) (subst (λ n. IsInChain h i n w.last) first walked.chain) (chain_head low (head_there h i walked.at w.last walked.chain)) in
       (is, ap (λ x. (leaf_in h x).next) (sym is) ∙ walked.ends)
 
   -- and where there are several the first isn't the last
   pub several_walked : w.single ≡ false → i < table_count h → (leaf_in h (entry h i)).next ≢ 0
   several_walked single low ends =
       let behind : 0 < walked.at = later walked.at (sym walked.single ∙ single) in
-      ended h i 0 (entry h i) walked.at w.last (chain_head low) ends behind walked.chain
+      ended h i 0 (entry h i) walked.at w.last (chain_head low (head_there h i walked.at w.last walked.chain)) ends behind walked.chain
     where
       later : (n : ℕ) → (n == 0) ≡ false → 0 < n
       later zero e = absurd (true≢false e)

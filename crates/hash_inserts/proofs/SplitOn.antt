@@ -14,13 +14,13 @@ use Rattle.glock_names.specs.Views.{Seen, HasBlock}
 use Rattle.hash_dirs.specs.Shown.{IsInChain, IsShown, index_for}
 use Rattle.pointer_tables.specs.Directories.{chain_head, chain_next}
 use Rattle.table_changes.specs.Pointers.{HasPointerOf, IsWithin}
-use Rattle.hash_dirs.proofs.Chained.{cell_some, index_low}
+use Rattle.hash_dirs.proofs.Chained.{cell_some, head_some, index_low}
 use Rattle.hash_steps.specs.Laws.{Stays}
 use Rattle.hash_steps.specs.Leaves.{HasOneLeaf, first_of, has_room_for, leaf_depth, middle_hash, run_of}
 use Rattle.hash_inserts.specs.Advancing.{CanInsert, IsAtLeaf, IsFullLeaf, StepsOn, StepsTo}
 use Rattle.hash_inserts.specs.Drafting.{SplitsLeaf}
 use Rattle.hash_inserts.specs.Inserting as ins
-use Rattle.hash_inserts.specs.Inserting.{HasNoRoom, HasOneLeafFor, IsInserted, IsInsertedAt, IsSplitAt, a_leaf_with_room, after_split, depth_for, one_taken, the_last_leaf, the_leaf, the_new_one}
+use Rattle.hash_inserts.specs.Inserting.{HasNoRoom, HasOneLeafFor, IsInsertedAt, IsSplitAt, a_leaf_with_room, after_split, depth_for, one_taken, the_last_leaf, the_leaf, the_new_one}
 use Rattle.hash_inserts.proofs.Blockwise.{size_bounds}
 use Rattle.hash_inserts.proofs.Chosen.{chosen, depth_same, index_same, needs_less}
 use Rattle.hash_inserts.proofs.Pointing.{half_less, pointer_of_more, run_inside, run_low}
@@ -29,7 +29,7 @@ use Rattle.hash_inserts.proofs.Onward.{came_there, can_still, table_still}
 -- ---- a chain with one leaf
 
 pub only_head : (k : Holding) (i : ℕ) → HasOneLeaf k i → (place x : ℕ) → IsInChain k i place x → x ≡ entry k i
-only_head k i one _ _ (chain_head low) = refl
+only_head k i one _ _ (chain_head low some) = refl
 only_head k i one _ _ (chain_next place x chain more) = absurd (more (ap (λ y. (leaf_in k y).next) (only_head k i one place x chain) ∙ one))
 
 pub none_has_room : (h : Holding) (name : List ℕ) (leaf : ℕ) → leaf ≡ entry h (index_for h name) → HasOneLeafFor h name → IsFullLeaf h name leaf → HasNoRoom h name
@@ -50,7 +50,7 @@ module _ (v : Seen) (old new : FinMap nat_cmp Fate) (room left : List ℕ) (dir 
   low = index_low h can.sound can.shown.hashed name can.small
 
   first_leaf : (x : ℕ) (g : Holding) (taken : List ℕ) → x ≡ entry h i → IsInsertedAt h g name taken x
-  first_leaf x g taken is = subst (IsInsertedAt h g name taken) (sym is) (the_last_leaf 0 no_room (chain_head low) at.one)
+  first_leaf x g taken is = subst (IsInsertedAt h g name taken) (sym is) (the_last_leaf 0 no_room (chain_head low (head_some h can.sound can.shown.hashed i low)) at.one)
 
   one_after : HasOneLeafFor m name
   one_after =

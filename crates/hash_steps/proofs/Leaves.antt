@@ -81,7 +81,7 @@ no_later place e = omega arith
 
 -- a chain begins at a pointer of the table
 pub chain_low : (h : Holding) (i place x : ℕ) → IsInChain h i place x → i < table_count h
-chain_low h i _ _ (chain_head low) = low
+chain_low h i _ _ (chain_head low some) = low
 chain_low h i _ _ (chain_next place x chain more) = chain_low h i place x chain
 
 module _ (h : Holding) (sound : IsSound h) (hashed : is_hashed_in h ≡ true) where

@@ -1,7 +1,7 @@
 -- What is found on going over the list of groups.
 use Rattle.std.proofs.lemmas.Bool.{cases_lt}
 use Rattle.std.proofs.lemmas.Option.{slice_get-get_or}
-use Rattle.std.proofs.Common.{◌≡◌, ℕ, zero, suc, min, ◌^◌, ◌+◌, ◌-◌, ◌*◌, ◌/◌, ◌<◌, ◌≤◌, ◌⊎◌, inl, inr, List, [], ◌∷◌, ◌++◌, length, take, drop, map, get_or, Some, slice_get, Option, None, Ok, refl, sym, ap, ◌∙◌, subst, arith}
+use Rattle.std.proofs.Common.{◌≡◌, ℕ, zero, suc, min, ◌^◌, ◌+◌, ◌-◌, ◌*◌, ◌/◌, ◌%◌, ◌<◌, ◌≤◌, ◌⊎◌, inl, inr, List, [], ◌∷◌, ◌++◌, length, take, drop, map, get_or, Some, slice_get, Option, None, Ok, refl, sym, ap, ◌∙◌, subst, arith}
 use Rattle.std.proofs.lemmas.List.{length_push, append_assoc, length-drop, drop-drop, drop_more, take-append-drop}
 use Rattle.std.proofs.lemmas.List.FromFn.{length-map-range_with_len}
 use Rattle.std.proofs.Math.Seq.{take-suc}
@@ -12,7 +12,8 @@ use Rattle.gfs2_layout.specs.declared.fault.LayoutFault.{LayoutFault}
 use Rattle.gfs2_layout.specs.declared.rindex.Rindex.{Rindex}
 use Rattle.gfs2_layout.specs.Device.{superblock_place}
 use Rattle.image_model.specs.Claims.{every, IsRindex}
-use Rattle.gfs2_layout.specs.Inode.{content_of}
+use Rattle.gfs2_layout.specs.Headers.{HasHeader}
+use Rattle.gfs2_layout.specs.Inode.{content_of, dinode_in}
 use Rattle.image_model.specs.Groups.{groups_in, entry_length, IsGroupAt, IsListed, IsNear, GroupFits, end_of}
 use Rattle.image_model.specs.Image.{Image}
 use Rattle.image_model.specs.Listing.{RiseFrom, end_after}
@@ -158,10 +159,12 @@ rise_apart im e (x ∷ gs) rise zero (suc j) g h at there low =
 rise_apart im e (x ∷ gs) rise (suc i) (suc j) g h at there low = rise_apart im (end_of x) gs rise.2 i j g h at there (omega (arith, low))
 
 -- a list that was gone over is a sound one
-pub sound_list : (im : Image) (d : ℕ) (groups : List Rindex) → IsRindex im d → groups ≡ groups_in (content_of (every im d)) → RiseFrom im 0 groups → IsSoundList im groups
-sound_list im d groups is listed rise = record {
+pub sound_list : (im : Image) (d : ℕ) (groups : List Rindex) → IsRindex im d → HasHeader 4 400 (im.at d) → (dinode_in (every im d)).size % entry_length ≡ 0 → groups ≡ groups_in (content_of (every im d)) → RiseFrom im 0 groups → IsSoundList im groups
+sound_list im d groups is header whole listed rise = record {
   inode = d;
   rindex = is;
+  header = header;
+  whole = whole;
   listed = sym listed;
   fit = λ g at. all_at (GroupFits im) groups at.0 g (all_fit im 0 groups rise) at.1;
   rise = rise_apart im 0 groups rise;

@@ -27,10 +27,12 @@ use Rattle.image_model.specs.Stands.{kind_of}
 
 -- ---- the list of groups
 
--- These groups are listed in a file that is `rindex`, and they fit, and rise without overlapping.
+-- These groups are listed in a file that is `rindex`, whose dinode has its header, and which is whole entries; they fit, and rise without overlapping.
 pub record IsSoundList (im : Image) (groups : List Rindex) : Type 0 where
   pub inode : ℕ
   pub rindex : IsRindex im inode
+  pub header : HasHeader 4 400 (im.at inode)
+  pub whole : (dinode_in (every im inode)).size % entry_length ≡ 0
   pub listed : groups_in (content_of (every im inode)) ≡ groups
   pub fit : (g : Rindex) → IsListed groups g → GroupFits im g
   pub rise : (i j : ℕ) (g h : Rindex) → IsGroupAt groups i g → IsGroupAt groups j h → i < j → end_of g ≤ h.address

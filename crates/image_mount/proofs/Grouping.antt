@@ -135,7 +135,7 @@ pub bare_told : (im : Image) (f : MountFault) (size count list k b : ℕ) (group
 bare_told im f size count list k b groups is of rise some few to near inside ahead =
     let small : b < 2 ^ 64 - 1 = omega (arith, inside, list_few im size count list groups of) in
     subst (RefusesRightly im) (sym is) (
-      record { breaks = bare_at im groups b k to (sound_list im list groups (list_rindex im size count list groups of) (sym (list_groups im size count list groups of)) rise) inside small ahead near; there = inl inside },
+      record { breaks = bare_at im groups b k to (sound_list im list groups (list_rindex im size count list groups of) of.looked.dinode.header (subst (λ d. (dinode_in (every im d)).size % entry_length ≡ 0) of.rindex of.found.whole) (sym (list_groups im size count list groups of)) rise) inside small ahead near; there = inl inside },
       first_bare b (record {
         layout = with_groups of.layout groups;
         listed = record { master = master_with im of.layout groups of.found.master; whole = of.found.whole; listed = of.found.listed ∙ of.groups };

@@ -246,6 +246,8 @@ outside_groups im system b groups looked same none = (
   subst (IsSoundList im) (sym same) (record {
     inode = system.rindex;
     rindex = looked.names.groups.list.master.rindex;
+    header = looked.rindex_looked.dinode.header;
+    whole = looked.names.groups.list.whole;
     listed = looked.names.groups.list.listed;
     fit = looked.names.groups.fit.each;
     rise = looked.names.groups.fit.rise;

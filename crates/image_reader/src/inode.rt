@@ -1,5 +1,6 @@
 ghost use Rattle.std.specs.Prelude.{◌≡◌, ◌≢◌, ◌+◌, ◌-◌, ◌*◌, ◌/◌, ◌%◌, ◌<◌, ◌≤◌, ◌^◌, min, length, IfOk, IfErr, IfSome, IfNone, OnOk};
 ghost use Rattle.gfs2_layout.specs.Structures.{dinode_of, dinode_length};
+ghost use Rattle.gfs2_layout.specs.Headers.{HasHeader};
 ghost use Rattle.shared_disk.specs.Blocks.{block_in};
 
 use crate::blocks::Block;
@@ -9,12 +10,13 @@ use gfs2_layout::{DINODE_LENGTH, Dinode};
 /// Where the pointers of a dinode begin, and those of an indirect block.
 pub(crate) const IN_BLOCK: usize = 24;
 
-/// An inode: the block of its dinode, and what the dinode says.
+/// An inode: the block of its dinode, which has its header, and what the dinode says.
 #[derive(Clone, Copy)]
 pub(crate) struct Inode<'a> {
     pub block: Block<'a>,
     pub dinode: Dinode,
     ghost is: { dinode ≡ dinode_of (block_in block.image.size block.image.bytes.now block.number) },
+    ghost headed: { HasHeader 4 400 (block_in block.image.size block.image.bytes.now block.number) },
 }
 
 impl<'a> Inode<'a> {

@@ -2,8 +2,8 @@ ghost use Rattle.image_model.specs.Rules.{IsSoundList};
 ghost use Rattle.std.specs.Prelude.{ℕ, ◌≡◌, ◌+◌, ◌*◌, ◌%◌, ◌<◌, ◌≤◌, length, vec_len, true, Contains, OnOk, IfOk, IfErr};
 ghost use Rattle.std.specs.List.{All};
 ghost use Rattle.gfs2_layout.specs.declared.rindex.Rindex.{Rindex as IndexEntry};
-ghost use Rattle.gfs2_layout.specs.Inode.{Fits};
-ghost use Rattle.image_model.specs.Claims.{HasGroup, IsRindex, master_of};
+ghost use Rattle.gfs2_layout.specs.Inode.{Fits, dinode_in};
+ghost use Rattle.image_model.specs.Claims.{every, HasGroup, IsRindex, master_of};
 ghost use Rattle.image_reader.specs.Owning.{IsEmpty};
 ghost use Rattle.image_reader.specs.Walking.{IsSound};
 ghost use Rattle.image_model.specs.Groups.{GroupFits};
@@ -72,6 +72,7 @@ fn find_rindex<'a>(walk: &mut Walk<'a>, master: u64) -> Result<Inode<'a>, ImageF
 fn check_entries(rindex: &Inode<'_>) -> Result<(), ImageFault>
     requires { IsRindex (image_at rindex.now.block.image) rindex.now.block.number }
     ensures damaged { IfErr result (IsTrueOf (image_at rindex.now.block.image)) }
+    ensures whole { OnOk result ((dinode_in (every (image_at rindex.now.block.image) rindex.now.block.number)).size % 96 ≡ 0) }
 {
     if rindex.dinode.size % 96 != 0 {
         return Err(damaged(rindex.block.number, 18));

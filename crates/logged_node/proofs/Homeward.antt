@@ -37,7 +37,7 @@ use Rattle.logged_node.specs.Nodes.{Awaits, FailsBehind, IsLogOf, IsNodeOn, IsRe
 use Rattle.logged_node.proofs.Arming.{crash_stays}
 use Rattle.logged_node.proofs.Blocks.{none_some, some_same, was_settled}
 use Rattle.logged_node.proofs.Disks.{flies_elsewhere, length_with, same_barrier, same_disk, same_written}
-use Rattle.logged_node.proofs.Flushed.{goes_behind}
+use Rattle.logged_node.proofs.Ended.{goes_behind}
 use Rattle.logged_node.proofs.Going.{on_still, small_on}
 use Rattle.logged_node.proofs.Onward.{if_crashed, if_failed, map_err, stops_at}
 use Rattle.logged_node.proofs.Waiting.{as_many, none_away_still, one_fewer}

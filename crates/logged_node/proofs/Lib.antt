@@ -2,10 +2,12 @@ pub mod Blocks
 pub mod Disks
 pub mod Arming
 pub mod Flushes
+pub mod Partly
 pub mod Carried
 pub mod Going
 pub mod Onward
 pub mod Beginning
-pub mod Flushed
+pub mod Stepped
+pub mod Ended
 pub mod Waiting
 pub mod Homeward

@@ -97,8 +97,8 @@ stops_on d e f l k h n m items why first armed stops = record {
     crashes_on stop.NoMemory x y items same is = tt
 
 -- for want of memory, before anything was done
-pub stops_here : (d : DiskState) (l : Option (List Operation)) (n : Node) (items : List TraceItem) → items ≡ n.items.items → StopsBehind d l n d l items stop.NoMemory
-stops_here d l n items same = record { last = point_of d l n; steps = λ time. Here; told = sym same; disk = (refl, refl); crashes = tt }
+pub stops_here : (d : DiskState) (l : Option (List Operation)) (n : Node) (items : List TraceItem) (why : Stop) → why ≡ stop.NoMemory → items ≡ n.items.items → StopsBehind d l n d l items why
+stops_here d l n items why is same = subst (StopsBehind d l n d l items) (sym is) (record { last = point_of d l n; steps = λ time. Here; told = sym same; disk = (refl, refl); crashes = tt })
 
 -- At a deed: where it was made, and it crashed behind it, that is a step; where the disk failed, it stays where it was.
 pub stops_at : (d d' : DiskState) (l l' : Option (List Operation)) (n n' : Node) (r : Result (Unit {0}) Stop) (made : Type 0) → (made → (time : ℕ) → Steps time (point_of d l n) (point_of d' l' n')) → IfMade r made

@@ -18,6 +18,19 @@ use trace_text::TraceItem;
 /// How many writes of a node may be in flight at once.
 pub(crate) const MOST_IN_FLIGHT: usize = 512;
 
+/// Makes room for so many items more.
+pub(crate) fn have_room(node: &mut Node, count: usize) -> Result<(), Stop>
+    ensures node { node.new ≡ record node.old { items = node.new.items } }
+    ensures items { node.new.items.items ≡ node.old.items.items }
+    ensures room { OnOk result (vec_len node.new.items + count ≤ vec_capacity node.new.items) }
+    ensures why { IfErr result (λ why. why ≡ Stop.NoMemory) }
+{
+    match node.items.reserve(count) {
+        Ok(()) => Ok(()),
+        Err(_) => Err(Stop::NoMemory),
+    }
+}
+
 // Counts a write: whether the node is to crash behind it.
 fn counts_as_last(node: &mut Node) -> bool
     ensures last { result ≡ true → IsLastWrite node.old.armed }

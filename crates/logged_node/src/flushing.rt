@@ -1,11 +1,12 @@
 // Flushes: all that is due, or a header alone, comes into the journal.
 ghost use Rattle.std.specs.Prelude.{ℕ, ◌≡◌, ◌≢◌, Ok, IfOk, ◌+◌, ◌++◌, ◌<◌, ◌≤◌, ◌^◌, [], ◌∷◌, false, length, OnOk, IfErr};
 ghost use Rattle.std.specs.Vec.{vec_capacity, vec_len};
+ghost use Rattle.log_values.specs.Flushing.{FlushAnswer};
 ghost use Rattle.logged_node.specs.Ends.{HasCause, IfCrashed, IfFailed, IfMade, IsOfDisk};
 ghost use Rattle.logged_node.specs.Flushing.{FailsAt, GoesOn, HasBegun, HasCome, HasNoRoom, HasNothingToFlush, IsAsItWas, IsCarried, IsUnderWay, MayCarry, number_of};
 ghost use Rattle.logged_node.specs.Nodes.{Awaits, IsResting, StopsBehind, crash_at, point_of, writes_in};
 
-use crate::deeds::{put_barrier, put_write};
+use crate::deeds::{have_room, put_barrier, put_write};
 use crate::ends::Stop;
 use crate::node::Node;
 use disk_items::put_in_room;
@@ -57,7 +58,10 @@ fn end_part<D: SharedDisk>(disk: &mut D, node: &mut Node) -> Result<(), Stop>
     ensures later { (i : ℕ) → D.faults disk.old i ≤ D.faults disk.new i }
     ensures cause { IfErr result (HasCause (D.state disk.old).count (D.faults disk.old) (D.faults disk.new)) }
 {
-    put_barrier(disk, node)?;
+    match put_barrier(disk, node) {
+        Ok(()) => {}
+        Err(why) => return Err(why),
+    }
     if !node.log.is_flushing() {
         commit(node);
     }
@@ -106,6 +110,16 @@ fn carry<D: SharedDisk>(disk: &mut D, node: &mut Node, step: LogStep) -> Result<
     }
 }
 
+// The next step of a flush, as the log makes it. The bytes of a write are then the node's block.
+fn next_step(node: &mut Node) -> Option<LogStep>
+    requires { length node.old.block.items ≡ node.old.log.journal.size }
+    ensures node { node.new ≡ record node.old { log = node.new.log; block = node.new.block } }
+    ensures long { length node.new.block.items ≡ length node.old.block.items }
+    ensures answer { FlushAnswer node.old.log node.new.log node.new.block.items result }
+{
+    node.log.flush_step(&mut node.block)
+}
+
 // Makes the next step of a flush that is under way.
 fn go_on<D: SharedDisk>(disk: &mut D, node: &mut Node) -> Result<(), Stop>
     requires flushing { IsUnderWay (D.state disk.old) node.old }
@@ -116,8 +130,11 @@ fn go_on<D: SharedDisk>(disk: &mut D, node: &mut Node) -> Result<(), Stop>
     ensures cause { IfErr result (HasCause (D.state disk.old).count (D.faults disk.old) (D.faults disk.new)) }
 {
     widths_are_numbers();
-    node.items.reserve(2)?;
-    match node.log.flush_step(&mut node.block) {
+    match have_room(node, 2) {
+        Ok(()) => {}
+        Err(why) => return Err(why),
+    }
+    match next_step(node) {
         Some(step) => carry(disk, node, step),
         None => unreachable!(),
     }
@@ -154,17 +171,22 @@ fn begin<D: SharedDisk>(disk: &mut D, node: &mut Node) -> Result<Began, Stop>
     ensures cause { IfErr result (HasCause (D.state disk.old).count (D.faults disk.old) (D.faults disk.new)) }
 {
     widths_are_numbers();
-    node.items.reserve(2)?;
-    match node.log.flush_step(&mut node.block) {
+    match have_room(node, 2) {
+        Ok(()) => {}
+        Err(why) => return Err(why),
+    }
+    match next_step(node) {
         None => Ok(Began::Nothing),
-        Some(LogStep::NoRoom) => Ok(Began::NoRoom),
-        Some(step) => {
-            node.numbers.begun = number_with(node, step);
-            match carry(disk, node, step) {
-                Ok(()) => Ok(Began::Begun),
-                Err(why) => Err(why),
+        Some(step) => match step {
+            LogStep::NoRoom => Ok(Began::NoRoom),
+            _ => {
+                node.numbers.begun = number_with(node, step);
+                match carry(disk, node, step) {
+                    Ok(()) => Ok(Began::Begun),
+                    Err(why) => Err(why),
+                }
             }
-        }
+        },
     }
 }
 

@@ -1,11 +1,12 @@
 // Live blocks go home.
-ghost use Rattle.std.specs.Prelude.{ℕ, ◌≡◌, ◌<◌, ◌≤◌, [], OnOk, IfErr};
+ghost use Rattle.std.specs.Prelude.{ℕ, ◌≡◌, ◌<◌, ◌≤◌, [], length, OnOk, IfErr};
 ghost use Rattle.log_memory.specs.Locks.{IsNextLock, NoneIsAway};
+ghost use Rattle.log_values.specs.Homing.{HomeAnswer};
 ghost use Rattle.logged_node.specs.Ends.{HasCause};
 ghost use Rattle.logged_node.specs.Homing.{GoesHomeward, HasGoneHome, IsHoming, waiting};
 ghost use Rattle.logged_node.specs.Nodes.{IsResting, StopsBehind};
 
-use crate::deeds::{MOST_IN_FLIGHT, put_barrier, put_write};
+use crate::deeds::{MOST_IN_FLIGHT, have_room, put_barrier, put_write};
 use crate::ends::Stop;
 use crate::node::Node;
 use glock_names::LockName;
@@ -24,10 +25,26 @@ fn rest<D: SharedDisk>(disk: &mut D, node: &mut Node) -> Result<(), Stop>
     ensures later { (i : ℕ) → D.faults disk.old i ≤ D.faults disk.new i }
     ensures cause { IfErr result (HasCause (D.state disk.old).count (D.faults disk.old) (D.faults disk.new)) }
 {
-    node.items.reserve(1)?;
-    put_barrier(disk, node)?;
+    match have_room(node, 1) {
+        Ok(()) => {}
+        Err(why) => return Err(why),
+    }
+    match put_barrier(disk, node) {
+        Ok(()) => {}
+        Err(why) => return Err(why),
+    }
     node.log.settle();
     Ok(())
+}
+
+// The next write home of the lock's blocks, as the log makes it. Its bytes are then the node's block.
+fn next_home(node: &mut Node, lock: LockName) -> Option<LogStep>
+    requires { length node.old.block.items ≡ node.old.log.journal.size }
+    ensures node { node.new ≡ record node.old { log = node.new.log; block = node.new.block } }
+    ensures long { length node.new.block.items ≡ length node.old.block.items }
+    ensures answer { HomeAnswer node.old.log node.new.log lock node.new.block.items result }
+{
+    node.log.home_step(lock, &mut node.block)
 }
 
 // Sends the first block home of those under the lock, which is the next one.
@@ -41,8 +58,11 @@ fn send<D: SharedDisk>(disk: &mut D, node: &mut Node, lock: LockName) -> Result<
     ensures later { (i : ℕ) → D.faults disk.old i ≤ D.faults disk.new i }
     ensures cause { IfErr result (HasCause (D.state disk.old).count (D.faults disk.old) (D.faults disk.new)) }
 {
-    node.items.reserve(1)?;
-    match node.log.home_step(lock, &mut node.block) {
+    match have_room(node, 1) {
+        Ok(()) => {}
+        Err(why) => return Err(why),
+    }
+    match next_home(node, lock) {
         Some(LogStep::Write { block }) => {
             put_write(disk, node, block, TraceItem::WriteHome { node: 1, block })
         }
@@ -62,11 +82,15 @@ fn take_one<D: SharedDisk>(disk: &mut D, node: &mut Node, lock: LockName) -> Res
     ensures later { (i : ℕ) → D.faults disk.old i ≤ D.faults disk.new i }
     ensures cause { IfErr result (HasCause (D.state disk.old).count (D.faults disk.old) (D.faults disk.new)) }
 {
-    send(disk, node, lock)?;
-    if node.flying >= MOST_IN_FLIGHT {
-        rest(disk, node)?;
+    match send(disk, node, lock) {
+        Ok(()) => {}
+        Err(why) => return Err(why),
     }
-    Ok(())
+    if node.flying >= MOST_IN_FLIGHT {
+        rest(disk, node)
+    } else {
+        Ok(())
+    }
 }
 
 // Makes a barrier where anything is in flight.
@@ -79,9 +103,10 @@ fn rest_if_any<D: SharedDisk>(disk: &mut D, node: &mut Node) -> Result<(), Stop>
     ensures cause { IfErr result (HasCause (D.state disk.old).count (D.faults disk.old) (D.faults disk.new)) }
 {
     if node.flying > 0 {
-        rest(disk, node)?;
+        rest(disk, node)
+    } else {
+        Ok(())
     }
-    Ok(())
 }
 
 /// Takes all live blocks of a node at rest home: lock by lock, by kind and then by number, and under each by rising number of the block. It makes a barrier

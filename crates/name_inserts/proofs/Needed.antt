@@ -12,7 +12,7 @@ use Rattle.pointer_tables.specs.Directories.{chain_head, chain_next}
 use Rattle.hash_inserts.specs.Tables.{doubling_need}
 use Rattle.hash_dirs.specs.Shown.{IsInChain, IsSound, index_for}
 use Rattle.hash_dirs.proofs.Along.{comes_back}
-use Rattle.hash_dirs.proofs.Chained.{deep, in_chain, index_low, inside, rules, same_hash, some_block}
+use Rattle.hash_dirs.proofs.Chained.{deep, head_some, in_chain, index_low, inside, rules, same_hash, some_block}
 use Rattle.hash_inserts.specs.Leaves.{has_room_for}
 use Rattle.hash_inserts.specs.Needing.{AreLeavesFrom, Chain, Needs, TakesBlocks, a_doubling, a_leaf, a_split, can_double, doubled, nothing, one_more, split_for, the_last}
 use Rattle.name_inserts.specs.Need.{chain_of, first_leaf, has_one, is_growable, leaves_from, most_steps, need_in_hashed, need_within}
@@ -210,7 +210,7 @@ module _ (h : Holding) where
         let more = few_from i (place + 1) (leaf_in h x).next later (chain_next place x chain goes) rest in omega (arith, more)
 
     pub chain_is : (i : ℕ) (leaves : List (List Slot)) → i < table_count h → AreLeavesFrom h (entry h i) leaves → map records_at (leaves_from h.count h (entry h i)) ≡ leaves
-    chain_is i leaves low are = leaves_are h.count (entry h i) leaves are (let few = few_from i 0 (entry h i) leaves (chain_head low) are in omega (arith, few))
+    chain_is i leaves low are = leaves_are h.count (entry h i) leaves are (let few = few_from i 0 (entry h i) leaves (chain_head low (head_some h sound hashed i low)) are in omega (arith, few))
 
     -- a chain's leaves are found within as many steps as the image has blocks
     are_from : (i place x fuel : ℕ) → IsInChain h i place x → h.count ≤ place + fuel → AreLeavesFrom h x (map records_at (leaves_from fuel h x))
@@ -223,7 +223,7 @@ module _ (h : Holding) where
     ]
 
     pub are_leaves : (i : ℕ) → i < table_count h → AreLeavesFrom h (entry h i) (map records_at (leaves_from h.count h (entry h i)))
-    are_leaves i low = are_from i 0 (entry h i) h.count (chain_head low) (omega arith)
+    are_leaves i low = are_from i 0 (entry h i) h.count (chain_head low (head_some h sound hashed i low)) (omega arith)
 
     some_leaf : (x : ℕ) (leaves : List (List Slot)) → AreLeavesFrom h x leaves → 1 ≤ length leaves
     some_leaf x _ (the_last _ ends) = omega arith

@@ -28,7 +28,7 @@ use Rattle.hash_dirs.specs.Shown.{IsSound, index_for}
 use Rattle.hash_dirs.specs.Walking.{leaf_on}
 use Rattle.hash_dirs.proofs.Along.{chain_one, there_before}
 use Rattle.hash_dirs.proofs.Anew.{KeepsTree, alike, content_after}
-use Rattle.hash_dirs.proofs.Chained.{in_chain, index_low}
+use Rattle.hash_dirs.proofs.Chained.{head_some, in_chain, index_low}
 use Rattle.hash_dirs.proofs.Named.{find_some}
 use Rattle.hash_steps.specs.Leaves.{has_room_for, leaf_depth}
 use Rattle.name_inserts.specs.Need.{chain_of, first_depth, leaves_from, most_steps, name_need, need_in_hashed, need_in_linear, need_within}
@@ -87,7 +87,7 @@ alike_self h = record { size = refl; count = refl; own = refl; hashed = refl; he
 
 -- the chains are the same
 chain_to : (h g : Holding) → IsAlike h g → is_hashed_in h ≡ true → (i place x : ℕ) → IsInChain h i place x → IsInChain g i place x
-chain_to h g same is i _ _ (chain_head low) = subst (IsInChain g i 0) (same.entries is i) (chain_head (subst (λ d. i < 2 ^ d) (sym same.depth) low))
+chain_to h g same is i _ _ (chain_head low some) = subst (IsInChain g i 0) (same.entries is i) (chain_head (subst (λ d. i < 2 ^ d) (sym same.depth) low) (λ none. some (sym (same.entries is i) ∙ none)))
 chain_to h g same is i _ _ (chain_next place x chain more) =
     let next : (leaf_in g x).next ≡ (leaf_in h x).next = ap (λ (l : Leaf). l.next) (same.leaves is i place x chain).0 in
     subst (IsInChain g i (place + 1)) next (chain_next place x (chain_to h g same is i place x chain) (λ none. more (sym next ∙ none)))
@@ -116,7 +116,7 @@ module _ (h g : Holding) (same : IsAlike h g) where
     need_hashed : is_hashed_in h ≡ true → need_in_hashed g name ≡ need_in_hashed h name
     need_hashed is =
         let i = index_for h name in
-        let head : IsInChain h i 0 (entry h i) = chain_head (index_low h sound is name hash) in
+        let head : IsInChain h i 0 (entry h i) = chain_head (index_low h sound is name hash) (head_some h sound is i (index_low h sound is name hash)) in
         let first : entry g (index_for g name) ≡ entry h i = ap (entry g) index_same ∙ same.entries is i in
         let deep : leaf_depth g (index_for g name) ≡ leaf_depth h i = ap (λ x. (leaf_in g x).depth) first ∙ ap (λ (l : Leaf). l.depth) (same.leaves is i 0 (entry h i) head).0 in
         let lists = (λ k. map (λ y. slots_of (leaf_area g y)) (leaves_from (same.count k) g (first k))) ∙ listed is h.count i 0 (entry h i) head in
@@ -196,7 +196,7 @@ module _ (h g : Holding) (name : List ℕ) (sound : IsSound h) (is : is_hashed_i
   ]
 
   chain_back : (i place x : ℕ) → IsInChain g i place x → IsInChain h i place x
-  chain_back i _ _ (chain_head low) = subst (IsInChain h i 0) (sym (entry_after i)) (chain_head (subst (λ d. i < 2 ^ d) depth_after low))
+  chain_back i _ _ (chain_head low some) = subst (IsInChain h i 0) (sym (entry_after i)) (chain_head (subst (λ d. i < 2 ^ d) depth_after low) (λ none. some (entry_after i ∙ none)))
   chain_back i _ _ (chain_next place x chain more) =
       let back = chain_back i place x chain in
       let next = next_after i place x back in

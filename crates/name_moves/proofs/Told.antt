@@ -35,7 +35,7 @@ module _ (v : Seen) (fates : FinMap nat_cmp Fate) where
 
   leaf_below : (h : Holding) (rule b : ℕ) → leaves.IsWrongIn w h rule b → leaves.IsWrongIn v h rule b
   leaf_below h rule b (leaves.IsWrongIn.breaks _ _ broken) = leaves.IsWrongIn.breaks rule b broken
-  leaf_below h _ b (leaves.IsWrongIn.outside i from x leads away) = leaves.IsWrongIn.outside i from x leads away
+  leaf_below h _ b (leaves.IsWrongIn.outside i from x leads some away) = leaves.IsWrongIn.outside i from x leads some away
   leaf_below h _ b (leaves.IsWrongIn.stray i from x r leads some there low away) = leaves.IsWrongIn.stray i from x r leads some there low away
 
   pub broken_below : (h : Holding) (rule b : ℕ) → dirs.IsBroken w h rule b → dirs.IsBroken v h rule b

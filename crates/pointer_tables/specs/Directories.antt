@@ -8,9 +8,10 @@ use Rattle.dinode_tree.specs.Shown as inode
 
 -- ---- chains
 
--- Block x is the leaf so many behind the one to which pointer i of the table leads. So a chain is followed, whether it is right or wrong.
+-- Block x is the leaf so many behind the one to which pointer i of the table leads. So a chain is followed, whether it is right or wrong; a pointer
+-- that is zero has none.
 pub data IsInChain (h : Holding) (i : ℕ) : ℕ → ℕ → Type 0 where
-  chain_head : i < table_count h → IsInChain h i 0 (entry h i)
+  chain_head : i < table_count h → entry h i ≢ 0 → IsInChain h i 0 (entry h i)
   chain_next : (place x : ℕ) → IsInChain h i place x → (leaf_in h x).next ≢ 0 → IsInChain h i (place + 1) (leaf_in h x).next
 
 -- ---- what a view shows

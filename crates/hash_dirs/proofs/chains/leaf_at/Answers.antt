@@ -18,7 +18,7 @@ pub returns-then-is_none-clause-damaged : goal.returns-then-is_none-clause-damag
 returns-then-is_none-clause-damaged g c h i shown leads depth =
     let v = g.V.View.seen c.args.view.now in
     subst (IsDamage (IsWrongIn v h)) (sym c.damaged-then-is_none.ensures)
-    (outside i c.args.link.now.from c.args.link.now.leaf leads (none_so _ c.group_of.result (c.is_none.ensures ∙ ap not c.if-is_none.true) c.group_of.ensures.none))
+    (outside i c.args.link.now.from c.args.link.now.leaf leads c.if-link-eq0.false (none_so _ c.group_of.result (c.is_none.ensures ∙ ap not c.if-is_none.true) c.group_of.ensures.none))
 
 pub returns-clause-small : goal.returns-clause-small
 returns-clause-small g c =

@@ -33,14 +33,14 @@ pub returns-in-Some-clause-found : goal.returns-in-Some-clause-found
 returns-in-Some-clause-found g c h i shown is =
     let at = c.loop-place.invariant.along.at h i shown is in
     let leaf = answer_at _ _ _ c.in-Is.is (c.in_ok-leaf.ensures.read h i shown at.leads) in
-    found_here h i c.args.name.now c.loop-place._place c.loop-place.link.leaf at.chain (c.loop-place.invariant.later h i shown is) c.in-Some.spot.entry
+    found_here h i c.args.name.now c.loop-place._place c.loop-place.link.leaf (at.chain (answer_at _ _ _ c.in-Is.is c.in_ok-leaf.ensures.small).0) (c.loop-place.invariant.later h i shown is) c.in-Some.spot.entry
     (ap (λ a. option_map entry_of (record_named (records_in a) c.args.name.now)) (sym leaf.area) ∙ sym c.spot_in.ensures.leads ∙ ap (λ (o : Option Spot). option_map (λ (s : Spot). s.entry) o) c.in-Some.is)
 
 pub returns-then-leaf-eq0-clause-found : goal.returns-then-leaf-eq0-clause-found
 returns-then-leaf-eq0-clause-found g c h i shown is =
     let at = c.loop-place.invariant.along.at h i shown is in
     let leaf = answer_at _ _ _ c.in-Is.is (c.in_ok-leaf.ensures.read h i shown at.leads) in
-    found_nowhere h i c.args.name.now c.loop-place._place c.loop-place.link.leaf at.chain (c.loop-place.invariant.later h i shown is)
+    found_nowhere h i c.args.name.now c.loop-place._place c.loop-place.link.leaf (at.chain (answer_at _ _ _ c.in-Is.is c.in_ok-leaf.ensures.small).0) (c.loop-place.invariant.later h i shown is)
     (none_named _ (ap (λ a. option_map entry_of (record_named (records_in a) c.args.name.now)) (sym leaf.area) ∙ sym c.spot_in.ensures.leads ∙ ap (λ (o : Option Spot). option_map (λ (s : Spot). s.entry) o) c.in_default.is)) (ap (λ l. l.next) (sym leaf.head) ∙ c.if-leaf-eq0.true)
 
 pub loop-place-preserved : goal.loop-place-preserved
@@ -50,7 +50,7 @@ loop-place-preserved g c =
     record {
       along = goes_on v c.args.dir c.args.head.now c.loop-place._place c.loop-place.link _ c.in-Is.leaf c.loop-place.invariant.along
           leaf (answer_at _ _ _ c.in-Is.is c.in_ok-leaf.ensures.small) (answer_at _ _ _ c.in-Is.is c.in_ok-leaf.ensures.there) c.if-leaf-eq0.false refl;
-      later = still_nameless v c.args.dir c.args.head.now c.args.name.now c.loop-place._place c.loop-place.link c.loop-place.invariant.along c.loop-place.invariant.later
+      later = still_nameless v c.args.dir c.args.head.now c.args.name.now c.loop-place._place c.loop-place.link c.loop-place.invariant.along (answer_at _ _ _ c.in-Is.is c.in_ok-leaf.ensures.small).0 c.loop-place.invariant.later
           (λ h i shown is. none_named _ (ap (λ a. option_map entry_of (record_named (records_in a) c.args.name.now)) (sym (leaf h i shown is).area) ∙ sym c.spot_in.ensures.leads ∙ ap (λ (o : Option Spot). option_map (λ (s : Spot). s.entry) o) c.in_default.is));
     }
 

@@ -45,10 +45,10 @@ returns-then-leaf-eq0-clause-listed g c h i shown is =
     record {
       place = c.loop-place._place;
       last = c.loop-place.link.leaf;
-      chain = at.chain;
+      chain = at.chain (answer_at _ _ _ c.in-Is.is c.in_ok-leaf.ensures.small).0;
       ends = ap (λ l. l.next) (sym leaf.head) ∙ c.if-leaf-eq0.true;
       depth_is = ap (λ l. l.depth) leaf.head;
-      names = chain_listed h i c.loop-place._place c.loop-place.link.leaf c.in-Is.leaf _ _ _ at.chain leaf (c.loop-place.invariant.listed h i shown is) c.in_ok-add_names.ensures.added;
+      names = chain_listed h i c.loop-place._place c.loop-place.link.leaf c.in-Is.leaf _ _ _ (at.chain (answer_at _ _ _ c.in-Is.is c.in_ok-leaf.ensures.small).0) leaf (c.loop-place.invariant.listed h i shown is) c.in_ok-add_names.ensures.added;
     }
 
 pub loop-place-preserved : goal.loop-place-preserved
@@ -58,7 +58,7 @@ loop-place-preserved g c =
     record {
       along = goes_on v c.args.dir c.args.head.now c.loop-place._place c.loop-place.link _ c.in-Is.leaf c.loop-place.invariant.along
           leaf (answer_at _ _ _ c.in-Is.is c.in_ok-leaf.ensures.small) (answer_at _ _ _ c.in-Is.is c.in_ok-leaf.ensures.there) c.if-leaf-eq0.false refl;
-      listed = λ h i shown is. chain_listed h i c.loop-place._place c.loop-place.link.leaf c.in-Is.leaf _ _ _ (c.loop-place.invariant.along.at h i shown is).chain (leaf h i shown is)
+      listed = λ h i shown is. chain_listed h i c.loop-place._place c.loop-place.link.leaf c.in-Is.leaf _ _ _ ((c.loop-place.invariant.along.at h i shown is).chain (answer_at _ _ _ c.in-Is.is c.in_ok-leaf.ensures.small).0) (leaf h i shown is)
           (c.loop-place.invariant.listed h i shown is) c.in_ok-add_names.ensures.added;
     }
 

@@ -2,6 +2,7 @@ use Rattle.std.proofs.Common.{◌≡◌, ◌∙◌, ◌∷◌, sym, ap, subst, a
 use Rattle.gfs2_layout.specs.Inode.{depth_in}
 use Rattle.gfs2_layout.specs.declared.dinode.Dinode.{Dinode}
 use Rattle.hash_dirs.specs.Shown.{index_for}
+use Rattle.hash_dirs.proofs.Along.{head_there}
 use Rattle.hash_steps.proofs.Leaves.{chain_low}
 use Rattle.hash_inserts.specs.Inserting.{Inserts}
 use Rattle.hash_inserts.proofs.After.{shown_after, shows_after}
@@ -14,7 +15,7 @@ use Rattle.hash_inserts.proofs.inserting.put_with_leaf.Goals as goal
 
 pub returns-in_default-clause-put : goal.returns-in_default-clause-put
 returns-in_default-clause-put g c h need place can shows chain ends full deepest has own =
-    let one = needs_one h c.args.name.now need can.takes full deepest (chain_low h (index_for h c.args.name.now) place c.args.last chain) in
+    let one = needs_one h c.args.name.now need can.takes full deepest (chain_low h (index_for h c.args.name.now) place c.args.last chain) (head_there h (index_for h c.args.name.now) place c.args.last chain) in
     absurd (omega (arith, one, can.enough, c.in_default.ensures))
 
 pub returns-clause-put : goal.returns-clause-put
@@ -26,7 +27,7 @@ returns-clause-put g c h need place can shows chain ends full deepest has own =
     let name = c.args.name.now in
     let front : c.args.room.now.items ≡ c.in-Some.leaf ∷ c.pop_front.new.self.items = c.in-Some.ensures.items in
     let free = free_front h c.in-Some.leaf c.args.room.now.items c.pop_front.new.self.items front can.free in
-    let one : need ≡ 1 = needs_one h name need can.takes full deepest (chain_low h (index_for h c.args.name.now) place c.args.last chain) in
+    let one : need ≡ 1 = needs_one h name need can.takes full deepest (chain_low h (index_for h c.args.name.now) place c.args.last chain) (head_there h (index_for h c.args.name.now) place c.args.last chain) in
     let view = c.put_behind.ensures.view in
     ok_map c.put_behind.result _ _ (λ answer put.
     let k = put.1.0 in

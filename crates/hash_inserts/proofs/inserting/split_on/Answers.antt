@@ -3,7 +3,7 @@ use Rattle.std.proofs.lemmas.Bool.{true≢false}
 use Rattle.drafts.specs.Fates.{seen_in, seen_with}
 use Rattle.gfs2_layout.specs.Inode.{depth_in, entry, table_count, top_bits}
 use Rattle.hash_dirs.specs.Shown.{IsShown, index_for}
-use Rattle.hash_dirs.proofs.Chained.{index_low}
+use Rattle.hash_dirs.proofs.Chained.{head_some, index_low}
 use Rattle.hash_steps.specs.Leaves.{HasOneLeaf, leaf_depth}
 use Rattle.hash_inserts.specs.Advancing.{StepsOn}
 use Rattle.hash_inserts.specs.Drafting.{SplitsLeaf}
@@ -18,7 +18,7 @@ pub returns-in_default-clause-split : goal.returns-in_default-clause-split
 returns-in_default-clause-split g c h need can shows at full depth_is less =
     let name = c.args.name.now in
     let low = index_low h can.sound can.shown.hashed name can.small in
-    let some = needs_some h name need can.takes (none_has_room h name c.args.leaf at.leaf_is at.one full) less low in
+    let some = needs_some h name need can.takes (none_has_room h name c.args.leaf at.leaf_is at.one full) less low (head_some h can.sound can.shown.hashed (index_for h name) low) in
     absurd (omega (arith, some, can.enough, c.in_default.ensures))
 
 pub returns-then-not-done-clause-split : goal.returns-then-not-done-clause-split

@@ -30,12 +30,12 @@ returns-then-leaf-eq0-clause-walked g c h i shown is =
     let room = c.area_has_room.ensures ∙ ap (λ a. has_room_for c.args.len (slots_of a)) leaf.area in
     record {
       at = c.loop-place.place;
-      chain = at.chain;
+      chain = at.chain (answer_at _ _ _ c.in-Is.is c.in_ok-leaf.ensures.small).0;
       ends = ap (λ (l : Leaf). l.next) (sym leaf.head) ∙ c.if-leaf-eq0.true;
       single = refl;
       room = subst (IsRoomBefore h i c.args.len (c.loop-place.place + 1)) (sym c.first_of-with_room.ensures)
-          (room_more h i c.loop-place.place c.loop-place.link.leaf at.chain c.args.len c.loop-place.with_room c.area_has_room.result room (c.loop-place.invariant.room h i shown is));
-      there = sees_more h i c.loop-place.place c.loop-place.link.leaf at.chain v (has, of_group) (c.loop-place.invariant.there h i shown is);
+          (room_more h i c.loop-place.place c.loop-place.link.leaf (at.chain (answer_at _ _ _ c.in-Is.is c.in_ok-leaf.ensures.small).0) c.args.len c.loop-place.with_room c.area_has_room.result room (c.loop-place.invariant.room h i shown is));
+      there = sees_more h i c.loop-place.place c.loop-place.link.leaf (at.chain (answer_at _ _ _ c.in-Is.is c.in_ok-leaf.ensures.small).0) v (has, of_group) (c.loop-place.invariant.there h i shown is);
     }
 
 pub loop-place-preserved : goal.loop-place-preserved
@@ -47,9 +47,9 @@ loop-place-preserved g c =
     record {
       along = goes_on v c.args.dir c.args.head.now c.loop-place.place c.loop-place.link _ c.in-Is.leaf c.loop-place.invariant.along leaf (answer_at _ _ _ c.in-Is.is c.in_ok-leaf.ensures.small) has c.if-leaf-eq0.false refl;
       room = λ h i shown is. subst (IsRoomBefore h i c.args.len (c.loop-place.place + 1)) (sym c.first_of-with_room.ensures)
-          (room_more h i c.loop-place.place c.loop-place.link.leaf (c.loop-place.invariant.along.at h i shown is).chain c.args.len c.loop-place.with_room c.area_has_room.result
+          (room_more h i c.loop-place.place c.loop-place.link.leaf ((c.loop-place.invariant.along.at h i shown is).chain (answer_at _ _ _ c.in-Is.is c.in_ok-leaf.ensures.small).0) c.args.len c.loop-place.with_room c.area_has_room.result
           (c.area_has_room.ensures ∙ ap (λ a. has_room_for c.args.len (slots_of a)) (leaf h i shown is).area) (c.loop-place.invariant.room h i shown is));
-      there = λ h i shown is. sees_more h i c.loop-place.place c.loop-place.link.leaf (c.loop-place.invariant.along.at h i shown is).chain v (has, of_group) (c.loop-place.invariant.there h i shown is);
+      there = λ h i shown is. sees_more h i c.loop-place.place c.loop-place.link.leaf ((c.loop-place.invariant.along.at h i shown is).chain (answer_at _ _ _ c.in-Is.is c.in_ok-leaf.ensures.small).0) v (has, of_group) (c.loop-place.invariant.there h i shown is);
     }
 
 pub returns-clause-damaged : goal.returns-clause-damaged

@@ -1,6 +1,7 @@
 use Rattle.std.proofs.Common.{◌≡◌, ◌+◌, ◌<◌, sym, subst, ◌∙◌, arith}
 use Rattle.gfs2_layout.specs.Inode.{first_hash}
 use Rattle.hash_dirs.specs.Shown.{IsInChain}
+use Rattle.hash_dirs.proofs.Chained.{head_some}
 use Rattle.pointer_tables.specs.Directories.{chain_head, chain_next}
 use Rattle.image_journals.specs.Blocks.{seen_of}
 use Rattle.image_journals.proofs.Adding.{added_none}
@@ -11,7 +12,7 @@ use Rattle.image_journals.proofs.gathering.add_chain.Goals as goal
 
 pub loop-place-init : goal.loop-place-init
 loop-place-init c h i is hashed low first = record {
-  chain = subst (IsInChain h i 0) (sym first) (chain_head low);
+  chain = subst (IsInChain h i 0) (sym first) (chain_head low (head_some h is.sound hashed i low));
   added = added_none _ (IsOnFirst h i 0) (λ x on. absurd (let no : on.0 < 0 = on.1 in omega (arith, no)));
 }
 

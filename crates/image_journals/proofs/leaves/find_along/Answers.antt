@@ -4,6 +4,7 @@ use Rattle.gfs2_layout.specs.Inode.{first_hash}
 use Rattle.gfs2_layout.specs.Records.{record_named, records_in}
 use Rattle.linear_dirs.specs.Shown.{entry_of}
 use Rattle.hash_dirs.specs.Shown.{IsInChain}
+use Rattle.hash_dirs.proofs.Chained.{head_some}
 use Rattle.hash_dirs.proofs.Along.{found_here, found_nowhere, none_named}
 use Rattle.pointer_tables.specs.Directories.{chain_head}
 use Rattle.image_journals.specs.Blocks.{seen_of}
@@ -13,7 +14,7 @@ use Rattle.image_journals.proofs.leaves.find_along.Goals as goal
 
 pub loop-place-init : goal.loop-place-init
 loop-place-init c h i is hashed low first = record {
-  chain = subst (IsInChain h i 0) (sym first) (chain_head low);
+  chain = subst (IsInChain h i 0) (sym first) (chain_head low (head_some h is.sound hashed i low));
   later = λ earlier x before chain. absurd (let no : earlier < 0 = before in omega arith);
 }
 

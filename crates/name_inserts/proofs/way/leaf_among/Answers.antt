@@ -27,7 +27,7 @@ returns-in-Some-broken_rule-clause-damaged g c h i shown is deep =
     (breaks_leaf h i link.from link.leaf c.in-Some-broken_rule.rule c.in-Some.bytes.now leads small.0 (bytes_there v c.args.dir h i link.from link.leaf c.in-Some.bytes.now shown leads small.0 c.in-Some.ensures.some) c.in-Some-broken_rule.ensures.some))
 
 pub returns-then-is_one_of-clause-some : goal.returns-then-is_one_of-clause-some
-returns-then-is_one_of-clause-some g c h i shown is = (c.if-is_one_of.ensures.0 refl, (c.loop-place._place, (c.loop-place.invariant.along.at h i shown is).chain))
+returns-then-is_one_of-clause-some g c h i shown is = (c.if-is_one_of.ensures.0 refl, (c.loop-place._place, (c.loop-place.invariant.along.at h i shown is).chain (answer_at _ _ _ c.in-Is.is c.in_ok-leaf.ensures.small).0))
 
 pub returns-then-leaf-eq0-clause-none : goal.returns-then-leaf-eq0-clause-none
 returns-then-leaf-eq0-clause-none g c h i shown is deep =
@@ -40,8 +40,8 @@ returns-then-leaf-eq0-clause-none g c h i shown is deep =
     let right = right_leaf v c.args.dir h i link.from link.leaf c.args.depth c.in-Is.leaf c.in-Some.bytes.now shown at.leads small.0 c.in-Some.ensures.some (answer_at _ _ _ c.in-Is.is c.in_ok-leaf.ensures.inside) c.in_default-broken_rule.ensures.none leaf deep
     (answer_at _ _ _ c.in-Is.is c.in_ok-leaf.ensures.low) in
     let apart : Contains blocks link.leaf → ⊥ = λ has. true≢false (sym (c.is_one_of.ensures.1 has) ∙ c.if-is_one_of.false) in
-    right_all v h i c.loop-place._place link.leaf blocks at.chain (ap (λ (l : Leaf). l.next) (sym leaf.head) ∙ c.if-leaf-eq0.true)
-    (right_more v h i c.loop-place._place link.leaf blocks at.chain right apart (c.loop-place.invariant.right h i shown is deep))
+    right_all v h i c.loop-place._place link.leaf blocks (at.chain small.0) (ap (λ (l : Leaf). l.next) (sym leaf.head) ∙ c.if-leaf-eq0.true)
+    (right_more v h i c.loop-place._place link.leaf blocks (at.chain small.0) right apart (c.loop-place.invariant.right h i shown is deep))
 
 pub loop-place-preserved : goal.loop-place-preserved
 loop-place-preserved g c =
@@ -55,7 +55,7 @@ loop-place-preserved g c =
       along = goes_on v c.args.dir c.args.head.now c.loop-place._place link _ c.in-Is.leaf c.loop-place.invariant.along leaf small (answer_at _ _ _ c.in-Is.is c.in_ok-leaf.ensures.there) c.if-leaf-eq0.false refl;
       right = λ h i shown is deep.
           let at = c.loop-place.invariant.along.at h i shown is in
-          right_more v h i c.loop-place._place link.leaf blocks at.chain
+          right_more v h i c.loop-place._place link.leaf blocks (at.chain small.0)
           (right_leaf v c.args.dir h i link.from link.leaf c.args.depth c.in-Is.leaf c.in-Some.bytes.now shown at.leads small.0 c.in-Some.ensures.some (answer_at _ _ _ c.in-Is.is c.in_ok-leaf.ensures.inside) c.in_default-broken_rule.ensures.none (leaf h i shown is) deep
           (answer_at _ _ _ c.in-Is.is c.in_ok-leaf.ensures.low))
           apart (c.loop-place.invariant.right h i shown is deep);
