@@ -156,6 +156,9 @@ homes log new lock bytes _ (goes_home b is none least same) = (is, same)
 pub one_goes : (log new : LogValue) (lock : LockName) (bytes : List ℕ) → log.flush ≡ None → IsNextLock log lock → HomeAnswer log new lock bytes None → ⊥
 one_goes log new lock bytes idle next (homing.nothing none same) = none next.block next.bytes idle next.away
 
+pub home_answers : (n r m : Node) (lock : LockName) (s : Option LogStep) → r ≡ record n { items = r.items } → HomeAnswer r.log m.log lock m.block.items s → HomeAnswer n.log m.log lock m.block.items s
+home_answers n r m lock s r_is answer = subst (λ (x : LogValue). HomeAnswer x m.log lock m.block.items s) (ap (λ (x : Node). x.log) r_is) answer
+
 pub only_writes : (log new : LogValue) (lock : LockName) (bytes : List ℕ) (s : LogStep) → HomeAnswer log new lock bytes (Some s) → (b : ℕ) × (s ≡ step.Write b)
 only_writes log new lock bytes _ (goes_home b is none least same) = (b, refl)
 
@@ -303,14 +306,14 @@ module _ (d d' : DiskState) (l l' : Option (List Operation)) (n m k n' : Node) (
   stops_resting stop.NoMemory of disk list same = absurd of
 
   module _ (made : point_of d' l' k ≡ with_barrier (point_of d l m) l' m.log) (gained : GainsBarrier (point_of d l m) l') (k_is : k ≡ record m { items = k.items; flying = 0 }) (n'_is : n' ≡ record k { log = n'.log }) (settles : Settles n.log n'.log) where
-    disk_is : d' ≡ after_barrier d 1
-    disk_is = ap (λ (x : Point). x.disk) made
+    settled_disk : d' ≡ after_barrier d 1
+    settled_disk = ap (λ (x : Point). x.disk) made
 
     pub none_flies : d'.in_flight 1 ≡ []
-    none_flies = ap (λ (x : DiskState). x.in_flight 1) disk_is
+    none_flies = ap (λ (x : DiskState). x.in_flight 1) settled_disk
 
-    q_is : point_of d' l' n' ≡ with_barrier (point_of d l n) l' n'.log
-    q_is = ap (point_of d' l') n'_is ∙ ap (λ (x : Point). record x { log = n'.log }) made ∙ ap (λ (x : Point). with_barrier x l' n'.log) m_at
+    settled_point : point_of d' l' n' ≡ with_barrier (point_of d l n) l' n'.log
+    settled_point = ap (point_of d' l') n'_is ∙ ap (λ (x : Point). record x { log = n'.log }) made ∙ ap (λ (x : Point). with_barrier x l' n'.log) m_at
 
     log_was : (P : LogValue → Type 0) → P (record n.log { live = n'.log.live }) → P n'.log
     log_was P is = subst P (sym settles.same) is
@@ -329,7 +332,7 @@ module _ (d d' : DiskState) (l l' : Option (List Operation)) (n m k n' : Node) (
     its_armed = ap (λ (x : Node). x.armed) n'_is ∙ ap (λ (x : Node). x.armed) k_is ∙ ap (λ (x : Node). x.armed) m_is
 
     on_rest : IsNodeOn d' n'
-    on_rest = on_still d d' n n' at.on (same_barrier d d' disk_is) (settling_sound n.log n'.log at.on.sound settles) (settling_keeps_widths n.log n'.log at.on.widths settles) blocks_rest
+    on_rest = on_still d d' n n' at.on (same_barrier d d' settled_disk) (settling_sound n.log n'.log at.on.sound settles) (settling_keeps_widths n.log n'.log at.on.widths settles) blocks_rest
         (ap (λ (x : LogValue). x.journal) settles.same) (ap (λ (x : Node). x.view) n'_is ∙ ap (λ (x : Node). x.view) k_is ∙ ap (λ (x : Node). x.view) m_is)
         (ap (λ (x : Node). length x.block.items) n'_is ∙ ap (λ (x : Node). length x.block.items) k_is ∙ ap (λ (x : Node). length x.block.items) m_is)
         (its_flying ∙ sym (ap length none_flies)) (let none = its_flying in omega (arith, none)) (subst Awaits (sym its_armed) at.on.awaits)
@@ -337,9 +340,9 @@ module _ (d d' : DiskState) (l l' : Option (List Operation)) (n m k n' : Node) (
     pub rested : GoesHomeward d l n d' l' n'
     rested = record {
       goes = record {
-        steps = λ time. subst (Steps time (point_of d l n)) (sym q_is) (Then (point_of d l n) _ Here (Rests n'.log l' refl (λ headed. none_some (sym at.idle ∙ headed.2)) settles gained));
-        disk = same_barrier d d' disk_is;
-        armed = ap₂ crash_of its_armed (ap (λ (x : Point). x.items) q_is) ∙ crash_stays n.armed n.items.items _ (trace.Barrier 1) refl refl;
+        steps = λ time. subst (Steps time (point_of d l n)) (sym settled_point) (Then (point_of d l n) _ Here (Rests n'.log l' refl (λ headed. none_some (sym at.idle ∙ headed.2)) settles gained));
+        disk = same_barrier d d' settled_disk;
+        armed = ap₂ crash_of its_armed (ap (λ (x : Point). x.items) settled_point) ∙ crash_stays n.armed n.items.items _ (trace.Barrier 1) refl refl;
       };
       homing = record {
         on = on_rest;

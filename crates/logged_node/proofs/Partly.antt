@@ -39,6 +39,10 @@ pub ok_of_all : (r : Result (Unit {0}) Stop) (P A B C D Q : Type 0) → (P → A
 ok_of_all (Ok _) P A B C D Q so p a b c d = so p a b c d
 ok_of_all (Err why) P A B C D Q so p a b c d = tt
 
+pub ok_of_write : (r : Result (Unit {0}) Stop) (P G A B C Q : Type 0) → (P → G → A → B → C → Q) → IfMade r P → IfMade r G → IfMade r A → OnOk r B → OnOk r C → OnOk r Q
+ok_of_write (Ok _) P G A B C Q so p g a b c = so p g a b c
+ok_of_write (Err why) P G A B C Q so p g a b c = tt
+
 -- ---- a write
 
 pub one_more_flies : (d d' : DiskState) (l l' : Option (List Operation)) (n n' : Node) (b : ℕ) (bytes : List ℕ) (item : TraceItem) → n.flying ≡ length (d.in_flight 1) → n'.flying ≡ n.flying + 1

@@ -63,10 +63,13 @@ fn send<D: SharedDisk>(disk: &mut D, node: &mut Node, lock: LockName) -> Result<
         Err(why) => return Err(why),
     }
     match next_home(node, lock) {
-        Some(LogStep::Write { block }) => {
-            put_write(disk, node, block, TraceItem::WriteHome { node: 1, block })
-        }
-        _ => unreachable!(),
+        None => unreachable!(),
+        Some(step) => match step {
+            LogStep::Write { block } => {
+                put_write(disk, node, block, TraceItem::WriteHome { node: 1, block })
+            }
+            _ => unreachable!(),
+        },
     }
 }
 
