@@ -11,3 +11,4 @@ pub mod Stepped
 pub mod Ended
 pub mod Waiting
 pub mod Homeward
+pub mod Roomy

@@ -39,6 +39,14 @@ pub ok_of_all : (r : Result (Unit {0}) Stop) (P A B C D Q : Type 0) → (P → A
 ok_of_all (Ok _) P A B C D Q so p a b c d = so p a b c d
 ok_of_all (Err why) P A B C D Q so p a b c d = tt
 
+pub ok_map : (r : Result (Unit {0}) Stop) (P Q : Type 0) → (P → Q) → OnOk r P → OnOk r Q
+ok_map (Ok _) P Q so p = so p
+ok_map (Err why) P Q so p = tt
+
+pub ok_both : (r : Result (Unit {0}) Stop) (P A B Q : Type 0) → (P → A → B → Q) → OnOk r P → OnOk r A → OnOk r B → OnOk r Q
+ok_both (Ok _) P A B Q so p a b = so p a b
+ok_both (Err why) P A B Q so p a b = tt
+
 pub ok_of_write : (r : Result (Unit {0}) Stop) (P G A B C Q : Type 0) → (P → G → A → B → C → Q) → IfMade r P → IfMade r G → IfMade r A → OnOk r B → OnOk r C → OnOk r Q
 ok_of_write (Ok _) P G A B C Q so p g a b c = so p g a b c
 ok_of_write (Err why) P G A B C Q so p g a b c = tt

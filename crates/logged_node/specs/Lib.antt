@@ -3,3 +3,4 @@ pub mod Nodes
 pub mod Deeds
 pub mod Flushing
 pub mod Homing
+pub mod Rooms

@@ -6,8 +6,10 @@ mod ends;
 mod flushing;
 mod homing;
 mod node;
+mod rooms;
 
 pub use ends::Stop;
 pub use flushing::{Flushed, flush};
 pub use homing::go_home;
 pub use node::{CallNumbers, Node};
+pub use rooms::{bring_in, make_room};
