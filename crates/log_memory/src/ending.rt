@@ -9,7 +9,13 @@ ghost use Rattle.log_memory.specs.Ending.{last_header};
 use crate::log::Log;
 use crate::places::{block_of, place};
 use log_layout::{Later, LogHeader};
-use log_values::LogStep;
+
+/// The write of a journal's last header: the block where it goes, and its sequence.
+#[derive(Clone, Copy, Debug, PartialEq, Eq)]
+pub struct LastWrite {
+    pub block: u64,
+    pub sequence: u64,
+}
 
 // The place behind the head, which is always free.
 fn last_place(log: &Log) -> u32
@@ -47,10 +53,10 @@ fn header(log: &Log, first: u32, block: u64) -> LogHeader
     }
 }
 
-/// Fills a block of the journal, `into`, with the clean header that ends it, which goes to the place behind its head: the step that writes it. It takes no memory.
-pub fn put_last_header(log: &Log, into: &mut [u8]) -> LogStep
+/// Fills a block of the journal, `into`, with the clean header that ends it, and tells where it goes: to the place behind the journal's head. It takes no memory.
+pub fn put_last_header(log: &Log, into: &mut [u8]) -> LastWrite
     requires { length into.old ≡ log.now.journal.size }
-    ensures step { result ≡ LogStep.Head (block_at log.now.journal (first_place log.now)) (after log.now.sequence) }
+    ensures at { result ≡ record { block = block_at log.now.journal (first_place log.now); sequence = after log.now.sequence } }
     ensures bytes { into.new ≡ log_put (last_header log.now) (zeros log.now.journal.size) }
     ensures read { log_read into.new ≡ Ok (as_read (last_header log.now) into.new) }
 {
@@ -59,7 +65,7 @@ pub fn put_last_header(log: &Log, into: &mut [u8]) -> LogStep
     let header = header(log, first, block);
     into.fill(0);
     header.write(into);
-    LogStep::Head {
+    LastWrite {
         block,
         sequence: header.sequence,
     }

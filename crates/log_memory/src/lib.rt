@@ -18,7 +18,7 @@ mod settling;
 mod tails;
 mod telling;
 
-pub use ending::put_last_header;
+pub use ending::{LastWrite, put_last_header};
 pub use journal::Journal;
 #[doc(hidden)]
 pub use kinds::Stage;

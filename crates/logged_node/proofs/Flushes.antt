@@ -34,18 +34,19 @@ slice_get_low (x ∷ xs) (suc k) a is = (let low = slice_get_low xs k a is in om
 pub way_here : (n p : ℕ) → way n p p ≡ 0
 way_here n p = grind (arith, nat_tests)
 
+-- the place behind the head is one
+pub first_inside : (log : LogValue) → IsSoundLog log → first_place log < log.journal.length
+first_inside log sound = place_next
+  where
+    place_next : place_on log.journal.length log.head 1 < log.journal.length
+    place_next = on_below log.journal.length log.head 1 sound.head (let least = sound.least in omega (arith, least))
+
 module _ (log : LogValue) (f : Flush) (sound : IsSoundLog log) (is : log.flush ≡ Some f) where
   abbrev n : ℕ
   n = log.journal.length
 
-  next_inside : (p : ℕ) → p < n → next n p < n
-  next_inside p low = place_next
-    where
-      place_next : place_on n p 1 < n
-      place_next = on_below n p 1 low (let least = sound.least in omega (arith, least))
-
   first_in : first_place log < n
-  first_in = next_inside log.head sound.head
+  first_in = first_inside log sound
 
   -- a flush has fewer chunks than the journal has places
   chunks_few : length (flush_chunks log f) < n

@@ -12,3 +12,4 @@ pub mod Ended
 pub mod Waiting
 pub mod Homeward
 pub mod Roomy
+pub mod Clean

@@ -56,9 +56,9 @@ ok_of_write (Err why) P G A B C Q so p g a b c = tt
 pub one_more_flies : (d d' : DiskState) (l l' : Option (List Operation)) (n n' : Node) (b : ℕ) (bytes : List ℕ) (item : TraceItem) → n.flying ≡ length (d.in_flight 1) → n'.flying ≡ n.flying + 1
     → point_of d' l' n' ≡ with_write (point_of d l n) b bytes l' n.log item → n'.flying ≡ length (d'.in_flight 1)
 one_more_flies d d' l l' n n' b bytes item was more made = (
-  let long : length (d'.in_flight 1) ≡ suc (length (d.in_flight 1)) = ap (λ (x : Point). length (x.disk.in_flight 1)) made ∙ length_with (d.in_flight 1) (record { block = b; bytes = bytes }) in
-  omega (arith, was, more, long)
-)
+    let long : length (d'.in_flight 1) ≡ suc (length (d.in_flight 1)) = ap (λ (x : Point). length (x.disk.in_flight 1)) made ∙ length_with (d.in_flight 1) (record { block = b; bytes = bytes }) in
+    omega (arith, was, more, long)
+    )
 
 -- ---- a barrier
 
@@ -69,12 +69,12 @@ committed x = record x { items = x.items ++ trace.Commit 1 x.log.sequence x.numb
 pub last_carried : (d d' : DiskState) (l l' : Option (List Operation)) (n m k : Node) (bytes : List ℕ) → point_of d' l' m ≡ with_barrier (point_of d l n) l' n.log → GainsBarrier (point_of d l n) l' → n.log.flush ≡ None
     → k ≡ record m { items = k.items; numbers = record m.numbers { low = m.numbers.begun } } → k.items.items ≡ m.items.items ++ trace.Commit 1 m.log.sequence m.numbers.begun ∷ [] → IsCarried bytes (point_of d l n) (point_of d' l' k) step.Barrier
 last_carried d d' l l' n m k bytes made gains none k_is items = carried.the_last l' none gains (
-  ap (point_of d' l') k_is
-  ∙ ap (λ (is : List TraceItem). record (point_of d' l' m) { numbers = numbers_of (record m.numbers { low = m.numbers.begun }); items = is }) items
-  ∙ ap committed made
-  ∙ ap (λ (is : List TraceItem). record (with_barrier (point_of d l n) l' n.log) { numbers = record (numbers_of n.numbers) { low = n.numbers.begun }; items = is })
-  (append_assoc n.items.items (trace.Barrier 1 ∷ []) (trace.Commit 1 n.log.sequence n.numbers.begun ∷ []))
-)
+    ap (point_of d' l') k_is
+    ∙ ap (λ (is : List TraceItem). record (point_of d' l' m) { numbers = numbers_of (record m.numbers { low = m.numbers.begun }); items = is }) items
+    ∙ ap committed made
+    ∙ ap (λ (is : List TraceItem). record (with_barrier (point_of d l n) l' n.log) { numbers = record (numbers_of n.numbers) { low = n.numbers.begun }; items = is })
+    (append_assoc n.items.items (trace.Barrier 1 ∷ []) (trace.Commit 1 n.log.sequence n.numbers.begun ∷ []))
+    )
 
 -- one while it goes on
 pub barrier_carried : (d d' : DiskState) (l l' : Option (List Operation)) (n m : Node) (bytes : List ℕ) → point_of d' l' m ≡ with_barrier (point_of d l n) l' n.log → GainsBarrier (point_of d l n) l' → n.log.flush ≢ None

@@ -45,7 +45,7 @@ moved_kept n m moves = record {
 was_roomy : (n m : Node) → MovesHome n m → HasRoomForDue m.log → HasRoomForDue n.log
 was_roomy n m moves roomy = subst HasRoomForDue moves.log roomy
 
-was_due : (n m : Node) → MovesHome n m → IsDue m.log → IsDue n.log
+pub was_due : (n m : Node) → MovesHome n m → IsDue m.log → IsDue n.log
 was_due n m moves is = subst IsDue moves.log is
 
 -- so is whether anything is live
@@ -187,7 +187,7 @@ in_sync d e l k n m brought counted = by brought.calls
     by : HasCalls n m → m.numbers.changed ≤ m.numbers.low
     by (rooms.all low) = (let changed = brought.kept.changed in let few = counted.changed in omega (arith, low, changed, few))
     by (rooms.no_change blocks low) = (
-      let changed = brought.kept.changed in
-      let none = at_most n.numbers.low n.numbers.changed (λ owes. counted.owing owes blocks) in
-      omega (arith, low, changed, none)
-    )
+        let changed = brought.kept.changed in
+        let none = at_most n.numbers.low n.numbers.changed (λ owes. counted.owing owes blocks) in
+        omega (arith, low, changed, none)
+        )

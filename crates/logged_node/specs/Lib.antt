@@ -4,3 +4,4 @@ pub mod Deeds
 pub mod Flushing
 pub mod Homing
 pub mod Rooms
+pub mod Leaving

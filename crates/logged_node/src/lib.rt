@@ -5,11 +5,13 @@ mod deeds;
 mod ends;
 mod flushing;
 mod homing;
+mod leaving;
 mod node;
 mod rooms;
 
 pub use ends::Stop;
 pub use flushing::{Flushed, flush};
 pub use homing::go_home;
+pub use leaving::unmount;
 pub use node::{CallNumbers, Node};
 pub use rooms::{bring_in, make_room};
