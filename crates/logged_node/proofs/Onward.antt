@@ -114,6 +114,10 @@ pub map_err : (r : Result (Unit {0}) Stop) (P Q : Stop → Type 0) → ((why : S
 map_err (Ok _) P Q so is = tt
 map_err (Err why) P Q so is = so why is
 
+pub map_both : (r : Result (Unit {0}) Stop) (P Q R : Stop → Type 0) → ((why : Stop) → P why → Q why → R why) → IfErr r P → IfErr r Q → IfErr r R
+map_both (Ok _) P Q R so p q = tt
+map_both (Err why) P Q R so p q = so why p q
+
 pub if_failed : (P Q : Type 0) (so : P → Q) (why : Stop) → IfFailed why P → IfFailed why Q
 if_failed P Q so (stop.DiskFailed block rise) is = so is
 if_failed P Q so stop.Crashed is = tt
