@@ -1,11 +1,11 @@
 -- A flush begins, and makes its first step; or it doesn't, and the node is as it was.
-use Rattle.std.proofs.Common.{◌≡◌, ◌≢◌, ◌≤◌, ◌<◌, ◌+◌, ◌^◌, ℕ, List, [], length, Option, None, Some, Ok, Err, refl, sym, ap, ap₂, subst, ◌∙◌, arith}
+use Rattle.std.proofs.Common.{◌≡◌, ◌≢◌, ◌≤◌, ◌<◌, ◌+◌, ◌^◌, ℕ, List, length, Option, None, Some, refl, sym, ap, ap₂, subst, ◌∙◌, arith}
 use Rattle.std.specs.Prelude.{IfErr, Result}
 use Rattle.std.specs.FinMap as table
 use Rattle.log_values.specs.Blocks as set
 use Rattle.log_values.specs.Flushing.{AllAreHome, Begins, FlushAnswer, FlushStep, HasRoom, IsDue, NothingIsLive, a_barrier, a_block, a_header, a_step, alone, begun, begun_alone, goes_on, no_room, the_last, with_all}
 use Rattle.log_values.specs.Flushing as answers
-use Rattle.log_values.specs.Log.{Flush, LogValue, Stage}
+use Rattle.log_values.specs.Log.{Flush, LogValue}
 use Rattle.log_values.specs.Log.Stage.{Ending, Headed, Writing}
 use Rattle.log_values.specs.Sound.{IsSoundLog}
 use Rattle.log_values.specs.Transactions.{due}
@@ -17,7 +17,6 @@ use Rattle.log_widths.specs.Laws.{WidthsAreNumbers}
 use Rattle.log_widths.specs.Widths.{HasLogWidths}
 use Rattle.log_widths.proofs.Staying.{beginning_keeps_widths}
 use Rattle.node_journal.proofs.Lengths.{chunks_length}
-use Rattle.logged_steps.specs.Points.{Point}
 use Rattle.logged_steps.specs.Steps.{BeginsFlush, BeginsHeader, Here, Steps, Then}
 use Rattle.logged_steps.proofs.Telling.{steps_go_on}
 use Rattle.shared_disk.specs.Disk.{DiskState, Operation, flight_to}
@@ -25,7 +24,7 @@ use Rattle.trace_text.specs.declared.item.TraceItem.{TraceItem}
 use Rattle.logged_node.specs.declared.ends.Stop.{Stop}
 use Rattle.logged_node.specs.declared.node.Node.{Node}
 use Rattle.logged_node.specs.Ends.{IfCrashed, IfFailed, IfMade}
-use Rattle.logged_node.specs.Flushing.{FailsAt, HasBegun, HasNoRoom, HasNothingToFlush, IsAsItWas, IsCarried, IsFlownBlock, IsFlushing, MayCarry, number_of, of_all, of_none}
+use Rattle.logged_node.specs.Flushing.{FailsAt, HasBegun, HasNoRoom, HasNothingToFlush, IsAsItWas, IsCarried, IsFlushing, MayCarry, number_of, of_all, of_none}
 use Rattle.logged_node.specs.Nodes.{Awaits, IsLogOf, IsNodeOn, IsResting, IsSmall, KeepsView, NoneGoesHome, StopsBehind, crash_at, point_of, writes_in}
 use Rattle.logged_node.proofs.Blocks.{blocks_begin, none_some, some_same}
 use Rattle.logged_node.proofs.Disks.{same_disk}

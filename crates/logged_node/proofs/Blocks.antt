@@ -1,8 +1,7 @@
 -- What a log's steps do to the blocks that it knows of: they stay blocks of the disk.
-use Rattle.std.proofs.Common.{◌≡◌, ◌<◌, ◌+◌, ℕ, ◌⊎◌, inl, inr, Bool, true, false, List, length, Option, None, Some, refl, sym, ap, subst, ◌∙◌}
+use Rattle.std.proofs.Common.{◌≡◌, ◌<◌, ◌+◌, ℕ, ◌⊎◌, inl, inr, Bool, true, false, List, Option, None, Some, refl, sym, subst, ◌∙◌}
 use Rattle.std.specs.FinMap as table
-use Rattle.std.specs.Ordering.{nat_cmp}
-use Rattle.std.specs.Prelude.{nat_lt, if◌then◌else◌}
+use Rattle.std.specs.Prelude.{if◌then◌else◌}
 use Rattle.log_values.specs.Blocks as set
 use Rattle.log_values.specs.Flushing.{Begins, FlushStep, alone, at_stage, behind_tail, first_place, goes_on, left_from, live_behind, logged_over, settled, with_all}
 use Rattle.log_values.specs.Flushing as steps

@@ -1,26 +1,16 @@
 -- A step of a flush that was carried out is one of the node's steps, and the flush goes on, or is in the journal.
-use Rattle.std.proofs.Common.{◌≡◌, ◌≢◌, ◌≤◌, ◌<◌, ◌+◌, ℕ, zero, suc, ◌⊎◌, inl, inr, Bool, true, false, List, [], ◌∷◌, ◌++◌, length, Option, None, Some, refl, sym, ap, subst, subst₂, ◌∙◌, arith}
-use Rattle.std.specs.FinMap as table
-use Rattle.std.specs.Ordering.{nat_cmp}
-use Rattle.std.specs.Prelude.{⊤, slice_get, nat_lt, if◌then◌else◌}
-use Rattle.std.proofs.lemmas.Bool.{cases_eq}
-use Rattle.std.proofs.lemmas.Cmp.{nat_cmp_total}
+use Rattle.std.proofs.Common.{◌≡◌, ℕ, List, [], ◌∷◌, ◌++◌, length, Option, Some, refl, sym, ap, subst, subst₂, ◌∙◌}
 use Rattle.log_layout.specs.Transactions.{after}
-use Rattle.log_rings.specs.Flights.{chunk_place}
 use Rattle.log_rings.specs.Laws.{HasNumbers}
-use Rattle.log_tables.specs.Versions.Way.{Away, Flying, Home}
-use Rattle.log_values.specs.Blocks as set
-use Rattle.log_values.specs.Flushing.{FlushStep, a_barrier, a_block, a_header, at_stage, behind_tail, block_at, first_place, flush_chunks, head_place, left_from, live_behind, logged_over, settled, settled_way, the_last}
-use Rattle.log_values.specs.Log.{Entry, Flush, LogValue, Stage, Version, Way}
-use Rattle.log_values.specs.Log.Stage.{Ending, Headed, Writing}
-use Rattle.log_values.specs.Transactions.{live_among}
+use Rattle.log_values.specs.Flushing.{FlushStep, a_barrier, flush_chunks, the_last}
+use Rattle.log_values.specs.Log.{Flush, LogValue}
 use Rattle.log_values.specs.declared.steps.LogStep.{LogStep}
 use Rattle.log_values.specs.declared.steps.LogStep.TheVariants as step
-use Rattle.shared_disk.specs.Disk.{DiskState, Flight, Operation, after_barrier, flight_to, with_flight}
+use Rattle.shared_disk.specs.Disk.{Operation, after_barrier}
 use Rattle.trace_text.specs.declared.item.TraceItem.{TraceItem}
 use Rattle.trace_text.specs.declared.item.TraceItem.TheVariants as trace
-use Rattle.logged_steps.specs.Points.{Anything, ItsCommit, MayWrite, Next, Point}
-use Rattle.logged_steps.specs.Steps.{Commits, EndsBlocks, EndsFlush, Here, Step, Steps, Then, WritesHead, WritesLog, with_barrier}
+use Rattle.logged_steps.specs.Points.{Anything, ItsCommit, Next, Point}
+use Rattle.logged_steps.specs.Steps.{Commits, EndsBlocks, EndsFlush, Here, Steps, Then, WritesHead, WritesLog, with_barrier}
 use Rattle.logged_node.specs.Flushing.{IsCarried, MayCarry, TellsHead}
 use Rattle.logged_node.specs.Flushing as carried
 use Rattle.logged_node.proofs.Blocks.{none_some}

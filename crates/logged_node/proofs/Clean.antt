@@ -1,20 +1,19 @@
 -- How a node leaves its journal: ready to end it, and ended by a clean header.
-use Rattle.std.proofs.Common.{◌≡◌, ◌≢◌, ◌≤◌, ◌<◌, ◌+◌, ◌-◌, ◌^◌, ℕ, true, false, List, [], ◌∷◌, ◌++◌, length, Option, None, Some, Ok, Err, refl, sym, ap, ap₂, subst, subst₂, ◌∙◌, arith}
-use Rattle.std.specs.Prelude.{IfErr, Result}
+use Rattle.std.proofs.Common.{◌≡◌, ◌<◌, ◌+◌, ◌-◌, ◌^◌, ℕ, true, false, List, [], ◌∷◌, ◌++◌, Option, None, Some, Ok, Err, refl, sym, ap, ap₂, subst, subst₂, ◌∙◌, arith}
 use Rattle.log_layout.specs.Headers.{as_read, log_put, log_read}
 use Rattle.log_layout.specs.Transactions.{after}
 use Rattle.log_layout.specs.declared.log_header.LogHeader.{LogHeader}
 use Rattle.log_memory.specs.Ending.{last_header}
-use Rattle.log_values.specs.Flushing.{AllAreHome, IsDue, first_place}
+use Rattle.log_values.specs.Flushing.{first_place}
 use Rattle.log_values.specs.Log.{LogValue}
 use Rattle.journal_replays.specs.Headers.{filled}
-use Rattle.lone_ends.specs.Ends.{CleanBlocksAreLast, IsDone, IsLastHeader}
+use Rattle.lone_ends.specs.Ends.{CleanBlocksAreLast, IsLastHeader}
 use Rattle.node_journal.specs.Encoding.{zeros}
 use Rattle.peer_replay.specs.Plans.{clean_after}
-use Rattle.shared_disk.specs.Disk.{DiskState, Gains, Operation, Write, after_barrier, after_write, flight_to}
+use Rattle.shared_disk.specs.Disk.{DiskState, Gains, Operation, Write, after_write, flight_to}
 use Rattle.trace_text.specs.declared.item.TraceItem.{TraceItem}
 use Rattle.trace_text.specs.declared.item.TraceItem.TheVariants as trace
-use Rattle.logged_steps.specs.Points.{Point, state_of}
+use Rattle.logged_steps.specs.Points.{Point}
 use Rattle.logged_steps.specs.Steps.{GainsBarrier, GainsWrite, Here, Steps, Then, Unmounts, with_barrier, with_write}
 use Rattle.logged_node.specs.declared.ends.Stop.{Stop}
 use Rattle.logged_node.specs.declared.ends.Stop.TheVariants as stop
@@ -27,7 +26,6 @@ use Rattle.logged_node.specs.Leaving.{FliesLastHeader, HasLastHeader, IsAtEnd, I
 use Rattle.logged_node.specs.Nodes.{IsResting, crash_at, crash_of, point_of, writes_in}
 use Rattle.logged_node.specs.Rooms.{HasBroughtIn}
 use Rattle.logged_node.proofs.Arming.{crash_stays}
-use Rattle.logged_node.proofs.Blocks.{none_some}
 use Rattle.logged_node.proofs.Disks.{same_disk}
 use Rattle.logged_node.proofs.Ended.{goes_behind}
 use Rattle.logged_node.proofs.Flushes.{first_inside}
@@ -84,11 +82,11 @@ is_ready d e f l k h n m o p left m_is brought home = record {
   home = home.home;
   answered = ap (λ x. x.answered) home.moves.numbers ∙ brought.kept.answered ∙ ap (λ (x : Node). x.numbers.answered) m_is;
   sequence = (
-    let last : p.log.sequence ≡ o.log.sequence = ap (λ (x : LogValue). x.sequence) home.moves.log in
-    let first : m.log.sequence ≡ n.log.sequence = ap (λ (x : Node). x.log.sequence) m_is in
-    let few = brought.sequence in
-    omega (arith, last, first, few)
-  );
+      let last : p.log.sequence ≡ o.log.sequence = ap (λ (x : LogValue). x.sequence) home.moves.log in
+      let first : m.log.sequence ≡ n.log.sequence = ap (λ (x : Node). x.log.sequence) m_is in
+      let few = brought.sequence in
+      omega (arith, last, first, few)
+      );
 }
 
 -- it is done

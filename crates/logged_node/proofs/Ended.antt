@@ -1,7 +1,6 @@
 -- A flush from its first step to its end: what it has come to, and how a node stops on the way.
 use Rattle.std.proofs.Common.{◌≡◌, ◌≤◌, ◌<◌, ℕ, List, Option, None, Some, sym, subst, ◌∙◌, arith}
 use Rattle.std.specs.Prelude.{IfSome}
-use Rattle.fault_counts.specs.Causes.{WentUp}
 use Rattle.log_values.specs.Log.{Flush}
 use Rattle.logged_steps.proofs.Telling.{steps_go_on}
 use Rattle.shared_disk.specs.Disk.{DiskState, Operation}

@@ -1,14 +1,12 @@
 -- A step of a flush, carried out on the disk.
-use Rattle.std.proofs.Common.{◌≡◌, ◌≢◌, ◌≤◌, ◌<◌, ◌+◌, ℕ, zero, suc, ◌⊎◌, inl, inr, List, [], ◌∷◌, ◌++◌, length, Option, None, Some, refl, sym, ap, subst, subst₂, ◌∙◌, arith}
-use Rattle.std.specs.FinMap as table
+use Rattle.std.proofs.Common.{◌≡◌, ◌≤◌, ◌<◌, ℕ, zero, suc, List, [], ◌∷◌, length, Option, None, Some, refl, sym, ap, subst, subst₂, ◌∙◌, arith}
 use Rattle.std.specs.Prelude.{slice_get}
 use Rattle.log_layout.specs.Transactions.{after}
 use Rattle.log_rings.specs.Flights.{chunk_place}
-use Rattle.log_values.specs.Blocks as set
 use Rattle.log_values.specs.Flushing.{FlushStep, block_at, first_place, flush_chunks, head_place}
 use Rattle.log_values.specs.Flushing as steps
-use Rattle.log_values.specs.Log.{Entry, Flush, LogValue, Stage}
-use Rattle.log_values.specs.Log.Stage.{Ending, Headed, Writing}
+use Rattle.log_values.specs.Log.{Flush, LogValue}
+use Rattle.log_values.specs.Log.Stage.{Ending, Writing}
 use Rattle.log_values.specs.Sound.{Fits, IsSoundLog, alone, with_room}
 use Rattle.log_values.specs.declared.steps.LogStep.{LogStep}
 use Rattle.log_values.specs.declared.steps.LogStep.TheVariants as step
@@ -16,7 +14,7 @@ use Rattle.log_values.proofs.Landing.{alone_takes}
 use Rattle.log_values.proofs.Ways.{on_below, way_on}
 use Rattle.node_journal.proofs.Lengths.{chunks_length}
 use Rattle.node_journal.specs.Places.{place_on}
-use Rattle.log_layout.specs.Journal.{next, way}
+use Rattle.log_layout.specs.Journal.{way}
 use Rattle.std.proofs.lemmas.Bool.Decides.{nat_tests}
 use Rattle.log_values.specs.Transactions.{flushed_as}
 use Rattle.shared_disk.specs.Disk.{DiskState, flight_to}

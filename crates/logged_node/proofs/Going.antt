@@ -1,5 +1,5 @@
 -- Behind a step of a flush: it is under way still, or it is in the journal.
-use Rattle.std.proofs.Common.{◌≡◌, ◌≢◌, ◌≤◌, ◌<◌, ◌+◌, ℕ, zero, suc, ◌⊎◌, inl, inr, Bool, true, false, cond, List, [], ◌∷◌, ◌++◌, length, Option, None, Some, is_some, true≢false, refl, sym, ap, ap₂, subst, subst₂, ◌∙◌, arith}
+use Rattle.std.proofs.Common.{◌≡◌, ◌≤◌, ◌<◌, ◌+◌, ℕ, inl, inr, Bool, true, false, cond, List, [], ◌∷◌, ◌++◌, length, Option, None, Some, is_some, true≢false, refl, sym, ap, ap₂, subst, subst₂, ◌∙◌, arith}
 use Rattle.std.specs.FinMap as table
 use Rattle.std.specs.Ordering.{nat_cmp}
 use Rattle.std.specs.Prelude.{slice_get, nat_le, nat_lt, not, filter, count_by, if◌then◌else◌}
@@ -21,19 +21,16 @@ use Rattle.log_values.specs.Log.{Entry, Flush, Journal, LogValue, Stage, Version
 use Rattle.log_widths.specs.Widths.{HasLogWidths}
 use Rattle.log_values.specs.Log.Stage.{Ending, Headed, Writing}
 use Rattle.log_values.specs.Transactions.{due, live_among, transaction}
-use Rattle.log_values.specs.declared.steps.LogStep.{LogStep}
-use Rattle.log_values.specs.declared.steps.LogStep.TheVariants as step
 use Rattle.log_values.proofs.Landing.{nothing_is, nothing_takes}
 use Rattle.log_layout.specs.Chunks.{Logged, Transaction}
 use Rattle.log_layout.specs.Journal.{way}
 use Rattle.std.proofs.lemmas.Bool.Decides.{nat_tests}
 use Rattle.node_journal.specs.Encoding.{content_of, metadata_of, size_of, size_with}
-use Rattle.shared_disk.specs.Disk.{DiskState, Flight, Operation, after_write, flight_to, with_flight}
-use Rattle.trace_text.specs.declared.item.TraceItem.{TraceItem}
+use Rattle.shared_disk.specs.Disk.{DiskState, Flight, flight_to, with_flight}
 use Rattle.trace_text.specs.declared.item.TraceItem.TheVariants as trace
 use Rattle.logged_node.specs.Flushing.{FliesAsFlushed, HasComeTo, HasFlushed, IsDone, IsFlownBlock, IsFlushing, IsKind, in_journal, left_at, left_of, most_flown, of_all, of_none, steps_left, under_way}
 use Rattle.logged_node.specs.Flushing as came
-use Rattle.logged_node.specs.Nodes.{Awaits, IsLogOf, IsNodeOn, IsResting, IsSameDisk, IsSmall, KeepsView, NoneGoesHome}
+use Rattle.logged_node.specs.Nodes.{Awaits, IsLogOf, IsNodeOn, IsSameDisk, IsSmall, KeepsView, NoneGoesHome}
 use Rattle.logged_node.specs.declared.node.Node.{Node}
 use Rattle.std.proofs.lemmas.List.Sums.{length-filter}
 use Rattle.logged_node.proofs.Blocks.{none_some}

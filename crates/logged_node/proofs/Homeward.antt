@@ -1,5 +1,5 @@
 -- A live block is sent home, or a barrier made: a step of the node, which takes blocks home still.
-use Rattle.std.proofs.Common.{◌≡◌, ◌≢◌, ◌≤◌, ◌<◌, ◌+◌, ℕ, suc, ◌⊎◌, inl, inr, Bool, true, false, List, [], ◌∷◌, length, Option, None, Some, Ok, Err, refl, sym, ap, ap₂, subst, ◌∙◌, arith}
+use Rattle.std.proofs.Common.{◌≡◌, ◌≤◌, ◌<◌, ◌+◌, ℕ, suc, ◌⊎◌, inl, inr, Bool, true, false, List, [], ◌∷◌, length, Option, None, Some, refl, sym, ap, ap₂, subst, ◌∙◌, arith}
 use Rattle.std.specs.Prelude.{◌==◌, IfErr, Result, nat_lt, if◌then◌else◌}
 use Rattle.std.specs.FinMap as table
 use Rattle.std.specs.Ordering.{nat_cmp}
@@ -21,7 +21,7 @@ use Rattle.log_values.proofs.Homing.{homing_sound}
 use Rattle.log_widths.specs.Widths.{HasLogWidths}
 use Rattle.log_widths.proofs.Staying.{homing_keeps_widths, settling_keeps_widths}
 use Rattle.lone_logs.specs.States.{flies_home}
-use Rattle.logged_steps.specs.Points.{MayWrite, Point}
+use Rattle.logged_steps.specs.Points.{Point}
 use Rattle.logged_steps.specs.Steps.{GainsBarrier, GainsWrite, GoesHome, Here, Rests, Steps, Then, with_barrier, with_write}
 use Rattle.shared_disk.specs.Disk.{DiskState, Flight, Operation, after_barrier, after_write, flight_to, with_flight}
 use Rattle.trace_text.specs.declared.item.TraceItem.{TraceItem}
@@ -31,16 +31,15 @@ use Rattle.logged_node.specs.declared.ends.Stop.TheVariants as stop
 use Rattle.logged_node.specs.declared.node.Node.{Node}
 use Rattle.logged_node.specs.Deeds.{MayBeWritten, a_write, no_write}
 use Rattle.logged_node.specs.Ends.{IfCrashed, IfFailed, IfMade, IsOfDisk}
-use Rattle.logged_node.specs.Flushing.{GoesBySteps}
 use Rattle.logged_node.specs.Homing.{GoesHomeward, HasGoneHome, IsHoming, MovesHome, at_home, waiting}
 use Rattle.logged_node.specs.Nodes.{Awaits, FailsBehind, IsLogOf, IsNodeOn, IsResting, NoneGoesHome, StopsBehind, as_it_was, crash_at, crash_of, in_a_write, point_of, writes_in}
 use Rattle.logged_node.proofs.Arming.{crash_stays}
-use Rattle.logged_node.proofs.Blocks.{none_some, some_same, was_settled}
+use Rattle.logged_node.proofs.Blocks.{none_some, was_settled}
 use Rattle.logged_node.proofs.Disks.{flies_elsewhere, length_with, same_barrier, same_disk, same_written}
 use Rattle.logged_node.proofs.Ended.{goes_behind}
 use Rattle.logged_node.proofs.Going.{on_still, small_on}
 use Rattle.logged_node.proofs.Onward.{if_crashed, if_failed, map_err, stops_at}
-use Rattle.logged_node.proofs.Waiting.{as_many, none_away_still, one_fewer}
+use Rattle.logged_node.proofs.Waiting.{one_fewer}
 
 -- ---- what flies
 

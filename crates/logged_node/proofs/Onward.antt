@@ -1,8 +1,7 @@
 -- A step of a flush that was carried out: it is one of the node's steps, and the flush has come on; and how a node stops at it.
-use Rattle.std.proofs.Common.{◌≡◌, ◌≤◌, ◌<◌, ◌+◌, ◌^◌, ℕ, suc, List, [], ◌∷◌, ◌++◌, length, Option, None, Some, Ok, Err, refl, sym, ap, ap₂, subst, ◌∙◌, arith}
+use Rattle.std.proofs.Common.{◌≡◌, ◌≤◌, ◌<◌, ◌+◌, ◌^◌, ℕ, suc, List, length, Option, None, Some, Ok, Err, refl, sym, ap, ap₂, subst, ◌∙◌, arith}
 use Rattle.std.specs.Prelude.{IfErr, Result}
 use Rattle.std.proofs.Math.Nat.{mod-eq_of_lt}
-use Rattle.log_layout.specs.Transactions.{after}
 use Rattle.log_rings.specs.Laws.{HasNumbers}
 use Rattle.log_values.specs.Flushing.{FlushStep, a_barrier, a_block, a_header, the_last}
 use Rattle.log_values.specs.Log.{Flush, LogValue}
@@ -14,7 +13,7 @@ use Rattle.log_widths.specs.Laws.{WidthsAreNumbers}
 use Rattle.log_widths.specs.Widths.{HasLogWidths}
 use Rattle.log_widths.proofs.Staying.{steps_keep_widths}
 use Rattle.logged_steps.specs.Points.{Point}
-use Rattle.logged_steps.specs.Steps.{Here, Steps, GainsBarrier, GainsWrite, with_barrier, with_write}
+use Rattle.logged_steps.specs.Steps.{Here, Steps, with_barrier, with_write}
 use Rattle.logged_steps.proofs.Telling.{steps_go_on}
 use Rattle.shared_disk.specs.Disk.{DiskState, Operation, after_barrier, after_write}
 use Rattle.trace_text.specs.declared.item.TraceItem.{TraceItem}

@@ -1,11 +1,10 @@
 -- How a step of a flush was carried out, by a write or by a barrier.
-use Rattle.std.proofs.Common.{◌≡◌, ◌≢◌, ◌+◌, ℕ, suc, List, [], ◌∷◌, ◌++◌, length, Option, None, Some, Ok, Err, refl, sym, ap, ap₂, subst, ◌∙◌, arith}
+use Rattle.std.proofs.Common.{◌≡◌, ◌≢◌, ◌+◌, ℕ, suc, List, [], ◌∷◌, ◌++◌, length, Option, None, Ok, Err, refl, ap, ◌∙◌, arith}
 use Rattle.std.specs.Prelude.{OnOk, Result}
-use Rattle.log_values.specs.declared.steps.LogStep.{LogStep}
 use Rattle.log_values.specs.declared.steps.LogStep.TheVariants as step
 use Rattle.shared_disk.specs.Disk.{DiskState, Operation}
 use Rattle.logged_steps.specs.Points.{Point}
-use Rattle.logged_steps.specs.Steps.{GainsBarrier, GainsWrite, with_barrier, with_write}
+use Rattle.logged_steps.specs.Steps.{GainsBarrier, with_barrier, with_write}
 use Rattle.trace_text.specs.declared.item.TraceItem.{TraceItem}
 use Rattle.trace_text.specs.declared.item.TraceItem.TheVariants as trace
 use Rattle.logged_node.specs.declared.ends.Stop.{Stop}

@@ -1,13 +1,12 @@
 -- Room in the journal, and what is due in it.
-use Rattle.std.proofs.Common.{◌≡◌, ◌≢◌, ◌≤◌, ◌<◌, ◌+◌, ℕ, zero, suc, ◌⊎◌, inl, inr, List, [], ◌∷◌, length, Option, None, Some, refl, sym, ap, ap₂, subst, ◌∙◌, arith}
+use Rattle.std.proofs.Common.{◌≡◌, ◌≢◌, ◌≤◌, ◌<◌, ◌+◌, ℕ, zero, suc, ◌⊎◌, inl, inr, List, [], ◌∷◌, Option, None, Some, refl, sym, ap, ap₂, subst, ◌∙◌, arith}
 use Rattle.std.specs.FinMap as table
 use Rattle.std.specs.Ordering.{nat_cmp}
-use Rattle.log_layout.specs.Chunks.{Logged}
 use Rattle.log_values.specs.Blocks as set
-use Rattle.log_values.specs.Flushing.{AllAreHome, HasRoom, IsDue, NothingIsLive}
+use Rattle.log_values.specs.Flushing.{AllAreHome, IsDue, NothingIsLive}
 use Rattle.log_values.specs.Log.{Entry, LogValue, Version}
 use Rattle.log_values.specs.Transactions.{due, transaction}
-use Rattle.log_values.proofs.Landing.{all_none, no_items, none_in, nothing_is}
+use Rattle.log_values.proofs.Landing.{all_none, none_in, nothing_is}
 use Rattle.log_values.proofs.Rooms.{changed_fewer, empty_has_room}
 use Rattle.log_layout.specs.Chunks.{Transaction}
 use Rattle.shared_disk.specs.Disk.{DiskState, Operation}
@@ -22,7 +21,7 @@ use Rattle.logged_node.specs.Homing.{HasGoneHome, MovesHome, at_home}
 use Rattle.logged_node.specs.Nodes.{IsResting, KeepsView, crash_at, crash_of, point_of}
 use Rattle.logged_node.specs.Rooms.{HasBroughtIn, HasCalls, IsCounted}
 use Rattle.logged_node.specs.Rooms as rooms
-use Rattle.logged_node.proofs.Blocks.{none_some, some_same}
+use Rattle.logged_node.proofs.Blocks.{none_some}
 use Rattle.logged_node.proofs.Disks.{same_disk}
 use Rattle.logged_node.proofs.Ended.{goes_behind}
 use Rattle.logged_node.proofs.Going.{kept_on}

@@ -1,5 +1,5 @@
 -- The next step of a flush, from the room for its items on: what a node has come to behind it, and how it stops at it.
-use Rattle.std.proofs.Common.{◌≡◌, ◌<◌, ◌+◌, ◌^◌, ℕ, List, length, Option, None, Some, Ok, Err, refl, sym, ap, subst, ◌∙◌}
+use Rattle.std.proofs.Common.{◌≡◌, ◌<◌, ◌+◌, ◌^◌, List, length, Option, None, Some, sym, ap, subst, ◌∙◌}
 use Rattle.std.specs.Prelude.{◌≢◌, IfErr, Result}
 use Rattle.log_values.specs.Flushing.{FlushAnswer, FlushStep}
 use Rattle.log_values.specs.Log.{Flush, LogValue}

@@ -1,5 +1,5 @@
 -- Blocks that are away, and how many: one fewer once one is sent, as many once those that were sent are home.
-use Rattle.std.proofs.Common.{◌≡◌, ◌<◌, ◌+◌, ℕ, Bool, true, false, cond, List, Option, None, Some, refl, sym, ap, ◌∙◌, arith}
+use Rattle.std.proofs.Common.{◌≡◌, ◌<◌, ◌+◌, ℕ, Bool, true, false, List, Option, None, Some, refl, sym, ap, ◌∙◌, arith}
 use Rattle.std.specs.FinMap as table
 use Rattle.std.specs.Ordering.{nat_cmp}
 use Rattle.std.proofs.lemmas.Cmp.{nat_cmp_total}
@@ -10,7 +10,7 @@ use Rattle.log_tables.specs.Versions.Way.{Away, Flying, Home}
 use Rattle.log_tables.proofs.Counting.{gone, insert_removed, one, passing, passing_with, passing_without}
 use Rattle.log_tables.proofs.Taking.{count-only, get-only, only}
 use Rattle.log_values.specs.Flushing.{settled, settled_way}
-use Rattle.log_values.specs.Homing.{IsAwayUnder, Settles}
+use Rattle.log_values.specs.Homing.{Settles}
 use Rattle.log_values.specs.Log.{Entry, LogValue, Way}
 use Rattle.logged_node.specs.Homing.{waiting}
 use Rattle.logged_node.proofs.Blocks.{none_some, some_same}

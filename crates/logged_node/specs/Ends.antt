@@ -1,5 +1,5 @@
 -- Why a node stops.
-use Rattle.std.specs.Prelude.{ℕ, ◌≡◌, ◌<◌, ⊤, IfSome, Option, Some, Result, Ok, Err}
+use Rattle.std.specs.Prelude.{ℕ, ◌<◌, ⊤, IfSome, Result, Ok, Err}
 use Rattle.fault_counts.specs.Causes.{WentUp}
 use Rattle.logged_node.specs.declared.ends.Stop.{Stop}
 use Rattle.logged_node.specs.declared.ends.Stop.TheVariants as stop

@@ -1,5 +1,5 @@
 -- How a node makes room in its journal, and brings into it what is due.
-use Rattle.std.specs.Prelude.{ℕ, ◌≡◌, ◌≢◌, ◌<◌, ◌≤◌, ◌+◌, List, [], Option}
+use Rattle.std.specs.Prelude.{◌≡◌, ◌≢◌, ◌<◌, ◌≤◌, ◌+◌, List, [], Option}
 use Rattle.log_values.specs.Flushing.{IsDue}
 use Rattle.log_values.specs.Transactions.{due}
 use Rattle.shared_disk.specs.Disk.{DiskState, Operation}

@@ -1,4 +1,4 @@
-use Rattle.std.proofs.Common.{◌≡◌, ℕ, None, Some, Err, refl, rules, ap, subst}
+use Rattle.std.proofs.Common.{ℕ, None, Some, Err, refl, rules, ap, subst}
 use Rattle.log_values.specs.Flushing.{FlushAnswer}
 use Rattle.log_values.specs.declared.steps.LogStep.{LogStep}
 use Rattle.logged_node.proofs.Onward.{stops_here}

@@ -1,6 +1,4 @@
-use Rattle.std.proofs.Common.{◌≡◌, None, true≢false, sym, ap, ◌∙◌, arith}
-use Rattle.log_values.specs.Log.{Flush}
-use Rattle.logged_node.specs.Flushing.{IsFlushing}
+use Rattle.std.proofs.Common.{true≢false, sym, ◌∙◌, arith}
 use Rattle.logged_node.proofs.Onward.{stops_on}
 use Rattle.logged_node.proofs.Ended.{cause_of_all, goes_behind, now_in_journal, still_under_way}
 use Rattle.logged_node.proofs.flushing.flush.Goals as goal

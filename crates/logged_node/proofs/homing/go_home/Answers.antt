@@ -1,5 +1,4 @@
 use Rattle.std.proofs.Common.{length, ap, arith}
-use Rattle.logged_node.proofs.Ended.{cause_of_all}
 use Rattle.logged_node.proofs.Homeward.{gone_home_on, homeward_none, homeward_on, rest_homes}
 use Rattle.logged_node.proofs.Onward.{map_err, stops_on}
 use Rattle.logged_node.proofs.Partly.{ok_map}

@@ -1,8 +1,7 @@
-use Rattle.std.proofs.Common.{◌+◌, ◌<◌, None, Some, ap, subst, ◌∙◌}
+use Rattle.std.proofs.Common.{None, Some, subst}
 use Rattle.log_values.specs.Homing.{HomeAnswer}
 use Rattle.log_values.specs.declared.steps.LogStep.{LogStep}
-use Rattle.logged_node.specs.declared.node.Node.{Node}
-use Rattle.logged_node.proofs.Homeward.{fewer, free, home_answers, inside, one_goes, only_writes, sent, stops_sending}
+use Rattle.logged_node.proofs.Homeward.{fewer, free, home_answers, inside, one_goes, sent, stops_sending}
 use Rattle.logged_node.proofs.Onward.{stops_here}
 use Rattle.logged_node.proofs.Partly.{made_both, ok_of_write}
 use Rattle.logged_node.proofs.Stepped.{as_long, same_items, with_step}

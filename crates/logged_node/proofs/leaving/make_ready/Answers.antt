@@ -1,4 +1,3 @@
-use Rattle.std.proofs.Common.{◌∙◌}
 use Rattle.logged_node.proofs.Clean.{goes_leaving, is_ready, rests_leaving}
 use Rattle.logged_node.proofs.Ended.{cause_of_all, goes_behind}
 use Rattle.logged_node.proofs.Onward.{map_err, stops_here, stops_on}

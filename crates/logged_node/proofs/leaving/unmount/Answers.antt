@@ -1,4 +1,4 @@
-use Rattle.std.proofs.Common.{◌≡◌, ℕ, Option, refl, sym, subst, ◌∙◌}
+use Rattle.std.proofs.Common.{ℕ, Option, refl, sym, subst, ◌∙◌}
 use Rattle.logged_node.specs.Leaving.{StopsAtHeader, at_the_end, clean_still, with_header}
 use Rattle.logged_node.specs.Nodes.{point_of}
 use Rattle.logged_node.proofs.Clean.{at_end}

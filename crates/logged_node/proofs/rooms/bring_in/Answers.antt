@@ -1,4 +1,4 @@
-use Rattle.std.proofs.Common.{◌≡◌, true≢false, sym, ◌∙◌}
+use Rattle.std.proofs.Common.{true≢false, sym, ◌∙◌}
 use Rattle.logged_node.proofs.Ended.{cause_of_all}
 use Rattle.logged_node.proofs.Onward.{map_err, stops_on}
 use Rattle.logged_node.proofs.Partly.{ok_map}

@@ -1,6 +1,4 @@
 use Rattle.std.proofs.Common.{◌≡◌, sym, ◌∙◌}
-use Rattle.logged_node.specs.Flushing.{IsAsItWas}
-use Rattle.logged_node.specs.declared.flushing.Flushed.{Flushed}
 use Rattle.logged_node.specs.declared.flushing.Flushed.TheVariants as flushed
 use Rattle.logged_node.proofs.Onward.{map_err, stops_on}
 use Rattle.logged_node.proofs.Roomy.{still_armed, still_goes}
