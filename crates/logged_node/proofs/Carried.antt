@@ -1,5 +1,6 @@
 -- A step of a flush that was carried out is one of the node's steps, and the flush goes on, or is in the journal.
 use Rattle.std.proofs.Common.{◌≡◌, ℕ, List, [], ◌∷◌, ◌++◌, length, Option, Some, refl, sym, ap, subst, subst₂, ◌∙◌}
+use Rattle.std.proofs.lemmas.List.{append_assoc}
 use Rattle.log_layout.specs.Transactions.{after}
 use Rattle.log_rings.specs.Laws.{HasNumbers}
 use Rattle.log_values.specs.Flushing.{FlushStep, a_barrier, flush_chunks, the_last}
@@ -16,10 +17,6 @@ use Rattle.logged_node.specs.Flushing as carried
 use Rattle.logged_node.proofs.Blocks.{none_some}
 
 -- ---- the steps
-
-append_assoc : {A : Type 0} (xs ys zs : List A) → (xs ++ ys) ++ zs ≡ xs ++ (ys ++ zs)
-append_assoc [] ys zs = refl
-append_assoc (x ∷ xs) ys zs = ap (λ l. x ∷ l) (append_assoc xs ys zs)
 
 module _ (p q : Point) (f : Flush) (new : LogValue) (bytes : List ℕ) (is : p.log.flush ≡ Some f) (numbers : HasNumbers p.log f) (whole : length bytes ≡ p.disk.size) (told : TellsHead p.items p.numbers.begun (after p.log.sequence) f.stage) (free : p.next ≡ Anything) where
   abbrev mid : Point

@@ -39,6 +39,7 @@ use Rattle.logged_node.proofs.Disks.{flies_elsewhere, length_with, same_barrier,
 use Rattle.logged_node.proofs.Ended.{goes_behind}
 use Rattle.logged_node.proofs.Going.{on_still, small_on}
 use Rattle.logged_node.proofs.Onward.{if_crashed, if_failed, map_err, stops_at}
+use Rattle.logged_node.proofs.Ordering.{order_none, order_on, order_sent, order_settled}
 use Rattle.logged_node.proofs.Waiting.{one_fewer}
 
 -- ---- what flies
@@ -125,16 +126,16 @@ moves_behind a b c x y = record {
 }
 
 pub homeward_none : (d : DiskState) (l : Option (List Operation)) (n : Node) → IsHoming d n → GoesHomeward d l n d l n
-homeward_none d l n at = record { goes = record { steps = λ time. Here; disk = same_disk d; armed = refl }; homing = at; moves = moves_none n }
+homeward_none d l n at = record { goes = record { steps = λ time. Here; disk = same_disk d; armed = refl }; homing = at; moves = moves_none n; order = order_none n }
 
 pub homeward_on : (d e f : DiskState) (l m k : Option (List Operation)) (a b c : Node) → GoesHomeward d l a e m b → GoesHomeward e m b f k c → GoesHomeward d l a f k c
-homeward_on d e f l m k a b c x y = record { goes = goes_behind d e f l m k a b c x.goes y.goes; homing = y.homing; moves = moves_behind a b c x.moves y.moves }
+homeward_on d e f l m k a b c x y = record { goes = goes_behind d e f l m k a b c x.goes y.goes; homing = y.homing; moves = moves_behind a b c x.moves y.moves; order = order_on a b c x.order y.order }
 
 pub gone_home : (d e : DiskState) (l m : Option (List Operation)) (a b : Node) → GoesHomeward d l a e m b → e.in_flight 1 ≡ [] → NoneIsAway b.log → HasGoneHome d l a e m b
-gone_home d e l m a b x none away = record { goes = x.goes; resting = homes_rest e b x.homing none; moves = x.moves; home = all_home e b x.homing none away }
+gone_home d e l m a b x none away = record { goes = x.goes; resting = homes_rest e b x.homing none; moves = x.moves; order = x.order; home = all_home e b x.homing none away }
 
 pub gone_home_on : (d e f : DiskState) (l m k : Option (List Operation)) (a b c : Node) → GoesHomeward d l a e m b → HasGoneHome e m b f k c → HasGoneHome d l a f k c
-gone_home_on d e f l m k a b c x y = record { goes = goes_behind d e f l m k a b c x.goes y.goes; resting = y.resting; moves = moves_behind a b c x.moves y.moves; home = y.home }
+gone_home_on d e f l m k a b c x y = record { goes = goes_behind d e f l m k a b c x.goes y.goes; resting = y.resting; moves = moves_behind a b c x.moves y.moves; order = order_on a b c x.order y.order; home = y.home }
 
 -- a node that does nothing more
 pub no_flight : (d : DiskState) (n : Node) → IsNodeOn d n → n.flying ≤ 0 → d.in_flight 1 ≡ []
@@ -249,7 +250,7 @@ module _ (d d' : DiskState) (l l' : Option (List Operation)) (n m n' : Node) (lo
       subst (λ (k : ℕ). flight_to (with_flight (d.in_flight 1) (record { block = b; bytes = bytes })) k ≡ flies_home (table.get live' k)) (sym same) (flies_there (d.in_flight 1) (record { block = b; bytes = bytes }) free ∙ sym (ap flies_home here))
   flies_now c (inr off) = flies_elsewhere (d.in_flight 1) (record { block = b; bytes = bytes }) c off ∙ at.flies c ∙ sym (ap flies_home (other c off))
 
-  module _ (made : Written) (gained : Gained) (n'_is : n' ≡ record m { items = n'.items; flying = m.flying + 1; armed = n'.armed }) (few : n.flying < 512) (awaits : Awaits n'.armed) (armed : crash_at n' ≡ crash_at m) where
+  module _ (made : Written) (gained : Gained) (n'_is : n' ≡ record m { items = n'.items; flying = m.flying + 1; armed = n'.armed }) (few : n.flying < 512) (next : IsNextLock n.log lock) (awaits : Awaits n'.armed) (armed : crash_at n' ≡ crash_at m) where
     log_is : n'.log ≡ m.log
     log_is = ap (λ (x : Node). x.log) n'_is
 
@@ -287,6 +288,7 @@ module _ (d d' : DiskState) (l l' : Option (List Operation)) (n m n' : Node) (lo
         log = log_is ∙ goes.1 ∙ ap (λ (x : table.FinMap nat_cmp Entry). record n.log { live = x }) (sym (ap (λ (x : LogValue). x.live) (log_is ∙ goes.1)));
         live = λ c. ap (λ (x : LogValue). at_home (table.get x.live c)) (log_is ∙ goes.1) ∙ moved c (cases_eq c b);
       };
+      order = order_sent n n' lock b bytes next (subst (λ (x : LogValue). HomeAnswer n.log x lock bytes (Some (step.Write b))) (sym log_is) answer) (ap (λ (x : Point). x.items) (q_is made));
     }
 
     pub fewer : waiting n'.log < waiting n.log
@@ -356,4 +358,5 @@ module _ (d d' : DiskState) (l l' : Option (List Operation)) (n m k n' : Node) (
         log = settles.same;
         live = λ b. ap at_home (settles.settles b) ∙ settled_home (table.get n.log.live b);
       };
+      order = order_settled n n' settles (ap (λ (x : Point). x.items) settled_point);
     }

@@ -2,7 +2,7 @@ pub mod Blocks
 pub mod Disks
 pub mod Arming
 pub mod Flushes
-pub mod Partly
+pub mod Carrying
 pub mod Carried
 pub mod Going
 pub mod Onward
@@ -10,6 +10,7 @@ pub mod Beginning
 pub mod Stepped
 pub mod Ended
 pub mod Waiting
+pub mod Ordering
 pub mod Homeward
-pub mod Roomy
-pub mod Clean
+pub mod MakingRoom
+pub mod Unmounting

@@ -6,7 +6,7 @@ use Rattle.logged_node.specs.Ends.{IfMade}
 use Rattle.logged_node.specs.Flushing.{IsCarried}
 use Rattle.logged_node.specs.Flushing as carried
 use Rattle.logged_node.specs.Nodes.{point_of}
-use Rattle.logged_node.proofs.Partly.{made_both, made_ok, one_more_flies}
+use Rattle.logged_node.proofs.Carrying.{made_both, made_ok, one_more_flies}
 use Rattle.logged_node.proofs.flushing.carry.Goals as goal
 
 pub returns-in-Write-clause-carried : goal.returns-in-Write-clause-carried

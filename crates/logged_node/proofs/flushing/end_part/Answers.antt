@@ -1,6 +1,6 @@
 use Rattle.std.proofs.Common.{true≢false, sym, ap, ◌∙◌}
 use Rattle.logged_node.specs.declared.node.Node.{Node}
-use Rattle.logged_node.proofs.Partly.{barrier_carried, last_carried}
+use Rattle.logged_node.proofs.Carrying.{barrier_carried, last_carried}
 use Rattle.logged_node.proofs.flushing.end_part.Goals as goal
 
 pub returns-then-not-is_flushing-clause-carried : goal.returns-then-not-is_flushing-clause-carried

@@ -1,5 +1,5 @@
 use Rattle.logged_node.proofs.Onward.{stops_here}
-use Rattle.logged_node.proofs.Partly.{ok_of_all}
+use Rattle.logged_node.proofs.Carrying.{ok_of_all}
 use Rattle.logged_node.proofs.Stepped.{has_gone_on, has_step, may_go_on, stops_going_on}
 use Rattle.logged_node.proofs.flushing.go_on.Goals as goal
 

@@ -1,7 +1,7 @@
 use Rattle.std.proofs.Common.{length, ap, arith}
 use Rattle.logged_node.proofs.Homeward.{gone_home_on, homeward_none, homeward_on, rest_homes}
 use Rattle.logged_node.proofs.Onward.{map_err, stops_on}
-use Rattle.logged_node.proofs.Partly.{ok_map}
+use Rattle.logged_node.proofs.Carrying.{ok_map}
 use Rattle.logged_node.proofs.homing.go_home.Goals as goal
 
 pub loop-lock-init : goal.loop-lock-init

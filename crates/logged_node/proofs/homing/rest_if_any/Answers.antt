@@ -1,5 +1,5 @@
 use Rattle.logged_node.proofs.Homeward.{gone_home, homeward_none, no_flight}
-use Rattle.logged_node.proofs.Partly.{ok_both}
+use Rattle.logged_node.proofs.Carrying.{ok_both}
 use Rattle.logged_node.proofs.homing.rest_if_any.Goals as goal
 
 pub returns-then-node-gt0-clause-home : goal.returns-then-node-gt0-clause-home

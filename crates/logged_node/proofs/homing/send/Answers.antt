@@ -3,7 +3,7 @@ use Rattle.log_values.specs.Homing.{HomeAnswer}
 use Rattle.log_values.specs.declared.steps.LogStep.{LogStep}
 use Rattle.logged_node.proofs.Homeward.{fewer, free, home_answers, inside, one_goes, sent, stops_sending}
 use Rattle.logged_node.proofs.Onward.{stops_here}
-use Rattle.logged_node.proofs.Partly.{made_both, ok_of_write}
+use Rattle.logged_node.proofs.Carrying.{made_both, ok_of_write}
 use Rattle.logged_node.proofs.Stepped.{as_long, same_items, with_step}
 use Rattle.logged_node.proofs.homing.send.Goals as goal
 
@@ -32,7 +32,7 @@ returns-clause-sent g c =
     sent (g.D.SharedDisk.state c.args.disk.now) (g.D.SharedDisk.state c.put_write.new.disk) (g.D.SharedDisk.list c.args.disk.now) (g.D.SharedDisk.list c.put_write.new.disk) c.args.node.now c.next_home.new.node c.put_write.new.node c.args.lock c.in-Write.block c.requires.homing (with_step c.args.node.now c.have_room.new.node c.next_home.new.node c.have_room.ensures.node c.next_home.ensures.node)
     (same_items c.args.node.now c.have_room.new.node c.next_home.new.node c.next_home.ensures.node c.have_room.ensures.items) (as_long c.args.node.now c.have_room.new.node c.next_home.new.node c.have_room.ensures.node c.next_home.ensures.long)
     (subst (λ (s : LogStep). HomeAnswer c.args.node.now.log c.next_home.new.node.log c.args.lock c.next_home.new.node.block.items (Some s)) c.in-Write.is (home_answers c.args.node.now c.have_room.new.node c.next_home.new.node c.args.lock (Some c.in-Some.step) c.have_room.ensures.node c.in-Some.ensures.answer))
-    made gained node c.requires.few awaits armed)
+    made gained node c.requires.few c.requires.next awaits armed)
     c.put_write.ensures.made c.put_write.ensures.gains c.put_write.ensures.node c.put_write.ensures.awaits c.put_write.ensures.armed
 
 pub returns-clause-fewer : goal.returns-clause-fewer
@@ -42,7 +42,7 @@ returns-clause-fewer g c =
     fewer (g.D.SharedDisk.state c.args.disk.now) (g.D.SharedDisk.state c.put_write.new.disk) (g.D.SharedDisk.list c.args.disk.now) (g.D.SharedDisk.list c.put_write.new.disk) c.args.node.now c.next_home.new.node c.put_write.new.node c.args.lock c.in-Write.block c.requires.homing (with_step c.args.node.now c.have_room.new.node c.next_home.new.node c.have_room.ensures.node c.next_home.ensures.node)
     (same_items c.args.node.now c.have_room.new.node c.next_home.new.node c.next_home.ensures.node c.have_room.ensures.items) (as_long c.args.node.now c.have_room.new.node c.next_home.new.node c.have_room.ensures.node c.next_home.ensures.long)
     (subst (λ (s : LogStep). HomeAnswer c.args.node.now.log c.next_home.new.node.log c.args.lock c.next_home.new.node.block.items (Some s)) c.in-Write.is (home_answers c.args.node.now c.have_room.new.node c.next_home.new.node c.args.lock (Some c.in-Some.step) c.have_room.ensures.node c.in-Some.ensures.answer))
-    made gained node c.requires.few awaits armed)
+    made gained node c.requires.few c.requires.next awaits armed)
     c.put_write.ensures.made c.put_write.ensures.gains c.put_write.ensures.node c.put_write.ensures.awaits c.put_write.ensures.armed
 
 pub returns-clause-stopped : goal.returns-clause-stopped

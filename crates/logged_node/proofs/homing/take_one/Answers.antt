@@ -1,6 +1,6 @@
 use Rattle.logged_node.proofs.Homeward.{homeward_on}
 use Rattle.logged_node.proofs.Onward.{map_err, stops_on}
-use Rattle.logged_node.proofs.Partly.{ok_map}
+use Rattle.logged_node.proofs.Carrying.{ok_map}
 use Rattle.logged_node.proofs.homing.take_one.Goals as goal
 
 pub returns-then-node-ge-MOST_IN_FLIGHT-clause-taken : goal.returns-then-node-ge-MOST_IN_FLIGHT-clause-taken

@@ -1,7 +1,7 @@
-use Rattle.logged_node.proofs.Clean.{goes_leaving, is_ready, rests_leaving}
+use Rattle.logged_node.proofs.Unmounting.{goes_leaving, is_ready, rests_leaving}
 use Rattle.logged_node.proofs.Ended.{cause_of_all, goes_behind}
 use Rattle.logged_node.proofs.Onward.{map_err, stops_here, stops_on}
-use Rattle.logged_node.proofs.Partly.{ok_map}
+use Rattle.logged_node.proofs.Carrying.{ok_map}
 use Rattle.logged_node.proofs.leaving.make_ready.Goals as goal
 
 pub returns-in-Err-clause-stopped : goal.returns-in-Err-clause-stopped

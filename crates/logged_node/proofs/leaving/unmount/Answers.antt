@@ -1,10 +1,10 @@
 use Rattle.std.proofs.Common.{ℕ, Option, refl, sym, subst, ◌∙◌}
 use Rattle.logged_node.specs.Leaving.{StopsAtHeader, at_the_end, clean_still, with_header}
 use Rattle.logged_node.specs.Nodes.{point_of}
-use Rattle.logged_node.proofs.Clean.{at_end}
+use Rattle.logged_node.proofs.Unmounting.{at_end}
 use Rattle.logged_node.proofs.Ended.{cause_of_all}
 use Rattle.logged_node.proofs.Onward.{map_err}
-use Rattle.logged_node.proofs.Partly.{ok_map}
+use Rattle.logged_node.proofs.Carrying.{ok_map}
 use Rattle.logged_node.proofs.leaving.unmount.Goals as goal
 
 pub returns-then-is_clean-clause-unmounted : goal.returns-then-is_clean-clause-unmounted

@@ -1,6 +1,6 @@
 use Rattle.std.proofs.Common.{ap}
 use Rattle.log_memory.specs.declared.ending.LastWrite.{LastWrite}
-use Rattle.logged_node.proofs.Clean.{stops_ending, stops_writing}
+use Rattle.logged_node.proofs.Unmounting.{stops_ending, stops_writing}
 use Rattle.logged_node.proofs.Onward.{map_both}
 use Rattle.logged_node.proofs.leaving.write_last.Goals as goal
 

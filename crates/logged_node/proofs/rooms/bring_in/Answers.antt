@@ -1,8 +1,8 @@
 use Rattle.std.proofs.Common.{true≢false, sym, ◌∙◌}
 use Rattle.logged_node.proofs.Ended.{cause_of_all}
 use Rattle.logged_node.proofs.Onward.{map_err, stops_on}
-use Rattle.logged_node.proofs.Partly.{ok_map}
-use Rattle.logged_node.proofs.Roomy.{in_sync, none_brought, once_brought, twice_brought}
+use Rattle.logged_node.proofs.Carrying.{ok_map}
+use Rattle.logged_node.proofs.MakingRoom.{in_sync, none_brought, once_brought, twice_brought}
 use Rattle.logged_node.proofs.rooms.bring_in.Goals as goal
 
 pub returns-then-not-has_due-clause-brought : goal.returns-then-not-has_due-clause-brought

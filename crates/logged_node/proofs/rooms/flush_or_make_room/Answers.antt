@@ -1,7 +1,7 @@
 use Rattle.std.proofs.Common.{◌≡◌, sym, ◌∙◌}
 use Rattle.logged_node.specs.declared.flushing.Flushed.TheVariants as flushed
 use Rattle.logged_node.proofs.Onward.{map_err, stops_on}
-use Rattle.logged_node.proofs.Roomy.{still_armed, still_goes}
+use Rattle.logged_node.proofs.MakingRoom.{still_armed, still_goes}
 use Rattle.logged_node.proofs.rooms.flush_or_make_room.Goals as goal
 
 pub returns-in-Ok-NoRoom-clause-stopped : goal.returns-in-Ok-NoRoom-clause-stopped

@@ -1,7 +1,7 @@
 use Rattle.std.proofs.Common.{Ok, ap}
 use Rattle.logged_node.specs.declared.flushing.Flushed.{Flushed}
 use Rattle.logged_node.proofs.Onward.{stops_on}
-use Rattle.logged_node.proofs.Roomy.{made_room}
+use Rattle.logged_node.proofs.MakingRoom.{made_room}
 use Rattle.logged_node.proofs.rooms.make_room.Goals as goal
 
 pub returns-in-Ok-flush-clause-came : goal.returns-in-Ok-flush-clause-came

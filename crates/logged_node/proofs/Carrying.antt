@@ -1,5 +1,6 @@
 -- How a step of a flush was carried out, by a write or by a barrier.
 use Rattle.std.proofs.Common.{◌≡◌, ◌≢◌, ◌+◌, ℕ, suc, List, [], ◌∷◌, ◌++◌, length, Option, None, Ok, Err, refl, ap, ◌∙◌, arith}
+use Rattle.std.proofs.lemmas.List.{append_assoc}
 use Rattle.std.specs.Prelude.{OnOk, Result}
 use Rattle.log_values.specs.declared.steps.LogStep.TheVariants as step
 use Rattle.shared_disk.specs.Disk.{DiskState, Operation}
@@ -16,10 +17,6 @@ use Rattle.logged_node.specs.Flushing as carried
 use Rattle.logged_node.specs.Nodes.{crash_at, crash_of, numbers_of, point_of}
 use Rattle.logged_node.proofs.Arming.{crash_stays}
 use Rattle.logged_node.proofs.Disks.{length_with}
-
-append_assoc : {A : Type 0} (xs ys zs : List A) → (xs ++ ys) ++ zs ≡ xs ++ (ys ++ zs)
-append_assoc [] ys zs = refl
-append_assoc (x ∷ xs) ys zs = ap (λ l. x ∷ l) (append_assoc xs ys zs)
 
 -- ---- facts of what was made
 

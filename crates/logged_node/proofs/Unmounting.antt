@@ -1,5 +1,6 @@
 -- How a node leaves its journal: ready to end it, and ended by a clean header.
 use Rattle.std.proofs.Common.{◌≡◌, ◌<◌, ◌+◌, ◌-◌, ◌^◌, ℕ, true, false, List, [], ◌∷◌, ◌++◌, Option, None, Some, Ok, Err, refl, sym, ap, ap₂, subst, subst₂, ◌∙◌, arith}
+use Rattle.std.proofs.lemmas.List.{append_assoc}
 use Rattle.log_layout.specs.Headers.{as_read, log_put, log_read}
 use Rattle.log_layout.specs.Transactions.{after}
 use Rattle.log_layout.specs.declared.log_header.LogHeader.{LogHeader}
@@ -29,11 +30,7 @@ use Rattle.logged_node.proofs.Arming.{crash_stays}
 use Rattle.logged_node.proofs.Disks.{same_disk}
 use Rattle.logged_node.proofs.Ended.{goes_behind}
 use Rattle.logged_node.proofs.Flushes.{first_inside}
-use Rattle.logged_node.proofs.Roomy.{was_due}
-
-append_assoc : {A : Type 0} (xs ys zs : List A) → (xs ++ ys) ++ zs ≡ xs ++ (ys ++ zs)
-append_assoc [] ys zs = refl
-append_assoc (x ∷ xs) ys zs = ap (λ l. x ∷ l) (append_assoc xs ys zs)
+use Rattle.logged_node.proofs.MakingRoom.{was_due}
 
 -- ---- it leaves
 
