@@ -159,7 +159,7 @@ module _ (d d' : DiskState) (l l' : Option (List Operation)) (n r m n' : Node) (
   pub items_now : Wrote → n'.items.items ≡ n.items.items ++ last_item p ∷ []
   items_now wrote = ap (λ (x : Point). x.items) wrote ∙ ap₂ (λ (is : List TraceItem) (it : TraceItem). is ++ it ∷ []) m_items item_is
 
-  armed_still : crash_at m ≡ crash_at n
+  pub armed_still : crash_at m ≡ crash_at n
   armed_still = ap₂ crash_of (ap (λ (x : Node). x.armed) m_is ∙ ap (λ (x : Node). x.armed) r_is) m_items
 
   -- it stops in the write of the header

@@ -5,7 +5,7 @@ ghost use Rattle.log_values.specs.Flushing.{AllAreHome, IsDue};
 ghost use Rattle.lone_ends.specs.Ends.{IsLastHeader};
 ghost use Rattle.logged_node.specs.Ends.{HasCause};
 ghost use Rattle.logged_node.specs.Leaving.{HasLastHeader, HasUnmounted, IsReady, StopsAtHeader, StopsLeaving, last_block};
-ghost use Rattle.logged_node.specs.Nodes.{IsResting, StopsBehind, crash_at, point_of};
+ghost use Rattle.logged_node.specs.Nodes.{Awaits, IsResting, StopsBehind, crash_at, point_of};
 
 use crate::deeds::{have_room, put_barrier, put_write};
 use crate::ends::Stop;
@@ -73,6 +73,8 @@ fn write_last<D: SharedDisk>(disk: &mut D, node: &mut Node) -> Result<(), Stop>
     requires resting { IsResting (D.state disk.old) node.old }
     requires sequence { node.old.log.sequence + 1 < 2 ^ 64 }
     ensures written { OnOk result (HasLastHeader (point_of (D.state disk.old) (D.list disk.old) node.old) (D.state disk.new) (D.list disk.new) node.new.items.items) }
+    ensures armed { OnOk result (crash_at node.new ≡ crash_at node.old) }
+    ensures awaits { OnOk result (Awaits node.new.armed) }
     ensures stopped { IfErr result (StopsAtHeader (point_of (D.state disk.old) (D.list disk.old) node.old) (crash_at node.old) (D.state disk.new) (D.list disk.new) node.new.items.items) }
     ensures later { (i : ℕ) → D.faults disk.old i ≤ D.faults disk.new i }
     ensures cause { IfErr result (HasCause (D.state disk.old).count (D.faults disk.old) (D.faults disk.new)) }
@@ -103,6 +105,8 @@ pub fn unmount<D: SharedDisk>(disk: &mut D, node: &mut Node) -> Result<(), Stop>
     requires mounted { node.old.unmounts ≡ false }
     requires sequence { node.old.log.sequence + 3 < 2 ^ 64 }
     ensures unmounted { OnOk result (HasUnmounted (D.state disk.old) (D.list disk.old) node.old (D.state disk.new) (D.list disk.new) node.new.items.items) }
+    ensures armed { OnOk result (crash_at node.new ≡ crash_at node.old) }
+    ensures awaits { OnOk result (Awaits node.new.armed) }
     ensures stopped { IfErr result (StopsLeaving (D.state disk.old) (D.list disk.old) node.old (D.state disk.new) (D.list disk.new) node.new.items.items) }
     ensures later { (i : ℕ) → D.faults disk.old i ≤ D.faults disk.new i }
     ensures cause { IfErr result (HasCause (D.state disk.old).count (D.faults disk.old) (D.faults disk.new)) }

@@ -24,3 +24,6 @@ returns-else-is_clean-clause-cause g c =
     map_err c.write_last.result _ _
     (λ why cause. cause_of_all _ _ (g.D.SharedDisk.faults c.args.disk.now) (g.D.SharedDisk.faults c.make_ready.new.disk) (g.D.SharedDisk.faults c.write_last.new.disk) why c.in-Ok.ensures.ready.goes.disk.count (c.in-Ok.ensures.later 1) cause)
     c.write_last.ensures.cause
+
+pub returns-else-is_clean-clause-armed : goal.returns-else-is_clean-clause-armed
+returns-else-is_clean-clause-armed g c = ok_map c.write_last.result _ _ (λ same. same ∙ c.in-Ok.ensures.ready.goes.armed) c.write_last.ensures.armed
