@@ -14,3 +14,4 @@ pub mod Ordering
 pub mod Homeward
 pub mod MakingRoom
 pub mod Unmounting
+pub mod Starting

@@ -1,5 +1,5 @@
 -- In which order blocks go home.
-use Rattle.std.proofs.Common.{◌≡◌, ℕ, List, [], ◌∷◌, ◌++◌, Option, None, Some, refl, sym, ap, ap₂, subst, ◌∙◌}
+use Rattle.std.proofs.Common.{◌≡◌, ℕ, List, [], ◌∷◌, ◌++◌, Some, sym, ap, subst, ◌∙◌}
 use Rattle.std.proofs.lemmas.List.{append_assoc, append-nil}
 use Rattle.std.proofs.lemmas.List.Elements.{filter_map-append}
 use Rattle.glock_names.specs.declared.LockName.{LockName}
@@ -7,7 +7,6 @@ use Rattle.log_memory.specs.Locks.{IsNextLock}
 use Rattle.log_values.specs.Homing.{HomeAnswer, Settles}
 use Rattle.log_values.specs.Log.{LogValue}
 use Rattle.log_values.specs.declared.steps.LogStep.TheVariants as step
-use Rattle.trace_text.specs.declared.item.TraceItem.{TraceItem}
 use Rattle.trace_text.specs.declared.item.TraceItem.TheVariants as trace
 use Rattle.logged_node.specs.declared.node.Node.{Node}
 use Rattle.logged_node.specs.Homing.{AreSent, SendsInOrder, home_told, homes_in}

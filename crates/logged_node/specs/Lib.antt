@@ -5,3 +5,4 @@ pub mod Flushing
 pub mod Homing
 pub mod Rooms
 pub mod Leaving
+pub mod Beginning

@@ -8,6 +8,7 @@ mod homing;
 mod leaving;
 mod node;
 mod rooms;
+mod start;
 
 pub use ends::Stop;
 pub use flushing::{Flushed, flush};
@@ -15,3 +16,4 @@ pub use homing::go_home;
 pub use leaving::unmount;
 pub use node::{CallNumbers, Node};
 pub use rooms::{bring_in, make_room};
+pub use start::begin_node;
