@@ -15,3 +15,4 @@ pub mod Homeward
 pub mod MakingRoom
 pub mod Unmounting
 pub mod Starting
+pub mod Changed

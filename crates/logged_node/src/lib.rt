@@ -1,6 +1,7 @@
 //! Node 1 with its log, alone on a disk: it answers calls, flushes its log, takes blocks home, and leaves its journal clean.
 #![tactic(auto)]
 
+mod changes;
 mod deeds;
 mod ends;
 mod flushing;
@@ -10,6 +11,7 @@ mod node;
 mod rooms;
 mod start;
 
+pub use changes::take_change;
 pub use ends::Stop;
 pub use flushing::{Flushed, flush};
 pub use homing::go_home;
