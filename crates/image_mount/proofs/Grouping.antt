@@ -13,7 +13,7 @@ use Rattle.gfs2_layout.specs.declared.rindex.Rindex.{Rindex}
 use Rattle.dinode_tree.specs.Reading.{AreHeaded, content_range, AreWholeBefore, IsRightDinode}
 use Rattle.image_model.specs.Claims.{every, HasGroup, IsRindex}
 use Rattle.gfs2_layout.specs.Bitmap.{bitmap_room}
-use Rattle.image_model.specs.Groups.{groups_in, IsListed, IsNear, GroupFits, GroupsFit, end_of}
+use Rattle.image_model.specs.Groups.{entry_length, groups_in, IsListed, IsNear, GroupFits, GroupsFit, end_of}
 use Rattle.image_model.specs.Image.{Image}
 use Rattle.image_model.specs.Listing.{RiseFrom, end_after}
 use Rattle.image_model.specs.Profile.{group_length}
