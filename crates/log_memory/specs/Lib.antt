@@ -5,3 +5,4 @@ pub mod Inside
 pub mod Adding
 pub mod Flushing
 pub mod Locks
+pub mod Ending

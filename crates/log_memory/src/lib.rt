@@ -4,6 +4,7 @@
 mod adding;
 mod beginning;
 mod changes;
+mod ending;
 mod flushing;
 mod homing;
 mod journal;
@@ -17,6 +18,7 @@ mod settling;
 mod tails;
 mod telling;
 
+pub use ending::{LastWrite, put_last_header};
 pub use journal::Journal;
 #[doc(hidden)]
 pub use kinds::Stage;

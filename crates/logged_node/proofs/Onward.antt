@@ -1,0 +1,231 @@
+-- A step of a flush that was carried out: it is one of the node's steps, and the flush has come on; and how a node stops at it.
+use Rattle.std.proofs.Common.{◌≡◌, ◌≤◌, ◌<◌, ◌+◌, ◌^◌, ℕ, suc, List, length, Option, None, Some, Ok, Err, refl, sym, ap, ap₂, subst, ◌∙◌, arith}
+use Rattle.std.specs.Prelude.{IfErr, Result}
+use Rattle.std.proofs.Math.Nat.{mod-eq_of_lt}
+use Rattle.log_rings.specs.Laws.{HasNumbers}
+use Rattle.log_values.specs.Flushing.{FlushStep, a_barrier, a_block, a_header, the_last}
+use Rattle.log_values.specs.Log.{Flush, LogValue}
+use Rattle.log_values.specs.declared.steps.LogStep.{LogStep}
+use Rattle.log_values.specs.declared.steps.LogStep.TheVariants as step
+use Rattle.log_values.specs.Sound.{IsSoundLog}
+use Rattle.log_values.proofs.Going.{step_sound}
+use Rattle.log_widths.specs.Laws.{WidthsAreNumbers}
+use Rattle.log_widths.specs.Widths.{HasLogWidths}
+use Rattle.log_widths.proofs.Staying.{steps_keep_widths}
+use Rattle.logged_steps.specs.Points.{Point}
+use Rattle.logged_steps.specs.Steps.{Here, Steps, with_barrier, with_write}
+use Rattle.logged_steps.proofs.Telling.{steps_go_on}
+use Rattle.shared_disk.specs.Disk.{DiskState, Operation, after_barrier, after_write}
+use Rattle.trace_text.specs.declared.item.TraceItem.{TraceItem}
+use Rattle.trace_text.specs.declared.item.TraceItem.TheVariants as trace
+use Rattle.logged_node.specs.declared.ends.Stop.{Stop}
+use Rattle.logged_node.specs.declared.ends.Stop.TheVariants as stop
+use Rattle.logged_node.specs.declared.node.Node.{Node}
+use Rattle.logged_node.specs.Deeds.{a_write, no_write}
+use Rattle.logged_node.specs.Ends.{IfCrashed, IfFailed, IfMade}
+use Rattle.logged_node.specs.Flushing.{FailsAt, HasComeTo, IsCarried, IsFlushing, MayCarry, steps_left}
+use Rattle.logged_node.specs.Flushing as carried
+use Rattle.logged_node.specs.Nodes.{Awaits, FailsBehind, IsLogOf, IsNodeOn, IsSameDisk, KeepsView, StopsBehind, as_it_was, crash_at, crash_of, in_a_write, point_of, writes_in}
+use Rattle.logged_node.proofs.Blocks.{blocks_go_on, none_some}
+use Rattle.logged_node.proofs.Carried.{steps_by}
+use Rattle.logged_node.proofs.Disks.{length_with, same_barrier, same_written}
+use Rattle.logged_node.proofs.Flushes.{may_carry}
+use Rattle.logged_node.proofs.Going.{behind_barrier, behind_block, behind_header, behind_last, on_still}
+
+-- ---- what was carried out
+
+a_block_is : (bytes : List ℕ) (p q : Point) (b : ℕ) → IsCarried bytes p q (step.Write b) → (list : Option (List Operation)) × (q ≡ with_write p b bytes list p.log (trace.WriteLog 1 b))
+a_block_is bytes p q _ (carried.a_block b list gains is) = (list, is)
+
+a_header_is : (bytes : List ℕ) (p q : Point) (b sequence : ℕ) → IsCarried bytes p q (step.Head b sequence)
+    → (list : Option (List Operation)) × (q ≡ with_write p b bytes list p.log (trace.WriteHead 1 b sequence p.numbers.begun))
+a_header_is bytes p q _ _ (carried.a_header b sequence list gains is) = (list, is)
+
+-- a barrier while the flush goes on
+a_barrier_is : (bytes : List ℕ) (p q : Point) (f : Flush) → p.log.flush ≡ Some f → IsCarried bytes p q step.Barrier → (list : Option (List Operation)) × (q ≡ with_barrier p list p.log)
+a_barrier_is bytes p q f flush (carried.a_barrier list some gains is) = (list, is)
+a_barrier_is bytes p q f flush (carried.the_last list none gains is) = absurd (none_some (sym none ∙ flush))
+
+-- and the last one
+the_last_is : (bytes : List ℕ) (p q : Point) → p.log.flush ≡ None → IsCarried bytes p q step.Barrier → (q.disk ≡ after_barrier p.disk 1) × (q.numbers.low ≡ p.numbers.begun)
+the_last_is bytes p q flush (carried.a_barrier list some gains is) = absurd (some flush)
+the_last_is bytes p q flush (carried.the_last list none gains is) = (ap (λ (x : Point). x.disk) is, ap (λ (x : Point). x.numbers.low) is)
+
+-- the disk is the same, and no more is in flight than may be
+carried_disk : (bytes : List ℕ) (p q : Point) (s : LogStep) → IsCarried bytes p q s → IsSameDisk p.disk q.disk
+carried_disk bytes p q _ (carried.a_block b list gains is) = same_written p.disk q.disk b bytes (ap (λ (x : Point). x.disk) is)
+carried_disk bytes p q _ (carried.a_header b sequence list gains is) = same_written p.disk q.disk b bytes (ap (λ (x : Point). x.disk) is)
+carried_disk bytes p q _ (carried.a_barrier list some gains is) = same_barrier p.disk q.disk (ap (λ (x : Point). x.disk) is)
+carried_disk bytes p q _ (carried.the_last list none gains is) = same_barrier p.disk q.disk (ap (λ (x : Point). x.disk) is)
+
+one_more : (d d' : DiskState) (b : ℕ) (bytes : List ℕ) → d' ≡ after_write d 1 b bytes → length (d.in_flight 1) < 512 → length (d'.in_flight 1) ≤ 512
+one_more d d' b bytes is few = (let long : length (d'.in_flight 1) ≡ suc (length (d.in_flight 1)) = ap (λ (x : DiskState). length (x.in_flight 1)) is ∙ length_with (d.in_flight 1) (record { block = b; bytes = bytes }) in omega (arith, long, few))
+
+none_left : (d d' : DiskState) → d' ≡ after_barrier d 1 → length (d'.in_flight 1) ≤ 512
+none_left d d' is = (let long : length (d'.in_flight 1) ≡ 0 = ap (λ (x : DiskState). length (x.in_flight 1)) is in omega (arith, long))
+
+carried_few : (bytes : List ℕ) (p q : Point) (s : LogStep) → MayCarry p.disk s → IsCarried bytes p q s → length (q.disk.in_flight 1) ≤ 512
+carried_few bytes p q _ may (carried.a_block b list gains is) = one_more p.disk q.disk b bytes (ap (λ (x : Point). x.disk) is) may.2
+carried_few bytes p q _ may (carried.a_header b sequence list gains is) = one_more p.disk q.disk b bytes (ap (λ (x : Point). x.disk) is) may.2
+carried_few bytes p q _ may (carried.a_barrier list some gains is) = none_left p.disk q.disk (ap (λ (x : Point). x.disk) is)
+carried_few bytes p q _ may (carried.the_last list none gains is) = none_left p.disk q.disk (ap (λ (x : Point). x.disk) is)
+
+-- the journal is what it was
+journal_still : (log new : LogValue) (f : Flush) (bytes : List ℕ) (s : LogStep) → FlushStep log new f bytes s → new.journal ≡ log.journal
+journal_still log new f bytes _ (a_block k stage block new_is) = ap (λ (l : LogValue). l.journal) new_is
+journal_still log new f bytes _ (a_header tail stage tells bytes_are new_is) = ap (λ (l : LogValue). l.journal) new_is
+journal_still log new f bytes _ (a_barrier stage new_is lives) = ap (λ (l : LogValue). l.journal) new_is
+journal_still log new f bytes _ (the_last tail stage new_is lives) = ap (λ (l : LogValue). l.journal) new_is
+
+-- ---- how a node stops
+
+-- behind steps
+pub stops_on : (d e f : DiskState) (l k h : Option (List Operation)) (n m : Node) (items : List TraceItem) (why : Stop) → ((time : ℕ) → Steps time (point_of d l n) (point_of e k m)) → crash_at m ≡ crash_at n
+    → StopsBehind e k m f h items why → StopsBehind d l n f h items why
+stops_on d e f l k h n m items why first armed stops = record {
+  last = stops.last;
+  steps = λ time. steps_go_on time (point_of d l n) (point_of e k m) stops.last (first time) (stops.steps time);
+  told = stops.told;
+  disk = stops.disk;
+  crashes = crashes_on why (crash_at m) (crash_at n) items armed stops.crashes;
+}
+  where
+    crashes_on : (why : Stop) (x y : Option ℕ) (items : List TraceItem) → x ≡ y → IfCrashed why (x ≡ Some (writes_in items)) → IfCrashed why (y ≡ Some (writes_in items))
+    crashes_on stop.Crashed x y items same is = sym same ∙ is
+    crashes_on (stop.DiskFailed block rise) x y items same is = tt
+    crashes_on stop.NoMemory x y items same is = tt
+
+-- for want of memory, before anything was done
+pub stops_here : (d : DiskState) (l : Option (List Operation)) (n : Node) (items : List TraceItem) (why : Stop) → why ≡ stop.NoMemory → items ≡ n.items.items → StopsBehind d l n d l items why
+stops_here d l n items why is same = subst (StopsBehind d l n d l items) (sym is) (record { last = point_of d l n; steps = λ time. Here; told = sym same; disk = (refl, refl); crashes = tt })
+
+-- At a deed: where it was made, and it crashed behind it, that is a step; where the disk failed, it stays where it was.
+pub stops_at : (d d' : DiskState) (l l' : Option (List Operation)) (n n' : Node) (r : Result (Unit {0}) Stop) (made : Type 0) → (made → (time : ℕ) → Steps time (point_of d l n) (point_of d' l' n')) → IfMade r made
+    → IfErr r (λ why. IfCrashed why (crash_at n ≡ Some (writes_in n'.items.items))) → IfErr r (λ why. IfFailed why (FailsBehind (point_of d l n) d' l')) → IfErr r (λ why. IfFailed why (n'.items.items ≡ n.items.items))
+    → IfErr r (λ why. StopsBehind d l n d' l' n'.items.items why)
+stops_at d d' l l' n n' (Ok _) made steps done crashed failed kept = tt
+stops_at d d' l l' n n' (Err stop.Crashed) made steps done crashed failed kept = record { last = point_of d' l' n'; steps = steps done; told = refl; disk = (refl, refl); crashes = crashed }
+stops_at d d' l l' n n' (Err (stop.DiskFailed block rise)) made steps done crashed failed kept = record { last = point_of d l n; steps = λ time. Here; told = sym kept; disk = failed; crashes = tt }
+stops_at d d' l l' n n' (Err stop.NoMemory) made steps done crashed failed kept = absurd done
+
+-- facts of an end, one from another
+pub map_err : (r : Result (Unit {0}) Stop) (P Q : Stop → Type 0) → ((why : Stop) → P why → Q why) → IfErr r P → IfErr r Q
+map_err (Ok _) P Q so is = tt
+map_err (Err why) P Q so is = so why is
+
+pub map_both : (r : Result (Unit {0}) Stop) (P Q R : Stop → Type 0) → ((why : Stop) → P why → Q why → R why) → IfErr r P → IfErr r Q → IfErr r R
+map_both (Ok _) P Q R so p q = tt
+map_both (Err why) P Q R so p q = so why p q
+
+pub if_failed : (P Q : Type 0) (so : P → Q) (why : Stop) → IfFailed why P → IfFailed why Q
+if_failed P Q so (stop.DiskFailed block rise) is = so is
+if_failed P Q so stop.Crashed is = tt
+if_failed P Q so stop.NoMemory is = tt
+
+pub if_crashed : (P Q : Type 0) (so : P → Q) (why : Stop) → IfCrashed why P → IfCrashed why Q
+if_crashed P Q so stop.Crashed is = so is
+if_crashed P Q so (stop.DiskFailed block rise) is = tt
+if_crashed P Q so stop.NoMemory is = tt
+
+-- ---- one step of a flush
+
+module _ (law : WidthsAreNumbers) (start : Node) (d d' : DiskState) (l l' : Option (List Operation)) (n m n' : Node) (f : Flush) (s : LogStep) (at : IsFlushing start d n f) (more : n.log.sequence + 1 < 2 ^ 64)
+    (m_is : m ≡ record n { log = m.log; items = m.items; block = m.block }) (items : m.items.items ≡ n.items.items) (long : length m.block.items ≡ length n.block.items) (made : FlushStep n.log m.log f m.block.items s) where
+  abbrev p : Point
+  p = point_of d l n
+
+  abbrev mid : Point
+  mid = record p { log = m.log }
+
+  mid_is : point_of d l m ≡ mid
+  mid_is = ap (point_of d l) m_is ∙ ap (λ (is : List TraceItem). record p { log = m.log; items = is }) items
+
+  its_numbers : HasNumbers n.log f
+  its_numbers = law n.log f at.on.sound at.on.widths at.is more
+
+  may : MayCarry d s
+  may = may_carry start d n f at m.log m.block.items s made
+
+  abbrev Carried : Type 0
+  Carried = IsCarried m.block.items (point_of d l m) (point_of d' l' n') s
+
+  from_mid : Carried → IsCarried m.block.items mid (point_of d' l' n') s
+  from_mid done = subst (λ (x : Point). IsCarried m.block.items x (point_of d' l' n') s) mid_is done
+
+  pub steps : Carried → (time : ℕ) → Steps time p (point_of d' l' n')
+  steps done time = steps_by p (point_of d' l' n') f m.log m.block.items at.is its_numbers (long ∙ at.on.block) at.told refl s may made (from_mid done) time
+
+  pub disk_same : Carried → IsSameDisk d d'
+  disk_same done = carried_disk m.block.items mid (point_of d' l' n') s (from_mid done)
+
+  -- where the disk failed, it may be as if the step was made
+  fails : FailsAt m.block.items (point_of d l m) d' l' s → FailsBehind p d' l'
+  fails = by s made may
+    where
+      by : (t : LogStep) → FlushStep n.log m.log f m.block.items t → MayCarry d t → FailsAt m.block.items (point_of d l m) d' l' t → FailsBehind p d' l'
+      by (step.Write b) made may (no_write is same) = as_it_was is same
+      by (step.Write b) made may (a_write is gains) = in_a_write (with_write mid b m.block.items l' m.log (trace.WriteLog 1 b)) (trace.WriteLog 1 b)
+          (λ time. steps_by p (with_write mid b m.block.items l' m.log (trace.WriteLog 1 b)) f m.log m.block.items at.is its_numbers (long ∙ at.on.block) at.told refl (step.Write b) may made (carried.a_block b l' gains refl) time)
+          refl refl is refl
+      by (step.Head b sequence) made may (no_write is same) = as_it_was is same
+      by (step.Head b sequence) made may (a_write is gains) = in_a_write (with_write mid b m.block.items l' m.log (trace.WriteHead 1 b sequence mid.numbers.begun)) (trace.WriteHead 1 b sequence mid.numbers.begun)
+          (λ time. steps_by p (with_write mid b m.block.items l' m.log (trace.WriteHead 1 b sequence mid.numbers.begun)) f m.log m.block.items at.is its_numbers (long ∙ at.on.block) at.told refl (step.Head b sequence) may made
+          (carried.a_header b sequence l' gains refl) time)
+          refl refl is refl
+      by step.Barrier made may both = as_it_was both.0 both.1
+      by step.NoRoom made may never = absurd never
+
+  pub armed_still : crash_at m ≡ crash_at n
+  armed_still = ap₂ crash_of (ap (λ (x : Node). x.armed) m_is) items
+
+  pub stops : (r : Result (Unit {0}) Stop) → IfMade r Carried → IfErr r (λ why. IfCrashed why (crash_at m ≡ Some (writes_in n'.items.items))) → IfErr r (λ why. IfFailed why (FailsAt m.block.items (point_of d l m) d' l' s))
+      → IfErr r (λ why. IfFailed why (n'.items.items ≡ m.items.items)) → IfErr r (λ why. StopsBehind d l n d' l' n'.items.items why)
+  stops r done crashed failed kept = stops_at d d' l l' n n' r Carried steps done
+      (map_err r _ _ (λ why. if_crashed (crash_at m ≡ Some (writes_in n'.items.items)) (crash_at n ≡ Some (writes_in n'.items.items)) (λ is. sym armed_still ∙ is) why) crashed)
+      (map_err r _ _ (λ why. if_failed (FailsAt m.block.items (point_of d l m) d' l' s) (FailsBehind p d' l') fails why) failed)
+      (map_err r _ _ (λ why. if_failed (n'.items.items ≡ m.items.items) (n'.items.items ≡ n.items.items) (λ is. is ∙ items) why) kept)
+
+  module _ (n'_is : n' ≡ record m { items = n'.items; flying = n'.flying; numbers = record m.numbers { low = n'.numbers.low }; armed = n'.armed }) (flying : n'.flying ≡ length (d'.in_flight 1)) (awaits : Awaits n'.armed) (done : Carried) where
+    log_is : n'.log ≡ m.log
+    log_is = ap (λ (x : Node). x.log) n'_is
+
+    kept : KeepsView n n'
+    kept = record {
+      view = ap (λ (x : Node). x.view) n'_is ∙ ap (λ (x : Node). x.view) m_is;
+      answered = ap (λ (x : Node). x.numbers.answered) n'_is ∙ ap (λ (x : Node). x.numbers.answered) m_is;
+      changed = ap (λ (x : Node). x.numbers.changed) n'_is ∙ ap (λ (x : Node). x.numbers.changed) m_is;
+      journal = ap (λ (x : LogValue). x.journal) log_is ∙ journal_still n.log m.log f m.block.items s made;
+      unmounts = ap (λ (x : Node). x.unmounts) n'_is ∙ ap (λ (x : Node). x.unmounts) m_is;
+    }
+
+    begun : n'.numbers.begun ≡ n.numbers.begun
+    begun = ap (λ (x : Node). x.numbers.begun) n'_is ∙ ap (λ (x : Node). x.numbers.begun) m_is
+
+    on' : IsNodeOn d' n'
+    on' = on_still d d' n n' at.on (disk_same done)
+        (subst IsSoundLog (sym log_is) (step_sound n.log m.log f m.block.items s at.on.sound at.is made))
+        (subst HasLogWidths (sym log_is) (steps_keep_widths n.log m.log f m.block.items s at.on.widths at.is made))
+        (subst (IsLogOf d.count) (sym log_is) (blocks_go_on d.count n.log at.on.blocks m.log f m.block.items s at.is made))
+        kept.journal kept.view (ap (λ (x : Node). length x.block.items) n'_is ∙ long) flying
+        (subst (λ (k : ℕ). k ≤ 512) (sym flying) (carried_few m.block.items mid (point_of d' l' n') s may (from_mid done)))
+        awaits
+
+    abbrev Comes : Type 0
+    Comes = HasComeTo start d' n' × (steps_left n'.log < steps_left n.log)
+
+    pub comes : Comes
+    comes = by s made (from_mid done)
+      where
+        by : (t : LogStep) → FlushStep n.log m.log f m.block.items t → IsCarried m.block.items mid (point_of d' l' n') t → Comes
+        by _ (a_block k stage chunk new_is) done =
+            let is = (a_block_is m.block.items mid (point_of d' l' n') _ done).1 in
+            behind_block start d d' n n' f m.block.items at on' kept begun k _ stage chunk refl (log_is ∙ new_is) (ap (λ (x : Point). x.disk.in_flight 1) is) (ap (λ (x : Point). x.numbers.low) is)
+        by _ (a_header tail stage tells bytes_are new_is) done =
+            let is = (a_header_is m.block.items mid (point_of d' l' n') _ _ done).1 in
+            behind_header start d d' n n' f m.block.items at on' kept begun tail _ stage refl (log_is ∙ new_is) (ap (λ (x : Point). x.disk.in_flight 1) is) (ap (λ (x : Point). x.items) is) (ap (λ (x : Point). x.numbers.low) is)
+        by _ (a_barrier stage new_is lives) done =
+            let is = (a_barrier_is m.block.items mid (point_of d' l' n') _ (ap (λ (x : LogValue). x.flush) new_is) done).1 in
+            behind_barrier start d d' n n' f m.block.items at on' kept begun m.log.live stage (log_is ∙ new_is) lives (ap (λ (x : Point). x.disk.in_flight 1) is) (ap (λ (x : Point). x.numbers.low) is)
+        by _ (the_last tail stage new_is lives) done =
+            let is = the_last_is m.block.items mid (point_of d' l' n') (ap (λ (x : LogValue). x.flush) new_is) done in
+            behind_last start d d' n n' f m.block.items at on' kept begun tail m.log.live (at.on.sound.told f tail at.is stage) stage (log_is ∙ new_is) lives (ap (λ (x : DiskState). x.in_flight 1) is.0) is.1 (mod-eq_of_lt more)

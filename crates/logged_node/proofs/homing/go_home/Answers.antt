@@ -1,0 +1,35 @@
+use Rattle.std.proofs.Common.{length, ap, arith}
+use Rattle.logged_node.proofs.Homeward.{gone_home_on, homeward_none, homeward_on, rest_homes}
+use Rattle.logged_node.proofs.Onward.{map_err, stops_on}
+use Rattle.logged_node.proofs.Carrying.{ok_map}
+use Rattle.logged_node.proofs.homing.go_home.Goals as goal
+
+pub loop-lock-init : goal.loop-lock-init
+loop-lock-init g c = record {
+  came = homeward_none (g.D.SharedDisk.state c.args.disk.now) (g.D.SharedDisk.list c.args.disk.now) c.args.node.now (rest_homes (g.D.SharedDisk.state c.args.disk.now) c.args.node.now c.requires.resting);
+  few = (let none = ap length c.requires.resting.none in let is = c.requires.resting.on.flying in omega (arith, none, is));
+  later = λ i. omega arith;
+}
+
+pub loop-lock-preserved : goal.loop-lock-preserved
+loop-lock-preserved g c = record {
+  came = homeward_on (g.D.SharedDisk.state c.args.disk.now) (g.D.SharedDisk.state c.loop-lock.disk) (g.D.SharedDisk.state c.take_one.new.disk) (g.D.SharedDisk.list c.args.disk.now) (g.D.SharedDisk.list c.loop-lock.disk) (g.D.SharedDisk.list c.take_one.new.disk) c.args.node.now c.loop-lock.node c.take_one.new.node c.loop-lock.invariant.came c.in-Ok.ensures.taken;
+  few = c.in-Ok.ensures.few;
+  later = λ i. (let before = c.loop-lock.invariant.later i in let more = c.in-Ok.ensures.later i in omega (arith, before, more));
+}
+
+pub returns-in-Err-clause-stopped : goal.returns-in-Err-clause-stopped
+returns-in-Err-clause-stopped g c =
+    stops_on (g.D.SharedDisk.state c.args.disk.now) (g.D.SharedDisk.state c.loop-lock.disk) (g.D.SharedDisk.state c.take_one.new.disk) (g.D.SharedDisk.list c.args.disk.now) (g.D.SharedDisk.list c.loop-lock.disk) (g.D.SharedDisk.list c.take_one.new.disk) c.args.node.now c.loop-lock.node c.take_one.new.node.items.items c.in-Err.why c.loop-lock.invariant.came.goes.steps c.loop-lock.invariant.came.goes.armed c.in-Err.ensures.stopped
+
+pub returns-clause-home : goal.returns-clause-home
+returns-clause-home g c =
+    ok_map c.rest_if_any.result _ _ (λ more. gone_home_on (g.D.SharedDisk.state c.args.disk.now) (g.D.SharedDisk.state c.loop-lock.disk) (g.D.SharedDisk.state c.rest_if_any.new.disk) (g.D.SharedDisk.list c.args.disk.now) (g.D.SharedDisk.list c.loop-lock.disk) (g.D.SharedDisk.list c.rest_if_any.new.disk) c.args.node.now c.loop-lock.node c.rest_if_any.new.node c.loop-lock.invariant.came more) c.rest_if_any.ensures.home
+
+pub returns-clause-stopped : goal.returns-clause-stopped
+returns-clause-stopped g c =
+    map_err c.rest_if_any.result _ _
+    (λ why stops. stops_on (g.D.SharedDisk.state c.args.disk.now) (g.D.SharedDisk.state c.loop-lock.disk) (g.D.SharedDisk.state c.rest_if_any.new.disk) (g.D.SharedDisk.list c.args.disk.now) (g.D.SharedDisk.list c.loop-lock.disk) (g.D.SharedDisk.list c.rest_if_any.new.disk) c.args.node.now c.loop-lock.node c.rest_if_any.new.node.items.items why c.loop-lock.invariant.came.goes.steps c.loop-lock.invariant.came.goes.armed stops) c.rest_if_any.ensures.stopped
+
+pub rest_if_any-requires-clause-away : goal.rest_if_any-requires-clause-away
+rest_if_any-requires-clause-away g c = c.next_lock.ensures.none c.in_default.is

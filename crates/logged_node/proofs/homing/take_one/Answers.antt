@@ -1,0 +1,12 @@
+use Rattle.logged_node.proofs.Homeward.{homeward_on}
+use Rattle.logged_node.proofs.Onward.{map_err, stops_on}
+use Rattle.logged_node.proofs.Carrying.{ok_map}
+use Rattle.logged_node.proofs.homing.take_one.Goals as goal
+
+pub returns-then-node-ge-MOST_IN_FLIGHT-clause-taken : goal.returns-then-node-ge-MOST_IN_FLIGHT-clause-taken
+returns-then-node-ge-MOST_IN_FLIGHT-clause-taken g c =
+    ok_map c.rest.result _ _ (λ more. homeward_on (g.D.SharedDisk.state c.args.disk.now) (g.D.SharedDisk.state c.send.new.disk) (g.D.SharedDisk.state c.rest.new.disk) (g.D.SharedDisk.list c.args.disk.now) (g.D.SharedDisk.list c.send.new.disk) (g.D.SharedDisk.list c.rest.new.disk) c.args.node.now c.send.new.node c.rest.new.node c.in-Ok.ensures.sent more) c.rest.ensures.rested
+
+pub returns-then-node-ge-MOST_IN_FLIGHT-clause-stopped : goal.returns-then-node-ge-MOST_IN_FLIGHT-clause-stopped
+returns-then-node-ge-MOST_IN_FLIGHT-clause-stopped g c =
+    map_err c.rest.result _ _ (λ why stops. stops_on (g.D.SharedDisk.state c.args.disk.now) (g.D.SharedDisk.state c.send.new.disk) (g.D.SharedDisk.state c.rest.new.disk) (g.D.SharedDisk.list c.args.disk.now) (g.D.SharedDisk.list c.send.new.disk) (g.D.SharedDisk.list c.rest.new.disk) c.args.node.now c.send.new.node c.rest.new.node.items.items why c.in-Ok.ensures.sent.goes.steps c.in-Ok.ensures.sent.goes.armed stops) c.rest.ensures.stopped

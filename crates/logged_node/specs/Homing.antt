@@ -1,0 +1,82 @@
+-- How a node takes its live blocks home.
+use Rattle.std.specs.Prelude.{ℕ, ◌≡◌, List, [], ◌∷◌, ◌++◌, Option, None, Some}
+use Rattle.std.specs.FinMap as table
+use Rattle.std.specs.List.{count_by, filter_map}
+use Rattle.glock_names.specs.declared.LockName.{LockName}
+use Rattle.log_memory.specs.Locks.{IsNextLock}
+use Rattle.log_memory.specs.Rows.{is_away}
+use Rattle.log_tables.specs.Versions.Way.{Home}
+use Rattle.log_values.specs.Flushing.{AllAreHome}
+use Rattle.log_values.specs.Homing.{HomeAnswer, Settles}
+use Rattle.log_values.specs.Log.{Entry, LogValue}
+use Rattle.log_values.specs.declared.steps.LogStep.TheVariants as step
+use Rattle.lone_logs.specs.States.{flies_home}
+use Rattle.shared_disk.specs.Disk.{DiskState, Operation, flight_to}
+use Rattle.trace_text.specs.declared.item.TraceItem.{TraceItem}
+use Rattle.trace_text.specs.declared.item.TraceItem.TheVariants as trace
+use Rattle.logged_node.specs.Flushing.{GoesBySteps}
+use Rattle.logged_node.specs.Nodes.{IsNodeOn, IsResting, IsSmall}
+use Rattle.logged_node.specs.declared.node.Node.{Node}
+
+-- It is taking blocks home: no flush is under way, and what is in flight is what is on its way home.
+pub record IsHoming (d : DiskState) (n : Node) : Type 0 where
+  pub on : IsNodeOn d n
+  pub idle : n.log.flush ≡ None
+  pub flies : (b : ℕ) → flight_to (d.in_flight 1) b ≡ flies_home (table.get n.log.live b)
+  pub small : IsSmall n.log
+
+-- a live block once it is home
+abbrev pub at_home : Option Entry → Option Entry
+at_home None = None
+at_home (Some e) = Some (record e { way = Home })
+
+-- What this changes of a node: where its live blocks are, and nothing else of its log, of what it keeps or of its calls.
+pub record MovesHome (n n' : Node) : Type 0 where
+  pub view : n'.view ≡ n.view
+  pub numbers : n'.numbers ≡ n.numbers
+  pub unmounts : n'.unmounts ≡ n.unmounts
+  pub log : n'.log ≡ record n.log { live = n'.log.live }
+  pub live : (b : ℕ) → at_home (table.get n'.log.live b) ≡ at_home (table.get n.log.live b)
+
+-- how many live blocks are away, and not on their way
+abbrev pub waiting : LogValue → ℕ
+waiting log = count_by (λ (e : ℕ × Entry). is_away e.1.way) (table.entries log.live)
+
+-- ---- in which order
+
+-- So many blocks were sent home, one after the other: each the least that is away under the least lock under which one is. Barriers bring home what is on its way.
+pub data AreSent (log : LogValue) : LogValue → List ℕ → Type 0 where
+  none : AreSent log log []
+  one : (mid new : LogValue) (before : List ℕ) (lock : LockName) (b : ℕ) (bytes : List ℕ) → AreSent log mid before → IsNextLock mid lock → HomeAnswer mid new lock bytes (Some (step.Write b)) → AreSent log new (before ++ b ∷ [])
+  settled : (mid new : LogValue) (before : List ℕ) → AreSent log mid before → Settles mid new → AreSent log new before
+
+-- the blocks that items tell to be written home
+abbrev pub home_told : TraceItem → Option ℕ
+home_told (trace.WriteHome node b) = Some b
+home_told _ = None
+
+abbrev pub homes_in : List TraceItem → List ℕ
+homes_in items = filter_map home_told items
+
+-- these are, and the items that came tell so
+pub record SendsInOrder (n n' : Node) : Type 0 where
+  pub blocks : List ℕ
+  pub are : AreSent n.log n'.log blocks
+  pub told : homes_in n'.items.items ≡ homes_in n.items.items ++ blocks
+
+-- ---- from one node to the other
+
+-- some are on their way, or home
+pub record GoesHomeward (d : DiskState) (list : Option (List Operation)) (n : Node) (d' : DiskState) (list' : Option (List Operation)) (n' : Node) : Type 0 where
+  pub goes : GoesBySteps d list n d' list' n'
+  pub homing : IsHoming d' n'
+  pub moves : MovesHome n n'
+  pub order : SendsInOrder n n'
+
+-- all are home, and the node rests
+pub record HasGoneHome (d : DiskState) (list : Option (List Operation)) (n : Node) (d' : DiskState) (list' : Option (List Operation)) (n' : Node) : Type 0 where
+  pub goes : GoesBySteps d list n d' list' n'
+  pub resting : IsResting d' n'
+  pub moves : MovesHome n n'
+  pub order : SendsInOrder n n'
+  pub home : AllAreHome n'.log
