@@ -1,0 +1,3 @@
+mod KeptBlocks
+mod Looked
+mod Moved

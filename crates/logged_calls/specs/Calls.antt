@@ -4,6 +4,8 @@ use Rattle.file_tree.specs.declared.call.Call.{Call}
 use Rattle.file_tree.specs.declared.reply.Reply.{Reply}
 use Rattle.file_tree.specs.declared.reply.Reply.TheVariants as replies
 use Rattle.drafts.specs.declared.change.Change.{Change}
+use Rattle.log_values.specs.Flushing.{IsDue, NothingIsLive}
+use Rattle.log_values.specs.Log.{LogValue}
 use Rattle.lone_answers.specs.Answers.{IsDoneBy, IsSpaceless}
 use Rattle.lone_answers.specs.Reading.{HasRead}
 use Rattle.lone_view.specs.Seeing.{Lone}
@@ -38,6 +40,11 @@ pub record HasMoved (d : DiskState) (list : Option (List Operation)) (n : Node) 
   pub goes : GoesBySteps d list n d' list' n'
   pub ready : IsReady d' n'
   pub kept : KeepsView n n'
+
+-- what was due is so no more; or the journal is empty that wasn't, and no more is due than was
+pub data HasMorePlace (log new : LogValue) : Type 0 where
+  flushed : IsDue log → (IsDue new → ⊥) → HasMorePlace log new
+  emptied : (NothingIsLive log → ⊥) → NothingIsLive new → (IsDue new → IsDue log) → HasMorePlace log new
 
 -- ---- its answer
 

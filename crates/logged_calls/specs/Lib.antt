@@ -1,2 +1,5 @@
 pub mod Ends
 pub mod Calls
+pub mod Keeping
+pub mod Telling
+pub mod Adding
