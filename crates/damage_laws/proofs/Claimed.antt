@@ -26,7 +26,7 @@ use Rattle.image_model.specs.Flat.{Path}
 use Rattle.image_model.specs.Groups.{IsListed}
 use Rattle.image_model.specs.Image.{Image, IsImage}
 use Rattle.image_model.specs.Owners.{Root, Named, Chained}
-use Rattle.image_model.specs.Rules.{IsOutside}
+use Rattle.image_model.specs.Rules.{HasSoundGroup, IsOutside}
 use Rattle.image_model.proofs.Held.{none_some}
 use Rattle.image_model.proofs.Rows.{and_left}
 use Rattle.image_model.proofs.Reach.{Leading, leading}
@@ -78,7 +78,7 @@ module _ (im : Image) (a b : ℕ) (name : List ℕ) (has : HasInode im a) (dir :
       (λ r there dots. in_dinode has.1.by a has.0 r has.1.claimed has.1.dinode dir plain (subst (λ rs. Contains rs r) (cond-false _ _ _ plain) there) (dots ∙ is.not_dots))
 
   hashed_claims : is_hashed_in (every im a) ≡ true → (i : ℕ) (named : Option Record) (e : Entry) → IsFirstNamed (every im a) i name named → Some e ≡ option_map entry_of named → e.addr ≡ b → IsNamedBy im a b name
-  hashed_claims hashed i _ e (nowhere some none) leads address = absurd (none_some (sym leads))
+  hashed_claims hashed i _ e (nowhere ends none) leads address = absurd (none_some (sym leads))
   hashed_claims hashed i _ e (in_leaf place x r chain found later) leads address =
       let c = chain_claims im a has hashed i place x chain in
       let led = record_is (records_in (leaf_area (every im a) x)) name r found in
@@ -98,9 +98,9 @@ module _ (im : Image) (a b : ℕ) (name : List ℕ) (has : HasInode im a) (dir :
 
 -- ---- what a view shows
 
--- the groups of the list are the image's
-pub has_group : (v : Seen) (im : Image) (read : IsReadFrom v im) (g : Rindex) → IsListed read.list g → image.HasGroup im g
-has_group v im read g there = (read.sound.inode, read.sound.rindex, subst (λ gs. IsListed gs g) (sym read.sound.listed) there)
+-- the groups of the list are those of a sound one
+pub has_group : (v : Seen) (im : Image) (read : IsReadFrom v im) (g : Rindex) → IsListed read.list g → HasSoundGroup im g
+has_group v im read g there = (read.list, read.sound, there)
 
 module _ (v : Seen) (im : Image) (read : IsReadFrom v im) (is_image : IsImage im) where
   -- an inode that is read as if it had every block of the image is one that the view shows
