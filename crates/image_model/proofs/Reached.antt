@@ -144,8 +144,7 @@ module _ (im : Image) where
   broken_reached _ _ (Rules.pointer_astray a i j at low some low' e d) = first_of a i at low some
   broken_reached _ _ (Rules.leaf_entries a x has d) = leaf a x has
   broken_reached _ _ (Rules.leaf_hash a x by hash place r claim there d) = by_claim by x (Chained a hash place) claim
-  broken_reached _ _ (Rules.comes_again a hash x by by' place later claim other low) = by_claim by x (Chained a hash place) claim
-  broken_reached _ _ (Rules.leads_back a hash x by by' place later claim other low) = claimer by' x (Chained a hash later) other
+  broken_reached _ _ (Rules.comes_again a x n has behind some) = leaf a x has
   broken_reached _ _ (Rules.no_jindex none) = by_claim _ _ Master master
   broken_reached _ _ (Rules.headless j d has none) = named has.0 d _ has.2
   broken_reached _ _ (Rules.bad_chunk j d p head has headed bad there) = of_content d p (_, record { by = has.2.0; claimed = has.2.1; dinode = refl })

@@ -10,7 +10,7 @@ use Rattle.gfs2_layout.specs.Structures.{dinode_length, is_regular, is_in_use}
 use Rattle.gfs2_layout.specs.Area.{Slot, name_of, slots_of, IsArea}
 use Rattle.gfs2_layout.specs.declared.rindex.Rindex.{Rindex}
 use Rattle.gfs2_layout.specs.Bitmap.{state_at}
-use Rattle.image_model.specs.Claims.{every, Claims, IsInodeAt, HasInode, HasDirectory, HasLeaf, HasArea, master_of, IsRindex, IsJindex, HasGroup, HasJournal, IsUnder}
+use Rattle.image_model.specs.Claims.{every, Claims, IsInodeAt, HasInode, HasDirectory, HasLeaf, IsLeafBehind, HasArea, master_of, IsRindex, IsJindex, HasGroup, HasJournal, IsUnder}
 use Rattle.gfs2_layout.specs.Groups.{bitmap_of, group_header, states_in, count_of}
 use Rattle.image_model.specs.Groups.{groups_in, entry_length, IsGroupAt, IsListed, end_of, IsHeaderOf, IsDataOf, IsNear, GroupFits, group_blocks, state_of}
 use Rattle.gfs2_layout.specs.Inode.{Leads, entry_block, dinode_in, height_in, is_directory_in, is_hashed_in, fan, span, content_block, content_of, content_count, table_count, depth_in, entry, index_bits, leaf_in, leaf_area, linear_area, top_bits, head_of}
@@ -182,9 +182,8 @@ pub data Breaks (im : Image) : ℕ → ℕ → Type 0 where
   leaf_entries : (a x : ℕ) → HasLeaf im a x → (leaf_in (every im a) x).entries ≢ length (records_in (leaf_area (every im a) x)) → Breaks im 14 x
   leaf_hash : (a x by hash place : ℕ) (r : Record) → Claims im by x (Chained a hash place) → Contains (records_in (leaf_area (every im a) x)) r
       → top_bits (leaf_in (every im a) x).depth (crc32_of r.name) ≢ top_bits (leaf_in (every im a) x).depth hash → Breaks im 14 x
-  -- 15: a chain of leaves returns to itself; the leaf that comes again, or the one that leads to it
-  comes_again : (a hash x by by' place later : ℕ) → Claims im by x (Chained a hash place) → Claims im by' x (Chained a hash later) → place < later → Breaks im 15 x
-  leads_back : (a hash x by by' place later : ℕ) → Claims im by x (Chained a hash place) → Claims im by' x (Chained a hash later) → place < later → Breaks im 15 by'
+  -- 15: a chain of leaves returns to itself; each leaf that comes again behind itself
+  comes_again : (a x n : ℕ) → HasLeaf im a x → IsLeafBehind im a x n x → 0 < n → Breaks im 15 x
   -- 16: a journal has no accepted header; or there is no directory of journals: nothing that has its name is a directory
   no_jindex : ((d : ℕ) → IsJindex im d → is_directory_in (every im d) ≡ true → ⊥) → Breaks im 16 (master_of im)
   headless : (j d : ℕ) → HasJournal im j d → head_in (ring_of (every im d)) ≡ None → Breaks im 16 d
