@@ -6,7 +6,7 @@ use Rattle.std.specs.Prelude.{Contains}
 use Rattle.std.specs.Option.{option_map}
 use Rattle.file_tree.specs.Names.{IsName}
 use Rattle.gfs2_layout.specs.Device.{superblock_place}
-use Rattle.gfs2_layout.specs.Inode.{first_hash, is_directory_in, is_hashed_in, leaf_area, records_of}
+use Rattle.gfs2_layout.specs.Inode.{entry, first_hash, is_directory_in, is_hashed_in, leaf_area, records_of}
 use Rattle.gfs2_layout.specs.declared.rindex.Rindex.{Rindex}
 use Rattle.gfs2_layout.specs.Records.{Record, is_dots, record_named, records_in}
 use Rattle.glock_names.specs.Views.{Seen, group_of_entry}
@@ -20,7 +20,7 @@ use Rattle.hash_dirs.specs.Shown.{LeadsToLeaf, by_leaf, by_pointer, index_for}
 use Rattle.directories.specs.Shown.{HasName, Says, in_linear, in_hashed}
 use Rattle.directories.specs.Shown as dirs
 use Rattle.resource_groups.specs.Putting.{HasDataBlock}
-use Rattle.image_model.specs.Claims.{every, Claims, root, in_dinode, first_leaf, next_leaf, HasInode, HasDirectory, HasLeaf}
+use Rattle.image_model.specs.Claims.{every, Claims, root, in_dinode, first_leaf, next_leaf, HasInode, HasDirectory, HasLeaf, IsLeafBehind, same_leaf, next_behind}
 use Rattle.image_model.specs.Claims as image
 use Rattle.image_model.specs.Flat.{Path}
 use Rattle.image_model.specs.Groups.{IsListed}
@@ -42,6 +42,11 @@ module _ (im : Image) (a : ℕ) (has : HasInode im a) (hashed : is_hashed_in (ev
   pub chain_claims : (i place x : ℕ) → IsInChain (every im a) i place x → (by : ℕ) × Claims im by x (Chained a (first_hash (every im a) i) place)
   chain_claims i _ _ (chain_head low some) = (_, first_leaf has.1.by a has.0 i has.1.claimed has.1.dinode hashed low some)
   chain_claims i _ _ (chain_next place x chain more) = (x, next_leaf (chain_claims i place x chain).0 x a (first_hash (every im a) i) place (chain_claims i place x chain).1 more)
+
+  -- and stands so many behind its first
+  pub chain_behind : (i place x : ℕ) → IsInChain (every im a) i place x → IsLeafBehind im a (entry (every im a) i) place x
+  chain_behind i _ _ (chain_head low some) = same_leaf
+  chain_behind i _ _ (chain_next place x chain more) = next_behind place x (chain_behind i place x chain) more
 
   pub leaf_claims : (i from x : ℕ) → LeadsToLeaf (every im a) i from x → x ≢ 0 → (hash place : ℕ) × Claims im from x (Chained a hash place)
   leaf_claims i _ _ (by_pointer low) some = (first_hash (every im a) i, 0, first_leaf has.1.by a has.0 i has.1.claimed has.1.dinode hashed low some)
