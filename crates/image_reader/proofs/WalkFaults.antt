@@ -95,8 +95,7 @@ entered_at : (im : Image) (entries : List (Option Claim)) (x by : ℕ) (claim : 
 entered_at im entries x by claim claims claimed placed b other (inl same) there =
     let at_x : slice_get (slice_set entries x (Some claim)) x ≡ Some (Some other) = subst (λ n. slice_get (slice_set entries x (Some claim)) n ≡ Some (Some other)) same there in
     let is : other ≡ claim = some_is other claim (set_here entries x (Some claim) (Some other) at_x) in
-    let P : ℕ → Type 0 = λ n. Claims im by n (owner_of other) in
-    (
+    let P : ℕ → Type 0 = λ n. Claims im by n (owner_of other) in (
       by,
       subst P (sym same) (subst (λ (c : Claim). Claims im by x (owner_of c)) (sym is) claimed),
       subst (λ n. IsPlaced im n (owner_of other)) (sym same) (subst (λ (c : Claim). IsPlaced im x (owner_of c)) (sym is) placed),
