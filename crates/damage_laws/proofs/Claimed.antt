@@ -6,7 +6,7 @@ use Rattle.std.specs.Prelude.{Contains}
 use Rattle.std.specs.Option.{option_map}
 use Rattle.file_tree.specs.Names.{IsName}
 use Rattle.gfs2_layout.specs.Device.{superblock_place}
-use Rattle.gfs2_layout.specs.Inode.{first_hash, is_directory_in, is_hashed_in, leaf_area, records_of}
+use Rattle.gfs2_layout.specs.Inode.{entry, first_hash, is_directory_in, is_hashed_in, leaf_area, records_of}
 use Rattle.gfs2_layout.specs.declared.rindex.Rindex.{Rindex}
 use Rattle.gfs2_layout.specs.Records.{Record, is_dots, record_named, records_in}
 use Rattle.glock_names.specs.Views.{Seen, group_of_entry}
@@ -20,13 +20,13 @@ use Rattle.hash_dirs.specs.Shown.{LeadsToLeaf, by_leaf, by_pointer, index_for}
 use Rattle.directories.specs.Shown.{HasName, Says, in_linear, in_hashed}
 use Rattle.directories.specs.Shown as dirs
 use Rattle.resource_groups.specs.Putting.{HasDataBlock}
-use Rattle.image_model.specs.Claims.{every, Claims, root, in_dinode, first_leaf, next_leaf, HasInode, HasDirectory, HasLeaf}
+use Rattle.image_model.specs.Claims.{every, Claims, root, in_dinode, first_leaf, next_leaf, HasInode, HasDirectory, HasLeaf, IsLeafBehind, same_leaf, next_behind}
 use Rattle.image_model.specs.Claims as image
 use Rattle.image_model.specs.Flat.{Path}
 use Rattle.image_model.specs.Groups.{IsListed}
 use Rattle.image_model.specs.Image.{Image, IsImage}
 use Rattle.image_model.specs.Owners.{Root, Named, Chained}
-use Rattle.image_model.specs.Rules.{IsOutside}
+use Rattle.image_model.specs.Rules.{HasSoundGroup, IsOutside}
 use Rattle.image_model.proofs.Held.{none_some}
 use Rattle.image_model.proofs.Rows.{and_left}
 use Rattle.image_model.proofs.Reach.{Leading, leading}
@@ -42,6 +42,11 @@ module _ (im : Image) (a : ℕ) (has : HasInode im a) (hashed : is_hashed_in (ev
   pub chain_claims : (i place x : ℕ) → IsInChain (every im a) i place x → (by : ℕ) × Claims im by x (Chained a (first_hash (every im a) i) place)
   chain_claims i _ _ (chain_head low some) = (_, first_leaf has.1.by a has.0 i has.1.claimed has.1.dinode hashed low some)
   chain_claims i _ _ (chain_next place x chain more) = (x, next_leaf (chain_claims i place x chain).0 x a (first_hash (every im a) i) place (chain_claims i place x chain).1 more)
+
+  -- and stands so many behind its first
+  pub chain_behind : (i place x : ℕ) → IsInChain (every im a) i place x → IsLeafBehind im a (entry (every im a) i) place x
+  chain_behind i _ _ (chain_head low some) = same_leaf
+  chain_behind i _ _ (chain_next place x chain more) = next_behind place x (chain_behind i place x chain) more
 
   pub leaf_claims : (i from x : ℕ) → LeadsToLeaf (every im a) i from x → x ≢ 0 → (hash place : ℕ) × Claims im from x (Chained a hash place)
   leaf_claims i _ _ (by_pointer low) some = (first_hash (every im a) i, 0, first_leaf has.1.by a has.0 i has.1.claimed has.1.dinode hashed low some)
@@ -78,7 +83,7 @@ module _ (im : Image) (a b : ℕ) (name : List ℕ) (has : HasInode im a) (dir :
       (λ r there dots. in_dinode has.1.by a has.0 r has.1.claimed has.1.dinode dir plain (subst (λ rs. Contains rs r) (cond-false _ _ _ plain) there) (dots ∙ is.not_dots))
 
   hashed_claims : is_hashed_in (every im a) ≡ true → (i : ℕ) (named : Option Record) (e : Entry) → IsFirstNamed (every im a) i name named → Some e ≡ option_map entry_of named → e.addr ≡ b → IsNamedBy im a b name
-  hashed_claims hashed i _ e (nowhere some none) leads address = absurd (none_some (sym leads))
+  hashed_claims hashed i _ e (nowhere ends none) leads address = absurd (none_some (sym leads))
   hashed_claims hashed i _ e (in_leaf place x r chain found later) leads address =
       let c = chain_claims im a has hashed i place x chain in
       let led = record_is (records_in (leaf_area (every im a) x)) name r found in
@@ -98,9 +103,9 @@ module _ (im : Image) (a b : ℕ) (name : List ℕ) (has : HasInode im a) (dir :
 
 -- ---- what a view shows
 
--- the groups of the list are the image's
-pub has_group : (v : Seen) (im : Image) (read : IsReadFrom v im) (g : Rindex) → IsListed read.list g → image.HasGroup im g
-has_group v im read g there = (read.sound.inode, read.sound.rindex, subst (λ gs. IsListed gs g) (sym read.sound.listed) there)
+-- the groups of the list are those of a sound one
+pub has_group : (v : Seen) (im : Image) (read : IsReadFrom v im) (g : Rindex) → IsListed read.list g → HasSoundGroup im g
+has_group v im read g there = (read.list, read.sound, there)
 
 module _ (v : Seen) (im : Image) (read : IsReadFrom v im) (is_image : IsImage im) where
   -- an inode that is read as if it had every block of the image is one that the view shows

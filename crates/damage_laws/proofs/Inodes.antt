@@ -85,8 +85,8 @@ module _ (v : Seen) (im : Image) (read : IsReadFrom v im) where
   broken_group : (g : Rindex) → IsListed read.list g → (rule b : ℕ) → group.IsBroken im.at (group_of_entry g) rule b → Breaks im rule b
   broken_group g there rule b (group.no_header zero low lacks) =
       let first : g.address ≡ g.address + 0 = omega arith in
-      subst (Breaks im 1) first (no_header g.address 2 200 (of_group g (has_group v im read g there) (read.sound.fit g there)) (λ header. lacks (subst (λ c. HasHeader 2 200 (im.at c)) first header)))
-  broken_group g there rule b (group.no_header (suc k) low lacks) = no_header (g.address + suc k) 3 300 (of_bitmap g (suc k) (has_group v im read g there) (read.sound.fit g there) (omega arith) low) lacks
+      subst (Breaks im 1) first (no_header g.address 2 200 (of_group g (has_group v im read g there)) (λ header. lacks (subst (λ c. HasHeader 2 200 (im.at c)) first header)))
+  broken_group g there rule b (group.no_header (suc k) low lacks) = no_header (g.address + suc k) 3 300 (of_bitmap g (suc k) (has_group v im read g there) (omega arith) low) lacks
   broken_group g there rule b (group.wrong_free other) = free_count g (has_group v im read g there) other
   broken_group g there rule b (group.wrong_dinodes other) = dinode_count g (has_group v im read g there) other
 

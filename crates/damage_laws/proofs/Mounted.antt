@@ -1,20 +1,23 @@
 -- An image that is mounted, and a view that has what mounting told.
-use Rattle.std.proofs.Common.{◌≡◌, ◌+◌, sym, ap, ◌∙◌, subst, arith}
+use Rattle.std.proofs.Common.{◌≡◌, ℕ, ◌+◌, codes, sym, ap, ◌∙◌, subst, arith}
 use Rattle.std.specs.Prelude.{map}
 use Rattle.draft_changes.proofs.Views.{in_map, from_map, is_listed}
 use Rattle.gfs2_layout.specs.declared.rindex.Rindex.{Rindex}
 use Rattle.gfs2_layout.specs.declared.superblock.SuperBlock.{SuperBlock}
 use Rattle.gfs2_layout.specs.Inode.{content_of}
+use Rattle.gfs2_layout.specs.Records.{Record}
 use Rattle.glock_names.specs.Views.{Seen, HasGroup, end_of, group_of_entry}
 use Rattle.glock_names.specs.declared.views.Group.{Group}
-use Rattle.image_model.specs.Claims.{every}
+use Rattle.image_model.specs.Claims.{every, IsRindex, master_of}
 use Rattle.image_model.specs.Groups.{groups_in, IsListed, GroupFits}
 use Rattle.image_model.specs.Image.{Image, IsImage}
 use Rattle.image_model.specs.Stands.{Layout}
 use Rattle.image_model.proofs.Counts.{at_in}
 use Rattle.image_model.proofs.Members.{IsIn, contained, is_in}
 use Rattle.image_mount.specs.Found.{HasMaster}
+use Rattle.image_mount.specs.Looks.{HasTrueRecord}
 use Rattle.image_mount.specs.Mounted.{IsMounted, MountedValue}
+use Rattle.image_mount.proofs.Records.{led_record}
 use Rattle.damage_laws.specs.Telling.{IsReadFrom, HasWholeGroups, IsOfMounted, MountedAreRead}
 
 module _ (v : Seen) (im : Image) (m : MountedValue) (whole : IsImage im) (is : IsMounted im m) (of : IsOfMounted v im m) where
@@ -23,6 +26,15 @@ module _ (v : Seen) (im : Image) (m : MountedValue) (whole : IsImage im) (is : I
 
   found : HasMaster im l
   found = is.found.groups.list.master
+
+  record_of : HasTrueRecord im (master_of im) (codes "rindex") l.rindex
+  record_of = subst (λ a. HasTrueRecord im a (codes "rindex") l.rindex) (sym found.master) is.looked.rindex_record
+
+  -- one block is the list of groups
+  rindex_is : (d : ℕ) → IsRindex im d → d ≡ l.rindex
+  rindex_is d leads =
+      let led = led_record im (master_of im) leads.0 d (codes "rindex") leads.1 in
+      sym led.3 ∙ ap (λ (r : Record). r.address) (record_of.one leads.0 led.0 led.1 led.2) ∙ record_of.true_of.address
 
   listed : groups_in (content_of (every im l.rindex)) ≡ l.groups
   listed = is.found.groups.list.listed
@@ -42,7 +54,7 @@ module _ (v : Seen) (im : Image) (m : MountedValue) (whole : IsImage im) (is : I
     root = ap (λ (s : SuperBlock). s.root.address) (sym is.superblock) ∙ of.root;
     agrees = of.agrees;
     list = l.groups;
-    sound = record { inode = l.rindex; rindex = found.rindex; header = is.looked.rindex.dinode.header; whole = is.found.groups.list.whole; listed = listed; fit = is.found.groups.fit.each; rise = is.found.groups.fit.rise };
+    sound = record { inode = l.rindex; rindex = found.rindex; only = rindex_is; header = is.looked.rindex.dinode.header; whole = is.found.groups.list.whole; listed = listed; fit = is.found.groups.fit.each; rise = is.found.groups.fit.rise };
     groups = λ k. (entry_of k, λ f. subst (HasGroup v) (sym f.2) (has_listed f.0 f.1));
   }
 

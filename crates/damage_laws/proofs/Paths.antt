@@ -1,10 +1,10 @@
 -- Damage in an inode, and on a path.
-use Rattle.std.proofs.Common.{◌≡◌, ◌≢◌, ℕ, suc, ◌<◌, inl, inr, Bool, true, false, List, [], ◌∷◌, length, Option, None, Some, refl, sym, ap, ◌∙◌, subst, arith}
+use Rattle.std.proofs.Common.{◌≡◌, ◌≢◌, ℕ, suc, ◌-◌, ◌<◌, inl, inr, Bool, true, false, List, [], ◌∷◌, length, Option, None, Some, refl, sym, ap, ◌∙◌, subst, arith}
 use Rattle.std.proofs.lemmas.Bool.{cases_Bool, cond-false}
 use Rattle.std.specs.Prelude.{Contains, codes}
 use Rattle.std.specs.Option.{option_map}
 use Rattle.gfs2_layout.specs.Holding.{Holding}
-use Rattle.gfs2_layout.specs.Inode.{dinode_in, first_hash, is_hashed_in, leaf_area, linear_area, records_of}
+use Rattle.gfs2_layout.specs.Inode.{dinode_in, entry, first_hash, is_hashed_in, leaf_area, linear_area, records_of}
 use Rattle.gfs2_layout.specs.Records.{Record, record_named, records_in}
 use Rattle.glock_names.specs.Views.{Seen}
 use Rattle.glock_names.specs.declared.steps.Entry.{Entry}
@@ -28,7 +28,8 @@ use Rattle.path_walks.specs.Walks as path
 use Rattle.path_walks.specs.Walks.{IsLinearAt, IsWrongAt, in_inode, in_directory, too_few, on_path, leads_out}
 use Rattle.path_walks.proofs.Images.{none_named}
 use Rattle.damage_laws.specs.Telling.{InodesAreThere, PathsTell, HasAstray, IsAstray, IsReadFrom, IsTold, itself, astray}
-use Rattle.damage_laws.proofs.Claimed.{shown, is_directory, directory_or, astray_at, further, led_there, next_there, next_led, outside, chain_claims, leaf_claims, has_leaf, record_is, name_claims, IsNamedBy}
+use Rattle.image_model.proofs.Behind.{behind_nearer}
+use Rattle.damage_laws.proofs.Claimed.{shown, is_directory, directory_or, astray_at, further, led_there, next_there, next_led, outside, chain_behind, chain_claims, leaf_claims, has_leaf, record_is, name_claims, IsNamedBy}
 use Rattle.damage_laws.proofs.Leaves.{AreMarked, marked_or, all_records, has_records, record_of_leaf}
 use Rattle.damage_laws.proofs.Gone.{as_many, lacks_dot}
 
@@ -132,8 +133,8 @@ module _ (v : Seen) (im : Image) (read : IsReadFrom v im) (is_image : IsImage im
     broken_hashed _ _ (leaves.leaf_entries i from x leads some other) = rules.leaf_entries a x (has_leaf im a has.inode hashed i from x leads some) other
     broken_hashed _ _ (leaves.comes_again i place later x first second before) =
         let one = chain_claims im a has.inode hashed i place x first in
-        let other = chain_claims im a has.inode hashed i later x second in
-        rules.comes_again a (first_hash (every im a) i) x one.0 other.0 place later one.1 other.1 before
+        let behind = behind_nearer im a (entry (every im a) i) place x later x (chain_behind im a has.inode hashed i place x first) (chain_behind im a has.inode hashed i later x second) (omega (arith, before)) in
+        rules.comes_again a x (later - place) (one.0, first_hash (every im a) i, place, one.1) behind (omega (arith, before))
 
     wrong_hashed : (rule b : ℕ) → leaves.IsWrongIn v (every im a) rule b → Breaks im rule b
     wrong_hashed _ _ (leaves.breaks rule b broken) = broken_hashed rule b broken

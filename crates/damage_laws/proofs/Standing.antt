@@ -15,7 +15,7 @@ use Rattle.image_model.proofs.Held.{own_block}
 use Rattle.image_model.proofs.Rows.{sound}
 use Rattle.image_model.proofs.UnbrokenSystem.{list_whole}
 use Rattle.gfs2_layout.specs.Headers.{HasHeader}
-use Rattle.image_model.proofs.Facts.{has_rindex, list_is, rindex_dinode}
+use Rattle.image_model.proofs.Facts.{has_rindex, list_is, rindex_is, rindex_dinode}
 use Rattle.damage_laws.specs.Telling.{IsReadFrom, HasRootInside, HasWholeGroups, StandingAreRead}
 
 module _ (v : Seen) (im : Image) (o : Owners) (l : Layout) (t : Tree) (is : IsOf v im o l t) where
@@ -37,7 +37,7 @@ module _ (v : Seen) (im : Image) (o : Owners) (l : Layout) (t : Tree) (is : IsOf
     root = laid.super.root ∙ is.root;
     agrees = is.agrees;
     list = l.groups;
-    sound = record { inode = l.rindex; rindex = has_rindex im o l laid; header = header; whole = list_whole im o l laid l.rindex (has_rindex im o l laid); listed = list_is im o l laid; fit = laid.fit.each; rise = laid.fit.rise };
+    sound = record { inode = l.rindex; rindex = has_rindex im o l laid; only = rindex_is im o l laid; header = header; whole = list_whole im o l laid l.rindex (has_rindex im o l laid); listed = list_is im o l laid; fit = laid.fit.each; rise = laid.fit.rise };
     groups = λ k. (listed k, λ f. subst (HasGroup v) (sym f.2) (has_listed f.0 f.1));
   }
 

@@ -117,9 +117,9 @@ module _ (h : Holding) (i : ℕ) (name : List ℕ) where
     where
       which : (a b : ℕ) → (a < b) ⊎ ((a ≡ b) ⊎ (b < a))
       which a b = grind arith
-  first_once _ _ (in_leaf place x r chain is later) (nowhere some none) = absurd (none_some (sym (none (place + 1) place x (omega arith) chain) ∙ is))
-  first_once _ _ (nowhere some none) (in_leaf place x r chain is later) = absurd (none_some (sym (none (place + 1) place x (omega arith) chain) ∙ is))
-  first_once _ _ (nowhere some none) (nowhere some' none') = refl
+  first_once _ _ (in_leaf place x r chain is later) (nowhere ends none) = absurd (none_some (sym (none (place + 1) place x (omega arith) chain) ∙ is))
+  first_once _ _ (nowhere ends none) (in_leaf place x r chain is later) = absurd (none_some (sym (none (place + 1) place x (omega arith) chain) ∙ is))
+  first_once _ _ (nowhere ends none) (nowhere ends' none') = refl
 
 pub says_once : (h : Holding) (name : List ℕ) (a b : Option Entry) → Says h name a → Says h name b → a ≡ b
 says_once h name _ _ (directory.Says.in_linear plain) (directory.Says.in_linear plain') = refl

@@ -97,7 +97,7 @@ module _ (h : Holding) (i : ℕ) where
     pub found_nowhere : named_in h name x ≡ None → (leaf_in h x).next ≡ 0 → IsFoundAlong h i name None
     found_nowhere none last = record {
       named = None;
-      first = nowhere (head_there place x chain) (λ some earlier y before there. elim (which earlier place) [
+      first = nowhere (place, x, chain, last) (λ some earlier y before there. elim (which earlier place) [
         | inl low ↦ later earlier y low there
         | inr high ↦ elim high [
           | inl same ↦ ap (named_in h name) (chain_one place y x (subst (λ n. IsInChain h i n y) same there) chain) ∙ none
@@ -121,7 +121,7 @@ nowhere_named h name so = by so.named so.first (none_named so.named (sym so.lead
   where
     by : (o : Option Record) → IsFirstNamed h (index_for h name) name o → o ≡ None → IsLeafOfName h name None
     by _ (in_leaf place x r chain is later) e = absurd (none_some (sym e))
-    by _ (nowhere some later) e = in_none some later
+    by _ (nowhere ends later) e = in_none ends later
 
 -- ---- the link of a walk
 

@@ -69,7 +69,7 @@ module _ (h : Holding) (name : List ℕ) (sound : IsSound h) (hashed : is_hashed
   tells _ (in_leaf place x r chain is later) =
       let found = find_some (is_named name) (records_in (leaf_area h x)) r is in
       sym (found_one (is_named name) (records_of h) r (sound.once name) (record_there (index_for h name) place x r chain found.0) found.1)
-  tells _ (nowhere some later) = by (record_named (records_of h) name) refl
+  tells _ (nowhere ends later) = by (record_named (records_of h) name) refl
     where
       by : (o : Option Record) → record_named (records_of h) name ≡ o → None ≡ o
       by None e = refl

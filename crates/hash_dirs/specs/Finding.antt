@@ -1,9 +1,9 @@
 -- What a chain says of a name.
-use Rattle.std.specs.Prelude.{ℕ, ◌≡◌, ◌≢◌, ◌^◌, ◌<◌, true, List, Option, None, Some}
+use Rattle.std.specs.Prelude.{ℕ, ◌≡◌, ◌^◌, ◌<◌, true, List, Option, None, Some}
 use Rattle.std.specs.Option.{option_map}
 use Rattle.crc_words.specs.Remainder.{crc32_of}
 use Rattle.gfs2_layout.specs.Holding.{Holding}
-use Rattle.gfs2_layout.specs.Inode.{entry, is_hashed_in, leaf_area, records_of}
+use Rattle.gfs2_layout.specs.Inode.{is_hashed_in, leaf_area, leaf_in, records_of}
 use Rattle.gfs2_layout.specs.Records.{Record, record_named, records_in}
 use Rattle.glock_names.specs.declared.steps.Entry.{Entry}
 use Rattle.linear_dirs.specs.Shown.{entry_of}
@@ -17,15 +17,19 @@ named_in h name x = record_named (records_in (leaf_area h x)) name
 abbrev pub IsNamedLater : Holding → ℕ → List ℕ → ℕ → Type 0
 IsNamedLater h i name place = (earlier x : ℕ) → earlier < place → IsInChain h i earlier x → named_in h name x ≡ None
 
--- the first record of the name in the chain of pointer i, leaf by leaf from the first on
+-- the chain of pointer i ends: a leaf of it has none behind it
+abbrev pub IsEnded : Holding → ℕ → Type 0
+IsEnded h i = (place x : ℕ) × IsInChain h i place x × ((leaf_in h x).next ≡ 0)
+
+-- the first record of the name in the chain of pointer i, leaf by leaf from the first on; that there is none, a chain says that ends
 pub data IsFirstNamed (h : Holding) (i : ℕ) (name : List ℕ) : Option Record → Type 0 where
   in_leaf : (place x : ℕ) (r : Record) → IsInChain h i place x → named_in h name x ≡ Some r → IsNamedLater h i name place → IsFirstNamed h i name (Some r)
-  nowhere : entry h i ≢ 0 → ((place : ℕ) → IsNamedLater h i name place) → IsFirstNamed h i name None
+  nowhere : IsEnded h i → ((place : ℕ) → IsNamedLater h i name place) → IsFirstNamed h i name None
 
 -- the leaf that has the name's first record, in the chain of the name's own index
 pub data IsLeafOfName (h : Holding) (name : List ℕ) : Option ℕ → Type 0 where
   in_this : (place x : ℕ) (r : Record) → IsInChain h (index_for h name) place x → named_in h name x ≡ Some r → IsNamedLater h (index_for h name) name place → IsLeafOfName h name (Some x)
-  in_none : entry h (index_for h name) ≢ 0 → ((place : ℕ) → IsNamedLater h (index_for h name) name place) → IsLeafOfName h name None
+  in_none : IsEnded h (index_for h name) → ((place : ℕ) → IsNamedLater h (index_for h name) name place) → IsLeafOfName h name None
 
 -- where that record leads
 pub record IsFoundAlong (h : Holding) (i : ℕ) (name : List ℕ) (found : Option Entry) : Type 0 where

@@ -21,5 +21,6 @@ pub mod Order
 pub mod Listing
 pub mod JournalNames
 pub mod Reached
+pub mod Behind
 pub mod Replaying
 pub mod SystemStays

@@ -11,13 +11,13 @@ use Rattle.gfs2_layout.specs.Structures.{rindex_of, rindex_read, answer, length_
 use Rattle.gfs2_layout.specs.declared.fault.LayoutFault.{LayoutFault}
 use Rattle.gfs2_layout.specs.declared.rindex.Rindex.{Rindex}
 use Rattle.gfs2_layout.specs.Device.{superblock_place}
-use Rattle.image_model.specs.Claims.{every, IsRindex}
+use Rattle.image_model.specs.Claims.{every, IsRindex, HasGroup}
 use Rattle.gfs2_layout.specs.Headers.{HasHeader}
 use Rattle.gfs2_layout.specs.Inode.{content_of, dinode_in}
 use Rattle.image_model.specs.Groups.{groups_in, entry_length, IsGroupAt, IsListed, IsNear, GroupFits, end_of}
 use Rattle.image_model.specs.Image.{Image}
 use Rattle.image_model.specs.Listing.{RiseFrom, end_after}
-use Rattle.image_model.specs.Rules.{Breaks, IsSoundList, unfit, not_rising, bare}
+use Rattle.image_model.specs.Rules.{Breaks, IsSoundList, HasSoundGroup, unfit, not_rising, bare}
 use Rattle.shared_disk.proofs.FlightLaws.{all_append}
 
 -- ---- the list, entry by entry
@@ -159,16 +159,24 @@ rise_apart im e (x ∷ gs) rise zero (suc j) g h at there low =
 rise_apart im e (x ∷ gs) rise (suc i) (suc j) g h at there low = rise_apart im (end_of x) gs rise.2 i j g h at there (omega (arith, low))
 
 -- a list that was gone over is a sound one
-pub sound_list : (im : Image) (d : ℕ) (groups : List Rindex) → IsRindex im d → HasHeader 4 400 (im.at d) → (dinode_in (every im d)).size % entry_length ≡ 0 → groups ≡ groups_in (content_of (every im d)) → RiseFrom im 0 groups → IsSoundList im groups
-sound_list im d groups is header whole listed rise = record {
+pub sound_list : (im : Image) (d : ℕ) (groups : List Rindex) → IsRindex im d → ((e : ℕ) → IsRindex im e → e ≡ d) → HasHeader 4 400 (im.at d) → (dinode_in (every im d)).size % entry_length ≡ 0 → groups ≡ groups_in (content_of (every im d)) → RiseFrom im 0 groups → IsSoundList im groups
+sound_list im d groups is only header whole listed rise = record {
   inode = d;
   rindex = is;
+  only = only;
   header = header;
   whole = whole;
   listed = sym listed;
   fit = λ g at. all_at (GroupFits im) groups at.0 g (all_fit im 0 groups rise) at.1;
   rise = rise_apart im 0 groups rise;
 }
+
+-- a group of a sound list is one of the file that is `rindex`
+pub sound_group : (im : Image) (g : Rindex) → HasSoundGroup im g → HasGroup im g
+sound_group im g has = (has.1.inode, has.1.rindex, subst (λ gs. IsListed gs g) (sym has.1.listed) has.2)
+
+pub sound_fits : (im : Image) (g : Rindex) → HasSoundGroup im g → GroupFits im g
+sound_fits im g has = has.1.fit g has.2
 
 -- each block above the superblock's and before this one is near a group
 abbrev pub AreNear : Image → List Rindex → ℕ → Type 0

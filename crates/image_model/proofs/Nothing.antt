@@ -1,5 +1,5 @@
 -- An image that stands for a tree breaks no rule.
-use Rattle.std.proofs.Common.{ℕ, ap, ◌∙◌, arith}
+use Rattle.std.proofs.Common.{ℕ, ◌+◌, ap, ◌∙◌, arith}
 use Rattle.std.proofs.lemmas.Bool.{both_ways}
 use Rattle.file_tree.specs.Tree.{Tree}
 use Rattle.image_model.proofs.Members.{contained}
@@ -9,6 +9,7 @@ use Rattle.image_model.specs.Owners.{Owners, parent_of}
 use Rattle.image_model.specs.Stands.{Layout, IsLaid, Stands}
 use Rattle.image_model.specs.Rules
 use Rattle.image_model.specs.Rules.{Breaks}
+use Rattle.image_model.proofs.Behind.{behind_claimed}
 use Rattle.image_model.proofs.Facts.{has_dinode, inode_row, has_rindex, has_jindex, jindex_directory}
 use Rattle.image_model.proofs.Unbroken.{header_there, on_device, in_a_group, one_owner, has_group, bits_right, free_counted, dinodes_counted}
 use Rattle.image_model.proofs.UnbrokenInodes as inodes
@@ -68,8 +69,9 @@ module _ (im : Image) (owners : Owners) (l : Layout) (laid : IsLaid im owners l)
   laid_breaks_nothing _ _ (Rules.pointer_astray a i j at low some low' e d) = d (system.pointer_right im owners l laid a i j at low low' e)
   laid_breaks_nothing _ _ (Rules.leaf_entries a x has d) = d (inodes.leaf_counted im owners l laid a x has)
   laid_breaks_nothing _ _ (Rules.leaf_hash a x by hash place r claim there d) = d (inodes.leaf_hashes im owners l laid a x (by, hash, place, claim) r there)
-  laid_breaks_nothing _ _ (Rules.comes_again a hash x by by' place later claim other low) = absurd (omega (arith, low, inodes.chain_once im owners l laid a hash x by by' place later claim other))
-  laid_breaks_nothing _ _ (Rules.leads_back a hash x by by' place later claim other low) = absurd (omega (arith, low, inodes.chain_once im owners l laid a hash x by by' place later claim other))
+  laid_breaks_nothing _ _ (Rules.comes_again a x n has behind some) =
+      let other = behind_claimed im a has.0 x has.1 has.2 n x has.3 behind in
+      absurd (omega (arith, some, inodes.chain_once im owners l laid a has.1 x has.0 other.0 has.2 (has.2 + n) has.3 other.1))
   laid_breaks_nothing _ _ (Rules.no_jindex none) = none l.jindex (has_jindex im owners l laid) (jindex_directory im owners l laid)
   laid_breaks_nothing _ _ (Rules.headless j d has none) = system.journal_headed im owners l laid j d has none
   laid_breaks_nothing _ _ (Rules.bad_chunk j d p head has headed bad there) = system.no_bad_chunk im owners l laid j d has p head headed bad

@@ -3,11 +3,12 @@ use Rattle.std.proofs.Common.{◌≢◌, ◌≡◌, ◌==◌, ℕ, suc, ◌+◌,
 use Rattle.std.proofs.lemmas.Bool.{cases_Bool, cond-true, cond-false}
 use Rattle.gfs2_layout.specs.Inode.{Leads, from_dinode, from_block, content_block, entry, entry_block, first_hash, height_in, table_count, unit}
 use Rattle.gfs2_layout.specs.declared.rindex.Rindex.{Rindex}
-use Rattle.image_model.specs.Claims.{every, Claims, root, master, below, first_leaf, next_leaf, in_dinode, in_leaf, HasInode, HasDirectory, HasLeaf, HasArea, behind_dinode, of_leaf, HasGroup, LeadsTo, IsUnder, itself, by_name}
+use Rattle.image_model.specs.Claims.{every, Claims, root, master, below, first_leaf, next_leaf, in_dinode, in_leaf, HasInode, HasDirectory, HasLeaf, HasArea, behind_dinode, of_leaf, LeadsTo, IsUnder, itself, by_name}
 use Rattle.image_model.specs.Image.{Image, superblock_in}
 use Rattle.image_model.specs.Owners.{Owner, Below, Chained, Master, Named, Root, is_dinode}
 use Rattle.image_model.specs.Rules
-use Rattle.image_model.specs.Rules.{Breaks, HasRecords, HasRecordIn, from_dinode_block, from_leaves, IsHashedAt, Needs, of_superblock, of_group, of_bitmap, of_dinode, of_indirect, of_table, IsReached, the_superblock, by_claim, of_content, in_group, left_out}
+use Rattle.image_model.specs.Rules.{Breaks, HasRecords, HasRecordIn, from_dinode_block, from_leaves, IsHashedAt, Needs, of_superblock, of_group, of_bitmap, of_dinode, of_indirect, of_table, HasSoundGroup, IsReached, the_superblock, by_claim, of_content, in_group, left_out}
+use Rattle.image_model.proofs.Listing.{sound_group}
 
 module _ (im : Image) where
   inode : (a : ℕ) → HasInode im a → IsReached im a
@@ -66,13 +67,13 @@ module _ (im : Image) where
   claimer _ _ _ (in_dinode by a o r claim dinode dir plain there name) = by_claim by a o claim
   claimer _ _ _ (in_leaf by x a hash place r claim there name) = by_claim by x (Chained a hash place) claim
 
-  header_of : (g : Rindex) → HasGroup im g → IsReached im g.address
-  header_of g has = in_group g g.address has (inl refl)
+  header_of : (g : Rindex) → HasSoundGroup im g → IsReached im g.address
+  header_of g has = in_group g g.address (sound_group im g has) (inl refl)
 
   needs : (b kind format : ℕ) → Needs im b kind format → IsReached im b
   needs _ _ _ of_superblock = the_superblock
-  needs _ _ _ (of_group g has fits) = header_of g has
-  needs _ _ _ (of_bitmap g k has fits some low) = in_group g (g.address + k) has (inr (inl (record { low = omega arith; high = omega (arith, low) })))
+  needs _ _ _ (of_group g has) = header_of g has
+  needs _ _ _ (of_bitmap g k has some low) = in_group g (g.address + k) (sound_group im g has) (inr (inl (record { low = omega arith; high = omega (arith, low) })))
   needs _ _ _ (of_dinode a has) = inode a has
   needs _ _ _ (of_indirect by a x b k level first claim) = by_claim by x (Below a b k (suc level) first) claim
   needs _ _ _ (of_table by a x b k first claim dir) = by_claim by x (Below a b k 0 first) claim
@@ -91,7 +92,7 @@ module _ (im : Image) where
   broken_reached _ _ (Rules.other_data0 g has d) = header_of g has
   broken_reached _ _ (Rules.other_data_blocks g has d) = header_of g has
   broken_reached _ _ (Rules.other_bitbytes g has d) = header_of g has
-  broken_reached _ _ (Rules.wrong_bits g b has of wrong) = in_group g b has (inr (inr of))
+  broken_reached _ _ (Rules.wrong_bits g b has of wrong) = in_group g b (sound_group im g has) (inr (inr of))
   broken_reached _ _ (Rules.free_count g has d) = header_of g has
   broken_reached _ _ (Rules.dinode_count g has d) = header_of g has
   broken_reached _ _ (Rules.other_address a has d) = inode a has
@@ -143,8 +144,7 @@ module _ (im : Image) where
   broken_reached _ _ (Rules.pointer_astray a i j at low some low' e d) = first_of a i at low some
   broken_reached _ _ (Rules.leaf_entries a x has d) = leaf a x has
   broken_reached _ _ (Rules.leaf_hash a x by hash place r claim there d) = by_claim by x (Chained a hash place) claim
-  broken_reached _ _ (Rules.comes_again a hash x by by' place later claim other low) = by_claim by x (Chained a hash place) claim
-  broken_reached _ _ (Rules.leads_back a hash x by by' place later claim other low) = claimer by' x (Chained a hash later) other
+  broken_reached _ _ (Rules.comes_again a x n has behind some) = leaf a x has
   broken_reached _ _ (Rules.no_jindex none) = by_claim _ _ Master master
   broken_reached _ _ (Rules.headless j d has none) = named has.0 d _ has.2
   broken_reached _ _ (Rules.bad_chunk j d p head has headed bad there) = of_content d p (_, record { by = has.2.0; claimed = has.2.1; dinode = refl })

@@ -10,14 +10,18 @@ use Rattle.image_model.specs.Owners.{Owner, Owners, Super, InGroup, Free, Nobody
 use Rattle.gfs2_layout.specs.Groups.{group_header, bitmap_of, count_of}
 use Rattle.image_model.specs.Groups.{IsListed, IsDataOf, group_blocks, states_of, state_of, IsGroup}
 use Rattle.image_model.specs.Stands.{Layout, IsLaid}
-use Rattle.image_model.specs.Claims.{Claims, HasGroup}
-use Rattle.image_model.specs.Rules.{Needs, of_superblock, of_group, of_bitmap, of_dinode, of_indirect, of_table, of_leaf, IsOutside, bits_of, states_at, HasWrongBits, of_owner, unlinked, stray}
+use Rattle.image_model.specs.Claims.{Claims}
+use Rattle.image_model.specs.Rules.{Needs, of_superblock, of_group, of_bitmap, of_dinode, of_indirect, of_table, of_leaf, HasSoundGroup, IsOutside, bits_of, states_at, HasWrongBits, of_owner, unlinked, stray}
 use Rattle.image_model.proofs.Held.{own_block, block_same, pointed_part, chained_part}
 use Rattle.image_model.proofs.Rows.{sound, directory_is, claim_row, leaf_row, leaf_hashed}
 use Rattle.image_model.proofs.Reach.{used_low, used_claim}
 use Rattle.image_model.proofs.Facts.{has_dinode, has_leaf_row, claimed_used, group_listed, list_of}
+use Rattle.image_model.proofs.Listing.{sound_group}
 
 module _ (im : Image) (owners : Owners) (l : Layout) (laid : IsLaid im owners l) where
+  listed : (g : Rindex) → HasSoundGroup im g → IsListed l.groups g
+  listed g has = group_listed im owners l laid g (sound_group im g has)
+
   -- ---- headers
 
   -- block k of a group
@@ -32,11 +36,11 @@ module _ (im : Image) (owners : Owners) (l : Layout) (laid : IsLaid im owners l)
 
   pub header_there : (b kind format : ℕ) → Needs im b kind format → HasHeader kind format (im.at b)
   header_there _ _ _ of_superblock = laid.super.header
-  header_there _ _ _ (of_group g has fits) =
-      let at = group_listed im owners l laid g has in
+  header_there _ _ _ (of_group g has) =
+      let at = listed g has in
       subst (HasHeader 2 200) (first_block g at) (laid.groups g at).header
-  header_there _ _ _ (of_bitmap g k has fits some low) =
-      let at = group_listed im owners l laid g has in
+  header_there _ _ _ (of_bitmap g k has some low) =
+      let at = listed g has in
       subst (HasHeader 3 300) (group_block g k low) ((laid.groups g at).more k some low)
   header_there _ _ _ (of_dinode a has) =
       let d = has_dinode im owners l laid a has in
@@ -73,13 +77,13 @@ module _ (im : Image) (owners : Owners) (l : Layout) (laid : IsLaid im owners l)
 
   -- ---- groups
 
-  pub has_group : (g : Rindex) → HasGroup im g → IsGroup g (group_blocks im.at g) (states_of owners g)
-  has_group g has = laid.groups g (group_listed im owners l laid g has)
+  pub has_group : (g : Rindex) → HasSoundGroup im g → IsGroup g (group_blocks im.at g) (states_of owners g)
+  has_group g has = laid.groups g (listed g has)
 
-  pub states_same : (g : Rindex) → HasGroup im g → states_at im g ≡ states_of owners g
+  pub states_same : (g : Rindex) → HasSoundGroup im g → states_at im g ≡ states_of owners g
   states_same g has = (has_group g has).bits
 
-  pub bits_same : (g : Rindex) (b : ℕ) → HasGroup im g → IsDataOf g b → bits_of im g b ≡ state_of (owners b)
+  pub bits_same : (g : Rindex) (b : ℕ) → HasSoundGroup im g → IsDataOf g b → bits_of im g b ≡ state_of (owners b)
   bits_same g b has data_of =
       let low : b - g.data0 < g.data_blocks = omega (arith, data_of.low, data_of.high) in
       let here : g.data0 + (b - g.data0) ≡ b = omega (arith, data_of.low) in
@@ -98,16 +102,16 @@ module _ (im : Image) (owners : Owners) (l : Layout) (laid : IsLaid im owners l)
   not_two (Below a b k level first) e = absurd (omega (arith, e))
   not_two (Chained a hash place) e = absurd (omega (arith, e))
 
-  pub bits_right : (g : Rindex) (b : ℕ) → HasGroup im g → IsDataOf g b → HasWrongBits im g b → ⊥
+  pub bits_right : (g : Rindex) (b : ℕ) → HasSoundGroup im g → IsDataOf g b → HasWrongBits im g b → ⊥
   bits_right g b has data_of (of_owner by o claim wrong) = wrong (bits_same g b has data_of ∙ ap state_of (claim_row im owners l laid by b o claim))
   bits_right g b has data_of (unlinked two) = not_two (owners b) (sym (bits_same g b has data_of) ∙ two)
-  bits_right g b has data_of (stray nobody wrong) = elim (laid.zoned.data_blocks g (group_listed im owners l laid g has) b data_of) [
+  bits_right g b has data_of (stray nobody wrong) = elim (laid.zoned.data_blocks g (listed g has) b data_of) [
     | inl free ↦ wrong (bits_same g b has data_of ∙ ap state_of free)
     | inr used ↦ let claim = used_claim im owners l laid b (owners b) refl used in nobody claim.0 (owners b) claim.1
   ]
 
-  pub free_counted : (g : Rindex) → HasGroup im g → (group_header (group_blocks im.at g)).free ≡ count_of 0 (states_at im g)
+  pub free_counted : (g : Rindex) → HasSoundGroup im g → (group_header (group_blocks im.at g)).free ≡ count_of 0 (states_at im g)
   free_counted g has = (has_group g has).free ∙ ap (count_of 0) (sym (states_same g has))
 
-  pub dinodes_counted : (g : Rindex) → HasGroup im g → (group_header (group_blocks im.at g)).dinodes ≡ count_of 3 (states_at im g)
+  pub dinodes_counted : (g : Rindex) → HasSoundGroup im g → (group_header (group_blocks im.at g)).dinodes ≡ count_of 3 (states_at im g)
   dinodes_counted g has = (has_group g has).dinodes ∙ ap (count_of 3) (sym (states_same g has))

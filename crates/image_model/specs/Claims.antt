@@ -46,6 +46,11 @@ pub record HasDirectory (im : Image) (a : ℕ) : Type 0 where
 abbrev pub HasLeaf : Image → ℕ → ℕ → Type 0
 HasLeaf im a x = (by hash place : ℕ) × Claims im by x (Chained a hash place)
 
+-- leaf y of the directory in block a is so many behind leaf x, each by the number of a next leaf that the one before has
+pub data IsLeafBehind (im : Image) (a x : ℕ) : ℕ → ℕ → Type 0 where
+  same_leaf : IsLeafBehind im a x 0 x
+  next_behind : (n y : ℕ) → IsLeafBehind im a x n y → (leaf_in (every im a) y).next ≢ 0 → IsLeafBehind im a x (n + 1) (leaf_in (every im a) y).next
+
 -- an area of records of the directory in block a: behind its dinode, or in a leaf, each with the block that it stands in
 pub data HasArea (im : Image) (a : ℕ) : ℕ → List ℕ → Type 0 where
   behind_dinode : HasDirectory im a → is_hashed_in (every im a) ≡ false → HasArea im a a (linear_area (every im a))

@@ -10,7 +10,7 @@ use Rattle.gfs2_layout.specs.Structures.{dinode_length, is_regular, is_in_use}
 use Rattle.gfs2_layout.specs.Area.{Slot, name_of, slots_of, IsArea}
 use Rattle.gfs2_layout.specs.declared.rindex.Rindex.{Rindex}
 use Rattle.gfs2_layout.specs.Bitmap.{state_at}
-use Rattle.image_model.specs.Claims.{every, Claims, IsInodeAt, HasInode, HasDirectory, HasLeaf, HasArea, master_of, IsRindex, IsJindex, HasGroup, HasJournal, IsUnder}
+use Rattle.image_model.specs.Claims.{every, Claims, IsInodeAt, HasInode, HasDirectory, HasLeaf, IsLeafBehind, HasArea, master_of, IsRindex, IsJindex, HasGroup, HasJournal, IsUnder}
 use Rattle.gfs2_layout.specs.Groups.{bitmap_of, group_header, states_in, count_of}
 use Rattle.image_model.specs.Groups.{groups_in, entry_length, IsGroupAt, IsListed, end_of, IsHeaderOf, IsDataOf, IsNear, GroupFits, group_blocks, state_of}
 use Rattle.gfs2_layout.specs.Inode.{Leads, entry_block, dinode_in, height_in, is_directory_in, is_hashed_in, fan, span, content_block, content_of, content_count, table_count, depth_in, entry, index_bits, leaf_in, leaf_area, linear_area, top_bits, head_of}
@@ -27,15 +27,20 @@ use Rattle.image_model.specs.Stands.{kind_of}
 
 -- ---- the list of groups
 
--- These groups are listed in a file that is `rindex`, whose dinode has its header, and which is whole entries; they fit, and rise without overlapping.
+-- These groups are listed in the one file that is `rindex`, whose dinode has its header, and which is whole entries; they fit, and rise without overlapping.
 pub record IsSoundList (im : Image) (groups : List Rindex) : Type 0 where
   pub inode : ℕ
   pub rindex : IsRindex im inode
+  pub only : (d : ℕ) → IsRindex im d → d ≡ inode
   pub header : HasHeader 4 400 (im.at inode)
   pub whole : (dinode_in (every im inode)).size % entry_length ≡ 0
   pub listed : groups_in (content_of (every im inode)) ≡ groups
   pub fit : (g : Rindex) → IsListed groups g → GroupFits im g
   pub rise : (i j : ℕ) (g h : Rindex) → IsGroupAt groups i g → IsGroupAt groups j h → i < j → end_of g ≤ h.address
+
+-- a group of a sound list
+abbrev pub HasSoundGroup : Image → Rindex → Type 0
+HasSoundGroup im g = (groups : List Rindex) × IsSoundList im groups × IsListed groups g
 
 -- the first block of the device above the superblock that has none of these groups, and none leaves behind it
 pub record IsFirstBare (im : Image) (groups : List Rindex) (b : ℕ) : Type 0 where
@@ -46,11 +51,11 @@ pub record IsFirstBare (im : Image) (groups : List Rindex) (b : ℕ) : Type 0 wh
 
 -- ---- what stands where
 
--- the header that a place needs; that of a group or its bitmap, where the group fits
+-- the header that a place needs; that of a group or its bitmap, where the list is sound
 pub data Needs (im : Image) : ℕ → ℕ → ℕ → Type 0 where
   of_superblock : Needs im (superblock_place im.size) 1 100
-  of_group : (g : Rindex) → HasGroup im g → GroupFits im g → Needs im g.address 2 200
-  of_bitmap : (g : Rindex) (k : ℕ) → HasGroup im g → GroupFits im g → 0 < k → k < g.length → Needs im (g.address + k) 3 300
+  of_group : (g : Rindex) → HasSoundGroup im g → Needs im g.address 2 200
+  of_bitmap : (g : Rindex) (k : ℕ) → HasSoundGroup im g → 0 < k → k < g.length → Needs im (g.address + k) 3 300
   of_dinode : (a : ℕ) → HasInode im a → Needs im a 4 400
   of_indirect : (by a x b k level first : ℕ) → Claims im by x (Below a b k (suc level) first) → Needs im x 5 500
   of_table : (by a x b k first : ℕ) → Claims im by x (Below a b k 0 first) → is_directory_in (every im a) ≡ true → Needs im x 7 700
@@ -111,15 +116,15 @@ pub data Breaks (im : Image) : ℕ → ℕ → Type 0 where
   beyond_groups : (b c : ℕ) (o : Owner) → Claims im b c o → IsOutside im c → Breaks im 2 b
   -- 3: a block has two owners
   two_owners : (b by by' : ℕ) (o p : Owner) → Claims im by b o → Claims im by' b p → o ≢ p → Breaks im 3 b
-  -- 4: a group's header differs from the list of groups
-  other_data0 : (g : Rindex) → HasGroup im g → (group_header (group_blocks im.at g)).data0 ≢ g.data0 → Breaks im 4 g.address
-  other_data_blocks : (g : Rindex) → HasGroup im g → (group_header (group_blocks im.at g)).data_blocks ≢ g.data_blocks → Breaks im 4 g.address
-  other_bitbytes : (g : Rindex) → HasGroup im g → (group_header (group_blocks im.at g)).bitbytes ≢ g.bitbytes → Breaks im 4 g.address
+  -- 4: a group's header differs from the list of groups, which is sound, as it is for the next two rules
+  other_data0 : (g : Rindex) → HasSoundGroup im g → (group_header (group_blocks im.at g)).data0 ≢ g.data0 → Breaks im 4 g.address
+  other_data_blocks : (g : Rindex) → HasSoundGroup im g → (group_header (group_blocks im.at g)).data_blocks ≢ g.data_blocks → Breaks im 4 g.address
+  other_bitbytes : (g : Rindex) → HasSoundGroup im g → (group_header (group_blocks im.at g)).bitbytes ≢ g.bitbytes → Breaks im 4 g.address
   -- 5: a block's bits are wrong
-  wrong_bits : (g : Rindex) (b : ℕ) → HasGroup im g → IsDataOf g b → HasWrongBits im g b → Breaks im 5 b
+  wrong_bits : (g : Rindex) (b : ℕ) → HasSoundGroup im g → IsDataOf g b → HasWrongBits im g b → Breaks im 5 b
   -- 6: a group's free blocks or dinodes aren't the count of its bits
-  free_count : (g : Rindex) → HasGroup im g → (group_header (group_blocks im.at g)).free ≢ count_of 0 (states_at im g) → Breaks im 6 g.address
-  dinode_count : (g : Rindex) → HasGroup im g → (group_header (group_blocks im.at g)).dinodes ≢ count_of 3 (states_at im g) → Breaks im 6 g.address
+  free_count : (g : Rindex) → HasSoundGroup im g → (group_header (group_blocks im.at g)).free ≢ count_of 0 (states_at im g) → Breaks im 6 g.address
+  dinode_count : (g : Rindex) → HasSoundGroup im g → (group_header (group_blocks im.at g)).dinodes ≢ count_of 3 (states_at im g) → Breaks im 6 g.address
   -- 7: a dinode's own address isn't its block, or its formal number is zero
   other_address : (a : ℕ) → HasInode im a → (dinode_in (every im a)).num.address ≢ a → Breaks im 7 a
   no_number : (a : ℕ) → HasInode im a → (dinode_in (every im a)).num.number ≡ 0 → Breaks im 7 a
@@ -177,9 +182,8 @@ pub data Breaks (im : Image) : ℕ → ℕ → Type 0 where
   leaf_entries : (a x : ℕ) → HasLeaf im a x → (leaf_in (every im a) x).entries ≢ length (records_in (leaf_area (every im a) x)) → Breaks im 14 x
   leaf_hash : (a x by hash place : ℕ) (r : Record) → Claims im by x (Chained a hash place) → Contains (records_in (leaf_area (every im a) x)) r
       → top_bits (leaf_in (every im a) x).depth (crc32_of r.name) ≢ top_bits (leaf_in (every im a) x).depth hash → Breaks im 14 x
-  -- 15: a chain of leaves returns to itself; the leaf that comes again, or the one that leads to it
-  comes_again : (a hash x by by' place later : ℕ) → Claims im by x (Chained a hash place) → Claims im by' x (Chained a hash later) → place < later → Breaks im 15 x
-  leads_back : (a hash x by by' place later : ℕ) → Claims im by x (Chained a hash place) → Claims im by' x (Chained a hash later) → place < later → Breaks im 15 by'
+  -- 15: a chain of leaves returns to itself; each leaf that comes again behind itself
+  comes_again : (a x n : ℕ) → HasLeaf im a x → IsLeafBehind im a x n x → 0 < n → Breaks im 15 x
   -- 16: a journal has no accepted header; or there is no directory of journals: nothing that has its name is a directory
   no_jindex : ((d : ℕ) → IsJindex im d → is_directory_in (every im d) ≡ true → ⊥) → Breaks im 16 (master_of im)
   headless : (j d : ℕ) → HasJournal im j d → head_in (ring_of (every im d)) ≡ None → Breaks im 16 d

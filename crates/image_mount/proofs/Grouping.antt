@@ -11,7 +11,7 @@ use Rattle.gfs2_layout.specs.Inode.{dinode_in, content_of, unit}
 use Rattle.gfs2_layout.specs.declared.dinode.Dinode.{Dinode}
 use Rattle.gfs2_layout.specs.declared.rindex.Rindex.{Rindex}
 use Rattle.dinode_tree.specs.Reading.{AreHeaded, content_range, AreWholeBefore, IsRightDinode}
-use Rattle.image_model.specs.Claims.{every, HasGroup, IsRindex}
+use Rattle.image_model.specs.Claims.{every, IsRindex}
 use Rattle.gfs2_layout.specs.Bitmap.{bitmap_room}
 use Rattle.image_model.specs.Groups.{entry_length, groups_in, IsListed, IsNear, GroupFits, GroupsFit, end_of}
 use Rattle.image_model.specs.Image.{Image}
@@ -61,9 +61,6 @@ module _ (im : Image) (size count list : ℕ) (groups : List Rindex) (is : IsLis
 
   pub list_groups : groups_in (content_of (every im list)) ≡ groups
   list_groups = ap (λ d. groups_in (content_of (every im d))) (sym is.rindex) ∙ is.found.listed ∙ is.groups
-
-  pub list_known : (g : Rindex) → HasGroup im g → IsListed groups g
-  list_known g has = subst (λ gs. IsListed gs g) (ap (λ d. groups_in (content_of (every im d))) (is.only has.0 has.1) ∙ list_groups) has.2
 
   -- a group and those before and behind it
   split : (k : ℕ) (d : Rindex) → k < length groups → groups_in (content_of (every im list)) ≡ take k groups ++ (get_or groups k d ∷ drop (k + 1) groups)
@@ -135,7 +132,7 @@ pub bare_told : (im : Image) (f : MountFault) (size count list k b : ℕ) (group
 bare_told im f size count list k b groups is of rise some few to near inside ahead =
     let small : b < 2 ^ 64 - 1 = omega (arith, inside, list_few im size count list groups of) in
     subst (RefusesRightly im) (sym is) (
-      record { breaks = bare_at im groups b k to (sound_list im list groups (list_rindex im size count list groups of) of.looked.dinode.header (subst (λ d. (dinode_in (every im d)).size % entry_length ≡ 0) of.rindex of.found.whole) (sym (list_groups im size count list groups of)) rise) inside small ahead near; there = inl inside },
+      record { breaks = bare_at im groups b k to (sound_list im list groups (list_rindex im size count list groups of) of.only of.looked.dinode.header (subst (λ d. (dinode_in (every im d)).size % entry_length ≡ 0) of.rindex of.found.whole) (sym (list_groups im size count list groups of)) rise) inside small ahead near; there = inl inside },
       first_bare b (record {
         layout = with_groups of.layout groups;
         listed = record { master = master_with im of.layout groups of.found.master; whole = of.found.whole; listed = of.found.listed ∙ of.groups };

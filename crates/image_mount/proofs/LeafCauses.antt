@@ -16,11 +16,12 @@ use Rattle.gfs2_layout.specs.declared.dinode.Dinode.{Dinode}
 use Rattle.gfs2_layout.specs.declared.fault.LayoutFault.{LayoutFault}
 use Rattle.gfs2_layout.specs.declared.fault.LayoutFault.TheVariants.{Value}
 use Rattle.gfs2_layout.specs.declared.leaf.Leaf.{Leaf}
-use Rattle.image_model.specs.Claims.{every, Claims, HasArea, HasLeaf, HasDirectory, next_leaf}
+use Rattle.image_model.specs.Claims.{every, Claims, HasArea, HasLeaf, HasDirectory, next_behind, next_leaf}
 use Rattle.image_model.specs.Claims.{of_leaf}
 use Rattle.image_model.specs.Image.{Image}
 use Rattle.image_model.specs.Owners.{Chained}
 use Rattle.image_model.specs.Rules.{HasRecordIn, IsHashedAt, table_too_small, table_too_large, table_size, records_format, leaf_too_deep, leaf_hash, leaf_entries, chain_depth, no_header, of_leaf as needs_leaf}
+use Rattle.image_reader.specs.Owning.{IsPlaced}
 use Rattle.image_reader.proofs.LeafFaults.{leaf_reads, leaf_well}
 use Rattle.image_mount.specs.Found.{HasFormat, IsInChain, chain_next, IsReached}
 use Rattle.image_mount.specs.Leaves.{HasHashOf, IsLeafHead, IsLeafIn}
@@ -110,6 +111,7 @@ behind_is im a tail at is well more inside read block hash place pointer behind 
       well = subst (IsLeafHead im a) (sym block) well;
       pointed = subst (LeadsToLeaf (every im a)) (sym pointer) is.pointed;
       claimed = (tail.block, transport (λ k. Claims im tail.block (sym block k) (Chained a (sym hash k) (sym place k))) (behind_claim im a tail is more));
+      placed = transport (λ k. IsPlaced im ((sym next ∙ sym block) k) (Chained a (sym hash k) (sym place k))) (next_behind tail.place tail.block is.placed (λ e. more (next ∙ e)));
       chain = transport (λ k. IsInChain (every im a) (sym pointer k) (sym place k) ((sym next ∙ sym block) k)) (chain_next tail.place tail.block is.chain (λ e. more (next ∙ e)));
       hash = hash ∙ is.hash ∙ ap (first_hash (every im a)) (sym pointer);
       some = omega (arith, is.some, pointer, behind);

@@ -16,7 +16,7 @@ use Rattle.image_model.specs.Claims.{every, Claims, HasArea, HasDirectory, HasLe
 use Rattle.image_model.specs.Image.{Image}
 use Rattle.image_reader.specs.Leaves.{HasClaim, AreChained, leaf_records}
 use Rattle.image_model.specs.Owners.{Owner, Chained}
-use Rattle.image_reader.specs.Owning.{owner_of, AreClaims, IsClash, IsEntered, IsEmpty}
+use Rattle.image_reader.specs.Owning.{owner_of, AreClaims, IsClash, IsEntered, IsEmpty, IsPlaced}
 use Rattle.image_model.specs.Rules.{HasRecordIn, HasRecords, from_leaves, IsHashedAt}
 use Rattle.image_reader.specs.Going.{ClaimsOnly}
 use Rattle.image_reader.specs.declared.hash_table.HashTable.{HashTable}
@@ -212,9 +212,9 @@ module _ (im : Image) (a : ℕ) (es new : List (Option Claim)) (x hash place : �
         );
       }
 
-entered_claims : (im : Image) (old new : List (Option Claim)) (x by : ℕ) (claim : Claim) (fresh : Bool) → IsEntered old new x claim fresh → AreClaims im old → Claims im by x (owner_of claim) → AreClaims im new
-entered_claims im old new x by claim true entered claims claimed = entered_if im old new x by claim true entered.1 claims claimed
-entered_claims im old new x by claim false entered claims claimed = entered_if im old new x by claim false entered.1 claims claimed
+entered_claims : (im : Image) (old new : List (Option Claim)) (x by : ℕ) (claim : Claim) (fresh : Bool) → IsEntered old new x claim fresh → AreClaims im old → Claims im by x (owner_of claim) → IsPlaced im x (owner_of claim) → AreClaims im new
+entered_claims im old new x by claim true entered claims claimed placed = entered_if im old new x by claim true entered.1 claims claimed placed
+entered_claims im old new x by claim false entered claims claimed placed = entered_if im old new x by claim false entered.1 claims claimed placed
 
 -- ---- what comes next
 
@@ -298,7 +298,7 @@ module _ (im : Image) (walk : LeafWalk) (at : LeafAt) (of : IsNextLeaf im walk a
     owned = subst (Claims im of.leaf.claimed.0 at.block) (sym owner) of.leaf.claimed.1
 
     claims_now : AreClaims im later.owners.entries.items
-    claims_now = entered_claims im walk.owners.entries.items later.owners.entries.items at.block of.leaf.claimed.0 claim fresh entered of.walked.claims owned
+    claims_now = entered_claims im walk.owners.entries.items later.owners.entries.items at.block of.leaf.claimed.0 claim fresh entered of.walked.claims owned (subst (IsPlaced im at.block) (sym owner) of.leaf.placed)
 
     within_now : later.index ≤ table_count (every im walk.directory)
     within_now = omega (arith, index, of.leaf.within)
@@ -593,15 +593,15 @@ module _ (im : Image) (inode : Inode) (table : HashTable) (walk : LeafWalk) (of 
 -- ---- a leaf that is entered
 
 -- a block that is claimed otherwise
-pub clash_told : (im : Image) (entries : List (Option Claim)) (x by : ℕ) (claim : Claim) (found : ImageFault) → HasFormat im → IsReached im x → AreClaims im entries → Claims im by x (owner_of claim) → IsClash entries x claim found
+pub clash_told : (im : Image) (entries : List (Option Claim)) (x by : ℕ) (claim : Claim) (found : ImageFault) → HasFormat im → IsReached im x → AreClaims im entries → Claims im by x (owner_of claim) → IsPlaced im x (owner_of claim) → IsClash entries x claim found
     → RefusesRightly im (of_image found)
-clash_told im entries x by claim (image.Damaged block rule) format reached claims claimed c =
+clash_told im entries x by claim (image.Damaged block rule) format reached claims claimed placed c =
     let here : block ≡ x = elim c.told [ inl three ↦ same_block block rule x 3 three | inr fifteen ↦ same_block block rule x 15 fifteen.0 ] in
-    (clash im entries x by claim (image.Damaged block rule) reached.inside claims claimed c, come_to rule block format (subst (IsReached im) (sym here) reached))
+    (clash im entries x by claim (image.Damaged block rule) reached.inside claims claimed placed c, come_to rule block format (subst (IsReached im) (sym here) reached))
   where
     same_block : (b r c s : ℕ) → image.Damaged b r ≡ image.Damaged c s → b ≡ c
     same_block b r c s e = cc
-clash_told im entries x by claim image.NoMemory format reached claims claimed c = tt
+clash_told im entries x by claim image.NoMemory format reached claims claimed placed c = tt
 
 pub told_next : (im : Image) (walk : LeafWalk) (at : LeafAt) → IsNextLeaf im walk at → IsTold im walk.names walk.directory at
 told_next im walk at of = record {

@@ -246,6 +246,7 @@ outside_groups im system b groups looked same none = (
   subst (IsSoundList im) (sym same) (record {
     inode = system.rindex;
     rindex = looked.names.groups.list.master.rindex;
+    only = looked.one_rindex;
     header = looked.rindex_looked.dinode.header;
     whole = looked.names.groups.list.whole;
     listed = looked.names.groups.list.listed;

@@ -12,12 +12,12 @@ use Rattle.gfs2_layout.specs.Inode.{dinode_in, depth_in, is_directory_in, is_has
 use Rattle.gfs2_layout.specs.Structures.{is_directory, leaf_of}
 use Rattle.gfs2_layout.specs.declared.dinode.Dinode.{Dinode}
 use Rattle.gfs2_layout.specs.declared.leaf.Leaf.{Leaf}
-use Rattle.image_model.specs.Claims.{every, Claims, HasInode, HasDirectory, first_leaf}
+use Rattle.image_model.specs.Claims.{every, Claims, HasInode, HasDirectory, IsLeafBehind, first_leaf, same_leaf}
 use Rattle.image_model.specs.Image.{Image}
 use Rattle.image_model.specs.Owners.{Chained, Master}
 use Rattle.image_model.specs.Rules.{IsHashedAt, no_leaf, pointer_missing}
 use Rattle.image_reader.specs.declared.hash_table.HashTable.{HashTable}
-use Rattle.image_reader.proofs.Chains.{same_bits, run_some}
+use Rattle.image_reader.proofs.Chains.{same_bits, run_some, run_start}
 use Rattle.image_reader.proofs.Pieces.{pieces_cover}
 use Rattle.image_mount.specs.Found.{IsInChain, chain_head, IsReached}
 use Rattle.image_mount.specs.Leaves.{IsMasterIn, IsSystemDirectory, IsTableOf, IsLeafHead, IsLeafIn}
@@ -167,11 +167,18 @@ module _ (im : Image) (inode : Inode) (table : HashTable) (of : IsTableOf im ino
         let mine : at.hash ≡ first_hash h i = hash_same ∙ hash_is ∙ hash_by_run i at_pointer in
         let some_run = run_some run (table.depth - head.depth) run_is in
         let run_there : run ≡ 2 ^ (depth_in h - (leaf_in h (entry h i)).depth) = run_is ∙ (λ k. 2 ^ (of.depth k - depth_of i at_pointer k)) in
+        let depth_is : head.depth ≡ (leaf_in h number).depth = ap (λ (l : Leaf). l.depth) head_is in
+        let shallow : head.depth ≤ table.depth = omega (arith, well.depth, depth_is, of.depth) in
+        let start : at.hash / 2 ^ (32 - depth_in h) ≡ i - i % run
+        = subst (λ d. at.hash / 2 ^ (32 - d) ≡ i - i % run) of.depth (run_start i head.depth table.depth run at.hash shallow table.deep run_is (hash_same ∙ hash_is)) in
+        let begins : entry h (at.hash / 2 ^ (32 - depth_in h)) ≡ at.block
+        = ap (entry h) start ∙ sym (entry_is (i - i % run)) ∙ all (i - i % run) (omega arith) (omega (arith, some_run)) ∙ sym block in
         record {
           reached = subst (IsReached im) (sym block) inside;
           head = head_same ∙ head_is ∙ ap (λ n. leaf_of (im.at n)) (sym block);
           well = subst (IsLeafHead im inode.block) (sym block) well;
           claimed = (by, transport (λ k. Claims im by (sym block k) (Chained inode.block (sym mine k) (sym place k))) (first_claim i by number low by_is number_is some_number));
+          placed = transport (λ k. IsLeafBehind im inode.block (entry h (at.hash / 2 ^ (32 - depth_in h))) (sym place k) (begins k)) same_leaf;
           chain = transport (λ k. IsInChain h (sym pointer k) (sym place k) ((sym at_pointer ∙ sym block) k)) (chain_head (in_table i low) (λ e. some_number (at_pointer ∙ e)));
           hash = mine ∙ ap (first_hash h) (sym pointer);
           some = omega (arith, pointer, some);

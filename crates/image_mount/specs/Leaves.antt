@@ -14,7 +14,7 @@ use Rattle.image_model.specs.Claims.{every, Claims, HasDirectory, master_of}
 use Rattle.image_model.specs.Image.{Image}
 use Rattle.image_reader.specs.Leaves.{HasClaim, AreChained, leaf_records}
 use Rattle.image_model.specs.Owners.{Owner, Chained, is_dinode}
-use Rattle.image_reader.specs.Owning.{AreClaims}
+use Rattle.image_reader.specs.Owning.{AreClaims, IsPlaced}
 use Rattle.image_model.specs.Rules.{HasRecordIn, IsHashedAt}
 use Rattle.image_reader.specs.declared.hash_table.HashTable.{HashTable}
 use Rattle.image_reader.specs.declared.owners.Claim.{Claim}
@@ -74,12 +74,13 @@ pub record IsLeafHead (im : Image) (a x : ℕ) : Type 0 where
   pub records_format : u32_at 28 (im.at x) ≡ 1200
   pub depth : (leaf_in (every im a) x).depth ≤ depth_in (every im a)
 
--- the directory in block a has this leaf, at its place in the chain of a pointer; the pointers from that one to `behind` lead to the chain
+-- the directory in block a has this leaf, at its place in the chain of a pointer, and in that of the first pointer for its hash; the pointers from that one to `behind` lead to the chain
 pub record IsLeafIn (im : Image) (a : ℕ) (at : LeafAt) : Type 0 where
   pub reached : IsReached im at.block
   pub head : at.head ≡ leaf_in (every im a) at.block
   pub well : IsLeafHead im a at.block
   pub claimed : (by : ℕ) × Claims im by at.block (Chained a at.hash at.place)
+  pub placed : IsPlaced im at.block (Chained a at.hash at.place)
   pub chain : IsInChain (every im a) at.pointer at.place at.block
   pub hash : at.hash ≡ first_hash (every im a) at.pointer
   pub some : at.pointer < at.behind

@@ -3,18 +3,18 @@ use Rattle.std.proofs.Common.{◌≡◌, ◌≢◌, true, ℕ, suc, ◌+◌, ◌
 use Rattle.std.specs.Prelude.{IfSome, is_none}
 use Rattle.std.proofs.Math.Pow.{pow_mono}
 use Rattle.std.proofs.lemmas.List.Sums.{count_by-le-length}
-use Rattle.std.proofs.lemmas.Nat.{div-add-mod', le-div, pow_pos}
-use Rattle.std.proofs.Math.Nat.{div-lt_iff_lt-mul, div-le_self, mul-mod_left}
+use Rattle.std.proofs.lemmas.Nat.{div-add-mod', le-div, pow-add, pow_pos}
+use Rattle.std.proofs.Math.Nat.{div-lt_iff_lt-mul, div-le_self, mul-div_cancel, mul-mod_left, mul_assoc}
 use Rattle.gfs2_layout.specs.Bytes.{u64_at}
 use Rattle.gfs2_layout.specs.Inode.{depth_in, entry, entry_block, first_hash, index_bits, is_hashed_in, leaf_in, table_count}
 use Rattle.gfs2_layout.specs.Structures.{leaf_of}
 use Rattle.gfs2_layout.specs.declared.leaf.Leaf.{Leaf}
-use Rattle.image_model.specs.Claims.{every, Claims, HasInode, HasLeaf, first_leaf, next_leaf}
+use Rattle.image_model.specs.Claims.{every, Claims, HasInode, HasLeaf, IsLeafBehind, first_leaf, next_behind, next_leaf, same_leaf}
 use Rattle.image_reader.specs.Going.{IsVisitIn, IsOf, ClaimsOnly}
 use Rattle.image_model.specs.Image.{Image}
 use Rattle.image_reader.specs.Leaves.{HasClaim, IsTableOf, IsHeaded, AreChained}
 use Rattle.image_model.specs.Owners.{Owner, Chained}
-use Rattle.image_reader.specs.Owning.{AreClaims}
+use Rattle.image_reader.specs.Owning.{AreClaims, IsPlaced}
 use Rattle.image_reader.specs.Reading.{held, image_at, IsTrueOf}
 use Rattle.image_model.specs.Rules.{IsHashedAt, chain_depth, no_leaf, pointer_missing}
 use Rattle.image_reader.specs.declared.blocks.Blocks.{Blocks}
@@ -49,6 +49,17 @@ next_claim image inode x hash place leaf entries own read claims has more =
     let from = claim_of im entries x (Chained a hash place) claims has in
     let is : leaf.next ≡ (leaf_in (every im a) x).next = ap (λ (l : Leaf). l.next) (leaf_same image inode x leaf own read) in
     subst (λ n. Claims im x n (Chained a hash (place + 1))) (sym is) (next_leaf from.0 x a hash place from.1 (λ e. more (is ∙ e)))
+
+-- and it stands at its place
+pub next_placed : (image : Blocks) (inode : Inode) (x y hash place : ℕ) (leaf : Leaf) (entries : List (Option Claim)) → inode.block.image ≡ image → leaf ≡ leaf_in (held inode) x
+    → AreClaims (image_at image) entries → HasClaim entries x (Chained inode.block.number hash place) → leaf.next ≢ 0 → y ≡ leaf.next
+    → IsPlaced (image_at image) y (Chained inode.block.number hash (place + 1))
+next_placed image inode x y hash place leaf entries own read claims has more at =
+    let im = image_at image in
+    let a = inode.block.number in
+    let placed : IsPlaced im x (Chained a hash place) = subst (IsPlaced im x) has.owner (claims x has.claim has.there).2 in
+    let is : leaf.next ≡ (leaf_in (every im a) x).next = ap (λ (l : Leaf). l.next) (leaf_same image inode x leaf own read) in
+    subst (λ n. IsPlaced im n (Chained a hash (place + 1))) (sym (at ∙ is)) (next_behind place x placed (λ e. more (is ∙ e)))
 
 pub claim_at : (im : Image) (by x y : ℕ) (o : Owner) → y ≡ x → Claims im by x o → Claims im by y o
 claim_at im by x y o same claimed = subst (λ n. Claims im by n o) (sym same) claimed
@@ -179,6 +190,27 @@ hash_claim image inode table i by number run hash leaf of number_is leaf_is run_
 
 pub run_some : (run k : ℕ) → run ≡ 2 ^ k → 0 < run
 run_some run k is = subst (λ n. 0 < n) (sym is) (pow_pos k)
+
+-- the pointer for the first hash of a run is the run's first
+pub run_start : (i d deep run hash : ℕ) → d ≤ deep → deep ≤ 15 → run ≡ 2 ^ (deep - d) → hash ≡ i / run * 2 ^ (32 - d) → hash / 2 ^ (32 - deep) ≡ i - i % run
+run_start i d deep run hash low small run_is hash_is =
+    let width : ℕ = 2 ^ (32 - deep) in
+    let split : 32 - d ≡ deep - d + (32 - deep) = omega (arith, low, small) in
+    let wide : 2 ^ (32 - d) ≡ run * width = ap (λ k. 2 ^ k) split ∙ pow-add 2 (deep - d) (32 - deep) ∙ ap (λ r. r * width) (sym run_is) in
+    let is : hash ≡ i / run * run * width = hash_is ∙ ap (λ w. i / run * w) wide ∙ sym (mul_assoc (i / run) run width) in
+    ap (λ n. n / width) is ∙ mul-div_cancel (i / run * run) (pow_pos (32 - deep)) ∙ sym (start_at i run (run_some run (deep - d) run_is))
+
+-- so the leaf to which the run leads is the first of its chain
+pub first_placed : (image : Blocks) (inode : Inode) (table : HashTable) (i number x run hash : ℕ) (leaf : Leaf) → inode.block.image ≡ image → IsTableOf inode table → leaf.depth ≤ table.depth → table.depth ≤ 15
+    → run ≡ 2 ^ (table.depth - leaf.depth) → hash ≡ i / run * 2 ^ (32 - leaf.depth) → u64_at (8 * (i - i % run)) table.bytes.items ≡ number → x ≡ number
+    → IsPlaced (image_at image) x (Chained inode.block.number hash 0)
+first_placed image inode table i number x run hash leaf own of low small run_is hash_is leads at =
+    let h = held inode in
+    let a = inode.block.number in
+    let start : hash / 2 ^ (32 - depth_in h) ≡ i - i % run = subst (λ d. hash / 2 ^ (32 - d) ≡ i - i % run) of.depth (run_start i leaf.depth table.depth run hash low small run_is hash_is) in
+    let there : entry h (hash / 2 ^ (32 - depth_in h)) ≡ x = ap (entry h) start ∙ sym (entry_is inode table (i - i % run) of) ∙ leads ∙ sym at in
+    let here : IsPlaced (image_at inode.block.image) x (Chained a hash 0) = subst (λ n. IsLeafBehind (image_at inode.block.image) a (entry h (hash / 2 ^ (32 - depth_in h))) 0 n) there same_leaf in
+    subst (λ (b : Blocks). IsPlaced (image_at b) x (Chained a hash 0)) own here
 
 -- the bits of a pointer are few
 pub few_bits : (i run d : ℕ) → d ≤ 15 → i < 2 ^ d → i / run < 2 ^ 16

@@ -14,14 +14,13 @@ use Rattle.gfs2_layout.specs.declared.fault.LayoutFault.{LayoutFault}
 use Rattle.gfs2_layout.specs.declared.group_header.GroupHeader.{GroupHeader}
 use Rattle.gfs2_layout.specs.declared.rindex.Rindex.{Rindex}
 use Rattle.image_reader.specs.Bitmaps.{header_of, Repeats, bits_in, state_by, AreAllClaims}
-use Rattle.image_model.specs.Claims.{HasGroup}
 use Rattle.gfs2_layout.specs.Groups.{bitmap_of, count_of}
 use Rattle.image_model.specs.Groups.{GroupFits, IsDataOf, group_blocks}
 use Rattle.image_model.specs.Image.{Image}
 use Rattle.image_model.specs.Owners.{Owner}
 use Rattle.image_reader.specs.Owning.{owner_of}
 use Rattle.image_reader.specs.Reading.{image_at, states_of, IsTrueOf}
-use Rattle.image_model.specs.Rules.{Breaks, bits_of, states_at, HasWrongBits, of_owner, stray, no_header, of_group, of_bitmap, other_data0, other_data_blocks, other_bitbytes, wrong_bits, free_count, dinode_count}
+use Rattle.image_model.specs.Rules.{Breaks, HasSoundGroup, bits_of, states_at, HasWrongBits, of_owner, stray, no_header, of_group, of_bitmap, other_data0, other_data_blocks, other_bitbytes, wrong_bits, free_count, dinode_count}
 use Rattle.image_reader.specs.declared.blocks.Block.{Block}
 use Rattle.image_reader.specs.declared.blocks.Blocks.{Blocks}
 use Rattle.image_reader.specs.declared.image.ImageFault.{ImageFault}
@@ -36,19 +35,19 @@ use Rattle.image_reader.proofs.Inside.{block_inside}
 header_inside : (im : Image) (g : Rindex) → GroupFits im g → g.address < im.count
 header_inside im g fits = omega (arith, fits.some, fits.first, fits.inside)
 
-pub lacks_group_header : (image : Blocks) (block : Block) (g : Rindex) (fault : ImageFault) → fault ≡ Damaged g.address 1 → GroupFits (image_at image) g → HasGroup (image_at image) g → block.number ≡ g.address
+pub lacks_group_header : (image : Blocks) (block : Block) (g : Rindex) (fault : ImageFault) → fault ≡ Damaged g.address 1 → GroupFits (image_at image) g → HasSoundGroup (image_at image) g → block.number ≡ g.address
     → block.image ≡ image → ¬ (HasHeader 2 200 ((image_at block.image).at block.number)) → IsTrueOf (image_at image) fault
 lacks_group_header image block g fault is fits has number same lacks =
     let lacks' : ¬ (HasHeader 2 200 ((image_at image).at g.address))
     = subst (λ n. ¬ (HasHeader 2 200 ((image_at image).at n))) number (subst (λ (b : Blocks). ¬ (HasHeader 2 200 ((image_at b).at block.number))) same lacks) in
-    told_at image fault g.address 1 is (subst (λ n. n < image.count) number (block_inside block image same)) (no_header g.address 2 200 (of_group g has fits) lacks')
+    told_at image fault g.address 1 is (subst (λ n. n < image.count) number (block_inside block image same)) (no_header g.address 2 200 (of_group g has) lacks')
 
-pub lacks_bitmap_header : (image : Blocks) (block : Block) (g : Rindex) (k number : ℕ) (fault : ImageFault) → fault ≡ Damaged number 1 → GroupFits (image_at image) g → HasGroup (image_at image) g → 0 < k → k < g.length
+pub lacks_bitmap_header : (image : Blocks) (block : Block) (g : Rindex) (k number : ℕ) (fault : ImageFault) → fault ≡ Damaged number 1 → GroupFits (image_at image) g → HasSoundGroup (image_at image) g → 0 < k → k < g.length
     → number ≡ g.address + k → block.number ≡ number → block.image ≡ image → ¬ (HasHeader 3 300 ((image_at block.image).at block.number)) → IsTrueOf (image_at image) fault
 lacks_bitmap_header image block g k number fault is fits has some within at here same lacks =
     let lacks' : ¬ (HasHeader 3 300 ((image_at image).at (g.address + k)))
     = subst (λ n. ¬ (HasHeader 3 300 ((image_at image).at n))) (here ∙ at) (subst (λ (b : Blocks). ¬ (HasHeader 3 300 ((image_at b).at block.number))) same lacks) in
-    told_at image fault number 1 is (subst (λ n. n < image.count) here (block_inside block image same)) (subst (Breaks (image_at image) 1) (sym at) (no_header (g.address + k) 3 300 (of_bitmap g k has fits some within) lacks'))
+    told_at image fault number 1 is (subst (λ n. n < image.count) here (block_inside block image same)) (subst (Breaks (image_at image) 1) (sym at) (no_header (g.address + k) 3 300 (of_bitmap g k has some within) lacks'))
 
 group_is : (bytes : List ℕ) (h : GroupHeader) → Ok h ≡ group_read bytes → h ≡ group_of bytes
 group_is bytes h e = each (header_fault 128 2 200 bytes) e
@@ -65,7 +64,7 @@ header_read image block g h bytes fits number same read is =
     let block_is : bytes ≡ (image_at image).at g.address = read ∙ ap (λ (b : Blocks). (image_at b).at block.number) same ∙ ap (image_at image).at number in
     group_is bytes h is ∙ ap group_of (block_is ∙ sym first)
 
-pub other_header : (im : Image) (g : Rindex) (h : GroupHeader) (fault : ImageFault) → fault ≡ Damaged g.address 4 → GroupFits im g → HasGroup im g → h ≡ header_of im g → ¬ (Repeats h g) → IsTrueOf im fault
+pub other_header : (im : Image) (g : Rindex) (h : GroupHeader) (fault : ImageFault) → fault ≡ Damaged g.address 4 → GroupFits im g → HasSoundGroup im g → h ≡ header_of im g → ¬ (Repeats h g) → IsTrueOf im fault
 other_header im g h fault is fits has read other = told im fault g.address 4 is (header_inside im g fits) (subst (λ (k : GroupHeader). ¬ (Repeats k g) → Breaks im 4 g.address) (sym read) each other)
   where
     each : ¬ (Repeats (header_of im g) g) → Breaks im 4 g.address
@@ -124,7 +123,7 @@ wrong im g b entries (Some claim) all there other =
     of_owner from.0 (owner_of claim) from.1 other
 
 pub wrong_state : (im : Image) (g : Rindex) (n : ℕ) (entries : List (Option Claim)) (entry : Option Claim) (bits : List ℕ) (fault : ImageFault) (at state told_state : ℕ)
-    → fault ≡ Damaged at 5 → at ≡ g.data0 + n → GroupFits im g → HasGroup im g → n < g.data_blocks → AreAllClaims im entries → slice_get entries (g.data0 + n) ≡ Some entry
+    → fault ≡ Damaged at 5 → at ≡ g.data0 + n → GroupFits im g → HasSoundGroup im g → n < g.data_blocks → AreAllClaims im entries → slice_get entries (g.data0 + n) ≡ Some entry
     → bits ≡ bits_in im g g.length → state ≡ state_at bits n → told_state ≡ state_by entry → state ≢ told_state → IsTrueOf im fault
 wrong_state im g n entries entry bits fault at state told_state is at_is fits has within all there bits_is state_is by_is other =
     let b = g.data0 + n in
@@ -138,12 +137,12 @@ wrong_state im g n entries entry bits fault at state told_state is at_is fits ha
 states_are : (im : Image) (g : Rindex) (bits : List ℕ) → bits ≡ bits_in im g g.length → states_of bits g.data_blocks ≡ states_at im g
 states_are im g bits is = ap (λ l. map (state_at l) (range_with_len 0 g.data_blocks)) is
 
-pub wrong_free : (im : Image) (g : Rindex) (h : GroupHeader) (bits : List ℕ) (fault : ImageFault) (count : ℕ) → fault ≡ Damaged g.address 6 → GroupFits im g → HasGroup im g → h ≡ header_of im g
+pub wrong_free : (im : Image) (g : Rindex) (h : GroupHeader) (bits : List ℕ) (fault : ImageFault) (count : ℕ) → fault ≡ Damaged g.address 6 → GroupFits im g → HasSoundGroup im g → h ≡ header_of im g
     → bits ≡ bits_in im g g.length → count ≡ count_of 0 (states_of bits g.data_blocks) → h.free ≢ count → IsTrueOf im fault
 wrong_free im g h bits fault count is fits has read bits_is counted other =
     told im fault g.address 6 is (header_inside im g fits) (free_count g has (λ e. other (ap (λ (k : GroupHeader). k.free) read ∙ e ∙ ap (count_of 0) (sym (states_are im g bits bits_is)) ∙ sym counted)))
 
-pub wrong_dinodes : (im : Image) (g : Rindex) (h : GroupHeader) (bits : List ℕ) (fault : ImageFault) (count : ℕ) → fault ≡ Damaged g.address 6 → GroupFits im g → HasGroup im g → h ≡ header_of im g
+pub wrong_dinodes : (im : Image) (g : Rindex) (h : GroupHeader) (bits : List ℕ) (fault : ImageFault) (count : ℕ) → fault ≡ Damaged g.address 6 → GroupFits im g → HasSoundGroup im g → h ≡ header_of im g
     → bits ≡ bits_in im g g.length → count ≡ count_of 3 (states_of bits g.data_blocks) → h.dinodes ≢ count → IsTrueOf im fault
 wrong_dinodes im g h bits fault count is fits has read bits_is counted other =
     told im fault g.address 6 is (header_inside im g fits) (dinode_count g has (λ e. other (ap (λ (k : GroupHeader). k.dinodes) read ∙ e ∙ ap (count_of 3) (sym (states_are im g bits bits_is)) ∙ sym counted)))

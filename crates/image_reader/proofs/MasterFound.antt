@@ -1,18 +1,17 @@
 -- The file that lists the groups, among what the master directory names.
 use Rattle.std.proofs.Common.{◌≡◌, inl, inr, ℕ, List, [], length, Option, Some, None, refl, sym, ap, subst, ◌∙◌, arith}
-use Rattle.std.specs.Prelude.{codes, slice_get, Contains, slice_index_or}
+use Rattle.std.specs.Prelude.{codes, slice_get, Contains}
 use Rattle.std.specs.List.{All}
-use Rattle.gfs2_layout.specs.Inode.{content_of}
 use Rattle.gfs2_layout.specs.declared.rindex.Rindex.{Rindex}
-use Rattle.image_model.specs.Claims.{every, Claims, IsRindex, HasGroup, HasInode, master_of}
+use Rattle.image_model.specs.Claims.{Claims, IsRindex, HasInode, master_of}
 use Rattle.image_reader.specs.Complete.{AllAreFound}
 use Rattle.image_reader.specs.Finding.{IsFoundIn}
 use Rattle.image_reader.specs.Found.{IsEntryAt, HasEntry}
 use Rattle.image_reader.specs.Going.{FindsOnlyOf}
-use Rattle.image_model.specs.Groups.{groups_in, IsListed}
+use Rattle.image_model.specs.Groups.{IsListed}
 use Rattle.image_model.specs.Owners.{Named}
 use Rattle.image_reader.specs.Reading.{image_at, IsDinodeBlock}
-use Rattle.image_model.specs.Rules.{Breaks, no_rindex}
+use Rattle.image_model.specs.Rules.{Breaks, HasSoundGroup, IsSoundList, no_rindex}
 use Rattle.image_reader.specs.System.{IsNamedAmong, HasNoneNamed}
 use Rattle.image_reader.specs.Untouched.{AreNamedApart}
 use Rattle.image_reader.specs.declared.blocks.Blocks.{Blocks}
@@ -68,17 +67,9 @@ rindex_dinode image rindex same is =
 
 -- ---- the groups that it lists
 
-module _ (im : Image) (d : ℕ) (is : IsRindex im d) (groups : List Rindex) (listed : groups ≡ groups_in (content_of (every im d))) where
-  pub are_groups : All (HasGroup im) groups
-  are_groups k e low =
-      let at : IsListed (groups_in (content_of (every im d))) (slice_index_or groups k e) = (k, ap (λ l. slice_get l k) (sym listed) ∙ slice_get-get_or groups k e low) in
-      (d, is, at)
-
-  pub are_listed : ((e : ℕ) → IsRindex im e → e ≡ d) → (g : Rindex) → HasGroup im g → IsListed groups g
-  are_listed only g has =
-      let same = only has.0 has.1 in
-      let at : IsListed (groups_in (content_of (every im d))) g = subst (λ e. IsListed (groups_in (content_of (every im e))) g) same has.2 in
-      (at.0, ap (λ l. slice_get l at.0) listed ∙ at.1)
+-- each is a group of a sound list
+pub are_groups : (im : Image) (groups : List Rindex) → IsSoundList im groups → All (HasSoundGroup im) groups
+are_groups im groups list k e low = (groups, list, (k, slice_get-get_or groups k e low))
 
 pub is_contained : (groups : List Rindex) (g : Rindex) → IsListed groups g → Contains groups g
 is_contained groups g at = (at.0, got_low groups at.0 g at.1, got_is groups at.0 g g at.1)

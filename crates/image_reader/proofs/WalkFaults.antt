@@ -1,16 +1,17 @@
 -- What claiming a block finds broken.
 use Rattle.image_reader.proofs.MasterFound.{is_contained}
-use Rattle.std.proofs.Common.{◌≡◌, ◌≢◌, ◌⊎◌, Bool, true, false, ℕ, zero, suc, [], ◌∷◌, ◌++◌, ◌<◌, ◌≤◌, List, Bor, Option, Some, None, inl, inr, refl, sym, ap, subst, ◌∙◌, arith}
+use Rattle.std.proofs.Common.{◌≡◌, ◌≢◌, ◌⊎◌, Bool, true, false, ℕ, zero, suc, [], ◌∷◌, ◌++◌, ◌-◌, ◌<◌, ◌≤◌, List, Bor, Option, Some, None, inl, inr, refl, sym, ap, subst, ◌∙◌, arith}
 use Rattle.std.specs.Prelude.{if◌then◌else◌, MatchOption, slice_get, slice_set}
 use Rattle.std.specs.List.{All}
 use Rattle.std.proofs.lemmas.Bool.{cases_lt}
 use Rattle.std.proofs.lemmas.List.Elements.{All-contains}
 use Rattle.gfs2_layout.specs.declared.rindex.Rindex.{Rindex}
-use Rattle.image_model.specs.Claims.{Claims}
+use Rattle.gfs2_layout.specs.Inode.{entry}
+use Rattle.image_model.specs.Claims.{every, Claims, HasLeaf}
 use Rattle.image_model.specs.Groups.{IsDataOf}
 use Rattle.image_model.specs.Image.{Image}
-use Rattle.image_model.specs.Owners.{Owner, Chained}
-use Rattle.image_reader.specs.Owning.{owner_of, AreClaims, AreOneChain, IsClash, IsEmpty}
+use Rattle.image_model.specs.Owners.{Owner, Root, Master, Chained}
+use Rattle.image_reader.specs.Owning.{owner_of, pointer_for, AreClaims, AreOneChain, IsClash, IsEmpty, IsPlaced}
 use Rattle.image_reader.specs.Reading.{image_at, IsTrueOf}
 use Rattle.image_model.specs.Rules.{Breaks, IsOutside, beyond_device, beyond_groups, two_owners, comes_again, IsSoundList}
 use Rattle.image_reader.specs.Walking.{IsSound, IsOutsideKnown}
@@ -18,6 +19,7 @@ use Rattle.image_reader.specs.declared.image.ImageFault.{ImageFault}
 use Rattle.image_reader.specs.declared.image.ImageFault.TheVariants.{Damaged}
 use Rattle.image_reader.specs.declared.owners.Claim.{Claim}
 use Rattle.image_reader.specs.declared.walk.Walk.{Walk}
+use Rattle.image_model.proofs.Behind.{behind_nearer}
 use Rattle.image_reader.proofs.InodeFaults.{told, told_at}
 
 -- ---- outside the device, or the groups
@@ -40,32 +42,35 @@ past_groups walk fault by number o is inside claimed sound outside =
 
 -- ---- claimed twice
 
-in_order : (im : Image) (x from by a hash place later : ℕ) → Claims im from x (Chained a hash place) → Claims im by x (Chained a hash later)
+-- a leaf at two places of one chain stands behind itself
+comes_round : (im : Image) (x from a hash place later : ℕ) → Claims im from x (Chained a hash place) → IsPlaced im x (Chained a hash place) → IsPlaced im x (Chained a hash later)
     → Chained a hash place ≢ Chained a hash later → Breaks im 15 x
-in_order im x from by a hash place later first second other =
+comes_round im x from a hash place later claimed first second other =
+    let head = entry (every im a) (pointer_for im a hash) in
+    let has : HasLeaf im a x = (from, hash, place, claimed) in
     elim (cases_lt place later) [
-      | inl less ↦ comes_again a hash x from by place later first second less
+      | inl less ↦ comes_again a x (later - place) has (behind_nearer im a head place x later x first second (omega (arith, less))) (omega (arith, less))
       | inr past ↦ elim (cases_lt later place) [
-        | inl less ↦ comes_again a hash x by from later place second first less
+        | inl less ↦ comes_again a x (place - later) has (behind_nearer im a head later x place x second first (omega (arith, less))) (omega (arith, less))
         | inr back ↦
             let same : place ≡ later = omega (arith, past, back) in
             absurd (other (ap (Chained a hash) same))
       ]
     ]
 
-chain_breaks : (im : Image) (x from by : ℕ) (o p : Owner) → Claims im from x o → Claims im by x p → o ≢ p → AreOneChain o p → Breaks im 15 x
-chain_breaks im x from by (Chained a hash place) (Chained b more later) first second other one =
+chain_breaks : (im : Image) (x from : ℕ) (o p : Owner) → Claims im from x o → IsPlaced im x o → IsPlaced im x p → o ≢ p → AreOneChain o p → Breaks im 15 x
+chain_breaks im x from (Chained a hash place) (Chained b more later) claimed first second other one =
     let same : Chained b more later ≡ Chained a hash later = λ i. Chained (sym one.0 i) (sym one.1 i) later in
-    in_order im x from by a hash place later first (subst (Claims im by x) same second) (λ e. other (e ∙ sym same))
-chain_breaks im x from by _ _ first second other one = absurd one
+    comes_round im x from a hash place later claimed first (subst (IsPlaced im x) same second) (λ e. other (e ∙ sym same))
+chain_breaks im x from _ _ claimed first second other one = absurd one
 
 pub clash : (im : Image) (entries : List (Option Claim)) (x by : ℕ) (claim : Claim) (fault : ImageFault) → x < im.count → AreClaims im entries → Claims im by x (owner_of claim)
-    → IsClash entries x claim fault → IsTrueOf im fault
-clash im entries x by claim fault inside claims claimed c =
+    → IsPlaced im x (owner_of claim) → IsClash entries x claim fault → IsTrueOf im fault
+clash im entries x by claim fault inside claims claimed placed c =
     let old = claims x c.old c.there in
     elim c.told [
       | inl three ↦ told im fault x 3 three inside (two_owners x old.0 by (owner_of c.old) (owner_of claim) old.1 claimed c.other)
-      | inr fifteen ↦ told im fault x 15 fifteen.0 inside (chain_breaks im x old.0 by (owner_of c.old) (owner_of claim) old.1 claimed c.other fifteen.1)
+      | inr fifteen ↦ told im fault x 15 fifteen.0 inside (chain_breaks im x old.0 (owner_of c.old) (owner_of claim) old.1 old.2 placed c.other fifteen.1)
     ]
 
 -- ---- entering a claim
@@ -85,14 +90,17 @@ set_here (x ∷ xs) (suc i) v y there = set_here xs i v y there
 pub some_is : {X : Type 0} → (x y : X) → Some x ≡ Some y → x ≡ y
 some_is x y e = cc
 
-entered_at : (im : Image) (entries : List (Option Claim)) (x by : ℕ) (claim : Claim) → AreClaims im entries → Claims im by x (owner_of claim)
-    → (b : ℕ) (other : Claim) → (b ≡ x) ⊎ (b ≢ x) → slice_get (slice_set entries x (Some claim)) b ≡ Some (Some other) → (from : ℕ) × Claims im from b (owner_of other)
-entered_at im entries x by claim claims claimed b other (inl same) there =
+entered_at : (im : Image) (entries : List (Option Claim)) (x by : ℕ) (claim : Claim) → AreClaims im entries → Claims im by x (owner_of claim) → IsPlaced im x (owner_of claim)
+    → (b : ℕ) (other : Claim) → (b ≡ x) ⊎ (b ≢ x) → slice_get (slice_set entries x (Some claim)) b ≡ Some (Some other) → (from : ℕ) × Claims im from b (owner_of other) × IsPlaced im b (owner_of other)
+entered_at im entries x by claim claims claimed placed b other (inl same) there =
     let at_x : slice_get (slice_set entries x (Some claim)) x ≡ Some (Some other) = subst (λ n. slice_get (slice_set entries x (Some claim)) n ≡ Some (Some other)) same there in
     let is : other ≡ claim = some_is other claim (set_here entries x (Some claim) (Some other) at_x) in
-    let P : ℕ → Type 0 = λ n. Claims im by n (owner_of other) in
-    (by, subst P (sym same) (subst (λ (c : Claim). Claims im by x (owner_of c)) (sym is) claimed))
-entered_at im entries x by claim claims claimed b other (inr apart) there = claims b other (sym (set_other entries x b (Some claim) apart) ∙ there)
+    let P : ℕ → Type 0 = λ n. Claims im by n (owner_of other) in (
+      by,
+      subst P (sym same) (subst (λ (c : Claim). Claims im by x (owner_of c)) (sym is) claimed),
+      subst (λ n. IsPlaced im n (owner_of other)) (sym same) (subst (λ (c : Claim). IsPlaced im x (owner_of c)) (sym is) placed),
+    )
+entered_at im entries x by claim claims claimed placed b other (inr apart) there = claims b other (sym (set_other entries x b (Some claim) apart) ∙ there)
 
 pub same_or_not : (a b : ℕ) → (a ≡ b) ⊎ (a ≢ b)
 same_or_not a b = elim (cases_lt a b) [
@@ -103,14 +111,19 @@ same_or_not a b = elim (cases_lt a b) [
   ]
 ]
 
-pub entered : (im : Image) (entries : List (Option Claim)) (x by : ℕ) (claim : Claim) → AreClaims im entries → Claims im by x (owner_of claim)
+pub entered : (im : Image) (entries : List (Option Claim)) (x by : ℕ) (claim : Claim) → AreClaims im entries → Claims im by x (owner_of claim) → IsPlaced im x (owner_of claim)
     → AreClaims im (slice_set entries x (Some claim))
-entered im entries x by claim claims claimed b other there = entered_at im entries x by claim claims claimed b other (same_or_not b x) there
+entered im entries x by claim claims claimed placed b other there = entered_at im entries x by claim claims claimed placed b other (same_or_not b x) there
 
 pub entered_if : (im : Image) (entries later : List (Option Claim)) (x by : ℕ) (claim : Claim) (fresh : Bool) → later ≡ (if fresh then slice_set entries x (Some claim) else entries)
-    → AreClaims im entries → Claims im by x (owner_of claim) → AreClaims im later
-entered_if im entries later x by claim true is claims claimed = subst (AreClaims im) (sym is) (entered im entries x by claim claims claimed)
-entered_if im entries later x by claim false is claims claimed = subst (AreClaims im) (sym is) claims
+    → AreClaims im entries → Claims im by x (owner_of claim) → IsPlaced im x (owner_of claim) → AreClaims im later
+entered_if im entries later x by claim true is claims claimed placed = subst (AreClaims im) (sym is) (entered im entries x by claim claims claimed placed)
+entered_if im entries later x by claim false is claims claimed placed = subst (AreClaims im) (sym is) claims
+
+-- a top directory is no leaf
+pub placed_top : (im : Image) (x : ℕ) (o : Owner) → (o ≡ Root) ⊎ (o ≡ Master) → IsPlaced im x o
+placed_top im x o (inl root) = subst (IsPlaced im x) (sym root) tt
+placed_top im x o (inr master) = subst (IsPlaced im x) (sym master) tt
 
 -- ---- a table of nothing
 

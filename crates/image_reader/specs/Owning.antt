@@ -1,6 +1,7 @@
 -- The table of what claims each block, as far as it was found.
-use Rattle.std.specs.Prelude.{ℕ, ◌≡◌, ◌≢◌, ◌⊎◌, Bool, true, false, List, Option, None, Some, slice_get, slice_set}
-use Rattle.image_model.specs.Claims.{Claims}
+use Rattle.std.specs.Prelude.{ℕ, ◌≡◌, ◌≢◌, ◌⊎◌, ◌-◌, ◌/◌, ◌^◌, Bool, true, false, List, Option, None, Some, slice_get, slice_set}
+use Rattle.gfs2_layout.specs.Inode.{depth_in, entry}
+use Rattle.image_model.specs.Claims.{every, Claims, IsLeafBehind}
 use Rattle.image_model.specs.Image.{Image}
 use Rattle.image_model.specs.Owners.{Owner, Root, Master, Named, Below, Chained}
 use Rattle.image_reader.specs.declared.image.ImageFault.{ImageFault}
@@ -16,9 +17,18 @@ owner_of (by.Named parent name) = Named parent name.now
 owner_of (by.Below inode block pointer level first) = Below inode block pointer level first
 owner_of (by.Chained directory hash place) = Chained directory hash place
 
--- what a table holds of blocks was found in the image
+-- the first of the pointers that lead to the chain for the hashes from this one on
+abbrev pub pointer_for : Image → ℕ → ℕ → ℕ
+pointer_for im a hash = hash / 2 ^ (32 - depth_in (every im a))
+
+-- a leaf of a chain stands so many behind the one to which that pointer leads
+abbrev pub IsPlaced : Image → ℕ → Owner → Type 0
+IsPlaced im x (Chained a hash place) = IsLeafBehind im a (entry (every im a) (pointer_for im a hash)) place x
+IsPlaced im x _ = Unit {0}
+
+-- what a table holds of blocks was found in the image, and leaves at their places
 abbrev pub AreClaims : Image → List (Option Claim) → Type 0
-AreClaims im entries = (b : ℕ) (claim : Claim) → slice_get entries b ≡ Some (Some claim) → (from : ℕ) × Claims im from b (owner_of claim)
+AreClaims im entries = (b : ℕ) (claim : Claim) → slice_get entries b ≡ Some (Some claim) → (from : ℕ) × Claims im from b (owner_of claim) × IsPlaced im b (owner_of claim)
 
 -- both are of one chain, at two places
 abbrev pub AreOneChain : Owner → Owner → Type 0

@@ -1,11 +1,11 @@
-ghost use Rattle.image_model.specs.Rules.{IsSoundList};
+ghost use Rattle.image_model.specs.Rules.{HasSoundGroup, IsSoundList};
 ghost use Rattle.std.specs.Prelude.{◌≡◌, ◌+◌, ◌-◌, ◌*◌, ◌/◌, ◌^◌, ◌<◌, ◌≤◌, ◌↔◌, ◌++◌, ◌∷◌, List, min, drop, false, length, vec_len, IsTrue, IfOk, IfErr, OnOk};
 ghost use Rattle.std.specs.List.{All};
 ghost use Rattle.image_reader.specs.Bitmaps.{header_of, bits_in, AreAllClaims, Repeats};
 ghost use Rattle.gfs2_layout.specs.Inode.{content_of};
 ghost use Rattle.gfs2_layout.specs.Structures.{rindex_of};
 ghost use Rattle.gfs2_layout.specs.declared.rindex.Rindex.{Rindex as IndexEntry};
-ghost use Rattle.image_model.specs.Claims.{every, IsRindex, HasGroup};
+ghost use Rattle.image_model.specs.Claims.{every, IsRindex};
 ghost use Rattle.image_model.specs.Listing.{RiseFrom, end_after};
 ghost use Rattle.gfs2_layout.specs.Groups.{count_of};
 ghost use Rattle.image_model.specs.Groups.{groups_in, GroupFits, IsListed, IsDataOf, end_of as first_behind};
@@ -147,7 +147,7 @@ fn repeats(header: &GroupHeader, group: &Rindex) -> bool
 // A group's header, in its first block, which repeats the entry.
 fn check_header(image: &Blocks<'_>, group: &Rindex) -> Result<GroupHeader, ImageFault>
     requires fits { GroupFits (image_at image.now) group.now }
-    requires listed { HasGroup (image_at image.now) group.now }
+    requires listed { HasSoundGroup (image_at image.now) group.now }
     ensures header { IfOk result (λ header. header ≡ header_of (image_at image.now) group.now) }
     ensures damaged { IfErr result (IsTrueOf (image_at image.now)) }
 {
@@ -174,7 +174,7 @@ fn add_bits(
     bits: &mut Vec<u8>,
 ) -> Result<(), ImageFault>
     requires fits { GroupFits (image_at image.now) group.now }
-    requires listed { HasGroup (image_at image.now) group.now }
+    requires listed { HasSoundGroup (image_at image.now) group.now }
     requires some { 0 < k }
     requires within { k < group.now.length }
     ensures bits { OnOk result (bits.new.items ≡ bits.old.items ++ drop 24 ((image_at image.now).at (group.now.address + k))) }
@@ -195,7 +195,7 @@ fn add_bits(
 // The bits of a group, whose further blocks have their headers.
 fn read_bitmap(alloc: Global, image: &Blocks<'_>, group: &Rindex) -> Result<Vec<u8>, ImageFault>
     requires fits { GroupFits (image_at image.now) group.now }
-    requires listed { HasGroup (image_at image.now) group.now }
+    requires listed { HasSoundGroup (image_at image.now) group.now }
     ensures bits { IfOk result (λ bits. bits.items ≡ bits_in (image_at image.now) group.now group.now.length) }
     ensures length { IfOk result (λ bits. length bits.items ≡ image.now.size - 128 + (group.now.length - 1) * (image.now.size - 24)) }
     ensures damaged { IfErr result (IsTrueOf (image_at image.now)) }
@@ -218,7 +218,7 @@ fn check_bits(
     bits: &[u8],
 ) -> Result<(), ImageFault>
     requires fits { GroupFits (image_at image.now) group.now }
-    requires listed { HasGroup (image_at image.now) group.now }
+    requires listed { HasSoundGroup (image_at image.now) group.now }
     requires owners { vec_len owners.now.entries ≡ image.now.count }
     requires claims { AreAllClaims (image_at image.now) owners.now.entries.items }
     requires length { group.now.data_blocks ≤ 4 * length bits.now }
@@ -255,7 +255,7 @@ fn check_group(
     group: &Rindex,
 ) -> Result<(), ImageFault>
     requires fits { GroupFits (image_at image.now) group.now }
-    requires listed { HasGroup (image_at image.now) group.now }
+    requires listed { HasSoundGroup (image_at image.now) group.now }
     requires owners { vec_len owners.now.entries ≡ image.now.count }
     requires claims { AreAllClaims (image_at image.now) owners.now.entries.items }
     ensures damaged { IfErr result (IsTrueOf (image_at image.now)) }
@@ -281,7 +281,7 @@ pub(crate) fn check_groups(
     groups: &[Rindex],
 ) -> Result<(), ImageFault>
     requires fit { All (GroupFits (image_at image.now)) groups.now }
-    requires listed { All (HasGroup (image_at image.now)) groups.now }
+    requires listed { All (HasSoundGroup (image_at image.now)) groups.now }
     requires owners { vec_len owners.now.entries ≡ image.now.count }
     requires claims { AreAllClaims (image_at image.now) owners.now.entries.items }
     ensures damaged { IfErr result (IsTrueOf (image_at image.now)) }

@@ -7,6 +7,7 @@ ghost use Rattle.image_model.specs.Claims.{Claims, HasLeaf};
 ghost use Rattle.image_reader.specs.Going.{AreCounted, AreFound, GoesOn, IsGoing, IsNameOf, IsOf};
 ghost use Rattle.image_reader.specs.Leaves.{AreLeavesGoing, AreLeavesOver, HasClaim, IsClaimedLeaf, IsHeaded, IsLeafOf, IsTableOf, LeavesOnly, LeavesStay, leaf_records, number_of};
 ghost use Rattle.image_model.specs.Owners.{Chained};
+ghost use Rattle.image_reader.specs.Owning.{IsPlaced};
 ghost use Rattle.image_reader.specs.Reading.{IsDinodeBlock, IsTrueOf, held, image_at};
 ghost use Rattle.image_model.specs.Rules.{IsHashedAt};
 
@@ -187,6 +188,7 @@ impl<'a> Walk<'a> {
         requires leaf { IsLeafOf visit.now.inode at.now }
         requires inside { by < self.old.image.count }
         requires claimed { Claims (image_at self.old.image) by at.now.block.number (Chained visit.now.inode.block.number at.now.hash at.now.place) }
+        requires placed { IsPlaced (image_at self.old.image) at.now.block.number (Chained visit.now.inode.block.number at.now.hash at.now.place) }
         ensures damaged { IfErr result (IsTrueOf (image_at self.old.image)) }
         ensures going { OnOk result (IsGoing self.new visit.now found.new.items) }
         ensures over { OnOk result (AreLeavesOver visit.now self.new.owners.entries.items tally.new found.new.items) }
@@ -310,6 +312,7 @@ impl<'a> Walk<'a> {
         requires leaf { IsLeafOf visit.now.inode first }
         requires inside { by < self.old.image.count }
         requires claimed { Claims (image_at self.old.image) by first.block.number (Chained visit.now.inode.block.number first.hash first.place) }
+        requires placed { IsPlaced (image_at self.old.image) first.block.number (Chained visit.now.inode.block.number first.hash first.place) }
         requires depth { depth ≡ depth_in (held visit.now.inode) }
         requires place { first.place ≡ 0 }
         ensures damaged { IfErr result (IsTrueOf (image_at self.old.image)) }

@@ -3,7 +3,7 @@ ghost use Rattle.std.specs.Prelude.{ℕ, ◌≡◌, ◌+◌, ◌*◌, ◌%◌, �
 ghost use Rattle.std.specs.List.{All};
 ghost use Rattle.gfs2_layout.specs.declared.rindex.Rindex.{Rindex as IndexEntry};
 ghost use Rattle.gfs2_layout.specs.Inode.{Fits, dinode_in};
-ghost use Rattle.image_model.specs.Claims.{every, HasGroup, IsRindex, master_of};
+ghost use Rattle.image_model.specs.Claims.{every, IsRindex, master_of};
 ghost use Rattle.image_reader.specs.Owning.{IsEmpty};
 ghost use Rattle.image_reader.specs.Walking.{IsSound};
 ghost use Rattle.image_model.specs.Groups.{GroupFits};
@@ -88,7 +88,6 @@ fn find_groups(alloc: Global, image: Blocks<'_>, master: u64) -> Result<Vec<Rind
     requires there { superblock_place image.size < image.count }
     requires master { master ≡ master_of (image_at image) }
     ensures fit { IfOk result (λ groups. All (GroupFits (image_at image.entry)) groups.items) }
-    ensures listed { IfOk result (λ groups. All (HasGroup (image_at image.entry)) groups.items) }
     ensures list { IfOk result (λ groups. IsSoundList (image_at image.entry) groups.items) }
     ensures damaged { IfErr result (IsTrueOf (image_at image.entry)) }
 {
@@ -145,7 +144,6 @@ fn read_from<'a>(
     requires there { superblock_place image.size < image.count }
     requires superblock { superblock.now ≡ superblock_in (image_at image) }
     requires fit { All (GroupFits (image_at image)) groups.now }
-    requires listed { All (HasGroup (image_at image)) groups.now }
     requires list { IsSoundList (image_at image) groups.now }
     ensures right { IfOk result (λ tree. (t : Tree) → Stands (image_at image.entry) t → tree ≡ t) }
     ensures damaged { IfErr result (IsTrueOf (image_at image.entry)) }

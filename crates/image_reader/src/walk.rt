@@ -69,7 +69,7 @@ impl<'a> Pointers<'a> {
 }
 
 impl<'a> Walk<'a> {
-    ghost use Rattle.image_model.specs.Claims.{Claims, HasGroup};
+    ghost use Rattle.image_model.specs.Claims.{Claims};
     ghost use Rattle.gfs2_layout.specs.declared.rindex.Rindex.{Rindex as IndexEntry};
     ghost use Rattle.std.specs.Prelude.{Contains, MatchOption, ◌∷◌};
     ghost use Rattle.gfs2_layout.specs.Inode.{Leads, fan};
@@ -79,7 +79,7 @@ impl<'a> Walk<'a> {
     ghost use Rattle.image_reader.specs.Leaves.{HasClaim};
     ghost use Rattle.image_model.specs.Owners.{Below};
     ghost use Rattle.image_reader.specs.declared.walk.Pointers.{Pointers as Pointed};
-    ghost use Rattle.image_reader.specs.Owning.{owner_of, IsEmpty, IsEntered};
+    ghost use Rattle.image_reader.specs.Owning.{owner_of, IsEmpty, IsEntered, IsPlaced};
     ghost use Rattle.image_reader.specs.Reading.{IsTrueOf, IsDinodeBlock, held, image_at};
     ghost use Rattle.image_reader.specs.Untouched.{AllAreBelow};
     ghost use Rattle.image_reader.specs.Walking.{IsSound, IsReached, IsOutsideKnown, KnowsAll};
@@ -125,6 +125,7 @@ impl<'a> Walk<'a> {
         requires sound { IsSound self.old }
         requires inside { by < self.old.image.count }
         requires claimed { Claims (image_at self.old.image) by number (owner_of claim) }
+        requires placed { IsPlaced (image_at self.old.image) number (owner_of claim) }
         ensures sound { IsSound self.new }
         ensures damaged { IfErr result (IsTrueOf (image_at self.old.image)) }
         ensures block { IfOk result (λ block. IfSome block (λ b. (b.number ≡ number) × (b.image ≡ self.old.image))) }

@@ -253,7 +253,7 @@ leaf_there v dir h name x shown sound (taking.HasRecordOf.in_hashed y hashed lea
   where
     by : (found : Option ℕ) → IsLeafOfName h name found → (x : ℕ) → found ≡ Some x → IsSome (h.cell x)
     by _ (in_this place y r chain is later) x e = subst (λ b. IsSome (h.cell b)) (some_same e) (cell_some (h.cell y) _ (in_chain h sound hashed (index_for h name) place y chain))
-    by _ (in_none some later) x e = absurd (none_some e)
+    by _ (in_none ends later) x e = absurd (none_some e)
 
 -- ---- another name is still there
 

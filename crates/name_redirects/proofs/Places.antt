@@ -39,7 +39,7 @@ nothing x e = cc
 
 in_some : (h : Holding) (name : List ℕ) (o : Option ℕ) → IsLeafOfName h name o → (x : ℕ) → o ≡ Some x → InLeaf h name x
 in_some h name _ (in_this place y r chain named later) x e = subst (InLeaf h name) (inside y x e) (record { place = place; is = r; chain = chain; named = named; later = later })
-in_some h name _ (in_none some none) x e = absurd (nothing x e)
+in_some h name _ (in_none ends none) x e = absurd (nothing x e)
 
 -- in the dinode's block of a linear directory, or in a leaf of a hashed one
 pub where_of : (h : Holding) (name : List ℕ) (b : ℕ) → HasRecordOf h name b → ((is_hashed_in h ≡ false) × (b ≡ h.own)) ⊎ ((is_hashed_in h ≡ true) × InLeaf h name b)

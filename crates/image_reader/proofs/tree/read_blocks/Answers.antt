@@ -1,12 +1,7 @@
 use Rattle.std.proofs.Common.{sym, subst}
-use Rattle.std.specs.List.{All}
-use Rattle.image_model.specs.Claims.{HasGroup}
 use Rattle.image_model.specs.Rules.{IsSoundList}
 use Rattle.image_reader.specs.Reading.{image_at}
 use Rattle.image_reader.proofs.tree.read_blocks.Goals as goal
-
-pub read_from-requires-clause-listed : goal.read_from-requires-clause-listed
-read_from-requires-clause-listed c = subst (All (HasGroup (image_at c.args.image))) (sym c.deref.ensures.value) c.in_ok-groups.ensures.listed
 
 pub read_from-requires-clause-list : goal.read_from-requires-clause-list
 read_from-requires-clause-list c = subst (IsSoundList (image_at c.args.image)) (sym c.deref.ensures.value) c.in_ok-groups.ensures.list

@@ -13,6 +13,7 @@ use Rattle.image_reader.specs.declared.blocks.Blocks.{Blocks}
 use Rattle.image_reader.specs.Untouched.{AreEntire, IsLimit, IsOfSome}
 use Rattle.image_reader.proofs.TopClaims.{all_claims, root_limit, root_unclaimed}
 use Rattle.image_reader.proofs.FoundStands.{found_stands}
+use Rattle.image_reader.proofs.MasterFound.{are_groups}
 use Rattle.image_reader.proofs.tree.read_from.Goals as goal
 
 pub top-requires-clause-claimed : goal.top-requires-clause-claimed
@@ -46,6 +47,9 @@ tree-requires-2-clause-limit c =
     let n = c.in_ok-root.root.inode.block.number in
     let P : Blocks → Type 0 = λ b. (a : ℕ) → IsUnder (image_at b) n a → IsLimit (image_at b) (Some 67108864) a in
     subst P (sym walked) (λ a. root_limit c.args.image n a 67108864 at refl)
+
+pub check_groups-requires-clause-listed : goal.check_groups-requires-clause-listed
+check_groups-requires-clause-listed c = are_groups (image_at c.args.image) c.args.groups.now c.requires.list
 
 pub check_groups-requires-clause-claims : goal.check_groups-requires-clause-claims
 check_groups-requires-clause-claims c =

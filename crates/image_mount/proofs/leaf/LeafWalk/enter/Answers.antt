@@ -11,7 +11,7 @@ use Rattle.image_mount.proofs.leaf.LeafWalk.enter.Goals as goal
 pub returns-in_err-claim-clause-refused : goal.returns-in_err-claim-clause-refused
 returns-in_err-claim-clause-refused c im of bytes =
     refused im _ _ c.from_residual.ensures.1
-    (clash_told im c.args.self.now.owners.entries.items c.args.at.now.block _ _ _ of.format of.leaf.reached of.walked.claims (owned_by im c.args.self.now c.args.at.now of) c.in_err-claim.ensures.clash)
+    (clash_told im c.args.self.now.owners.entries.items c.args.at.now.block _ _ _ of.format of.leaf.reached of.walked.claims (owned_by im c.args.self.now c.args.at.now of) of.leaf.placed c.in_err-claim.ensures.clash)
 
 pub returns-then-not-branch-clause-walked : goal.returns-then-not-branch-clause-walked
 returns-then-not-branch-clause-walked c im of bytes =

@@ -4,7 +4,7 @@ use Rattle.gfs2_layout.specs.Inode.{leaf_in}
 use Rattle.image_reader.specs.Leaves.{HasClaim}
 use Rattle.image_model.specs.Owners.{Chained}
 use Rattle.image_reader.specs.Reading.{held, image_at}
-use Rattle.image_reader.proofs.Chains.{first_claim, no_leaf_there, low_index, missing, headed_run, hash_claim, start_whole, same_bits, leaf_there, claim_at, run_some}
+use Rattle.image_reader.proofs.Chains.{first_claim, first_placed, no_leaf_there, low_index, missing, headed_run, hash_claim, start_whole, same_bits, leaf_there, claim_at, run_some}
 use Rattle.image_reader.proofs.Inside.{block_inside}
 use Rattle.image_reader.proofs.Spans.{aligned_run}
 use Rattle.image_reader.proofs.WalkFaults.{beyond}
@@ -57,6 +57,16 @@ head-requires-clause-claimed c =
     c.pointer-number.ensures (c.in_ok-leaf.ensures.read ∙ ap (leaf_in (held c.args.visit.now.inode)) c.in-Some.ensures.some.0) c.run-run.ensures c.first_hash_of.ensures
     (first_claim c.args.self.now.image c.args.visit.now c.args.table.now c.args.i c.in_ok-by.by c.pointer-number.result c.requires.leaves.going.visited c.requires.hashed c.requires.table c.requires.within
     c.in_ok-by.ensures.block c.pointer-number.ensures c.if-number-eq0.false))
+
+pub head-requires-clause-placed : goal.head-requires-clause-placed
+head-requires-clause-placed c =
+    let some = run_some c.run-run.result (c.args.table.now.depth - c.in_ok-leaf.leaf.depth) c.run-run.ensures in
+    let start : ℕ = c.args.i - c.args.i % c.run-run.result in
+    let low : start ≤ start = omega arith in
+    let high : start < start + c.run-run.result = omega (arith, some) in
+    first_placed c.args.self.now.image c.args.visit.now.inode c.args.table.now c.args.i c.pointer-number.result c.in-Some.block.number c.run-run.result c.first_hash_of.result c.in_ok-leaf.leaf
+    c.requires.leaves.going.visited.same c.requires.table c.in_ok-leaf.ensures.low c.args.table.now.deep c.run-run.ensures c.first_hash_of.ensures
+    (c.leads_to.ensures.yes c.if-not-leads_to.false start low high) c.in-Some.ensures.some.0
 
 pub returns-clause-headed : goal.returns-clause-headed
 returns-clause-headed c j low high =

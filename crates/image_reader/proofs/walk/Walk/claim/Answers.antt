@@ -14,10 +14,10 @@ returns-then-is_outside-clause-damaged c =
 
 pub returns-in-Ok-true-clause-sound : goal.returns-in-Ok-true-clause-sound
 returns-in-Ok-true-clause-sound c = record {
-  claims = entered_if (image_at c.args.self.now.image) c.args.self.now.owners.entries.items _ c.args.number c.args.by c.args.claim _ c.in-Ok-true.ensures.entered c.requires.sound.claims c.requires.claimed;
+  claims = entered_if (image_at c.args.self.now.image) c.args.self.now.owners.entries.items _ c.args.number c.args.by c.args.claim _ c.in-Ok-true.ensures.entered c.requires.sound.claims c.requires.claimed c.requires.placed;
   groups = c.requires.sound.groups;
 }
 
 pub returns-in-Err-clause-damaged : goal.returns-in-Err-clause-damaged
 returns-in-Err-clause-damaged c =
-    clash (image_at c.args.self.now.image) c.args.self.now.owners.entries.items c.args.number c.args.by c.args.claim _ (omega (arith, subst (λ n. n < c.args.self.now.image.count) c.in-Some.ensures.some.0 (block_inside c.in-Some.block c.args.self.now.image c.in-Some.ensures.some.1), c.args.self.now.image.counted)) c.requires.sound.claims c.requires.claimed c.in-Err.ensures.clash
+    clash (image_at c.args.self.now.image) c.args.self.now.owners.entries.items c.args.number c.args.by c.args.claim _ (omega (arith, subst (λ n. n < c.args.self.now.image.count) c.in-Some.ensures.some.0 (block_inside c.in-Some.block c.args.self.now.image c.in-Some.ensures.some.1), c.args.self.now.image.counted)) c.requires.sound.claims c.requires.claimed c.requires.placed c.in-Err.ensures.clash

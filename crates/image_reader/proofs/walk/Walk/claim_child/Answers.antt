@@ -19,6 +19,9 @@ claim-requires-clause-claimed c =
     claims_of c.args.inode.now.block.image c.args.self.now.image _ _ _ c.requires.of_image
     (claims_below c.args.inode.now c.args.pointers.now.block.number c.args.k c.args.pointers.now.level c.args.first c.args.number c.requires.inode c.requires.leads)
 
+pub claim-requires-clause-placed : goal.claim-requires-clause-placed
+claim-requires-clause-placed c = tt
+
 pub claim-requires-clause-inside : goal.claim-requires-clause-inside
 claim-requires-clause-inside c =
     subst (λ (i : Blocks). c.args.pointers.now.block.number < i.count) c.requires.of_image

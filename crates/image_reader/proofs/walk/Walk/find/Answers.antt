@@ -20,6 +20,9 @@ pub claim-requires-clause-claimed : goal.claim-requires-clause-claimed
 claim-requires-clause-claimed c =
     claims_named c.args.self.now.image c.args.visit.now.inode.block.number c.args.by c.args.record.now.head c.args.record.now.name.now (c.requires.going.visited.owner, c.requires.going.visited.at) c.requires.has c.requires.name
 
+pub claim-requires-clause-placed : goal.claim-requires-clause-placed
+claim-requires-clause-placed c = tt
+
 pub claim-requires-clause-inside : goal.claim-requires-clause-inside
 claim-requires-clause-inside c =
     record_inside c.args.self.now.image c.args.visit.now.inode.block.number c.args.by (said_by c.args.record.now.head c.args.record.now.name.now) c.requires.has

@@ -2,7 +2,7 @@ use Rattle.std.proofs.Common.{◌+◌, ◌∙◌, refl}
 use Rattle.image_reader.specs.Going.{IsOf}
 use Rattle.image_model.specs.Owners.{Chained}
 use Rattle.image_reader.specs.Reading.{held, image_at}
-use Rattle.image_reader.proofs.Chains.{next_claim, claim_at, leaf_there, depth_differs, next_is}
+use Rattle.image_reader.proofs.Chains.{next_claim, claim_at, leaf_there, depth_differs, next_is, next_placed}
 use Rattle.image_reader.proofs.Leaves.{chained_next, chained_known}
 use Rattle.image_reader.proofs.Inside.{block_inside}
 use Rattle.image_reader.proofs.WalkFaults.{beyond}
@@ -37,6 +37,11 @@ leaf-requires-clause-claimed c =
     c.in-Some.ensures.some.0
     (next_claim c.args.self.now.image c.args.visit.now.inode c.args.at.now.block.number c.args.at.now.hash c.args.at.now.place c.args.at.now.leaf c.args.self.now.owners.entries.items
     c.requires.leaves.going.visited.same c.requires.leaf.read c.requires.leaves.going.sound.claims c.requires.claimed c.if-number-eq0.false)
+
+pub leaf-requires-clause-placed : goal.leaf-requires-clause-placed
+leaf-requires-clause-placed c =
+    next_placed c.args.self.now.image c.args.visit.now.inode c.args.at.now.block.number c.in-Some.block.number c.args.at.now.hash c.args.at.now.place c.args.at.now.leaf c.args.self.now.owners.entries.items
+    c.requires.leaves.going.visited.same c.requires.leaf.read c.requires.leaves.going.sound.claims c.requires.claimed c.if-number-eq0.false c.in-Some.ensures.some.0
 
 pub returns-in-Ok-true-clause-leaves : goal.returns-in-Ok-true-clause-leaves
 returns-in-Ok-true-clause-leaves c = record {

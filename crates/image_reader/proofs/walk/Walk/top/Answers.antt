@@ -7,8 +7,11 @@ use Rattle.image_reader.specs.Reading.{image_at}
 use Rattle.image_reader.specs.Owning.{owner_of}
 use Rattle.image_reader.proofs.Leaves.{claim_entered}
 use Rattle.image_reader.proofs.Tops.{top_block}
-use Rattle.image_reader.proofs.WalkFaults.{beyond}
+use Rattle.image_reader.proofs.WalkFaults.{beyond, placed_top}
 use Rattle.image_reader.proofs.walk.Walk.top.Goals as goal
+
+pub claim-requires-clause-placed : goal.claim-requires-clause-placed
+claim-requires-clause-placed c = placed_top (image_at c.args.self.now.image) c.args.number (owner_of c.args.claim) c.requires.top
 
 pub of_top-requires : goal.of_top-requires
 of_top-requires c =
