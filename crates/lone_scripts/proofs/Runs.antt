@@ -406,7 +406,7 @@ lone_runs_are_numbered s _ _ form (running count items runs) =
 lone_runs_are_numbered s _ _ form (crashed count items has) =
     let rest : List TraceItem = trace.Crash 1 ∷ has.behind in
     let whole' : hist 1 has.runs.takes.answered ++ history_of s.clients rest ≡ history_of s.clients items =
-        ap (λ (h : List Item). h ++ history_of s.clients rest) (sym (history_is s form count has.before has.runs)) ∙ history_of-append s.clients has.before rest ∙ ap (history_of s.clients) (sym has.are) in
+    ap (λ (h : List Item). h ++ history_of s.clients rest) (sym (history_is s form count has.before has.runs)) ∙ history_of-append s.clients has.before rest ∙ ap (history_of s.clients) (sym has.are) in
     subst IsNumbered whole' (is_numbered (history_of s.clients rest) (behind_has_none s.clients has.behind has.is_behind) has.runs.takes.answered)
 
 pub running_nodes_keep_all : RunningNodesKeepAll
@@ -418,18 +418,22 @@ nodes_are_one s form client c at = all_at (λ (d : Client). d.node ≡ 1) s.clie
 
 module _ (s : ScriptValue) (form : IsForOne s) (items : List TraceItem) where
   taken_answers : Runs s (length s.lines) items → AllAnsweredOrDown items s × AllPlaced items s
-  taken_answers runs =
-      (λ client c at. inl (calls_taken s form (length s.lines) items runs.takes client ∙ ap (calls_by client) (take_all (length s.lines) s.lines (omega arith))), record {
-        place = λ l. 0;
-        placed = λ l x at is_order. let past = is_past s form (length s.lines) items runs.takes l x at is_order in let low = within s.lines l x at in absurd (omega (arith, past, low));
-        rising = λ l latter less. omega arith;
-      })
+  taken_answers runs = (
+    λ client c at. inl (calls_taken s form (length s.lines) items runs.takes client ∙ ap (calls_by client) (take_all (length s.lines) s.lines (omega arith))),
+    record {
+      place = λ l. 0;
+      placed = λ l x at is_order. let past = is_past s form (length s.lines) items runs.takes l x at is_order in let low = within s.lines l x at in absurd (omega (arith, past, low));
+      rising = λ l latter less. omega arith;
+    },
+  )
 
   stopped_answers : (count : ℕ) → HasCrashed s count items → AllAnsweredOrDown items s × AllPlaced items s
   stopped_answers count has =
-      subst (λ (is : List TraceItem). AllAnsweredOrDown is s × AllPlaced is s) (sym has.are)
-      ((λ client c at. inr (ap (λ (n : ℕ). standing (has.before ++ trace.Crash 1 ∷ has.behind) n (length (has.before ++ trace.Crash 1 ∷ has.behind))) (nodes_are_one s form client c at)
-        ∙ stopped_at_end s form count has.before has.runs has.crashes has.behind has.is_behind)), crashed_placed s form count has.before has.runs has.crashes has.behind has.is_behind)
+      subst (λ (is : List TraceItem). AllAnsweredOrDown is s × AllPlaced is s) (sym has.are) (
+        (λ client c at. inr (ap (λ (n : ℕ). standing (has.before ++ trace.Crash 1 ∷ has.behind) n (length (has.before ++ trace.Crash 1 ∷ has.behind))) (nodes_are_one s form client c at)
+            ∙ stopped_at_end s form count has.before has.runs has.crashes has.behind has.is_behind)),
+        crashed_placed s form count has.before has.runs has.crashes has.behind has.is_behind,
+      )
 
 pub whole_lone_runs_answer : WholeLoneRunsAnswer
 whole_lone_runs_answer s items form (taken runs) = taken_answers s form items runs
