@@ -74,7 +74,7 @@ waits_go_on s count items runs at = record {
 
 length_hist : (n : ℕ) (rs : List Answered) → calls_of 1 (hist n rs) ≡ length rs
 length_hist n [] = refl
-length_hist n (r ∷ rs) = ap suc (length_hist (n + 1) rs)
+length_hist n (r ∷ rs) = let more = length_hist (n + 1) rs in omega (arith, more)
 
 calls_next : (clients : List Client) (n : ℕ) (rs : List Answered) (r : Answered)
     → calls_from clients n (rs ++ r ∷ []) ≡ calls_from clients n rs ++ trace.Call 1 (name_at clients r.client) (n + length rs) r.call r.reply ∷ []
@@ -123,7 +123,8 @@ module _ (s : ScriptValue) (count client : ℕ) (items more : List TraceItem) (c
 
 pub calls_go_on : CallsGoOn
 calls_go_on s count client items more call reply form runs at of none armed = record {
-  member = member_more items (more ++ _) runs.member (all_both IsOfMember more _ of (tt, tt));
+  member = member_more items (more ++ now s count client items more call reply form runs at of none ∷ []) runs.member
+      (all_both IsOfMember more (now s count client items more call reply form runs at of none ∷ []) of (tt, tt));
   takes = takes_next s count client items more call reply form runs at of none;
   armed = armed;
 }

@@ -67,7 +67,7 @@ pub data Stands {A : Type 0} (xs : List A) (y : A) (ys : List A) (p : ℕ) (x : 
 
 pub stands : {A : Type 0} (xs : List A) (y : A) (ys : List A) (p : ℕ) (x : A) → slice_get (xs ++ y ∷ ys) p ≡ Some x → Stands xs y ys p x
 stands [] y ys zero x at = let same : y ≡ x = cc in there refl same
-stands [] y ys (suc p) x at = behind p refl at
+stands [] y ys (suc p) x at = behind p (omega arith) at
 stands (z ∷ zs) y ys zero x at = before (omega arith) at
 stands (z ∷ zs) y ys (suc p) x at = elim (stands zs y ys p x at) [
   | before low is ↦ before (omega (arith, low)) is
@@ -83,7 +83,7 @@ in_midst (x ∷ xs) y ys = in_midst xs y ys
 
 counted : (b : Bool) (n m : ℕ) → n ≤ m → cond b 1 0 + n ≤ cond b 1 0 + m
 counted true n m less = omega (arith, less)
-counted false n m less = less
+counted false n m less = omega (arith, less)
 
 pub count_front : {A : Type 0} (p : A → Bool) (n m : ℕ) (xs : List A) → n ≤ m → count_by p (take n xs) ≤ count_by p (take m xs)
 count_front p zero m xs less = omega arith

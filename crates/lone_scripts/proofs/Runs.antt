@@ -77,12 +77,12 @@ takes_past s count items behind' is_behind takes = record {
 
 -- the item that ends a list of them
 count_more : (xs : List TraceItem) (it : TraceItem) → IsTrue (is_write_of 1 it) → count_by (is_write_of 1) (xs ++ it ∷ []) ≡ count_by (is_write_of 1) xs + 1
-count_more [] it write = ap (λ (b : Bool). cond b 1 0 + 0) write
+count_more [] it write = let one = ap (λ (b : Bool). cond b 1 0) write in omega (arith, one)
 count_more (x ∷ xs) it write = let more = count_more xs it write in counted (is_write_of 1 x) more
   where
     counted : (b : Bool) → count_by (is_write_of 1) (xs ++ it ∷ []) ≡ count_by (is_write_of 1) xs + 1 → cond b 1 0 + count_by (is_write_of 1) (xs ++ it ∷ []) ≡ cond b 1 0 + count_by (is_write_of 1) xs + 1
     counted true more = omega (arith, more)
-    counted false more = more
+    counted false more = omega (arith, more)
 
 module _ (items : List TraceItem) where
   abbrev writes_up_to : ℕ → ℕ
@@ -244,7 +244,7 @@ module _ (s : ScriptValue) (form : IsForOne s) (count : ℕ) (front : List Trace
 
   -- ---- which order it carries out
 
-  order_of : Crashes s count front → Order
+  abbrev order_of : Crashes s count front → Order
   order_of (at_line nodes at) = ByLine count
   order_of (at_write k a at count' ends) = ByArmed k
 

@@ -2,4 +2,4 @@ use Rattle.lone_scripts.proofs.Runs.{whole_lone_runs_answer}
 use Rattle.lone_scripts.proofs.whole_runs_answer_all.Goals as goal
 
 pub returns : goal.returns
-returns c = record { clause = whole_lone_runs_answer }
+returns c = whole_lone_runs_answer
