@@ -105,12 +105,15 @@ module _ (s : ScriptValue) (count client : ℕ) (items more : List TraceItem) (c
   rs = runs.takes.answered
 
   number_is : suc (calls_of 1 (history_of s.clients items)) ≡ 1 + length rs
-  number_is = ap (λ (h : List Item). suc (calls_of 1 h)) (history_is s form count items runs) ∙ ap suc (length_hist 1 rs)
+  number_is =
+      let same = ap (λ (h : List Item). calls_of 1 h) (history_is s form count items runs) in
+      let long = length_hist 1 rs in
+      omega (arith, same, long)
 
   told_next : filter is_call (items ++ more ++ now ∷ []) ≡ calls_from s.clients 1 (rs ++ answer ∷ [])
   told_next =
-      filter-append is_call items (more ++ now ∷ []) ∙ ap (λ (is : List TraceItem). filter is_call items ++ is) (filter-append is_call more (now ∷ []) ∙ ap (λ (is : List TraceItem). is ++ now ∷ []) none)
-      ∙ ap (λ (is : List TraceItem). is ++ now ∷ []) runs.takes.told
+      filter-append is_call (items ++ more) (now ∷ [])
+      ∙ ap (λ (is : List TraceItem). is ++ now ∷ []) (filter-append is_call items more ∙ ap (λ (is : List TraceItem). filter is_call items ++ is) none ∙ append-nil (filter is_call items) ∙ runs.takes.told)
       ∙ ap (λ (m : ℕ). calls_from s.clients 1 rs ++ trace.Call 1 (name_at s.clients client) m call reply ∷ []) number_is ∙ sym (calls_next s.clients 1 rs answer)
 
   pub takes_next : TakesLines s (suc count) (items ++ more ++ now ∷ [])
@@ -123,8 +126,7 @@ module _ (s : ScriptValue) (count client : ℕ) (items more : List TraceItem) (c
 
 pub calls_go_on : CallsGoOn
 calls_go_on s count client items more call reply form runs at of none armed = record {
-  member = member_more items (more ++ now s count client items more call reply form runs at of none ∷ []) runs.member
-      (all_both IsOfMember more (now s count client items more call reply form runs at of none ∷ []) of (tt, tt));
+  member = member_more (items ++ more) (now s count client items more call reply form runs at of none ∷ []) (member_more items more runs.member of) (tt, tt);
   takes = takes_next s count client items more call reply form runs at of none;
   armed = armed;
 }

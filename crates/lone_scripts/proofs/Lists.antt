@@ -4,6 +4,7 @@ use Rattle.std.specs.Prelude.{slice_get, count_by}
 use Rattle.std.specs.List.{AllByRecursion, filter}
 use Rattle.std.proofs.lemmas.List.{take_all, take-append-le, take-append-drop}
 use Rattle.std.proofs.lemmas.List.Elements.{filter-append}
+use Rattle.std.proofs.lemmas.List.Sums.{sum_by-append}
 
 -- ---- fronts of lists
 
@@ -81,12 +82,12 @@ in_midst (x ∷ xs) y ys = in_midst xs y ys
 
 -- ---- counts
 
-counted : (b : Bool) (n m : ℕ) → n ≤ m → cond b 1 0 + n ≤ cond b 1 0 + m
-counted true n m less = omega (arith, less)
-counted false n m less = omega (arith, less)
+pub count_both : {A : Type 0} (p : A → Bool) (xs ys : List A) → count_by p (xs ++ ys) ≡ count_by p xs + count_by p ys
+count_both p xs ys = sum_by-append (λ x. cond (p x) 1 0) xs ys
 
 pub count_front : {A : Type 0} (p : A → Bool) (n m : ℕ) (xs : List A) → n ≤ m → count_by p (take n xs) ≤ count_by p (take m xs)
-count_front p zero m xs less = omega arith
-count_front p (suc n) zero xs less = absurd (omega (arith, less))
-count_front p (suc n) (suc m) [] less = omega arith
-count_front p (suc n) (suc m) (x ∷ xs) less = counted (p x) (count_by p (take n xs)) (count_by p (take m xs)) (count_front p n m xs (omega (arith, less)))
+count_front p n m xs less =
+    let whole = ap (count_by p) (take-append-drop n (take m xs)) in
+    let front = ap (count_by p) (take_front m n xs less) in
+    let both = count_both p (take n (take m xs)) (drop n (take m xs)) in
+    omega (arith, whole, front, both)

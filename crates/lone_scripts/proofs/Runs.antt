@@ -25,7 +25,7 @@ use Rattle.lone_scripts.specs.Laws.{AllAnsweredOrDown, LoneRunsAreNumbered, Lone
 use Rattle.lone_scripts.specs.Runs.{Answered, Crashes, EndsWithWrite, HasCrashed, IsBehindCrash, IsLoneRun, IsMember, IsNotPast, IsOfMember, IsWholeLoneRun, Runs, TakesLines, at_line, at_write, calls_from, crashed, fenced, is_call, line_of, lost, not_begun, nothing, running, stopped, taken}
 use Rattle.lone_scripts.specs.Scripts.{IsForOne, IsLoneLine, IsOfNodeOne}
 use Rattle.lone_scripts.proofs.Following.{after_all, answered_in_all, are_of, before_below, calls_taken, in_order, is_past, none_below, on_node, waits}
-use Rattle.lone_scripts.proofs.Lists.{Stands, all_at, before, behind, count_front, filter_front, in_midst, stands, there}
+use Rattle.lone_scripts.proofs.Lists.{Stands, all_at, before, behind, count_both, count_front, filter_front, in_midst, stands, there}
 use Rattle.lone_scripts.proofs.Told.{calls_filter, hist, history_filter, history_from, history_of-append}
 
 -- no call
@@ -77,12 +77,11 @@ takes_past s count items behind' is_behind takes = record {
 
 -- the item that ends a list of them
 count_more : (xs : List TraceItem) (it : TraceItem) → IsTrue (is_write_of 1 it) → count_by (is_write_of 1) (xs ++ it ∷ []) ≡ count_by (is_write_of 1) xs + 1
-count_more [] it write = let one = ap (λ (b : Bool). cond b 1 0) write in omega (arith, one)
-count_more (x ∷ xs) it write = let more = count_more xs it write in counted (is_write_of 1 x) more
-  where
-    counted : (b : Bool) → count_by (is_write_of 1) (xs ++ it ∷ []) ≡ count_by (is_write_of 1) xs + 1 → cond b 1 0 + count_by (is_write_of 1) (xs ++ it ∷ []) ≡ cond b 1 0 + count_by (is_write_of 1) xs + 1
-    counted true more = omega (arith, more)
-    counted false more = omega (arith, more)
+count_more xs it write =
+    let one : cond (is_write_of 1 it) 1 0 ≡ 1 = ap {B = ℕ} (λ (b : Bool). cond b 1 0) write in
+    let both = count_both (is_write_of 1) xs (it ∷ []) in
+    let last : count_by (is_write_of 1) (it ∷ []) ≡ 0 + cond (is_write_of 1 it) 1 0 = refl in
+    omega (arith, one, both, last)
 
 module _ (items : List TraceItem) where
   abbrev writes_up_to : ℕ → ℕ
