@@ -1,5 +1,5 @@
 -- The lines that were taken, and what their calls owe to the script.
-use Rattle.std.proofs.Common.{◌≡◌, ℕ, zero, suc, ◌+◌, ◌<◌, ◌≤◌, min, List, [], ◌∷◌, length, take, map, Some, inl, inr, refl, sym, ap, ◌∙◌, subst, arith}
+use Rattle.std.proofs.Common.{◌≡◌, ℕ, zero, suc, ◌+◌, ◌<◌, ◌≤◌, List, [], ◌∷◌, length, take, map, Some, inl, inr, sym, ap, ◌∙◌, subst, arith}
 use Rattle.std.specs.Prelude.{slice_get}
 use Rattle.std.specs.List.{AllByRecursion, filter}
 use Rattle.std.proofs.lemmas.Bool.{cases_lt}
@@ -11,12 +11,11 @@ use Rattle.script_lang.specs.declared.script.Client.{Client}
 use Rattle.script_lang.specs.declared.script.Line.{Line}
 use Rattle.script_lang.specs.declared.script.Line.TheVariants as line
 use Rattle.trace_text.specs.declared.item.TraceItem.{TraceItem}
-use Rattle.trace_text.specs.declared.item.TraceItem.TheVariants as trace
-use Rattle.lone_scripts.specs.Runs.{Answered, GoesOn, TakesLines, calls_from, is_call, is_call_line, line_of, name_at}
+use Rattle.lone_scripts.specs.Runs.{Answered, GoesOn, TakesLines, calls_from, is_call, is_call_line, line_of}
 use Rattle.lone_scripts.specs.Scripts.{IsForOne, IsLoneLine}
 use Rattle.lone_scripts.proofs.Clients.{client_at, place_is}
 use Rattle.lone_scripts.proofs.Lists.{all_at, all_filter, all_map, all_take, filter_front, take_front}
-use Rattle.lone_scripts.proofs.Told.{AreOf, all_on, calls_filter, calls_front, calls_in, calls_of_filter, calls_rise, calls_up_to, calls_within, length_from, length_lines, told, told_more}
+use Rattle.lone_scripts.proofs.Told.{AreOf, all_on, calls_filter, calls_front, calls_in, calls_of_filter, calls_rise, calls_up_to, calls_within, told, told_more}
 
 -- lines go on up to one that orders
 none_orders : (x : Line) → GoesOn x → IsOrderLine x → ⊥

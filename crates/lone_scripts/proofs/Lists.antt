@@ -1,5 +1,5 @@
 -- Fronts of lists, and where their elements stand.
-use Rattle.std.proofs.Common.{◌≡◌, ◌⊎◌, ℕ, zero, suc, ◌+◌, ◌<◌, ◌≤◌, Bool, true, false, List, [], ◌∷◌, ◌++◌, length, take, drop, cond, map, Some, inl, inr, refl, sym, ap, ◌∙◌, subst, arith, length-take}
+use Rattle.std.proofs.Common.{◌≡◌, ℕ, zero, suc, ◌+◌, ◌<◌, ◌≤◌, Bool, true, false, List, [], ◌∷◌, ◌++◌, length, take, drop, cond, map, Some, refl, sym, ap, ◌∙◌, subst, arith, length-take}
 use Rattle.std.specs.Prelude.{slice_get, count_by}
 use Rattle.std.specs.List.{AllByRecursion, filter}
 use Rattle.std.proofs.lemmas.List.{take_all, take-append-le, take-append-drop}

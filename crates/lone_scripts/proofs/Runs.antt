@@ -1,12 +1,12 @@
 -- A run of one node follows its script.
-use Rattle.std.proofs.Common.{◌≡◌, ◌⊎◌, ℕ, zero, suc, ◌+◌, ◌-◌, ◌<◌, ◌≤◌, Bool, true, false, cond, List, [], ◌∷◌, ◌++◌, length, take, Some, inl, inr, refl, sym, ap, ◌∙◌, subst, arith, append_assoc, length-append}
-use Rattle.std.specs.Prelude.{slice_get, count_by, IsTrue, ◌==◌, if◌then◌else◌}
+use Rattle.std.proofs.Common.{◌≡◌, ℕ, zero, suc, ◌+◌, ◌-◌, ◌<◌, ◌≤◌, Bool, cond, List, [], ◌∷◌, ◌++◌, length, take, Some, inl, inr, refl, sym, ap, ◌∙◌, subst, arith, append_assoc, length-append}
+use Rattle.std.specs.Prelude.{slice_get, count_by, IsTrue}
 use Rattle.std.specs.List.{AllByRecursion, filter}
 use Rattle.std.proofs.lemmas.Bool.{cases_lt}
 use Rattle.std.proofs.lemmas.List.{append-nil, take_all, take-append-le}
 use Rattle.std.proofs.lemmas.List.Elements.{filter-append}
 use Rattle.std.proofs.Math.Seq.{take-append-add}
-use Rattle.cluster_history.specs.History.{IsNumbered, KeepsSynced, calls_of}
+use Rattle.cluster_history.specs.History.{IsNumbered, calls_of}
 use Rattle.cluster_history.specs.declared.Item.{Item}
 use Rattle.cluster_history.specs.declared.Item.TheVariants as item
 use Rattle.file_tree.specs.declared.call.Call.{Call}
@@ -22,9 +22,9 @@ use Rattle.script_lang.specs.declared.script.Line.TheVariants as line
 use Rattle.trace_text.specs.declared.item.TraceItem.{TraceItem}
 use Rattle.trace_text.specs.declared.item.TraceItem.TheVariants as trace
 use Rattle.lone_scripts.specs.Laws.{AllAnsweredOrDown, LoneRunsAreNumbered, LoneRunsFollow, RunningNodesKeepAll, WholeLoneRunsAnswer}
-use Rattle.lone_scripts.specs.Runs.{Answered, Crashes, EndsWithWrite, HasCrashed, IsBehindCrash, IsLoneRun, IsMember, IsNotPast, IsOfMember, IsWholeLoneRun, Runs, TakesLines, at_line, at_write, calls_from, crashed, fenced, is_call, line_of, lost, not_begun, nothing, running, stopped, taken}
+use Rattle.lone_scripts.specs.Runs.{Answered, Crashes, HasCrashed, IsBehindCrash, IsMember, IsNotPast, IsOfMember, Runs, TakesLines, at_line, at_write, crashed, fenced, is_call, lost, not_begun, nothing, running, stopped, taken}
 use Rattle.lone_scripts.specs.Scripts.{IsForOne, IsLoneLine, IsOfNodeOne}
-use Rattle.lone_scripts.proofs.Following.{after_all, answered_in_all, are_of, before_below, calls_taken, in_order, is_past, none_below, on_node, waits}
+use Rattle.lone_scripts.proofs.Following.{after_all, are_of, before_below, calls_taken, in_order, is_past, none_below, on_node, waits}
 use Rattle.lone_scripts.proofs.Lists.{Stands, all_at, before, behind, count_both, count_front, filter_front, in_midst, stands, there}
 use Rattle.lone_scripts.proofs.Told.{calls_filter, hist, history_filter, history_from, history_of-append}
 

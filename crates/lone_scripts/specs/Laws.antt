@@ -1,5 +1,5 @@
 -- What the items of a run of one node owe to its script.
-use Rattle.std.specs.Prelude.{ℕ, suc, ◌≡◌, ◌⊎◌, ◌+◌, List, [], ◌∷◌, ◌++◌, length, slice_get, Some}
+use Rattle.std.specs.Prelude.{ℕ, suc, ◌≡◌, ◌⊎◌, List, [], ◌∷◌, ◌++◌, length, slice_get, Some}
 use Rattle.std.specs.List.{AllByRecursion, filter}
 use Rattle.cluster_history.specs.History.{IsNumbered, KeepsSynced, calls_of}
 use Rattle.file_tree.specs.declared.call.Call.{Call}

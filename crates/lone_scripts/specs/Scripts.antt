@@ -1,5 +1,5 @@
 -- The scripts that one node can run, crashes among their lines.
-use Rattle.std.specs.Prelude.{ℕ, ◌≡◌, ◌<◌, IsTrue, List, length, ⊤}
+use Rattle.std.specs.Prelude.{ℕ, ◌≡◌, ◌<◌, IsTrue, length, ⊤}
 use Rattle.std.specs.List.{AllByRecursion}
 use Rattle.fencing.specs.NodeSets.{has}
 use Rattle.script_lang.specs.OneNode.{HaveOwnClientNames}
