@@ -4,7 +4,6 @@ use Rattle.std.proofs.lemmas.Option.{slice_get-get_or}
 use Rattle.std.specs.Prelude.{not}
 use Rattle.std.specs.Str.{bytes_eq}
 use Rattle.file_tree.specs.Names.{leads_to}
-
 use Rattle.lost_calls.proofs.Fronts.{drop_next}
 use Rattle.lost_calls.proofs.kept.goes_on.Goals as goal
 
