@@ -1,5 +1,5 @@
 // The number of the last call that a journal has.
-ghost use Rattle.std.specs.Prelude.{ℕ, ◌≡◌, ◌≤◌, List, [], ◌∷◌, take, drop, length, unwrap_or, Option};
+ghost use Rattle.std.specs.Prelude.{◌≡◌, ◌≤◌, false, List, ◌∷◌, take, length};
 ghost use Rattle.run_rules.specs.Lives.{DiskHeads, items_of, last_number as last_number_in, named as named_in, to_its_end, unnamed as unnamed_in, upto_of as upto_in};
 ghost use Rattle.trace_text.specs.declared.item.TraceItem.{TraceItem as Item};
 ghost use Rattle.lost_calls.specs.Heads.{IsLeftBy, accepted, first_life};
