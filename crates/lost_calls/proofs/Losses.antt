@@ -37,11 +37,9 @@ take_next {A} (suc n) (y ∷ ys) x at = ap (λ (zs : List A). y ∷ zs) (take_ne
 
 -- ---- how many calls of a node come first
 
-one_call : ℕ → Item → ℕ
+abbrev one_call : ℕ → Item → ℕ
 one_call node (item.Call i c n call reply) = if i == node then 1 else 0
 one_call node (item.Lost i kept) = 0
-
-unfolding one_call
 
 calls_onto : (node : ℕ) (x : Item) (xs : List Item) → calls_of node (x ∷ xs) ≡ one_call node x + calls_of node xs
 calls_onto node (item.Call i c n call reply) xs = refl
@@ -172,22 +170,56 @@ module _ (upto : ℕ) (all : List Item) (numbered : IsNumbered all) (enough : up
               both e = (cc, cc)
 
   by_test : (b : Bool) (P : ℕ → Type 0) (x y : ℕ) → (b ≡ true → P x) → (b ≡ false → P y) → P (if b then x else y)
-  by_test true P x y yes no = yes refl
-  by_test false P x y yes no = no refl
+  by_test true P x y so not = so refl
+  by_test false P x y so not = not refl
 
   both_true : (a b : Bool) → (a && b) ≡ true → (a ≡ true) × (b ≡ true)
   both_true true b is = (refl, is)
   both_true false b is = cc
 
   second_false : (a b : Bool) → (a && b) ≡ false → a ≡ true → b ≡ false
-  second_false true b is yes = is
-  second_false false b is yes = cc
+  second_false true b is so = is
+  second_false false b is so = cc
 
   is_one : (node : ℕ) → (node == 1) ≡ true → node ≡ 1
-  is_one node is = elim (cases_eq node 1) [ inl same ↦ same | inr apart ↦ absurd (let no = ne_eqb node 1 apart in cc) ]
+  is_one node is = elim (cases_eq node 1) [ inl same ↦ same | inr apart ↦ absurd (let differs = ne_eqb node 1 apart in cc) ]
 
   not_one : (node : ℕ) → (node == 1) ≡ false → node ≡ 1 → ⊥
-  not_one node is one = let yes : (1 == 1) ≡ false = ap (λ (n : ℕ). n == 1) (sym one) ∙ is in cc
+  not_one node is one = let differs : (1 == 1) ≡ false = ap (λ (n : ℕ). n == 1) (sym one) ∙ is in cc
+
+  no_loss : (node kept client n : ℕ) (c : Call) (r : Reply) → item.Lost node kept ≡ item.Call 1 client n c r → ⊥
+  no_loss node kept client n c r e = cc
+
+  node_is : (node client number : ℕ) (call : Call) (reply : Reply) (other n : ℕ) (c : Call) (r : Reply) → item.Call node client number call reply ≡ item.Call 1 other n c r → node ≡ 1
+  node_is node client number call reply other n c r e = cc
+
+  above_is : (node client number : ℕ) (call : Call) (reply : Reply) (other n : ℕ) (c : Call) (r : Reply) → item.Call node client number call reply ≡ item.Call 1 other n c r → upto < n → upto < number
+  above_is node client number call reply other n c r e above = let same : number ≡ n = cc in omega (arith, same, above)
+
+  calm_one : (node client number : ℕ) (call : Call) (reply : Reply) (other n : ℕ) (c : Call) (r : Reply) → item.Call node client number call reply ≡ item.Call 1 other n c r
+      → Changes (record { call = call; reply = reply }) ≡ false → Changes (record { call = c; reply = r }) ≡ false
+  calm_one node client number call reply other n c r e calm' =
+      let calls : call ≡ c = cc in
+      let replies : reply ≡ r = cc in
+      subst (λ (x : Reply). Changes (record { call = c; reply = x }) ≡ false) replies (subst (λ (x : Call). Changes (record { call = x; reply = reply }) ≡ false) calls calm')
+
+  number_is : (done is : List Item) (node client number : ℕ) (call : Call) (reply : Reply) → done ++ item.Call node client number call reply ∷ is ≡ all → (node == 1) ≡ true
+      → number ≡ calls_of 1 (done ++ item.Call node client number call reply ∷ [])
+  number_is done is node client number call reply are one =
+      let it : Item = item.Call node client number call reply in
+      let here : slice_get all (length done) ≡ Some it = ap (λ (is' : List Item). slice_get is' (length done)) (sym are) ∙ at_next done it is in
+      let so = numbered (length done) node client number call reply here in
+      let mine : calls_of node (take (length done) all) ≡ calls_of 1 (take (length done) all) = ap (λ (n : ℕ). calls_of n (take (length done) all)) (is_one node one) in
+      let front_is : calls_of 1 (take (length done) all) ≡ calls_of 1 done = ap (λ (is' : List Item). calls_of 1 (take (length done) is')) (sym are) ∙ ap (calls_of 1) (take-append_seam done (it ∷ is)) in
+      let more = calls_both 1 done (it ∷ []) in
+      let last : calls_of 1 (it ∷ []) ≡ 1 = ap (λ (b : Bool). (if b then 1 else 0) + calls_of 1 []) one in
+      omega (arith, so, mine, front_is, more, last)
+
+  none_more : (done : List Item) (node client number : ℕ) (call : Call) (reply : Reply) → (node == 1) ≡ false → {last : ℕ} → last ≡ calls_of 1 done → last ≡ calls_of 1 (done ++ item.Call node client number call reply ∷ [])
+  none_more done node client number call reply other {last} same =
+      let more = calls_both 1 done (item.Call node client number call reply ∷ []) in
+      let none : calls_of 1 (item.Call node client number call reply ∷ []) ≡ 0 = ap (λ (b : Bool). (if b then 1 else 0) + calls_of 1 []) other in
+      omega (arith, same, more, none)
 
   -- so it is of those that come next
   right : (done rest : List Item) (last : ℕ) → done ++ rest ≡ all → Calm upto done → last ≡ calls_of 1 done → LossIsRight all 1 upto (kept_in upto last rest)
@@ -208,40 +240,6 @@ module _ (upto : ℕ) (all : List Item) (numbered : IsNumbered all) (enough : up
       (calm_with upto done it calm (λ other n c r e above. calm_one node client number call reply other n c r e (second_false (nat_lt upto number) change not (lt-ltb upto number (above_is node client number call reply other n c r e above)))))
       (number_is done is node client number call reply are one)))
       (λ other. right (done ++ it ∷ []) is last next (calm_with upto done it calm (λ other' n c r e. absurd (not_one node other (node_is node client number call reply other' n c r e)))) (none_more done node client number call reply other same))
-    where
-      no_loss : (node kept client n : ℕ) (c : Call) (r : Reply) → item.Lost node kept ≡ item.Call 1 client n c r → ⊥
-      no_loss node kept client n c r e = cc
-
-      node_is : (node client number : ℕ) (call : Call) (reply : Reply) (other n : ℕ) (c : Call) (r : Reply) → item.Call node client number call reply ≡ item.Call 1 other n c r → node ≡ 1
-      node_is node client number call reply other n c r e = cc
-
-      above_is : (node client number : ℕ) (call : Call) (reply : Reply) (other n : ℕ) (c : Call) (r : Reply) → item.Call node client number call reply ≡ item.Call 1 other n c r → upto < n → upto < number
-      above_is node client number call reply other n c r e above = let same : number ≡ n = cc in omega (arith, same, above)
-
-      calm_one : (node client number : ℕ) (call : Call) (reply : Reply) (other n : ℕ) (c : Call) (r : Reply) → item.Call node client number call reply ≡ item.Call 1 other n c r
-          → Changes (record { call = call; reply = reply }) ≡ false → Changes (record { call = c; reply = r }) ≡ false
-      calm_one node client number call reply other n c r e calm' =
-          let calls : call ≡ c = cc in
-          let replies : reply ≡ r = cc in
-          subst (λ (x : Reply). Changes (record { call = c; reply = x }) ≡ false) replies (subst (λ (x : Call). Changes (record { call = x; reply = reply }) ≡ false) calls calm')
-
-      number_is : (done is : List Item) (node client number : ℕ) (call : Call) (reply : Reply) → done ++ item.Call node client number call reply ∷ is ≡ all → (node == 1) ≡ true
-          → number ≡ calls_of 1 (done ++ item.Call node client number call reply ∷ [])
-      number_is done is node client number call reply are one =
-          let it : Item = item.Call node client number call reply in
-          let here : slice_get all (length done) ≡ Some it = ap (λ (is' : List Item). slice_get is' (length done)) (sym are) ∙ at_next done it is in
-          let so = numbered (length done) node client number call reply here in
-          let mine : calls_of node (take (length done) all) ≡ calls_of 1 (take (length done) all) = ap (λ (n : ℕ). calls_of n (take (length done) all)) (is_one node one) in
-          let front_is : calls_of 1 (take (length done) all) ≡ calls_of 1 done = ap (λ (is' : List Item). calls_of 1 (take (length done) is')) (sym are) ∙ ap (calls_of 1) (take-append_seam done (it ∷ is)) in
-          let more = calls_both 1 done (it ∷ []) in
-          let last : calls_of 1 (it ∷ []) ≡ 1 = ap (λ (b : Bool). (if b then 1 else 0) + calls_of 1 []) one in
-          omega (arith, so, mine, front_is, more, last)
-
-      none_more : (done : List Item) (node client number : ℕ) (call : Call) (reply : Reply) → (node == 1) ≡ false → {last : ℕ} → last ≡ calls_of 1 done → last ≡ calls_of 1 (done ++ item.Call node client number call reply ∷ [])
-      none_more done node client number call reply other {last} same =
-          let more = calls_both 1 done (item.Call node client number call reply ∷ []) in
-          let none : calls_of 1 (item.Call node client number call reply ∷ []) ≡ 0 = ap (λ (b : Bool). (if b then 1 else 0) + calls_of 1 []) other in
-          omega (arith, same, more, none)
 
   pub loss_is_right : LossIsRight all 1 upto (kept_in upto 0 all)
   loss_is_right = right [] all 0 refl (λ p client number call reply at above. absurd (none_at p (item.Call 1 client number call reply) at)) refl
