@@ -26,6 +26,7 @@ use Rattle.trace_text.specs.declared.item.TraceItem.{TraceItem}
 use Rattle.trace_text.specs.declared.item.TraceItem.TheVariants as trace
 use Rattle.logged_steps.specs.Points.{Anything, ItsCommit, ItsNoSpace, Point, call_item}
 use Rattle.logged_steps.specs.Steps.{Step, Steps, with_barrier, with_write, Reads, Answers, AnswersQuietly, Syncs, TellsFull, HasNoSpace, BeginsFlush, BeginsHeader, WritesLog, EndsBlocks, WritesHead, EndsFlush, Commits, GoesHome, Rests, Unmounts, Here, Then}
+use Rattle.logged_steps.proofs.Chunks.{DueIsSome}
 use Rattle.logged_steps.proofs.Telling.{append_assoc, append_nil}
 use Rattle.logged_runs.specs.Starts.{IsOfReplay}
 
