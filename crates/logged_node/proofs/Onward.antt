@@ -1,5 +1,5 @@
 -- A step of a flush that was carried out: it is one of the node's steps, and the flush has come on; and how a node stops at it.
-use Rattle.std.proofs.Common.{◌≡◌, ◌≤◌, ◌<◌, ◌+◌, ◌^◌, ℕ, suc, List, length, Option, None, Some, Ok, Err, refl, sym, ap, ap₂, subst, ◌∙◌, arith}
+use Rattle.std.proofs.Common.{◌≡◌, ◌≤◌, ◌<◌, ◌+◌, ◌^◌, ℕ, suc, List, [], ◌∷◌, length, Option, None, Some, Ok, Err, refl, sym, ap, ap₂, subst, ◌∙◌, arith}
 use Rattle.std.specs.Prelude.{IfErr, Result}
 use Rattle.std.proofs.Math.Nat.{mod-eq_of_lt}
 use Rattle.log_rings.specs.Laws.{HasNumbers}
@@ -12,8 +12,9 @@ use Rattle.log_values.proofs.Going.{step_sound}
 use Rattle.log_widths.specs.Laws.{WidthsAreNumbers}
 use Rattle.log_widths.specs.Widths.{HasLogWidths}
 use Rattle.log_widths.proofs.Staying.{steps_keep_widths}
+use Rattle.logged_steps.specs.Fails.{AsItWas, FailsTo, InAWrite}
 use Rattle.logged_steps.specs.Points.{Point}
-use Rattle.logged_steps.specs.Steps.{Here, Steps, with_barrier, with_write}
+use Rattle.logged_steps.specs.Steps.{Here, Steps, WritesHead, WritesLog, with_barrier, with_write}
 use Rattle.logged_steps.proofs.Telling.{steps_go_on}
 use Rattle.shared_disk.specs.Disk.{DiskState, Operation, after_barrier, after_write}
 use Rattle.trace_text.specs.declared.item.TraceItem.{TraceItem}
@@ -25,11 +26,14 @@ use Rattle.logged_node.specs.Deeds.{a_write, no_write}
 use Rattle.logged_node.specs.Ends.{IfCrashed, IfFailed, IfMade}
 use Rattle.logged_node.specs.Flushing.{FailsAt, HasComeTo, IsCarried, IsFlushing, MayCarry, steps_left}
 use Rattle.logged_node.specs.Flushing as carried
-use Rattle.logged_node.specs.Nodes.{Awaits, FailsBehind, IsLogOf, IsNodeOn, IsSameDisk, KeepsView, StopsBehind, as_it_was, crash_at, crash_of, in_a_write, point_of, writes_in}
+use Rattle.logged_node.specs.Homing.{homes_in}
+use Rattle.logged_node.specs.Nodes.{Awaits, IsAtCrash, IsLogOf, IsNodeOn, IsSameDisk, KeepsCallsAt, KeepsView, StopsBehind, StopsByCrash, crash_at, crash_of, point_of}
+use Rattle.logged_node.proofs.Arming.{before_still}
 use Rattle.logged_node.proofs.Blocks.{blocks_go_on, none_some}
 use Rattle.logged_node.proofs.Carried.{steps_by}
 use Rattle.logged_node.proofs.Disks.{length_with, same_barrier, same_written}
 use Rattle.logged_node.proofs.Flushes.{may_carry}
+use Rattle.logged_node.proofs.Ordering.{homes_more}
 use Rattle.logged_node.proofs.Going.{behind_barrier, behind_block, behind_header, behind_last, on_still}
 
 -- ---- what was carried out
@@ -50,6 +54,29 @@ a_barrier_is bytes p q f flush (carried.the_last list none gains is) = absurd (n
 the_last_is : (bytes : List ℕ) (p q : Point) → p.log.flush ≡ None → IsCarried bytes p q step.Barrier → (q.disk ≡ after_barrier p.disk 1) × (q.numbers.low ≡ p.numbers.begun)
 the_last_is bytes p q flush (carried.a_barrier list some gains is) = absurd (some flush)
 the_last_is bytes p q flush (carried.the_last list none gains is) = (ap (λ (x : Point). x.disk) is, ap (λ (x : Point). x.numbers.low) is)
+
+-- what it leaves as it was
+record LeavesAlone (p q : Point) : Type 0 where
+  view : q.view ≡ p.view
+  answered : q.numbers.answered ≡ p.numbers.answered
+  changed : q.numbers.changed ≡ p.numbers.changed
+  log : q.log ≡ p.log
+  unmounts : q.unmounts ≡ p.unmounts
+
+alone_by : (p q r : Point) → q ≡ r → LeavesAlone p r → LeavesAlone p q
+alone_by p q r is leaves = subst (LeavesAlone p) (sym is) leaves
+
+left_alone : (bytes : List ℕ) (p q : Point) (s : LogStep) → IsCarried bytes p q s → LeavesAlone p q
+left_alone bytes p q _ (carried.a_block b list gains is) = alone_by p q _ is (record { view = refl; answered = refl; changed = refl; log = refl; unmounts = refl })
+left_alone bytes p q _ (carried.a_header b sequence list gains is) = alone_by p q _ is (record { view = refl; answered = refl; changed = refl; log = refl; unmounts = refl })
+left_alone bytes p q _ (carried.a_barrier list some gains is) = alone_by p q _ is (record { view = refl; answered = refl; changed = refl; log = refl; unmounts = refl })
+left_alone bytes p q _ (carried.the_last list none gains is) = alone_by p q _ is (record { view = refl; answered = refl; changed = refl; log = refl; unmounts = refl })
+
+homes_carried : (bytes : List ℕ) (p q : Point) (s : LogStep) → IsCarried bytes p q s → homes_in q.items ≡ homes_in p.items
+homes_carried bytes p q _ (carried.a_block b list gains is) = ap (λ (x : Point). homes_in x.items) is ∙ homes_more p.items (trace.WriteLog 1 b ∷ []) refl
+homes_carried bytes p q _ (carried.a_header b sequence list gains is) = ap (λ (x : Point). homes_in x.items) is ∙ homes_more p.items (trace.WriteHead 1 b sequence p.numbers.begun ∷ []) refl
+homes_carried bytes p q _ (carried.a_barrier list some gains is) = ap (λ (x : Point). homes_in x.items) is ∙ homes_more p.items (trace.Barrier 1 ∷ []) refl
+homes_carried bytes p q _ (carried.the_last list none gains is) = ap (λ (x : Point). homes_in x.items) is ∙ homes_more p.items (trace.Barrier 1 ∷ trace.Commit 1 p.log.sequence p.numbers.begun ∷ []) refl
 
 -- the disk is the same, and no more is in flight than may be
 carried_disk : (bytes : List ℕ) (p q : Point) (s : LogStep) → IsCarried bytes p q s → IsSameDisk p.disk q.disk
@@ -79,34 +106,92 @@ journal_still log new f bytes _ (the_last tail stage new_is lives) = ap (λ (l :
 
 -- ---- how a node stops
 
+-- what it has at its own point, and at a later one
+pub kept_here : (d : DiskState) (l : Option (List Operation)) (n : Node) → KeepsCallsAt n (point_of d l n)
+kept_here d l n = record { view = refl; answered = refl; changed = refl; journal = refl; next = refl }
+
+pub kept_there : (d : DiskState) (l : Option (List Operation)) (n m : Node) → KeepsView n m → KeepsCallsAt n (point_of d l m)
+kept_there d l n m kept = record { view = kept.view; answered = kept.answered; changed = kept.changed; journal = kept.journal; next = refl }
+
+pub kept_on_to : (n m : Node) (p : Point) → KeepsView n m → KeepsCallsAt m p → KeepsCallsAt n p
+kept_on_to n m p kept at = record { view = at.view ∙ kept.view; answered = at.answered ∙ kept.answered; changed = at.changed ∙ kept.changed; journal = at.journal ∙ kept.journal; next = at.next }
+
 -- behind steps
-pub stops_on : (d e f : DiskState) (l k h : Option (List Operation)) (n m : Node) (items : List TraceItem) (why : Stop) → ((time : ℕ) → Steps time (point_of d l n) (point_of e k m)) → crash_at m ≡ crash_at n
+pub stops_on : (d e f : DiskState) (l k h : Option (List Operation)) (n m : Node) (items : List TraceItem) (why : Stop) → ((time : ℕ) → Steps time (point_of d l n) (point_of e k m)) → crash_at m ≡ crash_at n → KeepsView n m
     → StopsBehind e k m f h items why → StopsBehind d l n f h items why
-stops_on d e f l k h n m items why first armed stops = record {
+stops_on d e f l k h n m items why first armed kept stops = record {
   last = stops.last;
+  left = stops.left;
   steps = λ time. steps_go_on time (point_of d l n) (point_of e k m) stops.last (first time) (stops.steps time);
-  told = stops.told;
+  fails = stops.fails;
+  exactly = stops.exactly;
   disk = stops.disk;
-  crashes = crashes_on why (crash_at m) (crash_at n) items armed stops.crashes;
+  listed = stops.listed;
+  told = stops.told;
+  kept = kept_on_to n m stops.last kept stops.kept;
+  unmounts = stops.unmounts ∙ kept.unmounts;
+  crashes = subst (λ (c : Option ℕ). StopsByCrash c items why) armed stops.crashes;
 }
-  where
-    crashes_on : (why : Stop) (x y : Option ℕ) (items : List TraceItem) → x ≡ y → IfCrashed why (x ≡ Some (writes_in items)) → IfCrashed why (y ≡ Some (writes_in items))
-    crashes_on stop.Crashed x y items same is = sym same ∙ is
-    crashes_on (stop.DiskFailed block rise) x y items same is = tt
-    crashes_on stop.NoMemory x y items same is = tt
 
 -- for want of memory, before anything was done
-pub stops_here : (d : DiskState) (l : Option (List Operation)) (n : Node) (items : List TraceItem) (why : Stop) → why ≡ stop.NoMemory → items ≡ n.items.items → StopsBehind d l n d l items why
-stops_here d l n items why is same = subst (StopsBehind d l n d l items) (sym is) (record { last = point_of d l n; steps = λ time. Here; told = sym same; disk = (refl, refl); crashes = tt })
+pub stops_here : (d : DiskState) (l : Option (List Operation)) (n : Node) (items : List TraceItem) (why : Stop) → Awaits n.armed → why ≡ stop.NoMemory → items ≡ n.items.items → StopsBehind d l n d l items why
+stops_here d l n items why awaits is same = subst (StopsBehind d l n d l items) (sym is) (record {
+  last = point_of d l n;
+  left = point_of d l n;
+  steps = λ time. Here;
+  fails = λ time. AsItWas;
+  exactly = refl;
+  disk = refl;
+  listed = refl;
+  told = sym same;
+  kept = kept_here d l n;
+  unmounts = refl;
+  crashes = before_still n.armed n.items.items items awaits same;
+})
+
+-- the point where a write failed, on the disk that is left
+pub record FailsThere (p : Point) (d : DiskState) (l : Option (List Operation)) : Type 0 where
+  pub left : Point
+  pub fails : (time : ℕ) → FailsTo time p left
+  pub disk : left.disk ≡ d
+  pub listed : left.list ≡ l
+  pub told : left.items ≡ p.items
+
+pub as_it_was : (p : Point) (d : DiskState) (l : Option (List Operation)) → d ≡ p.disk → l ≡ p.list → FailsThere p d l
+as_it_was p d l disk list = record { left = p; fails = λ time. AsItWas; disk = sym disk; listed = sym list; told = refl }
 
 -- At a deed: where it was made, and it crashed behind it, that is a step; where the disk failed, it stays where it was.
-pub stops_at : (d d' : DiskState) (l l' : Option (List Operation)) (n n' : Node) (r : Result (Unit {0}) Stop) (made : Type 0) → (made → (time : ℕ) → Steps time (point_of d l n) (point_of d' l' n')) → IfMade r made
-    → IfErr r (λ why. IfCrashed why (crash_at n ≡ Some (writes_in n'.items.items))) → IfErr r (λ why. IfFailed why (FailsBehind (point_of d l n) d' l')) → IfErr r (λ why. IfFailed why (n'.items.items ≡ n.items.items))
+pub stops_at : (d d' : DiskState) (l l' : Option (List Operation)) (n n' : Node) (r : Result (Unit {0}) Stop) (made : Type 0) → (made → (time : ℕ) → Steps time (point_of d l n) (point_of d' l' n')) → (made → KeepsView n n') → Awaits n.armed
+    → IfMade r made → IfErr r (λ why. IfCrashed why (IsAtCrash (crash_at n) n'.items.items)) → IfErr r (λ why. IfFailed why (FailsThere (point_of d l n) d' l')) → IfErr r (λ why. IfFailed why (n'.items.items ≡ n.items.items))
     → IfErr r (λ why. StopsBehind d l n d' l' n'.items.items why)
-stops_at d d' l l' n n' (Ok _) made steps done crashed failed kept = tt
-stops_at d d' l l' n n' (Err stop.Crashed) made steps done crashed failed kept = record { last = point_of d' l' n'; steps = steps done; told = refl; disk = (refl, refl); crashes = crashed }
-stops_at d d' l l' n n' (Err (stop.DiskFailed block rise)) made steps done crashed failed kept = record { last = point_of d l n; steps = λ time. Here; told = sym kept; disk = failed; crashes = tt }
-stops_at d d' l l' n n' (Err stop.NoMemory) made steps done crashed failed kept = absurd done
+stops_at d d' l l' n n' (Ok _) made steps keeps awaits done crashed failed kept = tt
+stops_at d d' l l' n n' (Err stop.Crashed) made steps keeps awaits done crashed failed kept = record {
+  last = point_of d' l' n';
+  left = point_of d' l' n';
+  steps = steps done;
+  fails = λ time. AsItWas;
+  exactly = refl;
+  disk = refl;
+  listed = refl;
+  told = refl;
+  kept = kept_there d' l' n n' (keeps done);
+  unmounts = (keeps done).unmounts;
+  crashes = crashed;
+}
+stops_at d d' l l' n n' (Err (stop.DiskFailed block rise)) made steps keeps awaits done crashed failed kept = record {
+  last = point_of d l n;
+  left = failed.left;
+  steps = λ time. Here;
+  fails = failed.fails;
+  exactly = tt;
+  disk = failed.disk;
+  listed = failed.listed;
+  told = failed.told ∙ sym kept;
+  kept = kept_here d l n;
+  unmounts = refl;
+  crashes = before_still n.armed n.items.items n'.items.items awaits kept;
+}
+stops_at d d' l l' n n' (Err stop.NoMemory) made steps keeps awaits done crashed failed kept = absurd done
 
 -- facts of an end, one from another
 pub map_err : (r : Result (Unit {0}) Stop) (P Q : Stop → Type 0) → ((why : Stop) → P why → Q why) → IfErr r P → IfErr r Q
@@ -153,36 +238,60 @@ module _ (law : WidthsAreNumbers) (start : Node) (d d' : DiskState) (l l' : Opti
   from_mid done = subst (λ (x : Point). IsCarried m.block.items x (point_of d' l' n') s) mid_is done
 
   pub steps : Carried → (time : ℕ) → Steps time p (point_of d' l' n')
-  steps done time = steps_by p (point_of d' l' n') f m.log m.block.items at.is its_numbers (long ∙ at.on.block) at.told refl s may made (from_mid done) time
+  steps done time = steps_by p (point_of d' l' n') f m.log m.block.items at.is its_numbers (long ∙ at.on.block) at.told refl at.many at.some s may made (from_mid done) time
 
   pub disk_same : Carried → IsSameDisk d d'
   disk_same done = carried_disk m.block.items mid (point_of d' l' n') s (from_mid done)
 
-  -- where the disk failed, it may be as if the step was made
-  fails : FailsAt m.block.items (point_of d l m) d' l' s → FailsBehind p d' l'
+  -- what stays of the node
+  keeps : Carried → KeepsView n n'
+  keeps done =
+      let it = left_alone m.block.items mid (point_of d' l' n') s (from_mid done) in
+      record { view = it.view; answered = it.answered; changed = it.changed; journal = ap (λ (x : LogValue). x.journal) it.log ∙ journal_still n.log m.log f m.block.items s made; unmounts = it.unmounts }
+
+  -- no block goes home
+  pub homes : (r : Result (Unit {0}) Stop) → IfMade r Carried → IfErr r (λ why. IfFailed why (n'.items.items ≡ m.items.items)) → homes_in n'.items.items ≡ homes_in n.items.items
+  homes (Ok _) done kept = homes_carried m.block.items mid (point_of d' l' n') s (from_mid done)
+  homes (Err stop.Crashed) done kept = homes_carried m.block.items mid (point_of d' l' n') s (from_mid done)
+  homes (Err (stop.DiskFailed block rise)) done kept = ap homes_in (kept ∙ items)
+  homes (Err stop.NoMemory) done kept = absurd done
+
+  -- where the disk failed in a write, that may be in flight, as the step makes it
+  left_by : ℕ → Point
+  left_by b = record p { disk = after_write d 1 b m.block.items; list = l'; log = m.log }
+
+  fails : FailsAt m.block.items (point_of d l m) d' l' s → FailsThere p d' l'
   fails = by s made may
     where
-      by : (t : LogStep) → FlushStep n.log m.log f m.block.items t → MayCarry d t → FailsAt m.block.items (point_of d l m) d' l' t → FailsBehind p d' l'
-      by (step.Write b) made may (no_write is same) = as_it_was is same
-      by (step.Write b) made may (a_write is gains) = in_a_write (with_write mid b m.block.items l' m.log (trace.WriteLog 1 b)) (trace.WriteLog 1 b)
-          (λ time. steps_by p (with_write mid b m.block.items l' m.log (trace.WriteLog 1 b)) f m.log m.block.items at.is its_numbers (long ∙ at.on.block) at.told refl (step.Write b) may made (carried.a_block b l' gains refl) time)
-          refl refl is refl
-      by (step.Head b sequence) made may (no_write is same) = as_it_was is same
-      by (step.Head b sequence) made may (a_write is gains) = in_a_write (with_write mid b m.block.items l' m.log (trace.WriteHead 1 b sequence mid.numbers.begun)) (trace.WriteHead 1 b sequence mid.numbers.begun)
-          (λ time. steps_by p (with_write mid b m.block.items l' m.log (trace.WriteHead 1 b sequence mid.numbers.begun)) f m.log m.block.items at.is its_numbers (long ∙ at.on.block) at.told refl (step.Head b sequence) may made
-          (carried.a_header b sequence l' gains refl) time)
-          refl refl is refl
-      by step.Barrier made may both = as_it_was both.0 both.1
+      by : (t : LogStep) → FlushStep n.log m.log f m.block.items t → MayCarry d t → FailsAt m.block.items (point_of d l m) d' l' t → FailsThere p d' l'
+      by (step.Write b) made may (no_write is same) = as_it_was p d' l' is same
+      by (step.Write b) made may (a_write is gains) = record {
+        left = left_by b;
+        fails = λ time. InAWrite b m.block.items l' m.log (trace.WriteLog 1 b) refl (WritesLog m.log f b m.block.items l' at.is its_numbers made (record { inside = may.0; whole = long ∙ at.on.block; free = may.1 }) gains);
+        disk = sym is;
+        listed = refl;
+        told = refl;
+      }
+      by (step.Head b sequence) made may (no_write is same) = as_it_was p d' l' is same
+      by (step.Head b sequence) made may (a_write is gains) = record {
+        left = left_by b;
+        fails = λ time. InAWrite b m.block.items l' m.log (trace.WriteHead 1 b sequence p.numbers.begun) refl
+            (WritesHead m.log f b sequence m.block.items l' at.is its_numbers made (record { inside = may.0; whole = long ∙ at.on.block; free = may.1 }) gains);
+        disk = sym is;
+        listed = refl;
+        told = refl;
+      }
+      by step.Barrier made may both = as_it_was p d' l' both.0 both.1
       by step.NoRoom made may never = absurd never
 
   pub armed_still : crash_at m ≡ crash_at n
   armed_still = ap₂ crash_of (ap (λ (x : Node). x.armed) m_is) items
 
-  pub stops : (r : Result (Unit {0}) Stop) → IfMade r Carried → IfErr r (λ why. IfCrashed why (crash_at m ≡ Some (writes_in n'.items.items))) → IfErr r (λ why. IfFailed why (FailsAt m.block.items (point_of d l m) d' l' s))
+  pub stops : (r : Result (Unit {0}) Stop) → IfMade r Carried → IfErr r (λ why. IfCrashed why (IsAtCrash (crash_at m) n'.items.items)) → IfErr r (λ why. IfFailed why (FailsAt m.block.items (point_of d l m) d' l' s))
       → IfErr r (λ why. IfFailed why (n'.items.items ≡ m.items.items)) → IfErr r (λ why. StopsBehind d l n d' l' n'.items.items why)
-  stops r done crashed failed kept = stops_at d d' l l' n n' r Carried steps done
-      (map_err r _ _ (λ why. if_crashed (crash_at m ≡ Some (writes_in n'.items.items)) (crash_at n ≡ Some (writes_in n'.items.items)) (λ is. sym armed_still ∙ is) why) crashed)
-      (map_err r _ _ (λ why. if_failed (FailsAt m.block.items (point_of d l m) d' l' s) (FailsBehind p d' l') fails why) failed)
+  stops r done crashed failed kept = stops_at d d' l l' n n' r Carried steps keeps at.on.awaits done
+      (map_err r _ _ (λ why. if_crashed (IsAtCrash (crash_at m) n'.items.items) (IsAtCrash (crash_at n) n'.items.items) (λ is. subst (λ (c : Option ℕ). IsAtCrash c n'.items.items) armed_still is) why) crashed)
+      (map_err r _ _ (λ why. if_failed (FailsAt m.block.items (point_of d l m) d' l' s) (FailsThere p d' l') fails why) failed)
       (map_err r _ _ (λ why. if_failed (n'.items.items ≡ m.items.items) (n'.items.items ≡ n.items.items) (λ is. is ∙ items) why) kept)
 
   module _ (n'_is : n' ≡ record m { items = n'.items; flying = n'.flying; numbers = record m.numbers { low = n'.numbers.low }; armed = n'.armed }) (flying : n'.flying ≡ length (d'.in_flight 1)) (awaits : Awaits n'.armed) (done : Carried) where

@@ -21,6 +21,11 @@ IfMade (Err stop.Crashed) P = P
 IfMade (Err (stop.DiskFailed block rise)) P = ⊤
 IfMade (Err stop.NoMemory) P = ⊥
 
+-- a fact of an end for which the disk is no cause
+abbrev pub IfNotOfDisk : Stop → Type 0 → Type 0
+IfNotOfDisk (stop.DiskFailed block rise) P = ⊤
+IfNotOfDisk s P = P
+
 -- a fact of the disk where it failed
 abbrev pub IfFailed : Stop → Type 0 → Type 0
 IfFailed (stop.DiskFailed block rise) P = P

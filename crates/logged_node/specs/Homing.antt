@@ -64,6 +64,13 @@ pub record SendsInOrder (n n' : Node) : Type 0 where
   pub are : AreSent n.log n'.log blocks
   pub told : homes_in n'.items.items ≡ homes_in n.items.items ++ blocks
 
+-- The blocks that were sent home since these items, so far: the first of those that are away in this log, in order.
+pub record SentSoFar (log : LogValue) (items items' : List TraceItem) : Type 0 where
+  pub new : LogValue
+  pub blocks : List ℕ
+  pub are : AreSent log new blocks
+  pub told : homes_in items' ≡ homes_in items ++ blocks
+
 -- ---- from one node to the other
 
 -- some are on their way, or home

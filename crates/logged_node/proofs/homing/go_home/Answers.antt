@@ -1,6 +1,8 @@
 use Rattle.std.proofs.Common.{length, ap, arith}
 use Rattle.logged_node.proofs.Homeward.{gone_home_on, homeward_none, homeward_on, rest_homes}
+use Rattle.logged_node.proofs.MakingRoom.{moved_kept}
 use Rattle.logged_node.proofs.Onward.{map_err, stops_on}
+use Rattle.logged_node.proofs.Ordering.{so_far_on, so_far_order, so_far_then}
 use Rattle.logged_node.proofs.Carrying.{ok_map}
 use Rattle.logged_node.proofs.homing.go_home.Goals as goal
 
@@ -20,7 +22,7 @@ loop-lock-preserved g c = record {
 
 pub returns-in-Err-clause-stopped : goal.returns-in-Err-clause-stopped
 returns-in-Err-clause-stopped g c =
-    stops_on (g.D.SharedDisk.state c.args.disk.now) (g.D.SharedDisk.state c.loop-lock.disk) (g.D.SharedDisk.state c.take_one.new.disk) (g.D.SharedDisk.list c.args.disk.now) (g.D.SharedDisk.list c.loop-lock.disk) (g.D.SharedDisk.list c.take_one.new.disk) c.args.node.now c.loop-lock.node c.take_one.new.node.items.items c.in-Err.why c.loop-lock.invariant.came.goes.steps c.loop-lock.invariant.came.goes.armed c.in-Err.ensures.stopped
+    stops_on (g.D.SharedDisk.state c.args.disk.now) (g.D.SharedDisk.state c.loop-lock.disk) (g.D.SharedDisk.state c.take_one.new.disk) (g.D.SharedDisk.list c.args.disk.now) (g.D.SharedDisk.list c.loop-lock.disk) (g.D.SharedDisk.list c.take_one.new.disk) c.args.node.now c.loop-lock.node c.take_one.new.node.items.items c.in-Err.why c.loop-lock.invariant.came.goes.steps c.loop-lock.invariant.came.goes.armed (moved_kept c.args.node.now c.loop-lock.node c.loop-lock.invariant.came.moves) c.in-Err.ensures.stopped
 
 pub returns-clause-home : goal.returns-clause-home
 returns-clause-home g c =
@@ -29,7 +31,14 @@ returns-clause-home g c =
 pub returns-clause-stopped : goal.returns-clause-stopped
 returns-clause-stopped g c =
     map_err c.rest_if_any.result _ _
-    (λ why stops. stops_on (g.D.SharedDisk.state c.args.disk.now) (g.D.SharedDisk.state c.loop-lock.disk) (g.D.SharedDisk.state c.rest_if_any.new.disk) (g.D.SharedDisk.list c.args.disk.now) (g.D.SharedDisk.list c.loop-lock.disk) (g.D.SharedDisk.list c.rest_if_any.new.disk) c.args.node.now c.loop-lock.node c.rest_if_any.new.node.items.items why c.loop-lock.invariant.came.goes.steps c.loop-lock.invariant.came.goes.armed stops) c.rest_if_any.ensures.stopped
+    (λ why stops. stops_on (g.D.SharedDisk.state c.args.disk.now) (g.D.SharedDisk.state c.loop-lock.disk) (g.D.SharedDisk.state c.rest_if_any.new.disk) (g.D.SharedDisk.list c.args.disk.now) (g.D.SharedDisk.list c.loop-lock.disk) (g.D.SharedDisk.list c.rest_if_any.new.disk) c.args.node.now c.loop-lock.node c.rest_if_any.new.node.items.items why c.loop-lock.invariant.came.goes.steps c.loop-lock.invariant.came.goes.armed (moved_kept c.args.node.now c.loop-lock.node c.loop-lock.invariant.came.moves) stops) c.rest_if_any.ensures.stopped
 
 pub rest_if_any-requires-clause-away : goal.rest_if_any-requires-clause-away
 rest_if_any-requires-clause-away g c = c.next_lock.ensures.none c.in_default.is
+
+pub returns-in-Err-clause-order : goal.returns-in-Err-clause-order
+returns-in-Err-clause-order g c = so_far_on c.args.node.now c.loop-lock.node c.take_one.new.node.items.items c.loop-lock.invariant.came.order c.in-Err.ensures.order
+
+pub returns-clause-order : goal.returns-clause-order
+returns-clause-order g c =
+    so_far_then c.args.node.now.log c.args.node.now.items.items c.loop-lock.node.items.items c.rest_if_any.new.node.items.items (so_far_order c.args.node.now c.loop-lock.node c.loop-lock.invariant.came.order) c.rest_if_any.ensures.homes
