@@ -257,7 +257,7 @@ module _ (law : WidthsAreNumbers) (start : Node) (d d' : DiskState) (l l' : Opti
   homes (Err stop.NoMemory) done kept = absurd done
 
   -- where the disk failed in a write, that may be in flight, as the step makes it
-  left_by : ℕ → Point
+  abbrev left_by : ℕ → Point
   left_by b = record p { disk = after_write d 1 b m.block.items; list = l'; log = m.log }
 
   fails : FailsAt m.block.items (point_of d l m) d' l' s → FailsThere p d' l'

@@ -99,7 +99,7 @@ is_ready d e f l k h n m o p goes left brought sent home = record {
   flushed_disk = e;
   flushed_list = k;
   flushed = o;
-  first = left_with_all d e l k n m o left brought sent;
+  first = record { left = m; leaves = left; brought = brought; sent = sent };
   homes = home;
   goes = goes_behind d d f l l h n m p goes (goes_behind d e f l k h m o p brought.goes home.goes);
   resting = home.resting;
@@ -152,6 +152,9 @@ leaves_flushed d e f l k h n m o items why goes left brought stops =
     leaves_left d f l h n m items why goes left (stops_on d e f l k h m o items why brought.goes.steps brought.goes.armed brought.kept stops)
 
 -- it is ready
+ready_kept : (d e : DiskState) (l k : Option (List Operation)) (n m : Node) → IsReady d l n e k m → KeepsCallsAt n (point_of e k m)
+ready_kept d e l k n m ready = kept_left n ready.first.left (point_of e k m) ready.first.leaves (kept_there e k ready.first.left m ready.kept)
+
 pub leaves_ready : (d e : DiskState) (l k : Option (List Operation)) (n m : Node) → IsReady d l n e k m → LeavesBySteps d l n e k m.items.items
 leaves_ready d e l k n m ready = record {
   last = point_of e k m;
@@ -161,13 +164,13 @@ leaves_ready d e l k n m ready = record {
   disk = refl;
   listed = refl;
   told = refl;
-  kept = kept_left n ready.first.left (point_of e k m) ready.first.leaves (kept_there e k ready.first.left m ready.kept);
+  kept = ready_kept d e l k n m ready;
 }
 
 -- and writes its last header
 module _ (d e f : DiskState) (l k h : Option (List Operation)) (n m : Node) (items : List TraceItem) (ready : IsReady d l n e k m) where
   by_point : (left : Point) → ((time : ℕ) → FailsTo time (point_of e k m) left ⊎ EndsTo (point_of e k m) left) → left.disk ≡ f → left.list ≡ h → left.items ≡ items → LeavesBySteps d l n f h items
-  by_point left ends disk listed told = record { last = point_of e k m; left = left; steps = ready.goes.steps; ends = ends; disk = disk; listed = listed; told = told; kept = (leaves_ready d e l k n m ready).kept }
+  by_point left ends disk listed told = record { last = point_of e k m; left = left; steps = ready.goes.steps; ends = ends; disk = disk; listed = listed; told = told; kept = ready_kept d e l k n m ready }
 
   pub leaves_stopped : (why : Stop) → StopsAtHeader (point_of e k m) (crash_at n) f h items why → LeavesBySteps d l n f h items
   leaves_stopped why (before_it is listed told off before) = by_point (point_of e k m) (λ time. inl AsItWas) (sym is) (sym listed) (sym told)

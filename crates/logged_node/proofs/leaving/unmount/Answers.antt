@@ -1,14 +1,11 @@
 use Rattle.std.proofs.Common.{ℕ, Option, refl, sym, subst, ◌∙◌}
 use Rattle.logged_node.specs.Leaving.{StopsAtHeader, at_the_end, clean_still, with_header}
 use Rattle.logged_node.specs.Nodes.{StopsByCrash, point_of}
-use Rattle.logged_node.proofs.Unmounting.{header_crashes, header_next, leaves_ended, leaves_ready, leaves_stopped, result_both}
+use Rattle.logged_node.proofs.Unmounting.{header_crashes, header_next, leaves_ended, leaves_stopped, result_both}
 use Rattle.logged_node.proofs.Ended.{cause_of_all}
 use Rattle.logged_node.proofs.Onward.{map_err}
 use Rattle.logged_node.proofs.Carrying.{ok_map}
 use Rattle.logged_node.proofs.leaving.unmount.Goals as goal
-
-pub write_last-requires-else-is_clean-clause-done : goal.write_last-requires-else-is_clean-clause-done
-write_last-requires-else-is_clean-clause-done g c = c.in-Ok.ensures.ready.done
 
 pub returns-then-is_clean-clause-unmounted : goal.returns-then-is_clean-clause-unmounted
 returns-then-is_clean-clause-unmounted g c = clean_still c.make_ready.new.node c.in-Ok.ensures.ready (sym c.is_clean.ensures ∙ c.if-is_clean.true) refl

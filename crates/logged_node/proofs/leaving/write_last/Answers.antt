@@ -1,6 +1,6 @@
 use Rattle.std.proofs.Common.{ap, ◌∙◌}
 use Rattle.log_memory.specs.declared.ending.LastWrite.{LastWrite}
-use Rattle.logged_node.proofs.Unmounting.{armed_still, stops_ending, stops_writing}
+use Rattle.logged_node.proofs.Unmounting.{armed_still, has_last, stops_ending, stops_writing}
 use Rattle.logged_node.specs.declared.node.Node.{Node}
 use Rattle.logged_node.proofs.Carrying.{armed_behind, ok_both}
 use Rattle.logged_node.proofs.Onward.{map_both}
@@ -28,3 +28,10 @@ returns-clause-armed g c =
     ∙ c.in-Ok-put_write.ensures.armed
     ∙ armed_still (g.D.SharedDisk.state c.args.disk.now) (g.D.SharedDisk.state c.put_write.new.disk) (g.D.SharedDisk.list c.args.disk.now) (g.D.SharedDisk.list c.put_write.new.disk) c.args.node.now c.have_room.new.node c.fill_last-block.new.node c.put_write.new.node c.fill_last-block.result.block c.fill_last-block.result.sequence c.requires.resting c.requires.done c.have_room.ensures.node c.have_room.ensures.items c.fill_last-block.ensures.node c.fill_last-block.ensures.long
     (ap (λ (x : LastWrite). x.block) c.fill_last-block.ensures.at) (ap (λ (x : LastWrite). x.sequence) c.fill_last-block.ensures.at) c.fill_last-block.ensures.last c.fill_last-block.ensures.put) c.put_barrier.ensures.made c.put_barrier.ensures.node c.put_barrier.ensures.node
+
+pub returns-clause-written : goal.returns-clause-written
+returns-clause-written g c =
+    ok_both c.put_barrier.result _ _ _ _
+    (λ made gains _. has_last (g.D.SharedDisk.state c.args.disk.now) (g.D.SharedDisk.state c.put_write.new.disk) (g.D.SharedDisk.list c.args.disk.now) (g.D.SharedDisk.list c.put_write.new.disk) c.args.node.now c.have_room.new.node c.fill_last-block.new.node c.put_write.new.node c.fill_last-block.result.block c.fill_last-block.result.sequence c.requires.resting c.requires.done c.have_room.ensures.node c.have_room.ensures.items c.fill_last-block.ensures.node c.fill_last-block.ensures.long
+    (ap (λ (x : LastWrite). x.block) c.fill_last-block.ensures.at) (ap (λ (x : LastWrite). x.sequence) c.fill_last-block.ensures.at) c.fill_last-block.ensures.last c.fill_last-block.ensures.put
+    (g.D.SharedDisk.state c.put_barrier.new.disk) (g.D.SharedDisk.list c.put_barrier.new.disk) c.put_barrier.new.node c.in-Ok-put_write.ensures.made c.in-Ok-put_write.ensures.gains made gains) c.put_barrier.ensures.made c.put_barrier.ensures.gains c.put_barrier.ensures.node
