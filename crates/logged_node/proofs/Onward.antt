@@ -264,7 +264,7 @@ module _ (law : WidthsAreNumbers) (start : Node) (d d' : DiskState) (l l' : Opti
   fails = by s made may
     where
       by : (t : LogStep) → FlushStep n.log m.log f m.block.items t → MayCarry d t → FailsAt m.block.items (point_of d l m) d' l' t → FailsThere p d' l'
-      by (step.Write b) made may (no_write is same) = as_it_was p d' l' is same
+      by (step.Write b) made _ (no_write is same) = as_it_was p d' l' is same
       by (step.Write b) made may (a_write is gains) = record {
         left = left_by b;
         fails = λ time. InAWrite b m.block.items l' m.log (trace.WriteLog 1 b) refl (WritesLog m.log f b m.block.items l' at.is its_numbers made (record { inside = may.0; whole = long ∙ at.on.block; free = may.1 }) gains);
@@ -272,7 +272,7 @@ module _ (law : WidthsAreNumbers) (start : Node) (d d' : DiskState) (l l' : Opti
         listed = refl;
         told = refl;
       }
-      by (step.Head b sequence) made may (no_write is same) = as_it_was p d' l' is same
+      by (step.Head b sequence) made _ (no_write is same) = as_it_was p d' l' is same
       by (step.Head b sequence) made may (a_write is gains) = record {
         left = left_by b;
         fails = λ time. InAWrite b m.block.items l' m.log (trace.WriteHead 1 b sequence p.numbers.begun) refl
@@ -281,8 +281,8 @@ module _ (law : WidthsAreNumbers) (start : Node) (d d' : DiskState) (l l' : Opti
         listed = refl;
         told = refl;
       }
-      by step.Barrier made may both = as_it_was p d' l' both.0 both.1
-      by step.NoRoom made may never = absurd never
+      by step.Barrier made _ both = as_it_was p d' l' both.0 both.1
+      by step.NoRoom made _ never = absurd never
 
   pub armed_still : crash_at m ≡ crash_at n
   armed_still = ap₂ crash_of (ap (λ (x : Node). x.armed) m_is) items

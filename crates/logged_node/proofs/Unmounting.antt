@@ -28,7 +28,7 @@ use Rattle.logged_node.specs.declared.node.Node.{Node}
 use Rattle.logged_node.specs.Deeds.{MayBeWritten, a_write, no_write}
 use Rattle.logged_node.specs.Ends.{IfCrashed, IfFailed, IfMade, IsOfDisk}
 use Rattle.logged_node.specs.Flushing.{GoesBySteps}
-use Rattle.logged_node.specs.Homing.{HasGoneHome}
+use Rattle.logged_node.specs.Homing.{HasGoneHome, RestsAsDue}
 use Rattle.logged_node.specs.Leaving.{FliesLastHeader, HasLastHeader, HasLeft, HasLeftWithAll, IsReady, LeavesBySteps, StopsAtHeader, before_it, behind_it, in_it}
 use Rattle.logged_node.specs.Nodes.{Awaits, IsBeforeCrash, IsResting, KeepsCallsAt, StopsBehind, StopsByCrash, crash_at, crash_of, point_of, writes_in}
 use Rattle.logged_node.specs.Rooms.{HasBroughtIn, SentForRoom}
@@ -94,13 +94,14 @@ module _ (d : DiskState) (l : Option (List Operation)) (n m : Node) (rest : IsRe
 pub left_with_all : (d e : DiskState) (l k : Option (List Operation)) (n m o : Node) → HasLeft n m → HasBroughtIn d l m e k o → SentForRoom m o.items.items → HasLeftWithAll d l n e k o
 left_with_all d e l k n m o left brought sent = record { left = m; leaves = left; brought = brought; sent = sent }
 
-pub is_ready : (d e f : DiskState) (l k h : Option (List Operation)) (n m o p : Node) → GoesBySteps d l n d l m → HasLeft n m → HasBroughtIn d l m e k o → SentForRoom m o.items.items → HasGoneHome e k o f h p → IsReady d l n f h p
-is_ready d e f l k h n m o p goes left brought sent home = record {
+pub is_ready : (d e f : DiskState) (l k h : Option (List Operation)) (n m o p : Node) → GoesBySteps d l n d l m → HasLeft n m → HasBroughtIn d l m e k o → SentForRoom m o.items.items → HasGoneHome e k o f h p → RestsAsDue o.items.items p.items.items → IsReady d l n f h p
+is_ready d e f l k h n m o p goes left brought sent home rests = record {
   flushed_disk = e;
   flushed_list = k;
   flushed = o;
   first = record { left = m; leaves = left; brought = brought; sent = sent };
   homes = home;
+  rests = rests;
   goes = goes_behind d d f l l h n m p goes (goes_behind d e f l k h m o p brought.goes home.goes);
   resting = home.resting;
   done = record { flush = home.resting.idle; due = λ is. brought.none (was_due o p home.moves is); home = home.home; still = λ b. ap (λ fs. flight_to fs b) home.resting.none };
@@ -150,6 +151,9 @@ pub leaves_flushed : (d e f : DiskState) (l k h : Option (List Operation)) (n m 
     → LeavesBySteps d l n f h items
 leaves_flushed d e f l k h n m o items why goes left brought stops =
     leaves_left d f l h n m items why goes left (stops_on d e f l k h m o items why brought.goes.steps brought.goes.armed brought.kept stops)
+
+pub crashes_flushed : (d e f : DiskState) (l k h : Option (List Operation)) (n m o : Node) (items : List TraceItem) (why : Stop) → GoesBySteps d l n d l m → HasBroughtIn d l m e k o → StopsBehind e k o f h items why → StopsByCrash (crash_at n) items why
+crashes_flushed d e f l k h n m o items why goes brought stops = subst (λ (c : Option ℕ). StopsByCrash c items why) (brought.goes.armed ∙ goes.armed) stops.crashes
 
 -- it is ready
 ready_kept : (d e : DiskState) (l k : Option (List Operation)) (n m : Node) → IsReady d l n e k m → KeepsCallsAt n (point_of e k m)
@@ -268,7 +272,7 @@ module _ (d d' : DiskState) (l l' : Option (List Operation)) (n r m n' : Node) (
   Gained = GainsWrite (point_of d l m) b bytes l'
 
   flies_by : d' ≡ after_write d 1 b bytes → Gains l l' (Write 1 b bytes ∷ []) → FliesLastHeader p bytes d' l'
-  flies_by disk gains = record { put = its_bytes; flies = its_flight; disk = disk ∙ ap (λ (x : ℕ). after_write d 1 x bytes) b_at; gains = subst (λ (x : ℕ). Gains l l' (Write 1 x bytes ∷ [])) b_at gains }
+  flies_by disk gains = record { put = its_bytes; is = its_last; flies = its_flight; disk = disk ∙ ap (λ (x : ℕ). after_write d 1 x bytes) b_at; gains = subst (λ (x : ℕ). Gains l l' (Write 1 x bytes ∷ [])) b_at gains }
 
   pub flies_now : Wrote → Gained → FliesLastHeader p bytes d' l'
   flies_now wrote gained = flies_by (ap (λ (x : Point). x.disk) wrote) gained

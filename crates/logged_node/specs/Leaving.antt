@@ -4,7 +4,7 @@ use Rattle.log_layout.specs.Headers.{log_put}
 use Rattle.log_layout.specs.Transactions.{after}
 use Rattle.log_memory.specs.Ending.{last_header}
 use Rattle.log_values.specs.Flushing.{AllAreHome, IsDue}
-use Rattle.lone_ends.specs.Ends.{IsDone}
+use Rattle.lone_ends.specs.Ends.{IsDone, IsLastHeader}
 use Rattle.node_journal.specs.Encoding.{zeros}
 use Rattle.shared_disk.specs.Disk.{Barrier, DiskState, Gains, Operation, Write, after_barrier}
 use Rattle.trace_text.specs.declared.item.TraceItem.{TraceItem}
@@ -15,7 +15,7 @@ use Rattle.logged_steps.specs.Points.{Point, state_of}
 use Rattle.logged_steps.specs.Steps.{Steps}
 use Rattle.logged_node.specs.Ends.{IsOfDisk}
 use Rattle.logged_node.specs.Flushing.{GoesBySteps}
-use Rattle.logged_node.specs.Homing.{HasGoneHome, SentSoFar}
+use Rattle.logged_node.specs.Homing.{HasGoneHome, RestsAsDue, SentSoFar}
 use Rattle.logged_node.specs.Nodes.{IsBeforeCrash, IsResting, KeepsCallsAt, KeepsView, StopsBehind, StopsByCrash, crash_at, point_of}
 use Rattle.logged_node.specs.Rooms.{HasBroughtIn, SentForRoom}
 use Rattle.logged_node.specs.declared.ends.Stop.{Stop}
@@ -43,6 +43,7 @@ pub record IsReady (d : DiskState) (list : Option (List Operation)) (n : Node) (
   pub flushed : Node
   pub first : HasLeftWithAll d list n flushed_disk flushed_list flushed
   pub homes : HasGoneHome flushed_disk flushed_list flushed d' list' n'
+  pub rests : RestsAsDue flushed.items.items n'.items.items
   pub goes : GoesBySteps d list n d' list' n'
   pub resting : IsResting d' n'
   pub done : IsDone (state_of (point_of d' list' n'))
@@ -58,6 +59,7 @@ pub record IsReady (d : DiskState) (list : Option (List Operation)) (n : Node) (
 -- it is in flight, on the disk of the point, and nothing else
 pub record FliesLastHeader (last : Point) (bytes : List ℕ) (d : DiskState) (list : Option (List Operation)) : Type 0 where
   pub put : bytes ≡ log_put (last_header last.log) (zeros last.log.journal.size)
+  pub is : IsLastHeader last.log bytes
   pub flies : FliesClean last bytes
   pub disk : d ≡ with_clean last bytes
   pub gains : Gains last.list list (Write 1 (last_block last) bytes ∷ [])

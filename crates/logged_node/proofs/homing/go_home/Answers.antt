@@ -1,8 +1,8 @@
-use Rattle.std.proofs.Common.{length, ap, arith}
+use Rattle.std.proofs.Common.{length, ap, ◌∙◌, arith}
 use Rattle.logged_node.proofs.Homeward.{gone_home_on, homeward_none, homeward_on, rest_homes}
 use Rattle.logged_node.proofs.MakingRoom.{moved_kept}
 use Rattle.logged_node.proofs.Onward.{map_err, stops_on}
-use Rattle.logged_node.proofs.Ordering.{so_far_on, so_far_order, so_far_then}
+use Rattle.logged_node.proofs.Ordering.{rests_due, rests_none, rests_one, so_far_on, so_far_order, so_far_then}
 use Rattle.logged_node.proofs.Carrying.{ok_map}
 use Rattle.logged_node.proofs.homing.go_home.Goals as goal
 
@@ -10,6 +10,7 @@ pub loop-lock-init : goal.loop-lock-init
 loop-lock-init g c = record {
   came = homeward_none (g.D.SharedDisk.state c.args.disk.now) (g.D.SharedDisk.list c.args.disk.now) c.args.node.now (rest_homes (g.D.SharedDisk.state c.args.disk.now) c.args.node.now c.requires.resting);
   few = (let none = ap length c.requires.resting.none in let is = c.requires.resting.on.flying in omega (arith, none, is));
+  rests = rests_none c.args.node.now.items.items c.args.node.now.flying (c.requires.resting.on.flying ∙ ap length c.requires.resting.none);
   later = λ i. omega arith;
 }
 
@@ -17,6 +18,7 @@ pub loop-lock-preserved : goal.loop-lock-preserved
 loop-lock-preserved g c = record {
   came = homeward_on (g.D.SharedDisk.state c.args.disk.now) (g.D.SharedDisk.state c.loop-lock.disk) (g.D.SharedDisk.state c.take_one.new.disk) (g.D.SharedDisk.list c.args.disk.now) (g.D.SharedDisk.list c.loop-lock.disk) (g.D.SharedDisk.list c.take_one.new.disk) c.args.node.now c.loop-lock.node c.take_one.new.node c.loop-lock.invariant.came c.in-Ok.ensures.taken;
   few = c.in-Ok.ensures.few;
+  rests = rests_one c.args.node.now.items.items c.loop-lock.node c.take_one.new.node c.loop-lock.invariant.rests c.in-Ok.ensures.one;
   later = λ i. (let before = c.loop-lock.invariant.later i in let more = c.in-Ok.ensures.later i in omega (arith, before, more));
 }
 
@@ -42,3 +44,8 @@ returns-in-Err-clause-order g c = so_far_on c.args.node.now c.loop-lock.node c.t
 pub returns-clause-order : goal.returns-clause-order
 returns-clause-order g c =
     so_far_then c.args.node.now.log c.args.node.now.items.items c.loop-lock.node.items.items c.rest_if_any.new.node.items.items (so_far_order c.args.node.now c.loop-lock.node c.loop-lock.invariant.came.order) c.rest_if_any.ensures.homes
+
+pub returns-clause-rests : goal.returns-clause-rests
+returns-clause-rests g c =
+    ok_map c.rest_if_any.result _ _
+    (λ told. rests_due c.args.node.now.items.items c.loop-lock.node.items.items c.rest_if_any.new.node.items.items c.loop-lock.node.flying c.loop-lock.invariant.rests told) c.rest_if_any.ensures.told

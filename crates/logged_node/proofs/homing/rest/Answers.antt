@@ -1,6 +1,9 @@
-use Rattle.std.proofs.Common.{refl, ap, subst, ◌∙◌}
+use Rattle.std.proofs.Common.{List, [], ◌∷◌, ◌++◌, refl, ap, subst, ◌∙◌}
 use Rattle.log_values.specs.Homing.{Settles}
 use Rattle.log_values.specs.Log.{LogValue}
+use Rattle.logged_steps.specs.Points.{Point}
+use Rattle.trace_text.specs.declared.item.TraceItem.{TraceItem}
+use Rattle.trace_text.specs.declared.item.TraceItem.TheVariants as trace
 use Rattle.logged_node.specs.declared.node.Node.{Node}
 use Rattle.logged_node.specs.Homing.{homes_in}
 use Rattle.logged_node.proofs.Homeward.{homes_resting, rested, stops_resting}
@@ -40,3 +43,9 @@ returns-in-Err-put_barrier-clause-homes g c = ap (λ (x : Node). homes_in x.item
 pub returns-clause-homes : goal.returns-clause-homes
 returns-clause-homes g c =
     homes_resting (g.D.SharedDisk.state c.args.disk.now) (g.D.SharedDisk.state c.put_barrier.new.disk) (g.D.SharedDisk.list c.args.disk.now) (g.D.SharedDisk.list c.put_barrier.new.disk) c.args.node.now c.have_room.new.node c.put_barrier.new.node c.put_barrier.new.node c.requires.homing c.have_room.ensures.node c.have_room.ensures.items c.in-Ok-put_barrier.ensures.made
+
+pub returns-clause-told : goal.returns-clause-told
+returns-clause-told g c = ap (λ (x : Point). x.items) c.in-Ok-put_barrier.ensures.made ∙ ap (λ (is : List TraceItem). is ++ trace.Barrier 1 ∷ []) c.have_room.ensures.items
+
+pub returns-clause-flying : goal.returns-clause-flying
+returns-clause-flying g c = ap (λ (x : Node). x.flying) c.in-Ok-put_barrier.ensures.node

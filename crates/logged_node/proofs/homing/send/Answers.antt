@@ -1,11 +1,14 @@
-use Rattle.std.proofs.Common.{None, Some, refl, subst}
+use Rattle.std.proofs.Common.{◌+◌, List, [], ◌∷◌, ◌++◌, None, Some, refl, ap, subst, ◌∙◌}
 use Rattle.log_values.specs.Homing.{HomeAnswer}
 use Rattle.log_values.specs.declared.steps.LogStep.{LogStep}
+use Rattle.logged_steps.specs.Points.{Point}
+use Rattle.trace_text.specs.declared.item.TraceItem.{TraceItem}
 use Rattle.trace_text.specs.declared.item.TraceItem.TheVariants as trace
+use Rattle.logged_node.specs.declared.node.Node.{Node}
 use Rattle.logged_node.proofs.Homeward.{fewer, free, home_answers, inside, one_goes, order_sending, sent, stops_sending}
 use Rattle.logged_node.proofs.Onward.{stops_here}
 use Rattle.logged_node.proofs.Ordering.{so_far_same}
-use Rattle.logged_node.proofs.Carrying.{at_crash, made_both, ok_of_write}
+use Rattle.logged_node.proofs.Carrying.{at_crash, made_both, made_ok, ok_of_write}
 use Rattle.logged_node.proofs.Stepped.{as_long, same_items, with_step}
 use Rattle.logged_node.proofs.homing.send.Goals as goal
 
@@ -65,3 +68,17 @@ returns-clause-order g c =
     (same_items c.args.node.now c.have_room.new.node c.next_home.new.node c.next_home.ensures.node c.have_room.ensures.items) (as_long c.args.node.now c.have_room.new.node c.next_home.new.node c.have_room.ensures.node c.next_home.ensures.long)
     (subst (λ (s : LogStep). HomeAnswer c.args.node.now.log c.next_home.new.node.log c.args.lock c.next_home.new.node.block.items (Some s)) c.in-Write.is (home_answers c.args.node.now c.have_room.new.node c.next_home.new.node c.args.lock (Some c.in-Some.step) c.have_room.ensures.node c.in-Some.ensures.answer))
     c.put_write.result c.requires.next c.put_write.ensures.made c.put_write.ensures.kept
+
+pub returns-clause-told : goal.returns-clause-told
+returns-clause-told g c =
+    ok_of_write c.put_write.result _ _ _ _ _ _
+    (λ made gained node awaits armed. (
+      c.in-Write.block,
+      ap (λ (x : Point). x.items) made ∙ ap (λ (is : List TraceItem). is ++ trace.WriteHome 1 c.in-Write.block ∷ []) (same_items c.args.node.now c.have_room.new.node c.next_home.new.node c.next_home.ensures.node c.have_room.ensures.items),
+    ))
+    c.put_write.ensures.made c.put_write.ensures.gains c.put_write.ensures.node c.put_write.ensures.awaits c.put_write.ensures.armed
+
+pub returns-clause-flying : goal.returns-clause-flying
+returns-clause-flying g c =
+    made_ok c.put_write.result _ _
+    (λ node. ap (λ (x : Node). x.flying) node ∙ ap (λ (x : Node). x.flying + 1) (with_step c.args.node.now c.have_room.new.node c.next_home.new.node c.have_room.ensures.node c.next_home.ensures.node)) c.put_write.ensures.node

@@ -1,10 +1,10 @@
 use Rattle.std.proofs.Common.{ℕ, Option, refl, subst}
 use Rattle.logged_node.specs.Leaving.{at_first, bringing_in, going_home}
 use Rattle.logged_node.specs.Nodes.{StopsByCrash}
-use Rattle.logged_node.proofs.Unmounting.{goes_leaving, has_left, is_ready, leaves_flushed, leaves_here, leaves_left, leaves_ready, left_with_all, result_both, rests_leaving, stops_first}
-use Rattle.logged_node.proofs.Ended.{cause_of_all, goes_behind}
+use Rattle.logged_node.proofs.Unmounting.{crashes_flushed, goes_leaving, has_left, is_ready, leaves_flushed, leaves_here, leaves_left, leaves_ready, left_with_all, result_both, rests_leaving, stops_first}
+use Rattle.logged_node.proofs.Ended.{cause_of_all}
 use Rattle.logged_node.proofs.Onward.{map_err}
-use Rattle.logged_node.proofs.Carrying.{ok_map}
+use Rattle.logged_node.proofs.Carrying.{ok_both}
 use Rattle.logged_node.proofs.leaving.make_ready.Goals as goal
 
 -- it couldn't even leave
@@ -38,9 +38,9 @@ returns-in-Err-bring_in-clause-crashes g c =
 
 pub returns-clause-ready : goal.returns-clause-ready
 returns-clause-ready g c =
-    ok_map c.go_home.result _ _
-    (λ home. is_ready (g.D.SharedDisk.state c.args.disk.now) (g.D.SharedDisk.state c.bring_in.new.disk) (g.D.SharedDisk.state c.go_home.new.disk) (g.D.SharedDisk.list c.args.disk.now) (g.D.SharedDisk.list c.bring_in.new.disk) (g.D.SharedDisk.list c.go_home.new.disk) c.args.node.now c.leave.new.node c.bring_in.new.node c.go_home.new.node (goes_leaving (g.D.SharedDisk.state c.args.disk.now) (g.D.SharedDisk.list c.args.disk.now) c.args.node.now c.leave.new.node c.requires.resting c.requires.mounted c.in-Ok.ensures.left c.in-Ok.ensures.item) (has_left c.args.node.now c.leave.new.node c.in-Ok.ensures.left c.in-Ok.ensures.item) c.in-Ok-bring_in.ensures.brought c.in-Ok-bring_in.ensures.sent home)
-    c.go_home.ensures.home
+    ok_both c.go_home.result _ _ _ _
+    (λ home rests _. is_ready (g.D.SharedDisk.state c.args.disk.now) (g.D.SharedDisk.state c.bring_in.new.disk) (g.D.SharedDisk.state c.go_home.new.disk) (g.D.SharedDisk.list c.args.disk.now) (g.D.SharedDisk.list c.bring_in.new.disk) (g.D.SharedDisk.list c.go_home.new.disk) c.args.node.now c.leave.new.node c.bring_in.new.node c.go_home.new.node (goes_leaving (g.D.SharedDisk.state c.args.disk.now) (g.D.SharedDisk.list c.args.disk.now) c.args.node.now c.leave.new.node c.requires.resting c.requires.mounted c.in-Ok.ensures.left c.in-Ok.ensures.item) (has_left c.args.node.now c.leave.new.node c.in-Ok.ensures.left c.in-Ok.ensures.item) c.in-Ok-bring_in.ensures.brought c.in-Ok-bring_in.ensures.sent home rests)
+    c.go_home.ensures.home c.go_home.ensures.rests c.go_home.ensures.rests
 
 pub returns-clause-stopped : goal.returns-clause-stopped
 returns-clause-stopped g c =
@@ -52,15 +52,14 @@ returns-clause-stopped g c =
 pub returns-clause-ends : goal.returns-clause-ends
 returns-clause-ends g c =
     result_both c.go_home.result _ _ _
-    (λ home. leaves_ready (g.D.SharedDisk.state c.args.disk.now) (g.D.SharedDisk.state c.go_home.new.disk) (g.D.SharedDisk.list c.args.disk.now) (g.D.SharedDisk.list c.go_home.new.disk) c.args.node.now c.go_home.new.node
-    (is_ready (g.D.SharedDisk.state c.args.disk.now) (g.D.SharedDisk.state c.bring_in.new.disk) (g.D.SharedDisk.state c.go_home.new.disk) (g.D.SharedDisk.list c.args.disk.now) (g.D.SharedDisk.list c.bring_in.new.disk) (g.D.SharedDisk.list c.go_home.new.disk) c.args.node.now c.leave.new.node c.bring_in.new.node c.go_home.new.node (goes_leaving (g.D.SharedDisk.state c.args.disk.now) (g.D.SharedDisk.list c.args.disk.now) c.args.node.now c.leave.new.node c.requires.resting c.requires.mounted c.in-Ok.ensures.left c.in-Ok.ensures.item) (has_left c.args.node.now c.leave.new.node c.in-Ok.ensures.left c.in-Ok.ensures.item) c.in-Ok-bring_in.ensures.brought c.in-Ok-bring_in.ensures.sent home))
+    (λ both. leaves_ready (g.D.SharedDisk.state c.args.disk.now) (g.D.SharedDisk.state c.go_home.new.disk) (g.D.SharedDisk.list c.args.disk.now) (g.D.SharedDisk.list c.go_home.new.disk) c.args.node.now c.go_home.new.node
+    (is_ready (g.D.SharedDisk.state c.args.disk.now) (g.D.SharedDisk.state c.bring_in.new.disk) (g.D.SharedDisk.state c.go_home.new.disk) (g.D.SharedDisk.list c.args.disk.now) (g.D.SharedDisk.list c.bring_in.new.disk) (g.D.SharedDisk.list c.go_home.new.disk) c.args.node.now c.leave.new.node c.bring_in.new.node c.go_home.new.node (goes_leaving (g.D.SharedDisk.state c.args.disk.now) (g.D.SharedDisk.list c.args.disk.now) c.args.node.now c.leave.new.node c.requires.resting c.requires.mounted c.in-Ok.ensures.left c.in-Ok.ensures.item) (has_left c.args.node.now c.leave.new.node c.in-Ok.ensures.left c.in-Ok.ensures.item) c.in-Ok-bring_in.ensures.brought c.in-Ok-bring_in.ensures.sent both.0 both.1))
     (λ why stops. leaves_flushed (g.D.SharedDisk.state c.args.disk.now) (g.D.SharedDisk.state c.bring_in.new.disk) (g.D.SharedDisk.state c.go_home.new.disk) (g.D.SharedDisk.list c.args.disk.now) (g.D.SharedDisk.list c.bring_in.new.disk) (g.D.SharedDisk.list c.go_home.new.disk) c.args.node.now c.leave.new.node c.bring_in.new.node c.go_home.new.node.items.items why (goes_leaving (g.D.SharedDisk.state c.args.disk.now) (g.D.SharedDisk.list c.args.disk.now) c.args.node.now c.leave.new.node c.requires.resting c.requires.mounted c.in-Ok.ensures.left c.in-Ok.ensures.item) (has_left c.args.node.now c.leave.new.node c.in-Ok.ensures.left c.in-Ok.ensures.item) c.in-Ok-bring_in.ensures.brought stops)
-    c.go_home.ensures.home c.go_home.ensures.stopped
+    (ok_both c.go_home.result _ _ _ (_ × _) (λ home rests _. (home, rests)) c.go_home.ensures.home c.go_home.ensures.rests c.go_home.ensures.rests) c.go_home.ensures.stopped
 
 pub returns-clause-crashes : goal.returns-clause-crashes
 returns-clause-crashes g c =
-    let both = goes_behind (g.D.SharedDisk.state c.args.disk.now) (g.D.SharedDisk.state c.args.disk.now) (g.D.SharedDisk.state c.bring_in.new.disk) (g.D.SharedDisk.list c.args.disk.now) (g.D.SharedDisk.list c.args.disk.now) (g.D.SharedDisk.list c.bring_in.new.disk) c.args.node.now c.leave.new.node c.bring_in.new.node (goes_leaving (g.D.SharedDisk.state c.args.disk.now) (g.D.SharedDisk.list c.args.disk.now) c.args.node.now c.leave.new.node c.requires.resting c.requires.mounted c.in-Ok.ensures.left c.in-Ok.ensures.item) c.in-Ok-bring_in.ensures.brought.goes in
-    map_err c.go_home.result _ _ (λ why stops. subst (λ (x : Option ℕ). StopsByCrash x c.go_home.new.node.items.items why) both.armed stops.crashes) c.go_home.ensures.stopped
+    map_err c.go_home.result _ _ (λ why stops. crashes_flushed (g.D.SharedDisk.state c.args.disk.now) (g.D.SharedDisk.state c.bring_in.new.disk) (g.D.SharedDisk.state c.go_home.new.disk) (g.D.SharedDisk.list c.args.disk.now) (g.D.SharedDisk.list c.bring_in.new.disk) (g.D.SharedDisk.list c.go_home.new.disk) c.args.node.now c.leave.new.node c.bring_in.new.node c.go_home.new.node.items.items why (goes_leaving (g.D.SharedDisk.state c.args.disk.now) (g.D.SharedDisk.list c.args.disk.now) c.args.node.now c.leave.new.node c.requires.resting c.requires.mounted c.in-Ok.ensures.left c.in-Ok.ensures.item) c.in-Ok-bring_in.ensures.brought stops) c.go_home.ensures.stopped
 
 pub returns-clause-cause : goal.returns-clause-cause
 returns-clause-cause g c =
