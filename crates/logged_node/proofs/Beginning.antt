@@ -24,8 +24,8 @@ use Rattle.shared_disk.specs.Disk.{DiskState, Operation, flight_to}
 use Rattle.trace_text.specs.declared.item.TraceItem.{TraceItem}
 use Rattle.logged_node.specs.declared.ends.Stop.{Stop}
 use Rattle.logged_node.specs.declared.node.Node.{Node}
-use Rattle.logged_node.specs.Ends.{IfCrashed, IfFailed, IfMade}
-use Rattle.logged_node.specs.Flushing.{CanFlush, FailsAt, HasBegun, HasNoRoom, HasNothingToFlush, IsAsItWas, IsCarried, IsFlushing, MayCarry, number_of, of_all, of_none}
+use Rattle.logged_node.specs.Ends.{FailedAt, IfCrashed, IfFailed, IfMade}
+use Rattle.logged_node.specs.Flushing.{CanFlush, FailsAt, HasBegun, HasNoRoom, HasNothingToFlush, IsAsItWas, IsCarried, IsFlushing, MayCarry, block_of, number_of, of_all, of_none}
 use Rattle.logged_node.specs.Homing.{homes_in}
 use Rattle.logged_node.specs.Nodes.{Awaits, IsAtCrash, IsLogOf, IsNodeOn, IsResting, IsSmall, KeepsView, NoneGoesHome, StopsBehind, crash_at, point_of}
 use Rattle.logged_node.proofs.Blocks.{blocks_begin, none_some, some_same}
@@ -223,10 +223,10 @@ module _ (law : WidthsAreNumbers) (d d' : DiskState) (l l' : Option (List Operat
   }
 
   pub stops_beginning : (r : Result (Unit {0}) Stop) → IfMade r Carried → IfErr r (λ why. IfCrashed why (IsAtCrash (crash_at m) n'.items.items)) → IfErr r (λ why. IfFailed why (FailsAt m.block.items (point_of d l m) d' l' s))
-      → IfErr r (λ why. IfFailed why (n'.items.items ≡ m.items.items)) → IfErr r (λ why. StopsBehind d l n d' l' n'.items.items why)
-  stops_beginning r done crashed failed kept =
+      → IfErr r (λ why. FailedAt why (block_of s)) → IfErr r (λ why. IfFailed why (n'.items.items ≡ m.items.items)) → IfErr r (λ why. StopsBehind d l n d' l' n'.items.items why)
+  stops_beginning r done crashed failed failed_at kept =
       map_err r (StopsBehind d l one d' l' n'.items.items) (StopsBehind d l n d' l' n'.items.items) (λ why stops. stops_on d d d' l l l' n one n'.items.items why its_begin.steps refl (kept_begun d l n rest its_start.first (number_of n.numbers s) its_start.begins) stops)
-      (onward.stops law n d d' l l' one m n' its_start.flush s flushing more_still m_is items long its_start.made r done crashed failed kept)
+      (onward.stops law n d d' l l' one m n' its_start.flush s flushing more_still m_is items long its_start.made r done crashed failed failed_at kept)
 
   pub homes_beginning : (r : Result (Unit {0}) Stop) → IfMade r Carried → IfErr r (λ why. IfFailed why (n'.items.items ≡ m.items.items)) → homes_in n'.items.items ≡ homes_in n.items.items
   homes_beginning r done kept = onward.homes law n d d' l l' one m n' its_start.flush s flushing more_still m_is items long its_start.made r done kept

@@ -31,7 +31,7 @@ use Rattle.logged_node.specs.declared.ends.Stop.{Stop}
 use Rattle.logged_node.specs.declared.ends.Stop.TheVariants as stop
 use Rattle.logged_node.specs.declared.node.Node.{Node}
 use Rattle.logged_node.specs.Deeds.{MayBeWritten, a_write, no_write}
-use Rattle.logged_node.specs.Ends.{IfCrashed, IfFailed, IfMade, IsOfDisk}
+use Rattle.logged_node.specs.Ends.{FailedAt, IfCrashed, IfFailed, IfMade, IsOfDisk}
 use Rattle.logged_node.specs.Homing.{GoesHomeward, HasGoneHome, IsHoming, MovesHome, SentSoFar, at_home, homes_in, waiting}
 use Rattle.logged_node.specs.Nodes.{Awaits, IsAtCrash, IsLogOf, IsNodeOn, IsResting, KeepsView, NoneGoesHome, StopsBehind, crash_at, crash_of, point_of}
 use Rattle.logged_node.proofs.Arming.{before_still, crash_stays}
@@ -39,7 +39,7 @@ use Rattle.logged_node.proofs.Blocks.{none_some, was_settled}
 use Rattle.logged_node.proofs.Disks.{flies_elsewhere, flies_some, length_with, same_barrier, same_disk, same_written}
 use Rattle.logged_node.proofs.Ended.{goes_behind}
 use Rattle.logged_node.proofs.Going.{on_still, small_on}
-use Rattle.logged_node.proofs.Onward.{FailsThere, as_it_was, if_crashed, if_failed, kept_here, map_err, stops_at}
+use Rattle.logged_node.proofs.Onward.{FailsThere, as_it_was, if_crashed, if_failed, kept_here, left_same, map_err, stops_at}
 use Rattle.logged_node.proofs.Ordering.{homes_more, order_none, order_on, order_sent, order_settled, so_far_same, so_far_sent}
 use Rattle.logged_node.proofs.Waiting.{one_fewer}
 
@@ -209,11 +209,12 @@ module _ (d d' : DiskState) (l l' : Option (List Operation)) (n m n' : Node) (lo
   steps : Written × Gained → (time : ℕ) → Steps time p (point_of d' l' n')
   steps both time = sends (point_of d' l' n') (q_is both.0) both.1 time
 
-  fails : MayBeWritten d l b bytes d' l' → FailsThere p d' l'
-  fails (no_write is same) = as_it_was p d' l' is same
+  fails : MayBeWritten d l b bytes d' l' → FailsThere p d' l' (Some b)
+  fails (no_write is same) = as_it_was p d' l' (Some b) is same
   fails (a_write is gains) = record {
     left = record p { disk = after_write d 1 b bytes; list = l'; log = m.log };
     fails = λ time. InAWrite b bytes l' m.log (trace.WriteHome 1 b) refl (GoesHome refl m.log lock b bytes l' answer (record { inside = inside; whole = long ∙ at.on.block; free = free }) gains);
+    exactly = inr (bytes, refl);
     disk = sym is;
     listed = refl;
     told = refl;
@@ -234,10 +235,11 @@ module _ (d d' : DiskState) (l l' : Option (List Operation)) (n m n' : Node) (lo
   armed_still = ap₂ crash_of (ap (λ (x : Node). x.armed) m_is) items
 
   pub stops_sending : (r : Result (Unit {0}) Stop) → IfMade r (Written × Gained) → IfErr r (λ why. IfCrashed why (IsAtCrash (crash_at m) n'.items.items)) → IfErr r (λ why. IfFailed why (MayBeWritten d l b bytes d' l'))
-      → IfErr r (λ why. IfFailed why (n'.items.items ≡ m.items.items)) → IfErr r (λ why. StopsBehind d l n d' l' n'.items.items why)
-  stops_sending r made crashed failed kept = stops_at d d' l l' n n' r (Written × Gained) steps keeps at.on.awaits made
+      → IfErr r (λ why. FailedAt why (Some b)) → IfErr r (λ why. IfFailed why (n'.items.items ≡ m.items.items)) → IfErr r (λ why. StopsBehind d l n d' l' n'.items.items why)
+  stops_sending r made crashed failed failed_at kept = stops_at d d' l l' n n' r (Written × Gained) steps keeps at.on.awaits (Some b) made
       (map_err r _ _ (λ why. if_crashed (IsAtCrash (crash_at m) n'.items.items) (IsAtCrash (crash_at n) n'.items.items) (λ is. subst (λ (c : Option ℕ). IsAtCrash c n'.items.items) armed_still is) why) crashed)
-      (map_err r _ _ (λ why. if_failed (MayBeWritten d l b bytes d' l') (FailsThere p d' l') fails why) failed)
+      (map_err r _ _ (λ why. if_failed (MayBeWritten d l b bytes d' l') (FailsThere p d' l' (Some b)) fails why) failed)
+      failed_at
       (map_err r _ _ (λ why. if_failed (n'.items.items ≡ m.items.items) (n'.items.items ≡ n.items.items) (λ is. is ∙ items) why) kept)
 
   pub order_sending : (r : Result (Unit {0}) Stop) → IsNextLock n.log lock → IfMade r Written → IfErr r (λ why. IfFailed why (n'.items.items ≡ m.items.items)) → SentSoFar n.log n.items.items n'.items.items
@@ -331,7 +333,7 @@ module _ (d d' : DiskState) (l l' : Option (List Operation)) (n m k n' : Node) (
     left = point_of d l n;
     steps = λ time. Here;
     fails = λ time. AsItWas;
-    exactly = tt;
+    exactly = left_same (point_of d l n) block;
     disk = sym disk;
     listed = sym list;
     told = sym (ap (λ (x : Node). x.items.items) same ∙ items);

@@ -1,5 +1,5 @@
 -- A step of a flush that was carried out: it is one of the node's steps, and the flush has come on; and how a node stops at it.
-use Rattle.std.proofs.Common.{◌≡◌, ◌≤◌, ◌<◌, ◌+◌, ◌^◌, ℕ, suc, List, [], ◌∷◌, length, Option, None, Some, Ok, Err, refl, sym, ap, ap₂, subst, ◌∙◌, arith}
+use Rattle.std.proofs.Common.{◌≡◌, ◌≤◌, ◌<◌, ◌+◌, ◌^◌, ℕ, suc, inl, inr, List, [], ◌∷◌, length, Option, None, Some, Ok, Err, refl, sym, ap, ap₂, subst, ◌∙◌, arith}
 use Rattle.std.specs.Prelude.{IfErr, Result}
 use Rattle.std.proofs.Math.Nat.{mod-eq_of_lt}
 use Rattle.log_rings.specs.Laws.{HasNumbers}
@@ -23,11 +23,11 @@ use Rattle.logged_node.specs.declared.ends.Stop.{Stop}
 use Rattle.logged_node.specs.declared.ends.Stop.TheVariants as stop
 use Rattle.logged_node.specs.declared.node.Node.{Node}
 use Rattle.logged_node.specs.Deeds.{a_write, no_write}
-use Rattle.logged_node.specs.Ends.{IfCrashed, IfFailed, IfMade}
-use Rattle.logged_node.specs.Flushing.{FailsAt, HasComeTo, IsCarried, IsFlushing, MayCarry, steps_left}
+use Rattle.logged_node.specs.Ends.{FailedAt, IfCrashed, IfFailed, IfMade}
+use Rattle.logged_node.specs.Flushing.{FailsAt, HasComeTo, IsCarried, IsFlushing, MayCarry, block_of, steps_left}
 use Rattle.logged_node.specs.Flushing as carried
 use Rattle.logged_node.specs.Homing.{homes_in}
-use Rattle.logged_node.specs.Nodes.{Awaits, IsAtCrash, IsLogOf, IsNodeOn, IsSameDisk, KeepsCallsAt, KeepsView, StopsBehind, StopsByCrash, crash_at, crash_of, point_of}
+use Rattle.logged_node.specs.Nodes.{Awaits, IsAtCrash, IsLeftBy, IsLogOf, IsNodeOn, IsSameDisk, KeepsCallsAt, KeepsView, StopsBehind, StopsByCrash, crash_at, crash_of, point_of}
 use Rattle.logged_node.proofs.Arming.{before_still}
 use Rattle.logged_node.proofs.Blocks.{blocks_go_on, none_some}
 use Rattle.logged_node.proofs.Carried.{steps_by}
@@ -149,23 +149,28 @@ stops_here d l n items why awaits is same = subst (StopsBehind d l n d l items) 
   crashes = before_still n.armed n.items.items items awaits same;
 })
 
--- the point where a write failed, on the disk that is left
-pub record FailsThere (p : Point) (d : DiskState) (l : Option (List Operation)) : Type 0 where
+-- the point where a write of this block failed, or a barrier, on the disk that is left
+pub record FailsThere (p : Point) (d : DiskState) (l : Option (List Operation)) (at : Option ℕ) : Type 0 where
   pub left : Point
   pub fails : (time : ℕ) → FailsTo time p left
+  pub exactly : IsLeftBy p left at
   pub disk : left.disk ≡ d
   pub listed : left.list ≡ l
   pub told : left.items ≡ p.items
 
-pub as_it_was : (p : Point) (d : DiskState) (l : Option (List Operation)) → d ≡ p.disk → l ≡ p.list → FailsThere p d l
-as_it_was p d l disk list = record { left = p; fails = λ time. AsItWas; disk = sym disk; listed = sym list; told = refl }
+pub left_same : (p : Point) (at : Option ℕ) → IsLeftBy p p at
+left_same p None = refl
+left_same p (Some b) = inl refl
+
+pub as_it_was : (p : Point) (d : DiskState) (l : Option (List Operation)) (at : Option ℕ) → d ≡ p.disk → l ≡ p.list → FailsThere p d l at
+as_it_was p d l at disk list = record { left = p; fails = λ time. AsItWas; exactly = left_same p at; disk = sym disk; listed = sym list; told = refl }
 
 -- At a deed: where it was made, and it crashed behind it, that is a step; where the disk failed, it stays where it was.
-pub stops_at : (d d' : DiskState) (l l' : Option (List Operation)) (n n' : Node) (r : Result (Unit {0}) Stop) (made : Type 0) → (made → (time : ℕ) → Steps time (point_of d l n) (point_of d' l' n')) → (made → KeepsView n n') → Awaits n.armed
-    → IfMade r made → IfErr r (λ why. IfCrashed why (IsAtCrash (crash_at n) n'.items.items)) → IfErr r (λ why. IfFailed why (FailsThere (point_of d l n) d' l')) → IfErr r (λ why. IfFailed why (n'.items.items ≡ n.items.items))
+pub stops_at : (d d' : DiskState) (l l' : Option (List Operation)) (n n' : Node) (r : Result (Unit {0}) Stop) (made : Type 0) → (made → (time : ℕ) → Steps time (point_of d l n) (point_of d' l' n')) → (made → KeepsView n n') → Awaits n.armed → (at : Option ℕ)
+    → IfMade r made → IfErr r (λ why. IfCrashed why (IsAtCrash (crash_at n) n'.items.items)) → IfErr r (λ why. IfFailed why (FailsThere (point_of d l n) d' l' at)) → IfErr r (λ why. FailedAt why at) → IfErr r (λ why. IfFailed why (n'.items.items ≡ n.items.items))
     → IfErr r (λ why. StopsBehind d l n d' l' n'.items.items why)
-stops_at d d' l l' n n' (Ok _) made steps keeps awaits done crashed failed kept = tt
-stops_at d d' l l' n n' (Err stop.Crashed) made steps keeps awaits done crashed failed kept = record {
+stops_at d d' l l' n n' (Ok _) made steps keeps awaits at done crashed failed failed_at kept = tt
+stops_at d d' l l' n n' (Err stop.Crashed) made steps keeps awaits at done crashed failed failed_at kept = record {
   last = point_of d' l' n';
   left = point_of d' l' n';
   steps = steps done;
@@ -178,12 +183,12 @@ stops_at d d' l l' n n' (Err stop.Crashed) made steps keeps awaits done crashed 
   unmounts = (keeps done).unmounts;
   crashes = crashed;
 }
-stops_at d d' l l' n n' (Err (stop.DiskFailed block rise)) made steps keeps awaits done crashed failed kept = record {
+stops_at d d' l l' n n' (Err (stop.DiskFailed block rise)) made steps keeps awaits at done crashed failed failed_at kept = record {
   last = point_of d l n;
   left = failed.left;
   steps = λ time. Here;
   fails = failed.fails;
-  exactly = tt;
+  exactly = subst (IsLeftBy (point_of d l n) failed.left) (sym failed_at) failed.exactly;
   disk = failed.disk;
   listed = failed.listed;
   told = failed.told ∙ sym kept;
@@ -191,7 +196,7 @@ stops_at d d' l l' n n' (Err (stop.DiskFailed block rise)) made steps keeps awai
   unmounts = refl;
   crashes = before_still n.armed n.items.items n'.items.items awaits kept;
 }
-stops_at d d' l l' n n' (Err stop.NoMemory) made steps keeps awaits done crashed failed kept = absurd done
+stops_at d d' l l' n n' (Err stop.NoMemory) made steps keeps awaits at done crashed failed failed_at kept = absurd done
 
 -- facts of an end, one from another
 pub map_err : (r : Result (Unit {0}) Stop) (P Q : Stop → Type 0) → ((why : Stop) → P why → Q why) → IfErr r P → IfErr r Q
@@ -260,38 +265,41 @@ module _ (law : WidthsAreNumbers) (start : Node) (d d' : DiskState) (l l' : Opti
   abbrev left_by : ℕ → Point
   left_by b = record p { disk = after_write d 1 b m.block.items; list = l'; log = m.log }
 
-  fails : FailsAt m.block.items (point_of d l m) d' l' s → FailsThere p d' l'
+  fails : FailsAt m.block.items (point_of d l m) d' l' s → FailsThere p d' l' (block_of s)
   fails = by s made may
     where
-      by : (t : LogStep) → FlushStep n.log m.log f m.block.items t → MayCarry d t → FailsAt m.block.items (point_of d l m) d' l' t → FailsThere p d' l'
-      by (step.Write b) made _ (no_write is same) = as_it_was p d' l' is same
+      by : (t : LogStep) → FlushStep n.log m.log f m.block.items t → MayCarry d t → FailsAt m.block.items (point_of d l m) d' l' t → FailsThere p d' l' (block_of t)
+      by (step.Write b) made _ (no_write is same) = as_it_was p d' l' (Some b) is same
       by (step.Write b) made may (a_write is gains) = record {
         left = left_by b;
         fails = λ time. InAWrite b m.block.items l' m.log (trace.WriteLog 1 b) refl (WritesLog m.log f b m.block.items l' at.is its_numbers made (record { inside = may.0; whole = long ∙ at.on.block; free = may.1 }) gains);
+        exactly = inr (m.block.items, refl);
         disk = sym is;
         listed = refl;
         told = refl;
       }
-      by (step.Head b sequence) made _ (no_write is same) = as_it_was p d' l' is same
+      by (step.Head b sequence) made _ (no_write is same) = as_it_was p d' l' (Some b) is same
       by (step.Head b sequence) made may (a_write is gains) = record {
         left = left_by b;
         fails = λ time. InAWrite b m.block.items l' m.log (trace.WriteHead 1 b sequence p.numbers.begun) refl
             (WritesHead m.log f b sequence m.block.items l' at.is its_numbers made (record { inside = may.0; whole = long ∙ at.on.block; free = may.1 }) gains);
+        exactly = inr (m.block.items, refl);
         disk = sym is;
         listed = refl;
         told = refl;
       }
-      by step.Barrier made _ both = as_it_was p d' l' both.0 both.1
+      by step.Barrier made _ both = as_it_was p d' l' None both.0 both.1
       by step.NoRoom made _ never = absurd never
 
   pub armed_still : crash_at m ≡ crash_at n
   armed_still = ap₂ crash_of (ap (λ (x : Node). x.armed) m_is) items
 
   pub stops : (r : Result (Unit {0}) Stop) → IfMade r Carried → IfErr r (λ why. IfCrashed why (IsAtCrash (crash_at m) n'.items.items)) → IfErr r (λ why. IfFailed why (FailsAt m.block.items (point_of d l m) d' l' s))
-      → IfErr r (λ why. IfFailed why (n'.items.items ≡ m.items.items)) → IfErr r (λ why. StopsBehind d l n d' l' n'.items.items why)
-  stops r done crashed failed kept = stops_at d d' l l' n n' r Carried steps keeps at.on.awaits done
+      → IfErr r (λ why. FailedAt why (block_of s)) → IfErr r (λ why. IfFailed why (n'.items.items ≡ m.items.items)) → IfErr r (λ why. StopsBehind d l n d' l' n'.items.items why)
+  stops r done crashed failed failed_at kept = stops_at d d' l l' n n' r Carried steps keeps at.on.awaits (block_of s) done
       (map_err r _ _ (λ why. if_crashed (IsAtCrash (crash_at m) n'.items.items) (IsAtCrash (crash_at n) n'.items.items) (λ is. subst (λ (c : Option ℕ). IsAtCrash c n'.items.items) armed_still is) why) crashed)
-      (map_err r _ _ (λ why. if_failed (FailsAt m.block.items (point_of d l m) d' l' s) (FailsThere p d' l') fails why) failed)
+      (map_err r _ _ (λ why. if_failed (FailsAt m.block.items (point_of d l m) d' l' s) (FailsThere p d' l' (block_of s)) fails why) failed)
+      failed_at
       (map_err r _ _ (λ why. if_failed (n'.items.items ≡ m.items.items) (n'.items.items ≡ n.items.items) (λ is. is ∙ items) why) kept)
 
   module _ (n'_is : n' ≡ record m { items = n'.items; flying = n'.flying; numbers = record m.numbers { low = n'.numbers.low }; armed = n'.armed }) (flying : n'.flying ≡ length (d'.in_flight 1)) (awaits : Awaits n'.armed) (done : Carried) where

@@ -26,7 +26,7 @@ use Rattle.logged_node.specs.declared.ends.Stop.{Stop}
 use Rattle.logged_node.specs.declared.ends.Stop.TheVariants as stop
 use Rattle.logged_node.specs.declared.node.Node.{Node}
 use Rattle.logged_node.specs.Deeds.{MayBeWritten, a_write, no_write}
-use Rattle.logged_node.specs.Ends.{IfCrashed, IfFailed, IfMade, IsOfDisk}
+use Rattle.logged_node.specs.Ends.{FailedAt, IfCrashed, IfFailed, IfMade, IsOfDisk}
 use Rattle.logged_node.specs.Flushing.{GoesBySteps}
 use Rattle.logged_node.specs.Homing.{HasGoneHome, RestsAsDue}
 use Rattle.logged_node.specs.Leaving.{FliesLastHeader, HasLastHeader, HasLeft, HasLeftWithAll, IsReady, LeavesBySteps, StopsAtHeader, before_it, behind_it, in_it}
@@ -177,22 +177,22 @@ module _ (d e f : DiskState) (l k h : Option (List Operation)) (n m : Node) (ite
   by_point left ends disk listed told = record { last = point_of e k m; left = left; steps = ready.goes.steps; ends = ends; disk = disk; listed = listed; told = told; kept = ready_kept d e l k n m ready }
 
   pub leaves_stopped : (why : Stop) → StopsAtHeader (point_of e k m) (crash_at n) f h items why → LeavesBySteps d l n f h items
-  leaves_stopped why (before_it is listed told off before) = by_point (point_of e k m) (λ time. inl AsItWas) (sym is) (sym listed) (sym told)
-  leaves_stopped why (in_it bytes flies told of before) = by_point _ (λ time. inr (Unsaid bytes h flies.flies)) (sym flies.disk) refl (sym told)
-  leaves_stopped why (behind_it bytes flies told off crashes) = by_point _ (λ time. inr (Said bytes h flies.flies)) (sym flies.disk) refl (sym told)
+  leaves_stopped why (before_it is listed told off failed_at before) = by_point (point_of e k m) (λ time. inl AsItWas) (sym is) (sym listed) (sym told)
+  leaves_stopped why (in_it bytes flies told of failed_at before) = by_point _ (λ time. inr (Unsaid bytes h flies.flies)) (sym flies.disk) refl (sym told)
+  leaves_stopped why (behind_it bytes flies told off failed_at crashes) = by_point _ (λ time. inr (Said bytes h flies.flies)) (sym flies.disk) refl (sym told)
 
   pub leaves_ended : HasLastHeader (point_of e k m) f h items → LeavesBySteps d l n f h items
   leaves_ended has = by_point _ (λ time. inr (Landed has.bytes h has.flies.flies)) (ap (λ (x : DiskState). after_barrier x 1) (sym has.flies.disk) ∙ sym has.disk) refl (sym has.tells)
 
 -- where it is behind its write
 pub header_crashes : (last : Point) (crash : Option ℕ) (f : DiskState) (h : Option (List Operation)) (items : List TraceItem) (why : Stop) → StopsAtHeader last crash f h items why → StopsByCrash crash items why
-header_crashes last crash f h items stop.Crashed (before_it is listed told off before) = absurd (off refl)
-header_crashes last crash f h items (stop.DiskFailed block rise) (before_it is listed told off before) = before
-header_crashes last crash f h items stop.NoMemory (before_it is listed told off before) = before
-header_crashes last crash f h items stop.Crashed (in_it bytes flies told of before) = absurd of
-header_crashes last crash f h items (stop.DiskFailed block rise) (in_it bytes flies told of before) = before
-header_crashes last crash f h items stop.NoMemory (in_it bytes flies told of before) = before
-header_crashes last crash f h items why (behind_it bytes flies told off crashes) = crashes
+header_crashes last crash f h items stop.Crashed (before_it is listed told off failed_at before) = absurd (off refl)
+header_crashes last crash f h items (stop.DiskFailed block rise) (before_it is listed told off failed_at before) = before
+header_crashes last crash f h items stop.NoMemory (before_it is listed told off failed_at before) = before
+header_crashes last crash f h items stop.Crashed (in_it bytes flies told of failed_at before) = absurd of
+header_crashes last crash f h items (stop.DiskFailed block rise) (in_it bytes flies told of failed_at before) = before
+header_crashes last crash f h items stop.NoMemory (in_it bytes flies told of failed_at before) = before
+header_crashes last crash f h items why (behind_it bytes flies told off failed_at crashes) = crashes
 
 pub header_next : (d e : DiskState) (l k : Option (List Operation)) (n m : Node) (bytes : List ℕ) → IsReady d l n e k m → FliesClean (point_of e k m) bytes → after m.log.sequence ≤ n.log.sequence + 3
 header_next d e l k n m bytes ready flies = (let next : after m.log.sequence ≡ m.log.sequence + 1 = mod-eq_of_lt flies.is.more in let few = ready.sequence in omega (arith, next, few))
@@ -287,12 +287,12 @@ module _ (d d' : DiskState) (l l' : Option (List Operation)) (n r m n' : Node) (
   before_still_here items is = before_still n.armed n.items.items items rest.on.awaits (is ∙ m_items)
 
   -- it stops in the write of the header
-  pub stops_writing : (why : Stop) → IfMade (Err why) Wrote → IfMade (Err why) Gained → IfCrashed why (crash_at m ≡ Some (writes_in n'.items.items)) → IfFailed why (MayBeWritten d l b bytes d' l') → IfFailed why (n'.items.items ≡ m.items.items)
+  pub stops_writing : (why : Stop) → IfMade (Err why) Wrote → IfMade (Err why) Gained → IfCrashed why (crash_at m ≡ Some (writes_in n'.items.items)) → IfFailed why (MayBeWritten d l b bytes d' l') → FailedAt why (Some b) → IfFailed why (n'.items.items ≡ m.items.items)
       → StopsAtHeader p (crash_at n) d' l' n'.items.items why
-  stops_writing stop.Crashed wrote gained crashed failed kept = behind_it bytes (flies_now wrote gained) (items_now wrote) (λ e. (cc)) (record { before = n.items.items; it = clean_item p; told = items_now wrote; write = refl; is = sym armed_still ∙ crashed })
-  stops_writing (stop.DiskFailed block rise) wrote gained crashed (no_write is told) kept = before_it is told (kept ∙ m_items) (λ e. (cc)) (before_still_here n'.items.items kept)
-  stops_writing (stop.DiskFailed block rise) wrote gained crashed (a_write is told) kept = in_it bytes (flies_by is told) (kept ∙ m_items) tt (before_still_here n'.items.items kept)
-  stops_writing stop.NoMemory wrote gained crashed failed kept = absurd wrote
+  stops_writing stop.Crashed wrote gained crashed failed failed_at kept = behind_it bytes (flies_now wrote gained) (items_now wrote) (λ e. (cc)) tt (record { before = n.items.items; it = clean_item p; told = items_now wrote; write = refl; is = sym armed_still ∙ crashed })
+  stops_writing (stop.DiskFailed block rise) wrote gained crashed (no_write is told) failed_at kept = before_it is told (kept ∙ m_items) (λ e. (cc)) (failed_at ∙ ap (λ (x : ℕ). Some x) b_at) (before_still_here n'.items.items kept)
+  stops_writing (stop.DiskFailed block rise) wrote gained crashed (a_write is told) failed_at kept = in_it bytes (flies_by is told) (kept ∙ m_items) tt (failed_at ∙ ap (λ (x : ℕ). Some x) b_at) (before_still_here n'.items.items kept)
+  stops_writing stop.NoMemory wrote gained crashed failed failed_at kept = absurd wrote
 
   -- and behind it, in the barrier
   module _ (d2 : DiskState) (l2 : Option (List Operation)) (n2 : Node) (wrote : Wrote) (gained : Gained) where
@@ -313,14 +313,14 @@ module _ (d d' : DiskState) (l l' : Option (List Operation)) (n r m n' : Node) (
     before_then : Awaits n'.armed → crash_at n' ≡ crash_at m → (items : List TraceItem) → items ≡ n'.items.items → IsBeforeCrash (crash_at n) items
     before_then awaits armed items is = subst (λ (c : Option ℕ). IsBeforeCrash c items) (armed ∙ armed_still) (before_still n'.armed n'.items.items items awaits is)
 
-    pub stops_ending : (why : Stop) → Awaits n'.armed → crash_at n' ≡ crash_at m → IsOfDisk why → d2 ≡ d' → l2 ≡ l' → n2 ≡ n' → StopsAtHeader p (crash_at n) d2 l2 n2.items.items why
-    stops_ending (stop.DiskFailed block rise) awaits armed of disk told is = behind_it bytes (flies_then disk told) (ap (λ (x : Node). x.items.items) is ∙ items_now wrote) (λ e. (cc)) (before_then awaits armed n2.items.items (ap (λ (x : Node). x.items.items) is))
-    stops_ending stop.Crashed awaits armed of disk told is = absurd of
-    stops_ending stop.NoMemory awaits armed of disk told is = absurd of
+    pub stops_ending : (why : Stop) → Awaits n'.armed → crash_at n' ≡ crash_at m → IsOfDisk why → FailedAt why None → d2 ≡ d' → l2 ≡ l' → n2 ≡ n' → StopsAtHeader p (crash_at n) d2 l2 n2.items.items why
+    stops_ending (stop.DiskFailed block rise) awaits armed of failed_at disk told is = behind_it bytes (flies_then disk told) (ap (λ (x : Node). x.items.items) is ∙ items_now wrote) (λ e. (cc)) failed_at (before_then awaits armed n2.items.items (ap (λ (x : Node). x.items.items) is))
+    stops_ending stop.Crashed awaits armed of failed_at disk told is = absurd of
+    stops_ending stop.NoMemory awaits armed of failed_at disk told is = absurd of
 
 -- before anything was done
 pub stops_before : (d : DiskState) (l : Option (List Operation)) (n : Node) (items : List TraceItem) (why : Stop) → Awaits n.armed → why ≡ stop.NoMemory → items ≡ n.items.items → StopsAtHeader (point_of d l n) (crash_at n) d l items why
-stops_before d l n items why awaits is same = before_it refl refl same (λ e. (let no : stop.Crashed ≡ stop.NoMemory = sym e ∙ is in cc)) (before_still n.armed n.items.items items awaits same)
+stops_before d l n items why awaits is same = before_it refl refl same (λ e. (let no : stop.Crashed ≡ stop.NoMemory = sym e ∙ is in cc)) (subst (λ (w : Stop). FailedAt w (Some (last_block (point_of d l n)))) (sym is) tt) (before_still n.armed n.items.items items awaits same)
 
 pub stops_first : (n : Node) (items : List TraceItem) (why : Stop) → Awaits n.armed → why ≡ stop.NoMemory → items ≡ n.items.items → StopsByCrash (crash_at n) items why
 stops_first n items why awaits is same = subst (StopsByCrash (crash_at n) items) (sym is) (before_still n.armed n.items.items items awaits same)

@@ -131,6 +131,13 @@ FailsAt bytes p d list (step.Head b sequence) = MayBeWritten p.disk p.list b byt
 FailsAt bytes p d list step.Barrier = (d ≡ p.disk) × (list ≡ p.list)
 FailsAt bytes p d list step.NoRoom = ⊥
 
+-- the block that it writes
+abbrev pub block_of : LogStep → Option ℕ
+block_of (step.Write b) = Some b
+block_of (step.Head b sequence) = Some b
+block_of step.Barrier = None
+block_of step.NoRoom = None
+
 -- ---- what its functions promise
 
 -- a flush is under way

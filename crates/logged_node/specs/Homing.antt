@@ -83,6 +83,7 @@ pub data RestsWhereFull : ℕ → List TraceItem → Type 0 where
 abbrev pub last_rest : ℕ → List TraceItem
 last_rest flying = if flying == 0 then [] else trace.Barrier 1 ∷ []
 
+-- so it is behind these items
 pub record RestsAsDue (items items' : List TraceItem) : Type 0 where
   pub flying : ℕ
   pub sent : List TraceItem
@@ -94,6 +95,7 @@ pub data SendsOne (n n' : Node) : Type 0 where
   flies : (b : ℕ) → n'.items.items ≡ n.items.items ++ trace.WriteHome 1 b ∷ [] → n'.flying ≡ n.flying + 1 → n.flying + 1 < 512 → SendsOne n n'
   rests : (b : ℕ) → n'.items.items ≡ n.items.items ++ (trace.WriteHome 1 b ∷ trace.Barrier 1 ∷ []) → n'.flying ≡ 0 → n.flying + 1 ≡ 512 → SendsOne n n'
 
+-- and so far, with so many in flight
 pub record RestsSoFar (items items' : List TraceItem) (flying : ℕ) : Type 0 where
   pub sent : List TraceItem
   pub are : RestsWhereFull flying sent

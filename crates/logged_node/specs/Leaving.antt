@@ -1,5 +1,5 @@
 -- How a node unmounts.
-use Rattle.std.specs.Prelude.{ℕ, ◌≡◌, ◌≢◌, ◌⊎◌, ◌≤◌, ◌+◌, ◌++◌, true, false, List, [], ◌∷◌, Option}
+use Rattle.std.specs.Prelude.{ℕ, ◌≡◌, ◌≢◌, ◌⊎◌, ◌≤◌, ◌+◌, ◌++◌, true, false, List, [], ◌∷◌, Option, None, Some}
 use Rattle.log_layout.specs.Headers.{log_put}
 use Rattle.log_layout.specs.Transactions.{after}
 use Rattle.log_memory.specs.Ending.{last_header}
@@ -13,7 +13,7 @@ use Rattle.logged_steps.specs.Ends.{EndsTo, FliesClean, clean_item, last_block, 
 use Rattle.logged_steps.specs.Fails.{FailsTo}
 use Rattle.logged_steps.specs.Points.{Point, state_of}
 use Rattle.logged_steps.specs.Steps.{Steps}
-use Rattle.logged_node.specs.Ends.{IsOfDisk}
+use Rattle.logged_node.specs.Ends.{FailedAt, IsOfDisk}
 use Rattle.logged_node.specs.Flushing.{GoesBySteps}
 use Rattle.logged_node.specs.Homing.{HasGoneHome, RestsAsDue, SentSoFar}
 use Rattle.logged_node.specs.Nodes.{IsBeforeCrash, IsResting, KeepsCallsAt, KeepsView, StopsBehind, StopsByCrash, crash_at, point_of}
@@ -76,9 +76,9 @@ pub record HasLastHeader (last : Point) (d : DiskState) (list : Option (List Ope
 
 -- it isn't written; or it may be in flight, where the disk failed in its write, of which no item tells; or it is in flight, and the node crashed behind it, or the disk failed in the barrier
 pub data StopsAtHeader (last : Point) (crash : Option ℕ) (d : DiskState) (list : Option (List Operation)) (items : List TraceItem) (why : Stop) : Type 0 where
-  before_it : d ≡ last.disk → list ≡ last.list → items ≡ last.items → why ≢ stop.Crashed → IsBeforeCrash crash items → StopsAtHeader last crash d list items why
-  in_it : (bytes : List ℕ) → FliesLastHeader last bytes d list → items ≡ last.items → IsOfDisk why → IsBeforeCrash crash items → StopsAtHeader last crash d list items why
-  behind_it : (bytes : List ℕ) → FliesLastHeader last bytes d list → items ≡ last.items ++ clean_item last ∷ [] → why ≢ stop.NoMemory → StopsByCrash crash items why → StopsAtHeader last crash d list items why
+  before_it : d ≡ last.disk → list ≡ last.list → items ≡ last.items → why ≢ stop.Crashed → FailedAt why (Some (last_block last)) → IsBeforeCrash crash items → StopsAtHeader last crash d list items why
+  in_it : (bytes : List ℕ) → FliesLastHeader last bytes d list → items ≡ last.items → IsOfDisk why → FailedAt why (Some (last_block last)) → IsBeforeCrash crash items → StopsAtHeader last crash d list items why
+  behind_it : (bytes : List ℕ) → FliesLastHeader last bytes d list → items ≡ last.items ++ clean_item last ∷ [] → why ≢ stop.NoMemory → FailedAt why None → StopsByCrash crash items why → StopsAtHeader last crash d list items why
 
 -- ---- what comes of an unmount
 

@@ -1,5 +1,5 @@
 -- A node with its log, on a disk.
-use Rattle.std.specs.Prelude.{ℕ, ◌≡◌, ◌<◌, ◌≤◌, ◌+◌, ◌++◌, ⊤, true, false, List, [], ◌∷◌, length, Option, None, Some}
+use Rattle.std.specs.Prelude.{ℕ, ◌≡◌, ◌⊎◌, ◌<◌, ◌≤◌, ◌+◌, ◌++◌, ⊤, true, false, List, [], ◌∷◌, length, Option, None, Some}
 use Rattle.std.specs.FinMap as table
 use Rattle.std.specs.List.{AllByRecursion, count_by}
 use Rattle.glock_names.specs.Views.{end_of}
@@ -13,12 +13,11 @@ use Rattle.log_widths.specs.Widths.{HasLogWidths}
 use Rattle.node_journal.specs.Encoding.{size_of}
 use Rattle.lone_logs.specs.States.{Numbers}
 use Rattle.run_rules.specs.Follows.{is_write_of}
-use Rattle.shared_disk.specs.Disk.{DiskState, Operation}
+use Rattle.shared_disk.specs.Disk.{DiskState, Operation, after_write}
 use Rattle.trace_text.specs.declared.item.TraceItem.{TraceItem}
 use Rattle.logged_steps.specs.Fails.{FailsTo}
 use Rattle.logged_steps.specs.Points.{Anything, Point}
 use Rattle.logged_steps.specs.Steps.{Steps}
-use Rattle.logged_node.specs.Ends.{IfNotOfDisk}
 use Rattle.logged_node.specs.declared.ends.Stop.{Stop}
 use Rattle.logged_node.specs.declared.ends.Stop.TheVariants as stop
 use Rattle.logged_node.specs.declared.node.CallNumbers.{CallNumbers}
@@ -138,6 +137,17 @@ pub record KeepsCallsAt (n : Node) (p : Point) : Type 0 where
 
 -- ---- how it stops
 
+-- a write that failed may have left this behind the point, if it was one: its block in flight; a barrier that failed leaves nothing
+abbrev pub IsLeftBy : Point → Point → Option ℕ → Type 0
+IsLeftBy p left None = left ≡ p
+IsLeftBy p left (Some b) = (left ≡ p) ⊎ ((bytes : List ℕ) × (left.disk ≡ after_write p.disk 1 b bytes))
+
+-- so does a failed disk, by the block that is told; a crash and want of memory leave the point as it is
+abbrev pub IsLeftAs : Point → Point → Stop → Type 0
+IsLeftAs p left (stop.DiskFailed block rise) = IsLeftBy p left block
+IsLeftAs p left stop.Crashed = left ≡ p
+IsLeftAs p left stop.NoMemory = left ≡ p
+
 -- It came by steps to a point, and is there still; or the disk failed in a write of the step that would come next, which may be in flight, and of which no item tells. So it leaves the disk, its list and
 -- the items. On the way it told no call; and only where it crashed is it behind the write at which it was to.
 pub record StopsBehind (d : DiskState) (list : Option (List Operation)) (n : Node) (d' : DiskState) (list' : Option (List Operation)) (items : List TraceItem) (why : Stop) : Type 0 where
@@ -145,7 +155,7 @@ pub record StopsBehind (d : DiskState) (list : Option (List Operation)) (n : Nod
   pub left : Point
   pub steps : (time : ℕ) → Steps time (point_of d list n) last
   pub fails : (time : ℕ) → FailsTo time last left
-  pub exactly : IfNotOfDisk why (left ≡ last)
+  pub exactly : IsLeftAs last left why
   pub disk : left.disk ≡ d'
   pub listed : left.list ≡ list'
   pub told : left.items ≡ items

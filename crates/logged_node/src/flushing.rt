@@ -1,9 +1,9 @@
 // Flushes: all that is due, or a header alone, comes into the journal.
-ghost use Rattle.std.specs.Prelude.{ℕ, ◌≡◌, ◌≢◌, ◌↔◌, Ok, IfOk, ◌+◌, ◌++◌, ◌<◌, ◌≤◌, ◌^◌, [], ◌∷◌, false, length, OnOk, IfErr};
+ghost use Rattle.std.specs.Prelude.{ℕ, ◌≡◌, ◌≢◌, ◌↔◌, Ok, IfOk, ◌+◌, ◌++◌, ◌<◌, ◌≤◌, ◌^◌, [], ◌∷◌, false, length, None, OnOk, IfErr};
 ghost use Rattle.std.specs.Vec.{vec_capacity, vec_len};
 ghost use Rattle.log_values.specs.Flushing.{FlushAnswer};
-ghost use Rattle.logged_node.specs.Ends.{HasCause, IfCrashed, IfFailed, IfMade, IsOfDisk};
-ghost use Rattle.logged_node.specs.Flushing.{CanFlush, FailsAt, GoesOn, HasBegun, HasCome, HasNoRoom, HasNothingToFlush, IsAsItWas, IsCarried, IsUnderWay, MayCarry, number_of};
+ghost use Rattle.logged_node.specs.Ends.{FailedAt, HasCause, IfCrashed, IfFailed, IfMade, IsOfDisk};
+ghost use Rattle.logged_node.specs.Flushing.{CanFlush, FailsAt, GoesOn, HasBegun, HasCome, HasNoRoom, HasNothingToFlush, IsAsItWas, IsCarried, IsUnderWay, MayCarry, block_of, number_of};
 ghost use Rattle.logged_node.specs.Homing.{homes_in};
 ghost use Rattle.logged_node.specs.Nodes.{Awaits, IsAtCrash, IsResting, StopsBehind, crash_at, point_of};
 
@@ -57,6 +57,7 @@ fn end_part<D: SharedDisk>(disk: &mut D, node: &mut Node) -> Result<(), Stop>
     ensures why { IfErr result IsOfDisk }
     ensures failed { IfErr result (λ why. (D.state disk.new ≡ D.state disk.old) × (D.list disk.new ≡ D.list disk.old) × (node.new ≡ node.old)) }
     ensures later { (i : ℕ) → D.faults disk.old i ≤ D.faults disk.new i }
+    ensures at { IfErr result (λ why. FailedAt why None) }
     ensures cause { IfErr result (HasCause (D.state disk.old).count (D.faults disk.old) (D.faults disk.new)) }
 {
     match put_barrier(disk, node) {
@@ -86,6 +87,7 @@ fn carry<D: SharedDisk>(disk: &mut D, node: &mut Node, step: LogStep) -> Result<
     ensures failed { IfErr result (λ why. IfFailed why (FailsAt node.old.block.items (point_of (D.state disk.old) (D.list disk.old) node.old) (D.state disk.new) (D.list disk.new) step)) }
     ensures kept { IfErr result (λ why. IfFailed why (node.new.items.items ≡ node.old.items.items)) }
     ensures later { (i : ℕ) → D.faults disk.old i ≤ D.faults disk.new i }
+    ensures at { IfErr result (λ why. FailedAt why (block_of step)) }
     ensures cause { IfErr result (HasCause (D.state disk.old).count (D.faults disk.old) (D.faults disk.new)) }
 {
     match step {

@@ -72,7 +72,7 @@ returns-in-Err-carry g c = record {
   homes = homes_begun c.widths_are_numbers.ensures (g.D.SharedDisk.state c.args.disk.now) (g.D.SharedDisk.state c.carry.new.disk) (g.D.SharedDisk.list c.args.disk.now) (g.D.SharedDisk.list c.carry.new.disk) c.args.node.now c.have_room.new.node c.next_step.new.node (record c.next_step.new.node { numbers = record c.next_step.new.node.numbers { begun = c.number_with-node.result } }) c.carry.new.node c.in-Some.step c.requires.resting c.requires.sequence c.have_room.ensures.node c.have_room.ensures.items
       c.next_step.ensures.node c.next_step.ensures.long c.in-Some.ensures.answer c.in_default.not-NoRoom (ap (λ (b : ℕ). record c.next_step.new.node { numbers = record c.next_step.new.node.numbers { begun = b } }) c.number_with-node.ensures) (Err c.in-Err-carry.why) c.in-Err-carry.ensures.carried c.in-Err-carry.ensures.kept;
   stopped = stops_beginning c.widths_are_numbers.ensures (g.D.SharedDisk.state c.args.disk.now) (g.D.SharedDisk.state c.carry.new.disk) (g.D.SharedDisk.list c.args.disk.now) (g.D.SharedDisk.list c.carry.new.disk) c.args.node.now c.have_room.new.node c.next_step.new.node (record c.next_step.new.node { numbers = record c.next_step.new.node.numbers { begun = c.number_with-node.result } }) c.carry.new.node c.in-Some.step c.requires.resting c.requires.sequence c.have_room.ensures.node c.have_room.ensures.items
-      c.next_step.ensures.node c.next_step.ensures.long c.in-Some.ensures.answer c.in_default.not-NoRoom (ap (λ (b : ℕ). record c.next_step.new.node { numbers = record c.next_step.new.node.numbers { begun = b } }) c.number_with-node.ensures) (Err c.in-Err-carry.why) c.in-Err-carry.ensures.carried c.in-Err-carry.ensures.crashed c.in-Err-carry.ensures.failed c.in-Err-carry.ensures.kept;
+      c.next_step.ensures.node c.next_step.ensures.long c.in-Some.ensures.answer c.in_default.not-NoRoom (ap (λ (b : ℕ). record c.next_step.new.node { numbers = record c.next_step.new.node.numbers { begun = b } }) c.number_with-node.ensures) (Err c.in-Err-carry.why) c.in-Err-carry.ensures.carried c.in-Err-carry.ensures.crashed c.in-Err-carry.ensures.failed c.in-Err-carry.ensures.at c.in-Err-carry.ensures.kept;
   later = search rules;
   cause = search rules;
 }

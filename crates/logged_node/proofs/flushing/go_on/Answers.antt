@@ -28,7 +28,7 @@ pub returns-clause-stopped : goal.returns-clause-stopped
 returns-clause-stopped g c =
     stops_going_on c.widths_are_numbers.ensures (g.D.SharedDisk.state c.args.disk.now) (g.D.SharedDisk.state c.carry.new.disk) (g.D.SharedDisk.list c.args.disk.now) (g.D.SharedDisk.list c.carry.new.disk) c.args.node.now c.have_room.new.node c.next_step.new.node
     c.carry.new.node c.in-Some.step c.requires.sequence c.have_room.ensures.node c.have_room.ensures.items c.next_step.ensures.node c.next_step.ensures.long c.in-Some.ensures.answer c.requires.flushing c.carry.result
-    c.carry.ensures.carried c.carry.ensures.crashed c.carry.ensures.failed c.carry.ensures.kept
+    c.carry.ensures.carried c.carry.ensures.crashed c.carry.ensures.failed c.carry.ensures.at c.carry.ensures.kept
 
 pub returns-in-Err-clause-homes : goal.returns-in-Err-clause-homes
 returns-in-Err-clause-homes g c = ap homes_in c.have_room.ensures.items

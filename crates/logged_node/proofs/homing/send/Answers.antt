@@ -57,7 +57,7 @@ returns-clause-stopped g c =
     (subst (λ (s : LogStep). HomeAnswer c.args.node.now.log c.next_home.new.node.log c.args.lock c.next_home.new.node.block.items (Some s)) c.in-Write.is (home_answers c.args.node.now c.have_room.new.node c.next_home.new.node c.args.lock (Some c.in-Some.step) c.have_room.ensures.node c.in-Some.ensures.answer))
     c.put_write.result (made_both c.put_write.result _ _ _ (λ made gains. (made, gains)) c.put_write.ensures.made c.put_write.ensures.gains)
     (at_crash (g.D.SharedDisk.state c.args.disk.now) (g.D.SharedDisk.state c.put_write.new.disk) (g.D.SharedDisk.list c.args.disk.now) (g.D.SharedDisk.list c.put_write.new.disk) c.next_home.new.node c.put_write.new.node c.in-Write.block c.next_home.new.node.block.items (trace.WriteHome 1 c.in-Write.block) c.put_write.result refl c.put_write.ensures.made c.put_write.ensures.crashed)
-    c.put_write.ensures.failed c.put_write.ensures.kept
+    c.put_write.ensures.failed c.put_write.ensures.at c.put_write.ensures.kept
 
 pub returns-in-Err-clause-order : goal.returns-in-Err-clause-order
 returns-in-Err-clause-order g c = so_far_same c.args.node.now.log c.args.node.now.items.items c.have_room.new.node.items.items c.have_room.ensures.items
