@@ -203,9 +203,9 @@ pub map_err : (r : Result (Unit {0}) Stop) (P Q : Stop → Type 0) → ((why : S
 map_err (Ok _) P Q so is = tt
 map_err (Err why) P Q so is = so why is
 
-pub map_both : (r : Result (Unit {0}) Stop) (P Q R : Stop → Type 0) → ((why : Stop) → P why → Q why → R why) → IfErr r P → IfErr r Q → IfErr r R
-map_both (Ok _) P Q R so p q = tt
-map_both (Err why) P Q R so p q = so why p q
+pub map_three : (r : Result (Unit {0}) Stop) (P Q S R : Stop → Type 0) → ((why : Stop) → P why → Q why → S why → R why) → IfErr r P → IfErr r Q → IfErr r S → IfErr r R
+map_three (Ok _) P Q S R so p q s = tt
+map_three (Err why) P Q S R so p q s = so why p q s
 
 pub if_failed : (P Q : Type 0) (so : P → Q) (why : Stop) → IfFailed why P → IfFailed why Q
 if_failed P Q so (stop.DiskFailed block rise) is = so is
