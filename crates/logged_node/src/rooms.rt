@@ -1,5 +1,5 @@
 // Room in the journal, and what is due brought into it.
-ghost use Rattle.std.specs.Prelude.{ℕ, ◌≡◌, ◌<◌, ◌≤◌, ◌+◌, ◌^◌, OnOk, IfErr};
+ghost use Rattle.std.specs.Prelude.{ℕ, ◌<◌, ◌≤◌, ◌+◌, ◌^◌, OnOk, IfErr};
 ghost use Rattle.log_values.specs.Flushing.{IsDue, NothingIsLive};
 ghost use Rattle.logged_node.specs.Ends.{HasCause};
 ghost use Rattle.logged_node.specs.Flushing.{HasCome, HasRoomForDue};
