@@ -223,9 +223,9 @@ module _ (law : WidthsAreNumbers) (d d' : DiskState) (l l' : Option (List Operat
   }
 
   pub stops_beginning : (r : Result (Unit {0}) Stop) → IfMade r Carried → IfErr r (λ why. IfCrashed why (IsAtCrash (crash_at m) n'.items.items)) → IfErr r (λ why. IfFailed why (FailsAt m.block.items (point_of d l m) d' l' s))
-      → IfErr r (λ why. FailedAt why (block_of s)) → IfErr r (λ why. IfFailed why (n'.items.items ≡ m.items.items)) → IfErr r (λ why. StopsBehind d l n d' l' n'.items.items why)
+      → IfErr r (λ why. FailedAt why (block_of s)) → IfErr r (λ why. IfFailed why (n'.items.items ≡ m.items.items)) → IfErr r (λ why. StopsBehind 1 d l n d' l' n'.items.items why)
   stops_beginning r done crashed failed failed_at kept =
-      map_err r (StopsBehind d l one d' l' n'.items.items) (StopsBehind d l n d' l' n'.items.items) (λ why stops. stops_on d d d' l l l' n one n'.items.items why its_begin.steps refl (kept_begun d l n rest its_start.first (number_of n.numbers s) its_start.begins) stops)
+      map_err r (StopsBehind 1 d l one d' l' n'.items.items) (StopsBehind 1 d l n d' l' n'.items.items) (λ why stops. stops_on d d d' l l l' n one n'.items.items why 1 1 (let same = flushing.sequence in omega (arith, same)) its_begin.steps refl (kept_begun d l n rest its_start.first (number_of n.numbers s) its_start.begins) stops)
       (onward.stops law n d d' l l' one m n' its_start.flush s flushing more_still m_is items long its_start.made r done crashed failed failed_at kept)
 
   pub homes_beginning : (r : Result (Unit {0}) Stop) → IfMade r Carried → IfErr r (λ why. IfFailed why (n'.items.items ≡ m.items.items)) → homes_in n'.items.items ≡ homes_in n.items.items

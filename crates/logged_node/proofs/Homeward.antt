@@ -220,23 +220,26 @@ module _ (d d' : DiskState) (l l' : Option (List Operation)) (n m n' : Node) (lo
     told = refl;
   }
 
-  keeps : Written × Gained → KeepsView n n'
+  keeps : Written × Gained → KeepsView n n' × (n'.log.sequence ≤ n.log.sequence + 0)
   keeps both =
       let is = q_is both.0 in
-      record {
-        view = ap (λ (x : Point). x.view) is;
-        answered = ap (λ (x : Point). x.numbers.answered) is;
-        changed = ap (λ (x : Point). x.numbers.changed) is;
-        journal = ap (λ (x : Point). x.log.journal) is ∙ ap (λ (x : LogValue). x.journal) goes.1;
-        unmounts = ap (λ (x : Point). x.unmounts) is;
-      }
+      let same : n'.log.sequence ≡ n.log.sequence = ap (λ (x : Point). x.log.sequence) is ∙ ap (λ (x : LogValue). x.sequence) goes.1 in (
+        record {
+          view = ap (λ (x : Point). x.view) is;
+          answered = ap (λ (x : Point). x.numbers.answered) is;
+          changed = ap (λ (x : Point). x.numbers.changed) is;
+          journal = ap (λ (x : Point). x.log.journal) is ∙ ap (λ (x : LogValue). x.journal) goes.1;
+          unmounts = ap (λ (x : Point). x.unmounts) is;
+        },
+        omega (arith, same),
+      )
 
   armed_still : crash_at m ≡ crash_at n
   armed_still = ap₂ crash_of (ap (λ (x : Node). x.armed) m_is) items
 
   pub stops_sending : (r : Result (Unit {0}) Stop) → IfMade r (Written × Gained) → IfErr r (λ why. IfCrashed why (IsAtCrash (crash_at m) n'.items.items)) → IfErr r (λ why. IfFailed why (MayBeWritten d l b bytes d' l'))
-      → IfErr r (λ why. FailedAt why (Some b)) → IfErr r (λ why. IfFailed why (n'.items.items ≡ m.items.items)) → IfErr r (λ why. StopsBehind d l n d' l' n'.items.items why)
-  stops_sending r made crashed failed failed_at kept = stops_at d d' l l' n n' r (Written × Gained) steps keeps at.on.awaits (Some b) made
+      → IfErr r (λ why. FailedAt why (Some b)) → IfErr r (λ why. IfFailed why (n'.items.items ≡ m.items.items)) → IfErr r (λ why. StopsBehind 0 d l n d' l' n'.items.items why)
+  stops_sending r made crashed failed failed_at kept = stops_at 0 d d' l l' n n' r (Written × Gained) steps keeps at.on.awaits (Some b) made
       (map_err r _ _ (λ why. if_crashed (IsAtCrash (crash_at m) n'.items.items) (IsAtCrash (crash_at n) n'.items.items) (λ is. subst (λ (c : Option ℕ). IsAtCrash c n'.items.items) armed_still is) why) crashed)
       (map_err r _ _ (λ why. if_failed (MayBeWritten d l b bytes d' l') (FailsThere p d' l' (Some b)) fails why) failed)
       failed_at
@@ -327,7 +330,7 @@ module _ (d d' : DiskState) (l l' : Option (List Operation)) (n m k n' : Node) (
   m_at = ap (point_of d l) m_is ∙ ap (λ (is : List TraceItem). record (point_of d l n) { items = is }) items
 
   -- the disk failed
-  pub stops_resting : (why : Stop) → IsOfDisk why → d' ≡ d → l' ≡ l → k ≡ m → StopsBehind d l n d' l' k.items.items why
+  pub stops_resting : (why : Stop) → IsOfDisk why → d' ≡ d → l' ≡ l → k ≡ m → StopsBehind 0 d l n d' l' k.items.items why
   stops_resting (stop.DiskFailed block rise) of disk list same = record {
     last = point_of d l n;
     left = point_of d l n;
@@ -339,6 +342,7 @@ module _ (d d' : DiskState) (l l' : Option (List Operation)) (n m k n' : Node) (
     told = sym (ap (λ (x : Node). x.items.items) same ∙ items);
     kept = kept_here d l n;
     unmounts = refl;
+    sequence = omega arith;
     crashes = before_still n.armed n.items.items k.items.items at.on.awaits (ap (λ (x : Node). x.items.items) same ∙ items);
   }
   stops_resting stop.Crashed of disk list same = absurd of

@@ -257,3 +257,6 @@ come_grows d e l k n m come = (let is = come.flushed.sequence in omega (arith, i
 
 pub still_grows : (d e : DiskState) (l k : Option (List Operation)) (n m : Node) → IsAsItWas d l n e k m → m.log.sequence ≤ n.log.sequence + 1
 still_grows d e l k n m is = (let same : m.log.sequence ≡ n.log.sequence = ap (λ (x : Point). x.log.sequence) is.point in omega (arith, same))
+
+pub still_no_more : (d e : DiskState) (l k : Option (List Operation)) (n m : Node) → IsAsItWas d l n e k m → m.log.sequence + 1 ≤ n.log.sequence + 1
+still_no_more d e l k n m is = (let same : m.log.sequence ≡ n.log.sequence = ap (λ (x : Point). x.log.sequence) is.point in omega (arith, same))

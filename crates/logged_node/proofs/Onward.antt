@@ -104,6 +104,13 @@ journal_still log new f bytes _ (a_header tail stage tells bytes_are new_is) = a
 journal_still log new f bytes _ (a_barrier stage new_is lives) = ap (λ (l : LogValue). l.journal) new_is
 journal_still log new f bytes _ (the_last tail stage new_is lives) = ap (λ (l : LogValue). l.journal) new_is
 
+-- and its head's sequence the next, if any
+step_grows : (log new : LogValue) (f : Flush) (bytes : List ℕ) (s : LogStep) → log.sequence + 1 < 2 ^ 64 → FlushStep log new f bytes s → new.sequence ≤ log.sequence + 1
+step_grows log new f bytes _ more (a_block k stage block new_is) = (let same : new.sequence ≡ log.sequence = ap (λ (l : LogValue). l.sequence) new_is in omega (arith, same))
+step_grows log new f bytes _ more (a_header tail stage tells bytes_are new_is) = (let same : new.sequence ≡ log.sequence = ap (λ (l : LogValue). l.sequence) new_is in omega (arith, same))
+step_grows log new f bytes _ more (a_barrier stage new_is lives) = (let same : new.sequence ≡ log.sequence = ap (λ (l : LogValue). l.sequence) new_is in omega (arith, same))
+step_grows log new f bytes _ more (the_last tail stage new_is lives) = (let next : new.sequence ≡ log.sequence + 1 = ap (λ (l : LogValue). l.sequence) new_is ∙ mod-eq_of_lt more in omega (arith, next))
+
 -- ---- how a node stops
 
 -- what it has at its own point, and at a later one
@@ -117,9 +124,9 @@ pub kept_on_to : (n m : Node) (p : Point) → KeepsView n m → KeepsCallsAt m p
 kept_on_to n m p kept at = record { view = at.view ∙ kept.view; answered = at.answered ∙ kept.answered; changed = at.changed ∙ kept.changed; journal = at.journal ∙ kept.journal; next = at.next }
 
 -- behind steps
-pub stops_on : (d e f : DiskState) (l k h : Option (List Operation)) (n m : Node) (items : List TraceItem) (why : Stop) → ((time : ℕ) → Steps time (point_of d l n) (point_of e k m)) → crash_at m ≡ crash_at n → KeepsView n m
-    → StopsBehind e k m f h items why → StopsBehind d l n f h items why
-stops_on d e f l k h n m items why first armed kept stops = record {
+pub stops_on : (d e f : DiskState) (l k h : Option (List Operation)) (n m : Node) (items : List TraceItem) (why : Stop) (few most : ℕ) → m.log.sequence + few ≤ n.log.sequence + most → ((time : ℕ) → Steps time (point_of d l n) (point_of e k m)) → crash_at m ≡ crash_at n → KeepsView n m
+    → StopsBehind few e k m f h items why → StopsBehind most d l n f h items why
+stops_on d e f l k h n m items why few most more first armed kept stops = record {
   last = stops.last;
   left = stops.left;
   steps = λ time. steps_go_on time (point_of d l n) (point_of e k m) stops.last (first time) (stops.steps time);
@@ -130,12 +137,30 @@ stops_on d e f l k h n m items why first armed kept stops = record {
   told = stops.told;
   kept = kept_on_to n m stops.last kept stops.kept;
   unmounts = stops.unmounts ∙ kept.unmounts;
+  sequence = (let low = stops.sequence in omega (arith, low, more));
   crashes = subst (λ (c : Option ℕ). StopsByCrash c items why) armed stops.crashes;
 }
 
+-- also with more
+pub stops_few : (d e : DiskState) (l k : Option (List Operation)) (n : Node) (items : List TraceItem) (why : Stop) (few most : ℕ) → few ≤ most → StopsBehind few d l n e k items why → StopsBehind most d l n e k items why
+stops_few d e l k n items why few most more stops = record {
+  last = stops.last;
+  left = stops.left;
+  steps = stops.steps;
+  fails = stops.fails;
+  exactly = stops.exactly;
+  disk = stops.disk;
+  listed = stops.listed;
+  told = stops.told;
+  kept = stops.kept;
+  unmounts = stops.unmounts;
+  sequence = (let low = stops.sequence in omega (arith, low, more));
+  crashes = stops.crashes;
+}
+
 -- for want of memory, before anything was done
-pub stops_here : (d : DiskState) (l : Option (List Operation)) (n : Node) (items : List TraceItem) (why : Stop) → Awaits n.armed → why ≡ stop.NoMemory → items ≡ n.items.items → StopsBehind d l n d l items why
-stops_here d l n items why awaits is same = subst (StopsBehind d l n d l items) (sym is) (record {
+pub stops_here : (most : ℕ) (d : DiskState) (l : Option (List Operation)) (n : Node) (items : List TraceItem) (why : Stop) → Awaits n.armed → why ≡ stop.NoMemory → items ≡ n.items.items → StopsBehind most d l n d l items why
+stops_here most d l n items why awaits is same = subst (StopsBehind most d l n d l items) (sym is) (record {
   last = point_of d l n;
   left = point_of d l n;
   steps = λ time. Here;
@@ -146,6 +171,7 @@ stops_here d l n items why awaits is same = subst (StopsBehind d l n d l items) 
   told = sym same;
   kept = kept_here d l n;
   unmounts = refl;
+  sequence = omega arith;
   crashes = before_still n.armed n.items.items items awaits same;
 })
 
@@ -166,11 +192,11 @@ pub as_it_was : (p : Point) (d : DiskState) (l : Option (List Operation)) (at : 
 as_it_was p d l at disk list = record { left = p; fails = λ time. AsItWas; exactly = left_same p at; disk = sym disk; listed = sym list; told = refl }
 
 -- At a deed: where it was made, and it crashed behind it, that is a step; where the disk failed, it stays where it was.
-pub stops_at : (d d' : DiskState) (l l' : Option (List Operation)) (n n' : Node) (r : Result (Unit {0}) Stop) (made : Type 0) → (made → (time : ℕ) → Steps time (point_of d l n) (point_of d' l' n')) → (made → KeepsView n n') → Awaits n.armed → (at : Option ℕ)
+pub stops_at : (most : ℕ) (d d' : DiskState) (l l' : Option (List Operation)) (n n' : Node) (r : Result (Unit {0}) Stop) (made : Type 0) → (made → (time : ℕ) → Steps time (point_of d l n) (point_of d' l' n')) → (made → KeepsView n n' × (n'.log.sequence ≤ n.log.sequence + most)) → Awaits n.armed → (at : Option ℕ)
     → IfMade r made → IfErr r (λ why. IfCrashed why (IsAtCrash (crash_at n) n'.items.items)) → IfErr r (λ why. IfFailed why (FailsThere (point_of d l n) d' l' at)) → IfErr r (λ why. FailedAt why at) → IfErr r (λ why. IfFailed why (n'.items.items ≡ n.items.items))
-    → IfErr r (λ why. StopsBehind d l n d' l' n'.items.items why)
-stops_at d d' l l' n n' (Ok _) made steps keeps awaits at done crashed failed failed_at kept = tt
-stops_at d d' l l' n n' (Err stop.Crashed) made steps keeps awaits at done crashed failed failed_at kept = record {
+    → IfErr r (λ why. StopsBehind most d l n d' l' n'.items.items why)
+stops_at most d d' l l' n n' (Ok _) made steps keeps awaits at done crashed failed failed_at kept = tt
+stops_at most d d' l l' n n' (Err stop.Crashed) made steps keeps awaits at done crashed failed failed_at kept = record {
   last = point_of d' l' n';
   left = point_of d' l' n';
   steps = steps done;
@@ -179,11 +205,12 @@ stops_at d d' l l' n n' (Err stop.Crashed) made steps keeps awaits at done crash
   disk = refl;
   listed = refl;
   told = refl;
-  kept = kept_there d' l' n n' (keeps done);
-  unmounts = (keeps done).unmounts;
+  kept = kept_there d' l' n n' (keeps done).0;
+  unmounts = (keeps done).0.unmounts;
+  sequence = (keeps done).1;
   crashes = crashed;
 }
-stops_at d d' l l' n n' (Err (stop.DiskFailed block rise)) made steps keeps awaits at done crashed failed failed_at kept = record {
+stops_at most d d' l l' n n' (Err (stop.DiskFailed block rise)) made steps keeps awaits at done crashed failed failed_at kept = record {
   last = point_of d l n;
   left = failed.left;
   steps = λ time. Here;
@@ -194,9 +221,10 @@ stops_at d d' l l' n n' (Err (stop.DiskFailed block rise)) made steps keeps awai
   told = failed.told ∙ sym kept;
   kept = kept_here d l n;
   unmounts = refl;
+  sequence = omega arith;
   crashes = before_still n.armed n.items.items n'.items.items awaits kept;
 }
-stops_at d d' l l' n n' (Err stop.NoMemory) made steps keeps awaits at done crashed failed failed_at kept = absurd done
+stops_at most d d' l l' n n' (Err stop.NoMemory) made steps keeps awaits at done crashed failed failed_at kept = absurd done
 
 -- facts of an end, one from another
 pub map_err : (r : Result (Unit {0}) Stop) (P Q : Stop → Type 0) → ((why : Stop) → P why → Q why) → IfErr r P → IfErr r Q
@@ -249,10 +277,12 @@ module _ (law : WidthsAreNumbers) (start : Node) (d d' : DiskState) (l l' : Opti
   disk_same done = carried_disk m.block.items mid (point_of d' l' n') s (from_mid done)
 
   -- what stays of the node
-  keeps : Carried → KeepsView n n'
+  keeps : Carried → KeepsView n n' × (n'.log.sequence ≤ n.log.sequence + 1)
   keeps done =
       let it = left_alone m.block.items mid (point_of d' l' n') s (from_mid done) in
-      record { view = it.view; answered = it.answered; changed = it.changed; journal = ap (λ (x : LogValue). x.journal) it.log ∙ journal_still n.log m.log f m.block.items s made; unmounts = it.unmounts }
+      let grows = step_grows n.log m.log f m.block.items s more made in
+      let same : n'.log.sequence ≡ m.log.sequence = ap (λ (x : LogValue). x.sequence) it.log in
+      (record { view = it.view; answered = it.answered; changed = it.changed; journal = ap (λ (x : LogValue). x.journal) it.log ∙ journal_still n.log m.log f m.block.items s made; unmounts = it.unmounts }, omega (arith, grows, same))
 
   -- no block goes home
   pub homes : (r : Result (Unit {0}) Stop) → IfMade r Carried → IfErr r (λ why. IfFailed why (n'.items.items ≡ m.items.items)) → homes_in n'.items.items ≡ homes_in n.items.items
@@ -295,8 +325,8 @@ module _ (law : WidthsAreNumbers) (start : Node) (d d' : DiskState) (l l' : Opti
   armed_still = ap₂ crash_of (ap (λ (x : Node). x.armed) m_is) items
 
   pub stops : (r : Result (Unit {0}) Stop) → IfMade r Carried → IfErr r (λ why. IfCrashed why (IsAtCrash (crash_at m) n'.items.items)) → IfErr r (λ why. IfFailed why (FailsAt m.block.items (point_of d l m) d' l' s))
-      → IfErr r (λ why. FailedAt why (block_of s)) → IfErr r (λ why. IfFailed why (n'.items.items ≡ m.items.items)) → IfErr r (λ why. StopsBehind d l n d' l' n'.items.items why)
-  stops r done crashed failed failed_at kept = stops_at d d' l l' n n' r Carried steps keeps at.on.awaits (block_of s) done
+      → IfErr r (λ why. FailedAt why (block_of s)) → IfErr r (λ why. IfFailed why (n'.items.items ≡ m.items.items)) → IfErr r (λ why. StopsBehind 1 d l n d' l' n'.items.items why)
+  stops r done crashed failed failed_at kept = stops_at 1 d d' l l' n n' r Carried steps keeps at.on.awaits (block_of s) done
       (map_err r _ _ (λ why. if_crashed (IsAtCrash (crash_at m) n'.items.items) (IsAtCrash (crash_at n) n'.items.items) (λ is. subst (λ (c : Option ℕ). IsAtCrash c n'.items.items) armed_still is) why) crashed)
       (map_err r _ _ (λ why. if_failed (FailsAt m.block.items (point_of d l m) d' l' s) (FailsThere p d' l' (block_of s)) fails why) failed)
       failed_at

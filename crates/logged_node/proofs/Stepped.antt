@@ -60,7 +60,7 @@ module _ (law : WidthsAreNumbers) (d d' : DiskState) (l l' : Option (List Operat
   }
 
   pub stops_going_on : IsUnderWay d n → (x : Result (Unit {0}) Stop) → IfMade x Carried → IfErr x (λ why. IfCrashed why (IsAtCrash (crash_at m) n'.items.items)) → IfErr x (λ why. IfFailed why (FailsAt m.block.items (point_of d l m) d' l' s))
-      → IfErr x (λ why. FailedAt why (block_of s)) → IfErr x (λ why. IfFailed why (n'.items.items ≡ m.items.items)) → IfErr x (λ why. StopsBehind d l n d' l' n'.items.items why)
+      → IfErr x (λ why. FailedAt why (block_of s)) → IfErr x (λ why. IfFailed why (n'.items.items ≡ m.items.items)) → IfErr x (λ why. StopsBehind 1 d l n d' l' n'.items.items why)
   stops_going_on under x done crashed failed failed_at kept =
       onward.stops law under.0 d d' l l' n m n' under.1 s under.2 more (with_step n r m r_is m_is) (same_items n r m m_is same) (as_long n r m r_is long) (made under.0 under.1 under.2) x done crashed failed failed_at kept
 
@@ -98,7 +98,7 @@ module _ (law : WidthsAreNumbers) (d d' : DiskState) (l l' : Option (List Operat
   has_begun n'_is flying awaits armed done = beginning.has_begun law d d' l l' n k n' s rest more (with_number n r m k s r_is m_is k_is) k_items k_long its_answer off n'_is flying awaits armed done
 
   pub stops_beginning : (x : Result (Unit {0}) Stop) → IfMade x Begun → IfErr x (λ why. IfCrashed why (IsAtCrash (crash_at k) n'.items.items)) → IfErr x (λ why. IfFailed why (FailsAt k.block.items (point_of d l k) d' l' s))
-      → IfErr x (λ why. FailedAt why (block_of s)) → IfErr x (λ why. IfFailed why (n'.items.items ≡ k.items.items)) → IfErr x (λ why. StopsBehind d l n d' l' n'.items.items why)
+      → IfErr x (λ why. FailedAt why (block_of s)) → IfErr x (λ why. IfFailed why (n'.items.items ≡ k.items.items)) → IfErr x (λ why. StopsBehind 1 d l n d' l' n'.items.items why)
   stops_beginning x done crashed failed failed_at kept = beginning.stops_beginning law d d' l l' n k n' s rest more (with_number n r m k s r_is m_is k_is) k_items k_long its_answer off x done crashed failed failed_at kept
 
   pub homes_begun : (x : Result (Unit {0}) Stop) → IfMade x Begun → IfErr x (λ why. IfFailed why (n'.items.items ≡ k.items.items)) → homes_in n'.items.items ≡ homes_in n.items.items

@@ -131,10 +131,11 @@ leaves_here d l n items same = record {
   listed = refl;
   told = sym same;
   kept = kept_here d l n;
+  sequence = omega arith;
 }
 
 -- it left, and then stopped
-pub leaves_left : (d e : DiskState) (l k : Option (List Operation)) (n m : Node) (items : List TraceItem) (why : Stop) → GoesBySteps d l n d l m → HasLeft n m → StopsBehind d l m e k items why → LeavesBySteps d l n e k items
+pub leaves_left : (d e : DiskState) (l k : Option (List Operation)) (n m : Node) (items : List TraceItem) (why : Stop) → GoesBySteps d l n d l m → HasLeft n m → StopsBehind 2 d l m e k items why → LeavesBySteps d l n e k items
 leaves_left d e l k n m items why goes left stops = record {
   last = stops.last;
   left = stops.left;
@@ -144,15 +145,16 @@ leaves_left d e l k n m items why goes left stops = record {
   listed = stops.listed;
   told = stops.told;
   kept = kept_left n m stops.last left stops.kept;
+  sequence = (let first : m.log.sequence ≡ n.log.sequence = ap (λ (x : Node). x.log.sequence) left.node in let few = stops.sequence in omega (arith, first, few));
 }
 
 -- also behind what was due
-pub leaves_flushed : (d e f : DiskState) (l k h : Option (List Operation)) (n m o : Node) (items : List TraceItem) (why : Stop) → GoesBySteps d l n d l m → HasLeft n m → HasBroughtIn d l m e k o → StopsBehind e k o f h items why
+pub leaves_flushed : (d e f : DiskState) (l k h : Option (List Operation)) (n m o : Node) (items : List TraceItem) (why : Stop) → GoesBySteps d l n d l m → HasLeft n m → HasBroughtIn d l m e k o → StopsBehind 0 e k o f h items why
     → LeavesBySteps d l n f h items
 leaves_flushed d e f l k h n m o items why goes left brought stops =
-    leaves_left d f l h n m items why goes left (stops_on d e f l k h m o items why brought.goes.steps brought.goes.armed brought.kept stops)
+    leaves_left d f l h n m items why goes left (stops_on d e f l k h m o items why 0 2 (let few = brought.sequence in omega (arith, few)) brought.goes.steps brought.goes.armed brought.kept stops)
 
-pub crashes_flushed : (d e f : DiskState) (l k h : Option (List Operation)) (n m o : Node) (items : List TraceItem) (why : Stop) → GoesBySteps d l n d l m → HasBroughtIn d l m e k o → StopsBehind e k o f h items why → StopsByCrash (crash_at n) items why
+pub crashes_flushed : (d e f : DiskState) (l k h : Option (List Operation)) (n m o : Node) (items : List TraceItem) (why : Stop) → GoesBySteps d l n d l m → HasBroughtIn d l m e k o → StopsBehind 0 e k o f h items why → StopsByCrash (crash_at n) items why
 crashes_flushed d e f l k h n m o items why goes brought stops = subst (λ (c : Option ℕ). StopsByCrash c items why) (brought.goes.armed ∙ goes.armed) stops.crashes
 
 -- it is ready
@@ -169,12 +171,13 @@ leaves_ready d e l k n m ready = record {
   listed = refl;
   told = refl;
   kept = ready_kept d e l k n m ready;
+  sequence = ready.sequence;
 }
 
 -- and writes its last header
 module _ (d e f : DiskState) (l k h : Option (List Operation)) (n m : Node) (items : List TraceItem) (ready : IsReady d l n e k m) where
   by_point : (left : Point) → ((time : ℕ) → FailsTo time (point_of e k m) left ⊎ EndsTo (point_of e k m) left) → left.disk ≡ f → left.list ≡ h → left.items ≡ items → LeavesBySteps d l n f h items
-  by_point left ends disk listed told = record { last = point_of e k m; left = left; steps = ready.goes.steps; ends = ends; disk = disk; listed = listed; told = told; kept = ready_kept d e l k n m ready }
+  by_point left ends disk listed told = record { last = point_of e k m; left = left; steps = ready.goes.steps; ends = ends; disk = disk; listed = listed; told = told; kept = ready_kept d e l k n m ready; sequence = ready.sequence }
 
   pub leaves_stopped : (why : Stop) → StopsAtHeader (point_of e k m) (crash_at n) f h items why → LeavesBySteps d l n f h items
   leaves_stopped why (before_it is listed told off failed_at before) = by_point (point_of e k m) (λ time. inl AsItWas) (sym is) (sym listed) (sym told)

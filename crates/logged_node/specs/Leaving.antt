@@ -91,8 +91,8 @@ pub data HasUnmounted (d : DiskState) (list : Option (List Operation)) (n : Node
 -- Where it stops: before anything was done, for want of memory; while what is due comes into the journal; while what is live goes home; or at the last header.
 pub data StopsLeaving (d : DiskState) (list : Option (List Operation)) (n : Node) (d' : DiskState) (list' : Option (List Operation)) (items : List TraceItem) (why : Stop) : Type 0 where
   at_first : why ≡ stop.NoMemory → d' ≡ d → list' ≡ list → items ≡ n.items.items → StopsLeaving d list n d' list' items why
-  bringing_in : (m : Node) → HasLeft n m → StopsBehind d list m d' list' items why → SentForRoom m items → StopsLeaving d list n d' list' items why
-  going_home : (e : DiskState) (k : Option (List Operation)) (m : Node) → HasLeftWithAll d list n e k m → StopsBehind e k m d' list' items why → SentSoFar m.log m.items.items items → StopsLeaving d list n d' list' items why
+  bringing_in : (m : Node) → HasLeft n m → StopsBehind 2 d list m d' list' items why → SentForRoom m items → StopsLeaving d list n d' list' items why
+  going_home : (e : DiskState) (k : Option (List Operation)) (m : Node) → HasLeftWithAll d list n e k m → StopsBehind 0 e k m d' list' items why → SentSoFar m.log m.items.items items → StopsLeaving d list n d' list' items why
   at_the_end : (e : DiskState) (k : Option (List Operation)) (m : Node) → IsReady d list n e k m → m.log.clean ≡ false → StopsAtHeader (point_of e k m) (crash_at n) d' list' items why → StopsLeaving d list n d' list' items why
 
 -- Whatever came of it: by steps to a point, and from that, on the disk, by the list and the items that are left, as a run fails or ends.
@@ -105,3 +105,4 @@ pub record LeavesBySteps (d : DiskState) (list : Option (List Operation)) (n : N
   pub listed : left.list ≡ list'
   pub told : left.items ≡ items
   pub kept : KeepsCallsAt n last
+  pub sequence : last.log.sequence ≤ n.log.sequence + 2

@@ -149,8 +149,8 @@ IsLeftAs p left stop.Crashed = left ≡ p
 IsLeftAs p left stop.NoMemory = left ≡ p
 
 -- It came by steps to a point, and is there still; or the disk failed in a write of the step that would come next, which may be in flight, and of which no item tells. So it leaves the disk, its list and
--- the items. On the way it told no call; and only where it crashed is it behind the write at which it was to.
-pub record StopsBehind (d : DiskState) (list : Option (List Operation)) (n : Node) (d' : DiskState) (list' : Option (List Operation)) (items : List TraceItem) (why : Stop) : Type 0 where
+-- the items. On the way it told no call, and so many headers at most came into the journal; and only where it crashed is it behind the write at which it was to.
+pub record StopsBehind (most : ℕ) (d : DiskState) (list : Option (List Operation)) (n : Node) (d' : DiskState) (list' : Option (List Operation)) (items : List TraceItem) (why : Stop) : Type 0 where
   pub last : Point
   pub left : Point
   pub steps : (time : ℕ) → Steps time (point_of d list n) last
@@ -161,4 +161,5 @@ pub record StopsBehind (d : DiskState) (list : Option (List Operation)) (n : Nod
   pub told : left.items ≡ items
   pub kept : KeepsCallsAt n last
   pub unmounts : last.unmounts ≡ n.unmounts
+  pub sequence : last.log.sequence ≤ n.log.sequence + most
   pub crashes : StopsByCrash (crash_at n) items why

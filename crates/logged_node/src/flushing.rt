@@ -129,7 +129,7 @@ fn go_on<D: SharedDisk>(disk: &mut D, node: &mut Node) -> Result<(), Stop>
     requires sequence { node.old.log.sequence + 1 < 2 ^ 64 }
     ensures came { OnOk result (GoesOn (D.state disk.old) (D.list disk.old) node.old (D.state disk.new) (D.list disk.new) node.new) }
     ensures homes { homes_in node.new.items.items ≡ homes_in node.old.items.items }
-    ensures stopped { IfErr result (StopsBehind (D.state disk.old) (D.list disk.old) node.old (D.state disk.new) (D.list disk.new) node.new.items.items) }
+    ensures stopped { IfErr result (StopsBehind 1 (D.state disk.old) (D.list disk.old) node.old (D.state disk.new) (D.list disk.new) node.new.items.items) }
     ensures later { (i : ℕ) → D.faults disk.old i ≤ D.faults disk.new i }
     ensures cause { IfErr result (HasCause (D.state disk.old).count (D.faults disk.old) (D.faults disk.new)) }
 {
@@ -172,7 +172,7 @@ fn begin<D: SharedDisk>(disk: &mut D, node: &mut Node) -> Result<Began, Stop>
     ensures nothing { result ≡ Ok Began.Nothing → HasNothingToFlush node.old.log }
     ensures no_room { result ≡ Ok Began.NoRoom → HasNoRoom node.old.log }
     ensures homes { homes_in node.new.items.items ≡ homes_in node.old.items.items }
-    ensures stopped { IfErr result (StopsBehind (D.state disk.old) (D.list disk.old) node.old (D.state disk.new) (D.list disk.new) node.new.items.items) }
+    ensures stopped { IfErr result (StopsBehind 1 (D.state disk.old) (D.list disk.old) node.old (D.state disk.new) (D.list disk.new) node.new.items.items) }
     ensures later { (i : ℕ) → D.faults disk.old i ≤ D.faults disk.new i }
     ensures cause { IfErr result (HasCause (D.state disk.old).count (D.faults disk.old) (D.faults disk.new)) }
 {
@@ -209,7 +209,7 @@ pub fn flush<D: SharedDisk>(disk: &mut D, node: &mut Node) -> Result<Flushed, St
     ensures no_room { IfOk result (λ b. (b ≡ Flushed.NoRoom) ↔ HasNoRoom node.old.log) }
     ensures grows { OnOk result (node.new.log.sequence ≤ node.old.log.sequence + 1) }
     ensures homes { homes_in node.new.items.items ≡ homes_in node.old.items.items }
-    ensures stopped { IfErr result (StopsBehind (D.state disk.old) (D.list disk.old) node.old (D.state disk.new) (D.list disk.new) node.new.items.items) }
+    ensures stopped { IfErr result (StopsBehind 1 (D.state disk.old) (D.list disk.old) node.old (D.state disk.new) (D.list disk.new) node.new.items.items) }
     ensures later { (i : ℕ) → D.faults disk.old i ≤ D.faults disk.new i }
     ensures cause { IfErr result (HasCause (D.state disk.old).count (D.faults disk.old) (D.faults disk.new)) }
 {

@@ -25,7 +25,7 @@ fn rest<D: SharedDisk>(disk: &mut D, node: &mut Node) -> Result<(), Stop>
     ensures told { OnOk result (node.new.items.items ≡ node.old.items.items ++ TraceItem.Barrier 1 ∷ []) }
     ensures flying { OnOk result (node.new.flying ≡ 0) }
     ensures homes { homes_in node.new.items.items ≡ homes_in node.old.items.items }
-    ensures stopped { IfErr result (StopsBehind (D.state disk.old) (D.list disk.old) node.old (D.state disk.new) (D.list disk.new) node.new.items.items) }
+    ensures stopped { IfErr result (StopsBehind 0 (D.state disk.old) (D.list disk.old) node.old (D.state disk.new) (D.list disk.new) node.new.items.items) }
     ensures later { (i : ℕ) → D.faults disk.old i ≤ D.faults disk.new i }
     ensures cause { IfErr result (HasCause (D.state disk.old).count (D.faults disk.old) (D.faults disk.new)) }
 {
@@ -61,7 +61,7 @@ fn send<D: SharedDisk>(disk: &mut D, node: &mut Node, lock: LockName) -> Result<
     ensures told { OnOk result ((b : ℕ) × (node.new.items.items ≡ node.old.items.items ++ TraceItem.WriteHome 1 b ∷ [])) }
     ensures flying { OnOk result (node.new.flying ≡ node.old.flying + 1) }
     ensures order { SentSoFar node.old.log node.old.items.items node.new.items.items }
-    ensures stopped { IfErr result (StopsBehind (D.state disk.old) (D.list disk.old) node.old (D.state disk.new) (D.list disk.new) node.new.items.items) }
+    ensures stopped { IfErr result (StopsBehind 0 (D.state disk.old) (D.list disk.old) node.old (D.state disk.new) (D.list disk.new) node.new.items.items) }
     ensures later { (i : ℕ) → D.faults disk.old i ≤ D.faults disk.new i }
     ensures cause { IfErr result (HasCause (D.state disk.old).count (D.faults disk.old) (D.faults disk.new)) }
 {
@@ -90,7 +90,7 @@ fn take_one<D: SharedDisk>(disk: &mut D, node: &mut Node, lock: LockName) -> Res
     ensures fewer { OnOk result (waiting node.new.log < waiting node.old.log) }
     ensures one { OnOk result (SendsOne node.old node.new) }
     ensures order { SentSoFar node.old.log node.old.items.items node.new.items.items }
-    ensures stopped { IfErr result (StopsBehind (D.state disk.old) (D.list disk.old) node.old (D.state disk.new) (D.list disk.new) node.new.items.items) }
+    ensures stopped { IfErr result (StopsBehind 0 (D.state disk.old) (D.list disk.old) node.old (D.state disk.new) (D.list disk.new) node.new.items.items) }
     ensures later { (i : ℕ) → D.faults disk.old i ≤ D.faults disk.new i }
     ensures cause { IfErr result (HasCause (D.state disk.old).count (D.faults disk.old) (D.faults disk.new)) }
 {
@@ -112,7 +112,7 @@ fn rest_if_any<D: SharedDisk>(disk: &mut D, node: &mut Node) -> Result<(), Stop>
     ensures home { OnOk result (HasGoneHome (D.state disk.old) (D.list disk.old) node.old (D.state disk.new) (D.list disk.new) node.new) }
     ensures told { OnOk result (node.new.items.items ≡ node.old.items.items ++ last_rest node.old.flying) }
     ensures homes { homes_in node.new.items.items ≡ homes_in node.old.items.items }
-    ensures stopped { IfErr result (StopsBehind (D.state disk.old) (D.list disk.old) node.old (D.state disk.new) (D.list disk.new) node.new.items.items) }
+    ensures stopped { IfErr result (StopsBehind 0 (D.state disk.old) (D.list disk.old) node.old (D.state disk.new) (D.list disk.new) node.new.items.items) }
     ensures later { (i : ℕ) → D.faults disk.old i ≤ D.faults disk.new i }
     ensures cause { IfErr result (HasCause (D.state disk.old).count (D.faults disk.old) (D.faults disk.new)) }
 {
@@ -131,7 +131,7 @@ pub fn go_home<D: SharedDisk>(disk: &mut D, node: &mut Node) -> Result<(), Stop>
     ensures home { OnOk result (HasGoneHome (D.state disk.old) (D.list disk.old) node.old (D.state disk.new) (D.list disk.new) node.new) }
     ensures rests { OnOk result (RestsAsDue node.old.items.items node.new.items.items) }
     ensures order { SentSoFar node.old.log node.old.items.items node.new.items.items }
-    ensures stopped { IfErr result (StopsBehind (D.state disk.old) (D.list disk.old) node.old (D.state disk.new) (D.list disk.new) node.new.items.items) }
+    ensures stopped { IfErr result (StopsBehind 0 (D.state disk.old) (D.list disk.old) node.old (D.state disk.new) (D.list disk.new) node.new.items.items) }
     ensures later { (i : ℕ) → D.faults disk.old i ≤ D.faults disk.new i }
     ensures cause { IfErr result (HasCause (D.state disk.old).count (D.faults disk.old) (D.faults disk.new)) }
 {

@@ -24,7 +24,7 @@ pub fn make_room<D: SharedDisk>(disk: &mut D, node: &mut Node) -> Result<(), Sto
     ensures empty { OnOk result (NothingIsLive node.new.log) }
     ensures grows { OnOk result (node.new.log.sequence ≤ node.old.log.sequence + 1) }
     ensures order { SentSoFar node.old.log node.old.items.items node.new.items.items }
-    ensures stopped { IfErr result (StopsBehind (D.state disk.old) (D.list disk.old) node.old (D.state disk.new) (D.list disk.new) node.new.items.items) }
+    ensures stopped { IfErr result (StopsBehind 1 (D.state disk.old) (D.list disk.old) node.old (D.state disk.new) (D.list disk.new) node.new.items.items) }
     ensures later { (i : ℕ) → D.faults disk.old i ≤ D.faults disk.new i }
     ensures cause { IfErr result (HasCause (D.state disk.old).count (D.faults disk.old) (D.faults disk.new)) }
 {
@@ -45,7 +45,7 @@ fn flush_or_make_room<D: SharedDisk>(disk: &mut D, node: &mut Node) -> Result<()
     requires sequence { node.old.log.sequence + 1 < 2 ^ 64 }
     ensures came { OnOk result (HasCome (D.state disk.old) (D.list disk.old) node.old (D.state disk.new) (D.list disk.new) node.new) }
     ensures sent { SentForRoom node.old node.new.items.items }
-    ensures stopped { IfErr result (StopsBehind (D.state disk.old) (D.list disk.old) node.old (D.state disk.new) (D.list disk.new) node.new.items.items) }
+    ensures stopped { IfErr result (StopsBehind 1 (D.state disk.old) (D.list disk.old) node.old (D.state disk.new) (D.list disk.new) node.new.items.items) }
     ensures later { (i : ℕ) → D.faults disk.old i ≤ D.faults disk.new i }
     ensures cause { IfErr result (HasCause (D.state disk.old).count (D.faults disk.old) (D.faults disk.new)) }
 {
@@ -66,7 +66,7 @@ pub fn bring_in<D: SharedDisk>(disk: &mut D, node: &mut Node) -> Result<(), Stop
     ensures synced { IsCounted node.old → OnOk result (node.new.numbers.changed ≤ node.new.numbers.low) }
     ensures grows { OnOk result (node.new.log.sequence ≤ node.old.log.sequence + 2) }
     ensures sent { SentForRoom node.old node.new.items.items }
-    ensures stopped { IfErr result (StopsBehind (D.state disk.old) (D.list disk.old) node.old (D.state disk.new) (D.list disk.new) node.new.items.items) }
+    ensures stopped { IfErr result (StopsBehind 2 (D.state disk.old) (D.list disk.old) node.old (D.state disk.new) (D.list disk.new) node.new.items.items) }
     ensures later { (i : ℕ) → D.faults disk.old i ≤ D.faults disk.new i }
     ensures cause { IfErr result (HasCause (D.state disk.old).count (D.faults disk.old) (D.faults disk.new)) }
 {

@@ -8,7 +8,7 @@ use Rattle.logged_node.proofs.Stepped.{answers, as_long, has_begun, homes_begun,
 use Rattle.logged_node.proofs.flushing.begin.Goals as goal
 
 pub returns-in-Err-clause-stopped : goal.returns-in-Err-clause-stopped
-returns-in-Err-clause-stopped g c = stops_here (g.D.SharedDisk.state c.args.disk.now) (g.D.SharedDisk.list c.args.disk.now) c.args.node.now c.have_room.new.node.items.items c.in-Err.why c.requires.resting.on.awaits c.in-Err.ensures.why c.have_room.ensures.items
+returns-in-Err-clause-stopped g c = stops_here 1 (g.D.SharedDisk.state c.args.disk.now) (g.D.SharedDisk.list c.args.disk.now) c.args.node.now c.have_room.new.node.items.items c.in-Err.why c.requires.resting.on.awaits c.in-Err.ensures.why c.have_room.ensures.items
 
 pub carry-requires-clause-may : goal.carry-requires-clause-may
 carry-requires-clause-may g c =

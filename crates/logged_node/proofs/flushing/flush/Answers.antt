@@ -29,8 +29,9 @@ loop-disk-preserved g c =
 pub returns-in-Err-go_on-clause-stopped : goal.returns-in-Err-go_on-clause-stopped
 returns-in-Err-go_on-clause-stopped g c =
     let so = c.loop-disk.invariant in
+    let at = still_under_way c.args.node.now (g.D.SharedDisk.state c.loop-disk.disk) c.loop-disk.node so.begun.to (λ none. true≢false (sym c.loop-disk-test.true ∙ c.is_flushing.ensures.1 none)) in
     stops_on (g.D.SharedDisk.state c.args.disk.now) (g.D.SharedDisk.state c.loop-disk.disk) (g.D.SharedDisk.state c.go_on.new.disk) (g.D.SharedDisk.list c.args.disk.now) (g.D.SharedDisk.list c.loop-disk.disk) (g.D.SharedDisk.list c.go_on.new.disk)
-    c.args.node.now c.loop-disk.node c.go_on.new.node.items.items c.in-Err-go_on.why so.begun.goes.steps so.begun.goes.armed (kept_come c.args.node.now (g.D.SharedDisk.state c.loop-disk.disk) c.loop-disk.node so.begun.to) c.in-Err-go_on.ensures.stopped
+    c.args.node.now c.loop-disk.node c.go_on.new.node.items.items c.in-Err-go_on.why 1 1 (let same = at.1.sequence in omega (arith, same)) so.begun.goes.steps so.begun.goes.armed (kept_come c.args.node.now (g.D.SharedDisk.state c.loop-disk.disk) c.loop-disk.node so.begun.to) c.in-Err-go_on.ensures.stopped
 
 pub returns-in-Err-go_on-clause-cause : goal.returns-in-Err-go_on-clause-cause
 returns-in-Err-go_on-clause-cause g c =

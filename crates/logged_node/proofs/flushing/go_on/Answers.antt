@@ -6,7 +6,7 @@ use Rattle.logged_node.proofs.Stepped.{has_gone_on, has_step, homes_going_on, ma
 use Rattle.logged_node.proofs.flushing.go_on.Goals as goal
 
 pub returns-in-Err-clause-stopped : goal.returns-in-Err-clause-stopped
-returns-in-Err-clause-stopped g c = stops_here (g.D.SharedDisk.state c.args.disk.now) (g.D.SharedDisk.list c.args.disk.now) c.args.node.now c.have_room.new.node.items.items c.in-Err.why c.requires.flushing.2.on.awaits c.in-Err.ensures.why c.have_room.ensures.items
+returns-in-Err-clause-stopped g c = stops_here 1 (g.D.SharedDisk.state c.args.disk.now) (g.D.SharedDisk.list c.args.disk.now) c.args.node.now c.have_room.new.node.items.items c.in-Err.why c.requires.flushing.2.on.awaits c.in-Err.ensures.why c.have_room.ensures.items
 
 pub unreachable-requires : goal.unreachable-requires
 unreachable-requires g c = has_step (g.D.SharedDisk.state c.args.disk.now) c.args.node.now c.have_room.new.node c.next_step.new.node c.requires.flushing c.have_room.ensures.node c.in-None.ensures.answer

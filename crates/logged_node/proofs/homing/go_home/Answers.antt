@@ -1,4 +1,5 @@
 use Rattle.std.proofs.Common.{length, ap, ◌∙◌, arith}
+use Rattle.log_values.specs.Log.{LogValue}
 use Rattle.logged_node.proofs.Homeward.{gone_home_on, homeward_none, homeward_on, rest_homes}
 use Rattle.logged_node.proofs.MakingRoom.{moved_kept}
 use Rattle.logged_node.proofs.Onward.{map_err, stops_on}
@@ -24,7 +25,7 @@ loop-lock-preserved g c = record {
 
 pub returns-in-Err-clause-stopped : goal.returns-in-Err-clause-stopped
 returns-in-Err-clause-stopped g c =
-    stops_on (g.D.SharedDisk.state c.args.disk.now) (g.D.SharedDisk.state c.loop-lock.disk) (g.D.SharedDisk.state c.take_one.new.disk) (g.D.SharedDisk.list c.args.disk.now) (g.D.SharedDisk.list c.loop-lock.disk) (g.D.SharedDisk.list c.take_one.new.disk) c.args.node.now c.loop-lock.node c.take_one.new.node.items.items c.in-Err.why c.loop-lock.invariant.came.goes.steps c.loop-lock.invariant.came.goes.armed (moved_kept c.args.node.now c.loop-lock.node c.loop-lock.invariant.came.moves) c.in-Err.ensures.stopped
+    stops_on (g.D.SharedDisk.state c.args.disk.now) (g.D.SharedDisk.state c.loop-lock.disk) (g.D.SharedDisk.state c.take_one.new.disk) (g.D.SharedDisk.list c.args.disk.now) (g.D.SharedDisk.list c.loop-lock.disk) (g.D.SharedDisk.list c.take_one.new.disk) c.args.node.now c.loop-lock.node c.take_one.new.node.items.items c.in-Err.why 0 0 (let same = ap (λ (x : LogValue). x.sequence) c.loop-lock.invariant.came.moves.log in omega (arith, same)) c.loop-lock.invariant.came.goes.steps c.loop-lock.invariant.came.goes.armed (moved_kept c.args.node.now c.loop-lock.node c.loop-lock.invariant.came.moves) c.in-Err.ensures.stopped
 
 pub returns-clause-home : goal.returns-clause-home
 returns-clause-home g c =
@@ -33,7 +34,7 @@ returns-clause-home g c =
 pub returns-clause-stopped : goal.returns-clause-stopped
 returns-clause-stopped g c =
     map_err c.rest_if_any.result _ _
-    (λ why stops. stops_on (g.D.SharedDisk.state c.args.disk.now) (g.D.SharedDisk.state c.loop-lock.disk) (g.D.SharedDisk.state c.rest_if_any.new.disk) (g.D.SharedDisk.list c.args.disk.now) (g.D.SharedDisk.list c.loop-lock.disk) (g.D.SharedDisk.list c.rest_if_any.new.disk) c.args.node.now c.loop-lock.node c.rest_if_any.new.node.items.items why c.loop-lock.invariant.came.goes.steps c.loop-lock.invariant.came.goes.armed (moved_kept c.args.node.now c.loop-lock.node c.loop-lock.invariant.came.moves) stops) c.rest_if_any.ensures.stopped
+    (λ why stops. stops_on (g.D.SharedDisk.state c.args.disk.now) (g.D.SharedDisk.state c.loop-lock.disk) (g.D.SharedDisk.state c.rest_if_any.new.disk) (g.D.SharedDisk.list c.args.disk.now) (g.D.SharedDisk.list c.loop-lock.disk) (g.D.SharedDisk.list c.rest_if_any.new.disk) c.args.node.now c.loop-lock.node c.rest_if_any.new.node.items.items why 0 0 (let same = ap (λ (x : LogValue). x.sequence) c.loop-lock.invariant.came.moves.log in omega (arith, same)) c.loop-lock.invariant.came.goes.steps c.loop-lock.invariant.came.goes.armed (moved_kept c.args.node.now c.loop-lock.node c.loop-lock.invariant.came.moves) stops) c.rest_if_any.ensures.stopped
 
 pub rest_if_any-requires-clause-away : goal.rest_if_any-requires-clause-away
 rest_if_any-requires-clause-away g c = c.next_lock.ensures.none c.in_default.is

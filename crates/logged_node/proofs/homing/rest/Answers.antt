@@ -12,7 +12,7 @@ use Rattle.logged_node.proofs.Waiting.{as_many, none_away_still}
 use Rattle.logged_node.proofs.homing.rest.Goals as goal
 
 pub returns-in-Err-clause-stopped : goal.returns-in-Err-clause-stopped
-returns-in-Err-clause-stopped g c = stops_here (g.D.SharedDisk.state c.args.disk.now) (g.D.SharedDisk.list c.args.disk.now) c.args.node.now c.have_room.new.node.items.items c.in-Err.why c.requires.homing.on.awaits c.in-Err.ensures.why c.have_room.ensures.items
+returns-in-Err-clause-stopped g c = stops_here 0 (g.D.SharedDisk.state c.args.disk.now) (g.D.SharedDisk.list c.args.disk.now) c.args.node.now c.have_room.new.node.items.items c.in-Err.why c.requires.homing.on.awaits c.in-Err.ensures.why c.have_room.ensures.items
 
 pub returns-in-Err-put_barrier-clause-stopped : goal.returns-in-Err-put_barrier-clause-stopped
 returns-in-Err-put_barrier-clause-stopped g c =

@@ -13,7 +13,7 @@ use Rattle.logged_node.proofs.Stepped.{as_long, same_items, with_step}
 use Rattle.logged_node.proofs.homing.send.Goals as goal
 
 pub returns-in-Err-clause-stopped : goal.returns-in-Err-clause-stopped
-returns-in-Err-clause-stopped g c = stops_here (g.D.SharedDisk.state c.args.disk.now) (g.D.SharedDisk.list c.args.disk.now) c.args.node.now c.have_room.new.node.items.items c.in-Err.why c.requires.homing.on.awaits c.in-Err.ensures.why c.have_room.ensures.items
+returns-in-Err-clause-stopped g c = stops_here 0 (g.D.SharedDisk.state c.args.disk.now) (g.D.SharedDisk.list c.args.disk.now) c.args.node.now c.have_room.new.node.items.items c.in-Err.why c.requires.homing.on.awaits c.in-Err.ensures.why c.have_room.ensures.items
 
 pub unreachable-requires : goal.unreachable-requires
 unreachable-requires g c = one_goes c.args.node.now.log c.next_home.new.node.log c.args.lock c.next_home.new.node.block.items c.requires.homing.idle c.requires.next (home_answers c.args.node.now c.have_room.new.node c.next_home.new.node c.args.lock None c.have_room.ensures.node c.in-None.ensures.answer)

@@ -1,6 +1,6 @@
 use Rattle.std.proofs.Common.{true≢false, refl, sym, ◌∙◌, arith}
 use Rattle.logged_node.proofs.Ended.{cause_of_all}
-use Rattle.logged_node.proofs.Onward.{map_err, stops_on}
+use Rattle.logged_node.proofs.Onward.{map_err, stops_few, stops_on}
 use Rattle.logged_node.proofs.Carrying.{ok_map}
 use Rattle.logged_node.proofs.MakingRoom.{in_sync, none_brought, once_brought, sent_none, sent_twice, twice_brought}
 use Rattle.logged_node.proofs.rooms.bring_in.Goals as goal
@@ -29,7 +29,7 @@ returns-then-has_due-clause-synced g c counted =
 pub returns-then-has_due-clause-stopped : goal.returns-then-has_due-clause-stopped
 returns-then-has_due-clause-stopped g c =
     map_err c.flush_or_make_room-then-has_due.result _ _
-    (λ why stops. stops_on (g.D.SharedDisk.state c.args.disk.now) (g.D.SharedDisk.state c.flush_or_make_room.new.disk) (g.D.SharedDisk.state c.flush_or_make_room-then-has_due.new.disk) (g.D.SharedDisk.list c.args.disk.now) (g.D.SharedDisk.list c.flush_or_make_room.new.disk) (g.D.SharedDisk.list c.flush_or_make_room-then-has_due.new.disk) c.args.node.now c.flush_or_make_room.new.node c.flush_or_make_room-then-has_due.new.node.items.items why c.in-Ok.ensures.came.goes.steps c.in-Ok.ensures.came.goes.armed c.in-Ok.ensures.came.flushed.kept stops)
+    (λ why stops. stops_on (g.D.SharedDisk.state c.args.disk.now) (g.D.SharedDisk.state c.flush_or_make_room.new.disk) (g.D.SharedDisk.state c.flush_or_make_room-then-has_due.new.disk) (g.D.SharedDisk.list c.args.disk.now) (g.D.SharedDisk.list c.flush_or_make_room.new.disk) (g.D.SharedDisk.list c.flush_or_make_room-then-has_due.new.disk) c.args.node.now c.flush_or_make_room.new.node c.flush_or_make_room-then-has_due.new.node.items.items why 1 2 (let is = c.in-Ok.ensures.came.flushed.sequence in omega (arith, is)) c.in-Ok.ensures.came.goes.steps c.in-Ok.ensures.came.goes.armed c.in-Ok.ensures.came.flushed.kept stops)
     c.flush_or_make_room-then-has_due.ensures.stopped
 
 pub returns-then-has_due-clause-cause : goal.returns-then-has_due-clause-cause
@@ -60,3 +60,6 @@ returns-then-has_due-clause-grows g c =
 
 pub returns-else-has_due-clause-grows : goal.returns-else-has_due-clause-grows
 returns-else-has_due-clause-grows g c = (let a = c.in-Ok.ensures.came.flushed.sequence in omega (arith, a))
+
+pub returns-in-Err-clause-stopped : goal.returns-in-Err-clause-stopped
+returns-in-Err-clause-stopped g c = stops_few (g.D.SharedDisk.state c.args.disk.now) (g.D.SharedDisk.state c.flush_or_make_room.new.disk) (g.D.SharedDisk.list c.args.disk.now) (g.D.SharedDisk.list c.flush_or_make_room.new.disk) c.args.node.now c.flush_or_make_room.new.node.items.items c.in-Err.why 1 2 (omega arith) c.in-Err.ensures.stopped
