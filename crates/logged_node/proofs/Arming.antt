@@ -1,10 +1,11 @@
 -- At which write a node is to crash.
-use Rattle.std.proofs.Common.{◌≡◌, ◌+◌, ℕ, true, false, Bool, cond, List, [], ◌∷◌, ◌++◌, Option, None, Some, refl, sym, ap, ap₂, subst, ◌∙◌, arith}
+use Rattle.std.proofs.Common.{◌≡◌, ◌<◌, ◌+◌, ℕ, true, false, Bool, cond, List, [], ◌∷◌, ◌++◌, Option, None, Some, refl, sym, ap, ap₂, subst, ◌∙◌, arith}
 use Rattle.std.proofs.lemmas.List.Sums.{sum_by-append, sum_by-cons}
 use Rattle.run_rules.specs.Follows.{is_write_of}
 use Rattle.trace_text.specs.declared.item.TraceItem.{TraceItem}
 use Rattle.logged_node.specs.Deeds.{IsLastWrite, IsNotLastWrite, one_less}
-use Rattle.logged_node.specs.Nodes.{Awaits, crash_of, writes_in}
+use Rattle.logged_node.specs.Nodes.{Awaits, IsBeforeCrash, crash_of, writes_in}
+use Rattle.logged_node.proofs.Blocks.{none_some, some_same}
 
 abbrev counted : TraceItem → ℕ
 counted x = cond (is_write_of 1 x) 1 0
@@ -49,3 +50,17 @@ crash_stays armed items items' item is more = ap (crash_of armed) more ∙ by ar
     by : (o : Option ℕ) → crash_of o (items ++ item ∷ []) ≡ crash_of o items
     by None = refl
     by (Some n) = ap (λ (k : ℕ). Some (k + n)) (writes_same items item is)
+
+-- ---- how it stops
+
+-- one that awaits its write hasn't come to it
+pub before_crash : (armed : Option ℕ) (items : List TraceItem) → Awaits armed → IsBeforeCrash (crash_of armed items) items
+before_crash armed items awaits k is = by armed awaits is
+  where
+    by : (o : Option ℕ) → Awaits o → crash_of o items ≡ Some k → writes_in items < k
+    by None awaits is = absurd (none_some is)
+    by (Some left) awaits is = (let same : writes_in items + left ≡ k = some_same is in omega (arith, awaits, same))
+
+-- so with items that are the same
+pub before_still : (armed : Option ℕ) (items items' : List TraceItem) → Awaits armed → items' ≡ items → IsBeforeCrash (crash_of armed items) items'
+before_still armed items items' awaits same = subst (IsBeforeCrash (crash_of armed items)) (sym same) (before_crash armed items awaits)

@@ -1,5 +1,5 @@
 -- A flush begins, and makes its first step; or it doesn't, and the node is as it was.
-use Rattle.std.proofs.Common.{◌≡◌, ◌≢◌, ◌≤◌, ◌<◌, ◌+◌, ◌^◌, ℕ, List, length, Option, None, Some, refl, sym, ap, ap₂, subst, ◌∙◌, arith}
+use Rattle.std.proofs.Common.{◌≡◌, ◌≢◌, ◌≤◌, ◌<◌, ◌+◌, ◌^◌, ℕ, inl, inr, List, length, Option, None, Some, refl, sym, ap, ap₂, subst, ◌∙◌, arith}
 use Rattle.std.specs.Prelude.{IfErr, Result}
 use Rattle.std.specs.FinMap as table
 use Rattle.log_values.specs.Blocks as set
@@ -18,14 +18,16 @@ use Rattle.log_widths.specs.Widths.{HasLogWidths}
 use Rattle.log_widths.proofs.Staying.{beginning_keeps_widths}
 use Rattle.node_journal.proofs.Lengths.{chunks_length}
 use Rattle.logged_steps.specs.Steps.{BeginsFlush, BeginsHeader, Here, Steps, Then}
+use Rattle.logged_steps.proofs.Chunks.{due_is_some}
 use Rattle.logged_steps.proofs.Telling.{steps_go_on}
 use Rattle.shared_disk.specs.Disk.{DiskState, Operation, flight_to}
 use Rattle.trace_text.specs.declared.item.TraceItem.{TraceItem}
 use Rattle.logged_node.specs.declared.ends.Stop.{Stop}
 use Rattle.logged_node.specs.declared.node.Node.{Node}
-use Rattle.logged_node.specs.Ends.{IfCrashed, IfFailed, IfMade}
-use Rattle.logged_node.specs.Flushing.{FailsAt, HasBegun, HasNoRoom, HasNothingToFlush, IsAsItWas, IsCarried, IsFlushing, MayCarry, number_of, of_all, of_none}
-use Rattle.logged_node.specs.Nodes.{Awaits, IsLogOf, IsNodeOn, IsResting, IsSmall, KeepsView, NoneGoesHome, StopsBehind, crash_at, point_of, writes_in}
+use Rattle.logged_node.specs.Ends.{FailedAt, IfCrashed, IfFailed, IfMade}
+use Rattle.logged_node.specs.Flushing.{CanFlush, FailsAt, HasBegun, HasNoRoom, HasNothingToFlush, IsAsItWas, IsCarried, IsFlushing, MayCarry, block_of, number_of, of_all, of_none}
+use Rattle.logged_node.specs.Homing.{homes_in}
+use Rattle.logged_node.specs.Nodes.{Awaits, IsAtCrash, IsLogOf, IsNodeOn, IsResting, IsSmall, KeepsView, NoneGoesHome, StopsBehind, crash_at, point_of}
 use Rattle.logged_node.proofs.Blocks.{blocks_begin, none_some, some_same}
 use Rattle.logged_node.proofs.Disks.{same_disk}
 use Rattle.logged_node.proofs.Flushes.{may_carry}
@@ -48,6 +50,16 @@ nothing_is log new bytes (answers.nothing none due live same) = ((due, live), sa
 pub no_room_is : (log new : LogValue) (bytes : List ℕ) → FlushAnswer log new bytes (Some step.NoRoom) → HasNoRoom log × (new ≡ log)
 no_room_is log new bytes (no_room none due stuck home same) = ((due, stuck, home), same)
 no_room_is log new bytes (a_step m f _ begins flush made) = absurd (is_step m new f bytes step.NoRoom made refl)
+
+-- where a flush begins that wasn't begun before
+pub can_flush : (log new : LogValue) (bytes : List ℕ) (s : LogStep) → log.flush ≡ None → FlushAnswer log new bytes (Some s) → s ≢ step.NoRoom → CanFlush log
+can_flush log new bytes _ idle (no_room none due stuck home same) off = absurd (off refl)
+can_flush log new bytes s idle (a_step m f _ begins flush made) off = by m begins
+  where
+    by : (x : LogValue) → Begins log x → CanFlush log
+    by _ (with_all none due room) = inl (due, room)
+    by _ (alone none home some stuck) = inr ((λ both. stuck both.0 both.1), home, some)
+    by _ (goes_on g there) = absurd (none_some (sym idle ∙ there))
 
 -- what began, and its first step
 record Started (log new : LogValue) (bytes : List ℕ) (s : LogStep) : Type 0 where
@@ -97,8 +109,8 @@ module _ (d : DiskState) (l : Option (List Operation)) (n : Node) (rest : IsRest
   none_flies : (b : ℕ) (bytes : List ℕ) → flight_to (d.in_flight 1) b ≡ Some bytes → ⊥
   none_flies b bytes is = none_some (ap (λ fs. flight_to fs b) (sym rest.none) ∙ is)
 
-  few_fly : length (d.in_flight 1) ≤ 0
-  few_fly = (let none = ap length rest.none in omega (arith, none))
+  none_fly : length (d.in_flight 1) ≡ 0
+  none_fly = ap length rest.none
 
   kept_begun : (m : LogValue) (k : ℕ) → Begins n.log m → KeepsView n (begun_at m k)
   kept_begun m k begins = record { view = refl; answered = refl; changed = refl; journal = its_journal m begins; unmounts = refl }
@@ -116,7 +128,8 @@ module _ (d : DiskState) (l : Option (List Operation)) (n : Node) (rest : IsRest
     is = refl;
     small = (let long = chunks_length n.log.journal.size n.log.journal.jid (due n.log) rest.on.sound.size in let few = rest.small in omega (arith, long, few));
     flies = λ b bytes is. absurd (none_flies b bytes is);
-    few = few_fly;
+    many = none_fly;
+    some = due_is_some n.log rest.on.sound.size is_due;
     home = rest.home;
     told = tt;
     kind = of_all (is_due, room) refl refl refl;
@@ -135,7 +148,8 @@ module _ (d : DiskState) (l : Option (List Operation)) (n : Node) (rest : IsRest
     is = refl;
     small = (let long = alone_takes n.log.journal.size n.log.journal.jid flush_none rest.on.sound.size refl refl in omega (arith, long));
     flies = λ b bytes is. absurd (none_flies b bytes is);
-    few = few_fly;
+    many = none_fly;
+    some = tt;
     home = rest.home;
     told = tt;
     kind = of_none (λ both. stuck both.0 both.1) some refl refl refl refl home rest.small;
@@ -208,8 +222,11 @@ module _ (law : WidthsAreNumbers) (d d' : DiskState) (l l' : Option (List Operat
     to = (onward.comes law n d d' l l' one m n' its_start.flush s flushing more_still m_is items long its_start.made n'_is flying awaits done).0;
   }
 
-  pub stops_beginning : (r : Result (Unit {0}) Stop) → IfMade r Carried → IfErr r (λ why. IfCrashed why (crash_at m ≡ Some (writes_in n'.items.items))) → IfErr r (λ why. IfFailed why (FailsAt m.block.items (point_of d l m) d' l' s))
-      → IfErr r (λ why. IfFailed why (n'.items.items ≡ m.items.items)) → IfErr r (λ why. StopsBehind d l n d' l' n'.items.items why)
-  stops_beginning r done crashed failed kept =
-      map_err r (StopsBehind d l one d' l' n'.items.items) (StopsBehind d l n d' l' n'.items.items) (λ why stops. stops_on d d d' l l l' n one n'.items.items why its_begin.steps refl stops)
-      (onward.stops law n d d' l l' one m n' its_start.flush s flushing more_still m_is items long its_start.made r done crashed failed kept)
+  pub stops_beginning : (r : Result (Unit {0}) Stop) → IfMade r Carried → IfErr r (λ why. IfCrashed why (IsAtCrash (crash_at m) n'.items.items)) → IfErr r (λ why. IfFailed why (FailsAt m.block.items (point_of d l m) d' l' s))
+      → IfErr r (λ why. FailedAt why (block_of s)) → IfErr r (λ why. IfFailed why (n'.items.items ≡ m.items.items)) → IfErr r (λ why. StopsBehind 1 d l n d' l' n'.items.items why)
+  stops_beginning r done crashed failed failed_at kept =
+      map_err r (StopsBehind 1 d l one d' l' n'.items.items) (StopsBehind 1 d l n d' l' n'.items.items) (λ why stops. stops_on d d d' l l l' n one n'.items.items why 1 1 (let same = flushing.sequence in omega (arith, same)) its_begin.steps refl (kept_begun d l n rest its_start.first (number_of n.numbers s) its_start.begins) stops)
+      (onward.stops law n d d' l l' one m n' its_start.flush s flushing more_still m_is items long its_start.made r done crashed failed failed_at kept)
+
+  pub homes_beginning : (r : Result (Unit {0}) Stop) → IfMade r Carried → IfErr r (λ why. IfFailed why (n'.items.items ≡ m.items.items)) → homes_in n'.items.items ≡ homes_in n.items.items
+  homes_beginning r done kept = onward.homes law n d d' l l' one m n' its_start.flush s flushing more_still m_is items long its_start.made r done kept

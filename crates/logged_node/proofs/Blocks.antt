@@ -3,7 +3,7 @@ use Rattle.std.proofs.Common.{◌≡◌, ◌<◌, ◌+◌, ℕ, ◌⊎◌, inl, 
 use Rattle.std.specs.FinMap as table
 use Rattle.std.specs.Prelude.{if◌then◌else◌}
 use Rattle.log_values.specs.Blocks as set
-use Rattle.log_values.specs.Flushing.{Begins, FlushStep, alone, at_stage, behind_tail, first_place, goes_on, left_from, live_behind, logged_over, settled, with_all}
+use Rattle.log_values.specs.Flushing.{Begins, FlushStep, alone, at_stage, first_place, goes_on, left_from, live_behind, logged_over, settled, with_all}
 use Rattle.log_values.specs.Flushing as steps
 use Rattle.log_values.specs.Log.{Entry, Flush, LogValue, Stage, Version}
 use Rattle.log_values.specs.Log.Stage.{Ending, Headed, Writing}

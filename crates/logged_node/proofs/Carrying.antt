@@ -1,8 +1,9 @@
 -- How a step of a flush was carried out, by a write or by a barrier.
-use Rattle.std.proofs.Common.{◌≡◌, ◌≢◌, ◌+◌, ℕ, suc, List, [], ◌∷◌, ◌++◌, length, Option, None, Ok, Err, refl, ap, ◌∙◌, arith}
+use Rattle.std.proofs.Common.{◌≡◌, ◌≢◌, ◌+◌, ℕ, suc, true, List, [], ◌∷◌, ◌++◌, length, Option, None, Some, Ok, Err, refl, ap, ◌∙◌, arith}
 use Rattle.std.proofs.lemmas.List.{append_assoc}
-use Rattle.std.specs.Prelude.{OnOk, Result}
+use Rattle.std.specs.Prelude.{IfErr, OnOk, Result}
 use Rattle.log_values.specs.declared.steps.LogStep.TheVariants as step
+use Rattle.run_rules.specs.Follows.{is_write_of}
 use Rattle.shared_disk.specs.Disk.{DiskState, Operation}
 use Rattle.logged_steps.specs.Points.{Point}
 use Rattle.logged_steps.specs.Steps.{GainsBarrier, with_barrier, with_write}
@@ -11,10 +12,10 @@ use Rattle.trace_text.specs.declared.item.TraceItem.TheVariants as trace
 use Rattle.logged_node.specs.declared.ends.Stop.{Stop}
 use Rattle.logged_node.specs.declared.ends.Stop.TheVariants as stop
 use Rattle.logged_node.specs.declared.node.Node.{Node}
-use Rattle.logged_node.specs.Ends.{IfMade}
+use Rattle.logged_node.specs.Ends.{IfCrashed, IfMade, IsOfDisk}
 use Rattle.logged_node.specs.Flushing.{IsCarried}
 use Rattle.logged_node.specs.Flushing as carried
-use Rattle.logged_node.specs.Nodes.{crash_at, crash_of, numbers_of, point_of}
+use Rattle.logged_node.specs.Nodes.{IsAtCrash, crash_at, crash_of, numbers_of, point_of, writes_in}
 use Rattle.logged_node.proofs.Arming.{crash_stays}
 use Rattle.logged_node.proofs.Disks.{length_with}
 
@@ -56,7 +57,22 @@ one_more_flies d d' l l' n n' b bytes item was more made = (
     omega (arith, was, more, long)
     )
 
+-- where it crashed that write is its last item
+pub at_crash : (d d' : DiskState) (l l' : Option (List Operation)) (n n' : Node) (b : ℕ) (bytes : List ℕ) (item : TraceItem) (r : Result (Unit {0}) Stop) → is_write_of 1 item ≡ true
+    → IfMade r (point_of d' l' n' ≡ with_write (point_of d l n) b bytes l' n.log item) → IfErr r (λ why. IfCrashed why (crash_at n ≡ Some (writes_in n'.items.items))) → IfErr r (λ why. IfCrashed why (IsAtCrash (crash_at n) n'.items.items))
+at_crash d d' l l' n n' b bytes item (Ok _) write made crashed = tt
+at_crash d d' l l' n n' b bytes item (Err stop.Crashed) write made crashed = record { before = n.items.items; it = item; told = ap (λ (x : Point). x.items) made; write = write; is = crashed }
+at_crash d d' l l' n n' b bytes item (Err (stop.DiskFailed block rise)) write made crashed = tt
+at_crash d d' l l' n n' b bytes item (Err stop.NoMemory) write made crashed = tt
+
 -- ---- a barrier
+
+-- it doesn't crash there
+pub no_crash : (r : Result (Unit {0}) Stop) (P : Type 0) → IfErr r IsOfDisk → IfErr r (λ why. IfCrashed why P)
+no_crash (Ok _) P of = tt
+no_crash (Err stop.Crashed) P of = absurd of
+no_crash (Err (stop.DiskFailed block rise)) P of = tt
+no_crash (Err stop.NoMemory) P of = tt
 
 abbrev committed : Point → Point
 committed x = record x { items = x.items ++ trace.Commit 1 x.log.sequence x.numbers.begun ∷ []; numbers = record x.numbers { low = x.numbers.begun } }

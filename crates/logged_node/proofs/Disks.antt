@@ -44,3 +44,7 @@ flies_elsewhere (f ∷ fs) new c off = by (nat_lt new.block f.block) (flies_else
 pub none_in : (fs : List Flight) → length fs ≤ 0 → fs ≡ []
 none_in [] low = refl
 none_in (f ∷ fs) low = absurd (omega (arith, low))
+
+pub flies_some : (fs : List Flight) → 1 ≤ length fs → fs ≢ []
+flies_some [] low is = absurd (omega (arith, low))
+flies_some (f ∷ fs) low is = cc

@@ -9,7 +9,7 @@ use Rattle.logged_node.specs.declared.ends.Stop.TheVariants as stop
 use Rattle.logged_node.specs.declared.node.Node.{Node}
 use Rattle.logged_node.specs.Ends.{HasCause}
 use Rattle.logged_node.specs.Flushing.{GoesBySteps, HasComeTo, HasFlushed, IsFlushing, in_journal, under_way}
-use Rattle.logged_node.specs.Nodes.{point_of}
+use Rattle.logged_node.specs.Nodes.{KeepsView, point_of}
 use Rattle.logged_node.proofs.Blocks.{none_some}
 use Rattle.logged_node.proofs.Disks.{same_on}
 
@@ -25,6 +25,10 @@ still_under_way start d n (in_journal has) some = absurd (some has.resting.idle)
 pub now_in_journal : (start : Node) (d : DiskState) (n : Node) → HasComeTo start d n → n.log.flush ≡ None → HasFlushed start d n
 now_in_journal start d n (under_way f at) none = absurd (none_some (sym none ∙ at.is))
 now_in_journal start d n (in_journal has) none = has
+
+pub kept_come : (start : Node) (d : DiskState) (n : Node) → HasComeTo start d n → KeepsView start n
+kept_come start d n (under_way f at) = at.kept
+kept_come start d n (in_journal has) = has.kept
 
 -- ---- causes
 

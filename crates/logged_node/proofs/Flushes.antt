@@ -1,5 +1,5 @@
 -- A step of a flush, carried out on the disk.
-use Rattle.std.proofs.Common.{◌≡◌, ◌≤◌, ◌<◌, ℕ, zero, suc, List, [], ◌∷◌, length, Option, None, Some, refl, sym, ap, subst, subst₂, ◌∙◌, arith}
+use Rattle.std.proofs.Common.{◌≡◌, ◌<◌, ℕ, zero, suc, List, [], ◌∷◌, length, Option, None, Some, refl, sym, ap, subst, subst₂, ◌∙◌, arith}
 use Rattle.std.specs.Prelude.{slice_get}
 use Rattle.log_layout.specs.Transactions.{after}
 use Rattle.log_rings.specs.Flights.{chunk_place}
@@ -19,7 +19,7 @@ use Rattle.std.proofs.lemmas.Bool.Decides.{nat_tests}
 use Rattle.log_values.specs.Transactions.{flushed_as}
 use Rattle.shared_disk.specs.Disk.{DiskState, flight_to}
 use Rattle.log_values.specs.Flushing.{Begins, FlushAnswer, a_step, no_room, nothing}
-use Rattle.logged_node.specs.Flushing.{IsFlownBlock, IsFlushing, MayCarry, most_flown}
+use Rattle.logged_node.specs.Flushing.{IsFlownBlock, IsFlushing, MayCarry, how_many_fly}
 use Rattle.logged_node.specs.declared.node.Node.{Node}
 use Rattle.logged_node.proofs.Blocks.{none_some, some_same}
 
@@ -101,7 +101,7 @@ module _ (start : Node) (d : DiskState) (n : Node) (f : Flush) (at : IsFlushing 
   chunk_block k stage low = (
     at.on.places (chunk_place n.log k) (chunk_in n.log f sound at.is k low),
     free_block (block_at n.log.journal (chunk_place n.log k)) taken,
-    (let few = subst (λ s. length (d.in_flight 1) ≤ most_flown s) stage at.few in let small = at.small in omega (arith, few, small, low)),
+    (let few = subst (λ s. length (d.in_flight 1) ≡ how_many_fly s) stage at.many in let small = at.small in omega (arith, few, small, low)),
   )
     where
       chunks_low : length (flush_chunks n.log f) < n.log.journal.length
@@ -118,7 +118,7 @@ module _ (start : Node) (d : DiskState) (n : Node) (f : Flush) (at : IsFlushing 
   head_block sequence stage = (
     at.on.places (head_place n.log f) (head_in n.log f sound at.is),
     free_block (block_at n.log.journal (head_place n.log f)) (λ bytes flies. subst (λ s. IsFlownBlock n.log f s (block_at n.log.journal (head_place n.log f))) stage (at.flies (block_at n.log.journal (head_place n.log f)) bytes flies)),
-    (let few = subst (λ s. length (d.in_flight 1) ≤ most_flown s) stage at.few in omega (arith, few)),
+    (let few = subst (λ s. length (d.in_flight 1) ≡ how_many_fly s) stage at.many in omega (arith, few)),
   )
 
   pub may_carry : (new : LogValue) (bytes : List ℕ) (s : LogStep) → FlushStep n.log new f bytes s → MayCarry d s

@@ -28,7 +28,7 @@ use Rattle.std.proofs.lemmas.Bool.Decides.{nat_tests}
 use Rattle.node_journal.specs.Encoding.{content_of, metadata_of, size_of, size_with}
 use Rattle.shared_disk.specs.Disk.{DiskState, Flight, flight_to, with_flight}
 use Rattle.trace_text.specs.declared.item.TraceItem.TheVariants as trace
-use Rattle.logged_node.specs.Flushing.{FliesAsFlushed, HasComeTo, HasFlushed, IsDone, IsFlownBlock, IsFlushing, IsKind, in_journal, left_at, left_of, most_flown, of_all, of_none, steps_left, under_way}
+use Rattle.logged_node.specs.Flushing.{FliesAsFlushed, HasComeTo, IsDone, IsFlownBlock, IsFlushing, IsKind, in_journal, how_many_fly, left_at, left_of, of_all, of_none, steps_left, under_way}
 use Rattle.logged_node.specs.Flushing as came
 use Rattle.logged_node.specs.Nodes.{Awaits, IsLogOf, IsNodeOn, IsSameDisk, IsSmall, KeepsView, NoneGoesHome}
 use Rattle.logged_node.specs.declared.node.Node.{Node}
@@ -214,7 +214,8 @@ module _ (start : Node) (d d' : DiskState) (n n' : Node) (f : Flush) (bytes : Li
       is = ap (λ (l : LogValue). l.flush) log;
       small = subst (λ (l : LogValue). length (flush_chunks l (record f { stage = Writing (k + 1) })) < 400) (sym log) at.small;
       flies = subst (λ (l : LogValue). FliesAsFlushed d' l (record f { stage = Writing (k + 1) })) (sym log) flies;
-      few = (let long = ap length flights ∙ length_with (d.in_flight 1) (record { block = b; bytes = bytes }) in let old = subst (λ s. length (d.in_flight 1) ≤ most_flown s) stage at.few in omega (arith, long, old));
+      many = (let long = ap length flights ∙ length_with (d.in_flight 1) (record { block = b; bytes = bytes }) in let old = subst (λ s. length (d.in_flight 1) ≡ how_many_fly s) stage at.many in omega (arith, long, old));
+      some = subst (λ (l : LogValue). 1 ≤ length (flush_chunks l (record f { stage = Writing (k + 1) }))) (sym log) (let least = inside in omega (arith, least));
       home = subst NoneGoesHome (sym log) at.home;
       told = tt;
       kind = staged (Writing (k + 1)) log;
@@ -249,7 +250,8 @@ module _ (start : Node) (d d' : DiskState) (n n' : Node) (f : Flush) (bytes : Li
       is = ap (λ (l : LogValue). l.flush) log;
       small = subst (λ (l : LogValue). length (flush_chunks l (record f { stage = Ending })) < 400) (sym log) at.small;
       flies = λ b x is. absurd (none_some (ap (λ fs. flight_to fs b) (sym none) ∙ is));
-      few = (let long = ap length none in omega (arith, long));
+      many = (let long = ap length none in omega (arith, long));
+      some = tt;
       home = subst NoneGoesHome (sym log) (λ b e x is flies. settled_still (table.get n.log.live b) e x (sym (settles b) ∙ is) flies);
       told = tt;
       kind = kind_still (record f { stage = Ending }) refl refl (ap (λ (l : LogValue). l.fresh) log) (ap (λ (l : LogValue). l.gone) log) (λ home. subst AllAreHome (sym log) (settled_home live settles home)) at.kind;
@@ -270,7 +272,8 @@ module _ (start : Node) (d d' : DiskState) (n n' : Node) (f : Flush) (bytes : Li
       is = ap (λ (l : LogValue). l.flush) log;
       small = subst (λ (l : LogValue). length (flush_chunks l (record f { stage = Headed tail })) < 400) (sym log) at.small;
       flies = subst (λ (l : LogValue). FliesAsFlushed d' l (record f { stage = Headed tail })) (sym log) flies;
-      few = (let long = ap length flights ∙ length_with (d.in_flight 1) (record { block = b; bytes = bytes }) in let old = none_before in omega (arith, long, old));
+      many = (let long = ap length flights ∙ length_with (d.in_flight 1) (record { block = b; bytes = bytes }) in let old = none_before in omega (arith, long, old));
+      some = tt;
       home = subst NoneGoesHome (sym log) at.home;
       told = (b, n.items.items, items ∙ ap₂ (λ (s u : ℕ). n.items.items ++ trace.WriteHead 1 b s u ∷ []) (ap after (sym (ap (λ (l : LogValue). l.sequence) log))) (sym same_begun));
       kind = staged (Headed tail) log;
@@ -279,7 +282,7 @@ module _ (start : Node) (d d' : DiskState) (n n' : Node) (f : Flush) (bytes : Li
   )
     where
       none_before : length (d.in_flight 1) ≤ 0
-      none_before = subst (λ s. length (d.in_flight 1) ≤ most_flown s) stage at.few
+      none_before = (let none = subst (λ s. length (d.in_flight 1) ≡ how_many_fly s) stage at.many in omega (arith, none))
 
       only : flight_to (d'.in_flight 1) ≡ flight_to (with_flight [] (record { block = b; bytes = bytes }))
       only = ap (λ (fs : List Flight). flight_to fs) (flights ∙ ap (λ (fs : List Flight). with_flight fs (record { block = b; bytes = bytes })) (none_in (d.in_flight 1) none_before))

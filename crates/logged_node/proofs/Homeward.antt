@@ -1,5 +1,5 @@
 -- A live block is sent home, or a barrier made: a step of the node, which takes blocks home still.
-use Rattle.std.proofs.Common.{◌≡◌, ◌≤◌, ◌<◌, ◌+◌, ℕ, suc, ◌⊎◌, inl, inr, Bool, true, false, List, [], ◌∷◌, length, Option, None, Some, refl, sym, ap, ap₂, subst, ◌∙◌, arith}
+use Rattle.std.proofs.Common.{◌≡◌, ◌≤◌, ◌<◌, ◌+◌, ℕ, suc, ◌⊎◌, inl, inr, Bool, true, false, List, [], ◌∷◌, length, Option, None, Some, Ok, Err, refl, sym, ap, ap₂, subst, ◌∙◌, arith}
 use Rattle.std.specs.Prelude.{◌==◌, IfErr, Result, nat_lt, if◌then◌else◌}
 use Rattle.std.specs.FinMap as table
 use Rattle.std.specs.Ordering.{nat_cmp}
@@ -21,6 +21,7 @@ use Rattle.log_values.proofs.Homing.{homing_sound}
 use Rattle.log_widths.specs.Widths.{HasLogWidths}
 use Rattle.log_widths.proofs.Staying.{homing_keeps_widths, settling_keeps_widths}
 use Rattle.lone_logs.specs.States.{flies_home}
+use Rattle.logged_steps.specs.Fails.{AsItWas, InAWrite}
 use Rattle.logged_steps.specs.Points.{Point}
 use Rattle.logged_steps.specs.Steps.{GainsBarrier, GainsWrite, GoesHome, Here, Rests, Steps, Then, with_barrier, with_write}
 use Rattle.shared_disk.specs.Disk.{DiskState, Flight, Operation, after_barrier, after_write, flight_to, with_flight}
@@ -30,16 +31,16 @@ use Rattle.logged_node.specs.declared.ends.Stop.{Stop}
 use Rattle.logged_node.specs.declared.ends.Stop.TheVariants as stop
 use Rattle.logged_node.specs.declared.node.Node.{Node}
 use Rattle.logged_node.specs.Deeds.{MayBeWritten, a_write, no_write}
-use Rattle.logged_node.specs.Ends.{IfCrashed, IfFailed, IfMade, IsOfDisk}
-use Rattle.logged_node.specs.Homing.{GoesHomeward, HasGoneHome, IsHoming, MovesHome, at_home, waiting}
-use Rattle.logged_node.specs.Nodes.{Awaits, FailsBehind, IsLogOf, IsNodeOn, IsResting, NoneGoesHome, StopsBehind, as_it_was, crash_at, crash_of, in_a_write, point_of, writes_in}
-use Rattle.logged_node.proofs.Arming.{crash_stays}
+use Rattle.logged_node.specs.Ends.{FailedAt, IfCrashed, IfFailed, IfMade, IsOfDisk}
+use Rattle.logged_node.specs.Homing.{GoesHomeward, HasGoneHome, IsHoming, MovesHome, SentSoFar, at_home, homes_in, waiting}
+use Rattle.logged_node.specs.Nodes.{Awaits, IsAtCrash, IsLogOf, IsNodeOn, IsResting, KeepsView, NoneGoesHome, StopsBehind, crash_at, crash_of, point_of}
+use Rattle.logged_node.proofs.Arming.{before_still, crash_stays}
 use Rattle.logged_node.proofs.Blocks.{none_some, was_settled}
-use Rattle.logged_node.proofs.Disks.{flies_elsewhere, length_with, same_barrier, same_disk, same_written}
+use Rattle.logged_node.proofs.Disks.{flies_elsewhere, flies_some, length_with, same_barrier, same_disk, same_written}
 use Rattle.logged_node.proofs.Ended.{goes_behind}
 use Rattle.logged_node.proofs.Going.{on_still, small_on}
-use Rattle.logged_node.proofs.Onward.{if_crashed, if_failed, map_err, stops_at}
-use Rattle.logged_node.proofs.Ordering.{order_none, order_on, order_sent, order_settled}
+use Rattle.logged_node.proofs.Onward.{FailsThere, as_it_was, if_crashed, if_failed, kept_here, left_same, map_err, stops_at}
+use Rattle.logged_node.proofs.Ordering.{homes_more, order_none, order_on, order_sent, order_settled, so_far_same, so_far_sent}
 use Rattle.logged_node.proofs.Waiting.{one_fewer}
 
 -- ---- what flies
@@ -208,19 +209,47 @@ module _ (d d' : DiskState) (l l' : Option (List Operation)) (n m n' : Node) (lo
   steps : Written × Gained → (time : ℕ) → Steps time p (point_of d' l' n')
   steps both time = sends (point_of d' l' n') (q_is both.0) both.1 time
 
-  fails : MayBeWritten d l b bytes d' l' → FailsBehind p d' l'
-  fails (no_write is same) = as_it_was is same
-  fails (a_write is gains) = in_a_write (with_write p b bytes l' m.log (trace.WriteHome 1 b)) (trace.WriteHome 1 b) (λ time. sends (with_write p b bytes l' m.log (trace.WriteHome 1 b)) refl gains time) refl refl is refl
+  fails : MayBeWritten d l b bytes d' l' → FailsThere p d' l' (Some b)
+  fails (no_write is same) = as_it_was p d' l' (Some b) is same
+  fails (a_write is gains) = record {
+    left = record p { disk = after_write d 1 b bytes; list = l'; log = m.log };
+    fails = λ time. InAWrite b bytes l' m.log (trace.WriteHome 1 b) refl (GoesHome refl m.log lock b bytes l' answer (record { inside = inside; whole = long ∙ at.on.block; free = free }) gains);
+    exactly = inr (bytes, refl);
+    disk = sym is;
+    listed = refl;
+    told = refl;
+  }
+
+  keeps : Written × Gained → KeepsView n n' × (n'.log.sequence ≤ n.log.sequence + 0)
+  keeps both =
+      let is = q_is both.0 in
+      let same : n'.log.sequence ≡ n.log.sequence = ap (λ (x : Point). x.log.sequence) is ∙ ap (λ (x : LogValue). x.sequence) goes.1 in (
+        record {
+          view = ap (λ (x : Point). x.view) is;
+          answered = ap (λ (x : Point). x.numbers.answered) is;
+          changed = ap (λ (x : Point). x.numbers.changed) is;
+          journal = ap (λ (x : Point). x.log.journal) is ∙ ap (λ (x : LogValue). x.journal) goes.1;
+          unmounts = ap (λ (x : Point). x.unmounts) is;
+        },
+        omega (arith, same),
+      )
 
   armed_still : crash_at m ≡ crash_at n
   armed_still = ap₂ crash_of (ap (λ (x : Node). x.armed) m_is) items
 
-  pub stops_sending : (r : Result (Unit {0}) Stop) → IfMade r (Written × Gained) → IfErr r (λ why. IfCrashed why (crash_at m ≡ Some (writes_in n'.items.items))) → IfErr r (λ why. IfFailed why (MayBeWritten d l b bytes d' l'))
-      → IfErr r (λ why. IfFailed why (n'.items.items ≡ m.items.items)) → IfErr r (λ why. StopsBehind d l n d' l' n'.items.items why)
-  stops_sending r made crashed failed kept = stops_at d d' l l' n n' r (Written × Gained) steps made
-      (map_err r _ _ (λ why. if_crashed (crash_at m ≡ Some (writes_in n'.items.items)) (crash_at n ≡ Some (writes_in n'.items.items)) (λ is. sym armed_still ∙ is) why) crashed)
-      (map_err r _ _ (λ why. if_failed (MayBeWritten d l b bytes d' l') (FailsBehind p d' l') fails why) failed)
+  pub stops_sending : (r : Result (Unit {0}) Stop) → IfMade r (Written × Gained) → IfErr r (λ why. IfCrashed why (IsAtCrash (crash_at m) n'.items.items)) → IfErr r (λ why. IfFailed why (MayBeWritten d l b bytes d' l'))
+      → IfErr r (λ why. FailedAt why (Some b)) → IfErr r (λ why. IfFailed why (n'.items.items ≡ m.items.items)) → IfErr r (λ why. StopsBehind 0 d l n d' l' n'.items.items why)
+  stops_sending r made crashed failed failed_at kept = stops_at 0 d d' l l' n n' r (Written × Gained) steps keeps at.on.awaits (Some b) made
+      (map_err r _ _ (λ why. if_crashed (IsAtCrash (crash_at m) n'.items.items) (IsAtCrash (crash_at n) n'.items.items) (λ is. subst (λ (c : Option ℕ). IsAtCrash c n'.items.items) armed_still is) why) crashed)
+      (map_err r _ _ (λ why. if_failed (MayBeWritten d l b bytes d' l') (FailsThere p d' l' (Some b)) fails why) failed)
+      failed_at
       (map_err r _ _ (λ why. if_failed (n'.items.items ≡ m.items.items) (n'.items.items ≡ n.items.items) (λ is. is ∙ items) why) kept)
+
+  pub order_sending : (r : Result (Unit {0}) Stop) → IsNextLock n.log lock → IfMade r Written → IfErr r (λ why. IfFailed why (n'.items.items ≡ m.items.items)) → SentSoFar n.log n.items.items n'.items.items
+  order_sending (Ok _) next made kept = so_far_sent n.log m.log n.items.items n'.items.items lock b bytes next answer (ap (λ (x : Point). x.items) (q_is made))
+  order_sending (Err stop.Crashed) next made kept = so_far_sent n.log m.log n.items.items n'.items.items lock b bytes next answer (ap (λ (x : Point). x.items) (q_is made))
+  order_sending (Err (stop.DiskFailed block rise)) next made kept = so_far_same n.log n.items.items n'.items.items (kept ∙ items)
+  order_sending (Err stop.NoMemory) next made kept = absurd made
 
   -- ---- it was sent
 
@@ -301,12 +330,29 @@ module _ (d d' : DiskState) (l l' : Option (List Operation)) (n m k n' : Node) (
   m_at = ap (point_of d l) m_is ∙ ap (λ (is : List TraceItem). record (point_of d l n) { items = is }) items
 
   -- the disk failed
-  pub stops_resting : (why : Stop) → IsOfDisk why → d' ≡ d → l' ≡ l → k ≡ m → StopsBehind d l n d' l' k.items.items why
-  stops_resting (stop.DiskFailed block rise) of disk list same = record { last = point_of d l n; steps = λ time. Here; told = sym (ap (λ (x : Node). x.items.items) same ∙ items); disk = as_it_was disk list; crashes = tt }
+  pub stops_resting : (why : Stop) → IsOfDisk why → d' ≡ d → l' ≡ l → k ≡ m → StopsBehind 0 d l n d' l' k.items.items why
+  stops_resting (stop.DiskFailed block rise) of disk list same = record {
+    last = point_of d l n;
+    left = point_of d l n;
+    steps = λ time. Here;
+    fails = λ time. AsItWas;
+    exactly = left_same (point_of d l n) block;
+    disk = sym disk;
+    listed = sym list;
+    told = sym (ap (λ (x : Node). x.items.items) same ∙ items);
+    kept = kept_here d l n;
+    unmounts = refl;
+    sequence = omega arith;
+    crashes = before_still n.armed n.items.items k.items.items at.on.awaits (ap (λ (x : Node). x.items.items) same ∙ items);
+  }
   stops_resting stop.Crashed of disk list same = absurd of
   stops_resting stop.NoMemory of disk list same = absurd of
 
-  module _ (made : point_of d' l' k ≡ with_barrier (point_of d l m) l' m.log) (gained : GainsBarrier (point_of d l m) l') (k_is : k ≡ record m { items = k.items; flying = 0 }) (n'_is : n' ≡ record k { log = n'.log }) (settles : Settles n.log n'.log) where
+  -- it sends none home
+  pub homes_resting : point_of d' l' k ≡ with_barrier (point_of d l m) l' m.log → homes_in k.items.items ≡ homes_in n.items.items
+  homes_resting made = ap (λ (x : Point). homes_in x.items) made ∙ homes_more m.items.items (trace.Barrier 1 ∷ []) refl ∙ ap homes_in items
+
+  module _ (made : point_of d' l' k ≡ with_barrier (point_of d l m) l' m.log) (gained : GainsBarrier (point_of d l m) l') (k_is : k ≡ record m { items = k.items; flying = 0 }) (n'_is : n' ≡ record k { log = n'.log }) (settles : Settles n.log n'.log) (some : 0 < n.flying) where
     settled_disk : d' ≡ after_barrier d 1
     settled_disk = ap (λ (x : Point). x.disk) made
 
@@ -341,7 +387,7 @@ module _ (d d' : DiskState) (l l' : Option (List Operation)) (n m k n' : Node) (
     pub rested : GoesHomeward d l n d' l' n'
     rested = record {
       goes = record {
-        steps = λ time. subst (Steps time (point_of d l n)) (sym settled_point) (Then (point_of d l n) _ Here (Rests n'.log l' refl (λ headed. none_some (sym at.idle ∙ headed.2)) settles gained));
+        steps = λ time. subst (Steps time (point_of d l n)) (sym settled_point) (Then (point_of d l n) _ Here (Rests n'.log l' refl (λ headed. none_some (sym at.idle ∙ headed.2)) settles (flies_some (d.in_flight 1) (let is = at.on.flying in omega (arith, is, some))) gained));
         disk = same_barrier d d' settled_disk;
         armed = ap₂ crash_of its_armed (ap (λ (x : Point). x.items) settled_point) ∙ crash_stays n.armed n.items.items _ (trace.Barrier 1) refl refl;
       };

@@ -1,5 +1,5 @@
 -- Room in the journal, and what is due in it.
-use Rattle.std.proofs.Common.{◌≡◌, ◌≢◌, ◌≤◌, ◌<◌, ◌+◌, ℕ, zero, suc, ◌⊎◌, inl, inr, List, [], ◌∷◌, Option, None, Some, refl, sym, ap, ap₂, subst, ◌∙◌, arith}
+use Rattle.std.proofs.Common.{◌≡◌, ◌≢◌, ◌≤◌, ◌<◌, ◌+◌, ◌↔◌, ℕ, zero, suc, ◌⊎◌, inl, inr, List, [], ◌∷◌, Option, None, Some, refl, sym, ap, ap₂, subst, ◌∙◌, arith}
 use Rattle.std.specs.FinMap as table
 use Rattle.std.specs.Ordering.{nat_cmp}
 use Rattle.log_values.specs.Blocks as set
@@ -10,21 +10,23 @@ use Rattle.log_values.proofs.Landing.{all_none, none_in, nothing_is}
 use Rattle.log_values.proofs.Rooms.{changed_fewer, empty_has_room}
 use Rattle.log_layout.specs.Chunks.{Transaction}
 use Rattle.shared_disk.specs.Disk.{DiskState, Operation}
+use Rattle.trace_text.specs.declared.item.TraceItem.{TraceItem}
 use Rattle.logged_steps.specs.Points.{Point}
 use Rattle.logged_steps.specs.Steps.{Here, Steps}
 use Rattle.logged_node.specs.declared.flushing.Flushed.{Flushed}
 use Rattle.logged_node.specs.declared.flushing.Flushed.TheVariants as flushed
 use Rattle.logged_node.specs.declared.node.Node.{Node}
-use Rattle.logged_node.specs.Flushing.{HasCome, HasFlushed, HasNoRoom, HasNothingToFlush, HasRoomForDue, IsAsItWas, IsDone}
+use Rattle.logged_node.specs.Flushing.{CanFlush, HasCome, HasNoRoom, HasNothingToFlush, HasRoomForDue, IsAsItWas, IsDone}
 use Rattle.logged_node.specs.Flushing as came
-use Rattle.logged_node.specs.Homing.{HasGoneHome, MovesHome, at_home}
+use Rattle.logged_node.specs.Homing.{HasGoneHome, MovesHome, SentSoFar, at_home, homes_in}
 use Rattle.logged_node.specs.Nodes.{IsResting, KeepsView, crash_at, crash_of, point_of}
-use Rattle.logged_node.specs.Rooms.{HasBroughtIn, HasCalls, IsCounted}
+use Rattle.logged_node.specs.Rooms.{HasBroughtIn, HasCalls, IsCounted, SentForRoom}
 use Rattle.logged_node.specs.Rooms as rooms
 use Rattle.logged_node.proofs.Blocks.{none_some}
 use Rattle.logged_node.proofs.Disks.{same_disk}
 use Rattle.logged_node.proofs.Ended.{goes_behind}
 use Rattle.logged_node.proofs.Going.{kept_on}
+use Rattle.logged_node.proofs.Ordering.{so_far_none, so_far_then}
 
 -- ---- what going home leaves
 
@@ -98,6 +100,49 @@ still_goes d e l k n m is time = subst (Steps time (point_of d l n)) (sym is.poi
 pub still_armed : (d e : DiskState) (l k : Option (List Operation)) (n m : Node) → IsAsItWas d l n e k m → crash_at m ≡ crash_at n
 still_armed d e l k n m is = ap₂ crash_of is.armed (ap (λ (x : Point). x.items) is.point)
 
+pub still_kept : (d e : DiskState) (l k : Option (List Operation)) (n m : Node) → IsAsItWas d l n e k m → KeepsView n m
+still_kept d e l k n m is = record {
+  view = ap (λ (x : Point). x.view) is.point;
+  answered = ap (λ (x : Point). x.numbers.answered) is.point;
+  changed = ap (λ (x : Point). x.numbers.changed) is.point;
+  journal = ap (λ (x : Point). x.log.journal) is.point;
+  unmounts = ap (λ (x : Point). x.unmounts) is.point;
+}
+
+-- what is sent from it then is sent from here
+pub still_sent : (d e : DiskState) (l k : Option (List Operation)) (n m : Node) (items : List TraceItem) → IsAsItWas d l n e k m → SentSoFar m.log m.items.items items → SentSoFar n.log n.items.items items
+still_sent d e l k n m items is so = subst (λ (x : Point). SentSoFar x.log x.items items) is.point so
+
+-- ---- a flush is made where it can be
+
+nothing_off : (log : LogValue) → CanFlush log → HasNothingToFlush log → ⊥
+nothing_off log (inl room) none = none.0 room.0
+nothing_off log (inr alone) none = by none.1
+  where
+    by : NothingIsLive log ⊎ (AllAreHome log → ⊥) → ⊥
+    by (inl empty) = alone.2 empty
+    by (inr away) = away alone.1
+
+room_off : (log : LogValue) → CanFlush log → HasNoRoom log → ⊥
+room_off log (inl room) none = none.1 room.1
+room_off log (inr alone) none = none.2 alone.1
+
+-- what it answers is told by the log
+pub done_exactly : (log : LogValue) (x : Flushed) → (x ≡ flushed.Done → CanFlush log) → (x ≡ flushed.Nothing → HasNothingToFlush log) → (x ≡ flushed.NoRoom → HasNoRoom log) → (x ≡ flushed.Done) ↔ CanFlush log
+done_exactly log flushed.Done can nothing no_room = (can, λ so. refl)
+done_exactly log flushed.Nothing can nothing no_room = (can, λ so. absurd (nothing_off log so (nothing refl)))
+done_exactly log flushed.NoRoom can nothing no_room = (can, λ so. absurd (room_off log so (no_room refl)))
+
+pub nothing_exactly : (log : LogValue) (x : Flushed) → (x ≡ flushed.Done → CanFlush log) → (x ≡ flushed.Nothing → HasNothingToFlush log) → (x ≡ flushed.NoRoom → HasNoRoom log) → (x ≡ flushed.Nothing) ↔ HasNothingToFlush log
+nothing_exactly log flushed.Done can nothing no_room = (nothing, λ so. absurd (nothing_off log (can refl) so))
+nothing_exactly log flushed.Nothing can nothing no_room = (nothing, λ so. refl)
+nothing_exactly log flushed.NoRoom can nothing no_room = (nothing, λ so. absurd (so.0 (no_room refl).0))
+
+pub room_exactly : (log : LogValue) (x : Flushed) → (x ≡ flushed.Done → CanFlush log) → (x ≡ flushed.Nothing → HasNothingToFlush log) → (x ≡ flushed.NoRoom → HasNoRoom log) → (x ≡ flushed.NoRoom) ↔ HasNoRoom log
+room_exactly log flushed.Done can nothing no_room = (no_room, λ so. absurd (room_off log (can refl) so))
+room_exactly log flushed.Nothing can nothing no_room = (no_room, λ so. absurd ((nothing refl).0 so.0))
+room_exactly log flushed.NoRoom can nothing no_room = (no_room, λ so. refl)
+
 -- ---- what is due
 
 none_due : (log : LogValue) → log.fresh ≡ table.empty → log.gone ≡ set.empty → IsDue log → ⊥
@@ -146,6 +191,14 @@ once_brought d e l k n m come none = record {
     by (came.all roomy low fresh) = rooms.all low
     by (came.none stuck low fresh empty) = rooms.no_change (sym (same_blocks n.log m.log fresh) ∙ no_blocks m.log none) low
 
+-- behind a header alone there is room for what is due still
+pub room_then : (d e : DiskState) (l k : Option (List Operation)) (n m : Node) → HasCome d l n e k m → IsDue m.log → HasRoomForDue m.log
+room_then d e l k n m first is_due = by first.flushed.done
+  where
+    by : IsDone n m → HasRoomForDue m.log
+    by (came.all room low fresh) = absurd (none_due m.log fresh first.flushed.gone is_due)
+    by (came.none stuck low fresh empty) = (is_due, empty_has_room m.log first.flushed.resting.on.sound first.flushed.resting.idle empty (changed_fewer m.log m.log.journal.size 400 first.flushed.resting.small))
+
 pub twice_brought : (d e f : DiskState) (l k h : Option (List Operation)) (n m o : Node) → HasCome d l n e k m → IsDue m.log → HasCome e k m f h o → HasBroughtIn d l n f h o
 twice_brought d e f l k h n m o first is_due second = record {
   goes = goes_behind d e f l k h n m o first.goes second.goes;
@@ -156,16 +209,22 @@ twice_brought d e f l k h n m o first is_due second = record {
   calls = rooms.all (by first.flushed.done second.flushed.done).0;
 }
   where
-    roomy : NothingIsLive m.log → HasRoomForDue m.log
-    roomy empty = (is_due, empty_has_room m.log first.flushed.resting.on.sound first.flushed.resting.idle empty (changed_fewer m.log m.log.journal.size 400 first.flushed.resting.small))
-
     ends : NothingIsLive m.log → IsDone m o → (o.numbers.low ≡ n.numbers.answered) × (IsDue o.log → ⊥)
     ends empty (came.all room low fresh) = (low ∙ first.flushed.kept.answered, none_due o.log fresh second.flushed.gone)
-    ends empty (came.none stuck low fresh gone) = absurd (stuck (roomy empty))
+    ends empty (came.none stuck low fresh gone) = absurd (stuck (room_then d e l k n m first is_due))
 
     by : IsDone n m → IsDone m o → (o.numbers.low ≡ n.numbers.answered) × (IsDue o.log → ⊥)
     by (came.all room low fresh) then = absurd (none_due m.log fresh first.flushed.gone is_due)
     by (came.none stuck low fresh empty) then = ends empty then
+
+-- so blocks go home once at most
+pub sent_twice : (d e : DiskState) (l k : Option (List Operation)) (n m : Node) (items : List TraceItem) → HasCome d l n e k m → IsDue m.log → SentForRoom n m.items.items → SentForRoom m items → SentForRoom n items
+sent_twice d e l k n m items first is_due before behind =
+    let same = behind.room (room_then d e l k n m first is_due) in
+    record { order = so_far_then n.log n.items.items m.items.items items before.order same; room = λ has. same ∙ before.room has }
+
+pub sent_none : (n : Node) (items : List TraceItem) → homes_in items ≡ homes_in n.items.items → SentForRoom n items
+sent_none n items same = record { order = so_far_none n.log n.items.items items same; room = λ has. same }
 
 at_most : (a b : ℕ) → (a < b → ⊥) → b ≤ a
 at_most a b off = by (dec b a)
@@ -190,3 +249,14 @@ in_sync d e l k n m brought counted = by brought.calls
         let none = at_most n.numbers.low n.numbers.changed (λ owes. counted.owing owes blocks) in
         omega (arith, low, changed, none)
         )
+
+-- ---- by how much the sequence grew
+
+pub come_grows : (d e : DiskState) (l k : Option (List Operation)) (n m : Node) → HasCome d l n e k m → m.log.sequence ≤ n.log.sequence + 1
+come_grows d e l k n m come = (let is = come.flushed.sequence in omega (arith, is))
+
+pub still_grows : (d e : DiskState) (l k : Option (List Operation)) (n m : Node) → IsAsItWas d l n e k m → m.log.sequence ≤ n.log.sequence + 1
+still_grows d e l k n m is = (let same : m.log.sequence ≡ n.log.sequence = ap (λ (x : Point). x.log.sequence) is.point in omega (arith, same))
+
+pub still_no_more : (d e : DiskState) (l k : Option (List Operation)) (n m : Node) → IsAsItWas d l n e k m → m.log.sequence + 1 ≤ n.log.sequence + 1
+still_no_more d e l k n m is = (let same : m.log.sequence ≡ n.log.sequence = ap (λ (x : Point). x.log.sequence) is.point in omega (arith, same))

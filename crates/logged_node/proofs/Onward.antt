@@ -1,5 +1,5 @@
 -- A step of a flush that was carried out: it is one of the node's steps, and the flush has come on; and how a node stops at it.
-use Rattle.std.proofs.Common.{◌≡◌, ◌≤◌, ◌<◌, ◌+◌, ◌^◌, ℕ, suc, List, length, Option, None, Some, Ok, Err, refl, sym, ap, ap₂, subst, ◌∙◌, arith}
+use Rattle.std.proofs.Common.{◌≡◌, ◌≤◌, ◌<◌, ◌+◌, ◌^◌, ℕ, suc, inl, inr, List, [], ◌∷◌, length, Option, None, Some, Ok, Err, refl, sym, ap, ap₂, subst, ◌∙◌, arith}
 use Rattle.std.specs.Prelude.{IfErr, Result}
 use Rattle.std.proofs.Math.Nat.{mod-eq_of_lt}
 use Rattle.log_rings.specs.Laws.{HasNumbers}
@@ -12,8 +12,9 @@ use Rattle.log_values.proofs.Going.{step_sound}
 use Rattle.log_widths.specs.Laws.{WidthsAreNumbers}
 use Rattle.log_widths.specs.Widths.{HasLogWidths}
 use Rattle.log_widths.proofs.Staying.{steps_keep_widths}
+use Rattle.logged_steps.specs.Fails.{AsItWas, FailsTo, InAWrite}
 use Rattle.logged_steps.specs.Points.{Point}
-use Rattle.logged_steps.specs.Steps.{Here, Steps, with_barrier, with_write}
+use Rattle.logged_steps.specs.Steps.{Here, Steps, WritesHead, WritesLog, with_barrier, with_write}
 use Rattle.logged_steps.proofs.Telling.{steps_go_on}
 use Rattle.shared_disk.specs.Disk.{DiskState, Operation, after_barrier, after_write}
 use Rattle.trace_text.specs.declared.item.TraceItem.{TraceItem}
@@ -22,14 +23,17 @@ use Rattle.logged_node.specs.declared.ends.Stop.{Stop}
 use Rattle.logged_node.specs.declared.ends.Stop.TheVariants as stop
 use Rattle.logged_node.specs.declared.node.Node.{Node}
 use Rattle.logged_node.specs.Deeds.{a_write, no_write}
-use Rattle.logged_node.specs.Ends.{IfCrashed, IfFailed, IfMade}
-use Rattle.logged_node.specs.Flushing.{FailsAt, HasComeTo, IsCarried, IsFlushing, MayCarry, steps_left}
+use Rattle.logged_node.specs.Ends.{FailedAt, IfCrashed, IfFailed, IfMade}
+use Rattle.logged_node.specs.Flushing.{FailsAt, HasComeTo, IsCarried, IsFlushing, MayCarry, block_of, steps_left}
 use Rattle.logged_node.specs.Flushing as carried
-use Rattle.logged_node.specs.Nodes.{Awaits, FailsBehind, IsLogOf, IsNodeOn, IsSameDisk, KeepsView, StopsBehind, as_it_was, crash_at, crash_of, in_a_write, point_of, writes_in}
+use Rattle.logged_node.specs.Homing.{homes_in}
+use Rattle.logged_node.specs.Nodes.{Awaits, IsAtCrash, IsLeftBy, IsLogOf, IsNodeOn, IsSameDisk, KeepsCallsAt, KeepsView, StopsBehind, StopsByCrash, crash_at, crash_of, point_of}
+use Rattle.logged_node.proofs.Arming.{before_still}
 use Rattle.logged_node.proofs.Blocks.{blocks_go_on, none_some}
 use Rattle.logged_node.proofs.Carried.{steps_by}
 use Rattle.logged_node.proofs.Disks.{length_with, same_barrier, same_written}
 use Rattle.logged_node.proofs.Flushes.{may_carry}
+use Rattle.logged_node.proofs.Ordering.{homes_more}
 use Rattle.logged_node.proofs.Going.{behind_barrier, behind_block, behind_header, behind_last, on_still}
 
 -- ---- what was carried out
@@ -50,6 +54,29 @@ a_barrier_is bytes p q f flush (carried.the_last list none gains is) = absurd (n
 the_last_is : (bytes : List ℕ) (p q : Point) → p.log.flush ≡ None → IsCarried bytes p q step.Barrier → (q.disk ≡ after_barrier p.disk 1) × (q.numbers.low ≡ p.numbers.begun)
 the_last_is bytes p q flush (carried.a_barrier list some gains is) = absurd (some flush)
 the_last_is bytes p q flush (carried.the_last list none gains is) = (ap (λ (x : Point). x.disk) is, ap (λ (x : Point). x.numbers.low) is)
+
+-- what it leaves as it was
+record LeavesAlone (p q : Point) : Type 0 where
+  view : q.view ≡ p.view
+  answered : q.numbers.answered ≡ p.numbers.answered
+  changed : q.numbers.changed ≡ p.numbers.changed
+  log : q.log ≡ p.log
+  unmounts : q.unmounts ≡ p.unmounts
+
+alone_by : (p q r : Point) → q ≡ r → LeavesAlone p r → LeavesAlone p q
+alone_by p q r is leaves = subst (LeavesAlone p) (sym is) leaves
+
+left_alone : (bytes : List ℕ) (p q : Point) (s : LogStep) → IsCarried bytes p q s → LeavesAlone p q
+left_alone bytes p q _ (carried.a_block b list gains is) = alone_by p q _ is (record { view = refl; answered = refl; changed = refl; log = refl; unmounts = refl })
+left_alone bytes p q _ (carried.a_header b sequence list gains is) = alone_by p q _ is (record { view = refl; answered = refl; changed = refl; log = refl; unmounts = refl })
+left_alone bytes p q _ (carried.a_barrier list some gains is) = alone_by p q _ is (record { view = refl; answered = refl; changed = refl; log = refl; unmounts = refl })
+left_alone bytes p q _ (carried.the_last list none gains is) = alone_by p q _ is (record { view = refl; answered = refl; changed = refl; log = refl; unmounts = refl })
+
+homes_carried : (bytes : List ℕ) (p q : Point) (s : LogStep) → IsCarried bytes p q s → homes_in q.items ≡ homes_in p.items
+homes_carried bytes p q _ (carried.a_block b list gains is) = ap (λ (x : Point). homes_in x.items) is ∙ homes_more p.items (trace.WriteLog 1 b ∷ []) refl
+homes_carried bytes p q _ (carried.a_header b sequence list gains is) = ap (λ (x : Point). homes_in x.items) is ∙ homes_more p.items (trace.WriteHead 1 b sequence p.numbers.begun ∷ []) refl
+homes_carried bytes p q _ (carried.a_barrier list some gains is) = ap (λ (x : Point). homes_in x.items) is ∙ homes_more p.items (trace.Barrier 1 ∷ []) refl
+homes_carried bytes p q _ (carried.the_last list none gains is) = ap (λ (x : Point). homes_in x.items) is ∙ homes_more p.items (trace.Barrier 1 ∷ trace.Commit 1 p.log.sequence p.numbers.begun ∷ []) refl
 
 -- the disk is the same, and no more is in flight than may be
 carried_disk : (bytes : List ℕ) (p q : Point) (s : LogStep) → IsCarried bytes p q s → IsSameDisk p.disk q.disk
@@ -77,45 +104,136 @@ journal_still log new f bytes _ (a_header tail stage tells bytes_are new_is) = a
 journal_still log new f bytes _ (a_barrier stage new_is lives) = ap (λ (l : LogValue). l.journal) new_is
 journal_still log new f bytes _ (the_last tail stage new_is lives) = ap (λ (l : LogValue). l.journal) new_is
 
+-- and its head's sequence the next, if any
+step_grows : (log new : LogValue) (f : Flush) (bytes : List ℕ) (s : LogStep) → log.sequence + 1 < 2 ^ 64 → FlushStep log new f bytes s → new.sequence ≤ log.sequence + 1
+step_grows log new f bytes _ more (a_block k stage block new_is) = (let same : new.sequence ≡ log.sequence = ap (λ (l : LogValue). l.sequence) new_is in omega (arith, same))
+step_grows log new f bytes _ more (a_header tail stage tells bytes_are new_is) = (let same : new.sequence ≡ log.sequence = ap (λ (l : LogValue). l.sequence) new_is in omega (arith, same))
+step_grows log new f bytes _ more (a_barrier stage new_is lives) = (let same : new.sequence ≡ log.sequence = ap (λ (l : LogValue). l.sequence) new_is in omega (arith, same))
+step_grows log new f bytes _ more (the_last tail stage new_is lives) = (let next : new.sequence ≡ log.sequence + 1 = ap (λ (l : LogValue). l.sequence) new_is ∙ mod-eq_of_lt more in omega (arith, next))
+
 -- ---- how a node stops
 
+-- what it has at its own point, and at a later one
+pub kept_here : (d : DiskState) (l : Option (List Operation)) (n : Node) → KeepsCallsAt n (point_of d l n)
+kept_here d l n = record { view = refl; answered = refl; changed = refl; journal = refl; next = refl }
+
+pub kept_there : (d : DiskState) (l : Option (List Operation)) (n m : Node) → KeepsView n m → KeepsCallsAt n (point_of d l m)
+kept_there d l n m kept = record { view = kept.view; answered = kept.answered; changed = kept.changed; journal = kept.journal; next = refl }
+
+pub kept_on_to : (n m : Node) (p : Point) → KeepsView n m → KeepsCallsAt m p → KeepsCallsAt n p
+kept_on_to n m p kept at = record { view = at.view ∙ kept.view; answered = at.answered ∙ kept.answered; changed = at.changed ∙ kept.changed; journal = at.journal ∙ kept.journal; next = at.next }
+
 -- behind steps
-pub stops_on : (d e f : DiskState) (l k h : Option (List Operation)) (n m : Node) (items : List TraceItem) (why : Stop) → ((time : ℕ) → Steps time (point_of d l n) (point_of e k m)) → crash_at m ≡ crash_at n
-    → StopsBehind e k m f h items why → StopsBehind d l n f h items why
-stops_on d e f l k h n m items why first armed stops = record {
+pub stops_on : (d e f : DiskState) (l k h : Option (List Operation)) (n m : Node) (items : List TraceItem) (why : Stop) (few most : ℕ) → m.log.sequence + few ≤ n.log.sequence + most → ((time : ℕ) → Steps time (point_of d l n) (point_of e k m)) → crash_at m ≡ crash_at n → KeepsView n m
+    → StopsBehind few e k m f h items why → StopsBehind most d l n f h items why
+stops_on d e f l k h n m items why few most more first armed kept stops = record {
   last = stops.last;
+  left = stops.left;
   steps = λ time. steps_go_on time (point_of d l n) (point_of e k m) stops.last (first time) (stops.steps time);
-  told = stops.told;
+  fails = stops.fails;
+  exactly = stops.exactly;
   disk = stops.disk;
-  crashes = crashes_on why (crash_at m) (crash_at n) items armed stops.crashes;
+  listed = stops.listed;
+  told = stops.told;
+  kept = kept_on_to n m stops.last kept stops.kept;
+  unmounts = stops.unmounts ∙ kept.unmounts;
+  sequence = (let low = stops.sequence in omega (arith, low, more));
+  crashes = subst (λ (c : Option ℕ). StopsByCrash c items why) armed stops.crashes;
 }
-  where
-    crashes_on : (why : Stop) (x y : Option ℕ) (items : List TraceItem) → x ≡ y → IfCrashed why (x ≡ Some (writes_in items)) → IfCrashed why (y ≡ Some (writes_in items))
-    crashes_on stop.Crashed x y items same is = sym same ∙ is
-    crashes_on (stop.DiskFailed block rise) x y items same is = tt
-    crashes_on stop.NoMemory x y items same is = tt
+
+-- also with more
+pub stops_few : (d e : DiskState) (l k : Option (List Operation)) (n : Node) (items : List TraceItem) (why : Stop) (few most : ℕ) → few ≤ most → StopsBehind few d l n e k items why → StopsBehind most d l n e k items why
+stops_few d e l k n items why few most more stops = record {
+  last = stops.last;
+  left = stops.left;
+  steps = stops.steps;
+  fails = stops.fails;
+  exactly = stops.exactly;
+  disk = stops.disk;
+  listed = stops.listed;
+  told = stops.told;
+  kept = stops.kept;
+  unmounts = stops.unmounts;
+  sequence = (let low = stops.sequence in omega (arith, low, more));
+  crashes = stops.crashes;
+}
 
 -- for want of memory, before anything was done
-pub stops_here : (d : DiskState) (l : Option (List Operation)) (n : Node) (items : List TraceItem) (why : Stop) → why ≡ stop.NoMemory → items ≡ n.items.items → StopsBehind d l n d l items why
-stops_here d l n items why is same = subst (StopsBehind d l n d l items) (sym is) (record { last = point_of d l n; steps = λ time. Here; told = sym same; disk = (refl, refl); crashes = tt })
+pub stops_here : (most : ℕ) (d : DiskState) (l : Option (List Operation)) (n : Node) (items : List TraceItem) (why : Stop) → Awaits n.armed → why ≡ stop.NoMemory → items ≡ n.items.items → StopsBehind most d l n d l items why
+stops_here most d l n items why awaits is same = subst (StopsBehind most d l n d l items) (sym is) (record {
+  last = point_of d l n;
+  left = point_of d l n;
+  steps = λ time. Here;
+  fails = λ time. AsItWas;
+  exactly = refl;
+  disk = refl;
+  listed = refl;
+  told = sym same;
+  kept = kept_here d l n;
+  unmounts = refl;
+  sequence = omega arith;
+  crashes = before_still n.armed n.items.items items awaits same;
+})
+
+-- the point where a write of this block failed, or a barrier, on the disk that is left
+pub record FailsThere (p : Point) (d : DiskState) (l : Option (List Operation)) (at : Option ℕ) : Type 0 where
+  pub left : Point
+  pub fails : (time : ℕ) → FailsTo time p left
+  pub exactly : IsLeftBy p left at
+  pub disk : left.disk ≡ d
+  pub listed : left.list ≡ l
+  pub told : left.items ≡ p.items
+
+pub left_same : (p : Point) (at : Option ℕ) → IsLeftBy p p at
+left_same p None = refl
+left_same p (Some b) = inl refl
+
+pub as_it_was : (p : Point) (d : DiskState) (l : Option (List Operation)) (at : Option ℕ) → d ≡ p.disk → l ≡ p.list → FailsThere p d l at
+as_it_was p d l at disk list = record { left = p; fails = λ time. AsItWas; exactly = left_same p at; disk = sym disk; listed = sym list; told = refl }
 
 -- At a deed: where it was made, and it crashed behind it, that is a step; where the disk failed, it stays where it was.
-pub stops_at : (d d' : DiskState) (l l' : Option (List Operation)) (n n' : Node) (r : Result (Unit {0}) Stop) (made : Type 0) → (made → (time : ℕ) → Steps time (point_of d l n) (point_of d' l' n')) → IfMade r made
-    → IfErr r (λ why. IfCrashed why (crash_at n ≡ Some (writes_in n'.items.items))) → IfErr r (λ why. IfFailed why (FailsBehind (point_of d l n) d' l')) → IfErr r (λ why. IfFailed why (n'.items.items ≡ n.items.items))
-    → IfErr r (λ why. StopsBehind d l n d' l' n'.items.items why)
-stops_at d d' l l' n n' (Ok _) made steps done crashed failed kept = tt
-stops_at d d' l l' n n' (Err stop.Crashed) made steps done crashed failed kept = record { last = point_of d' l' n'; steps = steps done; told = refl; disk = (refl, refl); crashes = crashed }
-stops_at d d' l l' n n' (Err (stop.DiskFailed block rise)) made steps done crashed failed kept = record { last = point_of d l n; steps = λ time. Here; told = sym kept; disk = failed; crashes = tt }
-stops_at d d' l l' n n' (Err stop.NoMemory) made steps done crashed failed kept = absurd done
+pub stops_at : (most : ℕ) (d d' : DiskState) (l l' : Option (List Operation)) (n n' : Node) (r : Result (Unit {0}) Stop) (made : Type 0) → (made → (time : ℕ) → Steps time (point_of d l n) (point_of d' l' n')) → (made → KeepsView n n' × (n'.log.sequence ≤ n.log.sequence + most)) → Awaits n.armed → (at : Option ℕ)
+    → IfMade r made → IfErr r (λ why. IfCrashed why (IsAtCrash (crash_at n) n'.items.items)) → IfErr r (λ why. IfFailed why (FailsThere (point_of d l n) d' l' at)) → IfErr r (λ why. FailedAt why at) → IfErr r (λ why. IfFailed why (n'.items.items ≡ n.items.items))
+    → IfErr r (λ why. StopsBehind most d l n d' l' n'.items.items why)
+stops_at most d d' l l' n n' (Ok _) made steps keeps awaits at done crashed failed failed_at kept = tt
+stops_at most d d' l l' n n' (Err stop.Crashed) made steps keeps awaits at done crashed failed failed_at kept = record {
+  last = point_of d' l' n';
+  left = point_of d' l' n';
+  steps = steps done;
+  fails = λ time. AsItWas;
+  exactly = refl;
+  disk = refl;
+  listed = refl;
+  told = refl;
+  kept = kept_there d' l' n n' (keeps done).0;
+  unmounts = (keeps done).0.unmounts;
+  sequence = (keeps done).1;
+  crashes = crashed;
+}
+stops_at most d d' l l' n n' (Err (stop.DiskFailed block rise)) made steps keeps awaits at done crashed failed failed_at kept = record {
+  last = point_of d l n;
+  left = failed.left;
+  steps = λ time. Here;
+  fails = failed.fails;
+  exactly = subst (IsLeftBy (point_of d l n) failed.left) (sym failed_at) failed.exactly;
+  disk = failed.disk;
+  listed = failed.listed;
+  told = failed.told ∙ sym kept;
+  kept = kept_here d l n;
+  unmounts = refl;
+  sequence = omega arith;
+  crashes = before_still n.armed n.items.items n'.items.items awaits kept;
+}
+stops_at most d d' l l' n n' (Err stop.NoMemory) made steps keeps awaits at done crashed failed failed_at kept = absurd done
 
 -- facts of an end, one from another
 pub map_err : (r : Result (Unit {0}) Stop) (P Q : Stop → Type 0) → ((why : Stop) → P why → Q why) → IfErr r P → IfErr r Q
 map_err (Ok _) P Q so is = tt
 map_err (Err why) P Q so is = so why is
 
-pub map_both : (r : Result (Unit {0}) Stop) (P Q R : Stop → Type 0) → ((why : Stop) → P why → Q why → R why) → IfErr r P → IfErr r Q → IfErr r R
-map_both (Ok _) P Q R so p q = tt
-map_both (Err why) P Q R so p q = so why p q
+pub map_three : (r : Result (Unit {0}) Stop) (P Q S R : Stop → Type 0) → ((why : Stop) → P why → Q why → S why → R why) → IfErr r P → IfErr r Q → IfErr r S → IfErr r R
+map_three (Ok _) P Q S R so p q s = tt
+map_three (Err why) P Q S R so p q s = so why p q s
 
 pub if_failed : (P Q : Type 0) (so : P → Q) (why : Stop) → IfFailed why P → IfFailed why Q
 if_failed P Q so (stop.DiskFailed block rise) is = so is
@@ -153,36 +271,65 @@ module _ (law : WidthsAreNumbers) (start : Node) (d d' : DiskState) (l l' : Opti
   from_mid done = subst (λ (x : Point). IsCarried m.block.items x (point_of d' l' n') s) mid_is done
 
   pub steps : Carried → (time : ℕ) → Steps time p (point_of d' l' n')
-  steps done time = steps_by p (point_of d' l' n') f m.log m.block.items at.is its_numbers (long ∙ at.on.block) at.told refl s may made (from_mid done) time
+  steps done time = steps_by p (point_of d' l' n') f m.log m.block.items at.is its_numbers (long ∙ at.on.block) at.told refl at.many at.some s may made (from_mid done) time
 
   pub disk_same : Carried → IsSameDisk d d'
   disk_same done = carried_disk m.block.items mid (point_of d' l' n') s (from_mid done)
 
-  -- where the disk failed, it may be as if the step was made
-  fails : FailsAt m.block.items (point_of d l m) d' l' s → FailsBehind p d' l'
+  -- what stays of the node
+  keeps : Carried → KeepsView n n' × (n'.log.sequence ≤ n.log.sequence + 1)
+  keeps done =
+      let it = left_alone m.block.items mid (point_of d' l' n') s (from_mid done) in
+      let grows = step_grows n.log m.log f m.block.items s more made in
+      let same : n'.log.sequence ≡ m.log.sequence = ap (λ (x : LogValue). x.sequence) it.log in
+      (record { view = it.view; answered = it.answered; changed = it.changed; journal = ap (λ (x : LogValue). x.journal) it.log ∙ journal_still n.log m.log f m.block.items s made; unmounts = it.unmounts }, omega (arith, grows, same))
+
+  -- no block goes home
+  pub homes : (r : Result (Unit {0}) Stop) → IfMade r Carried → IfErr r (λ why. IfFailed why (n'.items.items ≡ m.items.items)) → homes_in n'.items.items ≡ homes_in n.items.items
+  homes (Ok _) done kept = homes_carried m.block.items mid (point_of d' l' n') s (from_mid done)
+  homes (Err stop.Crashed) done kept = homes_carried m.block.items mid (point_of d' l' n') s (from_mid done)
+  homes (Err (stop.DiskFailed block rise)) done kept = ap homes_in (kept ∙ items)
+  homes (Err stop.NoMemory) done kept = absurd done
+
+  -- where the disk failed in a write, that may be in flight, as the step makes it
+  abbrev left_by : ℕ → Point
+  left_by b = record p { disk = after_write d 1 b m.block.items; list = l'; log = m.log }
+
+  fails : FailsAt m.block.items (point_of d l m) d' l' s → FailsThere p d' l' (block_of s)
   fails = by s made may
     where
-      by : (t : LogStep) → FlushStep n.log m.log f m.block.items t → MayCarry d t → FailsAt m.block.items (point_of d l m) d' l' t → FailsBehind p d' l'
-      by (step.Write b) made may (no_write is same) = as_it_was is same
-      by (step.Write b) made may (a_write is gains) = in_a_write (with_write mid b m.block.items l' m.log (trace.WriteLog 1 b)) (trace.WriteLog 1 b)
-          (λ time. steps_by p (with_write mid b m.block.items l' m.log (trace.WriteLog 1 b)) f m.log m.block.items at.is its_numbers (long ∙ at.on.block) at.told refl (step.Write b) may made (carried.a_block b l' gains refl) time)
-          refl refl is refl
-      by (step.Head b sequence) made may (no_write is same) = as_it_was is same
-      by (step.Head b sequence) made may (a_write is gains) = in_a_write (with_write mid b m.block.items l' m.log (trace.WriteHead 1 b sequence mid.numbers.begun)) (trace.WriteHead 1 b sequence mid.numbers.begun)
-          (λ time. steps_by p (with_write mid b m.block.items l' m.log (trace.WriteHead 1 b sequence mid.numbers.begun)) f m.log m.block.items at.is its_numbers (long ∙ at.on.block) at.told refl (step.Head b sequence) may made
-          (carried.a_header b sequence l' gains refl) time)
-          refl refl is refl
-      by step.Barrier made may both = as_it_was both.0 both.1
-      by step.NoRoom made may never = absurd never
+      by : (t : LogStep) → FlushStep n.log m.log f m.block.items t → MayCarry d t → FailsAt m.block.items (point_of d l m) d' l' t → FailsThere p d' l' (block_of t)
+      by (step.Write b) made _ (no_write is same) = as_it_was p d' l' (Some b) is same
+      by (step.Write b) made may (a_write is gains) = record {
+        left = left_by b;
+        fails = λ time. InAWrite b m.block.items l' m.log (trace.WriteLog 1 b) refl (WritesLog m.log f b m.block.items l' at.is its_numbers made (record { inside = may.0; whole = long ∙ at.on.block; free = may.1 }) gains);
+        exactly = inr (m.block.items, refl);
+        disk = sym is;
+        listed = refl;
+        told = refl;
+      }
+      by (step.Head b sequence) made _ (no_write is same) = as_it_was p d' l' (Some b) is same
+      by (step.Head b sequence) made may (a_write is gains) = record {
+        left = left_by b;
+        fails = λ time. InAWrite b m.block.items l' m.log (trace.WriteHead 1 b sequence p.numbers.begun) refl
+            (WritesHead m.log f b sequence m.block.items l' at.is its_numbers made (record { inside = may.0; whole = long ∙ at.on.block; free = may.1 }) gains);
+        exactly = inr (m.block.items, refl);
+        disk = sym is;
+        listed = refl;
+        told = refl;
+      }
+      by step.Barrier made _ both = as_it_was p d' l' None both.0 both.1
+      by step.NoRoom made _ never = absurd never
 
   pub armed_still : crash_at m ≡ crash_at n
   armed_still = ap₂ crash_of (ap (λ (x : Node). x.armed) m_is) items
 
-  pub stops : (r : Result (Unit {0}) Stop) → IfMade r Carried → IfErr r (λ why. IfCrashed why (crash_at m ≡ Some (writes_in n'.items.items))) → IfErr r (λ why. IfFailed why (FailsAt m.block.items (point_of d l m) d' l' s))
-      → IfErr r (λ why. IfFailed why (n'.items.items ≡ m.items.items)) → IfErr r (λ why. StopsBehind d l n d' l' n'.items.items why)
-  stops r done crashed failed kept = stops_at d d' l l' n n' r Carried steps done
-      (map_err r _ _ (λ why. if_crashed (crash_at m ≡ Some (writes_in n'.items.items)) (crash_at n ≡ Some (writes_in n'.items.items)) (λ is. sym armed_still ∙ is) why) crashed)
-      (map_err r _ _ (λ why. if_failed (FailsAt m.block.items (point_of d l m) d' l' s) (FailsBehind p d' l') fails why) failed)
+  pub stops : (r : Result (Unit {0}) Stop) → IfMade r Carried → IfErr r (λ why. IfCrashed why (IsAtCrash (crash_at m) n'.items.items)) → IfErr r (λ why. IfFailed why (FailsAt m.block.items (point_of d l m) d' l' s))
+      → IfErr r (λ why. FailedAt why (block_of s)) → IfErr r (λ why. IfFailed why (n'.items.items ≡ m.items.items)) → IfErr r (λ why. StopsBehind 1 d l n d' l' n'.items.items why)
+  stops r done crashed failed failed_at kept = stops_at 1 d d' l l' n n' r Carried steps keeps at.on.awaits (block_of s) done
+      (map_err r _ _ (λ why. if_crashed (IsAtCrash (crash_at m) n'.items.items) (IsAtCrash (crash_at n) n'.items.items) (λ is. subst (λ (c : Option ℕ). IsAtCrash c n'.items.items) armed_still is) why) crashed)
+      (map_err r _ _ (λ why. if_failed (FailsAt m.block.items (point_of d l m) d' l' s) (FailsThere p d' l' (block_of s)) fails why) failed)
+      failed_at
       (map_err r _ _ (λ why. if_failed (n'.items.items ≡ m.items.items) (n'.items.items ≡ n.items.items) (λ is. is ∙ items) why) kept)
 
   module _ (n'_is : n' ≡ record m { items = n'.items; flying = n'.flying; numbers = record m.numbers { low = n'.numbers.low }; armed = n'.armed }) (flying : n'.flying ≡ length (d'.in_flight 1)) (awaits : Awaits n'.armed) (done : Carried) where

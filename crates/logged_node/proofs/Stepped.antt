@@ -9,9 +9,10 @@ use Rattle.log_widths.specs.Laws.{WidthsAreNumbers}
 use Rattle.shared_disk.specs.Disk.{DiskState, Operation}
 use Rattle.logged_node.specs.declared.ends.Stop.{Stop}
 use Rattle.logged_node.specs.declared.node.Node.{Node}
-use Rattle.logged_node.specs.Ends.{IfCrashed, IfFailed, IfMade}
-use Rattle.logged_node.specs.Flushing.{FailsAt, GoesOn, HasBegun, IsCarried, IsFlushing, IsUnderWay, MayCarry, number_of}
-use Rattle.logged_node.specs.Nodes.{Awaits, IsResting, StopsBehind, crash_at, point_of, writes_in}
+use Rattle.logged_node.specs.Ends.{FailedAt, IfCrashed, IfFailed, IfMade}
+use Rattle.logged_node.specs.Flushing.{FailsAt, GoesOn, HasBegun, IsCarried, IsFlushing, IsUnderWay, MayCarry, block_of, number_of}
+use Rattle.logged_node.specs.Homing.{homes_in}
+use Rattle.logged_node.specs.Nodes.{Awaits, IsAtCrash, IsResting, StopsBehind, crash_at, point_of}
 use Rattle.logged_node.proofs.Beginning as beginning
 use Rattle.logged_node.proofs.Flushes.{may_carry, no_answer, step_of}
 use Rattle.logged_node.proofs.Onward as onward
@@ -58,10 +59,13 @@ module _ (law : WidthsAreNumbers) (d d' : DiskState) (l l' : Option (List Operat
     fewer = (onward.comes law under.0 d d' l l' n m n' under.1 s under.2 more (with_step n r m r_is m_is) (same_items n r m m_is same) (as_long n r m r_is long) (made under.0 under.1 under.2) n'_is flying awaits done).1;
   }
 
-  pub stops_going_on : IsUnderWay d n → (x : Result (Unit {0}) Stop) → IfMade x Carried → IfErr x (λ why. IfCrashed why (crash_at m ≡ Some (writes_in n'.items.items))) → IfErr x (λ why. IfFailed why (FailsAt m.block.items (point_of d l m) d' l' s))
-      → IfErr x (λ why. IfFailed why (n'.items.items ≡ m.items.items)) → IfErr x (λ why. StopsBehind d l n d' l' n'.items.items why)
-  stops_going_on under x done crashed failed kept =
-      onward.stops law under.0 d d' l l' n m n' under.1 s under.2 more (with_step n r m r_is m_is) (same_items n r m m_is same) (as_long n r m r_is long) (made under.0 under.1 under.2) x done crashed failed kept
+  pub stops_going_on : IsUnderWay d n → (x : Result (Unit {0}) Stop) → IfMade x Carried → IfErr x (λ why. IfCrashed why (IsAtCrash (crash_at m) n'.items.items)) → IfErr x (λ why. IfFailed why (FailsAt m.block.items (point_of d l m) d' l' s))
+      → IfErr x (λ why. FailedAt why (block_of s)) → IfErr x (λ why. IfFailed why (n'.items.items ≡ m.items.items)) → IfErr x (λ why. StopsBehind 1 d l n d' l' n'.items.items why)
+  stops_going_on under x done crashed failed failed_at kept =
+      onward.stops law under.0 d d' l l' n m n' under.1 s under.2 more (with_step n r m r_is m_is) (same_items n r m m_is same) (as_long n r m r_is long) (made under.0 under.1 under.2) x done crashed failed failed_at kept
+
+  pub homes_going_on : IsUnderWay d n → (x : Result (Unit {0}) Stop) → IfMade x Carried → IfErr x (λ why. IfFailed why (n'.items.items ≡ m.items.items)) → homes_in n'.items.items ≡ homes_in n.items.items
+  homes_going_on under x done kept = onward.homes law under.0 d d' l l' n m n' under.1 s under.2 more (with_step n r m r_is m_is) (same_items n r m m_is same) (as_long n r m r_is long) (made under.0 under.1 under.2) x done kept
 
 -- ---- a flush begins
 
@@ -93,6 +97,9 @@ module _ (law : WidthsAreNumbers) (d d' : DiskState) (l l' : Option (List Operat
   pub has_begun : n' ≡ record k { items = n'.items; flying = n'.flying; numbers = record k.numbers { low = n'.numbers.low }; armed = n'.armed } → n'.flying ≡ length (d'.in_flight 1) → Awaits n'.armed → crash_at n' ≡ crash_at k → Begun → HasBegun d l n d' l' n'
   has_begun n'_is flying awaits armed done = beginning.has_begun law d d' l l' n k n' s rest more (with_number n r m k s r_is m_is k_is) k_items k_long its_answer off n'_is flying awaits armed done
 
-  pub stops_beginning : (x : Result (Unit {0}) Stop) → IfMade x Begun → IfErr x (λ why. IfCrashed why (crash_at k ≡ Some (writes_in n'.items.items))) → IfErr x (λ why. IfFailed why (FailsAt k.block.items (point_of d l k) d' l' s))
-      → IfErr x (λ why. IfFailed why (n'.items.items ≡ k.items.items)) → IfErr x (λ why. StopsBehind d l n d' l' n'.items.items why)
-  stops_beginning x done crashed failed kept = beginning.stops_beginning law d d' l l' n k n' s rest more (with_number n r m k s r_is m_is k_is) k_items k_long its_answer off x done crashed failed kept
+  pub stops_beginning : (x : Result (Unit {0}) Stop) → IfMade x Begun → IfErr x (λ why. IfCrashed why (IsAtCrash (crash_at k) n'.items.items)) → IfErr x (λ why. IfFailed why (FailsAt k.block.items (point_of d l k) d' l' s))
+      → IfErr x (λ why. FailedAt why (block_of s)) → IfErr x (λ why. IfFailed why (n'.items.items ≡ k.items.items)) → IfErr x (λ why. StopsBehind 1 d l n d' l' n'.items.items why)
+  stops_beginning x done crashed failed failed_at kept = beginning.stops_beginning law d d' l l' n k n' s rest more (with_number n r m k s r_is m_is k_is) k_items k_long its_answer off x done crashed failed failed_at kept
+
+  pub homes_begun : (x : Result (Unit {0}) Stop) → IfMade x Begun → IfErr x (λ why. IfFailed why (n'.items.items ≡ k.items.items)) → homes_in n'.items.items ≡ homes_in n.items.items
+  homes_begun x done kept = beginning.homes_beginning law d d' l l' n k n' s rest more (with_number n r m k s r_is m_is k_is) k_items k_long its_answer off x done kept

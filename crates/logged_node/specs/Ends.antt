@@ -1,5 +1,5 @@
 -- Why a node stops.
-use Rattle.std.specs.Prelude.{ℕ, ◌<◌, ⊤, IfSome, Result, Ok, Err}
+use Rattle.std.specs.Prelude.{ℕ, ◌≡◌, ◌<◌, ⊤, IfSome, Option, Result, Ok, Err}
 use Rattle.fault_counts.specs.Causes.{WentUp}
 use Rattle.logged_node.specs.declared.ends.Stop.{Stop}
 use Rattle.logged_node.specs.declared.ends.Stop.TheVariants as stop
@@ -20,6 +20,11 @@ IfMade (Ok _) P = P
 IfMade (Err stop.Crashed) P = P
 IfMade (Err (stop.DiskFailed block rise)) P = ⊤
 IfMade (Err stop.NoMemory) P = ⊥
+
+-- where the disk failed, this is the block that it tells, or it was at a barrier and there is none
+abbrev pub FailedAt : Stop → Option ℕ → Type 0
+FailedAt (stop.DiskFailed block rise) at = block ≡ at
+FailedAt s at = ⊤
 
 -- a fact of the disk where it failed
 abbrev pub IfFailed : Stop → Type 0 → Type 0

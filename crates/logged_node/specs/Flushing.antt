@@ -32,10 +32,16 @@ abbrev pub FliesAsFlushed : DiskState → LogValue → Flush → Type 0
 FliesAsFlushed d log f = (b : ℕ) (bytes : List ℕ) → flight_to (d.in_flight 1) b ≡ Some bytes → IsFlownBlock log f f.stage b
 
 -- and how many
-abbrev pub most_flown : Stage → ℕ
-most_flown (Writing done) = done
-most_flown Ending = 0
-most_flown (Headed tail) = 1
+abbrev pub how_many_fly : Stage → ℕ
+how_many_fly (Writing done) = done
+how_many_fly Ending = 0
+how_many_fly (Headed tail) = 1
+
+-- while its blocks are written it has some
+abbrev pub HasBlocks : LogValue → Flush → Stage → Type 0
+HasBlocks log f (Writing done) = 1 ≤ length (flush_chunks log f)
+HasBlocks log f Ending = ⊤
+HasBlocks log f (Headed tail) = ⊤
 
 -- the last item is that of its header
 abbrev pub TellsHead : List TraceItem → (begun sequence : ℕ) → Stage → Type 0
@@ -54,7 +60,7 @@ pub data IsKind (start n : Node) (f : Flush) : Type 0 where
   of_none : (HasRoomForDue start.log → ⊥) → (NothingIsLive start.log → ⊥) → n.numbers.begun ≡ start.numbers.low → n.log.fresh ≡ start.log.fresh → f.versions ≡ table.empty → f.revokes ≡ set.empty
       → AllAreHome n.log → IsSmall n.log → IsKind start n f
 
--- It is under way: of it alone something is in flight, and not too much.
+-- It is under way: of it alone something is in flight, and so much; so it is behind each of its blocks, and there is one where any is written.
 pub record IsFlushing (start : Node) (d : DiskState) (n : Node) (f : Flush) : Type 0 where
   pub on : IsNodeOn d n
   pub kept : KeepsView start n
@@ -63,7 +69,8 @@ pub record IsFlushing (start : Node) (d : DiskState) (n : Node) (f : Flush) : Ty
   pub is : n.log.flush ≡ Some f
   pub small : length (flush_chunks n.log f) < 400
   pub flies : FliesAsFlushed d n.log f
-  pub few : length (d.in_flight 1) ≤ most_flown f.stage
+  pub many : length (d.in_flight 1) ≡ how_many_fly f.stage
+  pub some : HasBlocks n.log f f.stage
   pub home : NoneGoesHome n.log
   pub told : TellsHead n.items.items n.numbers.begun (after n.log.sequence) f.stage
   pub kind : IsKind start n f
@@ -124,6 +131,13 @@ FailsAt bytes p d list (step.Head b sequence) = MayBeWritten p.disk p.list b byt
 FailsAt bytes p d list step.Barrier = (d ≡ p.disk) × (list ≡ p.list)
 FailsAt bytes p d list step.NoRoom = ⊥
 
+-- the block that it writes
+abbrev pub block_of : LogStep → Option ℕ
+block_of (step.Write b) = Some b
+block_of (step.Head b sequence) = Some b
+block_of step.Barrier = None
+block_of step.NoRoom = None
+
 -- ---- what its functions promise
 
 -- a flush is under way
@@ -152,7 +166,11 @@ pub record HasCome (d : DiskState) (list : Option (List Operation)) (n : Node) (
   pub goes : GoesBySteps d list n d' list' n'
   pub flushed : HasFlushed n d' n'
 
--- ---- it doesn't begin
+-- ---- whether it begins
+
+-- All that is due has room; or there is none for it, or nothing is due, and something is live, all of which is home: then a header alone is written.
+abbrev pub CanFlush : LogValue → Type 0
+CanFlush log = HasRoomForDue log ⊎ ((HasRoomForDue log → ⊥) × AllAreHome log × (NothingIsLive log → ⊥))
 
 -- the number of the calls of a flush whose first step is this
 abbrev pub number_of : CallNumbers → LogStep → ℕ

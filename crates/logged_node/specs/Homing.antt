@@ -1,5 +1,5 @@
 -- How a node takes its live blocks home.
-use Rattle.std.specs.Prelude.{ℕ, ◌≡◌, List, [], ◌∷◌, ◌++◌, Option, None, Some}
+use Rattle.std.specs.Prelude.{ℕ, ◌≡◌, ◌==◌, ◌+◌, ◌<◌, if◌then◌else◌, List, [], ◌∷◌, ◌++◌, Option, None, Some}
 use Rattle.std.specs.FinMap as table
 use Rattle.std.specs.List.{count_by, filter_map}
 use Rattle.glock_names.specs.declared.LockName.{LockName}
@@ -63,6 +63,43 @@ pub record SendsInOrder (n n' : Node) : Type 0 where
   pub blocks : List ℕ
   pub are : AreSent n.log n'.log blocks
   pub told : homes_in n'.items.items ≡ homes_in n.items.items ++ blocks
+
+-- The blocks that were sent home since these items, so far: the first of those that are away in this log, in order.
+pub record SentSoFar (log : LogValue) (items items' : List TraceItem) : Type 0 where
+  pub new : LogValue
+  pub blocks : List ℕ
+  pub are : AreSent log new blocks
+  pub told : homes_in items' ≡ homes_in items ++ blocks
+
+-- ---- with which barriers
+
+-- These items tell of blocks that were sent, so many of them since the last barrier: a barrier is behind each write that was the 512th in flight, and none else.
+pub data RestsWhereFull : ℕ → List TraceItem → Type 0 where
+  begins : RestsWhereFull 0 []
+  sends : (flying b : ℕ) (items : List TraceItem) → RestsWhereFull flying items → flying + 1 < 512 → RestsWhereFull (flying + 1) (items ++ trace.WriteHome 1 b ∷ [])
+  fills : (flying b : ℕ) (items : List TraceItem) → RestsWhereFull flying items → flying + 1 ≡ 512 → RestsWhereFull 0 (items ++ (trace.WriteHome 1 b ∷ trace.Barrier 1 ∷ []))
+
+-- and at the end there is one where any is in flight
+abbrev pub last_rest : ℕ → List TraceItem
+last_rest flying = if flying == 0 then [] else trace.Barrier 1 ∷ []
+
+-- so it is behind these items
+pub record RestsAsDue (items items' : List TraceItem) : Type 0 where
+  pub flying : ℕ
+  pub sent : List TraceItem
+  pub are : RestsWhereFull flying sent
+  pub told : items' ≡ items ++ (sent ++ last_rest flying)
+
+-- one block is sent, and is in flight; or with it 512 were, and a barrier is made
+pub data SendsOne (n n' : Node) : Type 0 where
+  flies : (b : ℕ) → n'.items.items ≡ n.items.items ++ trace.WriteHome 1 b ∷ [] → n'.flying ≡ n.flying + 1 → n.flying + 1 < 512 → SendsOne n n'
+  rests : (b : ℕ) → n'.items.items ≡ n.items.items ++ (trace.WriteHome 1 b ∷ trace.Barrier 1 ∷ []) → n'.flying ≡ 0 → n.flying + 1 ≡ 512 → SendsOne n n'
+
+-- and so far, with so many in flight
+pub record RestsSoFar (items items' : List TraceItem) (flying : ℕ) : Type 0 where
+  pub sent : List TraceItem
+  pub are : RestsWhereFull flying sent
+  pub told : items' ≡ items ++ sent
 
 -- ---- from one node to the other
 

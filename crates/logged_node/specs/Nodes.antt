@@ -1,5 +1,5 @@
 -- A node with its log, on a disk.
-use Rattle.std.specs.Prelude.{ℕ, ◌≡◌, ◌<◌, ◌≤◌, ◌+◌, ◌++◌, ⊤, true, false, List, [], ◌∷◌, length, Option, None, Some}
+use Rattle.std.specs.Prelude.{ℕ, ◌≡◌, ◌⊎◌, ◌<◌, ◌≤◌, ◌+◌, ◌++◌, ⊤, true, false, List, [], ◌∷◌, length, Option, None, Some}
 use Rattle.std.specs.FinMap as table
 use Rattle.std.specs.List.{AllByRecursion, count_by}
 use Rattle.glock_names.specs.Views.{end_of}
@@ -13,11 +13,11 @@ use Rattle.log_widths.specs.Widths.{HasLogWidths}
 use Rattle.node_journal.specs.Encoding.{size_of}
 use Rattle.lone_logs.specs.States.{Numbers}
 use Rattle.run_rules.specs.Follows.{is_write_of}
-use Rattle.shared_disk.specs.Disk.{DiskState, Operation}
+use Rattle.shared_disk.specs.Disk.{DiskState, Operation, after_write}
 use Rattle.trace_text.specs.declared.item.TraceItem.{TraceItem}
+use Rattle.logged_steps.specs.Fails.{FailsTo}
 use Rattle.logged_steps.specs.Points.{Anything, Point}
 use Rattle.logged_steps.specs.Steps.{Steps}
-use Rattle.logged_node.specs.Ends.{IfCrashed}
 use Rattle.logged_node.specs.declared.ends.Stop.{Stop}
 use Rattle.logged_node.specs.declared.ends.Stop.TheVariants as stop
 use Rattle.logged_node.specs.declared.node.CallNumbers.{CallNumbers}
@@ -44,6 +44,24 @@ crash_of (Some left) items = Some (writes_in items + left)
 
 abbrev pub crash_at : Node → Option ℕ
 crash_at n = crash_of n.armed n.items.items
+
+-- it is behind that write, the last of these items
+pub record IsAtCrash (crash : Option ℕ) (items : List TraceItem) : Type 0 where
+  pub before : List TraceItem
+  pub it : TraceItem
+  pub told : items ≡ before ++ it ∷ []
+  pub write : is_write_of 1 it ≡ true
+  pub is : crash ≡ Some (writes_in items)
+
+-- it hasn't come to it
+abbrev pub IsBeforeCrash : Option ℕ → List TraceItem → Type 0
+IsBeforeCrash crash items = (k : ℕ) → crash ≡ Some k → writes_in items < k
+
+-- so it stops: directly behind that write where it crashed, and else before it
+abbrev pub StopsByCrash : Option ℕ → List TraceItem → Stop → Type 0
+StopsByCrash crash items stop.Crashed = IsAtCrash crash items
+StopsByCrash crash items (stop.DiskFailed block rise) = IsBeforeCrash crash items
+StopsByCrash crash items stop.NoMemory = IsBeforeCrash crash items
 
 -- that one at least is left
 abbrev pub Awaits : Option ℕ → Type 0
@@ -109,23 +127,39 @@ pub record KeepsView (n n' : Node) : Type 0 where
   pub journal : n'.log.journal ≡ n.log.journal
   pub unmounts : n'.unmounts ≡ n.unmounts
 
+-- what it leaves of one at a point: its calls are told as they were, and nothing has to come next
+pub record KeepsCallsAt (n : Node) (p : Point) : Type 0 where
+  pub view : p.view ≡ n.view
+  pub answered : p.numbers.answered ≡ n.numbers.answered
+  pub changed : p.numbers.changed ≡ n.numbers.changed
+  pub journal : p.log.journal ≡ n.log.journal
+  pub next : p.next ≡ Anything
+
 -- ---- how it stops
 
--- The disk failed: it is that of the point; or that of a point one write further on, of which no item tells.
-pub data FailsBehind (p : Point) (d : DiskState) (list : Option (List Operation)) : Type 0 where
-  as_it_was : d ≡ p.disk → list ≡ p.list → FailsBehind p d list
-  in_a_write : (q : Point) (item : TraceItem) → ((time : ℕ) → Steps time p q) → q.items ≡ p.items ++ item ∷ [] → is_write_of 1 item ≡ true → d ≡ q.disk → list ≡ q.list → FailsBehind p d list
+-- a write that failed may have left this behind the point, if it was one: its block in flight; a barrier that failed leaves nothing
+abbrev pub IsLeftBy : Point → Point → Option ℕ → Type 0
+IsLeftBy p left None = left ≡ p
+IsLeftBy p left (Some b) = (left ≡ p) ⊎ ((bytes : List ℕ) × (left.disk ≡ after_write p.disk 1 b bytes))
 
--- else it is that of the point
-abbrev pub LeavesDisk : Point → DiskState → Option (List Operation) → Stop → Type 0
-LeavesDisk p d list (stop.DiskFailed block rise) = FailsBehind p d list
-LeavesDisk p d list stop.Crashed = (d ≡ p.disk) × (list ≡ p.list)
-LeavesDisk p d list stop.NoMemory = (d ≡ p.disk) × (list ≡ p.list)
+-- so does a failed disk, by the block that is told; a crash and want of memory leave the point as it is
+abbrev pub IsLeftAs : Point → Point → Stop → Type 0
+IsLeftAs p left (stop.DiskFailed block rise) = IsLeftBy p left block
+IsLeftAs p left stop.Crashed = left ≡ p
+IsLeftAs p left stop.NoMemory = left ≡ p
 
--- It came by steps to a point with these items, and so it leaves the disk; and where it crashed, it is behind the write at which it was to.
-pub record StopsBehind (d : DiskState) (list : Option (List Operation)) (n : Node) (d' : DiskState) (list' : Option (List Operation)) (items : List TraceItem) (why : Stop) : Type 0 where
+-- It came by steps to a point, and is there still; or the disk failed in a write of the step that would come next, which may be in flight, and of which no item tells. So it leaves the disk, its list and
+-- the items. On the way it told no call, and so many headers at most came into the journal; and only where it crashed is it behind the write at which it was to.
+pub record StopsBehind (most : ℕ) (d : DiskState) (list : Option (List Operation)) (n : Node) (d' : DiskState) (list' : Option (List Operation)) (items : List TraceItem) (why : Stop) : Type 0 where
   pub last : Point
+  pub left : Point
   pub steps : (time : ℕ) → Steps time (point_of d list n) last
-  pub told : last.items ≡ items
-  pub disk : LeavesDisk last d' list' why
-  pub crashes : IfCrashed why (crash_at n ≡ Some (writes_in items))
+  pub fails : (time : ℕ) → FailsTo time last left
+  pub exactly : IsLeftAs last left why
+  pub disk : left.disk ≡ d'
+  pub listed : left.list ≡ list'
+  pub told : left.items ≡ items
+  pub kept : KeepsCallsAt n last
+  pub unmounts : last.unmounts ≡ n.unmounts
+  pub sequence : last.log.sequence ≤ n.log.sequence + most
+  pub crashes : StopsByCrash (crash_at n) items why

@@ -3,7 +3,9 @@ use Rattle.std.specs.Prelude.{◌≡◌, ◌≢◌, ◌<◌, ◌≤◌, ◌+◌,
 use Rattle.log_values.specs.Flushing.{IsDue}
 use Rattle.log_values.specs.Transactions.{due}
 use Rattle.shared_disk.specs.Disk.{DiskState, Operation}
-use Rattle.logged_node.specs.Flushing.{GoesBySteps}
+use Rattle.trace_text.specs.declared.item.TraceItem.{TraceItem}
+use Rattle.logged_node.specs.Flushing.{GoesBySteps, HasRoomForDue}
+use Rattle.logged_node.specs.Homing.{SentSoFar, homes_in}
 use Rattle.logged_node.specs.Nodes.{IsResting, KeepsView}
 use Rattle.logged_node.specs.declared.node.Node.{Node}
 
@@ -16,6 +18,11 @@ pub record IsCounted (n : Node) : Type 0 where
 pub data HasCalls (n n' : Node) : Type 0 where
   all : n'.numbers.low ≡ n.numbers.answered → HasCalls n n'
   no_change : (due n.log).blocks ≡ [] → n'.numbers.low ≡ n.numbers.low → HasCalls n n'
+
+-- Blocks go home in order, and only where there is no room for what is due.
+pub record SentForRoom (n : Node) (items : List TraceItem) : Type 0 where
+  pub order : SentSoFar n.log n.items.items items
+  pub room : HasRoomForDue n.log → homes_in items ≡ homes_in n.items.items
 
 -- Nothing is due any more, and the node rests.
 pub record HasBroughtIn (d : DiskState) (list : Option (List Operation)) (n : Node) (d' : DiskState) (list' : Option (List Operation)) (n' : Node) : Type 0 where

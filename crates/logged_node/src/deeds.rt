@@ -5,7 +5,7 @@ ghost use Rattle.run_rules.specs.Follows.{is_write_of};
 ghost use Rattle.shared_disk.specs.Disk.{flight_to};
 ghost use Rattle.logged_steps.specs.Steps.{GainsBarrier, GainsWrite, with_barrier, with_write};
 ghost use Rattle.logged_node.specs.Deeds.{IsLastWrite, IsNotLastWrite, MayBeWritten, one_less};
-ghost use Rattle.logged_node.specs.Ends.{HasCause, IfCrashed, IfFailed, IfMade, IsOfDisk};
+ghost use Rattle.logged_node.specs.Ends.{FailedAt, HasCause, IfCrashed, IfFailed, IfMade, IsOfDisk};
 ghost use Rattle.logged_node.specs.Nodes.{Awaits, crash_at, point_of, writes_in};
 
 use crate::ends::Stop;
@@ -75,6 +75,7 @@ pub(crate) fn put_write<D: SharedDisk>(
     ensures failed { IfErr result (λ why. IfFailed why (MayBeWritten (D.state disk.old) (D.list disk.old) block node.old.block.items (D.state disk.new) (D.list disk.new))) }
     ensures kept { IfErr result (λ why. IfFailed why (node.new.items.items ≡ node.old.items.items)) }
     ensures later { (i : ℕ) → D.faults disk.old i ≤ D.faults disk.new i }
+    ensures at { IfErr result (λ why. FailedAt why (Some block)) }
     ensures cause { IfErr result (HasCause (D.state disk.old).count (D.faults disk.old) (D.faults disk.new)) }
 {
     let before = disk.faults(1);
@@ -111,6 +112,7 @@ pub(crate) fn put_barrier<D: SharedDisk>(disk: &mut D, node: &mut Node) -> Resul
     ensures why { IfErr result (λ why. IsOfDisk why) }
     ensures failed { IfErr result (λ why. (D.state disk.new ≡ D.state disk.old) × (D.list disk.new ≡ D.list disk.old) × (node.new ≡ node.old)) }
     ensures later { (i : ℕ) → D.faults disk.old i ≤ D.faults disk.new i }
+    ensures at { IfErr result (λ why. FailedAt why None) }
     ensures cause { IfErr result (HasCause (D.state disk.old).count (D.faults disk.old) (D.faults disk.new)) }
 {
     let before = disk.faults(1);

@@ -1,10 +1,11 @@
 // Flushes: all that is due, or a header alone, comes into the journal.
-ghost use Rattle.std.specs.Prelude.{ℕ, ◌≡◌, ◌≢◌, Ok, IfOk, ◌+◌, ◌++◌, ◌<◌, ◌≤◌, ◌^◌, [], ◌∷◌, false, length, OnOk, IfErr};
+ghost use Rattle.std.specs.Prelude.{ℕ, ◌≡◌, ◌≢◌, ◌↔◌, Ok, IfOk, ◌+◌, ◌++◌, ◌<◌, ◌≤◌, ◌^◌, [], ◌∷◌, false, length, None, OnOk, IfErr};
 ghost use Rattle.std.specs.Vec.{vec_capacity, vec_len};
 ghost use Rattle.log_values.specs.Flushing.{FlushAnswer};
-ghost use Rattle.logged_node.specs.Ends.{HasCause, IfCrashed, IfFailed, IfMade, IsOfDisk};
-ghost use Rattle.logged_node.specs.Flushing.{FailsAt, GoesOn, HasBegun, HasCome, HasNoRoom, HasNothingToFlush, IsAsItWas, IsCarried, IsUnderWay, MayCarry, number_of};
-ghost use Rattle.logged_node.specs.Nodes.{Awaits, IsResting, StopsBehind, crash_at, point_of, writes_in};
+ghost use Rattle.logged_node.specs.Ends.{FailedAt, HasCause, IfCrashed, IfFailed, IfMade, IsOfDisk};
+ghost use Rattle.logged_node.specs.Flushing.{CanFlush, FailsAt, GoesOn, HasBegun, HasCome, HasNoRoom, HasNothingToFlush, IsAsItWas, IsCarried, IsUnderWay, MayCarry, block_of, number_of};
+ghost use Rattle.logged_node.specs.Homing.{homes_in};
+ghost use Rattle.logged_node.specs.Nodes.{Awaits, IsAtCrash, IsResting, StopsBehind, crash_at, point_of};
 
 use crate::deeds::{have_room, put_barrier, put_write};
 use crate::ends::Stop;
@@ -56,6 +57,7 @@ fn end_part<D: SharedDisk>(disk: &mut D, node: &mut Node) -> Result<(), Stop>
     ensures why { IfErr result IsOfDisk }
     ensures failed { IfErr result (λ why. (D.state disk.new ≡ D.state disk.old) × (D.list disk.new ≡ D.list disk.old) × (node.new ≡ node.old)) }
     ensures later { (i : ℕ) → D.faults disk.old i ≤ D.faults disk.new i }
+    ensures at { IfErr result (λ why. FailedAt why None) }
     ensures cause { IfErr result (HasCause (D.state disk.old).count (D.faults disk.old) (D.faults disk.new)) }
 {
     match put_barrier(disk, node) {
@@ -81,10 +83,11 @@ fn carry<D: SharedDisk>(disk: &mut D, node: &mut Node, step: LogStep) -> Result<
     ensures flying { OnOk result (node.new.flying ≡ length ((D.state disk.new).in_flight 1)) }
     ensures armed { OnOk result (crash_at node.new ≡ crash_at node.old) }
     ensures awaits { OnOk result (Awaits node.new.armed) }
-    ensures crashed { IfErr result (λ why. IfCrashed why (crash_at node.old ≡ Some (writes_in node.new.items.items))) }
+    ensures crashed { IfErr result (λ why. IfCrashed why (IsAtCrash (crash_at node.old) node.new.items.items)) }
     ensures failed { IfErr result (λ why. IfFailed why (FailsAt node.old.block.items (point_of (D.state disk.old) (D.list disk.old) node.old) (D.state disk.new) (D.list disk.new) step)) }
     ensures kept { IfErr result (λ why. IfFailed why (node.new.items.items ≡ node.old.items.items)) }
     ensures later { (i : ℕ) → D.faults disk.old i ≤ D.faults disk.new i }
+    ensures at { IfErr result (λ why. FailedAt why (block_of step)) }
     ensures cause { IfErr result (HasCause (D.state disk.old).count (D.faults disk.old) (D.faults disk.new)) }
 {
     match step {
@@ -125,7 +128,8 @@ fn go_on<D: SharedDisk>(disk: &mut D, node: &mut Node) -> Result<(), Stop>
     requires flushing { IsUnderWay (D.state disk.old) node.old }
     requires sequence { node.old.log.sequence + 1 < 2 ^ 64 }
     ensures came { OnOk result (GoesOn (D.state disk.old) (D.list disk.old) node.old (D.state disk.new) (D.list disk.new) node.new) }
-    ensures stopped { IfErr result (StopsBehind (D.state disk.old) (D.list disk.old) node.old (D.state disk.new) (D.list disk.new) node.new.items.items) }
+    ensures homes { homes_in node.new.items.items ≡ homes_in node.old.items.items }
+    ensures stopped { IfErr result (StopsBehind 1 (D.state disk.old) (D.list disk.old) node.old (D.state disk.new) (D.list disk.new) node.new.items.items) }
     ensures later { (i : ℕ) → D.faults disk.old i ≤ D.faults disk.new i }
     ensures cause { IfErr result (HasCause (D.state disk.old).count (D.faults disk.old) (D.faults disk.new)) }
 {
@@ -163,10 +167,12 @@ fn begin<D: SharedDisk>(disk: &mut D, node: &mut Node) -> Result<Began, Stop>
     requires resting { IsResting (D.state disk.old) node.old }
     requires sequence { node.old.log.sequence + 1 < 2 ^ 64 }
     ensures begun { result ≡ Ok Began.Begun → HasBegun (D.state disk.old) (D.list disk.old) node.old (D.state disk.new) (D.list disk.new) node.new }
+    ensures can { result ≡ Ok Began.Begun → CanFlush node.old.log }
     ensures not { IfOk result (λ b. b ≢ Began.Begun → IsAsItWas (D.state disk.old) (D.list disk.old) node.old (D.state disk.new) (D.list disk.new) node.new) }
     ensures nothing { result ≡ Ok Began.Nothing → HasNothingToFlush node.old.log }
     ensures no_room { result ≡ Ok Began.NoRoom → HasNoRoom node.old.log }
-    ensures stopped { IfErr result (StopsBehind (D.state disk.old) (D.list disk.old) node.old (D.state disk.new) (D.list disk.new) node.new.items.items) }
+    ensures homes { homes_in node.new.items.items ≡ homes_in node.old.items.items }
+    ensures stopped { IfErr result (StopsBehind 1 (D.state disk.old) (D.list disk.old) node.old (D.state disk.new) (D.list disk.new) node.new.items.items) }
     ensures later { (i : ℕ) → D.faults disk.old i ≤ D.faults disk.new i }
     ensures cause { IfErr result (HasCause (D.state disk.old).count (D.faults disk.old) (D.faults disk.new)) }
 {
@@ -198,9 +204,12 @@ pub fn flush<D: SharedDisk>(disk: &mut D, node: &mut Node) -> Result<Flushed, St
     requires sequence { node.old.log.sequence + 1 < 2 ^ 64 }
     ensures done { result ≡ Ok Flushed.Done → HasCome (D.state disk.old) (D.list disk.old) node.old (D.state disk.new) (D.list disk.new) node.new }
     ensures not { IfOk result (λ b. b ≢ Flushed.Done → IsAsItWas (D.state disk.old) (D.list disk.old) node.old (D.state disk.new) (D.list disk.new) node.new) }
-    ensures nothing { result ≡ Ok Flushed.Nothing → HasNothingToFlush node.old.log }
-    ensures no_room { result ≡ Ok Flushed.NoRoom → HasNoRoom node.old.log }
-    ensures stopped { IfErr result (StopsBehind (D.state disk.old) (D.list disk.old) node.old (D.state disk.new) (D.list disk.new) node.new.items.items) }
+    ensures can { IfOk result (λ b. (b ≡ Flushed.Done) ↔ CanFlush node.old.log) }
+    ensures nothing { IfOk result (λ b. (b ≡ Flushed.Nothing) ↔ HasNothingToFlush node.old.log) }
+    ensures no_room { IfOk result (λ b. (b ≡ Flushed.NoRoom) ↔ HasNoRoom node.old.log) }
+    ensures grows { OnOk result (node.new.log.sequence ≤ node.old.log.sequence + 1) }
+    ensures homes { homes_in node.new.items.items ≡ homes_in node.old.items.items }
+    ensures stopped { IfErr result (StopsBehind 1 (D.state disk.old) (D.list disk.old) node.old (D.state disk.new) (D.list disk.new) node.new.items.items) }
     ensures later { (i : ℕ) → D.faults disk.old i ≤ D.faults disk.new i }
     ensures cause { IfErr result (HasCause (D.state disk.old).count (D.faults disk.old) (D.faults disk.new)) }
 {

@@ -1,9 +1,9 @@
 // Live blocks go home.
-ghost use Rattle.std.specs.Prelude.{ℕ, ◌≡◌, ◌<◌, ◌≤◌, [], length, OnOk, IfErr};
+ghost use Rattle.std.specs.Prelude.{ℕ, ◌≡◌, ◌+◌, ◌++◌, ◌<◌, ◌≤◌, [], ◌∷◌, length, OnOk, IfErr};
 ghost use Rattle.log_memory.specs.Locks.{IsNextLock, NoneIsAway};
 ghost use Rattle.log_values.specs.Homing.{HomeAnswer};
 ghost use Rattle.logged_node.specs.Ends.{HasCause};
-ghost use Rattle.logged_node.specs.Homing.{GoesHomeward, HasGoneHome, IsHoming, waiting};
+ghost use Rattle.logged_node.specs.Homing.{GoesHomeward, HasGoneHome, IsHoming, RestsAsDue, SendsOne, SentSoFar, homes_in, last_rest, waiting};
 ghost use Rattle.logged_node.specs.Nodes.{IsResting, StopsBehind};
 
 use crate::deeds::{MOST_IN_FLIGHT, have_room, put_barrier, put_write};
@@ -17,11 +17,15 @@ use trace_text::TraceItem;
 // Makes a barrier: what is on its way is home.
 fn rest<D: SharedDisk>(disk: &mut D, node: &mut Node) -> Result<(), Stop>
     requires homing { IsHoming (D.state disk.old) node.old }
+    requires some { 0 < node.old.flying }
     ensures rested { OnOk result (GoesHomeward (D.state disk.old) (D.list disk.old) node.old (D.state disk.new) (D.list disk.new) node.new) }
     ensures none { OnOk result ((D.state disk.new).in_flight 1 ≡ []) }
     ensures waiting { OnOk result (waiting node.new.log ≡ waiting node.old.log) }
     ensures away { OnOk result (NoneIsAway node.old.log → NoneIsAway node.new.log) }
-    ensures stopped { IfErr result (StopsBehind (D.state disk.old) (D.list disk.old) node.old (D.state disk.new) (D.list disk.new) node.new.items.items) }
+    ensures told { OnOk result (node.new.items.items ≡ node.old.items.items ++ TraceItem.Barrier 1 ∷ []) }
+    ensures flying { OnOk result (node.new.flying ≡ 0) }
+    ensures homes { homes_in node.new.items.items ≡ homes_in node.old.items.items }
+    ensures stopped { IfErr result (StopsBehind 0 (D.state disk.old) (D.list disk.old) node.old (D.state disk.new) (D.list disk.new) node.new.items.items) }
     ensures later { (i : ℕ) → D.faults disk.old i ≤ D.faults disk.new i }
     ensures cause { IfErr result (HasCause (D.state disk.old).count (D.faults disk.old) (D.faults disk.new)) }
 {
@@ -54,7 +58,10 @@ fn send<D: SharedDisk>(disk: &mut D, node: &mut Node, lock: LockName) -> Result<
     requires next { IsNextLock node.old.log lock }
     ensures sent { OnOk result (GoesHomeward (D.state disk.old) (D.list disk.old) node.old (D.state disk.new) (D.list disk.new) node.new) }
     ensures fewer { OnOk result (waiting node.new.log < waiting node.old.log) }
-    ensures stopped { IfErr result (StopsBehind (D.state disk.old) (D.list disk.old) node.old (D.state disk.new) (D.list disk.new) node.new.items.items) }
+    ensures told { OnOk result ((b : ℕ) × (node.new.items.items ≡ node.old.items.items ++ TraceItem.WriteHome 1 b ∷ [])) }
+    ensures flying { OnOk result (node.new.flying ≡ node.old.flying + 1) }
+    ensures order { SentSoFar node.old.log node.old.items.items node.new.items.items }
+    ensures stopped { IfErr result (StopsBehind 0 (D.state disk.old) (D.list disk.old) node.old (D.state disk.new) (D.list disk.new) node.new.items.items) }
     ensures later { (i : ℕ) → D.faults disk.old i ≤ D.faults disk.new i }
     ensures cause { IfErr result (HasCause (D.state disk.old).count (D.faults disk.old) (D.faults disk.new)) }
 {
@@ -81,7 +88,9 @@ fn take_one<D: SharedDisk>(disk: &mut D, node: &mut Node, lock: LockName) -> Res
     ensures taken { OnOk result (GoesHomeward (D.state disk.old) (D.list disk.old) node.old (D.state disk.new) (D.list disk.new) node.new) }
     ensures few { OnOk result (node.new.flying < 512) }
     ensures fewer { OnOk result (waiting node.new.log < waiting node.old.log) }
-    ensures stopped { IfErr result (StopsBehind (D.state disk.old) (D.list disk.old) node.old (D.state disk.new) (D.list disk.new) node.new.items.items) }
+    ensures one { OnOk result (SendsOne node.old node.new) }
+    ensures order { SentSoFar node.old.log node.old.items.items node.new.items.items }
+    ensures stopped { IfErr result (StopsBehind 0 (D.state disk.old) (D.list disk.old) node.old (D.state disk.new) (D.list disk.new) node.new.items.items) }
     ensures later { (i : ℕ) → D.faults disk.old i ≤ D.faults disk.new i }
     ensures cause { IfErr result (HasCause (D.state disk.old).count (D.faults disk.old) (D.faults disk.new)) }
 {
@@ -101,7 +110,9 @@ fn rest_if_any<D: SharedDisk>(disk: &mut D, node: &mut Node) -> Result<(), Stop>
     requires homing { IsHoming (D.state disk.old) node.old }
     requires away { NoneIsAway node.old.log }
     ensures home { OnOk result (HasGoneHome (D.state disk.old) (D.list disk.old) node.old (D.state disk.new) (D.list disk.new) node.new) }
-    ensures stopped { IfErr result (StopsBehind (D.state disk.old) (D.list disk.old) node.old (D.state disk.new) (D.list disk.new) node.new.items.items) }
+    ensures told { OnOk result (node.new.items.items ≡ node.old.items.items ++ last_rest node.old.flying) }
+    ensures homes { homes_in node.new.items.items ≡ homes_in node.old.items.items }
+    ensures stopped { IfErr result (StopsBehind 0 (D.state disk.old) (D.list disk.old) node.old (D.state disk.new) (D.list disk.new) node.new.items.items) }
     ensures later { (i : ℕ) → D.faults disk.old i ≤ D.faults disk.new i }
     ensures cause { IfErr result (HasCause (D.state disk.old).count (D.faults disk.old) (D.faults disk.new)) }
 {
@@ -118,7 +129,9 @@ fn rest_if_any<D: SharedDisk>(disk: &mut D, node: &mut Node) -> Result<(), Stop>
 pub fn go_home<D: SharedDisk>(disk: &mut D, node: &mut Node) -> Result<(), Stop>
     requires resting { IsResting (D.state disk.old) node.old }
     ensures home { OnOk result (HasGoneHome (D.state disk.old) (D.list disk.old) node.old (D.state disk.new) (D.list disk.new) node.new) }
-    ensures stopped { IfErr result (StopsBehind (D.state disk.old) (D.list disk.old) node.old (D.state disk.new) (D.list disk.new) node.new.items.items) }
+    ensures rests { OnOk result (RestsAsDue node.old.items.items node.new.items.items) }
+    ensures order { SentSoFar node.old.log node.old.items.items node.new.items.items }
+    ensures stopped { IfErr result (StopsBehind 0 (D.state disk.old) (D.list disk.old) node.old (D.state disk.new) (D.list disk.new) node.new.items.items) }
     ensures later { (i : ℕ) → D.faults disk.old i ≤ D.faults disk.new i }
     ensures cause { IfErr result (HasCause (D.state disk.old).count (D.faults disk.old) (D.faults disk.new)) }
 {

@@ -1,11 +1,15 @@
 // An unmount.
 ghost use Rattle.std.specs.Prelude.{ℕ, ◌≡◌, ◌<◌, ◌≤◌, ◌+◌, ◌++◌, ◌∷◌, [], ◌^◌, true, false, length, OnOk, OnErr, IfErr};
+ghost use Rattle.log_layout.specs.Headers.{log_put};
 ghost use Rattle.log_layout.specs.Transactions.{after};
-ghost use Rattle.log_values.specs.Flushing.{AllAreHome, IsDue};
-ghost use Rattle.lone_ends.specs.Ends.{IsLastHeader};
+ghost use Rattle.log_memory.specs.Ending.{last_header};
+ghost use Rattle.log_values.specs.Flushing.{block_at, first_place};
+ghost use Rattle.logged_steps.specs.Points.{state_of};
+ghost use Rattle.lone_ends.specs.Ends.{IsDone, IsLastHeader};
+ghost use Rattle.node_journal.specs.Encoding.{zeros};
 ghost use Rattle.logged_node.specs.Ends.{HasCause};
-ghost use Rattle.logged_node.specs.Leaving.{HasLastHeader, HasUnmounted, IsReady, StopsAtHeader, StopsLeaving, last_block};
-ghost use Rattle.logged_node.specs.Nodes.{Awaits, IsResting, StopsBehind, crash_at, point_of};
+ghost use Rattle.logged_node.specs.Leaving.{HasLastHeader, HasUnmounted, IsReady, LeavesBySteps, StopsAtHeader, StopsLeaving};
+ghost use Rattle.logged_node.specs.Nodes.{Awaits, IsResting, StopsByCrash, crash_at, point_of};
 
 use crate::deeds::{have_room, put_barrier, put_write};
 use crate::ends::Stop;
@@ -40,7 +44,9 @@ fn make_ready<D: SharedDisk>(disk: &mut D, node: &mut Node) -> Result<(), Stop>
     requires mounted { node.old.unmounts ≡ false }
     requires sequence { node.old.log.sequence + 2 < 2 ^ 64 }
     ensures ready { OnOk result (IsReady (D.state disk.old) (D.list disk.old) node.old (D.state disk.new) (D.list disk.new) node.new) }
-    ensures stopped { IfErr result (StopsBehind (D.state disk.old) (D.list disk.old) node.old (D.state disk.new) (D.list disk.new) node.new.items.items) }
+    ensures stopped { IfErr result (StopsLeaving (D.state disk.old) (D.list disk.old) node.old (D.state disk.new) (D.list disk.new) node.new.items.items) }
+    ensures ends { LeavesBySteps (D.state disk.old) (D.list disk.old) node.old (D.state disk.new) (D.list disk.new) node.new.items.items }
+    ensures crashes { IfErr result (StopsByCrash (crash_at node.old) node.new.items.items) }
     ensures later { (i : ℕ) → D.faults disk.old i ≤ D.faults disk.new i }
     ensures cause { IfErr result (HasCause (D.state disk.old).count (D.faults disk.old) (D.faults disk.new)) }
 {
@@ -61,8 +67,9 @@ fn fill_last(node: &mut Node) -> LastWrite
     requires sequence { node.old.log.sequence + 1 < 2 ^ 64 }
     ensures node { node.new ≡ record node.old { block = node.new.block } }
     ensures long { length node.new.block.items ≡ length node.old.block.items }
-    ensures at { result ≡ record { block = last_block node.old.log; sequence = after node.old.log.sequence } }
+    ensures at { result ≡ record { block = block_at node.old.log.journal (first_place node.old.log); sequence = after node.old.log.sequence } }
     ensures last { IsLastHeader node.old.log node.new.block.items }
+    ensures put { node.new.block.items ≡ log_put (last_header node.old.log) (zeros node.old.log.journal.size) }
 {
     clean_blocks_are_last();
     put_last_header(&node.log, &mut node.block)
@@ -71,6 +78,7 @@ fn fill_last(node: &mut Node) -> LastWrite
 // Writes it, and makes a barrier.
 fn write_last<D: SharedDisk>(disk: &mut D, node: &mut Node) -> Result<(), Stop>
     requires resting { IsResting (D.state disk.old) node.old }
+    requires done { IsDone (state_of (point_of (D.state disk.old) (D.list disk.old) node.old)) }
     requires sequence { node.old.log.sequence + 1 < 2 ^ 64 }
     ensures written { OnOk result (HasLastHeader (point_of (D.state disk.old) (D.list disk.old) node.old) (D.state disk.new) (D.list disk.new) node.new.items.items) }
     ensures armed { OnOk result (crash_at node.new ≡ crash_at node.old) }
@@ -108,6 +116,8 @@ pub fn unmount<D: SharedDisk>(disk: &mut D, node: &mut Node) -> Result<(), Stop>
     ensures armed { OnOk result (crash_at node.new ≡ crash_at node.old) }
     ensures awaits { OnOk result (Awaits node.new.armed) }
     ensures stopped { IfErr result (StopsLeaving (D.state disk.old) (D.list disk.old) node.old (D.state disk.new) (D.list disk.new) node.new.items.items) }
+    ensures ends { LeavesBySteps (D.state disk.old) (D.list disk.old) node.old (D.state disk.new) (D.list disk.new) node.new.items.items }
+    ensures crashes { IfErr result (StopsByCrash (crash_at node.old) node.new.items.items) }
     ensures later { (i : ℕ) → D.faults disk.old i ≤ D.faults disk.new i }
     ensures cause { IfErr result (HasCause (D.state disk.old).count (D.faults disk.old) (D.faults disk.new)) }
 {

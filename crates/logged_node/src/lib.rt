@@ -1,4 +1,4 @@
-//! Node 1 with its log, alone on a disk: it answers calls, flushes its log, takes blocks home, and leaves its journal clean.
+//! Node 1 with its log, alone on a disk: it flushes its log, makes room in its journal, takes blocks home, and leaves its journal clean. It answers no call; the change of one comes into its log.
 #![tactic(auto)]
 
 mod changes;

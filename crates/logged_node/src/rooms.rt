@@ -1,10 +1,11 @@
 // Room in the journal, and what is due brought into it.
-ghost use Rattle.std.specs.Prelude.{ℕ, ◌≡◌, ◌<◌, ◌≤◌, ◌+◌, ◌^◌, OnOk, IfErr};
+ghost use Rattle.std.specs.Prelude.{ℕ, ◌<◌, ◌≤◌, ◌+◌, ◌^◌, OnOk, IfErr};
 ghost use Rattle.log_values.specs.Flushing.{IsDue, NothingIsLive};
 ghost use Rattle.logged_node.specs.Ends.{HasCause};
 ghost use Rattle.logged_node.specs.Flushing.{HasCome, HasRoomForDue};
+ghost use Rattle.logged_node.specs.Homing.{SentSoFar};
 ghost use Rattle.logged_node.specs.Nodes.{IsResting, StopsBehind};
-ghost use Rattle.logged_node.specs.Rooms.{HasBroughtIn, IsCounted};
+ghost use Rattle.logged_node.specs.Rooms.{HasBroughtIn, IsCounted, SentForRoom};
 
 use crate::ends::Stop;
 use crate::flushing::{Flushed, flush};
@@ -21,7 +22,9 @@ pub fn make_room<D: SharedDisk>(disk: &mut D, node: &mut Node) -> Result<(), Sto
     requires sequence { node.old.log.sequence + 1 < 2 ^ 64 }
     ensures came { OnOk result (HasCome (D.state disk.old) (D.list disk.old) node.old (D.state disk.new) (D.list disk.new) node.new) }
     ensures empty { OnOk result (NothingIsLive node.new.log) }
-    ensures stopped { IfErr result (StopsBehind (D.state disk.old) (D.list disk.old) node.old (D.state disk.new) (D.list disk.new) node.new.items.items) }
+    ensures grows { OnOk result (node.new.log.sequence ≤ node.old.log.sequence + 1) }
+    ensures order { SentSoFar node.old.log node.old.items.items node.new.items.items }
+    ensures stopped { IfErr result (StopsBehind 1 (D.state disk.old) (D.list disk.old) node.old (D.state disk.new) (D.list disk.new) node.new.items.items) }
     ensures later { (i : ℕ) → D.faults disk.old i ≤ D.faults disk.new i }
     ensures cause { IfErr result (HasCause (D.state disk.old).count (D.faults disk.old) (D.faults disk.new)) }
 {
@@ -41,7 +44,8 @@ fn flush_or_make_room<D: SharedDisk>(disk: &mut D, node: &mut Node) -> Result<()
     requires due { IsDue node.old.log }
     requires sequence { node.old.log.sequence + 1 < 2 ^ 64 }
     ensures came { OnOk result (HasCome (D.state disk.old) (D.list disk.old) node.old (D.state disk.new) (D.list disk.new) node.new) }
-    ensures stopped { IfErr result (StopsBehind (D.state disk.old) (D.list disk.old) node.old (D.state disk.new) (D.list disk.new) node.new.items.items) }
+    ensures sent { SentForRoom node.old node.new.items.items }
+    ensures stopped { IfErr result (StopsBehind 1 (D.state disk.old) (D.list disk.old) node.old (D.state disk.new) (D.list disk.new) node.new.items.items) }
     ensures later { (i : ℕ) → D.faults disk.old i ≤ D.faults disk.new i }
     ensures cause { IfErr result (HasCause (D.state disk.old).count (D.faults disk.old) (D.faults disk.new)) }
 {
@@ -60,7 +64,9 @@ pub fn bring_in<D: SharedDisk>(disk: &mut D, node: &mut Node) -> Result<(), Stop
     requires sequence { node.old.log.sequence + 2 < 2 ^ 64 }
     ensures brought { OnOk result (HasBroughtIn (D.state disk.old) (D.list disk.old) node.old (D.state disk.new) (D.list disk.new) node.new) }
     ensures synced { IsCounted node.old → OnOk result (node.new.numbers.changed ≤ node.new.numbers.low) }
-    ensures stopped { IfErr result (StopsBehind (D.state disk.old) (D.list disk.old) node.old (D.state disk.new) (D.list disk.new) node.new.items.items) }
+    ensures grows { OnOk result (node.new.log.sequence ≤ node.old.log.sequence + 2) }
+    ensures sent { SentForRoom node.old node.new.items.items }
+    ensures stopped { IfErr result (StopsBehind 2 (D.state disk.old) (D.list disk.old) node.old (D.state disk.new) (D.list disk.new) node.new.items.items) }
     ensures later { (i : ℕ) → D.faults disk.old i ≤ D.faults disk.new i }
     ensures cause { IfErr result (HasCause (D.state disk.old).count (D.faults disk.old) (D.faults disk.new)) }
 {

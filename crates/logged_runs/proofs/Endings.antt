@@ -29,13 +29,13 @@ use Rattle.trace_text.specs.declared.item.TraceItem.{TraceItem}
 use Rattle.trace_text.specs.declared.item.TraceItem.TheVariants as trace
 use Rattle.tree_histories.specs.Trees.{history_of}
 use Rattle.written_journals.proofs.RingsWritten.{on_inside}
+use Rattle.logged_steps.specs.Ends.{EndsTo, Landed, Said, Unsaid, clean_item, last_block, with_clean}
 use Rattle.logged_steps.specs.Fails.{AsItWas}
 use Rattle.logged_steps.specs.Laws.{FailedWritesKeep, HeadsAreTold, IsLoggedAt, StepsAreTold, StepsKeep}
 use Rattle.logged_steps.specs.Points.{Point, state_of}
 use Rattle.logged_steps.specs.Steps.{Steps}
 use Rattle.logged_steps.proofs.Histories.{history_on}
 use Rattle.logged_steps.proofs.Telling.{append_nil}
-use Rattle.logged_runs.specs.Ends.{EndsTo, Landed, Said, Unsaid, clean_item, last_block, with_clean}
 use Rattle.logged_runs.specs.Heads.{HasFirst, IsAcceptedIn}
 use Rattle.logged_runs.specs.Laws.{CleanRunsEnd, MayLeave, RunsEnd}
 use Rattle.logged_runs.specs.Starts.{BeginsAt, only_life}

@@ -6,7 +6,6 @@ pub mod Noting
 pub mod Numbers
 pub mod Lasting
 pub mod Losing
-pub mod Chunks
 pub mod Machine
 pub mod Fronts
 pub mod Runs

@@ -8,13 +8,13 @@ use Rattle.file_tree.specs.declared.reply.Reply.{Reply}
 use Rattle.file_tree.specs.declared.reply.Reply.TheVariants as replies
 use Rattle.glock_names.specs.declared.LockName.{LockName}
 use Rattle.log_values.specs.Changes.{with_change}
-use Rattle.log_values.specs.Flushing.{FlushStep, IsDue, flush_chunks}
+use Rattle.log_values.specs.Flushing.{FlushStep, flush_chunks}
 use Rattle.log_values.specs.Flushing.FlushStep.{a_barrier, a_block, a_header, the_last}
 use Rattle.log_values.specs.Homing.{HomeAnswer, Settles}
 use Rattle.log_values.specs.Homing.HomeAnswer.{goes_home}
 use Rattle.log_values.specs.Log.{Flush, Journal, LogValue, Stage}
 use Rattle.log_values.specs.Log.Stage.{Ending, Headed, Writing}
-use Rattle.log_values.specs.Transactions.{due, flushed_as}
+use Rattle.log_values.specs.Transactions.{flushed_as}
 use Rattle.log_values.specs.declared.steps.LogStep.TheVariants as step
 use Rattle.lone_logs.specs.Laws.{counted}
 use Rattle.lone_logs.specs.States.{Numbers}
@@ -26,6 +26,7 @@ use Rattle.trace_text.specs.declared.item.TraceItem.{TraceItem}
 use Rattle.trace_text.specs.declared.item.TraceItem.TheVariants as trace
 use Rattle.logged_steps.specs.Points.{Anything, ItsCommit, ItsNoSpace, Point, call_item}
 use Rattle.logged_steps.specs.Steps.{Step, Steps, with_barrier, with_write, Reads, Answers, AnswersQuietly, Syncs, TellsFull, HasNoSpace, BeginsFlush, BeginsHeader, WritesLog, EndsBlocks, WritesHead, EndsFlush, Commits, GoesHome, Rests, Unmounts, Here, Then}
+use Rattle.logged_steps.proofs.Chunks.{DueIsSome}
 use Rattle.logged_steps.proofs.Telling.{append_assoc, append_nil}
 use Rattle.logged_runs.specs.Starts.{IsOfReplay}
 
@@ -177,10 +178,6 @@ module _ (p : Point) (m : Unnamed) (had : IsNoted p m) where
 
 -- ---- along steps
 
--- what is due makes some chunk
-abbrev pub DueIsSome : LogValue → Type 0
-DueIsSome log = IsDue log → 1 ≤ length (chunks log.journal.size log.journal.jid (due log))
-
 -- the items since a point, and the note behind them
 pub record NotesItsCalls (m : Unnamed) (a p : Point) : Type 0 where
   pub more : List TraceItem
@@ -217,12 +214,12 @@ module _ (start : Unnamed) (a : Point) where
     noted = record { last = had.noted.last; by = (idle p _ had.noted none).1; spaceless = λ c n f e. absurd (anything_else c n f (sym ok ∙ e)) };
   }
   one time p q some had (WritesLog new f b bytes list flush numbers step may gains) = with_item p _ had (trace.WriteLog 1 b) refl (writes p _ had.noted new f b bytes list flush step)
-  one time p q some had (EndsBlocks new f done bytes list flush stage step gains) = with_item p _ had (trace.Barrier 1) refl (ends_blocks p _ had.noted new f done bytes list flush stage step)
+  one time p q some had (EndsBlocks new f done bytes list flush stage step flies gains) = with_item p _ had (trace.Barrier 1) refl (ends_blocks p _ had.noted new f done bytes list flush stage step)
   one time p q some had (WritesHead new f b sequence bytes list flush numbers step may gains) = with_item p _ had (trace.WriteHead 1 b sequence p.numbers.begun) refl (writes_head p _ had.noted new f b sequence bytes list flush step)
-  one time p q some had (EndsFlush new f tail bytes list flush numbers stage step gains) = with_item p _ had (trace.Barrier 1) refl (ends_flush p _ had.noted new f tail bytes list flush stage step)
+  one time p q some had (EndsFlush new f tail bytes list flush numbers stage step flies gains) = with_item p _ had (trace.Barrier 1) refl (ends_flush p _ had.noted new f tail bytes list flush stage step)
   one time p q some had (Commits b awaited ends) = with_item p _ had (trace.Commit 1 p.log.sequence p.numbers.low) refl (record { last = had.noted.last; by = had.noted.by; spaceless = λ c n f e. absurd (anything_else c n f e) })
   one time p q some had (GoesHome ok new lock b bytes list answer may gains) = with_item p _ had (trace.WriteHome 1 b) refl (sends_home p _ had.noted new lock b bytes list answer)
-  one time p q some had (Rests new list ok no_header settles gains) = with_item p _ had (trace.Barrier 1) refl (rests p _ had.noted new list settles)
+  one time p q some had (Rests new list ok no_header settles flies gains) = with_item p _ had (trace.Barrier 1) refl (rests p _ had.noted new list settles)
   one time p q some had (Unmounts ok) = with_item p _ had (trace.Unmount 1) refl (record { last = had.noted.last; by = had.noted.by; spaceless = had.noted.spaceless })
 
   pub calls_noted : (time : ℕ) (p : Point) → ((q : Point) → Steps time a q → DueIsSome q.log) → IsNoted a start → Steps time a p → NotesItsCalls start a p

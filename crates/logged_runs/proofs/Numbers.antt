@@ -79,12 +79,12 @@ module _ (p : Point) (item : TraceItem) (b : ℕ) (told : deed_told item ≡ Som
   wrote time _ (BeginsFlush ok none due room) e = absurd (some_came p.items item e)
   wrote time _ (BeginsHeader ok none home some no_more) e = absurd (some_came p.items item e)
   wrote time _ (WritesLog new f c bytes list flush numbers does may gains) e = block new f c bytes does
-  wrote time _ (EndsBlocks new f done bytes list flush stage does gains) e = barrier e
+  wrote time _ (EndsBlocks new f done bytes list flush stage does flies gains) e = barrier e
   wrote time _ (WritesHead new f c sequence bytes list flush numbers does may gains) e = head new f c sequence bytes flush numbers does
-  wrote time _ (EndsFlush new f tail bytes list flush numbers stage does gains) e = barrier e
+  wrote time _ (EndsFlush new f tail bytes list flush numbers stage does flies gains) e = barrier e
   wrote time _ (Commits c awaited ends) e = silent _ e refl
   wrote time _ (GoesHome ok new lock c bytes list answer may gains) e = home new lock c bytes answer
-  wrote time _ (Rests new list ok no_header settles gains) e = barrier e
+  wrote time _ (Rests new list ok no_header settles flies gains) e = barrier e
   wrote time _ (Unmounts ok) e = silent _ e refl
 
 -- ---- the head that is left

@@ -28,10 +28,10 @@ use Rattle.logged_steps.specs.Heads.{TellsItsHeads}
 use Rattle.logged_steps.specs.Laws.{FailedWritesKeep, HeadsAreTold, IsLoggedAt, StepsAreTold, StepsKeep, TellsWhatItDoes}
 use Rattle.logged_steps.specs.Points.{IsOfRun, Point, state_of}
 use Rattle.logged_steps.specs.Steps.{Steps}
+use Rattle.logged_steps.proofs.Chunks.{due_is_some}
 use Rattle.logged_steps.proofs.Telling.{append_nil, left_same}
 use Rattle.logged_runs.specs.Heads.{HasFirst, IsAcceptedIn}
 use Rattle.logged_runs.specs.Starts.{BeginsAt, only_life}
-use Rattle.logged_runs.proofs.Chunks.{due_is_some}
 use Rattle.logged_runs.proofs.Staying.{AllStay, NoneIsClean, no_end, none_clean, stay_on, stay_replays, stay_steps}
 use Rattle.logged_runs.proofs.Fronts.{IsFront}
 use Rattle.logged_runs.proofs.Losing.{IsItsEnd, its_part}

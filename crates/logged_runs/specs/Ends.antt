@@ -1,5 +1,5 @@
--- How a run ends: with a clean header in its journal.
-use Rattle.std.specs.Prelude.{ℕ, ◌++◌, List, [], ◌∷◌, Option}
+-- What a run that has ended leaves.
+use Rattle.std.specs.Prelude.{ℕ, List}
 use Rattle.cluster_history.specs.History.{tree_of}
 use Rattle.file_tree.specs.Tree.{Tree}
 use Rattle.image_changes.specs.Instances.{StandsBy}
@@ -8,38 +8,11 @@ use Rattle.image_model.specs.Image.{Image}
 use Rattle.image_model.specs.Owners.{Owners}
 use Rattle.image_model.specs.Replays.{StandsReplayed}
 use Rattle.image_model.specs.Stands.{IsJournalAt}
-use Rattle.journal_outcomes.specs.Disks.{flown_by}
 use Rattle.journal_outcomes.specs.Images.{ring_at}
 use Rattle.log_layout.specs.Journal.{IsClean}
-use Rattle.log_layout.specs.Transactions.{after}
-use Rattle.log_values.specs.Flushing.{block_at, first_place}
-use Rattle.lone_ends.specs.Ends.{FliesLast}
-use Rattle.logged_steps.specs.Points.{Point, state_of}
 use Rattle.run_rules.specs.Follows.{history_of}
 use Rattle.script_lang.specs.declared.script.Client.{Client}
-use Rattle.shared_disk.specs.Disk.{DiskState, Operation, after_barrier, after_write}
 use Rattle.trace_text.specs.declared.item.TraceItem.{TraceItem}
-use Rattle.trace_text.specs.declared.item.TraceItem.TheVariants as trace
-
--- the block behind the journal's head
-abbrev pub last_block : Point → ℕ
-last_block p = block_at p.log.journal (first_place p.log)
-
--- the header's item: it has all calls
-abbrev pub clean_item : Point → TraceItem
-clean_item p = trace.WriteClean 1 (last_block p) (after p.log.sequence) p.numbers.answered
-
--- the disk with it in flight
-abbrev pub with_clean : Point → List ℕ → DiskState
-with_clean p bytes = after_write p.disk 1 (last_block p) bytes
-
--- The clean header is in flight, and nothing else: no item tells of it yet, or its item does; or a barrier is made, with which it is in its place.
-pub data EndsTo (p : Point) : Point → Type 0 where
-  Unsaid : (bytes : List ℕ) (list : Option (List Operation)) → FliesLast (state_of p) (flown_by (with_clean p bytes) 1) → EndsTo p (record p { disk = with_clean p bytes; list = list })
-  Said : (bytes : List ℕ) (list : Option (List Operation)) → FliesLast (state_of p) (flown_by (with_clean p bytes) 1)
-      → EndsTo p (record p { disk = with_clean p bytes; list = list; items = p.items ++ clean_item p ∷ [] })
-  Landed : (bytes : List ℕ) (list : Option (List Operation)) → FliesLast (state_of p) (flown_by (with_clean p bytes) 1)
-      → EndsTo p (record p { disk = after_barrier (with_clean p bytes) 1; list = list; items = p.items ++ clean_item p ∷ trace.Barrier 1 ∷ [] })
 
 -- Once a run has ended the image stands, as it lies and so too when its journals are replayed, for the tree of all that its items answer, and each journal is clean.
 pub record HasEndedAs (v : Volume) (clients : List Client) (items : List TraceItem) (start : Tree) (left : Image) : Type 0 where

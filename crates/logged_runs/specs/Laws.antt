@@ -16,12 +16,13 @@ use Rattle.log_values.specs.Log.{Journal}
 use Rattle.lone_images.specs.Lone.{begun_on}
 use Rattle.lone_view.specs.Seeing.{Lone}
 use Rattle.logged_steps.specs.Disks.{disk_after, first_told}
+use Rattle.logged_steps.specs.Ends.{EndsTo, FliesClean, clean_item, with_clean}
 use Rattle.logged_steps.specs.Fails.{FailsTo}
 use Rattle.logged_steps.specs.Laws.{CameBy}
 use Rattle.logged_steps.specs.Points.{Point, state_of}
 use Rattle.logged_steps.specs.Starts.{IsAtRest, starting}
 use Rattle.logged_steps.specs.Steps.{Steps}
-use Rattle.lone_ends.specs.Ends.{FliesLast, IsDone}
+use Rattle.lone_ends.specs.Ends.{IsDone}
 use Rattle.lone_logs.specs.States.{trees_on}
 use Rattle.lone_machine.specs.Alone.{Begun}
 use Rattle.run_rules.specs.Follows.{history_of}
@@ -30,7 +31,7 @@ use Rattle.script_lang.specs.declared.script.Client.{Client}
 use Rattle.shared_disk.specs.Disk.{DiskState, Flight, IsOutcome, Operation, after_barrier, after_fence}
 use Rattle.trace_text.specs.declared.item.TraceItem.{TraceItem}
 use Rattle.trace_text.specs.declared.item.TraceItem.TheVariants as trace
-use Rattle.logged_runs.specs.Ends.{EndsTo, HasEndedAs, clean_item, with_clean}
+use Rattle.logged_runs.specs.Ends.{HasEndedAs}
 use Rattle.logged_runs.specs.Heads.{HasFirst, IsAcceptedIn}
 use Rattle.logged_runs.specs.Standing.{StandsAsTold}
 use Rattle.logged_runs.specs.Starts.{BeginsAt, IsOfReplay, only_life}
@@ -82,7 +83,7 @@ EndsAreTold = (v : Volume) (s : Begun (trees_on v)) (d : ℕ) (clients : List Cl
 
 -- once it is in its place
 abbrev pub RunsEnd : Type 0
-RunsEnd = (v : Volume) (s : Begun (trees_on v)) (d : ℕ) (clients : List Client) (time : ℕ) (a p : Point) (bytes : List ℕ) → BeginsAt v s d clients a → Steps time a p → FliesLast (state_of p) (flown_by (with_clean p bytes) 1)
+RunsEnd = (v : Volume) (s : Begun (trees_on v)) (d : ℕ) (clients : List Client) (time : ℕ) (a p : Point) (bytes : List ℕ) → BeginsAt v s d clients a → Steps time a p → FliesClean p bytes
     → HasEndedAs v clients (p.items ++ clean_item p ∷ trace.Barrier 1 ∷ []) s.tree (image_of (after_barrier (with_clean p bytes) 1))
 
 -- and without one, where nothing was ever written to its journal

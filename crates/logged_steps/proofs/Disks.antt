@@ -41,7 +41,7 @@ own f value = refl
 pub others_still : {A : Type 0} (f : ℕ → A) (value was : A) (j : ℕ) → j ≢ 1 → f j ≡ was → with_value f 1 value j ≡ was
 others_still f value was j off is = cond-false (j == 1) value (f j) (ne_eqb j 1 off) ∙ is
 
-module _ (p : Point) (b : ℕ) (bytes : List ℕ) (may : MayWrite p b bytes) (sound : IsSound p.disk) where
+module _ (p : Point) (b : ℕ) (bytes : List ℕ) (may : MayWrite p b bytes) where
   abbrev new : Flight
   new = record { block = b; bytes = bytes }
 
@@ -52,15 +52,16 @@ module _ (p : Point) (b : ℕ) (bytes : List ℕ) (may : MayWrite p b bytes) (so
     others = λ c off. others new (p.disk.in_flight 1) c off;
   }
 
-  flights : (i : ℕ) → AreFlights p.disk.count p.disk.size (with_value p.disk.in_flight 1 (with_flight (p.disk.in_flight 1) new) i)
-  flights i = elim (cases_Bool (i == 1)) [
-    | inl is ↦ subst (AreFlights p.disk.count p.disk.size) (sym (cond-true (i == 1) (with_flight (p.disk.in_flight 1) new) (p.disk.in_flight i) is))
-        (flights_with p.disk.count p.disk.size (p.disk.in_flight 1) new (sound.flights 1) may.free may.inside may.whole)
-    | inr off ↦ subst (AreFlights p.disk.count p.disk.size) (sym (cond-false (i == 1) (with_flight (p.disk.in_flight 1) new) (p.disk.in_flight i) off)) (sound.flights i)
-  ]
+  module _ (sound : IsSound p.disk) where
+    flights : (i : ℕ) → AreFlights p.disk.count p.disk.size (with_value p.disk.in_flight 1 (with_flight (p.disk.in_flight 1) new) i)
+    flights i = elim (cases_Bool (i == 1)) [
+      | inl is ↦ subst (AreFlights p.disk.count p.disk.size) (sym (cond-true (i == 1) (with_flight (p.disk.in_flight 1) new) (p.disk.in_flight i) is))
+          (flights_with p.disk.count p.disk.size (p.disk.in_flight 1) new (sound.flights 1) may.free may.inside may.whole)
+      | inr off ↦ subst (AreFlights p.disk.count p.disk.size) (sym (cond-false (i == 1) (with_flight (p.disk.in_flight 1) new) (p.disk.in_flight i) off)) (sound.flights i)
+    ]
 
-  pub sound_write : IsSound (after_write p.disk 1 b bytes)
-  sound_write = record { sizes = sound.sizes; flights = flights; run_open = sound.run_open }
+    pub sound_write : IsSound (after_write p.disk 1 b bytes)
+    sound_write = record { sizes = sound.sizes; flights = flights; run_open = sound.run_open }
 
 module _ (d : DiskState) (tells : IsTrue d.tells) (sound : IsSound d) where
   settled_is : (b : ℕ) → settled d (d.in_flight 1) b ≡ written d.block_at (d.in_flight 1) b

@@ -196,12 +196,12 @@ module _ (a : Point) where
   one time p q had (BeginsFlush ok none due room) = still p _ had [] (sym (append_nil p.items)) refl (sym (none_begun p.log p.numbers.begun none)) refl refl refl
   one time p q had (BeginsHeader ok none home some no_more) = still p _ had [] (sym (append_nil p.items)) refl (sym (none_begun p.log p.numbers.begun none)) refl refl refl
   one time p q had (WritesLog new f b bytes list flush numbers step may gains) = writes p new f b bytes list had flush step
-  one time p q had (EndsBlocks new f done bytes list flush stage step gains) = ends_blocks p new f done bytes list had flush stage step
+  one time p q had (EndsBlocks new f done bytes list flush stage step flies gains) = ends_blocks p new f done bytes list had flush stage step
   one time p q had (WritesHead new f b sequence bytes list flush numbers step may gains) = writes_head p new f b sequence bytes list had flush numbers step
-  one time p q had (EndsFlush new f tail bytes list flush numbers stage step gains) = ends_flush p new f tail bytes list had flush stage step
+  one time p q had (EndsFlush new f tail bytes list flush numbers stage step flies gains) = ends_flush p new f tail bytes list had flush stage step
   one time p q had (Commits b awaited ends) = still p _ had (trace.Commit 1 p.log.sequence p.numbers.low ∷ []) refl refl refl refl refl refl
   one time p q had (GoesHome ok new lock b bytes list answer may gains) = sends_home p new lock b bytes list had answer
-  one time p q had (Rests new list ok no_header settles gains) = rests p new list had no_header settles
+  one time p q had (Rests new list ok no_header settles flies gains) = rests p new list had no_header settles
   one time p q had (Unmounts ok) = still p _ had (trace.Unmount 1 ∷ []) refl refl refl refl refl refl
 
 pub heads_are_told : HeadsAreTold

@@ -251,22 +251,22 @@ module _ (calls_are_logged : CallsAreLogged) (quiet_calls_are_logged : QuietCall
         let logged = headers_begin v s at.world d st at.is none home some no_more in
         stays _ at.tells at.sound at.others refl refl logged (on_same logged.world logged.now)
     one _ (WritesLog new f b bytes list flush numbers step may gains) =
-        let logged = blocks_are_written v s at.world d st new f b bytes _ at.is flush numbers step (flies_besides p b bytes may at.sound) in
+        let logged = blocks_are_written v s at.world d st new f b bytes _ at.is flush numbers step (flies_besides p b bytes may) in
         stays _ at.tells (sound_write p b bytes may at.sound) (others_rest _) refl (with_other clients p.items (trace.WriteLog 1 b) refl) logged (on_same logged.world logged.now)
-    one _ (EndsBlocks new f done bytes list flush stage step gains) =
+    one _ (EndsBlocks new f done bytes list flush stage step flies gains) =
         let logged = first_barriers_settle v s at.world d st new f done bytes _ at.is flush stage step (landed_as p.disk at.tells at.sound) in
         stays _ at.tells (sound_barrier p.disk at.tells at.sound) (others_rest _) refl (with_other clients p.items (trace.Barrier 1) refl) logged (behind_barrier logged.world logged.now)
     one _ (WritesHead new f b sequence bytes list flush numbers step may gains) =
-        let logged = headers_are_written v s at.world d st new f b sequence bytes _ at.is flush numbers step (flies_besides p b bytes may at.sound) in
+        let logged = headers_are_written v s at.world d st new f b sequence bytes _ at.is flush numbers step (flies_besides p b bytes may) in
         stays _ at.tells (sound_write p b bytes may at.sound) (others_rest _) refl (with_other clients p.items (trace.WriteHead 1 b sequence p.numbers.begun) refl) logged (on_same logged.world logged.now)
-    one _ (EndsFlush new f tail bytes list flush numbers stage step gains) =
+    one _ (EndsFlush new f tail bytes list flush numbers stage step flies gains) =
         let logged = last_barriers_land v s at.world d st new f tail bytes _ at.is flush numbers stage step (landed_as p.disk at.tells at.sound) in
         stays _ at.tells (sound_barrier p.disk at.tells at.sound) (others_rest _) refl (with_other clients p.items (trace.Barrier 1) refl) logged (behind_barrier logged.world logged.now)
     one _ (Commits b awaited ends) = tells_only (trace.Commit 1 p.log.sequence p.numbers.low) p.unmounts Anything refl
     one _ (GoesHome ok new lock b bytes list answer may gains) =
-        let logged = blocks_go_home v s at.world d st new lock b bytes _ at.is answer (flies_besides p b bytes may at.sound) in
+        let logged = blocks_go_home v s at.world d st new lock b bytes _ at.is answer (flies_besides p b bytes may) in
         stays _ at.tells (sound_write p b bytes may at.sound) (others_rest _) refl (with_other clients p.items (trace.WriteHome 1 b) refl) logged (on_same logged.world logged.now)
-    one _ (Rests new list ok no_header settles gains) =
+    one _ (Rests new list ok no_header settles flies gains) =
         let logged = barriers_settle v s at.world d st new _ at.is no_header settles (landed_as p.disk at.tells at.sound) in
         stays _ at.tells (sound_barrier p.disk at.tells at.sound) (others_rest _) refl (with_other clients p.items (trace.Barrier 1) refl) logged (behind_barrier logged.world logged.now)
     one _ (Unmounts ok) = tells_only (trace.Unmount 1) true p.next refl

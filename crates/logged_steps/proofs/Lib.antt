@@ -4,4 +4,5 @@ pub mod Keeping
 pub mod Failing
 pub mod Beginning
 pub mod Telling
+pub mod Chunks
 pub mod Heads

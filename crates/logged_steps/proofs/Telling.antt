@@ -41,12 +41,12 @@ adds time p _ (HasNoSpace name call need free awaited spaceless ends) = an_item 
 adds time p _ (BeginsFlush ok none due room) = nothing refl refl refl
 adds time p _ (BeginsHeader ok none home some no_more) = nothing refl refl refl
 adds time p _ (WritesLog new f b bytes list flush numbers step may gains) = an_item _ (Write 1 b bytes ∷ []) refl refl refl gains refl
-adds time p _ (EndsBlocks new f done bytes list flush stage step gains) = an_item _ (Barrier 1 ∷ []) refl refl refl gains refl
+adds time p _ (EndsBlocks new f done bytes list flush stage step flies gains) = an_item _ (Barrier 1 ∷ []) refl refl refl gains refl
 adds time p _ (WritesHead new f b sequence bytes list flush numbers step may gains) = an_item _ (Write 1 b bytes ∷ []) refl refl refl gains refl
-adds time p _ (EndsFlush new f tail bytes list flush numbers stage step gains) = an_item _ (Barrier 1 ∷ []) refl refl refl gains refl
+adds time p _ (EndsFlush new f tail bytes list flush numbers stage step flies gains) = an_item _ (Barrier 1 ∷ []) refl refl refl gains refl
 adds time p _ (Commits b awaited ends) = an_item _ [] refl refl refl (gains_none p.list) refl
 adds time p _ (GoesHome ok new lock b bytes list answer may gains) = an_item _ (Write 1 b bytes ∷ []) refl refl refl gains refl
-adds time p _ (Rests new list ok no_header settles gains) = an_item _ (Barrier 1 ∷ []) refl refl refl gains refl
+adds time p _ (Rests new list ok no_header settles flies gains) = an_item _ (Barrier 1 ∷ []) refl refl refl gains refl
 adds time p _ (Unmounts ok) = an_item _ [] refl refl refl (gains_none p.list) refl
 
 -- ---- many

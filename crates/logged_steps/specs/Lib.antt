@@ -3,5 +3,6 @@ pub mod Steps
 pub mod Disks
 pub mod Heads
 pub mod Fails
+pub mod Ends
 pub mod Starts
 pub mod Laws

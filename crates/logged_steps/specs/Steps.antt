@@ -1,5 +1,5 @@
 -- The steps of one node with its log: what each does to the disk, to the log, to what the node keeps, and to the items.
-use Rattle.std.specs.Prelude.{ℕ, ◌≡◌, ◌≤◌, ◌++◌, suc, false, true, IsTrue, List, [], ◌∷◌, length, Option, None, Some}
+use Rattle.std.specs.Prelude.{ℕ, ◌≡◌, ◌≢◌, ◌≤◌, ◌++◌, suc, false, true, IsTrue, List, [], ◌∷◌, length, Option, None, Some}
 use Rattle.std.specs.FinMap as table
 use Rattle.std.specs.Ordering.{nat_cmp}
 use Rattle.file_tree.specs.declared.call.Call.{Call}
@@ -56,6 +56,10 @@ GainsWrite p b bytes list = Gains p.list list (Write 1 b bytes ∷ [])
 abbrev pub GainsBarrier : Point → Option (List Operation) → Type 0
 GainsBarrier p list = Gains p.list list (Barrier 1 ∷ [])
 
+-- something of the node is in flight
+abbrev pub HasInFlight : Point → Type 0
+HasInFlight p = p.disk.in_flight 1 ≢ []
+
 -- the items end with these
 abbrev pub EndsWith : Point → List TraceItem → Type 0
 EndsWith p last = (before : List TraceItem) × (p.items ≡ before ++ last)
@@ -88,20 +92,20 @@ pub data Step (time : ℕ) (p : Point) : Point → Type 0 where
   BeginsFlush : p.next ≡ Anything → p.log.flush ≡ None → IsDue p.log → HasRoom p.log (due p.log) → Step time p (record p { log = begun p.log; numbers = record p.numbers { begun = p.numbers.answered } })
   BeginsHeader : p.next ≡ Anything → p.log.flush ≡ None → AllAreHome p.log → (NothingIsLive p.log → ⊥) → (IsDue p.log → HasRoom p.log (due p.log) → ⊥)
       → Step time p (record p { log = begun_alone p.log; numbers = record p.numbers { begun = p.numbers.low } })
-  -- a block of it is written, then a barrier made, its header written, and the last barrier made, with which it is in the journal; that is committed
+  -- a block of it is written, then a barrier made, its header written, and the last barrier made, with which it is in the journal; that is committed; a barrier is made only where something is in flight
   WritesLog : (new : LogValue) (f : Flush) (b : ℕ) (bytes : List ℕ) (list : Option (List Operation)) → p.log.flush ≡ Some f → HasNumbers p.log f → FlushStep p.log new f bytes (step.Write b)
       → MayWrite p b bytes → GainsWrite p b bytes list → Step time p (with_write p b bytes list new (trace.WriteLog 1 b))
   EndsBlocks : (new : LogValue) (f : Flush) (done : ℕ) (bytes : List ℕ) (list : Option (List Operation)) → p.log.flush ≡ Some f → f.stage ≡ Writing done → FlushStep p.log new f bytes step.Barrier
-      → GainsBarrier p list → Step time p (with_barrier p list new)
+      → HasInFlight p → GainsBarrier p list → Step time p (with_barrier p list new)
   WritesHead : (new : LogValue) (f : Flush) (b sequence : ℕ) (bytes : List ℕ) (list : Option (List Operation)) → p.log.flush ≡ Some f → HasNumbers p.log f → FlushStep p.log new f bytes (step.Head b sequence)
       → MayWrite p b bytes → GainsWrite p b bytes list → Step time p (with_write p b bytes list new (trace.WriteHead 1 b sequence p.numbers.begun))
   EndsFlush : (new : LogValue) (f : Flush) (tail : ℕ) (bytes : List ℕ) (list : Option (List Operation)) → p.log.flush ≡ Some f → HasNumbers p.log f → f.stage ≡ Headed tail → FlushStep p.log new f bytes step.Barrier
-      → GainsBarrier p list → Step time p (record (with_barrier p list new) { numbers = record p.numbers { low = p.numbers.begun }; next = ItsCommit })
+      → HasInFlight p → GainsBarrier p list → Step time p (record (with_barrier p list new) { numbers = record p.numbers { low = p.numbers.begun }; next = ItsCommit })
   Commits : (b : ℕ) → p.next ≡ ItsCommit → EndsWith p (trace.WriteHead 1 b p.log.sequence p.numbers.low ∷ trace.Barrier 1 ∷ []) → Step time p (record p { items = telling p (trace.Commit 1 p.log.sequence p.numbers.low); next = Anything })
   -- a live block of this lock is on its way home; and a barrier is made while no header is in flight
   GoesHome : p.next ≡ Anything → (new : LogValue) (lock : LockName) (b : ℕ) (bytes : List ℕ) (list : Option (List Operation)) → HomeAnswer p.log new lock bytes (Some (step.Write b))
       → MayWrite p b bytes → GainsWrite p b bytes list → Step time p (with_write p b bytes list new (trace.WriteHome 1 b))
-  Rests : (new : LogValue) (list : Option (List Operation)) → p.next ≡ Anything → (IsHeaded p.log.flush → ⊥) → Settles p.log new → GainsBarrier p list → Step time p (with_barrier p list new)
+  Rests : (new : LogValue) (list : Option (List Operation)) → p.next ≡ Anything → (IsHeaded p.log.flush → ⊥) → Settles p.log new → HasInFlight p → GainsBarrier p list → Step time p (with_barrier p list new)
   -- it unmounts: from now on it answers no call, and what it does is to flush, and to bring blocks home
   Unmounts : IsAnswering p → Step time p (record p { items = telling p (trace.Unmount 1); unmounts = true })
 

@@ -4,11 +4,11 @@ use Rattle.std.specs.Prelude.{◌≢◌, not}
 use Rattle.std.proofs.lemmas.List.Filters.{length-filter_both}
 use Rattle.gfs2_layout.specs.Device.{IsBlockSize}
 use Rattle.log_layout.specs.Chunks.{Logged, Transaction, content_room, further_count, numbers_room}
+use Rattle.log_values.specs.Flushing.{IsDue}
 use Rattle.log_values.specs.Log.{LogValue}
 use Rattle.log_values.specs.Transactions.{due}
 use Rattle.node_journal.specs.Encoding.{chunks, content_of, metadata_of, piece_count, revoke_size}
 use Rattle.node_journal.proofs.Lengths.{chunks_length}
-use Rattle.logged_runs.proofs.Noting.{DueIsSome}
 
 parts : (xs : List Logged) → length (filter (λ (e : Logged). e.plain) xs) + length (filter (λ (e : Logged). not e.plain) xs) ≡ length xs
 parts xs = length-filter_both (λ (e : Logged). e.plain) (λ (e : Logged). not e.plain) (λ e. refl) xs
@@ -29,6 +29,10 @@ blocks_enough count p c q m r n all both some = omega (arith, all, both, some)
 
 revokes_enough : (count p c r : ℕ) → count + 1 ≡ p + (c + r) + 1 → 1 ≤ r → 1 ≤ count
 revokes_enough count p c r all some = omega (arith, all, some)
+
+-- what is due makes some chunk
+abbrev pub DueIsSome : LogValue → Type 0
+DueIsSome log = IsDue log → 1 ≤ length (chunks log.journal.size log.journal.jid (due log))
 
 pub due_is_some : (log : LogValue) → IsBlockSize log.journal.size → DueIsSome log
 due_is_some log size (inl some) =
