@@ -1,4 +1,5 @@
 pub mod Starts
+pub mod Mounted
 pub mod Heads
 pub mod Ends
 pub mod Standing
