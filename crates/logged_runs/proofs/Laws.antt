@@ -8,7 +8,7 @@ use Rattle.logged_steps.specs.Disks.{disk_after, first_told}
 use Rattle.logged_steps.specs.Fails.{AsItWas}
 use Rattle.logged_steps.specs.Laws.{FailedWritesKeep, FrontsArePassed, HeadsAreTold, StepsAreTold, StepsKeep}
 use Rattle.logged_runs.specs.Laws.{EndsAreTold, FencesAreTold, FrontsStand, MayLeave, PrefixesStand, StopsAreTold, WhatRemainsIsTold}
-use Rattle.logged_runs.specs.Standing.{StandsAsTold}
+use Rattle.logged_runs.specs.Standing.{IsLeftAsTold}
 use Rattle.logged_runs.proofs.Endings.{front_of_end}
 use Rattle.logged_runs.proofs.Fronts.{told_fenced, told_stopped, told_there}
 use Rattle.logged_runs.proofs.Runs.{front_of_run}
@@ -24,7 +24,7 @@ module _ (keep : StepsKeep) (fails : FailedWritesKeep) (heads : HeadsAreTold) (t
       record {
         came = came;
         stands = λ disks left first may accepts.
-            subst (λ is. StandsAsTold clients disks is s.tree left) (sym came.items)
+            subst (λ is. IsLeftAsTold v d clients disks is s.tree left) (sym came.items)
             (what_remains_is_told v s d clients time a came.point came.point disks left begins came.before AsItWas first may accepts);
       }
 

@@ -8,6 +8,8 @@ pub mod Lasting
 pub mod Losing
 pub mod Chunks
 pub mod Machine
+pub mod Counting
+pub mod Mounted
 pub mod Fronts
 pub mod Runs
 pub mod Endings

@@ -6,7 +6,9 @@ use Rattle.cluster_history.specs.History.{IsNumbered, KeepsSynced, calls_of}
 use Rattle.cluster_history.specs.Losses.{LossIsRight}
 use Rattle.cluster_history.specs.declared.Item.{Item}
 use Rattle.cluster_history.specs.declared.Item.TheVariants as item
+use Rattle.file_tree.specs.declared.call.Call.{Call}
 use Rattle.file_tree.specs.declared.call.Call.TheVariants as calls
+use Rattle.file_tree.specs.declared.reply.Reply.{Reply}
 use Rattle.file_tree.specs.declared.reply.Reply.TheVariants as replies
 use Rattle.right_losses.specs.Laws.{RightLossesKeepSyncs, SyncsAreIn}
 use Rattle.right_losses.proofs.Numbers.{call_there, none_there, number_low}
@@ -30,6 +32,18 @@ there (z ∷ xs) x (suc p) y at = by (there xs x p y at)
     by : IsThere xs x p y → IsThere (z ∷ xs) x (suc p) y
     by (before low is) = before (omega (arith, low)) is
     by (last same is) = last (omega (arith, same)) is
+
+-- a call before a loss
+pub call_before_loss : (xs : List Item) (node kept p i client number : ℕ) (call : Call) (reply : Reply) → slice_get (xs ++ item.Lost node kept ∷ []) p ≡ Some (item.Call i client number call reply)
+    → slice_get xs p ≡ Some (item.Call i client number call reply)
+call_before_loss xs node kept p i client number call reply at = by (there xs (item.Lost node kept) p (item.Call i client number call reply) at)
+  where
+    by : IsThere xs (item.Lost node kept) p (item.Call i client number call reply) → slice_get xs p ≡ Some (item.Call i client number call reply)
+    by (before low is) = is
+    by (last same one) = absurd (no_loss one)
+      where
+        no_loss : item.Lost node kept ≡ item.Call i client number call reply → ⊥
+        no_loss e = cc
 
 no_sync : (node kept i client number : ℕ) → item.Lost node kept ≡ item.Call i client number calls.Sync replies.Ok → ⊥
 no_sync node kept i client number e = cc
