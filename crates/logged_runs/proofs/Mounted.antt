@@ -52,7 +52,7 @@ module _ (disk : DiskState) (m : MountedValue) (own : MountedJournal) (o : Owner
   apart : ArePlacesApart (volume_of im l)
   apart j d p i e q at at' low low' same =
       let one = is.mounted.looked.apart j i p q ((volume_of im l).place d p)
-          (record { dinode = d; at = in_found j d at; low = low; is = refl }) (record { dinode = e; at = in_found i e at'; low = low'; is = sym same }) in
+      (record { dinode = d; at = in_found j d at; low = low; is = refl }) (record { dinode = e; at = in_found i e at'; low = low'; is = sym same }) in
       (one.0, some_same (sym at ∙ subst (λ n. IsJournalAt l n e) (sym one.0) at'), one.1)
 
   -- ---- the first journal

@@ -3,7 +3,6 @@
 #![tactic(auto)]
 
 ghost use Rattle.logged_runs.specs.Laws.{CallsAreCounted, CleanRunsEnd, EndsAreTold, FencesAreTold, FrontsStand, PrefixesStand, RunsBeginSo, RunsEnd, StopsAreTold, WhatRemainsIsTold};
-
 ghost use Rattle.logged_runs.specs.Mounted.{MountedIsAtRest};
 
 use image_mount::{mounted_groups_are_as_seen, mounted_images_stand_as_mounted};
