@@ -41,7 +41,7 @@ use Rattle.logged_steps.proofs.Histories.{history_on}
 use Rattle.logged_steps.proofs.Telling.{append_assoc, append_nil, take_all, take_front}
 use Rattle.logged_runs.specs.Heads.{HasFirst, IsAcceptedIn}
 use Rattle.logged_runs.specs.Laws.{IsStop, MayLeave, StandsFenced, StandsLost, fenced_upto, to_fence, to_loss}
-use Rattle.logged_runs.specs.Standing.{IsLeftAsTold, SyncsStand}
+use Rattle.logged_runs.specs.Standing.{AreCleanAsTold, IsLeftAsTold, StandsAsTold, SyncsStand}
 use Rattle.logged_runs.specs.Starts.{only_life}
 use Rattle.logged_runs.proofs.Staying.{AllStay}
 use Rattle.logged_runs.proofs.Losing.{IsItsEnd, IsItsStop, IsTheLoss, fenced_too, head_fenced, head_now, its_place, life_fenced, lost_head, lost_remains, lost_upto, no_loss, remains_are, same_history, stopped, stops}
@@ -179,6 +179,21 @@ module _ (v : Volume) (s : Begun (trees_on v)) (d : ℕ) (clients : List Client)
     numbered_there : history.IsNumbered (run.history_of clients q.items)
     numbered_there = subst history.IsNumbered (ap (run.history_of clients) (sym front.items)) front.numbered
 
+    -- ---- behind a loss, the head is that behind the fence
+
+    module _ (k : ℕ) where
+      lost_is : trace.Join 1 ∷ (is ++ x ∷ trace.Fence 1 ∷ trace.Lost 1 k ∷ []) ≡ to_loss x q.items k
+      lost_is = ap (λ is. to_loss x is k) (sym front.items)
+
+      same_head : head_of disks only_life (to_loss x q.items k) ≡ head_of disks only_life (to_fence x q.items)
+      same_head = ap (head_of disks only_life) (sym lost_is) ∙ lost_head clients x stop is front.stay k disks ∙ ap (head_of disks only_life) fenced_is
+
+      clean_lost : AreCleanAsTold v d disks (to_loss x q.items k) left
+      clean_lost = record {
+        others = told.journals.others;
+        own = subst (λ (h : AcceptedHead). IsClean (ring_at left d) ↔ (h.is_clean ≡ true)) (sym same_head) told.journals.own;
+      }
+
     -- ---- with its loss
 
     module _ (k : ℕ) (right : LossIsRight (run.history_of clients q.items) 1 (upto_of disks only_life (to_fence x q.items)) k) where
@@ -238,20 +253,14 @@ module _ (v : Volume) (s : Begun (trees_on v)) (d : ℕ) (clients : List Client)
 
       -- ---- behind the loss
 
-      lost_is : trace.Join 1 ∷ (is ++ x ∷ trace.Fence 1 ∷ trace.Lost 1 k ∷ []) ≡ to_loss x q.items k
-      lost_is = ap (λ is. to_loss x is k) (sym front.items)
-
       lost_history : run.history_of clients (to_loss x q.items k) ≡ run.history_of clients q.items ++ item.Lost 1 k ∷ []
       lost_history = history_on clients q.items (x ∷ trace.Fence 1 ∷ trace.Lost 1 k ∷ []) ∙ ap (λ is. run.history_of clients q.items ++ is) (stop.silent (trace.Fence 1 ∷ trace.Lost 1 k ∷ []))
 
-      same_head : head_of disks only_life (to_loss x q.items k) ≡ head_of disks only_life (to_fence x q.items)
-      same_head = ap (head_of disks only_life) (sym lost_is) ∙ lost_head clients x stop is front.stay k disks ∙ ap (head_of disks only_life) fenced_is
-
       same_number : upto_of disks only_life (to_loss x q.items k) ≡ upto_of disks only_life (to_fence x q.items)
-      same_number = ap (upto_of disks only_life) (sym lost_is) ∙ lost_upto clients x stop is front.stay k disks ∙ ap (upto_of disks only_life) fenced_is
+      same_number = ap (upto_of disks only_life) (sym (lost_is k)) ∙ lost_upto clients x stop is front.stay k disks ∙ ap (upto_of disks only_life) fenced_is
 
       none_left : remains clients disks (to_loss x q.items k) ≡ run.history_of clients (to_loss x q.items k)
-      none_left = subst (λ is. remains clients disks is ≡ run.history_of clients is) lost_is (lost_remains clients x stop is front.stay k disks)
+      none_left = subst (λ is. remains clients disks is ≡ run.history_of clients is) (lost_is k) (lost_remains clients x stop is front.stay k disks)
 
       legal_there : history.Legal (run.history_of clients (to_loss x q.items k)) s.tree
       legal_there = subst (λ is. history.Legal is s.tree) remaining_so stands_there.0
@@ -279,18 +288,12 @@ module _ (v : Volume) (s : Begun (trees_on v)) (d : ℕ) (clients : List Client)
           let last = ap (history.calls_of 1) lost_history ∙ calls_on 1 (run.history_of clients q.items) (item.Lost 1 k ∷ []) in
           omega (arith, most, number, first, last)
 
-      told_lost : IsLeftAsTold v d clients disks (to_loss x q.items k) s.tree left
+      told_lost : StandsAsTold clients disks (to_loss x q.items k) s.tree left
       told_lost = record {
-        stands = record {
-          legal = subst (λ is. history.Legal is s.tree) (sym none_left) legal_there;
-          stands = subst (λ is. StandsReplayed left (tree_of is s.tree)) (sym none_left) stands_so;
-          synced = syncs_lost;
-          within = within_lost;
-        };
-        journals = record {
-          others = told.journals.others;
-          own = subst (λ (h : AcceptedHead). IsClean (ring_at left d) ↔ (h.is_clean ≡ true)) (sym same_head) told.journals.own;
-        };
+        legal = subst (λ is. history.Legal is s.tree) (sym none_left) legal_there;
+        stands = subst (λ is. StandsReplayed left (tree_of is s.tree)) (sym none_left) stands_so;
+        synced = syncs_lost;
+        within = within_lost;
       }
 
       kept_synced : history.KeepsSynced (run.history_of clients (to_loss x q.items k))
@@ -299,7 +302,7 @@ module _ (v : Volume) (s : Begun (trees_on v)) (d : ℕ) (clients : List Client)
           (subst history.KeepsSynced (sym history_there) (legal v s front.world d front.st front.is).keeps_synced)
           (subst (λ (is : List Item). SyncsAreIn is 1 (upto_of disks only_life (to_fence x q.items))) fenced_history told.stands.synced) right)
 
-      stands_lost : StandsLost v d clients disks x q.items s.tree left k
+      stands_lost : StandsLost clients disks x q.items s.tree left k
       stands_lost = record { all = none_left; legal = legal_there; kept = kept_synced; right = kept_right; stands = stands_so; told = told_lost }
 
     one_is_right : LossIsRight (run.history_of clients q.items) 1 (fenced_upto disks x q.items) (kept_by 1 (fenced_upto disks x q.items) (run.history_of clients q.items))
@@ -307,7 +310,7 @@ module _ (v : Volume) (s : Begun (trees_on v)) (d : ℕ) (clients : List Client)
         (let most = told.stands.within in let same = ap (history.calls_of 1) fenced_history in omega (arith, most, same))
 
     stands_fenced : StandsFenced v d clients disks x q.items s.tree left
-    stands_fenced = record { told = told; lost = stands_lost; right = one_is_right }
+    stands_fenced = record { told = told; lost = stands_lost; journals = clean_lost; right = one_is_right }
 
   pub told_fenced : FencesLeaveOutcomes → ItsHistoryIsLegal → (x : TraceItem) → IsStop x → (disks : DiskHeads) (became : List Flight) → IsOutcome q.disk 1 became → HasFirst v d a disks.behind
       → NoFalseHeader (image_of q.disk) v.layout (flown_by q.disk 1) (image_of (after_fence q.disk 1 became)) → IsAcceptedIn v d (image_of (after_fence q.disk 1 became)) (disks.behind 1 (length (to_fence x q.items)))

@@ -33,7 +33,7 @@ use Rattle.trace_text.specs.declared.item.TraceItem.{TraceItem}
 use Rattle.trace_text.specs.declared.item.TraceItem.TheVariants as trace
 use Rattle.logged_runs.specs.Ends.{EndsTo, HasEndedAs, clean_item, with_clean}
 use Rattle.logged_runs.specs.Heads.{HasFirst, IsAcceptedIn}
-use Rattle.logged_runs.specs.Standing.{IsLeftAsTold}
+use Rattle.logged_runs.specs.Standing.{AreCleanAsTold, IsLeftAsTold, StandsAsTold}
 use Rattle.logged_runs.specs.Starts.{BeginsAt, IsOfReplay, only_life}
 
 -- ---- the start
@@ -123,13 +123,13 @@ to_loss x items k = items ++ x ∷ trace.Fence 1 ∷ trace.Lost 1 k ∷ []
 
 -- With a right loss each life has its loss, so that what remains is the history. This is legal, and keeps what was synced, each loss in it is right, and the image stands, its journals replayed, for its
 -- tree.
-pub record StandsLost (v : Volume) (d : ℕ) (clients : List Client) (disks : DiskHeads) (x : TraceItem) (items : List TraceItem) (start : Tree) (left : Image) (k : ℕ) : Type 0 where
+pub record StandsLost (clients : List Client) (disks : DiskHeads) (x : TraceItem) (items : List TraceItem) (start : Tree) (left : Image) (k : ℕ) : Type 0 where
   pub all : remains clients disks (to_loss x items k) ≡ history_of clients (to_loss x items k)
   pub legal : Legal (history_of clients (to_loss x items k)) start
   pub kept : KeepsSynced (history_of clients (to_loss x items k))
   pub right : TraceKeptRight clients disks.behind (to_loss x items k)
   pub stands : StandsReplayed left (tree_of (history_of clients (to_loss x items k)) start)
-  pub told : IsLeftAsTold v d clients disks (to_loss x items k) start left
+  pub told : StandsAsTold clients disks (to_loss x items k) start left
 
 -- the number of the last call that the head has which the fence left
 abbrev pub fenced_upto : DiskHeads → TraceItem → List TraceItem → ℕ
@@ -138,7 +138,8 @@ fenced_upto disks x items = upto_of disks only_life (to_fence x items)
 -- Behind the fence what remains stands; and so it does with a right loss. One is right: that which keeps the calls before the next one that changes something.
 pub record StandsFenced (v : Volume) (d : ℕ) (clients : List Client) (disks : DiskHeads) (x : TraceItem) (items : List TraceItem) (start : Tree) (left : Image) : Type 0 where
   pub told : IsLeftAsTold v d clients disks (to_fence x items) start left
-  pub lost : (k : ℕ) → LossIsRight (history_of clients items) 1 (fenced_upto disks x items) k → StandsLost v d clients disks x items start left k
+  pub lost : (k : ℕ) → LossIsRight (history_of clients items) 1 (fenced_upto disks x items) k → StandsLost clients disks x items start left k
+  pub journals : (k : ℕ) → AreCleanAsTold v d disks (to_loss x items k) left
   pub right : LossIsRight (history_of clients items) 1 (fenced_upto disks x items) (kept_by 1 (fenced_upto disks x items) (history_of clients items))
 
 -- so it is of the image on the disk there, whose head the disks have behind the fence's item
