@@ -46,6 +46,7 @@ use Rattle.logged_runs.specs.Starts.{only_life}
 use Rattle.logged_runs.proofs.Staying.{AllStay}
 use Rattle.logged_runs.proofs.Losing.{IsItsEnd, IsItsStop, IsTheLoss, fenced_too, head_fenced, head_now, its_place, life_fenced, lost_head, lost_remains, lost_upto, no_loss, remains_are, same_history, stopped, stops}
 use Rattle.logged_runs.proofs.Counting.{calls_on}
+use Rattle.logged_runs.proofs.KeptRight.{kept_right}
 use Rattle.logged_runs.proofs.Machine.{SyncsThere, all_answered, calm}
 
 -- A front: behind it the node is one alone on an image with its log; each outcome of the disk has what remains of it; and of the head that it has, one of these, the items tell the number.
@@ -218,38 +219,14 @@ module _ (v : Volume) (s : Begun (trees_on v)) (d : ℕ) (clients : List Client)
           ∙ ap (λ is. run.history_of clients q.items ++ is) (sym (stop.silent (trace.Fence 1 ∷ trace.Lost 1 k ∷ [])))
           ∙ sym (history_on clients q.items (x ∷ trace.Fence 1 ∷ trace.Lost 1 k ∷ []))
 
-      -- the items before the loss
-      before : (n : ℕ) → n ≡ length is + 2 → take (suc n) (to_loss x q.items k) ≡ to_fence x q.items
-      before n e =
-          (λ i. take (suc n) (to_loss x (front.items i) k))
-          ∙ ap (take (suc n)) (sym (append_assoc (trace.Join 1 ∷ is) fence (trace.Lost 1 k ∷ [])))
-          ∙ ap (λ m. take m ((trace.Join 1 ∷ (is ++ fence)) ++ trace.Lost 1 k ∷ [])) count
-          ∙ take_front (length these) these (trace.Lost 1 k ∷ []) (omega arith) ∙ take_all (length these) these (omega arith) ∙ fenced_is
+      kept_so : TraceKeptRight clients disks.behind (to_loss x q.items k)
+      kept_so = subst (TraceKeptRight clients disks.behind) (lost_is k) (kept_right clients x stop is front.stay k disks.behind right_by)
         where
-          these : List TraceItem
-          these = trace.Join 1 ∷ (is ++ fence)
-
-          count : suc n ≡ length (trace.Join 1 ∷ (is ++ fence))
-          count = (let m = length-append is fence in omega (arith, e, m))
-
-      kept_right : TraceKeptRight clients disks.behind (to_loss x q.items k)
-      kept_right zero node kept e = absurd (no_loss (trace.Join 1) node kept (λ same. absurd cc) (ap (λ is. slice_get (to_loss x is k) zero) (sym front.items) ∙ e))
-      kept_right (suc n) node kept e = by (its_place clients x stop is k n node kept front.stay (ap (λ is. slice_get (to_loss x is k) (suc n)) (sym front.items) ∙ e))
-        where
-          disks_there : DiskHeads
-          disks_there = record { behind = disks.behind; now = λ i. disks.behind i (suc n) }
-
-          by : IsTheLoss is k n node kept → (life : Life) × (life_lost node (take (suc n) (to_loss x q.items k)) ≡ Some life)
-              × LossIsRight (run.history_of clients (take (suc n) (to_loss x q.items k))) node (upto_of disks_there life (take (suc n) (to_loss x q.items k))) kept
-          by loss = (
-            only_life,
-            (λ i. life_lost (loss.own i) (before n loss.at i)) ∙ ap (life_lost 1) (sym fenced_is) ∙ life_fenced clients x stop is front.stay,
-            subst (λ i. LossIsRight (run.history_of clients (take (suc n) (to_loss x q.items k))) i (upto_of disks_there only_life (take (suc n) (to_loss x q.items k))) kept) (sym loss.own)
-                (subst (λ m. LossIsRight (run.history_of clients (take (suc n) (to_loss x q.items k))) 1 (upto_of disks_there only_life (take (suc n) (to_loss x q.items k))) m) (sym loss.same)
-                (subst (λ is. LossIsRight (run.history_of clients is) 1 (upto_of disks_there only_life is) k) (sym (before n loss.at))
-                (subst (λ m. LossIsRight (run.history_of clients (to_fence x q.items)) 1 m k) (sym (upto_fenced disks_there refl))
-                (subst (λ is. LossIsRight is 1 fenced_rem.number k) (sym fenced_history) by_number)))),
-          )
+          right_by : (others : DiskHeads) → others.behind ≡ disks.behind → LossIsRight (run.history_of clients (trace.Join 1 ∷ (is ++ fence))) 1 (upto_of others only_life (trace.Join 1 ∷ (is ++ fence))) k
+          right_by others same =
+              subst (λ is. LossIsRight (run.history_of clients is) 1 (upto_of others only_life is) k) (sym fenced_is)
+              (subst (λ m. LossIsRight (run.history_of clients (to_fence x q.items)) 1 m k) (sym (upto_fenced others same))
+              (subst (λ is. LossIsRight is 1 fenced_rem.number k) (sym fenced_history) by_number))
 
       -- ---- behind the loss
 
@@ -303,7 +280,7 @@ module _ (v : Volume) (s : Begun (trees_on v)) (d : ℕ) (clients : List Client)
           (subst (λ (is : List Item). SyncsAreIn is 1 (upto_of disks only_life (to_fence x q.items))) fenced_history told.stands.synced) right)
 
       stands_lost : StandsLost clients disks x q.items s.tree left k
-      stands_lost = record { all = none_left; legal = legal_there; kept = kept_synced; right = kept_right; stands = stands_so; told = told_lost }
+      stands_lost = record { all = none_left; legal = legal_there; kept = kept_synced; right = kept_so; stands = stands_so; told = told_lost }
 
     one_is_right : LossIsRight (run.history_of clients q.items) 1 (fenced_upto disks x q.items) (kept_by 1 (fenced_upto disks x q.items) (run.history_of clients q.items))
     one_is_right = right_losses_are_found (run.history_of clients q.items) 1 (fenced_upto disks x q.items) numbered_there

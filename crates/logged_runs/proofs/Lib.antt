@@ -10,6 +10,7 @@ pub mod Chunks
 pub mod Machine
 pub mod Counting
 pub mod Mounted
+pub mod KeptRight
 pub mod Fronts
 pub mod Runs
 pub mod Endings

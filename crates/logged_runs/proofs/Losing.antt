@@ -170,12 +170,12 @@ module _ (clients : List Client) (stop_item : TraceItem) (stop : IsItsStop clien
 -- ---- with the loss
 
 -- the number is told by the head, the life's items, and the number of the last call of all
-abbrev number_by : Option ℕ → DiskHeads → AcceptedHead → List TraceItem → ℕ → ℕ
+abbrev pub number_by : Option ℕ → DiskHeads → AcceptedHead → List TraceItem → ℕ → ℕ
 number_by (Some upto) disks h its last = upto
 number_by None disks h its last =
     if nat_lt (disks.behind 1 (or_else (recovered_behind 1 1 its) 0)).sequence h.sequence then (if h.is_clean then last else unnamed 1 (record { upto = 0; is_logged = false; last = 0 }) its) else 0
 
-upto_parts : (o : Option ℕ) (disks : DiskHeads) (h : AcceptedHead) (items : List TraceItem) → upto_by o h disks only_life items ≡ number_by o disks h (items_of only_life items) (last_number 1 0 items)
+pub upto_parts : (o : Option ℕ) (disks : DiskHeads) (h : AcceptedHead) (items : List TraceItem) → upto_by o h disks only_life items ≡ number_by o disks h (items_of only_life items) (last_number 1 0 items)
 upto_parts (Some upto) disks h items = refl
 upto_parts None disks h items = refl
 

@@ -1,0 +1,243 @@
+-- The disk behind each front of the operations of a replay.
+use Rattle.std.proofs.Common.{◌≡◌, ◌⊎◌, ℕ, zero, suc, ◌+◌, ◌-◌, ◌<◌, ◌≤◌, List, [], ◌∷◌, ◌++◌, length, take, get_or, Option, None, Some, refl, sym, ap, subst, ◌∙◌, inl, inr, arith}
+use Rattle.std.specs.Prelude.{MatchOption, slice_get}
+use Rattle.std.specs.List.{AllByRecursion}
+use Rattle.std.proofs.lemmas.Bool.{cases_lt}
+use Rattle.std.proofs.lemmas.List.{length-append}
+use Rattle.disk_items.specs.Deeds.{AreDoneBy, Deed, MadeBarrier, WasFenced, Wrote}
+use Rattle.disk_items.proofs.Going.{goes_on}
+use Rattle.disk_turns.specs.Turns.{AreBrought, BringsTo, Moment, moment, writes_of}
+use Rattle.disk_turns.specs.Writing.{AreWritten, RiseFrom}
+use Rattle.disk_turns.proofs.Flying.{idle_again}
+use Rattle.disk_turns.proofs.Gaining.{gains_join, gains_none}
+use Rattle.drafts.specs.declared.change.Written.{Written}
+use Rattle.image_mount.specs.Mounted.{Journal}
+use Rattle.image_recovery.specs.Recoveries.{AreReplays}
+use Rattle.journal_replays.specs.Headers.{clean_block}
+use Rattle.journal_replays.specs.Items.{items_of}
+use Rattle.journal_replays.specs.Replays.{IsReplay, IsReplayWith, StopsReplay, StopsReplayBy, at_header, at_home}
+use Rattle.log_layout.specs.declared.log_header.LogHeader.{LogHeader}
+use Rattle.logged_steps.specs.Disks.{disk_after}
+use Rattle.logged_steps.proofs.Telling.{append_nil, take_all, take_front}
+use Rattle.peer_replay.specs.declared.planned.Plan.{Plan}
+use Rattle.shared_disk.specs.Disk.{Barrier, DiskState, Fence, Gains, IsIdle, Operation, Write}
+use Rattle.trace_text.specs.declared.item.TraceItem.{TraceItem}
+use Rattle.trace_text.specs.declared.item.TraceItem.TheVariants as trace
+use Rattle.whole_runs.proofs.Bringing.{after_on, all_written, brings, fails_in, take_behind}
+
+-- ---- the operations of a replay
+
+-- the block of the header that ends the replay of a journal
+abbrev pub head_of : (size slot time : ℕ) → Journal → LogHeader → Written
+head_of size slot time j header = clean_block size (get_or j.blocks header.blkno 0) slot j.dinode time header
+
+-- Of journals that are replayed by these plans, from this slot on: nothing where a plan has no header, else what goes home and then the header.
+pub data HasOps (size time : ℕ) : ℕ → List Journal → List Plan → List Operation → Type 0 where
+  no_more : (slot : ℕ) → HasOps size time slot [] [] []
+  passes : (slot : ℕ) (j : Journal) (js : List Journal) (p : Plan) (ps : List Plan) (operations : List Operation) → p.clean ≡ None → HasOps size time (slot + 1) js ps operations
+      → HasOps size time slot (j ∷ js) (p ∷ ps) operations
+  replays : (slot : ℕ) (j : Journal) (js : List Journal) (p : Plan) (ps : List Plan) (header : LogHeader) (homes heads operations : List Operation) → p.clean ≡ Some header → AreBrought 1 p.home.items homes
+      → AreBrought 1 (head_of size slot time j header ∷ []) heads → HasOps size time (slot + 1) js ps operations → HasOps size time slot (j ∷ js) (p ∷ ps) ((homes ++ heads) ++ operations)
+
+-- items of operations tell these
+pub done_items : (operations : List Operation) → AreDoneBy (items_of operations) operations
+done_items [] = refl
+done_items (Write node block bytes ∷ os) = ap (λ (ds : List Deed). Wrote node block ∷ ds) (done_items os)
+done_items (Barrier node ∷ os) = ap (λ (ds : List Deed). MadeBarrier node ∷ ds) (done_items os)
+done_items (Fence node became ∷ os) = ap (λ (ds : List Deed). WasFenced node ∷ ds) (done_items os)
+
+pub record OpsOf (time slot : ℕ) (before after : Moment) (js : List Journal) (ps : List Plan) (items : List TraceItem) : Type 0 where
+  pub operations : List Operation
+  pub has : HasOps before.disk.size time slot js ps operations
+  pub gains : Gains before.list after.list operations
+  pub done : AreDoneBy items operations
+
+-- one journal more before others
+module _ (time slot : ℕ) (before next after : Moment) (j : Journal) (js : List Journal) (p : Plan) (ps : List Plan) (first later items : List TraceItem) (are : items ≡ first ++ later) (rest : OpsOf time (slot + 1) next after js ps later) where
+  no_replay : p.clean ≡ None → (next ≡ before) × (first ≡ []) → OpsOf time slot before after (j ∷ js) (p ∷ ps) items
+  no_replay clean still = record {
+    operations = rest.operations;
+    has = passes slot j js p ps rest.operations clean (subst (λ (m : Moment). HasOps m.disk.size time (slot + 1) js ps rest.operations) still.0 rest.has);
+    gains = subst (λ (m : Moment). Gains m.list after.list rest.operations) still.0 rest.gains;
+    done = subst (λ is. AreDoneBy is rest.operations) (sym (are ∙ ap (λ is. is ++ later) still.1)) rest.done;
+  }
+
+  one_replay : (header : LogHeader) → p.clean ≡ Some header → IsReplay 1 slot before next p.home.items (head_of before.disk.size slot time j header) first → OpsOf time slot before after (j ∷ js) (p ∷ ps) items
+  one_replay header clean is = record {
+    operations = (is.homes.operations ++ is.headed.operations) ++ rest.operations;
+    has = replays slot j js p ps header is.homes.operations is.headed.operations rest.operations clean is.homes.brought is.headed.brought
+        (subst (λ n. HasOps n time (slot + 1) js ps rest.operations) (is.headed.written.size ∙ is.homes.written.size) rest.has);
+    gains = gains_join before.list next.list after.list (is.homes.operations ++ is.headed.operations) rest.operations
+        (gains_join before.list is.between.list next.list is.homes.operations is.headed.operations is.homes.gains is.headed.gains) rest.gains;
+    done = subst (λ is'. AreDoneBy is' ((is.homes.operations ++ is.headed.operations) ++ rest.operations)) (sym are)
+        (goes_on first later (is.homes.operations ++ is.headed.operations) rest.operations own rest.done);
+  }
+    where
+      recovered : List TraceItem
+      recovered = trace.Recovered slot 1 ∷ []
+
+      headed_done : AreDoneBy (items_of is.headed.operations ++ recovered) (is.headed.operations ++ [])
+      headed_done = goes_on (items_of is.headed.operations) recovered is.headed.operations [] (done_items is.headed.operations) refl
+
+      own : AreDoneBy first (is.homes.operations ++ is.headed.operations)
+      own = subst (λ is'. AreDoneBy is' (is.homes.operations ++ is.headed.operations)) (sym is.told)
+          (goes_on (items_of is.homes.operations) (items_of is.headed.operations ++ recovered) is.homes.operations is.headed.operations (done_items is.homes.operations)
+          (subst (AreDoneBy (items_of is.headed.operations ++ recovered)) (append_nil is.headed.operations) headed_done))
+
+pub ops_of : (time slot : ℕ) (before after : Moment) (js : List Journal) (ps : List Plan) (items : List TraceItem) → AreReplays 1 slot time before js ps after items → OpsOf time slot before after js ps items
+ops_of time slot before after [] [] items (same, empty) = record {
+  operations = [];
+  has = no_more slot;
+  gains = subst (λ (m : Moment). Gains before.list m.list []) (sym same) (gains_none before.list);
+  done = subst (λ is. AreDoneBy is []) (sym empty) refl;
+}
+ops_of time slot before after [] (p ∷ ps) items is = absurd is
+ops_of time slot before after (j ∷ js) [] items is = absurd is
+ops_of time slot before after (j ∷ js) (p ∷ ps) items (next, first, later, are, one, others) = by (ops_of time (slot + 1) next after js ps later others) p.clean refl one
+  where
+    by : OpsOf time (slot + 1) next after js ps later → (o : Option LogHeader) → p.clean ≡ o → IsReplayWith 1 slot j.dinode j.blocks time before next p.home.items o first → OpsOf time slot before after (j ∷ js) (p ∷ ps) items
+    by rest None clean still = no_replay time slot before next after j js p ps first later items are rest clean still
+    by rest (Some header) clean is = one_replay time slot before next after j js p ps first later items are rest header clean is
+
+-- ---- where it has come to
+
+-- some journals are through, in the replay of the next one the disk failed
+pub record FailsIn (time slot : ℕ) (first : DiskState) (js : List Journal) (ps : List Plan) (left : DiskState) : Type 0 where
+  pub count : ℕ
+  pub there : DiskState
+  pub items : List TraceItem
+  pub before : AreReplays 1 slot time (moment first None) (take count js) (take count ps) (moment there None) items
+  pub journal : Journal
+  pub plan : Plan
+  pub at_journal : slice_get js count ≡ Some journal
+  pub at_plan : slice_get ps count ≡ Some plan
+  pub block : Option ℕ
+  pub more : List TraceItem
+  pub stopped : StopsReplayBy 1 (slot + count) journal.dinode journal.blocks time (moment there None) (moment left None) plan block more
+
+-- or of the others nothing was done
+pub record PassesSome (time slot : ℕ) (first : DiskState) (js : List Journal) (ps : List Plan) (left : DiskState) : Type 0 where
+  pub count : ℕ
+  pub items : List TraceItem
+  pub before : AreReplays 1 slot time (moment first None) (take count js) (take count ps) (moment left None) items
+  pub idle : IsIdle left
+
+abbrev pub IsFrontOf : (time slot : ℕ) (first : DiskState) (js : List Journal) (ps : List Plan) (left : DiskState) → Type 0
+IsFrontOf time slot first js ps left = FailsIn time slot first js ps left ⊎ PassesSome time slot first js ps left
+
+-- one journal more, which is through
+behind_one : (time slot : ℕ) (first next : DiskState) (j : Journal) (js : List Journal) (p : Plan) (ps : List Plan) (left : DiskState) (own : List TraceItem)
+    → IsReplayWith 1 slot j.dinode j.blocks time (moment first None) (moment next None) p.home.items p.clean own → IsFrontOf time (slot + 1) next js ps left → IsFrontOf time slot first (j ∷ js) (p ∷ ps) left
+behind_one time slot first next j js p ps left own one (inr is) = inr (record { count = suc is.count; items = own ++ is.items; before = (moment next None, own, is.items, refl, one, is.before); idle = is.idle })
+behind_one time slot first next j js p ps left own one (inl is) = inl (record {
+  count = suc is.count;
+  there = is.there;
+  items = own ++ is.items;
+  before = (moment next None, own, is.items, refl, one, is.before);
+  journal = is.journal;
+  plan = is.plan;
+  at_journal = is.at_journal;
+  at_plan = is.at_plan;
+  block = is.block;
+  more = is.more;
+  stopped = subst (λ n. StopsReplayBy 1 n is.journal.dinode is.journal.blocks time (moment is.there None) (moment left None) is.plan is.block is.more) (let same : (slot + 1) + is.count ≡ slot + suc is.count = omega arith in same) is.stopped;
+})
+
+-- ---- in the replay of one journal
+
+module _ (first : DiskState) (idle : IsIdle first) (home : List Written) (rise : RiseFrom 0 home) (header : Written) (homes heads : List Operation) (at_homes : AreBrought 1 home homes) (at_heads : AreBrought 1 (header ∷ []) heads) where
+  between : DiskState
+  between = disk_after first homes
+
+  between_idle : IsIdle (disk_after first homes)
+  between_idle = idle_again first (disk_after first homes) home idle (all_written first home homes idle rise at_homes)
+
+  fails_there : (n : ℕ) → n < length (homes ++ heads) → (block : Option ℕ) × (items : List TraceItem) × StopsReplay 1 (moment first None) (moment (disk_after first (take n (homes ++ heads))) None) home header block items
+  fails_there n low = elim (cases_lt n (length homes)) [
+    | inl less ↦
+        let s = fails_in first home homes n idle rise at_homes less in
+        let same : take n (homes ++ heads) ≡ take n homes = take_front n homes heads (omega (arith, less)) in
+        (s.0, items_of s.1.brought.operations ++ items_of (writes_of 1 s.1.stopped.wrote),
+        subst (λ os. StopsReplay 1 (moment first None) (moment (disk_after first os) None) home header s.0 (items_of s.1.brought.operations ++ items_of (writes_of 1 s.1.stopped.wrote))) (sym same)
+        (at_home (record { stopped = s.1; told = refl })))
+    | inr not ↦
+        let past : length homes ≤ n = omega (arith, not) in
+        let all = length-append homes heads in
+        let s = fails_in (disk_after first homes) (header ∷ []) heads (n - length homes) between_idle (omega arith, tt) at_heads (omega (arith, low, past, all)) in
+        let same : disk_after first (take n (homes ++ heads)) ≡ disk_after (disk_after first homes) (take (n - length homes) heads)
+        = ap (disk_after first) (take_behind n homes heads past) ∙ after_on first homes (take (n - length homes) heads) in
+        let more = items_of s.1.brought.operations ++ items_of (writes_of 1 s.1.stopped.wrote) in
+        (s.0, items_of homes ++ more,
+        subst (λ x. StopsReplay 1 (moment first None) (moment x None) home header s.0 (items_of homes ++ more)) (sym same)
+        (at_header (moment (disk_after first homes) None) (brings first (disk_after first homes) home homes refl idle rise at_homes) more (record { stopped = s.1; told = refl }) refl))
+  ]
+
+  -- it is through
+  is_through : (slot : ℕ) → IsReplay 1 slot (moment first None) (moment (disk_after first (homes ++ heads)) None) home header (items_of homes ++ (items_of heads ++ trace.Recovered slot 1 ∷ []))
+  is_through slot = record {
+    between = moment (disk_after first homes) None;
+    homes = brings first (disk_after first homes) home homes refl idle rise at_homes;
+    headed = brings (disk_after first homes) (disk_after first (homes ++ heads)) (header ∷ []) heads (after_on first homes heads) between_idle (omega arith, tt) at_heads;
+    told = refl;
+  }
+
+  headed_written : AreWritten (disk_after first homes) (disk_after first (homes ++ heads)) (header ∷ [])
+  headed_written = subst (λ x. AreWritten (disk_after first homes) x (header ∷ [])) (sym (after_on first homes heads)) (all_written (disk_after first homes) (header ∷ []) heads between_idle (omega arith, tt) at_heads)
+
+  through_idle : IsIdle (disk_after first (homes ++ heads))
+  through_idle = idle_again (disk_after first homes) (disk_after first (homes ++ heads)) (header ∷ []) between_idle headed_written
+
+  through_size : (disk_after first (homes ++ heads)).size ≡ first.size
+  through_size = headed_written.size ∙ (all_written first home homes idle rise at_homes).size
+
+-- ---- each front
+
+abbrev pub AllRise : List Plan → Type 0
+AllRise ps = AllByRecursion (λ (p : Plan). RiseFrom 0 p.home.items) ps
+
+-- no operation
+front_of_none : (time slot : ℕ) (first : DiskState) (js : List Journal) (ps : List Plan) (left : DiskState) → IsIdle first → left ≡ first → PassesSome time slot first js ps left
+front_of_none time slot first js ps left idle same = record { count = 0; items = []; before = (ap (λ d. moment d None) same, refl); idle = subst IsIdle (sym same) idle }
+
+pub fronts : (size time slot : ℕ) (js : List Journal) (ps : List Plan) (operations : List Operation) → HasOps size time slot js ps operations → (first : DiskState) → first.size ≡ size → IsIdle first → AllRise ps → (n : ℕ)
+    → IsFrontOf time slot first js ps (disk_after first (take n operations))
+fronts size time _ _ _ _ (no_more slot) first sized idle rise n =
+    inr (front_of_none time slot first [] [] (disk_after first (take n [])) idle (ap (disk_after first) (take_all n [] (omega arith))))
+fronts size time _ _ _ _ (passes slot j js p ps operations clean rest) first sized idle rise n =
+    behind_one time slot first first j js p ps (disk_after first (take n operations)) [] (subst (λ o. IsReplayWith 1 slot j.dinode j.blocks time (moment first None) (moment first None) p.home.items o []) (sym clean) (refl, refl))
+    (fronts size time (slot + 1) js ps operations rest first sized idle rise.1 n)
+fronts size time _ _ _ _ (replays slot j js p ps header homes heads operations clean at_homes at_heads rest) first sized idle rise n = elim (cases_lt n (length (homes ++ heads))) [
+  | inl less ↦
+      let s = fails_there first idle p.home.items rise.0 (head_of size slot time j header) homes heads at_homes at_heads n less in
+      let front : take n ((homes ++ heads) ++ operations) ≡ take n (homes ++ heads) = take_front n (homes ++ heads) operations (omega (arith, less)) in
+      inl (subst (λ os. FailsIn time slot first (j ∷ js) (p ∷ ps) (disk_after first os)) (sym front) (record {
+        count = 0;
+        there = first;
+        items = [];
+        before = (refl, refl);
+        journal = j;
+        plan = p;
+        at_journal = refl;
+        at_plan = refl;
+        block = s.0;
+        more = s.1;
+        stopped = subst (λ k. StopsReplayBy 1 k j.dinode j.blocks time (moment first None) (moment (disk_after first (take n (homes ++ heads))) None) p s.0 s.1) (let same : slot ≡ slot + 0 = omega arith in same)
+            (subst (λ o. MatchOption o ⊥ (λ (h : LogHeader). StopsReplay 1 (moment first None) (moment (disk_after first (take n (homes ++ heads))) None) p.home.items (head_of first.size slot time j h) s.0 s.1)) (sym clean)
+            (subst (λ k. StopsReplay 1 (moment first None) (moment (disk_after first (take n (homes ++ heads))) None) p.home.items (head_of k slot time j header) s.0 s.1) (sym sized) s.2));
+      }))
+  | inr not ↦
+      let past : length (homes ++ heads) ≤ n = omega (arith, not) in
+      let m = n - length (homes ++ heads) in
+      let next = disk_after first (homes ++ heads) in
+      let there : disk_after first (take n ((homes ++ heads) ++ operations)) ≡ disk_after next (take m operations)
+      = ap (disk_after first) (take_behind n (homes ++ heads) operations past) ∙ after_on first (homes ++ heads) (take m operations) in
+      let H = head_of size slot time j header in
+      let own = items_of homes ++ (items_of heads ++ trace.Recovered slot 1 ∷ []) in
+      let one : IsReplayWith 1 slot j.dinode j.blocks time (moment first None) (moment next None) p.home.items p.clean own
+      = subst (λ o. IsReplayWith 1 slot j.dinode j.blocks time (moment first None) (moment next None) p.home.items o own) (sym clean)
+      (subst (λ k. IsReplay 1 slot (moment first None) (moment next None) p.home.items (head_of k slot time j header) own) (sym sized) (is_through first idle p.home.items rise.0 H homes heads at_homes at_heads slot)) in
+      subst (IsFrontOf time slot first (j ∷ js) (p ∷ ps)) (sym there)
+      (behind_one time slot first next j js p ps (disk_after next (take m operations)) own one
+      (fronts size time (slot + 1) js ps operations rest next (through_size first idle p.home.items rise.0 H homes heads at_homes at_heads ∙ sized)
+      (through_idle first idle p.home.items rise.0 H homes heads at_homes at_heads) rise.1 m))
+]
