@@ -1,12 +1,12 @@
 -- The disk behind each front of the operations of a replay.
-use Rattle.std.proofs.Common.{◌≡◌, ◌⊎◌, ℕ, zero, suc, ◌+◌, ◌-◌, ◌<◌, ◌≤◌, List, [], ◌∷◌, ◌++◌, length, take, get_or, Option, None, Some, refl, sym, ap, subst, ◌∙◌, inl, inr, arith}
+use Rattle.std.proofs.Common.{◌≡◌, ◌⊎◌, ℕ, zero, suc, ◌+◌, ◌-◌, ◌<◌, ◌≤◌, List, [], ◌∷◌, ◌++◌, length, take, drop, get_or, Option, None, Some, refl, sym, ap, subst, ◌∙◌, inl, inr, arith}
 use Rattle.std.specs.Prelude.{MatchOption, slice_get}
 use Rattle.std.specs.List.{AllByRecursion}
 use Rattle.std.proofs.lemmas.Bool.{cases_lt}
-use Rattle.std.proofs.lemmas.List.{length-append}
+use Rattle.std.proofs.lemmas.List.{append_assoc, length-append, take-append-drop}
 use Rattle.disk_items.specs.Deeds.{AreDoneBy, Deed, MadeBarrier, WasFenced, Wrote}
 use Rattle.disk_items.proofs.Going.{goes_on}
-use Rattle.disk_turns.specs.Turns.{AreBrought, BringsTo, Moment, moment, writes_of}
+use Rattle.disk_turns.specs.Turns.{AreBrought, BringsTo, HasStopped, Moment, StopsAt, at_barrier, before_it, behind_it, moment, turn, turn_of, writes_of}
 use Rattle.disk_turns.specs.Writing.{AreWritten, RiseFrom}
 use Rattle.disk_turns.proofs.Flying.{idle_again}
 use Rattle.disk_turns.proofs.Gaining.{gains_join, gains_none}
@@ -15,7 +15,7 @@ use Rattle.image_mount.specs.Mounted.{Journal}
 use Rattle.image_recovery.specs.Recoveries.{AreReplays}
 use Rattle.journal_replays.specs.Headers.{clean_block}
 use Rattle.journal_replays.specs.Items.{items_of}
-use Rattle.journal_replays.specs.Replays.{IsReplay, IsReplayWith, StopsReplay, StopsReplayBy, at_header, at_home}
+use Rattle.journal_replays.specs.Replays.{IsReplay, IsReplayWith, StopsBringing, StopsReplay, StopsReplayBy, at_header, at_home}
 use Rattle.log_layout.specs.declared.log_header.LogHeader.{LogHeader}
 use Rattle.logged_steps.specs.Disks.{disk_after}
 use Rattle.logged_steps.proofs.Telling.{append_nil, take_all, take_front}
@@ -23,7 +23,7 @@ use Rattle.peer_replay.specs.declared.planned.Plan.{Plan}
 use Rattle.shared_disk.specs.Disk.{Barrier, DiskState, Fence, Gains, IsIdle, Operation, Write}
 use Rattle.trace_text.specs.declared.item.TraceItem.{TraceItem}
 use Rattle.trace_text.specs.declared.item.TraceItem.TheVariants as trace
-use Rattle.whole_runs.proofs.Bringing.{after_on, all_written, brings, fails_in, take_behind}
+use Rattle.whole_runs.proofs.Bringing.{after_on, all_written, brings, brought_on, can_be_brought, fails_in, take_behind}
 
 -- ---- the operations of a replay
 
@@ -241,3 +241,148 @@ fronts size time _ _ _ _ (replays slot j js p ps header homes heads operations c
       (fronts size time (slot + 1) js ps operations rest next (through_size first idle p.home.items rise.0 H homes heads at_homes at_heads ∙ sized)
       (through_idle first idle p.home.items rise.0 H homes heads at_homes at_heads) rise.1 m))
 ]
+
+-- ---- operations of more journals
+
+pub join_ops : (size time slot : ℕ) (js : List Journal) (ps : List Plan) (operations : List Operation) (ks : List Journal) (qs : List Plan) (later : List Operation) → HasOps size time slot js ps operations
+    → HasOps size time (slot + length js) ks qs later → HasOps size time slot (js ++ ks) (ps ++ qs) (operations ++ later)
+join_ops size time _ _ _ _ ks qs later (no_more slot) more = subst (λ n. HasOps size time n ks qs later) (omega arith) more
+join_ops size time _ _ _ _ ks qs later (passes slot j js p ps operations clean rest) more =
+    passes slot j (js ++ ks) p (ps ++ qs) (operations ++ later) clean (join_ops size time (slot + 1) js ps operations ks qs later rest (subst (λ n. HasOps size time n ks qs later) (omega arith) more))
+join_ops size time _ _ _ _ ks qs later (replays slot j js p ps header homes heads operations clean at_homes at_heads rest) more =
+    subst (HasOps size time slot (j ∷ (js ++ ks)) (p ∷ (ps ++ qs))) (sym (append_assoc (homes ++ heads) operations later))
+    (replays slot j (js ++ ks) p (ps ++ qs) header homes heads (operations ++ later) clean at_homes at_heads
+    (join_ops size time (slot + 1) js ps operations ks qs later rest (subst (λ n. HasOps size time n ks qs later) (omega arith) more)))
+
+-- any journals can be replayed so
+pub can_have : (size time slot : ℕ) (js : List Journal) (ps : List Plan) → length js ≡ length ps → (operations : List Operation) × HasOps size time slot js ps operations
+can_have size time slot [] [] same = ([], no_more slot)
+can_have size time slot [] (p ∷ ps) same = absurd (omega (arith, same))
+can_have size time slot (j ∷ js) [] same = absurd (omega (arith, same))
+can_have size time slot (j ∷ js) (p ∷ ps) same = by (can_have size time (slot + 1) js ps (omega (arith, same))) p.clean refl
+  where
+    by : ((operations : List Operation) × HasOps size time (slot + 1) js ps operations) → (o : Option LogHeader) → p.clean ≡ o → (operations : List Operation) × HasOps size time slot (j ∷ js) (p ∷ ps) operations
+    by rest None clean = (rest.0, passes slot j js p ps rest.0 clean rest.1)
+    by rest (Some header) clean =
+        let homes = can_be_brought p.home.items in
+        let heads = can_be_brought (head_of size slot time j header ∷ []) in
+        ((homes.0 ++ heads.0) ++ rest.0, replays slot j js p ps header homes.0 heads.0 rest.0 clean homes.1 heads.1 rest.1)
+
+-- ---- the operations of a replay in which the disk failed
+
+-- What it told was done, and perhaps one write more; and these are the first of a whole replay's.
+pub record StoppedOps (before after : Moment) (home : List Written) (header : Written) (items : List TraceItem) : Type 0 where
+  pub wrote : List Operation
+  pub further : List Operation
+  pub homes : List Operation
+  pub heads : List Operation
+  pub rest : List Operation
+  pub at_homes : AreBrought 1 home homes
+  pub at_heads : AreBrought 1 (header ∷ []) heads
+  pub whole : homes ++ heads ≡ wrote ++ rest
+  pub done : AreDoneBy items wrote
+  pub gains : Gains before.list after.list (wrote ++ further)
+
+writes_on : (xs ys : List Written) → writes_of 1 (xs ++ ys) ≡ writes_of 1 xs ++ writes_of 1 ys
+writes_on [] ys = refl
+writes_on (x ∷ xs) ys = ap (λ (os : List Operation). Write 1 x.block x.bytes ∷ os) (writes_on xs ys)
+
+-- of a turn that stopped: what was written are the first ones, and what flies has at most one more
+record StopsSo (some wrote flying : List Written) : Type 0 where
+  left : List Written
+  parts : some ≡ wrote ++ left
+  one : List Written
+  flies : flying ≡ wrote ++ one
+
+stops_so : (some : List Written) (block : Option ℕ) (wrote flying : List Written) → StopsAt some block wrote flying → StopsSo some wrote flying
+stops_so some _ _ _ (before_it i w at) = record { left = drop i some; parts = sym (take-append-drop i some); one = []; flies = sym (append_nil (take i some)) }
+stops_so some _ _ _ (behind_it i w at) = record { left = drop i some; parts = sym (take-append-drop i some); one = w ∷ []; flies = next some i at }
+  where
+    next : (ws : List Written) (i : ℕ) → slice_get ws i ≡ Some w → take (i + 1) ws ≡ take i ws ++ w ∷ []
+    next [] i at = absurd (none_some at)
+      where
+        none_some : ◌≡◌ {A = Option Written} None (Some w) → ⊥
+        none_some e = cc
+    next (x ∷ ws) zero at = ap (λ (y : Written). y ∷ []) (same at)
+      where
+        same : Some x ≡ Some w → x ≡ w
+        same e = cc
+    next (x ∷ ws) (suc i) at = ap (λ m. take m (x ∷ ws)) (let e : suc i + 1 ≡ suc (i + 1) = omega arith in e) ∙ ap (λ ys. x ∷ ys) (next ws i at)
+stops_so some _ _ _ at_barrier = record { left = []; parts = sym (append_nil some); one = []; flies = sym (append_nil some) }
+
+-- the same of blocks
+record StoppedBringing (before after : Moment) (blocks : List Written) (items : List TraceItem) : Type 0 where
+  wrote : List Operation
+  further : List Operation
+  all : List Operation
+  rest : List Operation
+  at_all : AreBrought 1 blocks all
+  whole : all ≡ wrote ++ rest
+  done : AreDoneBy items wrote
+  gains : Gains before.list after.list (wrote ++ further)
+
+bringing_stopped : (before after : Moment) (blocks : List Written) (block : Option ℕ) (items : List TraceItem) → StopsBringing 1 before after blocks block items → StoppedBringing before after blocks items
+bringing_stopped before after blocks block items is = record {
+  wrote = first ++ writes_of 1 wrote;
+  further = writes_of 1 so.one;
+  all = first ++ (turn_of 1 s.some ++ later.0);
+  rest = writes_of 1 so.left ++ (Barrier 1 ∷ later.0);
+  at_all = subst (λ ws. AreBrought 1 ws (first ++ (turn_of 1 s.some ++ later.0))) (sym s.parts) (brought_on s.done (s.some ++ s.later) s.turns first (turn_of 1 s.some ++ later.0) s.whole s.brought.brought (turn s.some s.later later.0 s.next later.1));
+  whole =
+      ap (λ os. first ++ os)
+      (append_assoc (writes_of 1 s.some) (Barrier 1 ∷ []) later.0 ∙ ap (λ ws. writes_of 1 ws ++ (Barrier 1 ∷ later.0)) so.parts ∙ ap (λ os. os ++ (Barrier 1 ∷ later.0)) (writes_on wrote so.left)
+      ∙ append_assoc (writes_of 1 wrote) (writes_of 1 so.left) (Barrier 1 ∷ later.0))
+      ∙ sym (append_assoc first (writes_of 1 wrote) (writes_of 1 so.left ++ (Barrier 1 ∷ later.0)));
+  done = subst (λ is. AreDoneBy is (first ++ writes_of 1 wrote)) (sym is.told) (goes_on (items_of first) (items_of (writes_of 1 wrote)) first (writes_of 1 wrote) (done_items first) (done_items (writes_of 1 wrote)));
+  gains = subst (Gains before.list after.list) (ap (λ os. first ++ os) (ap (writes_of 1) so.flies ∙ writes_on wrote so.one) ∙ sym (append_assoc first (writes_of 1 wrote) (writes_of 1 so.one)))
+      (gains_join before.list s.between.list after.list first (writes_of 1 s.stopped.flying) s.brought.gains s.stopped.gains);
+}
+  where
+    s : HasStopped 1 before after blocks block
+    s = is.stopped
+
+    first : List Operation
+    first = s.brought.operations
+
+    wrote : List Written
+    wrote = s.stopped.wrote
+
+    so : StopsSo s.some wrote s.stopped.flying
+    so = stops_so s.some block wrote s.stopped.flying s.stopped.stops
+
+    later : (operations : List Operation) × AreBrought 1 s.later operations
+    later = can_be_brought s.later
+
+pub replay_stopped : (before after : Moment) (home : List Written) (header : Written) (block : Option ℕ) (items : List TraceItem) → StopsReplay 1 before after home header block items → StoppedOps before after home header items
+replay_stopped before after home header block items (at_home is) = of_home (bringing_stopped before after home block items is)
+  where
+    of_home : StoppedBringing before after home items → StoppedOps before after home header items
+    of_home s =
+        let heads = can_be_brought (header ∷ []) in
+        record {
+          wrote = s.wrote;
+          further = s.further;
+          homes = s.all;
+          heads = heads.0;
+          rest = s.rest ++ heads.0;
+          at_homes = s.at_all;
+          at_heads = heads.1;
+          whole = ap (λ os. os ++ heads.0) s.whole ∙ append_assoc s.wrote s.rest heads.0;
+          done = s.done;
+          gains = s.gains;
+        }
+replay_stopped before after home header block items (at_header between homes more is are) = of_header (bringing_stopped between after (header ∷ []) block more is)
+  where
+    of_header : StoppedBringing between after (header ∷ []) more → StoppedOps before after home header items
+    of_header s = record {
+      wrote = homes.operations ++ s.wrote;
+      further = s.further;
+      homes = homes.operations;
+      heads = s.all;
+      rest = s.rest;
+      at_homes = homes.brought;
+      at_heads = s.at_all;
+      whole = ap (λ os. homes.operations ++ os) s.whole ∙ sym (append_assoc homes.operations s.wrote s.rest);
+      done = subst (λ is. AreDoneBy is (homes.operations ++ s.wrote)) (sym are) (goes_on (items_of homes.operations) more homes.operations s.wrote (done_items homes.operations) s.done);
+      gains = subst (Gains before.list after.list) (sym (append_assoc homes.operations s.wrote s.further)) (gains_join before.list between.list after.list homes.operations (s.wrote ++ s.further) homes.gains s.gains);
+    }
