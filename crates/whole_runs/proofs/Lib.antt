@@ -1,2 +1,5 @@
 pub mod Bringing
 pub mod Replaying
+pub mod Items
+pub mod Quiet
+pub mod Starting

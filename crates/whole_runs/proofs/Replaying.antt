@@ -386,3 +386,14 @@ replay_stopped before after home header block items (at_header between homes mor
       done = subst (λ is. AreDoneBy is (homes.operations ++ s.wrote)) (sym are) (goes_on (items_of homes.operations) more homes.operations s.wrote (done_items homes.operations) s.done);
       gains = subst (Gains before.list after.list) (sym (append_assoc homes.operations s.wrote s.further)) (gains_join before.list between.list after.list homes.operations (s.wrote ++ s.further) homes.gains s.gains);
     }
+
+-- a replay leaves the disk its size
+pub same_size : (slot time : ℕ) (before after : Moment) (js : List Journal) (ps : List Plan) (items : List TraceItem) → AreReplays 1 slot time before js ps after items → after.disk.size ≡ before.disk.size
+same_size slot time before after [] [] items (same, empty) = ap (λ (m : Moment). m.disk.size) same
+same_size slot time before after [] (p ∷ ps) items is = absurd is
+same_size slot time before after (j ∷ js) [] items is = absurd is
+same_size slot time before after (j ∷ js) (p ∷ ps) items (next, first, later, are, one, others) = same_size (slot + 1) time next after js ps later others ∙ by p.clean one
+  where
+    by : (o : Option LogHeader) → IsReplayWith 1 slot j.dinode j.blocks time before next p.home.items o first → next.disk.size ≡ before.disk.size
+    by None still = ap (λ (m : Moment). m.disk.size) still.0
+    by (Some header) is = is.headed.written.size ∙ is.homes.written.size
