@@ -10,7 +10,8 @@ use Rattle.image_model.specs.Owners.{Owners}
 use Rattle.image_model.specs.Replays.{StandsReplayed}
 use Rattle.image_model.specs.Stands.{Layout}
 use Rattle.journal_outcomes.specs.Disks.{flown_by}
-use Rattle.journal_outcomes.specs.Images.{IsImageOutcome, NoFalseHeader}
+use Rattle.journal_outcomes.specs.Images.{IsImageOutcome, NoFalseHeader, ring_at}
+use Rattle.log_layout.specs.Journal.{head_in}
 use Rattle.log_layout.specs.declared.log_header.LogHeader.{LogHeader}
 use Rattle.log_values.specs.Log.{Journal}
 use Rattle.lone_images.specs.Lone.{begun_on}
@@ -100,6 +101,13 @@ RunsEnd = (v : Volume) (s : Begun (trees_on v)) (d : ℕ) (clients : List Client
 abbrev pub CleanRunsEnd : Type 0
 CleanRunsEnd = (v : Volume) (s : Begun (trees_on v)) (d : ℕ) (clients : List Client) (time : ℕ) (a p : Point) → BeginsAt v s d clients a → Steps time a p → IsDone (state_of p) → p.log.clean ≡ true
     → HasEndedAs v clients p.items s.tree (image_of p.disk)
+
+-- ---- its head
+
+-- wherever a run is, each outcome has an accepted head of the node's journal
+abbrev pub HeadsAreThere : Type 0
+HeadsAreThere = (v : Volume) (s : Begun (trees_on v)) (d : ℕ) (clients : List Client) (time : ℕ) (a p q : Point) (left : Image) → BeginsAt v s d clients a → Steps time a p → FailsTo time p q ⊎ EndsTo p q → MayLeave v q.disk left
+    → (header : LogHeader) × (head_in (ring_at left d) ≡ Some header)
 
 -- ---- behind its stop
 

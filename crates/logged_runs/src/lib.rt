@@ -2,7 +2,7 @@
 //! nothing: their contracts are the laws.
 #![tactic(auto)]
 
-ghost use Rattle.logged_runs.specs.Laws.{CallsAreCounted, CleanRunsEnd, EndsAreTold, FencesAreTold, FrontsStand, PrefixesStand, RunsBeginSo, RunsEnd, StopsAreTold, WhatRemainsIsTold};
+ghost use Rattle.logged_runs.specs.Laws.{CallsAreCounted, CleanRunsEnd, EndsAreTold, FencesAreTold, FrontsStand, HeadsAreThere, PrefixesStand, RunsBeginSo, RunsEnd, StopsAreTold, WhatRemainsIsTold};
 ghost use Rattle.logged_runs.specs.Mounted.{MountedIsAtRest};
 
 use image_mount::{mounted_groups_are_as_seen, mounted_images_stand_as_mounted};
@@ -51,6 +51,19 @@ pub fn what_remains_is_told()
 /// A law: so it is while the clean header is in flight with which a run ends, and behind the barrier that brings it to its place.
 pub fn ends_are_told()
     ensures { EndsAreTold }
+{
+    steps_keep();
+    failed_writes_keep();
+    heads_are_told();
+    steps_are_told();
+    what_remains_of_it();
+    what_remains_at_its_end();
+    fences_leave_what_remains();
+}
+
+/// A law: wherever the run is, each outcome has an accepted head of the node's journal.
+pub fn its_heads_are_there()
+    ensures { HeadsAreThere }
 {
     steps_keep();
     failed_writes_keep();

@@ -1,6 +1,6 @@
 -- The disk behind each front of the operations of a replay.
 use Rattle.std.proofs.Common.{◌≡◌, ◌⊎◌, ℕ, zero, suc, ◌+◌, ◌-◌, ◌<◌, ◌≤◌, List, [], ◌∷◌, ◌++◌, length, take, drop, get_or, Option, None, Some, refl, sym, ap, subst, ◌∙◌, inl, inr, arith}
-use Rattle.std.specs.Prelude.{MatchOption, slice_get}
+use Rattle.std.specs.Prelude.{IsTrue, MatchOption, slice_get}
 use Rattle.std.specs.List.{AllByRecursion}
 use Rattle.std.proofs.lemmas.Bool.{cases_lt}
 use Rattle.std.proofs.lemmas.List.{append_assoc, length-append, take-append-drop}
@@ -27,6 +27,10 @@ use Rattle.whole_runs.proofs.Bringing.{after_on, all_written, brings, brought_on
 
 -- ---- the operations of a replay
 
+-- what each plan puts home has rising numbers
+abbrev pub AllRise : List Plan → Type 0
+AllRise ps = AllByRecursion (λ (p : Plan). RiseFrom 0 p.home.items) ps
+
 -- the block of the header that ends the replay of a journal
 abbrev pub head_of : (size slot time : ℕ) → Journal → LogHeader → Written
 head_of size slot time j header = clean_block size (get_or j.blocks header.blkno 0) slot j.dinode time header
@@ -51,6 +55,30 @@ pub record OpsOf (time slot : ℕ) (before after : Moment) (js : List Journal) (
   pub has : HasOps before.disk.size time slot js ps operations
   pub gains : Gains before.list after.list operations
   pub done : AreDoneBy items operations
+  pub disk : IsTrue before.disk.tells → IsIdle before.disk → AllRise ps → after.disk ≡ disk_after before.disk operations
+
+-- disks on which the same is written are the same
+same_written : (d x y : DiskState) (blocks : List Written) → IsTrue d.tells → AreWritten d x blocks → AreWritten d y blocks → x ≡ y
+same_written d x y blocks tells one two = λ i. record {
+  count = (one.count ∙ sym two.count) i;
+  size = (one.size ∙ sym two.size) i;
+  tells = (one.tells ∙ sym two.tells) i;
+  block_at = λ b. (one.blocks_are tells b ∙ sym (two.blocks_are tells b)) i;
+  in_flight = λ n. (one.idle n ∙ sym (two.idle n)) i;
+  is_fenced = (one.fenced ∙ sym two.fenced) i;
+}
+
+-- the disk to which blocks were brought is as the operations have made it
+brought_disk : (before after : Moment) (blocks : List Written) → IsTrue before.disk.tells → IsIdle before.disk → RiseFrom 0 blocks → (is : BringsTo 1 before after blocks) → after.disk ≡ disk_after before.disk is.operations
+brought_disk before after blocks tells idle rise is =
+    same_written before.disk after.disk (disk_after before.disk is.operations) blocks tells is.written (all_written before.disk blocks is.operations idle rise is.brought)
+
+pub replayed_disk : (slot time : ℕ) (before next : Moment) (home : List Written) (header : Written) (items : List TraceItem) → IsTrue before.disk.tells → IsIdle before.disk → RiseFrom 0 home
+    → (is : IsReplay 1 slot before next home header items) → next.disk ≡ disk_after before.disk (is.homes.operations ++ is.headed.operations)
+replayed_disk slot time before next home header items tells idle rise is =
+    brought_disk is.between next (header ∷ []) (subst IsTrue (sym is.homes.written.tells) tells) (idle_again before.disk is.between.disk home idle is.homes.written) (omega arith, tt) is.headed
+    ∙ ap (λ d. disk_after d is.headed.operations) (brought_disk before is.between home tells idle rise is.homes)
+    ∙ sym (after_on before.disk is.homes.operations is.headed.operations)
 
 -- one journal more before others
 module _ (time slot : ℕ) (before next after : Moment) (j : Journal) (js : List Journal) (p : Plan) (ps : List Plan) (first later items : List TraceItem) (are : items ≡ first ++ later) (rest : OpsOf time (slot + 1) next after js ps later) where
@@ -60,6 +88,7 @@ module _ (time slot : ℕ) (before next after : Moment) (j : Journal) (js : List
     has = passes slot j js p ps rest.operations clean (subst (λ (m : Moment). HasOps m.disk.size time (slot + 1) js ps rest.operations) still.0 rest.has);
     gains = subst (λ (m : Moment). Gains m.list after.list rest.operations) still.0 rest.gains;
     done = subst (λ is. AreDoneBy is rest.operations) (sym (are ∙ ap (λ is. is ++ later) still.1)) rest.done;
+    disk = λ tells idle rise. subst (λ (m : Moment). IsTrue m.disk.tells → IsIdle m.disk → AllRise ps → after.disk ≡ disk_after m.disk rest.operations) still.0 rest.disk tells idle rise.1;
   }
 
   one_replay : (header : LogHeader) → p.clean ≡ Some header → IsReplay 1 slot before next p.home.items (head_of before.disk.size slot time j header) first → OpsOf time slot before after (j ∷ js) (p ∷ ps) items
@@ -71,6 +100,11 @@ module _ (time slot : ℕ) (before next after : Moment) (j : Journal) (js : List
         (gains_join before.list is.between.list next.list is.homes.operations is.headed.operations is.homes.gains is.headed.gains) rest.gains;
     done = subst (λ is'. AreDoneBy is' ((is.homes.operations ++ is.headed.operations) ++ rest.operations)) (sym are)
         (goes_on first later (is.homes.operations ++ is.headed.operations) rest.operations own rest.done);
+    disk = λ tells idle rise.
+        let next_is = replayed_disk slot time before next p.home.items (head_of before.disk.size slot time j header) first tells idle rise.0 is in
+        let between_idle = idle_again before.disk is.between.disk p.home.items idle is.homes.written in
+        rest.disk (subst IsTrue (sym (is.headed.written.tells ∙ is.homes.written.tells)) tells) (idle_again is.between.disk next.disk (head_of before.disk.size slot time j header ∷ []) between_idle is.headed.written) rise.1
+        ∙ ap (λ d. disk_after d rest.operations) next_is ∙ sym (after_on before.disk (is.homes.operations ++ is.headed.operations) rest.operations);
   }
     where
       recovered : List TraceItem
@@ -90,6 +124,7 @@ ops_of time slot before after [] [] items (same, empty) = record {
   has = no_more slot;
   gains = subst (λ (m : Moment). Gains before.list m.list []) (sym same) (gains_none before.list);
   done = subst (λ is. AreDoneBy is []) (sym empty) refl;
+  disk = λ tells idle rise. ap (λ (m : Moment). m.disk) same;
 }
 ops_of time slot before after [] (p ∷ ps) items is = absurd is
 ops_of time slot before after (j ∷ js) [] items is = absurd is
@@ -191,9 +226,6 @@ module _ (first : DiskState) (idle : IsIdle first) (home : List Written) (rise :
   through_size = headed_written.size ∙ (all_written first home homes idle rise at_homes).size
 
 -- ---- each front
-
-abbrev pub AllRise : List Plan → Type 0
-AllRise ps = AllByRecursion (λ (p : Plan). RiseFrom 0 p.home.items) ps
 
 -- no operation
 front_of_none : (time slot : ℕ) (first : DiskState) (js : List Journal) (ps : List Plan) (left : DiskState) → IsIdle first → left ≡ first → PassesSome time slot first js ps left
