@@ -3,3 +3,5 @@ pub mod Replaying
 pub mod Items
 pub mod Quiet
 pub mod Starting
+pub mod Heads
+pub mod Owning

@@ -80,9 +80,22 @@ replayed_disk slot time before next home header items tells idle rise is =
     ∙ ap (λ d. disk_after d is.headed.operations) (brought_disk before is.between home tells idle rise is.homes)
     ∙ sym (after_on before.disk is.homes.operations is.headed.operations)
 
+-- the items of one replay tell its operations
+pub one_done : (slot : ℕ) (before next : Moment) (home : List Written) (header : Written) (first : List TraceItem) (is : IsReplay 1 slot before next home header first) → AreDoneBy first (is.homes.operations ++ is.headed.operations)
+one_done slot before next home header first is =
+    subst (λ is'. AreDoneBy is' (is.homes.operations ++ is.headed.operations)) (sym is.told)
+    (goes_on (items_of is.homes.operations) (items_of is.headed.operations ++ recovered) is.homes.operations is.headed.operations (done_items is.homes.operations)
+    (subst (AreDoneBy (items_of is.headed.operations ++ recovered)) (append_nil is.headed.operations) headed_done))
+  where
+    recovered : List TraceItem
+    recovered = trace.Recovered slot 1 ∷ []
+
+    headed_done : AreDoneBy (items_of is.headed.operations ++ recovered) (is.headed.operations ++ [])
+    headed_done = goes_on (items_of is.headed.operations) recovered is.headed.operations [] (done_items is.headed.operations) refl
+
 -- one journal more before others
 module _ (time slot : ℕ) (before next after : Moment) (j : Journal) (js : List Journal) (p : Plan) (ps : List Plan) (first later items : List TraceItem) (are : items ≡ first ++ later) (rest : OpsOf time (slot + 1) next after js ps later) where
-  no_replay : p.clean ≡ None → (next ≡ before) × (first ≡ []) → OpsOf time slot before after (j ∷ js) (p ∷ ps) items
+  abbrev pub no_replay : p.clean ≡ None → (next ≡ before) × (first ≡ []) → OpsOf time slot before after (j ∷ js) (p ∷ ps) items
   no_replay clean still = record {
     operations = rest.operations;
     has = passes slot j js p ps rest.operations clean (subst (λ (m : Moment). HasOps m.disk.size time (slot + 1) js ps rest.operations) still.0 rest.has);
@@ -91,7 +104,7 @@ module _ (time slot : ℕ) (before next after : Moment) (j : Journal) (js : List
     disk = λ tells idle rise. subst (λ (m : Moment). IsTrue m.disk.tells → IsIdle m.disk → AllRise ps → after.disk ≡ disk_after m.disk rest.operations) still.0 rest.disk tells idle rise.1;
   }
 
-  one_replay : (header : LogHeader) → p.clean ≡ Some header → IsReplay 1 slot before next p.home.items (head_of before.disk.size slot time j header) first → OpsOf time slot before after (j ∷ js) (p ∷ ps) items
+  abbrev pub one_replay : (header : LogHeader) → p.clean ≡ Some header → IsReplay 1 slot before next p.home.items (head_of before.disk.size slot time j header) first → OpsOf time slot before after (j ∷ js) (p ∷ ps) items
   one_replay header clean is = record {
     operations = (is.homes.operations ++ is.headed.operations) ++ rest.operations;
     has = replays slot j js p ps header is.homes.operations is.headed.operations rest.operations clean is.homes.brought is.headed.brought
@@ -99,24 +112,13 @@ module _ (time slot : ℕ) (before next after : Moment) (j : Journal) (js : List
     gains = gains_join before.list next.list after.list (is.homes.operations ++ is.headed.operations) rest.operations
         (gains_join before.list is.between.list next.list is.homes.operations is.headed.operations is.homes.gains is.headed.gains) rest.gains;
     done = subst (λ is'. AreDoneBy is' ((is.homes.operations ++ is.headed.operations) ++ rest.operations)) (sym are)
-        (goes_on first later (is.homes.operations ++ is.headed.operations) rest.operations own rest.done);
+        (goes_on first later (is.homes.operations ++ is.headed.operations) rest.operations (one_done slot before next p.home.items (head_of before.disk.size slot time j header) first is) rest.done);
     disk = λ tells idle rise.
         let next_is = replayed_disk slot time before next p.home.items (head_of before.disk.size slot time j header) first tells idle rise.0 is in
         let between_idle = idle_again before.disk is.between.disk p.home.items idle is.homes.written in
         rest.disk (subst IsTrue (sym (is.headed.written.tells ∙ is.homes.written.tells)) tells) (idle_again is.between.disk next.disk (head_of before.disk.size slot time j header ∷ []) between_idle is.headed.written) rise.1
         ∙ ap (λ d. disk_after d rest.operations) next_is ∙ sym (after_on before.disk (is.homes.operations ++ is.headed.operations) rest.operations);
   }
-    where
-      recovered : List TraceItem
-      recovered = trace.Recovered slot 1 ∷ []
-
-      headed_done : AreDoneBy (items_of is.headed.operations ++ recovered) (is.headed.operations ++ [])
-      headed_done = goes_on (items_of is.headed.operations) recovered is.headed.operations [] (done_items is.headed.operations) refl
-
-      own : AreDoneBy first (is.homes.operations ++ is.headed.operations)
-      own = subst (λ is'. AreDoneBy is' (is.homes.operations ++ is.headed.operations)) (sym is.told)
-          (goes_on (items_of is.homes.operations) (items_of is.headed.operations ++ recovered) is.homes.operations is.headed.operations (done_items is.homes.operations)
-          (subst (AreDoneBy (items_of is.headed.operations ++ recovered)) (append_nil is.headed.operations) headed_done))
 
 pub ops_of : (time slot : ℕ) (before after : Moment) (js : List Journal) (ps : List Plan) (items : List TraceItem) → AreReplays 1 slot time before js ps after items → OpsOf time slot before after js ps items
 ops_of time slot before after [] [] items (same, empty) = record {

@@ -49,8 +49,23 @@ tells_on d (o ∷ os) = tells_on (with_operation d o) os ∙ same o
     same (Fence node became) = refl
 
 -- with nothing in flight the image stays
-only_itself : (im left : Image) (flying : ℕ → Option (List ℕ)) → ((b : ℕ) → flying b ≡ None) → IsImageOutcome im flying left → left ≡ im
+pub only_itself : (im left : Image) (flying : ℕ → Option (List ℕ)) → ((b : ℕ) → flying b ≡ None) → IsImageOutcome im flying left → left ≡ im
 only_itself im left flying none outcome = λ i. record { size = outcome.size i; count = outcome.count i; at = λ b. outcome.still b (none b) i }
+
+-- ---- plans
+
+-- what each puts home has rising numbers
+pub rises : (disk : DiskState) (js : List Journal) (ps : List Plan) → CanReplayAll disk js ps → AllRise ps
+rises disk [] [] can = tt
+rises disk [] (p ∷ ps) can = absurd can
+rises disk (j ∷ js) [] can = absurd can
+rises disk (j ∷ js) (p ∷ ps) can = (can.0.home.rise, rises disk js ps can.1)
+
+pub as_many : (disk : DiskState) (js : List Journal) (ps : List Plan) → CanReplayAll disk js ps → length js ≡ length ps
+as_many disk [] [] can = refl
+as_many disk [] (p ∷ ps) can = absurd can
+as_many disk (j ∷ js) [] can = absurd can
+as_many disk (j ∷ js) (p ∷ ps) can = let rest = as_many disk js ps can.1 in omega (arith, rest)
 
 -- ---- what stands, with items of replays
 
@@ -121,21 +136,9 @@ module _ (failing : FailedReplaysStand) (stopping : StoppedReplaysStand) (disk :
 
   -- ---- fronts of the operations of a whole replay
 
-  rises : (js : List Journal) (ps : List Plan) → CanReplayAll disk js ps → AllRise ps
-  rises [] [] can = tt
-  rises [] (p ∷ ps) can = absurd can
-  rises (j ∷ js) [] can = absurd can
-  rises (j ∷ js) (p ∷ ps) can = (can.0.home.rise, rises js ps can.1)
-
-  as_many : (js : List Journal) (ps : List Plan) → CanReplayAll disk js ps → length js ≡ length ps
-  as_many [] [] can = refl
-  as_many [] (p ∷ ps) can = absurd can
-  as_many (j ∷ js) [] can = absurd can
-  as_many (j ∷ js) (p ∷ ps) can = let rest = as_many js ps can.1 in omega (arith, rest)
-
   pub all_stand : (operations : List Operation) → HasOps disk.size time 1 m.journals plans operations → (n : ℕ) (left : Image) → MayLeave v (disk_after disk (take n operations)) left → StandsReplayed left t
   all_stand operations has n left may =
-      front_stands (disk_after disk (take n operations)) (fronts disk.size time 1 m.journals plans operations has disk refl is.idle (rises m.journals plans is.can) n) left may
+      front_stands (disk_after disk (take n operations)) (fronts disk.size time 1 m.journals plans operations has disk refl is.idle (rises disk m.journals plans is.can) n) left may
 
   -- the same of some of its operations, with others behind them
   pub some_stand : (operations : List Operation) (N : ℕ) (whole : List Operation) → HasOps disk.size time 1 m.journals plans whole → take N operations ≡ take N whole → (n : ℕ) → n ≤ N → (left : Image)
@@ -176,7 +179,7 @@ module _ (failing : FailedReplaysStand) (stopping : StoppedReplaysStand) (fences
   d = before.disk
 
   many : length m.journals ≡ length plans
-  many = as_many failing stopping d m plans time t is m.journals plans is.can
+  many = as_many d m.journals plans is.can
 
   -- a front of items of replays, of which fronts of operations stand
   front_so : (xs : List TraceItem) (operations : List Operation) (count : ℕ) → AllByRecursion IsOfReplay xs
