@@ -5,3 +5,5 @@ pub mod Quiet
 pub mod Starting
 pub mod Heads
 pub mod Owning
+pub mod Wholes
+pub mod Last
