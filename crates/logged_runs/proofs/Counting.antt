@@ -1,6 +1,5 @@
 -- The history of a run's items has as many calls as the node answered.
 use Rattle.std.proofs.Common.{◌≡◌, ℕ, suc, ◌+◌, List, [], ◌∷◌, ◌++◌, refl, sym, ap, subst, ◌∙◌, arith}
-use Rattle.std.specs.Prelude.{◌==◌, if◌then◌else◌}
 use Rattle.cluster_history.specs.History.{IsNumbered, calls_of}
 use Rattle.cluster_history.specs.declared.Item.{Item}
 use Rattle.cluster_history.specs.declared.Item.TheVariants as item
@@ -18,8 +17,7 @@ use Rattle.logged_steps.specs.Laws.{IsLoggedAt, StepsKeep}
 use Rattle.logged_steps.specs.Points.{Point, call_item, state_of}
 use Rattle.logged_steps.specs.Steps.{Answers, AnswersQuietly, BeginsFlush, BeginsHeader, Commits, EndsBlocks, EndsFlush, GoesHome, HasNoSpace, Here, Reads, Rests, Step, Steps, Syncs, TellsFull, Then, Unmounts, WritesHead, WritesLog}
 use Rattle.logged_steps.proofs.Histories.{history_on, with_other}
-use Rattle.logged_runs.specs.Laws.{CallsAreCounted, HasItsCalls}
-use Rattle.logged_runs.specs.Starts.{BeginsAt}
+use Rattle.logged_runs.specs.Laws.{CallsAreCounted}
 use Rattle.logged_runs.proofs.Starting.{no_calls}
 
 -- ---- calls

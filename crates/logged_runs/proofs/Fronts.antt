@@ -1,7 +1,7 @@
 -- What remains at a front of the items, whatever the head that its journal is left with.
-use Rattle.std.proofs.Common.{◌≡◌, ℕ, zero, suc, ◌+◌, ◌<◌, ◌≤◌, List, [], ◌∷◌, ◌++◌, length, take, Some, slice_get, refl, sym, ap, subst, ◌∙◌, arith}
+use Rattle.std.proofs.Common.{◌≡◌, ℕ, ◌<◌, ◌≤◌, List, [], ◌∷◌, ◌++◌, length, Some, slice_get, refl, sym, ap, subst, ◌∙◌, arith}
 use Rattle.std.specs.Prelude.{IsTrue, ◌↔◌, true}
-use Rattle.std.proofs.lemmas.List.{length-append, map-append}
+use Rattle.std.proofs.lemmas.List.{map-append}
 use Rattle.cluster_history.specs.History as history
 use Rattle.cluster_history.specs.History.{IsNumbered, calls_of, tree_of}
 use Rattle.cluster_history.specs.Losses.{LossIsRight}
@@ -30,7 +30,7 @@ use Rattle.right_losses.specs.Laws.{SyncsAreIn}
 use Rattle.right_losses.proofs.Found.{right_losses_are_found}
 use Rattle.right_losses.proofs.Synced.{call_before_loss, right_losses_keep_syncs}
 use Rattle.run_rules.specs.Follows as run
-use Rattle.run_rules.specs.Lives.{AcceptedHead, DiskHeads, Life, TraceKeptRight, head_of, life_lost, remains, to_its_end, upto_of}
+use Rattle.run_rules.specs.Lives.{AcceptedHead, DiskHeads, TraceKeptRight, head_of, remains, to_its_end, upto_of}
 use Rattle.script_lang.specs.declared.script.Client.{Client}
 use Rattle.shared_disk.specs.Disk.{Flight, IsOutcome, after_fence}
 use Rattle.trace_text.specs.declared.item.TraceItem.{TraceItem}
@@ -38,13 +38,13 @@ use Rattle.trace_text.specs.declared.item.TraceItem.TheVariants as trace
 use Rattle.tree_histories.specs.Trees.{history_of, item_of}
 use Rattle.logged_steps.specs.Points.{Point}
 use Rattle.logged_steps.proofs.Histories.{history_on}
-use Rattle.logged_steps.proofs.Telling.{append_assoc, append_nil, take_all, take_front}
+use Rattle.logged_steps.proofs.Telling.{append_nil}
 use Rattle.logged_runs.specs.Heads.{HasFirst, IsAcceptedIn}
 use Rattle.logged_runs.specs.Laws.{IsStop, MayLeave, StandsFenced, StandsLost, fenced_upto, to_fence, to_loss}
 use Rattle.logged_runs.specs.Standing.{AreCleanAsTold, IsLeftAsTold, StandsAsTold, SyncsStand}
 use Rattle.logged_runs.specs.Starts.{only_life}
 use Rattle.logged_runs.proofs.Staying.{AllStay}
-use Rattle.logged_runs.proofs.Losing.{IsItsEnd, IsItsStop, IsTheLoss, fenced_too, head_fenced, head_now, its_place, life_fenced, lost_head, lost_remains, lost_upto, no_loss, remains_are, same_history, stopped, stops}
+use Rattle.logged_runs.proofs.Losing.{IsItsEnd, IsItsStop, fenced_too, head_fenced, head_now, lost_head, lost_remains, lost_upto, remains_are, same_history, stopped, stops}
 use Rattle.logged_runs.proofs.Counting.{calls_on}
 use Rattle.logged_runs.proofs.KeptRight.{kept_right}
 use Rattle.logged_runs.proofs.Machine.{SyncsThere, all_answered, calm}

@@ -1,6 +1,5 @@
 -- The loss of the one life of a run is right.
 use Rattle.std.proofs.Common.{◌≡◌, ℕ, zero, suc, ◌+◌, List, [], ◌∷◌, ◌++◌, length, take, Some, refl, sym, ap, subst, ◌∙◌, arith}
-use Rattle.std.specs.Prelude.{slice_get}
 use Rattle.std.proofs.lemmas.List.{length-append}
 use Rattle.cluster_history.specs.Losses.{LossIsRight}
 use Rattle.run_rules.specs.Follows.{history_of}

@@ -15,3 +15,6 @@ pub mod Fronts
 pub mod Runs
 pub mod Endings
 pub mod Laws
+-- Passed on to the crates above.
+pub use Rattle.logged_steps.proofs.Telling as Telling
+pub use Rattle.logged_steps.proofs.Histories as Histories

@@ -1,13 +1,11 @@
 -- What remains of the items of one life, and of them with its loss.
-use Rattle.std.proofs.Common.{◌≡◌, ℕ, zero, suc, ◌+◌, ◌<◌, List, [], ◌∷◌, ◌++◌, length, take, Option, None, Some, refl, sym, ap, subst, ◌∙◌, arith, inl, inr}
+use Rattle.std.proofs.Common.{◌≡◌, ℕ, zero, suc, ◌+◌, List, [], ◌∷◌, ◌++◌, length, Option, None, Some, refl, sym, ap, subst, ◌∙◌, arith}
 use Rattle.std.specs.Prelude.{◌==◌, false, nat_lt, if◌then◌else◌, slice_get}
 use Rattle.std.proofs.lemmas.List.{length-append}
-use Rattle.std.proofs.lemmas.Bool.{cases_eq, cond-true, cond-false, eq-eqb, ne_eqb}
-use Rattle.cluster_history.specs.History.{calls_of}
+use Rattle.std.proofs.lemmas.Bool.{cond-true, cond-false, eq-eqb, ne_eqb}
 use Rattle.cluster_history.specs.declared.Item.{Item}
 use Rattle.cluster_history.specs.declared.Item.TheVariants as item
 use Rattle.file_tree.specs.declared.call.Call.{Call}
-use Rattle.file_tree.specs.declared.reply.Reply.{Reply}
 use Rattle.run_rules.specs.Follows.{history_of}
 use Rattle.run_rules.specs.Lives.{AcceptedHead, DiskHeads, Life, fenced_behind, head_behind, head_of, items_of, last_number, life_at, life_lost, lives_from, lives_of, losses_for, losses_of, named, or_else, recovered_behind, remains, to_its_end, unnamed, upto_by, upto_of, without_loss}
 use Rattle.script_lang.specs.declared.script.Client.{Client}

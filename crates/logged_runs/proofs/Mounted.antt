@@ -1,12 +1,10 @@
 -- A mounted image whose journals are clean is at rest.
-use Rattle.std.proofs.Common.{◌≡◌, ℕ, ◌<◌, ◌≤◌, List, length, None, Some, refl, sym, subst, ◌∙◌, arith}
+use Rattle.std.proofs.Common.{◌≡◌, ℕ, ◌≤◌, List, length, None, Some, refl, sym, subst, ◌∙◌, arith}
 use Rattle.std.specs.FinMap as table
 use Rattle.std.specs.Ordering.{nat_cmp}
 use Rattle.std.specs.FinMap.{get-empty}
 use Rattle.file_tree.specs.Tree.{Tree}
-use Rattle.image_changes.specs.Instances.{StandsBy}
 use Rattle.image_machine.specs.Volumes.{volume_of}
-use Rattle.image_model.specs.Claims.{every}
 use Rattle.image_model.specs.Image.{Image, image_of}
 use Rattle.image_model.specs.Owners.{Owners}
 use Rattle.image_model.specs.Stands.{IsJournalAt, Layout}

@@ -7,7 +7,8 @@ ghost use Rattle.logged_runs.specs.Mounted.{MountedIsAtRest};
 
 use image_mount::{mounted_groups_are_as_seen, mounted_images_stand_as_mounted};
 use journal_outcomes::fences_leave_outcomes;
-use logged_steps::{failed_writes_keep, heads_are_told, runs_begin, steps_are_told, steps_keep};
+pub use logged_steps::steps_are_told;
+use logged_steps::{failed_writes_keep, heads_are_told, runs_begin, steps_keep};
 use lone_ends::{fences_leave_what_remains, it_has_ended, what_remains_at_its_end};
 use lone_logs::what_remains_of_it;
 

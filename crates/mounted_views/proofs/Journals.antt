@@ -1,11 +1,11 @@
 -- The first journal of a mounted image.
-use Rattle.std.proofs.Common.{◌≡◌, ℕ, ◌<◌, ◌≤◌, List, length, get_or, None, Some, refl, sym, subst, ◌∙◌, arith}
+use Rattle.std.proofs.Common.{◌≡◌, ℕ, ◌<◌, length, get_or, Some, refl, sym, subst, ◌∙◌, arith}
 use Rattle.std.specs.Prelude.{slice_get}
 use Rattle.std.proofs.lemmas.Option.{slice_get_within}
 use Rattle.gfs2_layout.specs.Inode.{content_block}
 use Rattle.image_model.specs.Claims.{every}
 use Rattle.image_model.specs.Image.{Image, image_of}
-use Rattle.image_model.specs.Stands.{IsJournalAt, Layout}
+use Rattle.image_model.specs.Stands.{IsJournalAt}
 use Rattle.image_model.specs.SystemFiles.{is_journal, of_dinode}
 use Rattle.image_replays.specs.MountedImages.{IsJournalOf, IsMounted, Journal, MountedValue}
 use Rattle.image_replays.proofs.System.{block_at_place, has_journal, same_ring, some_at}
@@ -13,8 +13,7 @@ use Rattle.journal_reads.specs.Reading.{ring_read}
 use Rattle.log_layout.specs.Journal.{ring_of}
 use Rattle.log_layout.specs.Laws.{HasSamePlaces}
 use Rattle.shared_disk.specs.Disk.{DiskState, IsIdle}
-use Rattle.mounted_views.specs.Laws.{IsPlacedOn, MountedJournalsArePlaced}
-use Rattle.mounted_views.specs.Views.{journal_of}
+use Rattle.mounted_views.specs.Laws.{MountedJournalsArePlaced}
 
 module _ (disk : DiskState) (m : MountedValue) (own : Journal) (idle : IsIdle disk) (is : IsMounted (image_of disk) m) (first : slice_get m.journals 0 ≡ Some own) where
   abbrev im : Image

@@ -1,5 +1,5 @@
 -- Where a mounted journal lies.
-use Rattle.std.specs.Prelude.{ℕ, ◌≡◌, ◌<◌, ◌≤◌, List, slice_get, Some}
+use Rattle.std.specs.Prelude.{ℕ, ◌≡◌, ◌<◌, ◌≤◌, slice_get, Some}
 use Rattle.profile_limits.specs.Limits.{most_blocks}
 use Rattle.image_model.specs.Image.{image_of}
 use Rattle.image_replays.specs.MountedImages.{IsMounted, Journal as MountedJournal, MountedValue}

@@ -1,5 +1,5 @@
 -- What a node that begins on a mounted image has of it.
-use Rattle.std.specs.Prelude.{ℕ, List, length}
+use Rattle.std.specs.Prelude.{ℕ, length}
 use Rattle.std.specs.FinMap as table
 use Rattle.image_replays.specs.MountedImages as mounted
 use Rattle.image_replays.specs.MountedImages.{MountedValue}

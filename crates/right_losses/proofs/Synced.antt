@@ -1,8 +1,8 @@
 -- A right loss keeps what was synced.
-use Rattle.std.proofs.Common.{◌≡◌, ℕ, zero, suc, ◌+◌, ◌<◌, ◌≤◌, true, false, List, [], ◌∷◌, ◌++◌, length, Some, refl, sym, ap, subst, ◌∙◌, arith, inl, inr}
+use Rattle.std.proofs.Common.{◌≡◌, ℕ, zero, suc, ◌+◌, ◌<◌, ◌≤◌, true, false, List, [], ◌∷◌, ◌++◌, length, Some, refl, sym, subst, ◌∙◌, arith, inl, inr}
 use Rattle.std.specs.Prelude.{slice_get}
 use Rattle.std.proofs.lemmas.Bool.{cases_lt}
-use Rattle.cluster_history.specs.History.{IsNumbered, KeepsSynced, calls_of}
+use Rattle.cluster_history.specs.History.{IsNumbered}
 use Rattle.cluster_history.specs.Losses.{LossIsRight}
 use Rattle.cluster_history.specs.declared.Item.{Item}
 use Rattle.cluster_history.specs.declared.Item.TheVariants as item

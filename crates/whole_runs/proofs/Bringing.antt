@@ -1,20 +1,18 @@
 -- The disk behind each front of the operations by which node 1 brings blocks to it.
-use Rattle.std.proofs.Common.{◌≡◌, ◌≢◌, ◌⊎◌, ℕ, zero, suc, ◌+◌, ◌-◌, ◌*◌, ◌<◌, ◌≤◌, min, false, List, [], ◌∷◌, ◌++◌, length, take, drop, get_or, Option, None, Some, refl, sym, ap, subst, subst₂, ◌∙◌, inl, inr, arith}
-use Rattle.std.specs.Prelude.{slice_get}
+use Rattle.std.proofs.Common.{◌≡◌, ◌≢◌, ℕ, zero, suc, ◌+◌, ◌-◌, ◌*◌, ◌<◌, ◌≤◌, min, false, List, [], ◌∷◌, ◌++◌, length, take, drop, get_or, Option, None, Some, refl, sym, ap, subst, subst₂, ◌∙◌, inl, inr, arith}
 use Rattle.std.proofs.lemmas.Bool.{cases_lt}
-use Rattle.std.proofs.lemmas.List.{append_assoc, append-nil, length-append, length-map, length-take-le, take-append-drop}
+use Rattle.std.proofs.lemmas.List.{append_assoc, length-append, length-map, take-append-drop}
 use Rattle.std.proofs.lemmas.Option.{slice_get-get_or}
-use Rattle.std.proofs.Math.Seq.{take-suc}
 use Rattle.disk_turns.specs.Turns.{AreBrought, BringsTo, HasStopped, HasStoppedIn, IsTurn, Moment, at_barrier, before_it, moment, most_in_flight, none, turn, turn_of, writes_of}
 use Rattle.disk_turns.specs.Writing.{AreInFlight, AreWritten, RiseFrom, flights_of}
 use Rattle.disk_turns.proofs.Flying.{brought, flies_more, flies_none, idle_again, written_more, written_none}
 use Rattle.disk_turns.proofs.Gaining.{writes_more}
-use Rattle.disk_turns.proofs.Rising.{back, front, lower}
-use Rattle.disk_turns.proofs.Stopping.{full_turn, has_some, next_turn}
+use Rattle.disk_turns.proofs.Rising.{back, front}
+use Rattle.disk_turns.proofs.Stopping.{full_turn, next_turn}
 use Rattle.drafts.specs.declared.change.Written.{Written}
-use Rattle.logged_steps.specs.Disks.{disk_after, with_operation}
-use Rattle.logged_steps.proofs.Telling.{take_all, take_front}
-use Rattle.shared_disk.specs.Disk.{Barrier, DiskState, Gains, IsIdle, Operation, Write, after_write}
+use Rattle.logged_runs.specs.Disks.{disk_after, with_operation}
+use Rattle.logged_runs.proofs.Telling.{take_all, take_front}
+use Rattle.shared_disk.specs.Disk.{Barrier, DiskState, Gains, IsIdle, Operation, Write}
 
 -- ---- operations behind operations
 
@@ -146,16 +144,20 @@ fails_in d _ _ n idle rise (turn some later operations is more) low = elim (case
   | inr not ↦
       let few : n ≤ length some = omega (arith, not) in
       let s = stopped_in d idle some (front 0 some later rise) n few in
-      let same : take n (turn_of 1 some ++ operations) ≡ writes_of 1 (take n some) = of_writes few in
-      (s.0, subst (λ os. HasStopped 1 (moment d None) (moment (disk_after d os) None) (some ++ later) s.0) (sym same)
-      (record { done = []; some = some; later = later; parts = refl; turns = 0; whole = refl; next = is; between = moment d None; brought = brings d d [] [] refl idle tt none; stopped = s.1 }))
+      let same : take n (turn_of 1 some ++ operations) ≡ writes_of 1 (take n some) = of_writes few in (
+        s.0,
+        subst (λ os. HasStopped 1 (moment d None) (moment (disk_after d os) None) (some ++ later) s.0) (sym same)
+            (record { done = []; some = some; later = later; parts = refl; turns = 0; whole = refl; next = is; between = moment d None; brought = brings d d [] [] refl idle tt none; stopped = s.1 }),
+      )
   | inl past ↦
       let written = turn_done d idle some (front 0 some later rise) in
       let left : n - length (turn_of 1 some) < length operations = under past in
       let has_more : later ≢ [] = λ empty. (let none_left = no_operations later operations more empty in omega (arith, left, none_left)) in
-      let s = fails_in (disk_after d (turn_of 1 some)) later operations (n - length (turn_of 1 some)) (idle_again d (disk_after d (turn_of 1 some)) some idle written) (back 0 some later rise) more left in
-      (s.0, subst (λ x. HasStopped 1 (moment d None) (moment x None) (some ++ later) s.0) (sym (there past))
-      (before_turn d some later is has_more rise written (moment (disk_after (disk_after d (turn_of 1 some)) (take (n - length (turn_of 1 some)) operations)) None) s.0 s.1))
+      let s = fails_in (disk_after d (turn_of 1 some)) later operations (n - length (turn_of 1 some)) (idle_again d (disk_after d (turn_of 1 some)) some idle written) (back 0 some later rise) more left in (
+        s.0,
+        subst (λ x. HasStopped 1 (moment d None) (moment x None) (some ++ later) s.0) (sym (there past))
+            (before_turn d some later is has_more rise written (moment (disk_after (disk_after d (turn_of 1 some)) (take (n - length (turn_of 1 some)) operations)) None) s.0 s.1),
+      )
 ]
   where
     of_writes : n ≤ length some → take n (turn_of 1 some ++ operations) ≡ writes_of 1 (take n some)

@@ -1,15 +1,12 @@
 -- The head that node 1's journal has as its own headers begin: behind the replays no other journal's has changed it.
-use Rattle.std.proofs.Common.{◌≡◌, ◌≢◌, ℕ, zero, suc, ◌+◌, ◌<◌, ◌≤◌, List, [], ◌∷◌, ◌++◌, length, take, get_or, Option, None, Some, refl, sym, ap, subst, ◌∙◌, inl, inr, arith}
-use Rattle.std.specs.Prelude.{IfSome, IsTrue, ◌==◌, if◌then◌else◌, slice_get}
-use Rattle.std.proofs.lemmas.Bool.{cond-true, cond-false, ne_eqb}
-use Rattle.std.proofs.lemmas.List.{append_assoc, length-append}
+use Rattle.std.proofs.Common.{◌≡◌, ℕ, suc, ◌<◌, List, ◌∷◌, ◌++◌, length, take, get_or, refl, sym, ap, subst, ◌∙◌, arith}
+use Rattle.std.specs.Prelude.{IsTrue, slice_get}
 use Rattle.disk_turns.specs.Turns.{Moment}
 use Rattle.file_tree.specs.Tree.{Tree}
 use Rattle.gfs2_layout.specs.Inode.{content_block}
 use Rattle.image_model.specs.Claims.{every}
 use Rattle.image_model.specs.Image.{Image, image_of}
 use Rattle.image_model.specs.Stands.{IsJournalAt}
-use Rattle.image_model.proofs.Held.{some_same}
 use Rattle.image_model.proofs.Replaying.{replayed_by_any}
 use Rattle.image_mount.specs.Mounted.{Journal, MountedValue}
 use Rattle.image_outcomes.specs.CutShort.{IsCutShort, ring_left}
@@ -18,15 +15,11 @@ use Rattle.image_outcomes.proofs.Found.{FindsTheSame, place_whole}
 use Rattle.image_recovery.specs.Recoveries.{AreReplays}
 use Rattle.image_recovery.proofs.Ending.{leaves_place, stays_all}
 use Rattle.image_recovery.proofs.Mapped.{apart}
-use Rattle.image_recovery.proofs.Recovered.{can_at}
-use Rattle.image_replays.proofs.System.{its_journals, mounted_at}
+use Rattle.image_replays.proofs.System.{its_journals}
 use Rattle.journal_outcomes.specs.Images.{IsPlaceIn, ring_at}
-use Rattle.journal_replays.specs.Replays.{IsReplayWith}
 use Rattle.log_layout.specs.Journal.{head_in}
 use Rattle.log_layout.specs.Laws.{HasSamePlaces, HeadersReadBack}
-use Rattle.log_layout.specs.declared.log_header.LogHeader.{LogHeader}
 use Rattle.log_layout.proofs.SamePlaces.{says_the_same}
-use Rattle.logged_steps.proofs.Telling.{append_nil, take_all}
 use Rattle.peer_replay.specs.declared.planned.Plan.{Plan}
 use Rattle.trace_text.specs.declared.item.TraceItem.{TraceItem}
 use Rattle.whole_runs.specs.Starts.{IsStart}

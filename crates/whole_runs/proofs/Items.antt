@@ -14,7 +14,7 @@ use Rattle.journal_replays.specs.Items.{items_of}
 use Rattle.journal_replays.specs.Replays.{IsReplayWith, StopsBringing, StopsReplay, StopsReplayBy, at_header, at_home}
 use Rattle.log_layout.specs.declared.log_header.LogHeader.{LogHeader}
 use Rattle.logged_runs.specs.Starts.{IsOfReplay}
-use Rattle.logged_steps.specs.Disks.{told_count}
+use Rattle.logged_runs.specs.Disks.{told_count}
 use Rattle.peer_replay.specs.declared.planned.Plan.{Plan}
 use Rattle.shared_disk.specs.Disk.{Operation}
 use Rattle.trace_text.specs.declared.item.TraceItem.{TraceItem}

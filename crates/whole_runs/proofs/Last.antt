@@ -1,16 +1,18 @@
 -- How a run's last step, or its end, shows in its items and operations.
 use Rattle.std.proofs.Common.{◌≡◌, ◌⊎◌, ℕ, suc, ◌+◌, ◌<◌, ◌≤◌, List, [], ◌∷◌, ◌++◌, length, Option, None, Some, refl, sym, ap, subst, ◌∙◌, inl, inr, arith}
 use Rattle.std.specs.Prelude.{map}
+use Rattle.std.proofs.lemmas.Bool.{cases_lt}
+use Rattle.std.proofs.lemmas.List.{length-append}
 use Rattle.std.specs.List.{filter_map}
 use Rattle.disk_items.specs.Deeds.{AreDoneBy, Deed, MadeBarrier, WasFenced, Wrote, deed_of, deed_told}
 use Rattle.disk_turns.proofs.Gaining.{gains_none}
-use Rattle.logged_runs.specs.Ends.{EndsTo, Landed, Said, Unsaid, clean_item, last_block}
-use Rattle.logged_steps.specs.Disks.{disk_after}
-use Rattle.logged_steps.specs.Fails.{AsItWas, FailsTo, InAWrite}
-use Rattle.logged_steps.specs.Laws.{StepsAreTold, TellsWhatItDoes}
-use Rattle.logged_steps.specs.Points.{Point}
-use Rattle.logged_steps.specs.Steps.{Here, Step, Steps, Then, with_write}
-use Rattle.logged_steps.proofs.Telling.{append_nil, left_same}
+use Rattle.logged_runs.specs.Ends.{EndsTo, Landed, Said, Unsaid, clean_item, last_block, with_clean}
+use Rattle.logged_runs.specs.Disks.{disk_after, first_told, told_count}
+use Rattle.logged_runs.specs.Fails.{AsItWas, FailsTo, InAWrite}
+use Rattle.logged_runs.specs.StepLaws.{StepsAreTold, TellsWhatItDoes}
+use Rattle.logged_runs.specs.Points.{Point}
+use Rattle.logged_runs.specs.Steps.{Here, Step, Steps, Then, with_write}
+use Rattle.logged_runs.proofs.Telling.{append_nil, left_same}
 use Rattle.shared_disk.specs.Disk.{Barrier, Fence, Gains, Operation, Write}
 use Rattle.trace_text.specs.declared.item.TraceItem.{TraceItem}
 use Rattle.trace_text.specs.declared.item.TraceItem.TheVariants as trace
@@ -92,10 +94,66 @@ module _ (tells : StepsAreTold) (time : ℕ) (p : Point) where
 
 -- ---- the end
 
-pub ended_ops : (p q : Point) (ends : EndsTo p q) → Gains p.list q.list (ends_with p q ends) → LastOps p q
+abbrev pub ended_ops : (p q : Point) (ends : EndsTo p q) → Gains p.list q.list (ends_with p q ends) → LastOps p q
 ended_ops p q (Unsaid bytes list flies) gains =
     record { extra = []; operations = []; further = Write 1 (last_block p) bytes ∷ []; items = sym (append_nil p.items); told = refl; one = one_write (last_block p) bytes; gains = gains; disk = refl }
 ended_ops p q (Said bytes list flies) gains =
     record { extra = clean_item p ∷ []; operations = Write 1 (last_block p) bytes ∷ []; further = []; items = refl; told = refl; one = no_write; gains = gains; disk = refl }
 ended_ops p q (Landed bytes list flies) gains =
     record { extra = clean_item p ∷ trace.Barrier 1 ∷ []; operations = Write 1 (last_block p) bytes ∷ Barrier 1 ∷ []; further = []; items = refl; told = refl; one = no_write; gains = gains; disk = refl }
+
+-- ---- fronts of an end
+
+-- behind so many items the run had come to this point of its end
+pub record EndFront (p q : Point) (extra : List TraceItem) (operations : List Operation) (count : ℕ) : Type 0 where
+  pub point : Point
+  pub ends : EndsTo p point
+  pub rest : List TraceItem
+  pub more : List TraceItem
+  pub items : point.items ≡ p.items ++ rest
+  pub parts : extra ≡ rest ++ more
+  pub few : told_count rest ≤ length operations
+  pub at : count ≡ length (p.items ++ rest)
+  pub disk : point.disk ≡ disk_after p.disk (first_told rest operations)
+
+one_more : (xs : List TraceItem) (x : TraceItem) (count : ℕ) → length xs < count → count ≤ length (xs ++ x ∷ []) → count ≡ length (xs ++ x ∷ [])
+one_more xs x count low high = let all = length-append xs (x ∷ []) in omega (arith, low, high, all)
+
+pub end_front : (p q : Point) (ends : EndsTo p q) (gains : Gains p.list q.list (ends_with p q ends)) (count : ℕ) → length p.items < count → count ≤ length q.items
+    → EndFront p q (ended_ops p q ends gains).extra (ended_ops p q ends gains).operations count
+end_front p q (Unsaid bytes list flies) gains count low high = absurd (omega (arith, low, high))
+end_front p q (Said bytes list flies) gains count low high = record {
+  point = q;
+  ends = Said bytes list flies;
+  rest = clean_item p ∷ [];
+  more = [];
+  items = refl;
+  parts = refl;
+  few = omega arith;
+  at = one_more p.items (clean_item p) count low high;
+  disk = refl;
+}
+end_front p q (Landed bytes list flies) gains count low high = elim (cases_lt (length p.items + 1) count) [
+  | inl past ↦ record {
+    point = q;
+    ends = Landed bytes list flies;
+    rest = clean_item p ∷ trace.Barrier 1 ∷ [];
+    more = [];
+    items = refl;
+    parts = refl;
+    few = omega arith;
+    at = let all = length-append p.items (clean_item p ∷ trace.Barrier 1 ∷ []) in omega (arith, past, high, all);
+    disk = refl;
+  }
+  | inr not ↦ record {
+    point = record p { disk = with_clean p bytes; list = list; items = p.items ++ clean_item p ∷ [] };
+    ends = Said bytes list flies;
+    rest = clean_item p ∷ [];
+    more = trace.Barrier 1 ∷ [];
+    items = refl;
+    parts = refl;
+    few = omega arith;
+    at = let all = length-append p.items (clean_item p ∷ []) in omega (arith, low, not, all);
+    disk = refl;
+  }
+]

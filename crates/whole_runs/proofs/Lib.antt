@@ -7,3 +7,4 @@ pub mod Heads
 pub mod Owning
 pub mod Wholes
 pub mod Last
+pub mod Running

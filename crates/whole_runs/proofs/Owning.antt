@@ -9,8 +9,8 @@ use Rattle.image_recovery.specs.Recoveries.{AreReplays}
 use Rattle.journal_replays.specs.Items.{item_of, items_of}
 use Rattle.journal_replays.specs.Replays.{IsReplay, IsReplayWith}
 use Rattle.log_layout.specs.declared.log_header.LogHeader.{LogHeader}
-use Rattle.logged_steps.specs.Disks.{disk_after, first_told, told_count}
-use Rattle.logged_steps.proofs.Telling.{take_all, take_front}
+use Rattle.logged_runs.specs.Disks.{disk_after, first_told, told_count}
+use Rattle.logged_runs.proofs.Telling.{take_all, take_front}
 use Rattle.peer_replay.specs.declared.planned.Plan.{Plan}
 use Rattle.run_rules.specs.Lives.{or_else, recovered_behind}
 use Rattle.shared_disk.specs.Disk.{Barrier, Fence, IsIdle, Operation, Write}

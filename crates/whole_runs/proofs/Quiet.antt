@@ -18,8 +18,8 @@ use Rattle.logged_runs.proofs.KeptRight.{kept_right}
 use Rattle.logged_runs.proofs.Losing.{IsItsEnd, IsItsStop, fenced_too, its_part, last_still, lost_remains, lost_upto, number_by, remains_are, same_history, stopped, stops, upto_parts}
 use Rattle.logged_runs.proofs.Starting.{no_calls}
 use Rattle.logged_runs.proofs.Staying.{AllStay, no_end, stay_replays}
-use Rattle.logged_steps.proofs.Histories.{history_on}
-use Rattle.logged_steps.proofs.Telling.{append_nil, take_all}
+use Rattle.logged_runs.proofs.Histories.{history_on}
+use Rattle.logged_runs.proofs.Telling.{append_nil, take_all}
 use Rattle.right_losses.proofs.Numbers.{no_call, none_there}
 use Rattle.run_rules.specs.Follows.{history_of}
 use Rattle.run_rules.specs.Lives.{AcceptedHead, DiskHeads, TraceKeptRight, head_of, items_of, last_number, named, or_else, recovered_behind, remains, to_its_end, unnamed, upto_of}

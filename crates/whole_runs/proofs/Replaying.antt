@@ -17,8 +17,8 @@ use Rattle.journal_replays.specs.Headers.{clean_block}
 use Rattle.journal_replays.specs.Items.{items_of}
 use Rattle.journal_replays.specs.Replays.{IsReplay, IsReplayWith, StopsBringing, StopsReplay, StopsReplayBy, at_header, at_home}
 use Rattle.log_layout.specs.declared.log_header.LogHeader.{LogHeader}
-use Rattle.logged_steps.specs.Disks.{disk_after}
-use Rattle.logged_steps.proofs.Telling.{append_nil, take_all, take_front}
+use Rattle.logged_runs.specs.Disks.{disk_after}
+use Rattle.logged_runs.proofs.Telling.{append_nil, take_all, take_front}
 use Rattle.peer_replay.specs.declared.planned.Plan.{Plan}
 use Rattle.shared_disk.specs.Disk.{Barrier, DiskState, Fence, Gains, IsIdle, Operation, Write}
 use Rattle.trace_text.specs.declared.item.TraceItem.{TraceItem}
@@ -193,20 +193,24 @@ module _ (first : DiskState) (idle : IsIdle first) (home : List Written) (rise :
   fails_there n low = elim (cases_lt n (length homes)) [
     | inl less ↦
         let s = fails_in first home homes n idle rise at_homes less in
-        let same : take n (homes ++ heads) ≡ take n homes = take_front n homes heads (omega (arith, less)) in
-        (s.0, items_of s.1.brought.operations ++ items_of (writes_of 1 s.1.stopped.wrote),
-        subst (λ os. StopsReplay 1 (moment first None) (moment (disk_after first os) None) home header s.0 (items_of s.1.brought.operations ++ items_of (writes_of 1 s.1.stopped.wrote))) (sym same)
-        (at_home (record { stopped = s.1; told = refl })))
+        let same : take n (homes ++ heads) ≡ take n homes = take_front n homes heads (omega (arith, less)) in (
+          s.0,
+          items_of s.1.brought.operations ++ items_of (writes_of 1 s.1.stopped.wrote),
+          subst (λ os. StopsReplay 1 (moment first None) (moment (disk_after first os) None) home header s.0 (items_of s.1.brought.operations ++ items_of (writes_of 1 s.1.stopped.wrote))) (sym same)
+              (at_home (record { stopped = s.1; told = refl })),
+        )
     | inr not ↦
         let past : length homes ≤ n = omega (arith, not) in
         let all = length-append homes heads in
         let s = fails_in (disk_after first homes) (header ∷ []) heads (n - length homes) between_idle (omega arith, tt) at_heads (omega (arith, low, past, all)) in
         let same : disk_after first (take n (homes ++ heads)) ≡ disk_after (disk_after first homes) (take (n - length homes) heads)
         = ap (disk_after first) (take_behind n homes heads past) ∙ after_on first homes (take (n - length homes) heads) in
-        let more = items_of s.1.brought.operations ++ items_of (writes_of 1 s.1.stopped.wrote) in
-        (s.0, items_of homes ++ more,
-        subst (λ x. StopsReplay 1 (moment first None) (moment x None) home header s.0 (items_of homes ++ more)) (sym same)
-        (at_header (moment (disk_after first homes) None) (brings first (disk_after first homes) home homes refl idle rise at_homes) more (record { stopped = s.1; told = refl }) refl))
+        let more = items_of s.1.brought.operations ++ items_of (writes_of 1 s.1.stopped.wrote) in (
+          s.0,
+          items_of homes ++ more,
+          subst (λ x. StopsReplay 1 (moment first None) (moment x None) home header s.0 (items_of homes ++ more)) (sym same)
+              (at_header (moment (disk_after first homes) None) (brings first (disk_after first homes) home homes refl idle rise at_homes) more (record { stopped = s.1; told = refl }) refl),
+        )
   ]
 
   -- it is through

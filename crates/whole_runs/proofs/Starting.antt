@@ -23,8 +23,8 @@ use Rattle.log_layout.specs.declared.log_header.LogHeader.{LogHeader}
 use Rattle.logged_runs.specs.Laws.{IsStop, MayLeave, StandsLost, to_fence}
 use Rattle.logged_runs.specs.Standing.{StandsAsTold}
 use Rattle.logged_runs.specs.Starts.{IsOfReplay}
-use Rattle.logged_steps.specs.Disks.{disk_after, first_told, told_count, with_operation}
-use Rattle.logged_steps.proofs.Telling.{append_nil, left_same, take_front}
+use Rattle.logged_runs.specs.Disks.{disk_after, first_told, told_count, with_operation}
+use Rattle.logged_runs.proofs.Telling.{append_nil, left_same, take_front}
 use Rattle.peer_replay.specs.declared.planned.Plan.{Plan}
 use Rattle.run_rules.specs.Lives.{DiskHeads}
 use Rattle.script_lang.specs.declared.script.Client.{Client}
@@ -39,7 +39,7 @@ use Rattle.whole_runs.proofs.Replaying.HasOps.{no_more, passes, replays}
 
 -- ---- disks
 
-tells_on : (d : DiskState) (operations : List Operation) → (disk_after d operations).tells ≡ d.tells
+pub tells_on : (d : DiskState) (operations : List Operation) → (disk_after d operations).tells ≡ d.tells
 tells_on d [] = refl
 tells_on d (o ∷ os) = tells_on (with_operation d o) os ∙ same o
   where
@@ -155,7 +155,7 @@ module _ (failing : FailedReplaysStand) (stopping : StoppedReplaysStand) (disk :
 -- ---- of the operations that were made
 
 -- of a list that is told it gained these
-gained : (before after : Option (List Operation)) (was operations its : List Operation) → before ≡ Some was → after ≡ Some (was ++ operations) → Gains before after its → operations ≡ its
+pub gained : (before after : Option (List Operation)) (was operations its : List Operation) → before ≡ Some was → after ≡ Some (was ++ operations) → Gains before after its → operations ≡ its
 gained before after was operations its first last gains =
     left_same was operations its (subst (λ o. Gains (Some was) o its) last (subst (λ o. Gains o after its) first gains))
 

@@ -12,8 +12,8 @@ use Rattle.disk_turns.specs.Turns.{Moment, moment}
 use Rattle.image_mount.specs.Mounted.{Journal}
 use Rattle.image_recovery.specs.Recoveries.{AreReplays}
 use Rattle.journal_replays.specs.Replays.{IsReplayWith}
-use Rattle.logged_steps.specs.Disks.{disk_after, first_told, told_count}
-use Rattle.logged_steps.proofs.Telling.{append_nil, take_all, take_front}
+use Rattle.logged_runs.specs.Disks.{disk_after, first_told, told_count}
+use Rattle.logged_runs.proofs.Telling.{append_nil, take_all, take_front}
 use Rattle.peer_replay.specs.declared.planned.Plan.{Plan}
 use Rattle.shared_disk.specs.Disk.{DiskState, Gains, Operation, Write, Barrier, Fence}
 use Rattle.trace_text.specs.declared.item.TraceItem.{TraceItem}
@@ -79,4 +79,3 @@ module _ (start : DiskState) (c : Course) where
           take_behind n ops (later ++ others) (omega (arith, is))
           ∙ ap (λ m. ops ++ take m (later ++ others)) (let same : n - length ops ≡ told_count rest = omega (arith, is) in same)
           ∙ ap (λ os. ops ++ os) (take_front (told_count rest) later others few)
-

@@ -13,7 +13,7 @@ use Rattle.journal_outcomes.specs.Disks.{flown_by}
 use Rattle.journal_outcomes.specs.Images.{NoFalseHeader}
 use Rattle.logged_runs.specs.Laws.{IsStop, MayLeave, StandsLost, to_fence}
 use Rattle.logged_runs.specs.Standing.{StandsAsTold}
-use Rattle.logged_steps.specs.Disks.{disk_after, first_told}
+use Rattle.logged_runs.specs.Disks.{disk_after, first_told}
 use Rattle.peer_replay.specs.declared.planned.Plan.{Plan}
 use Rattle.run_rules.specs.Lives.{DiskHeads}
 use Rattle.script_lang.specs.declared.script.Client.{Client}

@@ -1,5 +1,5 @@
 -- A whole run of one node, by its items and by the operations that were made on its disk.
-use Rattle.std.specs.Prelude.{ℕ, ◌≡◌, ◌⊎◌, ◌+◌, ◌-◌, ◌≤◌, nat_le, if◌then◌else◌, false, List, [], ◌∷◌, ◌++◌, length, take, Option, None, Some}
+use Rattle.std.specs.Prelude.{ℕ, ◌≡◌, ◌⊎◌, ◌-◌, ◌≤◌, nat_le, if◌then◌else◌, false, List, [], ◌∷◌, ◌++◌, length, take, Option, None, Some}
 use Rattle.disk_items.specs.Deeds.{AreDoneBy}
 use Rattle.disk_turns.specs.Turns.{Moment, moment}
 use Rattle.file_tree.specs.Tree.{Tree}
@@ -17,11 +17,11 @@ use Rattle.log_values.specs.Log.{Journal}
 use Rattle.logged_runs.specs.Ends.{EndsTo, Landed, Said, Unsaid, last_block}
 use Rattle.logged_runs.specs.Laws.{IsStop, MayLeave, StandsFenced}
 use Rattle.logged_runs.specs.Standing.{StandsAsTold}
-use Rattle.logged_steps.specs.Disks.{disk_after, first_told}
-use Rattle.logged_steps.specs.Fails.{FailsTo}
-use Rattle.logged_steps.specs.Points.{Point}
-use Rattle.logged_steps.specs.Starts.{IsAtRest, starting}
-use Rattle.logged_steps.specs.Steps.{Steps}
+use Rattle.logged_runs.specs.Disks.{disk_after, first_told}
+use Rattle.logged_runs.specs.Fails.{FailsTo}
+use Rattle.logged_runs.specs.Points.{Point}
+use Rattle.logged_runs.specs.StepStarts.{IsAtRest, starting}
+use Rattle.logged_runs.specs.Steps.{Steps}
 use Rattle.lone_view.specs.Seeing.{Lone}
 use Rattle.peer_replay.specs.declared.planned.Plan.{Plan}
 use Rattle.run_rules.specs.Lives.{AcceptedHead, DiskHeads}

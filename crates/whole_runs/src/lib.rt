@@ -2,9 +2,15 @@
 #![tactic(auto)]
 
 ghost use Rattle.whole_runs.specs.Starts.{FailedFrontsStand, FailedReplaysAreTold, NothingStands, ReplayFrontsStand};
+ghost use Rattle.whole_runs.specs.Wholes.{WholeRunsStand};
 
 use cut_replays::{failed_replays_stand, stopped_replays_stand};
 use journal_outcomes::fences_leave_outcomes;
+use log_layout::headers_read_back;
+use logged_runs::{
+    a_run_begins, ends_are_told, its_heads_are_there, steps_are_told, stops_are_told,
+    what_remains_is_told,
+};
 
 /// A law: behind each front of a run's start, before it and within its replays, whatever becomes of what is in flight stands as the items tell, also behind a stop, a fence and the loss with it.
 pub fn fronts_of_starts_stand()
@@ -16,4 +22,21 @@ pub fn fronts_of_starts_stand()
     failed_replays_stand();
     stopped_replays_stand();
     fences_leave_outcomes();
+}
+
+/// A law: so it is throughout a run, behind each front of its items, on the disk that it left, behind a stop, a fence and a right loss, by the heads of the disks that its operations made; and its items
+/// tell what was done, but for one write at most.
+pub fn whole_runs_stand()
+    ensures { WholeRunsStand }
+{
+    headers_read_back();
+    failed_replays_stand();
+    stopped_replays_stand();
+    fences_leave_outcomes();
+    steps_are_told();
+    a_run_begins();
+    what_remains_is_told();
+    ends_are_told();
+    stops_are_told();
+    its_heads_are_there();
 }
