@@ -1,8 +1,5 @@
 -- A mounted image whose journals are clean is at rest.
-use Rattle.std.proofs.Common.{◌≡◌, ℕ, ◌≤◌, List, length, None, Some, refl, sym, subst, ◌∙◌, arith}
-use Rattle.std.specs.FinMap as table
-use Rattle.std.specs.Ordering.{nat_cmp}
-use Rattle.std.specs.FinMap.{get-empty}
+use Rattle.std.proofs.Common.{◌≡◌, ℕ, ◌≤◌, length, refl, sym, subst, ◌∙◌, arith}
 use Rattle.file_tree.specs.Tree.{Tree}
 use Rattle.image_machine.specs.Volumes.{volume_of}
 use Rattle.image_model.specs.Image.{Image, image_of}
@@ -21,12 +18,8 @@ use Rattle.lone_view.specs.Seeing.{seen_alone}
 use Rattle.image_machine.specs.Cells.{IsOfVolume}
 use Rattle.logged_runs.specs.Mounted.{IsMountedClean, MountedIsAtRest}
 use Rattle.mounted_views.specs.Views.{journal_of, view_of}
-use Rattle.mounted_views.proofs.Journals.{its, its_place, its_ring}
+use Rattle.mounted_views.proofs.Journals.{its, its_place, its_ring, nothing_kept}
 use Rattle.shared_disk.specs.Disk.{DiskState}
-
--- of no block is anything kept
-nothing_kept : (b : ℕ) (bytes : List ℕ) → table.get (table.empty {K = ℕ} {X = List ℕ} {R = nat_cmp}) b ≡ Some bytes → ⊥
-nothing_kept b bytes has = let never : None ≡ Some bytes = sym (get-empty {K = ℕ} {X = List ℕ} nat_cmp b) ∙ has in cc
 
 module _ (disk : DiskState) (m : MountedValue) (own : MountedJournal) (o : Owners) (l : Layout) (t : Tree) (is : IsMountedClean disk m own o l t) where
   abbrev im : Image

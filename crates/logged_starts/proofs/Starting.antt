@@ -1,23 +1,18 @@
 -- A node may begin on a mounted image.
-use Rattle.std.proofs.Common.{◌≡◌, ℕ, ◌≤◌, List, None, Some, refl, sym, subst, ◌∙◌, arith, length}
-use Rattle.std.specs.FinMap.{empty, get, get-empty}
-use Rattle.std.specs.Ordering.{nat_cmp}
+use Rattle.std.proofs.Common.{◌≤◌, refl, sym, subst, arith, length}
 use Rattle.std.proofs.lemmas.List.{length-map}
-use Rattle.glock_names.specs.Views.{group_of_entry}
+use Rattle.std.specs.List.{AllByRecursion}
+use Rattle.glock_names.specs.Views.{end_of, group_of_entry}
 use Rattle.image_mount.specs.Mounted.{GroupsAreAsSeen}
 use Rattle.image_model.specs.Image.{image_of}
 use Rattle.logged_starts.specs.Laws.{MountedMayBegin}
+use Rattle.mounted_views.proofs.Journals.{nothing_kept}
 use Rattle.mounted_views.specs.Laws.{MountedJournalsArePlaced}
 
--- of no block is anything kept
-nothing_kept : (b : ℕ) (bytes : List ℕ) → get (empty {K = ℕ} {X = List ℕ} {R = nat_cmp}) b ≡ Some bytes → ⊥
-nothing_kept b bytes has = let never : None ≡ Some bytes = sym (get-empty {K = ℕ} {X = List ℕ} nat_cmp b) ∙ has in cc
-
 pub mounted_may_begin : GroupsAreAsSeen → MountedJournalsArePlaced → MountedMayBegin
-mounted_may_begin groups placed disk m own frames time idle is first low =
+mounted_may_begin groups placed disk now m own frames time idle is first low size count idle_now =
     let its = placed disk m own frames time idle is first in
     let few = its.1 in
-    let some : 1 ≤ length m.groups = many in
     record {
       view_size = refl;
       size = refl;
@@ -27,13 +22,13 @@ mounted_may_begin groups placed disk m own frames time idle is first low =
         jinode = let b = its.0.dinode in omega (arith, b, few);
         time = low;
       };
-      places = its.0.inside;
+      places = λ p inside. let b = its.0.inside p inside in omega (arith, b, count);
       apart = its.0.apart;
-      some = some;
-      groups = (groups (image_of disk) m is).1;
+      some = many;
+      groups = subst (λ n. AllByRecursion (λ g. end_of g ≤ n) m.groups) (sym count) (groups (image_of disk) m is).1;
       kept = λ b bytes has. absurd (nothing_kept b bytes has);
-      unfenced = idle.none_fenced 1;
-      none = idle.none_in_flight 1;
+      unfenced = idle_now.none_fenced 1;
+      none = idle_now.none_in_flight 1;
     }
   where
     many : 1 ≤ length m.groups

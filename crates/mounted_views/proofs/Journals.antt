@@ -1,5 +1,7 @@
 -- The first journal of a mounted image.
-use Rattle.std.proofs.Common.{◌≡◌, ℕ, ◌<◌, length, get_or, Some, refl, sym, subst, ◌∙◌, arith}
+use Rattle.std.proofs.Common.{◌≡◌, ℕ, ◌<◌, List, length, get_or, None, Some, refl, sym, subst, ◌∙◌, arith}
+use Rattle.std.specs.FinMap.{empty, get, get-empty}
+use Rattle.std.specs.Ordering.{nat_cmp}
 use Rattle.std.specs.Prelude.{slice_get}
 use Rattle.std.proofs.lemmas.Option.{slice_get_within}
 use Rattle.gfs2_layout.specs.Inode.{content_block}
@@ -14,6 +16,10 @@ use Rattle.log_layout.specs.Journal.{ring_of}
 use Rattle.log_layout.specs.Laws.{HasSamePlaces}
 use Rattle.shared_disk.specs.Disk.{DiskState, IsIdle}
 use Rattle.mounted_views.specs.Laws.{MountedJournalsArePlaced}
+
+-- of no block is anything kept
+pub nothing_kept : (b : ℕ) (bytes : List ℕ) → get (empty {K = ℕ} {X = List ℕ} {R = nat_cmp}) b ≡ Some bytes → ⊥
+nothing_kept b bytes has = let never : None ≡ Some bytes = sym (get-empty {K = ℕ} {X = List ℕ} nat_cmp b) ∙ has in cc
 
 module _ (disk : DiskState) (m : MountedValue) (own : Journal) (idle : IsIdle disk) (is : IsMounted (image_of disk) m) (first : slice_get m.journals 0 ≡ Some own) where
   abbrev im : Image

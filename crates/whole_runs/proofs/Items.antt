@@ -1,17 +1,17 @@
 -- The items of replays: each is one of a replay, and how many operations fronts of them tell.
 use Rattle.std.proofs.Common.{◌≡◌, ℕ, zero, suc, ◌+◌, ◌≤◌, List, [], ◌∷◌, ◌++◌, length, take, drop, Option, None, Some, refl, sym, ap, subst, ◌∙◌, arith}
-use Rattle.std.specs.Prelude.{MatchOption, get_or}
+use Rattle.std.specs.Prelude.{get_or}
 use Rattle.std.specs.List.{AllByRecursion, filter_map}
-use Rattle.std.proofs.lemmas.List.{append_assoc, length-append, length-map, take-append-drop}
+use Rattle.std.proofs.lemmas.List.{length-append, length-map, take-append-drop}
 use Rattle.std.proofs.lemmas.List.Elements.{filter_map-append}
-use Rattle.disk_items.specs.Deeds.{AreDoneBy, Deed, deed_of, deed_told}
+use Rattle.disk_items.specs.Deeds.{AreDoneBy, deed_of, deed_told}
 use Rattle.disk_turns.specs.Turns.{AreBrought, Moment, none, turn, turn_of, writes_of}
 use Rattle.drafts.specs.declared.change.Written.{Written}
 use Rattle.image_mount.specs.Mounted.{Journal}
 use Rattle.image_recovery.specs.Recoveries.{AreReplays}
 use Rattle.journal_replays.specs.Headers.{clean_block}
 use Rattle.journal_replays.specs.Items.{items_of}
-use Rattle.journal_replays.specs.Replays.{IsReplayWith, StopsBringing, StopsReplay, StopsReplayBy, at_header, at_home}
+use Rattle.journal_replays.specs.Replays.{IsReplayWith, StopsBringing, StopsReplay, at_header, at_home}
 use Rattle.log_layout.specs.declared.log_header.LogHeader.{LogHeader}
 use Rattle.logged_runs.specs.Starts.{IsOfReplay}
 use Rattle.logged_runs.specs.Disks.{told_count}

@@ -1,5 +1,5 @@
 -- How a run's last step, or its end, shows in its items and operations.
-use Rattle.std.proofs.Common.{◌≡◌, ◌⊎◌, ℕ, suc, ◌+◌, ◌<◌, ◌≤◌, List, [], ◌∷◌, ◌++◌, length, Option, None, Some, refl, sym, ap, subst, ◌∙◌, inl, inr, arith}
+use Rattle.std.proofs.Common.{◌≡◌, ℕ, ◌+◌, ◌<◌, ◌≤◌, List, [], ◌∷◌, ◌++◌, length, Option, None, Some, refl, sym, ap, subst, ◌∙◌, inl, inr, arith}
 use Rattle.std.specs.Prelude.{map}
 use Rattle.std.proofs.lemmas.Bool.{cases_lt}
 use Rattle.std.proofs.lemmas.List.{length-append}
@@ -11,7 +11,7 @@ use Rattle.logged_runs.specs.Disks.{disk_after, first_told, told_count}
 use Rattle.logged_runs.specs.Fails.{AsItWas, FailsTo, InAWrite}
 use Rattle.logged_runs.specs.StepLaws.{StepsAreTold, TellsWhatItDoes}
 use Rattle.logged_runs.specs.Points.{Point}
-use Rattle.logged_runs.specs.Steps.{Here, Step, Steps, Then, with_write}
+use Rattle.logged_runs.specs.Steps.{Here, Then, with_write}
 use Rattle.logged_runs.proofs.Telling.{append_nil, left_same}
 use Rattle.shared_disk.specs.Disk.{Barrier, Fence, Gains, Operation, Write}
 use Rattle.trace_text.specs.declared.item.TraceItem.{TraceItem}

@@ -8,3 +8,4 @@ pub mod Owning
 pub mod Wholes
 pub mod Last
 pub mod Running
+pub mod Resting

@@ -1,8 +1,8 @@
 -- Items of a start, which have no call: what they tell stands where the image does.
-use Rattle.std.proofs.Common.{◌≡◌, ℕ, zero, suc, ◌+◌, ◌<◌, ◌≤◌, Bool, true, false, List, [], ◌∷◌, ◌++◌, length, take, Option, None, Some, refl, sym, ap, subst, ◌∙◌, arith}
-use Rattle.std.specs.Prelude.{if◌then◌else◌, nat_lt, slice_get, ⊤}
+use Rattle.std.proofs.Common.{◌≡◌, ℕ, zero, suc, Bool, true, false, List, [], ◌∷◌, ◌++◌, None, Some, refl, sym, ap, subst, ◌∙◌, arith}
+use Rattle.std.specs.Prelude.{if◌then◌else◌, nat_lt, slice_get}
 use Rattle.std.specs.List.{AllByRecursion}
-use Rattle.cluster_history.specs.History.{AllAnswer, KeepsSynced, Legal, alive, calls_of, tree_of}
+use Rattle.cluster_history.specs.History.{AllAnswer, KeepsSynced, Legal, alive, tree_of}
 use Rattle.cluster_history.specs.Losses.{LossIsRight}
 use Rattle.cluster_history.specs.declared.Item.{Item}
 use Rattle.cluster_history.specs.declared.Item.TheVariants as item
@@ -11,13 +11,13 @@ use Rattle.file_tree.specs.declared.call.Call.{Call}
 use Rattle.file_tree.specs.declared.reply.Reply.{Reply}
 use Rattle.image_model.specs.Image.{Image}
 use Rattle.image_model.specs.Replays.{StandsReplayed}
-use Rattle.logged_runs.specs.Laws.{IsStop, StandsLost, to_fence, to_loss}
-use Rattle.logged_runs.specs.Standing.{StandsAsTold, SyncsStand}
+use Rattle.logged_runs.specs.Laws.{IsStop, StandsLost}
+use Rattle.logged_runs.specs.Standing.{StandsAsTold}
 use Rattle.logged_runs.specs.Starts.{IsOfReplay, only_life}
 use Rattle.logged_runs.proofs.KeptRight.{kept_right}
 use Rattle.logged_runs.proofs.Losing.{IsItsEnd, IsItsStop, fenced_too, its_part, last_still, lost_remains, lost_upto, number_by, remains_are, same_history, stopped, stops, upto_parts}
 use Rattle.logged_runs.proofs.Starting.{no_calls}
-use Rattle.logged_runs.proofs.Staying.{AllStay, no_end, stay_replays}
+use Rattle.logged_runs.proofs.Staying.{AllStay, stay_replays}
 use Rattle.logged_runs.proofs.Histories.{history_on}
 use Rattle.logged_runs.proofs.Telling.{append_nil, take_all}
 use Rattle.right_losses.proofs.Numbers.{no_call, none_there}

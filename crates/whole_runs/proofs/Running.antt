@@ -1,6 +1,6 @@
 -- A whole run stands throughout.
-use Rattle.std.proofs.Common.{◌≡◌, ◌⊎◌, ℕ, zero, suc, ◌+◌, ◌-◌, ◌<◌, ◌≤◌, List, [], ◌∷◌, ◌++◌, length, take, drop, Option, None, Some, refl, sym, ap, subst, ◌∙◌, inl, inr, arith}
-use Rattle.std.specs.Prelude.{IsTrue, slice_get}
+use Rattle.std.proofs.Common.{◌≡◌, ◌⊎◌, ℕ, zero, suc, ◌+◌, ◌-◌, ◌<◌, ◌≤◌, List, [], ◌∷◌, ◌++◌, length, take, drop, Some, refl, sym, ap, subst, ◌∙◌, inl, inr, arith}
+use Rattle.std.specs.Prelude.{IsTrue}
 use Rattle.std.specs.List.{AllByRecursion}
 use Rattle.std.proofs.lemmas.Bool.{cases_lt}
 use Rattle.std.proofs.lemmas.List.{append_assoc, length-append, length-take-le}
@@ -47,8 +47,8 @@ use Rattle.script_lang.specs.declared.script.Client.{Client}
 use Rattle.shared_disk.specs.Disk.{DiskState, Fence, Flight, Gains, IsOutcome, Operation, after_fence, flight_to}
 use Rattle.trace_text.specs.declared.item.TraceItem.{TraceItem}
 use Rattle.trace_text.specs.declared.item.TraceItem.TheVariants as trace
-use Rattle.whole_runs.specs.Starts.{IsStart, its_volume, joined}
-use Rattle.whole_runs.specs.Wholes.{Course, HasCourse, HasRunWhole, IsRun, StandsThroughout, WholeRunsStand, accepted_as, disk_behind, ends_with, head_at, heads_of, stopped_course}
+use Rattle.whole_runs.specs.Starts.{its_volume, joined}
+use Rattle.whole_runs.specs.Wholes.{Course, HasCourse, HasRunWhole, IsRun, WholeRunsStand, accepted_as, disk_behind, ends_with, head_at, heads_of, stopped_course}
 use Rattle.whole_runs.proofs.Bringing.{after_on}
 use Rattle.whole_runs.proofs.Heads.{finds, same_head}
 use Rattle.whole_runs.proofs.Items.{counted, fewer, of_replays}

@@ -1,11 +1,11 @@
 -- What stands within the start of a run.
-use Rattle.std.proofs.Common.{◌≡◌, ◌⊎◌, ℕ, zero, suc, ◌+◌, ◌<◌, ◌≤◌, List, [], ◌∷◌, ◌++◌, length, take, drop, get_or, Option, None, Some, refl, sym, ap, subst, ◌∙◌, inl, inr, arith}
+use Rattle.std.proofs.Common.{◌≡◌, ℕ, zero, suc, ◌+◌, ◌≤◌, List, [], ◌∷◌, ◌++◌, length, take, drop, get_or, Option, None, Some, refl, sym, ap, subst, ◌∙◌, inl, inr, arith}
 use Rattle.std.specs.Prelude.{IsTrue, MatchOption, slice_get}
 use Rattle.std.specs.List.{AllByRecursion}
 use Rattle.std.proofs.lemmas.List.{append_assoc, length-append, take-append-drop}
 use Rattle.cut_replays.specs.Failed.{FailedReplaysStand, StandsInEachOutcome}
 use Rattle.cut_replays.specs.Stopped.{StoppedReplaysStand}
-use Rattle.disk_items.specs.Deeds.{AreDoneBy, AreTold, AreToldButOne, each}
+use Rattle.disk_items.specs.Deeds.{each}
 use Rattle.disk_items.proofs.Going.{goes_on}
 use Rattle.disk_turns.specs.Turns.{AreBrought, Moment, moment}
 use Rattle.disk_turns.proofs.Gaining.{gains_join}
@@ -14,28 +14,27 @@ use Rattle.image_machine.specs.Volumes.{Volume, volume_of}
 use Rattle.image_model.specs.Image.{Image, image_of}
 use Rattle.image_model.specs.Replays.{StandsReplayed}
 use Rattle.image_mount.specs.Mounted.{Journal, MountedValue}
-use Rattle.image_recovery.specs.Recoveries.{AreReplays, CanReplayAll, HaveFailed, HaveReplayed, HaveReplayedSome}
+use Rattle.image_recovery.specs.Recoveries.{CanReplayAll, HaveFailed, HaveReplayedSome}
 use Rattle.journal_outcomes.specs.Disks.{FencesLeaveOutcomes, flown_by}
-use Rattle.journal_outcomes.specs.Images.{IsImageOutcome, NoFalseHeader}
+use Rattle.journal_outcomes.specs.Images.{IsImageOutcome}
 use Rattle.journal_replays.specs.Headers.{clean_block}
 use Rattle.journal_replays.specs.Replays.{StopsReplay, StopsReplayBy}
 use Rattle.log_layout.specs.declared.log_header.LogHeader.{LogHeader}
-use Rattle.logged_runs.specs.Laws.{IsStop, MayLeave, StandsLost, to_fence}
-use Rattle.logged_runs.specs.Standing.{StandsAsTold}
+use Rattle.logged_runs.specs.Laws.{MayLeave}
 use Rattle.logged_runs.specs.Starts.{IsOfReplay}
 use Rattle.logged_runs.specs.Disks.{disk_after, first_told, told_count, with_operation}
-use Rattle.logged_runs.proofs.Telling.{append_nil, left_same, take_front}
+use Rattle.logged_runs.proofs.Telling.{left_same, take_front}
 use Rattle.peer_replay.specs.declared.planned.Plan.{Plan}
 use Rattle.run_rules.specs.Lives.{DiskHeads}
 use Rattle.script_lang.specs.declared.script.Client.{Client}
-use Rattle.shared_disk.specs.Disk.{DiskState, Flight, Gains, IsIdle, IsOutcome, Operation, Write, Barrier, Fence, after_fence, flight_to}
+use Rattle.shared_disk.specs.Disk.{DiskState, Flight, Gains, Operation, Write, Barrier, Fence, after_fence, flight_to}
 use Rattle.trace_text.specs.declared.item.TraceItem.{TraceItem}
 use Rattle.trace_text.specs.declared.item.TraceItem.TheVariants as trace
 use Rattle.whole_runs.specs.Starts.{FailedFrontsStand, FailedReplaysAreTold, IsStart, NothingStands, ReplayFrontsStand, StartStands, its_volume, joined}
 use Rattle.whole_runs.proofs.Items.{all_join, all_taken, counted, fewer, of_replays, of_stopped}
 use Rattle.whole_runs.proofs.Quiet.{fenced_so, lost_so, nothing_stands, stopped_so, told_so}
-use Rattle.whole_runs.proofs.Replaying.{AllRise, FailsIn, HasOps, IsFrontOf, OpsOf, PassesSome, StoppedOps, can_have, fronts, head_of, join_ops, ops_of, replay_stopped, same_size}
-use Rattle.whole_runs.proofs.Replaying.HasOps.{no_more, passes, replays}
+use Rattle.whole_runs.proofs.Replaying.{AllRise, FailsIn, HasOps, IsFrontOf, OpsOf, StoppedOps, can_have, fronts, head_of, join_ops, ops_of, replay_stopped, same_size}
+use Rattle.whole_runs.proofs.Replaying.HasOps.{replays}
 
 -- ---- disks
 

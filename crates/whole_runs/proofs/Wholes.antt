@@ -1,26 +1,18 @@
 -- A whole run, front by front.
-use Rattle.std.proofs.Common.{◌≡◌, ◌⊎◌, ℕ, zero, suc, ◌+◌, ◌-◌, ◌<◌, ◌≤◌, List, [], ◌∷◌, ◌++◌, length, take, drop, Option, None, Some, refl, sym, ap, subst, ◌∙◌, inl, inr, arith}
-use Rattle.std.specs.Prelude.{Bool, true, false, IsTrue, nat_le, if◌then◌else◌}
-use Rattle.std.specs.List.{AllByRecursion, filter_map}
+use Rattle.std.proofs.Common.{◌≡◌, ℕ, ◌+◌, ◌-◌, ◌<◌, ◌≤◌, List, ◌++◌, length, take, Option, None, Some, refl, ap, ◌∙◌, arith}
+use Rattle.std.specs.Prelude.{true, false, nat_le}
+use Rattle.std.specs.List.{filter_map}
 use Rattle.std.proofs.lemmas.Bool.{cond-true, cond-false}
 use Rattle.std.proofs.lemmas.Bool.Decides.{nat_tests}
-use Rattle.std.proofs.lemmas.List.{append_assoc, length-append, take-append-drop}
+use Rattle.std.proofs.lemmas.List.{length-append}
 use Rattle.std.proofs.lemmas.List.Elements.{filter_map-append}
-use Rattle.disk_items.specs.Deeds.{AreDoneBy, Deed, Wrote, deed_of, deed_told}
-use Rattle.disk_items.proofs.Going.{goes_on}
-use Rattle.disk_turns.specs.Turns.{Moment, moment}
-use Rattle.image_mount.specs.Mounted.{Journal}
-use Rattle.image_recovery.specs.Recoveries.{AreReplays}
-use Rattle.journal_replays.specs.Replays.{IsReplayWith}
+use Rattle.disk_items.specs.Deeds.{deed_told}
 use Rattle.logged_runs.specs.Disks.{disk_after, first_told, told_count}
-use Rattle.logged_runs.proofs.Telling.{append_nil, take_all, take_front}
-use Rattle.peer_replay.specs.declared.planned.Plan.{Plan}
-use Rattle.shared_disk.specs.Disk.{DiskState, Gains, Operation, Write, Barrier, Fence}
+use Rattle.logged_runs.proofs.Telling.{take_all, take_front}
+use Rattle.shared_disk.specs.Disk.{DiskState, Gains, Operation}
 use Rattle.trace_text.specs.declared.item.TraceItem.{TraceItem}
-use Rattle.trace_text.specs.declared.item.TraceItem.TheVariants as trace
-use Rattle.whole_runs.specs.Wholes.{Course, IsOneWrite, disk_behind, no_write, one_write}
+use Rattle.whole_runs.specs.Wholes.{Course, disk_behind}
 use Rattle.whole_runs.proofs.Bringing.{after_on, take_behind}
-use Rattle.whole_runs.proofs.Items.{counted, fewer}
 
 -- ---- lists that are told
 

@@ -2,9 +2,12 @@
 #![tactic(auto)]
 
 ghost use Rattle.whole_runs.specs.Starts.{FailedFrontsStand, FailedReplaysAreTold, NothingStands, ReplayFrontsStand};
+ghost use Rattle.whole_runs.specs.Resting.{ReplayedIsAtRest};
 ghost use Rattle.whole_runs.specs.Wholes.{WholeRunsStand};
 
 use cut_replays::{failed_replays_stand, stopped_replays_stand};
+use image_mount::mounted_groups_are_as_seen;
+use image_recovery::{a_replay_leaves_its_image, what_a_replay_leaves_stands};
 use journal_outcomes::fences_leave_outcomes;
 use log_layout::headers_read_back;
 use logged_runs::{
@@ -22,6 +25,15 @@ pub fn fronts_of_starts_stand()
     failed_replays_stand();
     stopped_replays_stand();
     fences_leave_outcomes();
+}
+
+/// A law: once all journals of a mounted image were replayed its disk is at rest, for a node that has what was mounted, the first journal, and of no block yet.
+pub fn replays_leave_a_disk_at_rest()
+    ensures { ReplayedIsAtRest }
+{
+    a_replay_leaves_its_image();
+    what_a_replay_leaves_stands();
+    mounted_groups_are_as_seen();
 }
 
 /// A law: so it is throughout a run, behind each front of its items, on the disk that it left, behind a stop, a fence and a right loss, by the heads of the disks that its operations made; and its items
