@@ -9,3 +9,4 @@ pub mod Wholes
 pub mod Last
 pub mod Running
 pub mod Resting
+pub mod Telling

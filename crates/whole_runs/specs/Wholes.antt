@@ -1,6 +1,6 @@
 -- A whole run of one node, by its items and by the operations that were made on its disk.
 use Rattle.std.specs.Prelude.{ℕ, ◌≡◌, ◌⊎◌, ◌-◌, ◌≤◌, nat_le, if◌then◌else◌, false, List, [], ◌∷◌, ◌++◌, length, take, Option, None, Some}
-use Rattle.disk_items.specs.Deeds.{AreDoneBy}
+use Rattle.disk_items.specs.Deeds.{AreDoneBy, AreToldButOne}
 use Rattle.disk_turns.specs.Turns.{Moment, moment}
 use Rattle.file_tree.specs.Tree.{Tree}
 use Rattle.image_machine.specs.Volumes.{Volume, volume_of}
@@ -85,6 +85,11 @@ pub record IsRun (clients : List Client) (before : Moment) (m : MountedValue) (p
   pub begins : a ≡ starting a.disk a.list journal head view a.items
   pub steps : Steps time a p
   pub last : FailsTo time p q ⊎ ((ends : EndsTo p q) × Gains p.list q.list (ends_with p q ends))
+
+-- its list gained what its items tell, or one write besides, of which none tells
+abbrev pub RunsAreTold : Type 0
+RunsAreTold = (clients : List Client) (before : Moment) (m : MountedValue) (plans : List Plan) (time : ℕ) (start : Tree) (o : Owners) (l : Layout) (d : ℕ) (a p q : Point) → IsRun clients before m plans time start o l d a p q
+    → AreToldButOne 1 before.list q.list q.items
 
 -- ---- what is left of one
 

@@ -3,7 +3,7 @@
 
 ghost use Rattle.whole_runs.specs.Starts.{FailedFrontsStand, FailedReplaysAreTold, NothingStands, ReplayFrontsStand};
 ghost use Rattle.whole_runs.specs.Resting.{ReplayedIsAtRest};
-ghost use Rattle.whole_runs.specs.Wholes.{WholeRunsStand};
+ghost use Rattle.whole_runs.specs.Wholes.{RunsAreTold, WholeRunsStand};
 
 use cut_replays::{failed_replays_stand, stopped_replays_stand};
 use image_mount::mounted_groups_are_as_seen;
@@ -51,4 +51,11 @@ pub fn whole_runs_stand()
     ends_are_told();
     stops_are_told();
     its_heads_are_there();
+}
+
+/// A law: the list of operations of a run gained what its items tell, or one write besides; also as far as it is told.
+pub fn runs_are_told()
+    ensures { RunsAreTold }
+{
+    steps_are_told();
 }
