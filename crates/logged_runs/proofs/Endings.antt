@@ -3,7 +3,7 @@ use Rattle.std.proofs.Common.{◌≡◌, ℕ, ◌+◌, ◌<◌, inl, inr, List, 
 use Rattle.std.specs.Prelude.{IsTrue, unwrap_or}
 use Rattle.std.proofs.Math.Nat.{mod-eq_of_lt}
 use Rattle.std.proofs.lemmas.Bool.{cases_eq, cond-true}
-use Rattle.cluster_history.specs.History.{tree_of}
+use Rattle.cluster_history.specs.History.{IsNumbered, calls_of, tree_of}
 use Rattle.image_changes.specs.Instances.{StandsBy}
 use Rattle.image_machine.specs.Volumes.{Volume, images_of}
 use Rattle.image_model.specs.Image.{Image, image_of}
@@ -45,7 +45,7 @@ use Rattle.logged_runs.proofs.Lasting.{IsLastAs, said, unsaid}
 use Rattle.logged_runs.proofs.Lasting.{IsLastAs as last_as}
 use Rattle.logged_runs.proofs.Losing.{IsItsEnd, its_part, last_still}
 use Rattle.logged_runs.proofs.Machine.{end_syncs, end_within}
-use Rattle.logged_runs.proofs.Runs.{at, block_is, clean_is, first_at, history_is, items_are, noted, plain, replays, same_noted, sequence_is, stay, told, xs}
+use Rattle.logged_runs.proofs.Runs.{at, block_is, clean_is, count_is, first_at, history_is, items_are, noted, numbered_is, plain, replays, same_noted, sequence_is, stay, told, xs}
 
 -- ---- what a barrier brings to its place
 
@@ -120,6 +120,8 @@ module _ (keep : StepsKeep) (fails : FailedWritesKeep) (heads : HeadsAreTold) (t
     items = items_are keep fails heads tells legal v s d clients time a p p begins steps AsItWas;
     stay = stay keep fails heads tells legal v s d clients time a p p begins steps AsItWas;
     history = history_is keep fails heads tells legal v s d clients time a p p begins steps AsItWas;
+    numbered = numbered_is keep fails heads tells legal v s d clients time a p p begins steps AsItWas;
+    count = count_is keep fails heads tells legal v s d clients time a p p begins steps AsItWas;
     within = end_within v s logged.world d (state_of p) logged.is;
     syncs = end_syncs v s logged.world d (state_of p) logged.is (legal v s logged.world d (state_of p) logged.is);
     remains = λ left may. rem_of left may.outcome may.no_false;
@@ -138,6 +140,10 @@ module _ (keep : StepsKeep) (fails : FailedWritesKeep) (heads : HeadsAreTold) (t
     history_said : run.history_of clients these ≡ history_of (images_of v) logged.world.items
     history_said = history_on clients its (clean_item p ∷ more) ∙ ap (λ is. run.history_of clients its ++ is) silent ∙ append_nil (run.history_of clients its)
         ∙ history_is keep fails heads tells legal v s d clients time a p p begins steps AsItWas
+
+    -- the clean header and what may come say nothing of calls
+    same_said : run.history_of clients these ≡ run.history_of clients its
+    same_said = history_said ∙ sym (history_is keep fails heads tells legal v s d clients time a p p begins steps AsItWas)
 
     items_said : p.items ++ clean_item p ∷ more ≡ trace.Join 1 ∷ these
     items_said = ap (λ is. is ++ clean_item p ∷ more) (items_are keep fails heads tells legal v s d clients time a p p begins steps AsItWas)
@@ -163,6 +169,8 @@ module _ (keep : StepsKeep) (fails : FailedWritesKeep) (heads : HeadsAreTold) (t
       items = items_said;
       stay = stay_said;
       history = history_said;
+      numbered = subst IsNumbered (sym same_said) (numbered_is keep fails heads tells legal v s d clients time a p p begins steps AsItWas);
+      count = ap (calls_of 1) same_said ∙ count_is keep fails heads tells legal v s d clients time a p p begins steps AsItWas;
       within = end_within v s logged.world d (state_of p) logged.is;
       syncs = end_syncs v s logged.world d (state_of p) logged.is (legal v s logged.world d (state_of p) logged.is);
       remains = λ left may. remain left (record { outcome = may.outcome; no_false = may.no_false });

@@ -7,8 +7,8 @@ use Rattle.lone_logs.specs.Laws.{ItsHistoryIsLegal, ItsOutcomesStand}
 use Rattle.logged_steps.specs.Disks.{disk_after, first_told}
 use Rattle.logged_steps.specs.Fails.{AsItWas}
 use Rattle.logged_steps.specs.Laws.{FailedWritesKeep, FrontsArePassed, HeadsAreTold, StepsAreTold, StepsKeep}
-use Rattle.logged_runs.specs.Laws.{EndsAreTold, FencesAreTold, FrontsStand, MayLeave, PrefixesStand, StopsAreTold, WhatRemainsIsTold}
-use Rattle.logged_runs.specs.Standing.{StandsAsTold}
+use Rattle.logged_runs.specs.Laws.{EndsAreTold, FencesAreTold, FrontsStand, HeadsAreThere, MayLeave, PrefixesStand, StopsAreTold, WhatRemainsIsTold}
+use Rattle.logged_runs.specs.Standing.{IsLeftAsTold}
 use Rattle.logged_runs.proofs.Endings.{front_of_end}
 use Rattle.logged_runs.proofs.Fronts.{told_fenced, told_stopped, told_there}
 use Rattle.logged_runs.proofs.Runs.{front_of_run}
@@ -24,7 +24,7 @@ module _ (keep : StepsKeep) (fails : FailedWritesKeep) (heads : HeadsAreTold) (t
       record {
         came = came;
         stands = λ disks left first may accepts.
-            subst (λ is. StandsAsTold clients disks is s.tree left) (sym came.items)
+            subst (λ is. IsLeftAsTold v d clients disks is s.tree left) (sym came.items)
             (what_remains_is_told v s d clients time a came.point came.point disks left begins came.before AsItWas first may accepts);
       }
 
@@ -39,6 +39,14 @@ module _ (keep : StepsKeep) (fails : FailedWritesKeep) (heads : HeadsAreTold) (t
     pub ends_are_told : EndsAreTold
     ends_are_told v s d clients time a p q disks left begins steps end first may accepts =
         told_there v s d clients a q _ (front_of_end keep fails heads tells legal ends rest v s d clients time a p q begins steps end) left disks first may accepts
+
+    pub heads_are_there : HeadsAreThere
+    heads_are_there v s d clients time a p q left begins steps (inl fail) may =
+        let rem = (front_of_run keep fails heads tells legal v s d clients time a p q begins steps fail outcomes).remains left may in
+        (rem.head, rem.headed)
+    heads_are_there v s d clients time a p q left begins steps (inr end) may =
+        let rem = (front_of_end keep fails heads tells legal ends rest v s d clients time a p q begins steps end).remains left may in
+        (rem.head, rem.headed)
 
     pub stops_are_told : StopsAreTold
     stops_are_told v s d clients time a p q x disks left begins steps (inl fail) is_stop first may accepts =

@@ -1,15 +1,13 @@
 -- What remains of the items of one life, and of them with its loss.
-use Rattle.std.proofs.Common.{◌≡◌, ℕ, zero, suc, ◌+◌, ◌<◌, List, [], ◌∷◌, ◌++◌, length, take, None, Some, refl, sym, ap, subst, ◌∙◌, arith, inl, inr}
-use Rattle.std.specs.Prelude.{◌==◌, if◌then◌else◌, slice_get}
+use Rattle.std.proofs.Common.{◌≡◌, ℕ, zero, suc, ◌+◌, List, [], ◌∷◌, ◌++◌, length, Option, None, Some, refl, sym, ap, subst, ◌∙◌, arith}
+use Rattle.std.specs.Prelude.{◌==◌, false, nat_lt, if◌then◌else◌, slice_get}
 use Rattle.std.proofs.lemmas.List.{length-append}
-use Rattle.std.proofs.lemmas.Bool.{cases_eq, cond-true, cond-false, eq-eqb, ne_eqb}
-use Rattle.cluster_history.specs.History.{calls_of}
+use Rattle.std.proofs.lemmas.Bool.{cond-true, cond-false, eq-eqb, ne_eqb}
 use Rattle.cluster_history.specs.declared.Item.{Item}
 use Rattle.cluster_history.specs.declared.Item.TheVariants as item
 use Rattle.file_tree.specs.declared.call.Call.{Call}
-use Rattle.file_tree.specs.declared.reply.Reply.{Reply}
 use Rattle.run_rules.specs.Follows.{history_of}
-use Rattle.run_rules.specs.Lives.{DiskHeads, Life, fenced_behind, head_behind, head_of, items_of, last_number, life_at, life_lost, lives_from, lives_of, losses_for, losses_of, remains, to_its_end, upto_of, without_loss}
+use Rattle.run_rules.specs.Lives.{AcceptedHead, DiskHeads, Life, fenced_behind, head_behind, head_of, items_of, last_number, life_at, life_lost, lives_from, lives_of, losses_for, losses_of, named, or_else, recovered_behind, remains, to_its_end, unnamed, upto_by, upto_of, without_loss}
 use Rattle.script_lang.specs.declared.script.Client.{Client}
 use Rattle.trace_text.specs.declared.item.TraceItem.{TraceItem}
 use Rattle.trace_text.specs.declared.item.TraceItem.TheVariants as trace
@@ -130,40 +128,13 @@ module _ (clients : List Client) (x : TraceItem) (stop : IsItsStop clients x) wh
     pub head_fenced : (disks : DiskHeads) → head_of disks only_life (trace.Join 1 ∷ (xs ++ fence)) ≡ disks.behind 1 (length (trace.Join 1 ∷ (xs ++ fence)))
     head_fenced disks = ap (λ o. head_behind o disks 1) (fence_on 1 1 xs fence all ∙ stop.fence (1 + length xs) (trace.Fence 1 ∷ [])) ∙ ap (disks.behind 1) (let n = length-append xs fence in omega (arith, n))
 
+    -- also with what comes behind the fence
+    pub head_behind_fence : (disks : DiskHeads) (more : List TraceItem) → head_of disks only_life (trace.Join 1 ∷ (xs ++ x ∷ trace.Fence 1 ∷ more)) ≡ disks.behind 1 (length (trace.Join 1 ∷ (xs ++ fence)))
+    head_behind_fence disks more =
+        ap (λ o. head_behind o disks 1) (fence_on 1 1 xs (x ∷ trace.Fence 1 ∷ more) all ∙ stop.fence (1 + length xs) (trace.Fence 1 ∷ more)) ∙ ap (disks.behind 1) (let n = length-append xs fence in omega (arith, n))
+
     pub life_fenced : life_lost 1 (trace.Join 1 ∷ (xs ++ fence)) ≡ Some only_life
     life_fenced = (λ i. life_at 1 (none_lost clients xs fence all fenced_too i) (one_life clients xs fence all fenced_too i))
-
--- ---- the numbers of calls
-
--- a call of each number that the node has
-pub record HasCall (history : List Item) (node number : ℕ) : Type 0 where
-  pub place : ℕ
-  pub client : ℕ
-  pub its : ℕ
-  pub call : Call
-  pub reply : Reply
-  pub there : slice_get history place ≡ Some (item.Call node client its call reply)
-  pub before : calls_of node (take place history) ≡ number
-
-later : (x : Item) (xs : List Item) (node number m : ℕ) (had : HasCall xs node m) → calls_of node (x ∷ []) + m ≡ number → HasCall (x ∷ xs) node number
-later (item.Call i client n call reply) xs node number m had e =
-    record { place = suc had.place; client = had.client; its = had.its; call = had.call; reply = had.reply; there = had.there; before = ap (λ k. (if i == node then 1 else 0) + k) had.before ∙ omega (arith, e) }
-later (item.Lost i kept) xs node number m had e = record { place = suc had.place; client = had.client; its = had.its; call = had.call; reply = had.reply; there = had.there; before = had.before ∙ omega (arith, e) }
-
-pub call_there : (history : List Item) (node m : ℕ) → m < calls_of node history → HasCall history node m
-call_there [] node m less = absurd (omega (arith, less))
-call_there (item.Lost i kept ∷ xs) node m less = later (item.Lost i kept) xs node m m (call_there xs node m less) (omega arith)
-call_there (item.Call i client n call reply ∷ xs) node m less = elim (cases_eq i node) [
-  | inr other ↦
-      let none = cond-false {A = ℕ} (i == node) 1 0 (ne_eqb i node other) in
-      later (item.Call i client n call reply) xs node m m (call_there xs node m (omega (arith, none, less))) (omega (arith, none))
-  | inl same ↦ own same (cond-true {A = ℕ} (i == node) 1 0 (eq-eqb i node same)) m less (λ k low. call_there xs node k low)
-]
-  where
-    own : i ≡ node → ◌≡◌ {A = ℕ} (if i == node then 1 else 0) 1 → (m : ℕ) → m < (if i == node then 1 else 0) + calls_of node xs → ((k : ℕ) → k < calls_of node xs → HasCall xs node k)
-        → HasCall (item.Call i client n call reply ∷ xs) node m
-    own same one zero less behind = record { place = 0; client = client; its = n; call = call; reply = reply; there = ap (λ j. Some (item.Call j client n call reply)) same; before = refl }
-    own same one (suc k) less behind = later (item.Call i client n call reply) xs node (suc k) k (behind k (omega (arith, one, less))) (omega (arith, one))
 
 -- ---- the loss
 
@@ -193,3 +164,57 @@ module _ (clients : List Client) (stop_item : TraceItem) (stop : IsItsStop clien
   its_place [] k (suc (suc (suc p))) node kept all e = absurd (none_there (trace.Lost node kept) e)
   its_place (x ∷ xs) k zero node kept all e = absurd (no_loss x node kept (λ same. subst Stays (sym same) all.0) e)
   its_place (x ∷ xs) k (suc p) node kept all e = (let is = its_place xs k p node kept all.1 e in record { at = (let at = is.at in omega (arith, at)); own = is.own; same = is.same })
+
+-- ---- with the loss
+
+-- the number is told by the head, the life's items, and the number of the last call of all
+abbrev pub number_by : Option ℕ → DiskHeads → AcceptedHead → List TraceItem → ℕ → ℕ
+number_by (Some upto) disks h its last = upto
+number_by None disks h its last =
+    if nat_lt (disks.behind 1 (or_else (recovered_behind 1 1 its) 0)).sequence h.sequence then (if h.is_clean then last else unnamed 1 (record { upto = 0; is_logged = false; last = 0 }) its) else 0
+
+pub upto_parts : (o : Option ℕ) (disks : DiskHeads) (h : AcceptedHead) (items : List TraceItem) → upto_by o h disks only_life items ≡ number_by o disks h (items_of only_life items) (last_number 1 0 items)
+upto_parts (Some upto) disks h items = refl
+upto_parts None disks h items = refl
+
+pub same_upto : (disks : DiskHeads) (xs ys : List TraceItem) → head_of disks only_life xs ≡ head_of disks only_life ys → items_of only_life xs ≡ items_of only_life ys → last_number 1 0 xs ≡ last_number 1 0 ys
+    → upto_of disks only_life xs ≡ upto_of disks only_life ys
+same_upto disks xs ys head its last =
+    upto_parts (named 1 (head_of disks only_life xs) (items_of only_life xs)) disks (head_of disks only_life xs) xs
+    ∙ (λ i. number_by (named 1 (head i) (its i)) disks (head i) (its i) (last i))
+    ∙ sym (upto_parts (named 1 (head_of disks only_life ys) (items_of only_life ys)) disks (head_of disks only_life ys) ys)
+
+module _ (clients : List Client) (x : TraceItem) (stop : IsItsStop clients x) (xs : List TraceItem) (all : AllStay xs) (k : ℕ) where
+  abbrev lost : List TraceItem
+  lost = trace.Join 1 ∷ (xs ++ x ∷ trace.Fence 1 ∷ trace.Lost 1 k ∷ [])
+
+  abbrev fenced : List TraceItem
+  fenced = trace.Join 1 ∷ (xs ++ x ∷ trace.Fence 1 ∷ [])
+
+  pub lost_head : (disks : DiskHeads) → head_of disks only_life lost ≡ head_of disks only_life fenced
+  lost_head disks = head_behind_fence clients x stop xs all disks (trace.Lost 1 k ∷ []) ∙ sym (head_behind_fence clients x stop xs all disks [])
+
+  pub lost_upto : (disks : DiskHeads) → upto_of disks only_life lost ≡ upto_of disks only_life fenced
+  lost_upto disks = same_upto disks lost fenced (lost_head disks)
+      (end_on xs (x ∷ trace.Fence 1 ∷ trace.Lost 1 k ∷ []) all ∙ ap (λ is. xs ++ is) (stop.cut (trace.Fence 1 ∷ trace.Lost 1 k ∷ []) ∙ sym (stop.cut (trace.Fence 1 ∷ []))) ∙ sym (end_on xs (x ∷ trace.Fence 1 ∷ []) all))
+      (last_on 0 xs (x ∷ trace.Fence 1 ∷ trace.Lost 1 k ∷ []) ∙ stop.numbers (last_number 1 0 xs) (trace.Fence 1 ∷ trace.Lost 1 k ∷ [])
+      ∙ sym (stop.numbers (last_number 1 0 xs) (trace.Fence 1 ∷ [])) ∙ sym (last_on 0 xs (x ∷ trace.Fence 1 ∷ [])))
+
+  -- its one life has its loss
+  pub lost_remains : (disks : DiskHeads) → remains clients disks lost ≡ history_of clients lost
+  lost_remains disks = ap (λ ls. history_of clients lost ++ losses_for upto ls) left ∙ append_nil (history_of clients lost)
+    where
+      upto : Life → ℕ
+      upto l = upto_of disks l lost
+
+      losses : ℕ → ℕ
+      losses i = losses_of i lost
+
+      one_life_lost : lives_of lost ≡ only_life ∷ []
+      one_life_lost = ap (λ ls. only_life ∷ ls) (no_lives 1 xs (x ∷ trace.Fence 1 ∷ trace.Lost 1 k ∷ []) all ∙ stop.lives (1 + length xs) (trace.Fence 1 ∷ trace.Lost 1 k ∷ []))
+
+      one : losses_of 1 lost ≡ 1
+      one = no_losses 1 xs (x ∷ trace.Fence 1 ∷ trace.Lost 1 k ∷ []) all ∙ stop.losses (trace.Fence 1 ∷ trace.Lost 1 k ∷ [])
+
+      left : without_loss losses (lives_of lost) ≡ []
+      left = ap (without_loss losses) one_life_lost ∙ cond-false (losses 1 == 0) (only_life ∷ []) [] (ne_eqb (losses 1) 0 (λ e. let o = one in omega (arith, e, o)))

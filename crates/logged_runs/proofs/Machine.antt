@@ -21,7 +21,7 @@ use Rattle.lone_logs.specs.States.{IsLoggedNode, NodeState, trees_on}
 use Rattle.lone_machine.specs.Alone.{Begun}
 use Rattle.lone_machine.proofs.Going.{sound}
 use Rattle.tree_histories.specs.Trees.{Told, TreeHeadline, history_of}
-use Rattle.logged_runs.proofs.Losing.{HasCall, call_there}
+use Rattle.right_losses.proofs.Numbers.{HasCall, call_there}
 
 -- ---- the calls of a history are those that were told
 

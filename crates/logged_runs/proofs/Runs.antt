@@ -30,6 +30,9 @@ use Rattle.logged_steps.specs.Points.{IsOfRun, Point, state_of}
 use Rattle.logged_steps.specs.Steps.{Steps}
 use Rattle.logged_steps.proofs.Chunks.{due_is_some}
 use Rattle.logged_steps.proofs.Telling.{append_nil, left_same}
+use Rattle.logged_runs.specs.Laws.{HasItsCalls}
+use Rattle.logged_runs.proofs.Counting.{calls_are_counted}
+use Rattle.cluster_history.specs.History.{IsNumbered, calls_of}
 use Rattle.logged_runs.specs.Heads.{HasFirst, IsAcceptedIn}
 use Rattle.logged_runs.specs.Starts.{BeginsAt, only_life}
 use Rattle.logged_runs.proofs.Staying.{AllStay, NoneIsClean, no_end, none_clean, stay_on, stay_replays, stay_steps}
@@ -49,6 +52,10 @@ head_inside log f sound some = (let room = fits_in log f sound some in let insid
 same_items : (time : ℕ) (p q : Point) → FailsTo time p q → q.items ≡ p.items
 same_items time p q AsItWas = refl
 same_items time p q (InAWrite b bytes list log item told step) = refl
+
+same_answered : (time : ℕ) (p q : Point) → FailsTo time p q → q.numbers.answered ≡ p.numbers.answered
+same_answered time p q AsItWas = refl
+same_answered time p q (InAWrite b bytes list log item told step) = refl
 
 module _ (keep : StepsKeep) (fails : FailedWritesKeep) (heads : HeadsAreTold) (tells : StepsAreTold) (legal : ItsHistoryIsLegal)
     (v : Volume) (s : Begun (trees_on v)) (d : ℕ) (clients : List Client) (time : ℕ) (a p q : Point) (begins : BeginsAt v s d clients a) (steps : Steps time a p) (fail : FailsTo time p q) where
@@ -105,6 +112,15 @@ module _ (keep : StepsKeep) (fails : FailedWritesKeep) (heads : HeadsAreTold) (t
   pub history_is : run.history_of clients xs ≡ history_of (images_of v) at.world.items
   history_is = ap (run.history_of clients) (sym items_are) ∙ at.history
 
+  counted : HasItsCalls clients p
+  counted = calls_are_counted keep legal v s d clients time a p begins steps
+
+  pub numbered_is : IsNumbered (run.history_of clients xs)
+  numbered_is = subst (λ is. IsNumbered (run.history_of clients is)) (sym (same_items time p q fail) ∙ items_are) counted.numbered
+
+  pub count_is : calls_of 1 (run.history_of clients xs) ≡ q.numbers.answered
+  count_is = ap (λ is. calls_of 1 (run.history_of clients is)) (sym (sym (same_items time p q fail) ∙ items_are)) ∙ counted.count ∙ sym (same_answered time p q fail)
+
   -- ---- the head in an image
 
   module _ (left : Image) (h : AcceptedHead) (head : LogHeader) (headed : head_in (ring_at left d) ≡ Some head) (its : IsAcceptedIn v d left h) where
@@ -160,6 +176,8 @@ module _ (keep : StepsKeep) (fails : FailedWritesKeep) (heads : HeadsAreTold) (t
     items = items_are;
     stay = stay;
     history = history_is;
+    numbered = numbered_is;
+    count = count_is;
     within = within v s at.world d (state_of q) at.is;
     syncs = syncs v s at.world d (state_of q) at.is (legal v s at.world d (state_of q) at.is);
     remains = λ left may. outcomes v s at.world d (state_of q) left at.is may.outcome may.no_false;

@@ -10,7 +10,7 @@ use Rattle.logged_runs.specs.Laws.{RunsBeginSo}
 use Rattle.logged_runs.specs.Starts.{IsOfReplay}
 
 -- no item of a replay is a call
-no_calls : (clients : List Client) (replays : List TraceItem) → AllByRecursion IsOfReplay replays → history_of clients replays ≡ []
+pub no_calls : (clients : List Client) (replays : List TraceItem) → AllByRecursion IsOfReplay replays → history_of clients replays ≡ []
 no_calls clients [] all = refl
 no_calls clients (trace.Call i name number call reply ∷ xs) all = absurd all.0
 no_calls clients (trace.Lost i kept ∷ xs) all = absurd all.0

@@ -1,5 +1,13 @@
 pub mod Starts
+pub mod Mounted
 pub mod Heads
 pub mod Ends
 pub mod Standing
 pub mod Laws
+-- Passed on to the crates above.
+pub use Rattle.logged_steps.specs.Points as Points
+pub use Rattle.logged_steps.specs.Steps as Steps
+pub use Rattle.logged_steps.specs.Disks as Disks
+pub use Rattle.logged_steps.specs.Fails as Fails
+pub use Rattle.logged_steps.specs.Starts as StepStarts
+pub use Rattle.logged_steps.specs.Laws as StepLaws

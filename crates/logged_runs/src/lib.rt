@@ -2,18 +2,37 @@
 //! nothing: their contracts are the laws.
 #![tactic(auto)]
 
-ghost use Rattle.logged_runs.specs.Laws.{CleanRunsEnd, EndsAreTold, FencesAreTold, FrontsStand, PrefixesStand, RunsBeginSo, RunsEnd, StopsAreTold, WhatRemainsIsTold};
+ghost use Rattle.logged_runs.specs.Laws.{CallsAreCounted, CleanRunsEnd, EndsAreTold, FencesAreTold, FrontsStand, HeadsAreThere, PrefixesStand, RunsBeginSo, RunsEnd, StopsAreTold, WhatRemainsIsTold};
+ghost use Rattle.logged_runs.specs.Mounted.{MountedIsAtRest};
 
+use image_mount::{mounted_groups_are_as_seen, mounted_images_stand_as_mounted};
 use journal_outcomes::fences_leave_outcomes;
-use logged_steps::{failed_writes_keep, heads_are_told, runs_begin, steps_are_told, steps_keep};
+pub use logged_steps::steps_are_told;
+use logged_steps::{failed_writes_keep, heads_are_told, runs_begin, steps_keep};
 use lone_ends::{fences_leave_what_remains, it_has_ended, what_remains_at_its_end};
 use lone_logs::what_remains_of_it;
+
+/// A law: a mounted image that stands for a tree, each journal clean, is at rest on its disk, for a node that has what mounting told and the first journal.
+pub fn mounted_images_are_at_rest()
+    ensures { MountedIsAtRest }
+{
+    mounted_groups_are_as_seen();
+    mounted_images_stand_as_mounted();
+}
 
 /// A law: such a run begins on a disk at rest, whatever was replayed there.
 pub fn a_run_begins()
     ensures { RunsBeginSo }
 {
     runs_begin();
+}
+
+/// A law: the history of a run's items is numbered, and has as many calls as the node answered.
+pub fn its_calls_are_counted()
+    ensures { CallsAreCounted }
+{
+    steps_keep();
+    what_remains_of_it();
 }
 
 /// A law: behind each front of a run's items, and where a write failed that has no item, each outcome of the disk without a false header stands, its journals replayed,
@@ -33,6 +52,19 @@ pub fn what_remains_is_told()
 /// A law: so it is while the clean header is in flight with which a run ends, and behind the barrier that brings it to its place.
 pub fn ends_are_told()
     ensures { EndsAreTold }
+{
+    steps_keep();
+    failed_writes_keep();
+    heads_are_told();
+    steps_are_told();
+    what_remains_of_it();
+    what_remains_at_its_end();
+    fences_leave_what_remains();
+}
+
+/// A law: wherever the run is, each outcome has an accepted head of the node's journal.
+pub fn its_heads_are_there()
+    ensures { HeadsAreThere }
 {
     steps_keep();
     failed_writes_keep();

@@ -1,0 +1,12 @@
+pub mod Bringing
+pub mod Replaying
+pub mod Items
+pub mod Quiet
+pub mod Starting
+pub mod Heads
+pub mod Owning
+pub mod Wholes
+pub mod Last
+pub mod Running
+pub mod Resting
+pub mod Telling

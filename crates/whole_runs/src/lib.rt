@@ -1,0 +1,61 @@
+//! Whole runs of one node, from a mounted image to what they leave: laws. The functions do nothing: their contracts are the laws.
+#![tactic(auto)]
+
+ghost use Rattle.whole_runs.specs.Starts.{FailedFrontsStand, FailedReplaysAreTold, NothingStands, ReplayFrontsStand};
+ghost use Rattle.whole_runs.specs.Resting.{ReplayedIsAtRest};
+ghost use Rattle.whole_runs.specs.Wholes.{RunsAreTold, WholeRunsStand};
+
+use cut_replays::{failed_replays_stand, stopped_replays_stand};
+use image_mount::mounted_groups_are_as_seen;
+use image_recovery::{a_replay_leaves_its_image, what_a_replay_leaves_stands};
+use journal_outcomes::fences_leave_outcomes;
+use log_layout::headers_read_back;
+use logged_runs::{
+    a_run_begins, ends_are_told, its_heads_are_there, steps_are_told, stops_are_told,
+    what_remains_is_told,
+};
+
+/// A law: behind each front of a run's start, before it and within its replays, whatever becomes of what is in flight stands as the items tell, also behind a stop, a fence and the loss with it.
+pub fn fronts_of_starts_stand()
+    ensures nothing { NothingStands }
+    ensures replays { ReplayFrontsStand }
+    ensures failed { FailedFrontsStand }
+    ensures left { FailedReplaysAreTold }
+{
+    failed_replays_stand();
+    stopped_replays_stand();
+    fences_leave_outcomes();
+}
+
+/// A law: once all journals of a mounted image were replayed its disk is at rest, for a node that has what was mounted, the first journal, and of no block yet.
+pub fn replays_leave_a_disk_at_rest()
+    ensures { ReplayedIsAtRest }
+{
+    a_replay_leaves_its_image();
+    what_a_replay_leaves_stands();
+    mounted_groups_are_as_seen();
+}
+
+/// A law: so it is throughout a run, behind each front of its items, on the disk that it left, behind a stop, a fence and a right loss, by the heads of the disks that its operations made; and its items
+/// tell what was done, but for one write at most.
+pub fn whole_runs_stand()
+    ensures { WholeRunsStand }
+{
+    headers_read_back();
+    failed_replays_stand();
+    stopped_replays_stand();
+    fences_leave_outcomes();
+    steps_are_told();
+    a_run_begins();
+    what_remains_is_told();
+    ends_are_told();
+    stops_are_told();
+    its_heads_are_there();
+}
+
+/// A law: the list of operations of a run gained what its items tell, or one write besides; also as far as it is told.
+pub fn runs_are_told()
+    ensures { RunsAreTold }
+{
+    steps_are_told();
+}
