@@ -1,9 +1,9 @@
 -- The leaf of a chain to which a name comes is one, and so is the one with a name's record.
-use Rattle.std.proofs.Common.{◌≡◌, ◌≢◌, ◌+◌, ◌<◌, ◌≤◌, ◌⊎◌, ℕ, zero, suc, inl, inr, Bool, true, false, List, [], ◌∷◌, ◌++◌, drop, Option, None, Some, refl, sym, ap, subst, ◌∙◌, arith, true≢false}
+use Rattle.std.proofs.Common.{◌≡◌, ◌≢◌, ◌+◌, ◌<◌, ◌≤◌, ◌⊎◌, ℕ, inl, inr, Bool, true, List, [], ◌∷◌, ◌++◌, drop, Option, None, Some, refl, sym, ap, subst, ◌∙◌, arith, true≢false}
 use Rattle.std.specs.Prelude.{IsSome, count_by, flat_map, if◌then◌else◌}
 use Rattle.std.specs.List.{range_with_len}
 use Rattle.std.specs.Str.{bytes_eq}
-use Rattle.std.proofs.lemmas.Bool.{cases_Bool, cases_eq, cond-false, cond-true}
+use Rattle.std.proofs.lemmas.Bool.{cases_Bool, cases_eq, cond-true}
 use Rattle.std.proofs.lemmas.List.Sorted.{Contains-permutation, IsPermutation-sym}
 use Rattle.std.proofs.lemmas.List.Sums.{sum_by-append, sum_by-cons}
 use Rattle.gfs2_layout.specs.Area.{slots_of}
@@ -20,7 +20,7 @@ use Rattle.image_model.proofs.Held.{none_some, some_same}
 use Rattle.image_model.proofs.Members.{IsIn, contained, in_filter, in_range, is_in}
 use Rattle.image_model.proofs.Reach.{found_in}
 use Rattle.directories.specs.Taking.{HasRecordOf}
-use Rattle.name_redirects.proofs.Places.{InLeaf, where_of}
+use Rattle.name_redirects.proofs.Places.{where_of}
 use Rattle.name_moves.specs.Becoming.{LosesAll, LosesName, of_none, of_one}
 use Rattle.name_moves.proofs.Loses.{plain_lost, sound_lost}
 

@@ -1,10 +1,9 @@
 -- A directory to which a name comes: to which of its blocks something is done, and how many blocks it takes.
-use Rattle.std.proofs.Common.{◌≡◌, ◌+◌, ◌^◌, ◌<◌, ◌≤◌, ◌⊎◌, ℕ, inl, inr, true, List, ◌∷◌, ◌++◌, length, Some, sym, subst, ◌∙◌, arith}
-use Rattle.std.specs.Prelude.{Contains}
+use Rattle.std.proofs.Common.{◌≡◌, ◌+◌, ◌^◌, ◌<◌, ◌≤◌, ◌⊎◌, ℕ, inl, inr, true, List, ◌∷◌, ◌++◌, length, sym, subst, ◌∙◌, arith}
 use Rattle.std.proofs.Math.ListN.{length-append}
 use Rattle.crc_words.specs.Remainder.{crc32_of}
 use Rattle.gfs2_layout.specs.Device.{IsBlockSize}
-use Rattle.gfs2_layout.specs.Holding.{Holding, InChain, Pointed, part_at}
+use Rattle.gfs2_layout.specs.Holding.{Holding}
 use Rattle.gfs2_layout.specs.Inode.{entry, entry_block, first_hash, is_directory_in, is_hashed_in, table_count}
 use Rattle.dinode_tree.specs.Below.{IsBelow}
 use Rattle.dinode_tree.proofs.Sound.{led_of_part}
