@@ -15,8 +15,9 @@ use Rattle.glock_names.specs.declared.LockName.{LockName}
 use Rattle.image_changes.specs.Changes.{Place, cover, is_free}
 use Rattle.image_changes.specs.Does.{IsOf}
 use Rattle.image_machine.specs.Cells.{BlockCell}
-use Rattle.image_machine.specs.Volumes.{IsPlace, StandsAt, Volume, fitted, images_of}
+use Rattle.image_machine.specs.Volumes.{IsPlace, StandsAt, Volume, fitted, image_with, images_of}
 use Rattle.image_machine.proofs.Fitting.{as_told, fitted_whole, inside}
+use Rattle.image_model.specs.Image.{Image}
 use Rattle.image_model.proofs.Held.{none_some}
 use Rattle.journal_outcomes.specs.Disks.{flown_by}
 use Rattle.lone_answers.specs.Reading.{WorksOn}
@@ -32,7 +33,6 @@ use Rattle.script_lang.specs.declared.script.Client.{Client}
 use Rattle.shared_disk.specs.Disk.{DiskState, IsSound, flight_to, read_gives, settled, written}
 use Rattle.tree_histories.specs.Trees.{history_of}
 use Rattle.tree_histories.proofs.Joining.{agree}
-use Rattle.call_blocks.specs.Lone.{image_now}
 use Rattle.logged_steps.specs.Laws.{IsLoggedAt}
 use Rattle.logged_steps.specs.Points.{Point, state_of}
 use Rattle.logged_steps.proofs.Disks.{sound_barrier}
@@ -70,6 +70,10 @@ module _ (v : Volume) (s : Begun (trees_on v)) (d : ℕ) (clients : List Client)
   stays_sound : Sound (trees_on v) w
   stays_sound = sound (trees_on v) s w is.alone
 
+  -- the image with all its calls
+  abbrev im : Image
+  im = image_with v (λ b. (now (trees_on v) w b).content)
+
   -- ---- the tree
 
   all_told : w.book.published ≡ w.book.answered
@@ -101,7 +105,7 @@ module _ (v : Volume) (s : Begun (trees_on v)) (d : ℕ) (clients : List Client)
 
   -- ---- the view
 
-  is_of : IsOf (seen_alone p.view) (image_now v w) here.owners v.layout stands.0
+  is_of : IsOf (seen_alone p.view) im here.owners v.layout stands.0
   is_of = record {
     size = at.volume.size;
     root = at.volume.root;
@@ -138,7 +142,7 @@ module _ (v : Volume) (s : Begun (trees_on v)) (d : ℕ) (clients : List Client)
     content_is = sym (reads_alone (trees_on v) s w b is.alone is.cached uncached holds in_use).0
         ∙ ap (laid (w.disk.flight s.node b)) (is.disk.blocks b off) ∙ ap (λ o. laid o (st.image.at b)) (is.flights b off) ∙ sym (reads_laid p.disk b)
 
-    unread : (image_now v w).at b ≡ read_gives p.disk 1 b
+    unread : im.at b ≡ read_gives p.disk 1 b
     unread = elim (cases_lt b v.count) [
       | inl low ↦
           let there : b < p.disk.count = subst (λ n. b < n) (sym is.disk.has.count) low in
@@ -149,9 +153,9 @@ module _ (v : Volume) (s : Begun (trees_on v)) (d : ℕ) (clients : List Client)
 
   works : WorksAt clients p v.layout s.tree
   works = record {
-    image = image_now v w;
+    image = im;
     owners = here.owners;
-    works = subst (WorksOn p.disk p.view (image_now v w) here.owners v.layout) tree_is (record { tells = at.tells; count = sym is.disk.has.count; view = is_of; unread = unread });
+    works = subst (WorksOn p.disk p.view im here.owners v.layout) tree_is (record { tells = at.tells; count = sym is.disk.has.count; view = is_of; unread = unread });
   }
 
 pub nodes_work_on_an_image : NodesWorkOnAnImage

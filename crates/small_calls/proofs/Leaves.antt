@@ -119,9 +119,10 @@ module _ (h : Holding) (sound : IsSound h) where
   pub record_in : (name : List ℕ) (b : ℕ) → HasRecordOf h name b → (b ≡ h.own) ⊎ HasNamed h name b
   record_in name b has = elim (where_of h name b has) [
     | inl plain ↦ inl plain.1
-    | inr (is, leaf) ↦
+    | inr hashed ↦
+        let leaf = hashed.1 in
         let found = found_in (λ r. bytes_eq name r.name) leaf.is (records_in (leaf_area h b)) leaf.named in
-        inr (record { is = is; hash = first_hash h (index_for h name); place = leaf.place; part = in_chain h sound is (index_for h name) leaf.place b leaf.chain; one = leaf.is; named = found.1; there = found.0 })
+        inr (record { is = hashed.0; hash = first_hash h (index_for h name); place = leaf.place; part = in_chain h sound hashed.0 (index_for h name) leaf.place b leaf.chain; one = leaf.is; named = found.1; there = found.0 })
   ]
 
 -- ---- names that go

@@ -41,7 +41,7 @@ pub one_sort : (R Q : ℕ → Type 0) (xs : List ℕ) (n : ℕ) → ((x y : ℕ)
     → (list : List ℕ) → ((x : ℕ) → IsIn x xs → (IsIn x list ⊎ R x) ⊎ Q x) → length xs ≤ length list + suc n
 one_sort R Q xs n one fewer list each = elim (search (λ x. IsIn x list ⊎ R x) Q xs each) [
   | inl all ↦ let few = fewer list all in omega (arith, few)
-  | inr (x, there, is) ↦ let few = fewer (x ∷ list) (λ y here. beside x is y (each y here)) in omega (arith, few)
+  | inr found ↦ let few = fewer (found.0 ∷ list) (λ y here. beside found.0 found.2 y (each y here)) in omega (arith, few)
 ]
   where
     beside : (x : ℕ) → Q x → (y : ℕ) → (IsIn y list ⊎ R y) ⊎ Q y → IsIn y (x ∷ list) ⊎ R y

@@ -1,6 +1,6 @@
 -- A call that moves a name writes few blocks.
 use Rattle.std.proofs.Common.{◌≡◌, ◌+◌, ◌^◌, ◌<◌, ◌≤◌, ◌⊎◌, ℕ, inl, inr, Bool, true, false, List, [], ◌∷◌, ◌++◌, length, None, refl, sym, ap, subst, ◌∙◌, arith, true≢false}
-use Rattle.std.specs.Prelude.{◌&&◌, Contains, codes, if◌then◌else◌, is_some}
+use Rattle.std.specs.Prelude.{Contains, codes, if◌then◌else◌, is_some}
 use Rattle.std.proofs.Math.ListN.{length-append}
 use Rattle.crc_words.specs.Remainder.{crc32_of}
 use Rattle.file_tree.specs.Tree.{Tree}
@@ -8,21 +8,22 @@ use Rattle.drafts.specs.Fates.{block_with}
 use Rattle.drafts.specs.declared.change.Change.{Change}
 use Rattle.gfs2_layout.specs.Holding.{Holding}
 use Rattle.gfs2_layout.specs.Inode.{is_directory_in}
-use Rattle.gfs2_layout.specs.Structures.{is_directory}
 use Rattle.glock_names.specs.Views.{IsView, Seen}
 use Rattle.hash_dirs.specs.Shown.{IsSound, index_for}
+use Rattle.image_model.specs.Flat.{Path}
 use Rattle.image_model.specs.Image.{Image}
 use Rattle.image_model.specs.Owners.{Owners, holding}
 use Rattle.image_model.specs.Stands.{Layout}
 use Rattle.image_model.proofs.Held.{none_some}
 use Rattle.image_model.proofs.Members.{IsIn, in_either, in_left, in_right}
 use Rattle.image_model.proofs.Rising.{Rising}
+use Rattle.image_changes.specs.Flats.{in_directory}
 use Rattle.path_walks.proofs.Images.{sound_directory}
 use Rattle.name_moves.specs.Becoming.{IsAtRecord, IsLostAt}
 use Rattle.name_moves.specs.Becoming as becoming
 use Rattle.name_moves.specs.Moving.{Becomes, IsMoveIn, IsMovedAt, Move, freed_by, is_reparented, is_replacing, is_within, lost_there}
 use Rattle.name_moves.specs.Moving as moving
-use Rattle.name_moves.proofs.Imaged.{source_directory}
+use Rattle.name_moves.proofs.Imaged.{moved_directory, source_directory}
 use Rattle.name_moves.proofs.Loses.{all_directory, all_kept, all_sound}
 use Rattle.small_changes.specs.Counting.{IsOfProfile}
 use Rattle.small_changes.proofs.Counting.{headers, in_headers, in_or_not}
@@ -66,7 +67,7 @@ lost_names m name there = elim (in_either name (if is_replacing m then m.new_nam
     only true other (inr never) = elim never [ ]
     only false other never = elim never [ ]
 
-module _ (v : Seen) (m : Move) (room : List ℕ) (time : ℕ) (change : Change) (im : Image) (o : Owners) (l : Layout) (t : Tree) (of : IsOfProfile v im o l t) (view : IsView v) (path path' : List (List ℕ))
+module _ (v : Seen) (m : Move) (room : List ℕ) (time : ℕ) (change : Change) (im : Image) (o : Owners) (l : Layout) (t : Tree) (of : IsOfProfile v im o l t) (view : IsView v) (path path' : Path)
     (is : moving.IsMoving v m room time change) (place : IsMoveIn im o l path path' m room) (can : moving.CanBeMoved v m) (hash : crc32_of m.new_name < 2 ^ 32) where
   abbrev source : Holding
   source = holding im o m.from
@@ -87,11 +88,7 @@ module _ (v : Seen) (m : Move) (room : List ℕ) (time : ℕ) (change : Change) 
   target_sound = sound_directory v im o l t of.is path' m.to.inode place.target place.directory
 
   inode_sound : is_reparented m ≡ true → IsSound inode
-  inode_sound moves = sound_directory v im o l t of.is _ m.moved.inode place.inode (ap is_directory (sym place.inode_dinode) ∙ first_of (is_directory m.moved.dinode) _ moves)
-    where
-      first_of : (a b : Bool) → (a && b) ≡ true → a ≡ true
-      first_of true b e = refl
-      first_of false b e = e
+  inode_sound moves = sound_directory v im o l t of.is (in_directory path m.name) m.moved.inode place.inode (moved_directory v im o l t of.is view m room path path' can place moves)
 
   -- the directory that gets the name, once others went
   abbrev without : Holding

@@ -21,7 +21,7 @@ use Rattle.small_changes.proofs.Writing.{in_map}
 
 abbrev pub led_at : Holding → ℕ → ℕ → ℕ
 led_at h zero first = pointer h dinode_length h.own (first / span h.size (height_in h - 1))
-led_at h (suc up) first = pointer h header_length (led_at h up first) (first % span h.size (height_in h - 1 - up) / span h.size (height_in h - 1 - suc up))
+led_at h (suc up) first = pointer h header_length (led_at h up first) ((first % span h.size (height_in h - 1 - up)) / span h.size (height_in h - 1 - suc up))
 
 -- it is the same for each index of content below it, and the first of these is a whole number of such blocks
 pub record IsLedAt (h : Holding) (level first b : ℕ) : Type 0 where
@@ -64,7 +64,7 @@ is_led h _ _ _ _ _ (from_block b k level first c j lead low some) =
           let below : height_in h - 1 - suc over.up ≡ level = (let e = over.high in omega (arith, e)) in
           let rest : (first + j * s + i) % (f * s) ≡ j * s + i = ap (λ n. n % (f * s)) (same ∙ ap (λ n. n + (j * s + i)) over.begins) ∙ mod-mul-add over.index (f * s) (j * s + i) inside in
           ap₂ (pointer h header_length) above
-          (ap (λ n. (first + j * s + i) % span h.size n / span h.size (height_in h - 1 - suc over.up)) here ∙ ap (λ n. (first + j * s + i) % (f * s) / span h.size n) below
+          (ap (λ n. ((first + j * s + i) % span h.size n) / span h.size (height_in h - 1 - suc over.up)) here ∙ ap (λ n. ((first + j * s + i) % (f * s)) / span h.size n) below
           ∙ ap (λ n. n / s) rest ∙ div-mul-add j s i less);
     }
 

@@ -1,6 +1,6 @@
 -- A call that writes, or gives a file another size, writes few blocks.
 use Rattle.std.proofs.Common.{◌≡◌, ◌+◌, ◌-◌, ◌%◌, ◌≤◌, ℕ, inl, inr, false, List, [], ◌∷◌, length, Some, ap, subst, ◌∙◌, arith}
-use Rattle.std.specs.FinMap.{empty, get, get-empty}
+use Rattle.std.specs.FinMap.{FinMap, empty, get, get-empty}
 use Rattle.std.specs.Ordering.{nat_cmp}
 use Rattle.file_tree.specs.Apply.{file_limit}
 use Rattle.file_tree.specs.Tree.{Tree}
@@ -8,6 +8,7 @@ use Rattle.file_tree.specs.declared.call.Call.{Call}
 use Rattle.call_locks.specs.WantLaws.{path_of}
 use Rattle.call_locks.specs.Wants.{wanted}
 use Rattle.drafts.specs.declared.change.Change.{Change}
+use Rattle.drafts.specs.declared.fate.Fate.{Fate}
 use Rattle.drafts.specs.declared.fate.Fate.TheVariants.{Put}
 use Rattle.gfs2_layout.specs.Holding.{Holding}
 use Rattle.gfs2_layout.specs.Inode.{dinode_in, is_directory_in}
@@ -70,7 +71,7 @@ module _ (v : Seen) (call : Call) (node time : ℕ) (change : Change) (im : Imag
   in_one : (at : ℕ) (new : List ℕ) → IsWrite v a at new time change → length change.blocks.items ≤ 1
   in_one at new is = puts_few is.fates change is.finished (a ∷ []) (λ b lock plain bytes put. elim (after_insert empty a b (Put (inode_lock a) false is.puts.bytes)) [
     | inl same ↦ inl same
-    | inr still ↦ absurd (not_none (get is.fates b) (get empty b) (Put lock plain bytes) (ap (λ m. get {R = nat_cmp} m b) is.puts.put ∙ still) (get-empty nat_cmp b) put)
+    | inr still ↦ absurd (not_none (get is.fates b) (get empty b) (Put lock plain bytes) (ap (λ (x : FinMap nat_cmp Fate). get x b) is.puts.put ∙ still) (get-empty nat_cmp b) put)
   ])
 
   own_group : (own : Group) → group_of_node v.groups node ≡ Some own → HasGroup v own
