@@ -20,20 +20,20 @@ use Rattle.image_model.specs.Owners.{Owners}
 use Rattle.image_model.specs.Stands.{Layout}
 use Rattle.image_changes.specs.Does.{is_empty, is_nothing}
 use Rattle.file_calls.specs.Answers.{IsAnswered}
-use Rattle.making_calls.specs.Making as making
-use Rattle.making_calls.specs.Making.{name_in}
-use Rattle.move_calls.specs.Answering as move_answers
-use Rattle.move_calls.specs.Answering.{IsToMove}
-use Rattle.move_calls.specs.Carrying.{HasRoom, IsCarriedOut}
-use Rattle.move_calls.proofs.Doing.{place_in}
-use Rattle.move_ends.specs.Ends.{from_path, to_path}
-use Rattle.name_moves.specs.Moving.{IsMoveIn, Move}
-use Rattle.removing_calls.specs.Removing as removing
-use Rattle.writing_calls.specs.Writing as writing
+use Rattle.file_calls.specs.Making as making
+use Rattle.file_calls.specs.Making.{name_in}
+use Rattle.file_calls.specs.Moving as move_answers
+use Rattle.file_calls.specs.Moving.{IsToMove}
+use Rattle.file_calls.specs.MoveCarrying.{IsCarriedOut}
+use Rattle.file_calls.specs.MoveEnds.{from_path, to_path}
+use Rattle.file_calls.specs.NameMoving.{Move}
+use Rattle.file_calls.specs.Removing as removing
+use Rattle.file_calls.specs.Writing as writing
 use Rattle.small_changes.specs.Counting.{IsOfProfile}
 use Rattle.small_changes.proofs.Removing.{removals_are_small}
 use Rattle.small_calls.specs.Sizes.{CallsAreSmall, IsOfScript}
 use Rattle.small_calls.proofs.Making as making_few
+use Rattle.small_calls.proofs.MovePlaces.{place_in}
 use Rattle.small_calls.proofs.Moving as moving_few
 use Rattle.small_calls.proofs.Writing as writing_few
 
@@ -72,10 +72,9 @@ module _ (v : Seen) (call : Call) (node time : ℕ) (change : Change) (im : Imag
       let meant = moves.meant in
       let name : m.new_name ≡ last_of (to_path call) = ap (λ (x : Move). x.new_name) meant.is in
       let hash : crc32_of (last_of (to_path call)) < 2 ^ 32 = crc32-fits (last_of (to_path call)) (script.names true) in
-      let place = place_in v call m.moved m.to m.replaced meant.ends hash im o l t of.is (meant.images im o l t of.is).0 node out.need out.room
-      (subst (λ x. HasRoom v node x out.need out.room) meant.is out.has) in
-      let few = moving_few.few v m out.room time change im o l t of view (parent_of (from_path call)) (parent_of (to_path call)) out.is
-      (subst (λ x. IsMoveIn im o l (parent_of (from_path call)) (parent_of (to_path call)) x out.room) (sym meant.is) place) moves.can (subst (λ n. crc32_of n < 2 ^ 32) (sym name) hash) in
+      let its_hash : crc32_of m.new_name < 2 ^ 32 = subst (λ n. crc32_of n < 2 ^ 32) (sym name) hash in
+      let place = place_in v call m node out.need out.room im o l t of.is meant.ends (meant.images im o l t of.is).0 meant.is out.has its_hash in
+      let few = moving_few.few v m out.room time change im o l t of view (parent_of (from_path call)) (parent_of (to_path call)) out.is place moves.can its_hash in
       omega (arith, few)
 
   moved_few : (r : Reply) → move_answers.IsAnswered v call node time r change → length change.blocks.items ≤ 375

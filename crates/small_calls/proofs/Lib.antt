@@ -5,5 +5,6 @@ pub mod Named
 pub mod Rooms
 pub mod Making
 pub mod Writing
+pub mod MovePlaces
 pub mod Moving
 pub mod Calls

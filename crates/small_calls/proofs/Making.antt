@@ -25,18 +25,17 @@ use Rattle.path_walks.specs.declared.walk.Place.{Place}
 use Rattle.path_walks.proofs.Images.{says_none, shown_inode, sound_directory}
 use Rattle.room_search.specs.Blocks.{group_holds}
 use Rattle.room_search.proofs.InImage.{are_shown, said_free}
-use Rattle.name_drafts.specs.DirectoryShown.{IsShown}
+use Rattle.directories.specs.Shown.{IsShown}
 use Rattle.name_drafts.specs.Drafting.{GrowsInto, IsPlaceFor, entry_for}
-use Rattle.name_drafts.specs.Need.{name_need}
+use Rattle.name_inserts.specs.Need.{name_need}
 use Rattle.name_drafts.proofs.SeenPaths.{leads_at}
-use Rattle.making_calls.specs.Making.{IsMadeBy, directory_path, makes_directory, name_in}
-use Rattle.making_calls.specs.Searches.{IsNewRoom, blocks_of}
-use Rattle.making_calls.proofs.Rooms.{distinct}
+use Rattle.file_calls.specs.Making.{IsMadeBy, directory_path, makes_directory, name_in}
 use Rattle.small_changes.specs.Counting.{IsOfProfile}
 use Rattle.small_changes.proofs.Counting.{headers, in_headers, in_or_not}
 use Rattle.small_changes.proofs.Removing.{headers_of}
 use Rattle.small_calls.proofs.Leaves.{IsLeafFor, one_leaf}
 use Rattle.small_calls.proofs.Most.{IsPut, no_sort, one_sort, puts_most}
+use Rattle.small_calls.proofs.Rooms.{distinct}
 use Rattle.small_calls.proofs.Named.{list_many, named_at, named_list, takes_few}
 
 module _ (v : Seen) (call : Call) (node time : ℕ) (change : Change) (im : Image) (o : Owners) (l : Layout) (t : Tree) (of : IsOfProfile v im o l t) (hash : crc32_of (name_in call) < 2 ^ 32)
@@ -68,13 +67,10 @@ module _ (v : Seen) (call : Call) (node time : ℕ) (change : Change) (im : Imag
   absent : child_named (records_of dir) name ≡ None
   absent = says_none v im o l t of.is (directory_path call) p.inode name at here (lacks.absent dir shown)
 
-  room : IsNewRoom v (said im.at) made.takes.own made.need made.room
-  room = made.takes.first im.at (are_shown v im o l t of.is)
-
   as_many : length made.room.rest.items ≡ name_need dir name
   as_many =
       let more : made.needs.more ≡ name_need dir name = made.needs.takes.sound dir (subst (λ a. IsShown v a dir) made.directory shown) sound here in
-      let many = room.room.many in
+      let many = (made.takes.first im.at (are_shown v im o l t of.is)).room.many in
       let all = made.needs.all in
       omega (arith, many, all, more)
 
@@ -84,8 +80,8 @@ module _ (v : Seen) (call : Call) (node time : ℕ) (change : Change) (im : Imag
     directory = here;
     dinode = made.at.dinode dir shown.inode;
     absent = absent;
-    free = λ b there. said_free v im o l t of.is (group_holds (said im.at) v.groups made.takes.own made.need) b (room.room.each b there);
-    once = distinct (blocks_of made.room) (rising (blocks_of made.room) room.room.rise);
+    free = λ b there. said_free v im o l t of.is (group_holds (said im.at) v.groups made.takes.own made.need) b ((made.takes.first im.at (are_shown v im o l t of.is)).room.each b there);
+    once = distinct (made.room.new.block ∷ made.room.rest.items) (rising (made.room.new.block ∷ made.room.rest.items) (made.takes.first im.at (are_shown v im o l t of.is)).room.rise);
     as_many = as_many;
   }
 

@@ -12,6 +12,7 @@ use Rattle.resource_groups.specs.Shown.{said}
 use Rattle.image_model.specs.Image.{Image}
 use Rattle.image_model.specs.Owners.{Owners}
 use Rattle.image_model.specs.Stands.{Layout}
+use Rattle.image_model.proofs.Counts.{all_in}
 use Rattle.image_model.proofs.Members.{IsIn, contained, from_flat_map, is_in}
 use Rattle.image_model.proofs.Rising.{Rising}
 use Rattle.image_changes.specs.Does.{IsOf}
@@ -21,7 +22,11 @@ use Rattle.room_search.specs.Blocks.{free_for, free_in, free_in_all, have_too_fe
 use Rattle.room_search.specs.Searches.{AreShown}
 use Rattle.room_search.proofs.Free.{all_rise, free_rises, from_free}
 use Rattle.room_search.proofs.InImage.{are_shown, said_free}
-use Rattle.making_calls.proofs.Rooms.{distinct}
+
+-- numbers that rise stand once each
+pub distinct : (xs : List ℕ) → Rising xs → IsDistinct xs
+distinct [] r = tt
+distinct (x ∷ xs) r = ((λ has. let less : x < x = all_in (λ y. x < y) x xs r.0 (is_in x xs has) in absurd (omega (arith, less))), distinct xs r.1)
 
 -- ---- fronts of lists
 

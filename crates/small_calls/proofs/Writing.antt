@@ -1,6 +1,6 @@
 -- A call that writes, or gives a file another size, writes few blocks.
 use Rattle.std.proofs.Common.{◌≡◌, ◌+◌, ◌-◌, ◌%◌, ◌≤◌, ℕ, inl, inr, false, List, [], ◌∷◌, length, Some, ap, subst, ◌∙◌, arith}
-use Rattle.std.specs.FinMap.{FinMap, empty, get, get-empty}
+use Rattle.std.specs.FinMap.{FinMap, empty, get, get-empty, insert}
 use Rattle.std.specs.Ordering.{nat_cmp}
 use Rattle.file_tree.specs.Apply.{file_limit}
 use Rattle.file_tree.specs.Tree.{Tree}
@@ -23,14 +23,14 @@ use Rattle.image_model.specs.Owners.{Owners, holding}
 use Rattle.image_model.specs.Stands.{Layout}
 use Rattle.image_model.proofs.Counts.{at_in}
 use Rattle.image_model.proofs.Members.{contained}
+use Rattle.image_changes.specs.Drafted.{IsFinished}
 use Rattle.image_changes.specs.Instances.{IsAt}
 use Rattle.path_walks.proofs.Images.{is_shown}
 use Rattle.room_search.specs.Blocks.{group_of_node}
 use Rattle.file_changes.specs.Making.{IsRoomIn}
 use Rattle.file_changes.proofs.Standing.{standing_file}
 use Rattle.name_drafts.proofs.SeenPaths.{leads_at}
-use Rattle.writing_calls.specs.Drafting.{IsWrite}
-use Rattle.writing_calls.specs.Writing.{IsChangeOf, IsNeedOf, IsRoomOf, IsToChange, Puts, PutsThere, by_cut, by_growth, by_write, end_of, in_blocks, in_dinode}
+use Rattle.file_calls.specs.Writing.{IsChangeOf, IsNeedOf, IsRoomOf, IsToChange, Puts, PutsThere, by_cut, by_growth, by_write, end_of, in_blocks, in_dinode}
 use Rattle.small_changes.specs.Counting.{IsOfProfile}
 use Rattle.small_changes.proofs.Counting.{after_insert, not_none, puts_few}
 use Rattle.small_changes.proofs.Cutting.{cuts_are_small}
@@ -67,11 +67,11 @@ module _ (v : Seen) (call : Call) (node time : ℕ) (change : Change) (im : Imag
   counted : IsCounted h
   counted = standing_file v im o l t of.is (path_of call false) a at_file plain files
 
-  -- behind the dinode the one block
-  in_one : (at : ℕ) (new : List ℕ) → IsWrite v a at new time change → length change.blocks.items ≤ 1
-  in_one at new is = puts_few is.fates change is.finished (a ∷ []) (λ b lock plain bytes put. elim (after_insert empty a b (Put (inode_lock a) false is.puts.bytes)) [
+  -- a draft that puts the dinode's block alone
+  in_one : (fates : FinMap nat_cmp Fate) (bytes : List ℕ) → IsFinished fates change → fates ≡ insert empty a (Put (inode_lock a) false bytes) → length change.blocks.items ≤ 1
+  in_one fates put_bytes finished is = puts_few fates change finished (a ∷ []) (λ b lock plain bytes put. elim (after_insert empty a b (Put (inode_lock a) false put_bytes)) [
     | inl same ↦ inl same
-    | inr still ↦ absurd (not_none (get is.fates b) (get empty b) (Put lock plain bytes) (ap (λ (x : FinMap nat_cmp Fate). get x b) is.puts.put ∙ still) (get-empty nat_cmp b) put)
+    | inr still ↦ absurd (not_none (get fates b) (get empty b) (Put lock plain bytes) (ap (λ (x : FinMap nat_cmp Fate). get x b) is ∙ still) (get-empty nat_cmp b) put)
   ])
 
   own_group : (own : Group) → group_of_node v.groups node ≡ Some own → HasGroup v own
@@ -87,7 +87,7 @@ module _ (v : Seen) (call : Call) (node time : ℕ) (change : Change) (im : Imag
   }
 
   pub few : IsChangeOf v call node a time change → length change.blocks.items ≤ 288
-  few (in_dinode at new puts is) = let one = in_one at new is in omega (arith, one)
+  few (in_dinode at new puts is) = let one = in_one is.fates is.puts.bytes is.finished is.puts.put in omega (arith, one)
   few (in_blocks at new need room goes puts needs room_of is) =
       writes_are_small files inodes v im o l t (path_of call false) a at new time room change of view at_file is (room_in at new need room puts needs room_of) (puts_few_bytes call (dinode_in h).size at new script (puts h shown))
   few (by_cut size freed fates cuts is groups done) =
