@@ -42,11 +42,11 @@ module _ (b : ℕ) where
   ]
     where
       data_or_none : (IsHeaderOf g b → ⊥) → IsGroups g ⊎ ((IsHeaderOf g b → ⊥) × (IsDataOf g b → ⊥))
-      data_or_none no = elim (cases_lt b g.data0) [
-        | inl under ↦ inr (no, λ (h : IsDataOf g b). let low = h.low in omega (arith, low, under))
+      data_or_none off = elim (cases_lt b g.data0) [
+        | inl under ↦ inr (off, λ (h : IsDataOf g b). let low = h.low in omega (arith, low, under))
         | inr over ↦ elim (cases_lt b (g.data0 + g.data_blocks)) [
           | inl inside ↦ inl (inr (record { low = over; high = inside }))
-          | inr past ↦ inr (no, λ (h : IsDataOf g b). let high = h.high in omega (arith, high, past))
+          | inr past ↦ inr (off, λ (h : IsDataOf g b). let high = h.high in omega (arith, high, past))
         ]
       ]
 

@@ -9,7 +9,8 @@ use Rattle.std.proofs.lemmas.List.Sums.{sum_by-append, sum_by-cons}
 use Rattle.gfs2_layout.specs.Area.{slots_of}
 use Rattle.gfs2_layout.specs.Holding.{Cell, Holding, InChain, Itself, cell_part, part_at}
 use Rattle.gfs2_layout.specs.Inode.{first_hash, is_hashed_in, is_leaf_part, leaf_area, leaf_in, leaf_length, leaves_of, records_of}
-use Rattle.gfs2_layout.specs.Records.{Record, records_in}
+use Rattle.gfs2_layout.specs.Cutting.{slot_from}
+use Rattle.gfs2_layout.specs.Records.{Record, record_of, records_in}
 use Rattle.gfs2_layout.proofs.Exchanged.{first_has_name, goes}
 use Rattle.hash_dirs.specs.Exchanging.{IsCutFrom}
 use Rattle.hash_dirs.specs.Shown.{IsInChain, IsSound, index_for}
@@ -50,19 +51,25 @@ one_leaf h i len x y (last_one p none chain last) (last_one q none' chain' last'
 
 -- ---- how often something stands in lists
 
+abbrev one_if : Bool → ℕ
+one_if t = if t then 1 else 0
+
+one_so : (t : Bool) → t ≡ true → one_if t ≡ 1
+one_so t e = ap one_if e
+
 module _ (test : Record → Bool) where
   joined : (xs ys : List Record) → count_by test (xs ++ ys) ≡ count_by test xs + count_by test ys
-  joined xs ys = sum_by-append (λ r. if test r then 1 else 0) xs ys
+  joined xs ys = sum_by-append (λ r. one_if (test r)) xs ys
 
   counted : (r : Record) (rs : List Record) → IsIn r rs → test r ≡ true → 1 ≤ count_by test rs
   counted r [] there e = elim there [ ]
   counted r (s ∷ rs) (inl same) e =
-      let one : (if test s then 1 else 0) ≡ 1 = ap (λ t. if t then 1 else 0) (ap test (sym same) ∙ e) in
-      let all = sum_by-cons (λ q. if test q then 1 else 0) s rs in
+      let one = one_so (test s) (ap test (sym same) ∙ e) in
+      let all = sum_by-cons (λ q. one_if (test q)) s rs in
       omega (arith, one, all)
   counted r (s ∷ rs) (inr later) e =
       let more = counted r rs later e in
-      let all = sum_by-cons (λ q. if test q then 1 else 0) s rs in
+      let all = sum_by-cons (λ q. one_if (test q)) s rs in
       omega (arith, more, all)
 
   module _ (f : ℕ → List Record) where
@@ -152,9 +159,10 @@ lost_back h k gone name b lost sound has = elim (cases_Bool (is_hashed_in h)) [
       | inl same ↦
           let c = cut is in
           let new : IsIn has.one (records_in (leaf_area k c.leaf)) = subst (λ x. IsIn has.one (records_in (leaf_area k x))) same has.there in
-          let exchanged = goes (leaf_area h c.leaf) (leaf_area k c.leaf) c.place c.at (first_has_name gone (slots_of (leaf_area h c.leaf)) _ c.first).0 c.slots in
-          let rest = Contains-permutation _ _ has.one exchanged.after (contained has.one _ new) in
-          let old = Contains-permutation _ _ has.one (IsPermutation-sym exchanged.before) (contained has.one (_ ∷ exchanged.rest) (inr (is_in has.one exchanged.rest rest))) in
+          let gone_one = record_of (slot_from c.place (leaf_area h c.leaf)) in
+          let exchanged = goes (leaf_area h c.leaf) (leaf_area k c.leaf) c.place c.at (first_has_name gone (slots_of (leaf_area h c.leaf)) (slot_from c.place (leaf_area h c.leaf)) c.first).0 c.slots in
+          let rest = Contains-permutation (records_in (leaf_area k c.leaf)) exchanged.rest has.one exchanged.after (contained has.one (records_in (leaf_area k c.leaf)) new) in
+          let old = Contains-permutation (gone_one ∷ exchanged.rest) (records_in (leaf_area h c.leaf)) has.one (IsPermutation-sym (records_in (leaf_area h c.leaf)) (gone_one ∷ exchanged.rest) exchanged.before) (contained has.one (gone_one ∷ exchanged.rest) (inr (is_in has.one exchanged.rest rest))) in
           subst (λ x. IsIn has.one (records_in (leaf_area h x))) (sym same) (is_in has.one (records_in (leaf_area h c.leaf)) old)
     ]
 
