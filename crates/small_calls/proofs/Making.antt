@@ -85,7 +85,7 @@ module _ (v : Seen) (call : Call) (node time : ℕ) (change : Change) (im : Imag
     as_many = as_many;
   }
 
-  its : Holding
+  abbrev its : Holding
   its = (made.added.adds im o l t (directory_path call) of.is placed).0
 
   into : GrowsInto v made.added.fates name (entry_for (makes_directory call) made.added.number made.room.new.block) time made.added.taken dir its
