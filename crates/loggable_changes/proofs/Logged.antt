@@ -155,7 +155,7 @@ module _ (v : Seen) (call : Call) (reply : Reply) (change : Change) (im : Image)
 
   -- ---- what they have
 
-  lock_at : ℕ → LockName
+  abbrev lock_at : ℕ → LockName
   lock_at k = get_or change.locks.items k (record { kind = 0; number = 0 })
 
   written_at : (k : ℕ) (w : Written) → k < length change.blocks.items → slice_get change.blocks.items k ≡ Some w → IsWritten l after o there.owners w (lock_at k)
