@@ -1,0 +1,10 @@
+pub mod Most
+pub mod TableBlocks
+pub mod Leaves
+pub mod Named
+pub mod Rooms
+pub mod Making
+pub mod Writing
+pub mod MovePlaces
+pub mod Moving
+pub mod Calls
