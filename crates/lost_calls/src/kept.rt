@@ -1,13 +1,13 @@
 // The number of the last call that a loss keeps.
-ghost use Rattle.std.specs.Prelude.{ℕ, ◌≡◌, ◌≤◌, List, ◌∷◌};
+ghost use Rattle.std.specs.Prelude.{◌≡◌, ◌+◌, List, ◌∷◌, if◌then◌else◌};
 ghost use Rattle.cluster_history.specs.Changes.{Changes};
-ghost use Rattle.cluster_history.specs.History.{IsNumbered, calls_of};
-ghost use Rattle.cluster_history.specs.Losses.{LossIsRight};
+ghost use Rattle.cluster_history.specs.History.{calls_of};
 ghost use Rattle.file_tree.specs.Names.{is_same_path as is_same_path_of, leads_to};
+ghost use Rattle.right_losses.specs.Kept.{kept_by, next_change};
 ghost use Rattle.run_rules.specs.Follows.{history_of};
 ghost use Rattle.script_lang.specs.declared.script.Client.{Client};
 ghost use Rattle.trace_text.specs.declared.item.TraceItem.{TraceItem as Item};
-ghost use Rattle.lost_calls.specs.Keeping.{kept_by, kept_in};
+ghost use Rattle.lost_calls.specs.Items.{found_before};
 
 use file_tree::{Call, Name, Path, Reply};
 use trace_text::TraceItem;
@@ -33,13 +33,6 @@ fn is_same_path(one: &Path, two: &Path) -> bool
     goes_on(one.names(), two.names()) && goes_on(two.names(), one.names())
 }
 
-// What an item says of what a loss keeps: it ends before this number, or goes on behind the last call.
-#[derive(Clone, Copy)]
-enum Step {
-    Ends(u64),
-    GoesOn(u64),
-}
-
 // Whether a call that was answered so changed the tree.
 fn changes(call: &Call, reply: &Reply) -> bool
     ensures { result ≡ Changes (record { call = call.now; reply = reply.now }) }
@@ -55,9 +48,9 @@ fn changes(call: &Call, reply: &Reply) -> bool
     }
 }
 
-// The number that a loss keeps up to with this item, where the last call before it has the number `last`: one less than that of the first call above `upto` that changed the tree.
-fn number_before(item: &TraceItem, upto: u64, last: u64) -> Step
-    ensures { (clients : List Client) (is : List Item) → kept_in upto last (history_of clients (item.now ∷ is)) ≡ kept_by upto (history_of clients is) result }
+// The number of an item that is a call of node 1 above `upto` and changed the tree.
+fn change_above(item: &TraceItem, upto: u64) -> Option<u64>
+    ensures { (clients : List Client) (is : List Item) → next_change 1 upto (history_of clients (item.now ∷ is)) ≡ found_before result (next_change 1 upto (history_of clients is)) }
 {
     match item {
         TraceItem::Call {
@@ -66,28 +59,53 @@ fn number_before(item: &TraceItem, upto: u64, last: u64) -> Step
             call,
             reply,
             ..
-        } if *node == 1 => {
-            if *number > upto && changes(call, reply) {
-                Step::Ends(*number - 1)
-            } else {
-                Step::GoesOn(*number)
-            }
-        }
-        _ => Step::GoesOn(last),
+        } if *node == 1 && *number > upto && changes(call, reply) => Some(*number),
+        _ => None,
     }
 }
 
-/// Up to which number a loss keeps the calls of node 1, whose journal has those up to `upto`: to one less than the first above that which changed the tree, or to the last. It goes over the
-/// items, and takes no memory.
-pub fn kept_number(items: &[TraceItem], upto: u64) -> u64
-    ensures { (clients : List Client) → IsNumbered (history_of clients items.now) → upto ≤ calls_of 1 (history_of clients items.now) → LossIsRight (history_of clients items.now) 1 upto result }
+// That of the first.
+fn next_change_above(items: &[TraceItem], upto: u64) -> Option<u64>
+    ensures { (clients : List Client) → result ≡ next_change 1 upto (history_of clients items.now) }
 {
-    let mut last = 0;
     for item in items {
-        match number_before(item, upto, last) {
-            Step::Ends(number) => return number,
-            Step::GoesOn(number) => last = number,
+        if let Some(number) = change_above(item, upto) {
+            return Some(number);
         }
     }
-    last
+    None
+}
+
+// Whether an item is a call of node 1.
+fn is_call(item: &TraceItem) -> bool
+    ensures { (clients : List Client) (is : List Item) → calls_of 1 (history_of clients (item.now ∷ is)) ≡ (if result then 1 else 0) + calls_of 1 (history_of clients is) }
+{
+    match item {
+        TraceItem::Call { node, .. } => *node == 1,
+        _ => false,
+    }
+}
+
+// How many calls of node 1 there are.
+fn count_calls(items: &[TraceItem]) -> u64
+    ensures { (clients : List Client) → result ≡ calls_of 1 (history_of clients items.now) }
+{
+    let mut count = 0;
+    for item in items {
+        if is_call(item) {
+            count += 1;
+        }
+    }
+    count
+}
+
+/// Up to which number a loss keeps the calls of node 1, whose journal has those up to `upto`: to one less than the first above that which changed the tree, or all. It goes over the items at
+/// most twice, and takes no memory.
+pub fn kept_number(items: &[TraceItem], upto: u64) -> u64
+    ensures { (clients : List Client) → result ≡ kept_by 1 upto (history_of clients items.now) }
+{
+    match next_change_above(items, upto) {
+        Some(number) => number - 1,
+        None => count_calls(items),
+    }
 }
