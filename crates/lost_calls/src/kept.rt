@@ -1,5 +1,5 @@
 // The number of the last call that a loss keeps.
-ghost use Rattle.std.specs.Prelude.{◌≡◌, ◌+◌, List, ◌∷◌, if◌then◌else◌};
+ghost use Rattle.std.specs.Prelude.{◌≡◌, ◌+◌, ◌<◌, IfSome, List, ◌∷◌, if◌then◌else◌};
 ghost use Rattle.cluster_history.specs.Changes.{Changes};
 ghost use Rattle.cluster_history.specs.History.{calls_of};
 ghost use Rattle.file_tree.specs.Names.{is_same_path as is_same_path_of, leads_to};
@@ -50,7 +50,8 @@ fn changes(call: &Call, reply: &Reply) -> bool
 
 // The number of an item that is a call of node 1 above `upto` and changed the tree.
 fn change_above(item: &TraceItem, upto: u64) -> Option<u64>
-    ensures { (clients : List Client) (is : List Item) → next_change 1 upto (history_of clients (item.now ∷ is)) ≡ found_before result (next_change 1 upto (history_of clients is)) }
+    ensures is { (clients : List Client) (is : List Item) → next_change 1 upto (history_of clients (item.now ∷ is)) ≡ found_before result (next_change 1 upto (history_of clients is)) }
+    ensures above { IfSome result (λ number. upto < number) }
 {
     match item {
         TraceItem::Call {
@@ -66,7 +67,8 @@ fn change_above(item: &TraceItem, upto: u64) -> Option<u64>
 
 // That of the first.
 fn next_change_above(items: &[TraceItem], upto: u64) -> Option<u64>
-    ensures { (clients : List Client) → result ≡ next_change 1 upto (history_of clients items.now) }
+    ensures is { (clients : List Client) → result ≡ next_change 1 upto (history_of clients items.now) }
+    ensures above { IfSome result (λ number. upto < number) }
 {
     for item in items {
         if let Some(number) = change_above(item, upto) {
