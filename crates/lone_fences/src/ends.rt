@@ -1,6 +1,6 @@
 use fault_counts::Rise;
 use journal_reads::ReadFault;
-use std::alloc::AllocFailed;
+use std::alloc::AllocError;
 
 /// Why a crashed node wasn't fenced, or isn't told of what it lost.
 #[derive(Clone, Copy, Debug, PartialEq, Eq)]
@@ -27,13 +27,13 @@ impl From<ReadFault> for FenceEnd {
     }
 }
 
-impl<T: Drop> From<AllocFailed<T>> for FenceEnd {
+impl From<AllocError> for FenceEnd {
     ghost use Rattle.std.specs.Prelude.{◌≡◌};
     ghost use Rattle.lone_fences.specs.declared.ends.FenceEnd.TheVariants.{NoMemory};
 
     ghost from_gives = { λ _ end. end ≡ NoMemory };
 
-    fn from(_: AllocFailed<T>) -> Self {
+    fn from(_: AllocError) -> Self {
         FenceEnd::NoMemory
     }
 }
