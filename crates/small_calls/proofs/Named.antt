@@ -1,18 +1,18 @@
 -- A directory to which a name comes: to which of its blocks something is done, and how many blocks it takes.
-use Rattle.std.proofs.Common.{◌≡◌, ◌+◌, ◌^◌, ◌<◌, ◌≤◌, ◌⊎◌, ℕ, inl, inr, true, List, ◌∷◌, ◌++◌, length, sym, subst, ◌∙◌, arith}
+use Rattle.std.proofs.Common.{◌≡◌, ◌+◌, ◌*◌, ◌/◌, ◌^◌, ◌<◌, ◌≤◌, ◌⊎◌, ℕ, inl, inr, true, List, ◌∷◌, ◌++◌, length, sym, subst, ◌∙◌, arith}
 use Rattle.std.proofs.Math.ListN.{length-append}
 use Rattle.crc_words.specs.Remainder.{crc32_of}
 use Rattle.gfs2_layout.specs.Device.{IsBlockSize}
 use Rattle.gfs2_layout.specs.Holding.{Holding}
-use Rattle.gfs2_layout.specs.Inode.{entry, entry_block, first_hash, is_directory_in, is_hashed_in, table_count}
+use Rattle.gfs2_layout.specs.Inode.{depth_in, entry, entry_block, first_hash, is_directory_in, is_hashed_in, table_count}
 use Rattle.dinode_tree.specs.Below.{IsBelow}
 use Rattle.dinode_tree.proofs.Sound.{led_of_part}
 use Rattle.table_growth.specs.Pointers.{HasPointerOf}
 use Rattle.hash_dirs.specs.Shown.{IsSound, index_for}
 use Rattle.hash_dirs.proofs.Chained.{index_low}
+use Rattle.hash_dirs.proofs.Indexes.{run_within}
 use Rattle.hash_steps.specs.Leaves.{first_of, leaf_depth, run_of}
 use Rattle.hash_inserts.specs.Inserting.{IsInsertedAt, a_leaf_with_room, its_dinode, of_pointers, of_table, one_taken, the_last_leaf}
-use Rattle.hash_inserts.proofs.Pointing.{run_low}
 use Rattle.name_inserts.specs.Inserting.{IsNamedAt, of_converted, of_hashed, of_linear}
 use Rattle.name_inserts.specs.Need.{chain_of, name_need}
 use Rattle.name_inserts.proofs.Led.{entry_below}
@@ -28,6 +28,16 @@ narrow size (inl e) = omega (arith, e)
 narrow size (inr (inl e)) = omega (arith, e)
 narrow size (inr (inr (inl e))) = omega (arith, e)
 narrow size (inr (inr (inr e))) = omega (arith, e)
+
+-- the pointers that lead where a pointer leads are all of the table
+run_low : (h : Holding) (i : ℕ) → IsSound h → is_hashed_in h ≡ true → i < table_count h → first_of h i + run_of h (leaf_depth h i) ≤ table_count h
+run_low h i sound hashed low =
+    let is = sound.inode.hashed hashed in
+    let depth : leaf_depth h i ≤ depth_in h = (is.leaves (entry h i) (first_hash h i) 0 (is.leads i low)).depth in
+    by (i / run_of h (leaf_depth h i)) (run_of h (leaf_depth h i)) (table_count h) (run_within i (depth_in h) (leaf_depth h i) depth low)
+  where
+    by : (q r all : ℕ) → (q + 1) * r ≤ all → q * r + r ≤ all
+    by q r all most = omega (arith, most)
 
 module _ (h : Holding) (name : List ℕ) (sound : IsSound h) (directory : is_directory_in h ≡ true) (hash : crc32_of name < 2 ^ 32) where
   wide : 512 ≤ h.size
