@@ -53,12 +53,12 @@ step clients time p q (HasNoSpace name call need free next none ends) counted = 
 step clients time p q (BeginsFlush any idle due room) counted = counted
 step clients time p q (BeginsHeader any idle home live room) counted = counted
 step clients time p q (WritesLog new f b bytes list some numbers flushes may gains) counted = other clients p counted (trace.WriteLog 1 b) refl
-step clients time p q (EndsBlocks new f done bytes list some stage flushes gains) counted = other clients p counted (trace.Barrier 1) refl
+step clients time p q (EndsBlocks new f done bytes list some stage flushes flies gains) counted = other clients p counted (trace.Barrier 1) refl
 step clients time p q (WritesHead new f b sequence bytes list some numbers flushes may gains) counted = other clients p counted (trace.WriteHead 1 b sequence p.numbers.begun) refl
-step clients time p q (EndsFlush new f tail bytes list some numbers stage flushes gains) counted = other clients p counted (trace.Barrier 1) refl
+step clients time p q (EndsFlush new f tail bytes list some numbers stage flushes flies gains) counted = other clients p counted (trace.Barrier 1) refl
 step clients time p q (Commits b next ends) counted = other clients p counted (trace.Commit 1 p.log.sequence p.numbers.low) refl
 step clients time p q (GoesHome any new lock b bytes list home may gains) counted = other clients p counted (trace.WriteHome 1 b) refl
-step clients time p q (Rests new list any no_header settles gains) counted = other clients p counted (trace.Barrier 1) refl
+step clients time p q (Rests new list any no_header settles flies gains) counted = other clients p counted (trace.Barrier 1) refl
 step clients time p q (Unmounts answering) counted = other clients p counted (trace.Unmount 1) refl
 
 steps : (clients : List Client) (time : ℕ) (p q : Point) → Steps time p q → Counted clients p → Counted clients q
