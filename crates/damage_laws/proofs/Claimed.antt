@@ -30,8 +30,8 @@ use Rattle.image_model.specs.Rules.{HasSoundGroup, IsOutside}
 use Rattle.image_model.proofs.Held.{none_some}
 use Rattle.image_model.proofs.Rows.{and_left}
 use Rattle.image_model.proofs.Reach.{Leading, leading}
-use Rattle.path_walks.specs.Walks.{Names, IsDirectoryAt, IsHeldAt, LeadsTo, at_root, by_name, IsNext, the_root, the_child}
-use Rattle.path_walks.proofs.Images.{child_is}
+use Rattle.file_calls.specs.Walks.{Names, IsDirectoryAt, IsHeldAt, LeadsTo, at_root, by_name, IsNext, the_root, the_child}
+use Rattle.file_calls.proofs.Images.{child_is}
 use Rattle.damage_laws.specs.Telling.{IsReadFrom, IsAstray, HasAstray}
 use Rattle.damage_laws.proofs.Astray.{whole_or}
 

@@ -16,9 +16,9 @@ use Rattle.image_model.specs.Image.{Image, IsImage}
 use Rattle.image_model.specs.Owners.{Owner, Super, InGroup, Free, Nobody, Root, Master, Named, Below, Chained, IsWithin, is_dinode}
 use Rattle.image_model.specs.Rules.{Breaks, two_owners}
 use Rattle.image_model.proofs.Held.{none_some, some_same}
-use Rattle.path_walks.specs.Walks.{LeadsTo, Names, at_root, by_name}
-use Rattle.path_walks.proofs.Leads.{no_end}
-use Rattle.path_walks.proofs.Lists.{parent_of_next}
+use Rattle.file_calls.specs.Walks.{LeadsTo, Names, at_root, by_name}
+use Rattle.file_calls.proofs.Leads.{no_end}
+use Rattle.file_calls.proofs.Lists.{parent_of_next}
 use Rattle.file_calls.specs.NameWay.{IsOnWay, its_dinode, its_leaf, its_pointer}
 use Rattle.file_calls.specs.Removing.{Goes}
 use Rattle.directories.specs.Taking.{HasRecordOf}

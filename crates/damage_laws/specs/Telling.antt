@@ -26,7 +26,7 @@ use Rattle.image_mount.specs.Mounted.{IsMounted, MountedValue}
 use Rattle.file_calls.specs.Making as making
 use Rattle.file_calls.specs.MoveEnds.{IsRenaming}
 use Rattle.file_calls.specs.Moving as moving
-use Rattle.path_walks.specs.Walks as path
+use Rattle.file_calls.specs.Walks as path
 use Rattle.file_calls.specs.Removing as removing
 use Rattle.resource_groups.specs.Putting.{HasDataBlock}
 use Rattle.resource_groups.specs.Shown.{IsHeaderOf}

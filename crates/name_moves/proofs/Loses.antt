@@ -33,7 +33,7 @@ use Rattle.directories.specs.Shown as dirs
 use Rattle.directories.specs.Taking.{HasRecordOf, IsWithoutName}
 use Rattle.directories.specs.Taking as taking
 use Rattle.directories.proofs.Sound.{says_sound}
-use Rattle.path_walks.proofs.Images.{none_named}
+use Rattle.name_drafts.proofs.Images.{none_named}
 use Rattle.name_moves.specs.Becoming.{CanTell, HasItsBlocks, IsAtRecord, IsLostAt, LosesAll, LosesName, none_went, of_linear, of_none, of_one, of_sound}
 
 -- ---- what a draft leaves of what is shown
