@@ -103,9 +103,9 @@ module _ (im : Image) (a b : ℕ) (name : List ℕ) (has : HasInode im a) (dir :
 
 -- ---- what a view shows
 
--- the groups of the list are those of a sound one
+-- the groups of the list are those of a whole one
 pub has_group : (v : Seen) (im : Image) (read : IsReadFrom v im) (g : Rindex) → IsListed read.list g → HasSoundGroup im g
-has_group v im read g there = (read.list, read.sound, there)
+has_group v im read g there = (read.list, read.whole, there)
 
 module _ (v : Seen) (im : Image) (read : IsReadFrom v im) (is_image : IsImage im) where
   -- an inode that is read as if it had every block of the image is one that the view shows
@@ -195,4 +195,4 @@ module _ (v : Seen) (im : Image) (read : IsReadFrom v im) (is_image : IsImage im
 
   -- a block in none of the view's groups is in none of the image's
   pub outside : (b : ℕ) → ¬ (HasDataBlock v b) → IsOutside im b
-  outside b out = (read.list, read.sound, λ g there of. out (group_of_entry g, (read.groups (group_of_entry g)).1 (g, there, refl), record { low = of.low; high = of.high }))
+  outside b out = (read.list, read.whole, λ g there of. out (group_of_entry g, (read.groups (group_of_entry g)).1 (g, there, refl), record { low = of.low; high = of.high }))
