@@ -12,7 +12,7 @@ use Rattle.linear_dirs.specs.Shown.{entry_of}
 use Rattle.pointer_tables.specs.Directories.{IsInChain, chain_head, chain_next}
 use Rattle.pointer_tables.specs.declared.pointer.Pointer.{Pointer}
 use Rattle.hash_dirs.specs.Broken.{IsBroken, comes_again}
-use Rattle.hash_dirs.specs.Finding.{IsFirstNamed, IsFoundAlong, IsLeafOfName, IsNamedLater, in_leaf, in_none, nowhere, named_in}
+use Rattle.hash_dirs.specs.Finding.{IsEnded, IsFirstNamed, IsFoundAlong, IsLeafOfName, IsNamedLater, in_leaf, in_none, nowhere, named_in}
 use Rattle.hash_dirs.specs.Shown.{LeadsToLeaf, by_pointer, by_leaf, index_for}
 use Rattle.hash_dirs.specs.Walking.{IsAlong, IsLeafOf, IsNameless, IsSmall, OfEach, leaf_on}
 use Rattle.hash_dirs.specs.declared.chains.LeafAt.{LeafAt}
@@ -109,6 +109,35 @@ module _ (h : Holding) (i : ℕ) where
       where
         which : (a b : ℕ) → (a < b) ⊎ ((a ≡ b) ⊎ (b < a))
         which a b = grind arith
+
+-- a chain that shares a leaf with one that ends goes on behind it as that one does, and ends
+module _ (h : Holding) (j i p q x : ℕ) (other : IsInChain h j p x) (here : IsInChain h i q x) where
+  follows : (n y : ℕ) → IsInChain h j (p + n) y → IsInChain h i (q + n) y
+  unfolding leaf_on
+  follows zero y chain =
+      let none : p + 0 ≡ p = omega arith in
+      let same : y ≡ x = chain_one h j p y x (subst (λ k. IsInChain h j k y) none chain) other in
+      let at : q ≡ q + 0 = omega arith in
+      subst (IsInChain h i (q + 0)) (sym same) (subst (λ k. IsInChain h i k x) at here)
+  follows (suc n) y chain =
+      let z = leaf_on h j (p + n) in
+      let one : p + suc n ≡ suc (p + n) = omega arith in
+      let is : y ≡ (leaf_in h z).next = chain_is h j (p + suc n) y chain ∙ ap (leaf_on h j) one in
+      let goes : (leaf_in h z).next ≢ 0 = λ e. leaf_there h j (p + suc n) y chain (is ∙ e) in
+      let next = chain_next (q + n) z (follows n z (there_before h j (p + suc n) y chain (p + n) (omega arith))) goes in
+      let at : q + n + 1 ≡ q + suc n = omega arith in
+      subst (λ k. IsInChain h i k y) at (subst (IsInChain h i (q + n + 1)) (sym is) next)
+
+  pub joined_ends : IsEnded h j → IsEnded h i
+  joined_ends end = elim (which end.0 p) [
+    | inl less ↦ absurd (ended h j end.0 end.1 p x end.2 end.3 less other)
+    | inr behind ↦
+        let at : end.0 ≡ p + (end.0 - p) = omega (arith, behind) in
+        (q + (end.0 - p), end.1, follows (end.0 - p) end.1 (subst (λ k. IsInChain h j k end.1) at end.2), end.3)
+  ]
+    where
+      which : (a b : ℕ) → (a < b) ⊎ (b ≤ a)
+      which a b = grind arith
 
 -- a name that leads nowhere isn't there
 pub none_named : (o : Option Record) → option_map entry_of o ≡ None → o ≡ None
