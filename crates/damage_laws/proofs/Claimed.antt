@@ -83,8 +83,8 @@ module _ (im : Image) (a b : ℕ) (name : List ℕ) (has : HasInode im a) (dir :
       (λ r there dots. in_dinode has.1.by a has.0 r has.1.claimed has.1.dinode dir plain (subst (λ rs. Contains rs r) (cond-false _ _ _ plain) there) (dots ∙ is.not_dots))
 
   hashed_claims : is_hashed_in (every im a) ≡ true → (i : ℕ) (named : Option Record) (e : Entry) → IsFirstNamed (every im a) i name named → Some e ≡ option_map entry_of named → e.addr ≡ b → IsNamedBy im a b name
-  hashed_claims hashed i _ e (nowhere ends none) leads address = absurd (none_some (sym leads))
-  hashed_claims hashed i _ e (in_leaf place x r chain found later) leads address =
+  hashed_claims hashed i _ e (nowhere ends none heads) leads address = absurd (none_some (sym leads))
+  hashed_claims hashed i _ e (in_leaf place x r chain found later heads) leads address =
       let c = chain_claims im a has hashed i place x chain in
       let led = record_is (records_in (leaf_area (every im a) x)) name r found in
       let there : r.address ≡ b = some_address r e leads ∙ address in

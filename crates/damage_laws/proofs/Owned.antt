@@ -212,9 +212,9 @@ module _ (v : Seen) (im : Image) (read : IsReadFrom v im) (is_image : IsImage im
   ]
     where
       in_leaf : (b : ℕ) (found : Option ℕ) → IsLeafOfName (every im dir) name found → found ≡ Some b → is_hashed_in (every im dir) ≡ true → Goes (every im a) b → HasInode im a → HasInode im dir → Breaks im 3 b
-      in_leaf b _ (in_this place x r chain is later) e hashed goes has top =
+      in_leaf b _ (in_this place x r chain is later heads) e hashed goes has top =
           leaf_told a dir (index_for (every im dir) name) place b apart has top hashed (subst (IsInChain (every im dir) (index_for (every im dir) name) place) (some_same e) chain) goes
-      in_leaf b _ (in_none ends later) e hashed goes has top = absurd (none_some e)
+      in_leaf b _ (in_none ends later heads) e hashed goes has top = absurd (none_some e)
 
       by : (b : ℕ) → HasRecordOf (every im dir) name b → Goes (every im a) b → HasInode im a → HasInode im dir → Breaks im 3 b ⊎ IsAhead path
       by _ (taking.HasRecordOf.in_linear plain) goes has top = goes_told path a dir some leads above has top goes
