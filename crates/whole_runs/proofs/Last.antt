@@ -6,7 +6,7 @@ use Rattle.std.proofs.lemmas.List.{length-append}
 use Rattle.std.specs.List.{filter_map}
 use Rattle.disk_items.specs.Deeds.{AreDoneBy, Deed, MadeBarrier, WasFenced, Wrote, deed_of, deed_told}
 use Rattle.disk_turns.proofs.Gaining.{gains_none}
-use Rattle.logged_runs.specs.Ends.{EndsTo, Landed, Said, Unsaid, clean_item, last_block, with_clean}
+use Rattle.logged_runs.specs.StepEnds.{EndsTo, Landed, Said, Unsaid, clean_item, last_block, with_clean}
 use Rattle.logged_runs.specs.Disks.{disk_after, first_told, told_count}
 use Rattle.logged_runs.specs.Fails.{AsItWas, FailsTo, InAWrite}
 use Rattle.logged_runs.specs.StepLaws.{StepsAreTold, TellsWhatItDoes}

@@ -25,7 +25,7 @@ use Rattle.journal_outcomes.specs.Images.{NoFalseHeader, ring_at}
 use Rattle.journal_replays.specs.Replays.{IsReplayWith}
 use Rattle.log_layout.specs.Journal.{head_in}
 use Rattle.log_layout.specs.Laws.{HeadersReadBack}
-use Rattle.logged_runs.specs.Ends.{EndsTo}
+use Rattle.logged_runs.specs.StepEnds.{EndsTo}
 use Rattle.logged_runs.specs.Heads.{HasFirst, IsAcceptedIn}
 use Rattle.logged_runs.specs.Laws.{EndsAreTold, FencesAreTold, FrontStands, FrontsStand, HeadsAreThere, IsStop, MayLeave, RunsBeginSo, StandsFenced, StopsAreTold, WhatRemainsIsTold, to_fence}
 use Rattle.logged_runs.specs.Standing.{StandsAsTold}

@@ -14,7 +14,7 @@ use Rattle.journal_outcomes.specs.Images.{NoFalseHeader, ring_at}
 use Rattle.log_layout.specs.Journal.{head_in}
 use Rattle.log_layout.specs.declared.log_header.LogHeader.{LogHeader}
 use Rattle.log_values.specs.Log.{Journal}
-use Rattle.logged_runs.specs.Ends.{EndsTo, Landed, Said, Unsaid, last_block}
+use Rattle.logged_runs.specs.StepEnds.{EndsTo, Landed, Said, Unsaid, last_block}
 use Rattle.logged_runs.specs.Laws.{IsStop, MayLeave, StandsFenced}
 use Rattle.logged_runs.specs.Standing.{StandsAsTold}
 use Rattle.logged_runs.specs.Disks.{disk_after, first_told}
