@@ -5,6 +5,6 @@ pub mod FailedReplays
 -- Passed on to the crates above.
 pub use Rattle.image_outcomes.proofs.CutShort
 pub use Rattle.image_outcomes.proofs.Found
-pub use Rattle.image_recovery.proofs.Ending as ImageRecoveryEnding
+pub use Rattle.image_recovery.proofs.Ending as RecoveryEnding
 pub use Rattle.image_recovery.proofs.Mapped
 pub use Rattle.image_recovery.proofs.LeftStanding

@@ -14,5 +14,5 @@ pub use Rattle.making_calls.proofs.Images
 pub use Rattle.making_calls.proofs.FoundLists
 pub use Rattle.making_calls.proofs.Leads
 pub use Rattle.making_calls.proofs.Lists
-pub use Rattle.making_calls.proofs.RoomSearchInImage
+pub use Rattle.making_calls.proofs.FoundInImage
 pub use Rattle.making_calls.proofs.Free

@@ -37,4 +37,4 @@ pub use Rattle.hash_steps.proofs.Put as PutSteps
 pub use Rattle.hash_steps.proofs.Sound
 pub use Rattle.hash_steps.proofs.Chained
 pub use Rattle.hash_steps.proofs.Along
-pub use Rattle.hash_steps.proofs.HashDirsLeaves
+pub use Rattle.hash_steps.proofs.ChainLeaves

@@ -16,5 +16,5 @@ pub use Rattle.table_changes.specs.Tables
 pub use Rattle.table_changes.specs.Pointers
 pub use Rattle.hash_steps.specs.Shown
 pub use Rattle.hash_steps.specs.Broken
-pub use Rattle.hash_steps.specs.Walking as HashDirsWalking
+pub use Rattle.hash_steps.specs.Walking as ChainWalking
 pub use Rattle.hash_steps.specs.chains

@@ -12,7 +12,7 @@ pub mod Converted
 -- Passed on to the crates above.
 pub use Rattle.hash_dirs.proofs.Indexes
 pub use Rattle.hash_dirs.proofs.Chained
-pub use Rattle.hash_dirs.proofs.Leaves as HashDirsLeaves
+pub use Rattle.hash_dirs.proofs.Leaves as ChainLeaves
 pub use Rattle.hash_dirs.proofs.Along
 pub use Rattle.hash_dirs.proofs.LeafHeads
 pub use Rattle.hash_dirs.proofs.Cuts

@@ -22,7 +22,7 @@ use Rattle.image_model.proofs.Held.{none_some}
 use Rattle.journal_outcomes.specs.Disks.{flown_by}
 use Rattle.logged_steps.specs.Reading.{WorksOn}
 use Rattle.lone_images.specs.Lone.{all_locks}
-use Rattle.logged_steps.specs.LoneLogsLaws.{IsItsView}
+use Rattle.logged_steps.specs.LoggedLaws.{IsItsView}
 use Rattle.logged_steps.specs.States.{IsLoggedNode, NodeState, trees_on}
 use Rattle.logged_steps.proofs.Reading.{cache_agrees, no_bytes, place_unlocked, view_cached}
 use Rattle.lone_machine.specs.Alone.{Begun, now}

@@ -14,10 +14,10 @@ use Rattle.journal_outcomes.specs.Images.{IsImageOutcome, NoFalseHeader}
 use Rattle.journal_outcomes.specs.Rings.{InFlight}
 use Rattle.log_layout.specs.Transactions.{after}
 use Rattle.log_values.specs.Flushing.{block_at, first_place}
-use Rattle.logged_steps.specs.LoneEndsEnds.{CleanNodesHaveEnded, FliesLast, IsHeadAtEnd, ItsEndsLand, ItsEndsStand}
-use Rattle.logged_steps.specs.LoneEndsEnds.{IsHeadAtEnd as end_head}
+use Rattle.logged_steps.specs.NodeEnds.{CleanNodesHaveEnded, FliesLast, IsHeadAtEnd, ItsEndsLand, ItsEndsStand}
+use Rattle.logged_steps.specs.NodeEnds.{IsHeadAtEnd as end_head}
 use Rattle.logged_steps.specs.Fences.{ImagesAtRestStay}
-use Rattle.logged_steps.specs.LoneLogsLaws.{ItsHistoryIsLegal, Remains}
+use Rattle.logged_steps.specs.LoggedLaws.{ItsHistoryIsLegal, Remains}
 use Rattle.logged_steps.specs.States.{HasLandedAs, NodeState, Numbers, trees_on}
 use Rattle.logged_steps.proofs.Landed.{landed_outcome, landed_true}
 use Rattle.lone_machine.specs.Alone.{Begun}

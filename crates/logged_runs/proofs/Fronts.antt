@@ -22,7 +22,7 @@ use Rattle.journal_outcomes.specs.Disks.{FencesLeaveOutcomes, flown_by}
 use Rattle.journal_outcomes.specs.Images.{NoFalseHeader, ring_at}
 use Rattle.log_layout.specs.Journal.{IsClean}
 use Rattle.log_layout.specs.declared.log_header.LogHeader.{LogHeader}
-use Rattle.logged_steps.specs.LoneLogsLaws.{ItsHistoryIsLegal, Remains, RemainsWith}
+use Rattle.logged_steps.specs.LoggedLaws.{ItsHistoryIsLegal, Remains, RemainsWith}
 use Rattle.logged_steps.specs.States.{IsLoggedNode, NodeState, trees_on}
 use Rattle.lone_machine.specs.Alone.{Begun}
 use Rattle.right_losses.specs.Kept.{kept_by}

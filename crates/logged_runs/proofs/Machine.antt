@@ -13,10 +13,10 @@ use Rattle.file_tree.specs.declared.reply.Reply.TheVariants as replies
 use Rattle.image_machine.specs.Volumes.{Volume, images_of}
 use Rattle.image_model.proofs.Held.{none_some, some_same}
 use Rattle.log_layout.specs.declared.log_header.LogHeader.{LogHeader}
-use Rattle.logged_steps.specs.LoneEndsEnds.{IsHeadAtEnd}
-use Rattle.logged_steps.specs.LoneEndsEnds.{IsHeadAtEnd as end}
-use Rattle.logged_steps.specs.LoneLogsLaws.{IsHeadLeft}
-use Rattle.logged_steps.specs.LoneLogsLaws.IsHeadLeft.{new, old}
+use Rattle.logged_steps.specs.NodeEnds.{IsHeadAtEnd}
+use Rattle.logged_steps.specs.NodeEnds.{IsHeadAtEnd as end}
+use Rattle.logged_steps.specs.LoggedLaws.{IsHeadLeft}
+use Rattle.logged_steps.specs.LoggedLaws.IsHeadLeft.{new, old}
 use Rattle.logged_steps.specs.States.{IsLoggedNode, NodeState, trees_on}
 use Rattle.lone_machine.specs.Alone.{Begun}
 use Rattle.lone_machine.proofs.Going.{sound}

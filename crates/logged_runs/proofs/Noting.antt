@@ -16,7 +16,7 @@ use Rattle.log_values.specs.Log.{Flush, Journal, LogValue, Stage}
 use Rattle.log_values.specs.Log.Stage.{Ending, Headed, Writing}
 use Rattle.log_values.specs.Transactions.{flushed_as}
 use Rattle.log_values.specs.declared.steps.LogStep.TheVariants as step
-use Rattle.logged_steps.specs.LoneLogsLaws.{counted}
+use Rattle.logged_steps.specs.LoggedLaws.{counted}
 use Rattle.logged_steps.specs.States.{Numbers}
 use Rattle.logged_steps.proofs.Stages.{writing_headed}
 use Rattle.node_journal.specs.Encoding.{chunks}

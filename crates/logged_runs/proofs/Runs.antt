@@ -11,8 +11,8 @@ use Rattle.log_rings.proofs.Whole.{fits_in}
 use Rattle.log_values.specs.Flushing.{block_at, flush_chunks, head_place}
 use Rattle.log_values.specs.Log.{Flush, LogValue}
 use Rattle.log_values.specs.Sound.{IsSoundLog}
-use Rattle.logged_steps.specs.LoneLogsLaws.{IsHeadLeft, ItsHistoryIsLegal, ItsOutcomesStand, Remains}
-use Rattle.logged_steps.specs.LoneLogsLaws.IsHeadLeft.{new, old}
+use Rattle.logged_steps.specs.LoggedLaws.{IsHeadLeft, ItsHistoryIsLegal, ItsOutcomesStand, Remains}
+use Rattle.logged_steps.specs.LoggedLaws.IsHeadLeft.{new, old}
 use Rattle.logged_steps.specs.States.{Numbers, trees_on}
 use Rattle.logged_steps.proofs.Stages.{no_flush}
 use Rattle.lone_machine.specs.Alone.{Begun}

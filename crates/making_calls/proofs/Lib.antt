@@ -15,5 +15,5 @@ pub use Rattle.name_drafts.proofs.Images
 pub use Rattle.room_search.proofs.Lists as FoundLists
 pub use Rattle.name_drafts.proofs.Leads
 pub use Rattle.name_drafts.proofs.Lists
-pub use Rattle.room_search.proofs.InImage as RoomSearchInImage
+pub use Rattle.room_search.proofs.InImage as FoundInImage
 pub use Rattle.room_search.proofs.Free

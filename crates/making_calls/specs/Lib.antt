@@ -9,4 +9,4 @@ pub use Rattle.name_drafts.specs.Drafting
 pub use Rattle.name_drafts.specs.Need
 pub use Rattle.name_drafts.specs.walk
 pub use Rattle.room_search.specs.Blocks as FoundBlocks
-pub use Rattle.room_search.specs.Searches as RoomSearchSearches
+pub use Rattle.room_search.specs.Searches as FoundSearches

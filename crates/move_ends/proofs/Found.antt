@@ -29,7 +29,7 @@ use Rattle.image_changes.proofs.FlatPaths.{follow-append}
 use Rattle.image_changes.proofs.Nodes.{dir_thing, file_thing}
 use Rattle.image_changes.proofs.Walks.{walks_find}
 use Rattle.pair_walks.specs.Holds.{AreHeld, IsAskedFor}
-use Rattle.pair_walks.specs.PathWalksWalks.{IsPlaceOf, IsSeenAt}
+use Rattle.pair_walks.specs.OnePath.{IsPlaceOf, IsSeenAt}
 use Rattle.pair_walks.specs.walk.Place.{Place}
 use Rattle.pair_walks.proofs.Asked.{IsAmong, asked_among, names_asked}
 use Rattle.pair_walks.proofs.Images.{is_inode, is_shown, no_child_of_file, shown_inode, unbroken, unbroken_directory}

@@ -20,7 +20,7 @@ use Rattle.image_model.specs.Owners.{Owners}
 use Rattle.image_model.specs.Stands.{Layout, flat_of}
 use Rattle.image_changes.specs.Instances.{IsAt}
 use Rattle.pair_walks.specs.Holds.{Hold, AreHeld, IsAskedFor, IsFirstLack, hold_for, hold_of, holds, holds_in, holds_on}
-use Rattle.pair_walks.specs.PathWalksWalks.{AreInOrder}
+use Rattle.pair_walks.specs.OnePath.{AreInOrder}
 use Rattle.pair_walks.proofs.Asked.{IsAmong}
 use Rattle.pair_walks.proofs.Lists.{made_at}
 use Rattle.pair_walks.proofs.Longer.{asked_behind, lack_behind}

@@ -17,8 +17,8 @@ use Rattle.dinode_tree.proofs.Sound.{some_is_shown}
 use Rattle.resource_groups.specs.Putting.{HasDataBlock}
 use Rattle.image_model.specs.Flat.{Path}
 use Rattle.pair_walks.specs.Answers.{Refuses}
-use Rattle.pair_walks.specs.PathWalksWalks.{IsDamage, IsSeenAt, LacksName, IsWrongAt, LeadsTo, Names, at_root, by_name, on_path}
-use Rattle.pair_walks.specs.PathWalksWalks as path
+use Rattle.pair_walks.specs.OnePath.{IsDamage, IsSeenAt, LacksName, IsWrongAt, LeadsTo, Names, at_root, by_name, on_path}
+use Rattle.pair_walks.specs.OnePath as path
 use Rattle.pair_walks.specs.walk.Place.{Place}
 use Rattle.pair_walks.specs.Walks.{IsEndOf}
 use Rattle.pair_walks.specs.declared.walk.End.{End}

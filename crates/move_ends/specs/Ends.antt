@@ -29,7 +29,7 @@ use Rattle.image_model.specs.Stands.{Layout, flat_of}
 use Rattle.image_changes.specs.Instances.{IsAt, IsChildless, dinode_at, is_directory_at, records_at}
 use Rattle.pair_walks.specs.Answers.{Refuses}
 use Rattle.pair_walks.specs.Holds.{Hold, AreHeld, IsAskedFor, IsFirstLack, holds}
-use Rattle.pair_walks.specs.PathWalksWalks.{IsAbsent, IsOnTheWay, IsPlaceOf, IsSeenAt, LacksName, LeadsTo}
+use Rattle.pair_walks.specs.OnePath.{IsAbsent, IsOnTheWay, IsPlaceOf, IsSeenAt, LacksName, LeadsTo}
 use Rattle.pair_walks.specs.walk.Place.{Place}
 use Rattle.pair_walks.specs.Orders.{pair_holds}
 use Rattle.pair_walks.specs.Walks.{IsPairDamage, IsPairLacked, IsPairUnread}

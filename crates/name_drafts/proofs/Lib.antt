@@ -14,7 +14,7 @@ pub mod SeenPaths
 pub use Rattle.name_inserts.proofs.DirectoryForms as Forms
 pub use Rattle.name_inserts.proofs.Led
 pub use Rattle.name_inserts.proofs.Pointing
-pub use Rattle.path_walks.proofs.Faults as PathWalksFaults
+pub use Rattle.path_walks.proofs.Faults as WalkFaults
 pub use Rattle.path_walks.proofs.Images
 pub use Rattle.path_walks.proofs.Lying
 pub use Rattle.path_walks.proofs.Steps

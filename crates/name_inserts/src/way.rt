@@ -8,7 +8,7 @@ ghost use Rattle.directories.specs.Shown.{IsDirectoryIn, IsShown};
 ghost use Rattle.hash_inserts.specs.Broken.{IsWrongIn};
 ghost use Rattle.hash_inserts.specs.Shown as hashed;
 ghost use Rattle.hash_inserts.specs.Shown.{IsInChain, IsNeededFor};
-ghost use Rattle.hash_inserts.specs.HashDirsWalking.{OfEach};
+ghost use Rattle.hash_inserts.specs.ChainWalking.{OfEach};
 ghost use Rattle.name_inserts.specs.Inserting.{IsNeededForName, IsWrongForName};
 ghost use Rattle.name_inserts.specs.Way.{AreOfLeaf, AreRightAlong, BreaksLeaf, IsOnWay, IsRightBehind, IsRightWay};
 

@@ -16,7 +16,7 @@ use Rattle.directories.specs.Shown.{IsBroken, IsDirectoryIn, IsNeededFor, IsShow
 use Rattle.directories.specs.Taking.{HasNameIn, IsWithoutName, PutsTwo}
 use Rattle.directories.proofs.Forms.{is_directory_here}
 use Rattle.directories.proofs.Sound.{says_sound}
-use Rattle.name_drafts.proofs.PathWalksFaults.{tells_each, tells_so}
+use Rattle.name_drafts.proofs.WalkFaults.{tells_each, tells_so}
 use Rattle.name_drafts.proofs.Images.{no_record}
 use Rattle.name_drafts.specs.Inserting.{IsNeededForName, IsWrongForName, SeesForName}
 use Rattle.name_moves.specs.Becoming.{CanTell, IsAfter, none_went, of_linear, of_none, of_sound}

@@ -24,7 +24,7 @@ use Rattle.file_calls.specs.Walks.{LacksName}
 use Rattle.file_calls.specs.walk.Place.{Place}
 use Rattle.file_calls.proofs.Images.{says_none, shown_inode, sound_directory}
 use Rattle.file_calls.specs.FoundBlocks.{group_holds}
-use Rattle.file_calls.proofs.RoomSearchInImage.{are_shown, said_free}
+use Rattle.file_calls.proofs.FoundInImage.{are_shown, said_free}
 use Rattle.file_calls.specs.Shown.{IsShown}
 use Rattle.file_calls.specs.Drafting.{GrowsInto, IsPlaceFor, entry_for}
 use Rattle.file_calls.specs.Need.{name_need}

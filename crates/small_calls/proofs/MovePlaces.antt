@@ -17,7 +17,7 @@ use Rattle.image_changes.specs.Does.{IsOf}
 use Rattle.image_changes.specs.Flats.{in_directory}
 use Rattle.image_changes.specs.Instances.{IsAt}
 use Rattle.file_calls.proofs.Images.{shown_inode, sound_directory}
-use Rattle.file_calls.proofs.RoomSearchInImage.{are_shown, said_free}
+use Rattle.file_calls.proofs.FoundInImage.{are_shown, said_free}
 use Rattle.file_calls.proofs.Alike.{need_once}
 use Rattle.file_calls.specs.MoveCarrying.{HasRoom, locks_of_room}
 use Rattle.file_calls.specs.MoveEnds.{AreEnds, MovesIn, StoodIn, from_path, to_path}

@@ -19,9 +19,9 @@ use Rattle.image_changes.specs.Does.{IsOf}
 use Rattle.draft_changes.specs.Resizing.{IsSaidFree}
 use Rattle.file_calls.specs.Holds.{hold_of_group}
 use Rattle.file_calls.specs.FoundBlocks.{free_for, free_in, free_in_all, have_too_few}
-use Rattle.file_calls.specs.RoomSearchSearches.{AreShown}
+use Rattle.file_calls.specs.FoundSearches.{AreShown}
 use Rattle.file_calls.proofs.Free.{all_rise, free_rises, from_free}
-use Rattle.file_calls.proofs.RoomSearchInImage.{are_shown, said_free}
+use Rattle.file_calls.proofs.FoundInImage.{are_shown, said_free}
 
 -- numbers that rise stand once each
 pub distinct : (xs : List ℕ) → Rising xs → IsDistinct xs

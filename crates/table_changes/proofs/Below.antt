@@ -22,7 +22,7 @@ use Rattle.pointer_tables.specs.Directories.{IsTreeSound}
 use Rattle.table_files.specs.Pointers.{IsTableBroken, of_inode}
 use Rattle.table_files.proofs.ContentParts.{content_part, whole_by_parts}
 use Rattle.table_files.proofs.Entries.{unit_is, within}
-use Rattle.table_files.specs.TreeTablesPointers.{IsTableOf}
+use Rattle.table_files.specs.TreePointers.{IsTableOf}
 use Rattle.table_changes.specs.Setting.{IsRun}
 use Rattle.table_changes.specs.declared.finding.Run.{Run}
 use Rattle.table_files.specs.tree_table.TreeTable.{TreeTable}

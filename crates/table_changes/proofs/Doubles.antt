@@ -8,7 +8,7 @@ use Rattle.dinode_tree.specs.Reading.{content_range}
 use Rattle.table_files.specs.Files.{AreDoubledPointers}
 use Rattle.table_files.proofs.Entries.{in_front, u64_same}
 use Rattle.table_files.proofs.Pieces.{piece_begins}
-use Rattle.table_files.specs.TreeTablesPointers.{IsTableOf}
+use Rattle.table_files.specs.TreePointers.{IsTableOf}
 use Rattle.table_files.specs.tree_table.TreeTable.{TreeTable}
 
 -- the blocks of the longest table are short

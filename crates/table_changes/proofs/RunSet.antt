@@ -23,7 +23,7 @@ use Rattle.pointer_tables.specs.Directories.{IsPlaced, IsTreeSound}
 use Rattle.pointer_tables.specs.Tables.{is_within}
 use Rattle.table_files.specs.Pointers.{IsBesidePointers}
 use Rattle.table_files.specs.Tables.{DraftsDirectory}
-use Rattle.table_files.specs.TreeTablesPointers.{IsTableOf}
+use Rattle.table_files.specs.TreePointers.{IsTableOf}
 use Rattle.table_changes.specs.Setting.{HasNumbersSet, IsBehindDinode, IsInTable, IsRun, IsSetIn}
 use Rattle.table_changes.specs.declared.finding.Run.{Run}
 use Rattle.table_files.specs.tree_table.TreeTable.{TreeTable}

@@ -30,7 +30,7 @@ use Rattle.linear_dirs.proofs.Over.{over_over}
 use Rattle.linear_dirs.proofs.Rewritten.{over_there}
 use Rattle.pointer_tables.specs.Tables.{is_within}
 use Rattle.table_files.specs.Tables.{DraftsDirectory, HasPointersSet}
-use Rattle.table_files.specs.TreeTablesPointers.{IsTableOf}
+use Rattle.table_files.specs.TreePointers.{IsTableOf}
 use Rattle.table_changes.specs.Setting.{AreRuns, HasNumbersSet, IsRun, IsSeenRun, IsSetIn, PutsRuns, counted}
 use Rattle.table_changes.specs.declared.finding.Run.{Run}
 use Rattle.table_files.specs.tree_table.TreeTable.{TreeTable}

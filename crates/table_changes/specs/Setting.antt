@@ -12,7 +12,7 @@ use Rattle.gfs2_layout.specs.Structures.{dinode_length}
 use Rattle.glock_names.specs.Views.{Seen, HasBlock}
 use Rattle.linear_dirs.specs.Shown.{holding_over}
 use Rattle.table_files.specs.Tables.{DraftsDirectory, HasPointersSet}
-use Rattle.table_files.specs.TreeTablesPointers.{IsTableOf}
+use Rattle.table_files.specs.TreePointers.{IsTableOf}
 use Rattle.table_changes.specs.declared.finding.Run.{Run}
 use Rattle.table_files.specs.tree_table.TreeTable.{TreeTable}
 

@@ -9,7 +9,7 @@ ghost use Rattle.glock_names.specs.Steps.{IfDamaged, IfIs, IfNeedBlock, OnlyDama
 ghost use Rattle.glock_names.specs.Views.{HasBlock, IsOfView};
 ghost use Rattle.dinode_tree.specs.Reading.{IsNeeded, inode_lock};
 ghost use Rattle.table_files.specs.Pointers.{IsOfPointers, IsTableBroken};
-ghost use Rattle.table_files.specs.TreeTablesPointers.{IsTableOf};
+ghost use Rattle.table_files.specs.TreePointers.{IsTableOf};
 ghost use Rattle.table_changes.specs.Setting.{AreRuns, IsRun, IsSeenRun, counted};
 
 use dinode_tree::{Located, all_blocks_are_shown, locate, read_dinode};

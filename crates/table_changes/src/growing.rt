@@ -13,7 +13,7 @@ ghost use Rattle.table_files.specs.Written.{CanWrite, HasWritten};
 ghost use Rattle.table_files.specs.Tables.{CanDouble, doubling_need as need_of, table_blocks as blocks_of, table_height, tree_blocks as all_blocks_of};
 ghost use Rattle.table_files.specs.Files.{doubled_dinode, file_dinode};
 ghost use Rattle.table_changes.specs.Doubling.{AreDoubledBlocks, IsDoubledTable};
-ghost use Rattle.table_files.specs.TreeTablesPointers.{IsTableOf};
+ghost use Rattle.table_files.specs.TreePointers.{IsTableOf};
 
 use crate::putting::put_dinode;
 use drafts::{Draft, Written};

@@ -15,7 +15,7 @@ ghost use Rattle.file_tree.specs.Apply.{file_limit};
 ghost use Rattle.pointer_tables.specs.Directories.{IsTreeSound};
 ghost use Rattle.table_files.specs.Pointers.{IsTableBroken};
 ghost use Rattle.table_files.specs.Files.{AreHeadersOf};
-ghost use Rattle.table_files.specs.TreeTablesPointers.{IsTableOf};
+ghost use Rattle.table_files.specs.TreePointers.{IsTableOf};
 ghost use Rattle.table_changes.specs.Doubling.{IsDoubledTable};
 
 use crate::doubling::{each_twice, table_bytes};

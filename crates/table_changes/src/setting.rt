@@ -3,7 +3,7 @@ ghost use Rattle.std.specs.Prelude.{ℕ, ◌≡◌, ◌+◌, ◌^◌, ◌≤◌,
 ghost use Rattle.drafts.specs.Fates.{seen_in};
 ghost use Rattle.gfs2_layout.specs.Holding.{Holding};
 ghost use Rattle.pointer_tables.specs.Directories.{IsPlaced, IsTreeSound};
-ghost use Rattle.table_files.specs.TreeTablesPointers.{IsTableOf};
+ghost use Rattle.table_files.specs.TreePointers.{IsTableOf};
 ghost use Rattle.table_changes.specs.Setting.{AreRuns, IsSeenRun, IsSetIn, PutsRuns, counted};
 
 use crate::finding::Run;

@@ -13,7 +13,7 @@ use Rattle.cut_replays.specs.CutShort.{IsCutShort, ring_left}
 use Rattle.cut_replays.proofs.CutShort as cuts
 use Rattle.cut_replays.proofs.Found.{FindsTheSame, place_whole}
 use Rattle.cut_replays.specs.Recoveries.{AreReplays}
-use Rattle.cut_replays.proofs.ImageRecoveryEnding.{leaves_place, stays_all}
+use Rattle.cut_replays.proofs.RecoveryEnding.{leaves_place, stays_all}
 use Rattle.cut_replays.proofs.Mapped.{apart}
 use Rattle.image_replays.proofs.System.{its_journals}
 use Rattle.journal_outcomes.specs.Images.{IsPlaceIn, ring_at}

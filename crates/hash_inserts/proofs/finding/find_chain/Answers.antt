@@ -5,7 +5,7 @@ use Rattle.glock_names.proofs.StepLaws.{answer_at, needed_at}
 use Rattle.linear_dirs.proofs.Looked.{handed}
 use Rattle.hash_steps.specs.Broken.{IsWrongIn}
 use Rattle.hash_steps.specs.Shown.{index_for, of_table}
-use Rattle.hash_steps.proofs.HashDirsLeaves.{damage_of, head_of, wrong_of}
+use Rattle.hash_steps.proofs.ChainLeaves.{damage_of, head_of, wrong_of}
 use Rattle.hash_inserts.proofs.Looks.{dinode_needed}
 use Rattle.hash_inserts.proofs.finding.find_chain.Goals as goal
 

@@ -4,7 +4,7 @@ use Rattle.gfs2_layout.specs.declared.leaf.Leaf.{Leaf}
 use Rattle.glock_names.proofs.StepLaws.{answer_at, needed_at}
 use Rattle.hash_steps.specs.Walking.{IsLeafOf, OfEach}
 use Rattle.hash_steps.proofs.Along.{begins, comes_again_to, goes_on}
-use Rattle.hash_steps.proofs.HashDirsLeaves.{told, wrong_of}
+use Rattle.hash_steps.proofs.ChainLeaves.{told, wrong_of}
 use Rattle.hash_steps.specs.Leaves.{has_room_for}
 use Rattle.hash_inserts.specs.Walking.{IsRoomBefore}
 use Rattle.hash_inserts.proofs.Walks.{room_more, sees_more}

@@ -15,7 +15,7 @@ use Rattle.making_calls.specs.Making.{IsDamage, IsLackedFor, IsNeededFor, IsRefu
 use Rattle.making_calls.proofs.Trees.{plain_list, refused}
 use Rattle.making_calls.proofs.Wanted.{as_many, in_order, wants_are}
 use Rattle.making_calls.proofs.tries.find.Goals as goal
-use Rattle.name_drafts.proofs.PathWalksFaults.{told_on, only_so}
+use Rattle.name_drafts.proofs.WalkFaults.{told_on, only_so}
 use Rattle.name_drafts.proofs.Longer.{asked_before, lack_before}
 
 pub walk_along-requires-clause-as_many : goal.walk_along-requires-clause-as_many

@@ -10,7 +10,7 @@ use Rattle.name_drafts.specs.DirectoryShown as dirs
 use Rattle.image_model.specs.Owners.{holding}
 use Rattle.name_drafts.specs.Holds.{AreHeld}
 use Rattle.name_drafts.specs.Walks.{IsWrongAt, Names}
-use Rattle.name_drafts.proofs.PathWalksFaults.{told_on, only_so}
+use Rattle.name_drafts.proofs.WalkFaults.{told_on, only_so}
 use Rattle.name_drafts.proofs.Asked.{name_asked}
 use Rattle.name_drafts.proofs.Images.{says_child, shown_inode, unbroken_directory}
 use Rattle.name_drafts.proofs.Longer.{asked_before}

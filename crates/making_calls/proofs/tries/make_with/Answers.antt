@@ -12,7 +12,7 @@ use Rattle.image_model.specs.Owners.{holding}
 use Rattle.name_drafts.proofs.Images.{shown_inode}
 use Rattle.growth_drafts.specs.Taken.{IsDistinct}
 use Rattle.resource_groups.specs.Shown.{said}
-use Rattle.name_drafts.proofs.PathWalksFaults.{told_on, tells_each, tells_so}
+use Rattle.name_drafts.proofs.WalkFaults.{told_on, tells_each, tells_so}
 use Rattle.room_search.specs.Searches.{IsGroupBroken, IsUnder}
 use Rattle.room_search.specs.declared.search.Locked.TheVariants as locked
 use Rattle.room_search.proofs.InImage.{group_sound}

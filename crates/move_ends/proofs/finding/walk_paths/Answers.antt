@@ -1,5 +1,5 @@
 use Rattle.std.proofs.Common.{◌+◌, false, true, length, take, drop, sym, ap, subst, ◌∙◌, arith}
-use Rattle.pair_walks.specs.PathWalksWalks.{AreInOrder}
+use Rattle.pair_walks.specs.OnePath.{AreInOrder}
 use Rattle.pair_walks.proofs.Faults.{only_so, told_on}
 use Rattle.pair_walks.specs.Walks.{IsPairDamage, IsPairTold, IsPairWalked}
 use Rattle.pair_walks.proofs.Telling.{so_of}

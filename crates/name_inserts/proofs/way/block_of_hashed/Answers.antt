@@ -9,7 +9,7 @@ use Rattle.linear_dirs.proofs.Looked.{handed}
 use Rattle.image_model.proofs.Rows.{and_left}
 use Rattle.hash_inserts.specs.Broken as leaves
 use Rattle.hash_inserts.specs.Shown.{IsInChain, index_for, of_table}
-use Rattle.hash_inserts.proofs.HashDirsLeaves.{head_at, index_is}
+use Rattle.hash_inserts.proofs.ChainLeaves.{head_at, index_is}
 use Rattle.hash_inserts.specs.Inserting.{of_chain}
 use Rattle.directories.specs.Shown as directory
 use Rattle.directories.proofs.Forms.{fault_as, leaves_shown}

@@ -12,7 +12,7 @@ use Rattle.glock_names.specs.declared.steps.Step.{Step}
 use Rattle.glock_names.specs.declared.steps.Step.TheVariants.{Is, NeedBlock}
 use Rattle.directories.specs.Shown.{IsShown}
 use Rattle.directories.proofs.Forms.{is_directory_here}
-use Rattle.name_drafts.proofs.PathWalksFaults.{damaged_so, told_on, tells_so}
+use Rattle.name_drafts.proofs.WalkFaults.{damaged_so, told_on, tells_so}
 use Rattle.name_drafts.specs.Inserting.{IsNeededForName, IsWrongForName, SeesForName}
 use Rattle.name_drafts.specs.Need.{name_need, need_in_hashed, need_in_linear}
 use Rattle.name_drafts.specs.Needing.{TakesBlocks}

@@ -6,7 +6,7 @@ use Rattle.linear_dirs.proofs.Looked.{handed}
 use Rattle.table_files.specs.Pointers.{IsTableBroken}
 use Rattle.table_files.specs.Files.{table_bytes}
 use Rattle.table_files.proofs.TableBytes.{table_long}
-use Rattle.table_files.specs.TreeTablesPointers.{seen_as}
+use Rattle.table_files.specs.TreePointers.{seen_as}
 use Rattle.table_changes.proofs.Doubles.{bytes_short, doubled_pointers}
 use Rattle.table_files.proofs.Gets.{seen_shown}
 use Rattle.table_changes.proofs.Below.{table_tells}
