@@ -34,7 +34,10 @@ pub fn fence_crashed<D: SharedDisk>(
     ensures later { (i : ℕ) → D.faults disk.old i ≤ D.faults disk.new i }
     ensures cause { IfErr result (HasCause journal.now (D.faults disk.old) (D.faults disk.new)) }
 {
-    items.reserve(3)?;
+    match items.reserve(3) {
+        Ok(()) => {}
+        Err(_) => return Err(FenceEnd::NoMemory),
+    }
     put_in_room(items, TraceItem::Crash { node: 1 });
     let before = disk.faults(0);
     match disk.fence(1, order) {
@@ -49,7 +52,10 @@ pub fn fence_crashed<D: SharedDisk>(
         }
     }
     put_in_room(items, TraceItem::Fence { node: 1 });
-    let head = left_head(alloc, disk, journal)?;
+    let head = match left_head(alloc, disk, journal) {
+        Ok(head) => head,
+        Err(end) => return Err(end),
+    };
     let upto = upto_of(items, &head, first);
     let kept = kept_number(items, upto);
     put_in_room(items, TraceItem::Lost { node: 1, kept });

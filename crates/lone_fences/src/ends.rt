@@ -1,6 +1,5 @@
 use fault_counts::Rise;
 use journal_reads::ReadFault;
-use std::alloc::AllocError;
 
 /// Why a crashed node wasn't fenced, or isn't told of what it lost.
 #[derive(Clone, Copy, Debug, PartialEq, Eq)]
@@ -24,16 +23,5 @@ impl From<ReadFault> for FenceEnd {
             ReadFault::DiskFailed { block, rise } => FenceEnd::ReadFailed { block, rise },
             ReadFault::NoMemory => FenceEnd::NoMemory,
         }
-    }
-}
-
-impl From<AllocError> for FenceEnd {
-    ghost use Rattle.std.specs.Prelude.{◌≡◌};
-    ghost use Rattle.lone_fences.specs.declared.ends.FenceEnd.TheVariants.{NoMemory};
-
-    ghost from_gives = { λ _ end. end ≡ NoMemory };
-
-    fn from(_: AllocError) -> Self {
-        FenceEnd::NoMemory
     }
 }
