@@ -1,0 +1,5 @@
+pub mod Ends
+pub mod Calls
+pub mod Keeping
+pub mod Adding
+pub mod Laws
