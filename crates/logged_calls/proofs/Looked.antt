@@ -4,7 +4,7 @@ use Rattle.std.specs.List.{AllByRecursion}
 use Rattle.std.specs.Ordering.{nat_cmp}
 use Rattle.std.specs.Cmp.{nat_cmp_total}
 use Rattle.std.specs.FinMap.{FinMap, get, insert, nat_cmp-IsAntisymmetric}
-use Rattle.std.proofs.lemmas.Bool.{cases_eq, ne_eqb, eq-eqb}
+use Rattle.std.proofs.lemmas.Bool.{cases_eq}
 use Rattle.finite_maps.proofs.Keys.{inserted_at, inserted_apart}
 use Rattle.glock_names.specs.Views.{end_of}
 use Rattle.lone_answers.specs.Reading.{HasRead, ReadsOne, Nothing, OneMore}
@@ -33,7 +33,7 @@ IsKeptOn d v = (b : ℕ) (bytes : List ℕ) → get v.blocks b ≡ Some bytes �
 
 one_more_on : (d : DiskState) (v : Lone) (block : ℕ) (new : List ℕ) → block < d.count → IsKeptOn d v → (b : ℕ) (bytes : List ℕ) → get (insert v.blocks block new) b ≡ Some bytes → b < d.count
 one_more_on d v block new low on b bytes at = elim (cases_eq block b) [
-  | inl same ↦ subst (λ (x : ℕ). x < d.count) (eq-eqb block b same) low
+  | inl same ↦ subst (λ (x : ℕ). x < d.count) same low
   | inr other ↦ on b bytes (sym (inserted_apart nat_cmp_total nat_cmp-IsAntisymmetric v.blocks block new b (λ e. other (sym e))) ∙ at)
 ]
 
@@ -58,11 +58,22 @@ module _ (d : DiskState) (l : Option (List Operation)) (n : Node) (v : Lone) (re
   now = record n { view = v }
 
   on : IsNodeOn d now
-  on = let was = ready.resting.on in record was {
+  on = let was = ready.resting.on in record {
+    sound = was.sound;
+    widths = was.widths;
+    blocks = was.blocks;
+    block = was.block;
+    journal = was.journal;
     view = read_size d n.view v read ∙ was.view;
+    places = was.places;
+    apart = was.apart;
     some = subst (λ gs. 1 ≤ length gs) (sym (read_groups d n.view v read)) was.some;
     groups = subst (AllByRecursion (λ g. end_of g ≤ d.count)) (sym (read_groups d n.view v read)) was.groups;
     kept = read_on d n.view v read was.kept;
+    unfenced = was.unfenced;
+    flying = was.flying;
+    few = was.few;
+    awaits = was.awaits;
   }
 
   pub looked_at : HasLooked d l n d l now

@@ -1,5 +1,5 @@
 -- Steps that count no call tell none.
-use Rattle.std.proofs.Common.{◌≡◌, ◌≤◌, ◌+◌, ℕ, suc, true, false, Bool, List, [], ◌∷◌, ◌++◌, Option, refl, sym, ap, subst, ◌∙◌, arith}
+use Rattle.std.proofs.Common.{◌≡◌, ◌≤◌, ◌+◌, ℕ, suc, true, false, Bool, if◌then◌else◌, List, [], ◌∷◌, ◌++◌, Option, refl, sym, ap, subst, ◌∙◌, arith}
 use Rattle.std.specs.List.{filter}
 use Rattle.shared_disk.specs.Disk.{Operation}
 use Rattle.trace_text.specs.declared.item.TraceItem.{TraceItem}
@@ -73,14 +73,14 @@ no_fewer time p _ (Then q r steps step) = at (counts time q r step) (no_fewer ti
 
 pub quiet_steps : (time : ℕ) (p q : Point) → Steps time p q → q.numbers.answered ≡ p.numbers.answered → TellsNoCall p.items q.items
 quiet_steps time p _ Here same = tells_nothing p.items
-quiet_steps time p _ (Then q r steps step) same = at (counts time q r step) (no_fewer time p q steps)
+quiet_steps time p _ (Then q r steps step) same = at (counts time q r step) (no_fewer time p q steps) (quiet_steps time p q steps)
   where
-    at : Counts q r → p.numbers.answered ≤ q.numbers.answered → TellsNoCall p.items r.items
-    at (one more) low = absurd (too_many r.numbers.answered q.numbers.answered p.numbers.answered more low same)
+    at : Counts q r → p.numbers.answered ≤ q.numbers.answered → (q.numbers.answered ≡ p.numbers.answered → TellsNoCall p.items q.items) → TellsNoCall p.items r.items
+    at (one more) low before = absurd (too_many r.numbers.answered q.numbers.answered p.numbers.answered more low same)
       where
         too_many : (c b a : ℕ) → c ≡ suc b → a ≤ b → c ≡ a → ⊥
         too_many c b a x y z = omega (arith, x, y, z)
-    at (none still tells) low = tells_behind p.items q.items r.items (quiet_steps time p q steps (sym still ∙ same)) tells
+    at (none still tells) low before = tells_behind p.items q.items r.items (before (sym still ∙ same)) tells
 
 -- a write that failed tells nothing
 pub failed_tells : (time : ℕ) (p q : Point) → FailsTo time p q → q.items ≡ p.items
