@@ -1,0 +1,5 @@
+mod KeptBlocks
+mod Looked
+mod Quiet
+mod Moved
+mod Room
