@@ -2,4 +2,5 @@ mod KeptBlocks
 mod Looked
 mod Quiet
 mod Moved
+mod Told
 mod Room
