@@ -3,4 +3,5 @@ mod Looked
 mod Quiet
 mod Moved
 mod Told
+mod Full
 mod Room

@@ -17,7 +17,7 @@ nothing_behind : (xs : List TraceItem) → xs ++ [] ≡ xs
 nothing_behind [] = refl
 nothing_behind (x ∷ xs) = ap (λ ys. x ∷ ys) (nothing_behind xs)
 
-behind_both : (xs ys zs : List TraceItem) → (xs ++ ys) ++ zs ≡ xs ++ (ys ++ zs)
+pub behind_both : (xs ys zs : List TraceItem) → (xs ++ ys) ++ zs ≡ xs ++ (ys ++ zs)
 behind_both [] ys zs = refl
 behind_both (x ∷ xs) ys zs = ap (λ us. x ∷ us) (behind_both xs ys zs)
 

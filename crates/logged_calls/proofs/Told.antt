@@ -6,7 +6,7 @@ use Rattle.file_tree.specs.declared.reply.Reply.{Reply}
 use Rattle.file_tree.specs.declared.reply.Reply.TheVariants as replies
 use Rattle.drafts.specs.declared.change.Change.{Change}
 use Rattle.image_changes.specs.Does.{is_nothing}
-use Rattle.lone_answers.specs.Answers.{IsDoneBy, IsSpaceless}
+use Rattle.lone_answers.specs.Answers.{IsDoneBy}
 use Rattle.lone_answers.specs.Reading.{Nothing}
 use Rattle.lone_view.specs.Seeing.{Lone}
 use Rattle.shared_disk.specs.Disk.{DiskState, Operation}
@@ -50,7 +50,7 @@ rests_told e m n' b is rest = subst (IsResting e) (sym is) (record {
 })
 
 -- with a call that changed nothing the numbers are right as before
-counted_quietly : (m n' : Node) → n' ≡ record m { items = n'.items; numbers = with_call m.numbers false } → IsCounted m → IsCounted n'
+pub counted_quietly : (m n' : Node) → n' ≡ record m { items = n'.items; numbers = with_call m.numbers false } → IsCounted m → IsCounted n'
 counted_quietly m n' is counted = subst IsCounted (sym is) (record { changed = (let low = counted.changed in omega (arith, low)); owing = counted.owing })
 
 -- ---- the call is told
