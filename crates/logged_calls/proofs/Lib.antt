@@ -5,4 +5,5 @@ mod Moved
 mod Added
 mod Told
 mod Full
+mod Loggable
 mod Room
