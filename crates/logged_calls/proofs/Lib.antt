@@ -5,5 +5,6 @@ mod Moved
 mod Added
 mod Told
 mod Full
+mod Changed
 mod Loggable
 mod Room
