@@ -55,7 +55,11 @@ fn add_behind<D: SharedDisk>(disk: &mut D, node: &mut Node, change: &Change) -> 
 
 /// Brings the change of a call into the log, and tells whether it did. Where there is no room for it, what is due is flushed; and where there is none still, all
 /// goes home that is live.
-pub(crate) fn add_change<D: SharedDisk>(disk: &mut D, node: &mut Node, change: &Change) -> Result<bool, Stop>
+pub(crate) fn add_change<D: SharedDisk>(
+    disk: &mut D,
+    node: &mut Node,
+    change: &Change,
+) -> Result<bool, Stop>
     requires ready { IsReady (D.state disk.old) node.old }
     requires sequence { node.old.log.sequence + most_headers < 2 ^ 64 }
     requires can { CanBeAdded node.old.log.journal.size change.now }

@@ -2,6 +2,7 @@
 #![tactic(auto)]
 
 mod adding;
+mod changing;
 mod ends;
 mod full;
 mod keeping;
@@ -9,7 +10,6 @@ mod laws;
 mod loggable;
 mod looking;
 mod quiet;
-mod changing;
 mod taking;
 mod telling;
 

@@ -37,5 +37,7 @@ pub(crate) fn may_be_logged(change: &Change) -> bool
     ensures { result ≡ true ↔ MayBeLogged change.now }
 {
     let count = change.blocks.len() as u128 + change.freed.len() as u128;
-    !change.blocks.is_empty() && count <= u128::from(MOST_BLOCKS) && are_blocks_of_log(&change.blocks)
+    !change.blocks.is_empty()
+        && count <= u128::from(MOST_BLOCKS)
+        && are_blocks_of_log(&change.blocks)
 }
