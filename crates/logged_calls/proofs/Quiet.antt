@@ -23,11 +23,11 @@ behind_both (x ∷ xs) ys zs = ap (λ us. x ∷ us) (behind_both xs ys zs)
 
 no_calls : (xs ys : List TraceItem) → filter is_call xs ≡ [] → filter is_call ys ≡ [] → filter is_call (xs ++ ys) ≡ []
 no_calls [] ys none more = more
-no_calls (x ∷ xs) ys none more = at (is_call x) refl
+no_calls (x ∷ xs) ys none more = at (is_call x) refl (λ less. no_calls xs ys less more)
   where
-    at : (b : Bool) → is_call x ≡ b → filter is_call (x ∷ xs ++ ys) ≡ []
-    at true e = absurd (let some : x ∷ filter is_call xs ≡ [] = sym (ap (λ (c : Bool). if c then x ∷ filter is_call xs else filter is_call xs) e) ∙ none in cc)
-    at false e = ap (λ (c : Bool). if c then x ∷ filter is_call (xs ++ ys) else filter is_call (xs ++ ys)) e ∙ no_calls xs ys (sym (ap (λ (c : Bool). if c then x ∷ filter is_call xs else filter is_call xs) e) ∙ none) more
+    at : (b : Bool) → is_call x ≡ b → (filter is_call xs ≡ [] → filter is_call (xs ++ ys) ≡ []) → filter is_call (x ∷ xs ++ ys) ≡ []
+    at true e rest = absurd (let some : x ∷ filter is_call xs ≡ [] = sym (ap (λ (c : Bool). if c then x ∷ filter is_call xs else filter is_call xs) e) ∙ none in cc)
+    at false e rest = ap (λ (c : Bool). if c then x ∷ filter is_call (xs ++ ys) else filter is_call (xs ++ ys)) e ∙ rest (sym (ap (λ (c : Bool). if c then x ∷ filter is_call xs else filter is_call xs) e) ∙ none)
 
 pub tells_nothing : (items : List TraceItem) → TellsNoCall items items
 tells_nothing items = record { more = []; told = sym (nothing_behind items); none = refl }
@@ -36,7 +36,7 @@ pub tells_behind : (a b c : List TraceItem) → TellsNoCall a b → TellsNoCall 
 tells_behind a b c x y = record { more = x.more ++ y.more; told = y.told ∙ ap (λ zs. zs ++ y.more) x.told ∙ behind_both a x.more y.more; none = no_calls x.more y.more x.none y.none }
 
 pub tells_one : (items : List TraceItem) (x : TraceItem) → is_call x ≡ false → TellsNoCall items (items ++ x ∷ [])
-tells_one items x no = record { more = x ∷ []; told = refl; none = ap (λ (b : Bool). if b then x ∷ [] else []) no }
+tells_one items x none = record { more = x ∷ []; told = refl; none = ap (λ (b : Bool). if b then x ∷ [] else []) none }
 
 -- ---- steps
 
