@@ -6,6 +6,7 @@ use Rattle.log_values.specs.Blocks as set
 use Rattle.log_values.specs.Flushing.{IsDue, NothingIsLive}
 use Rattle.log_values.specs.Log.{LogValue, Version}
 use Rattle.log_values.specs.Transactions.{due, transaction}
+use Rattle.log_values.proofs.Landing.{no_items}
 use Rattle.lone_answers.specs.Reading.{HasRead, Nothing}
 use Rattle.lone_view.specs.Seeing.{Lone}
 use Rattle.shared_disk.specs.Disk.{DiskState, Operation}
@@ -84,7 +85,7 @@ come_moved d e l k n m ready come = record {
 -- where nothing was due, a header alone came, and nothing is due
 due_is : (log new : LogValue) → new.fresh ≡ log.fresh → new.gone ≡ set.empty → (IsDue log → ⊥) → IsDue new → ⊥
 due_is log new fresh gone none (inl some) = none (inl (subst (λ ws. ws ≢ []) (same_blocks log new fresh) some))
-due_is log new fresh gone none (inr some) = some (ap (λ (s : set.Blocks). set.items s) gone)
+due_is log new fresh gone none (inr some) = some (ap set.items gone ∙ no_items)
 
 pub none_due : (d e : DiskState) (l k : Option (List Operation)) (n m : Node) → (IsDue n.log → ⊥) → HasCome d l n e k m → IsDue m.log → ⊥
 none_due d e l k n m none come = by come.flushed.done
