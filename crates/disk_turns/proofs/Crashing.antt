@@ -34,25 +34,6 @@ pub further : (armed : Option ℕ) (made more : ℕ) → IsBefore made armed →
 further None made more before behind = tt
 further (Some left) made more before behind = (let a : made < left = before in let b : more < left - made = behind in omega (arith, a, b))
 
-pub awaits_behind : (armed : Option ℕ) (made : ℕ) → IsBefore made armed → Awaits (left_after made armed)
-awaits_behind None made before = tt
-awaits_behind (Some left) made before = (let a : made < left = before in omega (arith, a))
-
--- ---- how it stops
-
--- in the turn behind those that are done
-pub crash_behind : (armed : Option ℕ) (n : ℕ) (fault : TurnFault) → IsBefore n armed → StopsByCrash (left_after n armed) 0 fault → StopsByCrash armed n (record fault { on_disk = n })
-crash_behind armed n fault before = by armed fault.rise before
-  where
-    by : (o : Option ℕ) (rise : Option Rise) → IsBefore n o → MatchOption rise ((left_after n o ≡ Some (0 + fault.in_flight)) × (1 ≤ fault.in_flight)) (λ r. IsBefore (0 + fault.in_flight) (left_after n o))
-        → MatchOption rise ((o ≡ Some (n + fault.in_flight)) × (1 ≤ fault.in_flight)) (λ r. IsBefore (n + fault.in_flight) o)
-    by None None before is = absurd (let no : ◌≡◌ {A = Option ℕ} None (Some (0 + fault.in_flight)) = is.0 in cc)
-    by (Some left) None before is =
-        let low : n < left = before in
-        let same : left - n ≡ 0 + fault.in_flight = some_is is.0 in
-        (ap (λ (k : ℕ). Some k) (omega (arith, low, same)), is.1)
-    by o (Some r) before is = further o n fault.in_flight before (subst (λ m. IsBefore m (left_after n o)) (omega arith) is)
-
 -- what it has written is in flight
 pub stopped_crash : (node : ℕ) (d next : DiskState) (a c : Option (List Operation)) (ws : List Written) (made : ℕ) (fault : TurnFault) → made ≤ length ws → StopsAt ws fault.block (take made ws) (take made ws)
     → fault ≡ record { block = fault.block; rise = None; on_disk = 0; in_flight = made } → AreInFlight node d next (flights_of (take made ws)) → Gains a c (writes_of node (take made ws))

@@ -1,14 +1,16 @@
 -- Items that are put turn by turn, and blocks that are brought with their items.
-use Rattle.std.proofs.Common.{◌≡◌, ℕ, List, [], ◌∷◌, ◌++◌, refl, sym, ap, subst, ◌∙◌}
+use Rattle.std.proofs.Common.{◌≡◌, ℕ, List, [], ◌∷◌, ◌++◌, Option, None, Some, refl, sym, ap, subst, ◌∙◌}
+use Rattle.std.specs.Prelude.{IfNone}
 use Rattle.std.proofs.lemmas.List.{append-nil}
 use Rattle.drafts.specs.declared.change.Written.{Written}
+use Rattle.fault_counts.specs.declared.Rise.{Rise}
 use Rattle.shared_disk.specs.Disk.{Operation}
 use Rattle.trace_text.specs.declared.item.TraceItem.{TraceItem}
 use Rattle.trace_text.specs.declared.item.TraceItem.TheVariants as trace
 use Rattle.disk_turns.specs.Faults.{HasStoppedAs}
 use Rattle.disk_turns.specs.Turns.{AreBrought, IsTurn, Moment, writes_of}
 use Rattle.disk_turns.specs.declared.faults.TurnFault.{TurnFault}
-use Rattle.journal_replays.specs.Bringing.{HasStoppedBringing}
+use Rattle.journal_replays.specs.Bringing.{HasCrashedBringing, HasStoppedBringing}
 use Rattle.journal_replays.specs.Items.{items_of}
 use Rattle.journal_replays.proofs.Inverted.{no_turn, split_turn}
 use Rattle.journal_replays.proofs.Told.{turn_more}
@@ -45,3 +47,14 @@ stopped_told node before after blocks done wrote fault items items' is same wrot
       ∙ ap (λ (ws : List Written). items ++ (items_of is.stopped.brought.operations ++ items_of (writes_of node ws))) wrote_same;
   stops = record { stopped = is.stopped; told = refl };
 }
+
+-- so where it crashed, with nothing else in flight
+pub crashed_told : (node : ℕ) (before after : Moment) (blocks done wrote : List Written) (fault : TurnFault) (items items' : List TraceItem) (is : HasStoppedAs node before after blocks fault)
+    → done ≡ is.stopped.done → wrote ≡ is.stopped.stopped.wrote
+    → ((operations : List Operation) → AreBrought node done operations → items' ≡ items ++ (items_of operations ++ items_of (writes_of node wrote)))
+    → IfNone fault.rise (HasCrashedBringing node before after blocks items items')
+crashed_told node before after blocks done wrote fault items items' is same wrote_same put = by fault.rise is.exactly
+  where
+    by : (r : Option Rise) → IfNone r (is.stopped.stopped.flying ≡ is.stopped.stopped.wrote) → IfNone r (HasCrashedBringing node before after blocks items items')
+    by None exactly = record { block = fault.block; stopped = stopped_told node before after blocks done wrote fault items items' is same wrote_same put; exactly = exactly }
+    by (Some r) exactly = tt
