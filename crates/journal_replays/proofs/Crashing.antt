@@ -69,8 +69,8 @@ crash_moves node (Some left) made items added many before =
 
 -- without one of its writes nothing changes
 pub crash_stays : (node : ℕ) (armed : Option ℕ) (items added : List TraceItem) → writes_in node added ≡ 0 → crash_of node armed (items ++ added) ≡ crash_of node armed items
-crash_stays node None items added none = refl
-crash_stays node (Some left) items added none = ap (λ (k : ℕ). Some (k + left)) (let all = writes_append node items added in omega (arith, all, none))
+crash_stays node None items added few = refl
+crash_stays node (Some left) items added few = ap (λ (k : ℕ). Some (k + left)) (let all = writes_append node items added in omega (arith, all, few))
 
 pub no_write : (node : ℕ) (slot : ℕ) → writes_in node (trace.Recovered slot node ∷ []) ≡ 0
 no_write node slot = sum_by-cons (counted node) (trace.Recovered slot node) []

@@ -1,6 +1,6 @@
 use Rattle.std.proofs.Common.{take, drop}
 use Rattle.disk_turns.specs.Turns.{moment}
-use Rattle.journal_replays.proofs.Brought.{crashed_told, stopped_told}
+use Rattle.journal_replays.proofs.Brought.{crashed_told, stopped_told, told_behind}
 use Rattle.journal_replays.proofs.Crashing.{brought_left, stopped_crash}
 use Rattle.journal_replays.proofs.Cut.{behind_is, front_is, within}
 use Rattle.journal_replays.proofs.bringing.bring.Goals as goal
@@ -51,5 +51,10 @@ returns-in-Ok-clause-left g c =
 
 pub returns-in-Err-clause-by_crash : goal.returns-in-Err-clause-by_crash
 returns-in-Err-clause-by_crash g c =
-    stopped_crash c.args.node (moment (g.D.SharedDisk.state c.args.disk.now) (g.D.SharedDisk.list c.args.disk.now)) (moment (g.D.SharedDisk.state c.write_in_turns.new.disk) (g.D.SharedDisk.list c.write_in_turns.new.disk)) c.args.blocks.now
-    c.in-Err.fault c.args.armed c.args.items.now.items c.put_stopped.new.items.items c.in-Err.ensures.stopped (returns-in-Err-clause-stopped g c).are c.in-Err.ensures.crash
+    let before = moment (g.D.SharedDisk.state c.args.disk.now) (g.D.SharedDisk.list c.args.disk.now) in
+    let after = moment (g.D.SharedDisk.state c.write_in_turns.new.disk) (g.D.SharedDisk.list c.write_in_turns.new.disk) in
+    let fault = c.in-Err.fault in
+    let is = c.in-Err.ensures.stopped in
+    let told = told_behind c.args.node before after c.args.blocks.now (take fault.on_disk c.args.blocks.now) (take fault.in_flight (drop fault.on_disk c.args.blocks.now)) fault c.args.items.now.items c.put_stopped.new.items.items is
+    (front_is c.args.node before after c.args.blocks.now fault is) (behind_is c.args.node before after c.args.blocks.now fault is) c.put_stopped.ensures.put in
+    stopped_crash c.args.node before after c.args.blocks.now fault c.args.armed c.args.items.now.items c.put_stopped.new.items.items is told c.in-Err.ensures.crash
