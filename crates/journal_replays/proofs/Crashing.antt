@@ -18,8 +18,10 @@ use Rattle.disk_turns.specs.Turns.{AreBrought, HasStopped, Moment, none, turn, t
 use Rattle.disk_turns.specs.declared.faults.TurnFault.{TurnFault}
 use Rattle.journal_replays.specs.Bringing.{HasBrought, HasStoppedBringing, StopsBringingByCrash}
 use Rattle.journal_replays.specs.Crashes.{IsAtCrash, IsBeforeCrash, StopsByCrash, crash_of, writes_in}
-use Rattle.journal_replays.specs.Faults.{fault_of, stop_by}
+use Rattle.journal_replays.specs.Faults.{IfCrashed, fault_of, stop_by}
 use Rattle.journal_replays.specs.Items.{items_of}
+use Rattle.journal_replays.specs.declared.faults.ReplayFault.{ReplayFault}
+use Rattle.journal_replays.specs.declared.faults.ReplayFault.TheVariants.{Crashed, DiskFailed, NoMemory}
 use Rattle.journal_replays.proofs.Told.{items_on}
 
 some_is : {A : Type 0} {x y : A} → ◌≡◌ {A = Option A} (Some x) (Some y) → x ≡ y
@@ -162,3 +164,9 @@ stops_so node crash items fault = by fault.rise
     by : (r : Option Rise) → MatchOption r (IsAtCrash node crash items) (λ r. IsBeforeCrash node crash items) → StopsByCrash node crash items (stop_by fault.block r)
     by None is = is
     by (Some r) is = is
+
+-- without a write at which it is to crash it doesn't
+pub no_crash : (node : ℕ) (items items' : List TraceItem) (fault : ReplayFault) → StopsByCrash node (crash_of node None items) items' fault → IfCrashed fault ⊥
+no_crash node items items' (DiskFailed block rise) is = tt
+no_crash node items items' Crashed is = (let no : ◌≡◌ {A = Option ℕ} None (Some (writes_in node items')) = is.is in cc)
+no_crash node items items' NoMemory is = tt
