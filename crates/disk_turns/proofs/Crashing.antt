@@ -34,6 +34,14 @@ pub further : (armed : Option ℕ) (made more : ℕ) → IsBefore made armed →
 further None made more before behind = tt
 further (Some left) made more before behind = (let a : made < left = before in let b : more < left - made = behind in omega (arith, a, b))
 
+-- one that isn't to crash at a write doesn't
+pub never : (fault : TurnFault) (before : ℕ) → StopsByCrash None before fault → fault.rise ≡ None → ⊥
+never fault before stops none = by fault.rise stops none
+  where
+    by : (r : Option Rise) → MatchOption r ((◌≡◌ {A = Option ℕ} None (Some (before + fault.in_flight))) × (1 ≤ fault.in_flight)) (λ r. IsBefore (before + fault.in_flight) None) → r ≡ None → ⊥
+    by None is none = (let no : ◌≡◌ {A = Option ℕ} None (Some (before + fault.in_flight)) = is.0 in cc)
+    by (Some r) is none = cc
+
 -- what it has written is in flight
 pub stopped_crash : (node : ℕ) (d next : DiskState) (a c : Option (List Operation)) (ws : List Written) (made : ℕ) (fault : TurnFault) → made ≤ length ws → StopsAt ws fault.block (take made ws) (take made ws)
     → fault ≡ record { block = fault.block; rise = None; on_disk = 0; in_flight = made } → AreInFlight node d next (flights_of (take made ws)) → Gains a c (writes_of node (take made ws))
