@@ -1,22 +1,21 @@
 -- At which write a node crashes in its replay.
-use Rattle.std.proofs.Common.{◌≡◌, ◌<◌, ◌≤◌, ◌+◌, ◌-◌, ℕ, true, false, Bool, cond, List, [], ◌∷◌, ◌++◌, length, take, Option, None, Some, inl, inr, refl, sym, ap, subst, ◌∙◌, arith, suc}
+use Rattle.std.proofs.Common.{◌≡◌, ◌<◌, ◌≤◌, ◌+◌, ◌-◌, ℕ, Bool, cond, List, [], ◌∷◌, ◌++◌, length, Option, None, Some, refl, sym, ap, subst, ◌∙◌, arith}
 use Rattle.std.specs.Prelude.{MatchOption}
 use Rattle.std.proofs.lemmas.Bool.{eq-eqb}
-use Rattle.std.proofs.lemmas.List.{append_assoc, append-nil, length-append}
+use Rattle.std.proofs.lemmas.List.{append_assoc, length-append}
 use Rattle.std.proofs.lemmas.List.Sums.{sum_by-append, sum_by-cons}
 use Rattle.drafts.specs.declared.change.Written.{Written}
 use Rattle.fault_counts.specs.declared.Rise.{Rise}
-use Rattle.log_layout.specs.declared.log_header.LogHeader.{LogHeader}
 use Rattle.run_rules.specs.Follows.{is_write_of}
-use Rattle.shared_disk.specs.Disk.{Operation, Write, Barrier}
+use Rattle.shared_disk.specs.Disk.{Operation, Barrier}
 use Rattle.trace_text.specs.declared.item.TraceItem.{TraceItem}
 use Rattle.trace_text.specs.declared.item.TraceItem.TheVariants as trace
 use Rattle.disk_turns.specs.Crashes as turns
 use Rattle.disk_turns.specs.Crashes.{Awaits, IsBefore, left_after}
 use Rattle.disk_turns.specs.Faults.{HasStoppedAs}
-use Rattle.disk_turns.specs.Turns.{AreBrought, HasStopped, Moment, none, turn, turn_of, writes_of}
+use Rattle.disk_turns.specs.Turns.{AreBrought, Moment, none, turn, turn_of, writes_of}
 use Rattle.disk_turns.specs.declared.faults.TurnFault.{TurnFault}
-use Rattle.journal_replays.specs.Bringing.{HasBrought, HasStoppedBringing, StopsBringingByCrash}
+use Rattle.journal_replays.specs.Bringing.{HasBrought, StopsBringingByCrash}
 use Rattle.journal_replays.specs.Crashes.{IsAtCrash, IsBeforeCrash, StopsByCrash, crash_of, writes_in}
 use Rattle.journal_replays.specs.Faults.{IfCrashed, fault_of, stop_by}
 use Rattle.journal_replays.specs.Items.{items_of}

@@ -5,7 +5,7 @@ use Rattle.image_recovery.specs.Recoveries.{AreHeadersRead, HaveFailed, HaveRepl
 use Rattle.journal_replays.specs.Faults as replaying
 use Rattle.cluster_program.specs.Beginning.{HasBegun}
 use Rattle.cluster_program.specs.Mounting.{BeginEnds, LacksRoom, MountEnds, NotMounted}
-use Rattle.cluster_program.specs.Runs.{ArePlansOf, NotBegun, RunEnds}
+use Rattle.cluster_program.specs.Runs.{ArePlansOf, NotBegun}
 use Rattle.cluster_program.specs.World.{KeepsDisk, inputs}
 use Rattle.cluster_program.specs.declared.status.Status.TheVariants as status
 use Rattle.journal_replays.proofs.Crashing.{no_crash}
