@@ -21,17 +21,17 @@ use Rattle.image_model.specs.Stands.{Layout, flat_of}
 use Rattle.image_model.proofs.Counts.{at_in}
 use Rattle.image_model.proofs.Members.{IsIn, from_filter, from_flat_map, in_either, is_in}
 use Rattle.image_changes.specs.Instances.{dinode_at}
-use Rattle.file_calls.specs.Calls.{IsCallList}
-use Rattle.file_calls.specs.Holds.{Hold, hold_for, hold_of, hold_of_group, holds_in}
-use Rattle.file_calls.specs.Making as making
-use Rattle.file_calls.specs.MoveEnds as ends
-use Rattle.file_calls.specs.Removing as removing
-use Rattle.file_calls.specs.Writing as writing
-use Rattle.making_calls.specs.Blocks.{block_holds, first_of, holds_from, new_holds}
-use Rattle.pair_walks.specs.Orders.{beside, in_both, left_after, merged, pair_holds}
+use Rattle.lone_answers.specs.Calls.{IsCallList}
+use Rattle.lone_answers.specs.Holds.{Hold, hold_for, hold_of, hold_of_group, holds_in}
+use Rattle.lone_answers.specs.Making as making
+use Rattle.lone_answers.specs.MoveEnds as ends
+use Rattle.lone_answers.specs.Removing as removing
+use Rattle.lone_answers.specs.Writing as writing
+use Rattle.lone_answers.specs.MakingBlocks.{block_holds, first_of, holds_from, new_holds}
+use Rattle.lone_answers.specs.PairOrders.{beside, in_both, left_after, merged, pair_holds}
 use Rattle.growth_laws.specs.Need.{needed}
-use Rattle.room_search.specs.Blocks.{free_first, free_for, free_in, free_in_all, first_holds, group_of_node, own_first, states_by}
-use Rattle.room_search.proofs.Lists.{from_take}
+use Rattle.lone_answers.specs.FoundBlocks.{free_first, free_for, free_in, free_in_all, first_holds, group_of_node, own_first, states_by}
+use Rattle.lone_answers.proofs.FoundLists.{from_take}
 use Rattle.call_blocks.specs.Replaying.{IsOfTree, ListsAreOfTheTree}
 
 state_free : (x : Owner) → state_of x ≡ 0 → (g : ℕ) × (x ≡ Free g)

@@ -19,7 +19,7 @@ use Rattle.lone_machine.specs.Alone.{Begun, now}
 use Rattle.lone_logs.specs.States.{IsLoggedNode, NodeState, trees_on}
 use Rattle.lone_logs.proofs.Landed.{of}
 use Rattle.lone_logs.proofs.Reading.{cache_agrees, now_stands, view_cached}
-use Rattle.machine_outcomes.specs.Outcomes.{OutcomesAreTheMachines}
+use Rattle.lone_logs.specs.Outcomes.{OutcomesAreTheMachines}
 use Rattle.call_blocks.specs.Lone.{IsItsAnswer, ItsBlocksMayChange, MayChangeAtTheStart, MayChangeBehindBarriers, MayChangeBehindCalls, MayChangeThere, MayChangeWithoutCalls, WorksOnTheSame, image_now}
 use Rattle.call_blocks.specs.Replaying.{IsSameBeside}
 use Rattle.call_blocks.proofs.Replaying.{calls_keep_the_system, replays_may_change_it}

@@ -30,8 +30,8 @@ use Rattle.image_changes.specs.Does.{AreInside, Does, DoesIn, IsHeld, IsInside, 
 use Rattle.image_changes.proofs.Drafting.{either}
 use Rattle.image_changes.proofs.Frame.{dinode_its}
 use Rattle.image_changes.proofs.Touching.{locks_are_touched}
-use Rattle.file_calls.specs.Calls.{IsUnderItsLocks}
-use Rattle.file_calls.specs.Holds.{hold_of}
+use Rattle.lone_answers.specs.Calls.{IsUnderItsLocks}
+use Rattle.lone_answers.specs.Holds.{hold_of}
 use Rattle.call_blocks.specs.Replaying.{CallsKeepTheSystem, IsOfTree, IsSameBeside, ReplaysMayChangeIt}
 use Rattle.call_blocks.proofs.Lists.{lists_are_of_the_tree}
 use Rattle.call_blocks.proofs.SameSystem.{same_may_change}

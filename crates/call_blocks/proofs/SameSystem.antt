@@ -5,7 +5,7 @@ use Rattle.image_model.specs.Owners.{Owners}
 use Rattle.image_model.specs.Replays.{MayChange}
 use Rattle.image_model.specs.Stands.{IsLaid, Layout}
 use Rattle.image_model.proofs.Facts.{group_listed, listed_group}
-use Rattle.image_outcomes.proofs.SameFiles.{HasSameFiles, same_files}
+use Rattle.lone_logs.proofs.SameFiles.{HasSameFiles, same_files}
 use Rattle.call_blocks.specs.Replaying.{SameMayChange}
 
 module _ (im other : Image) (o : Owners) (l : Layout) (laid : IsLaid im o l) (b : ℕ) where

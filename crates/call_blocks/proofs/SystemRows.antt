@@ -23,7 +23,7 @@ use Rattle.image_model.proofs.SystemStays.{file_inode}
 use Rattle.image_changes.specs.Changes.{cover, inode_lock, inode_of}
 use Rattle.image_changes.proofs.Frame.{dinode_its, inode_cover}
 use Rattle.image_changes.proofs.Laid.{apart}
-use Rattle.image_outcomes.proofs.SameFiles.{place_row}
+use Rattle.lone_logs.proofs.SameFiles.{place_row}
 use Rattle.call_blocks.specs.Replaying.{IsOfTree}
 
 free_no_dinode : (g : ℕ) (x : Owner) → x ≡ Free g → is_dinode x ≡ true → ⊥

@@ -19,7 +19,7 @@ use Rattle.lone_images.specs.Lone.{begun_on}
 use Rattle.lone_machine.specs.Alone.{Begun, begun, now}
 use Rattle.lone_logs.specs.Laws.{IsItsView}
 use Rattle.lone_logs.specs.States.{HasLandedAs, IsLoggedNode, NodeState, trees_on}
-use Rattle.file_calls.specs.Calls.{IsUnderItsLocks}
+use Rattle.lone_answers.specs.Calls.{IsUnderItsLocks}
 
 -- the image with all calls of the node: what it works on
 abbrev pub image_now : (v : Volume) → World (trees_on v) → Image

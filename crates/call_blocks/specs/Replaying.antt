@@ -14,8 +14,8 @@ use Rattle.image_model.specs.Stands.{IsLaid, Layout}
 use Rattle.image_model.specs.SystemFiles.{HasSameSystem}
 use Rattle.image_changes.specs.Does.{AreInside, Does, IsOf, has_block}
 use Rattle.image_changes.specs.Instances.{IsAt}
-use Rattle.file_calls.specs.Calls.{IsCallList, IsUnderItsLocks}
-use Rattle.file_calls.specs.Holds.{Hold, hold_of}
+use Rattle.lone_answers.specs.Calls.{IsCallList, IsUnderItsLocks}
+use Rattle.lone_answers.specs.Holds.{Hold, hold_of}
 
 -- ---- the locks of a call
 

@@ -4,7 +4,8 @@
 ghost use Rattle.call_blocks.specs.Lone.{ItsBlocksMayChange, MayChangeAtTheStart, MayChangeBehindBarriers, MayChangeBehindCalls, MayChangeWithoutCalls};
 ghost use Rattle.call_blocks.specs.Replaying.{CallsKeepTheSystem, ListsAreOfTheTree, ReplaysMayChangeIt, SameMayChange};
 
-use machine_outcomes::outcomes_are_the_machines;
+use lone_logs::outcomes_are_the_machines;
+pub use lone_logs::what_remains_of_it;
 
 /// A law: the inodes whose locks a call takes are found from the root, or weren't there.
 pub fn calls_lock_inodes_of_the_tree()

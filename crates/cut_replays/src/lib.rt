@@ -4,6 +4,7 @@
 ghost use Rattle.cut_replays.specs.Failed.{FailedReplaysStand};
 ghost use Rattle.cut_replays.specs.Stopped.{StoppedReplaysStand};
 
+pub use image_recovery::{a_replay_leaves_its_image, what_a_replay_leaves_stands};
 use log_layout::headers_read_back;
 
 /// A law: where some of a mounted image's journals were replayed, and of the others nothing was done, the disk has an image that

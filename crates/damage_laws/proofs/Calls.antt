@@ -11,9 +11,9 @@ use Rattle.glock_names.specs.Views.{Seen}
 use Rattle.image_model.specs.Claims.{every, below}
 use Rattle.image_model.specs.Flat.{Path}
 use Rattle.image_model.specs.Image.{Image, IsImage}
-use Rattle.path_walks.specs.Walks.{LeadsTo}
+use Rattle.file_calls.specs.Walks.{LeadsTo}
 use Rattle.file_calls.specs.Making as making
-use Rattle.path_walks.specs.Walks as path
+use Rattle.file_calls.specs.Walks as path
 use Rattle.file_calls.specs.Removing as removing
 use Rattle.file_calls.specs.Writing as writing
 use Rattle.damage_laws.specs.Telling.{IsReadFrom, HasWholeGroups, IsTold, itself, astray, IsToldOf, on_path, WritesTell, WritesTellExactly, RemovalsTell, RemovalsTellExactly, MakingsTell, MakingsTellExactly}

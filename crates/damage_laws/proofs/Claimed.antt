@@ -30,8 +30,8 @@ use Rattle.image_model.specs.Rules.{HasSoundGroup, IsOutside}
 use Rattle.image_model.proofs.Held.{none_some}
 use Rattle.image_model.proofs.Rows.{and_left}
 use Rattle.image_model.proofs.Reach.{Leading, leading}
-use Rattle.path_walks.specs.Walks.{Names, IsDirectoryAt, IsHeldAt, LeadsTo, at_root, by_name, IsNext, the_root, the_child}
-use Rattle.path_walks.proofs.Images.{child_is}
+use Rattle.file_calls.specs.Walks.{Names, IsDirectoryAt, IsHeldAt, LeadsTo, at_root, by_name, IsNext, the_root, the_child}
+use Rattle.file_calls.proofs.Images.{child_is}
 use Rattle.damage_laws.specs.Telling.{IsReadFrom, IsAstray, HasAstray}
 use Rattle.damage_laws.proofs.Astray.{whole_or}
 
@@ -83,8 +83,8 @@ module _ (im : Image) (a b : ℕ) (name : List ℕ) (has : HasInode im a) (dir :
       (λ r there dots. in_dinode has.1.by a has.0 r has.1.claimed has.1.dinode dir plain (subst (λ rs. Contains rs r) (cond-false _ _ _ plain) there) (dots ∙ is.not_dots))
 
   hashed_claims : is_hashed_in (every im a) ≡ true → (i : ℕ) (named : Option Record) (e : Entry) → IsFirstNamed (every im a) i name named → Some e ≡ option_map entry_of named → e.addr ≡ b → IsNamedBy im a b name
-  hashed_claims hashed i _ e (nowhere ends none) leads address = absurd (none_some (sym leads))
-  hashed_claims hashed i _ e (in_leaf place x r chain found later) leads address =
+  hashed_claims hashed i _ e (nowhere ends none heads) leads address = absurd (none_some (sym leads))
+  hashed_claims hashed i _ e (in_leaf place x r chain found later heads) leads address =
       let c = chain_claims im a has hashed i place x chain in
       let led = record_is (records_in (leaf_area (every im a) x)) name r found in
       let there : r.address ≡ b = some_address r e leads ∙ address in
@@ -103,9 +103,9 @@ module _ (im : Image) (a b : ℕ) (name : List ℕ) (has : HasInode im a) (dir :
 
 -- ---- what a view shows
 
--- the groups of the list are those of a sound one
+-- the groups of the list are those of a whole one
 pub has_group : (v : Seen) (im : Image) (read : IsReadFrom v im) (g : Rindex) → IsListed read.list g → HasSoundGroup im g
-has_group v im read g there = (read.list, read.sound, there)
+has_group v im read g there = (read.list, read.whole, there)
 
 module _ (v : Seen) (im : Image) (read : IsReadFrom v im) (is_image : IsImage im) where
   -- an inode that is read as if it had every block of the image is one that the view shows
@@ -195,4 +195,4 @@ module _ (v : Seen) (im : Image) (read : IsReadFrom v im) (is_image : IsImage im
 
   -- a block in none of the view's groups is in none of the image's
   pub outside : (b : ℕ) → ¬ (HasDataBlock v b) → IsOutside im b
-  outside b out = (read.list, read.sound, λ g there of. out (group_of_entry g, (read.groups (group_of_entry g)).1 (g, there, refl), record { low = of.low; high = of.high }))
+  outside b out = (read.list, read.whole, λ g there of. out (group_of_entry g, (read.groups (group_of_entry g)).1 (g, there, refl), record { low = of.low; high = of.high }))

@@ -28,8 +28,8 @@ use Rattle.image_model.specs.Groups.{IsListed, state_of}
 use Rattle.image_model.specs.Image.{Image, IsImage}
 use Rattle.image_model.specs.Owners.{Owner, Root, Below, Chained, is_dinode}
 use Rattle.image_model.specs.Rules.{Breaks, of_group, of_bitmap, of_owner, no_header, beyond_groups, bits_of, free_count, dinode_count, wrong_bits}
-use Rattle.path_walks.specs.Walks.{IsDirectoryAt, LeadsTo, at_root, by_name}
-use Rattle.path_walks.specs.Walks as path
+use Rattle.file_calls.specs.Walks.{IsDirectoryAt, LeadsTo, at_root, by_name}
+use Rattle.file_calls.specs.Walks as path
 use Rattle.file_calls.specs.Removing.{Goes}
 use Rattle.damage_laws.specs.Telling.{IsAstray, IsReadFrom, HasRootInside, HasWholeGroups, HasAstray, IsTold, itself, astray, IsToldOf, IsToldOn, its_own, on_path, by_root}
 use Rattle.damage_laws.proofs.Claimed.{chain_claims, has_group, root_claimed, directory_or, inode_or, is_directory, led_there, outside, astray_at, further}

@@ -54,7 +54,7 @@ module _ (v : Seen) (im : Image) (m : MountedValue) (whole : IsImage im) (is : I
     root = ap (λ (s : SuperBlock). s.root.address) (sym is.superblock) ∙ of.root;
     agrees = of.agrees;
     list = l.groups;
-    sound = record { inode = l.rindex; rindex = found.rindex; only = rindex_is; header = is.looked.rindex.dinode.header; whole = is.found.groups.list.whole; listed = listed; fit = is.found.groups.fit.each; rise = is.found.groups.fit.rise };
+    whole = record { sound = record { inode = l.rindex; rindex = found.rindex; only = rindex_is; header = is.looked.rindex.dinode.header; whole = is.found.groups.list.whole; listed = listed; fit = is.found.groups.fit.each; rise = is.found.groups.fit.rise }; rest = is.found.groups.fit.rest };
     groups = λ k. (entry_of k, λ f. subst (HasGroup v) (sym f.2) (has_listed f.0 f.1));
   }
 

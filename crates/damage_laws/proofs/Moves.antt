@@ -18,9 +18,9 @@ use Rattle.image_model.specs.Flat.{Path}
 use Rattle.image_model.specs.Image.{Image}
 use Rattle.image_model.specs.Rules.{Breaks}
 use Rattle.image_model.proofs.Rows.{and_left}
-use Rattle.path_walks.specs.Walks.{IsDirectoryAt, IsWrongAt, LeadsTo}
-use Rattle.path_walks.specs.Walks as path
-use Rattle.path_walks.specs.declared.walk.Place.{Place}
+use Rattle.file_calls.specs.Walks.{IsDirectoryAt, IsWrongAt, LeadsTo}
+use Rattle.file_calls.specs.Walks as path
+use Rattle.file_calls.specs.walk.Place.{Place}
 use Rattle.file_calls.specs.Removing.{Goes}
 use Rattle.file_calls.specs.Removing as removing
 use Rattle.file_calls.specs.Moving as moving

@@ -16,7 +16,7 @@ use Rattle.glock_names.specs.Views.{Seen}
 use Rattle.glock_names.specs.declared.steps.Missing.{Missing}
 use Rattle.image_model.specs.Flat.{Path}
 use Rattle.image_model.specs.Image.{Image}
-use Rattle.path_walks.specs.Walks.{IsDirectoryAt, IsHeldAt, IsNext, IsUnread, LeadsTo}
+use Rattle.file_calls.specs.Walks.{IsDirectoryAt, IsHeldAt, IsNext, IsUnread, LeadsTo}
 use Rattle.resource_groups.specs.Freeing as freeing
 use Rattle.file_calls.specs.Moving as moving
 use Rattle.file_calls.specs.Moving.{IsMeant}

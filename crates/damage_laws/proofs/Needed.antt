@@ -33,7 +33,7 @@ use Rattle.image_model.specs.Owners.{Root, Below}
 use Rattle.image_model.specs.Rules.{Breaks, beyond_device}
 use Rattle.image_model.proofs.Held.{none_some}
 use Rattle.file_calls.specs.Making as making
-use Rattle.path_walks.specs.Walks.{IsDirectoryAt, LeadsTo, IsNext, the_root, the_child, IsUnread, a_dinode, in_directory}
+use Rattle.file_calls.specs.Walks.{IsDirectoryAt, LeadsTo, IsNext, the_root, the_child, IsUnread, a_dinode, in_directory}
 use Rattle.file_calls.specs.Removing as removing
 use Rattle.file_calls.specs.Writing as writing
 use Rattle.file_calls.specs.FileDrafting.{IsNeededAt, of_any, of_group, of_inode}

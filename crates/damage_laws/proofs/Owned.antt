@@ -15,10 +15,11 @@ use Rattle.image_model.specs.Groups.{state_of}
 use Rattle.image_model.specs.Image.{Image, IsImage}
 use Rattle.image_model.specs.Owners.{Owner, Super, InGroup, Free, Nobody, Root, Master, Named, Below, Chained, IsWithin, is_dinode}
 use Rattle.image_model.specs.Rules.{Breaks, two_owners}
+use Rattle.image_model.proofs.OneChain.{below_no_chain, dinode_no_chain, one_chain_within}
 use Rattle.image_model.proofs.Held.{none_some, some_same}
-use Rattle.path_walks.specs.Walks.{LeadsTo, Names, at_root, by_name}
-use Rattle.path_walks.proofs.Leads.{no_end}
-use Rattle.path_walks.proofs.Lists.{parent_of_next}
+use Rattle.file_calls.specs.Walks.{LeadsTo, Names, at_root, by_name}
+use Rattle.file_calls.proofs.Leads.{no_end}
+use Rattle.file_calls.proofs.Lists.{parent_of_next}
 use Rattle.file_calls.specs.NameWay.{IsOnWay, its_dinode, its_leaf, its_pointer}
 use Rattle.file_calls.specs.Removing.{Goes}
 use Rattle.directories.specs.Taking.{HasRecordOf}
@@ -142,7 +143,7 @@ module _ (v : Seen) (im : Image) (read : IsReadFrom v im) (is_image : IsImage im
           | inr astray ↦ inr (up astray)
           | inl named ↦ elim (other_owner front b last (subst (LeadsTo v wants front) same leads)) [
             | inr astray ↦ inr (up astray)
-            | inl other ↦ inl (two_owners b named.by other.by (Named b last) other.owner (subst (λ x. Claims im named.by b (Named x last)) same named.claims) other.claims (λ e. other.other (sym e)))
+            | inl other ↦ inl (two_owners b named.by other.by (Named b last) other.owner (subst (λ x. Claims im named.by b (Named x last)) same named.claims) other.claims (λ e. other.other (sym e)) (λ one. one))
           ]
         ]
       ]
@@ -166,10 +167,11 @@ module _ (v : Seen) (im : Image) (read : IsReadFrom v im) (is_image : IsImage im
   goes_told path a dir some leads above has top (inr (inl led)) =
       inl (two_owners dir led.0 top.1.by (Below a led.0 led.1 led.2 led.3) top.0
       (below has.1.by a has.0 led.0 led.1 led.2 led.3 dir has.1.claimed has.1.dinode led.4) top.1.claimed
-      (λ e. true≢false (sym top.1.dinode ∙ ap is_dinode (sym e))))
+      (λ e. true≢false (sym top.1.dinode ∙ ap is_dinode (sym e))) (λ one. one))
   goes_told path a dir some leads above has top (inr (inr leaf)) =
       let c = chain_claims im a has leaf.0 leaf.1.0 leaf.1.1 dir leaf.1.2 in
-      inl (two_owners dir c.0 top.1.by (Chained a (first_hash (every im a) leaf.1.0) leaf.1.1) top.0 c.1 top.1.claimed (λ e. true≢false (sym top.1.dinode ∙ ap is_dinode (sym e))))
+      inl (two_owners dir c.0 top.1.by (Chained a (first_hash (every im a) leaf.1.0) leaf.1.1) top.0 c.1 top.1.claimed (λ e. true≢false (sym top.1.dinode ∙ ap is_dinode (sym e)))
+      (dinode_no_chain (Chained a (first_hash (every im a) leaf.1.0) leaf.1.1) top.0 top.1.dinode))
 
   pub shared_told : (path : Path) (a dir : ℕ) → path ≢ [] → LeadsTo v wants path a → LeadsTo v wants (parent_of path) dir → ((h : Holding) → dirs.IsShown v a h → Goes h dir) → Breaks im 3 dir ⊎ IsAhead path
   shared_told path a dir some leads above goes = elim (shown_at path a leads) [
@@ -184,11 +186,13 @@ module _ (v : Seen) (im : Image) (read : IsReadFrom v im) (is_image : IsImage im
   within_told : (a dir x by : ℕ) (first : Owner) → a ≢ dir → HasInode im a → IsWithin dir first → Claims im by x first → Goes (every im a) x → Breaks im 3 x
   within_told a dir x by first apart has within claimed (inl own) =
       two_owners x by has.1.by first has.0 claimed (subst (λ b. Claims im has.1.by b has.0) (sym own) has.1.claimed) (λ e. true≢false (sym has.1.dinode ∙ ap is_dinode (sym e) ∙ within_no_dinode dir first within))
+      (dinode_no_chain first has.0 has.1.dinode)
   within_told a dir x by first apart has within claimed (inr (inl led)) =
-      two_owners x by led.0 first (Below a led.0 led.1 led.2 led.3) claimed (below has.1.by a has.0 led.0 led.1 led.2 led.3 x has.1.claimed has.1.dinode led.4) (λ e. apart (subst (IsWithin dir) e within))
+      two_owners x by led.0 first (Below a led.0 led.1 led.2 led.3) claimed (below has.1.by a has.0 led.0 led.1 led.2 led.3 x has.1.claimed has.1.dinode led.4) (λ e. apart (subst (IsWithin dir) e within)) (below_no_chain first a led.0 led.1 led.2 led.3)
   within_told a dir x by first apart has within claimed (inr (inr leaf)) =
       let c = chain_claims im a has leaf.0 leaf.1.0 leaf.1.1 x leaf.1.2 in
       two_owners x by c.0 first (Chained a (first_hash (every im a) leaf.1.0) leaf.1.1) claimed c.1 (λ e. apart (subst (IsWithin dir) e within))
+      (λ one. apart (one_chain_within dir first a (first_hash (every im a) leaf.1.0) leaf.1.1 within one))
 
   -- a leaf of the directory above is one of the inode's blocks, which is another one
   leaf_told : (a dir i place x : ℕ) → a ≢ dir → HasInode im a → HasInode im dir → is_hashed_in (every im dir) ≡ true → IsInChain (every im dir) i place x → Goes (every im a) x → Breaks im 3 x
@@ -208,9 +212,9 @@ module _ (v : Seen) (im : Image) (read : IsReadFrom v im) (is_image : IsImage im
   ]
     where
       in_leaf : (b : ℕ) (found : Option ℕ) → IsLeafOfName (every im dir) name found → found ≡ Some b → is_hashed_in (every im dir) ≡ true → Goes (every im a) b → HasInode im a → HasInode im dir → Breaks im 3 b
-      in_leaf b _ (in_this place x r chain is later) e hashed goes has top =
+      in_leaf b _ (in_this place x r chain is later heads) e hashed goes has top =
           leaf_told a dir (index_for (every im dir) name) place b apart has top hashed (subst (IsInChain (every im dir) (index_for (every im dir) name) place) (some_same e) chain) goes
-      in_leaf b _ (in_none ends later) e hashed goes has top = absurd (none_some e)
+      in_leaf b _ (in_none ends later heads) e hashed goes has top = absurd (none_some e)
 
       by : (b : ℕ) → HasRecordOf (every im dir) name b → Goes (every im a) b → HasInode im a → HasInode im dir → Breaks im 3 b ⊎ IsAhead path
       by _ (taking.HasRecordOf.in_linear plain) goes has top = goes_told path a dir some leads above has top goes
@@ -266,11 +270,11 @@ module _ (v : Seen) (im : Image) (read : IsReadFrom v im) (is_image : IsImage im
       by : HasInode im a → IsNamedBy v im read is_image first p b → Goes (every im a) b → Breaks im 3 b ⊎ EitherAhead p q
       by has named (inr (inl led)) =
           inl (two_owners b named.by led.0 (Named named.directory named.name) (Below a led.0 led.1 led.2 led.3) named.claims
-          (below has.1.by a has.0 led.0 led.1 led.2 led.3 b has.1.claimed has.1.dinode led.4) (named_below named.directory a led.0 led.1 led.2 led.3 named.name))
+          (below has.1.by a has.0 led.0 led.1 led.2 led.3 b has.1.claimed has.1.dinode led.4) (named_below named.directory a led.0 led.1 led.2 led.3 named.name) (λ one. one))
       by has named (inr (inr leaf)) =
           let c = chain_claims im a has leaf.0 leaf.1.0 leaf.1.1 b leaf.1.2 in
           inl (two_owners b named.by c.0 (Named named.directory named.name) (Chained a (first_hash (every im a) leaf.1.0) leaf.1.1) named.claims c.1
-          (named_chained named.directory a (first_hash (every im a) leaf.1.0) leaf.1.1 named.name))
+          (named_chained named.directory a (first_hash (every im a) leaf.1.0) leaf.1.1 named.name) (λ one. one))
       by has named (inl own) = elim (named_by v im read is_image second q a some' leads') [
         | inr astray ↦ inr (inr astray)
         | inl other ↦ elim (one_above v im read is_image first p named.directory from named.above above) [
@@ -281,7 +285,7 @@ module _ (v : Seen) (im : Image) (read : IsReadFrom v im) (is_image : IsImage im
                 inl (two_owners b named.by other.by (Named named.directory named.name) (Named other.directory other.name) named.claims
                 (subst (λ x. Claims im other.by x (Named other.directory other.name)) (sym own) other.claims)
                 (λ e. two (sym up ∙ same_directory named.directory other.directory named.name other.name e ∙ up') named.name named.last
-                (subst (λ n. q ≡ parent_of q ++ n ∷ []) (sym (one_name named.directory other.directory named.name other.name e)) other.last)))
+                (subst (λ n. q ≡ parent_of q ++ n ∷ []) (sym (one_name named.directory other.directory named.name other.name e)) other.last)) (λ one. one))
           ]
         ]
       ]

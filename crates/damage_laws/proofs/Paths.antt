@@ -24,9 +24,9 @@ use Rattle.image_model.specs.Rules.{Needs, of_dinode, of_indirect, of_table, Has
 use Rattle.image_model.proofs.Held.{none_some}
 use Rattle.image_model.proofs.Members.{IsIn, is_in}
 use Rattle.image_reader.proofs.Directories.{leaf_is_hashed, not_both}
-use Rattle.path_walks.specs.Walks as path
-use Rattle.path_walks.specs.Walks.{IsLinearAt, IsWrongAt, in_inode, in_directory, too_few, on_path, leads_out}
-use Rattle.path_walks.proofs.Images.{none_named}
+use Rattle.file_calls.specs.Walks as path
+use Rattle.file_calls.specs.Walks.{IsLinearAt, IsWrongAt, in_inode, in_directory, too_few, on_path, leads_out}
+use Rattle.file_calls.proofs.Images.{none_named}
 use Rattle.damage_laws.specs.Telling.{InodesAreThere, PathsTell, HasAstray, IsAstray, IsReadFrom, IsTold, itself, astray}
 use Rattle.image_model.proofs.Behind.{behind_nearer}
 use Rattle.damage_laws.proofs.Claimed.{shown, is_directory, directory_or, astray_at, further, led_there, next_there, next_led, outside, chain_behind, chain_claims, leaf_claims, has_leaf, record_is, name_claims, IsNamedBy}

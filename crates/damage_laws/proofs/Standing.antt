@@ -37,7 +37,7 @@ module _ (v : Seen) (im : Image) (o : Owners) (l : Layout) (t : Tree) (is : IsOf
     root = laid.super.root ∙ is.root;
     agrees = is.agrees;
     list = l.groups;
-    sound = record { inode = l.rindex; rindex = has_rindex im o l laid; only = rindex_is im o l laid; header = header; whole = list_whole im o l laid l.rindex (has_rindex im o l laid); listed = list_is im o l laid; fit = laid.fit.each; rise = laid.fit.rise };
+    whole = record { sound = record { inode = l.rindex; rindex = has_rindex im o l laid; only = rindex_is im o l laid; header = header; whole = list_whole im o l laid l.rindex (has_rindex im o l laid); listed = list_is im o l laid; fit = laid.fit.each; rise = laid.fit.rise }; rest = laid.fit.rest };
     groups = λ k. (listed k, λ f. subst (HasGroup v) (sym f.2) (has_listed f.0 f.1));
   }
 

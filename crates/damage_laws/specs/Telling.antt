@@ -20,26 +20,26 @@ use Rattle.image_model.specs.Flat.{Path}
 use Rattle.image_model.specs.Image.{Image, IsImage, superblock_in}
 use Rattle.image_model.specs.Owners.{Owner, Owners, IsWithin}
 use Rattle.image_model.specs.Groups.{IsListed}
-use Rattle.image_model.specs.Rules.{Breaks, IsSoundList}
+use Rattle.image_model.specs.Rules.{Breaks, IsWholeList}
 use Rattle.image_model.specs.Stands.{Layout}
 use Rattle.image_mount.specs.Mounted.{IsMounted, MountedValue}
 use Rattle.file_calls.specs.Making as making
 use Rattle.file_calls.specs.MoveEnds.{IsRenaming}
 use Rattle.file_calls.specs.Moving as moving
-use Rattle.path_walks.specs.Walks as path
+use Rattle.file_calls.specs.Walks as path
 use Rattle.file_calls.specs.Removing as removing
 use Rattle.resource_groups.specs.Putting.{HasDataBlock}
 use Rattle.resource_groups.specs.Shown.{IsHeaderOf}
 use Rattle.file_calls.specs.Writing as writing
 
 -- The view may have been read from the image, be this right or wrong: they agree in the size of a block, in the root, in each block that
--- the view has, and in the groups, which are those of the image's list; these fit, and rise.
+-- the view has, and in the groups, which are those of the image's list: of the one file that is its `rindex`. These fit, rise, and leave no block bare.
 pub record IsReadFrom (v : Seen) (im : Image) : Type 0 where
   pub size : im.size ≡ v.size
   pub root : (superblock_in im).root.address ≡ v.root
   pub agrees : AgreesWith v im
   pub list : List Rindex
-  pub sound : IsSoundList im list
+  pub whole : IsWholeList im list
   pub groups : (k : Group) → HasGroup v k ↔ ((g : Rindex) × IsListed list g × (k ≡ group_of_entry g))
 
 -- the image's blocks are whole, and it has each block of the view's groups

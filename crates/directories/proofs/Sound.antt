@@ -109,7 +109,7 @@ module _ (h : Holding) (i : ℕ) (name : List ℕ) where
   before_other place place' x x' r r' chain is chain' is' later low = none_some (sym (later place x low chain) ∙ is)
 
   first_once : (a b : Option Record) → IsFirstNamed h i name a → IsFirstNamed h i name b → a ≡ b
-  first_once _ _ (in_leaf place x r chain is later) (in_leaf place' x' r' chain' is' later') = elim (which place place') [
+  first_once _ _ (in_leaf place x r chain is later heads) (in_leaf place' x' r' chain' is' later' heads') = elim (which place place') [
     | inl low ↦ absurd (before_other place place' x x' r r' chain is chain' is' later' low)
     | inr (inl same) ↦ sym is ∙ ap (named_in h name) (chain_one h i place x x' chain (subst (λ n. IsInChain h i n x') (sym same) chain')) ∙ is'
     | inr (inr high) ↦ absurd (before_other place' place x' x r' r chain' is' chain is later high)
@@ -117,9 +117,9 @@ module _ (h : Holding) (i : ℕ) (name : List ℕ) where
     where
       which : (a b : ℕ) → (a < b) ⊎ ((a ≡ b) ⊎ (b < a))
       which a b = grind arith
-  first_once _ _ (in_leaf place x r chain is later) (nowhere ends none) = absurd (none_some (sym (none (place + 1) place x (omega arith) chain) ∙ is))
-  first_once _ _ (nowhere ends none) (in_leaf place x r chain is later) = absurd (none_some (sym (none (place + 1) place x (omega arith) chain) ∙ is))
-  first_once _ _ (nowhere ends none) (nowhere ends' none') = refl
+  first_once _ _ (in_leaf place x r chain is later heads) (nowhere ends none heads') = absurd (none_some (sym (none (place + 1) place x (omega arith) chain) ∙ is))
+  first_once _ _ (nowhere ends none heads) (in_leaf place x r chain is later heads') = absurd (none_some (sym (none (place + 1) place x (omega arith) chain) ∙ is))
+  first_once _ _ (nowhere ends none heads) (nowhere ends' none' heads') = refl
 
 pub says_once : (h : Holding) (name : List ℕ) (a b : Option Entry) → Says h name a → Says h name b → a ≡ b
 says_once h name _ _ (directory.Says.in_linear plain) (directory.Says.in_linear plain') = refl

@@ -137,11 +137,11 @@ module _ {V : Type 0} (seen : V → Seen) (old new : Drafted V) (dir : ℕ) (nam
 -- a name that leads somewhere is in a leaf
 pub in_some_leaf : (h : Holding) (name : List ℕ) (found : Option Entry) (e : Entry) → is_hashed_in h ≡ true → Says h name found → found ≡ Some e → IsLeafOfName h name None → ⊥
 in_some_leaf h name _ e hashed (directory.Says.in_linear plain) some none = true≢false (sym hashed ∙ plain)
-in_some_leaf h name _ e hashed (directory.Says.in_hashed found is small by) some (in_none ends later) = absent by.named by.first (sym by.leads ∙ some)
+in_some_leaf h name _ e hashed (directory.Says.in_hashed found is small by) some (in_none ends later heads) = absent by.named by.first (sym by.leads ∙ some)
   where
     absent : (o : Option Record) → IsFirstNamed h (index_for h name) name o → option_map entry_of o ≡ Some e → ⊥
-    absent _ (in_leaf place x r chain is before) leads = none_some (sym (later (place + 1) place x (omega arith) chain) ∙ is)
-    absent _ (nowhere ends before) leads = none_some leads
+    absent _ (in_leaf place x r chain is before up) leads = none_some (sym (later (place + 1) place x (omega arith) chain) ∙ is)
+    absent _ (nowhere ends before up) leads = none_some leads
 
 pub is_there : {A : Type 0} (o : Option A) (x : A) → o ≡ Some x → IsSome o
 is_there None x e = absurd (none_some e)

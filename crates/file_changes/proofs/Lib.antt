@@ -8,3 +8,4 @@ pub mod Stepping
 pub mod CutSteps
 -- Passed on to the crates above.
 pub use Rattle.group_locks.proofs.Locks
+pub use Rattle.file_cuts.proofs.Tails

@@ -4,3 +4,7 @@ pub mod Making
 pub use Rattle.file_cuts.specs.Filling
 pub use Rattle.group_locks.specs.Groups
 pub use Rattle.group_locks.specs.Laws
+pub use Rattle.file_cuts.specs.Cut
+pub use Rattle.file_cuts.specs.Written
+pub use Rattle.file_cuts.specs.Grown
+pub use Rattle.file_cuts.specs.Causes

@@ -9,3 +9,5 @@ pub mod Steps
 pub mod Place
 pub mod Ending
 pub mod Finishing
+-- Passed on to the crates above.
+pub use Rattle.file_fills.proofs.Tails

@@ -3,7 +3,7 @@ use Rattle.std.proofs.Common.{◌≡◌, ◌≢◌, ℕ, zero, suc, ◌+◌, ◌
 use Rattle.std.specs.Option.{option_map}
 use Rattle.profile_limits.specs.Limits.{most_blocks}
 use Rattle.gfs2_layout.specs.Holding.{Holding}
-use Rattle.gfs2_layout.specs.Inode.{entry, leaf_in}
+use Rattle.gfs2_layout.specs.Inode.{depth_in, entry, leaf_in}
 use Rattle.gfs2_layout.specs.Records.{Record}
 use Rattle.image_model.proofs.Held.{none_some}
 use Rattle.glock_names.specs.Views.{Seen, HasBlock}
@@ -12,7 +12,7 @@ use Rattle.linear_dirs.specs.Shown.{entry_of}
 use Rattle.pointer_tables.specs.Directories.{IsInChain, chain_head, chain_next}
 use Rattle.pointer_tables.specs.declared.pointer.Pointer.{Pointer}
 use Rattle.hash_dirs.specs.Broken.{IsBroken, comes_again}
-use Rattle.hash_dirs.specs.Finding.{IsFirstNamed, IsFoundAlong, IsLeafOfName, IsNamedLater, in_leaf, in_none, nowhere, named_in}
+use Rattle.hash_dirs.specs.Finding.{AreLeafHeads, IsEnded, IsFirstNamed, IsFoundAlong, IsLeafHead, IsLeafOfName, IsNamedLater, in_leaf, in_none, nowhere, named_in}
 use Rattle.hash_dirs.specs.Shown.{LeadsToLeaf, by_pointer, by_leaf, index_for}
 use Rattle.hash_dirs.specs.Walking.{IsAlong, IsLeafOf, IsNameless, IsSmall, OfEach, leaf_on}
 use Rattle.hash_dirs.specs.declared.chains.LeafAt.{LeafAt}
@@ -86,13 +86,23 @@ module _ (h : Holding) (i : ℕ) where
       same_or : (place q : ℕ) → place < q + 1 → (place ≡ q) ⊎ (place < q)
       same_or place q low = grind arith
 
-  module _ (name : List ℕ) (place x : ℕ) (chain : IsInChain h i place x) (later : IsNamedLater h i name place) where
+  -- all up to this one are leaves
+  pub heads_with : (place x : ℕ) → IsInChain h i place x → AreLeafHeads h i place → IsLeafHead h x → AreLeafHeads h i (place + 1)
+  heads_with place x chain heads headed earlier y before there = elim (last earlier before) [
+    | inl low ↦ heads earlier y low there
+    | inr same ↦ subst (IsLeafHead h) (chain_one place x y chain (subst (λ n. IsInChain h i n y) same there)) headed
+  ]
+    where
+      last : (earlier : ℕ) → earlier < place + 1 → (earlier < place) ⊎ (earlier ≡ place)
+      last earlier low = grind arith
+
+  module _ (name : List ℕ) (place x : ℕ) (chain : IsInChain h i place x) (later : IsNamedLater h i name place) (heads : AreLeafHeads h i place) (headed : IsLeafHead h x) where
     pub found_here : (e : Entry) → option_map entry_of (named_in h name x) ≡ Some e → IsFoundAlong h i name (Some e)
     found_here e leads = by (named_in h name x) refl leads
       where
         by : (o : Option Record) → named_in h name x ≡ o → option_map entry_of o ≡ Some e → IsFoundAlong h i name (Some e)
         by None is leads = absurd (none_some leads)
-        by (Some r) is leads = record { named = Some r; first = in_leaf place x r chain is later; leads = sym leads }
+        by (Some r) is leads = record { named = Some r; first = in_leaf place x r chain is later (heads_with place x chain heads headed); leads = sym leads }
 
     pub found_nowhere : named_in h name x ≡ None → (leaf_in h x).next ≡ 0 → IsFoundAlong h i name None
     found_nowhere none last = record {
@@ -103,12 +113,48 @@ module _ (h : Holding) (i : ℕ) where
           | inl same ↦ ap (named_in h name) (chain_one place y x (subst (λ n. IsInChain h i n y) same there) chain) ∙ none
           | inr behind ↦ absurd (ended place x earlier y chain last behind there)
         ]
-      ]);
+      ])
+          (λ some earlier y before there. elim (which earlier place) [
+            | inl low ↦ heads earlier y low there
+            | inr high ↦ elim high [
+              | inl same ↦ subst (IsLeafHead h) (chain_one place x y chain (subst (λ n. IsInChain h i n y) same there)) headed
+              | inr behind ↦ absurd (ended place x earlier y chain last behind there)
+            ]
+          ]);
       leads = refl;
     }
       where
         which : (a b : ℕ) → (a < b) ⊎ ((a ≡ b) ⊎ (b < a))
         which a b = grind arith
+
+-- a chain that shares a leaf with one that ends goes on behind it as that one does, and ends
+module _ (h : Holding) (j i p q x : ℕ) (other : IsInChain h j p x) (here : IsInChain h i q x) where
+  follows : (n y : ℕ) → IsInChain h j (p + n) y → IsInChain h i (q + n) y
+  unfolding leaf_on
+  follows zero y chain =
+      let none : p + 0 ≡ p = omega arith in
+      let same : y ≡ x = chain_one h j p y x (subst (λ k. IsInChain h j k y) none chain) other in
+      let at : q ≡ q + 0 = omega arith in
+      subst (IsInChain h i (q + 0)) (sym same) (subst (λ k. IsInChain h i k x) at here)
+  follows (suc n) y chain =
+      let z = leaf_on h j (p + n) in
+      let one : p + suc n ≡ suc (p + n) = omega arith in
+      let is : y ≡ (leaf_in h z).next = chain_is h j (p + suc n) y chain ∙ ap (leaf_on h j) one in
+      let goes : (leaf_in h z).next ≢ 0 = λ e. leaf_there h j (p + suc n) y chain (is ∙ e) in
+      let next = chain_next (q + n) z (follows n z (there_before h j (p + suc n) y chain (p + n) (omega arith))) goes in
+      let at : q + n + 1 ≡ q + suc n = omega arith in
+      subst (λ k. IsInChain h i k y) at (subst (IsInChain h i (q + n + 1)) (sym is) next)
+
+  pub joined_ends : IsEnded h j → IsEnded h i
+  joined_ends end = elim (which end.0 p) [
+    | inl less ↦ absurd (ended h j end.0 end.1 p x end.2 end.3 less other)
+    | inr behind ↦
+        let at : end.0 ≡ p + (end.0 - p) = omega (arith, behind) in
+        (q + (end.0 - p), end.1, follows (end.0 - p) end.1 (subst (λ k. IsInChain h j k end.1) at end.2), end.3)
+  ]
+    where
+      which : (a b : ℕ) → (a < b) ⊎ (b ≤ a)
+      which a b = grind arith
 
 -- a name that leads nowhere isn't there
 pub none_named : (o : Option Record) → option_map entry_of o ≡ None → o ≡ None
@@ -120,8 +166,8 @@ pub nowhere_named : (h : Holding) (name : List ℕ) → IsFoundAlong h (index_fo
 nowhere_named h name so = by so.named so.first (none_named so.named (sym so.leads))
   where
     by : (o : Option Record) → IsFirstNamed h (index_for h name) name o → o ≡ None → IsLeafOfName h name None
-    by _ (in_leaf place x r chain is later) e = absurd (none_some (sym e))
-    by _ (nowhere ends later) e = in_none ends later
+    by _ (in_leaf place x r chain is later heads) e = absurd (none_some (sym e))
+    by _ (nowhere ends later heads) e = in_none ends later heads
 
 -- ---- the link of a walk
 
@@ -183,3 +229,12 @@ module _ (v : Seen) (dir : ℕ) (head : Pointer) where
     | inl low ↦ none h i shown is earlier x low chain
     | inr top ↦ subst (λ y. named_in h name y ≡ None) (chain_one h i place link.leaf x ((along.at h i shown is).chain some) (subst (λ n. IsInChain h i n x) top chain)) (here h i shown is)
   ]
+
+  -- all leaves so far were leaves, and so is this one
+  pub headed_none : (depth : ℕ) → OfEach v dir head (λ h i. depth ≡ depth_in h → AreLeafHeads h i 0)
+  headed_none depth h i shown is deep earlier x before chain = absurd (let no : earlier < 0 = before in omega arith)
+
+  pub still_headed : (depth place : ℕ) (link : Pointer) → IsAlong v dir head place link → link.leaf ≢ 0 → OfEach v dir head (λ h i. depth ≡ depth_in h → AreLeafHeads h i place)
+      → OfEach v dir head (λ h i. depth ≡ depth_in h → IsLeafHead h link.leaf) → OfEach v dir head (λ h i. depth ≡ depth_in h → AreLeafHeads h i (place + 1))
+  still_headed depth place link along some heads headed h i shown is deep =
+      heads_with h i place link.leaf ((along.at h i shown is).chain some) (heads h i shown is deep) (headed h i shown is deep)

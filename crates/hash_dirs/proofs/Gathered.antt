@@ -17,10 +17,11 @@ use Rattle.image_model.proofs.Members.{contained, in_either, in_left, in_right, 
 use Rattle.pointer_tables.specs.Directories.{IsInChain, chain_head, chain_next}
 use Rattle.pointer_tables.specs.declared.pointer.Pointer.{Pointer}
 use Rattle.hash_dirs.specs.Broken.{IsBroken, comes_again}
-use Rattle.hash_dirs.specs.Leaves.{AreLeaves, AreLeavesBefore, AreNew, AreNewIn, IsGathered, IsLeaf, IsRead}
+use Rattle.hash_dirs.specs.Finding.{IsEnded}
+use Rattle.hash_dirs.specs.Leaves.{AreLeaves, AreLeavesBefore, AreNew, AreNewIn, IsGathered, IsRead}
 use Rattle.hash_dirs.specs.Walking.{IsAreaOfBlock, IsLeafIn, IsLeafOf, IsSmall, OfEach}
 use Rattle.hash_dirs.specs.declared.chains.LeafAt.{LeafAt}
-use Rattle.hash_dirs.proofs.Along.{begins, goes_on, leaf_there}
+use Rattle.hash_dirs.proofs.Along.{begins, goes_on, joined_ends, leaf_there}
 
 -- ---- lists of blocks
 
@@ -89,8 +90,8 @@ module _ (v : Seen) (dir : ℕ) (head : Pointer) (known : List ℕ) where
   }
 
   module _ (place : ℕ) (link : Pointer) (chain : List ℕ) (so : IsGathered v dir head known place link chain) where
-    pub leaves_of_it : OfEach v dir head (λ h i. (x : ℕ) → Contains chain x → IsLeaf h x)
-    leaves_of_it h i shown is x has = let k = so.each h i shown is x has in (i, k.0, k.2)
+    leaves_of_it : OfEach v dir head (λ h i. (x : ℕ) → Contains chain x → (k : ℕ) × IsInChain h i k x)
+    leaves_of_it h i shown is x has = let k = so.each h i shown is x has in (k.0, k.2)
 
     -- the walk came to a leaf that is known
     pub known_ends : Contains known link.leaf → OfEach v dir head (λ h i. AreNewIn h i known chain)
@@ -98,6 +99,7 @@ module _ (v : Seen) (dir : ℕ) (head : Pointer) (known : List ℕ) where
       each = leaves_of_it h i shown is;
       head = elim (so.head_is h i shown is) [ inl has ↦ inl has | inr e ↦ inr (subst (Contains known) (sym e) ends) ];
       next = λ x has more. elim (so.next h i shown is x has more) [ inl there ↦ inl there | inr e ↦ inr (subst (Contains known) (sym e) ends) ];
+      ends = inr (place, link.leaf, ends, (so.along.at h i shown is).chain);
     }
 
     -- it came to one that it passed
@@ -135,9 +137,10 @@ module _ (v : Seen) (dir : ℕ) (head : Pointer) (known : List ℕ) where
       -- it is the last of the chain
       pub last_ends : leaf.head.next ≡ 0 → OfEach v dir head (λ h i. AreNewIn h i known more)
       last_ends end h i shown is = record {
-        each = λ x has. let k = each_still h i shown is x has in (i, k.0, k.2);
+        each = λ x has. let k = each_still h i shown is x has in (k.0, k.2);
         head = inl (head_still h i shown is);
         next = λ x has some. elim (next_still h i shown is x has some) [ inl there ↦ inl there | inr e ↦ absurd (some (e ∙ end)) ];
+        ends = inl (place, link.leaf, (so.along.at h i shown is).chain read.small.0, ap (λ (l : Leaf). l.next) (sym (of h i shown is).head) ∙ end);
       }
 
       pub gather_more : (next : Pointer) → leaf.head.next ≢ 0 → next ≡ record { leaf = leaf.head.next; from = link.leaf } → IsGathered v dir head known (place + 1) next more
@@ -153,11 +156,14 @@ module _ (v : Seen) (dir : ℕ) (head : Pointer) (known : List ℕ) where
 -- ---- chain after chain
 
 pub none_before : (h : Holding) → AreLeavesBefore h 0 []
-none_before h = record { each = λ x has. absurd (none_in x has); heads = λ j. inr (omega arith); next = λ x has. absurd (none_in x has) }
+none_before h = record { each = λ x has. absurd (none_in x has); heads = λ j. inr (omega arith); next = λ x has. absurd (none_in x has); ends = λ j low. absurd (let no : j < 0 = low in omega arith) }
 
 pub chain_more : (h : Holding) (i : ℕ) (leaves chain : List ℕ) → AreLeavesBefore h i leaves → AreNewIn h i leaves chain → AreLeavesBefore h (i + 1) (leaves ++ chain)
 chain_more h i leaves chain so new = record {
-  each = λ x has. elim (in_one leaves chain x has) [ inl at ↦ so.each x at | inr at ↦ new.each x at ];
+  each = λ x has. elim (in_one leaves chain x has) [
+    | inl at ↦ let k = so.each x at in (k.0, k.1, (let low : k.0 < i = k.2 in omega (arith, low)), k.3)
+    | inr at ↦ let k = new.each x at in (i, k.0, omega arith, k.1)
+  ];
   heads = λ j. elim (so.heads j) [
     | inl at ↦ inl (in_front leaves chain (entry h j) at)
     | inr high ↦ elim (here_or j high) [
@@ -169,8 +175,20 @@ chain_more h i leaves chain so new = record {
     | inl at ↦ in_front leaves chain (leaf_in h x).next (so.next x at some)
     | inr at ↦ elim (new.next x at some) [ inl there ↦ in_back leaves chain (leaf_in h x).next there | inr there ↦ in_front leaves chain (leaf_in h x).next there ]
   ];
+  ends = λ j low. elim (last_or j low) [ inl before ↦ so.ends j before | inr same ↦ subst (IsEnded h) (sym same) here_ends ];
 }
   where
+    last_or : (j : ℕ) → j < i + 1 → (j < i) ⊎ (j ≡ i)
+    last_or j low = grind arith
+
+    here_ends : IsEnded h i
+    here_ends = elim new.ends [
+      | inl end ↦ end
+      | inr known ↦
+          let k = so.each known.1 known.2 in
+          joined_ends h k.0 i k.1 known.0 known.1 k.3 (known.3 (leaf_there h k.0 k.1 known.1 k.3)) (so.ends k.0 k.2)
+    ]
+
     here_or : (j : ℕ) → i ≤ j → (i ≡ j) ⊎ (i + 1 ≤ j)
     here_or j high = grind arith
 
@@ -179,7 +197,11 @@ chain_more h i leaves chain so new = record {
     head_in (inr at) = in_front leaves chain (entry h i) at
 
 pub all_leaves : (h : Holding) (n : ℕ) (leaves : List ℕ) → n ≡ table_count h → AreLeavesBefore h n leaves → IsDistinct leaves → AreLeaves h leaves
-all_leaves h n leaves end so once = record { each = λ x. (so.each x, λ leaf. there leaf.0 leaf.1 x leaf.2); once = once }
+all_leaves h n leaves end so once = record {
+  each = λ x. (λ has. let k = so.each x has in (k.0, k.1, k.3), λ leaf. there leaf.0 leaf.1 x leaf.2);
+  once = once;
+  ends = λ i low. so.ends i (subst (λ k. i < k) (sym end) low);
+}
   where
     there : (i place x : ℕ) → IsInChain h i place x → Contains leaves x
     there i _ _ (chain_head low some) = elim (so.heads i) [ inl at ↦ at | inr high ↦ absurd (let l : i < table_count h = low in omega (arith, l, high, end)) ]

@@ -1,7 +1,7 @@
 -- What is told of a leaf that was looked at.
-use Rattle.std.proofs.Common.{◌≡◌, ◌≢◌, ℕ, ◌^◌, ◌<◌, ◌≤◌, List, length, drop, Option, None, Some, Result, Ok, sym, ap, subst, ◌∙◌, arith}
-use Rattle.std.specs.Prelude.{◌+◌, IfSome, IsSome}
-use Rattle.std.proofs.lemmas.Bool.{cond-true, eq-eqb}
+use Rattle.std.proofs.Common.{◌≡◌, ◌≢◌, ℕ, ◌^◌, ◌<◌, ◌≤◌, inl, inr, List, length, drop, Option, None, Some, Result, Ok, sym, ap, subst, ◌∙◌, arith}
+use Rattle.std.specs.Prelude.{◌+◌, ◌==◌, IfSome, IsSome}
+use Rattle.std.proofs.lemmas.Bool.{cases_Bool, cond-false, cond-true, eq-eqb, eqb-true}
 use Rattle.std.proofs.lemmas.Bool.Decides.{nat_tests}
 use Rattle.gfs2_layout.specs.Area.{IsArea}
 use Rattle.gfs2_layout.specs.Bytes.{u32_at}
@@ -10,6 +10,8 @@ use Rattle.gfs2_layout.specs.Holding.{Holding, bytes_at}
 use Rattle.gfs2_layout.specs.Inode.{depth_in, entry, entry_block, leaf_in, leaf_length, table_count, top_bits}
 use Rattle.gfs2_layout.specs.Structures.{answer, or_else, header_fault, records_fault, leaf_of, leaf_read}
 use Rattle.gfs2_layout.specs.declared.fault.LayoutFault.{LayoutFault}
+use Rattle.gfs2_layout.specs.declared.fault.LayoutFault.TheVariants.{Value}
+use Rattle.image_model.proofs.Held.{none_some}
 use Rattle.gfs2_layout.specs.declared.leaf.Leaf.{Leaf}
 use Rattle.gfs2_layout.proofs.HeaderLaws.{answer_ok}
 use Rattle.glock_names.specs.Steps.{IfIs, IsDamage, TellsOf}
@@ -24,6 +26,7 @@ use Rattle.dinode_tree.specs.Shown.{IsAtBlock}
 use Rattle.dinode_tree.specs.Broken as inode
 use Rattle.pointer_tables.specs.declared.pointer.Pointer.{Pointer}
 use Rattle.hash_dirs.specs.Broken.{IsBroken, IsWrongIn, breaks, no_header, records_format, too_deep, unfilled, no_leaf, of_inode}
+use Rattle.hash_dirs.specs.Finding.{IsLeafHead}
 use Rattle.hash_dirs.specs.Shown.{IsNeededFor, IsShown, LeadsToLeaf, a_leaf, by_pointer, by_leaf, index_for, of_table}
 use Rattle.dinode_tree.specs.Reading.{inode_lock, the_dinode}
 use Rattle.dinode_tree.specs.Walking.{missing_dinode}
@@ -120,6 +123,30 @@ read_well bytes long header is =
 
 pub head_is : (bytes : List ℕ) (head : Leaf) (result : Result Leaf LayoutFault) → result ≡ leaf_read bytes → result ≡ Ok head → head ≡ leaf_of bytes
 head_is bytes head result read is = sym (answer_ok (or_else (header_fault leaf_length 6 600 bytes) (records_fault bytes)) (leaf_of bytes) head (sym read ∙ is)).1
+
+-- what was read has the format of records
+later_none : (o later : Option LayoutFault) → or_else o later ≡ None → later ≡ None
+later_none None later e = e
+later_none (Some f) later e = cc
+
+format_of : (bytes : List ℕ) → records_fault bytes ≡ None → u32_at 28 bytes ≡ 1200
+format_of bytes e = elim (cases_Bool (u32_at 28 bytes == 1200)) [
+  | inl same ↦ eqb-true (u32_at 28 bytes) 1200 same
+  | inr other ↦ absurd (none_some (sym e ∙ cond-false (u32_at 28 bytes == 1200) None (Some (Value 28 (u32_at 28 bytes))) other))
+]
+
+pub read_format : (bytes : List ℕ) (head : Leaf) (result : Result Leaf LayoutFault) → result ≡ leaf_read bytes → result ≡ Ok head → u32_at 28 bytes ≡ 1200
+read_format bytes head result read is =
+    let whole = answer_ok (or_else (header_fault leaf_length 6 600 bytes) (records_fault bytes)) (leaf_of bytes) head (sym read ∙ is) in
+    format_of bytes (later_none (header_fault leaf_length 6 600 bytes) (records_fault bytes) whole.0)
+
+pub leaf_headed : (h : Holding) (x : ℕ) (bytes : List ℕ) (leaf : LeafAt) (depth : ℕ) → bytes_at h x ≡ bytes → leaf.head ≡ leaf_of bytes → HasHeader 6 600 bytes → u32_at 28 bytes ≡ 1200 → leaf.head.depth ≤ depth
+    → depth ≡ depth_in h → IsLeafHead h x
+leaf_headed h x bytes leaf depth at head header format low is = record {
+  header = subst (HasHeader 6 600) (sym at) header;
+  format = ap (u32_at 28) at ∙ format;
+  low = let there : (leaf_in h x).depth ≡ leaf.head.depth = ap (λ (l : Leaf). l.depth) (ap leaf_of at ∙ sym head) in omega (arith, there, low, is);
+}
 
 -- ---- what is broken, of a leaf with these bytes
 

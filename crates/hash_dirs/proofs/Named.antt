@@ -66,10 +66,10 @@ module _ (h : Holding) (name : List ℕ) (sound : IsSound h) (hashed : is_hashed
       find_none (is_named name) (records_in (leaf_area h from.0)) r (later (leaf.1 + 1) leaf.1 from.0 (omega arith) (subst (λ n. IsInChain h (index_for h n) leaf.1 from.0) (sym same) chain)) from.2 named
 
   pub tells : (named : Option Record) → IsFirstNamed h (index_for h name) name named → named ≡ record_named (records_of h) name
-  tells _ (in_leaf place x r chain is later) =
+  tells _ (in_leaf place x r chain is later heads) =
       let found = find_some (is_named name) (records_in (leaf_area h x)) r is in
       sym (found_one (is_named name) (records_of h) r (sound.once name) (record_there (index_for h name) place x r chain found.0) found.1)
-  tells _ (nowhere ends later) = by (record_named (records_of h) name) refl
+  tells _ (nowhere ends later heads) = by (record_named (records_of h) name) refl
     where
       by : (o : Option Record) → record_named (records_of h) name ≡ o → None ≡ o
       by None e = refl

@@ -282,7 +282,7 @@ module _ {V : Type 0} (seen : V → Seen) (old new : Drafted V) (dir : ℕ) (nam
   named_here = ap (λ a. record_named (records_in a) name) area_x ∙ sym (firsts (drop leaf_length spot.bytes) name) ∙ ap (option_map record_of) spot.spot.first
 
   pub first_named_is : IsFirstNamed h (index_for h name) name (Some gone)
-  first_named_is = in_leaf place.place f.block (record_of slot) place.chain named_here place.later
+  first_named_is = in_leaf place.place f.block (record_of slot) place.chain named_here place.later place.heads
 
   name_is : (record_of slot).name ≡ name
   name_is = (named name (slots_of (drop leaf_length spot.bytes)) slot spot.spot.first).1

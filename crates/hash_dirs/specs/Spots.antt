@@ -1,5 +1,5 @@
 -- A record that was found: in an area, in a leaf, in a chain.
-use Rattle.std.specs.Prelude.{ℕ, ◌≡◌, ◌≤◌, true, List, length, take, drop, Option, None, Some, option_map}
+use Rattle.std.specs.Prelude.{ℕ, ◌≡◌, ◌+◌, ◌≤◌, true, List, length, take, drop, Option, None, Some, option_map}
 use Rattle.gfs2_layout.specs.Area.{IsRecordAt, first_named, slots_of}
 use Rattle.gfs2_layout.specs.Cutting.{slot_from}
 use Rattle.gfs2_layout.specs.Holding.{Holding}
@@ -10,7 +10,7 @@ use Rattle.glock_names.specs.Views.{Seen}
 use Rattle.glock_names.specs.declared.steps.Entry.{Entry}
 use Rattle.resource_groups.specs.Putting.{HasDataBlock}
 use Rattle.linear_dirs.specs.Shown.{entry_of}
-use Rattle.hash_dirs.specs.Finding.{IsNamedLater}
+use Rattle.hash_dirs.specs.Finding.{AreLeafHeads, IsNamedLater}
 use Rattle.hash_dirs.specs.Shown.{IsInChain}
 use Rattle.hash_dirs.specs.Walking.{IsAreaOfBlock, IsSmall}
 use Rattle.hash_dirs.specs.declared.finding.Found.{Found}
@@ -35,11 +35,12 @@ pub record IsSpotIn (v : Seen) (name : List ℕ) (f : Found) : Type 0 where
   pub area : IsAreaOfBlock (drop leaf_length bytes)
   pub spot : IsSpotOf (drop leaf_length bytes) name f.spot
 
--- no leaf before it in the chain of pointer i has the name
+-- no leaf before it in the chain of pointer i has the name, and it is a leaf, as each of those
 pub record IsInPlace (h : Holding) (i : ℕ) (name : List ℕ) (f : Found) : Type 0 where
   pub place : ℕ
   pub chain : IsInChain h i place f.block
   pub later : IsNamedLater h i name place
+  pub heads : AreLeafHeads h i (place + 1)
 
 -- where it leads, if there is one
 abbrev pub entry_at : Option Found → Option Entry

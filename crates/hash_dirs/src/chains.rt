@@ -1,11 +1,14 @@
 // Leaves of a chain, as a view has them.
-ghost use Rattle.std.specs.Prelude.{ℕ, ◌≡◌, ◌≢◌, ◌≤◌, None, IfOk, length, drop};
+ghost use Rattle.std.specs.Prelude.{ℕ, ◌≡◌, ◌≢◌, ◌≤◌, None, IfOk, OnOk, length, drop};
+ghost use Rattle.gfs2_layout.specs.Bytes.{u32_at};
+ghost use Rattle.gfs2_layout.specs.Headers.{HasHeader};
 ghost use Rattle.gfs2_layout.specs.Holding.{Holding, bytes_at};
 ghost use Rattle.gfs2_layout.specs.Inode.{depth_in, leaf_length};
 ghost use Rattle.gfs2_layout.specs.Structures.{leaf_of};
 ghost use Rattle.glock_names.specs.Steps.{IfIs, IfNeedBlock, OnlyDamaged};
 ghost use Rattle.glock_names.specs.Views.{HasBlock, IsOfView};
 ghost use Rattle.dinode_tree.specs.Shown.{IsAtBlock};
+ghost use Rattle.hash_dirs.specs.Finding.{IsLeafHead};
 ghost use Rattle.hash_dirs.specs.Shown.{IsNeededFor, IsShown, LeadsToLeaf};
 ghost use Rattle.hash_dirs.specs.Walking.{IsAreaOfBlock, IsLeafIn, IsLeafOf, IsSmall};
 ghost use Rattle.resource_groups.specs.Putting.{HasDataBlock};
@@ -42,6 +45,8 @@ fn read_leaf(bytes: &[u8], block: u64, depth: u16) -> Result<LeafAt<'_>, CallFau
     ensures area { IfOk result (λ leaf. leaf.area.now ≡ drop leaf_length bytes.now) }
     ensures filled { IfOk result (λ leaf. IsAreaOfBlock leaf.area.now) }
     ensures low { IfOk result (λ leaf. leaf.head.depth ≤ depth) }
+    ensures header { OnOk result (HasHeader 6 600 bytes.now) }
+    ensures format { OnOk result (u32_at 28 bytes.now ≡ 1200) }
     ensures damaged { (h : Holding) (i from : ℕ) → bytes_at h block ≡ bytes.now → LeadsToLeaf h i from block → block ≢ 0 → depth ≡ depth_in h → OnlyDamaged result (IsBroken h) }
     ensures own { OnlyDamaged result (IsAtBlock block) }
 {
@@ -71,6 +76,7 @@ pub fn leaf_at<'a, V: View>(
 ) -> Result<Step<LeafAt<'a>>, CallFault>
     requires from { HasBlock (V.seen view.now) link.now.from }
     ensures read { (h : Holding) (i : ℕ) → IsShown (V.seen view.now) dir h → LeadsToLeaf h i link.now.from link.now.leaf → IfIs result (IsLeafOf h link.now.leaf) }
+    ensures headed { (h : Holding) (i : ℕ) → IsShown (V.seen view.now) dir h → LeadsToLeaf h i link.now.from link.now.leaf → depth ≡ depth_in h → IfIs result (λ leaf. IsLeafHead h link.now.leaf) }
     ensures area { IfIs result (λ leaf. IsAreaOfBlock leaf.area.now) }
     ensures seen { IfIs result (IsLeafIn (V.seen view.now) link.now.leaf) }
     ensures low { IfIs result (λ leaf. leaf.head.depth ≤ depth) }

@@ -70,8 +70,8 @@ pub(crate) fn find_along<V: View>(
     name: &[u8],
 ) -> Result<Step<Option<Found>>, CallFault>
     requires from { HasBlock (V.seen view.now) head.now.from }
-    ensures found { OfEach (V.seen view.now) dir head.now (λ h i. IfIs result (λ found. IsFoundAlong h i name.now (entry_at found))) }
-    ensures place { OfEach (V.seen view.now) dir head.now (λ h i. IfIs result (λ found. IfSome found (IsInPlace h i name.now))) }
+    ensures found { OfEach (V.seen view.now) dir head.now (λ h i. depth ≡ depth_in h → IfIs result (λ found. IsFoundAlong h i name.now (entry_at found))) }
+    ensures place { OfEach (V.seen view.now) dir head.now (λ h i. depth ≡ depth_in h → IfIs result (λ found. IfSome found (IsInPlace h i name.now))) }
     ensures spot { IfIs result (λ found. IfSome found (IsSpotIn (V.seen view.now) name.now)) }
     ensures needed { OfEach (V.seen view.now) dir head.now (λ h i. IfNeedBlock result (IsNeededFor (V.seen view.now) h (λ k. k ≡ i))) }
     ensures absent { IfNeedBlock result (λ missing. (V.seen view.now).block_at missing.block ≡ None) }

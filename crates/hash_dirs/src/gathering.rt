@@ -19,7 +19,7 @@ use pointer_tables::{Pointer, PointerTable};
 use profile_limits::MOST_BLOCKS;
 use std::alloc::Global;
 
-// The leaves of a chain, which begins where a pointer leads, up to the first of these known ones, if it comes to one.
+// The leaves of a chain, which begins where a pointer leads, up to the first of these known ones, if it comes to one; else the chain ends.
 fn chain_of<V: View>(
     alloc: Global,
     view: &V,
@@ -64,7 +64,7 @@ fn chain_of<V: View>(
 }
 
 /// The blocks of the leaves of the hashed directory with its dinode in this block, by its table, each once: pointer after pointer, and along each
-/// chain up to a leaf that was found before. It looks at what `look` looks at, along each chain. It costs what the table takes for each pointer, a
+/// chain up to a leaf that was found before. It looks at what `look` looks at, along each chain, and that each ends. It costs what the table takes for each pointer, a
 /// step for each record to see that they fill the leaves, and for each pointer and each leaf one for each leaf that was found before. It takes memory
 /// for the list.
 pub fn all_leaves<V: View, T: PointerTable>(

@@ -6,7 +6,7 @@ use Rattle.gfs2_layout.specs.Holding.{Holding}
 use Rattle.gfs2_layout.specs.Inode.{IsInode, depth_in, is_hashed_in}
 use Rattle.glock_names.specs.Views.{Seen}
 use Rattle.dinode_tree.specs.Shown.{IsAsSeen}
-use Rattle.hash_dirs.specs.Shown.{IsShown, IsSound}
+use Rattle.hash_steps.specs.Shown.{IsShown, IsSound}
 use Rattle.hash_inserts.proofs.Showing.{SoundAreShown, shown_of}
 
 -- a table follows its directory, as `PointerTable` says

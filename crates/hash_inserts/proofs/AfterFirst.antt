@@ -9,8 +9,8 @@ use Rattle.gfs2_layout.specs.Holding.{Holding}
 use Rattle.gfs2_layout.specs.Inode.{depth_in, entry, is_directory_in, is_hashed_in, leaf_area, leaf_in, table_count}
 use Rattle.gfs2_layout.specs.declared.dinode.Dinode.{Dinode}
 use Rattle.gfs2_layout.specs.declared.leaf.Leaf.{Leaf}
-use Rattle.hash_dirs.specs.Shown.{IsSound, index_for}
-use Rattle.hash_dirs.proofs.Indexes.{bits_low}
+use Rattle.hash_steps.specs.Shown.{IsSound, index_for}
+use Rattle.hash_steps.proofs.Indexes.{bits_low}
 use Rattle.hash_steps.specs.Steps.{IsConverted, first_count}
 use Rattle.hash_inserts.specs.Laws.{FirstNeedsStay}
 use Rattle.hash_inserts.specs.Needing.{AreLeavesFrom, IsChainOf, TakesBlocksFirst, the_last}

@@ -16,9 +16,9 @@ use Rattle.gfs2_layout.specs.Structures.{answer, dinode_length, dinode_of, dinod
 use Rattle.gfs2_layout.specs.declared.dinode.Dinode.{Dinode}
 use Rattle.gfs2_layout.specs.declared.fault.LayoutFault.{LayoutFault}
 use Rattle.linear_dirs.specs.Reading.{told_in}
-use Rattle.hash_dirs.specs.Shown.{IsSound}
-use Rattle.hash_dirs.proofs.Chained.{rules}
-use Rattle.hash_dirs.proofs.Leaves.{read_well}
+use Rattle.hash_steps.specs.Shown.{IsSound}
+use Rattle.hash_steps.proofs.Chained.{rules}
+use Rattle.hash_steps.proofs.ChainLeaves.{read_well}
 use Rattle.hash_steps.specs.Leaves.{has_room_for}
 use Rattle.pointer_tables.specs.Directories.{IsTreeSound, IsPlaced}
 use Rattle.hash_inserts.specs.Drafting.{with_block}

@@ -11,9 +11,9 @@ use Rattle.gfs2_layout.specs.declared.dinode.Dinode.{Dinode}
 use Rattle.gfs2_layout.specs.declared.leaf.Leaf.{Leaf}
 use Rattle.leaf_areas.specs.Splitting.{bit_at, lower_half, upper_half}
 use Rattle.pointer_tables.specs.Tables.{is_within}
-use Rattle.hash_dirs.specs.Shown.{IsSound, index_for}
-use Rattle.hash_dirs.proofs.Chained.{deep, index_low}
-use Rattle.hash_dirs.proofs.Indexes.{bits_of_bits, some_pow}
+use Rattle.hash_steps.specs.Shown.{IsSound, index_for}
+use Rattle.hash_steps.proofs.Chained.{deep, index_low}
+use Rattle.hash_steps.proofs.Indexes.{bits_of_bits, some_pow}
 use Rattle.hash_steps.specs.Leaves.{HasOneLeaf, first_of, has_room_for, leaf_depth, run_of}
 use Rattle.hash_steps.specs.Steps.{IsSplit}
 use Rattle.hash_steps.proofs.Halves.{first_bits, lower_bits, odd_apart, outside_run, upper_bits, within_run}

@@ -27,8 +27,8 @@ use Rattle.growth_drafts.specs.Taken.{HasTaken}
 use Rattle.growth_laws.proofs.Numbers.{number_behind, numbers_in_front}
 use Rattle.leaf_areas.specs.Moving.{in_use, packed}
 use Rattle.pointer_tables.specs.Directories.{IsPlaced, IsTreeSound}
-use Rattle.hash_dirs.specs.Shown.{IsShown, IsSound}
-use Rattle.hash_dirs.proofs.Chained.{cell_some}
+use Rattle.hash_steps.specs.Shown.{IsShown, IsSound}
+use Rattle.hash_steps.proofs.Chained.{cell_some}
 use Rattle.hash_steps.specs.Laws.{ConversionsStay}
 use Rattle.hash_steps.specs.Leaves.{IsLeafPut, blank}
 use Rattle.hash_steps.specs.Steps.{IsConverted, first_count}

@@ -10,8 +10,8 @@ use Rattle.leaf_areas.specs.Splitting.{bit_at, lower_half, upper_half}
 use Rattle.resource_groups.specs.Putting.{HasDataBlock}
 use Rattle.pointer_tables.specs.Directories.{chain_head}
 use Rattle.table_changes.specs.Tables.{table_height}
-use Rattle.hash_dirs.specs.Shown.{IsInChain, index_for}
-use Rattle.hash_dirs.proofs.Along.{ended, head_there}
+use Rattle.hash_steps.specs.Shown.{IsInChain, index_for}
+use Rattle.hash_steps.proofs.Along.{ended, head_there}
 use Rattle.hash_steps.specs.Leaves.{has_room_for, leaf_depth}
 use Rattle.hash_inserts.specs.Counting.{chain_with}
 use Rattle.hash_inserts.specs.Drafting.{SeesTree}

@@ -21,9 +21,9 @@ use Rattle.glock_names.specs.Views.{Seen}
 use Rattle.growth_laws.specs.Need.{raised_to}
 use Rattle.pointer_tables.specs.Directories.{chain_head}
 use Rattle.table_changes.specs.Tables.{doubling_need, doubling_need_of, table_height}
-use Rattle.hash_dirs.specs.Shown.{IsInChain, IsShown, index_for}
-use Rattle.hash_dirs.proofs.Chained.{cell_some, deep, head_some, index_low, rules}
-use Rattle.hash_dirs.proofs.Indexes.{bits_of_bits}
+use Rattle.hash_steps.specs.Shown.{IsInChain, IsShown, index_for}
+use Rattle.hash_steps.proofs.Chained.{cell_some, deep, head_some, index_low, rules}
+use Rattle.hash_steps.proofs.Indexes.{bits_of_bits}
 use Rattle.hash_steps.specs.Laws.{Stays}
 use Rattle.hash_steps.specs.Leaves.{first_of, has_room_for, run_of}
 use Rattle.hash_inserts.specs.Advancing.{CanInsert, IsAtLeaf, IsFullLeaf, StepsOn, StepsTo}

@@ -12,9 +12,9 @@ use Rattle.glock_names.specs.Views.{Seen, HasBlock}
 use Rattle.dinode_tree.specs.Shown.{IsAsSeen}
 use Rattle.growth_drafts.specs.Taken.{AreFreeFor}
 use Rattle.table_changes.specs.Tables.{CanDouble, TakesDoubled, TakesWithin, doubling_need_of}
-use Rattle.hash_dirs.specs.Shown.{IsShown, IsSound}
-use Rattle.hash_dirs.proofs.Chained.{rules}
-use Rattle.hash_dirs.proofs.Indexes.{some_pow}
+use Rattle.hash_steps.specs.Shown.{IsShown, IsSound}
+use Rattle.hash_steps.proofs.Chained.{rules}
+use Rattle.hash_steps.proofs.Indexes.{some_pow}
 use Rattle.hash_steps.specs.Laws.{DoublingsStay, Stays}
 use Rattle.hash_steps.proofs.Sound.{tree_of}
 use Rattle.hash_inserts.specs.Drafting.{DoublesTable}

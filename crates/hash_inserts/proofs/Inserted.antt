@@ -12,7 +12,7 @@ use Rattle.glock_names.specs.declared.steps.Entry.{Entry}
 use Rattle.growth_drafts.specs.Taken.{HasTaken}
 use Rattle.growth_drafts.proofs.Rooms.{none_in}
 use Rattle.linear_dirs.specs.Shown.{record_for}
-use Rattle.hash_dirs.specs.Shown.{IsInChain, index_for}
+use Rattle.hash_steps.specs.Shown.{IsInChain, index_for}
 use Rattle.hash_steps.specs.Laws.{ExchangesJoin, GetsRecord}
 use Rattle.hash_steps.specs.Leaves.{IsFullBefore, has_room_for}
 use Rattle.hash_inserts.specs.Drafting.{PutsBehind, PutsInLeaf}

@@ -22,7 +22,7 @@ use Rattle.hash_steps.specs.Leaves.{IsLeafPut}
 use Rattle.leaf_areas.specs.Moving.{in_use}
 use Rattle.leaf_areas.specs.Splitting.{is_lower, is_lower_name}
 use Rattle.linear_dirs.proofs.Looked.{rest_put}
-use Rattle.hash_dirs.proofs.LeafHeads.{front_anew, put_long}
+use Rattle.hash_steps.proofs.LeafHeads.{front_anew, put_long}
 use Rattle.hash_inserts.specs.Writing.{CanTake, IsLeafFilled, IsLeafWritten}
 
 -- ---- what was written, of a leaf in its directory

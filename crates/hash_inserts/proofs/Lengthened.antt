@@ -11,8 +11,8 @@ use Rattle.gfs2_layout.specs.Inode.{dinode_in, first_hash, is_hashed_in, leaf_ar
 use Rattle.gfs2_layout.specs.declared.dinode.Dinode.{Dinode}
 use Rattle.glock_names.specs.Views.{Seen}
 use Rattle.leaf_areas.specs.Moving.{unused}
-use Rattle.hash_dirs.specs.Shown.{IsInChain, IsSound}
-use Rattle.hash_dirs.proofs.Chained.{cell_some, in_chain, same_hash}
+use Rattle.hash_steps.specs.Shown.{IsInChain, IsSound}
+use Rattle.hash_steps.proofs.Chained.{cell_some, in_chain, same_hash}
 use Rattle.hash_steps.specs.Leaves.{blank}
 use Rattle.hash_steps.specs.Steps.{IsLengthened}
 use Rattle.hash_steps.proofs.Sound.{tree_of}

@@ -35,3 +35,6 @@ mod Only
 pub use Rattle.hash_steps.proofs.Joins
 pub use Rattle.hash_steps.proofs.Put as PutSteps
 pub use Rattle.hash_steps.proofs.Sound
+pub use Rattle.hash_steps.proofs.Chained
+pub use Rattle.hash_steps.proofs.Along
+pub use Rattle.hash_steps.proofs.ChainLeaves

@@ -11,10 +11,10 @@ use Rattle.gfs2_layout.specs.Structures.{leaf_of}
 use Rattle.gfs2_layout.specs.declared.dinode.Dinode.{Dinode}
 use Rattle.gfs2_layout.specs.declared.leaf.Leaf.{Leaf}
 use Rattle.pointer_tables.specs.Directories.{IsInChain, chain_head, chain_next}
-use Rattle.hash_dirs.specs.Shown.{IsSound}
-use Rattle.hash_dirs.proofs.Along.{chain_one, there_before}
-use Rattle.hash_dirs.specs.Walking.{leaf_on}
-use Rattle.hash_dirs.proofs.Chained.{cell_some, in_chain}
+use Rattle.hash_steps.specs.Shown.{IsSound}
+use Rattle.hash_steps.proofs.Along.{chain_one, there_before}
+use Rattle.hash_steps.specs.Walking.{leaf_on}
+use Rattle.hash_steps.proofs.Chained.{cell_some, in_chain}
 use Rattle.hash_steps.specs.Leaves.{IsFullBefore, has_room_for}
 use Rattle.hash_steps.specs.Steps.{IsLengthened}
 use Rattle.hash_steps.proofs.Leaves.{itself_or_chained}

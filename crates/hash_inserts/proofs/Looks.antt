@@ -18,8 +18,8 @@ use Rattle.dinode_tree.specs.Reading.{IsNeeded, IsOnWay, inode_lock, the_dinode,
 use Rattle.dinode_tree.specs.Walking.{missing_dinode}
 use Rattle.dinode_tree.specs.declared.below.PointedBlock.{PointedBlock}
 use Rattle.dinode_tree.proofs.Spans.{span_some}
-use Rattle.hash_dirs.specs.Broken.{IsWrongIn, breaks, of_inode}
-use Rattle.hash_dirs.specs.Shown.{IsShown}
+use Rattle.hash_steps.specs.Broken.{IsWrongIn, breaks, of_inode}
+use Rattle.hash_steps.specs.Shown.{IsShown}
 use Rattle.growth_drafts.specs.Taken.{AreFreeFor}
 use Rattle.hash_inserts.specs.Drafting.{IsFree}
 use Rattle.hash_inserts.specs.Inserting.{IsWrongToInsert, in_directory}

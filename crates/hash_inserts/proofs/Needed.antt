@@ -7,10 +7,10 @@ use Rattle.crc_words.specs.Remainder.{crc32_of}
 use Rattle.gfs2_layout.specs.Area.{Slot, slots_of}
 use Rattle.gfs2_layout.specs.Holding.{Holding}
 use Rattle.gfs2_layout.specs.Inode.{depth_in, entry, leaf_area, leaf_in, table_count}
-use Rattle.hash_dirs.specs.Shown.{IsInChain, index_for}
-use Rattle.hash_dirs.specs.Walking.{leaf_on}
+use Rattle.hash_steps.specs.Shown.{IsInChain, index_for}
+use Rattle.hash_steps.specs.Walking.{leaf_on}
 use Rattle.pointer_tables.specs.Directories.{chain_head, chain_next}
-use Rattle.hash_dirs.proofs.Along.{chain_is, chain_one, ended, head_there, there_before}
+use Rattle.hash_steps.proofs.Along.{chain_is, chain_one, ended, head_there, there_before}
 use Rattle.hash_steps.specs.Leaves.{has_room_for, leaf_depth}
 use Rattle.hash_inserts.specs.Inserting.{HasNoRoom, HasOneLeafFor, IsDeepest}
 use Rattle.hash_inserts.specs.Needing.{AreLeavesFrom, Chain, Needs, TakesBlocks, a_doubling, a_leaf, a_split, has_room_in, is_full, nothing, one_more, the_last}

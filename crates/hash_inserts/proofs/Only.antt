@@ -5,7 +5,7 @@ use Rattle.gfs2_layout.specs.Holding.{Holding}
 use Rattle.gfs2_layout.specs.Inode.{leaf_area}
 use Rattle.glock_names.specs.Views.{Seen}
 use Rattle.hash_inserts.proofs.Seen.{PartsAreLed}
-use Rattle.hash_dirs.specs.Shown.{IsInChain, index_for}
+use Rattle.hash_steps.specs.Shown.{IsInChain, index_for}
 use Rattle.hash_steps.specs.Leaves.{has_room_for}
 use Rattle.hash_inserts.specs.Advancing.{CanInsert, IsAtLeaf}
 use Rattle.hash_inserts.specs.Committing.{SeesInside}

@@ -14,8 +14,8 @@ use Rattle.gfs2_layout.specs.Records.{record_named}
 use Rattle.glock_names.specs.Views.{Seen, HasBlock}
 use Rattle.growth_drafts.specs.Taken.{AreFreeFor, HasTaken}
 use Rattle.growth_drafts.proofs.Rooms.{free_left}
-use Rattle.hash_dirs.specs.Shown.{IsShown, IsSound}
-use Rattle.hash_dirs.proofs.Chained.{cell_some}
+use Rattle.hash_steps.specs.Shown.{IsShown, IsSound}
+use Rattle.hash_steps.proofs.Chained.{cell_some}
 use Rattle.hash_steps.specs.Laws.{Stays}
 use Rattle.hash_steps.proofs.Put.{none_counted}
 use Rattle.hash_steps.proofs.Sound.{count_moved}

@@ -22,8 +22,8 @@ use Rattle.dinode_tree.specs.Reading.{inode_lock}
 use Rattle.resource_groups.specs.Putting.{HasDataBlock}
 use Rattle.table_changes.specs.Pointers.{HasPointerOf}
 use Rattle.nested_drafts.specs.Nested.{fate_over, with_blocks}
-use Rattle.hash_dirs.specs.Shown.{IsInChain, IsSound, index_for}
-use Rattle.hash_dirs.proofs.Chained.{index_low}
+use Rattle.hash_steps.specs.Shown.{IsInChain, IsSound, index_for}
+use Rattle.hash_steps.proofs.Chained.{index_low}
 use Rattle.hash_steps.specs.Leaves.{HasOneLeaf, leaf_depth}
 use Rattle.hash_inserts.specs.Committing.{HasInserted, HasPut, SeesInside}
 use Rattle.hash_inserts.specs.Inserting as ins

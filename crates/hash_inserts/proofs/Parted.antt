@@ -27,8 +27,8 @@ use Rattle.growth_drafts.specs.Taken.{HasTaken}
 use Rattle.pointer_tables.specs.Directories.{IsTreeSound, IsPlaced, chain_head}
 use Rattle.table_changes.specs.Pointers.{HasPointerOf}
 use Rattle.pointer_tables.specs.Tables.{is_within}
-use Rattle.hash_dirs.specs.Shown.{IsInChain, IsSound}
-use Rattle.hash_dirs.proofs.Chained.{cell_some, head_some, rules}
+use Rattle.hash_steps.specs.Shown.{IsInChain, IsSound}
+use Rattle.hash_steps.proofs.Chained.{cell_some, head_some, rules}
 use Rattle.hash_steps.specs.Leaves.{HasOneLeaf, blank, first_of, leaf_depth, middle_hash, run_of}
 use Rattle.hash_steps.specs.Steps.{IsSplit}
 use Rattle.hash_steps.proofs.Sound.{tree_of}

@@ -12,7 +12,7 @@ use Rattle.dinode_tree.specs.Reading.{inode_lock}
 use Rattle.dinode_tree.specs.Shown.{IsAsSeen}
 use Rattle.linear_dirs.specs.Shown.{holding_over}
 use Rattle.linear_dirs.proofs.Over.{as_seen}
-use Rattle.hash_dirs.specs.Shown.{IsShown, IsSound}
+use Rattle.hash_steps.specs.Shown.{IsShown, IsSound}
 use Rattle.gfs2_layout.specs.Device.{IsBlockSize}
 use Rattle.hash_steps.specs.Laws.{SplitsStay, Stays}
 use Rattle.hash_steps.specs.Leaves.{HasOneLeaf, first_of, leaf_depth, run_of}

@@ -10,10 +10,10 @@ use Rattle.gfs2_layout.specs.Inode.{depth_in, entry, first_hash, is_leaf_part, l
 use Rattle.glock_names.specs.Views.{Seen, HasBlock}
 use Rattle.glock_names.specs.declared.steps.Entry.{Entry}
 use Rattle.no_memory.specs.declared.NoMemory.{NoMemory}
-use Rattle.hash_dirs.specs.Shown.{IsInChain, IsShown, index_for}
+use Rattle.hash_steps.specs.Shown.{IsInChain, IsShown, index_for}
 use Rattle.pointer_tables.specs.Directories.{chain_head}
-use Rattle.hash_dirs.proofs.Along.{chain_one, ended, head_there}
-use Rattle.hash_dirs.proofs.Chained.{cell_some, deep, head_some, index_low, rules}
+use Rattle.hash_steps.proofs.Along.{chain_one, ended, head_there}
+use Rattle.hash_steps.proofs.Chained.{cell_some, deep, head_some, index_low, rules}
 use Rattle.hash_steps.specs.Laws.{ExchangesJoin}
 use Rattle.hash_steps.specs.Leaves.{IsFull, IsFullBefore}
 use Rattle.hash_inserts.specs.Advancing.{CanInsert, IsAtLeaf, StepsOn}

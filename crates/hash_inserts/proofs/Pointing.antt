@@ -8,9 +8,9 @@ use Rattle.gfs2_layout.specs.Holding.{Holding}
 use Rattle.gfs2_layout.specs.Inode.{depth_in, dinode_in, entry, first_hash, has_hash_flag, header_length, is_directory_in, is_hashed_in, table_count, unit}
 use Rattle.image_model.proofs.Rows.{and_left}
 use Rattle.table_changes.specs.Pointers.{HasPointerOf}
-use Rattle.hash_dirs.specs.Shown.{IsSound}
-use Rattle.hash_dirs.proofs.Chained.{rules}
-use Rattle.hash_dirs.proofs.Indexes.{run_within}
+use Rattle.hash_steps.specs.Shown.{IsSound}
+use Rattle.hash_steps.proofs.Chained.{rules}
+use Rattle.hash_steps.proofs.Indexes.{run_within}
 use Rattle.hash_steps.specs.Leaves.{first_of, leaf_depth, run_of}
 use Rattle.hash_steps.proofs.Contents.{IsTableBlock, table_block}
 use Rattle.hash_steps.proofs.Halves.{half_bits, half_run}

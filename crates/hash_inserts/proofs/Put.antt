@@ -17,8 +17,8 @@ use Rattle.dinode_tree.specs.Reading.{inode_lock}
 use Rattle.linear_dirs.specs.Exchanges.{uncounted}
 use Rattle.linear_dirs.specs.Shown.{head_for, record_for}
 use Rattle.linear_dirs.proofs.Counts.{counts_more}
-use Rattle.hash_dirs.specs.Shown.{IsInChain, IsShown, IsSound, index_for}
-use Rattle.hash_dirs.proofs.Chained.{cell_some, in_chain, some_block}
+use Rattle.hash_steps.specs.Shown.{IsInChain, IsShown, IsSound, index_for}
+use Rattle.hash_steps.proofs.Chained.{cell_some, in_chain, some_block}
 use Rattle.hash_steps.specs.Leaves.{IsFullBefore}
 use Rattle.hash_steps.specs.Steps.{IsPutInLeaf}
 use Rattle.hash_steps.proofs.Leaves.{itself_or_chained}

@@ -17,8 +17,8 @@ use Rattle.linear_dirs.specs.Shown.{holding_over}
 use Rattle.linear_dirs.proofs.Over.{as_seen}
 use Rattle.linear_dirs.proofs.Rewritten.{over_there}
 use Rattle.table_changes.specs.Pointers.{EachPointerLeads, IsTableBroken, of_inode, leads_nowhere}
-use Rattle.hash_dirs.specs.Shown.{IsSound}
-use Rattle.hash_dirs.proofs.Chained.{cell_some, rules, some_block}
+use Rattle.hash_steps.specs.Shown.{IsSound}
+use Rattle.hash_steps.proofs.Chained.{cell_some, rules, some_block}
 use Rattle.hash_inserts.specs.Drafting.{Puts, SeesTree, SetsPointers}
 
 -- nothing of the tree is needed

@@ -10,7 +10,7 @@ use Rattle.dinode_tree.specs.Pads.{KeepsPads}
 use Rattle.dinode_tree.proofs.Pads.{put_keeps}
 use Rattle.growth_laws.specs.Files.{with_cells}
 use Rattle.pointer_tables.specs.Directories.{IsPlaced, IsTreeSound}
-use Rattle.hash_dirs.proofs.Chained.{cell_some}
+use Rattle.hash_steps.proofs.Chained.{cell_some}
 use Rattle.hash_inserts.specs.Drafting.{with_block}
 use Rattle.hash_inserts.specs.Writing.{IsDinodeWritten, counting}
 use Rattle.hash_inserts.proofs.Blocks.{bytes_here, counts_same}

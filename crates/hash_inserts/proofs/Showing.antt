@@ -4,8 +4,8 @@ use Rattle.gfs2_layout.specs.Holding.{Holding, InChain, Itself, part_at}
 use Rattle.gfs2_layout.specs.Inode.{IsInode, first_hash, is_hashed_in}
 use Rattle.glock_names.specs.Views.{Seen}
 use Rattle.dinode_tree.specs.Shown as inode
-use Rattle.hash_dirs.specs.Shown.{IsShown, IsSound}
-use Rattle.hash_dirs.proofs.Chained.{cell_some, in_chain}
+use Rattle.hash_steps.specs.Shown.{IsShown, IsSound}
+use Rattle.hash_steps.proofs.Chained.{cell_some, in_chain}
 
 abbrev pub SoundAreShown : Type 0
 SoundAreShown = (u : Seen) (k : Holding) → IsInode k → part_at k k.own ≡ Some Itself → k.size ≡ u.size → inode.IsAsSeen u k → inode.IsShown u k.own k

@@ -11,10 +11,10 @@ use Rattle.gfs2_layout.specs.Area.{slots_of}
 use Rattle.gfs2_layout.specs.Holding.{Holding, InChain, Pointed, part_at}
 use Rattle.gfs2_layout.specs.Inode.{depth_in, entry, first_hash, is_leaf_part, leaf_area, leaf_in, table_count}
 use Rattle.glock_names.specs.Views.{Seen, HasBlock}
-use Rattle.hash_dirs.specs.Shown.{IsInChain, IsShown, index_for}
+use Rattle.hash_steps.specs.Shown.{IsInChain, IsShown, index_for}
 use Rattle.pointer_tables.specs.Directories.{chain_head, chain_next}
 use Rattle.table_changes.specs.Pointers.{HasPointerOf, IsWithin}
-use Rattle.hash_dirs.proofs.Chained.{cell_some, head_some, index_low}
+use Rattle.hash_steps.proofs.Chained.{cell_some, head_some, index_low}
 use Rattle.hash_steps.specs.Laws.{Stays}
 use Rattle.hash_steps.specs.Leaves.{HasOneLeaf, first_of, has_room_for, leaf_depth, middle_hash, run_of}
 use Rattle.hash_inserts.specs.Advancing.{CanInsert, IsAtLeaf, IsFullLeaf, StepsOn, StepsTo}

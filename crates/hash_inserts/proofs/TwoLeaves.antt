@@ -16,7 +16,7 @@ use Rattle.dinode_tree.specs.Reading.{inode_lock}
 use Rattle.growth_drafts.specs.Taken.{HasTaken}
 use Rattle.growth_drafts.proofs.Rooms.{only_in}
 use Rattle.pointer_tables.specs.Directories.{IsPlaced, IsTreeSound}
-use Rattle.hash_dirs.proofs.Chained.{cell_some}
+use Rattle.hash_steps.proofs.Chained.{cell_some}
 use Rattle.hash_inserts.specs.Drafting.{Puts, with_block}
 use Rattle.hash_inserts.specs.Writing.{IsDinodeWritten, counting}
 use Rattle.hash_inserts.proofs.Blocks.{bytes_apart, bytes_here, counts_more, counts_same, fate_apart, fate_here, one_put, part_apart, part_here, puts_then, some_before, some_here, some_still}

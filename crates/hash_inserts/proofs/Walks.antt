@@ -4,8 +4,8 @@ use Rattle.gfs2_layout.specs.Area.{slots_of}
 use Rattle.gfs2_layout.specs.Holding.{Holding}
 use Rattle.gfs2_layout.specs.Inode.{leaf_area}
 use Rattle.glock_names.specs.Views.{Seen}
-use Rattle.hash_dirs.specs.Shown.{IsInChain}
-use Rattle.hash_dirs.proofs.Along.{chain_one}
+use Rattle.hash_steps.specs.Shown.{IsInChain}
+use Rattle.hash_steps.proofs.Along.{chain_one}
 use Rattle.hash_steps.specs.Leaves.{has_room_for}
 use Rattle.hash_inserts.specs.Walking.{IsRoomBefore, SeesChainBefore, SeesLeaf, first_with}
 

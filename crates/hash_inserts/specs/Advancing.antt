@@ -11,7 +11,7 @@ use Rattle.gfs2_layout.specs.Records.{record_named}
 use Rattle.glock_names.specs.Views.{Seen, HasBlock}
 use Rattle.glock_names.specs.declared.steps.Entry.{Entry}
 use Rattle.growth_drafts.specs.Taken.{AreFreeFor, HasTaken}
-use Rattle.hash_dirs.specs.Shown.{IsShown, IsSound, index_for}
+use Rattle.hash_steps.specs.Shown.{IsShown, IsSound, index_for}
 use Rattle.hash_steps.specs.Laws.{Stays}
 use Rattle.hash_steps.specs.Leaves.{has_room_for}
 use Rattle.hash_inserts.specs.Drafting.{Puts}

@@ -10,7 +10,7 @@ use Rattle.glock_names.specs.Views.{Seen}
 use Rattle.glock_names.specs.declared.steps.Entry.{Entry}
 use Rattle.dinode_tree.specs.Below.{IsBelow}
 use Rattle.resource_groups.specs.Putting.{HasDataBlock}
-use Rattle.hash_dirs.specs.Shown.{IsShown, IsSound}
+use Rattle.hash_steps.specs.Shown.{IsShown, IsSound}
 use Rattle.hash_steps.specs.Laws.{Stays}
 use Rattle.hash_steps.specs.Steps.{IsSplit}
 use Rattle.hash_inserts.specs.Drafting.{SeesTree}

@@ -14,7 +14,7 @@ use Rattle.growth_drafts.specs.Taken.{HasTaken}
 use Rattle.linear_dirs.specs.Shown.{holding_over}
 use Rattle.table_changes.specs.Pointers.{HasPointerOf}
 use Rattle.table_changes.specs.Tables.{DraftsDirectory, HasPointersSet, TakesDoubled, TakesWithin}
-use Rattle.hash_dirs.specs.Shown.{index_for}
+use Rattle.hash_steps.specs.Shown.{index_for}
 use Rattle.hash_steps.specs.Laws.{Stays}
 use Rattle.hash_steps.specs.Steps.{IsLengthened, IsPutInLeaf, IsSplit}
 use Rattle.hash_inserts.specs.Inserting.{IsSplitAt}

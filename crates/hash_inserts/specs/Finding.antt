@@ -4,8 +4,8 @@ use Rattle.gfs2_layout.specs.Holding.{Holding}
 use Rattle.gfs2_layout.specs.Inode.{entry, entry_block}
 use Rattle.glock_names.specs.Views.{Seen, HasBlock}
 use Rattle.dinode_tree.specs.Below.{IsBelow}
-use Rattle.hash_dirs.specs.Shown.{index_for}
-use Rattle.hash_dirs.specs.Walking.{IsHead}
+use Rattle.hash_steps.specs.Shown.{index_for}
+use Rattle.hash_steps.specs.Walking.{IsHead}
 use Rattle.hash_inserts.specs.Inserting.{HasOneLeafFor}
 use Rattle.hash_inserts.specs.Walking.{IsWalked, SeesLeaf}
 use Rattle.hash_inserts.specs.declared.finding.Found.{Found}

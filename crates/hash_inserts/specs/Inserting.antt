@@ -20,8 +20,8 @@ use Rattle.pointer_tables.specs.Tables.{IsDoubled}
 use Rattle.table_changes.specs.Pointers.{HasPointerOf}
 use Rattle.table_changes.specs.Tables.{DraftsDirectory, GrowsAsFile, IsClearBehind, KeepsTableHeaders, doubling_need_of}
 use Rattle.resource_groups.specs.Putting.{HasDataBlock}
-use Rattle.hash_dirs.specs.Broken.{IsWrongIn}
-use Rattle.hash_dirs.specs.Shown.{IsInChain, IsNeededFor, IsSound, index_for}
+use Rattle.hash_steps.specs.Broken.{IsWrongIn}
+use Rattle.hash_steps.specs.Shown.{IsInChain, IsNeededFor, IsSound, index_for}
 use Rattle.hash_steps.specs.Laws.{Stays}
 use Rattle.hash_steps.specs.Leaves.{HasOneLeaf, IsFull, IsFullBefore, first_of, has_room_for, leaf_depth, run_of}
 use Rattle.hash_steps.specs.Steps.{IsConverted, IsLengthened, IsPutInLeaf, IsSplit}

@@ -6,7 +6,7 @@ use Rattle.gfs2_layout.specs.Inode.{is_directory_in, is_hashed_in, records_of}
 use Rattle.gfs2_layout.specs.Records.{record_named}
 use Rattle.growth_drafts.specs.Taken.{AreFreeFor, HasTaken}
 use Rattle.linear_dirs.specs.Exchanges.{HasExchanged}
-use Rattle.hash_dirs.specs.Shown.{IsSound}
+use Rattle.hash_steps.specs.Shown.{IsSound}
 use Rattle.hash_steps.specs.Steps.{IsConverted}
 use Rattle.hash_inserts.specs.Needing.{TakesBlocks, TakesBlocksFirst}
 

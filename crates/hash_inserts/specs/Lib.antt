@@ -13,3 +13,8 @@ pub mod Committing
 pub use Rattle.hash_steps.specs.Leaves
 pub use Rattle.hash_steps.specs.Steps
 pub use Rattle.table_changes.specs.Tables
+pub use Rattle.table_changes.specs.Pointers
+pub use Rattle.hash_steps.specs.Shown
+pub use Rattle.hash_steps.specs.Broken
+pub use Rattle.hash_steps.specs.Walking as ChainWalking
+pub use Rattle.hash_steps.specs.chains

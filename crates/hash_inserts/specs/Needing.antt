@@ -9,7 +9,7 @@ use Rattle.glock_names.specs.Views.{Seen, HasBlock}
 use Rattle.leaf_areas.specs.Moving.{in_use, packed}
 use Rattle.leaf_areas.specs.Splitting.{bit_at, lower_half, upper_half}
 use Rattle.table_changes.specs.Tables.{doubling_need, table_height}
-use Rattle.hash_dirs.specs.Shown.{IsInChain, index_for}
+use Rattle.hash_steps.specs.Shown.{IsInChain, index_for}
 use Rattle.hash_steps.specs.Leaves.{has_room_for, leaf_depth}
 use Rattle.hash_steps.specs.Steps.{first_count}
 use Rattle.hash_inserts.specs.Drafting.{SeesTree}

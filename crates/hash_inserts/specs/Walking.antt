@@ -5,7 +5,7 @@ use Rattle.gfs2_layout.specs.Holding.{Holding}
 use Rattle.gfs2_layout.specs.Inode.{leaf_area, leaf_in}
 use Rattle.glock_names.specs.Views.{Seen, HasBlock}
 use Rattle.resource_groups.specs.Putting.{HasDataBlock}
-use Rattle.hash_dirs.specs.Shown.{IsInChain}
+use Rattle.hash_steps.specs.Shown.{IsInChain}
 use Rattle.hash_steps.specs.Leaves.{IsFullBefore, has_room_for}
 use Rattle.hash_inserts.specs.declared.walking.Walked.{Walked}
 

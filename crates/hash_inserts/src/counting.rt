@@ -8,7 +8,7 @@ ghost use Rattle.hash_inserts.specs.Needing.{Needs};
 ghost use Rattle.hash_inserts.specs.Counting.{chain_with};
 
 use crate::walking::area_has_room;
-use hash_dirs::IN_LEAF;
+use hash_steps::IN_LEAF;
 use leaf_areas::split_area;
 use no_memory::NoMemory;
 use std::alloc::Global;

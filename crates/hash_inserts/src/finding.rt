@@ -5,8 +5,8 @@ ghost use Rattle.gfs2_layout.specs.Holding.{Holding};
 ghost use Rattle.gfs2_layout.specs.Inode.{entry, leaf_length};
 ghost use Rattle.glock_names.specs.Steps.{IfIs, IfNeedBlock, OnlyDamaged};
 ghost use Rattle.glock_names.specs.Views.{HasBlock, IsOfView};
-ghost use Rattle.hash_dirs.specs.Broken.{IsWrongIn};
-ghost use Rattle.hash_dirs.specs.Shown.{IsNeededFor, IsShown, IsSound, index_for};
+ghost use Rattle.hash_steps.specs.Broken.{IsWrongIn};
+ghost use Rattle.hash_steps.specs.Shown.{IsNeededFor, IsShown, IsSound, index_for};
 ghost use Rattle.hash_steps.specs.Leaves.{has_room_for};
 ghost use Rattle.hash_inserts.specs.Drafting.{SeesTree};
 ghost use Rattle.hash_inserts.specs.Writing.{IsLeafBlock};
@@ -17,7 +17,7 @@ use crate::writing::head_of;
 use crc_words::crc32;
 use dinode_tree::{read_dinode, sound_inodes_break_nothing};
 use glock_names::{CallFault, Step, View, block_of};
-use hash_dirs::{IN_LEAF, index_of};
+use hash_steps::{IN_LEAF, index_of};
 use pointer_tables::{Pointer, PointerTable};
 
 /// The chain of a name: the pointer to it, and what was found along it.

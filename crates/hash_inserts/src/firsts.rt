@@ -14,7 +14,7 @@ use crate::counting::{OneLeaf, count_needs};
 use crc_words::crc32;
 use gfs2_layout::{DINODE_LENGTH, is_area};
 use glock_names::{CallFault, Step, View, block_of};
-use hash_dirs::{IN_LEAF, damaged};
+use hash_steps::{IN_LEAF, damaged};
 use linear_dirs::look;
 use std::alloc::Global;
 

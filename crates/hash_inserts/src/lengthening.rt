@@ -4,7 +4,7 @@ ghost use Rattle.drafts.specs.Fates.{seen_in};
 ghost use Rattle.gfs2_layout.specs.Holding.{Holding};
 ghost use Rattle.gfs2_layout.specs.Inode.{leaf_in};
 ghost use Rattle.glock_names.specs.Views.{HasBlock};
-ghost use Rattle.hash_dirs.specs.Shown.{IsInChain, IsShown, IsSound, index_for};
+ghost use Rattle.hash_steps.specs.Shown.{IsInChain, IsShown, IsSound, index_for};
 ghost use Rattle.hash_steps.specs.Leaves.{IsFull};
 ghost use Rattle.hash_inserts.specs.Inserting.{CanCountOne};
 ghost use Rattle.hash_inserts.specs.Drafting.{IsFree, Lengthens, PutsBehind};

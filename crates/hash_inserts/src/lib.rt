@@ -20,6 +20,7 @@ mod writing;
 
 pub use converting::{first_depth, to_hashed};
 pub use firsts::need_first;
+pub use hash_steps::{IN_LEAF, count_records, damaged, index_of, leaf_at};
 pub use inserting::{insert, insert_first};
 pub use laws::{absent_names_stay, first_needs_stay, rooms_stay_free};
 pub use needing::need_insert;

@@ -8,14 +8,14 @@ ghost use Rattle.dinode_tree.specs.Below.{AnyIndex, IsBelow};
 ghost use Rattle.dinode_tree.specs.Reading.{IsNeeded};
 ghost use Rattle.dinode_tree.specs.declared.below.PointedBlock.{PointedBlock as Pointed};
 ghost use Rattle.resource_groups.specs.Putting.{HasDataBlock};
-ghost use Rattle.hash_dirs.specs.Shown.{IsShown};
+ghost use Rattle.hash_steps.specs.Shown.{IsShown};
 ghost use Rattle.hash_inserts.specs.Drafting.{SeesTree};
 ghost use Rattle.hash_inserts.specs.Inserting.{IsWrongToInsert};
 
 use dinode_tree::{PointedBlock, blocks_below, every_view_shows_an_inode, read_dinode};
 use gfs2_layout::Dinode;
 use glock_names::{CallFault, Missing, Step, View, block_of};
-use hash_dirs::damaged;
+use hash_steps::damaged;
 use linear_dirs::lock_of;
 use resource_groups::group_of;
 use std::alloc::Global;

@@ -4,7 +4,7 @@ ghost use Rattle.drafts.specs.Fates.{seen_in};
 ghost use Rattle.gfs2_layout.specs.Holding.{Holding};
 ghost use Rattle.gfs2_layout.specs.Inode.{is_hashed_in, table_count};
 ghost use Rattle.linear_dirs.specs.Shown.{holding_over};
-ghost use Rattle.hash_dirs.specs.Shown.{IsShown, IsSound};
+ghost use Rattle.hash_steps.specs.Shown.{IsShown, IsSound};
 ghost use Rattle.growth_drafts.specs.Taken.{AreFreeFor};
 ghost use Rattle.table_changes.specs.Tables.{doubling_need_of};
 ghost use Rattle.hash_steps.specs.Laws.{Stays};

@@ -7,7 +7,7 @@ ghost use Rattle.gfs2_layout.specs.Holding.{Holding};
 ghost use Rattle.gfs2_layout.specs.Inode.{leaf_area};
 ghost use Rattle.gfs2_layout.specs.Records.{Record};
 ghost use Rattle.glock_names.specs.Views.{HasBlock};
-ghost use Rattle.hash_dirs.specs.Shown.{IsInChain, IsShown, IsSound, index_for};
+ghost use Rattle.hash_steps.specs.Shown.{IsInChain, IsShown, IsSound, index_for};
 ghost use Rattle.hash_steps.specs.Leaves.{IsFullBefore, has_room_for};
 ghost use Rattle.hash_inserts.specs.Drafting.{PutsInLeaf};
 ghost use Rattle.hash_inserts.specs.Inserting.{CanCountOne};

@@ -5,15 +5,15 @@ ghost use Rattle.gfs2_layout.specs.Inode.{depth_in};
 ghost use Rattle.gfs2_layout.specs.Putting.{has_room as has_room_of};
 ghost use Rattle.glock_names.specs.Steps.{IfIs, IfNeedBlock, OnlyDamaged};
 ghost use Rattle.glock_names.specs.Views.{HasBlock, IsOfView};
-ghost use Rattle.hash_dirs.specs.Broken.{IsWrongIn};
-ghost use Rattle.hash_dirs.specs.Shown.{IsNeededFor};
-ghost use Rattle.hash_dirs.specs.Walking.{OfEach};
+ghost use Rattle.hash_steps.specs.Broken.{IsWrongIn};
+ghost use Rattle.hash_steps.specs.Shown.{IsNeededFor};
+ghost use Rattle.hash_steps.specs.Walking.{OfEach};
 ghost use Rattle.hash_steps.specs.Leaves.{has_room_for};
 ghost use Rattle.hash_inserts.specs.Walking.{IsWalked, first_with};
 
 use gfs2_layout::{Dirent, least_length, next_record};
 use glock_names::{CallFault, Step, View};
-use hash_dirs::{damaged, leaf_at};
+use hash_steps::{damaged, leaf_at};
 use pointer_tables::Pointer;
 use profile_limits::MOST_BLOCKS;
 

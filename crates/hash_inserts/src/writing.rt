@@ -8,7 +8,7 @@ ghost use Rattle.leaf_areas.specs.Moving.{unused};
 ghost use Rattle.hash_inserts.specs.Writing.{CanCount, CanTake, IsDinodeWritten, IsHalved, IsLeafBlock, IsLeafFilled, IsLeafWritten, IsLinked, counting};
 
 use gfs2_layout::{Dinode, Dirent, Leaf, is_area, put_record};
-use hash_dirs::IN_LEAF;
+use hash_steps::IN_LEAF;
 use leaf_areas::{clear_area, split_area};
 use no_memory::NoMemory;
 use std::alloc::Global;

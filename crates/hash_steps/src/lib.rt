@@ -5,6 +5,7 @@ ghost use Rattle.hash_steps.specs.Laws.{AddedLeavesStay, ConversionsStay, Doubli
 
 use crc_words::checksums_have_32_bits;
 use gfs2_layout::areas_exchange_records;
+pub use hash_dirs::{IN_LEAF, count_records, damaged, index_of, leaf_at};
 use leaf_areas::{halves_have_the_records, moved_records_stay};
 
 /// A law: after a leaf is split the directory is sound, and has the records that it had.

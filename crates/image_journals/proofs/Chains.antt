@@ -5,7 +5,7 @@ use Rattle.std.specs.Prelude.{if◌then◌else◌, nat_lt}
 use Rattle.gfs2_layout.specs.Holding.{Holding, InChain, bytes_at, part_at}
 use Rattle.gfs2_layout.specs.Inode.{IsLeaf, first_hash, is_hashed_in, leaf_in}
 use Rattle.glock_names.specs.Views.{Seen}
-use Rattle.hash_dirs.specs.Finding.{IsNamedLater, named_in}
+use Rattle.hash_dirs.specs.Finding.{AreLeafHeads, IsLeafHead, IsNamedLater, named_in}
 use Rattle.hash_dirs.specs.Shown.{IsInChain}
 use Rattle.hash_dirs.proofs.Along.{chain_one, comes_back}
 use Rattle.hash_dirs.proofs.Chained.{cell_some, in_chain, rules, same_hash, some_block}
@@ -38,6 +38,13 @@ module _ (v : Seen) (h : Holding) (is : IsDirectoryIn v h) (hashed : is_hashed_i
 
   pub leaf_is : (place x : ℕ) → IsInChain h i place x → IsLeaf h (first_hash h i) x
   leaf_is place x chain = (rules h is.sound hashed).leaves x (first_hash h i) place (part_is place x chain)
+
+  -- each leaf of the chain is one
+  pub headed : (place x : ℕ) → IsInChain h i place x → IsLeafHead h x
+  headed place x chain = let leaf = leaf_is place x chain in record { header = leaf.header; format = leaf.records_format; low = leaf.depth }
+
+  pub heads : (place : ℕ) → AreLeafHeads h i place
+  heads place earlier x before chain = headed earlier x chain
 
   pub goes_on : (name : List ℕ) (place x next : ℕ) → IsAt h i name place x → named_in h name x ≡ None → next ≡ (leaf_in h x).next → next ≢ 0 → IsAt h i name (place + 1) next
   goes_on name place x next at none is_next more = record {

@@ -24,3 +24,4 @@ pub mod Reached
 pub mod Behind
 pub mod Replaying
 pub mod SystemStays
+pub mod OneChain

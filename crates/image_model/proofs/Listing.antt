@@ -17,7 +17,7 @@ use Rattle.gfs2_layout.specs.Inode.{content_of, dinode_in}
 use Rattle.image_model.specs.Groups.{groups_in, entry_length, IsGroupAt, IsListed, IsNear, GroupFits, end_of}
 use Rattle.image_model.specs.Image.{Image}
 use Rattle.image_model.specs.Listing.{RiseFrom, end_after}
-use Rattle.image_model.specs.Rules.{Breaks, IsSoundList, HasSoundGroup, unfit, not_rising, bare}
+use Rattle.image_model.specs.Rules.{Breaks, IsSoundList, IsWholeList, HasSoundGroup, unfit, not_rising, bare}
 use Rattle.shared_disk.proofs.FlightLaws.{all_append}
 
 -- ---- the list, entry by entry
@@ -171,16 +171,20 @@ sound_list im d groups is only header whole listed rise = record {
   rise = rise_apart im 0 groups rise;
 }
 
--- a group of a sound list is one of the file that is `rindex`
+-- a group of a whole list is one of the file that is `rindex`
 pub sound_group : (im : Image) (g : Rindex) → HasSoundGroup im g → HasGroup im g
-sound_group im g has = (has.1.inode, has.1.rindex, subst (λ gs. IsListed gs g) (sym has.1.listed) has.2)
+sound_group im g has = (has.1.sound.inode, has.1.sound.rindex, subst (λ gs. IsListed gs g) (sym has.1.sound.listed) has.2)
 
 pub sound_fits : (im : Image) (g : Rindex) → HasSoundGroup im g → GroupFits im g
-sound_fits im g has = has.1.fit g has.2
+sound_fits im g has = has.1.sound.fit g has.2
 
 -- each block above the superblock's and before this one is near a group
 abbrev pub AreNear : Image → List Rindex → ℕ → Type 0
 AreNear im groups end = (b : ℕ) → superblock_place im.size < b → b < end → (g : Rindex) × IsListed groups g × IsNear g b
+
+-- a sound list is whole where all blocks of the device are near a group
+pub whole_list : (im : Image) (groups : List Rindex) (end : ℕ) → IsSoundList im groups → AreNear im groups end → im.count ≤ end → IsWholeList im groups
+whole_list im groups end list near all = record { sound = list; rest = λ b above before. near b above (omega (arith, before, all)) }
 
 pub near_none : (im : Image) (groups : List Rindex) (end : ℕ) → end ≤ superblock_place im.size + 1 → AreNear im groups end
 near_none im groups end low b above before = absurd (omega (arith, low, above, before))

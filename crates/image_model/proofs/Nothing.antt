@@ -23,7 +23,7 @@ module _ (im : Image) (owners : Owners) (l : Layout) (laid : IsLaid im owners l)
   laid_breaks_nothing _ _ (Rules.no_header b kind format needs lacks) = lacks (header_there im owners l laid b kind format needs)
   laid_breaks_nothing _ _ (Rules.beyond_device b c o claim high) = absurd (omega (arith, high, on_device im owners l laid b c o claim))
   laid_breaks_nothing _ _ (Rules.beyond_groups b c o claim out) = in_a_group im owners l laid b c o claim out
-  laid_breaks_nothing _ _ (Rules.two_owners b by by' o p claim other d) = d (one_owner im owners l laid by by' b o p claim other)
+  laid_breaks_nothing _ _ (Rules.two_owners b by by' o p claim other d apart) = d (one_owner im owners l laid by by' b o p claim other)
   laid_breaks_nothing _ _ (Rules.other_data0 g has d) = d (has_group im owners l laid g has).data0
   laid_breaks_nothing _ _ (Rules.other_data_blocks g has d) = d (has_group im owners l laid g has).data_blocks
   laid_breaks_nothing _ _ (Rules.other_bitbytes g has d) = d (has_group im owners l laid g has).bitbytes

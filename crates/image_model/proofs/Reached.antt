@@ -8,7 +8,6 @@ use Rattle.image_model.specs.Image.{Image, superblock_in}
 use Rattle.image_model.specs.Owners.{Owner, Below, Chained, Master, Named, Root, is_dinode}
 use Rattle.image_model.specs.Rules
 use Rattle.image_model.specs.Rules.{Breaks, HasRecords, HasRecordIn, from_dinode_block, from_leaves, IsHashedAt, Needs, of_superblock, of_group, of_bitmap, of_dinode, of_indirect, of_table, HasSoundGroup, IsReached, the_superblock, by_claim, of_content, in_group, left_out}
-use Rattle.image_model.proofs.Listing.{sound_group}
 
 module _ (im : Image) where
   inode : (a : ℕ) → HasInode im a → IsReached im a
@@ -68,12 +67,12 @@ module _ (im : Image) where
   claimer _ _ _ (in_leaf by x a hash place r claim there name) = by_claim by x (Chained a hash place) claim
 
   header_of : (g : Rindex) → HasSoundGroup im g → IsReached im g.address
-  header_of g has = in_group g g.address (sound_group im g has) (inl refl)
+  header_of g has = in_group g g.address has (inl refl)
 
   needs : (b kind format : ℕ) → Needs im b kind format → IsReached im b
   needs _ _ _ of_superblock = the_superblock
   needs _ _ _ (of_group g has) = header_of g has
-  needs _ _ _ (of_bitmap g k has some low) = in_group g (g.address + k) (sound_group im g has) (inr (inl (record { low = omega arith; high = omega (arith, low) })))
+  needs _ _ _ (of_bitmap g k has some low) = in_group g (g.address + k) has (inr (inl (record { low = omega arith; high = omega (arith, low) })))
   needs _ _ _ (of_dinode a has) = inode a has
   needs _ _ _ (of_indirect by a x b k level first claim) = by_claim by x (Below a b k (suc level) first) claim
   needs _ _ _ (of_table by a x b k first claim dir) = by_claim by x (Below a b k 0 first) claim
@@ -88,11 +87,11 @@ module _ (im : Image) where
   broken_reached _ _ (Rules.no_header b kind format is lacks) = needs b kind format is
   broken_reached _ _ (Rules.beyond_device b c o claim high) = claimer b c o claim
   broken_reached _ _ (Rules.beyond_groups b c o claim out) = claimer b c o claim
-  broken_reached _ _ (Rules.two_owners b by by' o p claim other d) = by_claim by b o claim
+  broken_reached _ _ (Rules.two_owners b by by' o p claim other d apart) = by_claim by b o claim
   broken_reached _ _ (Rules.other_data0 g has d) = header_of g has
   broken_reached _ _ (Rules.other_data_blocks g has d) = header_of g has
   broken_reached _ _ (Rules.other_bitbytes g has d) = header_of g has
-  broken_reached _ _ (Rules.wrong_bits g b has of wrong) = in_group g b (sound_group im g has) (inr (inr of))
+  broken_reached _ _ (Rules.wrong_bits g b has of wrong) = in_group g b has (inr (inr of))
   broken_reached _ _ (Rules.free_count g has d) = header_of g has
   broken_reached _ _ (Rules.dinode_count g has d) = header_of g has
   broken_reached _ _ (Rules.other_address a has d) = inode a has

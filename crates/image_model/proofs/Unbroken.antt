@@ -70,7 +70,7 @@ module _ (im : Image) (owners : Owners) (l : Layout) (laid : IsLaid im owners l)
   pub in_a_group : (by c : ℕ) (o : Owner) → Claims im by c o → IsOutside im c → ⊥
   in_a_group by c o claim out =
       let g = laid.zoned.placed c (claimed_used im owners l laid by c o claim) in
-      out.2 g.0 (subst (λ gs. IsListed gs g.0) (sym (list_of im owners l laid out.1.inode out.1.rindex) ∙ out.1.listed) g.1) g.2
+      out.2 g.0 (subst (λ gs. IsListed gs g.0) (sym (list_of im owners l laid out.1.sound.inode out.1.sound.rindex) ∙ out.1.sound.listed) g.1) g.2
 
   pub one_owner : (by by' b : ℕ) (o p : Owner) → Claims im by b o → Claims im by' b p → o ≡ p
   one_owner by by' b o p claim other = sym (claim_row im owners l laid by b o claim) ∙ claim_row im owners l laid by' b p other

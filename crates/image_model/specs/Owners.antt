@@ -57,6 +57,11 @@ IsWithin a (Below d b k level first) = d ≡ a
 IsWithin a (Chained d hash place) = d ≡ a
 IsWithin a _ = ⊥
 
+-- both are leaves of one chain
+abbrev pub AreOneChain : Owner → Owner → Type 0
+AreOneChain (Chained a hash place) (Chained b other later) = (a ≡ b) × (hash ≡ other)
+AreOneChain _ _ = ⊥
+
 -- ---- what an inode has: its blocks, and the part of each
 
 -- the part in inode a of block b, whose owner is given

@@ -10,14 +10,14 @@ use Rattle.gfs2_layout.specs.Structures.{dinode_length, is_regular, is_in_use}
 use Rattle.gfs2_layout.specs.Area.{Slot, name_of, slots_of, IsArea}
 use Rattle.gfs2_layout.specs.declared.rindex.Rindex.{Rindex}
 use Rattle.gfs2_layout.specs.Bitmap.{state_at}
-use Rattle.image_model.specs.Claims.{every, Claims, IsInodeAt, HasInode, HasDirectory, HasLeaf, IsLeafBehind, HasArea, master_of, IsRindex, IsJindex, HasGroup, HasJournal, IsUnder}
+use Rattle.image_model.specs.Claims.{every, Claims, IsInodeAt, HasInode, HasDirectory, HasLeaf, IsLeafBehind, HasArea, master_of, IsRindex, IsJindex, HasJournal, IsUnder}
 use Rattle.gfs2_layout.specs.Groups.{bitmap_of, group_header, states_in, count_of}
 use Rattle.image_model.specs.Groups.{groups_in, entry_length, IsGroupAt, IsListed, end_of, IsHeaderOf, IsDataOf, IsNear, GroupFits, group_blocks, state_of}
 use Rattle.gfs2_layout.specs.Inode.{Leads, entry_block, dinode_in, height_in, is_directory_in, is_hashed_in, fan, span, content_block, content_of, content_count, table_count, depth_in, entry, index_bits, leaf_in, leaf_area, linear_area, top_bits, head_of}
 use Rattle.image_model.specs.Image.{Image, superblock_in}
 use Rattle.gfs2_layout.specs.Headers.{HasHeader}
 use Rattle.gfs2_layout.specs.Device.{superblock_place}
-use Rattle.image_model.specs.Owners.{Owner, Below, Chained, parent_of, IsWithin}
+use Rattle.image_model.specs.Owners.{Owner, Below, Chained, parent_of, IsWithin, AreOneChain}
 use Rattle.log_layout.specs.Journal.{ring_of, head_in}
 use Rattle.log_layout.specs.Transactions.{transactions_of}
 use Rattle.log_layout.specs.declared.log_header.LogHeader.{LogHeader}
@@ -38,9 +38,14 @@ pub record IsSoundList (im : Image) (groups : List Rindex) : Type 0 where
   pub fit : (g : Rindex) → IsListed groups g → GroupFits im g
   pub rise : (i j : ℕ) (g h : Rindex) → IsGroupAt groups i g → IsGroupAt groups j h → i < j → end_of g ≤ h.address
 
--- a group of a sound list
+-- A sound list that leaves no block of the device above the superblock bare: each is in one of these groups, or one of at most three behind one.
+pub record IsWholeList (im : Image) (groups : List Rindex) : Type 0 where
+  pub sound : IsSoundList im groups
+  pub rest : (b : ℕ) → superblock_place im.size < b → b < im.count → (g : Rindex) × IsListed groups g × IsNear g b
+
+-- a group of a whole list
 abbrev pub HasSoundGroup : Image → Rindex → Type 0
-HasSoundGroup im g = (groups : List Rindex) × IsSoundList im groups × IsListed groups g
+HasSoundGroup im g = (groups : List Rindex) × IsWholeList im groups × IsListed groups g
 
 -- the first block of the device above the superblock that has none of these groups, and none leaves behind it
 pub record IsFirstBare (im : Image) (groups : List Rindex) (b : ℕ) : Type 0 where
@@ -51,7 +56,7 @@ pub record IsFirstBare (im : Image) (groups : List Rindex) (b : ℕ) : Type 0 wh
 
 -- ---- what stands where
 
--- the header that a place needs; that of a group or its bitmap, where the list is sound
+-- the header that a place needs; that of a group or its bitmap, where the list is whole
 pub data Needs (im : Image) : ℕ → ℕ → ℕ → Type 0 where
   of_superblock : Needs im (superblock_place im.size) 1 100
   of_group : (g : Rindex) → HasSoundGroup im g → Needs im g.address 2 200
@@ -61,9 +66,9 @@ pub data Needs (im : Image) : ℕ → ℕ → ℕ → Type 0 where
   of_table : (by a x b k first : ℕ) → Claims im by x (Below a b k 0 first) → is_directory_in (every im a) ≡ true → Needs im x 7 700
   of_leaf : (a x : ℕ) → HasLeaf im a x → Needs im x 6 600
 
--- the block lies in no group's data blocks, by a list whose groups fit and rise
+-- the block lies in no group's data blocks, by a whole list
 abbrev pub IsOutside : Image → ℕ → Type 0
-IsOutside im c = (groups : List Rindex) × IsSoundList im groups × ((g : Rindex) → IsListed groups g → ¬ (IsDataOf g c))
+IsOutside im c = (groups : List Rindex) × IsWholeList im groups × ((g : Rindex) → IsListed groups g → ¬ (IsDataOf g c))
 
 abbrev pub bits_of : Image → Rindex → ℕ → ℕ
 bits_of im g b = state_at (bitmap_of (group_blocks im.at g)) (b - g.data0)
@@ -114,9 +119,9 @@ pub data Breaks (im : Image) : ℕ → ℕ → Type 0 where
   -- 2: a block has the number of a block that is outside the device, or outside every group's data blocks
   beyond_device : (b c : ℕ) (o : Owner) → Claims im b c o → im.count ≤ c → Breaks im 2 b
   beyond_groups : (b c : ℕ) (o : Owner) → Claims im b c o → IsOutside im c → Breaks im 2 b
-  -- 3: a block has two owners
-  two_owners : (b by by' : ℕ) (o p : Owner) → Claims im by b o → Claims im by' b p → o ≢ p → Breaks im 3 b
-  -- 4: a group's header differs from the list of groups, which is sound, as it is for the next two rules
+  -- 3: a block has two owners, which aren't two places of one chain of leaves: a chain that returns to itself breaks the fifteenth
+  two_owners : (b by by' : ℕ) (o p : Owner) → Claims im by b o → Claims im by' b p → o ≢ p → ¬ (AreOneChain o p) → Breaks im 3 b
+  -- 4: a group's header differs from the list of groups, which is whole, as it is for the next two rules
   other_data0 : (g : Rindex) → HasSoundGroup im g → (group_header (group_blocks im.at g)).data0 ≢ g.data0 → Breaks im 4 g.address
   other_data_blocks : (g : Rindex) → HasSoundGroup im g → (group_header (group_blocks im.at g)).data_blocks ≢ g.data_blocks → Breaks im 4 g.address
   other_bitbytes : (g : Rindex) → HasSoundGroup im g → (group_header (group_blocks im.at g)).bitbytes ≢ g.bitbytes → Breaks im 4 g.address
@@ -207,10 +212,10 @@ pub record IsBrokenBlock (im : Image) (rule b : ℕ) : Type 0 where
   pub there : (b < im.count) ⊎ ((rule ≡ 1) × (b ≡ superblock_place im.size))
 
 -- A block to which a look over the image comes: the superblock's, one that is claimed, one of the content of an inode that is
--- claimed, one of a group, and one above the superblock that no group has and none leaves behind it.
+-- claimed, one of a group of a whole list, and one above the superblock that no group of a sound list has and none leaves behind it.
 pub data IsReached (im : Image) : ℕ → Type 0 where
   the_superblock : IsReached im (superblock_place im.size)
   by_claim : (by b : ℕ) (o : Owner) → Claims im by b o → IsReached im b
   of_content : (a i : ℕ) → HasInode im a → IsReached im (content_block (every im a) i)
-  in_group : (g : Rindex) (b : ℕ) → HasGroup im g → (b ≡ g.address) ⊎ (IsHeaderOf g b ⊎ IsDataOf g b) → IsReached im b
+  in_group : (g : Rindex) (b : ℕ) → HasSoundGroup im g → (b ≡ g.address) ⊎ (IsHeaderOf g b ⊎ IsDataOf g b) → IsReached im b
   left_out : (b : ℕ) (groups : List Rindex) → IsSoundList im groups → superblock_place im.size < b → ((g : Rindex) → IsListed groups g → ¬ (IsNear g b)) → IsReached im b

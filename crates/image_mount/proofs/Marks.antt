@@ -14,7 +14,8 @@ use Rattle.image_model.specs.Groups.{IsDataOf}
 use Rattle.shared_disk.specs.Disk.{DiskState}
 use Rattle.image_model.specs.Image.{Image}
 use Rattle.image_model.specs.Owners.{Below, Named}
-use Rattle.image_model.specs.Rules.{Breaks, no_superblock, beyond_device, beyond_groups, two_owners, IsOutside, IsSoundList}
+use Rattle.image_model.specs.Rules.{Breaks, no_superblock, beyond_device, beyond_groups, two_owners, IsOutside, IsWholeList}
+use Rattle.image_model.proofs.OneChain.{below_no_chain}
 use Rattle.image_model.specs.Journals.{journal_name}
 use Rattle.image_model.specs.SystemFiles.{IsSystemBlock, of_content, of_superblock}
 use Rattle.image_mount.specs.Found.{HasFormat, IsReached}
@@ -56,7 +57,7 @@ place_wanted im f block from done d n is inside wanted place = elim wanted [
   | inl super ↦ absurd (place.apart super.0)
   | inr by ↦
       told im f block 3 is by.0 (record { inside = inside; system = by.1.4; format = inr by.0 }) (two_owners block from place.by by.1.0 (Below place.inode place.by place.pointer 0 place.index) by.1.1 place.claimed
-      (λ e. place.plain (by.1.2 place.inode place.by place.pointer place.index e)))
+      (λ e. place.plain (by.1.2 place.inode place.by place.pointer place.index e)) (below_no_chain by.1.0 place.inode place.by place.pointer 0 place.index))
 ]
 
 -- ---- one more block is kept, or is a place
@@ -197,7 +198,7 @@ module _ (im : Image) (done : List ℕ) (system : System) (journal : Link) (next
       (λ e. let same = one_place old.inode old.by old.pointer old.index journal.entry.addr located.from at.leads.0 place e in elim old.of [
         | inl before ↦ next.new (subst (Contains done) same.0 before)
         | inr here ↦ absurd (omega (arith, same.1, here.1))
-      ]))
+      ]) (λ one. one))
 
   pub place_kept : (f : MountFault) (place : ℕ) (located : Located) (by : ℕ) → f ≡ fault.Damaged located.block 3 → located.block < im.count → IsPlaceAt im journal.entry.addr place located → IsWanted im located.block by
       → located.block ≢ superblock_place im.size → RefusesRightly im f
@@ -206,7 +207,7 @@ module _ (im : Image) (done : List ℕ) (system : System) (journal : Link) (next
     | inr from ↦
         told im f located.block 3 is format (record { inside = inside; system = from.1.4; format = inr format })
         (two_owners located.block by located.from from.1.0 (Below journal.entry.addr located.from at.leads.0 0 place) from.1.1 (place_claim place located at)
-        (λ e. next.plain (from.1.2 journal.entry.addr located.from at.leads.0 place e)))
+        (λ e. next.plain (from.1.2 journal.entry.addr located.from at.leads.0 place e)) (below_no_chain from.1.0 journal.entry.addr located.from at.leads.0 0 place))
   ]
 
   pub place_system : (place : ℕ) (located : Located) → IsPlaceAt im journal.entry.addr place located → place < content_count (every im journal.entry.addr) → IsSystemBlock im located.block
@@ -243,15 +244,18 @@ in_groups groups same b is inside =
 pub outside_groups : (im : Image) (system : System) (b : ℕ) (groups : List Rindex) → IsSystemOf im system → groups ≡ system.groups.items → All (λ g. ¬ (IsDataOf g b)) groups → IsOutside im b
 outside_groups im system b groups looked same none = (
   groups,
-  subst (IsSoundList im) (sym same) (record {
-    inode = system.rindex;
-    rindex = looked.names.groups.list.master.rindex;
-    only = looked.one_rindex;
-    header = looked.rindex_looked.dinode.header;
-    whole = looked.names.groups.list.whole;
-    listed = looked.names.groups.list.listed;
-    fit = looked.names.groups.fit.each;
-    rise = looked.names.groups.fit.rise;
+  subst (IsWholeList im) (sym same) (record {
+    sound = record {
+      inode = system.rindex;
+      rindex = looked.names.groups.list.master.rindex;
+      only = looked.one_rindex;
+      header = looked.rindex_looked.dinode.header;
+      whole = looked.names.groups.list.whole;
+      listed = looked.names.groups.list.listed;
+      fit = looked.names.groups.fit.each;
+      rise = looked.names.groups.fit.rise;
+    };
+    rest = looked.names.groups.fit.rest;
   }),
   λ g at inside.
       let low = slice_get_within groups at.0 g at.1 in

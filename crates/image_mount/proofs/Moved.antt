@@ -99,7 +99,7 @@ twice_master im system j entry f looked at same is =
     let there : entry.entry.addr ≡ master_of im = same ∙ ap (λ (s : SuperBlock). s.master.address) looked.superblock in
     let claim = subst (λ b. Claims im (superblock_place im.size) b Master) (sym there) master in
     told im f entry.entry.addr 3 is looked.names.groups.list.master.format (subst (IsReached im) (sym same) looked.master_reached)
-    (two_owners entry.entry.addr entry.from (superblock_place im.size) (Named system.jindex (journal_name j)) Master (looked.journals.each j entry at).claimed claim (λ e. no_name e))
+    (two_owners entry.entry.addr entry.from (superblock_place im.size) (Named system.jindex (journal_name j)) Master (looked.journals.each j entry at).claimed claim (λ e. no_name e) (λ one. one))
   where
     no_name : Named system.jindex (journal_name j) ≡ Master → ⊥
     no_name e = cc
@@ -111,7 +111,7 @@ twice_list im system j entry f looked at same is =
     let claim = subst (λ b. Claims im list.0 b (Named (master_of im) (codes "rindex"))) (sym same) list.1 in
     told im f entry.entry.addr 3 is looked.names.groups.list.master.format (subst (IsReached im) (sym same) looked.rindex_reached)
     (two_owners entry.entry.addr entry.from list.0 (Named system.jindex (journal_name j)) (Named (master_of im) (codes "rindex")) (looked.journals.each j entry at).claimed claim
-    (λ e. absurd (omega (arith, ap (λ name. get_or name 0 0) (same_name system.jindex (master_of im) (journal_name j) (codes "rindex") e)))))
+    (λ e. absurd (omega (arith, ap (λ name. get_or name 0 0) (same_name system.jindex (master_of im) (journal_name j) (codes "rindex") e)))) (λ one. one))
 
 pub twice_jindex : (im : Image) (system : System) (j : ℕ) (entry : Link) (f : MountFault) → IsSystemOf im system → slice_get system.journals.items j ≡ Some entry → entry.entry.addr ≡ system.jindex
     → f ≡ fault.Damaged entry.entry.addr 3 → RefusesRightly im f
@@ -120,7 +120,7 @@ twice_jindex im system j entry f looked at same is =
     let claim = subst (λ b. Claims im file.0 b (Named (master_of im) (codes "jindex"))) (sym same) file.1 in
     told im f entry.entry.addr 3 is looked.names.groups.list.master.format (subst (IsReached im) (sym same) looked.jindex_reached)
     (two_owners entry.entry.addr entry.from file.0 (Named system.jindex (journal_name j)) (Named (master_of im) (codes "jindex")) (looked.journals.each j entry at).claimed claim
-    (λ e. absurd (omega (arith, ap (λ name. get_or name 1 0) (same_name system.jindex (master_of im) (journal_name j) (codes "jindex") e)))))
+    (λ e. absurd (omega (arith, ap (λ name. get_or name 1 0) (same_name system.jindex (master_of im) (journal_name j) (codes "jindex") e)))) (λ one. one))
 
 got_taken : {X : Type 0} (xs : List X) (n i : ℕ) (x : X) → slice_get (take n xs) i ≡ Some x → (i < n) × (slice_get xs i ≡ Some x)
 got_taken [] zero i x at = cc
@@ -141,7 +141,7 @@ twice_journal im system j entry rings f looked at are there is =
     let low = within system.journals.items j entry at in
     told im f entry.entry.addr 3 is looked.names.groups.list.master.format dinode_inside
     (two_owners entry.entry.addr entry.from other.0.from (Named system.jindex (journal_name j)) (Named system.jindex (journal_name i)) (looked.journals.each j entry at).claimed claim
-    (λ e. absurd (omega (arith, early.0, one_number j i (omega (arith, few, low)) (omega (arith, few, low, early.0)) (same_name system.jindex system.jindex (journal_name j) (journal_name i) e)))))
+    (λ e. absurd (omega (arith, early.0, one_number j i (omega (arith, few, low)) (omega (arith, few, low, early.0)) (same_name system.jindex system.jindex (journal_name j) (journal_name i) e)))) (λ one. one))
   where
     dinode_inside : IsReached im entry.entry.addr
     dinode_inside = ring_inside (from_mapped (λ (r : Ring). r.dinode) rings there.0 entry.entry.addr (contains_at _ entry.entry.addr there))

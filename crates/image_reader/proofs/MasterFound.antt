@@ -11,7 +11,7 @@ use Rattle.image_reader.specs.Going.{FindsOnlyOf}
 use Rattle.image_model.specs.Groups.{IsListed}
 use Rattle.image_model.specs.Owners.{Named}
 use Rattle.image_reader.specs.Reading.{image_at, IsDinodeBlock}
-use Rattle.image_model.specs.Rules.{Breaks, HasSoundGroup, IsSoundList, no_rindex}
+use Rattle.image_model.specs.Rules.{Breaks, HasSoundGroup, IsWholeList, no_rindex}
 use Rattle.image_reader.specs.System.{IsNamedAmong, HasNoneNamed}
 use Rattle.image_reader.specs.Untouched.{AreNamedApart}
 use Rattle.image_reader.specs.declared.blocks.Blocks.{Blocks}
@@ -67,8 +67,8 @@ rindex_dinode image rindex same is =
 
 -- ---- the groups that it lists
 
--- each is a group of a sound list
-pub are_groups : (im : Image) (groups : List Rindex) → IsSoundList im groups → All (HasSoundGroup im) groups
+-- each is a group of a whole list
+pub are_groups : (im : Image) (groups : List Rindex) → IsWholeList im groups → All (HasSoundGroup im) groups
 are_groups im groups list k e low = (groups, list, (k, slice_get-get_or groups k e low))
 
 pub is_contained : (groups : List Rindex) (g : Rindex) → IsListed groups g → Contains groups g

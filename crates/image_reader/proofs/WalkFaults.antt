@@ -10,10 +10,10 @@ use Rattle.gfs2_layout.specs.Inode.{entry}
 use Rattle.image_model.specs.Claims.{every, Claims, HasLeaf}
 use Rattle.image_model.specs.Groups.{IsDataOf}
 use Rattle.image_model.specs.Image.{Image}
-use Rattle.image_model.specs.Owners.{Owner, Root, Master, Chained}
-use Rattle.image_reader.specs.Owning.{owner_of, pointer_for, AreClaims, AreOneChain, IsClash, IsEmpty, IsPlaced}
+use Rattle.image_model.specs.Owners.{Owner, Root, Master, Chained, AreOneChain}
+use Rattle.image_reader.specs.Owning.{owner_of, pointer_for, AreClaims, IsClash, IsEmpty, IsPlaced}
 use Rattle.image_reader.specs.Reading.{image_at, IsTrueOf}
-use Rattle.image_model.specs.Rules.{Breaks, IsOutside, beyond_device, beyond_groups, two_owners, comes_again, IsSoundList}
+use Rattle.image_model.specs.Rules.{Breaks, IsOutside, beyond_device, beyond_groups, two_owners, comes_again, IsWholeList}
 use Rattle.image_reader.specs.Walking.{IsSound, IsOutsideKnown}
 use Rattle.image_reader.specs.declared.image.ImageFault.{ImageFault}
 use Rattle.image_reader.specs.declared.image.ImageFault.TheVariants.{Damaged}
@@ -30,7 +30,7 @@ beyond walk fault by number o is inside claimed past =
     let counted = walk.image.counted in
     told_at walk.image fault _ _ is inside (beyond_device by number o claimed (omega (arith, counted, past)))
 
-outside_of : (im : Image) (groups : Option (Bor (List Rindex))) (number : ℕ) → MatchOption groups (Unit {0}) (λ known. IsSoundList im known.now)
+outside_of : (im : Image) (groups : Option (Bor (List Rindex))) (number : ℕ) → MatchOption groups (Unit {0}) (λ known. IsWholeList im known.now)
     → MatchOption groups ⊥ (λ known. All (λ g. ¬ (IsDataOf g number)) known.now) → IsOutside im number
 outside_of im None number all outside = absurd outside
 outside_of im (Some known) number all outside = (known.now, all, λ g at inside. All-contains (λ g. ¬ (IsDataOf g number)) known.now g outside (is_contained known.now g at) inside)
@@ -69,7 +69,7 @@ pub clash : (im : Image) (entries : List (Option Claim)) (x by : ℕ) (claim : C
 clash im entries x by claim fault inside claims claimed placed c =
     let old = claims x c.old c.there in
     elim c.told [
-      | inl three ↦ told im fault x 3 three inside (two_owners x old.0 by (owner_of c.old) (owner_of claim) old.1 claimed c.other)
+      | inl three ↦ told im fault x 3 three.0 inside (two_owners x old.0 by (owner_of c.old) (owner_of claim) old.1 claimed c.other three.1)
       | inr fifteen ↦ told im fault x 15 fifteen.0 inside (chain_breaks im x old.0 (owner_of c.old) (owner_of claim) old.1 old.2 placed c.other fifteen.1)
     ]
 

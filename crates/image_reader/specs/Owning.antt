@@ -3,7 +3,7 @@ use Rattle.std.specs.Prelude.{ℕ, ◌≡◌, ◌≢◌, ◌⊎◌, ◌-◌, ◌
 use Rattle.gfs2_layout.specs.Inode.{depth_in, entry}
 use Rattle.image_model.specs.Claims.{every, Claims, IsLeafBehind}
 use Rattle.image_model.specs.Image.{Image}
-use Rattle.image_model.specs.Owners.{Owner, Root, Master, Named, Below, Chained}
+use Rattle.image_model.specs.Owners.{Owner, Root, Master, Named, Below, Chained, AreOneChain}
 use Rattle.image_reader.specs.declared.image.ImageFault.{ImageFault}
 use Rattle.image_reader.specs.declared.image.ImageFault.TheVariants.{Damaged}
 use Rattle.image_reader.specs.declared.owners.Claim.{Claim}
@@ -30,17 +30,12 @@ IsPlaced im x _ = Unit {0}
 abbrev pub AreClaims : Image → List (Option Claim) → Type 0
 AreClaims im entries = (b : ℕ) (claim : Claim) → slice_get entries b ≡ Some (Some claim) → (from : ℕ) × Claims im from b (owner_of claim) × IsPlaced im b (owner_of claim)
 
--- both are of one chain, at two places
-abbrev pub AreOneChain : Owner → Owner → Type 0
-AreOneChain (Chained a hash place) (Chained b other later) = (a ≡ b) × (hash ≡ other)
-AreOneChain _ _ = ⊥
-
--- a block that is claimed otherwise already
+-- a block that is claimed otherwise already: what is told is a chain that returns to itself, or else two owners
 pub record IsClash (entries : List (Option Claim)) (block : ℕ) (claim : Claim) (fault : ImageFault) : Type 0 where
   pub old : Claim
   pub there : slice_get entries block ≡ Some (Some old)
   pub other : owner_of old ≢ owner_of claim
-  pub told : (fault ≡ Damaged block 3) ⊎ ((fault ≡ Damaged block 15) × AreOneChain (owner_of old) (owner_of claim))
+  pub told : ((fault ≡ Damaged block 3) × ¬ (AreOneChain (owner_of old) (owner_of claim))) ⊎ ((fault ≡ Damaged block 15) × AreOneChain (owner_of old) (owner_of claim))
 
 -- the block is entered with this owner already
 pub record IsKnown (entries : List (Option Claim)) (block : ℕ) (claim : Claim) : Type 0 where

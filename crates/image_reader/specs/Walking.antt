@@ -1,5 +1,5 @@
 -- What a walk over an image holds.
-use Rattle.image_model.specs.Rules.{IsSoundList}
+use Rattle.image_model.specs.Rules.{IsWholeList}
 use Rattle.std.proofs.Common.{Bor}
 use Rattle.std.specs.Prelude.{ℕ, suc, ◌≡◌, ◌⊎◌, List, Option, MatchOption}
 use Rattle.std.specs.List.{All}
@@ -17,9 +17,9 @@ use Rattle.image_reader.specs.declared.inode.Inode.{Inode}
 use Rattle.image_reader.specs.declared.walk.Pointers.{Pointers}
 use Rattle.image_reader.specs.declared.walk.Walk.{Walk}
 
--- where groups are known, they are those of the list, which is a sound one
+-- where groups are known, they are those of the list, which is a whole one
 abbrev pub KnowsAll : Blocks → Option (Bor (List Rindex)) → Type 0
-KnowsAll image groups = MatchOption groups (Unit {0}) (λ known. IsSoundList (image_at image) known.now)
+KnowsAll image groups = MatchOption groups (Unit {0}) (λ known. IsWholeList (image_at image) known.now)
 
 -- what a walk holds was found in the image, and where it knows groups, it knows all
 pub record IsSound (walk : Walk) : Type 0 where

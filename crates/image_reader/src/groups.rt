@@ -1,4 +1,4 @@
-ghost use Rattle.image_model.specs.Rules.{HasSoundGroup, IsSoundList};
+ghost use Rattle.image_model.specs.Rules.{HasSoundGroup, IsSoundList, IsWholeList};
 ghost use Rattle.std.specs.Prelude.{◌≡◌, ◌+◌, ◌-◌, ◌*◌, ◌/◌, ◌^◌, ◌<◌, ◌≤◌, ◌↔◌, ◌++◌, ◌∷◌, List, min, drop, false, length, vec_len, IsTrue, IfOk, IfErr, OnOk};
 ghost use Rattle.std.specs.List.{All};
 ghost use Rattle.image_reader.specs.Bitmaps.{header_of, bits_in, AreAllClaims, Repeats};
@@ -116,10 +116,11 @@ pub(crate) fn list_groups(
     Ok(groups)
 }
 
-/// That each block above the superblock is near a group: at most three behind each belong to nobody.
+/// That each block above the superblock is near a group, so that the list is whole: at most three behind each belong to nobody.
 pub(crate) fn check_cover(image: &Blocks<'_>, groups: &[Rindex]) -> Result<(), ImageFault>
     requires rise { RiseFrom (image_at image.now) 0 groups.now }
     requires list { IsSoundList (image_at image.now) groups.now }
+    ensures whole { OnOk result (IsWholeList (image_at image.now) groups.now) }
     ensures damaged { IfErr result (IsTrueOf (image_at image.now)) }
 {
     let mut bare = image.superblock_place() + 1;

@@ -1,6 +1,7 @@
 ghost use Rattle.std.specs.Prelude.{◌≡◌, ◌⊎◌, ◌↔◌, ◌+◌, ◌<◌, ◌≤◌, length, Some, slice_set, IsTrue, IfErr, IfOk, OnErr, OnOk, if◌then◌else◌, count_by, is_none, vec_len};
 ghost use Rattle.image_reader.specs.Bitmaps.{state_by};
-ghost use Rattle.image_reader.specs.Owning.{owner_of, AreOneChain, IsClash, IsEmpty, IsEntered};
+ghost use Rattle.image_model.specs.Owners.{AreOneChain};
+ghost use Rattle.image_reader.specs.Owning.{owner_of, IsClash, IsEmpty, IsEntered};
 
 use crate::image::{ImageFault, damaged};
 use std::alloc::Global;
@@ -80,7 +81,7 @@ fn is_same(a: &Claim<'_>, b: &Claim<'_>) -> bool
 
 // The rule that a block with these two claims breaks: a chain that returns to itself, or two owners.
 fn rule_of(old: &Claim<'_>, new: &Claim<'_>) -> u16
-    ensures { (result ≡ 3) ⊎ ((result ≡ 15) × AreOneChain (owner_of old.now) (owner_of new.now)) }
+    ensures { ((result ≡ 3) × ¬ (AreOneChain (owner_of old.now) (owner_of new.now))) ⊎ ((result ≡ 15) × AreOneChain (owner_of old.now) (owner_of new.now)) }
 {
     match (*old, *new) {
         (

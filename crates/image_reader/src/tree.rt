@@ -1,4 +1,4 @@
-ghost use Rattle.image_model.specs.Rules.{IsSoundList};
+ghost use Rattle.image_model.specs.Rules.{IsWholeList};
 ghost use Rattle.std.specs.Prelude.{ℕ, ◌≡◌, ◌+◌, ◌*◌, ◌%◌, ◌<◌, ◌≤◌, length, vec_len, true, Contains, OnOk, IfOk, IfErr};
 ghost use Rattle.std.specs.List.{All};
 ghost use Rattle.gfs2_layout.specs.declared.rindex.Rindex.{Rindex as IndexEntry};
@@ -88,7 +88,7 @@ fn find_groups(alloc: Global, image: Blocks<'_>, master: u64) -> Result<Vec<Rind
     requires there { superblock_place image.size < image.count }
     requires master { master ≡ master_of (image_at image) }
     ensures fit { IfOk result (λ groups. All (GroupFits (image_at image.entry)) groups.items) }
-    ensures list { IfOk result (λ groups. IsSoundList (image_at image.entry) groups.items) }
+    ensures list { IfOk result (λ groups. IsWholeList (image_at image.entry) groups.items) }
     ensures damaged { IfErr result (IsTrueOf (image_at image.entry)) }
 {
     let mut walk = Walk::new(alloc, image, None)?;
@@ -144,7 +144,7 @@ fn read_from<'a>(
     requires there { superblock_place image.size < image.count }
     requires superblock { superblock.now ≡ superblock_in (image_at image) }
     requires fit { All (GroupFits (image_at image)) groups.now }
-    requires list { IsSoundList (image_at image) groups.now }
+    requires list { IsWholeList (image_at image) groups.now }
     ensures right { IfOk result (λ tree. (t : Tree) → Stands (image_at image.entry) t → tree ≡ t) }
     ensures damaged { IfErr result (IsTrueOf (image_at image.entry)) }
 {

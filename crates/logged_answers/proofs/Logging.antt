@@ -12,8 +12,8 @@ use Rattle.image_model.specs.Profile.{group_length}
 use Rattle.log_values.specs.Changes.{Suffices, with_change}
 use Rattle.log_values.specs.Laws.{IsAtRest, LiveFits, SmallChangesFit}
 use Rattle.log_values.specs.Log.{Entry}
-use Rattle.lone_answers.specs.Answers.{IsDoneBy}
-use Rattle.lone_logs.specs.States.{trees_on}
+use Rattle.logged_steps.specs.Answers.{IsDoneBy}
+use Rattle.logged_steps.specs.States.{trees_on}
 use Rattle.lone_machine.specs.Alone.{Begun}
 use Rattle.lone_view.specs.Seeing.{seen_alone}
 use Rattle.script_lang.specs.declared.script.Client.{Client}

@@ -20,11 +20,11 @@ use Rattle.image_machine.proofs.Fitting.{as_told, fitted_whole, inside}
 use Rattle.image_model.specs.Image.{Image}
 use Rattle.image_model.proofs.Held.{none_some}
 use Rattle.journal_outcomes.specs.Disks.{flown_by}
-use Rattle.lone_answers.specs.Reading.{WorksOn}
+use Rattle.logged_steps.specs.Reading.{WorksOn}
 use Rattle.lone_images.specs.Lone.{all_locks}
-use Rattle.lone_logs.specs.Laws.{IsItsView}
-use Rattle.lone_logs.specs.States.{IsLoggedNode, NodeState, trees_on}
-use Rattle.lone_logs.proofs.Reading.{cache_agrees, no_bytes, place_unlocked, view_cached}
+use Rattle.logged_steps.specs.LoggedLaws.{IsItsView}
+use Rattle.logged_steps.specs.States.{IsLoggedNode, NodeState, trees_on}
+use Rattle.logged_steps.proofs.Reading.{cache_agrees, no_bytes, place_unlocked, view_cached}
 use Rattle.lone_machine.specs.Alone.{Begun, now}
 use Rattle.lone_machine.proofs.Going.{reads_alone, sound}
 use Rattle.lone_view.specs.Seeing.{seen_alone}

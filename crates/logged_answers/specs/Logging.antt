@@ -10,8 +10,8 @@ use Rattle.log_values.specs.Changes.{Suffices, with_change}
 use Rattle.log_values.specs.Flushing.{NothingIsLive}
 use Rattle.log_values.specs.Laws.{IsAtRest}
 use Rattle.log_values.specs.Log.{LogValue}
-use Rattle.lone_answers.specs.Answers.{IsDoneBy}
-use Rattle.lone_logs.specs.States.{trees_on}
+use Rattle.logged_steps.specs.Answers.{IsDoneBy}
+use Rattle.logged_steps.specs.States.{trees_on}
 use Rattle.lone_machine.specs.Alone.{Begun}
 use Rattle.script_lang.specs.declared.script.Client.{Client}
 use Rattle.logged_steps.specs.Laws.{IsLoggedAt}

@@ -6,8 +6,8 @@ use Rattle.image_model.specs.Image.{Image}
 use Rattle.image_model.specs.Owners.{Owners}
 use Rattle.image_model.specs.Stands.{Layout}
 use Rattle.image_machine.specs.Volumes.{Volume}
-use Rattle.lone_answers.specs.Reading.{WorksOn}
-use Rattle.lone_logs.specs.States.{trees_on}
+use Rattle.logged_steps.specs.Reading.{WorksOn}
+use Rattle.logged_steps.specs.States.{trees_on}
 use Rattle.lone_machine.specs.Alone.{Begun}
 use Rattle.run_rules.specs.Follows.{history_of}
 use Rattle.script_lang.specs.declared.script.Client.{Client}

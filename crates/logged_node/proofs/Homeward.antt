@@ -20,7 +20,7 @@ use Rattle.log_values.proofs.Going.{settling_sound}
 use Rattle.log_values.proofs.Homing.{homing_sound}
 use Rattle.log_widths.specs.Widths.{HasLogWidths}
 use Rattle.log_widths.proofs.Staying.{homing_keeps_widths, settling_keeps_widths}
-use Rattle.lone_logs.specs.States.{flies_home}
+use Rattle.logged_steps.specs.States.{flies_home}
 use Rattle.logged_steps.specs.Fails.{AsItWas, InAWrite}
 use Rattle.logged_steps.specs.Points.{Point}
 use Rattle.logged_steps.specs.Steps.{GainsBarrier, GainsWrite, GoesHome, Here, Rests, Steps, Then, with_barrier, with_write}

@@ -10,7 +10,7 @@ use Rattle.log_memory.specs.Ending.{last_header}
 use Rattle.log_values.specs.Flushing.{block_at, first_place}
 use Rattle.log_values.specs.Log.{LogValue}
 use Rattle.journal_replays.specs.Headers.{filled}
-use Rattle.lone_ends.specs.Ends.{CleanBlocksAreLast, IsDone, IsLastHeader}
+use Rattle.logged_steps.specs.NodeEnds.{CleanBlocksAreLast, IsDone, IsLastHeader}
 use Rattle.node_journal.specs.Encoding.{zeros}
 use Rattle.peer_replay.specs.Plans.{clean_after}
 use Rattle.shared_disk.specs.Disk.{DiskState, Flight, Gains, Operation, Write, after_barrier, after_write, flight_to}

@@ -10,7 +10,7 @@ use Rattle.log_values.specs.Flushing.{AllAreHome}
 use Rattle.log_values.specs.Homing.{HomeAnswer, Settles}
 use Rattle.log_values.specs.Log.{Entry, LogValue}
 use Rattle.log_values.specs.declared.steps.LogStep.TheVariants as step
-use Rattle.lone_logs.specs.States.{flies_home}
+use Rattle.logged_steps.specs.States.{flies_home}
 use Rattle.shared_disk.specs.Disk.{DiskState, Operation, flight_to}
 use Rattle.trace_text.specs.declared.item.TraceItem.{TraceItem}
 use Rattle.trace_text.specs.declared.item.TraceItem.TheVariants as trace

@@ -4,7 +4,7 @@ use Rattle.log_layout.specs.Headers.{log_put}
 use Rattle.log_layout.specs.Transactions.{after}
 use Rattle.log_memory.specs.Ending.{last_header}
 use Rattle.log_values.specs.Flushing.{AllAreHome, IsDue}
-use Rattle.lone_ends.specs.Ends.{IsDone, IsLastHeader}
+use Rattle.logged_steps.specs.NodeEnds.{IsDone, IsLastHeader}
 use Rattle.node_journal.specs.Encoding.{zeros}
 use Rattle.shared_disk.specs.Disk.{Barrier, DiskState, Gains, Operation, Write, after_barrier}
 use Rattle.trace_text.specs.declared.item.TraceItem.{TraceItem}

@@ -11,7 +11,7 @@ use Rattle.log_values.specs.Sound.{IsSoundLog}
 use Rattle.log_values.specs.Transactions.{due}
 use Rattle.log_widths.specs.Widths.{HasLogWidths}
 use Rattle.node_journal.specs.Encoding.{size_of}
-use Rattle.lone_logs.specs.States.{Numbers}
+use Rattle.logged_steps.specs.States.{Numbers}
 use Rattle.run_rules.specs.Follows.{is_write_of}
 use Rattle.shared_disk.specs.Disk.{DiskState, Operation, after_write}
 use Rattle.trace_text.specs.declared.item.TraceItem.{TraceItem}

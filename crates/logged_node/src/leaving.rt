@@ -5,7 +5,7 @@ ghost use Rattle.log_layout.specs.Transactions.{after};
 ghost use Rattle.log_memory.specs.Ending.{last_header};
 ghost use Rattle.log_values.specs.Flushing.{block_at, first_place};
 ghost use Rattle.logged_steps.specs.Points.{state_of};
-ghost use Rattle.lone_ends.specs.Ends.{IsDone, IsLastHeader};
+ghost use Rattle.logged_steps.specs.NodeEnds.{IsDone, IsLastHeader};
 ghost use Rattle.node_journal.specs.Encoding.{zeros};
 ghost use Rattle.logged_node.specs.Ends.{HasCause};
 ghost use Rattle.logged_node.specs.Leaving.{HasLastHeader, HasUnmounted, IsReady, LeavesBySteps, StopsAtHeader, StopsLeaving};
@@ -18,7 +18,7 @@ use crate::node::Node;
 use crate::rooms::bring_in;
 use disk_items::put_in_room;
 use log_memory::{LastWrite, put_last_header};
-use lone_ends::clean_blocks_are_last;
+use logged_steps::clean_blocks_are_last;
 use shared_disk::SharedDisk;
 use trace_text::TraceItem;
 

@@ -7,8 +7,8 @@ use Rattle.file_tree.specs.declared.call.Call.{Call}
 use Rattle.file_tree.specs.declared.call.Call.TheVariants as calls
 use Rattle.file_tree.specs.declared.reply.Reply.{Reply}
 use Rattle.file_tree.specs.declared.reply.Reply.TheVariants as replies
-use Rattle.lone_logs.specs.Laws.{ItsHistoryIsLegal}
-use Rattle.lone_logs.specs.States.{Numbers}
+use Rattle.logged_steps.specs.LoggedLaws.{ItsHistoryIsLegal}
+use Rattle.logged_steps.specs.States.{Numbers}
 use Rattle.run_rules.specs.Follows.{history_of}
 use Rattle.script_lang.specs.declared.script.Client.{Client}
 use Rattle.trace_text.specs.declared.item.TraceItem.{TraceItem}

@@ -14,12 +14,12 @@ use Rattle.journal_outcomes.specs.Images.{IsImageOutcome, NoFalseHeader}
 use Rattle.journal_outcomes.specs.Rings.{InFlight}
 use Rattle.log_layout.specs.Transactions.{after}
 use Rattle.log_values.specs.Flushing.{block_at, first_place}
-use Rattle.lone_ends.specs.Ends.{CleanNodesHaveEnded, FliesLast, IsHeadAtEnd, ItsEndsLand, ItsEndsStand}
-use Rattle.lone_ends.specs.Ends.{IsHeadAtEnd as end_head}
-use Rattle.lone_ends.specs.Fences.{ImagesAtRestStay}
-use Rattle.lone_logs.specs.Laws.{ItsHistoryIsLegal, Remains}
-use Rattle.lone_logs.specs.States.{HasLandedAs, NodeState, Numbers, trees_on}
-use Rattle.lone_logs.proofs.Landed.{landed_outcome, landed_true}
+use Rattle.logged_steps.specs.NodeEnds.{CleanNodesHaveEnded, FliesLast, IsHeadAtEnd, ItsEndsLand, ItsEndsStand}
+use Rattle.logged_steps.specs.NodeEnds.{IsHeadAtEnd as end_head}
+use Rattle.logged_steps.specs.Fences.{ImagesAtRestStay}
+use Rattle.logged_steps.specs.LoggedLaws.{ItsHistoryIsLegal, Remains}
+use Rattle.logged_steps.specs.States.{HasLandedAs, NodeState, Numbers, trees_on}
+use Rattle.logged_steps.proofs.Landed.{landed_outcome, landed_true}
 use Rattle.lone_machine.specs.Alone.{Begun}
 use Rattle.run_rules.specs.Follows as run
 use Rattle.run_rules.specs.Lives.{AcceptedHead, DiskHeads, head_of, items_of, named, recovered_behind, to_its_end, upto_of}

@@ -13,7 +13,7 @@ use Rattle.file_tree.specs.declared.call.Call.{Call}
 use Rattle.file_tree.specs.declared.call.Call.TheVariants as calls
 use Rattle.file_tree.specs.declared.reply.Reply.{Reply}
 use Rattle.file_tree.specs.declared.reply.Reply.TheVariants as replies
-use Rattle.image_disks.specs.Lone.{remaining}
+use Rattle.logged_steps.specs.Lone.{remaining}
 use Rattle.image_machine.specs.Volumes.{Volume, images_of}
 use Rattle.image_model.specs.Image.{Image, image_of}
 use Rattle.image_model.specs.Replays.{StandsReplayed}
@@ -22,8 +22,8 @@ use Rattle.journal_outcomes.specs.Disks.{FencesLeaveOutcomes, flown_by}
 use Rattle.journal_outcomes.specs.Images.{NoFalseHeader, ring_at}
 use Rattle.log_layout.specs.Journal.{IsClean}
 use Rattle.log_layout.specs.declared.log_header.LogHeader.{LogHeader}
-use Rattle.lone_logs.specs.Laws.{ItsHistoryIsLegal, Remains, RemainsWith}
-use Rattle.lone_logs.specs.States.{IsLoggedNode, NodeState, trees_on}
+use Rattle.logged_steps.specs.LoggedLaws.{ItsHistoryIsLegal, Remains, RemainsWith}
+use Rattle.logged_steps.specs.States.{IsLoggedNode, NodeState, trees_on}
 use Rattle.lone_machine.specs.Alone.{Begun}
 use Rattle.right_losses.specs.Kept.{kept_by}
 use Rattle.right_losses.specs.Laws.{SyncsAreIn}

@@ -1,9 +1,9 @@
 -- What remains of a run of one node with its log, told by its items.
 use Rattle.std.proofs.Common.{◌≡◌, drop, length, take, inl, inr, sym, ap, subst, ◌∙◌}
 use Rattle.journal_outcomes.specs.Disks.{FencesLeaveOutcomes}
-use Rattle.lone_ends.specs.Ends.{ItsEndsStand}
-use Rattle.lone_ends.specs.Fences.{ImagesAtRestStay}
-use Rattle.lone_logs.specs.Laws.{ItsHistoryIsLegal, ItsOutcomesStand}
+use Rattle.logged_steps.specs.NodeEnds.{ItsEndsStand}
+use Rattle.logged_steps.specs.Fences.{ImagesAtRestStay}
+use Rattle.logged_steps.specs.LoggedLaws.{ItsHistoryIsLegal, ItsOutcomesStand}
 use Rattle.logged_steps.specs.Disks.{disk_after, first_told}
 use Rattle.logged_steps.specs.Fails.{AsItWas}
 use Rattle.logged_steps.specs.Laws.{FailedWritesKeep, FrontsArePassed, HeadsAreTold, StepsAreTold, StepsKeep}

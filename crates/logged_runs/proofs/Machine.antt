@@ -13,11 +13,11 @@ use Rattle.file_tree.specs.declared.reply.Reply.TheVariants as replies
 use Rattle.image_machine.specs.Volumes.{Volume, images_of}
 use Rattle.image_model.proofs.Held.{none_some, some_same}
 use Rattle.log_layout.specs.declared.log_header.LogHeader.{LogHeader}
-use Rattle.lone_ends.specs.Ends.{IsHeadAtEnd}
-use Rattle.lone_ends.specs.Ends.{IsHeadAtEnd as end}
-use Rattle.lone_logs.specs.Laws.{IsHeadLeft}
-use Rattle.lone_logs.specs.Laws.IsHeadLeft.{new, old}
-use Rattle.lone_logs.specs.States.{IsLoggedNode, NodeState, trees_on}
+use Rattle.logged_steps.specs.NodeEnds.{IsHeadAtEnd}
+use Rattle.logged_steps.specs.NodeEnds.{IsHeadAtEnd as end}
+use Rattle.logged_steps.specs.LoggedLaws.{IsHeadLeft}
+use Rattle.logged_steps.specs.LoggedLaws.IsHeadLeft.{new, old}
+use Rattle.logged_steps.specs.States.{IsLoggedNode, NodeState, trees_on}
 use Rattle.lone_machine.specs.Alone.{Begun}
 use Rattle.lone_machine.proofs.Going.{sound}
 use Rattle.tree_histories.specs.Trees.{Told, TreeHeadline, history_of}

@@ -13,7 +13,7 @@ use Rattle.image_replays.proofs.System.{its_journals, mounted_at}
 use Rattle.journal_outcomes.specs.Images.{ring_at}
 use Rattle.log_layout.specs.Journal.{IsClean}
 use Rattle.log_values.specs.Laws.{IsJournal}
-use Rattle.lone_logs.specs.States.{ArePlacesApart, IsJournalOf}
+use Rattle.logged_steps.specs.States.{ArePlacesApart, IsJournalOf}
 use Rattle.lone_view.specs.Seeing.{seen_alone}
 use Rattle.image_machine.specs.Cells.{IsOfVolume}
 use Rattle.logged_runs.specs.Mounted.{IsMountedClean, MountedIsAtRest}

@@ -16,9 +16,9 @@ use Rattle.log_values.specs.Log.{Flush, Journal, LogValue, Stage}
 use Rattle.log_values.specs.Log.Stage.{Ending, Headed, Writing}
 use Rattle.log_values.specs.Transactions.{flushed_as}
 use Rattle.log_values.specs.declared.steps.LogStep.TheVariants as step
-use Rattle.lone_logs.specs.Laws.{counted}
-use Rattle.lone_logs.specs.States.{Numbers}
-use Rattle.lone_logs.proofs.Stages.{writing_headed}
+use Rattle.logged_steps.specs.LoggedLaws.{counted}
+use Rattle.logged_steps.specs.States.{Numbers}
+use Rattle.logged_steps.proofs.Stages.{writing_headed}
 use Rattle.node_journal.specs.Encoding.{chunks}
 use Rattle.run_rules.specs.Lives.{Unnamed, last_number, unnamed}
 use Rattle.shared_disk.specs.Disk.{Operation}

@@ -11,10 +11,10 @@ use Rattle.log_rings.proofs.Whole.{fits_in}
 use Rattle.log_values.specs.Flushing.{block_at, flush_chunks, head_place}
 use Rattle.log_values.specs.Log.{Flush, LogValue}
 use Rattle.log_values.specs.Sound.{IsSoundLog}
-use Rattle.lone_logs.specs.Laws.{IsHeadLeft, ItsHistoryIsLegal, ItsOutcomesStand, Remains}
-use Rattle.lone_logs.specs.Laws.IsHeadLeft.{new, old}
-use Rattle.lone_logs.specs.States.{Numbers, trees_on}
-use Rattle.lone_logs.proofs.Stages.{no_flush}
+use Rattle.logged_steps.specs.LoggedLaws.{IsHeadLeft, ItsHistoryIsLegal, ItsOutcomesStand, Remains}
+use Rattle.logged_steps.specs.LoggedLaws.IsHeadLeft.{new, old}
+use Rattle.logged_steps.specs.States.{Numbers, trees_on}
+use Rattle.logged_steps.proofs.Stages.{no_flush}
 use Rattle.lone_machine.specs.Alone.{Begun}
 use Rattle.run_rules.specs.Follows as run
 use Rattle.run_rules.specs.Lives.{AcceptedHead, DiskHeads, head_of, items_of, or_else, own_from, recovered_behind, to_its_end, upto_of}

@@ -23,8 +23,8 @@ use Rattle.logged_steps.specs.Laws.{CameBy}
 use Rattle.logged_steps.specs.Points.{Point, state_of}
 use Rattle.logged_steps.specs.Starts.{IsAtRest, starting}
 use Rattle.logged_steps.specs.Steps.{Steps}
-use Rattle.lone_ends.specs.Ends.{IsDone}
-use Rattle.lone_logs.specs.States.{trees_on}
+use Rattle.logged_steps.specs.NodeEnds.{IsDone}
+use Rattle.logged_steps.specs.States.{trees_on}
 use Rattle.lone_machine.specs.Alone.{Begun}
 use Rattle.run_rules.specs.Follows.{history_of}
 use Rattle.right_losses.specs.Kept.{kept_by}

@@ -5,8 +5,8 @@ use Rattle.image_machine.specs.Volumes.{Volume}
 use Rattle.log_values.specs.Laws.{empty_log}
 use Rattle.logged_steps.specs.Laws.{IsLoggedAt}
 use Rattle.logged_steps.specs.Points.{Point}
-use Rattle.lone_logs.specs.Laws.{no_numbers}
-use Rattle.lone_logs.specs.States.{trees_on}
+use Rattle.logged_steps.specs.LoggedLaws.{no_numbers}
+use Rattle.logged_steps.specs.States.{trees_on}
 use Rattle.lone_machine.specs.Alone.{Begun}
 use Rattle.run_rules.specs.Lives.{Life}
 use Rattle.script_lang.specs.declared.script.Client.{Client}

@@ -8,9 +8,10 @@ ghost use Rattle.logged_runs.specs.Mounted.{MountedIsAtRest};
 use image_mount::{mounted_groups_are_as_seen, mounted_images_stand_as_mounted};
 use journal_outcomes::fences_leave_outcomes;
 pub use logged_steps::steps_are_told;
-use logged_steps::{failed_writes_keep, heads_are_told, runs_begin, steps_keep};
-use lone_ends::{fences_leave_what_remains, it_has_ended, what_remains_at_its_end};
-use lone_logs::what_remains_of_it;
+use logged_steps::{
+    failed_writes_keep, fences_leave_what_remains, heads_are_told, it_has_ended, runs_begin,
+    steps_keep, what_remains_at_its_end, what_remains_of_it,
+};
 
 /// A law: a mounted image that stands for a tree, each journal clean, is at rest on its disk, for a node that has what mounting told and the first journal.
 pub fn mounted_images_are_at_rest()

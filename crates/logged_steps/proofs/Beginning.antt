@@ -10,8 +10,8 @@ use Rattle.log_layout.specs.declared.log_header.LogHeader.{LogHeader}
 use Rattle.log_values.specs.Laws.{empty_log}
 use Rattle.log_values.specs.Log.{Journal}
 use Rattle.lone_images.specs.Lone.{begun_on}
-use Rattle.lone_logs.specs.Laws.{Begins, at_rest, no_numbers}
-use Rattle.lone_logs.specs.States.{IsLoggedNode, trees_on}
+use Rattle.lone_ends.specs.Laws.{Begins, at_rest, no_numbers}
+use Rattle.lone_ends.specs.States.{IsLoggedNode, trees_on}
 use Rattle.lone_machine.specs.Alone as alone
 use Rattle.lone_view.specs.Seeing.{Lone}
 use Rattle.shared_disk.specs.Disk.{DiskState, Operation, flight_to}

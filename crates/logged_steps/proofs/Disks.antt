@@ -5,7 +5,7 @@ use Rattle.std.specs.List.{AllByRecursion}
 use Rattle.std.proofs.lemmas.Bool.{cases_Bool, cond-true, cond-false, eq-eqb, ne_eqb}
 use Rattle.image_model.specs.Image.{image_of}
 use Rattle.journal_outcomes.specs.Disks.{flown_by}
-use Rattle.lone_logs.specs.States.{FliesBesides, HasLandedAs}
+use Rattle.lone_ends.specs.States.{FliesBesides, HasLandedAs}
 use Rattle.shared_disk.specs.Disk.{AreFlights, DiskState, Flight, IsSound, after_barrier, after_write, flight_to, settled, with_flight, with_value, written}
 use Rattle.shared_disk.proofs.NodeLaws.{flights_with}
 use Rattle.logged_steps.specs.Points.{MayWrite, Point}

@@ -20,8 +20,8 @@ use Rattle.log_values.specs.Log.Stage.{Ending, Headed, Writing}
 use Rattle.log_values.specs.Transactions.{live_among}
 use Rattle.log_values.specs.declared.steps.LogStep.TheVariants as step
 use Rattle.log_tables.specs.Versions.Way.{Flying}
-use Rattle.lone_logs.specs.States.{IsHeaded}
-use Rattle.lone_logs.proofs.Stages.{writing_headed}
+use Rattle.lone_ends.specs.States.{IsHeaded}
+use Rattle.lone_ends.proofs.Stages.{writing_headed}
 use Rattle.shared_disk.specs.Disk.{Operation}
 use Rattle.trace_text.specs.declared.item.TraceItem.{TraceItem}
 use Rattle.trace_text.specs.declared.item.TraceItem.TheVariants as trace

@@ -7,7 +7,7 @@ use Rattle.cluster_laws.specs.World.{World}
 use Rattle.file_tree.specs.declared.call.Call.{Call}
 use Rattle.file_tree.specs.declared.reply.Reply.{Reply}
 use Rattle.image_machine.specs.Volumes.{Volume, images_of}
-use Rattle.lone_logs.specs.States.{trees_on}
+use Rattle.lone_ends.specs.States.{trees_on}
 use Rattle.lone_machine.specs.Alone.{Begun, next_item}
 use Rattle.run_rules.specs.Follows as run
 use Rattle.script_lang.specs.declared.script.Client.{Client}

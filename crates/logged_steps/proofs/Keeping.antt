@@ -27,11 +27,11 @@ use Rattle.image_machine.specs.Cells.{IsOfVolume}
 use Rattle.image_machine.specs.Volumes.{Volume, images_of}
 use Rattle.image_model.specs.Image.{Image, image_of}
 use Rattle.journal_outcomes.specs.Disks.{flown_by}
-use Rattle.lone_answers.specs.Answers.{IsDoneBy}
-use Rattle.lone_answers.specs.Calls.{IsTooFew}
+use Rattle.call_blocks.specs.Answers.{IsDoneBy}
+use Rattle.call_blocks.specs.Calls.{IsTooFew}
 use Rattle.lone_images.specs.Lone.{version_with}
-use Rattle.lone_logs.specs.Laws.{BarriersSettle, BlocksAreWritten, BlocksGoHome, CallsAreLogged, FirstBarriersSettle, FlushesBegin, HeadersAreWritten, HeadersBegin, IsItsView, LastBarriersLand, QuietCallsAreLogged, ReadsAreLogged, SpacelessCallsAreLogged, StaysLogged, SyncsAreLogged}
-use Rattle.lone_logs.specs.States.{IsLoggedNode, NodeState, trees_on}
+use Rattle.lone_ends.specs.Laws.{BarriersSettle, BlocksAreWritten, BlocksGoHome, CallsAreLogged, FirstBarriersSettle, FlushesBegin, HeadersAreWritten, HeadersBegin, IsItsView, LastBarriersLand, QuietCallsAreLogged, ReadsAreLogged, SpacelessCallsAreLogged, StaysLogged, SyncsAreLogged}
+use Rattle.lone_ends.specs.States.{IsLoggedNode, NodeState, trees_on}
 use Rattle.lone_machine.specs.Alone.{Begun, next_item, now}
 use Rattle.call_blocks.specs.Lone.{IsItsAnswer, ItsBlocksMayChange, MayChangeBehindBarriers, MayChangeBehindCalls, MayChangeThere, MayChangeWithoutCalls}
 use Rattle.lone_view.specs.Seeing.{Lone, seen_alone}

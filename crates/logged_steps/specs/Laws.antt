@@ -13,7 +13,7 @@ use Rattle.image_model.specs.Stands.{Layout}
 use Rattle.log_layout.specs.declared.log_header.LogHeader.{LogHeader}
 use Rattle.log_values.specs.Log.{Journal}
 use Rattle.lone_images.specs.Lone.{begun_on}
-use Rattle.lone_logs.specs.States.{IsHeaded, IsLoggedNode, trees_on}
+use Rattle.lone_ends.specs.States.{IsHeaded, IsLoggedNode, trees_on}
 use Rattle.lone_machine.specs.Alone.{Begun}
 use Rattle.lone_view.specs.Seeing.{Lone, seen_alone}
 use Rattle.run_rules.specs.Follows as run

@@ -5,7 +5,7 @@ use Rattle.file_tree.specs.declared.reply.Reply.{Reply}
 use Rattle.image_model.specs.Image.{image_of}
 use Rattle.journal_outcomes.specs.Disks.{flown_by}
 use Rattle.log_values.specs.Log.{LogValue}
-use Rattle.lone_logs.specs.States.{NodeState, Numbers}
+use Rattle.lone_ends.specs.States.{NodeState, Numbers}
 use Rattle.lone_view.specs.Seeing.{Lone}
 use Rattle.shared_disk.specs.Disk.{DiskState, Operation, flight_to}
 use Rattle.trace_text.specs.declared.item.TraceItem.{TraceItem}

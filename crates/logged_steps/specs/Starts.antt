@@ -13,8 +13,8 @@ use Rattle.log_layout.specs.Journal.{IsClean, head_in}
 use Rattle.log_layout.specs.declared.log_header.LogHeader.{LogHeader}
 use Rattle.log_values.specs.Laws.{IsJournal, empty_log}
 use Rattle.log_values.specs.Log.{Journal}
-use Rattle.lone_logs.specs.Laws.{no_numbers}
-use Rattle.lone_logs.specs.States.{ArePlacesApart, IsJournalOf}
+use Rattle.lone_ends.specs.Laws.{no_numbers}
+use Rattle.lone_ends.specs.States.{ArePlacesApart, IsJournalOf}
 use Rattle.lone_view.specs.Seeing.{Lone, seen_alone}
 use Rattle.shared_disk.specs.Disk.{DiskState, IsSound, Operation}
 use Rattle.trace_text.specs.declared.item.TraceItem.{TraceItem}

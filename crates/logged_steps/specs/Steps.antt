@@ -17,10 +17,10 @@ use Rattle.log_values.specs.Log.{Flush, LogValue}
 use Rattle.log_values.specs.Log.Stage.{Headed, Writing}
 use Rattle.log_values.specs.Transactions.{due}
 use Rattle.log_values.specs.declared.steps.LogStep.TheVariants as step
-use Rattle.lone_answers.specs.Answers.{IsAsked, IsDoneBy, IsSpaceless}
+use Rattle.call_blocks.specs.Answers.{IsAsked, IsDoneBy, IsSpaceless}
 use Rattle.lone_images.specs.Lone.{version_with}
-use Rattle.lone_logs.specs.Laws.{counted}
-use Rattle.lone_logs.specs.States.{IsHeaded}
+use Rattle.lone_ends.specs.Laws.{counted}
+use Rattle.lone_ends.specs.States.{IsHeaded}
 use Rattle.shared_disk.specs.Disk.{Barrier, Gains, Operation, Write, after_barrier, after_write, read_gives}
 use Rattle.trace_text.specs.declared.item.TraceItem.{TraceItem}
 use Rattle.trace_text.specs.declared.item.TraceItem.TheVariants as trace

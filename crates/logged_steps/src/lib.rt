@@ -3,12 +3,16 @@
 
 ghost use Rattle.logged_steps.specs.Laws.{FailedWritesKeep, FrontsArePassed, HeadsAreTold, RunsBegin, StepsAreTold, StepsGoOn, StepsKeep};
 
+pub use call_blocks::what_remains_of_it;
 use call_blocks::{its_disk_may_change_alike, what_one_node_writes_a_replay_may_change};
 use disk_items::items_go_on;
-use lone_logs::{
+use lone_ends::{
     a_logged_node_begins, its_barriers_settle, its_blocks_are_written, its_calls_are_logged,
     its_flushes_begin, its_flushes_land, its_headers_are_written, its_live_blocks_go_home,
     its_reads_are_logged,
+};
+pub use lone_ends::{
+    clean_blocks_are_last, fences_leave_what_remains, it_has_ended, what_remains_at_its_end,
 };
 
 /// A law: on a disk at rest, behind items without a call, the node is one alone on an image with its log, which is empty.

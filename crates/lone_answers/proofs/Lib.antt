@@ -1,3 +1,5 @@
 pub mod Lacking
 pub mod Working
 pub mod Tries
+-- Passed on to the crates above.
+pub use Rattle.file_calls.proofs.FoundLists

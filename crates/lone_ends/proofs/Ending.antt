@@ -9,8 +9,8 @@ use Rattle.std.proofs.lemmas.Bool.{cases_eq}
 use Rattle.cluster_laws.specs.Mirror.{Head}
 use Rattle.cluster_laws.specs.Rings.{Rings}
 use Rattle.cluster_laws.specs.World.{World}
-use Rattle.image_disks.specs.Disks.{IsDiskOf, IsOutcomeOf}
-use Rattle.image_disks.specs.Lone.{LoneOutcomesStand}
+use Rattle.lone_logs.specs.Disks.{IsDiskOf, IsOutcomeOf}
+use Rattle.lone_logs.specs.Lone.{LoneOutcomesStand}
 use Rattle.image_machine.specs.Volumes.{IsPlace, Volume}
 use Rattle.image_model.specs.Image.{Image}
 use Rattle.image_model.specs.Replays.{MayChange}
@@ -43,7 +43,7 @@ use Rattle.lone_logs.proofs.Landed.{none_of_others}
 use Rattle.lone_logs.proofs.Living.{at_sea, live_head, live_none, off_entry}
 use Rattle.lone_logs.proofs.Others.{stay_clean}
 use Rattle.lone_logs.proofs.Remaining.{reads_at, remains_so}
-use Rattle.machine_outcomes.specs.Outcomes.{OutcomesAreTheMachines}
+use Rattle.lone_logs.specs.Outcomes.{OutcomesAreTheMachines}
 use Rattle.lone_ends.specs.Ends.{FliesLast, IsDone, IsHeadAtEnd, ItsEndsStand}
 use Rattle.lone_ends.specs.Ends.IsHeadAtEnd.{last, old}
 

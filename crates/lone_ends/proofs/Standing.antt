@@ -13,8 +13,8 @@ use Rattle.cluster_laws.proofs.Cells.{at-same}
 use Rattle.file_tree.specs.declared.call.Call.{Call}
 use Rattle.file_tree.specs.declared.reply.Reply.{Reply}
 use Rattle.image_changes.specs.Instances.{StandsBy}
-use Rattle.image_disks.specs.Disks.{IsDiskOf, IsOutcomeOf, KeepsHeads}
-use Rattle.image_disks.proofs.Finding.{place_or_not}
+use Rattle.lone_logs.specs.Disks.{IsDiskOf, IsOutcomeOf, KeepsHeads}
+use Rattle.lone_logs.proofs.Finding.{place_or_not}
 use Rattle.image_machine.specs.Volumes.{HasItsPlaces, IsPlace, RingsCanBeRead, Volume, images_of, ring_in, volume_of}
 use Rattle.image_machine.proofs.Fitting.{image_is}
 use Rattle.image_machine.proofs.Headlines.{every_image_run}
@@ -41,7 +41,7 @@ use Rattle.lone_logs.specs.Laws.{IsHeadAt}
 use Rattle.lone_logs.specs.States.{ArePlacesApart, HasLandedAs, IsLoggedNode, NodeState, trees_on}
 use Rattle.lone_logs.proofs.Landed.{landed_outcome, landed_true, none_of_others}
 use Rattle.lone_logs.proofs.Living.{live_head}
-use Rattle.machine_outcomes.specs.Outcomes.{OutcomesAreTheMachines}
+use Rattle.lone_logs.specs.Outcomes.{OutcomesAreTheMachines}
 use Rattle.tree_histories.specs.Trees.{Told, history_of}
 use Rattle.lone_ends.specs.Ends.{CleanNodesHaveEnded, FliesLast, HasEnded, IsDone, ItsEndsLand}
 use Rattle.lone_ends.proofs.Ending.{begins, clean_head, ending_world, flies_here, its_disk, its_rings, last_at, none_by, none_off, of, others, says_so}

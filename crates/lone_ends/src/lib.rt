@@ -4,10 +4,13 @@
 ghost use Rattle.lone_ends.specs.Ends.{CleanBlocksAreLast, CleanNodesHaveEnded, ItsEndsLand, ItsEndsStand};
 ghost use Rattle.lone_ends.specs.Fences.{FencesLeaveEnds, FencesLeaveWhatRemains, ImagesAtRestStay};
 
-use image_disks::what_is_left_of_one_node_stands;
 use journal_outcomes::fences_leave_outcomes;
-use lone_logs::what_remains_of_it;
-use machine_outcomes::outcomes_are_the_machines;
+use lone_logs::{outcomes_are_the_machines, what_is_left_of_one_node_stands, what_remains_of_it};
+pub use lone_logs::{
+    a_logged_node_begins, its_barriers_settle, its_blocks_are_written, its_calls_are_logged,
+    its_flushes_begin, its_flushes_land, its_headers_are_written, its_live_blocks_go_home,
+    its_reads_are_logged,
+};
 
 /// A law: the block of the clean header that ends a replay is one that ends a node.
 pub fn clean_blocks_are_last()

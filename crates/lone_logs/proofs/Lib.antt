@@ -22,3 +22,6 @@ pub mod Headed
 pub mod Ending
 pub mod Homing
 pub mod Starting
+-- Passed on to the crates above.
+pub use Rattle.machine_outcomes.proofs.SameFiles
+pub use Rattle.image_disks.proofs.Finding

@@ -4,11 +4,11 @@
 
 ghost use Rattle.lone_logs.specs.Laws.{Begins, BarriersSettle, BlocksAreWritten, BlocksGoHome, CallsAreLogged, FirstBarriersSettle, FlushesBegin, HeadersAreWritten, HeadersBegin, ItsHistoryIsLegal, ItsOutcomesStand, LastBarriersLand, QuietCallsAreLogged, ReadsAreLogged, SpacelessCallsAreLogged, SyncsAreLogged};
 
-use image_disks::what_is_left_of_one_node_stands;
+pub use image_disks::what_is_left_of_one_node_stands;
 use log_rings::{
     blocks_of_flushes_say_nothing, clean_rings_begin, flushes_land, headers_of_flushes_fly,
 };
-use machine_outcomes::outcomes_are_the_machines;
+pub use machine_outcomes::outcomes_are_the_machines;
 
 /// A law: on an image that stands as it lies, each journal clean, the node begins with an empty log.
 pub fn a_logged_node_begins()

@@ -16,11 +16,11 @@ use Rattle.call_locks.specs.WantLaws.{path_of}
 use Rattle.name_drafts.specs.DirectoryShown.{IsShown}
 use Rattle.resource_groups.proofs.Apart.{one_group}
 use Rattle.image_changes.specs.Flats.{in_directory}
-use Rattle.path_walks.specs.Holds.{holds, hold_of_group}
-use Rattle.path_walks.specs.Walks.{IsLastOf, IsSeenAt, LacksName}
-use Rattle.path_walks.specs.declared.walk.Place.{Place}
-use Rattle.path_walks.proofs.Leads.{no_end}
-use Rattle.path_walks.proofs.Lists.{parent_of_next}
+use Rattle.name_drafts.specs.Holds.{holds, hold_of_group}
+use Rattle.name_drafts.specs.Walks.{IsLastOf, IsSeenAt, LacksName}
+use Rattle.name_drafts.specs.walk.Place.{Place}
+use Rattle.name_drafts.proofs.Leads.{no_end}
+use Rattle.name_drafts.proofs.Lists.{parent_of_next}
 use Rattle.name_drafts.specs.Inserting.{IsNeededForName, IsWrongForName}
 use Rattle.name_drafts.specs.Way.{IsOnWay}
 use Rattle.name_drafts.specs.Drafting as drafting

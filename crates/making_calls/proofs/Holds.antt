@@ -8,8 +8,8 @@ use Rattle.glock_names.specs.Views.{Seen, HasGroup}
 use Rattle.glock_names.specs.declared.State.TheVariants.{Ex}
 use Rattle.glock_names.specs.declared.views.Group.{Group}
 use Rattle.resource_groups.specs.Shown.{IsDataOf}
-use Rattle.path_walks.specs.Holds.{Hold, AreHeld, IsFirstLack, holds, hold_of, hold_for}
-use Rattle.path_walks.proofs.Longer.{lack_behind}
+use Rattle.name_drafts.specs.Holds.{Hold, AreHeld, IsFirstLack, holds, hold_of, hold_for}
+use Rattle.name_drafts.proofs.Longer.{lack_behind}
 use Rattle.room_search.specs.Blocks.{States, free_in_all, free_for, group_holds}
 use Rattle.room_search.specs.Searches as room
 use Rattle.room_search.proofs.Holds.{held_one, lack_one}

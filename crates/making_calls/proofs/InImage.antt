@@ -9,7 +9,7 @@ use Rattle.image_model.specs.Image.{Image}
 use Rattle.image_model.specs.Owners.{Owners}
 use Rattle.image_model.specs.Stands.{Layout}
 use Rattle.image_changes.specs.Does.{IsOf}
-use Rattle.path_walks.specs.Holds.{hold_for}
+use Rattle.name_drafts.specs.Holds.{hold_for}
 use Rattle.room_search.specs.Blocks.{states_by}
 use Rattle.room_search.proofs.InImage.{blocks_said, holds_said}
 use Rattle.room_search.proofs.Room.{one_of}

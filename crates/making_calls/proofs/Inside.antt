@@ -17,9 +17,9 @@ use Rattle.image_model.proofs.Members.{IsIn}
 use Rattle.image_changes.specs.Does.{IsOf}
 use Rattle.image_changes.specs.Instances.{IsAt}
 use Rattle.group_locks.proofs.Listed.{held_upto}
-use Rattle.path_walks.specs.Holds.{Hold, AreHeld, IsAskedFor, hold_of}
-use Rattle.path_walks.proofs.Asked.{IsAmong, asked_among, name_asked}
-use Rattle.path_walks.proofs.Images.{is_sound, own_inside, unbroken_directory}
+use Rattle.name_drafts.specs.Holds.{Hold, AreHeld, IsAskedFor, hold_of}
+use Rattle.name_drafts.proofs.Asked.{IsAmong, asked_among, name_asked}
+use Rattle.name_drafts.proofs.Images.{is_sound, own_inside, unbroken_directory}
 use Rattle.name_drafts.specs.HashInserting as inserts
 use Rattle.name_drafts.specs.Inserting as names
 use Rattle.name_drafts.specs.Inserting.{IsNeededForName, IsWrongForName}

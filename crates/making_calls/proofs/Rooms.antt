@@ -23,7 +23,7 @@ use Rattle.image_changes.specs.Does.{IsOf}
 use Rattle.image_changes.proofs.Frame.{dinode_its}
 use Rattle.draft_changes.proofs.Rows.{its_used}
 use Rattle.draft_changes.proofs.Views.{groups_are_listed}
-use Rattle.path_walks.specs.Holds.{AreHeld, holds, hold_of, hold_for, hold_of_group}
+use Rattle.name_drafts.specs.Holds.{AreHeld, holds, hold_of, hold_for, hold_of_group}
 use Rattle.room_search.specs.Blocks.{group_holds, group_of_node, states_by}
 use Rattle.room_search.specs.Searches.{AreShown, IsGroupNeeded, IsHeldBlock, IsUnder}
 use Rattle.room_search.specs.declared.search.Locked.{Locked}

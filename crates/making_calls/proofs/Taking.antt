@@ -51,14 +51,14 @@ use Rattle.draft_changes.proofs.Saying.{free_blocks_are_new}
 use Rattle.draft_changes.proofs.Views.{groups_are_listed}
 use Rattle.directory_changes.proofs.Grown.{growing_makes}
 use Rattle.group_locks.proofs.Locks.{groups_break_nothing}
-use Rattle.path_walks.specs.Holds as locks
-use Rattle.path_walks.specs.Holds.{Hold, AreHeld, IsAskedFor, IsFirstLack, hold_for, hold_of, holds, hold_of_group}
-use Rattle.path_walks.specs.Walks.{LeadsTo, IsLastOf, LacksName}
-use Rattle.path_walks.specs.declared.walk.Place.{Place}
-use Rattle.path_walks.proofs.Asked.{IsAmong, unread_absent}
-use Rattle.path_walks.proofs.Images.{is_inode, says_none, shown_inode, sound_directory}
-use Rattle.path_walks.proofs.Wants.{exclusive}
-use Rattle.path_walks.proofs.Longer.{asked_before, asked_behind, lack_behind}
+use Rattle.name_drafts.specs.Holds as locks
+use Rattle.name_drafts.specs.Holds.{Hold, AreHeld, IsAskedFor, IsFirstLack, hold_for, hold_of, holds, hold_of_group}
+use Rattle.name_drafts.specs.Walks.{LeadsTo, IsLastOf, LacksName}
+use Rattle.name_drafts.specs.walk.Place.{Place}
+use Rattle.name_drafts.proofs.Asked.{IsAmong, unread_absent}
+use Rattle.name_drafts.proofs.Images.{is_inode, says_none, shown_inode, sound_directory}
+use Rattle.name_drafts.proofs.Wants.{exclusive}
+use Rattle.name_drafts.proofs.Longer.{asked_before, asked_behind, lack_behind}
 use Rattle.room_search.specs.Blocks.{free_for, free_in_all, group_holds, group_of_node, states_by}
 use Rattle.room_search.specs.Searches.{IsGroupBlock, IsUnder}
 use Rattle.room_search.specs.declared.search.Locked.{Locked}

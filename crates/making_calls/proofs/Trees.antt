@@ -25,11 +25,11 @@ use Rattle.image_changes.specs.Walks.{ListsNames}
 use Rattle.image_changes.proofs.DirectoryNames.{directories_list}
 use Rattle.image_changes.proofs.FlatPaths.{follow-append}
 use Rattle.image_changes.proofs.Walks.{walks_end, walks_find}
-use Rattle.path_walks.proofs.Images.{child_is_there, no_child_of_file}
+use Rattle.name_drafts.proofs.Images.{child_is_there, no_child_of_file}
 use Rattle.making_calls.specs.Blocks.{new_holds}
 use Rattle.name_drafts.specs.Drafting.{new_tree}
 use Rattle.making_calls.specs.Making.{IsMaking, blocks_needed, call_holds, directory_path, makes_directory, path_holds}
-use Rattle.path_walks.specs.Walks.{IsLastOf}
+use Rattle.name_drafts.specs.Walks.{IsLastOf}
 
 adds_at : (t : Tree) (path front : Path) (name : List ℕ) (new : Tree) → path ≡ front ++ name ∷ [] → add t path new ≡ add_to (walk t (parent_of path)) t path new
 adds_at t [] front name new e = absurd (no_end front name e)

@@ -26,10 +26,10 @@ use Rattle.image_changes.specs.Does.{with_change}
 use Rattle.image_changes.specs.Drafted.{IsFinished}
 use Rattle.image_changes.specs.Instances.{IsAt}
 use Rattle.image_changes.proofs.Finishing.{finish_makes}
-use Rattle.path_walks.specs.Holds.{Hold, hold_of, hold_for, holds_on, IsUnder}
+use Rattle.name_drafts.specs.Holds.{Hold, hold_of, hold_for, holds_on, IsUnder}
 use Rattle.making_calls.specs.Making.{IsMaking, directory_path, path_holds}
 use Rattle.making_calls.proofs.Wanted.{wants_are}
-use Rattle.path_walks.specs.Walks.{IsLastOf}
+use Rattle.name_drafts.specs.Walks.{IsLastOf}
 
 -- each lock of a change is one with which its draft put a block
 pub each_lock : (fates : FinMap nat_cmp Fate) (change : Change) → IsFinished fates change → (P : LockName → Type 0)

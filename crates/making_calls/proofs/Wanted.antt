@@ -9,9 +9,9 @@ use Rattle.glock_names.specs.declared.State.TheVariants.{Ex}
 use Rattle.call_locks.specs.Wants.{want, shared_above, way_to, at_new_name, wanted}
 use Rattle.call_locks.specs.WantLaws.{path_of}
 use Rattle.image_model.specs.Flat.{Path}
-use Rattle.path_walks.specs.Walks.{AreInOrder, LeadsTo, IsLastOf}
+use Rattle.name_drafts.specs.Walks.{AreInOrder, LeadsTo, IsLastOf}
 use Rattle.making_calls.specs.Making.{IsMaking, directory_path}
-use Rattle.path_walks.proofs.Wants.{push, shared_from, at_end, leads_held, exclusive}
+use Rattle.name_drafts.proofs.Wants.{push, shared_from, at_end, leads_held, exclusive}
 
 new_name : (path front : Path) (name : List ℕ) → path ≡ front ++ name ∷ [] → at_new_name path ≡ way_to false (length (parent_of path)) Ex
 new_name [] [] name e = cc

@@ -5,7 +5,7 @@ use Rattle.glock_names.specs.declared.State.TheVariants.{Ex}
 use Rattle.glock_names.specs.declared.views.Group.{Group}
 use Rattle.image_model.specs.Owners.{Owners}
 use Rattle.image_model.specs.Stands.{Layout}
-use Rattle.path_walks.specs.Holds.{Hold, hold_for}
+use Rattle.name_drafts.specs.Holds.{Hold, hold_for}
 use Rattle.room_search.specs.Blocks.{States, free_for, group_holds, group_of_node, states_by}
 
 -- the first of these blocks, where they are as many as are needed

@@ -30,9 +30,9 @@ use Rattle.image_model.specs.Owners.{Owners, holding}
 use Rattle.image_model.specs.Stands.{Layout, flat_of}
 use Rattle.image_changes.specs.Does.{with_change}
 use Rattle.image_changes.specs.Instances.{IsAt, dinode_at}
-use Rattle.path_walks.specs.Answers.{Refuses}
-use Rattle.path_walks.specs.Holds.{Hold, AreHeld, IsAskedFor, IsFirstLack, holds, holds_in, hold_of_group}
-use Rattle.path_walks.specs.declared.walk.Place.{Place}
+use Rattle.name_drafts.specs.Answers.{Refuses}
+use Rattle.name_drafts.specs.Holds.{Hold, AreHeld, IsAskedFor, IsFirstLack, holds, holds_in, hold_of_group}
+use Rattle.name_drafts.specs.walk.Place.{Place}
 use Rattle.name_drafts.specs.DirectoryShown as dirs
 use Rattle.hash_dirs.specs.Shown.{IsSound}
 use Rattle.draft_changes.specs.Resizing.{HoldsThere}
@@ -43,8 +43,8 @@ use Rattle.name_drafts.specs.Way.{IsOnWay, IsRightWay}
 use Rattle.name_drafts.specs.Paths.{SeesPath}
 use Rattle.name_drafts.specs.Drafting.{CountsNumber, GetsRecord, HasLinearRoom, HasTimes, IsAddition, IsNewInode, IsNextOf, entry_for}
 use Rattle.new_inodes.specs.Touched.{IsTouched}
-use Rattle.path_walks.specs.Walks.{LeadsTo, Names, IsAbsent, IsDirectoryAt, IsLacked, IsOnTheWay, IsPlaceOf, IsSeenAt, IsUnread, IsWrongAt, LacksName}
-use Rattle.path_walks.specs.Walks as path
+use Rattle.name_drafts.specs.Walks.{LeadsTo, Names, IsAbsent, IsDirectoryAt, IsLacked, IsOnTheWay, IsPlaceOf, IsSeenAt, IsUnread, IsWrongAt, LacksName}
+use Rattle.name_drafts.specs.Walks as path
 use Rattle.room_search.specs.Blocks.{states_by, free_for, free_in_all, group_of_node}
 use Rattle.room_search.specs.Searches.{AreShown, IsGroupBroken, IsGroupNeeded}
 use Rattle.making_calls.specs.Blocks.{block_holds, new_holds}

@@ -24,9 +24,9 @@ use Rattle.image_model.specs.Image.{Image}
 use Rattle.image_model.specs.Owners.{Owners}
 use Rattle.image_model.specs.Stands.{Layout}
 use Rattle.image_changes.specs.Does.{AreInside, Does, IsInside, IsOf}
-use Rattle.path_walks.specs.Answers.{HasSpace, IfDone, IfNeedBlock, IfNeedLock, IfNoSpace, IfNotBuilt}
-use Rattle.path_walks.specs.Holds.{holds}
-use Rattle.path_walks.specs.declared.walk.Place.{Place}
+use Rattle.move_ends.specs.Answers.{HasSpace, IfDone, IfNeedBlock, IfNeedLock, IfNoSpace, IfNotBuilt}
+use Rattle.move_ends.specs.Holds.{holds}
+use Rattle.move_ends.specs.walk.Place.{Place}
 use Rattle.move_ends.specs.PairWalks.{IsPairLacked}
 use Rattle.move_ends.specs.Ends.{AreEnds, IsLackedOnPaths, IsRenaming, IsTarget, MovesIn, first_wants, from_path, second_wants, to_path}
 use Rattle.resource_groups.specs.Freeing as freeing

@@ -6,7 +6,7 @@ use Rattle.gfs2_layout.specs.Holding.{Holding}
 use Rattle.gfs2_layout.specs.Structures.{is_directory}
 use Rattle.glock_names.specs.Views.{Seen}
 use Rattle.glock_names.specs.declared.steps.Missing.{Missing}
-use Rattle.directories.specs.Shown.{IsNeededFor, IsShown}
+use Rattle.move_ends.specs.Shown.{IsNeededFor, IsShown}
 use Rattle.resource_groups.specs.Freeing as freeing
 use Rattle.image_model.specs.Flat.{Path}
 use Rattle.image_model.specs.Image.{Image}
@@ -15,10 +15,10 @@ use Rattle.image_model.specs.Stands.{Layout}
 use Rattle.image_model.proofs.Rows.{and_left}
 use Rattle.image_changes.specs.Does.{IsOf}
 use Rattle.image_changes.specs.Instances.{IsAt, dinode_at, is_directory_at}
-use Rattle.path_walks.specs.Holds.{AreHeld, Hold, IsAskedFor}
-use Rattle.path_walks.proofs.Asked.{IsAmong}
-use Rattle.path_walks.proofs.Images.{shown_inode}
-use Rattle.name_inserts.specs.Inserting.{IsNeededForName}
+use Rattle.move_ends.specs.Holds.{AreHeld, Hold, IsAskedFor}
+use Rattle.move_ends.proofs.Asked.{IsAmong}
+use Rattle.move_ends.proofs.Images.{shown_inode}
+use Rattle.name_moves.specs.Inserting.{IsNeededForName}
 use Rattle.name_moves.specs.Becoming.{LosesAll}
 use Rattle.name_moves.specs.Moving.{IsAskedIn, IsAskedOf, Move, a_group, is_reparented, the_inode, the_source, the_target}
 use Rattle.name_moves.proofs.Asked.{come_asked, go_asked}

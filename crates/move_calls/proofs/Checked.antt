@@ -9,14 +9,14 @@ use Rattle.glock_names.specs.declared.steps.Entry.{Entry}
 use Rattle.dinode_tree.specs.Reading.{IsRightDinode}
 use Rattle.dinode_tree.specs.Shown as inodes
 use Rattle.dinode_tree.proofs.Sound.{some_is_shown}
-use Rattle.directories.specs.Shown.{IsShown, Says}
-use Rattle.directories.specs.Taking.{HasNameIn}
-use Rattle.directories.proofs.Forms.{some_directory}
-use Rattle.directories.proofs.Sound.{says_once}
+use Rattle.move_ends.specs.Shown.{IsShown, Says}
+use Rattle.move_ends.specs.Taking.{HasNameIn}
+use Rattle.move_ends.proofs.Forms.{some_directory}
+use Rattle.move_ends.proofs.Sound.{says_once}
 use Rattle.image_model.proofs.Held.{none_some, some_same}
 use Rattle.resource_groups.specs.Putting.{HasDataBlock}
-use Rattle.path_walks.specs.Walks.{Names}
-use Rattle.path_walks.specs.declared.walk.Place.{Place}
+use Rattle.move_ends.specs.Walks.{Names}
+use Rattle.move_ends.specs.walk.Place.{Place}
 use Rattle.move_ends.proofs.Above.{directory_block, names_it}
 use Rattle.name_moves.specs.Moving.{CanBeMoved, IsPlaceOfMove, IsRead, Move, blocks_or_none, freed_by, is_reparented, is_replacing, is_within}
 use Rattle.move_calls.specs.Checks.{HasSeenThere, IsSeenMove}

@@ -43,15 +43,15 @@ use Rattle.directory_changes.proofs.Moved.{moving_makes}
 use Rattle.hash_dirs.proofs.Gathered.{the_one}
 use Rattle.resource_groups.specs.Freeing.{HasSome}
 use Rattle.resource_groups.specs.Shown.{group_lock}
-use Rattle.group_locks.specs.Groups.{GroupsAreHeld}
-use Rattle.path_walks.specs.Walks.{LeadsTo}
-use Rattle.path_walks.specs.declared.walk.Place.{Place}
-use Rattle.path_walks.proofs.Images.{says_records, shown_inode, sound_directory}
-use Rattle.path_walks.proofs.Wants.{at_end, before_end, exclusive, leads_held}
+use Rattle.name_moves.specs.Groups.{GroupsAreHeld}
+use Rattle.move_ends.specs.Walks.{LeadsTo}
+use Rattle.move_ends.specs.walk.Place.{Place}
+use Rattle.move_ends.proofs.Images.{says_records, shown_inode, sound_directory}
+use Rattle.move_ends.proofs.Wants.{at_end, before_end, exclusive, leads_held}
 use Rattle.move_ends.proofs.Paths.{ends_so}
 use Rattle.room_search.proofs.InImage.{are_shown, said_free}
 use Rattle.move_ends.specs.Ends.{AreEnds, IsElsewhere, IsRenaming, IsTarget, MovesIn, StoodIn, from_path, second_wants, to_path}
-use Rattle.name_inserts.specs.Need.{name_need}
+use Rattle.name_moves.specs.Need.{name_need}
 use Rattle.name_moves.specs.Becoming.{GetsName, GetsParent, GivesName, LosesAll, NeedsAfter, losses}
 use Rattle.name_moves.specs.Moving.{ArePlacesIn, CanBeMoved, IsMoveIn, IsMoving, IsPutUnder, Move, StandsThere, entry_for, freed_by, lost_there, of_group, of_inode, of_source, of_target}
 use Rattle.name_moves.specs.Moving as moving

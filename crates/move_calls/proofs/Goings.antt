@@ -3,8 +3,8 @@ use Rattle.std.proofs.Common.{◌≡◌, ℕ, Bool, true, false, true≢false, L
 use Rattle.gfs2_layout.specs.Holding.{Holding}
 use Rattle.glock_names.specs.Views.{Seen}
 use Rattle.glock_names.specs.declared.steps.Missing.{Missing}
-use Rattle.directories.specs.Shown as dirs
-use Rattle.name_inserts.specs.Inserting.{IsNeededForName, IsWrongForName}
+use Rattle.move_ends.specs.Shown as dirs
+use Rattle.name_moves.specs.Inserting.{IsNeededForName, IsWrongForName}
 use Rattle.name_moves.specs.Becoming.{CanTell, IsAfter, LosesAll, losses}
 use Rattle.name_moves.specs.Moving.{GoesThere, IsNeededThere, IsWrongThere, Move, is_replacing, is_within, lost_there}
 

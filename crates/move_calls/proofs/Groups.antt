@@ -13,8 +13,8 @@ use Rattle.image_model.specs.Stands.{Layout}
 use Rattle.image_model.proofs.Held.{some_same}
 use Rattle.image_changes.specs.Does.{IsOf}
 use Rattle.resource_groups.specs.Shown.{said}
-use Rattle.group_locks.specs.Groups.{IsOneOrHas, has_some}
-use Rattle.group_locks.proofs.Locks.{has_so, so_has}
+use Rattle.name_moves.specs.Groups.{IsOneOrHas, has_some}
+use Rattle.name_moves.proofs.Locks.{has_so, so_has}
 use Rattle.room_search.specs.Blocks.{first_holds, free_first, group_of_node, holds_of_first}
 use Rattle.room_search.specs.Parts.{AreGroupsOf}
 use Rattle.room_search.proofs.InImage.{blocks_said, holds_said}

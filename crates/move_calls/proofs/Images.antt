@@ -23,9 +23,9 @@ use Rattle.image_model.specs.Stands.{Layout}
 use Rattle.image_model.proofs.Members.{is_in}
 use Rattle.image_changes.specs.Changes.{cover}
 use Rattle.image_changes.specs.Does.{IsOf}
-use Rattle.path_walks.specs.Answers.{IfDone, IfNeedBlock, IfNeedLock, IfNoSpace}
-use Rattle.path_walks.specs.Holds.{Hold, AreHeld, IsAskedFor, IsFirstLack, IsUnder}
-use Rattle.path_walks.proofs.Longer.{asked_before, lack_before}
+use Rattle.move_ends.specs.Answers.{IfDone, IfNeedBlock, IfNeedLock, IfNoSpace}
+use Rattle.move_ends.specs.Holds.{Hold, AreHeld, IsAskedFor, IsFirstLack, IsUnder}
+use Rattle.move_ends.proofs.Longer.{asked_before, lack_before}
 use Rattle.move_ends.specs.Ends.{from_path, inode_holds, to_path}
 use Rattle.name_moves.specs.Moving.{CanBeMoved, Move}
 use Rattle.move_calls.specs.Answering.{IsAnswerAtEnds, IsAnswerOf, IsMeant, IsNothing, IsToMove}

@@ -12,3 +12,8 @@ pub mod Room
 pub mod Sound
 pub mod Tests
 pub mod OnWays
+-- Passed on to the crates above.
+pub use Rattle.name_moves.proofs.Loses
+pub use Rattle.name_moves.proofs.Alike
+pub use Rattle.name_moves.proofs.Imaged
+pub use Rattle.name_moves.proofs.Places

@@ -15,8 +15,8 @@ use Rattle.file_tree.specs.declared.call.Call.{Call}
 use Rattle.cluster_history.specs.Changes.{is_ok}
 use Rattle.drafts.specs.declared.change.Change.{Change}
 use Rattle.gfs2_layout.specs.Holding.{Holding}
-use Rattle.directories.specs.Shown as dirs
-use Rattle.name_inserts.specs.Inserting.{IsNeededForName}
+use Rattle.move_ends.specs.Shown as dirs
+use Rattle.name_moves.specs.Inserting.{IsNeededForName}
 use Rattle.drafts.specs.declared.change.Written.{Written}
 use Rattle.drafts.specs.declared.fate.Fate.{Fate}
 use Rattle.drafts.specs.declared.fate.Fate.TheVariants.{Put}
@@ -38,17 +38,17 @@ use Rattle.image_changes.specs.Drafted.{IsFinished}
 use Rattle.image_changes.proofs.Finishing.{finish_makes}
 use Rattle.draft_changes.proofs.Rows.{cell_its}
 use Rattle.draft_changes.proofs.Views.{groups_are_listed}
-use Rattle.path_walks.specs.Holds.{Hold, AreHeld, IsAskedFor, IsFirstLack, IsUnder, hold_of, hold_of_group, holds}
-use Rattle.path_walks.specs.declared.walk.Place.{Place}
-use Rattle.path_walks.proofs.Asked.{IsAmong}
-use Rattle.path_walks.proofs.Images.{is_shown, shown_inode, sound_directory}
-use Rattle.path_walks.proofs.Longer.{asked_before, asked_behind, lack_before, lack_behind}
+use Rattle.move_ends.specs.Holds.{Hold, AreHeld, IsAskedFor, IsFirstLack, IsUnder, hold_of, hold_of_group, holds}
+use Rattle.move_ends.specs.walk.Place.{Place}
+use Rattle.move_ends.proofs.Asked.{IsAmong}
+use Rattle.move_ends.proofs.Images.{is_shown, shown_inode, sound_directory}
+use Rattle.move_ends.proofs.Longer.{asked_before, asked_behind, lack_before, lack_behind}
 use Rattle.resource_groups.specs.Freeing as freeing
 use Rattle.resource_groups.specs.Shown.{IsDataOf, said}
 use Rattle.resource_groups.proofs.Apart.{one_group}
-use Rattle.group_locks.specs.Groups.{holds_of_those}
-use Rattle.group_locks.proofs.Listed.{held_upto}
-use Rattle.group_locks.proofs.Locks.{block_of_those_is_asked, first_of_those_is_first, those_are_listed, those_hold_the_list}
+use Rattle.name_moves.specs.Groups.{holds_of_those}
+use Rattle.name_moves.proofs.Listed.{held_upto}
+use Rattle.name_moves.proofs.Locks.{block_of_those_is_asked, first_of_those_is_first, those_are_listed, those_hold_the_list}
 use Rattle.room_search.specs.Blocks.{free_in_all, have_too_few, holds_of_first, states_by}
 use Rattle.room_search.specs.Searches.{AreShown, IsGroupBlock}
 use Rattle.room_search.proofs.Holds.{block_under, held_behind}

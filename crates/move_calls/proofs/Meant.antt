@@ -13,11 +13,11 @@ use Rattle.image_model.specs.Owners.{Owners}
 use Rattle.image_model.specs.Stands.{Layout}
 use Rattle.image_model.proofs.Held.{none_some, some_same}
 use Rattle.image_changes.specs.Does.{IsOf}
-use Rattle.directories.proofs.Forms.{some_directory}
+use Rattle.move_ends.proofs.Forms.{some_directory}
 use Rattle.resource_groups.specs.Putting.{HasDataBlock}
-use Rattle.path_walks.specs.Holds.{AreHeld}
-use Rattle.path_walks.specs.Walks.{IsLastOf, Names}
-use Rattle.path_walks.specs.declared.walk.Place.{Place}
+use Rattle.move_ends.specs.Holds.{AreHeld}
+use Rattle.move_ends.specs.Walks.{IsLastOf, Names}
+use Rattle.move_ends.specs.walk.Place.{Place}
 use Rattle.move_ends.proofs.Paths.{ends_so}
 use Rattle.move_ends.proofs.Above.{above_names, inode_inside}
 use Rattle.move_ends.specs.Ends.{AreEnds, IsFoundIn, IsTarget, IsTold, MovesIn, first_wants, from_path, inode_holds, second_wants, to_path}

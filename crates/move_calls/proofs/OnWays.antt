@@ -9,13 +9,13 @@ use Rattle.glock_names.specs.declared.steps.CallFault.{CallFault}
 use Rattle.glock_names.specs.declared.steps.CallFault.TheVariants.{Damaged, NoMemory}
 use Rattle.glock_names.specs.declared.steps.Step.{Step}
 use Rattle.glock_names.specs.declared.steps.Step.TheVariants.{Is, NeedBlock}
-use Rattle.directories.proofs.Forms.{is_directory_here, some_directory}
-use Rattle.directories.specs.Shown.{IsShown}
+use Rattle.move_ends.proofs.Forms.{is_directory_here, some_directory}
+use Rattle.move_ends.specs.Shown.{IsShown}
 use Rattle.image_model.proofs.Rows.{and_left}
-use Rattle.name_inserts.specs.Inserting.{IsNeededForName, IsWrongForName}
-use Rattle.name_inserts.specs.Way.{IsOnWay, IsRightWay}
+use Rattle.name_moves.specs.Inserting.{IsNeededForName, IsWrongForName}
+use Rattle.name_moves.specs.Way.{IsOnWay, IsRightWay}
 use Rattle.name_moves.specs.Moving.{CanBeMoved, Move, freed_by, is_reparented}
-use Rattle.path_walks.specs.Walks.{IsDirectoryAt}
+use Rattle.move_ends.specs.Walks.{IsDirectoryAt}
 use Rattle.move_calls.specs.Checks.{IsNeededOnWays, IsOffItsWays, IsOnItsWay, IsWayOf, IsWrongOnWays}
 
 module _ (v : Seen) (m : Move) (can : CanBeMoved v m) where

@@ -11,11 +11,11 @@ use Rattle.glock_names.specs.declared.steps.CallFault.TheVariants.{Damaged, NoMe
 use Rattle.glock_names.specs.declared.steps.Missing.{Missing}
 use Rattle.glock_names.specs.declared.views.Group.{Group}
 use Rattle.growth_drafts.specs.Taken.{IsDistinct}
-use Rattle.group_locks.specs.Groups.{GroupsAreHeld}
+use Rattle.name_moves.specs.Groups.{GroupsAreHeld}
 use Rattle.image_model.proofs.Counts.{all_in}
 use Rattle.image_model.proofs.Members.{is_in}
 use Rattle.image_model.proofs.Rising.{Rising, rising}
-use Rattle.path_walks.specs.Holds.{hold_of_group, holds}
+use Rattle.move_ends.specs.Holds.{hold_of_group, holds}
 use Rattle.resource_groups.specs.Putting.{HasDataBlock}
 use Rattle.resource_groups.specs.Shown.{said}
 use Rattle.resource_groups.proofs.Apart.{one_group}

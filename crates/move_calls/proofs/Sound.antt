@@ -33,18 +33,18 @@ use Rattle.draft_changes.proofs.Rows.{cell_its, its_cell}
 use Rattle.draft_changes.proofs.Saying.{free_blocks_are_new}
 use Rattle.hash_dirs.specs.Shown.{index_for}
 use Rattle.hash_dirs.proofs.Chained.{cell_some}
-use Rattle.directories.specs.Shown as dirs
+use Rattle.move_ends.specs.Shown as dirs
 use Rattle.resource_groups.specs.Putting.{HasDataBlock}
-use Rattle.path_walks.specs.declared.walk.Place.{Place}
-use Rattle.path_walks.proofs.Images.{has_dots, is_inode, is_shown, own_inside, shown_inode, sound_directory, unbroken, unbroken_directory}
+use Rattle.move_ends.specs.walk.Place.{Place}
+use Rattle.move_ends.proofs.Images.{has_dots, is_inode, is_shown, own_inside, shown_inode, sound_directory, unbroken, unbroken_directory}
 use Rattle.move_ends.proofs.Paths.{ends_so}
 use Rattle.room_search.proofs.InImage.{group_sound}
-use Rattle.group_locks.proofs.Locks.{groups_break_nothing}
+use Rattle.name_moves.proofs.Locks.{groups_break_nothing}
 use Rattle.move_ends.specs.Ends.{AreEnds, MovesIn, StoodIn, from_path, to_path}
-use Rattle.name_inserts.specs.HashInserting as inserting
-use Rattle.name_inserts.specs.Inserting.{IsWrongForName}
-use Rattle.name_inserts.specs.Inserting as naming
-use Rattle.name_inserts.specs.Way.{IsOnWay, its_dinode, its_leaf, its_pointer}
+use Rattle.name_moves.specs.HashInserting as inserting
+use Rattle.name_moves.specs.Inserting.{IsWrongForName}
+use Rattle.name_moves.specs.Inserting as naming
+use Rattle.name_moves.specs.Way.{IsOnWay, its_dinode, its_leaf, its_pointer}
 use Rattle.name_moves.specs.Moving.{ArePlacesIn, CanBeMoved, IsAskedIn, IsAskedOf, IsNeededIn, IsPlaceOfMove, IsWrongIn, Move, blocks_or_none, freed_by, is_reparented}
 use Rattle.name_moves.proofs.Asked.{move_asked}
 use Rattle.name_moves.proofs.Imaged.{apart_there}

@@ -7,7 +7,7 @@ use Rattle.glock_names.specs.Views.{Seen, HasGroup, Rise, end_of}
 use Rattle.glock_names.specs.declared.views.Group.{Group}
 use Rattle.resource_groups.specs.Shown.{IsDataOf}
 use Rattle.image_model.proofs.Members.{IsIn, contained, from_filter, is_in}
-use Rattle.group_locks.specs.Groups.{IsOneOrHas}
+use Rattle.name_moves.specs.Groups.{IsOneOrHas}
 use Rattle.move_calls.specs.Firsts.{is_data_block, is_number, is_one_or_has}
 
 or_right : (x y : Bool) → y ≡ true → (x || y) ≡ true

@@ -18,8 +18,8 @@ use Rattle.image_model.specs.Owners.{Owners}
 use Rattle.image_model.specs.Stands.{Layout}
 use Rattle.image_changes.specs.Does.{IsOf}
 use Rattle.resource_groups.specs.Putting.{HasDataBlock}
-use Rattle.path_walks.specs.Holds.{AreHeld}
-use Rattle.path_walks.specs.declared.walk.Place.{Place}
+use Rattle.move_ends.specs.Holds.{AreHeld}
+use Rattle.move_ends.specs.walk.Place.{Place}
 use Rattle.move_ends.specs.Ends.{AreEnds, IsAbsentBlock, IsDamageAtEnds, IsFoundIn, IsLackedOnPaths, IsNeededAtEnds, IsRefusal, IsRefused, IsTarget, IsTold, MovesIn, StaysWhere, from_path, inode_holds, to_path}
 use Rattle.move_ends.specs.declared.ends.Ends.{Ends}
 use Rattle.move_ends.specs.declared.ends.Ends.TheVariants as ends

@@ -12,19 +12,19 @@ use Rattle.glock_names.specs.declared.State.{State}
 use Rattle.glock_names.specs.declared.State.TheVariants.{Ex}
 use Rattle.glock_names.specs.declared.steps.Missing.{Missing}
 use Rattle.glock_names.specs.declared.views.Group.{Group}
-use Rattle.directories.specs.Shown as dirs
+use Rattle.move_ends.specs.Shown as dirs
 use Rattle.hash_dirs.specs.Shown.{IsSound}
-use Rattle.group_locks.specs.Groups.{AreHeldOf, IsFirstLackOf, IsOneOrHas}
-use Rattle.path_walks.specs.Holds.{AreHeld, Hold, IsFirstLack, hold_of_group, holds}
+use Rattle.name_moves.specs.Groups.{AreHeldOf, IsFirstLackOf, IsOneOrHas}
+use Rattle.move_ends.specs.Holds.{AreHeld, Hold, IsFirstLack, hold_of_group, holds}
 use Rattle.resource_groups.specs.Shown.{said}
 use Rattle.resource_groups.specs.Freeing.{BreaksSome}
 use Rattle.resource_groups.specs.Freeing as freeing
 use Rattle.resource_groups.specs.Putting.{HasDataBlock}
 use Rattle.room_search.specs.Blocks.{first_holds, free_in_all, group_of_node}
 use Rattle.room_search.specs.Searches.{AreHeldBlocks, AreShown, IsGroupBlock, IsGroupBroken, IsGroupNeeded, IsRoomOf}
-use Rattle.name_inserts.specs.Inserting.{IsNeededForName, IsWrongForName, SeesForName}
-use Rattle.name_inserts.specs.Needing.{TakesBlocks}
-use Rattle.name_inserts.specs.Way.{IsRightWay}
+use Rattle.name_moves.specs.Inserting.{IsNeededForName, IsWrongForName, SeesForName}
+use Rattle.name_moves.specs.Needing.{TakesBlocks}
+use Rattle.name_moves.specs.Way.{IsRightWay}
 use Rattle.name_moves.specs.Becoming.{IsAfter, NeedsAfter}
 use Rattle.name_moves.specs.Moving.{AreApart, IsMoving, IsNeededIn, IsPlaceOfMove, IsWrongIn, IsWrongThere, Move, freed_by, lost_there}
 use Rattle.move_calls.specs.Firsts.{those_of}

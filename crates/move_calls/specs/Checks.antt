@@ -7,11 +7,11 @@ use Rattle.glock_names.specs.Views.{Seen, HasBlock}
 use Rattle.glock_names.specs.declared.steps.Missing.{Missing}
 use Rattle.dinode_tree.specs.Broken as inodes
 use Rattle.dinode_tree.specs.Shown as inodes_shown
-use Rattle.directories.specs.Shown.{IsBroken, IsNeededFor, IsShown, Says}
-use Rattle.name_inserts.specs.Inserting.{IsNeededForName, IsWrongForName}
-use Rattle.name_inserts.specs.Way.{IsOnWay}
+use Rattle.move_ends.specs.Shown.{IsBroken, IsNeededFor, IsShown, Says}
+use Rattle.name_moves.specs.Inserting.{IsNeededForName, IsWrongForName}
+use Rattle.name_moves.specs.Way.{IsOnWay}
 use Rattle.resource_groups.specs.Putting.{HasDataBlock}
-use Rattle.path_walks.specs.Walks.{IsDirectoryAt, IsLinearAt, Names}
+use Rattle.move_ends.specs.Walks.{IsDirectoryAt, IsLinearAt, Names}
 use Rattle.name_moves.specs.Moving.{IsRead, Move, freed_by, is_reparented, is_within}
 
 -- what was seen at the new name: nothing; or an inode with its dinode in this block, which goes with these

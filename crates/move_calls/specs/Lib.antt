@@ -9,3 +9,6 @@ pub use Rattle.move_ends.specs.Ends as MoveEnds
 pub use Rattle.name_moves.specs.Becoming as NameBecoming
 pub use Rattle.name_moves.specs.Moving as NameMoving
 pub use Rattle.move_ends.specs.PairWalks
+pub use Rattle.move_ends.specs.Taking
+pub use Rattle.move_ends.specs.Shown
+pub use Rattle.move_ends.specs.PairOrders

@@ -15,11 +15,11 @@ use Rattle.image_model.specs.Image.{Image}
 use Rattle.image_model.specs.Owners.{Owners, holding}
 use Rattle.image_model.specs.Stands.{Layout, flat_of}
 use Rattle.image_changes.specs.Instances.{IsAt}
-use Rattle.group_locks.specs.Groups.{has_some, holds_of_those, is_block_of}
-use Rattle.path_walks.specs.Holds.{Hold, AreHeld, hold_of_group}
+use Rattle.name_moves.specs.Groups.{has_some, holds_of_those, is_block_of}
+use Rattle.move_ends.specs.Holds.{Hold, AreHeld, hold_of_group}
 use Rattle.room_search.specs.Blocks.{blocks_of_first, free_in_all, group_of_node, have_too_few, states_by}
 use Rattle.move_ends.specs.Ends.{IsElsewhere, from_path, inode_holds, to_path}
-use Rattle.name_inserts.specs.Inserting.{SeesForName}
+use Rattle.name_moves.specs.Inserting.{SeesForName}
 use Rattle.name_moves.specs.Becoming.{LosesAll, NeedsAfter, losses}
 use Rattle.name_moves.specs.Paths.{SeesPath}
 

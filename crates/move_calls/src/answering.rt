@@ -13,8 +13,8 @@ ghost use Rattle.image_model.specs.Stands.{Layout};
 ghost use Rattle.image_changes.specs.Changes.{cover};
 ghost use Rattle.image_changes.specs.Does.{AreInside, Does, IsOf};
 ghost use Rattle.resource_groups.specs.Putting.{HasDataBlock};
-ghost use Rattle.path_walks.specs.Answers.{HasSpace, IfDone, IfNeedBlock, IfNeedLock, IfNoSpace, IfNotBuilt};
-ghost use Rattle.path_walks.specs.Holds.{AreHeld, IsAskedFor, IsFirstLack, IsUnder, holds};
+ghost use Rattle.move_ends.specs.Answers.{HasSpace, IfDone, IfNeedBlock, IfNeedLock, IfNoSpace, IfNotBuilt};
+ghost use Rattle.move_ends.specs.Holds.{AreHeld, IsAskedFor, IsFirstLack, IsUnder, holds};
 ghost use Rattle.move_ends.specs.Ends.{AreEnds, IsRenaming, IsTarget, MovesIn, from_path, inode_holds, to_path};
 ghost use Rattle.move_calls.specs.Locks.{IsNeed, IsSoOfList, IsTooFew, call_holds};
 ghost use Rattle.move_calls.specs.Moved.{IsMovedIn};
@@ -27,9 +27,8 @@ use crc_words::crc32;
 use drafts::{Attempt, Stamp};
 use file_tree::{Call, Name, Path, Reply};
 use glock_names::{CallFault, Step, View};
-use move_ends::{Ends, ends_of, from_of, to_of};
+use move_ends::{Ends, Place, ends_of, from_of, nothing, to_of};
 use name_moves::NameMove;
-use path_walks::{Place, nothing};
 use std::alloc::Global;
 
 // The last of these names.

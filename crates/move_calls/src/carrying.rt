@@ -17,8 +17,7 @@ use crate::ways::{block_on_ways, is_a_view};
 use drafts::{Attempt, Stamp};
 use file_tree::Reply;
 use glock_names::{CallFault, LockName, State, Step, View, block_of};
-use group_locks::lacked_of;
-use name_moves::NameMove;
+use name_moves::{NameMove, lacked_of};
 use room_search::{Locked, Taken, find_first};
 use std::alloc::Global;
 

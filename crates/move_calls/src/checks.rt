@@ -6,15 +6,15 @@ ghost use Rattle.glock_names.specs.Views.{HasBlock, IsOfView};
 ghost use Rattle.dinode_tree.specs.Broken.{IsBroken};
 ghost use Rattle.dinode_tree.specs.Reading.{IsRightDinode};
 ghost use Rattle.dinode_tree.specs.Shown.{IsShown};
-ghost use Rattle.directories.specs.Taking.{HasNameIn};
+ghost use Rattle.move_ends.specs.Taking.{HasNameIn};
 ghost use Rattle.resource_groups.specs.Putting.{HasDataBlock};
 ghost use Rattle.name_moves.specs.Moving.{CanBeMoved, freed_by, is_reparented, is_within, move_of};
 ghost use Rattle.move_calls.specs.Checks.{IsClear, IsDirectoryOf, IsNeededToSee, IsSeenMove, IsUnfit, IsWrongMove};
 
 use crate::ways::{block_on_ways, gets_parent, is_a_view};
 use dinode_tree::read_dinode;
-use directories::{is_hashed, look};
 use glock_names::{CallFault, Step, View};
+use move_ends::{is_hashed, look};
 use name_moves::NameMove;
 use resource_groups::group_of;
 

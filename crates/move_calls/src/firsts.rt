@@ -4,7 +4,7 @@ ghost use Rattle.glock_names.specs.Steps.{IfDamaged};
 ghost use Rattle.glock_names.specs.Views.{HasGroup, Rise};
 ghost use Rattle.glock_names.specs.declared.views.Group.{Group as GroupValue};
 ghost use Rattle.resource_groups.specs.Freeing.{HasSome};
-ghost use Rattle.group_locks.specs.Groups.{IsOneOrHas};
+ghost use Rattle.name_moves.specs.Groups.{IsOneOrHas};
 ghost use Rattle.move_calls.specs.Firsts.{is_one_or_has, those_of};
 
 use glock_names::{CallFault, Group, View};

@@ -4,18 +4,17 @@ ghost use Rattle.growth_drafts.specs.Taken.{IsDistinct};
 ghost use Rattle.gfs2_layout.specs.Holding.{Holding};
 ghost use Rattle.glock_names.specs.Steps.{IfDamaged, IfIs, IfNeedBlock};
 ghost use Rattle.glock_names.specs.Views.{IsOfView};
-ghost use Rattle.directories.specs.Shown as dirs;
+ghost use Rattle.move_ends.specs.Shown as dirs;
 ghost use Rattle.resource_groups.specs.Freeing.{BreaksSome, IsNeededFor};
 ghost use Rattle.resource_groups.specs.Putting.{HasDataBlock};
-ghost use Rattle.name_inserts.specs.Inserting.{IsNeededForName, IsWrongForName, SeesForName};
+ghost use Rattle.name_moves.specs.Inserting.{IsNeededForName, IsWrongForName, SeesForName};
 ghost use Rattle.name_moves.specs.Moving.{CanBeMoved, IsMoving, freed_by, lost_there, move_of};
 ghost use Rattle.move_calls.specs.Carrying.{HasRoom, IsDamageOf, IsOffWay, IsStuck, NeedsBlock, NeedsFor};
 
 use crate::checks::freed_blocks;
 use drafts::{Change, Draft, Stamp};
 use glock_names::{CallFault, Missing, Step, View};
-use name_inserts::need_name;
-use name_moves::{NameMove, moving, need_to_move};
+use name_moves::{NameMove, moving, need_name, need_to_move};
 use resource_groups::{free_blocks, group_of};
 use std::alloc::Global;
 

@@ -3,14 +3,13 @@ ghost use Rattle.std.specs.Prelude.{ℕ, ◌≡◌, ◌≢◌, ◌≤◌, [], Co
 ghost use Rattle.gfs2_layout.specs.Holding.{Holding};
 ghost use Rattle.glock_names.specs.Steps.{IfDamaged, IfIs, IfNeedBlock};
 ghost use Rattle.glock_names.specs.Views.{HasBlock, IsOfView, IsView};
-ghost use Rattle.directories.specs.Shown.{IsDirectoryIn, IsShown};
-ghost use Rattle.name_inserts.specs.Way.{IsOnWay, IsRightWay};
+ghost use Rattle.move_ends.specs.Shown.{IsDirectoryIn, IsShown};
+ghost use Rattle.name_moves.specs.Way.{IsOnWay, IsRightWay};
 ghost use Rattle.name_moves.specs.Moving.{CanBeMoved, Move, is_reparented, move_of};
 ghost use Rattle.move_calls.specs.Checks.{IsNeededOnWays, IsOffItsWays, IsOnItsWay, IsWayOf, IsWrongOnWays};
 
 use glock_names::{CallFault, Step, View};
-use name_inserts::block_on_way;
-use name_moves::NameMove;
+use name_moves::{NameMove, block_on_way};
 
 /// A law: what a node has of the file system is a view of it.
 pub(crate) fn is_a_view<V: View>(view: &V)

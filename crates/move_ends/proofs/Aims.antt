@@ -8,7 +8,7 @@ use Rattle.gfs2_layout.specs.Structures.{is_directory}
 use Rattle.glock_names.specs.Views.{Seen}
 use Rattle.dinode_tree.specs.Shown.{IsShown}
 use Rattle.dinode_tree.proofs.Sound.{some_is_shown}
-use Rattle.path_walks.specs.declared.walk.Place.{Place}
+use Rattle.pair_walks.specs.walk.Place.{Place}
 use Rattle.removing_calls.specs.Removing.{CountsItsRecords, IsDirectoryAim, IsFileAim}
 use Rattle.removing_calls.specs.declared.aims.Aim.TheVariants as aim
 use Rattle.move_ends.specs.Ends.{IsKindAt, MayGo, a_directory, a_file}

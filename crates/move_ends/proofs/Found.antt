@@ -14,7 +14,7 @@ use Rattle.glock_names.specs.Views.{Seen}
 use Rattle.glock_names.specs.declared.steps.Missing.{Missing}
 use Rattle.dinode_tree.specs.Below.{AnyIndex}
 use Rattle.dinode_tree.specs.Shown.{IsShown}
-use Rattle.directories.specs.Shown as dirs
+use Rattle.pair_walks.specs.Shown as dirs
 use Rattle.image_model.specs.Flat.{ADir, AFile, Node, Path, follow, no_node, thing_at, thing_from, thing_in}
 use Rattle.image_model.specs.Image.{Image}
 use Rattle.image_model.specs.Nodes.{node_of}
@@ -28,11 +28,11 @@ use Rattle.image_changes.proofs.DirectoryNames.{directories_list}
 use Rattle.image_changes.proofs.FlatPaths.{follow-append}
 use Rattle.image_changes.proofs.Nodes.{dir_thing, file_thing}
 use Rattle.image_changes.proofs.Walks.{walks_find}
-use Rattle.path_walks.specs.Holds.{AreHeld, IsAskedFor}
-use Rattle.path_walks.specs.Walks.{IsPlaceOf, IsSeenAt}
-use Rattle.path_walks.specs.declared.walk.Place.{Place}
-use Rattle.path_walks.proofs.Asked.{IsAmong, asked_among, names_asked}
-use Rattle.path_walks.proofs.Images.{is_inode, is_shown, no_child_of_file, shown_inode, unbroken, unbroken_directory}
+use Rattle.pair_walks.specs.Holds.{AreHeld, IsAskedFor}
+use Rattle.pair_walks.specs.OnePath.{IsPlaceOf, IsSeenAt}
+use Rattle.pair_walks.specs.walk.Place.{Place}
+use Rattle.pair_walks.proofs.Asked.{IsAmong, asked_among, names_asked}
+use Rattle.pair_walks.proofs.Images.{is_inode, is_shown, no_child_of_file, shown_inode, unbroken, unbroken_directory}
 use Rattle.pair_walks.specs.Orders.{pair_holds}
 use Rattle.pair_walks.specs.Walks.{IsEndIn}
 use Rattle.pair_walks.specs.declared.walk.End.{End}

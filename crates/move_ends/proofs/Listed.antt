@@ -16,7 +16,7 @@ use Rattle.image_model.specs.Owners.{Owners}
 use Rattle.image_model.specs.Stands.{Layout, flat_of}
 use Rattle.image_model.proofs.Members.{IsIn, in_flat_map, in_left, in_right}
 use Rattle.image_changes.specs.Instances.{IsAt}
-use Rattle.path_walks.specs.Holds.{Hold, hold_for, hold_of, holds_in, holds_on}
+use Rattle.pair_walks.specs.Holds.{Hold, hold_for, hold_of, holds_in, holds_on}
 use Rattle.pair_walks.specs.Orders.{beside, in_both, left_after, merged, pair_holds, stronger}
 use Rattle.pair_walks.proofs.Paths.{ends_so}
 use Rattle.move_ends.specs.Ends.{IsElsewhere, first_wants, from_path, inode_holds, second_wants, to_path}

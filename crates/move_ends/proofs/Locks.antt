@@ -19,11 +19,11 @@ use Rattle.image_model.specs.Image.{Image}
 use Rattle.image_model.specs.Owners.{Owners}
 use Rattle.image_model.specs.Stands.{Layout, flat_of}
 use Rattle.image_changes.specs.Instances.{IsAt}
-use Rattle.path_walks.specs.Holds.{Hold, AreHeld, IsAskedFor, IsFirstLack, hold_for, hold_of, holds, holds_in, holds_on}
-use Rattle.path_walks.specs.Walks.{AreInOrder}
-use Rattle.path_walks.proofs.Asked.{IsAmong}
-use Rattle.path_walks.proofs.Lists.{made_at}
-use Rattle.path_walks.proofs.Longer.{asked_behind, lack_behind}
+use Rattle.pair_walks.specs.Holds.{Hold, AreHeld, IsAskedFor, IsFirstLack, hold_for, hold_of, holds, holds_in, holds_on}
+use Rattle.pair_walks.specs.OnePath.{AreInOrder}
+use Rattle.pair_walks.proofs.Asked.{IsAmong}
+use Rattle.pair_walks.proofs.Lists.{made_at}
+use Rattle.pair_walks.proofs.Longer.{asked_behind, lack_behind}
 use Rattle.pair_walks.specs.Orders.{beside, ends_both, in_both, left_after, merged, pair_holds}
 use Rattle.move_ends.specs.Ends.{first_wants, from_path, inode_holds, is_empty, order_hold, second_wants, to_path}
 

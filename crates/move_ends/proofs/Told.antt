@@ -16,10 +16,10 @@ use Rattle.dinode_tree.specs.Shown.{IsShown}
 use Rattle.dinode_tree.proofs.Sound.{some_is_shown}
 use Rattle.resource_groups.specs.Putting.{HasDataBlock}
 use Rattle.image_model.specs.Flat.{Path}
-use Rattle.path_walks.specs.Answers.{Refuses}
-use Rattle.path_walks.specs.Walks.{IsDamage, IsSeenAt, LacksName, IsWrongAt, LeadsTo, Names, at_root, by_name, on_path}
-use Rattle.path_walks.specs.Walks as path
-use Rattle.path_walks.specs.declared.walk.Place.{Place}
+use Rattle.pair_walks.specs.Answers.{Refuses}
+use Rattle.pair_walks.specs.OnePath.{IsDamage, IsSeenAt, LacksName, IsWrongAt, LeadsTo, Names, at_root, by_name, on_path}
+use Rattle.pair_walks.specs.OnePath as path
+use Rattle.pair_walks.specs.walk.Place.{Place}
 use Rattle.pair_walks.specs.Walks.{IsEndOf}
 use Rattle.pair_walks.specs.declared.walk.End.{End}
 use Rattle.pair_walks.specs.declared.walk.End.TheVariants as end

@@ -8,8 +8,8 @@ use Rattle.glock_names.specs.declared.State.TheVariants.{Sh, Ex}
 use Rattle.call_locks.specs.Wants.{at_move, at_old_name, shared_above, want, wanted, way_to}
 use Rattle.call_locks.specs.declared.want.Want.{Want}
 use Rattle.image_model.specs.Flat.{Path}
-use Rattle.path_walks.specs.Walks.{AreInOrder}
-use Rattle.path_walks.proofs.Wants.{AreFrom, push}
+use Rattle.pair_walks.specs.OnePath.{AreInOrder}
+use Rattle.pair_walks.proofs.Wants.{AreFrom, push}
 use Rattle.pair_walks.proofs.Paths.{ends_so}
 use Rattle.move_ends.specs.Ends.{IsRenaming, first_wants, from_path, second_wants, to_path}
 

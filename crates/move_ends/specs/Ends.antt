@@ -19,18 +19,18 @@ use Rattle.call_locks.specs.WantLaws.{path_of}
 use Rattle.call_locks.specs.Wants.{at_old_name}
 use Rattle.call_locks.specs.declared.want.Want.{Want}
 use Rattle.dinode_tree.specs.Shown.{IsShown}
-use Rattle.directories.specs.Shown.{CountsItsLeaves}
-use Rattle.directories.specs.Shown as dirs
+use Rattle.pair_walks.specs.Shown.{CountsItsLeaves}
+use Rattle.pair_walks.specs.Shown as dirs
 use Rattle.resource_groups.specs.Putting.{HasDataBlock}
 use Rattle.image_model.specs.Flat.{Path, follow, tree_at}
 use Rattle.image_model.specs.Image.{Image}
 use Rattle.image_model.specs.Owners.{Owners, holding}
 use Rattle.image_model.specs.Stands.{Layout, flat_of}
 use Rattle.image_changes.specs.Instances.{IsAt, IsChildless, dinode_at, is_directory_at, records_at}
-use Rattle.path_walks.specs.Answers.{Refuses}
-use Rattle.path_walks.specs.Holds.{Hold, AreHeld, IsAskedFor, IsFirstLack, holds}
-use Rattle.path_walks.specs.Walks.{IsAbsent, IsOnTheWay, IsPlaceOf, IsSeenAt, LacksName, LeadsTo}
-use Rattle.path_walks.specs.declared.walk.Place.{Place}
+use Rattle.pair_walks.specs.Answers.{Refuses}
+use Rattle.pair_walks.specs.Holds.{Hold, AreHeld, IsAskedFor, IsFirstLack, holds}
+use Rattle.pair_walks.specs.OnePath.{IsAbsent, IsOnTheWay, IsPlaceOf, IsSeenAt, LacksName, LeadsTo}
+use Rattle.pair_walks.specs.walk.Place.{Place}
 use Rattle.pair_walks.specs.Orders.{pair_holds}
 use Rattle.pair_walks.specs.Walks.{IsPairDamage, IsPairLacked, IsPairUnread}
 use Rattle.removing_calls.specs.Removing.{BreaksAsLinear, CountsItsRecords, Goes, IsNeededOf, IsWrongBelow}

@@ -8,9 +8,9 @@ use Rattle.glock_names.specs.Views.{Seen, HasBlock}
 use Rattle.dinode_tree.specs.Broken.{IsBroken}
 use Rattle.dinode_tree.specs.Shown.{IsShown}
 use Rattle.resource_groups.specs.Putting.{HasDataBlock}
-use Rattle.directories.specs.Shown.{CountsItsLeaves}
-use Rattle.directories.specs.Shown as dirs
-use Rattle.path_walks.specs.declared.walk.Place.{Place}
+use Rattle.pair_walks.specs.Shown.{CountsItsLeaves}
+use Rattle.pair_walks.specs.Shown as dirs
+use Rattle.pair_walks.specs.walk.Place.{Place}
 use Rattle.pair_walks.specs.declared.walk.End.{End}
 use Rattle.pair_walks.specs.declared.walk.End.TheVariants as end
 use Rattle.removing_calls.specs.Removing.{AreAllOf, BreaksAsLinear, IsDirectoryAim, IsFileAim, IsNeededOf, IsWrongBelow}

@@ -1,7 +1,7 @@
 // What a try of a call that moves a name finds at the ends of its paths.
 use file_tree::Reply;
 use glock_names::{LockName, Missing, State};
-use path_walks::Place;
+use pair_walks::Place;
 
 /// What a try of a call that moves a name finds at the ends of its paths.
 #[derive(Drop)]

@@ -7,3 +7,4 @@ mod over;
 
 pub use ends::Ends;
 pub use finding::{ends_of, from_of, to_of};
+pub use pair_walks::{Place, is_hashed, look, nothing};

@@ -15,8 +15,7 @@ use crate::ends::Ends;
 use dinode_tree::read_dinode;
 use file_tree::Reply;
 use glock_names::{CallFault, Missing, Step, View};
-use pair_walks::End;
-use path_walks::Place;
+use pair_walks::{End, Place};
 use removing_calls::{Aim, blocks_of, directory_aim, file_aim};
 use std::alloc::Global;
 

@@ -9,3 +9,7 @@ pub use Rattle.name_inserts.specs.Need
 pub use Rattle.name_inserts.specs.Needing
 pub use Rattle.name_inserts.specs.DirectoryShown
 pub use Rattle.name_inserts.specs.Way
+pub use Rattle.path_walks.specs.declared.walk
+pub use Rattle.path_walks.specs.Answers
+pub use Rattle.path_walks.specs.Holds
+pub use Rattle.path_walks.specs.Walks

@@ -8,4 +8,5 @@ mod saying;
 
 pub use drafting::{NewBlock, addition};
 pub use laws::places_can_get_names;
-pub use name_inserts::{block_on_way, look, need_name};
+pub use name_inserts::{block_on_way, look, need_name, put_name};
+pub use path_walks::{Place, Walk, nothing, walk_along};

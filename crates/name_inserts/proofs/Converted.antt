@@ -11,8 +11,8 @@ use Rattle.gfs2_layout.specs.Inode.{depth_in, entry, is_directory_in, is_hashed_
 use Rattle.gfs2_layout.specs.declared.dinode.Dinode.{Dinode}
 use Rattle.gfs2_layout.specs.declared.leaf.Leaf.{Leaf}
 use Rattle.leaf_areas.specs.Moving.{in_use, packed}
-use Rattle.hash_dirs.specs.Shown.{IsSound, index_for}
-use Rattle.hash_dirs.proofs.Chained.{index_low, inside}
+use Rattle.hash_inserts.specs.Shown.{IsSound, index_for}
+use Rattle.hash_inserts.proofs.Chained.{index_low, inside}
 use Rattle.hash_inserts.specs.Steps.{IsConverted, first_count}
 use Rattle.hash_inserts.specs.Needing.{Chain, Needs, TakesBlocksFirst}
 use Rattle.name_inserts.specs.Need.{chain_of, first_chain, first_depth, leaves_from, most_steps, need_in_hashed, need_within}

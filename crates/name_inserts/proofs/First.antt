@@ -16,8 +16,8 @@ use Rattle.glock_names.specs.Views.{HasBlock, Seen}
 use Rattle.dinode_tree.specs.Shown as inode
 use Rattle.dinode_tree.proofs.Sound.{sound_is_whole}
 use Rattle.resource_groups.specs.Putting.{HasDataBlock}
-use Rattle.hash_dirs.specs.Shown.{IsShown, IsSound, index_for}
-use Rattle.hash_dirs.proofs.Chained.{index_low, rules}
+use Rattle.hash_inserts.specs.Shown.{IsShown, IsSound, index_for}
+use Rattle.hash_inserts.proofs.Chained.{index_low, rules}
 use Rattle.hash_inserts.specs.Steps.{IsConverted, first_count}
 use Rattle.hash_inserts.specs.Finding.{IsOnlyLeaf}
 use Rattle.hash_inserts.specs.Inserting.{ConvertsWithin, MayChange, StaysInside, a_data_block, a_taken_one, the_dinode}

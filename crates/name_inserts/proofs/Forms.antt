@@ -3,8 +3,8 @@ use Rattle.std.proofs.Common.{ℕ}
 use Rattle.gfs2_layout.specs.Holding.{Holding}
 use Rattle.glock_names.specs.Views.{Seen}
 use Rattle.dinode_tree.proofs.Sound.{sound_is_whole}
-use Rattle.hash_dirs.specs.Shown as hashed
-use Rattle.hash_dirs.specs.Shown.{IsSound}
+use Rattle.hash_inserts.specs.Shown as hashed
+use Rattle.hash_inserts.specs.Shown.{IsSound}
 use Rattle.directories.specs.Shown.{IsShown}
 
 -- a sound one that is shown with its leaves has whole blocks

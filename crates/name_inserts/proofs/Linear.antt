@@ -31,7 +31,7 @@ use Rattle.std.specs.Cmp.{nat_cmp_total}
 use Rattle.std.specs.FinMap.{nat_cmp-IsAntisymmetric}
 use Rattle.pointer_tables.specs.Directories.{IsPlaced}
 use Rattle.hash_inserts.specs.Tables.{DraftsDirectory}
-use Rattle.hash_dirs.specs.Shown.{IsSound}
+use Rattle.hash_inserts.specs.Shown.{IsSound}
 use Rattle.hash_inserts.proofs.PutSteps.{none_counted}
 use Rattle.hash_inserts.proofs.Sound.{count_moved}
 use Rattle.directories.specs.Shown.{IsShown}

@@ -10,9 +10,9 @@ use Rattle.gfs2_layout.specs.Holding.{Holding, InChain}
 use Rattle.gfs2_layout.specs.Inode.{entry, first_hash, is_hashed_in, leaf_area, leaf_in, table_count}
 use Rattle.pointer_tables.specs.Directories.{chain_head, chain_next}
 use Rattle.hash_inserts.specs.Tables.{doubling_need}
-use Rattle.hash_dirs.specs.Shown.{IsInChain, IsSound, index_for}
-use Rattle.hash_dirs.proofs.Along.{comes_back}
-use Rattle.hash_dirs.proofs.Chained.{deep, head_some, in_chain, index_low, inside, rules, same_hash, some_block}
+use Rattle.hash_inserts.specs.Shown.{IsInChain, IsSound, index_for}
+use Rattle.hash_inserts.proofs.Along.{comes_back}
+use Rattle.hash_inserts.proofs.Chained.{deep, head_some, in_chain, index_low, inside, rules, same_hash, some_block}
 use Rattle.hash_inserts.specs.Leaves.{has_room_for}
 use Rattle.hash_inserts.specs.Needing.{AreLeavesFrom, Chain, Needs, TakesBlocks, a_doubling, a_leaf, a_split, can_double, doubled, nothing, one_more, split_for, the_last}
 use Rattle.name_inserts.specs.Need.{chain_of, first_leaf, has_one, is_growable, leaves_from, most_steps, need_in_hashed, need_within}

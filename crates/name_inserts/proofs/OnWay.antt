@@ -12,12 +12,12 @@ use Rattle.gfs2_layout.specs.declared.leaf.Leaf.{Leaf}
 use Rattle.gfs2_layout.proofs.HeaderLaws.{answer_ok, some_none}
 use Rattle.glock_names.specs.Views.{Seen}
 use Rattle.resource_groups.specs.Putting.{HasDataBlock}
-use Rattle.hash_dirs.specs.Broken.{IsBroken, leaf_entries, no_header as lacks_header, records_format, unfilled as not_filled}
-use Rattle.hash_dirs.specs.Shown.{IsInChain, IsShown, LeadsToLeaf, index_for}
-use Rattle.hash_dirs.specs.Walking.{IsLeafOf}
-use Rattle.hash_dirs.specs.declared.chains.LeafAt.{LeafAt}
-use Rattle.hash_dirs.proofs.Along.{chain_one, ended}
-use Rattle.hash_dirs.proofs.Leaves.{bytes_there}
+use Rattle.hash_inserts.specs.Broken.{IsBroken, leaf_entries, no_header as lacks_header, records_format, unfilled as not_filled}
+use Rattle.hash_inserts.specs.Shown.{IsInChain, IsShown, LeadsToLeaf, index_for}
+use Rattle.hash_inserts.specs.ChainWalking.{IsLeafOf}
+use Rattle.hash_inserts.specs.chains.LeafAt.{LeafAt}
+use Rattle.hash_inserts.proofs.Along.{chain_one, ended}
+use Rattle.hash_inserts.proofs.ChainLeaves.{bytes_there}
 use Rattle.directories.specs.Pointers.{IsTableOf}
 use Rattle.directories.specs.tree_table.TreeTable.{TreeTable}
 use Rattle.name_inserts.specs.Way.{AreOfLeaf, AreRightAlong, AreRightBefore, BreaksLeaf, IsOnWay, IsRightBehind, IsRightLeaf, IsRightTable, its_dinode, its_leaf, its_pointer, no_header, other_count, other_format, unfilled}

@@ -13,7 +13,7 @@ use Rattle.glock_names.specs.declared.steps.Entry.{Entry}
 use Rattle.growth_drafts.specs.Taken.{AreFreeFor, HasTaken}
 use Rattle.linear_dirs.specs.Shown.{record_for}
 use Rattle.hash_inserts.specs.Tables.{DraftsDirectory}
-use Rattle.hash_dirs.specs.Shown.{IsSound}
+use Rattle.hash_inserts.specs.Shown.{IsSound}
 use Rattle.hash_inserts.proofs.Joins.{joined}
 use Rattle.hash_inserts.specs.Inserting.{CanCountOne, Converts, Inserts}
 use Rattle.hash_inserts.proofs.Joined.{drafted_join, taken_join}

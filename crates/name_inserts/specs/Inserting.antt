@@ -17,7 +17,7 @@ use Rattle.growth_drafts.specs.Taken.{AreFreeFor, HasTaken}
 use Rattle.linear_dirs.specs.Exchanges.{HasExchanged, IsLaidOver, uncounted}
 use Rattle.linear_dirs.specs.Shown.{head_for, record_for}
 use Rattle.hash_inserts.specs.Tables.{DraftsDirectory}
-use Rattle.hash_dirs.specs.Shown.{IsSound}
+use Rattle.hash_inserts.specs.Shown.{IsSound}
 use Rattle.hash_inserts.specs.Steps.{IsConverted}
 use Rattle.hash_inserts.specs.Inserting.{CanCountOne, IsInserted, IsInsertedAt, IsNeededToInsert, IsWrongToInsert}
 use Rattle.hash_inserts.specs.Needing.{SeesToInsert}

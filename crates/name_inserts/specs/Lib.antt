@@ -5,3 +5,5 @@ pub mod Way
 pub use Rattle.directories.specs.Shown as DirectoryShown
 pub use Rattle.hash_inserts.specs.Inserting as HashInserting
 pub use Rattle.hash_inserts.specs.Needing
+pub use Rattle.hash_inserts.specs.Tables
+pub use Rattle.hash_inserts.specs.Pointers

@@ -7,7 +7,7 @@ use Rattle.gfs2_layout.specs.Holding.{Holding}
 use Rattle.gfs2_layout.specs.Inode.{depth_in, dinode_in, entry, is_hashed_in, leaf_area, leaf_in, leaf_length, linear_area}
 use Rattle.leaf_areas.specs.Moving.{in_use, packed}
 use Rattle.hash_inserts.specs.Tables.{doubling_need}
-use Rattle.hash_dirs.specs.Shown.{index_for}
+use Rattle.hash_inserts.specs.Shown.{index_for}
 use Rattle.hash_inserts.specs.Leaves.{has_room_for, leaf_depth}
 use Rattle.hash_inserts.specs.Needing.{Chain, doubled, split_for}
 

@@ -11,7 +11,7 @@ use Rattle.glock_names.specs.Views.{Seen, HasBlock}
 use Rattle.dinode_tree.specs.Below.{IsBelow}
 use Rattle.dinode_tree.specs.Reading.{IsRightDinode}
 use Rattle.resource_groups.specs.Putting.{HasDataBlock}
-use Rattle.hash_dirs.specs.Shown.{IsInChain, index_for}
+use Rattle.hash_inserts.specs.Shown.{IsInChain, index_for}
 
 -- A block on the way to a name: the dinode's; of a hashed directory that of the table with the pointer to the name's chain, and each leaf of this.
 pub data IsOnWay (h : Holding) (name : List ℕ) (b : ℕ) : Type 0 where

@@ -9,7 +9,7 @@ ghost use Rattle.linear_dirs.specs.Shown.{IsLinearIn};
 ghost use Rattle.dinode_tree.specs.Walking.{missing_dinode};
 ghost use Rattle.dinode_tree.specs.Shown as inode;
 ghost use Rattle.directories.specs.Shown.{IsDirectoryIn, IsShown};
-ghost use Rattle.hash_dirs.specs.Shown.{IsSound};
+ghost use Rattle.hash_inserts.specs.Shown.{IsSound};
 ghost use Rattle.hash_inserts.specs.Needing.{SeesToInsert, TakesBlocks};
 ghost use Rattle.name_inserts.specs.Need.{has_linear_room, need_in_hashed, need_in_linear, name_need};
 ghost use Rattle.name_inserts.specs.Inserting.{IsNeededForName, IsWrongForName, SeesForName};

@@ -13,7 +13,7 @@ ghost use Rattle.linear_dirs.specs.Shown.{IsLinearIn, holding_over};
 ghost use Rattle.resource_groups.specs.Putting.{HasDataBlock};
 ghost use Rattle.growth_drafts.specs.Taken.{AreFreeFor};
 ghost use Rattle.directories.specs.Shown.{IsDirectoryIn, IsShown};
-ghost use Rattle.hash_dirs.specs.Shown.{IsSound};
+ghost use Rattle.hash_inserts.specs.Shown.{IsSound};
 ghost use Rattle.hash_inserts.specs.Inserting.{CanCountOne, Inserts, StaysInside};
 ghost use Rattle.hash_inserts.specs.Needing.{TakesBlocks};
 ghost use Rattle.name_inserts.specs.Need.{has_linear_room, name_need};

@@ -5,10 +5,10 @@ ghost use Rattle.gfs2_layout.specs.Inode.{Fits, depth_in, is_hashed_in};
 ghost use Rattle.glock_names.specs.Steps.{IfIs, IfNeedBlock, IfDamaged, OnlyDamaged};
 ghost use Rattle.glock_names.specs.Views.{HasBlock, IsOfView};
 ghost use Rattle.directories.specs.Shown.{IsDirectoryIn, IsShown};
-ghost use Rattle.hash_dirs.specs.Broken.{IsWrongIn};
-ghost use Rattle.hash_dirs.specs.Shown as hashed;
-ghost use Rattle.hash_dirs.specs.Shown.{IsInChain, IsNeededFor};
-ghost use Rattle.hash_dirs.specs.Walking.{OfEach};
+ghost use Rattle.hash_inserts.specs.Broken.{IsWrongIn};
+ghost use Rattle.hash_inserts.specs.Shown as hashed;
+ghost use Rattle.hash_inserts.specs.Shown.{IsInChain, IsNeededFor};
+ghost use Rattle.hash_inserts.specs.ChainWalking.{OfEach};
 ghost use Rattle.name_inserts.specs.Inserting.{IsNeededForName, IsWrongForName};
 ghost use Rattle.name_inserts.specs.Way.{AreOfLeaf, AreRightAlong, BreaksLeaf, IsOnWay, IsRightBehind, IsRightWay};
 
@@ -17,7 +17,7 @@ use dinode_tree::read_dinode;
 use directories::{TreeTable, is_hashed};
 use gfs2_layout::{Leaf, has_header, is_area};
 use glock_names::{CallFault, Step, View, block_of};
-use hash_dirs::{IN_LEAF, count_records, damaged, index_of, leaf_at};
+use hash_inserts::{IN_LEAF, count_records, damaged, index_of, leaf_at};
 use pointer_tables::{Pointer, PointerTable};
 use profile_limits::MOST_BLOCKS;
 

@@ -16,9 +16,9 @@ use Rattle.directories.specs.Shown.{IsBroken, IsDirectoryIn, IsNeededFor, IsShow
 use Rattle.directories.specs.Taking.{HasNameIn, IsWithoutName, PutsTwo}
 use Rattle.directories.proofs.Forms.{is_directory_here}
 use Rattle.directories.proofs.Sound.{says_sound}
-use Rattle.path_walks.proofs.Faults.{tells_each, tells_so}
-use Rattle.path_walks.proofs.Images.{no_record}
-use Rattle.name_inserts.specs.Inserting.{IsNeededForName, IsWrongForName, SeesForName}
+use Rattle.name_drafts.proofs.WalkFaults.{tells_each, tells_so}
+use Rattle.name_drafts.proofs.Images.{no_record}
+use Rattle.name_drafts.specs.Inserting.{IsNeededForName, IsWrongForName, SeesForName}
 use Rattle.name_moves.specs.Becoming.{CanTell, IsAfter, none_went, of_linear, of_none, of_sound}
 use Rattle.name_moves.specs.Steps.{AreLost, left_of}
 use Rattle.name_moves.proofs.Loses.{all_directory, all_plain, all_sound, named_plain, named_sound, only_one, plain_says, still_named, tell_as}

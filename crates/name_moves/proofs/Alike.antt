@@ -31,7 +31,7 @@ use Rattle.hash_dirs.proofs.Anew.{KeepsTree, alike, content_after}
 use Rattle.hash_dirs.proofs.Chained.{head_some, in_chain, index_low}
 use Rattle.hash_dirs.proofs.Named.{find_some}
 use Rattle.hash_steps.specs.Leaves.{has_room_for, leaf_depth}
-use Rattle.name_inserts.specs.Need.{chain_of, first_depth, leaves_from, most_steps, name_need, need_in_hashed, need_in_linear, need_within}
+use Rattle.name_drafts.specs.Need.{chain_of, first_depth, leaves_from, most_steps, name_need, need_in_hashed, need_in_linear, need_within}
 use Rattle.name_moves.specs.Becoming.{HasItsBlocks, LosesAll, LosesName, NeedsAfter, NeedsJust, of_none, of_one}
 use Rattle.name_moves.proofs.Loses.{all_sound, sound_lost}
 

@@ -24,10 +24,10 @@ use Rattle.hash_dirs.specs.Shown as hashed
 use Rattle.directories.specs.Shown.{IsNeededFor, IsShown}
 use Rattle.directories.specs.Shown as dirs
 use Rattle.directories.proofs.Sound.{leaf_part}
-use Rattle.path_walks.proofs.Images.{dinode_used, is_inode, lock_of_inode, shown_inode, sound_directory}
-use Rattle.name_inserts.specs.HashInserting as inserting
-use Rattle.name_inserts.specs.Inserting.{IsNeededForName}
-use Rattle.name_inserts.specs.Inserting as naming
+use Rattle.name_drafts.proofs.Images.{dinode_used, is_inode, lock_of_inode, shown_inode, sound_directory}
+use Rattle.name_drafts.specs.HashInserting as inserting
+use Rattle.name_drafts.specs.Inserting.{IsNeededForName}
+use Rattle.name_drafts.specs.Inserting as naming
 use Rattle.name_moves.specs.Becoming.{IsAfter, LosesAll}
 use Rattle.name_moves.specs.Moving.{ArePlacesIn, CanBeMoved, IsAskedIn, IsAskedOf, IsAskedUnder, IsNeededIn, IsNeededThere, IsOneOf, Move, a_group, is_reparented, lost_there, new_first, old_first, old_then, the_inode, the_source, the_target}
 use Rattle.name_moves.specs.Moving as moving

@@ -15,7 +15,7 @@ use Rattle.glock_names.specs.declared.views.Group.{Group}
 use Rattle.dinode_tree.specs.Shown.{IsAsSeen}
 use Rattle.resource_groups.specs.Putting.{HasDataBlock}
 use Rattle.resource_groups.specs.Shown.{IsHeaderOf}
-use Rattle.name_inserts.specs.Inserting.{IsNamedAt}
+use Rattle.name_drafts.specs.Inserting.{IsNamedAt}
 use Rattle.name_drafts.proofs.Fates.{alike_seen}
 use Rattle.name_drafts.proofs.Faults.{data_apart}
 use Rattle.name_drafts.proofs.Grown.{over_alike}

@@ -23,7 +23,7 @@ use Rattle.image_model.proofs.Members.{IsIn, contained, is_in}
 use Rattle.image_changes.specs.Does.{AreInside, LiesInGroup}
 use Rattle.image_changes.specs.Drafted.{is_freed, is_gone, is_put}
 use Rattle.image_changes.proofs.Inside.{stay_inside}
-use Rattle.path_walks.proofs.Lying.{data_lies, header_lies}
+use Rattle.name_drafts.proofs.Lying.{data_lies, header_lies}
 use Rattle.name_drafts.proofs.Fates.{lock_put}
 use Rattle.name_drafts.proofs.Faults.{data_apart}
 use Rattle.name_moves.specs.Moving.{AreJournaled, IsPlaceOfMove, IsPutUnder, Move, PutsUnder, freed_by}

@@ -23,7 +23,7 @@ use Rattle.image_model.proofs.Members.{IsIn, is_in}
 use Rattle.image_changes.specs.Does.{IsOf}
 use Rattle.image_changes.specs.Instances.{IsAt, is_directory_at}
 use Rattle.draft_changes.proofs.Views.{groups_are_listed}
-use Rattle.path_walks.proofs.Images.{is_inode, is_sound}
+use Rattle.name_drafts.proofs.Images.{is_inode, is_sound}
 
 -- ---- there are few records in an area
 

@@ -28,7 +28,7 @@ use Rattle.directories.specs.Shown.{IsShown}
 use Rattle.directories.specs.Taking.{HasNameIn, HasRecordOf, IsWithoutName, PutsTwo}
 use Rattle.new_inodes.specs.Touched.{IsTouched, with_times}
 use Rattle.resource_groups.specs.Putting.{HasDataBlock}
-use Rattle.name_inserts.specs.HashInserting.{MayChange, a_data_block, the_dinode}
+use Rattle.name_drafts.specs.HashInserting.{MayChange, a_data_block, the_dinode}
 use Rattle.name_redirects.specs.Leading.{record_led_to}
 use Rattle.name_redirects.specs.Redirects.{IsNameLed, IsRedirected, PutsOne, records_from}
 use Rattle.name_drafts.specs.Drafting.{HasTimes}

@@ -28,9 +28,9 @@ use Rattle.image_changes.specs.Instances.{IsAt, is_directory_at}
 use Rattle.image_changes.proofs.Frame.{dinode_its}
 use Rattle.draft_changes.proofs.Rows.{cell_its, its_cell}
 use Rattle.draft_changes.proofs.Saying.{free_blocks_are_new}
-use Rattle.path_walks.proofs.Images.{is_inode, is_shown, shown_inode, sound_directory}
-use Rattle.name_inserts.specs.HashInserting.{CanCountOne}
-use Rattle.name_inserts.specs.Inserting.{CanGetName}
+use Rattle.name_drafts.proofs.Images.{is_inode, is_shown, shown_inode, sound_directory}
+use Rattle.name_drafts.specs.HashInserting.{CanCountOne}
+use Rattle.name_drafts.specs.Inserting.{CanGetName}
 use Rattle.name_drafts.proofs.InImage.{no_group_block}
 use Rattle.name_moves.specs.Becoming.{HasItsBlocks, LosesAll, LosesName, losses, of_none, of_one}
 use Rattle.name_moves.specs.Moving.{AreApart, CanBeMoved, IsClearOf, IsMoveIn, Move, ShareNone, StandsThere, an_inode, blocks_or_none, freed_by, is_reparented, is_within, lost_there, nothing}

@@ -14,7 +14,7 @@ use Rattle.nested_drafts.specs.Nested.{fate_over}
 use Rattle.nested_drafts.proofs.Over.{fates_put}
 use Rattle.resource_groups.specs.Putting.{HasDataBlock}
 use Rattle.image_model.proofs.Held.{none_some}
-use Rattle.name_inserts.specs.HashInserting.{MayChange, a_data_block, a_taken_one, the_dinode}
+use Rattle.name_drafts.specs.HashInserting.{MayChange, a_data_block, a_taken_one, the_dinode}
 use Rattle.name_drafts.specs.Steps.{LeavesGroups}
 use Rattle.name_drafts.proofs.Faults.{data_apart}
 use Rattle.name_moves.specs.Moving.{IsPlaceOfMove, IsPutUnder, Move, is_reparented, is_within}

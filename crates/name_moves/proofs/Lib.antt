@@ -20,3 +20,7 @@ pub mod Asked
 -- Passed on to the crates above.
 pub use Rattle.name_drafts.proofs.Fates
 pub use Rattle.name_drafts.proofs.SeenPaths
+pub use Rattle.group_locks.proofs.Locks
+pub use Rattle.group_locks.proofs.Listed
+pub use Rattle.group_locks.proofs.Fronts
+pub use Rattle.name_redirects.proofs.Places

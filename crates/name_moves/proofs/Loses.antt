@@ -33,7 +33,7 @@ use Rattle.directories.specs.Shown as dirs
 use Rattle.directories.specs.Taking.{HasRecordOf, IsWithoutName}
 use Rattle.directories.specs.Taking as taking
 use Rattle.directories.proofs.Sound.{says_sound}
-use Rattle.path_walks.proofs.Images.{none_named}
+use Rattle.name_drafts.proofs.Images.{none_named}
 use Rattle.name_moves.specs.Becoming.{CanTell, HasItsBlocks, IsAtRecord, IsLostAt, LosesAll, LosesName, none_went, of_linear, of_none, of_one, of_sound}
 
 -- ---- what a draft leaves of what is shown
@@ -252,8 +252,8 @@ leaf_there v dir h name _ shown sound (taking.HasRecordOf.in_linear plain) = sho
 leaf_there v dir h name x shown sound (taking.HasRecordOf.in_hashed y hashed leaf) = by (Some x) leaf x refl
   where
     by : (found : Option ℕ) → IsLeafOfName h name found → (x : ℕ) → found ≡ Some x → IsSome (h.cell x)
-    by _ (in_this place y r chain is later) x e = subst (λ b. IsSome (h.cell b)) (some_same e) (cell_some (h.cell y) _ (in_chain h sound hashed (index_for h name) place y chain))
-    by _ (in_none ends later) x e = absurd (none_some e)
+    by _ (in_this place y r chain is later heads) x e = subst (λ b. IsSome (h.cell b)) (some_same e) (cell_some (h.cell y) _ (in_chain h sound hashed (index_for h name) place y chain))
+    by _ (in_none ends later heads) x e = absurd (none_some e)
 
 -- ---- another name is still there
 

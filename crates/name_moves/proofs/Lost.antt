@@ -21,7 +21,7 @@ use Rattle.directories.specs.Shown.{IsDirectoryIn, IsShown}
 use Rattle.directories.specs.Taking.{HasNameIn, HasRecordOf, IsWithoutName, PutsTwo}
 use Rattle.directories.proofs.Forms.{dinode_here, is_directory_here}
 use Rattle.resource_groups.specs.Putting.{HasDataBlock}
-use Rattle.name_inserts.specs.HashInserting.{MayChange, a_data_block, the_dinode}
+use Rattle.name_drafts.specs.HashInserting.{MayChange, a_data_block, the_dinode}
 use Rattle.name_drafts.proofs.Fates.{alike_seen, put_seen, seen_old, unchanged}
 use Rattle.name_moves.specs.Becoming.{CanTell, IsLostAt, LosesAll, LosesName, its_dinode, its_record, none_went, of_linear, of_none, of_sound}
 use Rattle.name_moves.specs.Steps.{AreLost, IsLostIn, PutsOf, left_of}

@@ -54,7 +54,7 @@ use Rattle.directory_changes.specs.Growing.{IsPutOrLeft}
 use Rattle.directory_changes.specs.Moving.{AreRecordsMoved, IsInodeMoved, IsTargetOf, MovesName}
 use Rattle.directory_changes.specs.Moving as moved
 use Rattle.directory_changes.proofs.Blocks.{child_at}
-use Rattle.path_walks.proofs.Images.{is_inode, says_records, shown_inode}
+use Rattle.name_drafts.proofs.Images.{is_inode, says_records, shown_inode}
 use Rattle.name_moves.specs.Becoming.{LosesAll, LosesName, losses, of_none, of_one}
 use Rattle.name_moves.specs.Moving.{AreApart, Becomes, CanBeMoved, IsMoveIn, IsMoving, IsPlaceOfMove, Move, StandsThere, an_inode, blocks_or_none, entry_for, freed_by, is_reparented, is_within, lost_there, nothing, parent_of, then_of}
 use Rattle.name_moves.specs.Steps.{IsNamedIn}

@@ -27,8 +27,8 @@ use Rattle.hash_dirs.proofs.Chained.{cell_some}
 use Rattle.directories.specs.Shown.{IsShown}
 use Rattle.new_inodes.specs.Touched.{IsTouched}
 use Rattle.resource_groups.proofs.Fits.{big_of}
-use Rattle.name_inserts.specs.HashInserting.{MayChange, StaysInside, a_data_block, a_taken_one, the_dinode}
-use Rattle.name_inserts.specs.Inserting.{CanGetName, IsNamed, IsNamedAt, PutsName}
+use Rattle.name_drafts.specs.HashInserting.{MayChange, StaysInside, a_data_block, a_taken_one, the_dinode}
+use Rattle.name_drafts.specs.Inserting.{CanGetName, IsNamed, IsNamedAt, PutsName}
 use Rattle.name_drafts.specs.Drafting.{HasTimes}
 use Rattle.name_drafts.proofs.Fates.{left_seen, put_elsewhere, put_there}
 use Rattle.name_drafts.proofs.Grown.{counts_timed}

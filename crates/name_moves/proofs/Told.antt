@@ -12,10 +12,10 @@ use Rattle.dinode_tree.specs.Reading.{IsNeeded}
 use Rattle.hash_dirs.specs.Broken as leaves
 use Rattle.hash_dirs.specs.Shown as hashed
 use Rattle.directories.specs.Shown as dirs
-use Rattle.name_inserts.specs.HashInserting as inserting
-use Rattle.name_inserts.specs.Inserting.{IsNeededForName, IsWrongForName, SeesForName}
-use Rattle.name_inserts.specs.Inserting as naming
-use Rattle.name_inserts.specs.Needing.{SeesToInsert}
+use Rattle.name_drafts.specs.HashInserting as inserting
+use Rattle.name_drafts.specs.Inserting.{IsNeededForName, IsWrongForName, SeesForName}
+use Rattle.name_drafts.specs.Inserting as naming
+use Rattle.name_drafts.specs.Needing.{SeesToInsert}
 use Rattle.name_drafts.proofs.Fates.{absent_below}
 
 module _ (v : Seen) (fates : FinMap nat_cmp Fate) where

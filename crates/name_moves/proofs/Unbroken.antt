@@ -30,10 +30,10 @@ use Rattle.directories.specs.Shown as dirs
 use Rattle.directories.proofs.Forms.{is_directory_here}
 use Rattle.directories.proofs.Sound.{unbroken}
 use Rattle.resource_groups.specs.Putting.{HasDataBlock}
-use Rattle.name_inserts.specs.HashInserting as inserting
-use Rattle.name_inserts.specs.Inserting.{IsWrongForName}
-use Rattle.name_inserts.specs.Inserting as naming
-use Rattle.path_walks.proofs.Images.{is_inode, is_shown, own_inside, shown_inode, sound_directory}
+use Rattle.name_drafts.specs.HashInserting as inserting
+use Rattle.name_drafts.specs.Inserting.{IsWrongForName}
+use Rattle.name_drafts.specs.Inserting as naming
+use Rattle.name_drafts.proofs.Images.{is_inode, is_shown, own_inside, shown_inode, sound_directory}
 use Rattle.group_locks.proofs.Locks.{groups_break_nothing}
 use Rattle.name_moves.specs.Becoming.{IsAfter, LosesAll, LosesName, of_none, of_one}
 use Rattle.name_moves.specs.Moving.{ArePlacesIn, CanBeMoved, IsOneOf, IsWrongIn, Move, is_reparented, lost_there}

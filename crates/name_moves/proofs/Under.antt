@@ -11,9 +11,9 @@ use Rattle.hash_dirs.specs.Shown as hashed
 use Rattle.directories.specs.Shown.{IsDirectoryIn, IsNeededFor, IsShown}
 use Rattle.directories.specs.Shown as dirs
 use Rattle.directories.proofs.Forms.{is_directory_here, some_directory}
-use Rattle.name_inserts.specs.HashInserting as inserting
-use Rattle.name_inserts.specs.Inserting.{IsNeededForName}
-use Rattle.name_inserts.specs.Inserting as naming
+use Rattle.name_drafts.specs.HashInserting as inserting
+use Rattle.name_drafts.specs.Inserting.{IsNeededForName}
+use Rattle.name_drafts.specs.Inserting as naming
 use Rattle.name_moves.specs.Moving.{IsAskedUnder}
 
 -- ---- how a block of a directory is asked for

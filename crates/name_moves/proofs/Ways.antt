@@ -12,7 +12,7 @@ use Rattle.glock_names.specs.declared.steps.Step.{Step}
 use Rattle.glock_names.specs.declared.steps.Step.TheVariants.{Is, NeedBlock}
 use Rattle.directories.specs.Shown.{IsBroken, IsNeededFor, IsShown}
 use Rattle.directories.proofs.Counted.{equal}
-use Rattle.path_walks.proofs.Faults.{tells_so}
+use Rattle.name_drafts.proofs.WalkFaults.{tells_so}
 use Rattle.name_moves.specs.Becoming.{IsAfter, losses}
 use Rattle.name_moves.specs.Moving.{GoesThere, IsAskedUnder, IsNeededIn, IsNeededThere, IsOneOf, IsWrongIn, IsWrongThere, Move, is_reparented, is_replacing, is_within, lost_there, new_first, old_first, old_then, the_new, the_old, the_old_then, the_parent}
 use Rattle.name_moves.specs.Moving as moving

@@ -21,8 +21,8 @@ use Rattle.new_inodes.specs.Touched.{IsTouched}
 use Rattle.name_redirects.specs.Leading.{record_led_to}
 use Rattle.name_redirects.specs.Redirects.{IsNameLed, records_from}
 use Rattle.name_drafts.specs.Drafting.{HasTimes}
-use Rattle.name_inserts.specs.Inserting.{IsNamed}
-use Rattle.name_inserts.specs.Need.{name_need}
+use Rattle.name_drafts.specs.Inserting.{IsNamed}
+use Rattle.name_drafts.specs.Need.{name_need}
 
 -- ---- records go
 

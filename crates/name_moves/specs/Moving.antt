@@ -45,9 +45,9 @@ use Rattle.image_changes.specs.Flats.{in_directory}
 use Rattle.image_changes.specs.Instances.{IsAt, IsChildless, dinode_at, is_directory_at}
 use Rattle.draft_changes.specs.Resizing.{IsSaidFree}
 use Rattle.directory_changes.specs.Moving.{MovesName}
-use Rattle.path_walks.specs.declared.walk.Place.{Place}
-use Rattle.name_inserts.specs.Inserting.{CanGetName, IsNamedAt, IsNeededForName, IsWrongForName}
-use Rattle.name_inserts.specs.Need.{name_need}
+use Rattle.name_drafts.specs.walk.Place.{Place}
+use Rattle.name_drafts.specs.Inserting.{CanGetName, IsNamedAt, IsNeededForName, IsWrongForName}
+use Rattle.name_drafts.specs.Need.{name_need}
 use Rattle.name_moves.specs.declared.drafting.NameMove.{NameMove}
 use Rattle.name_moves.specs.Becoming.{GetsName, GetsParent, GivesName, IsAfter, IsAtRecord, IsLostAt, IsStamped, LosesAll, losses}
 

@@ -17,8 +17,8 @@ use Rattle.linear_dirs.specs.Shown.{holding_over, record_for}
 use Rattle.hash_dirs.specs.Shown.{IsSound}
 use Rattle.directories.specs.Shown.{IsShown}
 use Rattle.nested_drafts.specs.Nested.{with_blocks}
-use Rattle.name_inserts.specs.HashInserting.{IsPutUnder, MayChange}
-use Rattle.name_inserts.specs.Inserting.{CanGetName, IsNamedAt}
+use Rattle.name_drafts.specs.HashInserting.{IsPutUnder, MayChange}
+use Rattle.name_drafts.specs.Inserting.{CanGetName, IsNamedAt}
 use Rattle.resource_groups.specs.Freeing.{HasSome, SaysStateOfSome}
 use Rattle.resource_groups.specs.Putting.{overlaid}
 use Rattle.resource_groups.specs.Shown.{IsHeaderOf, group_lock}

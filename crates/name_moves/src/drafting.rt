@@ -15,8 +15,8 @@ ghost use Rattle.image_changes.specs.Does.{IsOf};
 ghost use Rattle.directories.specs.Shown.{IsShown, Says};
 ghost use Rattle.hash_dirs.specs.Shown.{IsSound};
 ghost use Rattle.resource_groups.specs.Putting.{HasDataBlock};
-ghost use Rattle.name_inserts.specs.Needing.{TakesBlocks};
-ghost use Rattle.name_inserts.specs.Inserting.{SeesForName};
+ghost use Rattle.name_drafts.specs.Needing.{TakesBlocks};
+ghost use Rattle.name_drafts.specs.Inserting.{SeesForName};
 ghost use Rattle.name_moves.specs.Becoming.{IsAfter, NeedsAfter, NeedsJust};
 ghost use Rattle.name_moves.specs.Moving.{AreApart, ArePlacesIn, CanBeMoved, IsAskedIn, IsAskedOf, IsMoveIn, IsMoving, IsNeededIn, IsNeededThere, IsPlaceOfMove, IsWrongIn, IsWrongThere, freed_by, lost_there, move_of};
 
@@ -28,8 +28,7 @@ use directories::look;
 use drafts::{Change, Draft};
 use file_tree::Name;
 use glock_names::{CallFault, Entry, Step, View};
-use name_inserts::need_name;
-use path_walks::Place;
+use name_drafts::{Place, need_name};
 use std::alloc::Global;
 
 /// A name of a directory that is to move: the block of the directory's dinode and the name; the directory that gets it, and the new name there; the inode to

@@ -1,5 +1,5 @@
 -- Where a name's record stands in a directory, as a view shows it.
-use Rattle.std.proofs.Common.{◌≡◌, ◌≢◌, ℕ, ◌⊎◌, inl, inr, Bool, true, false, true≢false, List, drop, Option, None, Some, refl, sym, ap, ◌∙◌, subst, arith}
+use Rattle.std.proofs.Common.{◌≡◌, ◌≢◌, ℕ, ◌+◌, ◌⊎◌, inl, inr, Bool, true, false, true≢false, List, drop, Option, None, Some, refl, sym, ap, ◌∙◌, subst, arith}
 use Rattle.std.specs.Prelude.{◌&&◌, if◌then◌else◌}
 use Rattle.std.proofs.lemmas.Bool.{cases_Bool}
 use Rattle.gfs2_layout.specs.Area.{IsArea}
@@ -14,7 +14,7 @@ use Rattle.linear_dirs.proofs.Looked.{bytes_of}
 use Rattle.resource_groups.specs.Putting.{HasDataBlock}
 use Rattle.resource_groups.proofs.Fits.{fit_of}
 use Rattle.hash_dirs.specs.Broken as leaves
-use Rattle.hash_dirs.specs.Finding.{IsLeafOfName, IsNamedLater, in_none, in_this, named_in}
+use Rattle.hash_dirs.specs.Finding.{AreLeafHeads, IsLeafOfName, IsNamedLater, in_none, in_this, named_in}
 use Rattle.hash_dirs.specs.Shown.{IsInChain, index_for}
 use Rattle.hash_dirs.proofs.Leaves.{bytes_there, led_to}
 use Rattle.directories.specs.Shown.{IsBroken, IsShown}
@@ -30,6 +30,7 @@ pub record InLeaf (h : Holding) (name : List ℕ) (x : ℕ) : Type 0 where
   pub chain : IsInChain h (index_for h name) place x
   pub named : named_in h name x ≡ Some is
   pub later : IsNamedLater h (index_for h name) name place
+  pub heads : AreLeafHeads h (index_for h name) (place + 1)
 
 inside : (x y : ℕ) → Some x ≡ Some y → x ≡ y
 inside x y e = cc
@@ -38,8 +39,8 @@ nothing : (x : ℕ) → ◌≡◌ {A = Option ℕ} None (Some x) → ⊥
 nothing x e = cc
 
 in_some : (h : Holding) (name : List ℕ) (o : Option ℕ) → IsLeafOfName h name o → (x : ℕ) → o ≡ Some x → InLeaf h name x
-in_some h name _ (in_this place y r chain named later) x e = subst (InLeaf h name) (inside y x e) (record { place = place; is = r; chain = chain; named = named; later = later })
-in_some h name _ (in_none ends none) x e = absurd (nothing x e)
+in_some h name _ (in_this place y r chain named later heads) x e = subst (InLeaf h name) (inside y x e) (record { place = place; is = r; chain = chain; named = named; later = later; heads = heads })
+in_some h name _ (in_none ends none heads) x e = absurd (nothing x e)
 
 -- in the dinode's block of a linear directory, or in a leaf of a hashed one
 pub where_of : (h : Holding) (name : List ℕ) (b : ℕ) → HasRecordOf h name b → ((is_hashed_in h ≡ false) × (b ≡ h.own)) ⊎ ((is_hashed_in h ≡ true) × InLeaf h name b)

@@ -69,7 +69,7 @@ module _ {V : Type 0} (seen : V → Seen) (before after : Drafted V) (dir block 
         let same = leaf_bytes v shows dir block name lies h old shown is leaf there in
         let here : record_named (records_in (drop leaf_length (bytes_at h block))) name ≡ Some (record_of (slot leaf_length old new name inum long led')) =
         ap (λ (b : List ℕ). record_named (records_in (drop leaf_length b)) name) same ∙ is_named leaf_length old new name inum long led' in
-        let first = chains h name (Some (record_of (slot leaf_length old new name inum long led'))) (sound is) is small (in_leaf leaf.place block (record_of (slot leaf_length old new name inum long led')) leaf.chain here leaf.later) in
+        let first = chains h name (Some (record_of (slot leaf_length old new name inum long led'))) (sound is) is small (in_leaf leaf.place block (record_of (slot leaf_length old new name inum long led')) leaf.chain here leaf.later leaf.heads) in
         subst (λ (q : Record). HasExchanged h (holding_over (seen_in seen after) h) (q ∷ []) (record_led_to inum q ∷ [])) (same_record _ r (first ∙ named))
         (hashed_exchanged seen before after dir h block old new name inum (leaves_shown v dir h shown is) (sound is) leaf.place leaf.chain there long led' put some some')
 

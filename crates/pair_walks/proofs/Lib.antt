@@ -7,3 +7,14 @@ pub mod Along
 pub mod Turning
 pub mod Telling
 pub mod Beginning
+-- Passed on to the crates above.
+pub use Rattle.path_walks.proofs.Asked
+pub use Rattle.path_walks.proofs.Images
+pub use Rattle.path_walks.proofs.Wants
+pub use Rattle.path_walks.proofs.Longer
+pub use Rattle.path_walks.proofs.Faults
+pub use Rattle.path_walks.proofs.Steps
+pub use Rattle.path_walks.proofs.Refused
+pub use Rattle.path_walks.proofs.Lists
+pub use Rattle.directories.proofs.Forms
+pub use Rattle.directories.proofs.Sound

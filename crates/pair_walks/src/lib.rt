@@ -5,4 +5,6 @@ mod next;
 mod turns;
 mod walk;
 
+pub use directories::{is_hashed, look};
+pub use path_walks::{Place, nothing};
 pub use walk::{End, PairWalk, walk_pair};

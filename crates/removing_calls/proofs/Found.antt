@@ -74,8 +74,8 @@ module _ (v : Seen) (im : Image) (o : Owners) (l : Layout) (t : Tree) (of : IsOf
   record_its path a b name at (taking.HasRecordOf.in_hashed x hashed leaf) = by (Some x) leaf x refl
     where
       by : (found : Option ℕ) → IsLeafOfName (holding im o a) name found → (x : ℕ) → found ≡ Some x → inode_of x (o x) ≡ Some a
-      by _ (in_this place y r chain is later) x e = leaf_its path a (index_for (holding im o a) name) place x at hashed (subst (IsInChain (holding im o a) (index_for (holding im o a) name) place) (some_same e) chain)
-      by _ (in_none ends later) x e = absurd (none_some e)
+      by _ (in_this place y r chain is later heads) x e = leaf_its path a (index_for (holding im o a) name) place x at hashed (subst (IsInChain (holding im o a) (index_for (holding im o a) name) place) (some_same e) chain)
+      by _ (in_none ends later heads) x e = absurd (none_some e)
 
   -- and data blocks of groups
   pub its_inside : (a b : ℕ) → inode_of b (o b) ≡ Some a → HasDataBlock v b

@@ -20,10 +20,10 @@ use Rattle.hash_steps.specs.Leaves.{IsFull, IsFullBefore, has_room_for}
 use Rattle.image_model.proofs.Held.{none_some, some_same}
 use Rattle.image_model.proofs.Members.{IsIn, contained, in_filter, in_range, is_in}
 use Rattle.image_model.proofs.Reach.{found_in}
-use Rattle.directories.specs.Taking.{HasRecordOf}
-use Rattle.name_redirects.proofs.Places.{where_of}
-use Rattle.name_moves.specs.Becoming.{LosesAll, LosesName, of_none, of_one}
-use Rattle.name_moves.proofs.Loses.{plain_lost, sound_lost}
+use Rattle.file_calls.specs.Taking.{HasRecordOf}
+use Rattle.file_calls.proofs.Places.{where_of}
+use Rattle.file_calls.specs.NameBecoming.{LosesAll, LosesName, of_none, of_one}
+use Rattle.file_calls.proofs.Loses.{plain_lost, sound_lost}
 
 three : (a b : ℕ) → (a < b) ⊎ ((a ≡ b) ⊎ (b < a))
 three a b = grind arith

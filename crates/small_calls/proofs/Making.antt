@@ -20,15 +20,15 @@ use Rattle.image_model.proofs.Held.{none_some}
 use Rattle.image_model.proofs.Members.{IsIn, in_left, in_right}
 use Rattle.image_model.proofs.Rising.{Rising, rising}
 use Rattle.image_changes.specs.Instances.{IsAt}
-use Rattle.path_walks.specs.Walks.{LacksName}
-use Rattle.path_walks.specs.declared.walk.Place.{Place}
-use Rattle.path_walks.proofs.Images.{says_none, shown_inode, sound_directory}
-use Rattle.room_search.specs.Blocks.{group_holds}
-use Rattle.room_search.proofs.InImage.{are_shown, said_free}
-use Rattle.directories.specs.Shown.{IsShown}
-use Rattle.name_drafts.specs.Drafting.{GrowsInto, IsPlaceFor, entry_for}
-use Rattle.name_inserts.specs.Need.{name_need}
-use Rattle.name_drafts.proofs.SeenPaths.{leads_at}
+use Rattle.file_calls.specs.Walks.{LacksName}
+use Rattle.file_calls.specs.walk.Place.{Place}
+use Rattle.file_calls.proofs.Images.{says_none, shown_inode, sound_directory}
+use Rattle.file_calls.specs.FoundBlocks.{group_holds}
+use Rattle.file_calls.proofs.FoundInImage.{are_shown, said_free}
+use Rattle.file_calls.specs.Shown.{IsShown}
+use Rattle.file_calls.specs.Drafting.{GrowsInto, IsPlaceFor, entry_for}
+use Rattle.file_calls.specs.Need.{name_need}
+use Rattle.file_calls.proofs.SeenPaths.{leads_at}
 use Rattle.file_calls.specs.Making.{IsMadeBy, directory_path, makes_directory, name_in}
 use Rattle.small_changes.specs.Counting.{IsOfProfile}
 use Rattle.small_changes.proofs.Counting.{headers, in_headers, in_or_not}

@@ -16,15 +16,15 @@ use Rattle.image_model.proofs.Rising.{rising}
 use Rattle.image_changes.specs.Does.{IsOf}
 use Rattle.image_changes.specs.Flats.{in_directory}
 use Rattle.image_changes.specs.Instances.{IsAt}
-use Rattle.path_walks.proofs.Images.{shown_inode, sound_directory}
-use Rattle.room_search.proofs.InImage.{are_shown, said_free}
-use Rattle.name_moves.proofs.Alike.{need_once}
+use Rattle.file_calls.proofs.Images.{shown_inode, sound_directory}
+use Rattle.file_calls.proofs.FoundInImage.{are_shown, said_free}
+use Rattle.file_calls.proofs.Alike.{need_once}
 use Rattle.file_calls.specs.MoveCarrying.{HasRoom, locks_of_room}
 use Rattle.file_calls.specs.MoveEnds.{AreEnds, MovesIn, StoodIn, from_path, to_path}
 use Rattle.file_calls.specs.NameBecoming.{LosesAll}
 use Rattle.file_calls.specs.NameMoving.{IsMoveIn, Move, StandsThere, lost_there}
 use Rattle.file_calls.specs.Moving.{the_move}
-use Rattle.name_inserts.specs.Need.{name_need}
+use Rattle.file_calls.specs.Need.{name_need}
 use Rattle.small_calls.proofs.Rooms.{distinct}
 
 -- a path that isn't empty ends with its last name

@@ -18,13 +18,13 @@ use Rattle.image_model.proofs.Held.{none_some}
 use Rattle.image_model.proofs.Members.{IsIn, in_either, in_left, in_right}
 use Rattle.image_model.proofs.Rising.{Rising}
 use Rattle.image_changes.specs.Flats.{in_directory}
-use Rattle.path_walks.proofs.Images.{sound_directory}
+use Rattle.file_calls.proofs.Images.{sound_directory}
 use Rattle.file_calls.specs.NameBecoming.{IsAtRecord, IsLostAt}
 use Rattle.file_calls.specs.NameBecoming as becoming
 use Rattle.file_calls.specs.NameMoving.{Becomes, IsMoveIn, IsMovedAt, Move, freed_by, is_reparented, is_replacing, is_within, lost_there}
 use Rattle.file_calls.specs.NameMoving as moving
-use Rattle.name_moves.proofs.Imaged.{moved_directory, source_directory}
-use Rattle.name_moves.proofs.Loses.{all_directory, all_kept, all_sound}
+use Rattle.file_calls.proofs.Imaged.{moved_directory, source_directory}
+use Rattle.file_calls.proofs.Loses.{all_directory, all_kept, all_sound}
 use Rattle.small_changes.specs.Counting.{IsOfProfile}
 use Rattle.small_changes.proofs.Counting.{headers, in_headers, in_or_not}
 use Rattle.small_changes.proofs.Removing.{headers_of}

@@ -7,15 +7,15 @@ use Rattle.gfs2_layout.specs.Holding.{Holding}
 use Rattle.gfs2_layout.specs.Inode.{depth_in, entry, entry_block, first_hash, is_directory_in, is_hashed_in, table_count}
 use Rattle.dinode_tree.specs.Below.{IsBelow}
 use Rattle.dinode_tree.proofs.Sound.{led_of_part}
-use Rattle.table_growth.specs.Pointers.{HasPointerOf}
+use Rattle.small_changes.specs.Pointers.{HasPointerOf}
 use Rattle.hash_dirs.specs.Shown.{IsSound, index_for}
 use Rattle.hash_dirs.proofs.Chained.{index_low}
 use Rattle.hash_dirs.proofs.Indexes.{run_within}
 use Rattle.hash_steps.specs.Leaves.{first_of, leaf_depth, run_of}
-use Rattle.hash_inserts.specs.Inserting.{IsInsertedAt, a_leaf_with_room, its_dinode, of_pointers, of_table, one_taken, the_last_leaf}
-use Rattle.name_inserts.specs.Inserting.{IsNamedAt, of_converted, of_hashed, of_linear}
-use Rattle.name_inserts.specs.Need.{chain_of, name_need}
-use Rattle.name_inserts.proofs.Led.{entry_below}
+use Rattle.file_calls.specs.HashInserting.{IsInsertedAt, a_leaf_with_room, its_dinode, of_pointers, of_table, one_taken, the_last_leaf}
+use Rattle.file_calls.specs.NameInserting.{IsNamedAt, of_converted, of_hashed, of_linear}
+use Rattle.file_calls.specs.Need.{chain_of, name_need}
+use Rattle.file_calls.proofs.Led.{entry_below}
 use Rattle.image_model.proofs.Lengths.{size_large}
 use Rattle.image_model.proofs.Members.{IsIn, in_left, in_right, is_in}
 use Rattle.small_changes.specs.Counting.{IsSmallChain}

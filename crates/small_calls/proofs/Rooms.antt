@@ -17,11 +17,11 @@ use Rattle.image_model.proofs.Members.{IsIn, contained, from_flat_map, is_in}
 use Rattle.image_model.proofs.Rising.{Rising}
 use Rattle.image_changes.specs.Does.{IsOf}
 use Rattle.draft_changes.specs.Resizing.{IsSaidFree}
-use Rattle.path_walks.specs.Holds.{hold_of_group}
-use Rattle.room_search.specs.Blocks.{free_for, free_in, free_in_all, have_too_few}
-use Rattle.room_search.specs.Searches.{AreShown}
-use Rattle.room_search.proofs.Free.{all_rise, free_rises, from_free}
-use Rattle.room_search.proofs.InImage.{are_shown, said_free}
+use Rattle.file_calls.specs.Holds.{hold_of_group}
+use Rattle.file_calls.specs.FoundBlocks.{free_for, free_in, free_in_all, have_too_few}
+use Rattle.file_calls.specs.FoundSearches.{AreShown}
+use Rattle.file_calls.proofs.Free.{all_rise, free_rises, from_free}
+use Rattle.file_calls.proofs.FoundInImage.{are_shown, said_free}
 
 -- numbers that rise stand once each
 pub distinct : (xs : List ℕ) → Rising xs → IsDistinct xs

@@ -11,7 +11,7 @@ use Rattle.gfs2_layout.specs.Inode.{HasTree, IsInode, Leads, content_count, dino
 use Rattle.gfs2_layout.specs.Structures.{dinode_length}
 use Rattle.dinode_tree.specs.Below.{IsBelow}
 use Rattle.dinode_tree.proofs.Sound.{part_of_led}
-use Rattle.table_growth.specs.Tables.{table_blocks}
+use Rattle.small_changes.specs.Tables.{table_blocks}
 use Rattle.image_model.proofs.Members.{IsIn, in_left, in_range, in_right}
 use Rattle.small_changes.proofs.NameNeed.{table_few}
 use Rattle.small_changes.proofs.Need.{fan_large, span_some}

@@ -25,11 +25,11 @@ use Rattle.image_model.proofs.Counts.{at_in}
 use Rattle.image_model.proofs.Members.{contained}
 use Rattle.image_changes.specs.Drafted.{IsFinished}
 use Rattle.image_changes.specs.Instances.{IsAt}
-use Rattle.path_walks.proofs.Images.{is_shown}
-use Rattle.room_search.specs.Blocks.{group_of_node}
-use Rattle.file_changes.specs.Making.{IsRoomIn}
-use Rattle.file_changes.proofs.Standing.{standing_file}
-use Rattle.name_drafts.proofs.SeenPaths.{leads_at}
+use Rattle.file_calls.proofs.Images.{is_shown}
+use Rattle.file_calls.specs.FoundBlocks.{group_of_node}
+use Rattle.small_changes.specs.Making.{IsRoomIn}
+use Rattle.small_changes.proofs.Standing.{standing_file}
+use Rattle.file_calls.proofs.SeenPaths.{leads_at}
 use Rattle.file_calls.specs.Writing.{IsChangeOf, IsNeedOf, IsRoomOf, IsToChange, Puts, PutsThere, by_cut, by_growth, by_write, end_of, in_blocks, in_dinode}
 use Rattle.small_changes.specs.Counting.{IsOfProfile}
 use Rattle.small_changes.proofs.Counting.{after_insert, not_none, puts_few}

@@ -31,8 +31,8 @@ use Rattle.image_model.proofs.Lengths.{size_large}
 use Rattle.image_model.proofs.Members.{IsIn, in_left, in_range, in_right}
 use Rattle.image_changes.specs.Instances.{IsAt}
 use Rattle.group_locks.proofs.Images.{is_shown}
-use Rattle.file_cuts.specs.Cut.{HasCut, IsCut, IsCutBlock, end_of}
-use Rattle.file_fills.specs.Causes.{LeadsToOne}
+use Rattle.file_changes.specs.Cut.{HasCut, IsCut, IsCutBlock, end_of}
+use Rattle.file_changes.specs.Causes.{LeadsToOne}
 use Rattle.file_changes.specs.Drafting.{IsCutDraft, IsFreedAndDone}
 use Rattle.file_changes.specs.Making.{CanBeCut}
 use Rattle.file_changes.proofs.Cutting.{can_cut}

@@ -6,8 +6,8 @@ use Rattle.gfs2_layout.specs.Holding.{Holding}
 use Rattle.gfs2_layout.specs.Inode.{content_block}
 use Rattle.growth_laws.specs.Files.{IsFile}
 use Rattle.image_model.proofs.Lengths.{size_large}
-use Rattle.file_fills.proofs.Tails.{block_of_placed}
-use Rattle.file_heights.specs.Grown.{IsUnclear}
+use Rattle.file_changes.proofs.Tails.{block_of_placed}
+use Rattle.file_changes.specs.Grown.{IsUnclear}
 
 -- the index of the block with the last of so many bytes
 abbrev pub last_index : Holding → ℕ → ℕ

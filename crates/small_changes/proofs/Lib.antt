@@ -5,3 +5,5 @@ pub mod Writing
 pub mod Ends
 pub mod Cutting
 pub mod NameNeed
+-- Passed on to the crates above.
+pub use Rattle.file_changes.proofs.Standing

@@ -13,7 +13,7 @@ use Rattle.growth_laws.specs.Need.{capacity, raised_to}
 use Rattle.hash_steps.specs.Leaves.{has_room_for}
 use Rattle.name_inserts.specs.Need.{chain_of, first_chain, first_depth, first_leaf, has_linear_room, has_one, is_growable, most_steps, name_need, need_in_hashed, need_in_linear, need_within}
 use Rattle.name_inserts.specs.Needing.{Chain, doubled, split_for}
-use Rattle.table_growth.specs.Tables.{doubling_need, table_blocks, table_height, tree_blocks}
+use Rattle.name_inserts.specs.Tables.{doubling_need, table_blocks, table_height, tree_blocks}
 use Rattle.image_model.proofs.Lengths.{size_large}
 use Rattle.small_changes.specs.Counting.{IsSmallChain, NamesTakeFew}
 use Rattle.small_changes.proofs.Need.{fan_large, raised_low, second_of, span_some}

@@ -26,12 +26,12 @@ use Rattle.image_model.specs.Stands.{Layout}
 use Rattle.image_model.proofs.Lengths.{size_large}
 use Rattle.image_model.proofs.Members.{IsIn, in_left, in_range, in_right, is_in}
 use Rattle.image_changes.specs.Instances.{IsAt}
-use Rattle.file_fills.proofs.Tails.{block_of_placed}
+use Rattle.file_changes.proofs.Tails.{block_of_placed}
 use Rattle.draft_changes.proofs.Saying.{free_blocks_are_new}
 use Rattle.file_changes.proofs.Writing.{can_write, has_written}
 use Rattle.file_changes.specs.Making.{IsRoomIn}
 use Rattle.dinode_tree.specs.Reading.{inode_lock}
-use Rattle.file_growth.specs.Written.{HasWritten, IsWrittenAt}
+use Rattle.file_changes.specs.Written.{HasWritten, IsWrittenAt}
 use Rattle.file_changes.specs.Drafting.{IsWriteDraft}
 use Rattle.small_changes.specs.Counting.{IsOfProfile, WritesAreSmall}
 use Rattle.small_changes.proofs.Counting.{after_insert, headers, in_headers, in_or_not, not_none, puts_few}

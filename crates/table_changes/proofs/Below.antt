@@ -21,12 +21,12 @@ use Rattle.dinode_tree.proofs.Spans.{span_some}
 use Rattle.pointer_tables.specs.Directories.{IsTreeSound}
 use Rattle.table_files.specs.Pointers.{IsTableBroken, of_inode}
 use Rattle.table_files.proofs.ContentParts.{content_part, whole_by_parts}
-use Rattle.tree_tables.proofs.Entries.{unit_is, within}
-use Rattle.tree_tables.specs.Pointers.{IsTableOf}
+use Rattle.table_files.proofs.Entries.{unit_is, within}
+use Rattle.table_files.specs.TreePointers.{IsTableOf}
 use Rattle.table_changes.specs.Setting.{IsRun}
 use Rattle.table_changes.specs.declared.finding.Run.{Run}
-use Rattle.tree_tables.specs.declared.tree_table.TreeTable.{TreeTable}
-use Rattle.tree_tables.proofs.Gets.{directory_no_file}
+use Rattle.table_files.specs.tree_table.TreeTable.{TreeTable}
+use Rattle.table_files.proofs.Gets.{directory_no_file}
 
 pub hashed_directory : (h : Holding) → is_hashed_in h ≡ true → is_directory_in h ≡ true
 hashed_directory h hashed = and_left (is_directory_in h) (has_hash_flag (dinode_in h)) hashed

@@ -25,8 +25,8 @@ use Rattle.table_files.proofs.ContentParts.{whole_by_parts}
 use Rattle.nested_drafts.specs.Nested.{fate_over, with_blocks}
 use Rattle.nested_drafts.proofs.Over.{fates_put, kept_or_put, told_put}
 use Rattle.table_changes.specs.Doubling.{AreDoubledBlocks, IsOfTable}
-use Rattle.tree_tables.specs.Pointers.{IsTableOf}
-use Rattle.tree_tables.specs.declared.tree_table.TreeTable.{TreeTable}
+use Rattle.table_files.specs.TreePointers.{IsTableOf}
+use Rattle.table_files.specs.tree_table.TreeTable.{TreeTable}
 use Rattle.table_changes.proofs.Below.{below_of_part}
 
 pub contradict : {A : Type 0} (b : Bool) → b ≡ true → b ≡ false → A

@@ -6,10 +6,10 @@ use Rattle.gfs2_layout.specs.Inode.{content_of, dinode_in, entry, pieces, table_
 use Rattle.glock_names.specs.Views.{Seen}
 use Rattle.dinode_tree.specs.Reading.{content_range}
 use Rattle.table_files.specs.Files.{AreDoubledPointers}
-use Rattle.tree_tables.proofs.Entries.{in_front, u64_same}
+use Rattle.table_files.proofs.Entries.{in_front, u64_same}
 use Rattle.table_files.proofs.Pieces.{piece_begins}
-use Rattle.tree_tables.specs.Pointers.{IsTableOf}
-use Rattle.tree_tables.specs.declared.tree_table.TreeTable.{TreeTable}
+use Rattle.table_files.specs.TreePointers.{IsTableOf}
+use Rattle.table_files.specs.tree_table.TreeTable.{TreeTable}
 
 -- the blocks of the longest table are short
 pub bytes_short : (size n : ℕ) → 512 ≤ size → size ≤ 4096 → n ≤ 524288 → pieces n (size - 24) * size ≤ 67108864

@@ -16,7 +16,7 @@ use Rattle.dinode_tree.specs.Shown as inode
 use Rattle.pointer_tables.specs.Directories.{IsTreeSound}
 use Rattle.pointer_tables.specs.Tables.{is_within}
 use Rattle.table_files.proofs.ContentParts.{content_part, whole_by_parts}
-use Rattle.tree_tables.proofs.Entries.{entry_in_block, entry_in_hole, entry_stuffed, within}
+use Rattle.table_files.proofs.Entries.{entry_in_block, entry_in_hole, entry_stuffed, within}
 use Rattle.table_changes.proofs.Fronts.{number_before, number_behind}
 use Rattle.table_changes.proofs.Kept.{KeepsWays, content_block_after, directory_after, height_after, size_after, sound_after, unit_after}
 use Rattle.table_changes.proofs.OneRun.{IsBlockSet, bytes_here, bytes_old, bytes_other, cells, g}

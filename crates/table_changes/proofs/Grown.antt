@@ -35,8 +35,8 @@ use Rattle.table_files.proofs.TableBytes.{table_long}
 use Rattle.table_files.specs.Laws.{IsTable}
 use Rattle.table_files.proofs.TableFiles.{cell_back, cell_other, count_is, file_of, is_file, large, needed_file, own_part}
 use Rattle.table_changes.specs.Doubling.{AreDoubledBlocks, IsDoubledTable}
-use Rattle.tree_tables.specs.Pointers.{IsTableOf}
-use Rattle.tree_tables.specs.declared.tree_table.TreeTable.{TreeTable}
+use Rattle.table_files.specs.TreePointers.{IsTableOf}
+use Rattle.table_files.specs.tree_table.TreeTable.{TreeTable}
 use Rattle.table_changes.proofs.Below.{below_of_part, hashed_directory}
 
 -- ---- dinodes that are put

@@ -6,7 +6,7 @@ use Rattle.std.proofs.lemmas.Bool.{cases_eq, cases_lt}
 use Rattle.std.proofs.lemmas.List.{append_assoc, drop-append-le, drop_at, length-append, length-drop, length-take, take-append-le, take_all}
 use Rattle.gfs2_layout.specs.Bytes.{slice, u64_at}
 use Rattle.growth_laws.proofs.Numbers.{numbers_at_the_back, numbers_in_front}
-use Rattle.tree_tables.proofs.Entries.{in_front, u64_same}
+use Rattle.table_files.proofs.Entries.{in_front, u64_same}
 
 -- ---- lists that are built
 

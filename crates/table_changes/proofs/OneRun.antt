@@ -16,9 +16,9 @@ use Rattle.linear_dirs.proofs.Over.{as_seen}
 use Rattle.linear_dirs.proofs.Rewritten.{over_part, over_put, over_there}
 use Rattle.pointer_tables.specs.Directories.{IsTreeSound}
 use Rattle.pointer_tables.specs.Tables.{LeavesStay}
-use Rattle.tree_tables.specs.Pointers.{IsTableOf}
+use Rattle.table_files.specs.TreePointers.{IsTableOf}
 use Rattle.table_changes.specs.Setting.{HasNumbersSet}
-use Rattle.tree_tables.specs.declared.tree_table.TreeTable.{TreeTable}
+use Rattle.table_files.specs.tree_table.TreeTable.{TreeTable}
 use Rattle.table_files.proofs.ContentParts.{whole_by_parts}
 use Rattle.table_changes.proofs.Fronts.{dinode_stays, header_stays}
 use Rattle.table_changes.proofs.Kept.{KeepsWays, sound_after}

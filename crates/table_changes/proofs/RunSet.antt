@@ -16,21 +16,21 @@ use Rattle.glock_names.specs.Views.{Seen, HasBlock}
 use Rattle.image_model.proofs.Rows.{and_left}
 use Rattle.dinode_tree.specs.Reading.{inode_lock}
 use Rattle.dinode_tree.proofs.Sound.{is_there, size_large}
-use Rattle.tree_tables.proofs.Cuts.{seen_apart, there_still}
+use Rattle.table_files.proofs.Cuts.{seen_apart, there_still}
 use Rattle.linear_dirs.specs.Shown.{holding_over}
 use Rattle.linear_dirs.proofs.Rewritten.{over_there, seen_at}
 use Rattle.pointer_tables.specs.Directories.{IsPlaced, IsTreeSound}
 use Rattle.pointer_tables.specs.Tables.{is_within}
 use Rattle.table_files.specs.Pointers.{IsBesidePointers}
 use Rattle.table_files.specs.Tables.{DraftsDirectory}
-use Rattle.tree_tables.specs.Pointers.{IsTableOf}
+use Rattle.table_files.specs.TreePointers.{IsTableOf}
 use Rattle.table_changes.specs.Setting.{HasNumbersSet, IsBehindDinode, IsInTable, IsRun, IsSetIn}
 use Rattle.table_changes.specs.declared.finding.Run.{Run}
-use Rattle.tree_tables.specs.declared.tree_table.TreeTable.{TreeTable}
+use Rattle.table_files.specs.tree_table.TreeTable.{TreeTable}
 use Rattle.table_files.proofs.ContentParts.{IsContentPart, content_part, whole_by_parts}
 use Rattle.table_changes.proofs.Beside.{beside_run, entry_block_after}
 use Rattle.table_changes.proofs.Entered.{entry_set_in_table, entry_set_stuffed}
-use Rattle.tree_tables.proofs.Entries.{within}
+use Rattle.table_files.proofs.Entries.{within}
 use Rattle.table_changes.proofs.Kept.{KeepsContentBlocks, KeepsWays, content_block_after, height_after, placed_after, sound_after, unit_after}
 use Rattle.table_changes.proofs.OneRun.{front_kept, IsBlockSet, bytes_here, bytes_old, bytes_other, cells, g, keeps_stuffed, keeps_table, leaves_stay, table_after}
 

@@ -14,7 +14,7 @@ use Rattle.dinode_tree.proofs.Sound.{size_large}
 use Rattle.pointer_tables.specs.Directories.{IsPlaced, IsTreeSound}
 use Rattle.table_files.specs.Pointers.{HasPointerOf, IsBesidePointers}
 use Rattle.table_files.proofs.ContentParts.{whole_by_parts}
-use Rattle.tree_tables.proofs.Entries.{within}
+use Rattle.table_files.proofs.Entries.{within}
 use Rattle.std.proofs.lemmas.Bool.{cases_eq, cases_lt, cond-true, cond-false}
 use Rattle.drafts.specs.Fates.{Drafted, seen_in}
 use Rattle.drafts.specs.declared.fate.Fate.TheVariants.{Put}
@@ -30,10 +30,10 @@ use Rattle.linear_dirs.proofs.Over.{over_over}
 use Rattle.linear_dirs.proofs.Rewritten.{over_there}
 use Rattle.pointer_tables.specs.Tables.{is_within}
 use Rattle.table_files.specs.Tables.{DraftsDirectory, HasPointersSet}
-use Rattle.tree_tables.specs.Pointers.{IsTableOf}
+use Rattle.table_files.specs.TreePointers.{IsTableOf}
 use Rattle.table_changes.specs.Setting.{AreRuns, HasNumbersSet, IsRun, IsSeenRun, IsSetIn, PutsRuns, counted}
 use Rattle.table_changes.specs.declared.finding.Run.{Run}
-use Rattle.tree_tables.specs.declared.tree_table.TreeTable.{TreeTable}
+use Rattle.table_files.specs.tree_table.TreeTable.{TreeTable}
 use Rattle.table_changes.proofs.Beside.{entry_block_after, entry_place_after, place_in_run}
 use Rattle.table_changes.proofs.Entered.{choose, is_before, is_behind, is_in}
 use Rattle.table_changes.proofs.Kept.{KeepsContentBlocks}

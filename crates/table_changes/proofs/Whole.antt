@@ -24,8 +24,8 @@ use Rattle.table_files.specs.Files.{SaysInstead, doubled_dinode, file_dinode}
 use Rattle.table_files.specs.Laws.{IsTable}
 use Rattle.table_files.proofs.TableFiles.{can_write, cell_own, file_of, shown_file}
 use Rattle.table_changes.specs.Doubling.{AreDoubledBlocks, IsDoubledTable}
-use Rattle.tree_tables.specs.Pointers.{IsTableOf}
-use Rattle.tree_tables.specs.declared.tree_table.TreeTable.{TreeTable}
+use Rattle.table_files.specs.TreePointers.{IsTableOf}
+use Rattle.table_files.specs.tree_table.TreeTable.{TreeTable}
 use Rattle.table_changes.proofs.Grown.{are_doubled, block_sum, doubled_is_said, doubled_said, fate_here, fate_other, file_below, file_blocks, file_is_said, file_said, height_is, own_bytes_k, raw_size, says_instead, seen_here, seen_other, table_is, taken_is, view_put}
 
 -- a draft that nothing was put into sees what the view below sees

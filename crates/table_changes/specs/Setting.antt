@@ -12,9 +12,9 @@ use Rattle.gfs2_layout.specs.Structures.{dinode_length}
 use Rattle.glock_names.specs.Views.{Seen, HasBlock}
 use Rattle.linear_dirs.specs.Shown.{holding_over}
 use Rattle.table_files.specs.Tables.{DraftsDirectory, HasPointersSet}
-use Rattle.tree_tables.specs.Pointers.{IsTableOf}
+use Rattle.table_files.specs.TreePointers.{IsTableOf}
 use Rattle.table_changes.specs.declared.finding.Run.{Run}
-use Rattle.tree_tables.specs.declared.tree_table.TreeTable.{TreeTable}
+use Rattle.table_files.specs.tree_table.TreeTable.{TreeTable}
 
 -- so many neighbouring numbers of eight bytes from this place on are this one, and all else stays
 pub record HasNumbersSet (old new : List ℕ) (start count number : ℕ) : Type 0 where

@@ -6,7 +6,7 @@ ghost use Rattle.table_files.specs.Files.{header_at, table_block, table_bytes as
 use gfs2_layout::MetaHeader;
 use no_memory::NoMemory;
 use std::alloc::Global;
-use tree_tables::IN_TABLE;
+use table_files::IN_TABLE;
 
 /// Each eight bytes twice, one behind the other.
 pub(crate) fn each_twice(alloc: Global, bytes: &[u8]) -> Result<Vec<u8>, NoMemory>

@@ -9,7 +9,7 @@ ghost use Rattle.glock_names.specs.Steps.{IfDamaged, IfIs, IfNeedBlock, OnlyDama
 ghost use Rattle.glock_names.specs.Views.{HasBlock, IsOfView};
 ghost use Rattle.dinode_tree.specs.Reading.{IsNeeded, inode_lock};
 ghost use Rattle.table_files.specs.Pointers.{IsOfPointers, IsTableBroken};
-ghost use Rattle.tree_tables.specs.Pointers.{IsTableOf};
+ghost use Rattle.table_files.specs.TreePointers.{IsTableOf};
 ghost use Rattle.table_changes.specs.Setting.{AreRuns, IsRun, IsSeenRun, counted};
 
 use dinode_tree::{Located, all_blocks_are_shown, locate, read_dinode};
@@ -17,7 +17,7 @@ use gfs2_layout::{DINODE_LENGTH, has_header};
 use glock_names::{CallFault, Missing, Step, View, block_of};
 use linear_dirs::lock_of;
 use std::alloc::Global;
-use tree_tables::{IN_TABLE, TreeTable, damaged};
+use table_files::{IN_TABLE, TreeTable, damaged};
 
 /// Neighbouring pointers of a table that stand in one block: from which byte of it on, and how many.
 #[derive(Clone, Copy)]

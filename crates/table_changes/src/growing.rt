@@ -13,7 +13,7 @@ ghost use Rattle.table_files.specs.Written.{CanWrite, HasWritten};
 ghost use Rattle.table_files.specs.Tables.{CanDouble, doubling_need as need_of, table_blocks as blocks_of, table_height, tree_blocks as all_blocks_of};
 ghost use Rattle.table_files.specs.Files.{doubled_dinode, file_dinode};
 ghost use Rattle.table_changes.specs.Doubling.{AreDoubledBlocks, IsDoubledTable};
-ghost use Rattle.tree_tables.specs.Pointers.{IsTableOf};
+ghost use Rattle.table_files.specs.TreePointers.{IsTableOf};
 
 use crate::putting::put_dinode;
 use drafts::{Draft, Written};
@@ -24,8 +24,7 @@ use nested_drafts::are_whole;
 use no_memory::NoMemory;
 use std::alloc::Global;
 use std::collections::VecDeque;
-use table_files::{doubling_need, height_for, table_blocks, tree_blocks, write_range};
-use tree_tables::TreeTable;
+use table_files::{TreeTable, doubling_need, height_for, table_blocks, tree_blocks, write_range};
 
 // The dinode of the file that a table is.
 fn file_of(dinode: &Dinode, size: usize, depth: u16) -> Dinode

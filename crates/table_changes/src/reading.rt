@@ -15,7 +15,7 @@ ghost use Rattle.file_tree.specs.Apply.{file_limit};
 ghost use Rattle.pointer_tables.specs.Directories.{IsTreeSound};
 ghost use Rattle.table_files.specs.Pointers.{IsTableBroken};
 ghost use Rattle.table_files.specs.Files.{AreHeadersOf};
-ghost use Rattle.tree_tables.specs.Pointers.{IsTableOf};
+ghost use Rattle.table_files.specs.TreePointers.{IsTableOf};
 ghost use Rattle.table_changes.specs.Doubling.{IsDoubledTable};
 
 use crate::doubling::{each_twice, table_bytes};
@@ -24,8 +24,7 @@ use dinode_tree::{PointedBlock, all_blocks_are_shown, blocks_below, read_range};
 use glock_names::{CallFault, Missing, Step, View, block_of};
 use linear_dirs::lock_of;
 use std::alloc::Global;
-use table_files::table_blocks;
-use tree_tables::{IN_TABLE, TreeTable, pointers_of};
+use table_files::{IN_TABLE, TreeTable, pointers_of, table_blocks};
 
 // The first of these blocks that the view hasn't.
 fn first_missing<V: View>(view: &V, directory: u64, blocks: &[PointedBlock]) -> Option<Missing>

@@ -3,7 +3,7 @@ ghost use Rattle.std.specs.Prelude.{ℕ, ◌≡◌, ◌+◌, ◌^◌, ◌≤◌,
 ghost use Rattle.drafts.specs.Fates.{seen_in};
 ghost use Rattle.gfs2_layout.specs.Holding.{Holding};
 ghost use Rattle.pointer_tables.specs.Directories.{IsPlaced, IsTreeSound};
-ghost use Rattle.tree_tables.specs.Pointers.{IsTableOf};
+ghost use Rattle.table_files.specs.TreePointers.{IsTableOf};
 ghost use Rattle.table_changes.specs.Setting.{AreRuns, IsSeenRun, IsSetIn, PutsRuns, counted};
 
 use crate::finding::Run;
@@ -11,7 +11,7 @@ use crate::putting::put_pointers;
 use drafts::Draft;
 use glock_names::View;
 use no_memory::NoMemory;
-use tree_tables::TreeTable;
+use table_files::TreeTable;
 
 /// Makes the pointers of a table's runs lead to a leaf. Of each directory that the draft showed with this table, and that has these runs one
 /// behind another, it then shows the directory with these pointers set and all else as it was. It costs two copies of each run's block.

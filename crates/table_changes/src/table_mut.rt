@@ -12,7 +12,7 @@ use linear_dirs::lock_of;
 use nested_drafts::put_blocks;
 use std::alloc::Global;
 use std::collections::VecDeque;
-use tree_tables::TreeTable;
+use table_files::TreeTable;
 
 impl PointerTableMut for TreeTable {
     fn set<V: View>(

@@ -4,3 +4,5 @@ pub mod Laws
 pub use Rattle.table_growth.specs.Pointers
 pub use Rattle.table_growth.specs.Tables
 pub use Rattle.table_growth.specs.Written
+pub use Rattle.tree_tables.specs.Pointers as TreePointers
+pub use Rattle.tree_tables.specs.declared.tree_table

@@ -9,12 +9,12 @@ use Rattle.image_model.specs.Image.{Image, image_of}
 use Rattle.image_model.specs.Stands.{IsJournalAt}
 use Rattle.image_model.proofs.Replaying.{replayed_by_any}
 use Rattle.image_mount.specs.Mounted.{Journal, MountedValue}
-use Rattle.image_outcomes.specs.CutShort.{IsCutShort, ring_left}
-use Rattle.image_outcomes.proofs.CutShort as cuts
-use Rattle.image_outcomes.proofs.Found.{FindsTheSame, place_whole}
-use Rattle.image_recovery.specs.Recoveries.{AreReplays}
-use Rattle.image_recovery.proofs.Ending.{leaves_place, stays_all}
-use Rattle.image_recovery.proofs.Mapped.{apart}
+use Rattle.cut_replays.specs.CutShort.{IsCutShort, ring_left}
+use Rattle.cut_replays.proofs.CutShort as cuts
+use Rattle.cut_replays.proofs.Found.{FindsTheSame, place_whole}
+use Rattle.cut_replays.specs.Recoveries.{AreReplays}
+use Rattle.cut_replays.proofs.RecoveryEnding.{leaves_place, stays_all}
+use Rattle.cut_replays.proofs.Mapped.{apart}
 use Rattle.image_replays.proofs.System.{its_journals}
 use Rattle.journal_outcomes.specs.Images.{IsPlaceIn, ring_at}
 use Rattle.log_layout.specs.Journal.{head_in}

@@ -8,7 +8,7 @@ use Rattle.disk_items.specs.Deeds.{AreDoneBy, deed_of, deed_told}
 use Rattle.disk_turns.specs.Turns.{AreBrought, Moment, none, turn, turn_of, writes_of}
 use Rattle.drafts.specs.declared.change.Written.{Written}
 use Rattle.image_mount.specs.Mounted.{Journal}
-use Rattle.image_recovery.specs.Recoveries.{AreReplays}
+use Rattle.cut_replays.specs.Recoveries.{AreReplays}
 use Rattle.journal_replays.specs.Headers.{clean_block}
 use Rattle.journal_replays.specs.Items.{items_of}
 use Rattle.journal_replays.specs.Replays.{IsReplayWith, StopsBringing, StopsReplay, at_header, at_home}

@@ -5,7 +5,7 @@ use Rattle.std.proofs.lemmas.Bool.{cond-false, ne_eqb}
 use Rattle.std.proofs.lemmas.List.{append_assoc, length-append, length-map}
 use Rattle.disk_turns.specs.Turns.{Moment}
 use Rattle.image_mount.specs.Mounted.{Journal}
-use Rattle.image_recovery.specs.Recoveries.{AreReplays}
+use Rattle.cut_replays.specs.Recoveries.{AreReplays}
 use Rattle.journal_replays.specs.Items.{item_of, items_of}
 use Rattle.journal_replays.specs.Replays.{IsReplay, IsReplayWith}
 use Rattle.log_layout.specs.declared.log_header.LogHeader.{LogHeader}

@@ -12,7 +12,7 @@ use Rattle.disk_turns.proofs.Flying.{idle_again}
 use Rattle.disk_turns.proofs.Gaining.{gains_join, gains_none}
 use Rattle.drafts.specs.declared.change.Written.{Written}
 use Rattle.image_mount.specs.Mounted.{Journal}
-use Rattle.image_recovery.specs.Recoveries.{AreReplays}
+use Rattle.cut_replays.specs.Recoveries.{AreReplays}
 use Rattle.journal_replays.specs.Headers.{clean_block}
 use Rattle.journal_replays.specs.Items.{items_of}
 use Rattle.journal_replays.specs.Replays.{IsReplay, IsReplayWith, StopsBringing, StopsReplay, StopsReplayBy, at_header, at_home}

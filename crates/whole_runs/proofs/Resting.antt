@@ -21,15 +21,15 @@ use Rattle.image_model.proofs.Held.{some_same}
 use Rattle.image_model.proofs.Replaying.{one_replay}
 use Rattle.image_mount.specs.Mounted.{GroupsAreAsSeen, MountedValue}
 use Rattle.image_mount.specs.Mounted.{Journal as MountedJournal}
-use Rattle.image_recovery.specs.Left.{IsLeft, LeftStandsBy, ReplayLeaves}
-use Rattle.image_recovery.specs.Recoveries.{AreReplays, HaveReplayed}
-use Rattle.image_recovery.proofs.LeftStanding.{back, list_stays, super_stays, there}
+use Rattle.cut_replays.specs.Left.{IsLeft, LeftStandsBy, ReplayLeaves}
+use Rattle.cut_replays.specs.Recoveries.{AreReplays, HaveReplayed}
+use Rattle.cut_replays.proofs.LeftStanding.{back, list_stays, super_stays, there}
 use Rattle.journal_outcomes.specs.Images.{ring_at}
 use Rattle.journal_replays.specs.Replays.{IsReplayWith}
 use Rattle.log_layout.specs.Journal.{IsClean, head_in}
 use Rattle.log_layout.specs.declared.log_header.LogHeader.{LogHeader}
 use Rattle.log_values.specs.Laws.{IsJournal}
-use Rattle.lone_logs.specs.States.{ArePlacesApart, IsJournalOf}
+use Rattle.logged_runs.specs.States.{ArePlacesApart, IsJournalOf}
 use Rattle.lone_view.specs.Seeing.{seen_alone}
 use Rattle.mounted_views.specs.Views.{journal_of, view_of}
 use Rattle.mounted_views.proofs.Journals.{its, its_place, its_ring, nothing_kept}

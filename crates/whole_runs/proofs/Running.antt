@@ -18,8 +18,8 @@ use Rattle.image_model.specs.Replays.{StandsReplayed}
 use Rattle.image_model.specs.Stands.{IsJournalAt, Layout}
 use Rattle.image_model.proofs.Replaying.{journals_of_standing, same_journals}
 use Rattle.image_mount.specs.Mounted.{Journal, MountedValue}
-use Rattle.image_outcomes.proofs.Found.{FindsTheSame}
-use Rattle.image_recovery.specs.Recoveries.{AreReplays, HaveReplayedSome}
+use Rattle.cut_replays.proofs.Found.{FindsTheSame}
+use Rattle.cut_replays.specs.Recoveries.{AreReplays, HaveReplayedSome}
 use Rattle.journal_outcomes.specs.Disks.{FencesLeaveOutcomes, flown_by}
 use Rattle.journal_outcomes.specs.Images.{NoFalseHeader, ring_at}
 use Rattle.journal_replays.specs.Replays.{IsReplayWith}
@@ -39,7 +39,7 @@ use Rattle.logged_runs.specs.StepStarts.{starting}
 use Rattle.logged_runs.specs.Steps.{Steps}
 use Rattle.logged_runs.proofs.Telling.{append_nil, left_same, take_all, take_front}
 use Rattle.lone_images.specs.Lone.{begun_on}
-use Rattle.lone_logs.specs.States.{trees_on}
+use Rattle.logged_runs.specs.States.{trees_on}
 use Rattle.lone_machine.specs.Alone.{Begun}
 use Rattle.peer_replay.specs.declared.planned.Plan.{Plan}
 use Rattle.run_rules.specs.Lives.{or_else, own_from, recovered_behind}

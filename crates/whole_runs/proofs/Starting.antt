@@ -14,7 +14,7 @@ use Rattle.image_machine.specs.Volumes.{Volume, volume_of}
 use Rattle.image_model.specs.Image.{Image, image_of}
 use Rattle.image_model.specs.Replays.{StandsReplayed}
 use Rattle.image_mount.specs.Mounted.{Journal, MountedValue}
-use Rattle.image_recovery.specs.Recoveries.{CanReplayAll, HaveFailed, HaveReplayedSome}
+use Rattle.cut_replays.specs.Recoveries.{CanReplayAll, HaveFailed, HaveReplayedSome}
 use Rattle.journal_outcomes.specs.Disks.{FencesLeaveOutcomes, flown_by}
 use Rattle.journal_outcomes.specs.Images.{IsImageOutcome}
 use Rattle.journal_replays.specs.Headers.{clean_block}

@@ -6,7 +6,7 @@ use Rattle.image_model.specs.Owners.{Owners}
 use Rattle.image_model.specs.Stands.{Layout}
 use Rattle.image_mount.specs.Mounted.{MountedValue}
 use Rattle.image_mount.specs.Mounted.{Journal as MountedJournal}
-use Rattle.image_recovery.specs.Recoveries.{HaveReplayed}
+use Rattle.cut_replays.specs.Recoveries.{HaveReplayed}
 use Rattle.log_layout.specs.declared.log_header.LogHeader.{LogHeader}
 use Rattle.logged_runs.specs.StepStarts.{IsAtRest}
 use Rattle.mounted_views.specs.Views.{journal_of, view_of}

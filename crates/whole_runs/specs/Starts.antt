@@ -1,6 +1,6 @@
 -- The start of a run of one node: it joins, and replays the journals of a mounted image.
 use Rattle.std.specs.Prelude.{ℕ, ◌≡◌, ◌≤◌, ◌++◌, IsTrue, List, [], ◌∷◌, length, take, Option, Some}
-use Rattle.image_recovery.specs.Recoveries.{AreHeadersRead, CanReplayAll, HaveFailed, HaveReplayedSome}
+use Rattle.cut_replays.specs.Recoveries.{AreHeadersRead, CanReplayAll, HaveFailed, HaveReplayedSome}
 use Rattle.disk_turns.specs.Turns.{Moment}
 use Rattle.file_tree.specs.Tree.{Tree}
 use Rattle.gfs2_layout.specs.Device.{IsBlockSize}

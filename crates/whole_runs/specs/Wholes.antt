@@ -8,7 +8,7 @@ use Rattle.image_model.specs.Image.{Image, image_of}
 use Rattle.image_model.specs.Owners.{Owners}
 use Rattle.image_model.specs.Stands.{Layout}
 use Rattle.image_mount.specs.Mounted.{MountedValue}
-use Rattle.image_recovery.specs.Recoveries.{HaveReplayed}
+use Rattle.cut_replays.specs.Recoveries.{HaveReplayed}
 use Rattle.journal_outcomes.specs.Disks.{flown_by}
 use Rattle.journal_outcomes.specs.Images.{NoFalseHeader, ring_at}
 use Rattle.log_layout.specs.Journal.{head_in}

@@ -5,9 +5,11 @@ ghost use Rattle.whole_runs.specs.Starts.{FailedFrontsStand, FailedReplaysAreTol
 ghost use Rattle.whole_runs.specs.Resting.{ReplayedIsAtRest};
 ghost use Rattle.whole_runs.specs.Wholes.{RunsAreTold, WholeRunsStand};
 
-use cut_replays::{failed_replays_stand, stopped_replays_stand};
+use cut_replays::{
+    a_replay_leaves_its_image, failed_replays_stand, stopped_replays_stand,
+    what_a_replay_leaves_stands,
+};
 use image_mount::mounted_groups_are_as_seen;
-use image_recovery::{a_replay_leaves_its_image, what_a_replay_leaves_stands};
 use journal_outcomes::fences_leave_outcomes;
 use log_layout::headers_read_back;
 use logged_runs::{

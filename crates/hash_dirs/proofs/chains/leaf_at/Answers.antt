@@ -7,7 +7,7 @@ use Rattle.linear_dirs.proofs.Looked.{handed}
 use Rattle.hash_dirs.specs.Broken.{IsWrongIn, outside}
 use Rattle.hash_dirs.proofs.Groups.{group_inside, group_small, none_so}
 use Rattle.hash_dirs.specs.Shown.{a_leaf}
-use Rattle.hash_dirs.proofs.Leaves.{told, wrong_of, no_leaf_there, bytes_there, seen_at, leaf_of_bytes}
+use Rattle.hash_dirs.proofs.Leaves.{told, wrong_of, no_leaf_there, bytes_there, seen_at, leaf_headed, leaf_of_bytes}
 use Rattle.hash_dirs.proofs.chains.leaf_at.Goals as goal
 
 pub returns-then-link-eq0-clause-damaged : goal.returns-then-link-eq0-clause-damaged
@@ -53,3 +53,9 @@ returns-clause-read g c h i shown leads =
 
 pub returns-clause-area : goal.returns-clause-area
 returns-clause-area g c = c.in_ok-leaf.ensures.filled
+
+pub returns-clause-headed : goal.returns-clause-headed
+returns-clause-headed g c h i shown leads depth =
+    leaf_headed h c.args.link.now.leaf c.in-Some.bytes.now c.in_ok-leaf.leaf c.args.depth
+    (bytes_there (g.V.View.seen c.args.view.now) c.args.dir h i c.args.link.now.from c.args.link.now.leaf c.in-Some.bytes.now shown leads c.if-link-eq0.false c.in-Some.ensures.some)
+    c.in_ok-leaf.ensures.head c.in_ok-leaf.ensures.header c.in_ok-leaf.ensures.format c.in_ok-leaf.ensures.low depth

@@ -1,7 +1,7 @@
 use Rattle.std.proofs.Common.{refl, arith}
 use Rattle.dinode_tree.proofs.Dinodes.{lacks}
 use Rattle.linear_dirs.proofs.Looked.{rest_is}
-use Rattle.hash_dirs.proofs.Leaves.{lacks_header, other_format, deeper, not_filled, head_is}
+use Rattle.hash_dirs.proofs.Leaves.{lacks_header, other_format, deeper, not_filled, head_is, read_format}
 use Rattle.hash_dirs.proofs.chains.read_leaf.Goals as goal
 
 pub returns-then-not-has_header-clause-damaged : goal.returns-then-not-has_header-clause-damaged
@@ -23,3 +23,9 @@ returns-then-not-is_area-clause-damaged c h i from at leads some depth =
 
 pub returns-clause-area : goal.returns-clause-area
 returns-clause-area c = rest_is 104 c.args.bytes.now
+
+pub returns-clause-header : goal.returns-clause-header
+returns-clause-header c = c.if-not-has_header.ensures.0 refl
+
+pub returns-clause-format : goal.returns-clause-format
+returns-clause-format c = read_format c.args.bytes.now c.in-Ok.head c.read.result c.read.ensures c.in-Ok.is

@@ -33,7 +33,7 @@ returns-then-is_stray-clause-damaged g c h shown shows =
     let deep = c.depth-depth.ensures.value ∙ g.met.T.PointerTable.deep_in c.args.table.now v h shows in
     let head = head_at h c.args.name.now c.depth-depth.result c.crc32.result c.index_of.result c.in-Is.head c.index_of.ensures.value deep c.crc32.ensures c.index_of.ensures.low (answer_at _ _ _ c.in-Is.is (c.in_ok-head.ensures.found h shows)) in
     let spot = found_at c.in_ok-found.field-0 c.in-Is-Some.field-0 c.in-Is-Some.found (IsSpotIn v c.args.name.now) c.in-Is-Some.is c.in-Is-Some.field-0-is c.in_ok-found.ensures.spot in
-    let place = found_at c.in_ok-found.field-0 c.in-Is-Some.field-0 c.in-Is-Some.found (IsInPlace h (index_for h c.args.name.now) c.args.name.now) c.in-Is-Some.is c.in-Is-Some.field-0-is (c.in_ok-found.ensures.place h (index_for h c.args.name.now) shown head) in
+    let place = found_at c.in_ok-found.field-0 c.in-Is-Some.field-0 c.in-Is-Some.found (IsInPlace h (index_for h c.args.name.now) c.args.name.now) c.in-Is-Some.is c.in-Is-Some.field-0-is (c.in_ok-found.ensures.place h (index_for h c.args.name.now) shown head deep) in
     let away = c.is_stray.ensures.stray c.if-is_stray.true in
     subst (IsDamage (IsWrongIn v h)) (sym c.damaged.ensures)
     (astray v h c.args.dir (index_for h c.args.name.now) c.args.name.now c.in-Is-Some.found shown spot place c.records_are_found_by_name.ensures.first c.records_are_found_by_name.ensures.named away.0 away.1)

@@ -53,7 +53,7 @@ returns-in_err-cut_and_count-clause-damaged g c h shown shows =
     let deep = c.depth-depth.ensures.value ∙ g.met.T.PointerTable.deep_in c.args.table.now v h shows in
     let head = head_at h c.args.name.now c.depth-depth.result c.crc32.result c.index_of.result c.in-Is.head c.index_of.ensures.value deep c.crc32.ensures c.index_of.ensures.low (answer_at _ _ _ c.in-Is.is (c.in_ok-head.ensures.found h shows)) in
     let spot = found_at c.in_ok-found.field-0 c.in-Is-Some.field-0 c.in-Is-Some.found (IsSpotIn v c.args.name.now) c.in-Is-Some.is c.in-Is-Some.field-0-is c.in_ok-found.ensures.spot in
-    let place = found_at c.in_ok-found.field-0 c.in-Is-Some.field-0 c.in-Is-Some.found (IsInPlace h (index_for h c.args.name.now) c.args.name.now) c.in-Is-Some.is c.in-Is-Some.field-0-is (c.in_ok-found.ensures.place h (index_for h c.args.name.now) shown head) in
+    let place = found_at c.in_ok-found.field-0 c.in-Is-Some.field-0 c.in-Is-Some.found (IsInPlace h (index_for h c.args.name.now) c.args.name.now) c.in-Is-Some.is c.in-Is-Some.field-0-is (c.in_ok-found.ensures.place h (index_for h c.args.name.now) shown head deep) in
     let dinode = answer_at _ _ _ c.in-Is-2.is (c.in_ok-dinode.ensures.found h shown.inode) in
     handed c.from_residual-in_err-cut_and_count.result _ (TellsOf (IsWrongIn (seen_in g.V.View.seen c.args.draft.now) h)) c.from_residual-in_err-cut_and_count.ensures.1
     (wrong_tells v h c.in_err-cut_and_count.field-0.0
@@ -65,7 +65,7 @@ returns-clause-removed g c h r shown shows sound named =
     let deep = c.depth-depth.ensures.value ∙ g.met.T.PointerTable.deep_in c.args.table.now v h shows in
     let head = head_at h c.args.name.now c.depth-depth.result c.crc32.result c.index_of.result c.in-Is.head c.index_of.ensures.value deep c.crc32.ensures c.index_of.ensures.low (answer_at _ _ _ c.in-Is.is (c.in_ok-head.ensures.found h shows)) in
     let spot = found_at c.in_ok-found.field-0 c.in-Is-Some.field-0 c.in-Is-Some.found (IsSpotIn v c.args.name.now) c.in-Is-Some.is c.in-Is-Some.field-0-is c.in_ok-found.ensures.spot in
-    let place = found_at c.in_ok-found.field-0 c.in-Is-Some.field-0 c.in-Is-Some.found (IsInPlace h (index_for h c.args.name.now) c.args.name.now) c.in-Is-Some.is c.in-Is-Some.field-0-is (c.in_ok-found.ensures.place h (index_for h c.args.name.now) shown head) in
+    let place = found_at c.in_ok-found.field-0 c.in-Is-Some.field-0 c.in-Is-Some.found (IsInPlace h (index_for h c.args.name.now) c.args.name.now) c.in-Is-Some.is c.in-Is-Some.field-0-is (c.in_ok-found.ensures.place h (index_for h c.args.name.now) shown head deep) in
     let dinode = answer_at _ _ _ c.in-Is-2.is (c.in_ok-dinode.ensures.found h shown.inode) in
     let there = answer_at _ _ _ c.in-Is-2.is c.in_ok-dinode.ensures.there in
     let cut = c.in_ok-cut_and_count.ensures.cut in
@@ -80,7 +80,7 @@ returns-clause-nothing g c h shown shows sound none =
     let deep = c.depth-depth.ensures.value ∙ g.met.T.PointerTable.deep_in c.args.table.now v h shows in
     let head = head_at h c.args.name.now c.depth-depth.result c.crc32.result c.index_of.result c.in-Is.head c.index_of.ensures.value deep c.crc32.ensures c.index_of.ensures.low (answer_at _ _ _ c.in-Is.is (c.in_ok-head.ensures.found h shows)) in
     let spot = found_at c.in_ok-found.field-0 c.in-Is-Some.field-0 c.in-Is-Some.found (IsSpotIn v c.args.name.now) c.in-Is-Some.is c.in-Is-Some.field-0-is c.in_ok-found.ensures.spot in
-    let place = found_at c.in_ok-found.field-0 c.in-Is-Some.field-0 c.in-Is-Some.found (IsInPlace h (index_for h c.args.name.now) c.args.name.now) c.in-Is-Some.is c.in-Is-Some.field-0-is (c.in_ok-found.ensures.place h (index_for h c.args.name.now) shown head) in
+    let place = found_at c.in_ok-found.field-0 c.in-Is-Some.field-0 c.in-Is-Some.found (IsInPlace h (index_for h c.args.name.now) c.args.name.now) c.in-Is-Some.is c.in-Is-Some.field-0-is (c.in_ok-found.ensures.place h (index_for h c.args.name.now) shown head deep) in
     let dinode = answer_at _ _ _ c.in-Is-2.is (c.in_ok-dinode.ensures.found h shown.inode) in
     let there = answer_at _ _ _ c.in-Is-2.is c.in_ok-dinode.ensures.there in
     let cut = c.in_ok-cut_and_count.ensures.cut in
@@ -94,7 +94,7 @@ returns-clause-slots g c h shown shows sound =
     let deep = c.depth-depth.ensures.value ∙ g.met.T.PointerTable.deep_in c.args.table.now v h shows in
     let head = head_at h c.args.name.now c.depth-depth.result c.crc32.result c.index_of.result c.in-Is.head c.index_of.ensures.value deep c.crc32.ensures c.index_of.ensures.low (answer_at _ _ _ c.in-Is.is (c.in_ok-head.ensures.found h shows)) in
     let spot = found_at c.in_ok-found.field-0 c.in-Is-Some.field-0 c.in-Is-Some.found (IsSpotIn v c.args.name.now) c.in-Is-Some.is c.in-Is-Some.field-0-is c.in_ok-found.ensures.spot in
-    let place = found_at c.in_ok-found.field-0 c.in-Is-Some.field-0 c.in-Is-Some.found (IsInPlace h (index_for h c.args.name.now) c.args.name.now) c.in-Is-Some.is c.in-Is-Some.field-0-is (c.in_ok-found.ensures.place h (index_for h c.args.name.now) shown head) in
+    let place = found_at c.in_ok-found.field-0 c.in-Is-Some.field-0 c.in-Is-Some.found (IsInPlace h (index_for h c.args.name.now) c.args.name.now) c.in-Is-Some.is c.in-Is-Some.field-0-is (c.in_ok-found.ensures.place h (index_for h c.args.name.now) shown head deep) in
     let dinode = answer_at _ _ _ c.in-Is-2.is (c.in_ok-dinode.ensures.found h shown.inode) in
     let there = answer_at _ _ _ c.in-Is-2.is c.in_ok-dinode.ensures.there in
     let cut = c.in_ok-cut_and_count.ensures.cut in
@@ -106,7 +106,7 @@ returns-clause-laid g c h shown shows sound done =
     let deep = c.depth-depth.ensures.value ∙ g.met.T.PointerTable.deep_in c.args.table.now v h shows in
     let head = head_at h c.args.name.now c.depth-depth.result c.crc32.result c.index_of.result c.in-Is.head c.index_of.ensures.value deep c.crc32.ensures c.index_of.ensures.low (answer_at _ _ _ c.in-Is.is (c.in_ok-head.ensures.found h shows)) in
     let spot = found_at c.in_ok-found.field-0 c.in-Is-Some.field-0 c.in-Is-Some.found (IsSpotIn v c.args.name.now) c.in-Is-Some.is c.in-Is-Some.field-0-is c.in_ok-found.ensures.spot in
-    let place = found_at c.in_ok-found.field-0 c.in-Is-Some.field-0 c.in-Is-Some.found (IsInPlace h (index_for h c.args.name.now) c.args.name.now) c.in-Is-Some.is c.in-Is-Some.field-0-is (c.in_ok-found.ensures.place h (index_for h c.args.name.now) shown head) in
+    let place = found_at c.in_ok-found.field-0 c.in-Is-Some.field-0 c.in-Is-Some.found (IsInPlace h (index_for h c.args.name.now) c.args.name.now) c.in-Is-Some.is c.in-Is-Some.field-0-is (c.in_ok-found.ensures.place h (index_for h c.args.name.now) shown head deep) in
     let dinode = answer_at _ _ _ c.in-Is-2.is (c.in_ok-dinode.ensures.found h shown.inode) in
     let there = answer_at _ _ _ c.in-Is-2.is c.in_ok-dinode.ensures.there in
     let cut = c.in_ok-cut_and_count.ensures.cut in
@@ -118,7 +118,7 @@ returns-clause-still g c h shown shows sound done =
     let deep = c.depth-depth.ensures.value ∙ g.met.T.PointerTable.deep_in c.args.table.now v h shows in
     let head = head_at h c.args.name.now c.depth-depth.result c.crc32.result c.index_of.result c.in-Is.head c.index_of.ensures.value deep c.crc32.ensures c.index_of.ensures.low (answer_at _ _ _ c.in-Is.is (c.in_ok-head.ensures.found h shows)) in
     let spot = found_at c.in_ok-found.field-0 c.in-Is-Some.field-0 c.in-Is-Some.found (IsSpotIn v c.args.name.now) c.in-Is-Some.is c.in-Is-Some.field-0-is c.in_ok-found.ensures.spot in
-    let place = found_at c.in_ok-found.field-0 c.in-Is-Some.field-0 c.in-Is-Some.found (IsInPlace h (index_for h c.args.name.now) c.args.name.now) c.in-Is-Some.is c.in-Is-Some.field-0-is (c.in_ok-found.ensures.place h (index_for h c.args.name.now) shown head) in
+    let place = found_at c.in_ok-found.field-0 c.in-Is-Some.field-0 c.in-Is-Some.found (IsInPlace h (index_for h c.args.name.now) c.args.name.now) c.in-Is-Some.is c.in-Is-Some.field-0-is (c.in_ok-found.ensures.place h (index_for h c.args.name.now) shown head deep) in
     let dinode = answer_at _ _ _ c.in-Is-2.is (c.in_ok-dinode.ensures.found h shown.inode) in
     let there = answer_at _ _ _ c.in-Is-2.is c.in_ok-dinode.ensures.there in
     let cut = c.in_ok-cut_and_count.ensures.cut in
@@ -144,9 +144,9 @@ returns-clause-found g c h shown shows =
     let deep = c.depth-depth.ensures.value ∙ g.met.T.PointerTable.deep_in c.args.table.now v h shows in
     let head = head_at h c.args.name.now c.depth-depth.result c.crc32.result c.index_of.result c.in-Is.head c.index_of.ensures.value deep c.crc32.ensures c.index_of.ensures.low (answer_at _ _ _ c.in-Is.is (c.in_ok-head.ensures.found h shows)) in
     let spot = found_at c.in_ok-found.field-0 c.in-Is-Some.field-0 c.in-Is-Some.found (IsSpotIn v c.args.name.now) c.in-Is-Some.is c.in-Is-Some.field-0-is c.in_ok-found.ensures.spot in
-    let place = found_at c.in_ok-found.field-0 c.in-Is-Some.field-0 c.in-Is-Some.found (IsInPlace h (index_for h c.args.name.now) c.args.name.now) c.in-Is-Some.is c.in-Is-Some.field-0-is (c.in_ok-found.ensures.place h (index_for h c.args.name.now) shown head) in
+    let place = found_at c.in_ok-found.field-0 c.in-Is-Some.field-0 c.in-Is-Some.found (IsInPlace h (index_for h c.args.name.now) c.args.name.now) c.in-Is-Some.is c.in-Is-Some.field-0-is (c.in_ok-found.ensures.place h (index_for h c.args.name.now) shown head deep) in
     let dinode = answer_at _ _ _ c.in-Is-2.is (c.in_ok-dinode.ensures.found h shown.inode) in
-    in_this place.place c.in-Is-Some.found.block _ place.chain (is_there v h c.args.dir (index_for h c.args.name.now) c.args.name.now c.in-Is-Some.found c.in-Is-2.dinode shown spot place dinode c.records_are_found_by_name.ensures.first) place.later
+    in_this place.place c.in-Is-Some.found.block _ place.chain (is_there v h c.args.dir (index_for h c.args.name.now) c.args.name.now c.in-Is-Some.found c.in-Is-2.dinode shown spot place dinode c.records_are_found_by_name.ensures.first) place.later place.heads
 
 pub returns-clause-two : goal.returns-clause-two
 returns-clause-two g c =
@@ -161,4 +161,4 @@ returns-in-Is-None-clause-found g c h shown shows =
     let deep = c.depth-depth.ensures.value ∙ g.met.T.PointerTable.deep_in c.args.table.now v h shows in
     let head = head_at h c.args.name.now c.depth-depth.result c.crc32.result c.index_of.result c.in-Is.head c.index_of.ensures.value deep c.crc32.ensures c.index_of.ensures.low (answer_at _ _ _ c.in-Is.is (c.in_ok-head.ensures.found h shows)) in
     nowhere_named h c.args.name.now (subst (λ o. IsFoundAlong h (index_for h c.args.name.now) c.args.name.now (entry_at o)) c.in-Is-None.field-0-is
-    (answer_at c.in_ok-found.field-0 c.in-Is-None.field-0 (λ o. IsFoundAlong h (index_for h c.args.name.now) c.args.name.now (entry_at o)) c.in-Is-None.is (c.in_ok-found.ensures.found h (index_for h c.args.name.now) shown head)))
+    (answer_at c.in_ok-found.field-0 c.in-Is-None.field-0 (λ o. IsFoundAlong h (index_for h c.args.name.now) c.args.name.now (entry_at o)) c.in-Is-None.is (c.in_ok-found.ensures.found h (index_for h c.args.name.now) shown head deep)))

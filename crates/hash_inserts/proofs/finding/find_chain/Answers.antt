@@ -3,9 +3,9 @@ use Rattle.gfs2_layout.specs.Inode.{depth_in, top_bits}
 use Rattle.glock_names.specs.Steps.{IsDamage}
 use Rattle.glock_names.proofs.StepLaws.{answer_at, needed_at}
 use Rattle.linear_dirs.proofs.Looked.{handed}
-use Rattle.hash_dirs.specs.Broken.{IsWrongIn}
-use Rattle.hash_dirs.specs.Shown.{index_for, of_table}
-use Rattle.hash_dirs.proofs.Leaves.{damage_of, head_of, wrong_of}
+use Rattle.hash_steps.specs.Broken.{IsWrongIn}
+use Rattle.hash_steps.specs.Shown.{index_for, of_table}
+use Rattle.hash_steps.proofs.ChainLeaves.{damage_of, head_of, wrong_of}
 use Rattle.hash_inserts.proofs.Looks.{dinode_needed}
 use Rattle.hash_inserts.proofs.finding.find_chain.Goals as goal
 

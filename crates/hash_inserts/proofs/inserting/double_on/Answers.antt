@@ -1,6 +1,6 @@
 use Rattle.std.proofs.Common.{◌≡◌, ◌≤◌, length, sym, ap, subst, arith}
 use Rattle.drafts.specs.Fates.{seen_in, seen_with}
-use Rattle.hash_dirs.specs.Shown.{IsShown}
+use Rattle.hash_steps.specs.Shown.{IsShown}
 use Rattle.table_changes.specs.Tables.{doubling_need_of}
 use Rattle.hash_inserts.specs.Advancing.{StepsOn}
 use Rattle.hash_inserts.proofs.DoubleOn.{double_on, needs_doubled, still_full}

@@ -1,6 +1,6 @@
 use Rattle.std.proofs.Common.{◌+◌, length, subst, arith}
 use Rattle.drafts.specs.Fates.{seen_in}
-use Rattle.hash_dirs.specs.Shown.{index_for}
+use Rattle.hash_steps.specs.Shown.{index_for}
 use Rattle.hash_inserts.specs.Advancing.{IsAtLeaf}
 use Rattle.hash_inserts.specs.Inserting.{HasNoRoom}
 use Rattle.hash_inserts.specs.Walking.{IsRoomBefore}

@@ -4,7 +4,7 @@ use Rattle.std.specs.FinMap.{empty}
 use Rattle.std.specs.List.{each_same}
 use Rattle.drafts.specs.Fates.{Drafted, seen_in, seen_with}
 use Rattle.dinode_tree.specs.Reading.{inode_lock}
-use Rattle.hash_dirs.specs.Shown.{IsShown}
+use Rattle.hash_steps.specs.Shown.{IsShown}
 use Rattle.nested_drafts.specs.Nested.{with_blocks}
 use Rattle.hash_inserts.specs.Advancing.{CanInsert}
 use Rattle.hash_inserts.specs.Committing.{HasInserted}

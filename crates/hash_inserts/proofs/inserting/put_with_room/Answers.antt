@@ -1,7 +1,7 @@
 use Rattle.std.proofs.Common.{◌≡◌, sym, ap, subst}
 use Rattle.gfs2_layout.specs.Inode.{depth_in}
 use Rattle.gfs2_layout.specs.declared.dinode.Dinode.{Dinode}
-use Rattle.hash_dirs.specs.Shown.{index_for}
+use Rattle.hash_steps.specs.Shown.{index_for}
 use Rattle.hash_steps.proofs.Leaves.{chain_low}
 use Rattle.hash_inserts.specs.Inserting.{Inserts}
 use Rattle.hash_inserts.proofs.After.{shown_after, shows_after}

@@ -2,8 +2,8 @@ use Rattle.std.proofs.Common.{◌∙◌, length, sym}
 use Rattle.glock_names.specs.Steps.{TellsOf}
 use Rattle.glock_names.proofs.StepLaws.{answer_at, needed_at}
 use Rattle.linear_dirs.proofs.Looked.{handed}
-use Rattle.hash_dirs.specs.Broken.{IsWrongIn}
-use Rattle.hash_dirs.specs.Shown.{index_for}
+use Rattle.hash_steps.specs.Broken.{IsWrongIn}
+use Rattle.hash_steps.specs.Shown.{index_for}
 use Rattle.hash_inserts.specs.Inserting as inserting
 use Rattle.hash_inserts.specs.Inserting.{IsWrongToInsert, of_chain}
 use Rattle.hash_inserts.proofs.Counted.{room_or_none}

@@ -2,8 +2,8 @@ use Rattle.std.proofs.Common.{◌≡◌, ◌∙◌, ◌∷◌, ◌<◌, refl, sy
 use Rattle.std.proofs.lemmas.Bool.{true≢false}
 use Rattle.drafts.specs.Fates.{seen_in, seen_with}
 use Rattle.gfs2_layout.specs.Inode.{depth_in, entry, table_count, top_bits}
-use Rattle.hash_dirs.specs.Shown.{IsShown, index_for}
-use Rattle.hash_dirs.proofs.Chained.{head_some, index_low}
+use Rattle.hash_steps.specs.Shown.{IsShown, index_for}
+use Rattle.hash_steps.proofs.Chained.{head_some, index_low}
 use Rattle.hash_steps.specs.Leaves.{HasOneLeaf, leaf_depth}
 use Rattle.hash_inserts.specs.Advancing.{StepsOn}
 use Rattle.hash_inserts.specs.Drafting.{SplitsLeaf}

@@ -9,7 +9,7 @@ use Rattle.gfs2_layout.specs.Inode.{dinode_in, first_hash, leaf_in, leaf_length}
 use Rattle.gfs2_layout.specs.Structures.{dinode_of, leaf_of}
 use Rattle.dinode_tree.specs.Reading.{inode_lock}
 use Rattle.leaf_areas.specs.Moving.{unused}
-use Rattle.hash_dirs.proofs.Chained.{cell_some, in_chain}
+use Rattle.hash_steps.proofs.Chained.{cell_some, in_chain}
 use Rattle.hash_steps.proofs.Leaves.{itself_or_chained}
 use Rattle.hash_steps.proofs.Sound.{tree_of}
 use Rattle.hash_inserts.specs.Drafting.{Lengthens}

@@ -5,7 +5,7 @@ use Rattle.gfs2_layout.specs.Inode.{top_bits}
 use Rattle.gfs2_layout.specs.declared.dinode.Dinode.{Dinode}
 use Rattle.glock_names.specs.Views.{HasBlock}
 use Rattle.dinode_tree.specs.Shown.{IsAsSeen}
-use Rattle.hash_dirs.specs.Shown.{IsInChain, index_for}
+use Rattle.hash_steps.specs.Shown.{IsInChain, index_for}
 use Rattle.hash_steps.specs.Leaves.{IsFullBefore, has_room_for}
 use Rattle.hash_steps.proofs.Leaves.{chain_low}
 use Rattle.hash_inserts.specs.Drafting.{PutsInLeaf}

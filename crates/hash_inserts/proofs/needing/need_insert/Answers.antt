@@ -3,8 +3,8 @@ use Rattle.glock_names.specs.Steps.{TellsOf}
 use Rattle.glock_names.specs.Views.{HasBlock}
 use Rattle.glock_names.proofs.StepLaws.{answer_at, answer_so, needed_at}
 use Rattle.linear_dirs.proofs.Looked.{handed}
-use Rattle.hash_dirs.specs.Broken.{IsWrongIn}
-use Rattle.hash_dirs.specs.Shown.{index_for}
+use Rattle.hash_steps.specs.Broken.{IsWrongIn}
+use Rattle.hash_steps.specs.Shown.{index_for}
 use Rattle.hash_inserts.specs.Inserting.{IsWrongToInsert, of_chain}
 use Rattle.hash_inserts.proofs.Counted.{room_or_none, sees_with, takes_none, takes_one}
 use Rattle.hash_inserts.proofs.Looks.{only_tells, tells_wrong}

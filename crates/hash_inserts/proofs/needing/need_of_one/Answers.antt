@@ -6,8 +6,8 @@ use Rattle.gfs2_layout.specs.Inode.{entry, leaf_area, leaf_in, leaf_length}
 use Rattle.gfs2_layout.specs.declared.dinode.Dinode.{Dinode}
 use Rattle.gfs2_layout.specs.declared.leaf.Leaf.{Leaf}
 use Rattle.linear_dirs.proofs.Looked.{handed}
-use Rattle.hash_dirs.specs.Broken.{IsWrongIn}
-use Rattle.hash_dirs.specs.Shown.{LeadsToLeaf, by_pointer, index_for}
+use Rattle.hash_steps.specs.Broken.{IsWrongIn}
+use Rattle.hash_steps.specs.Shown.{LeadsToLeaf, by_pointer, index_for}
 use Rattle.hash_inserts.specs.Inserting as inserting
 use Rattle.hash_inserts.specs.Inserting.{IsWrongToInsert, of_chain}
 use Rattle.hash_inserts.specs.Needing.{AreLeavesFrom, Needs, the_last}

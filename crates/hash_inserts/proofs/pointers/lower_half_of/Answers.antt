@@ -1,6 +1,6 @@
 use Rattle.std.proofs.Common.{ℕ, ◌+◌, ◌-◌, ◌*◌, ◌/◌, ◌%◌, ◌^◌, ◌≤◌, arith}
 use Rattle.std.proofs.Math.Pow.{pow_mono}
-use Rattle.hash_dirs.proofs.Indexes.{run_within}
+use Rattle.hash_steps.proofs.Indexes.{run_within}
 use Rattle.hash_inserts.proofs.pointers.lower_half_of.Goals as goal
 
 half_within : (q run half all : ℕ) → (q + 1) * run ≤ all → half ≤ run → q * run % 4294967296 + 1 * half % 4294967296 ≤ all

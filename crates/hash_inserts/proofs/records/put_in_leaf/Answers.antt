@@ -6,9 +6,9 @@ use Rattle.gfs2_layout.specs.Inode.{dinode_in, first_hash}
 use Rattle.gfs2_layout.specs.Structures.{dinode_of}
 use Rattle.dinode_tree.specs.Reading.{inode_lock}
 use Rattle.linear_dirs.specs.Shown.{head_for, record_for}
-use Rattle.hash_dirs.specs.Shown.{index_for}
-use Rattle.hash_dirs.proofs.Chained.{cell_some, in_chain}
-use Rattle.hash_dirs.proofs.Cuts.{seen_apart}
+use Rattle.hash_steps.specs.Shown.{index_for}
+use Rattle.hash_steps.proofs.Chained.{cell_some, in_chain}
+use Rattle.hash_steps.proofs.Cuts.{seen_apart}
 use Rattle.hash_steps.proofs.Leaves.{itself_or_chained}
 use Rattle.hash_steps.proofs.Sound.{tree_of}
 use Rattle.hash_inserts.specs.Writing.{CanCount, CanTake, IsDinodeWritten, IsLeafFilled, counting}

@@ -11,8 +11,8 @@ use Rattle.dinode_tree.specs.Broken as inode
 use Rattle.gfs2_layout.specs.Inode.{depth_in, entry, leaf_in}
 use Rattle.gfs2_layout.specs.declared.leaf.Leaf.{Leaf}
 use Rattle.linear_dirs.proofs.Looked.{handed}
-use Rattle.hash_dirs.specs.Broken.{IsWrongIn}
-use Rattle.hash_dirs.specs.Shown.{IsShown, LeadsToLeaf, by_pointer, of_table}
+use Rattle.hash_steps.specs.Broken.{IsWrongIn}
+use Rattle.hash_steps.specs.Shown.{IsShown, LeadsToLeaf, by_pointer, of_table}
 use Rattle.hash_inserts.specs.Inserting.{IsSplitAt, IsWrongToInsert, Takes, of_leaf, of_pointers}
 use Rattle.hash_inserts.proofs.Looks.{free_front, only_tells, tells_inode, tells_wrong}
 use Rattle.hash_inserts.proofs.Over.{inside_put, may_split, seen_put, takes_over}

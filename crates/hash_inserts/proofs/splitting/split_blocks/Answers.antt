@@ -2,7 +2,7 @@ use Rattle.std.proofs.Common.{◌≡◌, ◌∙◌, [], ◌∷◌, refl, sym, ap
 use Rattle.std.specs.Prelude.{Contains}
 use Rattle.drafts.specs.Fates.{Drafted, seen_in, seen_with}
 use Rattle.glock_names.specs.Views.{HasBlock}
-use Rattle.hash_dirs.specs.Shown.{IsShown}
+use Rattle.hash_steps.specs.Shown.{IsShown}
 use Rattle.hash_inserts.specs.Committing.{HasSplit}
 use Rattle.hash_inserts.specs.Drafting.{SeesTree, SplitsLeaf}
 use Rattle.hash_inserts.proofs.Over.{seen_fresh, whole_put}

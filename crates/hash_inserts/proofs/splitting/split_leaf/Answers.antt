@@ -11,7 +11,7 @@ use Rattle.glock_names.specs.Views.{HasBlock}
 use Rattle.dinode_tree.specs.Reading.{inode_lock}
 use Rattle.linear_dirs.specs.Shown.{bytes_over, holding_over}
 use Rattle.linear_dirs.proofs.Over.{as_seen}
-use Rattle.hash_dirs.proofs.Chained.{deep, rules}
+use Rattle.hash_steps.proofs.Chained.{deep, rules}
 use Rattle.hash_steps.proofs.Leaves.{itself_or_chained}
 use Rattle.hash_steps.proofs.Sound.{tree_of}
 use Rattle.hash_inserts.specs.Writing.{CanCount, IsLeafBlock}

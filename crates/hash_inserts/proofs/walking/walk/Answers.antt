@@ -2,9 +2,9 @@ use Rattle.std.proofs.Common.{◌∙◌, ◌+◌, ◌<◌, refl, sym, ap, subst,
 use Rattle.gfs2_layout.specs.Area.{slots_of}
 use Rattle.gfs2_layout.specs.declared.leaf.Leaf.{Leaf}
 use Rattle.glock_names.proofs.StepLaws.{answer_at, needed_at}
-use Rattle.hash_dirs.specs.Walking.{IsLeafOf, OfEach}
-use Rattle.hash_dirs.proofs.Along.{begins, comes_again_to, goes_on}
-use Rattle.hash_dirs.proofs.Leaves.{told, wrong_of}
+use Rattle.hash_steps.specs.Walking.{IsLeafOf, OfEach}
+use Rattle.hash_steps.proofs.Along.{begins, comes_again_to, goes_on}
+use Rattle.hash_steps.proofs.ChainLeaves.{told, wrong_of}
 use Rattle.hash_steps.specs.Leaves.{has_room_for}
 use Rattle.hash_inserts.specs.Walking.{IsRoomBefore}
 use Rattle.hash_inserts.proofs.Walks.{room_more, sees_more}

@@ -1,4 +1,4 @@
-use Rattle.hash_dirs.specs.Walking.{IsAlong, OfEach}
+use Rattle.hash_steps.specs.Walking.{IsAlong, OfEach}
 use Rattle.hash_inserts.specs.Walking.{IsRoomBefore, SeesChainBefore}
 use Rattle.hash_inserts.proofs.walking.walk.Given as goal
 

@@ -3,7 +3,7 @@ use Rattle.std.proofs.lemmas.Bool.{true≢false}
 use Rattle.gfs2_layout.specs.Area.{IsArea}
 use Rattle.gfs2_layout.specs.Inode.{leaf_length}
 use Rattle.linear_dirs.proofs.Looked.{rest_is}
-use Rattle.hash_dirs.proofs.Leaves.{head_is}
+use Rattle.hash_steps.proofs.ChainLeaves.{head_is}
 use Rattle.hash_inserts.proofs.writing.head_of.Goals as goal
 
 pub returns-then-not-is_area-clause-is : goal.returns-then-not-is_area-clause-is

@@ -8,7 +8,7 @@ use Rattle.hash_dirs.proofs.Chained.{head_some}
 use Rattle.hash_dirs.proofs.Along.{found_here, found_nowhere, none_named}
 use Rattle.pointer_tables.specs.Directories.{chain_head}
 use Rattle.image_journals.specs.Blocks.{seen_of}
-use Rattle.image_journals.proofs.Chains.{ends, goes_on, leaf_is, leaf_there, low_block}
+use Rattle.image_journals.proofs.Chains.{ends, goes_on, headed, heads, leaf_is, leaf_there, low_block}
 use Rattle.image_journals.proofs.Read.{handed}
 use Rattle.image_journals.proofs.leaves.find_along.Goals as goal
 
@@ -30,7 +30,7 @@ returns-in-Some c h i is hashed low first =
     let v = seen_of c.args.blocks.now in
     let at = c.loop-place.invariant h i is hashed low first in
     let read = c.in_ok-part.ensures.read h (first_hash h i) (leaf_there v h is hashed i c.loop-place._place c.loop-place.leaf at.chain) (leaf_is v h is hashed i c.loop-place._place c.loop-place.leaf at.chain) in
-    found_here h i c.args.name.now c.loop-place._place c.loop-place.leaf at.chain at.later c.in-Some.entry
+    found_here h i c.args.name.now c.loop-place._place c.loop-place.leaf at.chain at.later (heads v h is hashed i c.loop-place._place) (headed v h is hashed i c.loop-place._place c.loop-place.leaf at.chain) c.in-Some.entry
     (ap (λ a. option_map entry_of (record_named (records_in a) c.args.name.now)) (sym read.0) ∙ sym c.entry_in.ensures ∙ c.in-Some.is)
 
 pub returns-then-part-eq0 : goal.returns-then-part-eq0
@@ -38,7 +38,7 @@ returns-then-part-eq0 c h i is hashed low first =
     let v = seen_of c.args.blocks.now in
     let at = c.loop-place.invariant h i is hashed low first in
     let read = c.in_ok-part.ensures.read h (first_hash h i) (leaf_there v h is hashed i c.loop-place._place c.loop-place.leaf at.chain) (leaf_is v h is hashed i c.loop-place._place c.loop-place.leaf at.chain) in
-    found_nowhere h i c.args.name.now c.loop-place._place c.loop-place.leaf at.chain at.later
+    found_nowhere h i c.args.name.now c.loop-place._place c.loop-place.leaf at.chain at.later (heads v h is hashed i c.loop-place._place) (headed v h is hashed i c.loop-place._place c.loop-place.leaf at.chain)
     (none_named _ (ap (λ a. option_map entry_of (record_named (records_in a) c.args.name.now)) (sym read.0) ∙ sym c.entry_in.ensures ∙ c.in_default.is)) (sym read.1 ∙ c.if-part-eq0.true)
 
 pub loop-place-preserved : goal.loop-place-preserved

@@ -1,7 +1,7 @@
 use Rattle.std.proofs.Common.{◌≡◌, ℕ, List, sym, subst, ◌∙◌}
 use Rattle.std.specs.Vec.{with_items}
 use Rattle.std.proofs.lemmas.List.{with_items_is}
-use Rattle.lone_ends.specs.Ends.{IsLastHeader}
+use Rattle.logged_steps.specs.NodeEnds.{IsLastHeader}
 use Rattle.logged_node.proofs.Unmounting.{is_last}
 use Rattle.logged_node.proofs.leaving.fill_last.Goals as goal
 

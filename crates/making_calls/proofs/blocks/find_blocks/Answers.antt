@@ -2,8 +2,8 @@ use Rattle.std.proofs.Common.{◌≡◌, ◌<◌, true, false, length, sym, ap, 
 use Rattle.glock_names.specs.StateOrder.{leq}
 use Rattle.glock_names.specs.declared.State.TheVariants.{Ex}
 use Rattle.resource_groups.specs.Shown.{said}
-use Rattle.path_walks.specs.Holds.{holds, hold_of, hold_for}
-use Rattle.path_walks.proofs.Longer.{lack_before}
+use Rattle.name_drafts.specs.Holds.{holds, hold_of, hold_for}
+use Rattle.name_drafts.proofs.Longer.{lack_before}
 use Rattle.room_search.specs.Blocks.{free_for, group_holds}
 use Rattle.room_search.specs.Searches.{IsUnder}
 use Rattle.room_search.specs.Searches as room

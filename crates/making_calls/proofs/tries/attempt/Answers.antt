@@ -4,14 +4,14 @@ use Rattle.cluster_history.specs.Changes.{is_ok}
 use Rattle.file_tree.specs.declared.reply.Reply.TheVariants as reply
 use Rattle.image_changes.specs.Does.{Does, IsInside, AreInside}
 use Rattle.image_changes.proofs.Doing.{nothing_does}
-use Rattle.path_walks.specs.Answers.{IfDone, IfNeedBlock, IfNoSpace, HasSpace}
+use Rattle.name_drafts.specs.Answers.{IfDone, IfNeedBlock, IfNoSpace, HasSpace}
 use Rattle.making_calls.specs.Making.{IsFound, IsMade, IsRefusal, IsStamped, IsToldOf, IsAnswered, IsFullFor, IfMade, call_holds}
 use Rattle.making_calls.proofs.Taking.{needed_absent}
 use Rattle.making_calls.proofs.Under.{nothing_under}
 use Rattle.making_calls.proofs.tries.attempt.Goals.{in-Refused, in-Made, in-NeedBlock, in-NotBuilt, in-NeedLock, in-NoSpace}
 use Rattle.making_calls.proofs.tries.attempt.Goals as goal
-use Rattle.path_walks.specs.Holds.{IsUnder}
-use Rattle.path_walks.proofs.Refused.{no_change}
+use Rattle.name_drafts.specs.Holds.{IsUnder}
+use Rattle.name_drafts.proofs.Refused.{no_change}
 
 pub returns-clause-done : goal.returns-clause-done
 returns-clause-done g c =

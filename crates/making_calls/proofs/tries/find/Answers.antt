@@ -7,16 +7,16 @@ use Rattle.file_tree.specs.declared.reply.Reply.TheVariants as reply
 use Rattle.glock_names.specs.Steps as steps
 use Rattle.call_locks.specs.Wants.{wanted}
 use Rattle.call_locks.specs.WantLaws.{path_of}
-use Rattle.path_walks.specs.Holds.{AreHeld}
-use Rattle.path_walks.specs.Walks.{AreInOrder, IsTold, IsWalked}
-use Rattle.path_walks.specs.Walks as path
-use Rattle.path_walks.proofs.Lists.{parent_of_next}
+use Rattle.name_drafts.specs.Holds.{AreHeld}
+use Rattle.name_drafts.specs.Walks.{AreInOrder, IsTold, IsWalked}
+use Rattle.name_drafts.specs.Walks as path
+use Rattle.name_drafts.proofs.Lists.{parent_of_next}
 use Rattle.making_calls.specs.Making.{IsDamage, IsLackedFor, IsNeededFor, IsRefused, directory_path, inode_holds, path_holds}
 use Rattle.making_calls.proofs.Trees.{plain_list, refused}
 use Rattle.making_calls.proofs.Wanted.{as_many, in_order, wants_are}
 use Rattle.making_calls.proofs.tries.find.Goals as goal
-use Rattle.path_walks.proofs.Faults.{told_on, only_so}
-use Rattle.path_walks.proofs.Longer.{asked_before, lack_before}
+use Rattle.name_drafts.proofs.WalkFaults.{told_on, only_so}
+use Rattle.name_drafts.proofs.Longer.{asked_before, lack_before}
 
 pub walk_along-requires-clause-as_many : goal.walk_along-requires-clause-as_many
 walk_along-requires-clause-as_many g c =

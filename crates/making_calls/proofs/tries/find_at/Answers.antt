@@ -8,13 +8,13 @@ use Rattle.glock_names.proofs.StepLaws.{answer_at, needed_at}
 use Rattle.name_drafts.specs.DirectoryShown.{HasName, Says}
 use Rattle.name_drafts.specs.DirectoryShown as dirs
 use Rattle.image_model.specs.Owners.{holding}
-use Rattle.path_walks.specs.Holds.{AreHeld}
-use Rattle.path_walks.specs.Walks.{IsWrongAt, Names}
-use Rattle.path_walks.proofs.Faults.{told_on, only_so}
-use Rattle.path_walks.proofs.Asked.{name_asked}
-use Rattle.path_walks.proofs.Images.{says_child, shown_inode, unbroken_directory}
-use Rattle.path_walks.proofs.Longer.{asked_before}
-use Rattle.path_walks.proofs.Steps.{directory_all, directory_here, fault_of_all}
+use Rattle.name_drafts.specs.Holds.{AreHeld}
+use Rattle.name_drafts.specs.Walks.{IsWrongAt, Names}
+use Rattle.name_drafts.proofs.WalkFaults.{told_on, only_so}
+use Rattle.name_drafts.proofs.Asked.{name_asked}
+use Rattle.name_drafts.proofs.Images.{says_child, shown_inode, unbroken_directory}
+use Rattle.name_drafts.proofs.Longer.{asked_before}
+use Rattle.name_drafts.proofs.Steps.{directory_all, directory_here, fault_of_all}
 use Rattle.making_calls.specs.Making.{IsDamage, IsRefused, directory_path, name_in, path_holds}
 use Rattle.making_calls.specs.Making as damage
 use Rattle.making_calls.proofs.At.{below_root, own_name}

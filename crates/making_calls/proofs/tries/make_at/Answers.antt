@@ -3,9 +3,9 @@ use Rattle.std.specs.Prelude.{not}
 use Rattle.gfs2_layout.specs.Holding.{Holding}
 use Rattle.glock_names.proofs.StepLaws.{answer_at, needed_at}
 use Rattle.name_drafts.specs.DirectoryShown.{IsShown}
-use Rattle.path_walks.proofs.Faults.{told_on, tells_each, tells_so}
-use Rattle.path_walks.proofs.Steps.{none_so}
-use Rattle.path_walks.proofs.Steps.{inside_so as shown_inside}
+use Rattle.name_drafts.proofs.WalkFaults.{told_on, tells_each, tells_so}
+use Rattle.name_drafts.proofs.Steps.{none_so}
+use Rattle.name_drafts.proofs.Steps.{inside_so as shown_inside}
 use Rattle.name_drafts.specs.Needing.{TakesBlocks}
 use Rattle.name_drafts.specs.Inserting.{IsNeededForName, IsWrongForName, SeesForName}
 use Rattle.name_drafts.specs.Need.{name_need, need_in_linear}

@@ -9,10 +9,10 @@ use Rattle.name_drafts.specs.DirectoryShown.{IsShown}
 use Rattle.name_drafts.proofs.Forms.{some_directory}
 use Rattle.hash_dirs.proofs.Leaves.{found_at}
 use Rattle.image_model.specs.Owners.{holding}
-use Rattle.path_walks.proofs.Images.{shown_inode}
+use Rattle.name_drafts.proofs.Images.{shown_inode}
 use Rattle.growth_drafts.specs.Taken.{IsDistinct}
 use Rattle.resource_groups.specs.Shown.{said}
-use Rattle.path_walks.proofs.Faults.{told_on, tells_each, tells_so}
+use Rattle.name_drafts.proofs.WalkFaults.{told_on, tells_each, tells_so}
 use Rattle.room_search.specs.Searches.{IsGroupBroken, IsUnder}
 use Rattle.room_search.specs.declared.search.Locked.TheVariants as locked
 use Rattle.room_search.proofs.InImage.{group_sound}

@@ -2,7 +2,7 @@ use Rattle.std.proofs.Common.{true≢false, sym, ap, ◌∙◌, subst}
 use Rattle.file_tree.specs.Apply.{Answer}
 use Rattle.file_tree.specs.declared.reply.Reply.TheVariants as reply
 use Rattle.image_changes.proofs.Doing.{nothing_does}
-use Rattle.path_walks.proofs.Refused.{no_change}
+use Rattle.move_ends.proofs.Refused.{no_change}
 use Rattle.move_ends.specs.Ends.{IsFoundIn, IsRefusal, IsTold}
 use Rattle.move_calls.specs.Answering.{IsAnswerAtEnds, IsAnswerOf, IsAtEnds}
 use Rattle.move_calls.specs.Moved.{IsMovedIn}

@@ -3,7 +3,7 @@ use Rattle.std.specs.Option.{option_copied}
 use Rattle.std.specs.Prelude.{IfOk}
 use Rattle.file_tree.specs.Names.{IsName, last_of}
 use Rattle.glock_names.proofs.StepLaws.{answer_at, needed_at}
-use Rattle.path_walks.proofs.Faults.{damaged_so, tells_so, told_on}
+use Rattle.move_ends.proofs.Faults.{damaged_so, tells_so, told_on}
 use Rattle.name_moves.specs.Moving.{CanBeMoved}
 use Rattle.move_calls.specs.Answering.{IsAnswerOf, IsDamage, IsMeant, blocks_of_replaced}
 use Rattle.move_calls.specs.Carrying.{IsCarried, IsDamageOf}

@@ -1,10 +1,10 @@
 use Rattle.std.proofs.Common.{◌≢◌, []}
 use Rattle.std.specs.Prelude.{IfNone}
 use Rattle.glock_names.proofs.StepLaws.{answer_at, needed_at}
-use Rattle.directories.specs.Shown.{IsShown}
+use Rattle.move_ends.specs.Shown.{IsShown}
 use Rattle.hash_dirs.proofs.Leaves.{found_at}
-use Rattle.path_walks.proofs.Faults.{tells_each, tells_so, told_on}
-use Rattle.name_inserts.specs.Inserting.{IsNeededForName, IsWrongForName, SeesForName}
+use Rattle.move_ends.proofs.Faults.{tells_each, tells_so, told_on}
+use Rattle.name_moves.specs.Inserting.{IsNeededForName, IsWrongForName, SeesForName}
 use Rattle.name_moves.specs.Moving.{lost_there, move_of}
 use Rattle.move_calls.specs.Carrying.{IsDamageOf, IsStuck, NeedsBlock, NeedsFor}
 use Rattle.move_calls.proofs.Room.{at_none}

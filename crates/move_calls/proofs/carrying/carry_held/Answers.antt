@@ -1,6 +1,6 @@
 use Rattle.std.proofs.Common.{◌≢◌, ap, ◌∙◌}
 use Rattle.glock_names.proofs.StepLaws.{needed_at}
-use Rattle.path_walks.proofs.Faults.{tells_so, told_on}
+use Rattle.move_ends.proofs.Faults.{tells_so, told_on}
 use Rattle.resource_groups.specs.Freeing.{BreaksSome, IsNeededFor}
 use Rattle.room_search.specs.Searches.{IsGroupBroken}
 use Rattle.room_search.specs.declared.search.Locked.TheVariants as locked

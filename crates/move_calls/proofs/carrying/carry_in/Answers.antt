@@ -2,7 +2,7 @@ use Rattle.std.proofs.Common.{◌≡◌, false, true, refl}
 use Rattle.std.specs.Prelude.{IfNone}
 use Rattle.glock_names.proofs.StepLaws.{answer_at, needed_at}
 use Rattle.hash_dirs.proofs.Leaves.{found_at}
-use Rattle.path_walks.proofs.Faults.{told_on}
+use Rattle.move_ends.proofs.Faults.{told_on}
 use Rattle.name_moves.specs.Moving.{IsMoving, move_of}
 use Rattle.move_calls.specs.Carrying.{IsDamageOf, IsOffWay, IsStuck, NeedsBlock}
 use Rattle.move_calls.specs.Checks.{IsNeededOnWays}

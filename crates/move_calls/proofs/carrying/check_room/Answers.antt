@@ -1,9 +1,9 @@
 use Rattle.std.proofs.Common.{rules, ◌≢◌, ℕ, []}
 use Rattle.std.specs.Prelude.{Contains, IfNone}
 use Rattle.glock_names.proofs.StepLaws.{answer_at}
-use Rattle.name_inserts.specs.Way.{IsRightWay}
+use Rattle.name_moves.specs.Way.{IsRightWay}
 use Rattle.hash_dirs.proofs.Leaves.{found_at}
-use Rattle.path_walks.proofs.Faults.{tells_so, told_on}
+use Rattle.move_ends.proofs.Faults.{tells_so, told_on}
 use Rattle.name_moves.specs.Moving.{IsPlaceOfMove, move_of}
 use Rattle.move_calls.specs.Carrying.{IsDamageOf, IsInTheWay, IsStuck}
 use Rattle.move_calls.specs.Checks.{IsOffItsWays, IsOnItsWay, IsWrongOnWays}

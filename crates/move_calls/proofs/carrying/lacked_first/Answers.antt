@@ -1,6 +1,6 @@
 use Rattle.std.proofs.Common.{◌≡◌, ap, ◌∙◌, subst}
 use Rattle.glock_names.specs.declared.LockName.{LockName}
-use Rattle.group_locks.specs.Groups.{AreHeldOf, IsFirstLackOf, IsOneOrHas}
+use Rattle.name_moves.specs.Groups.{AreHeldOf, IsFirstLackOf, IsOneOrHas}
 use Rattle.name_moves.specs.Moving.{freed_by, move_of}
 use Rattle.move_calls.specs.Carrying.{FirstAreHeld, LacksFirst, where_needed}
 use Rattle.move_calls.proofs.Room.{none_map, some_map}

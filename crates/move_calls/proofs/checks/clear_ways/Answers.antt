@@ -2,7 +2,7 @@ use Rattle.std.proofs.Common.{ℕ, sym, subst}
 use Rattle.std.specs.Prelude.{Contains, IfNone}
 use Rattle.glock_names.proofs.StepLaws.{answer_at, needed_at}
 use Rattle.hash_dirs.proofs.Leaves.{found_at}
-use Rattle.path_walks.proofs.Faults.{tells_so, told_on}
+use Rattle.move_ends.proofs.Faults.{tells_so, told_on}
 use Rattle.name_moves.specs.Moving.{move_of}
 use Rattle.move_calls.specs.Checks.{IsNeededOnWays, IsNeededToSee, IsOffItsWays, IsOnItsWay, IsWrongMove, IsWrongOnWays}
 use Rattle.move_calls.proofs.Room.{at_none}

@@ -1,10 +1,10 @@
 use Rattle.std.proofs.Common.{◌≡◌, inl, inr, true, refl}
 use Rattle.std.specs.Prelude.{codes}
 use Rattle.glock_names.proofs.StepLaws.{answer_so}
-use Rattle.directories.specs.Taking.{HasNameIn}
+use Rattle.move_ends.specs.Taking.{HasNameIn}
 use Rattle.dinode_tree.specs.Broken as inodes
-use Rattle.path_walks.proofs.Faults.{only_so, told_on}
-use Rattle.path_walks.proofs.Steps.{fault_all}
+use Rattle.move_ends.proofs.Faults.{only_so, told_on}
+use Rattle.move_ends.proofs.Steps.{fault_all}
 use Rattle.name_moves.specs.Moving.{CanBeMoved, is_reparented, move_of}
 use Rattle.move_calls.specs.Checks.{IsUnfit, IsWrongMove}
 use Rattle.move_calls.proofs.Checked.{can}

@@ -3,9 +3,9 @@ use Rattle.std.specs.Prelude.{codes}
 use Rattle.gfs2_layout.specs.Inode.{has_hash_flag}
 use Rattle.gfs2_layout.specs.Structures.{is_directory}
 use Rattle.glock_names.proofs.StepLaws.{answer_at, needed_at}
-use Rattle.directories.specs.Shown.{IsBroken, IsNeededFor, IsShown, Says}
-use Rattle.path_walks.proofs.Faults.{only_so, told_on}
-use Rattle.path_walks.proofs.Steps.{directory_here, fault_of_all}
+use Rattle.move_ends.specs.Shown.{IsBroken, IsNeededFor, IsShown, Says}
+use Rattle.move_ends.proofs.Faults.{only_so, told_on}
+use Rattle.move_ends.proofs.Steps.{directory_here, fault_of_all}
 use Rattle.name_moves.specs.Moving.{move_of}
 use Rattle.move_calls.specs.Checks.{IsNeededToSee, IsWrongMove}
 use Rattle.move_calls.proofs.Checked.{and_never}

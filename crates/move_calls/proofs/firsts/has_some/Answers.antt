@@ -1,6 +1,6 @@
 use Rattle.std.proofs.Common.{sym, true≢false, arith}
 use Rattle.resource_groups.specs.Shown.{IsDataOf}
-use Rattle.group_locks.proofs.Fronts.{each_next, each_all}
+use Rattle.name_moves.proofs.Fronts.{each_next, each_all}
 use Rattle.move_calls.proofs.firsts.has_some.Goals.{else-group-block-via-then-group-block+else-block-group, else-group-block-via-else-group-block}
 use Rattle.move_calls.proofs.firsts.has_some.Goals as goal
 

@@ -2,8 +2,8 @@ use Rattle.std.proofs.Common.{◌≡◌, ◌⊎◌, inl, inr, true, false, [], s
 use Rattle.std.proofs.lemmas.Bool.{cases_Bool}
 use Rattle.glock_names.specs.Steps.{TellsOf}
 use Rattle.glock_names.proofs.StepLaws.{answer_at, needed_at}
-use Rattle.name_inserts.specs.Inserting.{SeesForName}
-use Rattle.name_inserts.specs.Needing.{TakesBlocks}
+use Rattle.name_moves.specs.Inserting.{SeesForName}
+use Rattle.name_moves.specs.Needing.{TakesBlocks}
 use Rattle.name_moves.specs.Becoming.{IsAfter, NeedsAfter}
 use Rattle.name_moves.specs.Moving.{IsNeededIn, IsNeededThere, IsWrongThere, lost_there, move_of}
 use Rattle.move_calls.specs.Carrying.{IsDamageOf, IsStuck, NeedsBlock}

@@ -1,6 +1,6 @@
 use Rattle.std.proofs.Common.{subst}
 use Rattle.glock_names.proofs.StepLaws.{answer_at, needed_at}
-use Rattle.name_inserts.specs.Inserting.{IsNeededForName, SeesForName}
+use Rattle.name_moves.specs.Inserting.{IsNeededForName, SeesForName}
 use Rattle.move_calls.proofs.looking.look_ahead.Goals as goal
 
 pub returns-in-NeedBlock-clause-needed : goal.returns-in-NeedBlock-clause-needed

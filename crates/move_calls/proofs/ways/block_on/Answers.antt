@@ -2,8 +2,8 @@ use Rattle.std.proofs.Common.{◌≢◌, ℕ, [], ◌∷◌, sym, subst}
 use Rattle.std.specs.Prelude.{Contains, IfNone, IfSome}
 use Rattle.gfs2_layout.specs.Holding.{Holding}
 use Rattle.glock_names.specs.Steps.{IfIs}
-use Rattle.directories.specs.Shown.{IsShown}
-use Rattle.name_inserts.specs.Way.{IsOnWay, IsRightWay}
+use Rattle.move_ends.specs.Shown.{IsShown}
+use Rattle.name_moves.specs.Way.{IsOnWay, IsRightWay}
 use Rattle.move_calls.specs.Checks.{IsOnItsWay}
 use Rattle.move_calls.proofs.OnWays.{found_on, needed_on, none_on, right_on, wrong_on}
 use Rattle.move_calls.proofs.ways.block_on.Goals as goal

@@ -3,12 +3,12 @@ use Rattle.std.specs.Prelude.{Contains, IfNone, codes}
 use Rattle.gfs2_layout.specs.Holding.{Holding}
 use Rattle.glock_names.proofs.StepLaws.{answer_at, needed_at}
 use Rattle.hash_dirs.proofs.Leaves.{found_at}
-use Rattle.path_walks.proofs.Faults.{told_on}
-use Rattle.path_walks.proofs.Steps.{directory_here}
+use Rattle.move_ends.proofs.Faults.{told_on}
+use Rattle.move_ends.proofs.Steps.{directory_here}
 use Rattle.image_model.proofs.Rows.{and_left}
 use Rattle.gfs2_layout.specs.Structures.{is_directory}
-use Rattle.directories.specs.Shown.{IsShown}
-use Rattle.name_inserts.specs.Way.{IsOnWay, IsRightWay}
+use Rattle.move_ends.specs.Shown.{IsShown}
+use Rattle.name_moves.specs.Way.{IsOnWay, IsRightWay}
 use Rattle.name_moves.specs.Moving.{move_of}
 use Rattle.move_calls.specs.Checks.{IsNeededOnWays, IsOffItsWays, IsOnItsWay, IsWayOf, IsWrongOnWays}
 use Rattle.move_calls.proofs.OnWays.{any_none, new_way, none_as, off_all, old_way, parent_way}

@@ -4,7 +4,7 @@ use Rattle.std.specs.Prelude.{IfOk}
 use Rattle.file_tree.specs.Apply.{Answer}
 use Rattle.file_tree.specs.declared.reply.Reply.TheVariants as reply
 use Rattle.glock_names.specs.declared.steps.CallFault.{CallFault}
-use Rattle.path_walks.proofs.Faults.{damaged_so, tells_so, told_on}
+use Rattle.pair_walks.proofs.Faults.{damaged_so, tells_so, told_on}
 use Rattle.pair_walks.specs.Walks.{IsPairTold, IsPairWalked}
 use Rattle.move_ends.specs.Ends.{IsAbsentBlock, IsDamageAtEnds, IsFoundIn, IsNeededAtEnds, IsRefusal, IsRefused, IsTold, first_wants, from_path, second_wants, to_path}
 use Rattle.move_ends.specs.Over.{IsApart, IsWrongApart}

@@ -1,6 +1,6 @@
 use Rattle.std.proofs.Common.{◌+◌, false, true, length, take, drop, sym, ap, subst, ◌∙◌, arith}
-use Rattle.path_walks.specs.Walks.{AreInOrder}
-use Rattle.path_walks.proofs.Faults.{only_so, told_on}
+use Rattle.pair_walks.specs.OnePath.{AreInOrder}
+use Rattle.pair_walks.proofs.Faults.{only_so, told_on}
 use Rattle.pair_walks.specs.Walks.{IsPairDamage, IsPairTold, IsPairWalked}
 use Rattle.pair_walks.proofs.Telling.{so_of}
 use Rattle.move_ends.specs.Ends.{first_wants, from_path, second_wants, to_path}

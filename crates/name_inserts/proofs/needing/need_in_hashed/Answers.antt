@@ -2,7 +2,7 @@ use Rattle.std.proofs.Common.{◌≡◌, ◌<◌}
 use Rattle.std.proofs.lemmas.List.Elements.{All-from_get_or}
 use Rattle.glock_names.specs.Steps.{TellsOf}
 use Rattle.glock_names.proofs.StepLaws.{answer_at, answer_so, needed_so}
-use Rattle.hash_dirs.specs.Broken as leaves
+use Rattle.hash_inserts.specs.Broken as leaves
 use Rattle.linear_dirs.proofs.Looked.{handed}
 use Rattle.directories.specs.Shown as directory
 use Rattle.directories.proofs.Forms.{damaged_as, fault_as, leaves_shown, only_tells}

@@ -3,7 +3,7 @@ use Rattle.glock_names.proofs.StepLaws.{answer_at, answer_so, needed_so}
 use Rattle.std.proofs.Common.{◌≡◌, true}
 use Rattle.drafts.specs.Fates.{seen_in}
 use Rattle.gfs2_layout.specs.Holding.{Holding}
-use Rattle.hash_dirs.specs.Broken as leaves
+use Rattle.hash_inserts.specs.Broken as leaves
 use Rattle.linear_dirs.proofs.Looked.{handed}
 use Rattle.directories.specs.Shown as directory
 use Rattle.directories.specs.Shown.{IsShown}

@@ -7,9 +7,9 @@ use Rattle.glock_names.specs.Steps.{IsDamage}
 use Rattle.glock_names.proofs.StepLaws.{answer_at, answer_so, needed_at, needed_so}
 use Rattle.linear_dirs.proofs.Looked.{handed}
 use Rattle.image_model.proofs.Rows.{and_left}
-use Rattle.hash_dirs.specs.Broken as leaves
-use Rattle.hash_dirs.specs.Shown.{IsInChain, index_for, of_table}
-use Rattle.hash_dirs.proofs.Leaves.{head_at, index_is}
+use Rattle.hash_inserts.specs.Broken as leaves
+use Rattle.hash_inserts.specs.Shown.{IsInChain, index_for, of_table}
+use Rattle.hash_inserts.proofs.ChainLeaves.{head_at, index_is}
 use Rattle.hash_inserts.specs.Inserting.{of_chain}
 use Rattle.directories.specs.Shown as directory
 use Rattle.directories.proofs.Forms.{fault_as, leaves_shown}

@@ -5,7 +5,7 @@ use Rattle.gfs2_layout.specs.Structures.{leaf_of}
 use Rattle.gfs2_layout.specs.declared.leaf.Leaf.{Leaf}
 use Rattle.dinode_tree.proofs.Dinodes.{lacks}
 use Rattle.linear_dirs.proofs.Looked.{rest_is}
-use Rattle.hash_dirs.proofs.Leaves.{head_is, read_well}
+use Rattle.hash_inserts.proofs.ChainLeaves.{head_is, read_well}
 use Rattle.name_inserts.specs.Way.{no_header, other_count, other_format, unfilled}
 use Rattle.name_inserts.proofs.OnWay.{format_read}
 use Rattle.name_inserts.proofs.way.broken_rule.Goals as goal

@@ -2,9 +2,9 @@ use Rattle.std.specs.Prelude.{Contains}
 use Rattle.std.proofs.Common.{◌∙◌, ◌<◌, ◌∷◌, true≢false, refl, sym, ap, arith}
 use Rattle.gfs2_layout.specs.declared.leaf.Leaf.{Leaf}
 use Rattle.glock_names.proofs.StepLaws.{answer_at, needed_at}
-use Rattle.hash_dirs.specs.Walking.{IsLeafOf, OfEach}
-use Rattle.hash_dirs.proofs.Along.{begins, comes_again_to, goes_on}
-use Rattle.hash_dirs.proofs.Leaves.{bytes_there, told, wrong_of}
+use Rattle.hash_inserts.specs.ChainWalking.{IsLeafOf, OfEach}
+use Rattle.hash_inserts.proofs.Along.{begins, comes_again_to, goes_on}
+use Rattle.hash_inserts.proofs.ChainLeaves.{bytes_there, told, wrong_of}
 use Rattle.name_inserts.proofs.OnWay.{breaks_leaf, right_all, right_leaf, right_more}
 use Rattle.name_inserts.proofs.way.leaf_among.Goals as goal
 

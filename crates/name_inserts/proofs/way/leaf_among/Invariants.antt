@@ -1,6 +1,6 @@
 use Rattle.std.specs.Prelude.{◌≡◌, ◌∷◌}
 use Rattle.gfs2_layout.specs.Inode.{depth_in}
-use Rattle.hash_dirs.specs.Walking.{IsAlong, OfEach}
+use Rattle.hash_inserts.specs.ChainWalking.{IsAlong, OfEach}
 use Rattle.name_inserts.specs.Way.{AreRightBefore}
 use Rattle.name_inserts.proofs.way.leaf_among.Given as goal
 

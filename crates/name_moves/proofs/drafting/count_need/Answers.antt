@@ -12,10 +12,10 @@ use Rattle.glock_names.specs.declared.steps.Step.{Step}
 use Rattle.glock_names.specs.declared.steps.Step.TheVariants.{Is, NeedBlock}
 use Rattle.directories.specs.Shown.{IsShown}
 use Rattle.directories.proofs.Forms.{is_directory_here}
-use Rattle.path_walks.proofs.Faults.{damaged_so, told_on, tells_so}
-use Rattle.name_inserts.specs.Inserting.{IsNeededForName, IsWrongForName, SeesForName}
-use Rattle.name_inserts.specs.Need.{name_need, need_in_hashed, need_in_linear}
-use Rattle.name_inserts.specs.Needing.{TakesBlocks}
+use Rattle.name_drafts.proofs.WalkFaults.{damaged_so, told_on, tells_so}
+use Rattle.name_drafts.specs.Inserting.{IsNeededForName, IsWrongForName, SeesForName}
+use Rattle.name_drafts.specs.Need.{name_need, need_in_hashed, need_in_linear}
+use Rattle.name_drafts.specs.Needing.{TakesBlocks}
 use Rattle.name_drafts.proofs.Fates.{absent_below, seen_over, still_there}
 use Rattle.name_moves.specs.Becoming.{IsAfter, LosesAll, NeedsAfter, none_went, of_linear, of_sound}
 use Rattle.name_moves.specs.Moving.{IsNeededThere, IsWrongThere, lost_there, move_of}

@@ -4,7 +4,7 @@ use Rattle.std.specs.Prelude.{Contains, IfSome, IsSome}
 use Rattle.glock_names.proofs.StepLaws.{answer_at, needed_at}
 use Rattle.glock_names.specs.Steps.{TellsOf}
 use Rattle.image_model.specs.Owners.{holding}
-use Rattle.path_walks.proofs.Faults.{told_on, tells_so}
+use Rattle.name_drafts.proofs.WalkFaults.{told_on, tells_so}
 use Rattle.resource_groups.specs.Freeing.{BreaksSome, IsNeededFor}
 use Rattle.resource_groups.specs.Putting.{HasDataBlock}
 use Rattle.resource_groups.proofs.Sets.{take_has}

@@ -1,5 +1,5 @@
 use Rattle.std.proofs.Common.{ℕ, List, ◌++◌}
-use Rattle.path_walks.proofs.Faults.{damaged_so}
+use Rattle.name_drafts.proofs.WalkFaults.{damaged_so}
 use Rattle.name_moves.specs.Moving.{IsAskedIn, IsNeededIn, IsWrongIn, freed_by, move_of}
 use Rattle.name_moves.proofs.Asked.{move_asked}
 use Rattle.name_moves.proofs.Unbroken.{not_wrong}

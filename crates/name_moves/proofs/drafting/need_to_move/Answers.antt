@@ -1,8 +1,8 @@
 use Rattle.std.proofs.Common.{[]}
 use Rattle.glock_names.proofs.StepLaws.{answer_so}
 use Rattle.image_model.specs.Owners.{holding}
-use Rattle.path_walks.proofs.Faults.{damaged_so}
-use Rattle.path_walks.proofs.Images.{shown_inode, sound_directory}
+use Rattle.name_drafts.proofs.WalkFaults.{damaged_so}
+use Rattle.name_drafts.proofs.Images.{shown_inode, sound_directory}
 use Rattle.name_moves.specs.Becoming.{NeedsAfter, NeedsJust}
 use Rattle.name_moves.specs.Moving.{IsAskedOf, IsNeededIn, IsNeededThere, IsWrongIn, IsWrongThere, lost_there, move_of}
 use Rattle.name_moves.proofs.Alike.{need_just}

@@ -4,7 +4,7 @@ use Rattle.directories.specs.Shown.{IsBroken, IsNeededFor, Says}
 use Rattle.directories.proofs.Forms.{only_tells, some_directory}
 use Rattle.directories.proofs.Sound.{says_once}
 use Rattle.image_model.proofs.Held.{none_some}
-use Rattle.path_walks.proofs.Faults.{told_on}
+use Rattle.name_drafts.proofs.WalkFaults.{told_on}
 use Rattle.name_moves.specs.Moving.{IsWrongIn, move_of}
 use Rattle.name_moves.proofs.Ways.{broken_old, needed_old}
 use Rattle.name_moves.proofs.Under.{asked_to_go}

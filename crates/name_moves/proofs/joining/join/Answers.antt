@@ -5,7 +5,7 @@ use Rattle.std.specs.Prelude.{IfSome, take}
 use Rattle.drafts.specs.declared.fate.Fate.{Fate}
 use Rattle.glock_names.proofs.StepLaws.{answer_at, needed_at}
 use Rattle.glock_names.specs.Steps.{TellsOf}
-use Rattle.path_walks.proofs.Faults.{tells_so, told_on}
+use Rattle.name_drafts.proofs.WalkFaults.{tells_so, told_on}
 use Rattle.resource_groups.specs.Putting.{HasDataBlock}
 use Rattle.directories.specs.Shown.{IsShown}
 use Rattle.name_moves.specs.Moving.{IsNeededIn, IsNeededThere, IsWrongIn, IsWrongThere, entry_for, lost_there, move_of}

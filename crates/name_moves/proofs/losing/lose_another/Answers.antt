@@ -3,7 +3,7 @@ use Rattle.drafts.specs.Fates.{seen_in}
 use Rattle.glock_names.proofs.StepLaws.{answer_at, needed_at}
 use Rattle.directories.specs.Shown.{IsBroken, Says}
 use Rattle.directories.proofs.Forms.{only_tells}
-use Rattle.path_walks.proofs.Faults.{told_on}
+use Rattle.name_drafts.proofs.WalkFaults.{told_on}
 use Rattle.name_moves.specs.Becoming.{IsAfter}
 use Rattle.name_drafts.proofs.Fates.{absent_below, still_there}
 use Rattle.name_moves.proofs.Loses.{tell_as}

@@ -4,7 +4,7 @@ use Rattle.std.specs.Prelude.{not}
 use Rattle.glock_names.proofs.StepLaws.{answer_at, needed_at}
 use Rattle.glock_names.specs.Steps.{IfDamaged, IfNeedBlock}
 use Rattle.directories.specs.Shown.{IsBroken, IsDirectoryIn, IsNeededFor, IsShown}
-use Rattle.path_walks.proofs.Faults.{damaged_so, told_on, tells_so}
+use Rattle.name_drafts.proofs.WalkFaults.{damaged_so, told_on, tells_so}
 use Rattle.name_drafts.proofs.Fates.{seen_old}
 use Rattle.name_moves.specs.Becoming.{CanTell, IsAfter}
 use Rattle.name_moves.specs.Moving.{IsAskedUnder, IsNeededThere, IsWrongThere, move_of, new_first, old_first, old_then}

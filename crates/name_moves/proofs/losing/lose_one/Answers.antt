@@ -5,7 +5,7 @@ use Rattle.glock_names.specs.Steps.{TellsOf}
 use Rattle.glock_names.specs.Views.{HasBlock, IsOfView}
 use Rattle.directories.specs.Shown.{IsBroken, IsDirectoryIn, IsNeededFor, IsShown}
 use Rattle.directories.specs.Taking.{HasNameIn}
-use Rattle.path_walks.proofs.Faults.{told_on, tells_so, tells_each}
+use Rattle.name_drafts.proofs.WalkFaults.{told_on, tells_so, tells_each}
 use Rattle.gfs2_layout.specs.Holding.{Holding}
 use Rattle.name_drafts.proofs.Fates.{seen_old}
 use Rattle.name_moves.specs.Becoming.{IsAfter, of_none}

@@ -1,7 +1,7 @@
 use Rattle.std.proofs.Common.{◌≡◌, true, false, true≢false, sym, ◌∙◌, subst}
 use Rattle.glock_names.proofs.StepLaws.{answer_at, needed_at}
 use Rattle.glock_names.specs.Steps.{IfDamaged}
-use Rattle.path_walks.proofs.Faults.{told_on}
+use Rattle.name_drafts.proofs.WalkFaults.{told_on}
 use Rattle.resource_groups.specs.Putting.{HasDataBlock}
 use Rattle.name_moves.specs.Becoming.{of_sound}
 use Rattle.name_moves.specs.Moving.{IsWrongThere, move_of}

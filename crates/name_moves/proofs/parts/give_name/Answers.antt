@@ -9,7 +9,7 @@ use Rattle.directories.specs.Shown.{IsBroken, IsDirectoryIn, IsNeededFor, IsShow
 use Rattle.directories.specs.Taking.{HasNameIn}
 use Rattle.directories.proofs.Counted.{equal}
 use Rattle.new_inodes.specs.Touched.{with_times}
-use Rattle.path_walks.proofs.Faults.{told_on}
+use Rattle.name_drafts.proofs.WalkFaults.{told_on}
 use Rattle.name_drafts.proofs.Fates.{seen_old}
 use Rattle.name_moves.specs.Becoming.{GivesName}
 use Rattle.name_moves.specs.Moving.{IsWrongIn, move_of}

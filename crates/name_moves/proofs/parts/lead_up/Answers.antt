@@ -9,8 +9,8 @@ use Rattle.glock_names.specs.Views.{HasBlock, IsOfView}
 use Rattle.directories.specs.Shown.{IsBroken, IsDirectoryIn, IsNeededFor, IsShown}
 use Rattle.directories.specs.Taking.{HasNameIn}
 use Rattle.new_inodes.specs.Touched.{with_times}
-use Rattle.path_walks.proofs.Faults.{told_on}
-use Rattle.path_walks.proofs.Steps.{directory_here, directory_so}
+use Rattle.name_drafts.proofs.WalkFaults.{told_on}
+use Rattle.name_drafts.proofs.Steps.{directory_here, directory_so}
 use Rattle.name_drafts.proofs.Fates.{seen_old, still_there}
 use Rattle.name_drafts.proofs.Faults.{positive_block}
 use Rattle.name_moves.specs.Moving.{IsWrongIn, move_of, of_target, parent_of}

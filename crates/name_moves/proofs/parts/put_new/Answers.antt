@@ -4,8 +4,8 @@ use Rattle.glock_names.proofs.StepLaws.{answer_at, needed_at}
 use Rattle.gfs2_layout.specs.Structures.{dinode_of}
 use Rattle.glock_names.specs.Views.{HasBlock}
 use Rattle.directories.proofs.Forms.{is_directory_here}
-use Rattle.path_walks.proofs.Faults.{told_on, tells_so}
-use Rattle.name_inserts.specs.Inserting.{CanGetName, IsNeededForName, IsWrongForName}
+use Rattle.name_drafts.proofs.WalkFaults.{told_on, tells_so}
+use Rattle.name_drafts.specs.Inserting.{CanGetName, IsNeededForName, IsWrongForName}
 use Rattle.name_drafts.proofs.Faults.{positive_block}
 use Rattle.name_drafts.proofs.Fates.{absent_below, still_there}
 use Rattle.name_moves.specs.Becoming.{IsAfter}

@@ -3,7 +3,7 @@ use Rattle.std.proofs.lemmas.List.Elements.{Contains-append_left, Contains-appen
 use Rattle.drafts.specs.Fates.{AreWhole, Drafted, seen_in}
 use Rattle.glock_names.specs.Views.{IsOfView}
 use Rattle.glock_names.proofs.StepLaws.{answer_at, needed_at}
-use Rattle.path_walks.proofs.Faults.{told_on, tells_so}
+use Rattle.name_drafts.proofs.WalkFaults.{told_on, tells_so}
 use Rattle.resource_groups.specs.Freeing.{BreaksSome}
 use Rattle.name_drafts.proofs.Faults.{breaks_before, breaks_wide, kept_before, needed_before, needed_wide, sees_below, tells_both}
 use Rattle.name_moves.proofs.Said.{breaks_taken, has1, kept_taken, needs_taken, said_and_done}

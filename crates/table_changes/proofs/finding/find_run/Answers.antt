@@ -10,8 +10,8 @@ use Rattle.dinode_tree.specs.declared.locating.Located.{Located}
 use Rattle.dinode_tree.specs.Broken as broken
 use Rattle.linear_dirs.proofs.Looked.{handed}
 use Rattle.table_files.specs.Pointers.{IsTableBroken, leads_nowhere, of_inode}
-use Rattle.tree_tables.specs.Pointers.{seen_as}
-use Rattle.tree_tables.proofs.Gets.{block_needed, needed_with, broken_so, bytes_led, found_hole, no_table_header, one_less, seen_shown, unit_carries}
+use Rattle.table_files.specs.TreePointers.{seen_as}
+use Rattle.table_files.proofs.Gets.{block_needed, needed_with, broken_so, bytes_led, found_hole, no_table_header, one_less, seen_shown, unit_carries}
 use Rattle.table_changes.proofs.Told.{table_damage, table_told}
 use Rattle.table_changes.proofs.finding.find_run.Goals as goal
 

@@ -1,7 +1,7 @@
 use Rattle.std.proofs.Common.{◌≡◌, ◌-◌, ◌≤◌}
 use Rattle.std.specs.Prelude.{Contains}
 use Rattle.gfs2_layout.specs.Holding.{Holding}
-use Rattle.tree_tables.specs.Pointers.{IsTableOf}
+use Rattle.table_files.specs.TreePointers.{IsTableOf}
 use Rattle.table_changes.specs.Setting.{AreRuns, IsSeenRun, counted}
 use Rattle.table_changes.specs.declared.finding.Run.{Run}
 use Rattle.table_changes.proofs.finding.find_runs.Given as goal

@@ -6,9 +6,9 @@ use Rattle.linear_dirs.proofs.Looked.{handed}
 use Rattle.table_files.specs.Pointers.{IsTableBroken}
 use Rattle.table_files.specs.Files.{table_bytes}
 use Rattle.table_files.proofs.TableBytes.{table_long}
-use Rattle.tree_tables.specs.Pointers.{seen_as}
+use Rattle.table_files.specs.TreePointers.{seen_as}
 use Rattle.table_changes.proofs.Doubles.{bytes_short, doubled_pointers}
-use Rattle.tree_tables.proofs.Gets.{seen_shown}
+use Rattle.table_files.proofs.Gets.{seen_shown}
 use Rattle.table_changes.proofs.Below.{table_tells}
 use Rattle.table_changes.proofs.reading.doubled_table.Goals as goal
 

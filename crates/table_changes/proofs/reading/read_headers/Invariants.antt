@@ -3,7 +3,7 @@ use Rattle.gfs2_layout.specs.Bytes.{slice}
 use Rattle.gfs2_layout.specs.Holding.{Holding, bytes_at}
 use Rattle.gfs2_layout.specs.Inode.{content_block, height_in}
 use Rattle.pointer_tables.specs.Directories.{IsTreeSound}
-use Rattle.tree_tables.specs.Pointers.{IsTableOf}
+use Rattle.table_files.specs.TreePointers.{IsTableOf}
 use Rattle.table_changes.proofs.reading.read_headers.Given as goal
 
 abbrev pub invariant-loop-index : goal.invariant-loop-index

@@ -4,8 +4,8 @@ use Rattle.glock_names.specs.Views.{HasBlock}
 use Rattle.glock_names.proofs.StepLaws.{answer_at, needed_at}
 use Rattle.dinode_tree.specs.Below.{IsBelow}
 use Rattle.dinode_tree.proofs.Pieces.{needed_for}
-use Rattle.tree_tables.specs.Pointers.{seen_as}
-use Rattle.tree_tables.proofs.Gets.{seen_shown}
+use Rattle.table_files.specs.TreePointers.{seen_as}
+use Rattle.table_files.proofs.Gets.{seen_shown}
 use Rattle.table_changes.proofs.Below.{below_needed}
 use Rattle.table_changes.proofs.reading.see_below.Goals as goal
 

@@ -3,7 +3,7 @@ use Rattle.drafts.specs.Fates.{seen_in}
 use Rattle.gfs2_layout.specs.Holding.{Holding}
 use Rattle.glock_names.specs.Views.{HasBlock}
 use Rattle.pointer_tables.specs.Directories.{IsPlaced, IsTreeSound}
-use Rattle.tree_tables.specs.Pointers.{IsTableOf}
+use Rattle.table_files.specs.TreePointers.{IsTableOf}
 use Rattle.table_changes.specs.Setting.{AreRuns, PutsRuns, counted}
 use Rattle.table_changes.proofs.RunSet.{IsSetKept}
 use Rattle.table_changes.proofs.setting.set_runs.Given as goal

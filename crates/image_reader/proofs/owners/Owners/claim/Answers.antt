@@ -11,7 +11,7 @@ returns-else-is_same-clause-clash c = record {
   there = grind (arith, common_steps, gets);
   other = lacking _ _ c.if-is_same.false c.is_same.ensures;
   told = elim c.rule_of.ensures [
-    | inl three ↦ inl (c.damaged.ensures ∙ ap (Damaged c.args.block) three)
+    | inl three ↦ inl (c.damaged.ensures ∙ ap (Damaged c.args.block) three.0, three.1)
     | inr both ↦ inr (c.damaged.ensures ∙ ap (Damaged c.args.block) both.0, both.1)
   ];
 }
