@@ -1,0 +1,10 @@
+mod KeptBlocks
+mod Looked
+mod Quiet
+mod Moved
+mod Added
+mod Told
+mod Full
+mod Changed
+mod Loggable
+mod Room

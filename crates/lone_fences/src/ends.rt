@@ -1,0 +1,27 @@
+use fault_counts::Rise;
+use journal_reads::ReadFault;
+
+/// Why a crashed node wasn't fenced, or isn't told of what it lost.
+#[derive(Clone, Copy, Debug, PartialEq, Eq)]
+pub enum FenceEnd {
+    /// The disk failed in the fence, and the run's count of faults rose so.
+    NotFenced { rise: Rise },
+    /// Behind the fence the disk failed as the run read this block of the journal, and its count rose so.
+    ReadFailed { block: u64, rise: Rise },
+    /// There was no memory.
+    NoMemory,
+}
+
+impl From<ReadFault> for FenceEnd {
+    ghost use Rattle.std.specs.Prelude.{◌≡◌};
+    ghost use Rattle.lone_fences.specs.Ends.{end_of};
+
+    ghost from_gives = { λ fault end. end ≡ end_of fault };
+
+    fn from(fault: ReadFault) -> Self {
+        match fault {
+            ReadFault::DiskFailed { block, rise } => FenceEnd::ReadFailed { block, rise },
+            ReadFault::NoMemory => FenceEnd::NoMemory,
+        }
+    }
+}
