@@ -101,16 +101,22 @@ pub record HasCourse (before : Moment) (q : Point) (operations : List Operation)
   pub one : IsOneWrite c.further
   pub disk : q.disk ≡ disk_after before.disk operations
 
+-- a course that goes on behind these items with others, and with what these tell
+abbrev pub going_on : Course → List TraceItem → List Operation → Course
+going_on c end later = record c { end = end; later = later }
+
 -- the same with a stop, the fence, and a loss
 abbrev pub stopped_course : Course → TraceItem → List Flight → List TraceItem → Course
-stopped_course c x became more = record c { end = x ∷ trace.Fence 1 ∷ more; later = Fence 1 became ∷ [] }
+stopped_course c x became more = going_on c (x ∷ trace.Fence 1 ∷ more) (Fence 1 became ∷ [])
 
 -- Behind each front of its items, whatever becomes of what is in flight stands as these tell; so it does on the disk that the run left, also with a stop behind its items; and behind the fence the image
--- stands so, also with a right loss: each by the heads of the disks that its operations made.
+-- stands so, also with a right loss: each by the heads of the disks that its operations made, whatever comes behind them.
 pub record StandsThroughout (v : Volume) (d : ℕ) (clients : List Client) (start : DiskState) (tree : Tree) (c : Course) : Type 0 where
-  pub fronts : (count : ℕ) (left : Image) → count ≤ length c.items → MayLeave v (disk_behind start c count) left → StandsAsTold clients (heads_of v d start c left) (take count c.items) tree left
-  pub whole : (left : Image) → MayLeave v (disk_after start (c.operations ++ c.further)) left → StandsAsTold clients (heads_of v d start c left) c.items tree left
-  pub stops : (x : TraceItem) (left : Image) → IsStop x → MayLeave v (disk_after start (c.operations ++ c.further)) left → StandsAsTold clients (heads_of v d start c left) (c.items ++ x ∷ []) tree left
+  pub fronts : (end : List TraceItem) (later : List Operation) (count : ℕ) (left : Image) → count ≤ length c.items → MayLeave v (disk_behind start c count) left
+      → StandsAsTold clients (heads_of v d start (going_on c end later) left) (take count c.items) tree left
+  pub whole : (end : List TraceItem) (later : List Operation) (left : Image) → MayLeave v (disk_after start (c.operations ++ c.further)) left → StandsAsTold clients (heads_of v d start (going_on c end later) left) c.items tree left
+  pub stops : (end : List TraceItem) (later : List Operation) (x : TraceItem) (left : Image) → IsStop x → MayLeave v (disk_after start (c.operations ++ c.further)) left
+      → StandsAsTold clients (heads_of v d start (going_on c end later) left) (c.items ++ x ∷ []) tree left
   pub fences : (x : TraceItem) (became : List Flight) (more : List TraceItem) → IsStop x → IsOutcome (disk_after start (c.operations ++ c.further)) 1 became
       → let left = image_of (after_fence (disk_after start (c.operations ++ c.further)) 1 became) in
       NoFalseHeader (image_of (disk_after start (c.operations ++ c.further))) v.layout (flown_by (disk_after start (c.operations ++ c.further)) 1) left

@@ -1,0 +1,67 @@
+-- A run with all that came behind it, a stop, the fence and the loss, front by front.
+use Rattle.std.specs.Prelude.{ℕ, ◌≤◌, List, [], ◌∷◌, ◌++◌, length, take}
+use Rattle.cluster_history.specs.History.{KeepsSynced, Legal}
+use Rattle.cluster_history.specs.Losses.{LossIsRight}
+use Rattle.file_tree.specs.Tree.{Tree}
+use Rattle.image_machine.specs.Volumes.{Volume}
+use Rattle.image_model.specs.Image.{Image, image_of}
+use Rattle.journal_outcomes.specs.Disks.{flown_by}
+use Rattle.journal_outcomes.specs.Images.{NoFalseHeader}
+use Rattle.logged_runs.specs.Disks.{disk_after}
+use Rattle.logged_runs.specs.Laws.{IsStop, MayLeave, fenced_upto}
+use Rattle.logged_runs.specs.Standing.{StandsAsTold}
+use Rattle.run_rules.specs.Follows.{history_of}
+use Rattle.run_rules.specs.Lives.{AcceptedHead, TraceKeptRight}
+use Rattle.script_lang.specs.declared.script.Client.{Client}
+use Rattle.shared_disk.specs.Disk.{DiskState, Flight, IsOutcome, Operation, after_fence}
+use Rattle.trace_text.specs.declared.item.TraceItem.{TraceItem}
+use Rattle.trace_text.specs.declared.item.TraceItem.TheVariants as trace
+use Rattle.whole_runs.specs.Wholes.{Course, disk_behind, going_on, head_at, heads_of, stopped_course}
+
+-- ---- all of it
+
+abbrev pub all_items : Course → List TraceItem
+all_items c = c.items ++ c.end
+
+abbrev pub all_operations : Course → List Operation
+all_operations c = (c.operations ++ c.further) ++ c.later
+
+-- the disk that it left, before any fence
+abbrev pub disk_left : DiskState → Course → DiskState
+disk_left start c = disk_after start (c.operations ++ c.further)
+
+-- ---- what came behind it
+
+-- each write in flight of the node became something, and no false header came of that
+pub record SettlesRight (v : Volume) (disk : DiskState) (became : List Flight) : Type 0 where
+  pub outcome : IsOutcome disk 1 became
+  pub no_false : NoFalseHeader (image_of disk) v.layout (flown_by disk 1) (image_of (after_fence disk 1 became))
+
+-- the loss that keeps the calls up to this number is right, by the head that the fence left
+abbrev pub IsRightLoss : Volume → ℕ → List Client → DiskState → Course → TraceItem → List Flight → ℕ → Type 0
+IsRightLoss v d clients start c x became kept =
+    LossIsRight (history_of clients c.items) 1
+    (fenced_upto (heads_of v d start (stopped_course c x became (trace.Lost 1 kept ∷ [])) (image_of (after_fence (disk_left start c) 1 became))) x c.items) kept
+
+-- Nothing more; a stop of the node; with its fence; and with the right loss.
+pub data ComesBehind (v : Volume) (d : ℕ) (clients : List Client) (start : DiskState) (c : Course) : Course → Type 0 where
+  nothing_more : ComesBehind v d clients start c (going_on c [] [])
+  a_stop : (x : TraceItem) → IsStop x → ComesBehind v d clients start c (going_on c (x ∷ []) [])
+  a_fence : (x : TraceItem) (became : List Flight) → IsStop x → SettlesRight v (disk_left start c) became → ComesBehind v d clients start c (stopped_course c x became [])
+  a_loss : (x : TraceItem) (became : List Flight) (kept : ℕ) → IsStop x → SettlesRight v (disk_left start c) became → IsRightLoss v d clients start c x became kept
+      → ComesBehind v d clients start c (stopped_course c x became (trace.Lost 1 kept ∷ []))
+
+-- ---- what holds of it
+
+-- the heads that the disks had behind its items
+abbrev pub heads_behind : Volume → ℕ → DiskState → Course → ℕ → ℕ → AcceptedHead
+heads_behind v d start c node p = head_at v d (image_of (disk_behind start c p))
+
+-- Its history is legal, and keeps what was synced; each loss in it is right. Behind each front of all its items, whatever becomes of what is in flight stands as these tell; and so it does on the disk that
+-- all its operations left.
+pub record StandsAtEachFront (v : Volume) (d : ℕ) (clients : List Client) (start : DiskState) (tree : Tree) (c : Course) : Type 0 where
+  pub legal : Legal (history_of clients (all_items c)) tree
+  pub synced : KeepsSynced (history_of clients (all_items c))
+  pub right : TraceKeptRight clients (heads_behind v d start c) (all_items c)
+  pub fronts : (count : ℕ) (left : Image) → count ≤ length (all_items c) → MayLeave v (disk_behind start c count) left → StandsAsTold clients (heads_of v d start c left) (take count (all_items c)) tree left
+  pub whole : (left : Image) → MayLeave v (disk_after start (all_operations c)) left → StandsAsTold clients (heads_of v d start c left) (all_items c) tree left
