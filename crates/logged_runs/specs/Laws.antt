@@ -48,13 +48,14 @@ RunsBeginSo = (disk : DiskState) (o : Owners) (l : Layout) (t : Tree) (d : ℕ) 
 
 -- ---- its calls
 
--- The history of the items is numbered, and has as many calls as the node answered.
-pub record HasItsCalls (clients : List Client) (p : Point) : Type 0 where
+-- The history of the items is numbered, has as many calls as the node answered, and is legal.
+pub record HasItsCalls (clients : List Client) (start : Tree) (p : Point) : Type 0 where
   pub numbered : IsNumbered (history_of clients p.items)
+  pub legal : Legal (history_of clients p.items) start
   pub count : calls_of 1 (history_of clients p.items) ≡ p.numbers.answered
 
 abbrev pub CallsAreCounted : Type 0
-CallsAreCounted = (v : Volume) (s : Begun (trees_on v)) (d : ℕ) (clients : List Client) (time : ℕ) (a p : Point) → BeginsAt v s d clients a → Steps time a p → HasItsCalls clients p
+CallsAreCounted = (v : Volume) (s : Begun (trees_on v)) (d : ℕ) (clients : List Client) (time : ℕ) (a p : Point) → BeginsAt v s d clients a → Steps time a p → HasItsCalls clients s.tree p
 
 -- ---- an outcome
 

@@ -28,7 +28,7 @@ pub fn a_run_begins()
     runs_begin();
 }
 
-/// A law: the history of a run's items is numbered, and has as many calls as the node answered.
+/// A law: the history of a run's items is numbered, has as many calls as the node answered, and is legal.
 pub fn its_calls_are_counted()
     ensures { CallsAreCounted }
 {

@@ -72,7 +72,7 @@ own_call calls.Sync is = refl
 -- where there is one node a crash is one of it alone, also one of all nodes
 crash_alone : (s : ScriptValue) → s.nodes ≡ 1 → (nodes : ℕ) → IsLine s (line.Crash nodes) → nodes ≡ node_one
 crash_alone s one nodes is = elim is [
-  | inl of ↦ (let it : of.0 ≡ 1 = omega (arith, of.1.0.0, of.1.0.1, one) in of.1.1 ∙ ap (λ (n : ℕ). 2 ^ n) it)
+  | inl of ↦ (let it : of.0 ≡ 1 = omega (arith, of.1.0, of.1.1, one) in of.2 ∙ ap (λ (n : ℕ). 2 ^ n) it)
   | inr all ↦ all ∙ ap (λ (n : ℕ). 2 ^ (n + 1) - 2) one
 ]
 
@@ -97,6 +97,10 @@ all_map P Q (x ∷ xs) f all = (f x all.0, all_map P Q xs f all.1)
 all_both : {A : Type 0} (P Q R : A → Type 0) (xs : List A) → ((x : A) → P x → Q x → R x) → AllByRecursion P xs → AllByRecursion Q xs → AllByRecursion R xs
 all_both P Q R [] f one two = tt
 all_both P Q R (x ∷ xs) f one two = (f x one.0 two.0, all_both P Q R xs f one.1 two.1)
+
+pub no_items : {A : Type 0} (xs : List A) → length xs ≡ 0 → xs ≡ []
+no_items [] none = refl
+no_items (x ∷ xs) none = absurd (omega (arith, none))
 
 all_own : (n : ℕ) (ls : List Line) → first_not n (map is_own_line ls) ≡ None → AllPass is_own_line ls
 all_own n ls is = (first_not-none is_own_line n ls [] (ap (first_not n) (append-nil (map is_own_line ls)) ∙ is)).0

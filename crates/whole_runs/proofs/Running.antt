@@ -94,6 +94,14 @@ failed_items : (time : ℕ) (p q : Point) → FailsTo time p q → q.items ≡ p
 failed_items time p q AsItWas = refl
 failed_items time p q (InAWrite b bytes list log item told step) = refl
 
+-- it begins as runs do
+pub run_begins : RunsBeginSo → (clients : List Client) (before : Moment) (m : MountedValue) (plans : List Plan) (time : ℕ) (start : Tree) (o : Owners) (l : Layout) (d : ℕ) (a p q : Point) → IsRun clients before m plans time start o l d a p q
+    → BeginsAt (volume_of (image_of a.disk) l) (begun_on (image_of a.disk) o l start) d clients a
+run_begins begin clients before m plans time start o l d a p q run =
+    let added = run.replays.added in
+    subst (BeginsAt (volume_of (image_of a.disk) l) (begun_on (image_of a.disk) o l start) d clients) (sym (run.begins ∙ ap (starting a.disk a.list run.journal run.head run.view) run.replays.are))
+    (begin a.disk o l start d run.journal run.head run.view clients a.list added run.rest (of_replays 1 time before (moment a.disk a.list) m.journals plans added run.replays.replays))
+
 module _ (given : HeadersReadBack) (failing : FailedReplaysStand) (stopping : StoppedReplaysStand) (leave : FencesLeaveOutcomes) (tells : StepsAreTold) (begin : RunsBeginSo) (remain : WhatRemainsIsTold) (fronts_stand : FrontsStand)
     (ends_told : EndsAreTold) (stops_told : StopsAreTold) (fences_told : FencesAreTold) (heads_there : HeadsAreThere)
     (clients : List Client) (before : Moment) (m : MountedValue) (plans : List Plan) (time : ℕ) (start : Tree) (o : Owners) (l : Layout) (d : ℕ) (a p q : Point) (was operations : List Operation)
@@ -114,8 +122,7 @@ module _ (given : HeadersReadBack) (failing : FailedReplaysStand) (stopping : St
   of_replay = of_replays 1 time before after m.journals plans added run.replays.replays
 
   begins : BeginsAt v s d clients a
-  begins = subst (BeginsAt v s d clients) (sym (run.begins ∙ ap (starting a.disk a.list run.journal run.head run.view) run.replays.are))
-      (begin a.disk o l start d run.journal run.head run.view clients a.list added run.rest of_replay)
+  begins = run_begins begin clients before m plans time start o l d a p q run
 
   -- ---- the replays
 
@@ -228,7 +235,7 @@ module _ (given : HeadersReadBack) (failing : FailedReplaysStand) (stopping : St
   q_tells : IsTrue q.disk.tells
   q_tells = subst IsTrue (sym (ap (λ (x : DiskState). x.tells) whole_disk ∙ tells_on before.disk whole_ops)) run.from.tells
 
-  has_course : HasCourse before q operations course
+  has_course : HasCourse before q.items q.disk operations course
   has_course = record {
     items = refl;
     all = in_two ∙ sym operations_are;

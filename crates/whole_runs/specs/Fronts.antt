@@ -1,22 +1,30 @@
 -- A run with all that came behind it, a stop, the fence and the loss, front by front.
-use Rattle.std.specs.Prelude.{ℕ, ◌≤◌, List, [], ◌∷◌, ◌++◌, length, take}
+use Rattle.std.specs.Prelude.{ℕ, ◌≡◌, ◌≤◌, List, [], ◌∷◌, ◌++◌, length, take, Option, Some}
 use Rattle.cluster_history.specs.History.{KeepsSynced, Legal}
 use Rattle.cluster_history.specs.Losses.{LossIsRight}
+use Rattle.cut_replays.specs.Recoveries.{HaveFailed, HaveReplayedSome}
+use Rattle.disk_turns.specs.Turns.{Moment}
 use Rattle.file_tree.specs.Tree.{Tree}
-use Rattle.image_machine.specs.Volumes.{Volume}
+use Rattle.image_machine.specs.Volumes.{Volume, volume_of}
 use Rattle.image_model.specs.Image.{Image, image_of}
+use Rattle.image_model.specs.Owners.{Owners}
+use Rattle.image_model.specs.Stands.{Layout}
+use Rattle.image_replays.specs.MountedImages.{MountedValue}
 use Rattle.journal_outcomes.specs.Disks.{flown_by}
 use Rattle.journal_outcomes.specs.Images.{NoFalseHeader}
 use Rattle.logged_runs.specs.Disks.{disk_after}
 use Rattle.logged_runs.specs.Laws.{IsStop, MayLeave, fenced_upto}
+use Rattle.logged_runs.specs.Points.{Point}
 use Rattle.logged_runs.specs.Standing.{StandsAsTold}
+use Rattle.peer_replay.specs.declared.planned.Plan.{Plan}
 use Rattle.run_rules.specs.Follows.{history_of}
 use Rattle.run_rules.specs.Lives.{AcceptedHead, TraceKeptRight}
 use Rattle.script_lang.specs.declared.script.Client.{Client}
 use Rattle.shared_disk.specs.Disk.{DiskState, Flight, IsOutcome, Operation, after_fence}
 use Rattle.trace_text.specs.declared.item.TraceItem.{TraceItem}
 use Rattle.trace_text.specs.declared.item.TraceItem.TheVariants as trace
-use Rattle.whole_runs.specs.Wholes.{Course, disk_behind, going_on, head_at, heads_of, stopped_course}
+use Rattle.whole_runs.specs.Starts.{IsStart, its_volume, joined}
+use Rattle.whole_runs.specs.Wholes.{Course, HasCourse, HasRunWhole, IsRun, disk_behind, going_on, head_at, heads_of, stopped_course}
 
 -- ---- all of it
 
@@ -65,3 +73,31 @@ pub record StandsAtEachFront (v : Volume) (d : ℕ) (clients : List Client) (sta
   pub right : TraceKeptRight clients (heads_behind v d start c) (all_items c)
   pub fronts : (count : ℕ) (left : Image) → count ≤ length (all_items c) → MayLeave v (disk_behind start c count) left → StandsAsTold clients (heads_of v d start c left) (take count (all_items c)) tree left
   pub whole : (left : Image) → MayLeave v (disk_after start (all_operations c)) left → StandsAsTold clients (heads_of v d start c left) (all_items c) tree left
+
+-- ---- of a run
+
+-- So it is of each run whose list of operations is told, with what came behind it.
+abbrev pub RunsStandAtEachFront : Type 0
+RunsStandAtEachFront = (clients : List Client) (before : Moment) (m : MountedValue) (plans : List Plan) (time : ℕ) (start : Tree) (o : Owners) (l : Layout) (d : ℕ) (a p q : Point) (operations : List Operation)
+    → IsRun clients before m plans time start o l d a p q → (run : HasRunWhole before o l d clients start a q operations) → (c : Course) → ComesBehind (volume_of (image_of a.disk) l) d clients before.disk run.course c
+    → StandsAtEachFront (volume_of (image_of a.disk) l) d clients before.disk start c
+
+-- ---- of a start
+
+-- it has a course, and stands so with what came behind it
+pub record HasStartWhole (before : Moment) (v : Volume) (clients : List Client) (start : Tree) (items : List TraceItem) (left : DiskState) (operations : List Operation) : Type 0 where
+  pub course : Course
+  pub has : HasCourse before items left operations course
+  pub stands : (d : ℕ) (c : Course) → ComesBehind v d clients before.disk course c → StandsAtEachFront v d clients before.disk start c
+
+-- So it is of a start that the disk, or a crash, cut short in the replay of a journal.
+abbrev pub FailedStartsStand : Type 0
+FailedStartsStand = (clients : List Client) (before after : Moment) (m : MountedValue) (plans : List Plan) (time : ℕ) (start : Tree) (items : List TraceItem) (block : Option ℕ) (was operations : List Operation)
+    → (is : IsStart before.disk m plans time start) → HaveFailed 1 time before after m.journals plans joined items block → before.list ≡ Some was → after.list ≡ Some (was ++ operations)
+    → HasStartWhole before (its_volume before.disk m plans time start is) clients start items after.disk operations
+
+-- and of one that replayed some journals, or all
+abbrev pub StartsStand : Type 0
+StartsStand = (clients : List Client) (before after : Moment) (m : MountedValue) (plans : List Plan) (time : ℕ) (start : Tree) (items : List TraceItem) (was operations : List Operation)
+    → (is : IsStart before.disk m plans time start) → HaveReplayedSome 1 time before after m.journals plans joined items → before.list ≡ Some was → after.list ≡ Some (was ++ operations)
+    → HasStartWhole before (its_volume before.disk m plans time start is) clients start items after.disk operations

@@ -93,13 +93,13 @@ RunsAreTold = (clients : List Client) (before : Moment) (m : MountedValue) (plan
 
 -- ---- what is left of one
 
--- its course, as far as its disk tells the operations: the items tell what was done, but for one write at most
-pub record HasCourse (before : Moment) (q : Point) (operations : List Operation) (c : Course) : Type 0 where
-  pub items : c.items ≡ q.items
+-- the course of these items and of these operations, which left this disk: the items tell what was done, but for one write at most
+pub record HasCourse (before : Moment) (items : List TraceItem) (left : DiskState) (operations : List Operation) (c : Course) : Type 0 where
+  pub items : c.items ≡ items
   pub all : c.operations ++ c.further ≡ operations
   pub told : AreDoneBy c.items c.operations
   pub one : IsOneWrite c.further
-  pub disk : q.disk ≡ disk_after before.disk operations
+  pub disk : left ≡ disk_after before.disk operations
 
 -- a course that goes on behind these items with others, and with what these tell
 abbrev pub going_on : Course → List TraceItem → List Operation → Course
@@ -125,7 +125,7 @@ pub record StandsThroughout (v : Volume) (d : ℕ) (clients : List Client) (star
 -- So it is of each run whose list of operations is told.
 pub record HasRunWhole (before : Moment) (o : Owners) (l : Layout) (d : ℕ) (clients : List Client) (start : Tree) (a q : Point) (operations : List Operation) : Type 0 where
   pub course : Course
-  pub has : HasCourse before q operations course
+  pub has : HasCourse before q.items q.disk operations course
   pub stands : StandsThroughout (volume_of (image_of a.disk) l) d clients before.disk start course
 
 abbrev pub WholeRunsStand : Type 0
