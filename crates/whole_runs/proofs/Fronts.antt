@@ -4,7 +4,7 @@ use Rattle.std.specs.Prelude.{slice_get}
 use Rattle.std.specs.List.{AllByRecursion}
 use Rattle.std.proofs.lemmas.Bool.{cases_lt}
 use Rattle.std.proofs.lemmas.List.{append_assoc, length-append}
-use Rattle.cluster_history.specs.History.{KeepsSynced, Legal}
+use Rattle.cluster_history.specs.History.{KeepsSynced, Legal, tree_of}
 use Rattle.cluster_history.specs.declared.Item.{Item}
 use Rattle.cluster_history.specs.declared.Item.TheVariants as item
 use Rattle.file_tree.specs.Tree.{Tree}
@@ -12,6 +12,7 @@ use Rattle.file_tree.specs.declared.call.Call.TheVariants as calls
 use Rattle.file_tree.specs.declared.reply.Reply.TheVariants as replies
 use Rattle.image_machine.specs.Volumes.{Volume}
 use Rattle.image_model.specs.Image.{Image, image_of}
+use Rattle.image_model.specs.Replays.{StandsReplayed}
 use Rattle.journal_outcomes.specs.Disks.{flown_by}
 use Rattle.logged_runs.specs.Disks.{disk_after, first_told, told_count}
 use Rattle.logged_runs.specs.Laws.{IsStop, MayLeave, StandsLost, to_fence, to_loss}
@@ -59,6 +60,14 @@ no_loss_in clients (trace.Call i name number call reply ∷ xs) zero node kept a
 no_loss_in clients (trace.Call i name number call reply ∷ xs) (suc p) node kept all at = no_loss_in clients xs p node kept all.1 at
 no_loss_in clients (trace.Lost i k ∷ xs) p node kept all at = all.0
 no_loss_in clients (x ∷ xs) p node kept all at = no_loss_in clients xs p node kept all.1 at
+
+-- so none ends with one
+no_last : (xs before : List TraceItem) (kept : ℕ) → AllByRecursion IsNoLoss xs → xs ≡ before ++ trace.Lost 1 kept ∷ [] → ⊥
+no_last xs before kept all are = last_lost before (subst (AllByRecursion IsNoLoss) are all)
+  where
+    last_lost : (ys : List TraceItem) → AllByRecursion IsNoLoss (ys ++ trace.Lost 1 kept ∷ []) → ⊥
+    last_lost [] none = none.0
+    last_lost (y ∷ ys) none = last_lost ys none.1
 
 pub no_loss_on : (xs ys : List TraceItem) → AllByRecursion IsNoLoss xs → AllByRecursion IsNoLoss ys → AllByRecursion IsNoLoss (xs ++ ys)
 no_loss_on [] ys one two = two
@@ -193,6 +202,7 @@ module _ (v : Volume) (d : ℕ) (clients : List Client) (start : DiskState) (tre
     whole = λ left may.
         subst (λ xs. StandsAsTold clients (heads_of v d start e left) xs tree left) (sym (append_nil c.items))
         (is.whole [] [] left (subst (λ os. MayLeave v (disk_after start os) left) (append_nil (c.operations ++ c.further)) may));
+    settled = λ ends. absurd (no_last [] ends.before ends.kept tt ends.are);
   }
     where
       e : Course
@@ -215,6 +225,7 @@ module _ (v : Volume) (d : ℕ) (clients : List Client) (start : DiskState) (tre
         | inl past ↦ stop_front x [] [] count left is_stop (let long = length-append c.items (x ∷ []) in omega (arith, low, past, long)) may
       ];
       whole = λ left may. is.stops (x ∷ []) [] x left is_stop (subst (λ os. MayLeave v (disk_after start os) left) (append_nil (c.operations ++ c.further)) may);
+      settled = λ ends. absurd (no_last (x ∷ []) ends.before ends.kept (stop_is_no_loss x is_stop, tt) ends.are);
     }
       where
         e : Course
@@ -242,6 +253,7 @@ module _ (v : Volume) (d : ℕ) (clients : List Client) (start : DiskState) (tre
         ];
         whole = λ left may.
             subst (λ im. StandsAsTold clients (heads_of v d start e im) (to_fence x c.items) tree im) (sym (one_outcome x became is_stop settles left (all_after left may))) (is.fences x became [] is_stop settles);
+        settled = λ ends. absurd (no_last (x ∷ trace.Fence 1 ∷ []) ends.before ends.kept (stop_is_no_loss x is_stop, (tt, tt)) ends.are);
       }
         where
           e : Course
@@ -269,6 +281,7 @@ module _ (v : Volume) (d : ℕ) (clients : List Client) (start : DiskState) (tre
         whole = λ left may.
             subst (λ im. StandsAsTold clients (heads_of v d start (stopped_course c x became (trace.Lost 1 kept ∷ [])) im) (to_loss x c.items kept) tree im)
             (sym (one_outcome x became is_stop settles left (all_after left may))) lost.told;
+        settled = λ ends. subst (λ s. StandsReplayed (image_of s) (tree_of (history_of clients (to_loss x c.items kept)) tree)) (sym (after_on start (c.operations ++ c.further) (Fence 1 became ∷ []))) lost.stands;
       }
         where
           end : List TraceItem

@@ -1,6 +1,6 @@
 -- A run with all that came behind it, a stop, the fence and the loss, front by front.
 use Rattle.std.specs.Prelude.{ℕ, ◌≡◌, ◌≤◌, List, [], ◌∷◌, ◌++◌, length, take, Option, Some}
-use Rattle.cluster_history.specs.History.{KeepsSynced, Legal}
+use Rattle.cluster_history.specs.History.{KeepsSynced, Legal, tree_of}
 use Rattle.cluster_history.specs.Losses.{LossIsRight}
 use Rattle.cut_replays.specs.Recoveries.{HaveFailed, HaveReplayedSome}
 use Rattle.disk_turns.specs.Turns.{Moment}
@@ -8,6 +8,7 @@ use Rattle.file_tree.specs.Tree.{Tree}
 use Rattle.image_machine.specs.Volumes.{Volume, volume_of}
 use Rattle.image_model.specs.Image.{Image, image_of}
 use Rattle.image_model.specs.Owners.{Owners}
+use Rattle.image_model.specs.Replays.{StandsReplayed}
 use Rattle.image_model.specs.Stands.{Layout}
 use Rattle.image_replays.specs.MountedImages.{MountedValue}
 use Rattle.journal_outcomes.specs.Disks.{flown_by}
@@ -65,14 +66,21 @@ pub data ComesBehind (v : Volume) (d : ℕ) (clients : List Client) (start : Dis
 abbrev pub heads_behind : Volume → ℕ → DiskState → Course → ℕ → ℕ → AcceptedHead
 heads_behind v d start c node p = head_at v d (image_of (disk_behind start c p))
 
+-- the last of its items is a loss
+pub record EndsWithLoss (c : Course) : Type 0 where
+  pub before : List TraceItem
+  pub kept : ℕ
+  pub are : c.end ≡ before ++ trace.Lost 1 kept ∷ []
+
 -- Its history is legal, and keeps what was synced; each loss in it is right. Behind each front of all its items, whatever becomes of what is in flight stands as these tell; and so it does on the disk that
--- all its operations left.
+-- all its operations left: once the loss is told, that stands for the tree of the whole history.
 pub record StandsAtEachFront (v : Volume) (d : ℕ) (clients : List Client) (start : DiskState) (tree : Tree) (c : Course) : Type 0 where
   pub legal : Legal (history_of clients (all_items c)) tree
   pub synced : KeepsSynced (history_of clients (all_items c))
   pub right : TraceKeptRight clients (heads_behind v d start c) (all_items c)
   pub fronts : (count : ℕ) (left : Image) → count ≤ length (all_items c) → MayLeave v (disk_behind start c count) left → StandsAsTold clients (heads_of v d start c left) (take count (all_items c)) tree left
   pub whole : (left : Image) → MayLeave v (disk_after start (all_operations c)) left → StandsAsTold clients (heads_of v d start c left) (all_items c) tree left
+  pub settled : EndsWithLoss c → StandsReplayed (image_of (disk_after start (all_operations c))) (tree_of (history_of clients (all_items c)) tree)
 
 -- ---- of a run
 
