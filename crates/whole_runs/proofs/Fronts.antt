@@ -1,6 +1,6 @@
 -- What holds of a run's own items holds front by front with all that came behind them.
 use Rattle.std.proofs.Common.{◌≡◌, ◌⊎◌, ℕ, zero, suc, ◌+◌, ◌-◌, ◌<◌, ◌≤◌, List, [], ◌∷◌, ◌++◌, length, take, Some, refl, sym, ap, subst, ◌∙◌, inl, inr, arith}
-use Rattle.std.specs.Prelude.{slice_get}
+use Rattle.std.specs.Prelude.{⊤, slice_get, Option, None}
 use Rattle.std.specs.List.{AllByRecursion}
 use Rattle.std.proofs.lemmas.Bool.{cases_lt}
 use Rattle.std.proofs.lemmas.List.{append_assoc, length-append}
@@ -39,22 +39,18 @@ IsNoLoss _ = ⊤
 no_loss_at : (items : List TraceItem) (p node kept : ℕ) → AllByRecursion IsNoLoss items → slice_get items p ≡ Some (trace.Lost node kept) → ⊥
 no_loss_at [] p node kept all at = none_there at
   where
-    none_there : slice_get {A = TraceItem} [] p ≡ Some (trace.Lost node kept) → ⊥
+    none_there : ◌≡◌ {A = Option TraceItem} None (Some (trace.Lost node kept)) → ⊥
     none_there e = cc
-no_loss_at (x ∷ xs) zero node kept all at = by x all.0 (same at)
+no_loss_at (x ∷ xs) zero node kept all at = subst IsNoLoss (same at) all.0
   where
     same : Some x ≡ Some (trace.Lost node kept) → x ≡ trace.Lost node kept
     same e = cc
-
-    by : (x : TraceItem) → IsNoLoss x → x ≡ trace.Lost node kept → ⊥
-    by (trace.Lost i k) no e = no
-    by _ no e = cc
 no_loss_at (x ∷ xs) (suc p) node kept all at = no_loss_at xs p node kept all.1 at
 
 no_loss_in : (clients : List Client) (items : List TraceItem) (p node kept : ℕ) → AllByRecursion IsNoLoss items → slice_get (history_of clients items) p ≡ Some (item.Lost node kept) → ⊥
 no_loss_in clients [] p node kept all at = none_there at
   where
-    none_there : slice_get {A = Item} [] p ≡ Some (item.Lost node kept) → ⊥
+    none_there : ◌≡◌ {A = Option Item} None (Some (item.Lost node kept)) → ⊥
     none_there e = cc
 no_loss_in clients (trace.Call i name number call reply ∷ xs) zero node kept all at = cc
 no_loss_in clients (trace.Call i name number call reply ∷ xs) (suc p) node kept all at = no_loss_in clients xs p node kept all.1 at

@@ -47,30 +47,25 @@ run_loses_nothing (x ∷ xs) all = (no_loss x all.0, run_loses_nothing xs all.1)
     no_loss (trace.Lost node kept) of = of
     no_loss x of = tt
 
-module _ (clients : List Client) (p q : Point) (none : AllByRecursion IsNoLoss p.items) where
-  failed_none : (time : ℕ) → FailsTo time p q → AllByRecursion IsNoLoss q.items
-  failed_none time AsItWas = none
-  failed_none time (InAWrite b bytes list log item told step) = none
+failed_none : (time : ℕ) (p q : Point) → FailsTo time p q → AllByRecursion IsNoLoss p.items → AllByRecursion IsNoLoss q.items
+failed_none time p q AsItWas none = none
+failed_none time p q (InAWrite b bytes list log item told step) none = none
 
-  failed_same : (time : ℕ) → FailsTo time p q → history_of clients q.items ≡ history_of clients p.items
-  failed_same time AsItWas = refl
-  failed_same time (InAWrite b bytes list log item told step) = refl
+ended_none : (p q : Point) → EndsTo p q → AllByRecursion IsNoLoss p.items → AllByRecursion IsNoLoss q.items
+ended_none p q (Unsaid bytes list flies) none = none
+ended_none p q (Said bytes list flies) none = no_loss_on p.items (clean_item p ∷ []) none (tt, tt)
+ended_none p q (Landed bytes list flies) none = no_loss_on p.items (clean_item p ∷ trace.Barrier 1 ∷ []) none (tt, (tt, tt))
 
-  ended_none : EndsTo p q → AllByRecursion IsNoLoss q.items
-  ended_none (Unsaid bytes list flies) = none
-  ended_none (Said bytes list flies) = no_loss_on p.items (clean_item p ∷ []) none (tt, tt)
-  ended_none (Landed bytes list flies) = no_loss_on p.items (clean_item p ∷ trace.Barrier 1 ∷ []) none (tt, (tt, tt))
+-- ---- what comes last is in no history
 
-  ended_same : EndsTo p q → history_of clients q.items ≡ history_of clients p.items
-  ended_same (Unsaid bytes list flies) = refl
-  ended_same (Said bytes list flies) = quiet p.items
-    where
-      quiet : (xs : List TraceItem) → history_of clients (xs ++ clean_item p ∷ []) ≡ history_of clients xs
-      quiet xs = history_on clients xs (clean_item p ∷ []) ∙ append_nil (history_of clients xs)
-  ended_same (Landed bytes list flies) = quiet p.items
-    where
-      quiet : (xs : List TraceItem) → history_of clients (xs ++ clean_item p ∷ trace.Barrier 1 ∷ []) ≡ history_of clients xs
-      quiet xs = history_on clients xs (clean_item p ∷ trace.Barrier 1 ∷ []) ∙ append_nil (history_of clients xs)
+failed_same : (clients : List Client) (time : ℕ) (p q : Point) → FailsTo time p q → history_of clients q.items ≡ history_of clients p.items
+failed_same clients time p q AsItWas = refl
+failed_same clients time p q (InAWrite b bytes list log item told step) = refl
+
+ended_same : (clients : List Client) (p q : Point) → EndsTo p q → history_of clients q.items ≡ history_of clients p.items
+ended_same clients p q (Unsaid bytes list flies) = refl
+ended_same clients p q (Said bytes list flies) = history_on clients p.items (clean_item p ∷ []) ∙ append_nil (history_of clients p.items)
+ended_same clients p q (Landed bytes list flies) = history_on clients p.items (clean_item p ∷ trace.Barrier 1 ∷ []) ∙ append_nil (history_of clients p.items)
 
 -- ---- a run
 
@@ -98,10 +93,10 @@ module _ (counting : CallsAreCounted) (tells : StepsAreTold) (begin : RunsBeginS
   point_none = subst (AllByRecursion IsNoLoss) (sym does.items) (no_loss_on a.items does.more start_none (run_loses_nothing does.more does.of_run))
 
   all_none : AllByRecursion IsNoLoss q.items
-  all_none = elim run.last [ inl fail ↦ failed_none clients p q point_none time fail | inr end ↦ ended_none clients p q point_none end.0 ]
+  all_none = elim run.last [ inl fail ↦ failed_none time p q fail point_none | inr end ↦ ended_none p q end.0 point_none ]
 
   same : history_of clients q.items ≡ history_of clients p.items
-  same = elim run.last [ inl fail ↦ failed_same clients p q point_none time fail | inr end ↦ ended_same clients p q point_none end.0 ]
+  same = elim run.last [ inl fail ↦ failed_same clients time p q fail | inr end ↦ ended_same clients p q end.0 ]
 
   its_items : q.items ≡ whole.course.items
   its_items = sym whole.has.items

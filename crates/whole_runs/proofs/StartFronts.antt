@@ -187,7 +187,7 @@ module _ (failing : FailedReplaysStand) (stopping : StoppedReplaysStand) (fences
 
     failed_disk : after.disk ≡ disk_after before.disk (told_ops ++ in_it.further)
     failed_disk =
-        in_it.disk between_tells (idle_behind 1 time before f.between js ps f.replayed.added f.replayed.replays is.idle) (rise_at plans f.count f.plan all_rise f.at_plan)
+        in_it.disk between_tells (idle_behind 1 time before f.between js ps f.replayed.added f.replayed.replays is.idle) (rise_at plans f.count f.plan all_rise f.at_plan).0
         ∙ ap (λ s. disk_after s (in_it.wrote ++ in_it.further)) between_is
         ∙ sym (after_on before.disk before_it.operations (in_it.wrote ++ in_it.further))
         ∙ ap (disk_after before.disk) (sym (append_assoc before_it.operations in_it.wrote in_it.further))

@@ -94,8 +94,8 @@ RunsAreTold = (clients : List Client) (before : Moment) (m : MountedValue) (plan
 -- ---- what is left of one
 
 -- the course of these items and of these operations, which left this disk: the items tell what was done, but for one write at most
-pub record HasCourse (before : Moment) (items : List TraceItem) (left : DiskState) (operations : List Operation) (c : Course) : Type 0 where
-  pub items : c.items ≡ items
+pub record HasCourse (before : Moment) (its : List TraceItem) (left : DiskState) (operations : List Operation) (c : Course) : Type 0 where
+  pub items : c.items ≡ its
   pub all : c.operations ++ c.further ≡ operations
   pub told : AreDoneBy c.items c.operations
   pub one : IsOneWrite c.further
