@@ -10,14 +10,14 @@ use Rattle.shared_disk.specs.declared.disk.Settle.TheVariants as settle
 
 -- the lesser of two numbers, as far as they are there
 abbrev pub sooner : Option ℕ → Option ℕ → Option ℕ
-sooner None later = later
+sooner None b = b
 sooner (Some a) None = Some a
 sooner (Some a) (Some b) = Some (min a b)
 
 -- the least write at which one of these crashes is to come
 abbrev pub first_crash : List Armed → Option ℕ
 first_crash [] = None
-first_crash (a ∷ as) = sooner (Some a.write) (first_crash as)
+first_crash (a ∷ later) = sooner (Some a.write) (first_crash later)
 
 -- how many writes are left until it, that one among them, where so many were made
 abbrev pub left_until : Option ℕ → ℕ → Option ℕ
@@ -34,7 +34,7 @@ settle_of (fate.Torn bytes) = settle.Torn bytes
 -- as the first crash says that is to come at this write
 abbrev pub fate_at : List Armed → ℕ → Settle
 fate_at [] write = settle.Old
-fate_at (a ∷ as) write = if a.write == write then settle_of a.fate else fate_at as write
+fate_at (a ∷ later) write = if a.write == write then settle_of a.fate else fate_at later write
 
 -- of these crashes the first to come
 abbrev pub fate_of : List Armed → Option ℕ → Settle
