@@ -1,5 +1,5 @@
 // The lines of a script, taken one by one.
-ghost use Rattle.std.specs.Prelude.{ℕ, ◌<◌, ◌≤◌, ◌^◌, length, OnOk, IfErr};
+ghost use Rattle.std.specs.Prelude.{ℕ, ◌≡◌, ◌<◌, ◌≤◌, ◌^◌, length, OnOk, IfErr};
 ghost use Rattle.lone_scripts.specs.Scripts.{IsForOne};
 ghost use Rattle.logged_node.specs.Nodes.{point_of};
 ghost use Rattle.logged_scripts.specs.Beginning.{HasBegun, IsUnderWay};
