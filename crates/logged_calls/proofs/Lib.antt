@@ -1,6 +1,6 @@
 mod KeptBlocks
 mod Looked
-mod Quiet
+pub mod Quiet
 mod Moved
 mod Added
 mod Told
