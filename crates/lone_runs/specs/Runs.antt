@@ -13,6 +13,7 @@ use Rattle.logged_scripts.specs.Ends.{end_of}
 use Rattle.mounted_views.specs.Views.{journal_of}
 use Rattle.peer_replay.specs.declared.planned.Plan.{Plan}
 use Rattle.script_lang.specs.Script.{ScriptValue}
+use Rattle.shared_disk.specs.Disk.{IsSound}
 use Rattle.trace_text.specs.declared.item.TraceItem.{TraceItem}
 use Rattle.whole_runs.specs.Starts.{joined}
 use Rattle.lone_runs.specs.Beginning.{MayHave, its_head, start_point}
@@ -43,5 +44,5 @@ pub data GoesSo (s : ScriptValue) (time frames : ℕ) (before : Moment) (view : 
       → GoesSo s time frames before view journals plans own plan after items (Ok unit)
   not_fenced : (stopped : Moment) (told : List TraceItem) (e : FenceEnd) → HaveCrashed 1 time before stopped journals plans joined told → EndsAt stopped.disk stopped.list told after.disk after.list items e
       → GoesSo s time frames before view journals plans own plan after items (Err (end.Script (end_of e)))
-  ran : (replayed : Moment) (begun : List TraceItem) (result : Result (Unit {0}) ScriptEnd) → HaveReplayed 1 time before replayed journals plans joined begun
+  ran : (replayed : Moment) (begun : List TraceItem) (result : Result (Unit {0}) ScriptEnd) → HaveReplayed 1 time before replayed journals plans joined begun → IsSound replayed.disk
       → HasRun s time (start_point replayed view own plan time frames begun) after.disk after.list items result → GoesSo s time frames before view journals plans own plan after items (as_end result)

@@ -148,6 +148,8 @@ pub fn run_alone<D: SharedDisk>(
         }
         Err(ReplayFault::NoMemory) => return Err(NO_MEMORY),
     }
+    // What a node reads there are whole blocks.
+    let _count = disk.blocks();
     mem::swap(&mut node.items, items);
     let result = run_script(alloc, disk, &mut node, script, &own.blocks, time);
     mem::swap(&mut node.items, items);
