@@ -4,15 +4,16 @@ use Rattle.std.specs.FinMap as table
 use Rattle.std.specs.List.{AllByRecursion}
 use Rattle.disk_turns.specs.Turns.{Moment}
 use Rattle.gfs2_layout.specs.Device.{IsBlockSize}
+use Rattle.glock_names.specs.Views.{end_of}
 use Rattle.image_mount.specs.Mounted.{Journal}
 use Rattle.image_recovery.specs.Ended.{head_left}
 use Rattle.image_recovery.specs.Recoveries.{CanReplayAll}
 use Rattle.log_layout.specs.declared.log_header.LogHeader.{LogHeader}
-use Rattle.log_values.specs.Log as own
-use Rattle.log_values.specs.Sound.{IsJournal}
+use Rattle.log_values.specs.Log.{Journal as OwnJournal}
+use Rattle.log_values.specs.Laws.{IsJournal}
 use Rattle.logged_runs.specs.Points.{Point}
 use Rattle.logged_runs.specs.StepStarts.{starting}
-use Rattle.lone_view.specs.Seeing.{Lone, end_of}
+use Rattle.lone_view.specs.Seeing.{Lone}
 use Rattle.mounted_views.specs.Laws.{IsPlacedOn}
 use Rattle.mounted_views.specs.Views.{journal_of}
 use Rattle.peer_replay.specs.declared.planned.Plan.{Plan}
@@ -32,7 +33,7 @@ pub record IsGiven (disk : DiskState) (view : Lone) (journals : List Journal) (p
 
 -- A node of a disk of so many blocks may have this journal, whose last header is this: its places and its dinode are blocks of the disk, the places each another one; it is of the profile; the header is at one of its
 -- places, and its sequence leaves room for all that come.
-pub record MayHave (count : ℕ) (journal : own.Journal) (head : LogHeader) : Type 0 where
+pub record MayHave (count : ℕ) (journal : OwnJournal) (head : LogHeader) : Type 0 where
   pub placed : IsPlacedOn count journal
   pub is : IsJournal journal
   pub inside : head.blkno < journal.length

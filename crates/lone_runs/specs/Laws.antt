@@ -1,5 +1,5 @@
 -- What a run leaves, on an image that stands for a tree.
-use Rattle.std.specs.Prelude.{ℕ, ◌≡◌, ◌≢◌, ◌++◌, ◌≤◌, ⊥, ⊤, false, IsTrue, List, [], ◌∷◌, Option, Some, Result, Ok, Err, Unit, slice_get}
+use Rattle.std.specs.Prelude.{ℕ, ◌≡◌, ◌≢◌, ◌++◌, ◌≤◌, ⊤, false, List, [], ◌∷◌, Some, Result, Ok, Err}
 use Rattle.std.specs.List.{AllByRecursion}
 use Rattle.cluster_history.specs.History.{KeepsSynced, Legal, tree_of}
 use Rattle.disk_items.specs.Deeds.{AreDoneBy, AreToldButOne}
@@ -55,14 +55,14 @@ pub record IsRunOf (s : ScriptValue) (time frames : ℕ) (before : Moment) (m : 
 -- ---- what was done
 
 -- All its items, and all that was done on its disk, as far as the list is told, are a course: the items tell the operations, but for one write at most where no stop is told.
-pub record IsCourseOf (start : DiskState) (items : List TraceItem) (operations : List Operation) (left : DiskState) (c : Course) : Type 0 where
-  pub items : all_items c ≡ items
-  pub operations : all_operations c ≡ operations
+pub record IsCourseOf (start : DiskState) (its : List TraceItem) (done : List Operation) (left : DiskState) (c : Course) : Type 0 where
+  pub items : all_items c ≡ its
+  pub operations : all_operations c ≡ done
   pub told : AreDoneBy c.items c.operations
   pub behind : AreDoneBy c.end c.later
   pub one : IsOneWrite c.further
   pub none : c.end ≢ [] → c.further ≡ []
-  pub disk : left ≡ disk_after start operations
+  pub disk : left ≡ disk_after start done
 
 -- the fence, if it is the last operation, left no false header
 abbrev pub HasTrueFence : DiskState → Layout → List Operation → Type 0
@@ -104,7 +104,7 @@ pub record HasEnded (s : ScriptValue) (before : Moment) (m : MountedValue) (star
 
 abbrev pub RunsEnd : Type 0
 RunsEnd = (s : ScriptValue) (time frames : ℕ) (before : Moment) (m : MountedValue) (plans : List Plan) (start : Tree) (after : Moment) (items : List TraceItem)
-    → (is : IsRunOf s time frames before m plans start after items (Ok unit)) → NoneStopped items → HasEnded s before m start after items is.from.mounted.layout
+    → (is : IsRunOf s time frames before m plans start after items (Ok tt)) → NoneStopped items → HasEnded s before m start after items is.from.mounted.layout
 
 -- ---- which ends there are
 
@@ -137,4 +137,4 @@ pub record WritesNothing (time : ℕ) (before : Moment) (journals : List Journal
 
 abbrev pub NothingIsWritten : Type 0
 NothingIsWritten = (s : ScriptValue) (time frames : ℕ) (before : Moment) (view : Lone) (journals : List Journal) (plans : List Plan) (own : Journal) (plan : Plan) (after : Moment) (items : List TraceItem)
-    → GoesSo s time frames before view journals plans own plan after items (Ok unit) → NoneStopped items → AllByRecursion (λ it. is_change it ≡ false) items → WritesNothing time before journals plans after
+    → GoesSo s time frames before view journals plans own plan after items (Ok tt) → NoneStopped items → AllByRecursion (λ it. is_change it ≡ false) items → WritesNothing time before journals plans after

@@ -1,5 +1,5 @@
 -- What came of a run: how far it came, and what it did.
-use Rattle.std.specs.Prelude.{ℕ, ◌≡◌, ⊥, List, [], Option, Result, Ok, Err, Unit}
+use Rattle.std.specs.Prelude.{ℕ, ◌≡◌, List, [], Option, Result, Ok, Err}
 use Rattle.disk_turns.specs.Turns.{Moment}
 use Rattle.image_mount.specs.Mounted.{Journal}
 use Rattle.image_recovery.specs.Recoveries.{HaveCrashed, HaveFailed, HaveReplayed, HaveReplayedSome}
@@ -41,7 +41,7 @@ pub data GoesSo (s : ScriptValue) (time frames : ℕ) (before : Moment) (view : 
   no_memory : HaveReplayedSome 1 time before after journals plans joined items → GoesSo s time frames before view journals plans own plan after items (Err (end.Script script.NoMemory))
   disk_failed : (block : Option ℕ) (rise : _) → HaveFailed 1 time before after journals plans joined items block → GoesSo s time frames before view journals plans own plan after items (Err (end.ReplayFailed block rise))
   crashed : (stopped : Moment) (told : List TraceItem) → HaveCrashed 1 time before stopped journals plans joined told → HasFenced stopped.disk stopped.list told own.blocks own.head.sequence after.disk after.list items
-      → GoesSo s time frames before view journals plans own plan after items (Ok unit)
+      → GoesSo s time frames before view journals plans own plan after items (Ok tt)
   not_fenced : (stopped : Moment) (told : List TraceItem) (e : FenceEnd) → HaveCrashed 1 time before stopped journals plans joined told → EndsAt stopped.disk stopped.list told after.disk after.list items e
       → GoesSo s time frames before view journals plans own plan after items (Err (end.Script (end_of e)))
   ran : (replayed : Moment) (begun : List TraceItem) (result : Result (Unit {0}) ScriptEnd) → HaveReplayed 1 time before replayed journals plans joined begun → IsSound replayed.disk
