@@ -28,7 +28,7 @@ use Rattle.logged_steps.specs.States.{trees_on}
 use Rattle.lone_machine.specs.Alone.{Begun}
 use Rattle.run_rules.specs.Follows.{history_of}
 use Rattle.right_losses.specs.Kept.{kept_by}
-use Rattle.run_rules.specs.Lives.{DiskHeads, TraceKeptRight, remains, upto_of}
+use Rattle.run_rules.specs.Lives.{DiskHeads, TraceKeptRight, head_of, own_from, remains, upto_of}
 use Rattle.script_lang.specs.declared.script.Client.{Client}
 use Rattle.shared_disk.specs.Disk.{DiskState, Flight, IsOutcome, Operation, after_barrier, after_fence}
 use Rattle.trace_text.specs.declared.item.TraceItem.{TraceItem}
@@ -158,3 +158,15 @@ FencesAreTold = (v : Volume) (s : Begun (trees_on v)) (d : ℕ) (clients : List 
     → IsStop x → IsOutcome q.disk 1 became → HasFirst v d a disks.behind
     → let left = image_of (after_fence q.disk 1 became) in
     NoFalseHeader (image_of q.disk) v.layout (flown_by q.disk 1) left → IsAcceptedIn v d left (disks.behind 1 (length (to_fence x q.items))) → StandsFenced v d clients disks x q.items s.tree left
+
+-- ---- the head that the loss goes by
+
+-- behind the fence the life's head is that which the disks have there; and where its own headers began they have one of this sequence
+pub record GoesByHead (disks : DiskHeads) (sequence : ℕ) (fenced : List TraceItem) : Type 0 where
+  pub head : head_of disks only_life fenced ≡ disks.behind 1 (length fenced)
+  pub first : (disks.behind 1 (own_from only_life fenced)).sequence ≡ sequence
+
+-- so it is of a run that stopped, with the sequence that its head had at the start
+abbrev pub LossesGoByHeads : Type 0
+LossesGoByHeads = (v : Volume) (s : Begun (trees_on v)) (d : ℕ) (clients : List Client) (time : ℕ) (a p q : Point) (x : TraceItem) (disks : DiskHeads) → BeginsAt v s d clients a → Steps time a p → FailsTo time p q ⊎ EndsTo p q
+    → IsStop x → HasFirst v d a disks.behind → GoesByHead disks a.log.sequence (to_fence x q.items)

@@ -88,7 +88,7 @@ fence_is_told (trace.Withdraw node before after) kept is = (refl, refl)
 fence_is_told x kept is = absurd is
 
 -- neither it nor the fence is in the history
-silent : (clients : List Client) (items : List TraceItem) (x : TraceItem) → IsStop x → (history_of clients (items ++ x ∷ []) ≡ history_of clients items) × (history_of clients (to_fence x items) ≡ history_of clients items)
+pub silent : (clients : List Client) (items : List TraceItem) (x : TraceItem) → IsStop x → (history_of clients (items ++ x ∷ []) ≡ history_of clients items) × (history_of clients (to_fence x items) ≡ history_of clients items)
 silent clients [] (trace.Crash node) is = (refl, refl)
 silent clients [] (trace.Withdraw node before after) is = (refl, refl)
 silent clients [] x is = absurd is

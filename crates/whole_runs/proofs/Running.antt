@@ -27,7 +27,7 @@ use Rattle.log_layout.specs.Journal.{head_in}
 use Rattle.log_layout.specs.Laws.{HeadersReadBack}
 use Rattle.logged_runs.specs.StepEnds.{EndsTo}
 use Rattle.logged_runs.specs.Heads.{HasFirst, IsAcceptedIn}
-use Rattle.logged_runs.specs.Laws.{EndsAreTold, FencesAreTold, FrontStands, FrontsStand, HeadsAreThere, IsStop, MayLeave, RunsBeginSo, StandsFenced, StopsAreTold, WhatRemainsIsTold, to_fence}
+use Rattle.logged_runs.specs.Laws.{EndsAreTold, FencesAreTold, FrontStands, FrontsStand, HeadsAreThere, IsStop, LossesGoByHeads, MayLeave, RunsBeginSo, StandsFenced, StopsAreTold, WhatRemainsIsTold, to_fence}
 use Rattle.logged_runs.specs.Standing.{StandsAsTold}
 use Rattle.logged_runs.specs.Starts.{BeginsAt, IsOfReplay, only_life}
 use Rattle.logged_runs.proofs.Staying.{no_end, stay_replays}
@@ -48,7 +48,7 @@ use Rattle.shared_disk.specs.Disk.{DiskState, Fence, Flight, Gains, IsOutcome, O
 use Rattle.trace_text.specs.declared.item.TraceItem.{TraceItem}
 use Rattle.trace_text.specs.declared.item.TraceItem.TheVariants as trace
 use Rattle.whole_runs.specs.Starts.{its_volume, joined}
-use Rattle.whole_runs.specs.Wholes.{Course, HasCourse, HasRunWhole, IsRun, WholeRunsStand, accepted_as, disk_behind, ends_with, going_on, head_at, heads_of, stopped_course}
+use Rattle.whole_runs.specs.Wholes.{Course, HasCourse, HasItsHeads, HasRunWhole, IsRun, WholeRunsStand, accepted_as, disk_behind, ends_with, going_on, head_at, heads_of, stopped_course}
 use Rattle.whole_runs.proofs.Bringing.{after_on}
 use Rattle.whole_runs.proofs.Heads.{finds, same_head}
 use Rattle.whole_runs.proofs.Items.{counted, fewer, of_replays}
@@ -103,7 +103,7 @@ run_begins begin clients before m plans time start o l d a p q run =
     (begin a.disk o l start d run.journal run.head run.view clients a.list added run.rest (of_replays 1 time before (moment a.disk a.list) m.journals plans added run.replays.replays))
 
 module _ (given : HeadersReadBack) (failing : FailedReplaysStand) (stopping : StoppedReplaysStand) (leave : FencesLeaveOutcomes) (tells : StepsAreTold) (begin : RunsBeginSo) (remain : WhatRemainsIsTold) (fronts_stand : FrontsStand)
-    (ends_told : EndsAreTold) (stops_told : StopsAreTold) (fences_told : FencesAreTold) (heads_there : HeadsAreThere)
+    (ends_told : EndsAreTold) (stops_told : StopsAreTold) (fences_told : FencesAreTold) (loses : LossesGoByHeads) (heads_there : HeadsAreThere)
     (clients : List Client) (before : Moment) (m : MountedValue) (plans : List Plan) (time : ℕ) (start : Tree) (o : Owners) (l : Layout) (d : ℕ) (a p q : Point) (was operations : List Operation)
     (run : IsRun clients before m plans time start o l d a p q) (first : before.list ≡ Some was) (last : q.list ≡ Some (was ++ operations)) where
   abbrev v : Volume
@@ -446,6 +446,15 @@ module _ (given : HeadersReadBack) (failing : FailedReplaysStand) (stopping : St
         → StandsFenced v d clients (heads_of v d before.disk c (image_of (after_fence y 1 became))) x q.items start (image_of (after_fence y 1 became)))
         q_disk fenced_there
 
+    -- the head there is that by which the loss goes
+    its_heads : (left : Image) → HasItsHeads v d (heads_of v d before.disk c left) a.log.sequence (to_fence x q.items) (image_of (after_fence (disk_after before.disk (course.operations ++ course.further)) 1 became))
+    its_heads left =
+        let by = loses v s d clients time a p q x (heads_of v d before.disk c left) begins run.steps ends_so is_stop (has_first c refl refl left) in
+        record {
+          head = by.head ∙ ap (λ y. head_at v d (image_of y)) fence_disk ∙ ap (λ y. head_at v d (image_of (after_fence y 1 became))) q_disk;
+          first = by.first;
+        }
+
   has_run_whole : HasRunWhole before o l d clients start a q operations
   has_run_whole = record {
     course = course;
@@ -456,9 +465,10 @@ module _ (given : HeadersReadBack) (failing : FailedReplaysStand) (stopping : St
       stops = with_stop;
       fences = λ x became more is_stop. fenced x became more is_stop;
     };
+    heads = λ x became more left is_stop. its_heads x became more is_stop left;
   }
 
-pub whole_runs_stand : HeadersReadBack → FailedReplaysStand → StoppedReplaysStand → FencesLeaveOutcomes → StepsAreTold → RunsBeginSo → WhatRemainsIsTold → FrontsStand → EndsAreTold → StopsAreTold → FencesAreTold → HeadsAreThere
+pub whole_runs_stand : HeadersReadBack → FailedReplaysStand → StoppedReplaysStand → FencesLeaveOutcomes → StepsAreTold → RunsBeginSo → WhatRemainsIsTold → FrontsStand → EndsAreTold → StopsAreTold → FencesAreTold → LossesGoByHeads → HeadsAreThere
     → WholeRunsStand
-whole_runs_stand given failing stopping leave tells begin remain fronts ends stops fences heads clients before m plans time start o l d a p q was operations run first last =
-    has_run_whole given failing stopping leave tells begin remain fronts ends stops fences heads clients before m plans time start o l d a p q was operations run first last
+whole_runs_stand given failing stopping leave tells begin remain fronts ends stops fences loses heads clients before m plans time start o l d a p q was operations run first last =
+    has_run_whole given failing stopping leave tells begin remain fronts ends stops fences loses heads clients before m plans time start o l d a p q was operations run first last

@@ -4,6 +4,8 @@ use Rattle.std.specs.Prelude.{IsTrue, slice_get}
 use Rattle.std.specs.List.{AllByRecursion}
 use Rattle.std.proofs.lemmas.List.{append_assoc}
 use Rattle.cluster_history.specs.History.{Legal, calls_of}
+use Rattle.cluster_history.specs.declared.Item.{Item}
+use Rattle.cluster_history.specs.declared.Item.TheVariants as item
 use Rattle.cut_replays.specs.Failed.{FailedReplaysStand}
 use Rattle.cut_replays.specs.Recoveries.{HaveFailed, HaveReplayedSome}
 use Rattle.cut_replays.specs.Stopped.{StoppedReplaysStand}
@@ -13,6 +15,8 @@ use Rattle.disk_items.proofs.Going.{goes_on}
 use Rattle.disk_turns.specs.Turns.{Moment}
 use Rattle.disk_turns.proofs.Gaining.{gains_join}
 use Rattle.file_tree.specs.Tree.{Tree}
+use Rattle.file_tree.specs.declared.call.Call.{Call}
+use Rattle.file_tree.specs.declared.reply.Reply.{Reply}
 use Rattle.image_machine.specs.Volumes.{Volume}
 use Rattle.image_model.specs.Image.{Image, image_of}
 use Rattle.image_model.specs.Replays.{StandsReplayed}
@@ -22,7 +26,7 @@ use Rattle.journal_replays.specs.Headers.{clean_block}
 use Rattle.journal_replays.specs.Replays.{StopsReplay}
 use Rattle.log_layout.specs.declared.log_header.LogHeader.{LogHeader}
 use Rattle.logged_runs.specs.Disks.{disk_after, first_told, told_count}
-use Rattle.logged_runs.specs.Laws.{IsStop, MayLeave, StandsLost}
+use Rattle.logged_runs.specs.Laws.{IsStop, MayLeave, StandsLost, to_fence}
 use Rattle.logged_runs.specs.Standing.{StandsAsTold}
 use Rattle.logged_runs.specs.Starts.{IsOfReplay}
 use Rattle.logged_runs.proofs.Starting.{no_calls}
@@ -38,7 +42,7 @@ use Rattle.whole_runs.specs.Fronts.{FailedStartsStand, HasStartWhole, IsRightLos
 use Rattle.whole_runs.specs.Starts.{IsStart, StartStands, its_volume, joined}
 use Rattle.whole_runs.specs.Wholes.{Course, HasCourse, disk_behind, going_on, heads_of, no_write, stopped_course}
 use Rattle.whole_runs.proofs.Bringing.{after_on}
-use Rattle.whole_runs.proofs.Fronts.{IsNoLoss, StandsOfItself, each_front}
+use Rattle.whole_runs.proofs.Fronts.{IsNoLoss, StandsOfItself, each_front, silent}
 use Rattle.whole_runs.proofs.Items.{all_join, counted, fewer, of_replays, of_stopped}
 use Rattle.whole_runs.proofs.Quiet.{none_legal, nothing_stands}
 use Rattle.whole_runs.proofs.Replaying.{AllRise, OpsOf, StoppedOps, ops_of, replay_stopped}
@@ -80,6 +84,23 @@ module _ (clients : List Client) (d : ℕ) (v : Volume) (start : DiskState) (tre
       let left = image_of (after_fence (disk_left start c) 1 became) in
       subst (λ k. StandsLost clients (heads_of v d start (stopped_course c x became (trace.Lost 1 k ∷ [])) left) x c.items tree left k) (sym (none_kept kept right.below))
       ((whole (heads_of v d start (stopped_course c x became (trace.Lost 1 0 ∷ [])) left)).fences x became is_stop settles.outcome settles.no_false).1
+
+  none_called : (history : List Item) (p client number : ℕ) (call : Call) (reply : Reply) → history ≡ [] → slice_get history p ≡ Some (item.Call 1 client number call reply) → ⊥
+  none_called [] p client number call reply none at = cc
+  none_called (i ∷ is) p client number call reply none at = cc
+
+  pub loss_found : (x : TraceItem) (became : List Flight) → IsStop x → SettlesRight v (disk_left start c) became → IsRightLoss v d clients start c x became 0
+  loss_found x became is_stop settles =
+      let left = image_of (after_fence (disk_left start c) 1 became) in
+      let told = ((whole (heads_of v d start (stopped_course c x became (trace.Lost 1 0 ∷ [])) left)).fences x became is_stop settles.outcome settles.no_false).0 in
+      let none : calls_of 1 (history_of clients (to_fence x c.items)) ≡ 0 = ap (calls_of 1) ((silent clients c.items x is_stop).1 ∙ no_history) in
+      let within = told.within in
+      record {
+        order = omega (arith, within, none);
+        below = omega arith;
+        between = λ p client number call reply at above low. absurd (none_called (history_of clients c.items) p client number call reply no_history at);
+        next = λ p client number call reply at is. absurd (none_called (history_of clients c.items) p client number call reply no_history at);
+      }
 
   pub start_of_itself : StandsOfItself v d clients start tree c
   start_of_itself = record {
@@ -147,6 +168,8 @@ module _ (failing : FailedReplaysStand) (stopping : StoppedReplaysStand) (fences
       stands = λ d c behind. each_front v d clients before.disk t some_course
           (start_of_itself clients d v before.disk t some_course some.replayed.added some.replayed.are (of_replays 1 time before after (take some.count m.journals) (take some.count plans) some.replayed.added some.replayed.replays) is.idle
           is.stands some_front some_whole) c behind;
+      lost = λ d. loss_found clients d v before.disk t some_course some.replayed.added some.replayed.are (of_replays 1 time before after (take some.count m.journals) (take some.count plans) some.replayed.added some.replayed.replays) is.idle
+          is.stands some_front some_whole;
     }
 
   -- ---- where the replay of one was cut short
@@ -236,6 +259,7 @@ module _ (failing : FailedReplaysStand) (stopping : StoppedReplaysStand) (fences
       has = has_failed_course;
       stands = λ d c behind. each_front v d clients before.disk t failed_course
           (start_of_itself clients d v before.disk t failed_course added items_are of_replay is.idle is.stands failed_front failed_whole) c behind;
+      lost = λ d. loss_found clients d v before.disk t failed_course added items_are of_replay is.idle is.stands failed_front failed_whole;
     }
 
 pub starts_stand : FailedReplaysStand → StoppedReplaysStand → FencesLeaveOutcomes → StartsStand

@@ -92,11 +92,12 @@ RunsStandAtEachFront = (clients : List Client) (before : Moment) (m : MountedVal
 
 -- ---- of a start
 
--- it has a course, and stands so with what came behind it
+-- it has a course, and stands so with what came behind it; the loss of no call is right
 pub record HasStartWhole (before : Moment) (v : Volume) (clients : List Client) (start : Tree) (items : List TraceItem) (left : DiskState) (operations : List Operation) : Type 0 where
   pub course : Course
   pub has : HasCourse before items left operations course
   pub stands : (d : ℕ) (c : Course) → ComesBehind v d clients before.disk course c → StandsAtEachFront v d clients before.disk start c
+  pub lost : (d : ℕ) (x : TraceItem) (became : List Flight) → IsStop x → SettlesRight v (disk_left before.disk course) became → IsRightLoss v d clients before.disk course x became 0
 
 -- So it is of a start that the disk, or a crash, cut short in the replay of a journal.
 abbrev pub FailedStartsStand : Type 0

@@ -15,16 +15,17 @@ use Rattle.log_layout.specs.Journal.{head_in}
 use Rattle.log_layout.specs.declared.log_header.LogHeader.{LogHeader}
 use Rattle.log_values.specs.Log.{Journal}
 use Rattle.logged_runs.specs.StepEnds.{EndsTo, Landed, Said, Unsaid, last_block}
-use Rattle.logged_runs.specs.Laws.{IsStop, MayLeave, StandsFenced}
+use Rattle.logged_runs.specs.Laws.{IsStop, MayLeave, StandsFenced, to_fence}
 use Rattle.logged_runs.specs.Standing.{StandsAsTold}
 use Rattle.logged_runs.specs.Disks.{disk_after, first_told}
 use Rattle.logged_runs.specs.Fails.{FailsTo}
 use Rattle.logged_runs.specs.Points.{Point}
+use Rattle.logged_runs.specs.Starts.{only_life}
 use Rattle.logged_runs.specs.StepStarts.{IsAtRest, starting}
 use Rattle.logged_runs.specs.Steps.{Steps}
 use Rattle.lone_view.specs.Seeing.{Lone}
 use Rattle.peer_replay.specs.declared.planned.Plan.{Plan}
-use Rattle.run_rules.specs.Lives.{AcceptedHead, DiskHeads}
+use Rattle.run_rules.specs.Lives.{AcceptedHead, DiskHeads, head_of, own_from}
 use Rattle.script_lang.specs.declared.script.Client.{Client}
 use Rattle.shared_disk.specs.Disk.{Barrier, DiskState, Fence, Flight, Gains, IsOutcome, Operation, Write, after_fence}
 use Rattle.trace_text.specs.declared.item.TraceItem.{TraceItem}
@@ -122,11 +123,19 @@ pub record StandsThroughout (v : Volume) (d : ℕ) (clients : List Client) (star
       NoFalseHeader (image_of (disk_after start (c.operations ++ c.further))) v.layout (flown_by (disk_after start (c.operations ++ c.further)) 1) left
       → StandsFenced v d clients (heads_of v d start (stopped_course c x became more) left) x c.items tree left
 
--- So it is of each run whose list of operations is told.
+-- behind the fence the head of the life is that of the journal on the disk there; and where its own headers began the disks have one of this sequence
+pub record HasItsHeads (v : Volume) (d : ℕ) (disks : DiskHeads) (sequence : ℕ) (fenced : List TraceItem) (left : Image) : Type 0 where
+  pub head : head_of disks only_life fenced ≡ head_at v d left
+  pub first : (disks.behind 1 (own_from only_life fenced)).sequence ≡ sequence
+
+-- So it is of each run whose list of operations is told; and by these heads its loss is right.
 pub record HasRunWhole (before : Moment) (o : Owners) (l : Layout) (d : ℕ) (clients : List Client) (start : Tree) (a q : Point) (operations : List Operation) : Type 0 where
   pub course : Course
   pub has : HasCourse before q.items q.disk operations course
   pub stands : StandsThroughout (volume_of (image_of a.disk) l) d clients before.disk start course
+  pub heads : (x : TraceItem) (became : List Flight) (more : List TraceItem) (left : Image) → IsStop x
+      → HasItsHeads (volume_of (image_of a.disk) l) d (heads_of (volume_of (image_of a.disk) l) d before.disk (stopped_course course x became more) left) a.log.sequence (to_fence x course.items)
+      (image_of (after_fence (disk_after before.disk (course.operations ++ course.further)) 1 became))
 
 abbrev pub WholeRunsStand : Type 0
 WholeRunsStand = (clients : List Client) (before : Moment) (m : MountedValue) (plans : List Plan) (time : ℕ) (start : Tree) (o : Owners) (l : Layout) (d : ℕ) (a p q : Point) (was operations : List Operation)
