@@ -22,10 +22,10 @@ use Rattle.logged_runs.proofs.Runs.{first_at, items_are, stay, xs}
 use Rattle.logged_runs.proofs.Staying.{AllStay, stay_on}
 
 -- items that may come last: none of them ends a life, or recovers a slot
-record ComesLast (before after tail : List TraceItem) : Type 0 where
-  are : after ≡ before ++ tail
-  stays : AllStay tail
-  silent : (n : ℕ) → recovered_behind 1 n tail ≡ None
+pub record ComesLast (before after tail : List TraceItem) : Type 0 where
+  pub are : after ≡ before ++ tail
+  pub stays : AllStay tail
+  pub silent : (n : ℕ) → recovered_behind 1 n tail ≡ None
 
 nothing_last : (before : List TraceItem) → ComesLast before before []
 nothing_last before = record { are = sym (append_nil before); stays = tt; silent = λ n. refl }
@@ -72,7 +72,12 @@ module _ (keep : StepsKeep) (fails : FailedWritesKeep) (heads : HeadsAreTold) (t
     first = first_at keep fails heads tells legal v s d clients time a p p begins steps AsItWas disks first (to_fence x q.items) tail last.silent its;
   }
 
+-- what came last, however it ended
+last_of : (time : ℕ) (p q : Point) → FailsTo time p q ⊎ EndsTo p q → (tail : List TraceItem) × ComesLast p.items q.items tail
+last_of time p q (inl fail) = failed_last time p q fail
+last_of time p q (inr end) = ended_last p q end
+
 pub losses_go_by_heads : StepsKeep → FailedWritesKeep → HeadsAreTold → StepsAreTold → ItsHistoryIsLegal → LossesGoByHeads
 losses_go_by_heads keep fails heads tells legal v s d clients time a p q x disks begins steps ends is_stop first =
-    let last = elim ends [ inl fail ↦ failed_last time p q fail | inr end ↦ ended_last p q end ] in
+    let last = last_of time p q ends in
     goes_by_head keep fails heads tells legal v s d clients time a p q x disks begins steps is_stop first last.0 last.1
