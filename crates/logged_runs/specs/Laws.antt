@@ -20,6 +20,7 @@ use Rattle.logged_steps.specs.Disks.{disk_after, first_told}
 use Rattle.logged_steps.specs.Ends.{EndsTo, FliesClean, clean_item, with_clean}
 use Rattle.logged_steps.specs.Fails.{FailsTo}
 use Rattle.logged_steps.specs.Laws.{CameBy}
+use Rattle.logged_steps.specs.LoggedLaws.{IsInItsBlocks}
 use Rattle.logged_steps.specs.Points.{Point, state_of}
 use Rattle.logged_steps.specs.Starts.{IsAtRest, starting}
 use Rattle.logged_steps.specs.Steps.{Steps}
@@ -106,10 +107,16 @@ CleanRunsEnd = (v : Volume) (s : Begun (trees_on v)) (d : ℕ) (clients : List C
 
 -- ---- its head
 
--- wherever a run is, each outcome has an accepted head of the node's journal
+-- The node's journal is in its blocks in this image, and has an accepted head.
+pub record HasItsJournal (v : Volume) (d : ℕ) (left : Image) : Type 0 where
+  pub header : LogHeader
+  pub headed : head_in (ring_at left d) ≡ Some header
+  pub blocks : IsInItsBlocks v d left
+
+-- so it is, wherever a run is, in each outcome
 abbrev pub HeadsAreThere : Type 0
 HeadsAreThere = (v : Volume) (s : Begun (trees_on v)) (d : ℕ) (clients : List Client) (time : ℕ) (a p q : Point) (left : Image) → BeginsAt v s d clients a → Steps time a p → FailsTo time p q ⊎ EndsTo p q → MayLeave v q.disk left
-    → (header : LogHeader) × (head_in (ring_at left d) ≡ Some header)
+    → HasItsJournal v d left
 
 -- ---- behind its stop
 

@@ -266,7 +266,7 @@ module _ (given : HeadersReadBack) (failing : FailedReplaysStand) (stopping : St
     }
 
     accepted : (p' r : Point) (left : Image) → Steps time a p' → FailsTo time p' r ⊎ EndsTo p' r → MayLeave v r.disk left → IsAcceptedIn v d left (head_at v d left)
-    accepted p' r left steps end may = (let h = heads_there v s d clients time a p' r left begins steps end may in record { header = h.0; headed = h.1; is = ap (accepted_as v d) h.1 })
+    accepted p' r left steps end may = (let h = heads_there v s d clients time a p' r left begins steps end may in record { header = h.header; headed = h.headed; is = ap (accepted_as v d) h.headed })
 
     -- wherever the run is
     at_point : (p' r : Point) (left : Image) → Steps time a p' → FailsTo time p' r ⊎ EndsTo p' r → MayLeave v r.disk left → StandsAsTold clients (heads_of v d before.disk c left) r.items start left
