@@ -28,6 +28,7 @@ use Rattle.log_layout.specs.Laws.{HeadersReadBack}
 use Rattle.logged_runs.specs.StepEnds.{EndsTo}
 use Rattle.logged_runs.specs.Heads.{HasFirst, IsAcceptedIn}
 use Rattle.logged_runs.specs.Laws.{EndsAreTold, FencesAreTold, FrontStands, FrontsStand, HeadsAreThere, IsStop, LossesGoByHeads, MayLeave, RunsBeginSo, StandsFenced, StopsAreTold, WhatRemainsIsTold, to_fence}
+use Rattle.logged_runs.specs.LoggedLaws.{IsInItsBlocks}
 use Rattle.logged_runs.specs.Standing.{StandsAsTold}
 use Rattle.logged_runs.specs.Starts.{BeginsAt, IsOfReplay, only_life}
 use Rattle.logged_runs.proofs.Staying.{no_end, stay_replays}
@@ -455,6 +456,11 @@ module _ (given : HeadersReadBack) (failing : FailedReplaysStand) (stopping : St
           first = by.first;
         }
 
+  -- behind the fence the journal is in its blocks
+  placed_there : (became : List Flight) → IsOutcome q.disk 1 became → NoFalseHeader (image_of q.disk) l (flown_by q.disk 1) (image_of (after_fence q.disk 1 became)) → IsInItsBlocks v d (image_of (after_fence q.disk 1 became))
+  placed_there became settles no_false =
+      (heads_there v s d clients time a p q (image_of (after_fence q.disk 1 became)) begins run.steps ends_so (record { outcome = (leave q.disk 1 became q_tells settles).outcome; no_false = no_false })).blocks
+
   has_run_whole : HasRunWhole before o l d clients start a q operations
   has_run_whole = record {
     course = course;
@@ -466,6 +472,7 @@ module _ (given : HeadersReadBack) (failing : FailedReplaysStand) (stopping : St
       fences = λ x became more is_stop. fenced x became more is_stop;
     };
     heads = λ x became more left is_stop. its_heads x became more is_stop left;
+    placed = λ became. subst (λ y. IsOutcome y 1 became → NoFalseHeader (image_of y) l (flown_by y 1) (image_of (after_fence y 1 became)) → IsInItsBlocks v d (image_of (after_fence y 1 became))) q_disk (placed_there became);
   }
 
 pub whole_runs_stand : HeadersReadBack → FailedReplaysStand → StoppedReplaysStand → FencesLeaveOutcomes → StepsAreTold → RunsBeginSo → WhatRemainsIsTold → FrontsStand → EndsAreTold → StopsAreTold → FencesAreTold → LossesGoByHeads → HeadsAreThere

@@ -16,6 +16,7 @@ use Rattle.log_layout.specs.declared.log_header.LogHeader.{LogHeader}
 use Rattle.log_values.specs.Log.{Journal}
 use Rattle.logged_runs.specs.StepEnds.{EndsTo, Landed, Said, Unsaid, last_block}
 use Rattle.logged_runs.specs.Laws.{IsStop, MayLeave, StandsFenced, to_fence}
+use Rattle.logged_runs.specs.LoggedLaws.{IsInItsBlocks}
 use Rattle.logged_runs.specs.Standing.{StandsAsTold}
 use Rattle.logged_runs.specs.Disks.{disk_after, first_told}
 use Rattle.logged_runs.specs.Fails.{FailsTo}
@@ -136,6 +137,9 @@ pub record HasRunWhole (before : Moment) (o : Owners) (l : Layout) (d : ℕ) (cl
   pub heads : (x : TraceItem) (became : List Flight) (more : List TraceItem) (left : Image) → IsStop x
       → HasItsHeads (volume_of (image_of a.disk) l) d (heads_of (volume_of (image_of a.disk) l) d before.disk (stopped_course course x became more) left) a.log.sequence (to_fence x course.items)
       (image_of (after_fence (disk_after before.disk (course.operations ++ course.further)) 1 became))
+  -- and the journal is in its blocks there
+  pub placed : (became : List Flight) → let disk = disk_after before.disk (course.operations ++ course.further) in
+      IsOutcome disk 1 became → NoFalseHeader (image_of disk) l (flown_by disk 1) (image_of (after_fence disk 1 became)) → IsInItsBlocks (volume_of (image_of a.disk) l) d (image_of (after_fence disk 1 became))
 
 abbrev pub WholeRunsStand : Type 0
 WholeRunsStand = (clients : List Client) (before : Moment) (m : MountedValue) (plans : List Plan) (time : ℕ) (start : Tree) (o : Owners) (l : Layout) (d : ℕ) (a p q : Point) (was operations : List Operation)
