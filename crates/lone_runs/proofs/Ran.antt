@@ -55,7 +55,7 @@ module _ (resting : ReplayedIsAtRest) (s : ScriptValue) (time frames : ℕ) (bef
   abbrev pub a : Point
   a = start_point replayed (view_of before.disk.size m) own plan time frames begun
 
-  pub rests : RestsAsMounted replayed m own plans before.disk.size frames time start
+  pub rests : RestsAsMounted replayed m own plans before.disk.size frames time start from.mounted.layout
   rests = resting before replayed m plans time start begun own frames from have sound is_own.journal few
 
   size_is : replayed.disk.size ≡ before.disk.size

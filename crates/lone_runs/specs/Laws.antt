@@ -54,14 +54,13 @@ pub record IsRunOf (s : ScriptValue) (time frames : ℕ) (before : Moment) (m : 
 
 -- ---- what was done
 
--- All its items, and all that was done on its disk, as far as the list is told, are a course: the items tell the operations, but for one write at most where no stop is told.
+-- All its items, and all that was done on its disk, as far as the list is told, are a course: the items tell the operations, but for one write at most.
 pub record IsCourseOf (start : DiskState) (its : List TraceItem) (done : List Operation) (left : DiskState) (c : Course) : Type 0 where
   pub items : all_items c ≡ its
   pub operations : all_operations c ≡ done
   pub told : AreDoneBy c.items c.operations
   pub behind : AreDoneBy c.end c.later
   pub one : IsOneWrite c.further
-  pub none : c.end ≢ [] → c.further ≡ []
   pub disk : left ≡ disk_after start done
 
 -- the fence, if it is the last operation, left no false header

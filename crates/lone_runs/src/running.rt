@@ -53,7 +53,12 @@ fn head_behind(own: &JournalMap, plan: &Plan) -> LastHead
 }
 
 // Its journal, for a log of so many frames and headers of this time.
-fn own_journal(own: &JournalMap, block_size: u32, frames: u32, time: u64) -> Result<Journal, NoMemory>
+fn own_journal(
+    own: &JournalMap,
+    block_size: u32,
+    frames: u32,
+    time: u64,
+) -> Result<Journal, NoMemory>
     requires { length own.now.blocks < 2 ^ 32 }
     ensures { IfOk result (λ journal. journal_in journal ≡ journal_of block_size frames time own.now) }
 {

@@ -173,7 +173,7 @@ module _ (leaves : ReplayLeaves) (by : LeftStandsBy) (groups : GroupsAreAsSeen) 
     groups = groups_are;
   }
 
-  rests : IsSound after.disk → RestsAsMounted after m own plans before.disk.size frames time t
+  rests : IsSound after.disk → RestsAsMounted after m own plans before.disk.size frames time t is.mounted.layout
   rests sound = record {
     owners = o;
     layout = l;
@@ -191,6 +191,7 @@ module _ (leaves : ReplayLeaves) (by : LeftStandsBy) (groups : GroupsAreAsSeen) 
       volume = volume;
       empty = refl;
     };
+    journals = in_found;
     left = head_is_left;
     low = head_low;
     idle = idle;
