@@ -1,3 +1,5 @@
 pub mod Ran
 pub mod Others
 pub mod Standing
+pub mod StartStanding
+pub mod Runs

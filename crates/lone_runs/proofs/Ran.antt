@@ -58,14 +58,14 @@ module _ (resting : ReplayedIsAtRest) (s : ScriptValue) (time frames : ℕ) (bef
   pub rests : RestsAsMounted replayed m own plans before.disk.size frames time start from.mounted.layout
   rests = resting before replayed m plans time start begun own frames from have sound is_own.journal few
 
-  size_is : replayed.disk.size ≡ before.disk.size
+  pub size_is : replayed.disk.size ≡ before.disk.size
   size_is = same_size 1 time before replayed m.journals plans have.added have.replays
 
-  head_is : rests.head ≡ its_head replayed.disk.size time own plan
+  pub head_is : rests.head ≡ its_head replayed.disk.size time own plan
   head_is = rests.left plan is_own.planned ∙ ap (λ n. head_left n 1 time own plan.clean own.head) (sym size_is)
 
   module _ (goes : GoesTo s time a count p q) where
-    pub is_run : (clients : List Client) → IsRun clients before m plans time start rests.owners rests.layout own.dinode a p q
+    abbrev pub is_run : (clients : List Client) → IsRun clients before m plans time start rests.owners rests.layout own.dinode a p q
     is_run clients = record {
       from = from;
       replays = have;

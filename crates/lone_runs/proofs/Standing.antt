@@ -48,11 +48,11 @@ use Rattle.lone_runs.specs.Laws.{HasStood, HasTrueFence}
 use Rattle.lone_runs.proofs.Others.{run_is_quiet}
 use Rattle.lone_runs.proofs.Ran.{gained_of, told_gain}
 
-append_nil : {A : Type 0} (xs : List A) → xs ++ [] ≡ xs
+pub append_nil : {A : Type 0} (xs : List A) → xs ++ [] ≡ xs
 append_nil [] = refl
 append_nil (x ∷ xs) = ap (λ ys. x ∷ ys) (append_nil xs)
 
-cancel : {A : Type 0} (xs ys zs : List A) → xs ++ ys ≡ xs ++ zs → ys ≡ zs
+pub cancel : {A : Type 0} (xs ys zs : List A) → xs ++ ys ≡ xs ++ zs → ys ≡ zs
 cancel [] ys zs same = same
 cancel {A} (x ∷ xs) ys zs same = cancel xs ys zs (tail same)
   where
