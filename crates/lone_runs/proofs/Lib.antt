@@ -2,4 +2,5 @@ pub mod Ran
 pub mod Others
 pub mod Standing
 pub mod StartStanding
+pub mod Silent
 pub mod Runs

@@ -22,8 +22,6 @@ use Rattle.lone_fences.specs.declared.ends.FenceEnd.TheVariants as fence_end
 use Rattle.logged_runs.specs.Disks.{disk_after}
 use Rattle.logged_runs.specs.Laws.{MayLeave}
 use Rattle.logged_runs.specs.Standing.{StandsAsTold}
-use Rattle.logged_runs.specs.Starts.{IsOfReplay}
-use Rattle.logged_runs.proofs.Starting.{no_calls}
 use Rattle.logged_scripts.specs.declared.ends.RunEnd.{RunEnd as ScriptEnd}
 use Rattle.mounted_views.specs.Views.{view_of}
 use Rattle.peer_replay.specs.declared.planned.Plan.{Plan}
@@ -38,12 +36,12 @@ use Rattle.whole_runs.specs.Fronts.{FailedStartsStand, HasStartWhole, RunsStandA
 use Rattle.whole_runs.specs.Resting.{ReplayedIsAtRest}
 use Rattle.whole_runs.specs.Starts.{IsStart, its_volume, joined}
 use Rattle.whole_runs.specs.Wholes.{Course, RunsAreTold as WholeRunsAreTold, WholeRunsStand, disk_behind, heads_of, no_write}
-use Rattle.whole_runs.proofs.Items.{all_join, of_replays, of_stopped}
 use Rattle.whole_runs.proofs.Quiet.{none_legal, nothing_stands}
 use Rattle.whole_runs.proofs.Starting.{only_itself}
 use Rattle.lone_runs.specs.Laws.{HasStood, HasTrueFence, IsRunOf, RunsStand}
 use Rattle.lone_runs.specs.Runs.{GoesSo, crashed, disk_failed, no_memory, not_fenced, not_joined, ran}
 use Rattle.lone_runs.specs.declared.ends.RunEnd.{RunEnd}
+use Rattle.lone_runs.proofs.Silent.{failed_silent}
 use Rattle.lone_runs.proofs.Ran.{gained_of, is_run, rests}
 use Rattle.lone_runs.proofs.Standing.{append_nil, cancel, run_has_stood}
 use Rattle.lone_runs.proofs.StartStanding.{start_crashed, start_fenced, start_lost, start_quiet}
@@ -146,18 +144,8 @@ module _ (resting : ReplayedIsAtRest) (whole_stand : WholeRunsStand) (are_told :
       lost_none : items ≡ told ++ trace.Crash 1 ∷ trace.Fence 1 ∷ trace.Lost 1 0 ∷ [] → HasStood clients before start items operations after.disk
       lost_none are = start_lost v clients before start told stopped.disk front.0 whole became operations operations_are after.disk fenced.disk settles items are
 
-    abbrev added : List TraceItem
-    added = crash.replayed.added ++ crash.crashed.added
-
-    told_are : told ≡ trace.Join 1 ∷ added
-    told_are = crash.crashed.are ∙ ap (λ xs. xs ++ crash.crashed.added) crash.replayed.are
-
-    of_replay : AllByRecursion IsOfReplay added
-    of_replay = all_join crash.replayed.added crash.crashed.added (of_replays 1 time before crash.between (take crash.count m.journals) (take crash.count plans) crash.replayed.added crash.replayed.replays)
-        (of_stopped crash.between stopped crash.plan.home.items _ crash.crashed.block crash.crashed.added crash.crashed.stopped)
-
     no_history : history_of clients told ≡ []
-    no_history = ap (history_of clients) told_are ∙ no_calls clients added of_replay
+    no_history = failed_silent clients time before stopped m plans told crash.crashed.block failed
 
     with_its_loss : HasFenced stopped.disk stopped.list told is.own.blocks is.own.head.sequence after.disk after.list items → HasStood clients before start items operations after.disk
     with_its_loss hf = lost_none hf.fenced (hf.told ∙ ap (λ k. told ++ trace.Crash 1 ∷ trace.Fence 1 ∷ trace.Lost 1 k ∷ []) (hf.keeps clients ∙ ap (kept_by 1 hf.upto) no_history))

@@ -58,11 +58,11 @@ ended_none p q (Landed bytes list flies) none = no_loss_on p.items (clean_item p
 
 -- ---- what comes last is in no history
 
-failed_same : (clients : List Client) (time : ℕ) (p q : Point) → FailsTo time p q → history_of clients q.items ≡ history_of clients p.items
+pub failed_same : (clients : List Client) (time : ℕ) (p q : Point) → FailsTo time p q → history_of clients q.items ≡ history_of clients p.items
 failed_same clients time p q AsItWas = refl
 failed_same clients time p q (InAWrite b bytes list log item told step) = refl
 
-ended_same : (clients : List Client) (p q : Point) → EndsTo p q → history_of clients q.items ≡ history_of clients p.items
+pub ended_same : (clients : List Client) (p q : Point) → EndsTo p q → history_of clients q.items ≡ history_of clients p.items
 ended_same clients p q (Unsaid bytes list flies) = refl
 ended_same clients p q (Said bytes list flies) = history_on clients p.items (clean_item p ∷ []) ∙ append_nil (history_of clients p.items)
 ended_same clients p q (Landed bytes list flies) = history_on clients p.items (clean_item p ∷ trace.Barrier 1 ∷ []) ∙ append_nil (history_of clients p.items)
