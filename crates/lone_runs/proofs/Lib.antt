@@ -4,3 +4,4 @@ pub mod Standing
 pub mod StartStanding
 pub mod Silent
 pub mod Runs
+pub mod Ended

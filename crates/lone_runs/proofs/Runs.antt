@@ -172,7 +172,7 @@ module _ (resting : ReplayedIsAtRest) (whole_stand : WholeRunsStand) (are_told :
   by_stage _ (ran replayed begun r have sound run) =
       let rest = rests resting s time frames before replayed m plans start is.own is.plan begun is.from is.is_own have sound is.few run.count run.last run.left in
       run_has_stood whole_stand are_told each_front places_say clients before m plans time start rest.owners rest.layout is.own.dinode _ run.last run.left
-      (is_run resting s time frames before replayed m plans start is.own is.plan begun is.from is.is_own have sound is.few run.count run.last run.left run.goes clients) rest.journals was operations first after.disk after.list items last true_fence
+      (is_run resting s time frames before replayed m plans start is.own is.plan begun is.from is.is_own have sound is.few run.count run.last run.left run.goes clients) (λ j k. (rest.journals j k).0) was operations first after.disk after.list items last true_fence
       (rest.idle.none_in_flight 0) run.behind
 
   pub runs_stand_so : HasStood clients before start items operations after.disk

@@ -40,7 +40,7 @@ use Rattle.lone_runs.proofs.Ran.{is_run, rests}
 
 -- ---- items with a stop
 
-no_stop_behind : (xs more : List TraceItem) → NoneStopped (xs ++ trace.Crash 1 ∷ more) → ⊥
+pub no_stop_behind : (xs more : List TraceItem) → NoneStopped (xs ++ trace.Crash 1 ∷ more) → ⊥
 no_stop_behind [] more none = none
 no_stop_behind (trace.Crash node ∷ xs) more none = none
 no_stop_behind (trace.Withdraw node before after ∷ xs) more none = none

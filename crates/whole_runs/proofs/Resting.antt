@@ -191,7 +191,7 @@ module _ (leaves : ReplayLeaves) (by : LeftStandsBy) (groups : GroupsAreAsSeen) 
       volume = volume;
       empty = refl;
     };
-    journals = in_found;
+    journals = λ j k. (in_found j k, of_found j k);
     left = head_is_left;
     low = head_low;
     idle = idle;

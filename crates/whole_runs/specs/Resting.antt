@@ -1,5 +1,5 @@
 -- Where the replays of a start have come to: a disk at rest.
-use Rattle.std.specs.Prelude.{ℕ, ◌≡◌, ◌^◌, ◌≤◌, List, slice_get, Some}
+use Rattle.std.specs.Prelude.{ℕ, ◌≡◌, ◌^◌, ◌≤◌, ◌↔◌, List, slice_get, Some}
 use Rattle.disk_turns.specs.Turns.{Moment}
 use Rattle.file_tree.specs.Tree.{Tree}
 use Rattle.image_model.specs.Owners.{Owners}
@@ -23,7 +23,7 @@ pub record RestsAsMounted (after : Moment) (m : MountedValue) (own : MountedJour
   pub layout : Layout
   pub head : LogHeader
   pub rest : IsAtRest after.disk owners layout start own.dinode (journal_of after.disk.size frames time own) head (view_of after.disk.size m)
-  pub journals : (j k : ℕ) → IsJournalAt layout j k → IsJournalAt found j k
+  pub journals : (j k : ℕ) → IsJournalAt layout j k ↔ IsJournalAt found j k
   pub left : (plan : Plan) → slice_get plans 0 ≡ Some plan → head ≡ head_left size 1 time own plan.clean own.head
   pub low : head.sequence ≤ 2 ^ 63
   pub idle : IsIdle after.disk
