@@ -5,3 +5,4 @@ pub mod StartStanding
 pub mod Silent
 pub mod Runs
 pub mod Ended
+pub mod Damage

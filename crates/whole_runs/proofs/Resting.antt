@@ -192,6 +192,7 @@ module _ (leaves : ReplayLeaves) (by : LeftStandsBy) (groups : GroupsAreAsSeen) 
       empty = refl;
     };
     journals = λ j k. (in_found j k, of_found j k);
+    groups = sym (list_stays im left m is.mounted x o l laid) ∙ is.mounted.found.groups.list.listed;
     left = head_is_left;
     low = head_low;
     idle = idle;

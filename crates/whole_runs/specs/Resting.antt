@@ -16,7 +16,7 @@ use Rattle.shared_disk.specs.Disk.{IsIdle, IsSound}
 use Rattle.trace_text.specs.declared.item.TraceItem.{TraceItem}
 use Rattle.whole_runs.specs.Starts.{IsStart, joined}
 
--- The disk is at rest, for a node with so many frames that has what was mounted, the first journal, and of no block yet. Its journals are those of the layout that was found. The first one's head is the one that its plan left, on a disk of this block size; it has no
+-- The disk is at rest, for a node with so many frames that has what was mounted, the first journal, and of no block yet. Its journals and its groups are those of the layout that was found. The first one's head is the one that its plan left, on a disk of this block size; it has no
 -- sequence above 2^63.
 pub record RestsAsMounted (after : Moment) (m : MountedValue) (own : MountedJournal) (plans : List Plan) (size frames time : ℕ) (start : Tree) (found : Layout) : Type 0 where
   pub owners : Owners
@@ -24,6 +24,7 @@ pub record RestsAsMounted (after : Moment) (m : MountedValue) (own : MountedJour
   pub head : LogHeader
   pub rest : IsAtRest after.disk owners layout start own.dinode (journal_of after.disk.size frames time own) head (view_of after.disk.size m)
   pub journals : (j k : ℕ) → IsJournalAt layout j k ↔ IsJournalAt found j k
+  pub groups : layout.groups ≡ found.groups
   pub left : (plan : Plan) → slice_get plans 0 ≡ Some plan → head ≡ head_left size 1 time own plan.clean own.head
   pub low : head.sequence ≤ 2 ^ 63
   pub idle : IsIdle after.disk
