@@ -55,9 +55,9 @@ no_place_behind d e l k n m o c moved none empty taken is kept takes = no_place_
 
 -- ---- behind what was due
 
-pub map_stop : {A : Type 0} (r : Result A Stop) (P Q : Stop → Type 0) → ((why : Stop) → P why → Q why) → IfErr r P → IfErr r Q
-map_stop (Ok _) P Q so is = tt
-map_stop (Err why) P Q so is = so why is
+pub map_end : {A E : Type 0} (r : Result A E) (P Q : E → Type 0) → ((why : E) → P why → Q why) → IfErr r P → IfErr r Q
+map_end (Ok _) P Q so is = tt
+map_end (Err why) P Q so is = so why is
 
 module _ (d e : DiskState) (l k : Option (List Operation)) (n a b m : Node) (ready : IsReady d n) (as_before : a ≡ n) (brought : HasBroughtIn d l a e k b) (synced : IsCounted a → b.numbers.changed ≤ b.numbers.low) where
   pub brought_to : HasMoved 2 d l n e k b

@@ -8,3 +8,4 @@ mod Full
 mod Changed
 mod Loggable
 mod Room
+mod Taken
