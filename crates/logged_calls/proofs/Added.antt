@@ -1,5 +1,5 @@
 -- The change of a call in the log, or no room for it.
-use Rattle.std.proofs.Common.{◌≡◌, ◌<◌, ℕ, Bool, true, false, List, Option, Ok, Err, refl, sym, ap, subst, ◌∙◌, true≢false, arith}
+use Rattle.std.proofs.Common.{◌≡◌, ◌<◌, ◌≤◌, ℕ, Bool, true, false, List, Option, Ok, Err, refl, sym, ap, subst, ◌∙◌, true≢false, arith}
 use Rattle.std.specs.Prelude.{IfErr, Result}
 use Rattle.std.specs.FinMap as table
 use Rattle.std.specs.List.{All}
@@ -19,12 +19,8 @@ use Rattle.logged_calls.specs.Adding.{HasAdded, HasNoPlace}
 use Rattle.logged_calls.specs.Calls.{HasMoved, IsReady}
 use Rattle.logged_calls.proofs.Moved.{brought_moved, moved_on, stops_moved}
 
-pub ok_is : {a b : Bool} → Ok {A = Bool} {B = Stop} a ≡ Ok b → a ≡ b
-ok_is {a = a} {b = b} is = ap value is
-  where
-    value : Result Bool Stop → Bool
-    value (Ok x) = x
-    value _ = a
+pub ok_is : {a b : Bool} → ◌≡◌ {A = Result Bool Stop} (Ok a) (Ok b) → a ≡ b
+ok_is is = cc
 
 module _ (d e : DiskState) (l k : Option (List Operation)) (n m o : Node) (c : Change) (taken : Bool) where
   pub added_by : (most : ℕ) → HasMoved most d l n e k m → All (λ (w : Written). w.block < e.count) c.blocks.items → taken ≡ true → (taken ≡ true → o ≡ record m { log = with_change m.log c }) → (taken ≡ true → Suffices (with_change m.log c))

@@ -9,3 +9,4 @@ mod Changed
 mod Loggable
 mod Room
 mod Taken
+mod Answered

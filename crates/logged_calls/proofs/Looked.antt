@@ -10,8 +10,8 @@ use Rattle.glock_names.specs.Views.{end_of}
 use Rattle.lone_answers.specs.Reading.{HasRead, ReadsOne, Nothing, OneMore}
 use Rattle.lone_view.specs.Seeing.{Lone}
 use Rattle.shared_disk.specs.Disk.{DiskState, Operation}
-use Rattle.logged_steps.specs.Points.{Point}
-use Rattle.logged_steps.specs.Steps.{Here, Reads, Step, Steps, Then}
+use Rattle.logged_answers.specs.Points.{Point}
+use Rattle.logged_answers.specs.Steps.{Here, Reads, Step, Steps, Then}
 use Rattle.logged_node.specs.declared.node.Node.{Node}
 use Rattle.logged_node.specs.Flushing.{GoesBySteps}
 use Rattle.logged_node.specs.Nodes.{IsNodeOn, IsResting, point_of}

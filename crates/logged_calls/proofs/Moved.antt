@@ -11,8 +11,8 @@ use Rattle.lone_answers.specs.Reading.{HasRead, Nothing}
 use Rattle.lone_view.specs.Seeing.{Lone}
 use Rattle.shared_disk.specs.Disk.{DiskState, Operation}
 use Rattle.trace_text.specs.declared.item.TraceItem.{TraceItem}
-use Rattle.logged_steps.specs.Fails.{AsItWas}
-use Rattle.logged_steps.specs.Steps.{Here}
+use Rattle.logged_answers.specs.Fails.{AsItWas}
+use Rattle.logged_answers.specs.Steps.{Here}
 use Rattle.logged_node.specs.declared.ends.Stop.{Stop}
 use Rattle.logged_node.specs.declared.ends.Stop.TheVariants as stop
 use Rattle.logged_node.specs.declared.node.Node.{Node}

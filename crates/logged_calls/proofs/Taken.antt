@@ -12,7 +12,7 @@ use Rattle.lone_answers.specs.declared.answers.Unanswered.TheVariants as why
 use Rattle.lone_view.specs.Seeing.{Lone}
 use Rattle.shared_disk.specs.Disk.{DiskState, Operation}
 use Rattle.trace_text.specs.declared.item.TraceItem.{TraceItem}
-use Rattle.logged_steps.proofs.Telling.{steps_go_on}
+use Rattle.logged_answers.proofs.Telling.{steps_go_on}
 use Rattle.logged_node.specs.declared.ends.Stop.{Stop}
 use Rattle.logged_node.specs.declared.node.Node.{Node}
 use Rattle.logged_node.specs.Nodes.{IsBeforeCrash, StopsByCrash, point_of}

@@ -1,6 +1,6 @@
 // A call is taken.
 ghost use Rattle.std.specs.Prelude.{ℕ, ◌≡◌, ◌+◌, ◌<◌, ◌≤◌, ◌^◌, ◌↔◌, true, OnOk, IfErr};
-ghost use Rattle.file_calls.specs.Calls.{IsUnbuilt};
+ghost use Rattle.lone_answers.specs.Calls.{IsUnbuilt};
 ghost use Rattle.image_changes.specs.Does.{is_nothing};
 ghost use Rattle.lone_answers.specs.Faults.{IfDone, IfFull, IsDamagedFor, IsLackedBlock};
 ghost use Rattle.lone_answers.specs.Answers.{IsDoneBy, IsSpaceless};
