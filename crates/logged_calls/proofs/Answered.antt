@@ -1,5 +1,5 @@
 -- How a call ends that changes something.
-use Rattle.std.proofs.Common.{◌≡◌, ◌<◌, ℕ, false, List, length, Option, sym, ap, subst, ◌∙◌}
+use Rattle.std.proofs.Common.{◌≡◌, ◌+◌, ◌^◌, ◌<◌, ℕ, false, List, length, Option, sym, ap, subst, ◌∙◌}
 use Rattle.std.specs.List.{All, AllByRecursion}
 use Rattle.file_tree.specs.declared.call.Call.{Call}
 use Rattle.file_tree.specs.declared.reply.Reply.{Reply}
@@ -40,6 +40,9 @@ module _ (d : DiskState) (l : Option (List Operation)) (n : Node) (time : ℕ) (
   module _ (e : DiskState) (k : Option (List Operation)) (q : Node) (added : HasAdded most_headers change d l n e k q) where
     same_view : q.view ≡ n.view
     same_view = ap (λ (x : Node). x.view) added.node ∙ added.moved.kept.view
+
+    pub number_there : n.numbers.answered + 1 < 2 ^ 64 → q.numbers.answered + 1 < 2 ^ 64
+    number_there low = subst (λ (a : ℕ). a + 1 < 2 ^ 64) (sym (ap (λ (x : Node). x.numbers.answered) added.node ∙ added.moved.kept.answered)) low
 
     pub inside_there : AreInside (seen_alone q.view) change
     inside_there = subst (λ (v : Lone). AreInside (seen_alone v) change) (sym same_view) done.inside

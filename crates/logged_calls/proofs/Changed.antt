@@ -113,7 +113,7 @@ module _ (log : LogValue) (change : Change) where
 module _ (time : ℕ) (name : List ℕ) (call : Call) (reply : Reply) (change : Change) (d e : DiskState) (l k : Option (List Operation)) (n q r n' : Node) (added : HasAdded most_headers change d l n e k q) (done : IsDoneBy n.view time call reply change)
     (changes : is_nothing change ≡ false) (can : CanBeAdded n.log.journal.size change) (kept : (b : ℕ) → table.get r.view.blocks b ≡ version_with change (table.get q.view.blocks) b) (view : r.view ≡ record q.view { blocks = r.view.blocks })
     (r_is : r ≡ record q { view = r.view; items = r.items }) (same : r.items.items ≡ q.items.items) (n'_is : n' ≡ record r { items = n'.items; numbers = with_call r.numbers true })
-    (told : n'.items.items ≡ r.items.items ++ trace.Call 1 name (r.numbers.answered + 1) call reply ∷ []) where
+    (item : TraceItem) (item_is : item ≡ trace.Call 1 name (q.numbers.answered + 1) call reply) (told : n'.items.items ≡ r.items.items ++ item ∷ []) where
   abbrev m : Node
   m = added.roomy
 
@@ -126,11 +126,11 @@ module _ (time : ℕ) (name : List ℕ) (call : Call) (reply : Reply) (change : 
   its_view : r.view ≡ record m.view { blocks = r.view.blocks }
   its_view = view ∙ ap (λ (x : Node). record x.view { blocks = r.view.blocks }) added.node
 
-  sum : r.numbers.answered + 1 ≡ suc m.numbers.answered
-  sum = let a : r.numbers.answered ≡ m.numbers.answered = ap (λ (x : Node). x.numbers.answered) r_is ∙ ap (λ (x : Node). x.numbers.answered) added.node in omega (arith, a)
+  sum : q.numbers.answered + 1 ≡ suc m.numbers.answered
+  sum = let a : q.numbers.answered ≡ m.numbers.answered = ap (λ (x : Node). x.numbers.answered) added.node in omega (arith, a)
 
   items_are : n'.items.items ≡ m.items.items ++ trace.Call 1 name (suc m.numbers.answered) call reply ∷ []
-  items_are = told ∙ (λ i. (same ∙ ap (λ (x : Node). x.items.items) added.node) i ++ trace.Call 1 name (sum i) call reply ∷ [])
+  items_are = told ∙ (λ i. (same ∙ ap (λ (x : Node). x.items.items) added.node) i ++ (item_is ∙ ap (λ (a : ℕ). trace.Call 1 name a call reply) sum) i ∷ [])
 
   point_is : point_of e k n' ≡ with_answer at change r.view.blocks (call_item at name call reply)
   point_is = ap (λ (x : Node). record (point_of e k x) { items = n'.items.items }) is

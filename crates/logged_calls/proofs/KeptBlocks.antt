@@ -16,6 +16,7 @@ use Rattle.drafts.specs.declared.change.Written.{Written}
 use Rattle.image_changes.specs.Does.{IsFormed, bytes_for, frees}
 use Rattle.lone_images.specs.Lone.{version_with}
 use Rattle.lone_view.specs.Seeing.{Lone}
+use Rattle.logged_node.specs.declared.node.Node.{Node}
 use Rattle.logged_calls.specs.Keeping.{with_blocks, without_blocks}
 
 abbrev Blocks : Type 0
@@ -136,3 +137,21 @@ module _ (v u w : Lone) (change : Change) (form : IsFormed change) (forgot : u �
 pub on_ok : {A E : Type 0} (r : Result A E) (P Q : Type 0) → (P → Q) → OnOk r P → OnOk r Q
 on_ok (Ok _) P Q so is = so is
 on_ok (Err _) P Q so is = tt
+
+pub always_ok : {A E : Type 0} (r : Result A E) (P : Type 0) → P → OnOk r P
+always_ok (Ok _) P p = p
+always_ok (Err _) P p = tt
+
+-- the node with this view, and other items
+module _ (old new : Node) (v : Lone) (new_is : new ≡ record old { view = v; items = new.items }) where
+  its_view_is : new.view ≡ v
+  its_view_is = ap (λ (x : Node). x.view) new_is
+
+  pub its_node : new ≡ record old { view = new.view; items = new.items }
+  its_node = new_is ∙ ap (λ (u : Lone). record old { view = u; items = new.items }) (sym its_view_is)
+
+  pub its_view : v ≡ record old.view { blocks = v.blocks } → new.view ≡ record old.view { blocks = new.view.blocks }
+  its_view is = subst (λ (u : Lone). u ≡ record old.view { blocks = u.blocks }) (sym its_view_is) is
+
+  pub its_kept : (change : Change) → ((b : ℕ) → get v.blocks b ≡ version_with change (get old.view.blocks) b) → (b : ℕ) → get new.view.blocks b ≡ version_with change (get old.view.blocks) b
+  its_kept change kept b = ap (λ (u : Lone). get u.blocks b) its_view_is ∙ kept b

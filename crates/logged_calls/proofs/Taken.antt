@@ -1,6 +1,6 @@
 -- A call is told, or isn't, behind what was read for it.
-use Rattle.std.proofs.Common.{◌≡◌, ◌<◌, ◌≤◌, ◌+◌, ℕ, suc, List, Option, Ok, Err, refl, sym, ap, subst, ◌∙◌, arith}
-use Rattle.std.specs.Prelude.{IfErr, Result, ⊤}
+use Rattle.std.proofs.Common.{◌≡◌, ◌<◌, ◌≤◌, ◌+◌, ℕ, suc, Bool, true, false, List, Option, Ok, Err, refl, sym, ap, subst, ◌∙◌, true≢false, arith}
+use Rattle.std.specs.Prelude.{IfErr, IsErrAnd, OnOk, Result, ⊤}
 use Rattle.fault_counts.specs.Causes.{WentUp}
 use Rattle.fault_counts.specs.declared.Rise.{Rise}
 use Rattle.file_tree.specs.declared.call.Call.{Call}
@@ -186,3 +186,17 @@ cause_behind count count' before mid now end.NotLoggable same later has cause = 
 pub both_ends : {A E : Type 0} (r : Result A E) (P Q S : E → Type 0) → ((x : E) → P x → Q x → S x) → IfErr r P → IfErr r Q → IfErr r S
 both_ends (Ok _) P Q S so p q = tt
 both_ends (Err x) P Q S so p q = so x p q
+
+-- an end that is handed on
+pub handed_on : {A E : Type 0} (r : Result A E) (y : E) (P : E → Type 0) → IsErrAnd r (λ x. x ≡ y) → P y → IfErr r P
+handed_on (Ok _) y P is p = absurd is
+handed_on (Err x) y P is p = subst P (sym is) p
+
+pub none_done : {A E : Type 0} (r : Result A E) (Q : E → Type 0) (P : Type 0) → IsErrAnd r Q → OnOk r P
+none_done (Ok _) Q P is = absurd is
+none_done (Err x) Q P is = tt
+
+-- a test that doesn't pass
+pub not_so : (a b : Bool) → (b ≡ true → a ≡ true) → a ≡ false → b ≡ false
+not_so a true so is = absurd (true≢false (sym (so refl) ∙ is))
+not_so a false so is = refl

@@ -57,15 +57,15 @@ counted_quietly m n' is counted = subst IsCounted (sym is) (record { changed = (
 
 module _ (time : ℕ) (name : List ℕ) (call : Call) (reply : Reply) (change : Change) (d e : DiskState) (l k : Option (List Operation)) (n m r n' : Node) (moved : HasMoved most_headers d l n e k m) (done : IsDoneBy n.view time call reply change)
     (nothing : is_nothing change ≡ true) (r_is : r ≡ record m { items = r.items }) (same : r.items.items ≡ m.items.items) (n'_is : n' ≡ record r { items = n'.items; numbers = with_call r.numbers false })
-    (told : n'.items.items ≡ r.items.items ++ trace.Call 1 name (r.numbers.answered + 1) call reply ∷ []) where
+    (item : TraceItem) (item_is : item ≡ trace.Call 1 name (m.numbers.answered + 1) call reply) (told : n'.items.items ≡ r.items.items ++ item ∷ []) where
   is : n' ≡ record m { items = n'.items; numbers = with_call m.numbers false }
   is = n'_is ∙ ap (λ (x : Node). record x { items = n'.items; numbers = with_call x.numbers false }) r_is
 
-  sum : r.numbers.answered + 1 ≡ suc m.numbers.answered
-  sum = let a : r.numbers.answered ≡ m.numbers.answered = ap (λ (x : Node). x.numbers.answered) r_is in omega (arith, a)
+  sum : m.numbers.answered + 1 ≡ suc m.numbers.answered
+  sum = omega arith
 
   items_are : n'.items.items ≡ m.items.items ++ trace.Call 1 name (suc m.numbers.answered) call reply ∷ []
-  items_are = told ∙ (λ i. same i ++ trace.Call 1 name (sum i) call reply ∷ [])
+  items_are = told ∙ (λ i. same i ++ (item_is ∙ ap (λ (a : ℕ). trace.Call 1 name a call reply) sum) i ∷ [])
 
   abbrev at : Point
   at = point_of e k m
