@@ -131,9 +131,6 @@ module _ (v u w : Lone) (change : Change) (form : IsFormed change) (forgot : u �
   pub kept_so : (b : ℕ) → get w.blocks b ≡ version_with change (get v.blocks) b
   kept_so b = ap (λ (x : Lone). get x.blocks b) whole_is ∙ kept_version v.blocks change form b
 
-  pub others_stay : w ≡ record v { blocks = w.blocks }
-  others_stay = whole_is ∙ (let same : with_blocks (without_blocks v.blocks change.freed.items) change.blocks.items ≡ w.blocks = ap (λ (x : Lone). x.blocks) (sym whole_is) in ap (λ m. record v { blocks = m }) same)
-
 pub on_ok : {A E : Type 0} (r : Result A E) (P Q : Type 0) → (P → Q) → OnOk r P → OnOk r Q
 on_ok (Ok _) P Q so is = so is
 on_ok (Err _) P Q so is = tt

@@ -1,9 +1,9 @@
 -- What the test of a change tells: that a log takes it.
 use Rattle.std.proofs.Common.{◌≡◌, ◌≢◌, ◌+◌, ◌<◌, ◌≤◌, ℕ, inl, inr, Bool, true, false, List, [], ◌∷◌, length, map, get_or, Option, None, Some, Ok, Err, refl, sym, ap, subst, ◌∙◌, true≢false, arith}
-use Rattle.std.specs.Prelude.{◌==◌, Contains}
+use Rattle.std.specs.Prelude.{◌==◌, Contains, Result, not}
 use Rattle.std.specs.List.{All, AllByRecursion}
 use Rattle.std.specs.List.Sorted.{IsStrictlyIncreasing}
-use Rattle.std.proofs.lemmas.Bool.{cases_Bool, cond-false, cond-true, eq-eqb, eqb-true}
+use Rattle.std.proofs.lemmas.Bool.{cases_Bool, cond-false, cond-true, eq-eqb, eqb-true, ne_eqb}
 use Rattle.std.proofs.lemmas.List.{get_or-map}
 use Rattle.std.proofs.lemmas.List.Elements.{All-contains, All-from_recursion, All-map}
 use Rattle.std.proofs.lemmas.Map.Keys.{IsStrictlyIncreasing-from_sorted}
@@ -55,20 +55,17 @@ reads bytes long is =
 
 -- ---- the test of a block
 
-pub plain_passes : (w : Written) → w.plain ≡ true → IsBlockOfLog w
-plain_passes w plain = content plain
-
-pub header_passes : (w : Written) (h : MetaHeader) → header_read w.bytes ≡ Ok h → (h.kind ≡ 8 → ⊥) → IsBlockOfLog w
-header_passes w h read other = metadata h read other
-
 -- of metadata the header is read, and is of another kind
-pub other_kind : (w : Written) (h : MetaHeader) → w.plain ≡ false → header_read w.bytes ≡ Ok h → IsBlockOfLog w → h.kind ≢ 8
+other_kind : (w : Written) (h : MetaHeader) → w.plain ≡ false → header_read w.bytes ≡ Ok h → IsBlockOfLog w → h.kind ≢ 8
 other_kind w h plain is (content e) = absurd (true≢false (sym e ∙ plain))
 other_kind w h plain is (metadata g read other) = λ e. other (ap (λ (x : MetaHeader). x.kind) (let same : g ≡ h = (let both = sym read ∙ is in cc) in same) ∙ e)
 
-pub none_passes : (w : Written) (f : LayoutFault) → w.plain ≡ false → header_read w.bytes ≡ Err f → IsBlockOfLog w → ⊥
-none_passes w f plain is (content e) = true≢false (sym e ∙ plain)
-none_passes w f plain is (metadata h read other) = let both = sym read ∙ is in cc
+-- it passes exactly where it is of another kind
+pub kind_tells : (w : Written) (h : MetaHeader) (bytes : List ℕ) (r : Result MetaHeader LayoutFault) → w.plain ≡ false → bytes ≡ w.bytes → r ≡ header_read bytes → r ≡ Ok h
+    → (not (h.kind == 8) ≡ true → IsBlockOfLog w) × (IsBlockOfLog w → not (h.kind == 8) ≡ true)
+kind_tells w h bytes r plain same is ok =
+    let read : header_read w.bytes ≡ Ok h = ap header_read (sym same) ∙ sym is ∙ ok in
+    ((λ e. metadata h read (λ eight. true≢false (sym e ∙ ap not (eq-eqb h.kind 8 eight)))), (λ passes. ap not (ne_eqb h.kind 8 (other_kind w h plain read passes))))
 
 -- ---- what it tells of a whole block
 
