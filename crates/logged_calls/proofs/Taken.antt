@@ -187,6 +187,10 @@ pub both_ends : {A E : Type 0} (r : Result A E) (P Q S : E → Type 0) → ((x :
 both_ends (Ok _) P Q S so p q = tt
 both_ends (Err x) P Q S so p q = so x p q
 
+pub both_done : {A E : Type 0} (r : Result A E) (P Q S : Type 0) → (P → Q → S) → OnOk r P → OnOk r Q → OnOk r S
+both_done (Ok _) P Q S so p q = so p q
+both_done (Err _) P Q S so p q = tt
+
 -- an end that is handed on
 pub handed_on : {A E : Type 0} (r : Result A E) (y : E) (P : E → Type 0) → IsErrAnd r (λ x. x ≡ y) → P y → IfErr r P
 handed_on (Ok _) y P is p = absurd is
