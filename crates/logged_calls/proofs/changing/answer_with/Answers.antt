@@ -1,11 +1,13 @@
 use Rattle.std.proofs.Common.{true, false, Ok, ap, sym, ◌∙◌, true≢false, arith}
 use Rattle.lone_view.specs.Seeing.{seen_alone}
 use Rattle.logged_node.specs.declared.ends.Stop.TheVariants as stop
+use Rattle.logged_calls.specs.Ends.{EndsBehind}
 use Rattle.logged_calls.specs.declared.ends.CallEnd.TheVariants as end
 use Rattle.logged_calls.proofs.Answered.{inside_there, low_there, number_there, passes, stops_unkept, too_small, unloggable}
 use Rattle.logged_calls.proofs.Changed.{ready, taken}
 use Rattle.logged_calls.proofs.Moved.{ends_untold, still_here, stops_untold}
 use Rattle.logged_calls.proofs.Added.{low_still}
+use Rattle.logged_calls.proofs.Taken.{handed_on}
 use Rattle.logged_calls.proofs.changing.answer_with.Goals as goal
 
 pub returns-then-not-may_be_logged-clause-stopped : goal.returns-then-not-may_be_logged-clause-stopped
@@ -46,7 +48,8 @@ keep_answer-requires-clause-inside g c =
 
 pub returns-in_err-item-clause-stopped : goal.returns-in_err-item-clause-stopped
 returns-in_err-item-clause-stopped g c =
-    stops_unkept (g.D.SharedDisk.state c.args.disk.now) (g.D.SharedDisk.list c.args.disk.now) c.args.node.now c.args.stamp.now.time c.args.call.now c.args.reply.now c.args.change.now c.requires.ready c.requires.done (g.D.SharedDisk.state c.add_change.new.disk) (g.D.SharedDisk.list c.add_change.new.disk) c.add_change.new.node (c.in-Ok-true.ensures.added (ap Ok c.in-Ok-true.field-0-test)) c.keep_answer.new.node.items.items c.in_err-item.ensures.items
+    handed_on c.from_residual.result (end.Stopped stop.NoMemory) (EndsBehind (g.D.SharedDisk.state c.args.disk.now) (g.D.SharedDisk.list c.args.disk.now) c.args.node.now (g.D.SharedDisk.state c.add_change.new.disk) (g.D.SharedDisk.list c.add_change.new.disk) c.keep_answer.new.node) c.from_residual.ensures.1
+    (stops_unkept (g.D.SharedDisk.state c.args.disk.now) (g.D.SharedDisk.list c.args.disk.now) c.args.node.now c.args.stamp.now.time c.args.call.now c.args.reply.now c.args.change.now c.requires.ready c.requires.done (g.D.SharedDisk.state c.add_change.new.disk) (g.D.SharedDisk.list c.add_change.new.disk) c.add_change.new.node (c.in-Ok-true.ensures.added (ap Ok c.in-Ok-true.field-0-test)) c.keep_answer.new.node.items.items c.in_err-item.ensures.items)
 
 pub returns-clause-taken : goal.returns-clause-taken
 returns-clause-taken g c =
