@@ -16,7 +16,7 @@ use Rattle.logged_node.specs.declared.node.Node.{Node}
 use Rattle.logged_calls.specs.Adding.{HasAdded, HasNoPlace, IsLoggable, MayBeLogged}
 use Rattle.logged_calls.specs.Calls.{IsReady, most_headers}
 use Rattle.logged_calls.specs.Ends.{IsTooSmallFor, IsUnloggableFor, StopsUntold}
-use Rattle.logged_calls.proofs.Loggable.{are_on, are_whole, loggable_passes, passed_is_loggable}
+use Rattle.logged_calls.proofs.Testing.{are_on, are_whole, loggable_passes, passed_is_loggable}
 use Rattle.logged_calls.proofs.Moved.{stops_there}
 
 module _ (d : DiskState) (l : Option (List Operation)) (n : Node) (time : ℕ) (call : Call) (reply : Reply) (change : Change) (ready : IsReady d n) (done : IsDoneBy n.view time call reply change) where

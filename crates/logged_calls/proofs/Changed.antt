@@ -36,7 +36,7 @@ use Rattle.logged_node.proofs.Arming.{before_crash, crash_stays}
 use Rattle.logged_calls.specs.Adding.{HasAdded}
 use Rattle.logged_calls.specs.Calls.{HasTaken, IsReady, as_done, most_headers}
 use Rattle.logged_calls.specs.Telling.{with_call}
-use Rattle.logged_calls.proofs.Quiet.{quiet_steps}
+use Rattle.logged_calls.proofs.Untold.{quiet_steps}
 
 -- ---- what is kept behind it
 

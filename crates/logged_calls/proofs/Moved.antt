@@ -27,7 +27,7 @@ use Rattle.logged_node.proofs.Going.{kept_on}
 use Rattle.logged_node.proofs.Onward.{stops_on}
 use Rattle.logged_calls.specs.Calls.{HasMoved, IsReady, TellsNoCall, most_headers}
 use Rattle.logged_calls.specs.Ends.{EndsUntold, StopsUntold}
-use Rattle.logged_calls.proofs.Quiet.{failed_tells, quiet_steps}
+use Rattle.logged_calls.proofs.Untold.{failed_tells, quiet_steps}
 
 -- ---- it may take a call still
 

@@ -20,7 +20,7 @@ use Rattle.logged_node.specs.Rooms.{IsCounted}
 use Rattle.logged_node.proofs.Arming.{before_crash, crash_stays}
 use Rattle.logged_calls.specs.Calls.{HasMoved, HasTaken, IsReady, TellsNoCall, as_done, most_headers}
 use Rattle.logged_calls.specs.Telling.{with_call}
-use Rattle.logged_calls.proofs.Quiet.{quiet_steps}
+use Rattle.logged_calls.proofs.Untold.{quiet_steps}
 
 -- ---- other items and numbers
 

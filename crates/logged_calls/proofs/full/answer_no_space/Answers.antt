@@ -1,5 +1,5 @@
 use Rattle.std.proofs.Common.{◌+◌, ◌<◌, ◌^◌, ℕ, sym, subst, arith}
-use Rattle.logged_calls.proofs.Full.{no_space_taken}
+use Rattle.logged_calls.proofs.NoSpace.{no_space_taken}
 use Rattle.logged_calls.proofs.Moved.{brought_moved, moved_few, stops_there, stops_untold}
 use Rattle.logged_calls.proofs.full.answer_no_space.Goals as goal
 

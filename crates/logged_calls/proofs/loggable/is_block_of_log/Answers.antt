@@ -1,4 +1,4 @@
-use Rattle.logged_calls.proofs.Loggable.{kind_tells}
+use Rattle.logged_calls.proofs.Testing.{kind_tells}
 use Rattle.logged_calls.proofs.loggable.is_block_of_log.Goals as goal
 
 pub returns-in-Ok : goal.returns-in-Ok

@@ -16,7 +16,7 @@ use Rattle.logged_node.specs.Nodes.{IsBeforeCrash, IsResting, crash_at, crash_of
 use Rattle.logged_node.proofs.Arming.{before_crash, crash_stays}
 use Rattle.logged_calls.specs.Calls.{HasMoved, HasTaken, most_headers, no_space}
 use Rattle.logged_calls.specs.Telling.{with_call}
-use Rattle.logged_calls.proofs.Quiet.{behind_both, quiet_steps}
+use Rattle.logged_calls.proofs.Untold.{behind_both, quiet_steps}
 use Rattle.logged_calls.proofs.Told.{counted_quietly, rests_told}
 
 module _ (time : ℕ) (name : List ℕ) (call : Call) (need free : ℕ) (d e : DiskState) (l k : Option (List Operation)) (n m r f n' : Node) (moved : HasMoved most_headers d l n e k m) (synced : m.numbers.changed ≤ m.numbers.low)
