@@ -1,13 +1,11 @@
 -- The change of a call in the log, or no room for it.
-use Rattle.std.proofs.Common.{◌≡◌, ◌<◌, ◌≤◌, ℕ, Bool, true, false, List, Option, Ok, Err, refl, sym, ap, subst, ◌∙◌, true≢false, arith}
+use Rattle.std.proofs.Common.{◌≡◌, ◌<◌, ◌≤◌, ℕ, Bool, true, false, List, Option, Ok, Err, sym, subst, ◌∙◌, true≢false, arith}
 use Rattle.std.specs.Prelude.{IfErr, Result}
-use Rattle.std.specs.FinMap as table
 use Rattle.std.specs.List.{All}
 use Rattle.drafts.specs.declared.change.Change.{Change}
 use Rattle.drafts.specs.declared.change.Written.{Written}
 use Rattle.log_values.specs.Changes.{Suffices, with_change}
 use Rattle.log_values.specs.Flushing.{IsDue, NothingIsLive}
-use Rattle.log_values.specs.Log.{LogValue}
 use Rattle.log_values.proofs.Landing.{none_in}
 use Rattle.shared_disk.specs.Disk.{DiskState, Operation}
 use Rattle.trace_text.specs.declared.item.TraceItem.{TraceItem}

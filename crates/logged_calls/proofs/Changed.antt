@@ -28,7 +28,7 @@ use Rattle.shared_disk.specs.Disk.{DiskState, Operation}
 use Rattle.trace_text.specs.declared.item.TraceItem.{TraceItem}
 use Rattle.trace_text.specs.declared.item.TraceItem.TheVariants as trace
 use Rattle.logged_answers.specs.Points.{Point, call_item}
-use Rattle.logged_answers.specs.Steps.{Answers, Step, Steps, Then, with_answer}
+use Rattle.logged_answers.specs.Steps.{Answers, Step, Then, with_answer}
 use Rattle.logged_node.specs.declared.node.Node.{Node}
 use Rattle.logged_node.specs.Nodes.{IsBeforeCrash, IsResting, crash_at, crash_of, numbers_of, point_of}
 use Rattle.logged_node.specs.Rooms.{IsCounted}

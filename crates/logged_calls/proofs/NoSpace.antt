@@ -10,7 +10,7 @@ use Rattle.trace_text.specs.declared.item.TraceItem.{TraceItem}
 use Rattle.trace_text.specs.declared.item.TraceItem.TheVariants as trace
 use Rattle.logged_answers.specs.Points.{ItsNoSpace, Point, call_item, telling}
 use Rattle.logged_answers.specs.Points as points
-use Rattle.logged_answers.specs.Steps.{HasNoSpace, Step, Steps, TellsFull, Then, with_quiet_answer}
+use Rattle.logged_answers.specs.Steps.{HasNoSpace, Step, TellsFull, Then, with_quiet_answer}
 use Rattle.logged_node.specs.declared.node.Node.{Node}
 use Rattle.logged_node.specs.Nodes.{IsBeforeCrash, IsResting, crash_at, crash_of, numbers_of, point_of}
 use Rattle.logged_node.proofs.Arming.{before_crash, crash_stays}

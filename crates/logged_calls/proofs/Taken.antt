@@ -1,6 +1,6 @@
 -- A call is told, or isn't, behind what was read for it.
-use Rattle.std.proofs.Common.{◌≡◌, ◌<◌, ◌≤◌, ◌+◌, ℕ, suc, Bool, true, false, List, Option, Ok, Err, refl, sym, ap, subst, ◌∙◌, true≢false, arith}
-use Rattle.std.specs.Prelude.{IfErr, IsErrAnd, OnOk, Result, ⊤}
+use Rattle.std.proofs.Common.{◌≡◌, ◌≤◌, ◌+◌, ℕ, suc, Bool, true, false, List, Option, Ok, Err, refl, sym, ap, subst, ◌∙◌, true≢false}
+use Rattle.std.specs.Prelude.{IfErr, IsErrAnd, OnOk, Result}
 use Rattle.fault_counts.specs.Causes.{WentUp}
 use Rattle.fault_counts.specs.declared.Rise.{Rise}
 use Rattle.file_tree.specs.declared.call.Call.{Call}

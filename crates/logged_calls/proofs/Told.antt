@@ -1,5 +1,5 @@
 -- A call that changes nothing is told, behind what had to be done for it.
-use Rattle.std.proofs.Common.{◌≡◌, ◌<◌, ◌≤◌, ◌+◌, ℕ, suc, Bool, true, false, List, [], ◌∷◌, ◌++◌, Option, refl, sym, ap, subst, ◌∙◌, arith}
+use Rattle.std.proofs.Common.{◌≡◌, ◌≤◌, ◌+◌, ℕ, suc, Bool, true, false, List, [], ◌∷◌, ◌++◌, Option, refl, sym, ap, subst, ◌∙◌, arith}
 use Rattle.file_tree.specs.declared.call.Call.{Call}
 use Rattle.file_tree.specs.declared.call.Call.TheVariants as calls
 use Rattle.file_tree.specs.declared.reply.Reply.{Reply}
@@ -13,12 +13,12 @@ use Rattle.shared_disk.specs.Disk.{DiskState, Operation}
 use Rattle.trace_text.specs.declared.item.TraceItem.{TraceItem}
 use Rattle.trace_text.specs.declared.item.TraceItem.TheVariants as trace
 use Rattle.logged_answers.specs.Points.{Point, call_item}
-use Rattle.logged_answers.specs.Steps.{AnswersQuietly, Step, Steps, Syncs, Then, with_quiet_answer}
+use Rattle.logged_answers.specs.Steps.{AnswersQuietly, Step, Syncs, Then, with_quiet_answer}
 use Rattle.logged_node.specs.declared.node.Node.{Node}
 use Rattle.logged_node.specs.Nodes.{IsBeforeCrash, IsResting, crash_at, crash_of, numbers_of, point_of}
 use Rattle.logged_node.specs.Rooms.{IsCounted}
 use Rattle.logged_node.proofs.Arming.{before_crash, crash_stays}
-use Rattle.logged_calls.specs.Calls.{HasMoved, HasTaken, IsReady, TellsNoCall, as_done, most_headers}
+use Rattle.logged_calls.specs.Calls.{HasMoved, HasTaken, as_done, most_headers}
 use Rattle.logged_calls.specs.Telling.{with_call}
 use Rattle.logged_calls.proofs.Untold.{quiet_steps}
 

@@ -1,5 +1,4 @@
 use Rattle.std.proofs.Common.{true, false, Ok, ap, sym, ◌∙◌, true≢false, arith}
-use Rattle.lone_view.specs.Seeing.{seen_alone}
 use Rattle.logged_node.specs.declared.ends.Stop.TheVariants as stop
 use Rattle.logged_calls.specs.Ends.{EndsBehind}
 use Rattle.logged_calls.specs.declared.ends.CallEnd.TheVariants as end

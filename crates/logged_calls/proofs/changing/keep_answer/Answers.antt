@@ -1,6 +1,4 @@
 use Rattle.lone_view.specs.Seeing.{seen_alone}
-use Rattle.std.specs.FinMap as table
-use Rattle.std.proofs.Common.{◌≡◌, ℕ}
 use Rattle.logged_calls.proofs.KeptBlocks.{always_ok, its_kept, its_node, its_view}
 use Rattle.logged_calls.proofs.Testing.{are_whole}
 use Rattle.logged_calls.proofs.changing.keep_answer.Goals as goal
