@@ -1,3 +1,6 @@
+ghost use Rattle.std.specs.Prelude.{◌≡◌};
+ghost use Rattle.lone_fences.specs.Ends.{end_of};
+
 use fault_counts::Rise;
 use journal_reads::ReadFault;
 
@@ -12,16 +15,15 @@ pub enum FenceEnd {
     NoMemory,
 }
 
-impl From<ReadFault> for FenceEnd {
-    ghost use Rattle.std.specs.Prelude.{◌≡◌};
-    ghost use Rattle.lone_fences.specs.Ends.{end_of};
-
-    ghost from_gives = { λ fault end. end ≡ end_of fault };
-
-    fn from(fault: ReadFault) -> Self {
-        match fault {
-            ReadFault::DiskFailed { block, rise } => FenceEnd::ReadFailed { block, rise },
-            ReadFault::NoMemory => FenceEnd::NoMemory,
-        }
+/// The end where the journal was not read.
+pub(crate) fn ended(fault: &ReadFault) -> FenceEnd
+    ensures { result ≡ end_of fault.now }
+{
+    match fault {
+        ReadFault::DiskFailed { block, rise } => FenceEnd::ReadFailed {
+            block: *block,
+            rise: *rise,
+        },
+        ReadFault::NoMemory => FenceEnd::NoMemory,
     }
 }
