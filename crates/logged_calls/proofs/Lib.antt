@@ -1,6 +1,6 @@
 mod KeptBlocks
 mod Looked
-mod Untold
+pub mod Untold
 mod Moved
 mod Added
 mod Told
