@@ -99,7 +99,7 @@ module _ (d : DiskState) (m : MountedValue) (law : NothingBreaks) (keeps : Repla
           let address : (superblock_in im).root.address ≡ m.superblock.root.address = from.root in
           let claims : Claims im (superblock_place im.size) m.superblock.root.address Root = subst (λ a. Claims im (superblock_place im.size) a Root) address root in
           beyond_groups (superblock_place d.size) m.superblock.root.address Root (subst (λ n. Claims im (superblock_place n) m.superblock.root.address Root) size claims)
-          (from.list, from.sound, λ g there inside. stray (group_of_entry g, (from.groups (group_of_entry g)).1 (g, there, refl), record { low = inside.low; high = inside.high }))
+          (from.list, from.whole, λ g there inside. stray (group_of_entry g, (from.groups (group_of_entry g)).1 (g, there, refl), record { low = inside.low; high = inside.high }))
 
       right : (im : Image) → IsImage im → im.size ≡ d.size → IsMounted im m → RefusesRightly im (fault.Damaged (superblock_place d.size) 2)
       right im image size mounted =

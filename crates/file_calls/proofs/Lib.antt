@@ -8,7 +8,6 @@ pub use Rattle.move_calls.proofs.Loses
 pub use Rattle.move_calls.proofs.Alike
 pub use Rattle.move_calls.proofs.Imaged
 pub use Rattle.making_calls.proofs.SeenPaths
-pub use Rattle.making_calls.proofs.Pointing
 pub use Rattle.move_calls.proofs.Places
 pub use Rattle.making_calls.proofs.Images
 pub use Rattle.making_calls.proofs.FoundLists

@@ -596,7 +596,7 @@ module _ (im : Image) (inode : Inode) (table : HashTable) (walk : LeafWalk) (of 
 pub clash_told : (im : Image) (entries : List (Option Claim)) (x by : ℕ) (claim : Claim) (found : ImageFault) → HasFormat im → IsReached im x → AreClaims im entries → Claims im by x (owner_of claim) → IsPlaced im x (owner_of claim) → IsClash entries x claim found
     → RefusesRightly im (of_image found)
 clash_told im entries x by claim (image.Damaged block rule) format reached claims claimed placed c =
-    let here : block ≡ x = elim c.told [ inl three ↦ same_block block rule x 3 three | inr fifteen ↦ same_block block rule x 15 fifteen.0 ] in
+    let here : block ≡ x = elim c.told [ inl three ↦ same_block block rule x 3 three.0 | inr fifteen ↦ same_block block rule x 15 fifteen.0 ] in
     (clash im entries x by claim (image.Damaged block rule) reached.inside claims claimed placed c, come_to rule block format (subst (IsReached im) (sym here) reached))
   where
     same_block : (b r c s : ℕ) → image.Damaged b r ≡ image.Damaged c s → b ≡ c

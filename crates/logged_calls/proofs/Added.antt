@@ -1,13 +1,11 @@
 -- The change of a call in the log, or no room for it.
-use Rattle.std.proofs.Common.{◌≡◌, ◌<◌, ℕ, Bool, true, false, List, Option, Ok, Err, refl, sym, ap, subst, ◌∙◌, true≢false, arith}
+use Rattle.std.proofs.Common.{◌≡◌, ◌<◌, ◌≤◌, ℕ, Bool, true, false, List, Option, Ok, Err, sym, subst, ◌∙◌, true≢false, arith}
 use Rattle.std.specs.Prelude.{IfErr, Result}
-use Rattle.std.specs.FinMap as table
 use Rattle.std.specs.List.{All}
 use Rattle.drafts.specs.declared.change.Change.{Change}
 use Rattle.drafts.specs.declared.change.Written.{Written}
 use Rattle.log_values.specs.Changes.{Suffices, with_change}
 use Rattle.log_values.specs.Flushing.{IsDue, NothingIsLive}
-use Rattle.log_values.specs.Log.{LogValue}
 use Rattle.log_values.proofs.Landing.{none_in}
 use Rattle.shared_disk.specs.Disk.{DiskState, Operation}
 use Rattle.trace_text.specs.declared.item.TraceItem.{TraceItem}
@@ -19,12 +17,8 @@ use Rattle.logged_calls.specs.Adding.{HasAdded, HasNoPlace}
 use Rattle.logged_calls.specs.Calls.{HasMoved, IsReady}
 use Rattle.logged_calls.proofs.Moved.{brought_moved, moved_on, stops_moved}
 
-pub ok_is : {a b : Bool} → Ok {A = Bool} {B = Stop} a ≡ Ok b → a ≡ b
-ok_is {a = a} {b = b} is = ap value is
-  where
-    value : Result Bool Stop → Bool
-    value (Ok x) = x
-    value _ = a
+pub ok_is : {a b : Bool} → ◌≡◌ {A = Result Bool Stop} (Ok a) (Ok b) → a ≡ b
+ok_is is = cc
 
 module _ (d e : DiskState) (l k : Option (List Operation)) (n m o : Node) (c : Change) (taken : Bool) where
   pub added_by : (most : ℕ) → HasMoved most d l n e k m → All (λ (w : Written). w.block < e.count) c.blocks.items → taken ≡ true → (taken ≡ true → o ≡ record m { log = with_change m.log c }) → (taken ≡ true → Suffices (with_change m.log c))
@@ -55,9 +49,9 @@ no_place_behind d e l k n m o c moved none empty taken is kept takes = no_place_
 
 -- ---- behind what was due
 
-pub map_stop : {A : Type 0} (r : Result A Stop) (P Q : Stop → Type 0) → ((why : Stop) → P why → Q why) → IfErr r P → IfErr r Q
-map_stop (Ok _) P Q so is = tt
-map_stop (Err why) P Q so is = so why is
+pub map_end : {A E : Type 0} (r : Result A E) (P Q : E → Type 0) → ((why : E) → P why → Q why) → IfErr r P → IfErr r Q
+map_end (Ok _) P Q so is = tt
+map_end (Err why) P Q so is = so why is
 
 module _ (d e : DiskState) (l k : Option (List Operation)) (n a b m : Node) (ready : IsReady d n) (as_before : a ≡ n) (brought : HasBroughtIn d l a e k b) (synced : IsCounted a → b.numbers.changed ≤ b.numbers.low) where
   pub brought_to : HasMoved 2 d l n e k b

@@ -1,10 +1,12 @@
 mod KeptBlocks
 mod Looked
-pub mod Quiet
+pub mod Untold
 mod Moved
 mod Added
 mod Told
-mod Full
+mod NoSpace
 mod Changed
-mod Loggable
+mod Testing
 mod Room
+mod Taken
+mod Answered

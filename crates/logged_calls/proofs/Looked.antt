@@ -1,20 +1,18 @@
 -- A node that has read what a call asks for.
 use Rattle.std.proofs.Common.{◌≡◌, ◌<◌, ◌≤◌, ℕ, List, length, false, Option, None, Some, inl, inr, refl, sym, ap, subst, ◌∙◌}
 use Rattle.std.specs.List.{AllByRecursion}
-use Rattle.std.specs.Ordering.{nat_cmp}
 use Rattle.std.specs.Cmp.{nat_cmp_total}
-use Rattle.std.specs.FinMap.{FinMap, get, insert, nat_cmp-IsAntisymmetric}
+use Rattle.std.specs.FinMap.{get, insert, nat_cmp-IsAntisymmetric}
 use Rattle.std.proofs.lemmas.Bool.{cases_eq}
-use Rattle.finite_maps.proofs.Keys.{inserted_at, inserted_apart}
+use Rattle.finite_maps.proofs.Keys.{inserted_apart}
 use Rattle.glock_names.specs.Views.{end_of}
-use Rattle.lone_answers.specs.Reading.{HasRead, ReadsOne, Nothing, OneMore}
+use Rattle.lone_answers.specs.Reading.{HasRead, Nothing, OneMore}
 use Rattle.lone_view.specs.Seeing.{Lone}
 use Rattle.shared_disk.specs.Disk.{DiskState, Operation}
-use Rattle.logged_steps.specs.Points.{Point}
-use Rattle.logged_steps.specs.Steps.{Here, Reads, Step, Steps, Then}
+use Rattle.logged_answers.specs.Points.{Point}
+use Rattle.logged_answers.specs.Steps.{Here, Reads, Step, Steps, Then}
 use Rattle.logged_node.specs.declared.node.Node.{Node}
-use Rattle.logged_node.specs.Flushing.{GoesBySteps}
-use Rattle.logged_node.specs.Nodes.{IsNodeOn, IsResting, point_of}
+use Rattle.logged_node.specs.Nodes.{IsNodeOn, point_of}
 use Rattle.logged_node.proofs.Disks.{same_disk}
 use Rattle.logged_calls.specs.Calls.{HasLooked, IsReady}
 

@@ -3,7 +3,7 @@ use Rattle.std.proofs.Common.{◌≡◌, ◌≢◌, ◌<◌, ◌≤◌, ◌+◌,
 use Rattle.std.specs.FinMap as table
 use Rattle.std.specs.Ordering.{nat_cmp}
 use Rattle.log_values.specs.Blocks as set
-use Rattle.log_values.specs.Flushing.{IsDue, NothingIsLive}
+use Rattle.log_values.specs.Flushing.{IsDue}
 use Rattle.log_values.specs.Log.{LogValue, Version}
 use Rattle.log_values.specs.Transactions.{due, transaction}
 use Rattle.log_values.proofs.Landing.{no_items}
@@ -11,12 +11,12 @@ use Rattle.lone_answers.specs.Reading.{HasRead, Nothing}
 use Rattle.lone_view.specs.Seeing.{Lone}
 use Rattle.shared_disk.specs.Disk.{DiskState, Operation}
 use Rattle.trace_text.specs.declared.item.TraceItem.{TraceItem}
-use Rattle.logged_steps.specs.Fails.{AsItWas}
-use Rattle.logged_steps.specs.Steps.{Here}
+use Rattle.logged_answers.specs.Fails.{AsItWas}
+use Rattle.logged_answers.specs.Steps.{Here}
 use Rattle.logged_node.specs.declared.ends.Stop.{Stop}
 use Rattle.logged_node.specs.declared.ends.Stop.TheVariants as stop
 use Rattle.logged_node.specs.declared.node.Node.{Node}
-use Rattle.logged_node.specs.Flushing.{GoesBySteps, HasCome, HasRoomForDue, IsDone}
+use Rattle.logged_node.specs.Flushing.{HasCome, IsDone}
 use Rattle.logged_node.specs.Flushing as came
 use Rattle.logged_node.specs.Nodes.{IsBeforeCrash, KeepsView, StopsBehind, crash_at, point_of}
 use Rattle.logged_node.specs.Rooms.{HasBroughtIn, IsCounted}
@@ -27,7 +27,7 @@ use Rattle.logged_node.proofs.Going.{kept_on}
 use Rattle.logged_node.proofs.Onward.{stops_on}
 use Rattle.logged_calls.specs.Calls.{HasMoved, IsReady, TellsNoCall, most_headers}
 use Rattle.logged_calls.specs.Ends.{EndsUntold, StopsUntold}
-use Rattle.logged_calls.proofs.Quiet.{failed_tells, quiet_steps}
+use Rattle.logged_calls.proofs.Untold.{failed_tells, quiet_steps}
 
 -- ---- it may take a call still
 

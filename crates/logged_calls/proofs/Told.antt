@@ -1,5 +1,5 @@
 -- A call that changes nothing is told, behind what had to be done for it.
-use Rattle.std.proofs.Common.{◌≡◌, ◌<◌, ◌≤◌, ◌+◌, ℕ, suc, Bool, true, false, List, [], ◌∷◌, ◌++◌, Option, refl, sym, ap, subst, ◌∙◌, arith}
+use Rattle.std.proofs.Common.{◌≡◌, ◌≤◌, ◌+◌, ℕ, suc, Bool, true, false, List, [], ◌∷◌, ◌++◌, Option, refl, sym, ap, subst, ◌∙◌, arith}
 use Rattle.file_tree.specs.declared.call.Call.{Call}
 use Rattle.file_tree.specs.declared.call.Call.TheVariants as calls
 use Rattle.file_tree.specs.declared.reply.Reply.{Reply}
@@ -12,15 +12,15 @@ use Rattle.lone_view.specs.Seeing.{Lone}
 use Rattle.shared_disk.specs.Disk.{DiskState, Operation}
 use Rattle.trace_text.specs.declared.item.TraceItem.{TraceItem}
 use Rattle.trace_text.specs.declared.item.TraceItem.TheVariants as trace
-use Rattle.logged_steps.specs.Points.{Point, call_item}
-use Rattle.logged_steps.specs.Steps.{AnswersQuietly, Step, Steps, Syncs, Then, with_quiet_answer}
+use Rattle.logged_answers.specs.Points.{Point, call_item}
+use Rattle.logged_answers.specs.Steps.{AnswersQuietly, Step, Syncs, Then, with_quiet_answer}
 use Rattle.logged_node.specs.declared.node.Node.{Node}
 use Rattle.logged_node.specs.Nodes.{IsBeforeCrash, IsResting, crash_at, crash_of, numbers_of, point_of}
 use Rattle.logged_node.specs.Rooms.{IsCounted}
 use Rattle.logged_node.proofs.Arming.{before_crash, crash_stays}
-use Rattle.logged_calls.specs.Calls.{HasMoved, HasTaken, IsReady, TellsNoCall, as_done, most_headers}
+use Rattle.logged_calls.specs.Calls.{HasMoved, HasTaken, as_done, most_headers}
 use Rattle.logged_calls.specs.Telling.{with_call}
-use Rattle.logged_calls.proofs.Quiet.{quiet_steps}
+use Rattle.logged_calls.proofs.Untold.{quiet_steps}
 
 -- ---- other items and numbers
 
@@ -57,15 +57,15 @@ counted_quietly m n' is counted = subst IsCounted (sym is) (record { changed = (
 
 module _ (time : ℕ) (name : List ℕ) (call : Call) (reply : Reply) (change : Change) (d e : DiskState) (l k : Option (List Operation)) (n m r n' : Node) (moved : HasMoved most_headers d l n e k m) (done : IsDoneBy n.view time call reply change)
     (nothing : is_nothing change ≡ true) (r_is : r ≡ record m { items = r.items }) (same : r.items.items ≡ m.items.items) (n'_is : n' ≡ record r { items = n'.items; numbers = with_call r.numbers false })
-    (told : n'.items.items ≡ r.items.items ++ trace.Call 1 name (r.numbers.answered + 1) call reply ∷ []) where
+    (item : TraceItem) (item_is : item ≡ trace.Call 1 name (m.numbers.answered + 1) call reply) (told : n'.items.items ≡ r.items.items ++ item ∷ []) where
   is : n' ≡ record m { items = n'.items; numbers = with_call m.numbers false }
   is = n'_is ∙ ap (λ (x : Node). record x { items = n'.items; numbers = with_call x.numbers false }) r_is
 
-  sum : r.numbers.answered + 1 ≡ suc m.numbers.answered
-  sum = let a : r.numbers.answered ≡ m.numbers.answered = ap (λ (x : Node). x.numbers.answered) r_is in omega (arith, a)
+  sum : m.numbers.answered + 1 ≡ suc m.numbers.answered
+  sum = omega arith
 
   items_are : n'.items.items ≡ m.items.items ++ trace.Call 1 name (suc m.numbers.answered) call reply ∷ []
-  items_are = told ∙ (λ i. same i ++ trace.Call 1 name (sum i) call reply ∷ [])
+  items_are = told ∙ (λ i. same i ++ (item_is ∙ ap (λ (a : ℕ). trace.Call 1 name a call reply) sum) i ∷ [])
 
   abbrev at : Point
   at = point_of e k m

@@ -12,7 +12,7 @@ use Rattle.lone_view.specs.Seeing.{Lone}
 use Rattle.shared_disk.specs.Disk.{DiskState, Operation}
 use Rattle.trace_text.specs.declared.item.TraceItem.{TraceItem}
 use Rattle.trace_text.specs.declared.item.TraceItem.TheVariants as trace
-use Rattle.logged_steps.specs.Steps.{Steps}
+use Rattle.logged_answers.specs.Steps.{Steps}
 use Rattle.logged_node.specs.Flushing.{GoesBySteps}
 use Rattle.logged_node.specs.Nodes.{IsBeforeCrash, IsResting, IsSameDisk, KeepsView, crash_at, point_of}
 use Rattle.logged_node.specs.Rooms.{IsCounted}

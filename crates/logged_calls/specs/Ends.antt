@@ -12,9 +12,9 @@ use Rattle.lone_answers.specs.declared.answers.Unanswered.{Unanswered}
 use Rattle.lone_answers.specs.declared.answers.Unanswered.TheVariants as why
 use Rattle.shared_disk.specs.Disk.{DiskState, Operation}
 use Rattle.trace_text.specs.declared.item.TraceItem.{TraceItem}
-use Rattle.logged_steps.specs.Fails.{FailsTo}
-use Rattle.logged_steps.specs.Points.{Anything, Point}
-use Rattle.logged_steps.specs.Steps.{Steps}
+use Rattle.logged_answers.specs.Fails.{FailsTo}
+use Rattle.logged_answers.specs.Points.{Anything, Point}
+use Rattle.logged_answers.specs.Steps.{Steps}
 use Rattle.logged_node.specs.Ends as node
 use Rattle.logged_node.specs.Flushing.{GoesBySteps}
 use Rattle.logged_node.specs.Nodes.{IsLeftAs, StopsByCrash, crash_at, point_of}

@@ -7,9 +7,9 @@ use Rattle.image_model.specs.Profile.{group_length}
 use Rattle.lone_logs.specs.States.{trees_on}
 use Rattle.lone_machine.specs.Alone.{Begun}
 use Rattle.script_lang.specs.declared.script.Client.{Client}
-use Rattle.logged_steps.specs.Laws.{IsLoggedAt}
-use Rattle.logged_steps.specs.Points.{Point}
-use Rattle.small_calls.specs.Sizes.{IsOfScript}
+use Rattle.logged_answers.specs.Laws.{IsLoggedAt}
+use Rattle.logged_answers.specs.Points.{Point}
+use Rattle.logged_answers.specs.Sizes.{IsOfScript}
 use Rattle.logged_calls.specs.Ends.{IsTooSmallFor, IsUnloggableFor}
 
 -- no call changes what no log takes

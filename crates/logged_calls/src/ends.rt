@@ -2,7 +2,6 @@
 use fault_counts::Rise;
 use logged_node::Stop;
 use no_memory::NoMemory;
-use std::alloc::AllocError;
 
 /// Why a call isn't answered.
 #[derive(Clone, Copy, Debug, PartialEq, Eq)]
@@ -29,18 +28,6 @@ impl From<NoMemory> for CallEnd {
     ghost from_gives = { λ _ end. end ≡ Stopped NoMemory };
 
     fn from(_: NoMemory) -> Self {
-        CallEnd::Stopped(Stop::NoMemory)
-    }
-}
-
-impl From<AllocError> for CallEnd {
-    ghost use Rattle.std.specs.Prelude.{◌≡◌};
-    ghost use Rattle.logged_node.specs.declared.ends.Stop.TheVariants.{NoMemory};
-    ghost use Rattle.logged_calls.specs.declared.ends.CallEnd.TheVariants.{Stopped};
-
-    ghost from_gives = { λ _ end. end ≡ Stopped NoMemory };
-
-    fn from(_: AllocError) -> Self {
         CallEnd::Stopped(Stop::NoMemory)
     }
 }

@@ -36,8 +36,12 @@ fn are_blocks_of_log(blocks: &[Written]) -> bool
 pub(crate) fn may_be_logged(change: &Change) -> bool
     ensures { result ≡ true ↔ MayBeLogged change.now }
 {
+    if change.blocks.is_empty() {
+        return false;
+    }
     let count = change.blocks.len() as u128 + change.freed.len() as u128;
-    !change.blocks.is_empty()
-        && count <= u128::from(MOST_BLOCKS)
-        && are_blocks_of_log(&change.blocks)
+    if count > u128::from(MOST_BLOCKS) {
+        return false;
+    }
+    are_blocks_of_log(&change.blocks)
 }

@@ -1,7 +1,7 @@
 // The node reads what a call asks for.
 ghost use Rattle.std.specs.Prelude.{ℕ, ◌≡◌, ◌≤◌, IfOk, IfErr};
 ghost use Rattle.fault_counts.specs.Causes.{WentUp};
-ghost use Rattle.file_calls.specs.Calls.{IsUnbuilt};
+ghost use Rattle.lone_answers.specs.Calls.{IsUnbuilt};
 ghost use Rattle.lone_answers.specs.Answers.{IsDoneBy, IsSpaceless};
 ghost use Rattle.lone_answers.specs.Faults.{IfDamaged, IfDone, IfFailed, IfFull, IfNotBuilt, IsDamagedFor, IsLackedBlock};
 ghost use Rattle.lone_answers.specs.Reading.{WorksOnNone};

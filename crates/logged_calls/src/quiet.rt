@@ -6,7 +6,7 @@ ghost use Rattle.logged_node.specs.Ends.{HasCause};
 ghost use Rattle.logged_calls.specs.Calls.{HasMoved, HasTaken, IsReady, most_headers};
 ghost use Rattle.logged_calls.specs.Ends.{StopsUntold};
 
-use crate::telling::{have_room, put_call};
+use crate::telling::{make_item, put_call};
 use drafts::{Change, Stamp};
 use file_tree::{Call, Name, Reply};
 use logged_node::{Node, Stop, bring_in};
@@ -42,29 +42,29 @@ fn wait_for_sync<D: SharedDisk>(disk: &mut D, node: &mut Node, sync: bool) -> Re
 pub(crate) fn answer_quietly<D: SharedDisk>(
     disk: &mut D,
     node: &mut Node,
-    client: Name,
-    call: Call,
-    reply: Reply,
+    client: &Name,
+    call: &Call,
+    reply: &Reply,
     _change: &Change,
     stamp: &Stamp,
 ) -> Result<(), Stop>
     requires ready { IsReady (D.state disk.old) node.old }
     requires number { node.old.numbers.answered + 1 < 2 ^ 64 }
     requires sequence { node.old.log.sequence + most_headers < 2 ^ 64 }
-    requires done { IsDoneBy node.old.view stamp.now.time call reply _change.now }
+    requires done { IsDoneBy node.old.view stamp.now.time call.now reply.now _change.now }
     requires nothing { is_nothing _change.now ≡ true }
-    ensures taken { OnOk result (HasTaken stamp.now.time client call (D.state disk.old) (D.list disk.old) node.old (D.state disk.new) (D.list disk.new) node.new) }
+    ensures taken { OnOk result (HasTaken stamp.now.time client.now call.now (D.state disk.old) (D.list disk.old) node.old (D.state disk.new) (D.list disk.new) node.new) }
     ensures stopped { IfErr result (StopsUntold (D.state disk.old) (D.list disk.old) node.old (D.state disk.new) (D.list disk.new) node.new.items.items) }
     ensures later { (i : ℕ) → D.faults disk.old i ≤ D.faults disk.new i }
     ensures cause { IfErr result (HasCause (D.state disk.old).count (D.faults disk.old) (D.faults disk.new)) }
 {
-    match wait_for_sync(disk, node, is_done_sync(&call, &reply)) {
+    match wait_for_sync(disk, node, is_done_sync(call, reply)) {
         Ok(()) => {}
         Err(why) => return Err(why),
     }
-    match have_room(node) {
-        Ok(()) => {
-            put_call(node, client, call, reply, false);
+    match make_item(node, client, call, reply) {
+        Ok(item) => {
+            put_call(node, item, false);
             Ok(())
         }
         Err(_) => Err(Stop::NoMemory),

@@ -1,6 +1,6 @@
 // A call is taken.
 ghost use Rattle.std.specs.Prelude.{ℕ, ◌≡◌, ◌+◌, ◌<◌, ◌≤◌, ◌^◌, ◌↔◌, true, OnOk, IfErr};
-ghost use Rattle.file_calls.specs.Calls.{IsUnbuilt};
+ghost use Rattle.lone_answers.specs.Calls.{IsUnbuilt};
 ghost use Rattle.image_changes.specs.Does.{is_nothing};
 ghost use Rattle.lone_answers.specs.Faults.{IfDone, IfFull, IsDamagedFor, IsLackedBlock};
 ghost use Rattle.lone_answers.specs.Answers.{IsDoneBy, IsSpaceless};
@@ -33,37 +33,37 @@ fn is_no_change(change: &Change) -> bool
 fn tell<D: SharedDisk>(
     disk: &mut D,
     node: &mut Node,
-    client: Name,
-    call: Call,
-    answered: Answered,
+    client: &Name,
+    call: &Call,
+    answered: &Answered,
     stamp: &Stamp,
 ) -> Result<(), CallEnd>
     requires ready { IsReady (D.state disk.old) node.old }
     requires number { node.old.numbers.answered + 1 < 2 ^ 64 }
     requires sequence { node.old.log.sequence + most_headers < 2 ^ 64 }
-    requires done { IfDone answered (IsDoneBy node.old.view stamp.now.time call) }
-    requires full { IfFull answered (IsSpaceless node.old.view call) }
-    ensures taken { OnOk result (HasTaken stamp.now.time client call (D.state disk.old) (D.list disk.old) node.old (D.state disk.new) (D.list disk.new) node.new) }
+    requires done { IfDone answered.now (IsDoneBy node.old.view stamp.now.time call.now) }
+    requires full { IfFull answered.now (IsSpaceless node.old.view call.now) }
+    ensures taken { OnOk result (HasTaken stamp.now.time client.now call.now (D.state disk.old) (D.list disk.old) node.old (D.state disk.new) (D.list disk.new) node.new) }
     ensures stopped { IfErr result (EndsBehind (D.state disk.old) (D.list disk.old) node.old (D.state disk.new) (D.list disk.new) node.new) }
     ensures answered { IfErr result HasItsAnswer }
-    ensures too_small { IfErr result (λ end. IfTooSmall end (IsTooSmallFor (point_of (D.state disk.new) (D.list disk.new) node.new) stamp.now.time call)) }
-    ensures unloggable { IfErr result (λ end. IfNotLoggable end (IsUnloggableFor (point_of (D.state disk.new) (D.list disk.new) node.new) stamp.now.time call)) }
+    ensures too_small { IfErr result (λ end. IfTooSmall end (IsTooSmallFor (point_of (D.state disk.new) (D.list disk.new) node.new) stamp.now.time call.now)) }
+    ensures unloggable { IfErr result (λ end. IfNotLoggable end (IsUnloggableFor (point_of (D.state disk.new) (D.list disk.new) node.new) stamp.now.time call.now)) }
     ensures later { (i : ℕ) → D.faults disk.old i ≤ D.faults disk.new i }
     ensures cause { IfErr result (HasCause (D.state disk.old).count (D.faults disk.old) (D.faults disk.new)) }
 {
     match answered {
         Answered::Done { reply, change } => {
-            if is_no_change(&change) {
-                match answer_quietly(disk, node, client, call, reply, &change, stamp) {
+            if is_no_change(change) {
+                match answer_quietly(disk, node, client, call, reply, change, stamp) {
                     Ok(()) => Ok(()),
                     Err(why) => Err(CallEnd::Stopped(why)),
                 }
             } else {
-                answer_with(disk, node, client, call, reply, &change, stamp)
+                answer_with(disk, node, client, call, reply, change, stamp)
             }
         }
         Answered::Full { need, free } => {
-            match answer_no_space(disk, node, client, call, need, free, stamp) {
+            match answer_no_space(disk, node, client, call, *need, *free, stamp) {
                 Ok(()) => Ok(()),
                 Err(why) => Err(CallEnd::Stopped(why)),
             }
@@ -73,7 +73,7 @@ fn tell<D: SharedDisk>(
 
 /// Takes a client's call: node 1 answers it from what it keeps and reads, brings what it changes into its log, and tells it with the next number; then it rests. Where the log
 /// has no room, and at a sync, or where too few blocks are free, what is due is flushed first, and blocks go home. It costs a try of the call for each block that is read and
-/// one more, a copy of each block that is written, and where a flush is made what `bring_in` and `make_room` of `logged_node` cost.
+/// one more, a copy of the call, of its reply and of each block that is written, and where a flush is made what `bring_in` and `make_room` of `logged_node` cost.
 pub fn take_call<D: SharedDisk>(
     alloc: Global,
     disk: &mut D,
@@ -98,10 +98,8 @@ pub fn take_call<D: SharedDisk>(
     ensures later { (i : ℕ) → D.faults disk.old i ≤ D.faults disk.new i }
     ensures cause { IfErr result (HasCause (D.state disk.old).count (D.faults disk.old) (D.faults disk.new)) }
 {
-    let its_client = client.copy()?;
-    let its_call = call.copy()?;
     match look(alloc, disk, node, call, stamp) {
-        Ok(answered) => tell(disk, node, its_client, its_call, answered, stamp),
+        Ok(answered) => tell(disk, node, client, call, &answered, stamp),
         Err(why) => Err(end_of(why)),
     }
 }

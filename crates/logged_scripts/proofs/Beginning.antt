@@ -1,19 +1,17 @@
 -- A run of lines begins.
-use Rattle.std.proofs.Common.{◌≡◌, ◌<◌, ◌≤◌, ◌+◌, ◌*◌, ℕ, List, [], ◌∷◌, ◌++◌, Option, Some, refl, sym, ap, ◌∙◌, subst, arith}
+use Rattle.std.proofs.Common.{◌≡◌, ◌<◌, ◌≤◌, ◌+◌, ◌*◌, ℕ, List, [], ◌∷◌, Option, refl, sym, ap, ◌∙◌, subst, arith}
 use Rattle.std.specs.List.{AllByRecursion, filter}
 use Rattle.cluster_history.specs.History.{calls_of}
-use Rattle.lone_scripts.specs.Runs.{IsNotPast, IsOfMember, Runs, is_call}
+use Rattle.lone_scripts.specs.Runs.{IsOfMember, Runs, is_call}
 use Rattle.lone_scripts.proofs.GoingOn.{lone_runs_begin, other_items_go_on}
 use Rattle.run_rules.specs.Follows.{history_of}
 use Rattle.script_lang.specs.Script.{ScriptValue}
-use Rattle.script_lang.specs.declared.script.Armed.{Armed}
-use Rattle.script_lang.specs.declared.script.Client.{Client}
 use Rattle.shared_disk.specs.Disk.{DiskState, Operation}
 use Rattle.trace_text.specs.declared.item.TraceItem.{TraceItem}
 use Rattle.trace_text.specs.declared.item.TraceItem.TheVariants as trace
 use Rattle.logged_runs.specs.Starts.{IsOfReplay}
 use Rattle.logged_runs.proofs.Starting.{no_calls}
-use Rattle.logged_steps.specs.Steps.{Here}
+use Rattle.logged_runs.specs.Steps.{Here}
 use Rattle.logged_node.specs.Nodes.{IsBeforeCrash, crash_at, point_of, writes_in}
 use Rattle.logged_node.specs.declared.node.CallNumbers.{CallNumbers}
 use Rattle.logged_node.specs.declared.node.Node.{Node}

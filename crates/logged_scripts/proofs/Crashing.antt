@@ -1,8 +1,9 @@
 -- The write at which the first crash is to come, and whether it is past.
-use Rattle.std.proofs.Common.{◌≡◌, ℕ, zero, suc, ◌<◌, ◌≤◌, ◌⊎◌, inl, inr, true, min, List, [], ◌∷◌, ◌++◌, Option, None, Some, refl, sym, ap, ◌∙◌, subst, arith}
-use Rattle.std.specs.Prelude.{IsTrue, slice_get}
+use Rattle.std.proofs.Common.{◌≡◌, ℕ, suc, ◌+◌, ◌-◌, ◌<◌, ◌≤◌, inl, inr, min, List, [], ◌∷◌, Option, None, Some, refl, sym, ap, ◌∙◌, subst, arith}
+use Rattle.std.specs.Prelude.{slice_get}
 use Rattle.std.specs.List.{AllByRecursion}
 use Rattle.std.proofs.lemmas.Bool.{cases_lt}
+use Rattle.lone_scripts.proofs.Lists.{all_at}
 use Rattle.lone_scripts.specs.Runs.{Crashes, EndsWithWrite, IsNotPast, at_write}
 use Rattle.script_lang.specs.Script.{ScriptValue}
 use Rattle.script_lang.specs.declared.script.Armed.{Armed}
@@ -70,7 +71,7 @@ pub none_past : (armed : List Armed) (items : List TraceItem) → IsBeforeCrash 
 none_past armed items before = all_to (IsNoLater (first_crash armed)) (IsNotPast items) (λ a is. not_yet items (first_crash armed) a before is) armed (first_least armed)
 
 ends_so : (items : List TraceItem) (crash : Option ℕ) → IsAtCrash crash items → EndsWithWrite items
-ends_so items crash at = (at.before, at.it, at.told, subst IsTrue (sym at.write) tt)
+ends_so items crash at = (at.before, at.it, at.told, at.write)
 
 there_or_not_yet : (items : List TraceItem) (first : Option ℕ) (a : Armed) → IsAtCrash first items → IsNoLater first a → IsNotPast items a
 there_or_not_yet items first a at is = elim (cases_lt (writes_in items) a.write) [
@@ -94,3 +95,10 @@ none_past_stopped armed items stop.NoMemory before = none_past armed items befor
 -- and there it crashes
 pub crashes_there : (s : ScriptValue) (count : ℕ) (items : List TraceItem) → IsAtCrash (first_crash s.armed) items → Crashes s count items
 crashes_there s count items at = let w = first_waits s.armed (writes_in items) at.is in at_write w.0 w.1 w.2 (sym w.3) (ends_so items (first_crash s.armed) at)
+
+-- where none of them was come to, the first wasn't
+pub before_all : (armed : List Armed) (made k : ℕ) → AllByRecursion (λ (a : Armed). made < a.write) armed → first_crash armed ≡ Some k → made < k
+before_all armed made k all is = let w = first_waits armed k is in subst (λ (x : ℕ). made < x) w.3 (all_at (λ (a : Armed). made < a.write) armed w.0 w.1 all w.2)
+
+pub all_made : (w write made : ℕ) → w ≡ made → made < write → w + (write - made) ≡ write
+all_made w write made same low = omega (arith, same, low)

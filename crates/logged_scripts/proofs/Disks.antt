@@ -1,11 +1,11 @@
 -- It stays the same disk.
-use Rattle.std.proofs.Common.{◌≡◌, ℕ, List, Option, refl}
-use Rattle.shared_disk.specs.Disk.{DiskState, Operation, after_barrier, after_write}
-use Rattle.logged_steps.specs.Ends.{EndsTo, Landed, Said, Unsaid, with_clean}
-use Rattle.logged_steps.specs.Fails.{AsItWas, FailsTo, InAWrite}
-use Rattle.logged_steps.specs.Points.{Point}
-use Rattle.logged_steps.specs.Steps as by
-use Rattle.logged_steps.specs.Steps.{Here, Step, Steps, Then}
+use Rattle.std.proofs.Common.{ℕ, List, refl}
+use Rattle.shared_disk.specs.Disk.{after_barrier, after_write}
+use Rattle.logged_runs.specs.StepEnds.{EndsTo, Landed, Said, Unsaid, with_clean}
+use Rattle.logged_runs.specs.Fails.{AsItWas, FailsTo, InAWrite}
+use Rattle.logged_runs.specs.Points.{Point}
+use Rattle.logged_runs.specs.Steps as by
+use Rattle.logged_runs.specs.Steps.{Here, Step, Steps, Then}
 use Rattle.logged_node.specs.Nodes.{IsSameDisk}
 use Rattle.logged_node.proofs.Disks.{same_barrier, same_disk, same_on, same_written}
 

@@ -1,19 +1,19 @@
 -- The node's own run, as it failed or ended.
-use Rattle.std.proofs.Common.{◌≡◌, ℕ, ◌⊎◌, inl, inr, true, false, true≢false, List, [], ◌∷◌, ◌++◌, Option, None, Some, refl, sym, ap, ◌∙◌, subst}
+use Rattle.std.proofs.Common.{◌≡◌, ℕ, inl, inr, false, true≢false, List, [], ◌++◌, Option, None, Some, sym, ap, ◌∙◌, subst}
 use Rattle.std.specs.Prelude.{slice_get}
 use Rattle.std.specs.List.{AllByRecursion}
 use Rattle.lone_scripts.specs.Runs.{Runs}
 use Rattle.script_lang.specs.Script.{ScriptValue}
 use Rattle.script_lang.specs.declared.script.Line.TheVariants as line
 use Rattle.shared_disk.specs.Disk.{Gains, Operation}
-use Rattle.logged_steps.specs.Ends.{EndsTo}
-use Rattle.logged_steps.specs.Fails.{FailsTo}
-use Rattle.logged_steps.specs.Points.{Point}
-use Rattle.logged_steps.specs.Steps.{Steps}
-use Rattle.logged_steps.proofs.Telling.{append_assoc}
+use Rattle.logged_runs.specs.StepEnds.{EndsTo}
+use Rattle.logged_runs.specs.Fails.{FailsTo}
+use Rattle.logged_runs.specs.Points.{Point}
+use Rattle.logged_runs.specs.Steps.{Steps}
+use Rattle.logged_runs.proofs.Telling.{append_assoc}
 use Rattle.whole_runs.specs.Wholes.{ends_with}
 use Rattle.logged_node.proofs.Disks.{same_on}
-use Rattle.logged_calls.proofs.Quiet.{failed_tells}
+use Rattle.logged_calls.proofs.Untold.{failed_tells}
 use Rattle.trace_text.specs.declared.item.TraceItem.{TraceItem}
 use Rattle.logged_scripts.specs.Runs.{GoesTo}
 use Rattle.logged_scripts.proofs.Disks.{same_ending, same_failing, same_steps}

@@ -1,22 +1,21 @@
 -- A node unmounts behind all lines, or stops there.
-use Rattle.std.proofs.Common.{◌≡◌, ◌≢◌, ◌<◌, ◌≤◌, ◌+◌, ℕ, inl, inr, true, false, List, [], ◌∷◌, ◌++◌, length, Option, None, Some, refl, sym, ap, ◌∙◌, subst}
+use Rattle.std.proofs.Common.{◌≡◌, ℕ, inl, inr, true, false, List, [], ◌∷◌, ◌++◌, length, Option, None, Some, refl, sym, ap, ◌∙◌, subst}
 use Rattle.std.specs.List.{AllByRecursion, filter}
 use Rattle.fault_counts.specs.declared.Rise.{Rise}
 use Rattle.lone_scripts.specs.Runs.{IsNotPast, IsOfMember, Runs, is_call}
 use Rattle.lone_scripts.proofs.GoingOn.{other_items_go_on}
 use Rattle.script_lang.specs.Script.{ScriptValue}
-use Rattle.script_lang.specs.declared.script.Line.TheVariants as line
 use Rattle.shared_disk.specs.Disk.{Barrier, DiskState, Operation, Write, after_barrier}
 use Rattle.trace_text.specs.declared.item.TraceItem.{TraceItem}
 use Rattle.trace_text.specs.declared.item.TraceItem.TheVariants as trace
-use Rattle.logged_steps.specs.Ends.{Landed, Said, Unsaid, clean_item, last_block, with_clean}
-use Rattle.logged_steps.specs.Fails.{AsItWas}
-use Rattle.logged_steps.specs.Points.{Point}
-use Rattle.logged_steps.specs.Steps.{Steps}
-use Rattle.logged_steps.proofs.Telling.{steps_go_on}
+use Rattle.logged_runs.specs.StepEnds.{Landed, Said, Unsaid, clean_item, last_block, with_clean}
+use Rattle.logged_runs.specs.Fails.{AsItWas}
+use Rattle.logged_runs.specs.Points.{Point}
+use Rattle.logged_runs.specs.Steps.{Steps}
+use Rattle.logged_runs.proofs.Telling.{steps_go_on}
 use Rattle.logged_node.specs.Ends.{FailedAt, IsOfDisk}
 use Rattle.logged_node.specs.Leaving as leaving
-use Rattle.logged_node.specs.Leaving.{FliesLastHeader, HasLastHeader, HasLeft, IsReady, StopsAtHeader, StopsLeaving, at_first, at_the_end, before_it, behind_it, bringing_in, going_home, in_it}
+use Rattle.logged_node.specs.Leaving.{HasLastHeader, IsReady, StopsAtHeader, StopsLeaving, at_first, at_the_end, before_it, behind_it, bringing_in, going_home, in_it}
 use Rattle.logged_node.specs.Nodes.{IsBeforeCrash, IsLeftAs, IsLeftBy, StopsBehind, StopsByCrash, crash_at, point_of}
 use Rattle.logged_node.specs.declared.ends.Stop.{Stop}
 use Rattle.logged_node.specs.declared.ends.Stop.TheVariants as stop
@@ -25,8 +24,7 @@ use Rattle.logged_node.proofs.Arming.{before_crash}
 use Rattle.logged_node.proofs.Blocks.{none_some}
 use Rattle.logged_node.proofs.Ended.{goes_behind}
 use Rattle.logged_node.proofs.Unmounting.{goes_leaving}
-use Rattle.logged_calls.proofs.Quiet.{failed_tells, quiet_steps}
-use Rattle.logged_scripts.specs.declared.halts.Halt.{Halt}
+use Rattle.logged_calls.proofs.Untold.{failed_tells, quiet_steps}
 use Rattle.logged_scripts.specs.declared.halts.Halt.TheVariants as halt
 use Rattle.logged_scripts.specs.Beginning.{IsUnderWay}
 use Rattle.logged_scripts.specs.Crashes.{first_crash}
@@ -34,7 +32,7 @@ use Rattle.logged_scripts.specs.Ends.{IsFailedBehind, behind_the_end, halt_of, i
 use Rattle.logged_scripts.specs.Runs.{HaltsAt, HasHalted, HasUnmounted, clean_still, with_header}
 use Rattle.logged_scripts.proofs.Crashing.{none_past, none_past_stopped}
 use Rattle.logged_scripts.proofs.Going.{RestsAtCrash, gains_both, goes_ending, goes_failing}
-use Rattle.logged_scripts.proofs.Lines.{crashed_by, halts_at}
+use Rattle.logged_scripts.proofs.Taking.{crashed_by, halts_at}
 use Rattle.logged_scripts.proofs.Lists.{none_behind}
 use Rattle.logged_scripts.proofs.Members.{runs_still}
 use Rattle.logged_scripts.proofs.Untouched.{IsFresh}
@@ -111,7 +109,7 @@ module _ (s : ScriptValue) (time : ℕ) (a : Point) (d : DiskState) (l : Option 
     disk = sym disk;
     listed = sym listed;
     told = sym told;
-    why = subst (λ (w : Stop). HaltsAt s time a (length s.lines) here here (halt_of w)) (sym is) tt;
+    why = subst (λ (w : Stop). HaltsAt s time a (length s.lines) here here (halt_of w)) (sym is) (tt, tt);
   }
 
   -- ---- behind all that is to be written

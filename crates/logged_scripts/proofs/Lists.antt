@@ -1,5 +1,5 @@
 -- What holds of all elements of a list, and of its front.
-use Rattle.std.proofs.Common.{◌≡◌, List, [], ◌∷◌, ◌++◌, length, Option, None, Some, refl, ap}
+use Rattle.std.proofs.Common.{◌≡◌, ◌<◌, ℕ, zero, suc, List, [], ◌∷◌, ◌++◌, length, get_or, None, Some, refl, sym, ap, arith}
 use Rattle.std.specs.List.{AllByRecursion}
 use Rattle.std.specs.Prelude.{slice_get}
 
@@ -18,3 +18,8 @@ all_last P (x ∷ xs) y all = all_last P xs y all.1
 pub none_behind : {A : Type 0} (xs : List A) → slice_get xs (length xs) ≡ None
 none_behind [] = refl
 none_behind (x ∷ xs) = none_behind xs
+
+pub slice_at : {A : Type 0} (xs : List A) (i : ℕ) (x : A) → i < length xs → x ≡ get_or xs i x → slice_get xs i ≡ Some x
+slice_at [] i x low is = absurd (omega (arith, low))
+slice_at {A} (y ∷ ys) zero x low is = ap (λ (z : A). Some z) (sym is)
+slice_at (y ∷ ys) (suc i) x low is = slice_at ys i x (omega (arith, low)) is

@@ -1,8 +1,7 @@
 -- Where no call changes anything, nothing is written.
-use Rattle.std.proofs.Common.{◌≡◌, ◌≢◌, ℕ, inl, inr, Bool, true, false, not, true≢false, List, [], ◌∷◌, ◌++◌, Option, None, Some, refl, sym, ap, ◌∙◌, subst}
+use Rattle.std.proofs.Common.{◌≡◌, ◌≢◌, ℕ, inl, inr, true, false, not, true≢false, List, [], ◌∷◌, Option, Some, refl, sym, ap, ◌∙◌, subst}
 use Rattle.std.specs.FinMap as table
 use Rattle.std.specs.List.{AllByRecursion}
-use Rattle.cluster_history.specs.Changes.{Changes}
 use Rattle.disk_items.proofs.Going.{goes_on}
 use Rattle.disk_items.specs.Deeds.{Wrote, deed_told}
 use Rattle.glock_names.specs.declared.LockName.{LockName}
@@ -18,11 +17,11 @@ use Rattle.lone_scripts.proofs.Lists.{all_both}
 use Rattle.shared_disk.specs.Disk.{DiskState}
 use Rattle.trace_text.specs.declared.item.TraceItem.{TraceItem}
 use Rattle.trace_text.specs.declared.item.TraceItem.TheVariants as trace
-use Rattle.logged_steps.specs.Fails.{AsItWas, FailsTo, InAWrite}
-use Rattle.logged_steps.specs.Points.{Point}
-use Rattle.logged_steps.specs.Steps as by
-use Rattle.logged_steps.specs.Steps.{Here, Step, Steps, Then, with_write}
-use Rattle.logged_steps.proofs.Telling.{steps_are_told}
+use Rattle.logged_runs.specs.Fails.{AsItWas, FailsTo, InAWrite}
+use Rattle.logged_runs.specs.Points.{Point}
+use Rattle.logged_runs.specs.Steps as by
+use Rattle.logged_runs.specs.Steps.{Here, Step, Steps, Then, with_write}
+use Rattle.logged_runs.proofs.Telling.{steps_are_told}
 use Rattle.logged_node.proofs.Blocks.{none_some}
 use Rattle.logged_scripts.specs.Runs.{is_change}
 use Rattle.logged_scripts.proofs.Lists.{all_front, all_last}

@@ -10,8 +10,8 @@ use Rattle.shared_disk.specs.Disk.{DiskState, Operation}
 use Rattle.trace_text.specs.declared.item.TraceItem.{TraceItem}
 use Rattle.trace_text.specs.declared.item.TraceItem.TheVariants as trace
 use Rattle.logged_runs.specs.Starts.{IsOfReplay}
-use Rattle.logged_steps.specs.Points.{Point}
-use Rattle.logged_steps.specs.Steps.{Steps}
+use Rattle.logged_runs.specs.Points.{Point}
+use Rattle.logged_runs.specs.Steps.{Steps}
 use Rattle.logged_node.specs.Beginning.{no_calls}
 use Rattle.logged_node.specs.Nodes.{IsResting, crash_at, point_of}
 use Rattle.logged_node.specs.declared.node.Node.{Node}

@@ -1,19 +1,22 @@
 -- Why a run ends before its script does, or isn't told to its end: the cause of each end, and its place.
-use Rattle.std.specs.Prelude.{ℕ, ◌≡◌, ◌⊎◌, ◌++◌, ◌<◌, ⊤, Contains, IfSome, List, [], ◌∷◌, slice_get, Option, None, Some}
+use Rattle.std.specs.Prelude.{ℕ, ◌≡◌, ◌++◌, ◌<◌, ⊤, Contains, IfSome, List, [], ◌∷◌, slice_get, Option, None, Some}
 use Rattle.fault_counts.specs.Causes.{WentUp}
-use Rattle.file_calls.specs.Calls.{IsUnbuilt}
+use Rattle.lone_answers.specs.Calls.{IsUnbuilt}
 use Rattle.file_tree.specs.declared.call.Call.{Call}
 use Rattle.lone_answers.specs.Faults.{IsDamagedFor, IsLackedBlock}
 use Rattle.lone_answers.specs.Reading.{WorksOnNone}
+use Rattle.lone_fences.specs.Fencing.{EndsAt}
 use Rattle.lone_fences.specs.declared.ends.FenceEnd.{FenceEnd}
 use Rattle.lone_fences.specs.declared.ends.FenceEnd.TheVariants as fence
 use Rattle.lone_scripts.specs.Runs.{Crashes}
 use Rattle.lone_view.specs.Seeing.{seen_alone}
 use Rattle.script_lang.specs.Script.{ScriptValue}
 use Rattle.script_lang.specs.declared.script.Line.TheVariants as line
-use Rattle.logged_steps.specs.Ends.{clean_item}
-use Rattle.logged_steps.specs.Points.{Point}
-use Rattle.logged_steps.specs.Steps.{Steps}
+use Rattle.shared_disk.specs.Disk.{DiskState, Operation}
+use Rattle.trace_text.specs.declared.item.TraceItem.{TraceItem}
+use Rattle.logged_runs.specs.StepEnds.{clean_item}
+use Rattle.logged_runs.specs.Points.{Point}
+use Rattle.logged_runs.specs.Steps.{Steps}
 use Rattle.logged_node.specs.Nodes.{IsLeftBy}
 use Rattle.logged_node.specs.declared.ends.Stop.{Stop}
 use Rattle.logged_node.specs.declared.ends.Stop.TheVariants as stop
@@ -33,6 +36,12 @@ end_of (fence.NotFenced rise) = end.NotFenced rise
 end_of (fence.ReadFailed block rise) = end.HeadUnread block rise
 end_of fence.NoMemory = end.NoMemory
 
+-- it ended for this in a fence, or behind it
+pub record EndsFenced (d : DiskState) (list : Option (List Operation)) (items : List TraceItem) (d' : DiskState) (list' : Option (List Operation)) (items' : List TraceItem) (e : RunEnd) : Type 0 where
+  pub why : FenceEnd
+  pub is : e ≡ end_of why
+  pub ends : EndsAt d list items d' list' items' why
+
 -- where a node stops
 abbrev pub halt_of : Stop → Halt
 halt_of stop.Crashed = halt.AtWrite
@@ -48,12 +57,11 @@ halt_at line call_end.NotBuilt = halt.Ended (end.NotBuilt line)
 halt_at line call_end.LogTooSmall = halt.Ended (end.LogTooSmall line)
 halt_at line call_end.NotLoggable = halt.Ended (end.NotLoggable line)
 
--- a fact for each end of the node's own run
-abbrev pub UnlessBehind : RunEnd → Type 0 → Type 0
-UnlessBehind (end.NotFenced rise) P = ⊤
-UnlessBehind (end.HeadUnread block rise) P = ⊤
-UnlessBehind end.NoMemory P = ⊤
-UnlessBehind e P = P
+-- of the node's own run, and not behind its crash
+abbrev pub IsOwnEnd : RunEnd → Type 0
+IsOwnEnd (end.NotFenced rise) = ⊥
+IsOwnEnd (end.HeadUnread block rise) = ⊥
+IsOwnEnd e = ⊤
 
 -- ---- causes
 

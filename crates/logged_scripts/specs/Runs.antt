@@ -1,5 +1,5 @@
 -- What came of a script that one node carried out with its log.
-use Rattle.std.specs.Prelude.{ℕ, ◌≡◌, ◌⊎◌, ◌++◌, true, false, Bool, List, [], ◌∷◌, length, slice_get, Option, Some, Result, Ok, Err}
+use Rattle.std.specs.Prelude.{ℕ, ◌≡◌, ◌⊎◌, ◌++◌, ⊤, true, false, Bool, List, [], ◌∷◌, length, slice_get, Option, Some, Result, Ok, Err}
 use Rattle.std.specs.List.{AllByRecursion}
 use Rattle.cluster_history.specs.Changes.{Changes}
 use Rattle.lone_fences.specs.Fencing.{HasFenced, IsFenced, with_crash, with_fence}
@@ -9,16 +9,16 @@ use Rattle.script_lang.specs.declared.script.Line.TheVariants as line
 use Rattle.shared_disk.specs.Disk.{DiskState, Gains, Operation, after_barrier}
 use Rattle.trace_text.specs.declared.item.TraceItem.{TraceItem}
 use Rattle.trace_text.specs.declared.item.TraceItem.TheVariants as trace
-use Rattle.logged_steps.specs.Ends.{EndsTo, FliesClean, clean_item, with_clean}
-use Rattle.logged_steps.specs.Fails.{FailsTo}
-use Rattle.logged_steps.specs.NodeEnds.{IsDone}
-use Rattle.logged_steps.specs.Points.{Point, state_of}
-use Rattle.logged_steps.specs.Steps.{Steps}
+use Rattle.logged_runs.specs.StepEnds.{EndsTo, FliesClean, clean_item, with_clean}
+use Rattle.logged_runs.specs.Fails.{FailsTo}
+use Rattle.lone_ends.specs.Ends.{IsDone}
+use Rattle.logged_runs.specs.Points.{Point, state_of}
+use Rattle.logged_runs.specs.Steps.{Steps}
 use Rattle.whole_runs.specs.Wholes.{ends_with}
-use Rattle.logged_node.specs.Nodes.{IsSameDisk, point_of}
-use Rattle.logged_node.specs.declared.node.Node.{Node}
-use Rattle.logged_scripts.specs.Ends.{IsEndAt, UnlessBehind}
+use Rattle.logged_node.specs.Nodes.{IsSameDisk}
+use Rattle.logged_scripts.specs.Ends.{IsEndAt, IsOwnEnd}
 use Rattle.logged_scripts.specs.declared.ends.RunEnd.{RunEnd}
+use Rattle.logged_scripts.specs.declared.ends.RunEnd.TheVariants as end
 use Rattle.logged_scripts.specs.declared.halts.Halt.{Halt}
 use Rattle.logged_scripts.specs.declared.halts.Halt.TheVariants as halt
 
@@ -56,7 +56,7 @@ abbrev pub HaltsAt : (s : ScriptValue) (time : ℕ) (a : Point) (count : ℕ) (l
 HaltsAt s time a count last left halt.Unmounted = (count ≡ length s.lines) × HasUnmounted last left
 HaltsAt s time a count last left halt.AtLine = Crashes s count left.items
 HaltsAt s time a count last left halt.AtWrite = Crashes s count left.items
-HaltsAt s time a count last left (halt.Ended e) = IsEndAt s time a count last left e
+HaltsAt s time a count last left (halt.Ended e) = IsOwnEnd e × IsEndAt s time a count last left e
 
 -- so it left this disk, with this list, and these items
 pub record HasHalted (s : ScriptValue) (time : ℕ) (a : Point) (d : DiskState) (list : Option (List Operation)) (items : List TraceItem) (h : Halt) : Type 0 where
@@ -83,9 +83,16 @@ pub data IsThrough (s : ScriptValue) (a : Point) (count : ℕ) (last left : Poin
   unmounted : count ≡ length s.lines → HasUnmounted last left → d ≡ left.disk → list ≡ left.list → items ≡ left.items → IsThrough s a count last left d list items
   crashed : Crashes s count left.items → HasFenced left.disk left.list left.items a.log.journal.places a.log.sequence d list items → IsThrough s a count last left d list items
 
+-- the items at each end: those that the node left, or with its crash, or its fence
+abbrev pub TellsUntil : RunEnd → (items items' : List TraceItem) → Type 0
+TellsUntil (end.NotFenced rise) items items' = items' ≡ with_crash items
+TellsUntil (end.HeadUnread block rise) items items' = items' ≡ with_fence items
+TellsUntil end.NoMemory items items' = ⊤
+TellsUntil e items items' = items' ≡ items
+
 abbrev pub ComesOut : (s : ScriptValue) (time : ℕ) (a : Point) (count : ℕ) (last left : Point) (d : DiskState) (list : Option (List Operation)) (items : List TraceItem) → Result (Unit {0}) RunEnd → Type 0
 ComesOut s time a count last left d list items (Ok _) = IsThrough s a count last left d list items
-ComesOut s time a count last left d list items (Err e) = IsEndAt s time a count last left e × UnlessBehind e (items ≡ left.items)
+ComesOut s time a count last left d list items (Err e) = IsEndAt s time a count last left e × TellsUntil e left.items items
 
 -- ---- all of it
 

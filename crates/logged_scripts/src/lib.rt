@@ -3,7 +3,7 @@
 
 mod crashes;
 mod ends;
-mod fencing;
+mod fences;
 mod halts;
 mod joining;
 mod lines;

@@ -10,12 +10,11 @@ ghost use Rattle.logged_scripts.specs.Runs.{HasRun};
 
 use crate::crashes::settle_first;
 use crate::ends::RunEnd;
-use crate::fencing::end_of_fence;
+use crate::fences::fence;
 use crate::halts::Halt;
 use crate::lines::run_lines;
 use drafts::Stamp;
 use logged_node::Node;
-use lone_fences::fence_crashed;
 use script_lang::Script;
 use shared_disk::{Settle, SharedDisk};
 use std::alloc::Global;
@@ -45,14 +44,13 @@ pub fn run_script<D: SharedDisk>(
 {
     let stamp = Stamp { node: 1, time };
     let first = node.log.sequence();
-    let order = match run_lines(alloc, disk, node, script, &stamp) {
-        Halt::Unmounted => return Ok(()),
-        Halt::Ended(end) => return Err(end),
-        Halt::AtLine => Settle::Old,
-        Halt::AtWrite => settle_first(&script.armed),
-    };
-    match fence_crashed(alloc, disk, order, journal, first, &mut node.items) {
-        Ok(()) => Ok(()),
-        Err(end) => Err(end_of_fence(end)),
+    match run_lines(alloc, disk, node, script, &stamp) {
+        Halt::Unmounted => Ok(()),
+        Halt::AtLine => fence(alloc, disk, node, Settle::Old, journal, first),
+        Halt::AtWrite => {
+            let order = settle_first(&script.armed);
+            fence(alloc, disk, node, order, journal, first)
+        }
+        Halt::Ended(end) => Err(end),
     }
 }

@@ -10,7 +10,6 @@ pub mod Taking
 -- Passed on to the crates above.
 pub use Rattle.name_drafts.proofs.Led
 pub use Rattle.name_drafts.proofs.SeenPaths
-pub use Rattle.name_drafts.proofs.Pointing
 pub use Rattle.name_drafts.proofs.Images
 pub use Rattle.room_search.proofs.Lists as FoundLists
 pub use Rattle.name_drafts.proofs.Leads

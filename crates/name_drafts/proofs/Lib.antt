@@ -13,7 +13,6 @@ pub mod SeenPaths
 -- Passed on to the crates above.
 pub use Rattle.name_inserts.proofs.DirectoryForms as Forms
 pub use Rattle.name_inserts.proofs.Led
-pub use Rattle.name_inserts.proofs.Pointing
 pub use Rattle.path_walks.proofs.Faults as WalkFaults
 pub use Rattle.path_walks.proofs.Images
 pub use Rattle.path_walks.proofs.Lying

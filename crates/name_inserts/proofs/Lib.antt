@@ -8,4 +8,3 @@ pub mod OnWay
 pub mod Led
 -- Passed on to the crates above.
 pub use Rattle.directories.proofs.Forms as DirectoryForms
-pub use Rattle.hash_inserts.proofs.Pointing

@@ -13,7 +13,7 @@ invariant-loop-place g l = record {
       (take l.place l.journals) (take l.place l.plans) l.initial.items.items l.items.items;
   same : IsSameDisk (g.D.SharedDisk.state l.initial.disk) (g.D.SharedDisk.state l.disk);
   idle : IsIdle (g.D.SharedDisk.state l.disk);
-  crash : crash_of l.node l.left l.items.items ≡ crash_of l.node l.armed l.initial.items.items;
+  crash : crash_of l.node l.left l.items.items ≡ crash_of l.node l.fn.armed l.initial.items.items;
   awaits : Awaits l.left;
   later : (i : ℕ) → g.D.SharedDisk.faults l.initial.disk i ≤ g.D.SharedDisk.faults l.disk i;
 }

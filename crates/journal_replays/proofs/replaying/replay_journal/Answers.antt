@@ -3,12 +3,14 @@ use Rattle.std.specs.Prelude.{IfNone, IfSome}
 use Rattle.drafts.specs.declared.change.Written.{Written}
 use Rattle.log_layout.specs.declared.log_header.LogHeader.{LogHeader}
 use Rattle.trace_text.specs.declared.item.TraceItem.{TraceItem}
+use Rattle.trace_text.specs.declared.item.TraceItem.TheVariants as trace
 use Rattle.disk_turns.specs.Turns.{moment}
 use Rattle.journal_replays.specs.Bringing.{HasBrought, HasCrashedBringing, HasStoppedBringing}
-use Rattle.journal_replays.specs.Crashes.{HasCrashed}
+use Rattle.journal_replays.specs.Crashes.{HasCrashed, crash_of}
 use Rattle.journal_replays.specs.Faults.{IfCrashed, IfDiskFailed}
 use Rattle.journal_replays.specs.Headers.{clean_block}
 use Rattle.journal_replays.specs.Replays.{HasFailed}
+use Rattle.journal_replays.proofs.Crashing.{crash_stays, no_write}
 use Rattle.journal_replays.proofs.Replayed.{crashed_header, crashed_home, failed_header, failed_home, if_crashed, if_failed, of_disk_one, replayed}
 use Rattle.journal_replays.proofs.replaying.replay_journal.Goals as goal
 
@@ -103,3 +105,10 @@ returns-clause-replayed g c =
     in
     let head = subst (λ (w : Written). HasBrought c.args.node between after (w ∷ []) one two) last_is c.in-Ok-bring.ensures.brought in
     replayed c.args.node c.args.slot c.args.dinode c.args.blocks.now c.args.time before between after c.args.plan.now c.in-Some.header c.in-Some.is items one two c.put_in_room.new.items.items home head c.put_in_room.ensures.put
+
+pub returns-clause-left : goal.returns-clause-left
+returns-clause-left g c =
+    let node = c.args.node in
+    let left = c.in-Ok-bring.left in
+    ap (crash_of node left) c.put_in_room.ensures.put ∙ crash_stays node left c.bring-2.new.items.items (trace.Recovered c.args.slot node ∷ []) (no_write node c.args.slot)
+    ∙ c.in-Ok-bring.ensures.left ∙ c.in-Ok.ensures.left ∙ ap (crash_of node c.args.armed) c.make_room.ensures.items

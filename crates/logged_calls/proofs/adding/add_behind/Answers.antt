@@ -1,4 +1,3 @@
-use Rattle.std.proofs.Common.{true, false, Ok, Err, ap}
 use Rattle.logged_calls.proofs.Added.{added_behind, no_place_behind, ok_is}
 use Rattle.logged_calls.proofs.adding.add_behind.Goals as goal
 

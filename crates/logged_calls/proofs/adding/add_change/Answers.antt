@@ -3,7 +3,7 @@ use Rattle.logged_node.proofs.Onward.{stops_few}
 use Rattle.logged_node.specs.declared.node.Node.{Node}
 use Rattle.logged_node.specs.Nodes.{StopsBehind}
 use Rattle.logged_node.proofs.Ended.{cause_of_all}
-use Rattle.logged_calls.proofs.Added.{added_by, added_then, brought_to, low_still, map_stop, may_go_on, no_place_then, none_is_due, stops_then}
+use Rattle.logged_calls.proofs.Added.{added_by, added_then, brought_to, low_still, map_end, may_go_on, no_place_then, none_is_due, stops_then}
 use Rattle.logged_calls.proofs.Moved.{moved_few, still_here}
 use Rattle.logged_calls.proofs.adding.add_change.Goals as goal
 
@@ -40,7 +40,7 @@ returns-clause-not g c is =
 
 pub returns-clause-stopped : goal.returns-clause-stopped
 returns-clause-stopped g c =
-    map_stop c.add_behind.result _ _ (λ why stops. stops_then (g.D.SharedDisk.state c.args.disk.now) (g.D.SharedDisk.state c.bring_in.new.disk) (g.D.SharedDisk.list c.args.disk.now) (g.D.SharedDisk.list c.bring_in.new.disk) c.args.node.now c.take_change.new.node c.bring_in.new.node c.take_change-2.new.node c.requires.ready (c.take_change.ensures.kept c.if-take_change.false) c.in-Ok.ensures.brought c.in-Ok.ensures.synced (c.take_change-2.ensures.kept c.if-take_change-2.false) (g.D.SharedDisk.state c.add_behind.new.disk) (g.D.SharedDisk.list c.add_behind.new.disk) c.add_behind.new.node.items.items why stops) c.add_behind.ensures.stopped
+    map_end c.add_behind.result _ _ (λ why stops. stops_then (g.D.SharedDisk.state c.args.disk.now) (g.D.SharedDisk.state c.bring_in.new.disk) (g.D.SharedDisk.list c.args.disk.now) (g.D.SharedDisk.list c.bring_in.new.disk) c.args.node.now c.take_change.new.node c.bring_in.new.node c.take_change-2.new.node c.requires.ready (c.take_change.ensures.kept c.if-take_change.false) c.in-Ok.ensures.brought c.in-Ok.ensures.synced (c.take_change-2.ensures.kept c.if-take_change-2.false) (g.D.SharedDisk.state c.add_behind.new.disk) (g.D.SharedDisk.list c.add_behind.new.disk) c.add_behind.new.node.items.items why stops) c.add_behind.ensures.stopped
 
 pub returns-clause-later : goal.returns-clause-later
 returns-clause-later g c i =
@@ -48,4 +48,4 @@ returns-clause-later g c i =
 
 pub returns-clause-cause : goal.returns-clause-cause
 returns-clause-cause g c =
-    map_stop c.add_behind.result _ _ (λ why cause. cause_of_all _ _ (g.D.SharedDisk.faults c.args.disk.now) (g.D.SharedDisk.faults c.bring_in.new.disk) (g.D.SharedDisk.faults c.add_behind.new.disk) why c.in-Ok.ensures.brought.goes.disk.count (c.in-Ok.ensures.later 1) cause) c.add_behind.ensures.cause
+    map_end c.add_behind.result _ _ (λ why cause. cause_of_all _ _ (g.D.SharedDisk.faults c.args.disk.now) (g.D.SharedDisk.faults c.bring_in.new.disk) (g.D.SharedDisk.faults c.add_behind.new.disk) why c.in-Ok.ensures.brought.goes.disk.count (c.in-Ok.ensures.later 1) cause) c.add_behind.ensures.cause

@@ -1,14 +1,13 @@
 -- Steps that count no call tell none.
-use Rattle.std.proofs.Common.{◌≡◌, ◌≤◌, ◌+◌, ℕ, suc, true, false, Bool, if◌then◌else◌, List, [], ◌∷◌, ◌++◌, Option, refl, sym, ap, subst, ◌∙◌, arith}
+use Rattle.std.proofs.Common.{◌≡◌, ◌≤◌, ℕ, suc, true, false, Bool, if◌then◌else◌, List, [], ◌∷◌, ◌++◌, refl, sym, ap, ◌∙◌, arith}
 use Rattle.std.specs.List.{filter}
-use Rattle.shared_disk.specs.Disk.{Operation}
 use Rattle.trace_text.specs.declared.item.TraceItem.{TraceItem}
 use Rattle.trace_text.specs.declared.item.TraceItem.TheVariants as trace
 use Rattle.lone_scripts.specs.Runs.{is_call}
-use Rattle.logged_steps.specs.Fails.{AsItWas, FailsTo, InAWrite}
-use Rattle.logged_steps.specs.Points.{Point}
-use Rattle.logged_steps.specs.Steps as by
-use Rattle.logged_steps.specs.Steps.{Here, Step, Steps, Then}
+use Rattle.logged_answers.specs.Fails.{AsItWas, FailsTo, InAWrite}
+use Rattle.logged_answers.specs.Points.{Point}
+use Rattle.logged_answers.specs.Steps as by
+use Rattle.logged_answers.specs.Steps.{Here, Step, Steps, Then}
 use Rattle.logged_calls.specs.Calls.{TellsNoCall}
 
 -- ---- items

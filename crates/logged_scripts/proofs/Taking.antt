@@ -1,36 +1,36 @@
 -- A line is taken, or the node halts at it.
-use Rattle.std.proofs.Common.{◌≡◌, ◌<◌, ◌≤◌, ◌+◌, ◌*◌, ◌^◌, ℕ, suc, inl, inr, List, [], ◌∷◌, ◌++◌, length, Option, None, Some, refl, sym, ap, ◌∙◌, subst, arith}
+use Rattle.std.proofs.Common.{◌≡◌, ◌<◌, ◌≤◌, ◌+◌, ◌*◌, ℕ, suc, List, length, get_or, Option, Some, refl, sym, ap, ◌∙◌, subst, arith}
 use Rattle.std.specs.Prelude.{slice_get}
 use Rattle.std.specs.List.{AllByRecursion}
-use Rattle.cluster_history.specs.History.{calls_of}
 use Rattle.fault_counts.specs.declared.Rise.{Rise}
-use Rattle.file_calls.specs.Calls.{IsUnbuilt}
+use Rattle.lone_answers.specs.Calls.{IsUnbuilt}
 use Rattle.file_tree.specs.declared.call.Call.{Call}
 use Rattle.lone_answers.specs.Faults.{IsDamagedFor, IsLackedBlock}
 use Rattle.lone_answers.specs.Reading.{WorksOnNone}
 use Rattle.lone_scripts.specs.Runs.{Crashes, IsNotPast, Runs, at_line, name_at}
-use Rattle.lone_scripts.specs.Scripts.{IsForOne}
+use Rattle.lone_scripts.specs.Scripts.{IsForOne, IsLoneLine}
 use Rattle.lone_scripts.proofs.GoingOn.{waits_go_on}
-use Rattle.lone_view.specs.Seeing.{Lone, seen_alone}
-use Rattle.run_rules.specs.Follows.{history_of}
+use Rattle.lone_scripts.proofs.Lists.{all_at}
+use Rattle.lone_view.specs.Seeing.{seen_alone}
 use Rattle.script_lang.specs.Script.{ScriptValue}
+use Rattle.script_lang.specs.declared.script.Client.{Client}
 use Rattle.script_lang.specs.declared.script.Line.{Line}
 use Rattle.script_lang.specs.declared.script.Line.TheVariants as line
 use Rattle.shared_disk.specs.Disk.{DiskState, Operation}
 use Rattle.trace_text.specs.declared.item.TraceItem.{TraceItem}
-use Rattle.logged_steps.specs.Fails.{AsItWas}
-use Rattle.logged_steps.specs.Points.{Point}
-use Rattle.logged_steps.specs.Steps.{Steps}
-use Rattle.logged_steps.proofs.Telling.{steps_go_on}
-use Rattle.logged_node.specs.Nodes.{IsBeforeCrash, IsLeftAs, StopsByCrash, crash_at, point_of}
+use Rattle.logged_runs.specs.Fails.{AsItWas}
+use Rattle.logged_runs.specs.Points.{Point}
+use Rattle.logged_runs.specs.Steps.{Steps}
+use Rattle.logged_runs.proofs.Telling.{steps_go_on}
+use Rattle.logged_node.specs.Nodes.{IsBeforeCrash, IsLeftAs, StopsByCrash, point_of}
 use Rattle.logged_node.specs.declared.ends.Stop.{Stop}
 use Rattle.logged_node.specs.declared.ends.Stop.TheVariants as stop
 use Rattle.logged_node.specs.declared.node.Node.{Node}
-use Rattle.logged_calls.specs.Calls.{HasTaken, TellsNoCall, most_headers}
+use Rattle.logged_calls.specs.Calls.{HasTaken, TellsNoCall}
 use Rattle.logged_calls.specs.Ends.{EndsBehind, EndsUntold, IfDamaged, IfNotBuilt, IfNotLoggable, IfReadFailed, IfTooSmall, IsTooSmallFor, IsUnloggableFor, StopsUntold}
 use Rattle.logged_calls.specs.declared.ends.CallEnd.{CallEnd}
 use Rattle.logged_calls.specs.declared.ends.CallEnd.TheVariants as call_end
-use Rattle.logged_calls.proofs.Quiet.{failed_tells}
+use Rattle.logged_calls.proofs.Untold.{failed_tells}
 use Rattle.logged_scripts.specs.declared.ends.RunEnd.TheVariants as run
 use Rattle.logged_scripts.specs.declared.halts.Halt.{Halt}
 use Rattle.logged_scripts.specs.declared.halts.Halt.TheVariants as halt
@@ -41,7 +41,8 @@ use Rattle.logged_scripts.specs.Runs.{GoesTo, HaltsAt, HasHalted}
 use Rattle.logged_scripts.proofs.Beginning.{before_first}
 use Rattle.logged_scripts.proofs.Crashing.{crashes_there, none_past, none_past_stopped}
 use Rattle.logged_scripts.proofs.Going.{RestsAtCrash, goes_failing}
-use Rattle.logged_scripts.proofs.Members.{IsLast, call_last, numbered_on, runs_on, runs_still}
+use Rattle.logged_scripts.proofs.Lists.{slice_at}
+use Rattle.logged_scripts.proofs.Members.{IsLast, call_last, name_is, numbered_on, runs_on, runs_still}
 use Rattle.logged_scripts.proofs.Untouched.{IsFresh}
 
 -- ---- it goes on
@@ -119,8 +120,8 @@ crash_line_halts s time a count d list n fresh so nodes next = record {
 pub halts_at : (s : ScriptValue) (time : ℕ) (a : Point) (count : ℕ) (last left : Point) (why : Stop) → (why ≡ stop.Crashed → Crashes s count left.items)
     → ((block : Option ℕ) (rise : Rise) → why ≡ stop.DiskFailed block rise → IsFailedBehind last left block) → HaltsAt s time a count last left (halt_of why)
 halts_at s time a count last left stop.Crashed crashed failed = crashed refl
-halts_at s time a count last left (stop.DiskFailed block rise) crashed failed = failed block rise refl
-halts_at s time a count last left stop.NoMemory crashed failed = tt
+halts_at s time a count last left (stop.DiskFailed block rise) crashed failed = (tt, failed block rise refl)
+halts_at s time a count last left stop.NoMemory crashed failed = (tt, tt)
 
 -- at its write, if it crashed
 pub crashed_by : (s : ScriptValue) (count : ℕ) (items items' : List TraceItem) (why : Stop) → StopsByCrash (first_crash s.armed) items why → items' ≡ items → why ≡ stop.Crashed → Crashes s count items'
@@ -188,13 +189,23 @@ module _ (s : ScriptValue) (time : ℕ) (a : Point) (count : ℕ) (d e : DiskSta
       → IfNotLoggable end (IsUnloggableFor (point_of e k m) time call) → HasHalted s time a e k m.items.items (halt_at count end)
   call_halts (call_end.Stopped why) ends failed damaged sound unbuilt built small unloggable = stopped why ends
   call_halts (call_end.ReadFailed block rise) ends failed damaged sound unbuilt built small unloggable =
-      halts ends (halt.Ended (run.ReadFailed block rise)) (refl, at ends (λ (c : Call). IsLackedBlock m.view e.count c block) (subst (λ (blocks : ℕ). IsLackedBlock m.view blocks call block) (same_count ends) failed))
+      halts ends (halt.Ended (run.ReadFailed block rise)) (tt, (refl, at ends (λ (c : Call). IsLackedBlock m.view e.count c block) (subst (λ (blocks : ℕ). IsLackedBlock m.view blocks call block) (same_count ends) failed)))
   call_halts (call_end.Damaged block rule) ends failed damaged sound unbuilt built small unloggable =
       halts ends (halt.Ended (run.Damaged block rule))
-      (refl, at ends (λ (c : Call). IsDamagedFor (seen_alone m.view) e.count c block rule) (subst (λ (blocks : ℕ). IsDamagedFor (seen_alone m.view) blocks call block rule) (same_count ends) damaged), on_none ends sound)
+      (tt, (refl, at ends (λ (c : Call). IsDamagedFor (seen_alone m.view) e.count c block rule) (subst (λ (blocks : ℕ). IsDamagedFor (seen_alone m.view) blocks call block rule) (same_count ends) damaged), on_none ends sound))
   call_halts call_end.NotBuilt ends failed damaged sound unbuilt built small unloggable =
-      halts ends (halt.Ended (run.NotBuilt count)) (refl, refl, at ends (λ (c : Call). IsUnbuilt (seen_alone m.view) c 1) unbuilt, on_none ends built)
+      halts ends (halt.Ended (run.NotBuilt count)) (tt, (refl, refl, at ends (λ (c : Call). IsUnbuilt (seen_alone m.view) c 1) unbuilt, on_none ends built))
   call_halts call_end.LogTooSmall ends failed damaged sound unbuilt built small unloggable =
-      halts ends (halt.Ended (run.LogTooSmall count)) (refl, refl, at ends (IsTooSmallFor (point_of e k m) time) small)
+      halts ends (halt.Ended (run.LogTooSmall count)) (tt, (refl, refl, at ends (IsTooSmallFor (point_of e k m) time) small))
   call_halts call_end.NotLoggable ends failed damaged sound unbuilt built small unloggable =
-      halts ends (halt.Ended (run.NotLoggable count)) (refl, refl, at ends (IsUnloggableFor (point_of e k m) time) unloggable)
+      halts ends (halt.Ended (run.NotLoggable count)) (tt, (refl, refl, at ends (IsUnloggableFor (point_of e k m) time) unloggable))
+
+-- ---- the line at a place
+
+pub next_line : (ls xs : List Line) (i : ℕ) (x y : Line) → xs ≡ ls → i < length xs → x ≡ get_or xs i x → x ≡ y → slice_get ls i ≡ Some y
+next_line ls xs i x y same low is here = ap (λ (zs : List Line). slice_get zs i) (sym same) ∙ slice_at xs i x low is ∙ ap (λ (z : Line). Some z) here
+
+-- and the name of its client
+pub client_named : (s : ScriptValue) (cs : List Client) (client count : ℕ) (call : Call) (c : Client) → IsForOne s → slice_get s.lines count ≡ Some (line.Call client call) → cs ≡ s.clients → c ≡ get_or cs client c → c.name ≡ name_at s.clients client
+client_named s cs client count call c form next same is =
+    ap (λ (x : Client). x.name) is ∙ ap (λ (xs : List Client). (get_or xs client c).name) same ∙ name_is s.clients client c (all_at (IsLoneLine (length s.clients)) s.lines count (line.Call client call) form.lines next)

@@ -8,28 +8,29 @@ use Rattle.lone_view.specs.Seeing.{Lone}
 use Rattle.shared_disk.specs.Disk.{DiskState, Operation}
 use Rattle.trace_text.specs.declared.item.TraceItem.{TraceItem}
 use Rattle.trace_text.specs.declared.item.TraceItem.TheVariants as trace
-use Rattle.logged_steps.specs.Points.{ItsNoSpace, Point, call_item, telling}
-use Rattle.logged_steps.specs.Points as points
-use Rattle.logged_steps.specs.Steps.{HasNoSpace, Step, Steps, TellsFull, Then, with_quiet_answer}
+use Rattle.logged_answers.specs.Points.{ItsNoSpace, Point, call_item, telling}
+use Rattle.logged_answers.specs.Points as points
+use Rattle.logged_answers.specs.Steps.{HasNoSpace, Step, TellsFull, Then, with_quiet_answer}
 use Rattle.logged_node.specs.declared.node.Node.{Node}
 use Rattle.logged_node.specs.Nodes.{IsBeforeCrash, IsResting, crash_at, crash_of, numbers_of, point_of}
 use Rattle.logged_node.proofs.Arming.{before_crash, crash_stays}
 use Rattle.logged_calls.specs.Calls.{HasMoved, HasTaken, most_headers, no_space}
 use Rattle.logged_calls.specs.Telling.{with_call}
-use Rattle.logged_calls.proofs.Quiet.{behind_both, quiet_steps}
+use Rattle.logged_calls.proofs.Untold.{behind_both, quiet_steps}
 use Rattle.logged_calls.proofs.Told.{counted_quietly, rests_told}
 
 module _ (time : ℕ) (name : List ℕ) (call : Call) (need free : ℕ) (d e : DiskState) (l k : Option (List Operation)) (n m r f n' : Node) (moved : HasMoved most_headers d l n e k m) (synced : m.numbers.changed ≤ m.numbers.low)
     (less : IsSpaceless n.view call need free) (r_is : r ≡ record m { items = r.items }) (same : r.items.items ≡ m.items.items) (f_is : f ≡ record r { items = f.items }) (first : f.items.items ≡ r.items.items ++ trace.Full 1 need free ∷ [])
-    (n'_is : n' ≡ record f { items = n'.items; numbers = with_call f.numbers false }) (told : n'.items.items ≡ f.items.items ++ trace.Call 1 name (f.numbers.answered + 1) call replies.NoSpace ∷ []) where
+    (n'_is : n' ≡ record f { items = n'.items; numbers = with_call f.numbers false })
+    (its : TraceItem) (its_is : its ≡ trace.Call 1 name (m.numbers.answered + 1) call replies.NoSpace) (told : n'.items.items ≡ f.items.items ++ its ∷ []) where
   f_was : f ≡ record m { items = f.items }
   f_was = f_is ∙ ap (λ (x : Node). record x { items = f.items }) r_is
 
   is : n' ≡ record m { items = n'.items; numbers = with_call m.numbers false }
   is = n'_is ∙ ap (λ (x : Node). record x { items = n'.items; numbers = with_call x.numbers false }) f_was
 
-  sum : f.numbers.answered + 1 ≡ suc m.numbers.answered
-  sum = let a : f.numbers.answered ≡ m.numbers.answered = ap (λ (x : Node). x.numbers.answered) f_was in omega (arith, a)
+  sum : m.numbers.answered + 1 ≡ suc m.numbers.answered
+  sum = omega arith
 
   between : f.items.items ≡ m.items.items ++ trace.Full 1 need free ∷ []
   between = first ∙ ap (λ (xs : List TraceItem). xs ++ trace.Full 1 need free ∷ []) same
@@ -38,7 +39,7 @@ module _ (time : ℕ) (name : List ℕ) (call : Call) (need free : ℕ) (d e : D
   item = trace.Call 1 name (suc m.numbers.answered) call replies.NoSpace
 
   items_are : n'.items.items ≡ (m.items.items ++ trace.Full 1 need free ∷ []) ++ item ∷ []
-  items_are = told ∙ (λ i. between i ++ trace.Call 1 name (sum i) call replies.NoSpace ∷ [])
+  items_are = told ∙ (λ i. between i ++ (its_is ∙ ap (λ (a : ℕ). trace.Call 1 name a call replies.NoSpace) sum) i ∷ [])
 
   abbrev at : Point
   at = point_of e k m
