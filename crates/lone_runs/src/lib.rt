@@ -2,8 +2,10 @@
 #![tactic(auto)]
 
 mod ends;
+mod laws;
 mod placing;
 mod running;
 
 pub use ends::RunEnd;
+pub use laws::{nothing_is_written, runs_are_legal, runs_end, runs_meet_no_damage, runs_stand};
 pub use running::run_alone;
