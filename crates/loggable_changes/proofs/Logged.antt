@@ -49,14 +49,14 @@ one_of_two p q apart (x ∷ xs) = by (p x) refl (q x) refl (one_of_two p q apart
     by false e true f rest = omega (arith, rest)
     by false e false f rest = omega (arith, rest)
 
-is_written : (ws : List Written) (b : ℕ) → IsIn b (map (λ (w : Written). w.block) ws) → is_some (bytes_for ws b) ≡ true
+pub is_written : (ws : List Written) (b : ℕ) → IsIn b (map (λ (w : Written). w.block) ws) → is_some (bytes_for ws b) ≡ true
 is_written [] b there = elim there [ ]
 is_written (w ∷ ws) b there = elim (cases_eq w.block b) [
   | inl same ↦ ap is_some (cond-true (w.block == b) (Some w.bytes) (bytes_for ws b) (eq-eqb w.block b same))
   | inr other ↦ ap is_some (cond-false (w.block == b) (Some w.bytes) (bytes_for ws b) (ne_eqb w.block b other)) ∙ is_written ws b (elim there [ inl e ↦ absurd (other (sym e)) | inr later ↦ later ])
 ]
 
-is_freed : (bs : List ℕ) (b : ℕ) → IsIn b bs → list_any (λ f. f == b) bs ≡ true
+pub is_freed : (bs : List ℕ) (b : ℕ) → IsIn b bs → list_any (λ f. f == b) bs ≡ true
 is_freed [] b there = elim there [ ]
 is_freed (f ∷ fs) b (inl e) = ap (λ t. t || list_any (λ g. g == b) fs) (eq-eqb f b (sym e))
 is_freed (f ∷ fs) b (inr later) = ap (λ t. (f == b) || t) (is_freed fs b later) ∙ or_true (f == b)
@@ -78,7 +78,7 @@ bytes_there (x ∷ ws) w rise (inr later) =
     let above : x.block < w.block = all_in (λ b. x.block < b) w.block (map (λ (y : Written). y.block) ws) rise.0 (in_numbers ws w later) in
     cond-false (x.block == w.block) (Some x.bytes) (bytes_for ws w.block) (ne_eqb x.block w.block (λ e. omega (arith, above, e))) ∙ bytes_there ws w rise.1 later
 
-blocks_as_logged : (ws : List Written) → map (λ (e : Logged). e.block) (map logged ws) ≡ map (λ (w : Written). w.block) ws
+pub blocks_as_logged : (ws : List Written) → map (λ (e : Logged). e.block) (map logged ws) ≡ map (λ (w : Written). w.block) ws
 blocks_as_logged [] = refl
 blocks_as_logged (w ∷ ws) = ap (λ bs. w.block ∷ bs) (blocks_as_logged ws)
 

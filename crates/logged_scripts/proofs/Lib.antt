@@ -1,0 +1,11 @@
+mod Lists
+mod Crashing
+mod Members
+mod Disks
+mod Untouched
+mod Going
+mod Beginning
+mod Taking
+mod Leaving
+mod Fenced
+mod Causes

@@ -1,0 +1,15 @@
+//! One node carries out a script with its log, alone on a disk: it takes the lines one by one, crashes where the script says so, and unmounts behind all of them.
+#![tactic(auto)]
+
+mod crashes;
+mod ends;
+mod fences;
+mod halts;
+mod joining;
+mod lines;
+mod running;
+
+pub use crashes::writes_left;
+pub use ends::RunEnd;
+pub use joining::join;
+pub use running::run_script;
