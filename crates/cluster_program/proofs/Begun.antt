@@ -33,10 +33,11 @@ use Rattle.lone_node.specs.Standing.{IsOn}
 use Rattle.lone_view.specs.Seeing.{Lone, seen_alone}
 use Rattle.script_lang.specs.Script.{ScriptValue}
 use Rattle.cluster_program.specs.Beginning.{HasBegun}
-use Rattle.cluster_program.specs.EndStatuses.{status_of_look, status_of_replay}
+use Rattle.cluster_program.specs.EndStatuses.{IsStatusOfReplay, status_of_look}
 use Rattle.cluster_program.specs.Mounting.{BeginEnds, IsMountedOn, IsMountedReplayed, IsStopped, LacksRoom, NotMounted, NotRead}
 use Rattle.cluster_program.specs.Runs.{ArePlansOf, ReplayFailed, ReplayLacksRoom, RunEnds, StandsStill, StandsWhateverBecomes, as_mounted, joined}
 use Rattle.cluster_program.specs.World.{Inputs}
+use Rattle.cluster_program.specs.declared.status.Status.{Status}
 use Rattle.cluster_program.specs.declared.status.Status.TheVariants as status
 use Rattle.cluster_program.proofs.Mounts.{nothing_kept}
 use Rattle.cluster_program.proofs.ReplayItems.{begun_by}
@@ -86,10 +87,11 @@ module _ (given left : Inputs) (s : ScriptValue) (time : ℕ) (items : List Trac
       failing 1 time first after m plans joined items block tree it.tells idle size is (planned.are it.tells is) (can given.disk m.journals plans planned.writable planned.headers) read failed it.stands
 
   pub replay_end : (f : ReplayFault) → replaying.HasCause 1 given.disk.count before left.disk_faults f → replaying.IfDiskFailed f (HaveFailed 1 time first after m.journals plans joined items)
-      → replaying.IfNoMemory f (HaveReplayedSome 1 time first after m.journals plans joined items) → RunEnds given left s time items (Some m) None (status_of_replay f)
-  replay_end (replay.DiskFailed block rise) cause failed some =
-      ReplayFailed m plans block rise.before rise.after planned (record { from = let low = earlier 1 in omega (arith, low, cause.0.from); rose = cause.0.rose; to = cause.0.to }) cause.1 failed (whatever block failed)
-  replay_end replay.NoMemory cause failed some = ReplayLacksRoom m plans planned some (as_before some)
+      → replaying.IfNoMemory f (HaveReplayedSome 1 time first after m.journals plans joined items) → (own : Status) → IsStatusOfReplay f own → RunEnds given left s time items (Some m) None own
+  replay_end (replay.DiskFailed block rise) cause failed some own is =
+      subst (RunEnds given left s time items (Some m) None) (sym is) (ReplayFailed m plans block rise.before rise.after planned (record { from = let low = earlier 1 in omega (arith, low, cause.0.from); rose = cause.0.rose; to = cause.0.to }) cause.1 failed (whatever block failed))
+  replay_end replay.Crashed cause failed some own is = absurd is
+  replay_end replay.NoMemory cause failed some own is = subst (RunEnds given left s time items (Some m) None) (sym is) (ReplayLacksRoom m plans planned some (as_before some))
 
 -- ---- what a run that has begun sees
 

@@ -1,5 +1,5 @@
 -- Which status each end of a part has: of a run, of the reading of a tree, of a mount and of a replay, of the script and its reading.
-use Rattle.std.specs.Prelude.{ℕ, ◌+◌, Some}
+use Rattle.std.specs.Prelude.{ℕ, ◌≡◌, ◌+◌, Some}
 use Rattle.script_lang.specs.declared.parser.ScriptRefusal.{ScriptRefusal}
 use Rattle.script_lang.specs.declared.parser.ScriptRefusal.TheVariants as refusal
 use Rattle.image_mount.specs.declared.fault.MountFault.{MountFault}
@@ -37,10 +37,11 @@ status_of_look (look.Damaged block rule) = status.Damaged block rule
 status_of_look (look.DiskFailed block rise) = status.DeviceFault 0 (Some block) rise.before rise.after
 status_of_look look.NoMemory = status.NoMemory
 
--- of a replay, which node 1 makes
-abbrev pub status_of_replay : ReplayFault → Status
-status_of_replay (replay.DiskFailed block rise) = status.DeviceFault 1 block rise.before rise.after
-status_of_replay replay.NoMemory = status.NoMemory
+-- of a replay, which node 1 makes, and in which it isn't to crash
+abbrev pub IsStatusOfReplay : ReplayFault → Status → Type 0
+IsStatusOfReplay (replay.DiskFailed block rise) own = own ≡ status.DeviceFault 1 block rise.before rise.after
+IsStatusOfReplay replay.Crashed own = ⊥
+IsStatusOfReplay replay.NoMemory own = own ≡ status.NoMemory
 
 -- of a mount
 abbrev pub status_of_mount : MountFault → Status

@@ -59,8 +59,8 @@ pub(crate) fn begin<D: SharedDisk>(
         Ok(()) => {}
         Err(_) => return Err(Status::NoMemory),
     }
-    match replay_journals(alloc, disk, 1, &journals, &plans, time, items) {
-        Ok(()) => Ok(view),
+    match replay_journals(alloc, disk, 1, &journals, &plans, time, None, items) {
+        Ok(_) => Ok(view),
         Err(fault) => Err(not_replayed(fault)),
     }
 }

@@ -1,7 +1,8 @@
 // How a command ends whose part ended early.
-ghost use Rattle.std.specs.Prelude.{◌≡◌, ◌+◌, ◌<◌, ◌^◌};
+ghost use Rattle.std.specs.Prelude.{⊥, ◌≡◌, ◌+◌, ◌<◌, ◌^◌};
+ghost use Rattle.journal_replays.specs.Faults.{IfCrashed};
 ghost use Rattle.lone_node.specs.Ends.{IfNotBuilt};
-ghost use Rattle.cluster_program.specs.EndStatuses.{status_of_end, status_of_look, status_of_mount, status_of_replay, status_of_tree};
+ghost use Rattle.cluster_program.specs.EndStatuses.{IsStatusOfReplay, status_of_end, status_of_look, status_of_mount, status_of_tree};
 
 use crate::status::{Status, Unbuilt};
 use disk_trees::TreeFault;
@@ -47,9 +48,10 @@ pub(crate) fn not_planned(fault: LookFault) -> Status
     }
 }
 
-/// One whose journals were not all replayed.
+/// One whose journals were not all replayed; the node isn't to crash.
 pub(crate) fn not_replayed(fault: ReplayFault) -> Status
-    ensures { result ≡ status_of_replay fault }
+    requires { IfCrashed fault ⊥ }
+    ensures { IsStatusOfReplay fault result }
 {
     match fault {
         ReplayFault::DiskFailed { block, rise } => Status::DeviceFault {
@@ -58,6 +60,7 @@ pub(crate) fn not_replayed(fault: ReplayFault) -> Status
             before: rise.before,
             after: rise.after,
         },
+        ReplayFault::Crashed => unreachable!(),
         ReplayFault::NoMemory => Status::NoMemory,
     }
 }

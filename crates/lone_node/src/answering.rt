@@ -72,12 +72,15 @@ fn carry_out<D: SharedDisk>(
     ensures cause { IfErr result (HasCause 1 (D.state disk.old).count (D.faults disk.old) (D.faults disk.new)) }
 {
     keep_all(view, &change.blocks)?;
-    match write_in_turns(disk, 1, &change.blocks) {
-        Ok(()) => Ok(()),
-        Err(fault) => Err(RunEnd::DiskFailed {
-            block: fault.block,
-            rise: fault.rise,
-        }),
+    match write_in_turns(disk, 1, &change.blocks, None) {
+        Ok(_) => Ok(()),
+        Err(fault) => match fault.rise {
+            Some(rise) => Err(RunEnd::DiskFailed {
+                block: fault.block,
+                rise,
+            }),
+            None => unreachable!(),
+        },
     }
 }
 

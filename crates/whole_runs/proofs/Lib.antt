@@ -10,3 +10,6 @@ pub mod Last
 pub mod Running
 pub mod Resting
 pub mod Telling
+pub mod Fronts
+pub mod StartFronts
+pub mod RunFronts

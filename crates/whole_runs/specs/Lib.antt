@@ -1,3 +1,4 @@
 pub mod Starts
 pub mod Resting
 pub mod Wholes
+pub mod Fronts

@@ -5,9 +5,10 @@ use Rattle.image_recovery.specs.Recoveries.{AreHeadersRead, HaveFailed, HaveRepl
 use Rattle.journal_replays.specs.Faults as replaying
 use Rattle.cluster_program.specs.Beginning.{HasBegun}
 use Rattle.cluster_program.specs.Mounting.{BeginEnds, LacksRoom, MountEnds, NotMounted}
-use Rattle.cluster_program.specs.Runs.{ArePlansOf, NotBegun, RunEnds}
+use Rattle.cluster_program.specs.Runs.{ArePlansOf, NotBegun}
 use Rattle.cluster_program.specs.World.{KeepsDisk, inputs}
 use Rattle.cluster_program.specs.declared.status.Status.TheVariants as status
+use Rattle.journal_replays.proofs.Crashing.{no_crash}
 use Rattle.cluster_program.proofs.Begun.{has_begun, no_plans_on, plan_end, replay_end, so}
 use Rattle.cluster_program.proofs.beginning.begin.Given.{Over}
 use Rattle.cluster_program.proofs.beginning.begin.Goals as goal
@@ -105,7 +106,10 @@ returns-clause-ends g c s left left_now failed failed_now =
     let earlier : (j : ℕ) → given.disk_faults j ≤ g.D.SharedDisk.faults c.plan_replay.new.disk j = λ j. below (c.in-Ok.ensures.reads.later j) (c.in-Ok-plan_replay.ensures.reads.later j) in (
       Some m,
       c.in-Ok.ensures.mounted,
-      subst (RunEnds given now s c.args.time c.replay_journals.new.items.items (Some m) None) (sym c.not_replayed.ensures)
-          (replay_end given now s c.args.time c.replay_journals.new.items.items m plans planned (g.D.SharedDisk.faults c.plan_replay.new.disk) earlier c.planned_replays_can_be_made.ensures c.failed_replays_stand.ensures c.stopped_replays_stand.ensures c.requires.idle c.requires.size c.in-Ok.ensures.mounted
-          read f cause stopped some),
+      replay_end given now s c.args.time c.replay_journals.new.items.items m plans planned (g.D.SharedDisk.faults c.plan_replay.new.disk) earlier c.planned_replays_can_be_made.ensures c.failed_replays_stand.ensures c.stopped_replays_stand.ensures c.requires.idle c.requires.size c.in-Ok.ensures.mounted
+          read f cause stopped some _ c.not_replayed.ensures,
     )
+
+-- the node isn't to crash
+pub not_replayed-requires : goal.not_replayed-requires
+not_replayed-requires g c = no_crash 1 c.join.new.items.items c.replay_journals.new.items.items c.in-Err-replay_journals.fault c.in-Err-replay_journals.ensures.by_crash
