@@ -1,0 +1,4 @@
+pub mod Beginning
+pub mod Ends
+pub mod Runs
+pub mod Laws

@@ -1,0 +1,68 @@
+//! What a run leaves. The functions do nothing: their contracts are the laws.
+ghost use Rattle.lone_runs.specs.Laws.{NothingIsWritten, RunsAreLegal, RunsEnd, RunsMeetNoDamage, RunsStand};
+
+use image_recovery::crashed_replays_are_as_failed;
+use log_layout::places_say_all;
+use logged_answers::nodes_work_on_an_image;
+use logged_calls::{calls_are_loggable, calls_have_room};
+use logged_runs::{a_run_begins, its_calls_are_counted, runs_end as logged_runs_end};
+use logged_steps::{heads_are_told, steps_keep};
+use mounted_views::mounted_journals_are_placed;
+use whole_runs::{
+    replays_leave_a_disk_at_rest, runs_are_told, runs_stand_at_each_front,
+    starts_stand_at_each_front, whole_runs_stand,
+};
+
+/// A law: behind each front of a run's items, those of its start, its crash, the fence and the loss among them, each outcome of the disk there stands, its journals replayed, for the tree of what remains; the
+/// history is legal, keeps what was synced, and each loss in it is right.
+pub fn runs_stand()
+    ensures { RunsStand }
+{
+    replays_leave_a_disk_at_rest();
+    whole_runs_stand();
+    runs_are_told();
+    runs_stand_at_each_front();
+    starts_stand_at_each_front();
+    crashed_replays_are_as_failed();
+    places_say_all();
+}
+
+/// A law: where no node stopped what was answered is legal.
+pub fn runs_are_legal()
+    ensures { RunsAreLegal }
+{
+    replays_leave_a_disk_at_rest();
+    its_calls_are_counted();
+    a_run_begins();
+    crashed_replays_are_as_failed();
+}
+
+/// A law: a run that came to its end without a stop leaves the image of all that was answered, each journal clean, on a disk at rest.
+pub fn runs_end()
+    ensures { RunsEnd }
+{
+    replays_leave_a_disk_at_rest();
+    a_run_begins();
+    steps_keep();
+    logged_runs_end();
+}
+
+/// A law: on an image that stands for a tree a run ends before its script only for want of memory, or where the disk fails.
+pub fn runs_meet_no_damage()
+    ensures { RunsMeetNoDamage }
+{
+    replays_leave_a_disk_at_rest();
+    a_run_begins();
+    steps_keep();
+    heads_are_told();
+    nodes_work_on_an_image();
+    calls_are_loggable();
+    calls_have_room();
+    mounted_journals_are_placed();
+    places_say_all();
+}
+
+/// A law: where no answered call changed anything, and no node stopped, nothing is written behind the replays.
+pub fn nothing_is_written()
+    ensures { NothingIsWritten }
+{}

@@ -1,0 +1,11 @@
+//! A run of one node on a mounted image: it joins, replays the journals, and carries out a script with its log, crashes included.
+#![tactic(auto)]
+
+mod ends;
+mod laws;
+mod placing;
+mod running;
+
+pub use ends::RunEnd;
+pub use laws::{nothing_is_written, runs_are_legal, runs_end, runs_meet_no_damage, runs_stand};
+pub use running::run_alone;
