@@ -18,18 +18,6 @@ use Rattle.cluster_program.specs.declared.status.Status.TheVariants as status
 abbrev pub dirty_in : Image → MountedValue → ℕ
 dirty_in im m = count_by (λ (j : Journal). not (is_clean_in im j)) m.journals
 
--- whether the items leave the node's journal so: it has a commit that neither a clean header nor a replay follows
-abbrev pub is_left_dirty : ℕ → Bool → List TraceItem → Bool
-is_left_dirty node now [] = now
-is_left_dirty node now (trace.Commit i sequence upto ∷ is) = is_left_dirty node (if i == node then true else now) is
-is_left_dirty node now (trace.WriteClean i block sequence upto ∷ is) = is_left_dirty node (if i == node then false else now) is
-is_left_dirty node now (trace.Recovered i by ∷ is) = is_left_dirty node (if i == node then false else now) is
-is_left_dirty node now (_ ∷ is) = is_left_dirty node now is
-
--- how many nodes of the script have such a journal
-abbrev pub dirty_by : ScriptValue → List TraceItem → ℕ
-dirty_by s items = count_by (λ node. is_left_dirty node false items) (range_with_len 1 s.nodes)
-
 -- so many of the journals of what is mounted of the image that was given aren't clean in the one that was left
 abbrev pub IsCountLeft : DiskState → DiskState → ℕ → Type 0
 IsCountLeft given left dirty = (m : MountedValue) × (IsMounted (image_of given) m × (dirty ≡ dirty_in (image_of left) m))
