@@ -1,11 +1,9 @@
-pub mod Lines
 pub mod Mounts
 pub mod Damage
 pub mod Heads
 pub mod Start
 pub mod Still
 pub mod Shows
-pub mod Passing
 pub mod Quiet
 pub mod ReplayItems
 pub mod Begun
@@ -13,9 +11,6 @@ pub mod Runs
 pub mod WholeRuns
 pub mod Scripts
 pub mod Courses
-pub mod ClientLines
-pub mod ReplayedLines
-pub mod Faults
 pub mod Made
 pub mod Images
 pub mod Ends
