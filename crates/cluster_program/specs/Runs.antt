@@ -167,6 +167,11 @@ pub record HasCome (given left : Inputs) (m : MountedValue) (s : ScriptValue) (t
   pub ended : (tree : Tree) → IsImageOf given.disk tree → (is : IsMounted (image_of given.disk) m) → HasEnded s (now_of given) m tree (now_of left) items is.layout
   pub unchanged : ChangesNothing items → HasReplayed given left m time items
 
+-- where all was done so many journals are left that aren't clean
+abbrev pub own_of : Result ℕ Status → Status
+own_of (Ok dirty) = status.Done
+own_of (Err own) = own
+
 -- a run of the script, with this time of its changes, in seconds
 pub record Runs (given left : Inputs) (s : ScriptValue) (time : ℕ) (items : List TraceItem) (own : Status) : Type 0 where
   -- what was mounted, if anything was, as it was wherever there is an item

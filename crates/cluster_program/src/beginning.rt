@@ -5,10 +5,10 @@ ghost use Rattle.shared_disk.specs.Disk.{IsIdle, ReadsOnly};
 ghost use Rattle.cluster_program.specs.Beginning.{IsPrepared};
 ghost use Rattle.cluster_program.specs.Mounting.{ArePlaced, BeginEnds};
 
-use crate::end_status::not_planned;
+use crate::end_status::{misplaced, not_planned};
 use crate::mounting::{Ready, mount, ready_of};
-use crate::status::Status;
-use image_mount::JournalMap;
+use run_reports::Status;
+use image_mount::{Field, JournalMap};
 use image_recovery::planned_replays_can_be_made;
 use image_replays::{plan_replay, stopped_images_have_no_replay};
 use lone_view::LoneView;

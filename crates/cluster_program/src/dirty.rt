@@ -6,8 +6,9 @@ ghost use Rattle.shared_disk.specs.Disk.{ReadsOnly};
 ghost use Rattle.cluster_program.specs.Dirty.{IsUnreadHead, dirty_on};
 ghost use Rattle.cluster_program.specs.Mounting.{ArePlaced};
 
-use crate::status::Status;
+use run_reports::Status;
 use image_mount::JournalMap;
+use crate::end_status::device_fault;
 use journal_reads::ReadFault;
 use lone_fences::left_head;
 use shared_disk::SharedDisk;

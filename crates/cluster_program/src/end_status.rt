@@ -2,7 +2,7 @@
 ghost use Rattle.std.specs.Prelude.{◌≡◌, ◌+◌, ◌<◌, ◌^◌};
 ghost use Rattle.cluster_program.specs.EndStatuses.{IfOfScript, IsPlacedEnd, status_of_look, status_of_mount, status_of_run, status_of_script as status_of_script_end, status_of_tree};
 
-use crate::status::{Status, Unbuilt};
+use run_reports::{Status, Unbuilt};
 use disk_trees::TreeFault;
 use image_mount::MountFault;
 use fault_counts::Rise;
@@ -47,8 +47,8 @@ pub(crate) fn not_planned(fault: LookFault) -> Status
     }
 }
 
-// A rise of the count of faults of this node, at this block where there is one.
-fn device_fault(node: u8, block: Option<u64>, rise: Rise) -> Status
+/// A rise of the count of faults of this node, at this block where there is one.
+pub(crate) fn device_fault(node: u8, block: Option<u64>, rise: Rise) -> Status
     ensures { result ≡ Status.DeviceFault node block rise.before rise.after }
 {
     Status::DeviceFault {

@@ -10,7 +10,7 @@ ghost use Rattle.cluster_program.specs.Mounting.{MountEnds, OfImage, IsMountedAl
 ghost use Rattle.cluster_program.specs.Runs.{as_mounted};
 
 use crate::end_status::not_mounted;
-use crate::status::Status;
+use run_reports::Status;
 use damage_laws::views_may_be_read_from_mounted_images;
 use gfs2_layout::superblock_block;
 use image_model::{replays_keep_system_files, what_stands_breaks_nothing};

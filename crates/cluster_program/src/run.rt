@@ -5,13 +5,13 @@ ghost use Rattle.script_lang.specs.OneNode.{IsOneNode};
 ghost use Rattle.script_lang.specs.WellFormed.{IsWellFormed};
 ghost use Rattle.run_reports.specs.OneNode.{IsOfOneNode};
 ghost use Rattle.cluster_program.specs.Dirty.{IsDirtyCount};
-ghost use Rattle.cluster_program.specs.Runs.{Runs, first_line as first_line_of};
+ghost use Rattle.cluster_program.specs.Runs.{Runs, first_line as first_line_of, own_of};
 ghost use Rattle.cluster_program.specs.World.{inputs};
 
 use crate::beginning::{Prepared, prepare};
 use crate::dirty::{count_dirty, has_stopped};
 use crate::end_status::status_of_end;
-use crate::status::Status;
+use run_reports::Status;
 use command_words::DEFAULT_FRAMES;
 use image_mount::JournalMap;
 use lone_runs::run_alone;

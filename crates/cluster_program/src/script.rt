@@ -7,7 +7,7 @@ ghost use Rattle.cluster_program.specs.Course.{HasRead, LacksScript};
 ghost use Rattle.cluster_program.specs.EndStatuses.{status_of_input, status_of_refusal};
 
 use crate::input::{InputFault, read_text};
-use crate::status::{Status, Unbuilt};
+use run_reports::{Status, Unbuilt};
 use script_lang::{Script, ScriptRefusal, first_foreign_line, limit_decides, parse};
 use std::alloc::Global;
 use stream_io::Source;

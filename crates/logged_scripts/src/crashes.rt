@@ -68,7 +68,7 @@ fn settle_at(armed: &[Armed], write: u64) -> Settle
 }
 
 /// How a fence settles what is in flight of a node behind the first of these crashes.
-pub(crate) fn settle_first(armed: &[Armed]) -> Settle
+pub fn settle_first(armed: &[Armed]) -> Settle
     ensures { result ≡ fate_of armed.now (first_crash armed.now) }
 {
     match first_write(armed) {
