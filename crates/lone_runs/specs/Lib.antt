@@ -1,3 +1,4 @@
+pub mod Placing
 pub mod Beginning
 pub mod Ends
 pub mod Runs

@@ -5,6 +5,7 @@ mod ends;
 mod laws;
 mod placing;
 mod running;
+mod starting;
 
 pub use ends::RunEnd;
 pub use laws::{nothing_is_written, runs_are_legal, runs_end, runs_meet_no_damage, runs_stand};
