@@ -136,7 +136,7 @@ ending_same p _ (Landed bytes list clean) = same_on p.disk (with_clean p bytes) 
 
 last_same : (time : ℕ) (p q : Point) → LastGoes time p q → IsSameDisk p.disk q.disk
 last_same time p q (inl fails) = failing_same time p q fails
-last_same time p q (inr ends) = ending_same p q ends.0
+last_same time p q (inr ends) = ending_same p q ends.1
 
 -- ---- the fence
 
@@ -154,17 +154,17 @@ ends_same d d' list list' items items' fence_end.NoMemory (inr is) = fenced_same
 
 -- ---- a script that was carried out
 
-behind_same : (a q : Point) (d : DiskState) (list : Option (List Operation)) (items : List TraceItem) → IsBehind a q d list items → IsSameDisk q.disk d
-behind_same a q d list items (nothing same listed are) = same_as q.disk d same
-behind_same a q d list items (crash same listed are) = same_as q.disk d same
-behind_same a q d list items (fence fenced are) = fenced_same q.disk d q.list list fenced
-behind_same a q d list items (loss hf) = fenced_same q.disk d q.list list hf.fenced
+behind_same : (a p q : Point) (d : DiskState) (list : Option (List Operation)) (items : List TraceItem) → IsBehind a p q d list items → IsSameDisk q.disk d
+behind_same a p q d list items (nothing same listed are) = same_as q.disk d same
+behind_same a p q d list items (crash untold same listed are) = same_as q.disk d same
+behind_same a p q d list items (fence untold fenced are) = fenced_same q.disk d q.list list fenced
+behind_same a p q d list items (loss untold hf) = fenced_same q.disk d q.list list hf.fenced
 
 goes_same : (time : ℕ) (a p q : Point) → Steps time a p → LastGoes time p q → IsSameDisk a.disk q.disk
 goes_same time a p q steps last = same_on a.disk p.disk q.disk (steps_same time a p steps) (last_same time p q last)
 
-pub behind_run_same : (time : ℕ) (a p q : Point) (d : DiskState) (list : Option (List Operation)) (items : List TraceItem) → Steps time a p → LastGoes time p q → IsBehind a q d list items → IsSameDisk a.disk d
-behind_run_same time a p q d list items steps last behind = same_on a.disk q.disk d (goes_same time a p q steps last) (behind_same a q d list items behind)
+pub behind_run_same : (time : ℕ) (a p q : Point) (d : DiskState) (list : Option (List Operation)) (items : List TraceItem) → Steps time a p → LastGoes time p q → IsBehind a p q d list items → IsSameDisk a.disk d
+behind_run_same time a p q d list items steps last behind = same_on a.disk q.disk d (goes_same time a p q steps last) (behind_same a p q d list items behind)
 
 -- ---- replays, and what stopped them
 
