@@ -43,11 +43,11 @@ some_none : {A : Type 0} {x : A} → Some x ≡ None → ⊥
 some_none e = cc
 
 -- an end is no success
-err_ok : (e : RunEnd) → ◌≡◌ {A = Result (Unit {0}) RunEnd} (Err e) (Ok tt) → ⊥
+pub err_ok : (e : RunEnd) → ◌≡◌ {A = Result (Unit {0}) RunEnd} (Err e) (Ok tt) → ⊥
 err_ok e same = cc
 
 -- nothing flies where nothing flies to any block
-none_flies : (fs : List Flight) → ((b : ℕ) → flight_to fs b ≡ None) → fs ≡ []
+pub none_flies : (fs : List Flight) → ((b : ℕ) → flight_to fs b ≡ None) → fs ≡ []
 none_flies [] none = refl
 none_flies (f ∷ fs) none = absurd (there (none f.block))
   where

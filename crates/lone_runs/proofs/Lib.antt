@@ -1,6 +1,7 @@
 pub mod Apart
 pub mod Disks
 pub mod Members
+pub mod Told
 pub mod Others
 pub mod Ran
 pub mod Silent
@@ -8,4 +9,5 @@ pub mod Standing
 pub mod StartStanding
 pub mod Damage
 pub mod Ended
+pub mod Resting
 pub mod Runs
