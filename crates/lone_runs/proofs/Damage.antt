@@ -222,10 +222,10 @@ module _ (resting : ReplayedIsAtRest) (begin : RunsBeginSo) (keep : StepsKeep) (
 
   by_stage : (r : Result (Unit {0}) RunEnd) → GoesSo s time frames before (view_of before.disk.size m) m.journals plans is.own is.plan after items r → r ≡ Err e → IsOfImageThatStands e
   by_stage _ (stages.not_joined x same empty may) ended = subst IsOfImageThatStands (same_err x e ended) (not_begun x may)
-  by_stage _ (stages.no_memory some) ended = subst IsOfImageThatStands (same_err (end.Script script.NoMemory) e ended) tt
-  by_stage _ (stages.disk_failed block rise failed) ended = subst IsOfImageThatStands (same_err (end.ReplayFailed block rise) e ended) tt
-  by_stage _ (stages.crashed stopped told it hf) ended = absurd (ok_err e ended)
-  by_stage _ (stages.not_fenced stopped told x it ends) ended = subst IsOfImageThatStands (same_err (end.Script (end_of x)) e ended) (unfenced x)
+  by_stage _ (stages.no_memory some early) ended = subst IsOfImageThatStands (same_err (end.Script script.NoMemory) e ended) tt
+  by_stage _ (stages.disk_failed block rise failed early) ended = subst IsOfImageThatStands (same_err (end.ReplayFailed block rise) e ended) tt
+  by_stage _ (stages.crashed stopped told it at hf) ended = absurd (ok_err e ended)
+  by_stage _ (stages.not_fenced stopped told x it at ends) ended = subst IsOfImageThatStands (same_err (end.Script (end_of x)) e ended) (unfenced x)
   by_stage _ (stages.ran replayed begun r have sound run) ended = by_result replayed begun r have sound run ended
 
 pub runs_meet_no_damage : ReplayedIsAtRest → RunsBeginSo → StepsKeep → HeadsAreTold → NodesWorkOnAnImage → CallsAreLoggable → CallsHaveRoom → MountedJournalsArePlaced → PlacesSayAll → RunsMeetNoDamage

@@ -1,8 +1,13 @@
-pub mod Ran
+pub mod Apart
+pub mod Disks
+pub mod Members
+pub mod Told
 pub mod Others
+pub mod Ran
+pub mod Silent
 pub mod Standing
 pub mod StartStanding
-pub mod Silent
-pub mod Runs
-pub mod Ended
 pub mod Damage
+pub mod Ended
+pub mod Resting
+pub mod Runs

@@ -8,5 +8,8 @@ mod running;
 mod starting;
 
 pub use ends::RunEnd;
-pub use laws::{nothing_is_written, runs_are_legal, runs_end, runs_meet_no_damage, runs_stand};
+pub use laws::{
+    nothing_is_written, runs_are_legal, runs_are_told, runs_end, runs_meet_no_damage, runs_rest,
+    runs_stand,
+};
 pub use running::run_alone;
