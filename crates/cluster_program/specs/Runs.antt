@@ -1,5 +1,5 @@
 -- How a run of a script goes, and how it ends.
-use Rattle.std.specs.Prelude.{ℕ, ◌≡◌, ◌≢◌, ◌++◌, ◌+◌, ◌<◌, ⊤, true, Contains, IfSome, IsSome, IsTrue, List, [], ◌∷◌, length, slice_get, Option, None, Some, Result, Ok, Err}
+use Rattle.std.specs.Prelude.{ℕ, ⊥, ◌≡◌, ◌≢◌, ◌++◌, ◌+◌, ◌<◌, ⊤, false, true, Contains, IfSome, IsSome, IsTrue, List, [], ◌∷◌, length, slice_get, Option, None, Some, Result, Ok, Err}
 use Rattle.std.specs.List.{AllByRecursion}
 use Rattle.fault_counts.specs.Causes.{WentUp}
 use Rattle.command_words.specs.Commands.{frames_of}
@@ -8,9 +8,8 @@ use Rattle.file_tree.specs.Tree.{Tree}
 use Rattle.file_tree.specs.declared.call.Call.{Call}
 use Rattle.cluster_history.specs.History.{IsNumbered, Legal}
 use Rattle.damage_laws.specs.Telling.{HasAstrayOn}
-use Rattle.disk_items.specs.Deeds.{AreToldButOne}
 use Rattle.disk_turns.specs.Turns.{Moment, moment}
-use Rattle.glock_names.specs.Views.{Seen}
+use Rattle.glock_names.specs.Views.{HasBlock, Seen}
 use Rattle.image_changes.specs.Views.{AgreesWith}
 use Rattle.image_model.specs.Image.{Image, IsImage, image_of}
 use Rattle.image_model.specs.Rules.{IsBrokenBlock}
@@ -22,8 +21,8 @@ use Rattle.log_layout.specs.declared.log_header.LogHeader.{LogHeader}
 use Rattle.lone_answers.specs.Faults.{IsDamagedFor}
 use Rattle.lone_runs.specs.Beginning.{IsOwn}
 use Rattle.lone_runs.specs.Ends.{HasCause}
-use Rattle.lone_runs.specs.Laws.{HasEnded, HasStood, HasTrueFence, IsOfImageThatStands}
-use Rattle.lone_runs.specs.Runs.{GoesSo}
+use Rattle.lone_runs.specs.Laws.{GainsAsTold, HasEnded, HasStood, HasTrueFence, IsOfImageThatStands}
+use Rattle.lone_runs.specs.Runs.{GoesSo, IsSameDisk}
 use Rattle.lone_runs.specs.declared.ends.RunEnd.{RunEnd}
 use Rattle.lone_runs.specs.declared.ends.RunEnd.TheVariants as end
 use Rattle.logged_scripts.specs.declared.ends.RunEnd.TheVariants as script_end
@@ -36,7 +35,7 @@ use Rattle.peer_replay.specs.declared.planned.Plan.{Plan}
 use Rattle.run_rules.specs.Follows.{Follows, history_of}
 use Rattle.run_rules.specs.History.{AllPlaced, NoneStopped}
 use Rattle.script_lang.specs.Script.{ScriptValue}
-use Rattle.shared_disk.specs.Disk.{DiskState, Operation}
+use Rattle.shared_disk.specs.Disk.{DiskState, IsIdle, Operation}
 use Rattle.trace_text.specs.declared.item.TraceItem.{TraceItem}
 use Rattle.whole_runs.specs.Starts.{joined}
 use Rattle.run_reports.specs.Out.{replayed_line, replayed_lines}
@@ -88,13 +87,18 @@ pub data IsToldBroken (v : Seen) (im : Image) (call : Call) (rule block : ℕ) :
   itself : IsBrokenBlock im rule block → IsToldBroken v im call rule block
   beyond : HasAstrayOn v im call → IsToldBroken v im call rule block
 
+-- the image has each block that the node has, with these bytes
+pub record HasWhatIsKept (v : Seen) (im : Image) : Type 0 where
+  pub agrees : AgreesWith v im
+  pub inside : (b : ℕ) → HasBlock v b → b < im.count
+
 -- A call met a block that breaks this rule, as what the node has of the blocks shows it; and that is so of each image that has what the node has, of as many blocks, with the superblock and the groups
 -- that were mounted.
 pub record MeetsDamage (given : DiskState) (m : MountedValue) (block rule : ℕ) : Type 0 where
   pub view : Lone
   pub call : Call
   pub shown : IsDamagedFor (seen_alone view) given.count call block rule
-  pub told : (im : Image) → IsImage im → im.size ≡ given.size → im.count ≡ given.count → IsMountedAgain im m → AgreesWith (seen_alone view) im → IsToldBroken (seen_alone view) im call rule block
+  pub told : (im : Image) → IsImage im → im.size ≡ given.size → im.count ≡ given.count → IsMountedAgain im m → HasWhatIsKept (seen_alone view) im → IsToldBroken (seen_alone view) im call rule block
 
 abbrev pub IfDamaged : RunEnd → (ℕ → ℕ → Type 0) → Type 0
 IfDamaged (end.Script (script_end.Damaged block rule)) P = P block rule
@@ -147,7 +151,7 @@ lines_of_plans journal (p ∷ ps) = line_of_plan journal p.home.items p.clean ++
 
 -- no answered call changes anything
 abbrev pub ChangesNothing : List TraceItem → Type 0
-ChangesNothing items = AllByRecursion (λ it. is_change it ≡ true → ⊥) items
+ChangesNothing items = AllByRecursion (λ it. is_change it ≡ false) items
 
 -- Then nothing but the replay of all journals was written, each by its own plan; a line tells each journal that wasn't clean, and how many blocks were live in it, which went home. On a disk that tells its blocks, whether its
 -- image stands for a tree or not, the image with what its journals say in place is there now, but for places of the journals, and each journal is clean. An image that could be mounted can be mounted again, its journals
@@ -162,9 +166,10 @@ pub record HasReplayed (given left : Inputs) (m : MountedValue) (time : ℕ) (it
   pub clean : IsTrue given.disk.tells → AreCleanOn left.disk m
   pub still : IsMountable given.disk → HasLowHeads (image_of given.disk) → IsMountableClean left.disk
 
--- Where all was done and no node stopped: the image stands, as it lies and with its journals replayed, for the tree of all that was answered, each journal is clean, and the disk is at rest.
+-- Where all was done and no node stopped: the image stands, as it lies and with its journals replayed, for the tree of all that was answered, and each journal is clean. On every disk, that is at rest then.
 pub record HasCome (given left : Inputs) (m : MountedValue) (s : ScriptValue) (time : ℕ) (items : List TraceItem) : Type 0 where
   pub ended : (tree : Tree) → IsImageOf given.disk tree → (is : IsMounted (image_of given.disk) m) → HasEnded s (now_of given) m tree (now_of left) items is.layout
+  pub idle : IsIdle left.disk
   pub unchanged : ChangesNothing items → HasReplayed given left m time items
 
 -- where all was done so many journals are left that aren't clean
@@ -178,12 +183,13 @@ pub record Runs (given left : Inputs) (s : ScriptValue) (time : ℕ) (items : Li
   pub value : Option MountedValue
   pub began : items ≢ [] → IsSome value
   pub mounted : IfSome value (IsMountedOn given.disk)
-  -- on every disk: the items are those of a run of one node, so they follow the script, and its calls are numbered; and the disk's list gained what they tell, but for one write at most, of a node that hasn't stopped
+  -- on every disk: the items are those of a run of one node, so they follow the script, and its calls are numbered; the disk's list gained what they tell, or, where no node stopped, one write besides that failed; and it is the same disk
   pub count : ℕ
   pub run : IsLoneRun s count items
   pub follows : Follows items s
   pub numbered : IsNumbered (history_of s.clients items)
-  pub told : AreToldButOne 1 given.disk_list left.disk_list items
+  pub told : GainsAsTold given.disk_list left.disk_list items
+  pub same : IsSameDisk given.disk left.disk
   -- where the image stands for a tree, with what its journals say in place
   pub holds : (tree : Tree) → IsImageOf given.disk tree → IfSome value (λ m. HoldsTree given left m s items tree)
   pub come : own ≡ status.Done → NoneStopped items → IfSome value (λ m. HasCome given left m s time items)
