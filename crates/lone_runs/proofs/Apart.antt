@@ -1,6 +1,6 @@
 -- Numbers that are apart, by the same ones in order.
 use Rattle.std.proofs.Common.{◌≡◌, ◌⊎◌, ℕ, suc, ◌+◌, ◌<◌, ◌≤◌, List, [], ◌∷◌, length, get_or, refl, sym, ap, ◌∙◌, subst, inl, inr, arith}
-use Rattle.std.specs.Prelude.{◌↔◌}
+use Rattle.std.specs.Prelude.{◌↔◌, Bool, IsTrue}
 use Rattle.std.specs.Ordering.{nat_cmp}
 use Rattle.std.specs.List.{swap}
 use Rattle.std.specs.List.Sorted.{IsPermutation, IsSorted, IsStrictlyIncreasing}
@@ -97,5 +97,11 @@ apart_rising ys sorted apart k low =
     both x y a b = omega (arith, a, b)
 
 -- they are apart exactly where the same ones, in order, rise
-pub apart_in_order : (xs ys : List ℕ) → IsPermutation xs ys → IsSorted nat_cmp ys → IsStrictlyIncreasing ys ↔ AreApart xs
+apart_in_order : (xs ys : List ℕ) → IsPermutation xs ys → IsSorted nat_cmp ys → IsStrictlyIncreasing ys ↔ AreApart xs
 apart_in_order xs ys moved sorted = (λ up. permuted_apart ys xs (IsPermutation-sym xs ys moved) (rising_apart ys up), λ apart. apart_rising ys sorted (permuted_apart xs ys moved apart))
+
+pub apart_by_rise : (r : Bool) (xs old new ys : List ℕ) → old ≡ xs → IsPermutation old new → IsSorted nat_cmp new → ys ≡ new → IsTrue r ↔ IsStrictlyIncreasing ys → IsTrue r ↔ AreApart xs
+apart_by_rise r xs old new ys from moved sorted read is =
+    let it : IsStrictlyIncreasing new ↔ AreApart xs = apart_in_order xs new (subst (λ l. IsPermutation l new) from moved) sorted in
+    let rises : IsTrue r ↔ IsStrictlyIncreasing new = subst (λ l. IsTrue r ↔ IsStrictlyIncreasing l) read is in
+    (λ t. it.0 (rises.0 t), λ a. rises.1 (it.1 a))

@@ -103,7 +103,7 @@ barrier_same d = record { size = refl; count = refl; tells = refl; fenced = λ n
 step_same : (time : ℕ) (p q : Point) → Step time p q → IsSameDisk p.disk q.disk
 step_same time p _ (by.Reads is b lock bytes asked absent whole told) = same_here p.disk
 step_same time p _ (by.Answers is name call reply change kept done some can fits keeps) = same_here p.disk
-step_same time p _ (by.AnswersQuietly is name call reply change done nothing no_sync) = same_here p.disk
+step_same time p _ (by.AnswersQuietly is name call reply change done empty no_sync) = same_here p.disk
 step_same time p _ (by.Syncs is name all) = same_here p.disk
 step_same time p _ (by.TellsFull is call need free less all) = same_here p.disk
 step_same time p _ (by.HasNoSpace name call need free next less last) = same_here p.disk

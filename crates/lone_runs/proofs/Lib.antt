@@ -1,6 +1,9 @@
 pub mod Apart
 pub mod Disks
 pub mod Members
+pub mod Allowed
+pub mod Begun
+pub mod Alone
 pub mod Told
 pub mod Others
 pub mod Ran
