@@ -1,43 +1,32 @@
--- Why a run doesn't begin whose image was mounted.
-use Rattle.std.proofs.Common.{◌≡◌, ℕ, ◌<◌, List, Option, None, Some, sym, subst, arith}
-use Rattle.std.specs.Prelude.{◌≤◌, IsTrue}
+-- Why a run doesn't begin whose image was mounted, and what it begins with.
+use Rattle.std.proofs.Common.{◌≡◌, ℕ, ◌≤◌, ◌<◌, List, length, refl, sym, subst, arith}
+use Rattle.std.specs.Prelude.{IsTrue}
 use Rattle.std.specs.List.{AllByRecursion}
-use Rattle.cut_replays.specs.Failed.{FailedReplaysStand}
-use Rattle.cut_replays.specs.Stopped.{StoppedReplaysStand}
-use Rattle.image_model.specs.Image.{image_of}
 use Rattle.damage_laws.specs.Telling.{HasRootInside}
 use Rattle.gfs2_layout.specs.Device.{IsBlockSize}
 use Rattle.glock_names.specs.Views.{end_of}
 use Rattle.image_model.proofs.Lengths.{size_large}
 use Rattle.image_model.proofs.Replaying.{replayed_by_any}
+use Rattle.image_model.specs.Image.{image_of}
 use Rattle.image_mount.specs.Mounted.{IsMounted, Journal, MountedValue}
-use Rattle.image_recovery.specs.Laws.{PlannedCanBeReplayed}
-use Rattle.image_recovery.specs.Left.{ReplayLeaves}
-use Rattle.image_recovery.specs.Recoveries.{AreHeadersRead, HaveFailed, HaveReplayed, HaveReplayedSome}
 use Rattle.image_recovery.proofs.ReadPlaces.{read_reached}
+use Rattle.image_recovery.specs.Laws.{PlannedCanBeReplayed}
 use Rattle.image_replays.proofs.System.{its_journals}
 use Rattle.image_replays.specs.Laws.{StoppedAreNotReplayed}
 use Rattle.image_replays.specs.Replays as replays
 use Rattle.image_replays.specs.Replays.{Stops}
 use Rattle.image_replays.specs.look_faults.LookFault.{LookFault}
 use Rattle.image_replays.specs.look_faults.LookFault.TheVariants as look
-use Rattle.journal_replays.specs.Faults as replaying
-use Rattle.journal_replays.specs.declared.faults.ReplayFault.{ReplayFault}
-use Rattle.journal_replays.specs.declared.faults.ReplayFault.TheVariants as replay
+use Rattle.lone_view.specs.Groups.{AreGroupsOn}
+use Rattle.lone_view.specs.Seeing.{Lone, seen_alone}
+use Rattle.mounted_views.specs.Views.{view_of}
 use Rattle.peer_replay.specs.declared.planned.Plan.{Plan}
 use Rattle.shared_disk.specs.Disk.{DiskState, IsIdle}
-use Rattle.trace_text.specs.declared.item.TraceItem.{TraceItem}
-use Rattle.lone_view.specs.Seeing.{Lone, seen_alone}
-use Rattle.script_lang.specs.Script.{ScriptValue}
-use Rattle.cluster_program.specs.Beginning.{HasBegun}
-use Rattle.cluster_program.specs.EndStatuses.{IsStatusOfReplay, status_of_look}
-use Rattle.cluster_program.specs.Mounting.{BeginEnds, IsMountedOn, IsMountedReplayed, IsStopped, LacksRoom, NotMounted, NotRead}
-use Rattle.cluster_program.specs.Runs.{ArePlansOf, ReplayFailed, ReplayLacksRoom, RunEnds, StandsStill, StandsWhateverBecomes, as_mounted, joined}
-use Rattle.cluster_program.specs.World.{Inputs}
-use Rattle.run_reports.specs.declared.status.Status.{Status}
+use Rattle.cluster_program.specs.Beginning.{IsPrepared}
+use Rattle.cluster_program.specs.EndStatuses.{status_of_look}
+use Rattle.cluster_program.specs.Mounting.{ArePlaced, BeginEnds, IsMountedOn, IsMountedReplayed, IsStopped, LacksRoom, NotMounted, NotRead}
+use Rattle.cluster_program.specs.Runs.{ArePlansOf}
 use Rattle.run_reports.specs.declared.status.Status.TheVariants as status
-use Rattle.cluster_program.proofs.Mounts.{nothing_kept}
-use Rattle.cluster_program.proofs.ReplayItems.{begun_by}
 
 -- ---- why a run doesn't begin
 
@@ -60,3 +49,22 @@ module _ (law : StoppedAreNotReplayed) (d : DiskState) (size : IsBlockSize d.siz
       (λ tells. record { value = m; mounted = on tells; place = why.cause.2; reached = read_reached (image_of d) m (on tells) (size_large d.size size) block why.cause.2 })
       (record { from = let low = earlier 0 in omega (arith, low, why.cause.0.from); rose = why.cause.0.rose; to = why.cause.0.to }) why.cause.1
   plan_end look.NoMemory why = NotMounted status.NoMemory LacksRoom
+
+-- ---- what it begins with
+
+module _ (can : PlannedCanBeReplayed) (d : DiskState) (idle : IsIdle d) (sized : IsBlockSize d.size) (m : MountedValue) (on : IsMountedOn d m) (on_so : IsMountedReplayed d m) (groups : AreGroupsOn d.size d.count m.groups)
+    (root : HasRootInside (seen_alone (view_of d.size m))) (plans : List Plan) (planned : ArePlansOf d m plans) (few : length plans < 256) where
+  pub prepared : (view : Lone) (journals : List Journal) → view ≡ view_of d.size m → journals ≡ m.journals → 1 ≤ length journals → ArePlaced d.count journals → IsPrepared d view journals plans
+  prepared view journals view_is are some placed =
+      subst (λ v. IsPrepared d v journals plans) (sym view_is) (subst (λ js. IsPrepared d (view_of d.size m) js plans) (sym are) (record {
+        value = m;
+        mounted = on;
+        mounted_so = on_so;
+        view_is = refl;
+        journals_are = refl;
+        some = subst (λ js. 1 ≤ length js) are some;
+        placed = subst (ArePlaced d.count) are placed;
+        root = root;
+        planned = planned;
+        given = record { idle = idle; sized = sized; view_size = refl; empty = refl; some = groups.some; groups = groups.inside; can = can d m.journals plans planned.writable planned.headers; few = few };
+      }))

@@ -1,5 +1,5 @@
 -- How many journals a run left not clean.
-use Rattle.std.proofs.Common.{◌≡◌, ℕ, ◌+◌, suc, List, [], ◌∷◌, ◌++◌, Bool, true, false, cond, Some, refl, sym, ap, ◌∙◌, subst, arith}
+use Rattle.std.proofs.Common.{◌≡◌, ℕ, zero, suc, ◌+◌, List, [], ◌∷◌, ◌++◌, Bool, true, false, cond, Some, refl, sym, ap, ◌∙◌, subst, arith}
 use Rattle.std.specs.Prelude.{◌==◌, count_by, if◌then◌else◌, not, slice_get}
 use Rattle.std.specs.List.{AllByRecursion, range_with_len}
 use Rattle.std.proofs.lemmas.Bool.{cond-false}
@@ -41,6 +41,9 @@ pub none_left : (given left : DiskState) (m : MountedValue) → IsMounted (image
 none_left given left m mounted clean = (m, (mounted, sym (none_dirty (image_of left) m clean)))
 
 -- ---- by the items
+
+some_same : {A : Type 0} {x y : A} → Some x ≡ Some y → x ≡ y
+some_same e = cc
 
 -- the items of a replay commit nothing
 past_replays : (node : ℕ) (is rs : List TraceItem) → AllByRecursion IsOfReplay rs → is_left_dirty node false (rs ++ is) ≡ is_left_dirty node false is
@@ -97,8 +100,5 @@ module _ (time : ℕ) (before : Moment) (journals : List Journal) (plans : List 
       count_one = count_none (λ node. is_left_dirty node false items) (range_with_len 1 1) (λ k node is. at k node is)
         where
           at : (k node : ℕ) → slice_get (range_with_len 1 1) k ≡ Some node → is_left_dirty node false items ≡ false
-          at 0 node is = subst (λ n. is_left_dirty n false items ≡ false) (some_same is) node_one
+          at zero node is = subst (λ n. is_left_dirty n false items ≡ false) (some_same is) node_one
           at (suc k) node is = cc
-
-          some_same : {A : Type 0} {x y : A} → Some x ≡ Some y → x ≡ y
-          some_same e = cc

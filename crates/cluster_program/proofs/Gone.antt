@@ -1,11 +1,12 @@
 -- What holds of a run of what was mounted.
-use Rattle.std.proofs.Common.{◌≡◌, ◌⊎◌, inl, inr, ℕ, ◌+◌, ◌≤◌, ◌<◌, List, [], ◌∷◌, ◌++◌, length, Bool, true, false, Option, None, Some, refl, sym, ap, ◌∙◌, subst, arith}
+use Rattle.std.proofs.Common.{◌≡◌, ◌⊎◌, inl, inr, ℕ, ◌+◌, ◌≤◌, ◌<◌, List, [], ◌∷◌, ◌++◌, length, Bool, true, false, Option, None, Some, refl, sym, ap, ◌∙◌, subst, arith, append-nil}
 use Rattle.std.specs.Prelude.{◌≢◌, Contains, IfErr, IfSome, IsTrue, OnOk, Result, Ok, Err, slice_get}
 use Rattle.std.specs.FinMap.{empty, get}
 use Rattle.std.specs.List.{AllByRecursion}
 use Rattle.command_words.specs.Commands.{frames_of}
 use Rattle.cluster_history.specs.History.{Legal}
 use Rattle.damage_laws.specs.Telling.{CallsTellExactly, HasRootInside, HasWholeGroups, IsOfMounted, IsPathOf, IsReadFrom, IsTold, IsToldOn, MountedAreRead, NeedsTell}
+use Rattle.disk_items.specs.Deeds.{AreTold}
 use Rattle.disk_turns.specs.Turns.{Moment, moment}
 use Rattle.file_tree.specs.Tree.{Tree}
 use Rattle.image_model.specs.Image.{Image, IsImage, image_of}
@@ -34,7 +35,7 @@ use Rattle.lone_runs.specs.Ends.{HasCause}
 use Rattle.lone_runs.specs.Laws.{GainsAsTold, IsLineOfScript, IsOfImageThatStands, IsRunOf, NothingIsWritten, RunsAreLegal, RunsAreTold, RunsEnd, RunsMeetNoDamage, RunsRest, RunsStand, WritesNothing}
 use Rattle.lone_runs.specs.Runs as stages
 use Rattle.lone_runs.specs.Runs.{GoesSo, IsSameDisk}
-use Rattle.lone_runs.specs.Telling.{MountedJournalsServe, RunsSeeTheirDamage, RunsTellTheirReplays, SeesDamage}
+use Rattle.lone_runs.specs.Telling.{MountedJournalsServe, RunsSeeTheirDamage, RunsTellTheirReplays, SeesDamage, TellsItsReplays}
 use Rattle.lone_runs.specs.declared.ends.RunEnd.{RunEnd}
 use Rattle.lone_runs.specs.declared.ends.RunEnd.TheVariants as end
 use Rattle.logged_scripts.specs.declared.ends.RunEnd.{RunEnd as ScriptEnd}
@@ -111,6 +112,10 @@ behind_some (x ∷ xs) more there none = cc
 started : (added items : List TraceItem) → items ≡ joined ++ added → items ≢ []
 started added items are none = no_items [] (trace.Join 1) added (sym are ∙ none)
 
+nothing_told : (list : Option (List Operation)) → AreTold list list []
+nothing_told None = ([], refl, tt)
+nothing_told (Some ops) = ([], refl, sym (append-nil ops))
+
 no_err : (e : RunEnd) → ◌≡◌ {A = Result (Unit {0}) RunEnd} (Ok tt) (Err e) → ⊥
 no_err e is = cc
 
@@ -128,20 +133,20 @@ module _ (laws : RunLaws) (given left : Inputs) (before : ℕ → ℕ) (s : Scri
   abbrev Ran : Result (Unit {0}) RunEnd → Type 0
   Ran r = HasRunAlone given left before (view_of given.disk.size m) m.journals plans s time items r
 
-  own_is : (own : Journal) × (plan : Plan) × IsOwn m.journals plans own plan
+  abbrev own_is : (own : Journal) × (plan : Plan) × IsOwn m.journals plans own plan
   own_is = first_two given.disk m.journals plans some is_given.can
 
-  pub gone : (r : Result (Unit {0}) RunEnd) → Ran r → HasGone given left m s time items r
+  abbrev gone : (r : Result (Unit {0}) RunEnd) → Ran r → HasGone given left m s time items r
   gone r ran = record { plans = plans; planned = planned; own = own_is.0; plan = own_is.1; is_own = own_is.2; goes = ran.goes own_is.0 own_is.1 own_is.2 }
 
   few_frames : frames_of None ≤ most_frames
   few_frames = omega arith
 
   module _ (r : Result (Unit {0}) RunEnd) (ran : Ran r) (begun : items ≢ []) (tree : Tree) (is : IsImageOf given.disk tree) (mounted : IsMounted (image_of given.disk) m) where
-    start : IsStart given.disk m plans time tree
+    abbrev start : IsStart given.disk m plans time tree
     start = record { tells = is.tells; idle = idle; sized = sized; mounted = mounted; planned = planned.are is.tells mounted; can = is_given.can; read = ran.headers begun; stands = is.stands }
 
-    run_of : IsRunOf s time (frames_of None) (now_of given) m plans tree (now_of left) items r
+    abbrev run_of : IsRunOf s time (frames_of None) (now_of given) m plans tree (now_of left) items r
     run_of = record { from = start; given = is_given; own = own_is.0; plan = own_is.1; is_own = own_is.2; goes = ran.goes own_is.0 own_is.1 own_is.2; few = few_frames }
 
   pub holds : (r : Result (Unit {0}) RunEnd) → Ran r → items ≢ [] → (tree : Tree) → IsImageOf given.disk tree → HoldsTree given left m s items tree
@@ -220,6 +225,7 @@ module _ (laws : RunLaws) (given left : Inputs) (before : ℕ → ℕ) (s : Scri
   -- ---- a run without a stop that came to its end
 
   module _ (ran : Ran (Ok tt)) (begun : items ≢ []) (none : NoneStopped items) where
+    tells : TellsItsReplays time (now_of given) m.journals plans items
     tells = laws.replays s time (frames_of None) (now_of given) (view_of given.disk.size m) m.journals plans own_is.0 own_is.1 (now_of left) items (ran.goes own_is.0 own_is.1 own_is.2) none
 
     module _ (unchanged : ChangesNothing items) where

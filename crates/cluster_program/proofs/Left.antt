@@ -8,7 +8,8 @@ use Rattle.image_model.specs.Image.{image_of}
 use Rattle.image_model.specs.Laws.{CleanImagesStand}
 use Rattle.image_model.specs.Owners.{Owners}
 use Rattle.image_model.specs.Replays.{StandsReplayed}
-use Rattle.image_model.specs.Stands.{IsJournalAt, Layout, StandsBy}
+use Rattle.image_model.specs.Stands.{IsJournalAt, Layout}
+use Rattle.image_changes.specs.Instances.{StandsBy}
 use Rattle.image_model.proofs.Replaying.{clean_stay, journals_of_standing, one_replay}
 use Rattle.image_mount.specs.Mounted.{IsMounted, IsOfProfile, Journal, MountedValue}
 use Rattle.image_recovery.specs.Left.{LeftIsOfProfile, LeftMounts, LeftStandsBy}

@@ -1,5 +1,5 @@
 -- The journals of a mounted image are in blocks of the disk.
-use Rattle.std.proofs.Common.{◌≡◌, ℕ, ◌+◌, ◌<◌, ◌≤◌, ◌^◌, List, [], ◌∷◌, length, get_or, None, Some, refl, sym, ◌∙◌, subst, arith}
+use Rattle.std.proofs.Common.{◌≡◌, ℕ, suc, ◌+◌, ◌<◌, ◌≤◌, ◌^◌, List, [], ◌∷◌, length, get_or, None, Some, refl, sym, ◌∙◌, subst, arith}
 use Rattle.std.specs.Prelude.{slice_get}
 use Rattle.std.specs.List.{All, AllByRecursion}
 use Rattle.std.proofs.lemmas.Option.{slice_get_within}
@@ -47,10 +47,8 @@ module _ (disk : DiskState) (m : MountedValue) (idle : IsIdle disk) (is : IsMoun
   all_placed : (js : List Journal) (from : ℕ) → ((k : ℕ) (x : Journal) → slice_get js k ≡ Some x → slice_get m.journals (from + k) ≡ Some x) → ArePlaced disk.count js
   all_placed [] from there = tt
   all_placed (x ∷ js) from there =
-      ((few (from + 0) x (there 0 x refl), inside (from + 0) x (there 0 x refl)), all_placed js (from + 1) (λ k y is_y. subst (λ n. slice_get m.journals n ≡ Some y) (omega arith) (there (k + 1) y (next k y is_y))))
-    where
-      next : (k : ℕ) (y : Journal) → slice_get js k ≡ Some y → slice_get (x ∷ js) (k + 1) ≡ Some y
-      next k y is_y = let one : k + 1 ≡ 1 + k = omega arith in subst (λ n. slice_get (x ∷ js) n ≡ Some y) (sym one) is_y
+      let here : slice_get m.journals (from + 0) ≡ Some x = there 0 x refl in
+      ((few (from + 0) x here, inside (from + 0) x here), all_placed js (from + 1) (λ k y is_y. subst (λ n. slice_get m.journals n ≡ Some y) (omega arith) (there (suc k) y is_y)))
 
   pub are_placed : ArePlaced disk.count m.journals
-  are_placed = all_placed m.journals 0 (λ k x at. at)
+  are_placed = all_placed m.journals 0 (λ k x at. let none : 0 + k ≡ k = omega arith in subst (λ n. slice_get m.journals n ≡ Some x) (sym none) at)

@@ -64,10 +64,10 @@ past_replays slot time before after (j ∷ js) (p ∷ ps) items more (next, firs
 
 -- what isn't a recovery gives none
 none_behind : (written : ℕ) (more : List TraceItem) → AllByRecursion IsNoRecovery more → replayed_lines_behind written more ≡ []
-none_behind written [] none = refl
-none_behind written (trace.WriteReplay node block ∷ is) none = none_behind (written + 1) is none.1
-none_behind written (trace.Recovered node by ∷ is) none = absurd none.0
-none_behind written (_ ∷ is) none = none_behind written is none.1
+none_behind written [] free = refl
+none_behind written (trace.WriteReplay node block ∷ is) free = none_behind (written + 1) is free.1
+none_behind written (trace.Recovered node by ∷ is) free = absurd free.0
+none_behind written (_ ∷ is) free = none_behind written is free.1
 
 pub lines_told : (time : ℕ) (before : Moment) (js : List Journal) (ps : List Plan) (items : List TraceItem) → TellsItsReplays time before js ps items → replayed_lines items ≡ lines_of_plans 0 ps
 lines_told time before js ps items tells =

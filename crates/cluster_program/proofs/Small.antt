@@ -12,7 +12,7 @@ use Rattle.script_lang.specs.WellFormed.{IsAllowedCall, IsLine, IsWellFormed}
 use Rattle.script_lang.specs.declared.script.Line.{Line}
 use Rattle.script_lang.specs.declared.script.Line.TheVariants as line
 use Rattle.script_laws.specs.Printing.{HasCall, IsBytePath, IsCall}
-use Rattle.small_calls.specs.Sizes.{IsOfScript, most_bytes}
+use Rattle.small_calls.specs.Sizes.{IsOfScript}
 use Rattle.image_model.proofs.Listing.{all_by_index}
 
 last_bytes : (path : List (List ℕ)) → AllByRecursion IsBytes path → IsBytes (last_of path)
@@ -38,11 +38,8 @@ its_paths (calls.Rename p q) is false = on_path p is.0
 its_paths (calls.Rename p q) is true = on_path q is.1
 its_paths calls.Sync is second = all_by_index (λ byte. byte < 256) [] tt
 
-short_write : (call : Call) → IsAllowedCall call → (path : List (List ℕ)) (at : ℕ) (new : List ℕ) → call ≡ calls.Write path at new → length new ≤ most_bytes
-short_write call allowed path at new is = (subst IsAllowedCall is allowed).2
-
 of_line : (s : ScriptValue) (l : Line) → IsLine s l → HasCall l → IsLineOfScript l
-of_line s (line.Call client call) is has = record { short = short_write call is.1; names = its_paths call has }
+of_line s (line.Call client call) is has = record { short = λ path at new same. (subst IsAllowedCall same is.1).2; names = its_paths call has }
 of_line s line.Wait is has = tt
 of_line s (line.Crash nodes) is has = tt
 of_line s (line.Join node) is has = tt

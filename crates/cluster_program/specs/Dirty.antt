@@ -1,5 +1,5 @@
 -- How many journals a run tells as not clean, where all was done.
-use Rattle.std.specs.Prelude.{ℕ, ⊥, ◌≡◌, not, Contains, List, count_by, IsTrue, Some}
+use Rattle.std.specs.Prelude.{ℕ, ◌≡◌, not, Contains, List, count_by, IsTrue, Some}
 use Rattle.fault_counts.specs.Causes.{WentUp}
 use Rattle.file_tree.specs.Tree.{Tree}
 use Rattle.image_model.specs.Image.{Image, image_of}

@@ -8,6 +8,8 @@ use Rattle.image_replays.specs.look_faults.LookFault.{LookFault}
 use Rattle.image_replays.specs.look_faults.LookFault.TheVariants as look
 use Rattle.logged_scripts.specs.declared.ends.RunEnd.{RunEnd as ScriptEnd}
 use Rattle.logged_scripts.specs.declared.ends.RunEnd.TheVariants as script_end
+use Rattle.journal_reads.specs.declared.faults.ReadFault.{ReadFault}
+use Rattle.journal_reads.specs.declared.faults.ReadFault.TheVariants as read
 use Rattle.lone_runs.specs.declared.ends.RunEnd.{RunEnd}
 use Rattle.lone_runs.specs.declared.ends.RunEnd.TheVariants as end
 use Rattle.disk_trees.specs.declared.faults.TreeFault.{TreeFault}
@@ -74,3 +76,8 @@ status_of_input input.NoMemory = status.NoMemory
 abbrev pub status_of_refusal : ScriptRefusal → Status
 status_of_refusal (refusal.Bad line column) = status.BadScript line column
 status_of_refusal refusal.NoMemory = status.NoMemory
+
+-- of the reading of a head
+abbrev pub status_of_read : ReadFault → Status
+status_of_read (read.DiskFailed block rise) = status.DeviceFault 0 (Some block) rise.before rise.after
+status_of_read read.NoMemory = status.NoMemory

@@ -1,5 +1,5 @@
 -- Which image can be mounted, and how a command ends that can't mount one.
-use Rattle.std.specs.Prelude.{ℕ, ⊥, ◌≡◌, ◌<◌, ◌^◌, Bool, false, true, IsTrue, List, length, Option, None, Some, slice_get}
+use Rattle.std.specs.Prelude.{ℕ, ◌≡◌, ◌<◌, ◌^◌, Bool, false, true, IsTrue, List, length, Option, None, Some, slice_get}
 use Rattle.std.specs.List.{All, AllByRecursion}
 use Rattle.fault_counts.specs.Causes.{WentUp}
 use Rattle.file_tree.specs.Tree.{Tree}

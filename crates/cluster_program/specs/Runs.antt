@@ -1,5 +1,5 @@
 -- How a run of a script goes, and how it ends.
-use Rattle.std.specs.Prelude.{ℕ, ⊥, ◌≡◌, ◌≢◌, ◌++◌, ◌+◌, ◌<◌, ⊤, false, true, Contains, IfSome, IsSome, IsTrue, List, [], ◌∷◌, length, slice_get, Option, None, Some, Result, Ok, Err}
+use Rattle.std.specs.Prelude.{ℕ, ◌≡◌, ◌≢◌, ◌++◌, ◌+◌, ◌<◌, ⊤, false, true, Contains, IfSome, IsSome, IsTrue, List, [], ◌∷◌, length, slice_get, Option, None, Some, Result, Ok, Err}
 use Rattle.std.specs.List.{AllByRecursion}
 use Rattle.fault_counts.specs.Causes.{WentUp}
 use Rattle.command_words.specs.Commands.{frames_of}
@@ -10,7 +10,7 @@ use Rattle.cluster_history.specs.History.{IsNumbered, Legal}
 use Rattle.damage_laws.specs.Telling.{HasAstrayOn}
 use Rattle.disk_turns.specs.Turns.{Moment, moment}
 use Rattle.glock_names.specs.Views.{HasBlock, Seen}
-use Rattle.image_changes.specs.Views.{AgreesWith}
+use Rattle.draft_changes.specs.Shown.{AgreesWith}
 use Rattle.image_model.specs.Image.{Image, IsImage, image_of}
 use Rattle.image_model.specs.Rules.{IsBrokenBlock}
 use Rattle.image_mount.specs.Mounted.{Journal, MountedValue, IsMounted}

@@ -3,6 +3,7 @@ ghost use Rattle.std.specs.Prelude.{ℕ, ⊥, ◌≡◌, ◌≤◌, ◌↔◌, I
 ghost use Rattle.gfs2_layout.specs.Device.{IsBlockSize};
 ghost use Rattle.run_rules.specs.History.{NoneStopped};
 ghost use Rattle.shared_disk.specs.Disk.{ReadsOnly};
+ghost use Rattle.cluster_program.specs.EndStatuses.{status_of_read};
 ghost use Rattle.cluster_program.specs.Dirty.{IsUnreadHead, dirty_on};
 ghost use Rattle.cluster_program.specs.Mounting.{ArePlaced};
 

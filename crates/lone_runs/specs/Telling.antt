@@ -1,5 +1,5 @@
 -- What a run of one node tells on every disk: its replays first, its clean header last, and its damage by what it has.
-use Rattle.std.specs.Prelude.{ℕ, ⊥, ⊤, ◌≡◌, ◌≤◌, ◌++◌, List, [], ◌∷◌, Result, Ok, Err}
+use Rattle.std.specs.Prelude.{ℕ, ⊤, ◌≡◌, ◌≤◌, ◌++◌, List, [], ◌∷◌, Result, Ok, Err}
 use Rattle.std.specs.List.{AllByRecursion}
 use Rattle.disk_turns.specs.Turns.{Moment}
 use Rattle.file_tree.specs.declared.call.Call.{Call}
