@@ -1,0 +1,70 @@
+-- Which calls losses take out, by the least number that they keep.
+use Rattle.std.proofs.Common.{◌≡◌, ◌≢◌, ◌⊎◌, inl, inr, ℕ, ◌+◌, ◌-◌, ◌<◌, ◌≤◌, ◌^◌, List, [], ◌∷◌, Bool, true, false, length, get_or, refl, sym, ap, ◌∙◌, arith}
+use Rattle.std.specs.Prelude.{◌==◌, ◌&&◌, ◌||◌, min, nat_lt, if◌then◌else◌, slice_index, slice_set}
+use Rattle.std.proofs.lemmas.Bool.Decides.{eqb_tells, nat_tests}
+use Rattle.std.proofs.lemmas.Grind.{get_or-set_at}
+use Rattle.std.proofs.lemmas.List.{get_or-set_other}
+use Rattle.cluster_history.specs.History.{any_drops, lost_count}
+use Rattle.file_tree.specs.declared.call.Call.{Call}
+use Rattle.file_tree.specs.declared.reply.Reply.{Reply}
+use Rattle.run_rules.specs.Follows.{history_of}
+use Rattle.script_lang.specs.declared.script.Client.{Client}
+use Rattle.trace_text.specs.declared.item.TraceItem.{TraceItem}
+use Rattle.trace_text.specs.declared.item.TraceItem.TheVariants as trace
+use Rattle.run_reports.specs.Losses.{HasLeast, least_kept}
+
+-- ---- what is taken out is above the least number
+
+below_least : (kept least number : ℕ) → (nat_lt kept number || nat_lt least number) ≡ nat_lt (min kept least) number
+below_least kept least number = grind (arith, nat_tests)
+
+none_above : (number : ℕ) → number < 2 ^ 64 → false ≡ nat_lt (2 ^ 64 - 1) number
+none_above number small = grind (arith, nat_tests)
+
+one_more : (of_node : Bool) (kept least number : ℕ) (rest : Bool) → rest ≡ nat_lt least number → ((of_node && nat_lt kept number) || rest) ≡ nat_lt (if of_node then min kept least else least) number
+one_more false kept least number rest is = is
+one_more true kept least number rest is = ap (λ (b : Bool). nat_lt kept number || b) is ∙ below_least kept least number
+
+any_above : (clients : List Client) (node number : ℕ) → number < 2 ^ 64 → (items : List TraceItem) → any_drops node number (history_of clients items) ≡ nat_lt (least_kept node items) number
+any_above clients node number small [] = none_above number small
+any_above clients node number small (trace.Lost i kept ∷ is) = one_more (i == node) kept (least_kept node is) number (any_drops node number (history_of clients is)) (any_above clients node number small is)
+any_above clients node number small (_ ∷ is) = any_above clients node number small is
+
+-- a call counts, if its number is above that of its node
+pub counts_one : (clients : List Client) (table : List ℕ) (rest : List TraceItem) (node number : ℕ) (name : List ℕ) (call : Call) (reply : Reply) (lost : Bool) → HasLeast table rest → node < 256 → number < 2 ^ 64
+    → lost ≡ nat_lt (slice_index table node) number → lost_count (history_of clients (trace.Call node name number call reply ∷ rest)) ≡ (if lost then 1 else 0) + lost_count (history_of clients rest)
+counts_one clients table rest node number name call reply lost has inside small is =
+    ap (λ (b : Bool). (if b then 1 else 0) + lost_count (history_of clients rest))
+    (any_above clients node number small rest ∙ ap (λ (k : ℕ). nat_lt k number) (sym (has node inside)) ∙ sym is)
+
+-- ---- the table with one more loss
+
+least_of : (same : Bool) (kept least : ℕ) → same ≡ true → (if same then min kept least else least) ≡ min kept least
+least_of true kept least is = refl
+least_of false kept least is = cc
+
+least_as_before : (same : Bool) (kept least : ℕ) → same ≡ false → (if same then min kept least else least) ≡ least
+least_as_before false kept least is = refl
+least_as_before true kept least is = cc
+
+min_first : (kept least : ℕ) → kept < least → kept ≡ min kept least
+min_first kept least less = omega (arith, less)
+
+min_second : (kept least : ℕ) → least ≤ kept → least ≡ min kept least
+min_second kept least less = omega (arith, less)
+
+-- its number is less
+pub lowered : (table : List ℕ) (rest : List TraceItem) (node kept : ℕ) → length table ≡ 256 → node < 256 → kept < slice_index table node → HasLeast table rest → HasLeast (slice_set table node kept) (trace.Lost node kept ∷ rest)
+lowered table rest node kept long inside less has i within =
+    elim (eqb_tells node i) [
+      | inl of ↦ get_or-set_at table node i kept 0 (sym of.1) (omega (arith, long, inside)) ∙ min_first kept (least_kept i rest) (omega (arith, less, has i within, ap (slice_index table) of.1)) ∙ sym (least_of (node == i) kept (least_kept i rest) of.0)
+      | inr of ↦ get_or-set_other table node i kept 0 (λ is. of.1 (sym is)) ∙ has i within ∙ sym (least_as_before (node == i) kept (least_kept i rest) of.0)
+    ]
+
+-- it isn't
+pub as_low : (table : List ℕ) (rest : List TraceItem) (node kept : ℕ) → node < 256 → slice_index table node ≤ kept → HasLeast table rest → HasLeast table (trace.Lost node kept ∷ rest)
+as_low table rest node kept inside most has i within =
+    elim (eqb_tells node i) [
+      | inl of ↦ has i within ∙ min_second kept (least_kept i rest) (omega (arith, most, has i within, ap (slice_index table) of.1)) ∙ sym (least_of (node == i) kept (least_kept i rest) of.0)
+      | inr of ↦ has i within ∙ sym (least_as_before (node == i) kept (least_kept i rest) of.0)
+    ]
