@@ -6,3 +6,4 @@ pub mod Losses
 pub mod LoneRuns
 pub mod Faults
 pub mod Counting
+pub mod DownLines

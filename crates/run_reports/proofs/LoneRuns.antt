@@ -71,7 +71,7 @@ by_run s _ _ one (running count items runs) l used = absurd (never (has_use_belo
 by_run s _ _ one (crashed count items has) l used = is_down s count items has
 
 pub lone_runs : LoneRunsAreOfOneNode
-lone_runs s count items form run = record { clients = form.clients; orders = by_run s count items form.nodes run; }
+lone_runs s count items form run = record { clients = form.clients; orders = by_run s count items form.nodes run }
 
 pub nothing_run : NothingIsOfOneNode
-nothing_run = record { clients = tt; orders = λ l used. absurd (never false refl used); }
+nothing_run = record { clients = tt; orders = λ l used. absurd (never false refl used) }

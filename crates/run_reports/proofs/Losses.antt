@@ -1,9 +1,9 @@
 -- Which calls losses take out, by the least number that they keep.
-use Rattle.std.proofs.Common.{◌≡◌, ◌≢◌, ◌⊎◌, inl, inr, ℕ, ◌+◌, ◌-◌, ◌<◌, ◌≤◌, ◌^◌, List, [], ◌∷◌, Bool, true, false, length, get_or, refl, sym, ap, ◌∙◌, arith}
+use Rattle.std.proofs.Common.{◌≡◌, inl, inr, ℕ, ◌+◌, ◌-◌, ◌<◌, ◌≤◌, ◌^◌, List, [], ◌∷◌, Bool, true, false, length, drop, replicate, get_or, refl, sym, ap, ◌∙◌, arith}
 use Rattle.std.specs.Prelude.{◌==◌, ◌&&◌, ◌||◌, min, nat_lt, if◌then◌else◌, slice_index, slice_set}
 use Rattle.std.proofs.lemmas.Bool.Decides.{eqb_tells, nat_tests}
 use Rattle.std.proofs.lemmas.Grind.{get_or-set_at}
-use Rattle.std.proofs.lemmas.List.{get_or-set_other}
+use Rattle.std.proofs.lemmas.List.{drop_all, drop_more, get_or-replicate, get_or-set_other}
 use Rattle.cluster_history.specs.History.{any_drops, lost_count}
 use Rattle.file_tree.specs.declared.call.Call.{Call}
 use Rattle.file_tree.specs.declared.reply.Reply.{Reply}
@@ -68,3 +68,18 @@ as_low table rest node kept inside most has i within =
       | inl of ↦ has i within ∙ min_second kept (least_kept i rest) (omega (arith, most, has i within, ap (slice_index table) of.1)) ∙ sym (least_of (node == i) kept (least_kept i rest) of.0)
       | inr of ↦ has i within ∙ sym (least_as_before (node == i) kept (least_kept i rest) of.0)
     ]
+
+-- ---- from the end to the start
+
+-- behind the last item there is none
+pub none_yet : (items : List TraceItem) → HasLeast (replicate 256 (2 ^ 64 - 1)) (drop (length items) items)
+none_yet items node inside = get_or-replicate 256 node (2 ^ 64 - 1) 0 inside ∙ ap (least_kept node) (sym (drop_all (length items) items (omega arith)))
+
+pub none_lost : (clients : List Client) (items : List TraceItem) → 0 ≡ lost_count (history_of clients (drop (length items) items))
+none_lost clients items = ap (λ (l : List TraceItem). lost_count (history_of clients l)) (sym (drop_all (length items) items (omega arith)))
+
+-- one item more
+pub one_before : (items : List TraceItem) (place : ℕ) (d : TraceItem) → 1 ≤ place → place ≤ length items → d ≡ get_or items (place - 1) d → drop (place - 1) items ≡ d ∷ drop place items
+one_before items place d some within is =
+    let count : place - 1 + 1 ≡ place = omega (arith, some) in
+    drop_more items (place - 1) d (omega (arith, some, within)) ∙ ap (λ (i : TraceItem). i ∷ drop (place - 1 + 1) items) (sym is) ∙ ap (λ (k : ℕ). d ∷ drop k items) count
