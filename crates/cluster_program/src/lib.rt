@@ -2,6 +2,7 @@
 #![tactic(auto)]
 
 mod beginning;
+mod dirty;
 mod end_status;
 mod image;
 mod input;

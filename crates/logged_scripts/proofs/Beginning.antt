@@ -29,11 +29,11 @@ replay_member (trace.Withdraw node before after) is = absurd is
 replay_member (trace.Lost node kept) is = absurd is
 replay_member _ is = tt
 
-members : (xs : List TraceItem) → AllByRecursion IsOfReplay xs → AllByRecursion IsOfMember xs
+pub members : (xs : List TraceItem) → AllByRecursion IsOfReplay xs → AllByRecursion IsOfMember xs
 members [] all = tt
 members (x ∷ xs) all = (replay_member x all.0, members xs all.1)
 
-no_call_lines : (xs : List TraceItem) → AllByRecursion IsOfReplay xs → filter is_call xs ≡ []
+pub no_call_lines : (xs : List TraceItem) → AllByRecursion IsOfReplay xs → filter is_call xs ≡ []
 no_call_lines [] all = refl
 no_call_lines (trace.Call i name number call reply ∷ xs) all = absurd all.0
 no_call_lines (x ∷ xs) all = no_call_lines xs all.1

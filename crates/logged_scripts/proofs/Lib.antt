@@ -1,10 +1,10 @@
 mod Lists
-mod Crashing
+pub mod Crashing
 mod Members
 mod Disks
 mod Untouched
 mod Going
-mod Beginning
+pub mod Beginning
 mod Taking
 mod Leaving
 mod Fenced

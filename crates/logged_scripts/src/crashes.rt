@@ -67,8 +67,8 @@ fn settle_at(armed: &[Armed], write: u64) -> Settle
     Settle::Old
 }
 
-/// How a fence settles what is in flight of a node behind the first of these crashes.
-pub(crate) fn settle_first(armed: &[Armed]) -> Settle
+/// How a fence settles what is in flight of a node behind the first of these crashes; as it was before, where none is to come. Costs two passes over them.
+pub fn settle_first(armed: &[Armed]) -> Settle
     ensures { result ≡ fate_of armed.now (first_crash armed.now) }
 {
     match first_write(armed) {

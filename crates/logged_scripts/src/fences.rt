@@ -11,8 +11,8 @@ use lone_fences::{FenceEnd, fence_crashed};
 use shared_disk::{Settle, SharedDisk};
 use std::alloc::Global;
 
-// How a run ends that comes to this end behind a crash.
-fn end_of_fence(end: FenceEnd) -> RunEnd
+/// How a run ends that comes to this end behind a crash.
+pub fn end_of_fence(end: FenceEnd) -> RunEnd
     ensures { result ≡ end_of end }
 {
     match end {

@@ -9,7 +9,8 @@ mod joining;
 mod lines;
 mod running;
 
-pub use crashes::writes_left;
+pub use crashes::{settle_first, writes_left};
 pub use ends::RunEnd;
+pub use fences::end_of_fence;
 pub use joining::join;
 pub use running::run_script;

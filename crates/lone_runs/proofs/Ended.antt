@@ -43,11 +43,11 @@ some_none : {A : Type 0} {x : A} → Some x ≡ None → ⊥
 some_none e = cc
 
 -- an end is no success
-err_ok : (e : RunEnd) → ◌≡◌ {A = Result (Unit {0}) RunEnd} (Err e) (Ok tt) → ⊥
+pub err_ok : (e : RunEnd) → ◌≡◌ {A = Result (Unit {0}) RunEnd} (Err e) (Ok tt) → ⊥
 err_ok e same = cc
 
 -- nothing flies where nothing flies to any block
-none_flies : (fs : List Flight) → ((b : ℕ) → flight_to fs b ≡ None) → fs ≡ []
+pub none_flies : (fs : List Flight) → ((b : ℕ) → flight_to fs b ≡ None) → fs ≡ []
 none_flies [] none = refl
 none_flies (f ∷ fs) none = absurd (there (none f.block))
   where
@@ -103,10 +103,10 @@ module _ (resting : ReplayedIsAtRest) (begin : RunsBeginSo) (keep : StepsKeep) (
     unfenced same node = ap (λ (d : DiskState). d.is_fenced node) same ∙ ap (λ f. f node) goes.same.fenced ∙ ap (λ (d : DiskState). d.is_fenced node) at_replayed ∙ rest.idle.none_fenced node
 
     by_end : HasUnmounted p q → after.disk ≡ q.disk → items ≡ q.items → Ended
-    by_end (clean_still done clean left_is) same are =
+    by_end (clean_still unmounts done clean left_is) same are =
         ended_so rest.layout rest.journals v refl p.items p.disk (cleans v (begun_on (image_of a.disk) rest.owners rest.layout start) is.own.dinode s.clients time a p begins goes.steps done clean)
         (same ∙ ap (λ (x : Point). x.disk) left_is) (are ∙ ap (λ (x : Point). x.items) left_is) (done_rests p done.still logged.others) (unfenced same)
-    by_end (with_header bytes list flies left_is) same are =
+    by_end (with_header bytes list unmounts flies left_is) same are =
         ended_so rest.layout rest.journals v refl (p.items ++ clean_item p ∷ trace.Barrier 1 ∷ []) (after_barrier (with_clean p bytes) 1)
         (lands v (begun_on (image_of a.disk) rest.owners rest.layout start) is.own.dinode s.clients time a p bytes begins goes.steps flies)
         (same ∙ ap (λ (x : Point). x.disk) left_is) (are ∙ ap (λ (x : Point). x.items) left_is) (landed_rests p bytes logged.others) (unfenced same)
@@ -124,10 +124,10 @@ module _ (resting : ReplayedIsAtRest) (begin : RunsBeginSo) (keep : StepsKeep) (
 
   by_stage : (r : Result (Unit {0}) RunEnd) → GoesSo s time frames before (view_of before.disk.size m) m.journals plans is.own is.plan after items r → r ≡ Ok tt → Ended
   by_stage _ (stages.not_joined e same empty may) ok = absurd (err_ok e ok)
-  by_stage _ (stages.no_memory some) ok = absurd (err_ok _ ok)
-  by_stage _ (stages.disk_failed block rise failed) ok = absurd (err_ok _ ok)
-  by_stage _ (stages.crashed stopped told it hf) ok = absurd (no_stop_behind told (trace.Fence 1 ∷ trace.Lost 1 hf.kept ∷ []) (subst NoneStopped hf.told none))
-  by_stage _ (stages.not_fenced stopped told e it ends) ok = absurd (err_ok _ ok)
+  by_stage _ (stages.no_memory some early) ok = absurd (err_ok _ ok)
+  by_stage _ (stages.disk_failed block rise failed early) ok = absurd (err_ok _ ok)
+  by_stage _ (stages.crashed stopped told it at hf) ok = absurd (no_stop_behind told (trace.Fence 1 ∷ trace.Lost 1 hf.kept ∷ []) (subst NoneStopped hf.told none))
+  by_stage _ (stages.not_fenced stopped told e it at ends) ok = absurd (err_ok _ ok)
   by_stage _ (stages.ran replayed begun r have sound run) ok = by_result replayed begun r have sound run ok
 
 pub runs_end : ReplayedIsAtRest → RunsBeginSo → StepsKeep → LoggedRunsEnd → CleanRunsEnd → RunsEnd

@@ -75,5 +75,5 @@ module _ (resting : ReplayedIsAtRest) (s : ScriptValue) (time frames : ℕ) (bef
       rest = subst (λ n. IsAtRest replayed.disk rests.owners rests.layout start own.dinode a.log.journal rests.head (view_of n m)) size_is rests.rest;
       begins = λ i. starting replayed.disk replayed.list a.log.journal (sym head_is i) (view_of before.disk.size m) begun;
       steps = goes.steps;
-      last = goes.goes;
+      last = elim goes.goes [ inl fails ↦ inl fails | inr ends ↦ inr (ends.1, ends.2) ];
     }

@@ -164,11 +164,11 @@ module _ (resting : ReplayedIsAtRest) (whole_stand : WholeRunsStand) (are_told :
   by_stage _ (not_joined e same none may) =
       let no_ops = cancel was operations [] (some_same (sym last ∙ ap (λ (x : Moment). x.list) same ∙ first) ∙ sym (append_nil was)) in
       none_has_stood clients before start v is.from.stands (λ b. ap (λ (fs : List Flight). flight_to fs b) (is.from.idle.none_in_flight 1)) operations no_ops items none after.disk (ap (λ (x : Moment). x.disk) same)
-  by_stage _ (no_memory some) = start_quiet v clients before start items after.disk operations (some_stand clients before after m plans time start items was operations is.from some first last) operations refl after.disk refl items refl
-  by_stage _ (disk_failed block rise failed) =
+  by_stage _ (no_memory some early) = start_quiet v clients before start items after.disk operations (some_stand clients before after m plans time start items was operations is.from some first last) operations refl after.disk refl items refl
+  by_stage _ (disk_failed block rise failed early) =
       start_quiet v clients before start items after.disk operations (failed_stand clients before after m plans time start items block was operations is.from failed first last) operations refl after.disk refl items refl
-  by_stage _ (crashed stopped told crash hf) = with_its_loss stopped told crash hf
-  by_stage _ (not_fenced stopped told e crash ends) = without_fence stopped told crash e ends
+  by_stage _ (crashed stopped told crash at hf) = with_its_loss stopped told crash hf
+  by_stage _ (not_fenced stopped told e crash at ends) = without_fence stopped told crash e ends
   by_stage _ (ran replayed begun r have sound run) =
       let rest = rests resting s time frames before replayed m plans start is.own is.plan begun is.from is.is_own have sound is.few run.count run.last run.left in
       run_has_stood whole_stand are_told each_front places_say clients before m plans time start rest.owners rest.layout is.own.dinode _ run.last run.left

@@ -48,11 +48,11 @@ no_stop_behind (x ∷ xs) more none = no_stop_behind xs more none
 
 -- ---- a run behind which nothing was done
 
-only_nothing : (a q : Point) (d : DiskState) (list : Option (List Operation)) (items : List TraceItem) → IsBehind a q d list items → NoneStopped items → (d ≡ q.disk) × (list ≡ q.list) × (items ≡ q.items)
-only_nothing a q d list items (nothing same listed are) none = (same, listed, are)
-only_nothing a q d list items (crash same listed are) none = absurd (no_stop_behind q.items [] (subst NoneStopped are none))
-only_nothing a q d list items (fence fenced are) none = absurd (no_stop_behind q.items (trace.Fence 1 ∷ []) (subst NoneStopped are none))
-only_nothing a q d list items (loss hf) none = absurd (no_stop_behind q.items (trace.Fence 1 ∷ trace.Lost 1 hf.kept ∷ []) (subst NoneStopped hf.told none))
+only_nothing : (a p q : Point) (d : DiskState) (list : Option (List Operation)) (items : List TraceItem) → IsBehind a p q d list items → NoneStopped items → (d ≡ q.disk) × (list ≡ q.list) × (items ≡ q.items)
+only_nothing a p q d list items (nothing same listed are) none = (same, listed, are)
+only_nothing a p q d list items (crash untold same listed are) none = absurd (no_stop_behind q.items [] (subst NoneStopped are none))
+only_nothing a p q d list items (fence untold fenced are) none = absurd (no_stop_behind q.items (trace.Fence 1 ∷ []) (subst NoneStopped are none))
+only_nothing a p q d list items (loss untold hf) none = absurd (no_stop_behind q.items (trace.Fence 1 ∷ trace.Lost 1 hf.kept ∷ []) (subst NoneStopped hf.told none))
 
 -- ---- where nothing changes
 
@@ -61,12 +61,12 @@ nothing_is_written s time frames before view journals plans own plan after items
   where
     by : (r : Result (Unit {0}) RunEnd) → GoesSo s time frames before view journals plans own plan after items r → r ≡ Ok tt → WritesNothing time before journals plans after
     by _ (not_joined e same empty may) is = cc
-    by _ (no_memory some) is = cc
-    by _ (disk_failed block rise failed) is = cc
-    by _ (crashed stopped told it hf) is = absurd (no_stop_behind told (trace.Fence 1 ∷ trace.Lost 1 hf.kept ∷ []) (subst NoneStopped hf.told none))
-    by _ (not_fenced stopped told e it ends) is = cc
+    by _ (no_memory some early) is = cc
+    by _ (disk_failed block rise failed early) is = cc
+    by _ (crashed stopped told it at hf) is = absurd (no_stop_behind told (trace.Fence 1 ∷ trace.Lost 1 hf.kept ∷ []) (subst NoneStopped hf.told none))
+    by _ (not_fenced stopped told e it at ends) is = cc
     by _ (ran replayed begun r have sound run) is =
-        let behind = only_nothing _ run.left after.disk after.list items run.behind none in
+        let behind = only_nothing _ run.last run.left after.disk after.list items run.behind none in
         let still = run.goes.untouched (subst (AllByRecursion (λ it. is_change it ≡ false)) behind.2 unchanged) in
         let same : after ≡ replayed = (λ i. record { disk = (behind.0 ∙ still.0) i; list = (behind.1 ∙ still.1) i }) in
         record { begun = begun; replays = subst (λ (x : Moment). HaveReplayed 1 time before x journals plans joined begun) (sym same) have }
@@ -107,18 +107,18 @@ module _ (resting : ReplayedIsAtRest) (counting : CallsAreCounted) (begin : Runs
 
   by_stage : (r : Result (Unit {0}) RunEnd) → GoesSo s time frames before (view_of before.disk.size m) m.journals plans is.own is.plan after items r → IsLegal
   by_stage _ (not_joined e same empty may) = silent_is_legal [] empty refl
-  by_stage _ (no_memory some) = silent_is_legal items refl (some_silent s.clients time before after m plans items some)
-  by_stage _ (disk_failed block rise failed) = silent_is_legal items refl (failed_silent s.clients time before after m plans items block failed)
-  by_stage _ (crashed stopped told it hf) = absurd (no_stop_behind told (trace.Fence 1 ∷ trace.Lost 1 hf.kept ∷ []) (subst NoneStopped hf.told none))
-  by_stage _ (not_fenced stopped told e it ends) = unfenced stopped told it e ends
+  by_stage _ (no_memory some early) = silent_is_legal items refl (some_silent s.clients time before after m plans items some)
+  by_stage _ (disk_failed block rise failed early) = silent_is_legal items refl (failed_silent s.clients time before after m plans items block failed)
+  by_stage _ (crashed stopped told it at hf) = absurd (no_stop_behind told (trace.Fence 1 ∷ trace.Lost 1 hf.kept ∷ []) (subst NoneStopped hf.told none))
+  by_stage _ (not_fenced stopped told e it at ends) = unfenced stopped told it e ends
   by_stage _ (ran replayed begun r have sound run) =
-      let behind = only_nothing _ run.left after.disk after.list items run.behind none in
+      let behind = only_nothing _ run.last run.left after.disk after.list items run.behind none in
       let rest = rests resting s time frames before replayed m plans start is.own is.plan begun is.from is.is_own have sound is.few run.count run.last run.left in
       let its_run = is_run resting s time frames before replayed m plans start is.own is.plan begun is.from is.is_own have sound is.few run.count run.last run.left run.goes s.clients in
       let begins = run_begins begin s.clients before m plans time start rest.owners rest.layout is.own.dinode _ run.last run.left its_run in
       let answered = counting _ _ is.own.dinode s.clients time _ run.last begins run.goes.steps in
       let same : history_of s.clients items ≡ history_of s.clients run.last.items
-      = ap (history_of s.clients) behind.2 ∙ elim run.goes.goes [ inl fail ↦ failed_same s.clients time run.last run.left fail | inr end ↦ ended_same s.clients run.last run.left end.0 ] in
+      = ap (history_of s.clients) behind.2 ∙ elim run.goes.goes [ inl fail ↦ failed_same s.clients time run.last run.left fail | inr end ↦ ended_same s.clients run.last run.left end.1 ] in
       subst (λ h. Legal h start) (sym same) answered.legal
 
 pub runs_are_legal : ReplayedIsAtRest → CallsAreCounted → RunsBeginSo → CrashedAreAsFailed → RunsAreLegal

@@ -265,8 +265,8 @@ module _ (whole_stand : WholeRunsStand) (are_told : WholeRunsAreTold) (each_fron
 
   -- ---- whatever was done behind it
 
-  pub run_has_stood : a.disk.in_flight 0 ≡ [] → IsBehind a q disk list items → HasStood clients before start items operations disk
+  pub run_has_stood : a.disk.in_flight 0 ≡ [] → IsBehind a p q disk list items → HasStood clients before start items operations disk
   run_has_stood idle (nothing same listed are) = quiet same listed are
-  run_has_stood idle (crash same listed are) = crashed same listed are
-  run_has_stood idle (fence fenced are) = fence_told fenced are
-  run_has_stood idle (loss hf) = loss_told idle hf
+  run_has_stood idle (crash untold same listed are) = crashed same listed are
+  run_has_stood idle (fence untold fenced are) = fence_told fenced are
+  run_has_stood idle (loss untold hf) = loss_told idle hf

@@ -1,5 +1,5 @@
 -- What a run is given, and where its node begins.
-use Rattle.std.specs.Prelude.{ℕ, ◌≡◌, ◌<◌, ◌≤◌, ◌^◌, List, Option, Some, length, slice_get}
+use Rattle.std.specs.Prelude.{ℕ, ◌≡◌, ◌<◌, ◌≤◌, ◌^◌, false, List, [], Option, Some, length, slice_get}
 use Rattle.std.specs.FinMap as table
 use Rattle.std.specs.List.{AllByRecursion}
 use Rattle.disk_turns.specs.Turns.{Moment}
@@ -10,7 +10,10 @@ use Rattle.image_recovery.specs.Ended.{head_left}
 use Rattle.image_recovery.specs.Recoveries.{CanReplayAll}
 use Rattle.log_layout.specs.declared.log_header.LogHeader.{LogHeader}
 use Rattle.log_values.specs.Log.{Journal as OwnJournal}
-use Rattle.log_values.specs.Laws.{IsJournal}
+use Rattle.log_values.specs.Laws.{IsJournal, empty_log}
+use Rattle.logged_node.specs.Beginning.{MayBeginOn, no_calls}
+use Rattle.logged_node.specs.Nodes.{IsResting}
+use Rattle.logged_node.specs.declared.node.Node.{Node}
 use Rattle.logged_runs.specs.Points.{Point}
 use Rattle.logged_runs.specs.StepStarts.{starting}
 use Rattle.lone_view.specs.Seeing.{Lone}
@@ -52,3 +55,12 @@ its_head size time own plan = head_left size 1 time own plan.clean own.head
 abbrev pub start_point : (replayed : Moment) → Lone → Journal → Plan → (time frames : ℕ) → List TraceItem → Point
 start_point replayed view own plan time frames items =
     starting replayed.disk replayed.list (journal_of replayed.disk.size frames time own) (its_head replayed.disk.size time own plan) view items
+
+-- a node that begins with this view, and with an empty log in this journal, behind this head; it has answered no call, and rests on each disk on which it may begin
+pub record IsNew (view : Lone) (journal : OwnJournal) (head : LogHeader) (n : Node) : Type 0 where
+  pub view_is : n.view ≡ view
+  pub log : n.log ≡ empty_log journal head.blkno head.sequence
+  pub numbers : n.numbers ≡ no_calls
+  pub items : n.items.items ≡ []
+  pub mounted : n.unmounts ≡ false
+  pub rests : (d : DiskState) → MayBeginOn d view journal → IsResting d n

@@ -1,8 +1,8 @@
 -- What a run leaves, on an image that stands for a tree.
-use Rattle.std.specs.Prelude.{ℕ, ◌≡◌, ◌≢◌, ◌++◌, ◌≤◌, ⊤, false, List, [], ◌∷◌, Some, Result, Ok, Err}
+use Rattle.std.specs.Prelude.{ℕ, ◌≡◌, ◌⊎◌, ◌++◌, ◌≤◌, ⊤, false, List, [], ◌∷◌, Option, Some, Result, Ok, Err}
 use Rattle.std.specs.List.{AllByRecursion}
 use Rattle.cluster_history.specs.History.{KeepsSynced, Legal, tree_of}
-use Rattle.disk_items.specs.Deeds.{AreDoneBy, AreToldButOne}
+use Rattle.disk_items.specs.Deeds.{AreDoneBy, AreTold, AreToldButOne}
 use Rattle.disk_turns.specs.Turns.{Moment}
 use Rattle.file_tree.specs.Tree.{Tree}
 use Rattle.image_machine.specs.Volumes.{Volume}
@@ -82,10 +82,14 @@ RunsStand = (s : ScriptValue) (time frames : ℕ) (before : Moment) (m : Mounted
     → (is : IsRunOf s time frames before m plans start after items result) → before.list ≡ Some was → after.list ≡ Some (was ++ operations) → HasTrueFence before.disk is.from.mounted.layout operations
     → HasStood s.clients before start items operations after.disk
 
--- On every disk: the list gained what the items tell, or, where no node stopped, one write of node 1 besides.
+-- the list gained what the items tell; or, where no node stopped, one write of node 1 besides, one that failed
+abbrev pub GainsAsTold : (before after : Option (List Operation)) → List TraceItem → Type 0
+GainsAsTold before after items = AreTold before after items ⊎ (NoneStopped items × AreToldButOne 1 before after items)
+
+-- So it is on every disk.
 abbrev pub RunsAreTold : Type 0
 RunsAreTold = (s : ScriptValue) (time frames : ℕ) (before : Moment) (view : Lone) (journals : List Journal) (plans : List Plan) (own : Journal) (plan : Plan) (after : Moment) (items : List TraceItem) (result : Result (Unit {0}) RunEnd)
-    → IsGiven before.disk view journals plans → GoesSo s time frames before view journals plans own plan after items result → AreToldButOne 1 before.list after.list items
+    → GoesSo s time frames before view journals plans own plan after items result → GainsAsTold before.list after.list items
 
 -- ---- without a stop
 
@@ -104,6 +108,11 @@ pub record HasEnded (s : ScriptValue) (before : Moment) (m : MountedValue) (star
 abbrev pub RunsEnd : Type 0
 RunsEnd = (s : ScriptValue) (time frames : ℕ) (before : Moment) (m : MountedValue) (plans : List Plan) (start : Tree) (after : Moment) (items : List TraceItem)
     → (is : IsRunOf s time frames before m plans start after items (Ok tt)) → NoneStopped items → HasEnded s before m start after items is.from.mounted.layout
+
+-- On every disk: there it is at rest.
+abbrev pub RunsRest : Type 0
+RunsRest = (s : ScriptValue) (time frames : ℕ) (before : Moment) (view : Lone) (journals : List Journal) (plans : List Plan) (own : Journal) (plan : Plan) (after : Moment) (items : List TraceItem) → IsIdle before.disk
+    → GoesSo s time frames before view journals plans own plan after items (Ok tt) → NoneStopped items → IsIdle after.disk
 
 -- ---- which ends there are
 

@@ -1,5 +1,6 @@
 use fault_counts::Rise;
 use logged_scripts::RunEnd as ScriptEnd;
+use no_memory::NoMemory;
 
 /// Why a run ended before its script did, or isn't told to its end.
 #[derive(Clone, Copy, Debug, PartialEq, Eq)]
@@ -11,4 +12,16 @@ pub enum RunEnd {
     ReplayFailed { block: Option<u64>, rise: Rise },
     /// It ended so as its script was carried out, or behind a crash; or there was no memory.
     Script(ScriptEnd),
+}
+
+impl From<NoMemory> for RunEnd {
+    ghost use Rattle.std.specs.Prelude.{◌≡◌};
+    ghost use Rattle.logged_scripts.specs.declared.ends.RunEnd.TheVariants.{NoMemory};
+    ghost use Rattle.lone_runs.specs.declared.ends.RunEnd.TheVariants.{Script};
+
+    ghost from_gives = { λ _ end. end ≡ Script NoMemory };
+
+    fn from(_: NoMemory) -> Self {
+        RunEnd::Script(ScriptEnd::NoMemory)
+    }
 }

@@ -1,5 +1,6 @@
 //! What a run leaves. The functions do nothing: their contracts are the laws.
-ghost use Rattle.lone_runs.specs.Laws.{NothingIsWritten, RunsAreLegal, RunsEnd, RunsMeetNoDamage, RunsStand};
+ghost use Rattle.lone_runs.specs.Telling.{MountedJournalsServe, RunsSeeTheirDamage, RunsTellTheirReplays};
+ghost use Rattle.lone_runs.specs.Laws.{NothingIsWritten, RunsAreLegal, RunsAreTold, RunsEnd, RunsMeetNoDamage, RunsRest, RunsStand};
 
 use image_recovery::crashed_replays_are_as_failed;
 use log_layout::places_say_all;
@@ -9,7 +10,7 @@ use logged_runs::{a_run_begins, its_calls_are_counted, runs_end as logged_runs_e
 use logged_steps::{heads_are_told, steps_keep};
 use mounted_views::mounted_journals_are_placed;
 use whole_runs::{
-    replays_leave_a_disk_at_rest, runs_are_told, runs_stand_at_each_front,
+    replays_leave_a_disk_at_rest, runs_are_told as whole_runs_are_told, runs_stand_at_each_front,
     starts_stand_at_each_front, whole_runs_stand,
 };
 
@@ -20,12 +21,17 @@ pub fn runs_stand()
 {
     replays_leave_a_disk_at_rest();
     whole_runs_stand();
-    runs_are_told();
+    whole_runs_are_told();
     runs_stand_at_each_front();
     starts_stand_at_each_front();
     crashed_replays_are_as_failed();
     places_say_all();
 }
+
+/// A law: on every disk, the list of operations gained what the items tell, or, where no node stopped, one write besides that failed.
+pub fn runs_are_told()
+    ensures { RunsAreTold }
+{}
 
 /// A law: where no node stopped what was answered is legal.
 pub fn runs_are_legal()
@@ -47,6 +53,11 @@ pub fn runs_end()
     logged_runs_end();
 }
 
+/// A law: on every disk, a run that came to its end without a stop leaves it at rest.
+pub fn runs_rest()
+    ensures { RunsRest }
+{}
+
 /// A law: on an image that stands for a tree a run ends before its script only for want of memory, or where the disk fails.
 pub fn runs_meet_no_damage()
     ensures { RunsMeetNoDamage }
@@ -66,3 +77,21 @@ pub fn runs_meet_no_damage()
 pub fn nothing_is_written()
     ensures { NothingIsWritten }
 {}
+
+/// A law: on every disk, a run that came to its end without a stop told the replays of its journals first, and no commit but before its clean header.
+pub fn runs_tell_their_replays()
+    ensures { RunsTellTheirReplays }
+{}
+
+/// A law: on every disk, what a run tells as damage is so as what the node has shows it.
+pub fn runs_see_their_damage()
+    ensures { RunsSeeTheirDamage }
+{}
+
+/// A law: node 1 may have the first journal of an image that was mounted, right or wrong.
+pub fn mounted_journals_serve()
+    ensures { MountedJournalsServe }
+{
+    mounted_journals_are_placed();
+    places_say_all();
+}
