@@ -1,9 +1,8 @@
 -- Which calls losses take out, by the least number that they keep.
-use Rattle.std.proofs.Common.{◌≡◌, inl, inr, ℕ, ◌+◌, ◌-◌, ◌<◌, ◌≤◌, ◌^◌, List, [], ◌∷◌, Bool, true, false, length, drop, replicate, get_or, refl, sym, ap, ◌∙◌, arith}
-use Rattle.std.specs.Prelude.{◌==◌, ◌&&◌, ◌||◌, min, nat_lt, if◌then◌else◌, slice_index, slice_set}
-use Rattle.std.proofs.lemmas.Bool.Decides.{eqb_tells, nat_tests}
-use Rattle.std.proofs.lemmas.Grind.{get_or-set_at}
-use Rattle.std.proofs.lemmas.List.{drop_all, drop_more, get_or-replicate, get_or-set_other}
+use Rattle.std.proofs.Common.{◌≡◌, ℕ, ◌+◌, ◌-◌, ◌<◌, ◌≤◌, ◌^◌, List, [], ◌∷◌, Bool, true, false, length, drop, replicate, get_or, sym, ap, ◌∙◌, arith}
+use Rattle.std.specs.Prelude.{◌==◌, ◌&&◌, ◌||◌, min, nat_lt, if◌then◌else◌, slice_index}
+use Rattle.std.proofs.lemmas.Bool.Decides.{nat_tests}
+use Rattle.std.proofs.lemmas.List.{drop_all, drop_more, get_or-replicate}
 use Rattle.cluster_history.specs.History.{any_drops, lost_count}
 use Rattle.file_tree.specs.declared.call.Call.{Call}
 use Rattle.file_tree.specs.declared.reply.Reply.{Reply}
@@ -36,38 +35,6 @@ pub counts_one : (clients : List Client) (table : List ℕ) (rest : List TraceIt
 counts_one clients table rest node number name call reply lost has inside small is =
     ap (λ (b : Bool). (if b then 1 else 0) + lost_count (history_of clients rest))
     (any_above clients node number small rest ∙ ap (λ (k : ℕ). nat_lt k number) (sym (has node inside)) ∙ sym is)
-
--- ---- the table with one more loss
-
-least_of : (same : Bool) (kept least : ℕ) → same ≡ true → (if same then min kept least else least) ≡ min kept least
-least_of true kept least is = refl
-least_of false kept least is = cc
-
-least_as_before : (same : Bool) (kept least : ℕ) → same ≡ false → (if same then min kept least else least) ≡ least
-least_as_before false kept least is = refl
-least_as_before true kept least is = cc
-
-min_first : (kept least : ℕ) → kept < least → kept ≡ min kept least
-min_first kept least less = omega (arith, less)
-
-min_second : (kept least : ℕ) → least ≤ kept → least ≡ min kept least
-min_second kept least less = omega (arith, less)
-
--- its number is less
-pub lowered : (table : List ℕ) (rest : List TraceItem) (node kept : ℕ) → length table ≡ 256 → node < 256 → kept < slice_index table node → HasLeast table rest → HasLeast (slice_set table node kept) (trace.Lost node kept ∷ rest)
-lowered table rest node kept long inside less has i within =
-    elim (eqb_tells node i) [
-      | inl of ↦ get_or-set_at table node i kept 0 (sym of.1) (omega (arith, long, inside)) ∙ min_first kept (least_kept i rest) (omega (arith, less, has i within, ap (slice_index table) of.1)) ∙ sym (least_of (node == i) kept (least_kept i rest) of.0)
-      | inr of ↦ get_or-set_other table node i kept 0 (λ is. of.1 (sym is)) ∙ has i within ∙ sym (least_as_before (node == i) kept (least_kept i rest) of.0)
-    ]
-
--- it isn't
-pub as_low : (table : List ℕ) (rest : List TraceItem) (node kept : ℕ) → node < 256 → slice_index table node ≤ kept → HasLeast table rest → HasLeast table (trace.Lost node kept ∷ rest)
-as_low table rest node kept inside most has i within =
-    elim (eqb_tells node i) [
-      | inl of ↦ has i within ∙ min_second kept (least_kept i rest) (omega (arith, most, has i within, ap (slice_index table) of.1)) ∙ sym (least_of (node == i) kept (least_kept i rest) of.0)
-      | inr of ↦ has i within ∙ sym (least_as_before (node == i) kept (least_kept i rest) of.0)
-    ]
 
 -- ---- from the end to the start
 
