@@ -1,5 +1,5 @@
 -- A command that ran no script, or shows nothing.
-use Rattle.std.proofs.Common.{◌≡◌, ℕ, Bool, true, false, List, [], subst, sym, ◌∙◌}
+use Rattle.std.proofs.Common.{◌≡◌, ℕ, List, [], subst, sym}
 use Rattle.trace_text.specs.declared.item.TraceItem.{TraceItem}
 use Rattle.script_lang.specs.Script.{ScriptValue}
 use Rattle.script_lang.specs.Grammar.{nothing}
@@ -21,6 +21,3 @@ course_of words given left {listing} {s} {items} {lines} {told_lines} {own} {tol
 pub with_no_lines : (words : List (List ℕ)) (given left : Inputs) (listing : Listing) {s : ScriptValue} {items : List TraceItem} {lines : List ℕ} {own : Status}
     → lines ≡ [] → Course words given left listing s items [] own → Course words given left listing s items lines own
 with_no_lines words given left listing {s} {items} {lines} {own} none course = subst (λ (ls : List ℕ). Course words given left listing s items ls own) (sym none) course
-
-pub never_both : (b : Bool) → b ≡ false → b ≡ true → ⊥
-never_both b isnt is = let both : true ≡ false = sym is ∙ isnt in cc
