@@ -518,7 +518,7 @@ returns-in-Err-DiskFailed-clause-goes g c =
     let rise = c.in-Err-DiskFailed.rise in
     let failed = fail_there c.args.time before there journals plans first told c.in_ok-join.ensures.joined crash f block rise c.in-Err-DiskFailed.field-0-is c.in-Err-DiskFailed.ensures.failed in
     let when = fail_when c.args.time before there journals plans first told c.in_ok-join.ensures.joined crash f block rise c.in-Err-DiskFailed.field-0-is c.in-Err-DiskFailed.ensures.by_crash in
-    subst (λ e. Goes s c.args.time c.args.frames before c.args.view journals plans there told (Err e)) (λ i. end.ReplayFailed (c.in-Err-DiskFailed.block-is i) (c.in-Err-DiskFailed.rise-is i))
+    subst (λ e. Goes s c.args.time c.args.frames before c.args.view journals plans there told (Err e)) (λ i. end.ReplayFailed (sym c.in-Err-DiskFailed.block-is i) (sym c.in-Err-DiskFailed.rise-is i))
     (failed_goes s c.args.time c.args.frames before c.args.view journals plans own plan its c.requires.armed c.requires.given.idle.none_in_flight there told crash crash_so block failed when rise)
 
 pub returns-in-Err-DiskFailed-clause-disk : goal.returns-in-Err-DiskFailed-clause-disk
