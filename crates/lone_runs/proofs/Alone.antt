@@ -1,12 +1,11 @@
 -- What comes of a run, by how far it came.
-use Rattle.std.proofs.Common.{◌≡◌, ℕ, ◌+◌, ◌<◌, ◌≤◌, ◌^◌, false, List, [], ◌∷◌, length, get_or, Option, None, Some, refl, sym, ap, subst, ◌∙◌, arith}
-use Rattle.std.specs.Prelude.{Result, Ok, Err, slice_get}
+use Rattle.std.proofs.Common.{◌≡◌, ℕ, ◌<◌, ◌≤◌, false, List, [], length, get_or, Option, Some, refl, sym, ap, subst, ◌∙◌, arith}
+use Rattle.std.specs.Prelude.{Result, Ok, Err}
 use Rattle.std.specs.List.{All, AllByRecursion}
 use Rattle.std.proofs.lemmas.List.Elements.{All-from_get_or}
-use Rattle.disk_turns.specs.Turns.{Moment, moment}
+use Rattle.disk_turns.specs.Turns.{Moment}
 use Rattle.fault_counts.specs.Causes.{WentUp}
 use Rattle.fault_counts.specs.declared.Rise.{Rise}
-use Rattle.gfs2_layout.specs.Device.{IsBlockSize}
 use Rattle.image_mount.specs.Mounted.{Journal}
 use Rattle.image_recovery.specs.Recoveries.{CanReplayAll, HaveCrashed, HaveFailed, HaveReplayed, HaveReplayedSome}
 use Rattle.image_recovery.proofs.Recovered.{as_many, at_item}
@@ -34,7 +33,6 @@ use Rattle.script_lang.specs.Script.{ScriptValue}
 use Rattle.script_lang.specs.declared.script.Armed.{Armed}
 use Rattle.shared_disk.specs.Disk.{DiskState, IsIdle, IsSound, Operation}
 use Rattle.trace_text.specs.declared.item.TraceItem.{TraceItem}
-use Rattle.trace_text.specs.declared.item.TraceItem.TheVariants as trace
 use Rattle.whole_runs.specs.Starts.{joined}
 use Rattle.lone_runs.specs.Beginning.{IsOwn, MayHave, its_head, start_point}
 use Rattle.lone_runs.specs.Ends.{HasCause}
@@ -42,7 +40,7 @@ use Rattle.lone_runs.specs.Runs.{GoesSo, IsSameDisk, MayNotBegin, crashed, disk_
 use Rattle.lone_runs.specs.declared.ends.RunEnd.{RunEnd}
 use Rattle.lone_runs.specs.declared.ends.RunEnd.TheVariants as end
 use Rattle.lone_runs.proofs.Begun.{at_crash, same_crash}
-use Rattle.lone_runs.proofs.Disks.{IsStill, behind_run_same, crashed_same, ends_same, failed_same, fenced_same, replayed_same, same_on, some_same}
+use Rattle.lone_runs.proofs.Disks.{IsStill, behind_run_same, crashed_same, ends_same, fenced_same, replayed_same, same_on}
 use Rattle.lone_runs.proofs.Members.{before_runs, crashed_start, failed_start, fenced_run, fenced_whole, some_start, unfenced_run}
 
 some_is : {A : Type 0} {x y : A} → Some x ≡ Some y → x ≡ y

@@ -1,4 +1,4 @@
-use Rattle.std.proofs.Common.{◌≡◌, ◌<◌, ◌≤◌, ◌^◌, List, Err, refl, sym, ap, subst, ◌∙◌, arith}
+use Rattle.std.proofs.Common.{◌<◌, ◌≤◌, ◌^◌, List, Err, refl, sym, ap, subst, ◌∙◌, arith}
 use Rattle.std.specs.List.{All, AllByRecursion}
 use Rattle.std.proofs.lemmas.Result.{err_from_is_err_and}
 use Rattle.disk_turns.specs.Turns.{moment}
@@ -104,7 +104,7 @@ returns-in-Ok-carry_out-clause-goes g c =
     let have = subst (λ (xs : List TraceItem). HaveReplayed 1 c.args.time before there journals plans xs told) c.in_ok-join.ensures.joined c.in-Ok.ensures.replayed in
     let from = point_of now now_list (record c.in_ok-node.node { armed = c.in-Ok.left; items = c.replay_journals.new.items }) in
     let starts = starts_there d now c.args.view journals plans own plan c.args.time c.args.frames c.requires.given same c.in-Ok.ensures.idle c.in_ok-node.ensures.has c.ranges.time.fits low c.in_ok-node.node c.in_ok-node.ensures.new c.in-Ok.left
-        c.in-Ok.ensures.awaits c.replay_journals.new.items now_list in
+    c.in-Ok.ensures.awaits c.replay_journals.new.items now_list in
     let after = moment (g.D.SharedDisk.state c.carry_out.new.disk) (g.D.SharedDisk.list c.carry_out.new.disk) in
     goes_through s c.args.time c.args.frames before c.args.view journals plans own plan its there told have c.blocks-count.ensures.sound from starts after c.carry_out.new.items.items c.in-Ok-carry_out.field-0 c.in-Ok-carry_out.ensures.run
 
@@ -128,7 +128,7 @@ returns-in-Ok-carry_out-clause-disk g c =
     let have = subst (λ (xs : List TraceItem). HaveReplayed 1 c.args.time before there journals plans xs told) c.in_ok-join.ensures.joined c.in-Ok.ensures.replayed in
     let from = point_of now now_list (record c.in_ok-node.node { armed = c.in-Ok.left; items = c.replay_journals.new.items }) in
     let starts = starts_there d now c.args.view journals plans own plan c.args.time c.args.frames c.requires.given same c.in-Ok.ensures.idle c.in_ok-node.ensures.has c.ranges.time.fits low c.in_ok-node.node c.in_ok-node.ensures.new c.in-Ok.left
-        c.in-Ok.ensures.awaits c.replay_journals.new.items now_list in
+    c.in-Ok.ensures.awaits c.replay_journals.new.items now_list in
     let after = moment (g.D.SharedDisk.state c.carry_out.new.disk) (g.D.SharedDisk.list c.carry_out.new.disk) in
     ran_same s c.args.time c.args.frames before c.args.view journals plans own plan its there told have c.blocks-count.ensures.sound from starts after c.carry_out.new.items.items c.requires.given.idle.none_in_flight _ c.in-Ok-carry_out.ensures.run
 
@@ -152,7 +152,7 @@ returns-in-Ok-clause-goes g c =
     let have = subst (λ (xs : List TraceItem). HaveReplayed 1 c.args.time before there journals plans xs told) c.in_ok-join.ensures.joined c.in-Ok.ensures.replayed in
     let from = point_of now now_list (record c.in_ok-node.node { armed = c.in-Ok.left; items = c.replay_journals.new.items }) in
     let starts = starts_there d now c.args.view journals plans own plan c.args.time c.args.frames c.requires.given same c.in-Ok.ensures.idle c.in_ok-node.ensures.has c.ranges.time.fits low c.in_ok-node.node c.in_ok-node.ensures.new c.in-Ok.left
-        c.in-Ok.ensures.awaits c.replay_journals.new.items now_list in
+    c.in-Ok.ensures.awaits c.replay_journals.new.items now_list in
     let after = moment (g.D.SharedDisk.state c.carry_out.new.disk) (g.D.SharedDisk.list c.carry_out.new.disk) in
     goes_to_end s c.args.time c.args.frames before c.args.view journals plans own plan its there told have c.blocks-count.ensures.sound from starts after c.carry_out.new.items.items c.in-Err.end c.in-Err.ensures.run
 
@@ -176,7 +176,7 @@ returns-in-Ok-clause-disk g c =
     let have = subst (λ (xs : List TraceItem). HaveReplayed 1 c.args.time before there journals plans xs told) c.in_ok-join.ensures.joined c.in-Ok.ensures.replayed in
     let from = point_of now now_list (record c.in_ok-node.node { armed = c.in-Ok.left; items = c.replay_journals.new.items }) in
     let starts = starts_there d now c.args.view journals plans own plan c.args.time c.args.frames c.requires.given same c.in-Ok.ensures.idle c.in_ok-node.ensures.has c.ranges.time.fits low c.in_ok-node.node c.in_ok-node.ensures.new c.in-Ok.left
-        c.in-Ok.ensures.awaits c.replay_journals.new.items now_list in
+    c.in-Ok.ensures.awaits c.replay_journals.new.items now_list in
     let after = moment (g.D.SharedDisk.state c.carry_out.new.disk) (g.D.SharedDisk.list c.carry_out.new.disk) in
     ran_same s c.args.time c.args.frames before c.args.view journals plans own plan its there told have c.blocks-count.ensures.sound from starts after c.carry_out.new.items.items c.requires.given.idle.none_in_flight _ c.in-Err.ensures.run
 
@@ -303,7 +303,7 @@ returns-in-Ok-fence_crashed-clause-goes g c =
     let after = moment (g.D.SharedDisk.state c.fence_crashed.new.disk) (g.D.SharedDisk.list c.fence_crashed.new.disk) in
     let blocks_are = c.deref-in-Err-Crashed-2.ensures.value ∙ ap (λ (j : Journal). j.blocks) c.own.view_is in
     let hf = fenced_as now after.disk now_list after.list told c.fence_crashed.new.items.items c.deref-in-Err-Crashed-2.result.now own.blocks c.own.inside.head.sequence own.head.sequence blocks_are (ap (λ (j : Journal). j.head.sequence) c.own.view_is)
-        c.in-Ok-fence_crashed.ensures.fenced in
+    c.in-Ok-fence_crashed.ensures.fenced in
     fenced_goes s c.args.time c.args.frames before c.args.view journals plans own plan its c.requires.armed c.requires.given.idle.none_in_flight there told crash crash_so it at after c.fence_crashed.new.items.items hf
 
 pub returns-in-Ok-fence_crashed-clause-disk : goal.returns-in-Ok-fence_crashed-clause-disk
@@ -332,7 +332,7 @@ returns-in-Ok-fence_crashed-clause-disk g c =
     let after = moment (g.D.SharedDisk.state c.fence_crashed.new.disk) (g.D.SharedDisk.list c.fence_crashed.new.disk) in
     let blocks_are = c.deref-in-Err-Crashed-2.ensures.value ∙ ap (λ (j : Journal). j.blocks) c.own.view_is in
     let hf = fenced_as now after.disk now_list after.list told c.fence_crashed.new.items.items c.deref-in-Err-Crashed-2.result.now own.blocks c.own.inside.head.sequence own.head.sequence blocks_are (ap (λ (j : Journal). j.head.sequence) c.own.view_is)
-        c.in-Ok-fence_crashed.ensures.fenced in
+    c.in-Ok-fence_crashed.ensures.fenced in
     fence_same s c.args.time c.args.frames before c.args.view journals plans own plan its c.requires.armed c.requires.given.idle.none_in_flight there told crash crash_so it at after c.fence_crashed.new.items.items hf
 
 pub returns-in-Ok-fence_crashed-clause-lone : goal.returns-in-Ok-fence_crashed-clause-lone
@@ -361,7 +361,7 @@ returns-in-Ok-fence_crashed-clause-lone g c =
     let after = moment (g.D.SharedDisk.state c.fence_crashed.new.disk) (g.D.SharedDisk.list c.fence_crashed.new.disk) in
     let blocks_are = c.deref-in-Err-Crashed-2.ensures.value ∙ ap (λ (j : Journal). j.blocks) c.own.view_is in
     let hf = fenced_as now after.disk now_list after.list told c.fence_crashed.new.items.items c.deref-in-Err-Crashed-2.result.now own.blocks c.own.inside.head.sequence own.head.sequence blocks_are (ap (λ (j : Journal). j.head.sequence) c.own.view_is)
-        c.in-Ok-fence_crashed.ensures.fenced in
+    c.in-Ok-fence_crashed.ensures.fenced in
     fence_lone s c.args.time c.args.frames before c.args.view journals plans own plan its c.requires.armed c.requires.given.idle.none_in_flight there told crash crash_so it at after c.fence_crashed.new.items.items hf
 
 pub returns-in-Ok-fence_crashed-clause-whole : goal.returns-in-Ok-fence_crashed-clause-whole
@@ -390,7 +390,7 @@ returns-in-Ok-fence_crashed-clause-whole g c =
     let after = moment (g.D.SharedDisk.state c.fence_crashed.new.disk) (g.D.SharedDisk.list c.fence_crashed.new.disk) in
     let blocks_are = c.deref-in-Err-Crashed-2.ensures.value ∙ ap (λ (j : Journal). j.blocks) c.own.view_is in
     let hf = fenced_as now after.disk now_list after.list told c.fence_crashed.new.items.items c.deref-in-Err-Crashed-2.result.now own.blocks c.own.inside.head.sequence own.head.sequence blocks_are (ap (λ (j : Journal). j.head.sequence) c.own.view_is)
-        c.in-Ok-fence_crashed.ensures.fenced in
+    c.in-Ok-fence_crashed.ensures.fenced in
     fence_whole s c.args.time c.args.frames before c.args.view journals plans own plan its c.requires.armed c.requires.given.idle.none_in_flight there told crash crash_so it at after c.fence_crashed.new.items.items hf
 
 pub returns-in-Err-Crashed-clause-goes : goal.returns-in-Err-Crashed-clause-goes
