@@ -3,9 +3,9 @@ use Rattle.std.proofs.Common.{◌≡◌, ℕ, Bool, true, false, List, [], subst
 use Rattle.trace_text.specs.declared.item.TraceItem.{TraceItem}
 use Rattle.script_lang.specs.Script.{ScriptValue}
 use Rattle.script_lang.specs.Grammar.{nothing}
-use Rattle.cluster_program.specs.declared.output.Listing.{Listing}
-use Rattle.cluster_program.specs.declared.output.Listing.TheVariants.{Clients}
-use Rattle.cluster_program.specs.declared.status.Status.{Status}
+use Rattle.run_reports.specs.declared.output.Listing.{Listing}
+use Rattle.run_reports.specs.declared.output.Listing.TheVariants.{Clients}
+use Rattle.run_reports.specs.declared.status.Status.{Status}
 use Rattle.cluster_program.specs.World.{Inputs}
 use Rattle.cluster_program.specs.Course.{Course}
 

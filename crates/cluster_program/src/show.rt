@@ -8,7 +8,7 @@ ghost use Rattle.cluster_program.specs.Course.{Shows};
 
 use crate::end_status::not_read;
 use crate::mounting::mount;
-use crate::status::Status;
+use run_reports::Status;
 use disk_trees::read_mounted_tree;
 use image_mount::JournalMap;
 use no_memory::NoMemory;

@@ -3,6 +3,8 @@ use Rattle.std.proofs.Common.{◌≡◌, ◌==◌, ℕ, zero, suc, ◌+◌, ◌%
 use Rattle.std.proofs.Math.Nat.{mod-le}
 use Rattle.std.specs.Prelude.{IfSome, Result, Ok, Err, slice_get}
 use Rattle.std.specs.List.{AllByRecursion}
+use Rattle.gfs2_layout.specs.Device.{IsBlockSize}
+use Rattle.image_replays.specs.Replays.{ArePlans}
 use Rattle.disk_turns.specs.Turns.{Moment}
 use Rattle.file_tree.specs.Tree.{Tree}
 use Rattle.file_tree.specs.declared.call.Call.{Call}
@@ -10,7 +12,7 @@ use Rattle.gfs2_layout.specs.Bytes.{u32_at}
 use Rattle.image_machine.specs.Volumes.{Volume, volume_of}
 use Rattle.image_model.specs.Image.{image_of}
 use Rattle.image_model.specs.Profile.{group_length}
-use Rattle.image_mount.specs.Mounted.{Journal, MountedValue}
+use Rattle.image_mount.specs.Mounted.{IsMounted, Journal, MountedValue}
 use Rattle.image_recovery.specs.Recoveries.{CanReplayAll, HaveReplayed}
 use Rattle.image_recovery.specs.Ended.{head_left}
 use Rattle.image_recovery.proofs.Recovered.{can_at}
@@ -52,7 +54,7 @@ use Rattle.profile_limits.specs.Limits.{least_frames, most_frames, most_group_bl
 use Rattle.script_lang.specs.Script.{ScriptValue}
 use Rattle.script_lang.specs.declared.script.Line.{Line}
 use Rattle.script_lang.specs.declared.script.Line.TheVariants as line
-use Rattle.shared_disk.specs.Disk.{IsSound}
+use Rattle.shared_disk.specs.Disk.{DiskState, IsIdle, IsSound}
 use Rattle.small_calls.specs.Sizes.{IsOfScript}
 use Rattle.trace_text.specs.declared.item.TraceItem.{TraceItem}
 use Rattle.whole_runs.specs.Resting.{ReplayedIsAtRest, RestsAsMounted}
@@ -92,30 +94,30 @@ read_place h bytes = by (u32_at 48 bytes == 0)
     by true = (refl, refl)
     by false = (refl, refl)
 
-module _ (says : PlacesSayAll) (placed : MountedJournalsArePlaced) (time frames : ℕ) (before : Moment) (m : MountedValue) (plans : List Plan) (start : Tree) (from : IsStart before.disk m plans time start) (own : Journal) (plan : Plan) (is_own : IsOwn m.journals plans own plan)
-    (can : CanReplayAll before.disk m.journals plans) (few : frames ≤ most_frames) where
-  at_own : IsJournalAt from.mounted.layout 0 own.dinode
-  at_own = (its before.disk m own from.idle from.mounted is_own.journal).0
+module _ (says : PlacesSayAll) (placed : MountedJournalsArePlaced) (time frames : ℕ) (disk : DiskState) (m : MountedValue) (plans : List Plan) (idle : IsIdle disk) (sized : IsBlockSize disk.size) (mounted : IsMounted (image_of disk) m) (planned : ArePlans (image_of disk) mounted.layout plans) (own : Journal) (plan : Plan)
+    (is_own : IsOwn m.journals plans own plan) (can : CanReplayAll disk m.journals plans) (few : frames ≤ most_frames) where
+  at_own : IsJournalAt mounted.layout 0 own.dinode
+  at_own = (its disk m own idle mounted is_own.journal).0
 
   -- its places are as many as the profile allows
-  long : length own.blocks ≡ (ring_at (image_of before.disk) own.dinode).places
-  long = (its_ring before.disk m own from.idle from.mounted is_own.journal).places
+  long : length own.blocks ≡ (ring_at (image_of disk) own.dinode).places
+  long = (its_ring disk m own idle mounted is_own.journal).places
 
-  headed : head_in (ring_at (image_of before.disk) own.dinode) ≡ Some own.head
-  headed = (its before.disk m own from.idle from.mounted is_own.journal).1.head
+  headed : head_in (ring_at (image_of disk) own.dinode) ≡ Some own.head
+  headed = (its disk m own idle mounted is_own.journal).1.head
 
   low_head : own.head.sequence < 2 ^ 63
-  low_head = from.mounted.profile.sequence 0 own.dinode own.head at_own headed
+  low_head = mounted.profile.sequence 0 own.dinode own.head at_own headed
 
-  its_plan : IsPlanOf (ring_read before.disk 1 own.blocks) plan
-  its_plan = (theirs before.disk 1 from.idle m from.mounted plans from.planned).plan 0 own plan is_own.journal is_own.planned
+  its_plan : IsPlanOf (ring_read disk 1 own.blocks) plan
+  its_plan = (theirs disk 1 idle m mounted plans planned).plan 0 own plan is_own.journal is_own.planned
 
   -- the head that the plan leaves is at a place, and its sequence is low
-  head_fits : (c : Option LogHeader) → plan.clean ≡ c → c ≡ clean_header (length own.blocks) own.head → ((head_left before.disk.size 1 time own c own.head).blkno < length own.blocks) × ((head_left before.disk.size 1 time own c own.head).sequence ≤ 2 ^ 63)
-  head_fits None is by = (subst (λ n. own.head.blkno < n) (sym long) (head_there (ring_at (image_of before.disk) own.dinode) own.head headed).0, (let low = low_head in omega (arith, low)))
+  head_fits : (c : Option LogHeader) → plan.clean ≡ c → c ≡ clean_header (length own.blocks) own.head → ((head_left disk.size 1 time own c own.head).blkno < length own.blocks) × ((head_left disk.size 1 time own c own.head).sequence ≤ 2 ^ 63)
+  head_fits None is by = (subst (λ n. own.head.blkno < n) (sym long) (head_there (ring_at (image_of disk) own.dinode) own.head headed).0, (let low = low_head in omega (arith, low)))
   head_fits (Some header) is by =
-      let read = read_place (filled (get_or own.blocks header.blkno 0) 1 own.dinode time header) (clean_block before.disk.size (get_or own.blocks header.blkno 0) 1 own.dinode time header).bytes in
-      let inside : header.blkno < length own.blocks = subst (λ (o : Option LogHeader). IfSome o (λ (h : LogHeader). h.blkno < length own.blocks)) is (can_at before.disk m.journals plans 0 own plan can is_own.journal is_own.planned).place in
+      let read = read_place (filled (get_or own.blocks header.blkno 0) 1 own.dinode time header) (clean_block disk.size (get_or own.blocks header.blkno 0) 1 own.dinode time header).bytes in
+      let inside : header.blkno < length own.blocks = subst (λ (o : Option LogHeader). IfSome o (λ (h : LogHeader). h.blkno < length own.blocks)) is (can_at disk m.journals plans 0 own plan can is_own.journal is_own.planned).place in
       let next : header.sequence ≤ own.head.sequence + 1 = sequence_of own.head.clean header by in
       (subst (λ n. n < length own.blocks) (sym read.0) inside, (let low = low_head in let same = read.1 in omega (arith, low, next, same)))
     where
@@ -130,17 +132,17 @@ module _ (says : PlacesSayAll) (placed : MountedJournalsArePlaced) (time frames 
   clean_is =
       let found = its_plan.clean in
       let head_same : found.0 ≡ own.head
-      = some_same (sym found.1 ∙ (says (ring_read before.disk 1 own.blocks) (ring_at (image_of before.disk) own.dinode) (its_ring before.disk m own from.idle from.mounted is_own.journal)).head ∙ headed) in
+      = some_same (sym found.1 ∙ (says (ring_read disk 1 own.blocks) (ring_at (image_of disk) own.dinode) (its_ring disk m own idle mounted is_own.journal)).head ∙ headed) in
       found.2 ∙ ap (clean_header (length own.blocks)) head_same
 
-  pub may_begin : MayHave before.disk.count (journal_of before.disk.size frames time own) (its_head before.disk.size time own plan)
+  pub may_begin : MayHave disk.count (journal_of disk.size frames time own) (its_head disk.size time own plan)
   may_begin =
       let fits = head_fits plan.clean refl clean_is in
-      let sized = from.mounted.profile.journal 0 own.dinode at_own in
+      let sized = mounted.profile.journal 0 own.dinode at_own in
       let many = long in
       record {
-        placed = (placed before.disk m own frames time from.idle from.mounted is_own.journal).0;
-        is = record { size = from.sized; least = omega (arith, many, sized.0); most = omega (arith, many, sized.1); places = refl; few = few };
+        placed = (placed disk m own frames time idle mounted is_own.journal).0;
+        is = record { size = sized; least = omega (arith, many, sized.0); most = omega (arith, many, sized.1); places = refl; few = few };
         inside = fits.0;
         low = fits.1;
       }
@@ -216,7 +218,7 @@ module _ (resting : ReplayedIsAtRest) (begin : RunsBeginSo) (keep : StepsKeep) (
   unfenced fence.NoMemory = tt
 
   not_begun : (x : RunEnd) → MayNotBegin before.disk.count before.disk.size time frames is.own is.plan x → IsOfImageThatStands x
-  not_begun (end.Misplaced dinode) may = may.1 (may_begin says placed time frames before m plans start is.from is.own is.plan is.is_own is.given.can is.few)
+  not_begun (end.Misplaced dinode) may = may.1 (may_begin says placed time frames before.disk m plans is.from.idle is.from.sized is.from.mounted is.from.planned is.own is.plan is.is_own is.given.can is.few)
   not_begun (end.Script x) may = subst (λ y. IsOfImageThatStands (end.Script y)) (sym may) tt
   not_begun (end.ReplayFailed block rise) may = tt
 

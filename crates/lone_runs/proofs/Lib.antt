@@ -14,3 +14,4 @@ pub mod Damage
 pub mod Ended
 pub mod Resting
 pub mod Runs
+pub mod Telling

@@ -3,3 +3,4 @@ pub mod Beginning
 pub mod Ends
 pub mod Runs
 pub mod Laws
+pub mod Telling

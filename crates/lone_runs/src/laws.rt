@@ -1,4 +1,5 @@
 //! What a run leaves. The functions do nothing: their contracts are the laws.
+ghost use Rattle.lone_runs.specs.Telling.{MountedJournalsServe, RunsSeeTheirDamage, RunsTellTheirReplays};
 ghost use Rattle.lone_runs.specs.Laws.{NothingIsWritten, RunsAreLegal, RunsAreTold, RunsEnd, RunsMeetNoDamage, RunsRest, RunsStand};
 
 use image_recovery::crashed_replays_are_as_failed;
@@ -76,3 +77,21 @@ pub fn runs_meet_no_damage()
 pub fn nothing_is_written()
     ensures { NothingIsWritten }
 {}
+
+/// A law: on every disk, a run that came to its end without a stop told the replays of its journals first, and no commit but before its clean header.
+pub fn runs_tell_their_replays()
+    ensures { RunsTellTheirReplays }
+{}
+
+/// A law: on every disk, what a run tells as damage is so as what the node has shows it.
+pub fn runs_see_their_damage()
+    ensures { RunsSeeTheirDamage }
+{}
+
+/// A law: node 1 may have the first journal of an image that was mounted, right or wrong.
+pub fn mounted_journals_serve()
+    ensures { MountedJournalsServe }
+{
+    mounted_journals_are_placed();
+    places_say_all();
+}

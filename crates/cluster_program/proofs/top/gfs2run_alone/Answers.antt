@@ -2,10 +2,10 @@ use Rattle.std.proofs.Common.{List, sym, subst, map}
 use Rattle.std.specs.Prelude.{string_bytes}
 use Rattle.trace_text.specs.declared.item.TraceItem.{TraceItem}
 use Rattle.cluster_program.specs.Quiet.{IsQuiet}
-use Rattle.cluster_program.specs.Report.{Reports}
-use Rattle.cluster_program.specs.World.{Outputs}
+use Rattle.run_reports.specs.Report.{Reports}
+use Rattle.run_reports.specs.Outputs.{Outputs}
 use Rattle.cluster_program.proofs.Ends.{done_before, fault_has_cause}
-use Rattle.cluster_program.specs.declared.status.WhichSink.TheVariants as which
+use Rattle.run_reports.specs.declared.status.WhichSink.TheVariants as which
 use Rattle.cluster_program.proofs.Complete.{complete}
 use Rattle.cluster_program.proofs.Dirty.{counted}
 use Rattle.cluster_program.proofs.top.gfs2run_alone.Given.{Over}

@@ -2,11 +2,11 @@ use Rattle.std.proofs.Common.{◌≡◌, ℕ, List, None, refl, subst}
 use Rattle.script_lang.specs.Script.{ScriptValue}
 use Rattle.trace_text.specs.declared.item.TraceItem.{TraceItem}
 use Rattle.cluster_program.specs.World.{Inputs}
-use Rattle.cluster_program.specs.declared.status.Status.{Status}
+use Rattle.run_reports.specs.declared.status.Status.{Status}
 use Rattle.cluster_program.specs.Runs.{Runs}
 use Rattle.cluster_program.specs.Course.{NoScript, RunsScript}
 use Rattle.cluster_program.proofs.Courses.{course_of, with_no_lines}
-use Rattle.cluster_program.proofs.Runs.{no_run_fault}
+use Rattle.cluster_program.proofs.Ends.{no_run_fault}
 use Rattle.cluster_program.proofs.top.read_and_run.Goals as goal
 
 pub returns-in-Err-clause-course : goal.returns-in-Err-clause-course

@@ -2,10 +2,10 @@ use Rattle.std.proofs.Common.{[], None, refl, sym, subst}
 use Rattle.cluster_program.specs.Course.{Course, LacksRoom, ReplaysImage, replay_script}
 use Rattle.cluster_program.specs.Runs.{Runs}
 use Rattle.cluster_program.specs.World.{inputs}
-use Rattle.cluster_program.specs.declared.output.Listing.TheVariants.{Journals}
+use Rattle.run_reports.specs.declared.output.Listing.TheVariants.{Journals}
 use Rattle.script_lang.specs.Script.{ScriptValue}
 use Rattle.cluster_program.proofs.Courses.{course_of, with_no_lines}
-use Rattle.cluster_program.proofs.Runs.{no_run_fault}
+use Rattle.cluster_program.proofs.Ends.{no_run_fault}
 use Rattle.cluster_program.proofs.top.replay.Goals as goal
 
 pub returns-in-Err-clause-course : goal.returns-in-Err-clause-course
