@@ -1,15 +1,17 @@
 -- What comes of a run, by how far it came.
-use Rattle.std.proofs.Common.{◌≡◌, ℕ, ◌+◌, ◌<◌, ◌≤◌, ◌^◌, false, List, [], ◌∷◌, length, get_or, Option, None, Some, refl, sym, ap, subst, ◌∙◌, arith}
-use Rattle.std.specs.Prelude.{Result, Ok, Err, slice_get}
+use Rattle.std.proofs.Common.{◌≡◌, ℕ, ◌<◌, ◌≤◌, false, List, [], length, get_or, Option, Some, refl, sym, ap, subst, ◌∙◌, arith}
+use Rattle.std.specs.Prelude.{Result, Ok, Err}
 use Rattle.std.specs.List.{All, AllByRecursion}
 use Rattle.std.proofs.lemmas.List.Elements.{All-from_get_or}
-use Rattle.disk_turns.specs.Turns.{Moment, moment}
+use Rattle.disk_turns.specs.Turns.{Moment}
 use Rattle.fault_counts.specs.Causes.{WentUp}
-use Rattle.gfs2_layout.specs.Device.{IsBlockSize}
+use Rattle.fault_counts.specs.declared.Rise.{Rise}
 use Rattle.image_mount.specs.Mounted.{Journal}
 use Rattle.image_recovery.specs.Recoveries.{CanReplayAll, HaveCrashed, HaveFailed, HaveReplayed, HaveReplayedSome}
 use Rattle.image_recovery.proofs.Recovered.{as_many, at_item}
 use Rattle.journal_replays.specs.Crashes as replays
+use Rattle.journal_replays.specs.Faults.{IfCrashed, IfDiskFailed, IfNoMemory}
+use Rattle.journal_replays.specs.declared.faults.ReplayFault.{ReplayFault}
 use Rattle.journal_replays.specs.declared.faults.ReplayFault.TheVariants as fault
 use Rattle.logged_node.specs.Nodes.{IsAtCrash, IsBeforeCrash, crash_of, writes_in}
 use Rattle.logged_runs.specs.Points.{Point}
@@ -31,7 +33,6 @@ use Rattle.script_lang.specs.Script.{ScriptValue}
 use Rattle.script_lang.specs.declared.script.Armed.{Armed}
 use Rattle.shared_disk.specs.Disk.{DiskState, IsIdle, IsSound, Operation}
 use Rattle.trace_text.specs.declared.item.TraceItem.{TraceItem}
-use Rattle.trace_text.specs.declared.item.TraceItem.TheVariants as trace
 use Rattle.whole_runs.specs.Starts.{joined}
 use Rattle.lone_runs.specs.Beginning.{IsOwn, MayHave, its_head, start_point}
 use Rattle.lone_runs.specs.Ends.{HasCause}
@@ -39,7 +40,7 @@ use Rattle.lone_runs.specs.Runs.{GoesSo, IsSameDisk, MayNotBegin, crashed, disk_
 use Rattle.lone_runs.specs.declared.ends.RunEnd.{RunEnd}
 use Rattle.lone_runs.specs.declared.ends.RunEnd.TheVariants as end
 use Rattle.lone_runs.proofs.Begun.{at_crash, same_crash}
-use Rattle.lone_runs.proofs.Disks.{IsStill, behind_run_same, crashed_same, ends_same, failed_same, fenced_same, replayed_same, same_on, some_same}
+use Rattle.lone_runs.proofs.Disks.{IsStill, behind_run_same, crashed_same, ends_same, fenced_same, replayed_same, same_on}
 use Rattle.lone_runs.proofs.Members.{before_runs, crashed_start, failed_start, fenced_run, fenced_whole, some_start, unfenced_run}
 
 some_is : {A : Type 0} {x y : A} → Some x ≡ Some y → x ≡ y
@@ -51,10 +52,10 @@ pub owns : (d : DiskState) (journals : List Journal) (plans : List Plan) (own : 
     → IsOwn journals plans own plan
 owns d journals plans own plan some can is_own is_plan = record {
   journal = at_item journals journals 0 own refl some is_own;
-  planned = at_item plans plans 0 plan refl (many (length journals) (length plans) (as_many d journals plans can) some) is_plan;
+  planned = at_item plans plans 0 plan refl (many (length plans) (length journals) (as_many d journals plans can) some) is_plan;
 }
   where
-    many : (x y : ℕ) → x ≡ y → 1 ≤ x → 1 ≤ y
+    many : (x y : ℕ) → x ≡ y → 1 ≤ y → 1 ≤ x
     many x y e h = omega (arith, e, h)
 
 -- the places of a journal that a node may have are blocks of the disk
@@ -64,8 +65,48 @@ places_inside count size frames time own plan has = All-from_get_or (λ b. b < c
 -- ---- where it is to crash
 
 -- with as many writes left behind the join as there are until the first crash
-pub crash_is : (s : ScriptValue) (left : Option ℕ) (items : List TraceItem) → items ≡ joined → ((xs : List TraceItem) → writes_in xs ≡ 0 → crash_of left xs ≡ first_crash s.armed) → replays.crash_of 1 left items ≡ first_crash s.armed
-crash_is s left items are leaves = same_crash left items ∙ leaves items (ap writes_in are)
+pub crash_is : (s : ScriptValue) (left : Option ℕ) (items : List TraceItem) (armed : List Armed) → items ≡ joined → armed ≡ s.armed → ((xs : List TraceItem) → writes_in xs ≡ 0 → crash_of left xs ≡ first_crash armed)
+    → replays.crash_of 1 left items ≡ first_crash s.armed
+crash_is s left items armed are same leaves = same_crash left items ∙ leaves items (ap writes_in are) ∙ ap first_crash same
+
+-- what a fault says
+module _ (time : ℕ) (before now : Moment) (journals : List Journal) (plans : List Plan) (items items' : List TraceItem) (are : items ≡ joined) (crash : Option ℕ) (f : ReplayFault) where
+  pub crash_there : f ≡ fault.Crashed → IfCrashed f (HaveCrashed 1 time before now journals plans items items') → HaveCrashed 1 time before now journals plans joined items'
+  crash_there is have =
+      let it : HaveCrashed 1 time before now journals plans items items' = subst (λ x. IfCrashed x (HaveCrashed 1 time before now journals plans items items')) is have in
+      subst (λ xs. HaveCrashed 1 time before now journals plans xs items') are it
+
+  pub crash_when : f ≡ fault.Crashed → replays.StopsByCrash 1 crash items' f → replays.IsAtCrash 1 crash items'
+  crash_when is stops = subst (replays.StopsByCrash 1 crash items') is stops
+
+  pub fail_there : (block : Option ℕ) (rise : Rise) → f ≡ fault.DiskFailed block rise → IfDiskFailed f (HaveFailed 1 time before now journals plans items items') → HaveFailed 1 time before now journals plans joined items' block
+  fail_there block rise is have =
+      let it : HaveFailed 1 time before now journals plans items items' block = subst (λ x. IfDiskFailed x (HaveFailed 1 time before now journals plans items items')) is have in
+      subst (λ xs. HaveFailed 1 time before now journals plans xs items' block) are it
+
+  pub fail_when : (block : Option ℕ) (rise : Rise) → f ≡ fault.DiskFailed block rise → replays.StopsByCrash 1 crash items' f → replays.IsBeforeCrash 1 crash items'
+  fail_when block rise is stops = subst (replays.StopsByCrash 1 crash items') is stops
+
+  pub lack_there : f ≡ fault.NoMemory → IfNoMemory f (HaveReplayedSome 1 time before now journals plans items items') → HaveReplayedSome 1 time before now journals plans joined items'
+  lack_there is have =
+      let it : HaveReplayedSome 1 time before now journals plans items items' = subst (λ x. IfNoMemory x (HaveReplayedSome 1 time before now journals plans items items')) is have in
+      subst (λ xs. HaveReplayedSome 1 time before now journals plans xs items') are it
+
+  pub lack_when : f ≡ fault.NoMemory → replays.StopsByCrash 1 crash items' f → replays.IsBeforeCrash 1 crash items'
+  lack_when is stops = subst (replays.StopsByCrash 1 crash items') is stops
+
+-- the blocks and the sequence are the journal's
+pub fenced_as : (d d' : DiskState) (list list' : Option (List Operation)) (items items' : List TraceItem) (blocks blocks' : List ℕ) (first first' : ℕ) → blocks ≡ blocks' → first ≡ first' → HasFenced d list items blocks first d' list' items'
+    → HasFenced d list items blocks' first' d' list' items'
+fenced_as d d' list list' items items' blocks blocks' first first' same one hf =
+    subst (λ n. HasFenced d list items blocks' n d' list' items') one (subst (λ bs. HasFenced d list items bs first d' list' items') same hf)
+
+-- node 1 is not the run itself
+pub run_is_free : (d d' : DiskState) → IsSameDisk d d' → IsIdle d → d'.is_fenced 0 ≡ false
+run_is_free d d' same idle = same.fenced 0 (λ e. zero_one e) ∙ idle.none_fenced 0
+  where
+    zero_one : ◌≡◌ {A = ℕ} 0 1 → ⊥
+    zero_one e = omega (arith, e)
 
 -- ---- how far it came
 
@@ -117,7 +158,7 @@ module _ (s : ScriptValue) (time frames : ℕ) (before : Moment) (view : Lone) (
 
     -- for the disk
     module _ (block : Option ℕ) (failed : HaveFailed 1 time before now journals plans joined items block) (is : replays.IsBeforeCrash 1 crash items) where
-      pub failed_goes : (rise : _) → Goes s time frames before view journals plans now items (Err (end.ReplayFailed block rise))
+      pub failed_goes : (rise : Rise) → Goes s time frames before view journals plans now items (Err (end.ReplayFailed block rise))
       failed_goes rise = goes_of now items (Err (end.ReplayFailed block rise)) (disk_failed block rise failed (early is))
 
       pub failed_lone : (count : ℕ) × IsLoneRun s count items
@@ -125,7 +166,7 @@ module _ (s : ScriptValue) (time frames : ℕ) (before : Moment) (view : Lone) (
 
     -- for a crash
     module _ (it : HaveCrashed 1 time before now journals plans joined items) (is : replays.IsAtCrash 1 crash items) (after : Moment) (items' : List TraceItem) where
-      there_same : IsSameDisk before.disk now.disk
+      pub there_same : IsSameDisk before.disk now.disk
       there_same = crashed_same time before now journals plans items still it
 
       pub fenced_goes : HasFenced now.disk now.list items own.blocks own.head.sequence after.disk after.list items' → Goes s time frames before view journals plans after items' (Ok tt)

@@ -1,8 +1,9 @@
 -- The node begins: on the disk that the replays left, behind their items.
-use Rattle.std.proofs.Common.{◌≡◌, ℕ, ◌+◌, ◌<◌, ◌≤◌, ◌^◌, List, Option, None, Some, lit<, refl, sym, ap, subst, ◌∙◌, arith}
+use Rattle.std.proofs.Common.{◌≡◌, ℕ, ◌<◌, ◌≤◌, ◌^◌, List, Option, None, Some, lit<, refl, sym, ap, subst, ◌∙◌, arith}
 use Rattle.std.specs.FinMap as table
 use Rattle.std.specs.List.{AllByRecursion}
-use Rattle.std.specs.declared.vec.Vec.{Vec}
+use Rattle.std.specs.Prelude.{Vec}
+use Rattle.std.specs.declared.alloc.Global.{Global}
 use Rattle.disk_turns.specs.Turns.{Moment, moment}
 use Rattle.glock_names.specs.Views.{end_of}
 use Rattle.image_mount.specs.Mounted.{Journal}
@@ -74,7 +75,7 @@ module _ (before now : DiskState) (view : Lone) (journals : List Journal) (plans
 
   -- ---- the node
 
-  module _ (n : Node) (new : IsNew view journal head n) (left : Option ℕ) (awaits : Awaits left) (items : Vec TraceItem) where
+  module _ (n : Node) (new : IsNew view journal head n) (left : Option ℕ) (awaits : Awaits left) (items : Vec TraceItem Global) where
     abbrev its_node : Node
     its_node = record n { armed = left; items = items }
 

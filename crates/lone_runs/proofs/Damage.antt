@@ -138,11 +138,11 @@ module _ (says : PlacesSayAll) (placed : MountedJournalsArePlaced) (time frames 
   pub may_begin : MayHave disk.count (journal_of disk.size frames time own) (its_head disk.size time own plan)
   may_begin =
       let fits = head_fits plan.clean refl clean_is in
-      let sized = mounted.profile.journal 0 own.dinode at_own in
+      let as_many = mounted.profile.journal 0 own.dinode at_own in
       let many = long in
       record {
         placed = (placed disk m own frames time idle mounted is_own.journal).0;
-        is = record { size = sized; least = omega (arith, many, sized.0); most = omega (arith, many, sized.1); places = refl; few = few };
+        is = record { size = sized; least = omega (arith, many, as_many.0); most = omega (arith, many, as_many.1); places = refl; few = few };
         inside = fits.0;
         low = fits.1;
       }

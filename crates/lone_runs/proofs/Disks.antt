@@ -1,5 +1,5 @@
 -- It stays the same disk, and the other nodes have no part in it.
-use Rattle.std.proofs.Common.{◌≡◌, ◌≢◌, ◌⊎◌, ℕ, ◌+◌, List, [], ◌∷◌, ◌++◌, Option, None, Some, get_or, take, refl, sym, ap, subst, ◌∙◌, inl, inr}
+use Rattle.std.proofs.Common.{◌≡◌, ℕ, ◌+◌, List, [], ◌∷◌, Option, None, Some, get_or, take, refl, sym, ap, subst, ◌∙◌, inl, inr}
 use Rattle.std.proofs.lemmas.Bool.{cond-false, ne_eqb}
 use Rattle.disk_turns.specs.Turns.{BringsTo, HasStopped, Moment}
 use Rattle.drafts.specs.declared.change.Written.{Written}
@@ -13,8 +13,8 @@ use Rattle.logged_runs.specs.Points.{Point}
 use Rattle.logged_runs.specs.StepEnds.{EndsTo, Landed, Said, Unsaid, with_clean}
 use Rattle.logged_runs.specs.Steps as by
 use Rattle.logged_runs.specs.Steps.{Here, Step, Steps, Then}
-use Rattle.logged_scripts.specs.Runs.{GoesTo, HasRun, IsBehind, LastGoes, crash, fence, loss, nothing}
-use Rattle.lone_fences.specs.Fencing.{EndsAt, HasFenced, IsFenced}
+use Rattle.logged_scripts.specs.Runs.{IsBehind, LastGoes, crash, fence, loss, nothing}
+use Rattle.lone_fences.specs.Fencing.{EndsAt, IsFenced}
 use Rattle.lone_fences.specs.declared.ends.FenceEnd.{FenceEnd}
 use Rattle.lone_fences.specs.declared.ends.FenceEnd.TheVariants as fence_end
 use Rattle.peer_replay.specs.declared.planned.Plan.{Plan}
@@ -57,12 +57,11 @@ brings before after blocks it still = record {
 replay_same : (slot dinode : ℕ) (blocks : List ℕ) (time : ℕ) (before after : Moment) (home : List Written) (header : Option LogHeader) (items : List TraceItem)
     → IsReplayWith 1 slot dinode blocks time before after home header items → IsStill before.disk → IsSameDisk before.disk after.disk × IsStill after.disk
 replay_same slot dinode blocks time before after home None items is still = (same_as before.disk after.disk (ap (λ (m : Moment). m.disk) is.0), subst (λ (m : Moment). IsStill m.disk) (sym is.0) still)
-replay_same slot dinode blocks time before after home (Some header) items is still =
-    (
-      same_on before.disk is.between.disk after.disk (brings before is.between home is.homes still)
-          (brings is.between after (clean_block before.disk.size (get_or blocks header.blkno 0) slot dinode time header ∷ []) is.headed is.homes.written.idle),
-      is.headed.written.idle,
-    )
+replay_same slot dinode blocks time before after home (Some header) items is still = (
+  same_on before.disk is.between.disk after.disk (brings before is.between home is.homes still)
+      (brings is.between after (clean_block before.disk.size (get_or blocks header.blkno 0) slot dinode time header ∷ []) is.headed is.homes.written.idle),
+  is.headed.written.idle,
+)
 
 pub replays_same : (slot time : ℕ) (before after : Moment) (js : List Journal) (ps : List Plan) (items : List TraceItem) → AreReplays 1 slot time before js ps after items → IsStill before.disk
     → IsSameDisk before.disk after.disk × IsStill after.disk

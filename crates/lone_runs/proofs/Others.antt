@@ -1,5 +1,5 @@
 -- The run itself has nothing in flight on the disk of its node.
-use Rattle.std.proofs.Common.{◌≡◌, ◌⊎◌, ℕ, List, [], refl, ◌∙◌, inl, inr}
+use Rattle.std.proofs.Common.{◌≡◌, ◌⊎◌, ℕ, [], refl, ◌∙◌, inl, inr}
 use Rattle.logged_runs.specs.Fails.{AsItWas, FailsTo, InAWrite}
 use Rattle.logged_runs.specs.Points.{Point}
 use Rattle.logged_runs.specs.StepEnds.{EndsTo, Landed, Said, Unsaid}

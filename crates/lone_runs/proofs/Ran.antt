@@ -1,10 +1,8 @@
 -- A run whose replays were whole is one of those of which whole runs tell.
-use Rattle.std.proofs.Common.{◌≡◌, ◌⊎◌, ℕ, ◌≤◌, ◌++◌, List, [], ◌∷◌, Option, None, Some, refl, sym, ap, subst, ◌∙◌, inl, inr}
+use Rattle.std.proofs.Common.{◌≡◌, ℕ, ◌≤◌, ◌++◌, List, Option, None, Some, refl, sym, ap, subst, ◌∙◌, inl, inr}
 use Rattle.disk_items.specs.Deeds.{AreToldButOne, but_one, each}
-use Rattle.disk_turns.specs.Turns.{Moment, moment}
+use Rattle.disk_turns.specs.Turns.{Moment}
 use Rattle.file_tree.specs.Tree.{Tree}
-use Rattle.image_machine.specs.Volumes.{Volume, volume_of}
-use Rattle.image_model.specs.Image.{Image, image_of}
 use Rattle.image_mount.specs.Mounted.{Journal, MountedValue}
 use Rattle.image_recovery.specs.Ended.{head_left}
 use Rattle.image_recovery.specs.Recoveries.{HaveReplayed}
@@ -16,11 +14,11 @@ use Rattle.peer_replay.specs.declared.planned.Plan.{Plan}
 use Rattle.profile_limits.specs.Limits.{most_frames}
 use Rattle.script_lang.specs.Script.{ScriptValue}
 use Rattle.script_lang.specs.declared.script.Client.{Client}
-use Rattle.shared_disk.specs.Disk.{DiskState, Gains, IsSound, Operation}
+use Rattle.shared_disk.specs.Disk.{Gains, IsSound, Operation}
 use Rattle.trace_text.specs.declared.item.TraceItem.{TraceItem}
 use Rattle.whole_runs.specs.Resting.{ReplayedIsAtRest, RestsAsMounted}
 use Rattle.whole_runs.specs.Starts.{IsStart, joined}
-use Rattle.whole_runs.specs.Wholes.{HasRunWhole, IsRun, RunsAreTold as WholeRunsAreTold, WholeRunsStand}
+use Rattle.whole_runs.specs.Wholes.{IsRun}
 use Rattle.whole_runs.proofs.Replaying.{same_size}
 use Rattle.lone_runs.specs.Beginning.{IsOwn, its_head, start_point}
 

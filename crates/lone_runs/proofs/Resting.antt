@@ -1,5 +1,5 @@
 -- Behind a run that came to its end without a stop the disk is at rest.
-use Rattle.std.proofs.Common.{◌≡◌, ◌≢◌, ◌⊎◌, ℕ, ◌+◌, List, [], ◌∷◌, Option, None, Some, refl, sym, ap, subst, ◌∙◌, inl, inr}
+use Rattle.std.proofs.Common.{◌≡◌, ◌⊎◌, ℕ, ◌+◌, List, [], ◌∷◌, Option, None, Some, refl, ap, subst, ◌∙◌, inl, inr}
 use Rattle.std.specs.Prelude.{Result, Ok, Err}
 use Rattle.std.proofs.lemmas.Bool.{cases_eq}
 use Rattle.disk_turns.specs.Turns.{Moment}
@@ -15,7 +15,7 @@ use Rattle.lone_view.specs.Seeing.{Lone}
 use Rattle.peer_replay.specs.declared.planned.Plan.{Plan}
 use Rattle.run_rules.specs.History.{NoneStopped}
 use Rattle.script_lang.specs.Script.{ScriptValue}
-use Rattle.shared_disk.specs.Disk.{DiskState, IsIdle, IsSound}
+use Rattle.shared_disk.specs.Disk.{DiskState, IsIdle}
 use Rattle.trace_text.specs.declared.item.TraceItem.{TraceItem}
 use Rattle.trace_text.specs.declared.item.TraceItem.TheVariants as trace
 use Rattle.whole_runs.specs.Starts.{joined}

@@ -1,28 +1,25 @@
 -- The laws of runs.
-use Rattle.std.proofs.Common.{◌≡◌, ◌⊎◌, ℕ, ◌+◌, ◌≤◌, zero, suc, List, [], ◌∷◌, ◌++◌, length, take, Option, None, Some, refl, sym, ap, subst, ◌∙◌, inl, inr, arith}
-use Rattle.std.specs.Prelude.{Result, Ok, Err, slice_get}
-use Rattle.std.specs.List.{AllByRecursion}
+use Rattle.std.proofs.Common.{◌≡◌, ℕ, ◌≤◌, zero, suc, List, [], ◌∷◌, ◌++◌, take, None, Some, refl, sym, ap, subst, ◌∙◌, inl, inr, arith}
+use Rattle.std.specs.Prelude.{Result}
 use Rattle.std.proofs.lemmas.List.{append_assoc}
-use Rattle.cluster_history.specs.History.{calls_of}
 use Rattle.disk_turns.specs.Turns.{Moment}
 use Rattle.disk_turns.proofs.Gaining.{gains_join}
 use Rattle.file_tree.specs.Tree.{Tree}
 use Rattle.image_machine.specs.Volumes.{Volume}
 use Rattle.image_model.specs.Image.{Image, image_of}
 use Rattle.image_model.specs.Replays.{StandsReplayed}
-use Rattle.image_mount.specs.Mounted.{Journal, MountedValue}
+use Rattle.image_mount.specs.Mounted.{MountedValue}
 use Rattle.image_recovery.specs.Laws.{CrashedAreAsFailed}
 use Rattle.image_recovery.specs.Recoveries.{HaveCrashed, HaveFailed}
 use Rattle.journal_outcomes.specs.Disks.{flown_by}
 use Rattle.journal_outcomes.specs.Images.{NoFalseHeader}
 use Rattle.log_layout.specs.Laws.{PlacesSayAll}
-use Rattle.lone_fences.specs.Fencing.{EndsAt, HasFenced, IsFenced, IsFencedLast, with_fence}
+use Rattle.lone_fences.specs.Fencing.{EndsAt, HasFenced, IsFenced, with_fence}
 use Rattle.lone_fences.specs.declared.ends.FenceEnd.{FenceEnd}
 use Rattle.lone_fences.specs.declared.ends.FenceEnd.TheVariants as fence_end
 use Rattle.logged_runs.specs.Disks.{disk_after}
 use Rattle.logged_runs.specs.Laws.{MayLeave}
 use Rattle.logged_runs.specs.Standing.{StandsAsTold}
-use Rattle.logged_scripts.specs.declared.ends.RunEnd.{RunEnd as ScriptEnd}
 use Rattle.mounted_views.specs.Views.{view_of}
 use Rattle.peer_replay.specs.declared.planned.Plan.{Plan}
 use Rattle.right_losses.specs.Kept.{kept_by}
@@ -32,9 +29,9 @@ use Rattle.script_lang.specs.declared.script.Client.{Client}
 use Rattle.shared_disk.specs.Disk.{DiskState, Fence, Flight, Gains, Operation, after_fence, flight_to}
 use Rattle.trace_text.specs.declared.item.TraceItem.{TraceItem}
 use Rattle.trace_text.specs.declared.item.TraceItem.TheVariants as trace
-use Rattle.whole_runs.specs.Fronts.{FailedStartsStand, HasStartWhole, RunsStandAtEachFront, SettlesRight, StandsAtEachFront, StartsStand, heads_behind}
+use Rattle.whole_runs.specs.Fronts.{FailedStartsStand, HasStartWhole, RunsStandAtEachFront, SettlesRight, StandsAtEachFront, StartsStand}
 use Rattle.whole_runs.specs.Resting.{ReplayedIsAtRest}
-use Rattle.whole_runs.specs.Starts.{IsStart, its_volume, joined}
+use Rattle.whole_runs.specs.Starts.{its_volume, joined}
 use Rattle.whole_runs.specs.Wholes.{Course, RunsAreTold as WholeRunsAreTold, WholeRunsStand, disk_behind, heads_of, no_write}
 use Rattle.whole_runs.proofs.Quiet.{none_legal, nothing_stands}
 use Rattle.whole_runs.proofs.Starting.{only_itself}

@@ -1,22 +1,20 @@
 -- Runs without a stop: what they answered is legal, and where nothing changed nothing was written.
-use Rattle.std.proofs.Common.{◌≡◌, ◌⊎◌, ℕ, ◌+◌, List, [], ◌∷◌, ◌++◌, length, take, false, get_or, Option, None, Some, refl, sym, ap, subst, ◌∙◌, inl, inr}
-use Rattle.std.specs.Prelude.{Result, Ok, Err}
+use Rattle.std.proofs.Common.{◌≡◌, ℕ, ◌+◌, List, [], ◌∷◌, ◌++◌, take, false, Option, refl, sym, ap, subst, ◌∙◌, inl, inr}
+use Rattle.std.specs.Prelude.{Result, Ok}
 use Rattle.std.specs.List.{AllByRecursion}
 use Rattle.cluster_history.specs.History.{Legal}
 use Rattle.disk_turns.specs.Turns.{Moment}
 use Rattle.file_tree.specs.Tree.{Tree}
-use Rattle.image_mount.specs.Mounted.{Journal, MountedValue}
+use Rattle.image_mount.specs.Mounted.{MountedValue}
 use Rattle.image_recovery.specs.Laws.{CrashedAreAsFailed}
 use Rattle.image_recovery.specs.Recoveries.{HaveCrashed, HaveFailed, HaveReplayed, HaveReplayedSome}
 use Rattle.logged_runs.specs.Laws.{CallsAreCounted, RunsBeginSo}
 use Rattle.logged_runs.specs.Points.{Point}
-use Rattle.logged_runs.specs.Starts.{IsOfReplay}
 use Rattle.logged_runs.proofs.Starting.{no_calls}
-use Rattle.logged_scripts.specs.Runs.{GoesTo, HasRun, IsBehind, crash, fence, is_change, loss, nothing}
-use Rattle.lone_fences.specs.Fencing.{EndsAt, with_crash, with_fence}
+use Rattle.logged_scripts.specs.Runs.{IsBehind, crash, fence, is_change, loss, nothing}
+use Rattle.lone_fences.specs.Fencing.{EndsAt}
 use Rattle.lone_fences.specs.declared.ends.FenceEnd.{FenceEnd}
 use Rattle.lone_fences.specs.declared.ends.FenceEnd.TheVariants as fence_end
-use Rattle.lone_view.specs.Seeing.{Lone}
 use Rattle.mounted_views.specs.Views.{view_of}
 use Rattle.peer_replay.specs.declared.planned.Plan.{Plan}
 use Rattle.run_rules.specs.Follows.{history_of}
@@ -34,7 +32,7 @@ use Rattle.whole_runs.proofs.RunFronts.{ended_same, failed_same}
 use Rattle.whole_runs.proofs.Running.{run_begins}
 use Rattle.whole_runs.proofs.Starting.{stopped_by}
 use Rattle.lone_runs.specs.Laws.{IsRunOf, NothingIsWritten, RunsAreLegal, WritesNothing}
-use Rattle.lone_runs.specs.Runs.{GoesSo, as_end, crashed, disk_failed, no_memory, not_fenced, not_joined, ran}
+use Rattle.lone_runs.specs.Runs.{GoesSo, crashed, disk_failed, no_memory, not_fenced, not_joined, ran}
 use Rattle.lone_runs.specs.declared.ends.RunEnd.{RunEnd}
 use Rattle.lone_runs.proofs.Ran.{is_run, rests}
 

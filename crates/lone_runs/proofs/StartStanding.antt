@@ -1,31 +1,19 @@
 -- Runs that came no further than their replays stand at each front of their items.
-use Rattle.std.proofs.Common.{◌≡◌, ◌⊎◌, ℕ, List, [], ◌∷◌, ◌++◌, Option, Some, refl, sym, ap, subst, ◌∙◌, inl, inr}
-use Rattle.std.proofs.lemmas.List.{append_assoc}
-use Rattle.cluster_history.specs.History.{calls_of}
-use Rattle.disk_items.specs.Deeds.{AreToldButOne}
+use Rattle.std.proofs.Common.{◌≡◌, List, [], ◌∷◌, ◌++◌, refl, sym, ap, subst, ◌∙◌}
 use Rattle.disk_turns.specs.Turns.{Moment}
 use Rattle.file_tree.specs.Tree.{Tree}
 use Rattle.image_machine.specs.Volumes.{Volume}
-use Rattle.image_model.specs.Image.{image_of}
-use Rattle.image_model.specs.Stands.{Layout}
-use Rattle.journal_outcomes.specs.Disks.{flown_by}
-use Rattle.journal_outcomes.specs.Images.{NoFalseHeader}
 use Rattle.logged_runs.specs.Disks.{disk_after}
-use Rattle.lone_fences.specs.Fencing.{EndsAt, HasFenced, IsFenced, with_crash, with_fence}
-use Rattle.lone_fences.specs.declared.ends.FenceEnd.{FenceEnd}
-use Rattle.lone_fences.specs.declared.ends.FenceEnd.TheVariants as fence_end
-use Rattle.right_losses.specs.Kept.{kept_by}
-use Rattle.run_rules.specs.Follows.{history_of}
+use Rattle.lone_fences.specs.Fencing.{with_crash, with_fence}
 use Rattle.script_lang.specs.declared.script.Client.{Client}
-use Rattle.shared_disk.specs.Disk.{DiskState, Fence, Flight, Gains, Operation, after_fence}
+use Rattle.shared_disk.specs.Disk.{DiskState, Fence, Flight, Operation, after_fence}
 use Rattle.trace_text.specs.declared.item.TraceItem.{TraceItem}
 use Rattle.trace_text.specs.declared.item.TraceItem.TheVariants as trace
-use Rattle.whole_runs.specs.Fronts.{HasStartWhole, IsRightLoss, SettlesRight, a_fence, a_loss, a_stop, disk_left, nothing_more}
+use Rattle.whole_runs.specs.Fronts.{HasStartWhole, SettlesRight, a_fence, a_loss, a_stop, disk_left, nothing_more}
 use Rattle.whole_runs.specs.Wholes.{Course, going_on, stopped_course}
 use Rattle.whole_runs.proofs.Bringing.{after_on}
-use Rattle.lone_runs.specs.Laws.{HasStood, HasTrueFence}
-use Rattle.lone_runs.proofs.Ran.{gained_of}
-use Rattle.lone_runs.proofs.Standing.{append_nil, cancel}
+use Rattle.lone_runs.specs.Laws.{HasStood}
+use Rattle.lone_runs.proofs.Standing.{append_nil}
 
 module _ (v : Volume) (clients : List Client) (before : Moment) (start : Tree) (told : List TraceItem) (stopped : DiskState) (ops : List Operation) (whole : HasStartWhole before v clients start told stopped ops) where
   abbrev course : Course

@@ -127,7 +127,7 @@ head_no_barrier b sequence same = cc
 
 went_step : (time : ℕ) (a p q : Point) → Went a p → Step time p q → Went a q
 went_step time a p q w (Reads answers b lock bytes asked absent whole told) = quietly a p q w refl refl refl refl refl refl w.due
-went_step time a p q w (Answers answers name call reply change kept is some can room keeps) = telling_so a p q w _ refl refl refl refl refl tt (λ is. (is, tt)) w.due
+went_step time a p q w (Answers answers name call reply change kept is some can room stays) = telling_so a p q w _ refl refl refl refl refl tt (λ is. (is, tt)) w.due
 went_step time a p q w (AnswersQuietly answers name call reply change is none no_sync) = telling_so a p q w _ refl refl refl refl refl tt (λ is. (is, tt)) w.due
 went_step time a p q w (Syncs answers name low) = telling_so a p q w _ refl refl refl refl refl tt (λ is. (is, tt)) w.due
 went_step time a p q w (TellsFull answers call need free is low) = telling_so a p q w _ refl refl refl refl refl tt (λ is. (is, tt)) (λ other. cc)

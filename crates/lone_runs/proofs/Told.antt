@@ -1,6 +1,5 @@
 -- The list of operations gained what a run's items tell, on every disk.
-use Rattle.std.proofs.Common.{◌≡◌, ◌⊎◌, ℕ, List, [], ◌∷◌, ◌++◌, Option, None, Some, refl, sym, ap, subst, ◌∙◌, inl, inr}
-use Rattle.std.specs.Prelude.{Result, Ok, Err}
+use Rattle.std.proofs.Common.{◌≡◌, ℕ, List, [], ◌∷◌, ◌++◌, Option, refl, sym, ap, subst, inl, inr}
 use Rattle.std.specs.List.{AllByRecursion}
 use Rattle.std.proofs.lemmas.List.{append_assoc}
 use Rattle.disk_items.specs.Deeds.{AreDoneBy, AreTold, AreToldButOne, but_one, each}
@@ -11,11 +10,10 @@ use Rattle.image_mount.specs.Mounted.{Journal}
 use Rattle.image_recovery.specs.Recoveries.{HaveCrashed, HaveFailed, HaveReplayed, HaveReplayedSome}
 use Rattle.logged_runs.proofs.Telling.{append_nil, steps_are_told}
 use Rattle.logged_runs.specs.Points.{Point}
-use Rattle.logged_runs.specs.Starts.{IsOfReplay}
 use Rattle.logged_runs.specs.Steps.{Steps}
 use Rattle.logged_runs.specs.StepEnds.{clean_item, last_block}
 use Rattle.logged_scripts.specs.Ends.{NothingUntold, at_the_header, at_the_point}
-use Rattle.logged_scripts.specs.Runs.{GoesTo, HasRun, IsBehind, LastGoes, crash, fence, loss, nothing}
+use Rattle.logged_scripts.specs.Runs.{IsBehind, LastGoes, crash, fence, loss, nothing}
 use Rattle.logged_scripts.proofs.Beginning.{members}
 use Rattle.lone_fences.specs.Fencing.{EndsAt, HasFenced, IsFenced, with_crash, with_fence}
 use Rattle.lone_fences.specs.declared.ends.FenceEnd.{FenceEnd}
@@ -30,8 +28,7 @@ use Rattle.whole_runs.specs.Starts.{joined}
 use Rattle.whole_runs.specs.Wholes.{IsOneWrite, no_write, one_write}
 use Rattle.whole_runs.proofs.Last.{LastOps, ended_ops, failed_ops}
 use Rattle.lone_runs.specs.Laws.{GainsAsTold, RunsAreTold}
-use Rattle.lone_runs.specs.Runs.{GoesSo, crashed, disk_failed, no_memory, not_fenced, not_joined, ran}
-use Rattle.lone_runs.specs.declared.ends.RunEnd.{RunEnd}
+use Rattle.lone_runs.specs.Runs.{crashed, disk_failed, no_memory, not_fenced, not_joined, ran}
 use Rattle.lone_runs.proofs.Members.{IsOfStart, failed_start}
 
 -- ---- one behind another

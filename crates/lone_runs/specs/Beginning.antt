@@ -1,5 +1,5 @@
 -- What a run is given, and where its node begins.
-use Rattle.std.specs.Prelude.{ℕ, ◌≡◌, ◌<◌, ◌≤◌, ◌^◌, false, List, [], Option, Some, length, slice_get}
+use Rattle.std.specs.Prelude.{ℕ, ◌≡◌, ◌<◌, ◌≤◌, ◌^◌, false, List, [], Some, length, slice_get}
 use Rattle.std.specs.FinMap as table
 use Rattle.std.specs.List.{AllByRecursion}
 use Rattle.disk_turns.specs.Turns.{Moment}

@@ -1,8 +1,6 @@
 -- Why a run ends before its script does, or isn't told to its end.
-use Rattle.std.specs.Prelude.{ℕ, ◌≡◌, ◌≤◌, ◌<◌, ⊤, IfSome, List}
+use Rattle.std.specs.Prelude.{ℕ, ◌<◌, ⊤, IfSome, List}
 use Rattle.fault_counts.specs.Causes.{WentUp}
-use Rattle.journal_replays.specs.declared.faults.ReplayFault.{ReplayFault}
-use Rattle.journal_replays.specs.declared.faults.ReplayFault.TheVariants as replay
 use Rattle.logged_scripts.specs.Ends as scripts
 use Rattle.lone_runs.specs.declared.ends.RunEnd.{RunEnd}
 use Rattle.lone_runs.specs.declared.ends.RunEnd.TheVariants as end

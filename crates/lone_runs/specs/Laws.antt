@@ -1,7 +1,7 @@
 -- What a run leaves, on an image that stands for a tree.
 use Rattle.std.specs.Prelude.{ℕ, ◌≡◌, ◌⊎◌, ◌++◌, ◌≤◌, ⊤, false, List, [], ◌∷◌, Option, Some, Result, Ok, Err}
 use Rattle.std.specs.List.{AllByRecursion}
-use Rattle.cluster_history.specs.History.{KeepsSynced, Legal, tree_of}
+use Rattle.cluster_history.specs.History.{Legal, tree_of}
 use Rattle.disk_items.specs.Deeds.{AreDoneBy, AreTold, AreToldButOne}
 use Rattle.disk_turns.specs.Turns.{Moment}
 use Rattle.file_tree.specs.Tree.{Tree}
@@ -17,7 +17,6 @@ use Rattle.journal_outcomes.specs.Images.{NoFalseHeader, ring_at}
 use Rattle.log_layout.specs.Journal.{IsClean}
 use Rattle.logged_runs.specs.Disks.{disk_after}
 use Rattle.logged_scripts.specs.Runs.{is_change}
-use Rattle.logged_scripts.specs.declared.ends.RunEnd.{RunEnd as ScriptEnd}
 use Rattle.logged_scripts.specs.declared.ends.RunEnd.TheVariants as script
 use Rattle.lone_view.specs.Seeing.{Lone}
 use Rattle.mounted_views.specs.Views.{view_of}

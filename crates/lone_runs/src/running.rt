@@ -9,8 +9,6 @@ ghost use Rattle.logged_node.specs.Nodes.{point_of};
 ghost use Rattle.logged_scripts.specs.Beginning.{HasBegun};
 ghost use Rattle.logged_scripts.specs.Ends.{HasCause as ScriptHasCause};
 ghost use Rattle.logged_scripts.specs.Runs.{HasRun};
-ghost use Rattle.lone_fences.specs.Ends.{HasCause as FenceHasCause};
-ghost use Rattle.lone_fences.specs.Fencing.{EndsAt, HasFenced};
 ghost use Rattle.lone_scripts.specs.Runs.{IsLoneRun, IsWholeLoneRun};
 ghost use Rattle.lone_scripts.specs.Scripts.{IsForOne};
 ghost use Rattle.peer_replay.specs.declared.planned.Plan.{Plan as PlanValue};
@@ -29,10 +27,10 @@ use logged_node::Node;
 use logged_scripts::{
     RunEnd as ScriptEnd, end_of_fence, join, run_script, settle_first, writes_left,
 };
-use lone_fences::{FenceEnd, fence_crashed};
+use lone_fences::fence_crashed;
 use lone_view::LoneView;
 use script_lang::Script;
-use shared_disk::{Settle, SharedDisk};
+use shared_disk::SharedDisk;
 use std::alloc::Global;
 use std::mem;
 use trace_text::TraceItem;

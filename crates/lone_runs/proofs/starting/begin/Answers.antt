@@ -1,9 +1,9 @@
-use Rattle.std.proofs.Common.{◌≡◌, ◌<◌, ◌^◌, refl, sym, ap, subst, ◌∙◌, arith}
+use Rattle.std.proofs.Common.{◌<◌, sym, ap, subst, ◌∙◌, arith}
 use Rattle.image_mount.specs.Mounted.{Journal}
 use Rattle.log_values.specs.Laws.{IsJournal}
 use Rattle.log_values.specs.Log.{Journal as OwnJournal}
 use Rattle.mounted_views.specs.Views.{journal_of}
-use Rattle.lone_runs.specs.Beginning.{MayHave, its_head}
+use Rattle.lone_runs.specs.Beginning.{its_head}
 use Rattle.lone_runs.proofs.Allowed.{allowed, refused}
 use Rattle.lone_runs.proofs.starting.begin.Goals as goal
 
