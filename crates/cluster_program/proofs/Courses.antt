@@ -7,6 +7,8 @@ use Rattle.run_reports.specs.declared.output.Listing.{Listing}
 use Rattle.run_reports.specs.declared.output.Listing.TheVariants.{Clients}
 use Rattle.run_reports.specs.declared.status.Status.{Status}
 use Rattle.cluster_program.specs.World.{Inputs}
+use Rattle.run_reports.specs.Laws.{NothingIsOfOneNode}
+use Rattle.run_reports.specs.OneNode.{IsOfOneNode}
 use Rattle.cluster_program.specs.Course.{Course}
 
 pub course_of : (words : List (List ℕ)) (given left : Inputs) {listing : Listing} {s : ScriptValue} {items : List TraceItem} {lines told_lines : List ℕ} {own told : Status}
@@ -21,3 +23,7 @@ course_of words given left {listing} {s} {items} {lines} {told_lines} {own} {tol
 pub with_no_lines : (words : List (List ℕ)) (given left : Inputs) (listing : Listing) {s : ScriptValue} {items : List TraceItem} {lines : List ℕ} {own : Status}
     → lines ≡ [] → Course words given left listing s items [] own → Course words given left listing s items lines own
 with_no_lines words given left listing {s} {items} {lines} {own} none course = subst (λ (ls : List ℕ). Course words given left listing s items ls own) (sym none) course
+
+-- a command that ran nothing has no items to tell, and no journals to count
+pub of_one_nothing : NothingIsOfOneNode → {s : ScriptValue} {items : List TraceItem} → s ≡ nothing → items ≡ [] → IsOfOneNode s items
+of_one_nothing law {s} {items} script none = subst (λ x. IsOfOneNode x items) (sym script) (subst (IsOfOneNode nothing) (sym none) law)
