@@ -52,7 +52,7 @@ swapped_apart l i j first second apart p q low high same =
     let long : length (swap l i j) ≡ length l = length-swap l i j in
     let one : was.0 ≡ other.0
     = apart was.0 other.0 (was_low i j p was.0 (length l) first second (subst (λ n. p < n) long low) was.1) (was_low i j q other.0 (length l) first second (subst (λ n. q < n) long high) other.1)
-        (sym (was_same (λ k. get_or l k 0) (λ k. get_or (swap l i j) k 0) i j p was.0 swapped was.1) ∙ same ∙ was_same (λ k. get_or l k 0) (λ k. get_or (swap l i j) k 0) i j q other.0 swapped other.1) in
+    (sym (was_same (λ k. get_or l k 0) (λ k. get_or (swap l i j) k 0) i j p was.0 swapped was.1) ∙ same ∙ was_same (λ k. get_or l k 0) (λ k. get_or (swap l i j) k 0) i j q other.0 swapped other.1) in
     was_once i j p q other.0 (subst (Was i j p) one was.1) other.1
 
 -- another order keeps them apart

@@ -8,11 +8,11 @@ use Rattle.image_recovery.specs.Recoveries.{AreReplays, HaveCrashed, HaveFailed,
 use Rattle.journal_replays.specs.Headers.{clean_block}
 use Rattle.journal_replays.specs.Replays.{IsReplayWith, StopsReplay, at_header, at_home}
 use Rattle.log_layout.specs.declared.log_header.LogHeader.{LogHeader}
-use Rattle.logged_runs.specs.Fails.{AsItWas, FailsTo, InAWrite}
-use Rattle.logged_runs.specs.Points.{Point}
-use Rattle.logged_runs.specs.StepEnds.{EndsTo, Landed, Said, Unsaid, with_clean}
-use Rattle.logged_runs.specs.Steps as by
-use Rattle.logged_runs.specs.Steps.{Here, Step, Steps, Then}
+use Rattle.logged_scripts.specs.Fails.{AsItWas, FailsTo, InAWrite}
+use Rattle.logged_scripts.specs.Points.{Point}
+use Rattle.logged_scripts.specs.StepEnds.{EndsTo, Landed, Said, Unsaid, with_clean}
+use Rattle.logged_scripts.specs.Steps as by
+use Rattle.logged_scripts.specs.Steps.{Here, Step, Steps, Then}
 use Rattle.logged_scripts.specs.Runs.{GoesTo, HasRun, IsBehind, LastGoes, crash, fence, loss, nothing}
 use Rattle.lone_fences.specs.Fencing.{EndsAt, HasFenced, IsFenced}
 use Rattle.lone_fences.specs.declared.ends.FenceEnd.{FenceEnd}
@@ -20,8 +20,8 @@ use Rattle.lone_fences.specs.declared.ends.FenceEnd.TheVariants as fence_end
 use Rattle.peer_replay.specs.declared.planned.Plan.{Plan}
 use Rattle.shared_disk.specs.Disk.{DiskState, Flight, Operation, after_barrier, after_fence, after_write}
 use Rattle.trace_text.specs.declared.item.TraceItem.{TraceItem}
-use Rattle.whole_runs.specs.Starts.{joined}
-use Rattle.whole_runs.proofs.Starting.{stopped_by}
+use Rattle.logged_scripts.specs.WholeRunsStarts.{joined}
+use Rattle.logged_scripts.proofs.Starting.{stopped_by}
 use Rattle.lone_runs.specs.Runs.{IsSameDisk}
 
 -- nothing is in flight of any node
@@ -57,12 +57,11 @@ brings before after blocks it still = record {
 replay_same : (slot dinode : ℕ) (blocks : List ℕ) (time : ℕ) (before after : Moment) (home : List Written) (header : Option LogHeader) (items : List TraceItem)
     → IsReplayWith 1 slot dinode blocks time before after home header items → IsStill before.disk → IsSameDisk before.disk after.disk × IsStill after.disk
 replay_same slot dinode blocks time before after home None items is still = (same_as before.disk after.disk (ap (λ (m : Moment). m.disk) is.0), subst (λ (m : Moment). IsStill m.disk) (sym is.0) still)
-replay_same slot dinode blocks time before after home (Some header) items is still =
-    (
-      same_on before.disk is.between.disk after.disk (brings before is.between home is.homes still)
-          (brings is.between after (clean_block before.disk.size (get_or blocks header.blkno 0) slot dinode time header ∷ []) is.headed is.homes.written.idle),
-      is.headed.written.idle,
-    )
+replay_same slot dinode blocks time before after home (Some header) items is still = (
+  same_on before.disk is.between.disk after.disk (brings before is.between home is.homes still)
+      (brings is.between after (clean_block before.disk.size (get_or blocks header.blkno 0) slot dinode time header ∷ []) is.headed is.homes.written.idle),
+  is.headed.written.idle,
+)
 
 pub replays_same : (slot time : ℕ) (before after : Moment) (js : List Journal) (ps : List Plan) (items : List TraceItem) → AreReplays 1 slot time before js ps after items → IsStill before.disk
     → IsSameDisk before.disk after.disk × IsStill after.disk

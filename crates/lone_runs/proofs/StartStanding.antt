@@ -10,7 +10,7 @@ use Rattle.image_model.specs.Image.{image_of}
 use Rattle.image_model.specs.Stands.{Layout}
 use Rattle.journal_outcomes.specs.Disks.{flown_by}
 use Rattle.journal_outcomes.specs.Images.{NoFalseHeader}
-use Rattle.logged_runs.specs.Disks.{disk_after}
+use Rattle.logged_scripts.specs.Disks.{disk_after}
 use Rattle.lone_fences.specs.Fencing.{EndsAt, HasFenced, IsFenced, with_crash, with_fence}
 use Rattle.lone_fences.specs.declared.ends.FenceEnd.{FenceEnd}
 use Rattle.lone_fences.specs.declared.ends.FenceEnd.TheVariants as fence_end
@@ -20,9 +20,9 @@ use Rattle.script_lang.specs.declared.script.Client.{Client}
 use Rattle.shared_disk.specs.Disk.{DiskState, Fence, Flight, Gains, Operation, after_fence}
 use Rattle.trace_text.specs.declared.item.TraceItem.{TraceItem}
 use Rattle.trace_text.specs.declared.item.TraceItem.TheVariants as trace
-use Rattle.whole_runs.specs.Fronts.{HasStartWhole, IsRightLoss, SettlesRight, a_fence, a_loss, a_stop, disk_left, nothing_more}
-use Rattle.whole_runs.specs.Wholes.{Course, going_on, stopped_course}
-use Rattle.whole_runs.proofs.Bringing.{after_on}
+use Rattle.logged_scripts.specs.Fronts.{HasStartWhole, IsRightLoss, SettlesRight, a_fence, a_loss, a_stop, disk_left, nothing_more}
+use Rattle.logged_scripts.specs.Wholes.{Course, going_on, stopped_course}
+use Rattle.logged_scripts.proofs.Bringing.{after_on}
 use Rattle.lone_runs.specs.Laws.{HasStood, HasTrueFence}
 use Rattle.lone_runs.proofs.Ran.{gained_of}
 use Rattle.lone_runs.proofs.Standing.{append_nil, cancel}
