@@ -173,9 +173,9 @@ pub unread_early : (journals : List Journal) (before now : ℕ) (own : Status) �
 unread_early journals before now _ (UnreadBlock journal block x y has within up) is = cc
 unread_early journals before now _ UnreadForMemory is = cc
 
-pub early_count : {A : ℕ → Type 0} (B : Status → Type 0) (r : Result ℕ Status) → MatchResult r A B → ((own : Status) → B own → own ≡ status.Done → ⊥) → IfErr r (λ own. own ≡ status.Done → ⊥)
-early_count B (Ok dirty) is early = tt
-early_count B (Err own) is early = early own is
+pub early_count : (A : ℕ → Type 0) (B : Status → Type 0) (r : Result ℕ Status) → MatchResult r A B → ((own : Status) → B own → own ≡ status.Done → ⊥) → IfErr r (λ own. own ≡ status.Done → ⊥)
+early_count A B (Ok dirty) is early = tt
+early_count A B (Err own) is early = early own is
 
 pub none_early : (r : Result ℕ Status) → MatchResult r (λ dirty. dirty ≡ 0) (λ own. ⊥) → IfErr r (λ own. own ≡ status.Done → ⊥)
 none_early (Ok dirty) is = tt

@@ -145,7 +145,7 @@ returns-in-Ok-run_alone-clause-counted g c = count_so g c None None 0 0
 pub returns-in-Ok-run_alone-clause-early : goal.returns-in-Ok-run_alone-clause-early
 returns-in-Ok-run_alone-clause-early g c = elim (stopped_or_not c.run_alone.new.items.items) [
   | inl none ↦ none_early c.left_dirty.result (none_so g c None None 0 0 none)
-  | inr stopped ↦ early_count _ c.left_dirty.result (stopped_so g c None None 0 0 stopped) (λ own unread. unread_early c.deref-in-Ok-run_alone.result.now _ _ own unread)
+  | inr stopped ↦ early_count _ _ c.left_dirty.result (stopped_so g c None None 0 0 stopped) (λ own unread. unread_early c.deref-in-Ok-run_alone.result.now _ _ own unread)
 ]
 
 pub returns-in-Ok-run_alone-clause-of_one : goal.returns-in-Ok-run_alone-clause-of_one

@@ -46,5 +46,5 @@ returns-clause-one g c = subst (λ s. IsOfOneNode s c.mount_and_run-run.new.item
 
 pub returns-clause-counted : goal.returns-clause-counted
 returns-clause-counted g c own some =
-    subst (λ s. IsDirtyCount _ _ s c.mount_and_run-run.new.items.items c.carried_run.result.dirty) (sym c.carried_run.ensures.script)
-    (as_counted c.mount_and_run-run.result (IsDirtyCount _ _ c.in-Ok.script c.mount_and_run-run.new.items.items) c.mount_and_run-run.ensures.counted c.mount_and_run-run.ensures.early (sym c.carried_run.ensures.own ∙ own) c.carried_run.ensures.dirty)
+    subst (λ s. IsDirtyCount (g.D.SharedDisk.state c.args.disk.now) (g.D.SharedDisk.state c.mount_and_run-run.new.disk) s c.mount_and_run-run.new.items.items c.carried_run.result.dirty) (sym c.carried_run.ensures.script)
+    (as_counted c.mount_and_run-run.result (IsDirtyCount (g.D.SharedDisk.state c.args.disk.now) (g.D.SharedDisk.state c.mount_and_run-run.new.disk) c.in-Ok.script c.mount_and_run-run.new.items.items) c.mount_and_run-run.ensures.counted c.mount_and_run-run.ensures.early (sym c.carried_run.ensures.own ∙ own) c.carried_run.ensures.dirty)
