@@ -7,14 +7,14 @@ use Rattle.std.proofs.lemmas.List.Sums.{sum_by-cons}
 use Rattle.disk_turns.specs.Turns.{Moment}
 use Rattle.image_model.specs.Image.{Image, image_of}
 use Rattle.image_mount.specs.Mounted.{IsMounted, Journal, MountedValue}
-use Rattle.logged_runs.specs.Starts.{IsOfReplay}
+use Rattle.lone_runs.specs.Starts.{IsOfReplay}
 use Rattle.lone_runs.specs.Telling.{EndsClean, IsNoCommit, TellsItsReplays, clean_header, no_commit}
 use Rattle.peer_replay.specs.declared.planned.Plan.{Plan}
 use Rattle.script_lang.specs.Script.{ScriptValue}
 use Rattle.shared_disk.specs.Disk.{DiskState}
 use Rattle.trace_text.specs.declared.item.TraceItem.{TraceItem}
 use Rattle.trace_text.specs.declared.item.TraceItem.TheVariants as trace
-use Rattle.whole_runs.proofs.Items.{of_replays}
+use Rattle.lone_runs.proofs.Items.{of_replays}
 use Rattle.run_reports.specs.Dirty.{dirty_by, is_left_dirty}
 use Rattle.cluster_program.specs.Dirty.{IsCountLeft, dirty_in}
 use Rattle.cluster_program.specs.Mounting.{is_clean_in}

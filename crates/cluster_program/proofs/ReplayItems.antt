@@ -13,7 +13,7 @@ use Rattle.journal_replays.specs.Replays.{IsReplayWith}
 use Rattle.log_layout.specs.declared.log_header.LogHeader.{LogHeader}
 use Rattle.peer_replay.specs.declared.planned.Plan.{Plan}
 use Rattle.lone_runs.specs.Telling.{IsNoRecovery, TellsItsReplays}
-use Rattle.whole_runs.specs.Starts.{joined}
+use Rattle.lone_runs.specs.WholeRunsStarts.{joined}
 use Rattle.run_reports.specs.Out.{replayed_line, replayed_lines, replayed_lines_behind}
 use Rattle.cluster_program.specs.Runs.{line_of_plan, lines_of_plans}
 

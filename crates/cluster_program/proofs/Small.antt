@@ -12,7 +12,7 @@ use Rattle.script_lang.specs.WellFormed.{IsAllowedCall, IsLine, IsWellFormed}
 use Rattle.script_lang.specs.declared.script.Line.{Line}
 use Rattle.script_lang.specs.declared.script.Line.TheVariants as line
 use Rattle.script_laws.specs.Printing.{HasCall, IsBytePath, IsCall}
-use Rattle.small_calls.specs.Sizes.{IsOfScript}
+use Rattle.lone_runs.specs.Sizes.{IsOfScript}
 use Rattle.image_model.proofs.Listing.{all_by_index}
 
 last_bytes : (path : List (List ℕ)) → AllByRecursion IsBytes path → IsBytes (last_of path)

@@ -6,8 +6,8 @@ use Rattle.image_mount.specs.declared.fault.MountFault.{MountFault}
 use Rattle.image_mount.specs.declared.fault.MountFault.TheVariants as fault
 use Rattle.image_replays.specs.look_faults.LookFault.{LookFault}
 use Rattle.image_replays.specs.look_faults.LookFault.TheVariants as look
-use Rattle.logged_scripts.specs.declared.ends.RunEnd.{RunEnd as ScriptEnd}
-use Rattle.logged_scripts.specs.declared.ends.RunEnd.TheVariants as script_end
+use Rattle.lone_runs.specs.logged_scripts_ends.RunEnd.{RunEnd as ScriptEnd}
+use Rattle.lone_runs.specs.logged_scripts_ends.RunEnd.TheVariants as script_end
 use Rattle.journal_reads.specs.declared.faults.ReadFault.{ReadFault}
 use Rattle.journal_reads.specs.declared.faults.ReadFault.TheVariants as read
 use Rattle.lone_runs.specs.declared.ends.RunEnd.{RunEnd}

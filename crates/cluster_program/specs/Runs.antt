@@ -18,15 +18,15 @@ use Rattle.image_recovery.specs.Left.{HaveLowHeads, IsLeft}
 use Rattle.image_recovery.specs.Recoveries.{HaveReplayed}
 use Rattle.image_replays.specs.Replays.{ArePlans, HavePlaces, IsWritable}
 use Rattle.log_layout.specs.declared.log_header.LogHeader.{LogHeader}
-use Rattle.lone_answers.specs.Faults.{IsDamagedFor}
+use Rattle.lone_runs.specs.Faults.{IsDamagedFor}
 use Rattle.lone_runs.specs.Beginning.{IsOwn}
 use Rattle.lone_runs.specs.Ends.{HasCause}
 use Rattle.lone_runs.specs.Laws.{GainsAsTold, HasEnded, HasStood, HasTrueFence, IsOfImageThatStands}
 use Rattle.lone_runs.specs.Runs.{GoesSo, IsSameDisk}
 use Rattle.lone_runs.specs.declared.ends.RunEnd.{RunEnd}
 use Rattle.lone_runs.specs.declared.ends.RunEnd.TheVariants as end
-use Rattle.logged_scripts.specs.declared.ends.RunEnd.TheVariants as script_end
-use Rattle.logged_scripts.specs.Runs.{is_change}
+use Rattle.lone_runs.specs.logged_scripts_ends.RunEnd.TheVariants as script_end
+use Rattle.lone_runs.specs.LoggedScriptsRuns.{is_change}
 use Rattle.lone_scripts.specs.Laws.{AllAnsweredOrDown}
 use Rattle.lone_scripts.specs.Runs.{IsLoneRun, IsWholeLoneRun}
 use Rattle.lone_view.specs.Seeing.{Lone, seen_alone}
@@ -37,7 +37,7 @@ use Rattle.run_rules.specs.History.{AllPlaced, NoneStopped}
 use Rattle.script_lang.specs.Script.{ScriptValue}
 use Rattle.shared_disk.specs.Disk.{DiskState, IsIdle, Operation}
 use Rattle.trace_text.specs.declared.item.TraceItem.{TraceItem}
-use Rattle.whole_runs.specs.Starts.{joined}
+use Rattle.lone_runs.specs.WholeRunsStarts.{joined}
 use Rattle.run_reports.specs.Out.{replayed_line, replayed_lines}
 use Rattle.run_reports.specs.declared.status.Status.{Status}
 use Rattle.run_reports.specs.declared.status.Status.TheVariants as status

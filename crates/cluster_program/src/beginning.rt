@@ -7,12 +7,12 @@ ghost use Rattle.cluster_program.specs.Mounting.{ArePlaced, BeginEnds};
 
 use crate::end_status::{misplaced, not_planned};
 use crate::mounting::{Ready, mount, ready_of};
-use run_reports::Status;
 use image_mount::{Field, JournalMap};
 use image_recovery::planned_replays_can_be_made;
 use image_replays::{plan_replay, stopped_images_have_no_replay};
 use lone_view::LoneView;
 use peer_replay::Plan;
+use run_reports::Status;
 use shared_disk::SharedDisk;
 use std::alloc::Global;
 

@@ -7,11 +7,11 @@ ghost use Rattle.cluster_program.specs.EndStatuses.{status_of_read};
 ghost use Rattle.cluster_program.specs.Dirty.{IsUnreadHead, dirty_on};
 ghost use Rattle.cluster_program.specs.Mounting.{ArePlaced};
 
-use run_reports::Status;
-use image_mount::JournalMap;
 use crate::end_status::device_fault;
+use image_mount::JournalMap;
 use journal_reads::ReadFault;
 use lone_fences::left_head;
+use run_reports::Status;
 use shared_disk::SharedDisk;
 use std::alloc::Global;
 use trace_text::TraceItem;

@@ -2,13 +2,12 @@
 ghost use Rattle.std.specs.Prelude.{◌≡◌, ◌+◌, ◌<◌, ◌^◌};
 ghost use Rattle.cluster_program.specs.EndStatuses.{IfOfScript, IsPlacedEnd, status_of_look, status_of_mount, status_of_run, status_of_script as status_of_script_end, status_of_tree};
 
-use run_reports::{Status, Unbuilt};
 use disk_trees::TreeFault;
-use image_mount::MountFault;
 use fault_counts::Rise;
+use image_mount::MountFault;
 use image_replays::LookFault;
-use logged_scripts::RunEnd as ScriptEnd;
-use lone_runs::RunEnd;
+use lone_runs::{RunEnd, ScriptEnd};
+use run_reports::{Status, Unbuilt};
 
 /// One whose mount failed.
 pub(crate) fn not_mounted(fault: MountFault) -> Status

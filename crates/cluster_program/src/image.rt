@@ -7,11 +7,11 @@ ghost use Rattle.cluster_program.specs.World.{inputs};
 ghost use Rattle.run_reports.specs.Report.{IsSinkFault};
 ghost use Rattle.profile_limits.specs.Limits.{most_blocks};
 
-use run_reports::Status;
 use command_words::MakeWords;
 use image_mount::Field;
 use mkgfs2_tool::{MakeFault, MakeOptions, make};
 use profile_limits::MOST_BLOCKS;
+use run_reports::Status;
 use shared_disk::SharedDisk;
 use std::alloc::Global;
 

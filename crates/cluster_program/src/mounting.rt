@@ -10,7 +10,6 @@ ghost use Rattle.lone_view.specs.Seeing.{seen_alone};
 ghost use Rattle.cluster_program.specs.Mounting.{MountEnds, OfImage, IsMountedAlike, IsMountedOn, IsMountedReplayed};
 
 use crate::end_status::not_mounted;
-use run_reports::Status;
 use damage_laws::views_may_be_read_from_mounted_images;
 use gfs2_layout::superblock_block;
 use image_model::{replays_keep_system_files, what_stands_breaks_nothing};
@@ -18,6 +17,7 @@ use image_mount::{JournalMap, Mounted, mount_image, mounted_groups_are_as_seen};
 use image_replays::replayed_images_have_the_same_system;
 use lone_view::{LoneView, are_groups};
 use resource_groups::group_of;
+use run_reports::Status;
 use shared_disk::SharedDisk;
 use std::alloc::Global;
 

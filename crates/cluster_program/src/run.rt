@@ -15,7 +15,6 @@ ghost use Rattle.cluster_program.specs.World.{inputs};
 use crate::beginning::{Prepared, prepare};
 use crate::dirty::{count_dirty, has_stopped};
 use crate::end_status::status_of_end;
-use run_reports::Status;
 use command_words::DEFAULT_FRAMES;
 use damage_laws::{
     calls_tell_broken_blocks, needs_out_of_the_device_tell_broken_blocks,
@@ -24,16 +23,15 @@ use damage_laws::{
 use image_model::clean_images_stay;
 use image_mount::JournalMap;
 use image_recovery::{
-    a_replay_leaves_its_image, what_a_replay_leaves_is_of_the_profile,
-    what_a_replay_leaves_mounts, what_a_replay_leaves_stands,
+    a_replay_leaves_its_image, what_a_replay_leaves_is_of_the_profile, what_a_replay_leaves_mounts,
+    what_a_replay_leaves_stands,
 };
 use lone_runs::{
-    mounted_journals_serve, nothing_is_written, run_alone, runs_are_legal, runs_are_told,
-    runs_end, runs_meet_no_damage, runs_rest, runs_see_their_damage, runs_stand,
-    runs_tell_their_replays,
+    mounted_journals_serve, nothing_is_written, run_alone, runs_are_legal, runs_are_told, runs_end,
+    runs_meet_no_damage, runs_rest, runs_see_their_damage, runs_stand, runs_tell_their_replays,
 };
 use lone_scripts::{runs_of_one_node_follow, whole_runs_answer_all};
-use run_reports::runs_are_of_one_node;
+use run_reports::{Status, runs_are_of_one_node};
 use script_lang::Script;
 use shared_disk::SharedDisk;
 use std::alloc::Global;

@@ -10,8 +10,8 @@ ghost use Rattle.cluster_program.specs.EndStatuses.{status_of_input, status_of_r
 
 use crate::input::{InputFault, read_text};
 use run_reports::{Status, Unbuilt};
-use script_laws::a_read_script_has_bytes;
 use script_lang::{Script, ScriptRefusal, first_foreign_line, limit_decides, parse};
+use script_laws::a_read_script_has_bytes;
 use std::alloc::Global;
 use stream_io::Source;
 

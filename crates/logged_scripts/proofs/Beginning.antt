@@ -9,13 +9,13 @@ use Rattle.script_lang.specs.Script.{ScriptValue}
 use Rattle.shared_disk.specs.Disk.{DiskState, Operation}
 use Rattle.trace_text.specs.declared.item.TraceItem.{TraceItem}
 use Rattle.trace_text.specs.declared.item.TraceItem.TheVariants as trace
-use Rattle.logged_runs.specs.Starts.{IsOfReplay}
-use Rattle.logged_runs.proofs.Starting.{no_calls}
-use Rattle.logged_runs.specs.Steps.{Here}
-use Rattle.logged_node.specs.Nodes.{IsBeforeCrash, crash_at, point_of, writes_in}
-use Rattle.logged_node.specs.declared.node.CallNumbers.{CallNumbers}
-use Rattle.logged_node.specs.declared.node.Node.{Node}
-use Rattle.logged_node.proofs.Arming.{before_crash}
+use Rattle.whole_runs.specs.LoggedRunsStarts.{IsOfReplay}
+use Rattle.whole_runs.proofs.LoggedRunsStarting.{no_calls}
+use Rattle.whole_runs.specs.Steps.{Here}
+use Rattle.logged_calls.specs.Nodes.{IsBeforeCrash, crash_at, point_of, writes_in}
+use Rattle.logged_calls.specs.node.CallNumbers.{CallNumbers}
+use Rattle.logged_calls.specs.node.Node.{Node}
+use Rattle.logged_calls.proofs.Arming.{before_crash}
 use Rattle.logged_calls.specs.Calls.{IsReady}
 use Rattle.logged_scripts.specs.Beginning.{HasBegun, IsUnderWay}
 use Rattle.logged_scripts.specs.Crashes.{first_crash}

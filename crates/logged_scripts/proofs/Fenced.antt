@@ -14,9 +14,9 @@ use Rattle.script_lang.specs.Script.{ScriptValue}
 use Rattle.shared_disk.specs.Disk.{DiskState, Operation}
 use Rattle.trace_text.specs.declared.item.TraceItem.{TraceItem}
 use Rattle.trace_text.specs.declared.item.TraceItem.TheVariants as trace
-use Rattle.logged_runs.specs.Points.{Point}
-use Rattle.logged_node.specs.Nodes.{IsNodeOn, IsSameDisk, point_of}
-use Rattle.logged_node.specs.declared.node.Node.{Node}
+use Rattle.whole_runs.specs.Points.{Point}
+use Rattle.logged_calls.specs.Nodes.{IsNodeOn, IsSameDisk, point_of}
+use Rattle.logged_calls.specs.node.Node.{Node}
 use Rattle.logged_scripts.specs.declared.ends.RunEnd.{RunEnd}
 use Rattle.logged_scripts.specs.declared.ends.RunEnd.TheVariants as end
 use Rattle.logged_scripts.specs.declared.halts.Halt.{Halt}

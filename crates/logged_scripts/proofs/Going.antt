@@ -6,13 +6,13 @@ use Rattle.lone_scripts.specs.Runs.{Runs}
 use Rattle.script_lang.specs.Script.{ScriptValue}
 use Rattle.script_lang.specs.declared.script.Line.TheVariants as line
 use Rattle.shared_disk.specs.Disk.{Gains, Operation}
-use Rattle.logged_runs.specs.StepEnds.{EndsTo}
-use Rattle.logged_runs.specs.Fails.{FailsTo}
-use Rattle.logged_runs.specs.Points.{Point}
-use Rattle.logged_runs.specs.Steps.{Steps}
-use Rattle.logged_runs.proofs.Telling.{append_assoc}
+use Rattle.whole_runs.specs.StepEnds.{EndsTo}
+use Rattle.whole_runs.specs.Fails.{FailsTo}
+use Rattle.whole_runs.specs.Points.{Point}
+use Rattle.whole_runs.specs.Steps.{Steps}
+use Rattle.whole_runs.proofs.LoggedRunsTelling.{append_assoc}
 use Rattle.whole_runs.specs.Wholes.{ends_with}
-use Rattle.logged_node.proofs.Disks.{same_on}
+use Rattle.logged_calls.proofs.Disks.{same_on}
 use Rattle.logged_calls.proofs.Untold.{failed_tells}
 use Rattle.trace_text.specs.declared.item.TraceItem.{TraceItem}
 use Rattle.logged_scripts.specs.Runs.{GoesTo}

@@ -8,22 +8,22 @@ use Rattle.script_lang.specs.Script.{ScriptValue}
 use Rattle.shared_disk.specs.Disk.{Barrier, DiskState, Operation, Write, after_barrier}
 use Rattle.trace_text.specs.declared.item.TraceItem.{TraceItem}
 use Rattle.trace_text.specs.declared.item.TraceItem.TheVariants as trace
-use Rattle.logged_runs.specs.StepEnds.{Landed, Said, Unsaid, clean_item, last_block, with_clean}
-use Rattle.logged_runs.specs.Fails.{AsItWas}
-use Rattle.logged_runs.specs.Points.{Point}
-use Rattle.logged_runs.specs.Steps.{Steps}
-use Rattle.logged_runs.proofs.Telling.{steps_go_on}
-use Rattle.logged_node.specs.Ends.{FailedAt, IsOfDisk}
-use Rattle.logged_node.specs.Leaving as leaving
-use Rattle.logged_node.specs.Leaving.{HasLastHeader, IsReady, StopsAtHeader, StopsLeaving, at_first, at_the_end, before_it, behind_it, bringing_in, going_home, in_it}
-use Rattle.logged_node.specs.Nodes.{IsBeforeCrash, IsLeftBy, StopsBehind, StopsByCrash, crash_at, point_of}
-use Rattle.logged_node.specs.declared.ends.Stop.{Stop}
-use Rattle.logged_node.specs.declared.ends.Stop.TheVariants as stop
-use Rattle.logged_node.specs.declared.node.Node.{Node}
-use Rattle.logged_node.proofs.Arming.{before_crash}
-use Rattle.logged_node.proofs.Blocks.{none_some}
-use Rattle.logged_node.proofs.Ended.{goes_behind}
-use Rattle.logged_node.proofs.Unmounting.{goes_leaving}
+use Rattle.whole_runs.specs.StepEnds.{Landed, Said, Unsaid, clean_item, last_block, with_clean}
+use Rattle.whole_runs.specs.Fails.{AsItWas}
+use Rattle.whole_runs.specs.Points.{Point}
+use Rattle.whole_runs.specs.Steps.{Steps}
+use Rattle.whole_runs.proofs.LoggedRunsTelling.{steps_go_on}
+use Rattle.logged_calls.specs.LoggedNodeEnds.{FailedAt, IsOfDisk}
+use Rattle.logged_calls.specs.Leaving as leaving
+use Rattle.logged_calls.specs.Leaving.{HasLastHeader, IsReady, StopsAtHeader, StopsLeaving, at_first, at_the_end, before_it, behind_it, bringing_in, going_home, in_it}
+use Rattle.logged_calls.specs.Nodes.{IsBeforeCrash, IsLeftBy, StopsBehind, StopsByCrash, crash_at, point_of}
+use Rattle.logged_calls.specs.logged_node_ends.Stop.{Stop}
+use Rattle.logged_calls.specs.logged_node_ends.Stop.TheVariants as stop
+use Rattle.logged_calls.specs.node.Node.{Node}
+use Rattle.logged_calls.proofs.Arming.{before_crash}
+use Rattle.logged_calls.proofs.Blocks.{none_some}
+use Rattle.logged_calls.proofs.Ended.{goes_behind}
+use Rattle.logged_calls.proofs.Unmounting.{goes_leaving}
 use Rattle.logged_calls.proofs.Untold.{failed_tells, quiet_steps}
 use Rattle.logged_scripts.specs.declared.halts.Halt.TheVariants as halt
 use Rattle.logged_scripts.specs.Beginning.{IsUnderWay}

@@ -3,10 +3,10 @@ use Rattle.std.proofs.Common.{◌≡◌, ◌<◌, ◌≤◌, ◌+◌, ◌*◌, �
 use Rattle.std.specs.Prelude.{slice_get}
 use Rattle.std.specs.List.{AllByRecursion}
 use Rattle.fault_counts.specs.declared.Rise.{Rise}
-use Rattle.lone_answers.specs.Calls.{IsUnbuilt}
+use Rattle.logged_calls.specs.LoneAnswersCalls.{IsUnbuilt}
 use Rattle.file_tree.specs.declared.call.Call.{Call}
-use Rattle.lone_answers.specs.Faults.{IsDamagedFor, IsLackedBlock}
-use Rattle.lone_answers.specs.Reading.{WorksOnNone}
+use Rattle.logged_calls.specs.Faults.{IsDamagedFor, IsLackedBlock}
+use Rattle.logged_calls.specs.Reading.{WorksOnNone}
 use Rattle.lone_scripts.specs.Runs.{IsNotPast, Runs, at_line, name_at}
 use Rattle.lone_scripts.specs.Scripts.{IsForOne, IsLoneLine}
 use Rattle.lone_scripts.proofs.GoingOn.{waits_go_on}
@@ -18,14 +18,14 @@ use Rattle.script_lang.specs.declared.script.Line.{Line}
 use Rattle.script_lang.specs.declared.script.Line.TheVariants as line
 use Rattle.shared_disk.specs.Disk.{DiskState, Operation}
 use Rattle.trace_text.specs.declared.item.TraceItem.{TraceItem}
-use Rattle.logged_runs.specs.Fails.{AsItWas}
-use Rattle.logged_runs.specs.Points.{Point}
-use Rattle.logged_runs.specs.Steps.{Steps}
-use Rattle.logged_runs.proofs.Telling.{steps_go_on}
-use Rattle.logged_node.specs.Nodes.{IsBeforeCrash, IsLeftAs, StopsByCrash, point_of}
-use Rattle.logged_node.specs.declared.ends.Stop.{Stop}
-use Rattle.logged_node.specs.declared.ends.Stop.TheVariants as stop
-use Rattle.logged_node.specs.declared.node.Node.{Node}
+use Rattle.whole_runs.specs.Fails.{AsItWas}
+use Rattle.whole_runs.specs.Points.{Point}
+use Rattle.whole_runs.specs.Steps.{Steps}
+use Rattle.whole_runs.proofs.LoggedRunsTelling.{steps_go_on}
+use Rattle.logged_calls.specs.Nodes.{IsBeforeCrash, IsLeftAs, StopsByCrash, point_of}
+use Rattle.logged_calls.specs.logged_node_ends.Stop.{Stop}
+use Rattle.logged_calls.specs.logged_node_ends.Stop.TheVariants as stop
+use Rattle.logged_calls.specs.node.Node.{Node}
 use Rattle.logged_calls.specs.Calls.{HasTaken, TellsNoCall}
 use Rattle.logged_calls.specs.Ends.{EndsBehind, EndsUntold, IfDamaged, IfNotBuilt, IfNotLoggable, IfReadFailed, IfTooSmall, IsTooSmallFor, IsUnloggableFor, StopsUntold}
 use Rattle.logged_calls.specs.declared.ends.CallEnd.{CallEnd}

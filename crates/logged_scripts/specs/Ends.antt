@@ -1,10 +1,10 @@
 -- Why a run ends before its script does, or isn't told to its end: the cause of each end, and its place.
 use Rattle.std.specs.Prelude.{ℕ, ◌≡◌, ◌⊎◌, ◌++◌, ◌<◌, ⊤, Contains, IfSome, List, [], ◌∷◌, slice_get, Option, None, Some}
 use Rattle.fault_counts.specs.Causes.{WentUp}
-use Rattle.lone_answers.specs.Calls.{IsUnbuilt}
+use Rattle.logged_calls.specs.LoneAnswersCalls.{IsUnbuilt}
 use Rattle.file_tree.specs.declared.call.Call.{Call}
-use Rattle.lone_answers.specs.Faults.{IsDamagedFor, IsLackedBlock}
-use Rattle.lone_answers.specs.Reading.{WorksOnNone}
+use Rattle.logged_calls.specs.Faults.{IsDamagedFor, IsLackedBlock}
+use Rattle.logged_calls.specs.Reading.{WorksOnNone}
 use Rattle.lone_fences.specs.Fencing.{EndsAt}
 use Rattle.lone_fences.specs.declared.ends.FenceEnd.{FenceEnd}
 use Rattle.lone_fences.specs.declared.ends.FenceEnd.TheVariants as fence
@@ -14,12 +14,12 @@ use Rattle.script_lang.specs.Script.{ScriptValue}
 use Rattle.script_lang.specs.declared.script.Line.TheVariants as line
 use Rattle.shared_disk.specs.Disk.{DiskState, Gains, Operation, Write}
 use Rattle.trace_text.specs.declared.item.TraceItem.{TraceItem}
-use Rattle.logged_runs.specs.StepEnds.{FliesClean, clean_item, last_block, with_clean}
-use Rattle.logged_runs.specs.Points.{Point}
-use Rattle.logged_runs.specs.Steps.{Steps}
-use Rattle.logged_node.specs.Nodes.{IsBeforeCrash, IsLeftBy}
-use Rattle.logged_node.specs.declared.ends.Stop.{Stop}
-use Rattle.logged_node.specs.declared.ends.Stop.TheVariants as stop
+use Rattle.whole_runs.specs.StepEnds.{FliesClean, clean_item, last_block, with_clean}
+use Rattle.whole_runs.specs.Points.{Point}
+use Rattle.whole_runs.specs.Steps.{Steps}
+use Rattle.logged_calls.specs.Nodes.{IsBeforeCrash, IsLeftBy}
+use Rattle.logged_calls.specs.logged_node_ends.Stop.{Stop}
+use Rattle.logged_calls.specs.logged_node_ends.Stop.TheVariants as stop
 use Rattle.logged_calls.specs.Ends.{IsTooSmallFor, IsUnloggableFor}
 use Rattle.logged_calls.specs.declared.ends.CallEnd.{CallEnd}
 use Rattle.logged_calls.specs.declared.ends.CallEnd.TheVariants as call_end

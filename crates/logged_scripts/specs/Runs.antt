@@ -9,13 +9,13 @@ use Rattle.script_lang.specs.declared.script.Line.TheVariants as line
 use Rattle.shared_disk.specs.Disk.{DiskState, Gains, Operation, after_barrier}
 use Rattle.trace_text.specs.declared.item.TraceItem.{TraceItem}
 use Rattle.trace_text.specs.declared.item.TraceItem.TheVariants as trace
-use Rattle.logged_runs.specs.StepEnds.{EndsTo, FliesClean, clean_item, with_clean}
-use Rattle.logged_runs.specs.Fails.{FailsTo}
+use Rattle.whole_runs.specs.StepEnds.{EndsTo, FliesClean, clean_item, with_clean}
+use Rattle.whole_runs.specs.Fails.{FailsTo}
 use Rattle.lone_ends.specs.Ends.{IsDone}
-use Rattle.logged_runs.specs.Points.{Point, state_of}
-use Rattle.logged_runs.specs.Steps.{Steps}
+use Rattle.whole_runs.specs.Points.{Point, state_of}
+use Rattle.whole_runs.specs.Steps.{Steps}
 use Rattle.whole_runs.specs.Wholes.{ends_with}
-use Rattle.logged_node.specs.Nodes.{IsSameDisk}
+use Rattle.logged_calls.specs.Nodes.{IsSameDisk}
 use Rattle.logged_scripts.specs.Ends.{IsAtItsCrash, IsEndAt, IsOwnEnd, NothingUntold}
 use Rattle.logged_scripts.specs.declared.ends.RunEnd.{RunEnd}
 use Rattle.logged_scripts.specs.declared.ends.RunEnd.TheVariants as end

@@ -6,7 +6,7 @@ ghost use Rattle.lone_fences.specs.Fencing.{HasFenced};
 ghost use Rattle.logged_scripts.specs.Ends.{EndsFenced, HasCause, end_of};
 
 use crate::ends::RunEnd;
-use logged_node::Node;
+use logged_calls::Node;
 use lone_fences::{FenceEnd, fence_crashed};
 use shared_disk::{Settle, SharedDisk};
 use std::alloc::Global;

@@ -13,8 +13,8 @@ use Rattle.journal_replays.specs.Crashes as replays
 use Rattle.journal_replays.specs.Faults.{IfCrashed, IfDiskFailed, IfNoMemory}
 use Rattle.journal_replays.specs.declared.faults.ReplayFault.{ReplayFault}
 use Rattle.journal_replays.specs.declared.faults.ReplayFault.TheVariants as fault
-use Rattle.logged_node.specs.Nodes.{IsAtCrash, IsBeforeCrash, crash_of, writes_in}
-use Rattle.logged_runs.specs.Points.{Point}
+use Rattle.logged_scripts.specs.Nodes.{IsAtCrash, IsBeforeCrash, crash_of, writes_in}
+use Rattle.logged_scripts.specs.Points.{Point}
 use Rattle.logged_scripts.specs.Crashes.{first_crash}
 use Rattle.logged_scripts.specs.Ends as scripts
 use Rattle.logged_scripts.specs.Ends.{end_of}
@@ -33,7 +33,7 @@ use Rattle.script_lang.specs.Script.{ScriptValue}
 use Rattle.script_lang.specs.declared.script.Armed.{Armed}
 use Rattle.shared_disk.specs.Disk.{DiskState, IsIdle, IsSound, Operation}
 use Rattle.trace_text.specs.declared.item.TraceItem.{TraceItem}
-use Rattle.whole_runs.specs.Starts.{joined}
+use Rattle.logged_scripts.specs.WholeRunsStarts.{joined}
 use Rattle.lone_runs.specs.Beginning.{IsOwn, MayHave, its_head, start_point}
 use Rattle.lone_runs.specs.Ends.{HasCause}
 use Rattle.lone_runs.specs.Runs.{GoesSo, IsSameDisk, MayNotBegin, crashed, disk_failed, no_memory, not_fenced, not_joined, ran}

@@ -14,13 +14,13 @@ use Rattle.log_layout.specs.declared.log_header.LogHeader.{LogHeader}
 use Rattle.log_values.specs.Flushing.{block_at}
 use Rattle.log_values.specs.Laws.{empty_log}
 use Rattle.log_values.specs.Log.{Journal as OwnJournal, LogValue}
-use Rattle.logged_node.specs.Beginning.{MayBeginOn}
-use Rattle.logged_node.specs.Nodes.{Awaits, IsAtCrash, IsResting, crash_of, numbers_of, point_of}
-use Rattle.logged_node.specs.declared.node.Node.{Node}
-use Rattle.logged_runs.specs.Points.{Anything}
+use Rattle.logged_scripts.specs.LoggedNodeBeginning.{MayBeginOn}
+use Rattle.logged_scripts.specs.Nodes.{Awaits, IsAtCrash, IsResting, crash_of, numbers_of, point_of}
+use Rattle.logged_scripts.specs.node.Node.{Node}
+use Rattle.logged_scripts.specs.Points.{Anything}
 use Rattle.logged_scripts.specs.Beginning.{HasBegun}
 use Rattle.logged_scripts.specs.Crashes.{first_crash}
-use Rattle.lone_ends.specs.Laws.{no_numbers}
+use Rattle.logged_scripts.specs.LoggedLaws.{no_numbers}
 use Rattle.lone_view.specs.Seeing.{Lone}
 use Rattle.mounted_views.specs.Views.{journal_of}
 use Rattle.mounted_views.proofs.Journals.{nothing_kept}
@@ -28,7 +28,7 @@ use Rattle.peer_replay.specs.declared.planned.Plan.{Plan}
 use Rattle.script_lang.specs.Script.{ScriptValue}
 use Rattle.shared_disk.specs.Disk.{DiskState, IsIdle, Operation}
 use Rattle.trace_text.specs.declared.item.TraceItem.{TraceItem}
-use Rattle.whole_runs.specs.Starts.{joined}
+use Rattle.logged_scripts.specs.WholeRunsStarts.{joined}
 use Rattle.lone_runs.specs.Beginning.{IsGiven, IsNew, MayHave, its_head, start_point}
 use Rattle.lone_runs.proofs.Members.{replayed_start}
 

@@ -27,17 +27,17 @@ use Rattle.log_layout.specs.Journal.{head_in}
 use Rattle.log_layout.specs.Laws.{PlacesSayAll}
 use Rattle.log_layout.specs.declared.log_header.LogHeader.{LogHeader}
 use Rattle.log_layout.proofs.BestHeaders.{head_there}
-use Rattle.logged_runs.specs.States.{IsHeaded}
+use Rattle.logged_scripts.specs.States.{IsHeaded}
 use Rattle.log_values.specs.Log.{LogValue}
 use Rattle.log_values.specs.Log.{Journal as OwnJournal}
-use Rattle.logged_answers.specs.Working.{NodesWorkOnAnImage}
-use Rattle.logged_calls.specs.Ends.{IsTooSmallFor, IsUnloggableFor}
-use Rattle.logged_calls.specs.Laws.{CallsAreLoggable, CallsHaveRoom}
-use Rattle.logged_runs.specs.Laws.{RunsBeginSo}
-use Rattle.logged_runs.specs.Points.{Point}
-use Rattle.logged_runs.specs.Starts.{BeginsAt}
-use Rattle.logged_runs.specs.StepLaws.{HeadsAreTold, IsLoggedAt, StepsKeep}
-use Rattle.logged_runs.specs.Steps.{Steps}
+use Rattle.logged_scripts.specs.Working.{NodesWorkOnAnImage}
+use Rattle.logged_scripts.specs.LoggedCallsEnds.{IsTooSmallFor, IsUnloggableFor}
+use Rattle.logged_scripts.specs.Laws.{CallsAreLoggable, CallsHaveRoom}
+use Rattle.logged_scripts.specs.LoggedRunsLaws.{RunsBeginSo}
+use Rattle.logged_scripts.specs.Points.{Point}
+use Rattle.logged_scripts.specs.Starts.{BeginsAt}
+use Rattle.logged_scripts.specs.StepLaws.{HeadsAreTold, IsLoggedAt, StepsKeep}
+use Rattle.logged_scripts.specs.Steps.{Steps}
 use Rattle.logged_scripts.specs.Ends.{IsEndAt, WorkedOnNone, end_of}
 use Rattle.logged_scripts.specs.Runs.{GoesTo, HasRun}
 use Rattle.logged_scripts.specs.declared.ends.RunEnd.{RunEnd as ScriptEnd}
@@ -55,12 +55,12 @@ use Rattle.script_lang.specs.Script.{ScriptValue}
 use Rattle.script_lang.specs.declared.script.Line.{Line}
 use Rattle.script_lang.specs.declared.script.Line.TheVariants as line
 use Rattle.shared_disk.specs.Disk.{DiskState, IsIdle, IsSound}
-use Rattle.small_calls.specs.Sizes.{IsOfScript}
+use Rattle.logged_scripts.specs.Sizes.{IsOfScript}
 use Rattle.trace_text.specs.declared.item.TraceItem.{TraceItem}
-use Rattle.whole_runs.specs.Resting.{ReplayedIsAtRest, RestsAsMounted}
-use Rattle.whole_runs.specs.Starts.{IsStart, joined}
-use Rattle.whole_runs.specs.Wholes.{IsRun}
-use Rattle.whole_runs.proofs.Running.{run_begins}
+use Rattle.logged_scripts.specs.Resting.{ReplayedIsAtRest, RestsAsMounted}
+use Rattle.logged_scripts.specs.WholeRunsStarts.{IsStart, joined}
+use Rattle.logged_scripts.specs.Wholes.{IsRun}
+use Rattle.logged_scripts.proofs.Running.{run_begins}
 use Rattle.lone_runs.specs.Beginning.{IsOwn, MayHave, its_head, start_point}
 use Rattle.lone_runs.specs.Laws.{IsLineOfScript, IsOfImageThatStands, IsRunOf, RunsMeetNoDamage}
 use Rattle.lone_runs.specs.Runs as stages

@@ -8,11 +8,11 @@ use Rattle.image_recovery.specs.Recoveries.{AreReplays, HaveCrashed, HaveFailed,
 use Rattle.journal_replays.specs.Headers.{clean_block}
 use Rattle.journal_replays.specs.Replays.{IsReplayWith, StopsReplay, at_header, at_home}
 use Rattle.log_layout.specs.declared.log_header.LogHeader.{LogHeader}
-use Rattle.logged_runs.specs.Fails.{AsItWas, FailsTo, InAWrite}
-use Rattle.logged_runs.specs.Points.{Point}
-use Rattle.logged_runs.specs.StepEnds.{EndsTo, Landed, Said, Unsaid, with_clean}
-use Rattle.logged_runs.specs.Steps as by
-use Rattle.logged_runs.specs.Steps.{Here, Step, Steps, Then}
+use Rattle.logged_scripts.specs.Fails.{AsItWas, FailsTo, InAWrite}
+use Rattle.logged_scripts.specs.Points.{Point}
+use Rattle.logged_scripts.specs.StepEnds.{EndsTo, Landed, Said, Unsaid, with_clean}
+use Rattle.logged_scripts.specs.Steps as by
+use Rattle.logged_scripts.specs.Steps.{Here, Step, Steps, Then}
 use Rattle.logged_scripts.specs.Runs.{IsBehind, LastGoes, crash, fence, loss, nothing}
 use Rattle.lone_fences.specs.Fencing.{EndsAt, IsFenced}
 use Rattle.lone_fences.specs.declared.ends.FenceEnd.{FenceEnd}
@@ -20,8 +20,8 @@ use Rattle.lone_fences.specs.declared.ends.FenceEnd.TheVariants as fence_end
 use Rattle.peer_replay.specs.declared.planned.Plan.{Plan}
 use Rattle.shared_disk.specs.Disk.{DiskState, Flight, Operation, after_barrier, after_fence, after_write}
 use Rattle.trace_text.specs.declared.item.TraceItem.{TraceItem}
-use Rattle.whole_runs.specs.Starts.{joined}
-use Rattle.whole_runs.proofs.Starting.{stopped_by}
+use Rattle.logged_scripts.specs.WholeRunsStarts.{joined}
+use Rattle.logged_scripts.proofs.Starting.{stopped_by}
 use Rattle.lone_runs.specs.Runs.{IsSameDisk}
 
 -- nothing is in flight of any node

@@ -10,12 +10,12 @@ use Rattle.image_model.specs.Stands.{IsJournalAt, Layout}
 use Rattle.image_mount.specs.Mounted.{MountedValue}
 use Rattle.image_recovery.specs.Recoveries.{HaveReplayed}
 use Rattle.journal_outcomes.specs.Disks.{flown_by}
-use Rattle.logged_runs.specs.Ends.{HasEndedAs}
-use Rattle.logged_runs.specs.Laws.{CleanRunsEnd, RunsBeginSo, RunsEnd as LoggedRunsEnd}
-use Rattle.logged_runs.specs.Points.{Point}
-use Rattle.logged_runs.specs.StepEnds.{clean_item, with_clean}
-use Rattle.logged_runs.specs.Starts.{BeginsAt}
-use Rattle.logged_runs.specs.StepLaws.{IsLoggedAt, OthersRest, StepsKeep}
+use Rattle.logged_scripts.specs.LoggedRunsEnds.{HasEndedAs}
+use Rattle.logged_scripts.specs.LoggedRunsLaws.{CleanRunsEnd, RunsBeginSo, RunsEnd as LoggedRunsEnd}
+use Rattle.logged_scripts.specs.Points.{Point}
+use Rattle.logged_scripts.specs.StepEnds.{clean_item, with_clean}
+use Rattle.logged_scripts.specs.Starts.{BeginsAt}
+use Rattle.logged_scripts.specs.StepLaws.{IsLoggedAt, OthersRest, StepsKeep}
 use Rattle.logged_scripts.specs.Runs.{GoesTo, HasRun, HasUnmounted, IsThrough, clean_still, crashed, unmounted, with_header}
 use Rattle.logged_scripts.specs.declared.ends.RunEnd.{RunEnd as ScriptEnd}
 use Rattle.lone_images.specs.Lone.{begun_on}
@@ -26,10 +26,10 @@ use Rattle.script_lang.specs.Script.{ScriptValue}
 use Rattle.shared_disk.specs.Disk.{DiskState, Flight, IsSound, after_barrier, flight_to}
 use Rattle.trace_text.specs.declared.item.TraceItem.{TraceItem}
 use Rattle.trace_text.specs.declared.item.TraceItem.TheVariants as trace
-use Rattle.whole_runs.specs.Resting.{ReplayedIsAtRest, RestsAsMounted}
-use Rattle.whole_runs.specs.Starts.{joined}
-use Rattle.whole_runs.specs.Wholes.{IsRun}
-use Rattle.whole_runs.proofs.Running.{run_begins}
+use Rattle.logged_scripts.specs.Resting.{ReplayedIsAtRest, RestsAsMounted}
+use Rattle.logged_scripts.specs.WholeRunsStarts.{joined}
+use Rattle.logged_scripts.specs.Wholes.{IsRun}
+use Rattle.logged_scripts.proofs.Running.{run_begins}
 use Rattle.lone_runs.specs.Beginning.{start_point}
 use Rattle.lone_runs.specs.Laws.{HasEnded, IsRunOf, RunsEnd}
 use Rattle.lone_runs.specs.Runs as stages

@@ -15,3 +15,5 @@ pub mod Ended
 pub mod Resting
 pub mod Runs
 pub mod Telling
+-- Passed on to the crates above.
+pub use Rattle.logged_scripts.proofs.Items

@@ -4,8 +4,8 @@ use Rattle.std.specs.List.{AllByRecursion}
 use Rattle.disk_turns.specs.Turns.{Moment}
 use Rattle.image_mount.specs.Mounted.{Journal}
 use Rattle.image_recovery.specs.Recoveries.{HaveCrashed, HaveFailed, HaveReplayed, HaveReplayedSome}
-use Rattle.logged_node.specs.Nodes.{IsAtCrash, IsBeforeCrash}
-use Rattle.logged_runs.specs.Starts.{IsOfReplay}
+use Rattle.logged_scripts.specs.Nodes.{IsAtCrash, IsBeforeCrash}
+use Rattle.logged_scripts.specs.Starts.{IsOfReplay}
 use Rattle.logged_scripts.specs.Crashes.{first_crash}
 use Rattle.logged_scripts.proofs.Beginning.{members, no_call_lines}
 use Rattle.logged_scripts.proofs.Crashing.{crashes_there, none_past, none_past_there}
@@ -21,9 +21,9 @@ use Rattle.script_lang.specs.declared.script.Armed.{Armed}
 use Rattle.shared_disk.specs.Disk.{DiskState, Operation}
 use Rattle.trace_text.specs.declared.item.TraceItem.{TraceItem}
 use Rattle.trace_text.specs.declared.item.TraceItem.TheVariants as trace
-use Rattle.whole_runs.specs.Starts.{joined}
-use Rattle.whole_runs.proofs.Items.{all_join, of_replays, of_stopped}
-use Rattle.whole_runs.proofs.Starting.{stopped_by}
+use Rattle.logged_scripts.specs.WholeRunsStarts.{joined}
+use Rattle.logged_scripts.proofs.Items.{all_join, of_replays, of_stopped}
+use Rattle.logged_scripts.proofs.Starting.{stopped_by}
 
 -- ---- items of a start
 

@@ -1,9 +1,9 @@
 -- The run itself has nothing in flight on the disk of its node.
 use Rattle.std.proofs.Common.{◌≡◌, ◌⊎◌, ℕ, [], refl, ◌∙◌, inl, inr}
-use Rattle.logged_runs.specs.Fails.{AsItWas, FailsTo, InAWrite}
-use Rattle.logged_runs.specs.Points.{Point}
-use Rattle.logged_runs.specs.StepEnds.{EndsTo, Landed, Said, Unsaid}
-use Rattle.logged_runs.specs.Steps.{Answers, AnswersQuietly, BeginsFlush, BeginsHeader, Commits, EndsBlocks, EndsFlush, GoesHome, HasNoSpace, Here, Reads, Rests, Step, Steps, Syncs, TellsFull, Then, Unmounts, WritesHead, WritesLog}
+use Rattle.logged_scripts.specs.Fails.{AsItWas, FailsTo, InAWrite}
+use Rattle.logged_scripts.specs.Points.{Point}
+use Rattle.logged_scripts.specs.StepEnds.{EndsTo, Landed, Said, Unsaid}
+use Rattle.logged_scripts.specs.Steps.{Answers, AnswersQuietly, BeginsFlush, BeginsHeader, Commits, EndsBlocks, EndsFlush, GoesHome, HasNoSpace, Here, Reads, Rests, Step, Steps, Syncs, TellsFull, Then, Unmounts, WritesHead, WritesLog}
 
 still_step : (time : ℕ) (p q : Point) → Step time p q → q.disk.in_flight 0 ≡ p.disk.in_flight 0
 still_step time p q (Reads answering b lock bytes asked none whole told) = refl

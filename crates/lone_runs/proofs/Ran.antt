@@ -6,8 +6,8 @@ use Rattle.file_tree.specs.Tree.{Tree}
 use Rattle.image_mount.specs.Mounted.{Journal, MountedValue}
 use Rattle.image_recovery.specs.Ended.{head_left}
 use Rattle.image_recovery.specs.Recoveries.{HaveReplayed}
-use Rattle.logged_runs.specs.Points.{Point}
-use Rattle.logged_runs.specs.StepStarts.{IsAtRest, starting}
+use Rattle.logged_scripts.specs.Points.{Point}
+use Rattle.logged_scripts.specs.StepStarts.{IsAtRest, starting}
 use Rattle.logged_scripts.specs.Runs.{GoesTo}
 use Rattle.mounted_views.specs.Views.{view_of}
 use Rattle.peer_replay.specs.declared.planned.Plan.{Plan}
@@ -16,10 +16,10 @@ use Rattle.script_lang.specs.Script.{ScriptValue}
 use Rattle.script_lang.specs.declared.script.Client.{Client}
 use Rattle.shared_disk.specs.Disk.{Gains, IsSound, Operation}
 use Rattle.trace_text.specs.declared.item.TraceItem.{TraceItem}
-use Rattle.whole_runs.specs.Resting.{ReplayedIsAtRest, RestsAsMounted}
-use Rattle.whole_runs.specs.Starts.{IsStart, joined}
-use Rattle.whole_runs.specs.Wholes.{IsRun}
-use Rattle.whole_runs.proofs.Replaying.{same_size}
+use Rattle.logged_scripts.specs.Resting.{ReplayedIsAtRest, RestsAsMounted}
+use Rattle.logged_scripts.specs.WholeRunsStarts.{IsStart, joined}
+use Rattle.logged_scripts.specs.Wholes.{IsRun}
+use Rattle.logged_scripts.proofs.Replaying.{same_size}
 use Rattle.lone_runs.specs.Beginning.{IsOwn, its_head, start_point}
 
 -- ---- a list that is told

@@ -8,7 +8,7 @@ use Rattle.image_mount.specs.Mounted.{Journal}
 use Rattle.image_recovery.specs.Recoveries.{AreReplays, HaveReplayed}
 use Rattle.journal_replays.specs.Replays.{IsReplayWith}
 use Rattle.log_layout.specs.declared.log_header.LogHeader.{LogHeader}
-use Rattle.logged_runs.specs.Points.{Point}
+use Rattle.logged_scripts.specs.Points.{Point}
 use Rattle.logged_scripts.specs.Runs.{HasRun, HasUnmounted, IsThrough, clean_still, crashed, unmounted, with_header}
 use Rattle.logged_scripts.specs.declared.ends.RunEnd.{RunEnd as ScriptEnd}
 use Rattle.lone_view.specs.Seeing.{Lone}
@@ -18,7 +18,7 @@ use Rattle.script_lang.specs.Script.{ScriptValue}
 use Rattle.shared_disk.specs.Disk.{DiskState, IsIdle}
 use Rattle.trace_text.specs.declared.item.TraceItem.{TraceItem}
 use Rattle.trace_text.specs.declared.item.TraceItem.TheVariants as trace
-use Rattle.whole_runs.specs.Starts.{joined}
+use Rattle.logged_scripts.specs.WholeRunsStarts.{joined}
 use Rattle.lone_runs.specs.Beginning.{start_point}
 use Rattle.lone_runs.specs.Laws.{RunsRest}
 use Rattle.lone_runs.specs.Runs as stages

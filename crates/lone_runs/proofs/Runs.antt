@@ -17,9 +17,9 @@ use Rattle.log_layout.specs.Laws.{PlacesSayAll}
 use Rattle.lone_fences.specs.Fencing.{EndsAt, HasFenced, IsFenced, with_fence}
 use Rattle.lone_fences.specs.declared.ends.FenceEnd.{FenceEnd}
 use Rattle.lone_fences.specs.declared.ends.FenceEnd.TheVariants as fence_end
-use Rattle.logged_runs.specs.Disks.{disk_after}
-use Rattle.logged_runs.specs.Laws.{MayLeave}
-use Rattle.logged_runs.specs.Standing.{StandsAsTold}
+use Rattle.logged_scripts.specs.Disks.{disk_after}
+use Rattle.logged_scripts.specs.LoggedRunsLaws.{MayLeave}
+use Rattle.logged_scripts.specs.Standing.{StandsAsTold}
 use Rattle.mounted_views.specs.Views.{view_of}
 use Rattle.peer_replay.specs.declared.planned.Plan.{Plan}
 use Rattle.right_losses.specs.Kept.{kept_by}
@@ -29,12 +29,12 @@ use Rattle.script_lang.specs.declared.script.Client.{Client}
 use Rattle.shared_disk.specs.Disk.{DiskState, Fence, Flight, Gains, Operation, after_fence, flight_to}
 use Rattle.trace_text.specs.declared.item.TraceItem.{TraceItem}
 use Rattle.trace_text.specs.declared.item.TraceItem.TheVariants as trace
-use Rattle.whole_runs.specs.Fronts.{FailedStartsStand, HasStartWhole, RunsStandAtEachFront, SettlesRight, StandsAtEachFront, StartsStand}
-use Rattle.whole_runs.specs.Resting.{ReplayedIsAtRest}
-use Rattle.whole_runs.specs.Starts.{its_volume, joined}
-use Rattle.whole_runs.specs.Wholes.{Course, RunsAreTold as WholeRunsAreTold, WholeRunsStand, disk_behind, heads_of, no_write}
-use Rattle.whole_runs.proofs.Quiet.{none_legal, nothing_stands}
-use Rattle.whole_runs.proofs.Starting.{only_itself}
+use Rattle.logged_scripts.specs.Fronts.{FailedStartsStand, HasStartWhole, RunsStandAtEachFront, SettlesRight, StandsAtEachFront, StartsStand}
+use Rattle.logged_scripts.specs.Resting.{ReplayedIsAtRest}
+use Rattle.logged_scripts.specs.WholeRunsStarts.{its_volume, joined}
+use Rattle.logged_scripts.specs.Wholes.{Course, RunsAreTold as WholeRunsAreTold, WholeRunsStand, disk_behind, heads_of, no_write}
+use Rattle.logged_scripts.proofs.Quiet.{none_legal, nothing_stands}
+use Rattle.logged_scripts.proofs.Starting.{only_itself}
 use Rattle.lone_runs.specs.Laws.{HasStood, HasTrueFence, IsRunOf, RunsStand}
 use Rattle.lone_runs.specs.Runs.{GoesSo, crashed, disk_failed, no_memory, not_fenced, not_joined, ran}
 use Rattle.lone_runs.specs.declared.ends.RunEnd.{RunEnd}

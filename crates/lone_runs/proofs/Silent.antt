@@ -8,9 +8,9 @@ use Rattle.file_tree.specs.Tree.{Tree}
 use Rattle.image_mount.specs.Mounted.{MountedValue}
 use Rattle.image_recovery.specs.Laws.{CrashedAreAsFailed}
 use Rattle.image_recovery.specs.Recoveries.{HaveCrashed, HaveFailed, HaveReplayed, HaveReplayedSome}
-use Rattle.logged_runs.specs.Laws.{CallsAreCounted, RunsBeginSo}
-use Rattle.logged_runs.specs.Points.{Point}
-use Rattle.logged_runs.proofs.Starting.{no_calls}
+use Rattle.logged_scripts.specs.LoggedRunsLaws.{CallsAreCounted, RunsBeginSo}
+use Rattle.logged_scripts.specs.Points.{Point}
+use Rattle.logged_scripts.proofs.LoggedRunsStarting.{no_calls}
 use Rattle.logged_scripts.specs.Runs.{IsBehind, crash, fence, is_change, loss, nothing}
 use Rattle.lone_fences.specs.Fencing.{EndsAt}
 use Rattle.lone_fences.specs.declared.ends.FenceEnd.{FenceEnd}
@@ -24,13 +24,13 @@ use Rattle.script_lang.specs.declared.script.Client.{Client}
 use Rattle.shared_disk.specs.Disk.{DiskState, Operation}
 use Rattle.trace_text.specs.declared.item.TraceItem.{TraceItem}
 use Rattle.trace_text.specs.declared.item.TraceItem.TheVariants as trace
-use Rattle.whole_runs.specs.Resting.{ReplayedIsAtRest}
-use Rattle.whole_runs.specs.Starts.{joined}
-use Rattle.whole_runs.proofs.Items.{all_join, of_replays, of_stopped}
-use Rattle.whole_runs.proofs.Quiet.{none_legal}
-use Rattle.whole_runs.proofs.RunFronts.{ended_same, failed_same}
-use Rattle.whole_runs.proofs.Running.{run_begins}
-use Rattle.whole_runs.proofs.Starting.{stopped_by}
+use Rattle.logged_scripts.specs.Resting.{ReplayedIsAtRest}
+use Rattle.logged_scripts.specs.WholeRunsStarts.{joined}
+use Rattle.logged_scripts.proofs.Items.{all_join, of_replays, of_stopped}
+use Rattle.logged_scripts.proofs.Quiet.{none_legal}
+use Rattle.logged_scripts.proofs.RunFronts.{ended_same, failed_same}
+use Rattle.logged_scripts.proofs.Running.{run_begins}
+use Rattle.logged_scripts.proofs.Starting.{stopped_by}
 use Rattle.lone_runs.specs.Laws.{IsRunOf, NothingIsWritten, RunsAreLegal, WritesNothing}
 use Rattle.lone_runs.specs.Runs.{GoesSo, crashed, disk_failed, no_memory, not_fenced, not_joined, ran}
 use Rattle.lone_runs.specs.declared.ends.RunEnd.{RunEnd}

@@ -21,13 +21,13 @@ use Rattle.log_layout.specs.Laws.{HasSamePlaces, PlacesSayAll, SaysTheSame}
 use Rattle.log_layout.specs.declared.log_header.LogHeader.{LogHeader}
 use Rattle.log_layout.proofs.BestHeaders.{head_there}
 use Rattle.log_values.specs.Log.{Journal}
-use Rattle.logged_runs.specs.Disks.{disk_after}
-use Rattle.logged_runs.specs.Fails.{FailsTo}
-use Rattle.logged_runs.specs.Laws.{fenced_upto, to_fence}
-use Rattle.logged_runs.specs.LoggedLaws.{IsInItsBlocks}
-use Rattle.logged_runs.specs.Points.{Point}
-use Rattle.logged_runs.specs.Starts.{only_life}
-use Rattle.logged_runs.specs.StepEnds.{EndsTo}
+use Rattle.logged_scripts.specs.Disks.{disk_after}
+use Rattle.logged_scripts.specs.Fails.{FailsTo}
+use Rattle.logged_scripts.specs.LoggedRunsLaws.{fenced_upto, to_fence}
+use Rattle.logged_scripts.specs.LoggedRunsLoggedLaws.{IsInItsBlocks}
+use Rattle.logged_scripts.specs.Points.{Point}
+use Rattle.logged_scripts.specs.Starts.{only_life}
+use Rattle.logged_scripts.specs.StepEnds.{EndsTo}
 use Rattle.logged_scripts.specs.Runs.{IsBehind, crash, fence, loss, nothing}
 use Rattle.lone_fences.specs.Fencing.{HasFenced, IsFenced, with_crash, with_fence}
 use Rattle.lone_fences.specs.Heads.{accepted_as as read_as, head_on}
@@ -40,10 +40,10 @@ use Rattle.script_lang.specs.declared.script.Client.{Client}
 use Rattle.shared_disk.specs.Disk.{DiskState, Fence, Flight, Gains, Operation, after_fence, written}
 use Rattle.trace_text.specs.declared.item.TraceItem.{TraceItem}
 use Rattle.trace_text.specs.declared.item.TraceItem.TheVariants as trace
-use Rattle.whole_runs.specs.Fronts.{IsRightLoss, RunsStandAtEachFront, SettlesRight, a_fence, a_loss, a_stop, disk_left, nothing_more}
-use Rattle.whole_runs.specs.Wholes.{Course, HasItsHeads, HasRunWhole, IsRun, RunsAreTold as WholeRunsAreTold, WholeRunsStand, accepted_as, ends_with, going_on, head_at, heads_of, stopped_course}
-use Rattle.whole_runs.proofs.Bringing.{after_on}
-use Rattle.whole_runs.proofs.Starting.{tells_on}
+use Rattle.logged_scripts.specs.Fronts.{IsRightLoss, RunsStandAtEachFront, SettlesRight, a_fence, a_loss, a_stop, disk_left, nothing_more}
+use Rattle.logged_scripts.specs.Wholes.{Course, HasItsHeads, HasRunWhole, IsRun, RunsAreTold as WholeRunsAreTold, WholeRunsStand, accepted_as, ends_with, going_on, head_at, heads_of, stopped_course}
+use Rattle.logged_scripts.proofs.Bringing.{after_on}
+use Rattle.logged_scripts.proofs.Starting.{tells_on}
 use Rattle.lone_runs.specs.Laws.{HasStood, HasTrueFence}
 use Rattle.lone_runs.proofs.Others.{run_is_quiet}
 use Rattle.lone_runs.proofs.Ran.{gained_of, told_gain}

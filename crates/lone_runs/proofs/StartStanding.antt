@@ -3,15 +3,15 @@ use Rattle.std.proofs.Common.{◌≡◌, List, [], ◌∷◌, ◌++◌, refl, sy
 use Rattle.disk_turns.specs.Turns.{Moment}
 use Rattle.file_tree.specs.Tree.{Tree}
 use Rattle.image_machine.specs.Volumes.{Volume}
-use Rattle.logged_runs.specs.Disks.{disk_after}
+use Rattle.logged_scripts.specs.Disks.{disk_after}
 use Rattle.lone_fences.specs.Fencing.{with_crash, with_fence}
 use Rattle.script_lang.specs.declared.script.Client.{Client}
 use Rattle.shared_disk.specs.Disk.{DiskState, Fence, Flight, Operation, after_fence}
 use Rattle.trace_text.specs.declared.item.TraceItem.{TraceItem}
 use Rattle.trace_text.specs.declared.item.TraceItem.TheVariants as trace
-use Rattle.whole_runs.specs.Fronts.{HasStartWhole, SettlesRight, a_fence, a_loss, a_stop, disk_left, nothing_more}
-use Rattle.whole_runs.specs.Wholes.{Course, going_on, stopped_course}
-use Rattle.whole_runs.proofs.Bringing.{after_on}
+use Rattle.logged_scripts.specs.Fronts.{HasStartWhole, SettlesRight, a_fence, a_loss, a_stop, disk_left, nothing_more}
+use Rattle.logged_scripts.specs.Wholes.{Course, going_on, stopped_course}
+use Rattle.logged_scripts.proofs.Bringing.{after_on}
 use Rattle.lone_runs.specs.Laws.{HasStood}
 use Rattle.lone_runs.proofs.Standing.{append_nil}
 

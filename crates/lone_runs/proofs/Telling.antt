@@ -5,7 +5,7 @@ use Rattle.std.specs.List.{AllByRecursion}
 use Rattle.disk_turns.specs.Turns.{Moment}
 use Rattle.image_mount.specs.Mounted.{Journal}
 use Rattle.image_recovery.specs.Recoveries.{HaveReplayed}
-use Rattle.lone_answers.specs.Faults.{IsDamagedFor}
+use Rattle.logged_scripts.specs.Faults.{IsDamagedFor}
 use Rattle.lone_view.specs.Seeing.{Lone, seen_alone}
 use Rattle.glock_names.specs.declared.LockName.{LockName}
 use Rattle.log_values.specs.Flushing.{FlushStep, a_block, a_barrier, a_header, flush_chunks, the_last}
@@ -14,10 +14,10 @@ use Rattle.log_values.specs.Log.{Flush, LogValue}
 use Rattle.log_values.specs.Log.Stage.{Ending, Headed, Writing}
 use Rattle.log_values.specs.declared.steps.LogStep.{LogStep}
 use Rattle.log_values.specs.declared.steps.LogStep.TheVariants as step
-use Rattle.logged_runs.specs.Fails.{FailsTo}
-use Rattle.logged_runs.specs.StepEnds.{EndsTo, clean_item}
-use Rattle.logged_runs.specs.Points.{Anything, ItsCommit, Next, Point}
-use Rattle.logged_runs.specs.Steps.{Answers, AnswersQuietly, BeginsFlush, BeginsHeader, Commits, EndsBlocks, EndsFlush, GoesHome, HasNoSpace, Here, Reads, Rests, Step, Steps, Syncs, TellsFull, Then, Unmounts, WritesHead, WritesLog}
+use Rattle.logged_scripts.specs.Fails.{FailsTo}
+use Rattle.logged_scripts.specs.StepEnds.{EndsTo, clean_item}
+use Rattle.logged_scripts.specs.Points.{Anything, ItsCommit, Next, Point}
+use Rattle.logged_scripts.specs.Steps.{Answers, AnswersQuietly, BeginsFlush, BeginsHeader, Commits, EndsBlocks, EndsFlush, GoesHome, HasNoSpace, Here, Reads, Rests, Step, Steps, Syncs, TellsFull, Then, Unmounts, WritesHead, WritesLog}
 use Rattle.logged_scripts.specs.Ends.{IsEndAt, end_of}
 use Rattle.logged_scripts.specs.Runs as behind
 use Rattle.logged_scripts.specs.Runs.{HasRun, HasUnmounted, IsBehind, IsThrough, clean_still, crashed, unmounted, with_header}
@@ -31,7 +31,7 @@ use Rattle.run_rules.specs.History.{NoneStopped}
 use Rattle.script_lang.specs.Script.{ScriptValue}
 use Rattle.trace_text.specs.declared.item.TraceItem.{TraceItem}
 use Rattle.trace_text.specs.declared.item.TraceItem.TheVariants as trace
-use Rattle.whole_runs.specs.Starts.{joined}
+use Rattle.logged_scripts.specs.WholeRunsStarts.{joined}
 use Rattle.lone_runs.specs.Beginning.{start_point}
 use Rattle.lone_runs.specs.Runs as stages
 use Rattle.lone_runs.specs.Runs.{GoesSo, as_end}

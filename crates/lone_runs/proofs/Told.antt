@@ -8,10 +8,10 @@ use Rattle.disk_turns.specs.Turns.{Moment}
 use Rattle.disk_turns.proofs.Gaining.{gains_join, gains_none}
 use Rattle.image_mount.specs.Mounted.{Journal}
 use Rattle.image_recovery.specs.Recoveries.{HaveCrashed, HaveFailed, HaveReplayed, HaveReplayedSome}
-use Rattle.logged_runs.proofs.Telling.{append_nil, steps_are_told}
-use Rattle.logged_runs.specs.Points.{Point}
-use Rattle.logged_runs.specs.Steps.{Steps}
-use Rattle.logged_runs.specs.StepEnds.{clean_item, last_block}
+use Rattle.logged_scripts.proofs.Telling.{append_nil, steps_are_told}
+use Rattle.logged_scripts.specs.Points.{Point}
+use Rattle.logged_scripts.specs.Steps.{Steps}
+use Rattle.logged_scripts.specs.StepEnds.{clean_item, last_block}
 use Rattle.logged_scripts.specs.Ends.{NothingUntold, at_the_header, at_the_point}
 use Rattle.logged_scripts.specs.Runs.{IsBehind, LastGoes, crash, fence, loss, nothing}
 use Rattle.logged_scripts.proofs.Beginning.{members}
@@ -24,9 +24,9 @@ use Rattle.run_rules.specs.History.{NoneStopped}
 use Rattle.shared_disk.specs.Disk.{DiskState, Fence, Gains, Operation, Write}
 use Rattle.trace_text.specs.declared.item.TraceItem.{TraceItem}
 use Rattle.trace_text.specs.declared.item.TraceItem.TheVariants as trace
-use Rattle.whole_runs.specs.Starts.{joined}
-use Rattle.whole_runs.specs.Wholes.{IsOneWrite, no_write, one_write}
-use Rattle.whole_runs.proofs.Last.{LastOps, ended_ops, failed_ops}
+use Rattle.logged_scripts.specs.WholeRunsStarts.{joined}
+use Rattle.logged_scripts.specs.Wholes.{IsOneWrite, no_write, one_write}
+use Rattle.logged_scripts.proofs.Last.{LastOps, ended_ops, failed_ops}
 use Rattle.lone_runs.specs.Laws.{GainsAsTold, RunsAreTold}
 use Rattle.lone_runs.specs.Runs.{crashed, disk_failed, no_memory, not_fenced, not_joined, ran}
 use Rattle.lone_runs.proofs.Members.{IsOfStart, failed_start}

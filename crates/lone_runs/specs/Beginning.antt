@@ -11,11 +11,11 @@ use Rattle.image_recovery.specs.Recoveries.{CanReplayAll}
 use Rattle.log_layout.specs.declared.log_header.LogHeader.{LogHeader}
 use Rattle.log_values.specs.Log.{Journal as OwnJournal}
 use Rattle.log_values.specs.Laws.{IsJournal, empty_log}
-use Rattle.logged_node.specs.Beginning.{MayBeginOn, no_calls}
-use Rattle.logged_node.specs.Nodes.{IsResting}
-use Rattle.logged_node.specs.declared.node.Node.{Node}
-use Rattle.logged_runs.specs.Points.{Point}
-use Rattle.logged_runs.specs.StepStarts.{starting}
+use Rattle.logged_scripts.specs.LoggedNodeBeginning.{MayBeginOn, no_calls}
+use Rattle.logged_scripts.specs.Nodes.{IsResting}
+use Rattle.logged_scripts.specs.node.Node.{Node}
+use Rattle.logged_scripts.specs.Points.{Point}
+use Rattle.logged_scripts.specs.StepStarts.{starting}
 use Rattle.lone_view.specs.Seeing.{Lone}
 use Rattle.mounted_views.specs.Laws.{IsPlacedOn}
 use Rattle.mounted_views.specs.Views.{journal_of}

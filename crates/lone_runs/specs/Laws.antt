@@ -15,7 +15,7 @@ use Rattle.image_recovery.specs.Recoveries.{HaveReplayed}
 use Rattle.journal_outcomes.specs.Disks.{flown_by}
 use Rattle.journal_outcomes.specs.Images.{NoFalseHeader, ring_at}
 use Rattle.log_layout.specs.Journal.{IsClean}
-use Rattle.logged_runs.specs.Disks.{disk_after}
+use Rattle.logged_scripts.specs.Disks.{disk_after}
 use Rattle.logged_scripts.specs.Runs.{is_change}
 use Rattle.logged_scripts.specs.declared.ends.RunEnd.TheVariants as script
 use Rattle.lone_view.specs.Seeing.{Lone}
@@ -29,11 +29,11 @@ use Rattle.script_lang.specs.declared.script.Client.{Client}
 use Rattle.script_lang.specs.declared.script.Line.{Line}
 use Rattle.script_lang.specs.declared.script.Line.TheVariants as line
 use Rattle.shared_disk.specs.Disk.{DiskState, Fence, Flight, IsIdle, Operation, after_fence}
-use Rattle.small_calls.specs.Sizes.{IsOfScript}
+use Rattle.logged_scripts.specs.Sizes.{IsOfScript}
 use Rattle.trace_text.specs.declared.item.TraceItem.{TraceItem}
-use Rattle.whole_runs.specs.Fronts.{StandsAtEachFront, all_items, all_operations}
-use Rattle.whole_runs.specs.Starts.{IsStart, joined}
-use Rattle.whole_runs.specs.Wholes.{Course, IsOneWrite}
+use Rattle.logged_scripts.specs.Fronts.{StandsAtEachFront, all_items, all_operations}
+use Rattle.logged_scripts.specs.WholeRunsStarts.{IsStart, joined}
+use Rattle.logged_scripts.specs.Wholes.{Course, IsOneWrite}
 use Rattle.lone_runs.specs.Beginning.{IsGiven, IsOwn}
 use Rattle.lone_runs.specs.Runs.{GoesSo}
 use Rattle.lone_runs.specs.declared.ends.RunEnd.{RunEnd}

@@ -3,7 +3,7 @@ use Rattle.std.specs.Prelude.{ℕ, ◌≡◌, ◌≢◌, List, [], Option, Resul
 use Rattle.disk_turns.specs.Turns.{Moment}
 use Rattle.image_mount.specs.Mounted.{Journal}
 use Rattle.image_recovery.specs.Recoveries.{HaveCrashed, HaveFailed, HaveReplayed, HaveReplayedSome}
-use Rattle.logged_node.specs.Nodes.{IsAtCrash, IsBeforeCrash}
+use Rattle.logged_scripts.specs.Nodes.{IsAtCrash, IsBeforeCrash}
 use Rattle.logged_scripts.specs.Crashes.{first_crash}
 use Rattle.logged_scripts.specs.Runs.{HasRun}
 use Rattle.logged_scripts.specs.declared.ends.RunEnd.{RunEnd as ScriptEnd}
@@ -17,7 +17,7 @@ use Rattle.peer_replay.specs.declared.planned.Plan.{Plan}
 use Rattle.script_lang.specs.Script.{ScriptValue}
 use Rattle.shared_disk.specs.Disk.{DiskState, IsSound}
 use Rattle.trace_text.specs.declared.item.TraceItem.{TraceItem}
-use Rattle.whole_runs.specs.Starts.{joined}
+use Rattle.logged_scripts.specs.WholeRunsStarts.{joined}
 use Rattle.lone_runs.specs.Beginning.{MayHave, its_head, start_point}
 use Rattle.lone_runs.specs.declared.ends.RunEnd.{RunEnd}
 use Rattle.lone_runs.specs.declared.ends.RunEnd.TheVariants as end

@@ -8,7 +8,7 @@ use Rattle.image_mount.specs.Mounted.{IsMounted, Journal, MountedValue}
 use Rattle.image_recovery.specs.Recoveries.{CanReplayAll, HaveReplayed}
 use Rattle.image_replays.specs.Replays.{ArePlans}
 use Rattle.gfs2_layout.specs.Device.{IsBlockSize}
-use Rattle.lone_answers.specs.Faults.{IsDamagedFor}
+use Rattle.logged_scripts.specs.Faults.{IsDamagedFor}
 use Rattle.lone_view.specs.Seeing.{Lone, seen_alone}
 use Rattle.logged_scripts.specs.declared.ends.RunEnd.TheVariants as script
 use Rattle.mounted_views.specs.Views.{journal_of}
@@ -19,7 +19,7 @@ use Rattle.script_lang.specs.Script.{ScriptValue}
 use Rattle.shared_disk.specs.Disk.{DiskState, IsIdle}
 use Rattle.trace_text.specs.declared.item.TraceItem.{TraceItem}
 use Rattle.trace_text.specs.declared.item.TraceItem.TheVariants as trace
-use Rattle.whole_runs.specs.Starts.{joined}
+use Rattle.logged_scripts.specs.WholeRunsStarts.{joined}
 use Rattle.lone_runs.specs.Beginning.{IsOwn, MayHave, its_head}
 use Rattle.lone_runs.specs.Runs.{GoesSo}
 use Rattle.lone_runs.specs.declared.ends.RunEnd.{RunEnd}

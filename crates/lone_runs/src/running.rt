@@ -5,7 +5,7 @@ ghost use Rattle.disk_turns.specs.Turns.{moment};
 ghost use Rattle.gfs2_layout.specs.Device.{IsBlockSize};
 ghost use Rattle.image_mount.specs.Mounted.{Journal as Map};
 ghost use Rattle.image_recovery.specs.Recoveries.{AreHeadersRead};
-ghost use Rattle.logged_node.specs.Nodes.{point_of};
+ghost use Rattle.logged_scripts.specs.Nodes.{point_of};
 ghost use Rattle.logged_scripts.specs.Beginning.{HasBegun};
 ghost use Rattle.logged_scripts.specs.Ends.{HasCause as ScriptHasCause};
 ghost use Rattle.logged_scripts.specs.Runs.{HasRun};
@@ -23,7 +23,7 @@ use crate::starting::begin;
 use image_mount::JournalMap;
 use image_recovery::replay_journals;
 use journal_replays::{Plan, ReplayFault};
-use logged_node::Node;
+use logged_scripts::Node;
 use logged_scripts::{
     RunEnd as ScriptEnd, end_of_fence, join, run_script, settle_first, writes_left,
 };

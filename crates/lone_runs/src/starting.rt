@@ -12,7 +12,7 @@ use crate::placing::{LastHead, may_have};
 use image_mount::JournalMap;
 use journal_replays::Plan;
 use log_memory::Journal;
-use logged_node::{Node, begin_node};
+use logged_scripts::{Node, begin_node};
 use lone_view::LoneView;
 use no_memory::NoMemory;
 use shared_disk::SharedDisk;

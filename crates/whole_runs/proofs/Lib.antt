@@ -13,3 +13,7 @@ pub mod Telling
 pub mod Fronts
 pub mod StartFronts
 pub mod RunFronts
+-- Passed on to the crates above.
+pub use Rattle.logged_runs.proofs.Starting as LoggedRunsStarting
+pub use Rattle.logged_runs.proofs.Telling as LoggedRunsTelling
+pub use Rattle.logged_runs.proofs.Counting

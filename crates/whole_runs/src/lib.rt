@@ -17,6 +17,7 @@ use logged_runs::{
     a_run_begins, ends_are_told, its_calls_are_counted, its_heads_are_there, steps_are_told,
     stops_are_told, what_remains_is_told,
 };
+pub use logged_runs::{a_run_begins, heads_are_told, its_calls_are_counted, runs_end, steps_keep};
 
 /// A law: behind each front of a run's start, before it and within its replays, whatever becomes of what is in flight stands as the items tell, also behind a stop, a fence and the loss with it.
 pub fn fronts_of_starts_stand()

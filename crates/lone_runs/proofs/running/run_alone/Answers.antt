@@ -6,7 +6,7 @@ use Rattle.gfs2_layout.specs.Device.{IsBlockSize}
 use Rattle.image_mount.specs.Mounted.{Journal}
 use Rattle.image_recovery.specs.Recoveries.{HaveReplayed}
 use Rattle.journal_replays.specs.Crashes.{crash_of}
-use Rattle.logged_node.specs.Nodes.{point_of}
+use Rattle.logged_scripts.specs.Nodes.{point_of}
 use Rattle.logged_scripts.specs.declared.ends.RunEnd.TheVariants as script
 use Rattle.lone_fences.specs.Ends as fences
 use Rattle.lone_scripts.specs.Runs.{IsLoneRun, not_begun}
