@@ -1,5 +1,5 @@
 -- A command that ran no script, or shows nothing.
-use Rattle.std.proofs.Common.{◌≡◌, ℕ, Bool, true, false, List, [], subst, sym, ◌∙◌}
+use Rattle.std.proofs.Common.{◌≡◌, ℕ, List, [], subst, sym}
 use Rattle.trace_text.specs.declared.item.TraceItem.{TraceItem}
 use Rattle.script_lang.specs.Script.{ScriptValue}
 use Rattle.script_lang.specs.Grammar.{nothing}
@@ -7,6 +7,8 @@ use Rattle.run_reports.specs.declared.output.Listing.{Listing}
 use Rattle.run_reports.specs.declared.output.Listing.TheVariants.{Clients}
 use Rattle.run_reports.specs.declared.status.Status.{Status}
 use Rattle.cluster_program.specs.World.{Inputs}
+use Rattle.run_reports.specs.Laws.{NothingIsOfOneNode}
+use Rattle.run_reports.specs.OneNode.{IsOfOneNode}
 use Rattle.cluster_program.specs.Course.{Course}
 
 pub course_of : (words : List (List ℕ)) (given left : Inputs) {listing : Listing} {s : ScriptValue} {items : List TraceItem} {lines told_lines : List ℕ} {own told : Status}
@@ -22,5 +24,6 @@ pub with_no_lines : (words : List (List ℕ)) (given left : Inputs) (listing : L
     → lines ≡ [] → Course words given left listing s items [] own → Course words given left listing s items lines own
 with_no_lines words given left listing {s} {items} {lines} {own} none course = subst (λ (ls : List ℕ). Course words given left listing s items ls own) (sym none) course
 
-pub never_both : (b : Bool) → b ≡ false → b ≡ true → ⊥
-never_both b isnt is = let both : true ≡ false = sym is ∙ isnt in cc
+-- a command that ran nothing has no items to tell, and no journals to count
+pub of_one_nothing : NothingIsOfOneNode → {s : ScriptValue} {items : List TraceItem} → s ≡ nothing → items ≡ [] → IsOfOneNode s items
+of_one_nothing law {s} {items} script none = subst (λ x. IsOfOneNode x items) (sym script) (subst (IsOfOneNode nothing) (sym none) law)

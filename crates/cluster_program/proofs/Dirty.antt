@@ -1,24 +1,33 @@
 -- How many journals a run left not clean.
-use Rattle.std.proofs.Common.{◌≡◌, ℕ, zero, suc, ◌+◌, List, [], ◌∷◌, ◌++◌, Bool, true, false, cond, Some, refl, sym, ap, ◌∙◌, subst, arith}
-use Rattle.std.specs.Prelude.{◌==◌, count_by, if◌then◌else◌, not, slice_get}
-use Rattle.std.specs.List.{AllByRecursion, range_with_len}
+use Rattle.std.proofs.Common.{◌≡◌, ◌⊎◌, inl, inr, ℕ, zero, suc, ◌+◌, List, [], ◌∷◌, ◌++◌, Bool, true, false, cond, Some, refl, sym, ap, ◌∙◌, subst, arith}
+use Rattle.std.specs.Prelude.{◌<◌, ◌≤◌, ◌==◌, IfOk, MatchResult, Result, Ok, Err, Contains, get_or, length, count_by, if◌then◌else◌, not, slice_get}
+use Rattle.std.specs.List.{AllByRecursion, list_any, range_with_len}
 use Rattle.std.proofs.lemmas.Bool.{cond-false}
+use Rattle.std.proofs.lemmas.List.Elements.{Contains-get_or}
 use Rattle.std.proofs.lemmas.List.Sums.{sum_by-cons}
 use Rattle.disk_turns.specs.Turns.{Moment}
 use Rattle.image_model.specs.Image.{Image, image_of}
 use Rattle.image_mount.specs.Mounted.{IsMounted, Journal, MountedValue}
+use Rattle.journal_reads.specs.Reading.{HasCause}
+use Rattle.journal_reads.specs.declared.faults.ReadFault.{ReadFault}
+use Rattle.journal_reads.specs.declared.faults.ReadFault.TheVariants as read
 use Rattle.lone_runs.specs.Starts.{IsOfReplay}
 use Rattle.lone_runs.specs.Telling.{EndsClean, IsNoCommit, TellsItsReplays, clean_header, no_commit}
 use Rattle.peer_replay.specs.declared.planned.Plan.{Plan}
+use Rattle.run_rules.specs.History.{NoneStopped}
 use Rattle.script_lang.specs.Script.{ScriptValue}
 use Rattle.shared_disk.specs.Disk.{DiskState}
 use Rattle.trace_text.specs.declared.item.TraceItem.{TraceItem}
 use Rattle.trace_text.specs.declared.item.TraceItem.TheVariants as trace
 use Rattle.lone_runs.proofs.Items.{of_replays}
 use Rattle.run_reports.specs.Dirty.{dirty_by, is_left_dirty}
-use Rattle.cluster_program.specs.Dirty.{IsCountLeft, dirty_in}
+use Rattle.run_reports.specs.Out.{is_stop}
+use Rattle.cluster_program.specs.Dirty.{IsCountLeft, IsUnreadHead, UnreadBlock, UnreadForMemory, dirty_in}
+use Rattle.cluster_program.specs.EndStatuses.{status_of_read}
 use Rattle.cluster_program.specs.Mounting.{is_clean_in}
-use Rattle.cluster_program.specs.Runs.{AreCleanOn}
+use Rattle.cluster_program.specs.Runs.{AreCleanOn, own_of}
+use Rattle.run_reports.specs.declared.status.Status.{Status}
+use Rattle.run_reports.specs.declared.status.Status.TheVariants as status
 
 -- none passes a test that no element passes
 count_none : {X : Type 0} (test : X → Bool) (xs : List X) → ((k : ℕ) (x : X) → slice_get xs k ≡ Some x → test x ≡ false) → count_by test xs ≡ 0
@@ -102,3 +111,55 @@ module _ (time : ℕ) (before : Moment) (journals : List Journal) (plans : List 
           at : (k node : ℕ) → slice_get (range_with_len 1 1) k ≡ Some node → is_left_dirty node false items ≡ false
           at zero node is = subst (λ n. is_left_dirty n false items ≡ false) (some_same is) node_one
           at (suc k) node is = cc
+
+-- ---- stops
+
+-- no item is a stop where no node stopped
+pub no_stop : (items : List TraceItem) → NoneStopped items → list_any is_stop items ≡ true → ⊥
+no_stop [] none is = cc
+no_stop (trace.Crash node ∷ is) none any = none
+no_stop (trace.Withdraw node before now ∷ is) none any = none
+no_stop (_ ∷ is) none any = no_stop is none any
+
+pub none_stopped : (items : List TraceItem) → list_any is_stop items ≡ false → NoneStopped items
+none_stopped [] none = tt
+none_stopped (trace.Crash node ∷ is) none = cc
+none_stopped (trace.Withdraw node before now ∷ is) none = cc
+none_stopped (_ ∷ is) none = none_stopped is none
+
+-- ---- heads that couldn't be read
+
+pub unread_head : (journals : List Journal) (k : ℕ) (journal : Journal) (f : ReadFault) (first before now : ℕ) → k < length journals → journal ≡ get_or journals k journal → first ≤ before → HasCause journal.blocks before now f
+    → IsUnreadHead journals first now (status_of_read f)
+unread_head journals k journal (read.DiskFailed block rise) first before now low is earlier cause =
+    UnreadBlock journal block rise.before rise.after (subst (Contains journals) (sym is) (Contains-get_or journals k journal low)) cause.1 (record { from = omega (arith, earlier, cause.0.from); rose = cause.0.rose; to = cause.0.to })
+unread_head journals k journal read.NoMemory first before now low is earlier cause = UnreadForMemory
+
+pub unread_since : (journals : List Journal) (first before now : ℕ) → first ≤ before → (own : Status) → IsUnreadHead journals before now own → IsUnreadHead journals first now own
+unread_since journals first before now earlier _ (UnreadBlock journal block x y has within up) = UnreadBlock journal block x y has within (record { from = omega (arith, earlier, up.from); rose = up.rose; to = up.to })
+unread_since journals first before now earlier _ UnreadForMemory = UnreadForMemory
+
+-- ---- what the count comes to
+
+pub stopped_or_not : (items : List TraceItem) → NoneStopped items ⊎ (NoneStopped items → ⊥)
+stopped_or_not items = by (list_any is_stop items) refl
+  where
+    by : (b : Bool) → list_any is_stop items ≡ b → NoneStopped items ⊎ (NoneStopped items → ⊥)
+    by false is = inl (none_stopped items is)
+    by true is = inr (λ none. no_stop items none is)
+
+pub of_none : (r : Result ℕ Status) (P : Status → Type 0) → MatchResult r (λ dirty. dirty ≡ 0) (λ own. ⊥) → P status.Done → P (own_of r)
+of_none (Ok dirty) P is done = done
+of_none (Err own) P is done = absurd is
+
+pub of_stopped : {A : ℕ → Type 0} {B : Status → Type 0} (r : Result ℕ Status) (P : Status → Type 0) → MatchResult r A B → ((dirty : ℕ) → A dirty → P status.Done) → ((own : Status) → B own → P own) → P (own_of r)
+of_stopped (Ok dirty) P is done early = done dirty is
+of_stopped (Err own) P is done early = early own is
+
+pub counted_none : (r : Result ℕ Status) (P : ℕ → Type 0) → MatchResult r (λ dirty. dirty ≡ 0) (λ own. ⊥) → P 0 → IfOk r P
+counted_none (Ok dirty) P is clean = subst P (sym is) clean
+counted_none (Err own) P is clean = tt
+
+pub counted_stopped : {A : ℕ → Type 0} (B : Status → Type 0) (r : Result ℕ Status) (P : ℕ → Type 0) → MatchResult r A B → ((dirty : ℕ) → A dirty → P dirty) → IfOk r P
+counted_stopped B (Ok dirty) P is found = found dirty is
+counted_stopped B (Err own) P is found = tt

@@ -1,7 +1,7 @@
 -- What holds of a run of what was mounted.
 use Rattle.std.proofs.Common.{◌≡◌, ◌⊎◌, inl, inr, ℕ, ◌+◌, ◌≤◌, ◌<◌, List, [], ◌∷◌, ◌++◌, length, Bool, true, false, Option, None, Some, refl, sym, ap, ◌∙◌, subst, arith, append-nil}
 use Rattle.std.specs.Prelude.{◌≢◌, Contains, IfErr, IfSome, IsTrue, OnOk, Result, Ok, Err, slice_get}
-use Rattle.std.specs.FinMap.{empty, get}
+use Rattle.std.proofs.lemmas.Option.{slice_get_within}
 use Rattle.std.specs.List.{AllByRecursion}
 use Rattle.command_words.specs.Commands.{frames_of}
 use Rattle.cluster_history.specs.History.{Legal}
@@ -29,7 +29,9 @@ use Rattle.lone_fences.specs.Fencing.{EndsAt}
 use Rattle.lone_fences.specs.declared.ends.FenceEnd.{FenceEnd}
 use Rattle.lone_fences.specs.declared.ends.FenceEnd.TheVariants as fence_end
 use Rattle.lone_runs.specs.LoggedScriptsRuns as what
-use Rattle.lone_runs.specs.LoggedScriptsRuns.{IsBehind}
+use Rattle.lone_runs.specs.LoggedScriptsEnds.{IsEndAt, end_of}
+use Rattle.lone_runs.specs.LoggedScriptsRuns.{HasRun, IsBehind}
+use Rattle.lone_runs.specs.Points.{Point}
 use Rattle.lone_runs.specs.Beginning.{IsGiven, IsOwn, start_point}
 use Rattle.lone_runs.specs.Ends.{HasCause}
 use Rattle.lone_runs.specs.Laws.{GainsAsTold, IsLineOfScript, IsOfImageThatStands, IsRunOf, NothingIsWritten, RunsAreLegal, RunsAreTold, RunsEnd, RunsMeetNoDamage, RunsRest, RunsStand, WritesNothing}
@@ -56,8 +58,9 @@ use Rattle.trace_text.specs.declared.item.TraceItem.TheVariants as trace
 use Rattle.lone_runs.specs.WholeRunsStarts.{IsStart, joined}
 use Rattle.run_reports.specs.declared.status.Status.{Status}
 use Rattle.run_reports.specs.declared.status.Status.TheVariants as status
-use Rattle.cluster_program.specs.EndStatuses.{status_of_run}
-use Rattle.cluster_program.specs.Dirty.{IsDirtyCount, IsUnreadHead, UnreadBlock, UnreadForMemory}
+use Rattle.cluster_program.specs.Beginning.{IsPrepared}
+use Rattle.cluster_program.specs.EndStatuses.{IfOfScript, IsPlacedEnd, status_of_run}
+use Rattle.cluster_program.specs.Dirty.{IsDirtyCount, IsUnreadHead, UnreadBlock, UnreadForMemory, dirty_on}
 use Rattle.cluster_program.specs.Mounting as mounting
 use Rattle.cluster_program.specs.Mounting.{BeginEnds, IsImageOf, IsMisplaced, IsMountedOn, IsMountedReplayed, NotMounted, is_clean_head}
 use Rattle.cluster_program.specs.Runs.{AreCleanOn, ArePlansOf, ChangesNothing, EndsEarly, HasCome, HasGone, HasWhatIsKept, HoldsTree, IfDamaged, IsDone, IsMountedAgain, IsToldBroken, LacksRoom, LeavesReplayed, MeetsDamage, NotBegun, NotCounted, RunEnds, Runs, beyond, first_line, itself, now_of}
@@ -431,3 +434,113 @@ module _ (follow : LoneRunsFollow) (numbered : LoneRunsAreNumbered) (given left 
     where
       lone : IsLoneRun s 0 items
       lone = subst (IsLoneRun s 0) (sym none) not_begun_yet
+
+-- ---- of what was prepared
+
+-- the line of an end is one of the script's
+at_line : {A : Type 0} (xs : List A) (k : ℕ) (x : A) → slice_get xs k ≡ Some x → k < length xs
+at_line xs k x is = slice_get_within xs k x is
+
+module _ (laws : RunLaws) (given left : Inputs) (before : ℕ → ℕ) (s : ScriptValue) (time : ℕ) (items : List TraceItem) (one : IsForOne s) (small : AllByRecursion IsLineOfScript s.lines) (idle : IsIdle given.disk)
+    (sized : IsBlockSize given.disk.size) (view : Lone) (journals : List Journal) (plans : List Plan) (p : IsPrepared given.disk view journals plans) where
+  root : HasRootInside (seen_alone (view_of given.disk.size p.value))
+  root = subst (λ v. HasRootInside (seen_alone v)) p.view_is p.root
+
+  its_given : IsGiven given.disk (view_of given.disk.size p.value) p.value.journals plans
+  its_given = subst (λ v. IsGiven given.disk v p.value.journals plans) p.view_is (subst (λ js. IsGiven given.disk view js plans) p.journals_are p.given)
+
+  some : 1 ≤ length p.value.journals
+  some = subst (λ js. 1 ≤ length js) p.journals_are p.some
+
+  moved : (r : Result (Unit {0}) RunEnd) → HasRunAlone given left before view journals plans s time items r → HasRunAlone given left before (view_of given.disk.size p.value) p.value.journals plans s time items r
+  moved r ran =
+      subst (λ v. HasRunAlone given left before v p.value.journals plans s time items r) p.view_is (subst (λ js. HasRunAlone given left before view js plans s time items r) p.journals_are ran)
+
+  pub done_so : HasRunAlone given left before view journals plans s time items (Ok tt) → Runs given left s time items status.Done
+  done_so ran = done laws given left before s time items p.value plans one small idle sized p.mounted root p.planned its_given some (moved (Ok tt) ran) p.mounted_so
+
+  pub clean_so : HasRunAlone given left before view journals plans s time items (Ok tt) → NoneStopped items → IsDirtyCount given.disk left.disk s items 0
+  clean_so ran none = clean_count laws given left before s time items p.value plans one small idle sized p.mounted root p.planned its_given some (moved (Ok tt) ran) none
+
+  pub found_so : (NoneStopped items → ⊥) → (dirty : ℕ) → (IsTrue given.disk.tells → dirty ≡ dirty_on left.disk journals) → IsDirtyCount given.disk left.disk s items dirty
+  found_so stopped dirty counted = record {
+    found = λ is tells. (p.value, (p.mounted tells, counted tells ∙ ap (dirty_on left.disk) p.journals_are));
+    by_items = λ none. absurd (stopped none);
+    standing = λ none. absurd (stopped none);
+    unchanged = λ none. absurd (stopped none);
+  }
+
+  pub uncounted_so : HasRunAlone given left before view journals plans s time items (Ok tt) → (own : Status) → (NoneStopped items → ⊥) → IsUnreadHead journals (given.disk_faults 0) (left.disk_faults 0) own → Runs given left s time items own
+  uncounted_so ran own stopped unread =
+      uncounted laws given left before s time items p.value plans one small idle sized p.mounted root p.planned its_given some (moved (Ok tt) ran) own stopped
+      (subst (λ js. IsUnreadHead js (given.disk_faults 0) (left.disk_faults 0) own) p.journals_are unread)
+
+  pub early_so : (e : RunEnd) → HasRunAlone given left before view journals plans s time items (Err e) → ((j : ℕ) → given.disk_faults j ≤ before j) → Runs given left s time items (status_of_run (first_line s) e)
+  early_so e ran earlier = ended_early laws given left before s time items p.value plans one small idle sized p.mounted root p.planned its_given some e (moved (Err e) ran) earlier
+
+-- an end at a line is at one of the script's
+module _ (given left : Inputs) (before : ℕ → ℕ) (s : ScriptValue) (time : ℕ) (items : List TraceItem) (view : Lone) (journals : List Journal) (plans : List Plan) (p : IsPrepared given.disk view journals plans) where
+  pub placed_so : (e : RunEnd) → HasRunAlone given left before view journals plans s time items (Err e) → IfOfScript e (IsPlacedEnd (λ line. line < length s.lines))
+  placed_so e ran =
+      let its = first_two given.disk journals plans p.some p.given.can in by (Err e) (ran.goes its.0 its.1 its.2) refl
+    where
+      same_end : (x : RunEnd) → ◌≡◌ {A = Result (Unit {0}) RunEnd} (Err x) (Err e) → x ≡ e
+      same_end x is = cc
+
+      of_script : (a last now : Point) (count : ℕ) (x : ScriptEnd) → IsEndAt s time a count last now x → IsPlacedEnd (λ line. line < length s.lines) x
+      of_script a last now count (script_end.ReadFailed block rise) at = tt
+      of_script a last now count (script_end.WriteFailed block rise) at = tt
+      of_script a last now count (script_end.NotFenced rise) at = tt
+      of_script a last now count (script_end.HeadUnread block rise) at = tt
+      of_script a last now count (script_end.Damaged block rule) at = tt
+      of_script a last now count (script_end.NotBuilt line) at = subst (λ n. n < length s.lines) (sym at.1) (at_line s.lines count _ at.2.next)
+      of_script a last now count (script_end.LogTooSmall line) at = subst (λ n. n < length s.lines) (sym at.1) (at_line s.lines count _ at.2.next)
+      of_script a last now count (script_end.NotLoggable line) at = subst (λ n. n < length s.lines) (sym at.1) (at_line s.lines count _ at.2.next)
+      of_script a last now count script_end.NoMemory at = tt
+
+      of_fence : (f : FenceEnd) → IsPlacedEnd (λ line. line < length s.lines) (end_of f)
+      of_fence (fence_end.NotFenced rise) = tt
+      of_fence (fence_end.ReadFailed block rise) = tt
+      of_fence fence_end.NoMemory = tt
+
+      not_joined : (own : Journal) (plan : Plan) (x : RunEnd) → stages.MayNotBegin given.disk.count given.disk.size time (frames_of None) own plan x → IfOfScript x (IsPlacedEnd (λ line. line < length s.lines))
+      not_joined own plan (end.Misplaced dinode) may = tt
+      not_joined own plan (end.ReplayFailed block rise) may = tt
+      not_joined own plan (end.Script x) may = subst (IsPlacedEnd (λ line. line < length s.lines)) (sym may) tt
+
+      as_placed : (x : RunEnd) → x ≡ e → IfOfScript x (IsPlacedEnd (λ line. line < length s.lines)) → IfOfScript e (IsPlacedEnd (λ line. line < length s.lines))
+      as_placed x same placed = subst (λ y. IfOfScript y (IsPlacedEnd (λ line. line < length s.lines))) same placed
+
+      by_result : (a : Point) (x : Result (Unit {0}) ScriptEnd) → HasRun s time a left.disk left.disk_list items x → stages.as_end x ≡ Err e → IfOfScript e (IsPlacedEnd (λ line. line < length s.lines))
+      by_result a (Ok u) run is = absurd (no_err e is)
+      by_result a (Err x) run is = as_placed (end.Script x) (same_end (end.Script x) is) (of_script a run.last run.left run.count x run.out.0)
+
+      by : (r : Result (Unit {0}) RunEnd) → GoesSo s time (frames_of None) (now_of given) view journals plans (first_two given.disk journals plans p.some p.given.can).0 (first_two given.disk journals plans p.some p.given.can).1 (now_of left) items r
+          → r ≡ Err e → IfOfScript e (IsPlacedEnd (λ line. line < length s.lines))
+      by _ (stages.not_joined x same none may) is = as_placed x (same_end x is) (not_joined (first_two given.disk journals plans p.some p.given.can).0 (first_two given.disk journals plans p.some p.given.can).1 x may)
+      by _ (stages.no_memory some_of early) is = as_placed (end.Script script_end.NoMemory) (same_end _ is) tt
+      by _ (stages.disk_failed block rise failed early) is = as_placed (end.ReplayFailed block rise) (same_end _ is) tt
+      by _ (stages.crashed stopped told it at hf) is = absurd (no_err e is)
+      by _ (stages.not_fenced stopped told f it at ends) is = as_placed (end.Script (end_of f)) (same_end _ is) (of_fence f)
+      by _ (stages.ran replayed told x have sound_disk run) is =
+          by_result (start_point replayed view (first_two given.disk journals plans p.some p.given.can).0 (first_two given.disk journals plans p.some p.given.can).1 time (frames_of None) told) x run is
+
+-- ---- the same of what is known by equations
+
+pub at_start : {d d' : DiskState} {l l' : Option (List Operation)} {js js' : List Journal} {ps ps' : List Plan} (P : DiskState → Option (List Operation) → List Journal → List Plan → Type 0)
+    → d' ≡ d → l' ≡ l → js' ≡ js → ps' ≡ ps → P d' l' js' ps' → P d l js ps
+at_start {d} {d'} {l} {l'} {js} {js'} {ps} {ps'} P one two three four p = subst (λ x. P x l js ps) one (subst (λ x. P d' x js ps) two (subst (λ x. P d' l' x ps) three (subst (P d' l' js') four p)))
+
+-- an end at a line of which more holds
+pub placed_line : (P Q : ℕ → Type 0) → ((line : ℕ) → P line → Q line) → (e : RunEnd) → IfOfScript e (IsPlacedEnd P) → IfOfScript e (IsPlacedEnd Q)
+placed_line P Q more (end.Misplaced dinode) placed = tt
+placed_line P Q more (end.ReplayFailed block rise) placed = tt
+placed_line P Q more (end.Script (script_end.ReadFailed block rise)) placed = tt
+placed_line P Q more (end.Script (script_end.WriteFailed block rise)) placed = tt
+placed_line P Q more (end.Script (script_end.NotFenced rise)) placed = tt
+placed_line P Q more (end.Script (script_end.HeadUnread block rise)) placed = tt
+placed_line P Q more (end.Script (script_end.Damaged block rule)) placed = tt
+placed_line P Q more (end.Script (script_end.NotBuilt line)) placed = more line placed
+placed_line P Q more (end.Script (script_end.LogTooSmall line)) placed = more line placed
+placed_line P Q more (end.Script (script_end.NotLoggable line)) placed = more line placed
+placed_line P Q more (end.Script script_end.NoMemory) placed = tt

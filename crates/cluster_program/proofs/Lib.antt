@@ -3,6 +3,7 @@ pub mod Heads
 pub mod Left
 pub mod Placed
 pub mod Small
+pub mod Alone
 pub mod Shows
 pub mod ReplayItems
 pub mod Begun

@@ -117,9 +117,12 @@ pub record IsStoppedAt (im : Image) (b rule : ℕ) : Type 0 where
   pub stops : Stops im mounted.layout rule b
   pub inside : b < im.count
 
--- each of these journals has so many places as can be numbered, and these are blocks of a disk of so many
+-- a journal has so many places as can be numbered, and these are blocks of a disk of so many
+abbrev pub IsPlaced : ℕ → Journal → Type 0
+IsPlaced count j = (length j.blocks < 2 ^ 32) × All (λ b. b < count) j.blocks
+
 abbrev pub ArePlaced : ℕ → List Journal → Type 0
-ArePlaced count journals = AllByRecursion (λ (j : Journal). (length j.blocks < 2 ^ 32) × All (λ b. b < count) j.blocks) journals
+ArePlaced count journals = AllByRecursion (IsPlaced count) journals
 
 -- Why a run doesn't begin: the image isn't mounted; or it is, and, as its journals were read, the disk failed at a block of it, at a place of one of them
 -- where it tells its blocks, or a block stops their replay; or, on a disk that tells nothing, a journal with its dinode in this block is none that a node can have there.

@@ -1,9 +1,8 @@
-ghost use Rattle.std.specs.Prelude.{◌≡◌, ◌≤◌, ◌<◌, ◌^◌, ◌↔◌, ℕ, length, true, IfOk, IfErr, IsSome};
-ghost use Rattle.std.specs.List.{All};
+ghost use Rattle.std.specs.Prelude.{◌≡◌, ◌↔◌, None, IfOk, IfErr, IsTrue};
 ghost use Rattle.gfs2_layout.specs.Device.{IsBlockSize};
 ghost use Rattle.shared_disk.specs.Disk.{IsIdle, ReadsOnly};
 ghost use Rattle.cluster_program.specs.Beginning.{IsPrepared};
-ghost use Rattle.cluster_program.specs.Mounting.{ArePlaced, BeginEnds};
+ghost use Rattle.cluster_program.specs.Mounting.{ArePlaced, BeginEnds, IsPlaced};
 
 use crate::end_status::{misplaced, not_planned};
 use crate::mounting::{Ready, mount, ready_of};
@@ -24,23 +23,19 @@ pub(crate) struct Prepared {
     pub plans: Vec<Plan>,
 }
 
-fn are_below(blocks: &[u64], count: u64) -> bool
-    ensures { result ≡ true ↔ All (λ b. b < count) blocks.now }
+// Whether a journal has so many places as can be numbered, each in a block of a disk of so many.
+fn is_placed(journal: &JournalMap, count: u64) -> bool
+    ensures { IsTrue result ↔ IsPlaced count journal.now }
 {
-    for block in blocks {
-        if *block >= count {
-            return false;
-        }
-    }
-    true
+    journal.blocks.len() < 1 << 32 && journal.blocks.iter().all(|block| *block < count)
 }
 
-// The dinode of the first of these journals that isn't in blocks of a disk of so many, or has more places than can be numbered.
+// The dinode of the first of these journals that isn't so.
 fn first_misplaced(journals: &[JournalMap], count: u64) -> Option<u64>
     ensures { result ≡ None ↔ ArePlaced count journals.now }
 {
     for journal in journals {
-        if journal.blocks.len() >= 1 << 32 || !are_below(&journal.blocks, count) {
+        if !is_placed(journal, count) {
             return Some(journal.dinode);
         }
     }

@@ -1,8 +1,9 @@
 // The journals that a run leaves not clean.
-ghost use Rattle.std.specs.Prelude.{ℕ, ⊥, ◌≡◌, ◌≤◌, ◌↔◌, IfOk, IfErr, IsTrue, false, true};
+ghost use Rattle.std.specs.Prelude.{ℕ, ◌≡◌, ◌≤◌, IfOk, IfErr, IsTrue, false};
+ghost use Rattle.std.specs.List.{list_any};
 ghost use Rattle.gfs2_layout.specs.Device.{IsBlockSize};
-ghost use Rattle.run_rules.specs.History.{NoneStopped};
 ghost use Rattle.shared_disk.specs.Disk.{ReadsOnly};
+ghost use Rattle.run_reports.specs.Out.{is_stop as counts_as_stop};
 ghost use Rattle.cluster_program.specs.EndStatuses.{status_of_read};
 ghost use Rattle.cluster_program.specs.Dirty.{IsUnreadHead, dirty_on};
 ghost use Rattle.cluster_program.specs.Mounting.{ArePlaced};
@@ -16,16 +17,18 @@ use shared_disk::SharedDisk;
 use std::alloc::Global;
 use trace_text::TraceItem;
 
+// It is a crash or a withdrawal.
+fn is_stop(item: &TraceItem) -> bool
+    ensures { result ≡ counts_as_stop item.now }
+{
+    matches!(item, TraceItem::Crash { .. } | TraceItem::Withdraw { .. })
+}
+
 /// Whether a node has stopped.
 pub(crate) fn has_stopped(items: &[TraceItem]) -> bool
-    ensures { result ≡ false ↔ NoneStopped items.now }
+    ensures { result ≡ list_any counts_as_stop items.now }
 {
-    for item in items {
-        if matches!(item, TraceItem::Crash { .. } | TraceItem::Withdraw { .. }) {
-            return true;
-        }
-    }
-    false
+    items.iter().any(|item| is_stop(item))
 }
 
 // How the count ends that couldn't read a head.

@@ -1,4 +1,4 @@
-ghost use Rattle.std.specs.Prelude.{◌≡◌, ◌≤◌, ℕ, ⊥, List, [], IfOk, IsTrue, MatchResult, Option, false};
+ghost use Rattle.std.specs.Prelude.{◌≡◌, ◌≤◌, ℕ, List, [], IfOk, IsTrue, MatchResult, Option, false};
 ghost use Rattle.std.specs.List.{AllByRecursion};
 ghost use Rattle.lone_runs.specs.Laws.{IsLineOfScript};
 ghost use Rattle.run_rules.specs.History.{NoneStopped};

@@ -17,8 +17,8 @@ use crate::replay::replay_script;
 use crate::run::mount_and_run;
 use crate::script::read_script;
 use crate::show::show_image;
+use run_reports::{Listing, Status, report, runs_are_of_one_node};
 use crate::words::{Task, read_task};
-use run_reports::{Listing, Status, report};
 use script_lang::Script;
 use shared_disk::SharedDisk;
 use std::alloc::Global;
@@ -135,6 +135,7 @@ fn read_and_run<D: SharedDisk, S: Source>(
     ensures counted { result.own ≡ Status.Done → items.new.items ≢ [] → IsDirtyCount (D.state disk.old) (D.state disk.new) result.script items.new.items result.dirty }
     ensures later { ((j : ℕ) → D.faults disk.old j ≤ D.faults disk.new j) × (S.faults source.old ≤ S.faults source.new) }
 {
+    runs_are_of_one_node();
     let script = match read_script(alloc, source) {
         Ok(script) => script,
         Err(own) => return without_script(alloc, own),
@@ -156,6 +157,7 @@ fn replay<D: SharedDisk>(alloc: Global, disk: &mut D, items: &mut Vec<TraceItem>
     ensures counted { result.own ≡ Status.Done → items.new.items ≢ [] → IsDirtyCount (D.state disk.old) (D.state disk.new) result.script items.new.items result.dirty }
     ensures later { (j : ℕ) → D.faults disk.old j ≤ D.faults disk.new j }
 {
+    runs_are_of_one_node();
     let script = match replay_script(alloc) {
         Ok(script) => script,
         Err(_) => return without_script(alloc, Status::NoMemory),
@@ -184,6 +186,7 @@ fn carry_out<D: SharedDisk, S: Source>(
     ensures counted { result.own ≡ Status.Done → items.new.items ≢ [] → IsDirtyCount (D.state disk.old) (D.state disk.new) result.script items.new.items result.dirty }
     ensures later { ((j : ℕ) → D.faults disk.old j ≤ D.faults disk.new j) × (S.faults source.old ≤ S.faults source.new) }
 {
+    runs_are_of_one_node();
     match read_task(words, disk.block_size()) {
         Ok(Task::Make(words)) => {
             let own = make_image(alloc, disk, &words);

@@ -11,3 +11,5 @@ pub use Rattle.logged_scripts.specs.Faults
 pub use Rattle.logged_scripts.specs.Runs as LoggedScriptsRuns
 pub use Rattle.logged_scripts.specs.WholeRunsStarts
 pub use Rattle.logged_scripts.specs.Sizes
+pub use Rattle.logged_scripts.specs.Ends as LoggedScriptsEnds
+pub use Rattle.logged_scripts.specs.Points

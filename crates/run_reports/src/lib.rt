@@ -6,12 +6,12 @@ mod down;
 mod laws;
 mod output;
 mod places;
-mod report;
+mod reports;
 mod status;
 mod status_text;
 mod streams;
 
 pub use laws::runs_are_of_one_node;
 pub use output::Listing;
-pub use report::report;
+pub use reports::report;
 pub use status::{Status, Unbuilt, WhichSink};

@@ -1,7 +1,7 @@
 use Rattle.std.proofs.Common.{◌≡◌, ◌≤◌, take}
 use Rattle.std.specs.Prelude.{count_by}
 use Rattle.run_reports.specs.Out.{is_call, is_commit, is_stop}
-use Rattle.run_reports.proofs.output.counts_of.Given as goal
+use Rattle.run_reports.proofs.counts.counts_of.Given as goal
 
 abbrev pub invariant-loop-item : goal.invariant-loop-item
 invariant-loop-item l = record {

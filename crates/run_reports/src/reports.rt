@@ -73,7 +73,7 @@ fn report_out<T: Sink>(
 
 /// Writes the trace of a run of one node and what the command prints, and says how the command ended once they are written. `own` is how it ended
 /// before, and `dirty` how many journals the image has that aren't clean, which is told where all was done. Neither text is held: a chunk of it goes out
-/// at a time. It goes over the items once for the trace, once for each client, once more for each client whose lines that are down are told, and once for
+/// at a time. It goes over the items once for the trace, once for each client, once more, and over the lines of the script, for each client whose lines that are down are told, and once for
 /// each of the counts, with a table of 2 KiB for the calls that were lost.
 pub fn report<T: Sink, O: Sink>(
     alloc: Global,

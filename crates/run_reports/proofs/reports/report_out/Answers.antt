@@ -1,9 +1,8 @@
 use Rattle.std.proofs.Common.{refl, subst}
 use Rattle.run_reports.specs.Streams.{FaultRose}
 use Rattle.run_reports.specs.Report.{Fails}
-use Rattle.run_reports.proofs.Courses.{never_both}
-use Rattle.run_reports.proofs.Faults.{went_up}
-use Rattle.run_reports.proofs.report.report_out.Goals as goal
+use Rattle.run_reports.proofs.Faults.{never_both, went_up}
+use Rattle.run_reports.proofs.reports.report_out.Goals as goal
 
 pub returns-clause-becomes : goal.returns-clause-becomes
 returns-clause-becomes g c =

@@ -2,7 +2,7 @@ use Rattle.std.proofs.Common.{refl, subst}
 use Rattle.run_reports.specs.Streams.{FaultRose}
 use Rattle.run_reports.specs.Report.{Fails}
 use Rattle.run_reports.proofs.Faults.{went_up}
-use Rattle.run_reports.proofs.report.report_trace.Goals as goal
+use Rattle.run_reports.proofs.reports.report_trace.Goals as goal
 
 pub returns-clause-becomes : goal.returns-clause-becomes
 returns-clause-becomes g c not_told =
