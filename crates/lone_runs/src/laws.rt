@@ -4,12 +4,13 @@ ghost use Rattle.lone_runs.specs.Laws.{NothingIsWritten, RunsAreLegal, RunsAreTo
 
 use image_recovery::crashed_replays_are_as_failed;
 use log_layout::places_say_all;
-use logged_scripts::nodes_work_on_an_image;
-use logged_scripts::{calls_are_loggable, calls_have_room};
-use logged_scripts::{a_run_begins, its_calls_are_counted, runs_end as logged_runs_end};
-use logged_scripts::{heads_are_told, steps_keep};
+use logged_scripts::{
+    a_run_begins, calls_are_loggable, calls_have_room, heads_are_told, its_calls_are_counted,
+    nodes_work_on_an_image, replays_leave_a_disk_at_rest, runs_are_told as whole_runs_are_told,
+    runs_end as logged_runs_end, runs_stand_at_each_front, starts_stand_at_each_front, steps_keep,
+    whole_runs_stand,
+};
 use mounted_views::mounted_journals_are_placed;
-use logged_scripts::{replays_leave_a_disk_at_rest, runs_are_told as whole_runs_are_told, runs_stand_at_each_front, starts_stand_at_each_front, whole_runs_stand};
 
 /// A law: behind each front of a run's items, those of its start, its crash, the fence and the loss among them, each outcome of the disk there stands, its journals replayed, for the tree of what remains; the
 /// history is legal, keeps what was synced, and each loss in it is right.

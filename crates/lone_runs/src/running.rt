@@ -23,9 +23,8 @@ use crate::starting::begin;
 use image_mount::JournalMap;
 use image_recovery::replay_journals;
 use journal_replays::{Plan, ReplayFault};
-use logged_scripts::Node;
 use logged_scripts::{
-    RunEnd as ScriptEnd, end_of_fence, join, run_script, settle_first, writes_left,
+    Node, RunEnd as ScriptEnd, end_of_fence, join, run_script, settle_first, writes_left,
 };
 use lone_fences::fence_crashed;
 use lone_view::LoneView;
