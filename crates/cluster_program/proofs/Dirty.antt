@@ -1,6 +1,6 @@
 -- How many journals a run left not clean.
 use Rattle.std.proofs.Common.{◌≡◌, ◌⊎◌, inl, inr, ℕ, zero, suc, ◌+◌, List, [], ◌∷◌, ◌++◌, Bool, true, false, cond, Some, refl, sym, ap, ◌∙◌, subst, arith}
-use Rattle.std.specs.Prelude.{◌<◌, ◌≤◌, ◌==◌, IfOk, MatchResult, Result, Ok, Err, Contains, get_or, length, count_by, if◌then◌else◌, not, slice_get}
+use Rattle.std.specs.Prelude.{◌<◌, ◌≤◌, ◌==◌, IfErr, IfOk, MatchResult, Result, Ok, Err, Contains, get_or, length, count_by, if◌then◌else◌, not, slice_get}
 use Rattle.std.specs.List.{AllByRecursion, list_any, range_with_len}
 use Rattle.std.proofs.lemmas.Bool.{cond-false}
 use Rattle.std.proofs.lemmas.List.Elements.{Contains-get_or}
@@ -163,3 +163,20 @@ counted_none (Err own) P is clean = tt
 pub counted_stopped : {A : ℕ → Type 0} (B : Status → Type 0) (r : Result ℕ Status) (P : ℕ → Type 0) → MatchResult r A B → ((dirty : ℕ) → A dirty → P dirty) → IfOk r P
 counted_stopped B (Ok dirty) P is found = found dirty is
 counted_stopped B (Err own) P is found = tt
+
+-- so many are told, where all was done
+pub as_counted : (r : Result ℕ Status) (P : ℕ → Type 0) → IfOk r P → IfErr r (λ own. own ≡ status.Done → ⊥) → own_of r ≡ status.Done → {told : ℕ} → IfOk r (λ dirty. told ≡ dirty) → P told
+as_counted (Ok dirty) P counted never done same = subst P (sym same) counted
+as_counted (Err own) P counted never done same = absurd (never done)
+
+pub unread_early : (journals : List Journal) (before now : ℕ) (own : Status) → IsUnreadHead journals before now own → own ≡ status.Done → ⊥
+unread_early journals before now _ (UnreadBlock journal block x y has within up) is = cc
+unread_early journals before now _ UnreadForMemory is = cc
+
+pub early_count : {A : ℕ → Type 0} (B : Status → Type 0) (r : Result ℕ Status) → MatchResult r A B → ((own : Status) → B own → own ≡ status.Done → ⊥) → IfErr r (λ own. own ≡ status.Done → ⊥)
+early_count B (Ok dirty) is early = tt
+early_count B (Err own) is early = early own is
+
+pub none_early : (r : Result ℕ Status) → MatchResult r (λ dirty. dirty ≡ 0) (λ own. ⊥) → IfErr r (λ own. own ≡ status.Done → ⊥)
+none_early (Ok dirty) is = tt
+none_early (Err own) is = absurd is

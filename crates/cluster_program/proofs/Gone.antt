@@ -122,6 +122,19 @@ nothing_told (Some ops) = ([], refl, sym (append-nil ops))
 no_err : (e : RunEnd) → ◌≡◌ {A = Result (Unit {0}) RunEnd} (Ok tt) (Err e) → ⊥
 no_err e is = cc
 
+pub early_never_done : (first : ℕ) (x : RunEnd) → status_of_run first x ≡ status.Done → ⊥
+early_never_done first (end.Misplaced dinode) is = cc
+early_never_done first (end.ReplayFailed block rise) is = cc
+early_never_done first (end.Script (script_end.ReadFailed block rise)) is = cc
+early_never_done first (end.Script (script_end.WriteFailed block rise)) is = cc
+early_never_done first (end.Script (script_end.NotFenced rise)) is = cc
+early_never_done first (end.Script (script_end.HeadUnread block rise)) is = cc
+early_never_done first (end.Script (script_end.Damaged block rule)) is = cc
+early_never_done first (end.Script (script_end.NotBuilt line)) is = cc
+early_never_done first (end.Script (script_end.LogTooSmall line)) is = cc
+early_never_done first (end.Script (script_end.NotLoggable line)) is = cc
+early_never_done first (end.Script script_end.NoMemory) is = cc
+
 inside_yet : (n v : Lone) → v.root ≡ n.root → v.groups ≡ n.groups → HasRootInside (seen_alone n) → HasRootInside (seen_alone v)
 inside_yet n v root groups inside = (inside.0, subst (λ (gs : List Group). Contains gs inside.0) (sym groups) inside.1, subst (IsDataOf inside.0) (sym root) inside.2)
 
@@ -363,19 +376,6 @@ module _ (laws : RunLaws) (given left : Inputs) (before : ℕ → ℕ) (s : Scri
   -- ---- a run that ended early
 
   module _ (e : RunEnd) (ran : Ran (Err e)) (earlier : (j : ℕ) → given.disk_faults j ≤ before j) where
-    never_done : (x : RunEnd) → status_of_run (first_line s) x ≡ status.Done → ⊥
-    never_done (end.Misplaced dinode) is = cc
-    never_done (end.ReplayFailed block rise) is = cc
-    never_done (end.Script (script_end.ReadFailed block rise)) is = cc
-    never_done (end.Script (script_end.WriteFailed block rise)) is = cc
-    never_done (end.Script (script_end.NotFenced rise)) is = cc
-    never_done (end.Script (script_end.HeadUnread block rise)) is = cc
-    never_done (end.Script (script_end.Damaged block rule)) is = cc
-    never_done (end.Script (script_end.NotBuilt line)) is = cc
-    never_done (end.Script (script_end.LogTooSmall line)) is = cc
-    never_done (end.Script (script_end.NotLoggable line)) is = cc
-    never_done (end.Script script_end.NoMemory) is = cc
-
     longer : (j x y : ℕ) → WentUp (before j) (left.disk_faults j) x y → WentUp (given.disk_faults j) (left.disk_faults j) x y
     longer j x y up = record { from = let low = earlier j in omega (arith, low, up.from); rose = up.rose; to = up.to }
 
@@ -410,7 +410,7 @@ module _ (laws : RunLaws) (given left : Inputs) (before : ℕ → ℕ) (s : Scri
             not_begun (Err e) ran (status_of_run (first_line s) e) none (record { state_is = ap (λ (t : Moment). t.disk) same; list_is = ap (λ (t : Moment). t.list) same })
             (subst (λ y. BeginEnds given.disk given.disk_faults left.disk_faults (status_of_run (first_line s) y)) (same_err x is) (begin_end x may))
         by (some_items there) =
-            runs_so (Err e) ran there (status_of_run (first_line s) e) (λ is none. absurd (never_done e is))
+            runs_so (Err e) ran there (status_of_run (first_line s) e) (λ is none. absurd (early_never_done (first_line s) e is))
             (EndsEarly m e (gone (Err e) ran) (cause_since e (ran.cause own_is.0 own_is.1 own_is.2)) (λ tree is. sound e ran there tree is) (damaged e ran))
 
 -- ---- no run at all

@@ -1,4 +1,4 @@
-ghost use Rattle.std.specs.Prelude.{◌≡◌, ◌≤◌, ℕ, List, [], IfOk, IsTrue, MatchResult, Option, false};
+ghost use Rattle.std.specs.Prelude.{◌≡◌, ◌≤◌, ℕ, List, [], IfErr, IfOk, IsTrue, MatchResult, Option, false};
 ghost use Rattle.std.specs.List.{AllByRecursion};
 ghost use Rattle.lone_runs.specs.Laws.{IsLineOfScript};
 ghost use Rattle.run_rules.specs.History.{NoneStopped};
@@ -83,6 +83,7 @@ pub(crate) fn mount_and_run<D: SharedDisk>(
     ensures runs { (left left_now : Option (List ℕ)) (failed failed_now : ℕ) → Runs (inputs (D.state disk.old) (D.list disk.old) (D.faults disk.old) left failed)
         (inputs (D.state disk.new) (D.list disk.new) (D.faults disk.new) left_now failed_now) script.now time items.new.items (own_of result) }
     ensures counted { IfOk result (λ dirty. IsDirtyCount (D.state disk.old) (D.state disk.new) script.now items.new.items dirty) }
+    ensures early { IfErr result (λ own. own ≡ Status.Done → ⊥) }
     ensures of_one { IsOfOneNode script.now items.new.items }
     ensures later { (i : ℕ) → D.faults disk.old i ≤ D.faults disk.new i }
 {

@@ -9,8 +9,8 @@ use image_mount::{mounted_groups_are_as_seen, mounted_images_stand_as_mounted};
 use journal_outcomes::fences_leave_outcomes;
 pub use logged_steps::{heads_are_told, steps_are_told, steps_keep};
 use logged_steps::{
-    failed_writes_keep, fences_leave_what_remains, heads_are_told, it_has_ended, runs_begin,
-    steps_keep, what_remains_at_its_end, what_remains_of_it,
+    failed_writes_keep, fences_leave_what_remains, it_has_ended, runs_begin,
+    what_remains_at_its_end, what_remains_of_it,
 };
 
 /// A law: a mounted image that stands for a tree, each journal clean, is at rest on its disk, for a node that has what mounting told and the first journal.

@@ -14,8 +14,7 @@ use image_mount::mounted_groups_are_as_seen;
 use journal_outcomes::fences_leave_outcomes;
 use log_layout::headers_read_back;
 use logged_runs::{
-    a_run_begins, ends_are_told, its_calls_are_counted, its_heads_are_there, steps_are_told,
-    stops_are_told, what_remains_is_told,
+    ends_are_told, its_heads_are_there, steps_are_told, stops_are_told, what_remains_is_told,
 };
 pub use logged_runs::{a_run_begins, heads_are_told, its_calls_are_counted, runs_end, steps_keep};
 

@@ -7,8 +7,9 @@ use Rattle.cluster_program.specs.Runs.{Runs, first_line, own_of}
 use Rattle.cluster_program.specs.EndStatuses.{IfOfScript, IsPlacedEnd, status_of_run}
 use Rattle.cluster_program.specs.World.{Inputs, inputs}
 use Rattle.cluster_program.proofs.Alone.{armed_so, for_one}
-use Rattle.cluster_program.proofs.Gone.{HasRunAlone, RunLaws, at_start, clean_so, done_so, early_so, found_so, not_prepared, placed_line, placed_so, uncounted_so}
-use Rattle.cluster_program.proofs.Dirty.{counted_none, counted_stopped, of_none, of_stopped, stopped_or_not, unread_since}
+use Rattle.cluster_program.proofs.Gone.{HasRunAlone, RunLaws, at_start, clean_so, done_so, early_never_done, early_so, found_so, not_prepared, placed_line, placed_so, uncounted_so}
+use Rattle.cluster_program.proofs.Dirty.{counted_none, counted_stopped, early_count, none_early, of_none, of_stopped, stopped_or_not, unread_early, unread_since}
+use Rattle.cluster_program.proofs.Mounts.{begin_never_done}
 use Rattle.run_reports.specs.declared.status.Status.{Status}
 use Rattle.run_reports.specs.declared.status.Status.TheVariants as status
 use Rattle.shared_disk.specs.Disk.{DiskState}
@@ -21,6 +22,9 @@ pub returns-in-Err-clause-runs : goal.returns-in-Err-clause-runs
 returns-in-Err-clause-runs g c left left_now failed failed_now =
     not_prepared c.runs_of_one_node_follow.ensures.follows c.runs_of_one_node_follow.ensures.numbered (inputs _ _ _ left failed) (inputs _ _ _ left_now failed_now) c.args.script.now c.args.time (for_one c.args.script.now c.requires.form) _ c.in-Err.own
     c.requires.none (record { state_is = c.in-Err.ensures.reads.same; list_is = c.in-Err.ensures.reads.list }) c.in-Err.ensures.ends
+
+pub returns-in-Err-clause-early : goal.returns-in-Err-clause-early
+returns-in-Err-clause-early g c = begin_never_done (g.D.SharedDisk.state c.args.disk.now) (g.D.SharedDisk.faults c.args.disk.now) (g.D.SharedDisk.faults c.prepare.new.disk) c.in-Err.own c.in-Err.ensures.ends
 
 pub run_alone-requires-clause-form : goal.run_alone-requires-clause-form
 run_alone-requires-clause-form g c = for_one c.args.script.now c.requires.form
@@ -138,6 +142,12 @@ returns-in-Ok-run_alone-clause-runs g c left left_now failed failed_now = runs_s
 pub returns-in-Ok-run_alone-clause-counted : goal.returns-in-Ok-run_alone-clause-counted
 returns-in-Ok-run_alone-clause-counted g c = count_so g c None None 0 0
 
+pub returns-in-Ok-run_alone-clause-early : goal.returns-in-Ok-run_alone-clause-early
+returns-in-Ok-run_alone-clause-early g c = elim (stopped_or_not c.run_alone.new.items.items) [
+  | inl none ↦ none_early c.left_dirty.result (none_so g c None None 0 0 none)
+  | inr stopped ↦ early_count _ c.left_dirty.result (stopped_so g c None None 0 0 stopped) (λ own unread. unread_early c.deref-in-Ok-run_alone.result.now _ _ own unread)
+]
+
 pub returns-in-Ok-run_alone-clause-of_one : goal.returns-in-Ok-run_alone-clause-of_one
 returns-in-Ok-run_alone-clause-of_one g c = c.runs_are_of_one_node.ensures.lone c.args.script.now c.run_alone.ensures.lone.0 c.run_alone.new.items.items (for_one c.args.script.now c.requires.form) c.run_alone.ensures.lone.1
 
@@ -220,6 +230,9 @@ pub returns-clause-runs : goal.returns-clause-runs
 returns-clause-runs g c left left_now failed failed_now =
     subst (Runs (given_early g c left left_now failed failed_now) (left_early g c left left_now failed failed_now) c.args.script.now c.args.time c.run_alone.new.items.items)
     (sym (c.status_of_end.ensures ∙ ap (λ n. status_of_run n c.in-Err-run_alone.end) c.first_line.ensures)) (early g c left left_now failed failed_now)
+
+pub returns-clause-early : goal.returns-clause-early
+returns-clause-early g c is = early_never_done (first_line c.args.script.now) c.in-Err-run_alone.end (sym (c.status_of_end.ensures ∙ ap (λ n. status_of_run n c.in-Err-run_alone.end) c.first_line.ensures) ∙ is)
 
 pub returns-clause-of_one : goal.returns-clause-of_one
 returns-clause-of_one g c = c.runs_are_of_one_node.ensures.lone c.args.script.now c.run_alone.ensures.lone.0 c.run_alone.new.items.items (for_one c.args.script.now c.requires.form) c.run_alone.ensures.lone.1
