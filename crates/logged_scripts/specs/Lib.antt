@@ -28,4 +28,3 @@ pub use Rattle.whole_runs.specs.StepStarts
 pub use Rattle.whole_runs.specs.Disks
 pub use Rattle.whole_runs.specs.Standing
 pub use Rattle.whole_runs.specs.Fronts
-pub use Rattle.whole_runs.specs.LoggedLaws as LoggedRunsLoggedLaws

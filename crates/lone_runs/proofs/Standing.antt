@@ -24,7 +24,7 @@ use Rattle.log_values.specs.Log.{Journal}
 use Rattle.logged_scripts.specs.Disks.{disk_after}
 use Rattle.logged_scripts.specs.Fails.{FailsTo}
 use Rattle.logged_scripts.specs.LoggedRunsLaws.{fenced_upto, to_fence}
-use Rattle.logged_scripts.specs.LoggedRunsLoggedLaws.{IsInItsBlocks}
+use Rattle.logged_scripts.specs.LoggedLaws.{IsInItsBlocks}
 use Rattle.logged_scripts.specs.Points.{Point}
 use Rattle.logged_scripts.specs.Starts.{only_life}
 use Rattle.logged_scripts.specs.StepEnds.{EndsTo}
