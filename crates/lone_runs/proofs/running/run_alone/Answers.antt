@@ -1,4 +1,5 @@
 use Rattle.std.proofs.Common.{◌<◌, ◌≤◌, ◌^◌, List, Err, refl, sym, ap, subst, ◌∙◌, arith}
+use Rattle.std.specs.Prelude.{IfErr}
 use Rattle.std.specs.List.{All, AllByRecursion}
 use Rattle.std.proofs.lemmas.Result.{err_from_is_err_and}
 use Rattle.disk_turns.specs.Turns.{moment}
@@ -13,6 +14,7 @@ use Rattle.lone_scripts.specs.Runs.{IsLoneRun, not_begun}
 use Rattle.script_lang.specs.Script.{ScriptValue}
 use Rattle.script_lang.specs.declared.script.Armed.{Armed}
 use Rattle.trace_text.specs.declared.item.TraceItem.{TraceItem}
+use Rattle.lone_runs.specs.Ends.{HasCause}
 use Rattle.lone_runs.specs.declared.ends.RunEnd.TheVariants as end
 use Rattle.lone_runs.proofs.Alone.{Goes, IsCaused, crash_is, crash_there, crash_when, fail_there, fail_when, failed_goes, failed_lone, fence_caused, fence_lone, fence_same, fence_whole, fenced_as, fenced_goes, goes_nowhere, goes_through, goes_to_end, lack_there, lack_when, owns, places_inside, ran_same, run_is_free, script_caused, starved_goes, starved_lone, there_same, unfenced_goes, unfenced_lone, unfenced_same}
 use Rattle.lone_runs.proofs.Begun.{has_begun, same_crash, starts_there}
@@ -54,6 +56,11 @@ returns-in_err-join-clause-goes g c =
 pub returns-in_err-join-clause-lone : goal.returns-in_err-join-clause-lone
 returns-in_err-join-clause-lone g c =
     (0, subst (IsLoneRun c.args.script.now 0) (sym c.in_err-join.ensures.none) not_begun)
+
+pub returns-in_err-join-clause-cause : goal.returns-in_err-join-clause-cause
+returns-in_err-join-clause-cause g c own plan is =
+    let p = err_from_is_err_and c.from_residual-in_err-join.result c.from_residual-in_err-join.ensures.1 in
+    subst (λ r. IfErr r (HasCause (g.D.SharedDisk.state c.args.disk.now).count own.blocks (g.D.SharedDisk.faults c.args.disk.now) (g.D.SharedDisk.faults c.args.disk.now))) (sym (p.1 ∙ ap Err p.2)) tt
 
 pub writes_left-armed-requires : goal.writes_left-armed-requires
 writes_left-armed-requires g c =
