@@ -62,6 +62,8 @@ class Disk:
 
     def __init__(self, data, time=0):
         self.data, self.time = bytearray(data), time
+        # Of blocks that were taken since: the inode, and whether a file's content goes there.
+        self.owners = {}
         self.size = self.word(65536 + 36, 4)
         self.root = self.word(65536 + 88, 8)
         master = self.word(65536 + 56, 8)
@@ -454,8 +456,9 @@ class Disk:
                 count += pointer is None or self.word(pointer, 8) == 0
         return count
 
-    def take(self, inode):
+    def take(self, inode, is_content=False):
         block = self.least_free()
+        self.owners[block] = inode, is_content and not self.is_directory(inode)
         self.set_state(block, 1)
         self.count(block, -1, 0)
         self.put(inode, 64, self.field(inode, 64, 8) + 1, 8)
@@ -471,7 +474,7 @@ class Disk:
         area = inode * self.size + 232
         for old in range(self.field(inode, 138, 2), height):
             content = bytes(self.data[area:area + self.field(inode, 56, 8)] if old == 0 else self.data[area:area + (self.size - 232) // 8 * 8])
-            block = self.take(inode) if self.carries(inode) else 0
+            block = self.take(inode, old == 0) if self.carries(inode) else 0
             if block:
                 head = self.head_of_content(inode) if old == 0 else pack(">IIQII", MAGIC, 5, 0, 500, 0)
                 self.put(block, 0, (head + content).ljust(self.size, b"\0"))
@@ -484,7 +487,7 @@ class Disk:
         for level in range(height - 1, -1, -1):
             at = self.pointer_to(inode, height, level, index // self.span(level))
             if not self.word(at, 8):
-                block = self.take(inode)
+                block = self.take(inode, level == 0)
                 head = pack(">IIQII", MAGIC, 5, 0, 500, 0) if level else self.head_of_content(inode)
                 self.put(block, 0, head.ljust(self.size, b"\0"))
                 self.data[at:at + 8] = pack(">Q", block)
