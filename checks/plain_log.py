@@ -188,7 +188,7 @@ class Node:
         self.stored, self.time, self.armed, self.frames = bytearray(image), time, armed, frames
         self.size = int.from_bytes(image[65536 + 36:65536 + 40], "big")
         self.items, self.operations, self.flight, self.writes = ["join 1"], [], [], 0
-        self.answered, self.low, self.changing, self.replies = 0, 0, [], []
+        self.answered, self.low, self.changing, self.replies, self.calls = 0, 0, [], [], []
         self.fresh, self.gone, self.live = {}, set(), {}
 
     # -- the disk
@@ -408,6 +408,7 @@ class Node:
             self.bring_in()
             self.items.append("full 1 %d %d" % full)
         self.answered += 1
+        self.calls.append(call)
         self.replies.append((client, "%s: %s = %s" % (client, written(call), reply)))
         self.items.append("call 1 %s %d %s = %s" % (client, self.answered, written(call), reply))
 
@@ -465,6 +466,15 @@ class Run:
         self.status, self.items, self.lost = 0, node.items, lost
         self.out, self.trace = ("".join(it + "\n" for it in some) for some in (out, node.items))
         self.image = bytes(node.stored)
+        self.left = node.calls[:node.answered - lost]
+
+
+def tree_of(image, calls=(), time=0):
+    """The tree of an image whose journals are replayed, with these calls taken."""
+    disk = Disk(replayed(image), time)
+    for call in calls:
+        disk.answer(call)
+    return disk
 
 
 def main(name, time="0"):
