@@ -494,12 +494,13 @@ class Disk:
         return self.word(at, 8)
 
     def clear_end(self, inode):
-        """Zeros behind the end of a file in blocks."""
+        """Zeros behind the end of a file in blocks, where something else stands there."""
         size = self.field(inode, 56, 8)
         if size % self.size:
             at = self.pointer_to(inode, self.field(inode, 138, 2), 0, size // self.size)
-            if at is not None and self.word(at, 8):
-                self.put(self.word(at, 8), size % self.size, bytes(self.size - size % self.size))
+            block = self.word(at, 8) if at is not None else 0
+            if block and any(self.data[block * self.size + size % self.size:(block + 1) * self.size]):
+                self.put(block, size % self.size, bytes(self.size - size % self.size))
 
     def put_bytes(self, inode, at, content):
         """Writes bytes over a file's content, which has zeros between its end and their place."""

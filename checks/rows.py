@@ -117,6 +117,13 @@ def expanded(image, lines):
     out = []
     for line in lines:
         times = 1
+        if line.startswith("\\at "):
+            _, sizes, line = line.split(" ", 2)
+            if str(image.size) not in sizes.split(","):
+                continue
+        if re.match(r"\\(log|home|head|clean) ", line):
+            out += logged(image, *line[1:].split(" "))
+            continue
         if line.startswith("\\times "):
             _, times, line = line.split(" ", 2)
             times = image.number(times)
@@ -131,6 +138,18 @@ def expanded(image, lines):
     return b"".join(out)
 
 
+def logged(image, word, *words):
+    """What node 1 writes with its log, in the first journal and at home, as lines of a trace."""
+    at = lambda place: image.number("journal0.place%d" % place)
+    if word in ("head", "clean"):
+        found = ["write 1 %s %d %s" % (word, at(image.number(words[0])), " ".join(words[1:])), "barrier 1"]
+        found += ["commit 1 " + " ".join(words[1:])] if word == "head" else []
+    else:
+        numbers = [it for part in words for it in image.range(part)]
+        found = ["write 1 %s %d" % (word, at(it) if word == "log" else it) for it in numbers] + ["barrier 1"]
+    return [b"%s\n" % it.encode() for it in found]
+
+
 def is_judged(command):
     lines = [line for _, block in command for line in block]
     return any(item[0] == "shows" for item in command) or any(re.match(r"\\times [0-9]{4} c:", line) for line in lines)
@@ -139,8 +158,9 @@ def is_judged(command):
 def braced(image, words, up, down):
     if words == "":
         return b""
-    if words in ("i", "d"):
-        return b"%d" % (up if words == "i" else down)
+    counted = re.fullmatch(r"([id])(?:\+([0-9]+))?", words)
+    if counted:
+        return b"%d" % ((up if counted[1] == "i" else down) + int(counted[2] or 0))
     count, of, text = words.partition(" of ")
     if of:
         return escaped(text) * image.number(count)
