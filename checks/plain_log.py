@@ -290,6 +290,8 @@ class Node:
         self.live = {it: entry for it, entry in self.live.items() if it not in logged and it not in revokes and behind(entry[1]) >= cut}
         for block, _, data in blocks:
             self.live[block] = [self.flushed[block][0], first, AWAY, data]
+        # What has no entry any more needs no revoke.
+        self.gone = {it for it in self.gone if it in self.live}
         journal.head, journal.tail, journal.sequence, journal.is_clean = place, tail, sequence, 0
         self.low = upto
 
