@@ -270,7 +270,7 @@ class Disk:
 
     def chain(self, directory, index):
         leaf, found = self.word(self.pointer(directory, index), 8), []
-        while leaf:
+        while leaf and leaf not in found:
             found.append(leaf)
             leaf = self.field(leaf, 32, 8)
         return found

@@ -343,9 +343,12 @@ class Node:
 
     def look_over(self):
         """Notes whose each block of the tree is that was not taken since."""
-        disk, waiting = self.disk, [self.disk.root]
+        disk, waiting, seen = self.disk, [self.disk.root], set()
         while waiting:
             inode = waiting.pop()
+            if inode in seen:
+                continue
+            seen.add(inode)
             is_directory, height = disk.is_directory(inode), disk.field(inode, 138, 2)
             under = list(disk.blocks_under(inode, 232, height)) if height else []
             self.known.update((it, (inode, is_content and not is_directory)) for it, is_content in under)

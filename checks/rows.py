@@ -509,7 +509,7 @@ class Book:
         if taken_size(words, image) != image.size:
             raise Elsewhere
         names = (base or image).copy()
-        script, status, out, trace, later = b"", 0, b"", b"", []
+        script, status, out, trace, later, is_history = b"", 0, b"", b"", [], False
         for item, block in items[1:]:
             word, _, rest = item.partition(" ")
             if word == "script":
@@ -518,8 +518,8 @@ class Book:
                 status = int(rest)
             elif word == "out":
                 out = self.text(names, rest, block)
-            elif word == "trace":
-                trace = self.text(names, rest, block)
+            elif word in ("trace", "history"):
+                trace, is_history = self.text(names, rest, block), word == "history"
             elif word == "told":
                 number, line = rest.split(" ", 1)
                 status, out = int(number), expanded(names, [line])
@@ -529,6 +529,8 @@ class Book:
                 raise Wrong("no item of a row: " + item)
         before = bytes(image.data)
         found = self.runner.carry(image, words, script)
+        if is_history:
+            found = (*found[:2], re.sub(rb"(?m)^(write|barrier|commit) .*\n", b"", found[2]))
         told = [differ(*part) for part in zip(("status", "out", "trace"), (status, out, trace), found)]
         for word, rest, block in later:
             if word == "shows":
