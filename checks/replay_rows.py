@@ -14,6 +14,7 @@ sys.dont_write_bytecode = True
 import new_image
 from journal_rows import Journal, descriptor, header, plain, u64
 from plain_calls import Disk, carried_out, spelled
+from plain_log import Run, tree_of
 from rows import Image
 
 ROWS = os.path.join(os.path.dirname(os.path.abspath(__file__)), "..", "crates", "rows", "data", "replayed_images.rows")
@@ -165,16 +166,24 @@ class Row:
 
     def runs(self, data, calls, *homes):
         """A run replays these journals, and then answers these calls by this image; then so a second run, which has nothing to replay."""
-        disk, text = Disk(bytearray(data), 0), []
+        image, text, script = self.whole(), [], ["nodes 1", "client c on 1", *(f"c: {it}" for it in calls)]
         for first in (True, False):
-            script = ["nodes 1", "client c on 1", *(f"c: {it}" for it in calls)]
-            _, out, trace = carried_out(disk, "".join(it + "\n" for it in script))
-            items = trace.splitlines()
-            if first:
-                items[1:1] = self.items(homes)
-            text += ["  do run", "  script", *("    " + it for it in script), "  out", *("    " + it for it in out.splitlines()),
-                     "  trace", *("    " + it for it in items), "  shows", *("    " + it for it in shown(bytes(disk.data), [True] * len(homes)))]  # fmt: skip
+            run, wanted = Run(image, "".join(it + "\n" for it in script)), self.items(homes) if first else []
+            if run.items[1 : 1 + len(wanted)] != wanted or tree_of(image).data[: self.block("journal0.place0") * SIZE] != data[: self.block("journal0.place0") * SIZE] and first:
+                raise ValueError(f"{self.name}: the replay is another")
+            image = run.image
+            text += ["  do run", "  script", *("    " + it for it in script), "  out", *("    " + it for it in run.out.splitlines()),
+                     "  trace", *("    " + it for it in run.items), "  shows", *("    " + it for it in shown(image, [True] * len(homes)))]  # fmt: skip
         return self.text(*text)
+
+    def whole(self):
+        """The image with its journals."""
+        image = bytearray(self.base.data)
+        for j, journal in enumerate(self.journals):
+            for place, block in journal.blocks.items():
+                at = self.block(f"journal{j}.place{place}") * SIZE
+                image[at : at + SIZE] = block or image[at : at + SIZE]
+        return bytes(image)
 
     def shows(self, data, *homes):
         """The tree is that of this image, where of each journal these blocks go home, behind which its clean header has this place."""
