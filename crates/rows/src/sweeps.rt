@@ -263,23 +263,18 @@ fn check_again(
     Ok(())
 }
 
-fn last_lines(calls: &[Call]) -> u64 {
-    match calls.last() {
-        Some(call) => call.lines.max(1),
-        None => 1,
-    }
-}
-
 fn calls_of(alloc: Global, image: &Image, trace: &str, lines: &[&str]) -> Result<Vec<Call>> {
     let mut calls = Vec::new(alloc);
     for line in lines {
-        match *line {
-            "again" => {}
-            "writes" => {
-                let after = last_lines(&calls);
-                add_writes(&mut calls, trace, after)?;
+        if *line == "again" {
+            continue;
+        }
+        match line.strip_prefix("writes after ") {
+            Some(word) => {
+                let answered = number_word(word).context("no number of lines")?;
+                add_writes(&mut calls, trace, lines_behind(trace, answered))?;
             }
-            line => add_line(&mut calls, image, trace, line)?,
+            None => add_line(&mut calls, image, trace, line)?,
         }
     }
     Ok(calls)
