@@ -37,7 +37,7 @@ from zlib import crc32
 sys.dont_write_bytecode = True
 from new_image import crc32c_raw
 from plain_calls import Disk, spelled
-from plain_log import Run, journals_of, tree_of
+from plain_log import Run, tree_of
 
 HERE = os.path.dirname(os.path.abspath(__file__))
 PROGRAM = os.environ.get("PROGRAM") or os.path.join(HERE, "..", "crates", "gfs2run", "out", "gfs2run")
@@ -566,14 +566,14 @@ def compared(folder, image, time, script):
         left = file.read()
     if left != run.image:
         told.append("the image is another, at the blocks %s" % differing(left, Disk(run.image)))
-    wanted = shown(tree_of(image, run.left, time), [it.is_clean for it in journals_of(run.image)])
-    if shown(tree_of(run.image), [it.is_clean for it in journals_of(run.image)]) != wanted:
+    wanted = shown(tree_of(image, run.left, time), run.clean)
+    if shown(tree_of(run.image), run.clean) != wanted:
         told.append("the image stands for another tree than that of what remains")
     ended = subprocess.run([PROGRAM, *names, "show"], stdin=subprocess.DEVNULL, stdout=subprocess.PIPE)
     if ended.stdout.decode() != wanted:
         told.append("what is shown is another: %.300r" % ended.stdout)
     if FSCK:
-        if run.lost or not all(it.is_clean for it in journals_of(left)):
+        if not all(run.clean):
             subprocess.run([PROGRAM, *names, "replay"], stdin=subprocess.DEVNULL, stdout=subprocess.DEVNULL)
             with open(names[0], "rb") as file:
                 left = file.read()

@@ -440,38 +440,38 @@ class Node:
 
 
 class Run:
-    """A run of a script: its status, out and trace, the image that it leaves, and the calls that were answered."""
+    """A run of a script: its status, out and trace, the image that it leaves, and the calls that are left of those that were answered."""
 
     def __init__(self, image, script, time=0):
         lines = script.splitlines()
-        clients = [it.split(" ")[1] for it in lines if it.startswith("client ")]
         armed = next((it.split(" ", 4)[3:] for it in lines if re.match("crash [0-9]+ at ", it)), None)
-        self.node = node = Node(image, time, armed and (int(armed[0]), armed[1]))
-        lost, crashes, down, fate = 0, 0, [], armed[1] if armed else "old"
+        node, fate, lost = Node(image, time, armed and (int(armed[0]), armed[1])), armed[1] if armed else "old", None
         try:
             node.begin()
-            for at, line in enumerate(lines):
+            for line in lines:
                 client, _, call = line.partition(": ")
                 if re.fullmatch("crash ([0-9]+|all)", line):
-                    fate, down = "old", lines[at + 1:]
+                    fate = "old"
                     raise Crashed
                 if call:
-                    down = lines[at:]
                     node.carry(client, call)
-            down = []
             node.unmount()
         except Crashed:
-            lost, crashes = node.stop(fate), 1
-        down = [it.partition(": ") for it in down if ": " in it]
+            lost = node.stop(fate)
+        self.tell(node, lines, lost)
+
+    def tell(self, node, lines, lost):
+        """What comes of a node that unmounted, or lost so many calls as it crashed."""
+        clients = [it.split(" ")[1] for it in lines if it.startswith("client ")]
+        down = [it.partition(": ") for it in lines if ": " in it][node.answered:]
         told = node.replies + [(client, "%s: %s = down" % (client, written(call))) for client, _, call in down]
         out = [line for name in clients for client, line in told if client == name]
-        dirty = sum(not it.is_clean for it in journals_of(node.stored))
-        commits = sum(it.startswith("commit ") for it in node.items)
-        out += ["calls %d lost %d commits %d crashes %d dirty %d" % (node.answered, lost, commits, crashes, dirty), "done"]
+        self.clean = [it.is_clean for it in journals_of(node.stored)]
+        counts = node.answered, lost or 0, sum(it.startswith("commit ") for it in node.items), lost is not None, self.clean.count(0)
+        out += ["calls %d lost %d commits %d crashes %d dirty %d" % counts, "done"]
         self.status, self.items, self.lost = 0, node.items, lost
         self.out, self.trace = ("".join(it + "\n" for it in some) for some in (out, node.items))
-        self.image = bytes(node.stored)
-        self.left = node.calls[:node.answered - lost]
+        self.image, self.left = bytes(node.stored), node.calls[:node.answered - (lost or 0)]
 
 
 def tree_of(image, calls=(), time=0):
