@@ -35,9 +35,8 @@ from struct import pack, unpack_from
 from zlib import crc32
 
 sys.dont_write_bytecode = True
-from new_image import crc32c_raw
 from plain_calls import Disk, spelled
-from plain_log import Run, tree_of
+from plain_log import Run, crc32c_raw, tree_of
 
 HERE = os.path.dirname(os.path.abspath(__file__))
 PROGRAM = os.environ.get("PROGRAM") or os.path.join(HERE, "..", "crates", "gfs2run", "out", "gfs2run")
@@ -276,7 +275,10 @@ class Copy:
     def is_log_header(self, at, place):
         """Whether a log header that isn't torn stands here, of this place of its journal."""
         head = bytes(self.data[at:at + 48])
-        return head[:8] == pack(">II", MAGIC, 8) and head[40:] == pack(">II", place, crc32(head[:44] + bytes(4)))
+        if head[:8] != pack(">II", MAGIC, 8) or head[40:] != pack(">II", place, crc32(head[:44] + bytes(4))):
+            return False
+        # A header that was torn behind its checksum doesn't count.
+        return self.word(at + 48, 4) in (0, crc32c_raw(self.data[at + 52:at + self.size]))
 
     def add_headers(self):
         """Puts a second log header into each journal that has one alone: of the sequence before, in the place before its tail."""
