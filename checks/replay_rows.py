@@ -4,7 +4,6 @@ new_image.py and the plain calls of plain_calls.py work out, with what `show` pr
 
 usage: checks/replay_rows.py            writes crates/rows/data/replayed_images.rows
        checks/replay_rows.py --check    are the stored ones these?
-       checks/replay_rows.py --image FILE CALL..    writes an image in whose journal the changes of these calls are, none of them at home
 """
 import os
 import sys
@@ -418,21 +417,7 @@ def failing():
     yield row.unread(final, mounting + 201, "{journal0.place200}", [row.all_of(0, at)])
 
 
-def image_with(calls):
-    """An image as a node leaves it that took these calls, flushed its journal and stopped."""
-    row = Row("")
-    row.journals[0].write(1, 2, 1, **changed(row.data(), after(row.data(), *calls)))
-    for place, block in row.journals[0].blocks.items():
-        if block:
-            row.base.put(row.base.start(row.block(f"journal0.place{place}")), block.ljust(SIZE, b"\0"))
-    return row.data()
-
-
 def main():
-    if sys.argv[1:2] == ["--image"]:
-        with open(sys.argv[2], "wb") as it:
-            it.write(image_with(sys.argv[3:]))
-        return
     text = HEAD + "".join("\n" + it for part in (whole(), runs(), content(), broken(), failing()) for it in part)
     if sys.argv[1:] == ["--check"]:
         with open(ROWS, encoding="utf-8") as it:
