@@ -495,11 +495,13 @@ class Book:
         return told
 
     def judge(self, image):
-        """What fsck.gfs2 has against an image."""
+        """What fsck.gfs2 has against an image, once its journals are replayed."""
         if not fsck.FSCK:
             return []
         self.judged += 1
-        return ["fsck.gfs2: " + line for line in fsck.judged(image.data)]
+        copy = image.copy()
+        self.runner.carry(copy, ["replay"])
+        return ["fsck.gfs2: " + line for line in fsck.judged(copy.data)]
 
     def command(self, base, image, items):
         """In what a command differs."""
