@@ -1,11 +1,9 @@
-"""Takes the calls of scripts on an image, plainly and slowly: a model of its own of what one node alone answers and leaves.
+"""Takes the calls of scripts on an image, plainly and slowly: a model of its own of what one node alone answers, and of the blocks that each call changes.
 
-It is written from docs/CALLS.md and docs/FORMAT.md, without any of the project's code, and serves checks/fsck.py, which compares
-the program with it, and whoever works out what a row is to want: `plain_calls.py IMAGE [TIME] <SCRIPT` carries a script out
-on a file and prints the trace, the output and the image's CRC-32.
+It is written from docs/CALLS.md and docs/FORMAT.md, without any of the project's code. Here each call changes the image at once; plain_log.py puts a node's log
+over it, and works out what a run tells and leaves.
 """
 import re
-import sys
 from struct import pack, unpack_from
 from zlib import crc32
 
@@ -764,37 +762,3 @@ def written(call):
     if word == "write":
         others[2] = content_of(others[2]).hex()
     return " ".join([word, *others])
-
-
-def carried_out(disk, script):
-    """The status, the output and the trace of a script of one node."""
-    lines = script.splitlines()
-    clients = [it.split(" ")[1] for it in lines if it.startswith("client ")]
-    items, replies = ["join 1"], []
-    for line in lines:
-        client, _, call = line.partition(": ")
-        if not call:
-            continue
-        reply, full = disk.answer(call)
-        if full:
-            items.append("full 1 %d %d" % full)
-        replies.append((client, "%s: %s = %s" % (client, written(call), reply)))
-        items.append("call 1 %s %d %s = %s" % (client, len(replies), written(call), reply))
-    items.append("unmount 1")
-    out = [line for name in clients for client, line in replies if client == name]
-    out += ["calls %d lost 0 commits 0 crashes 0 dirty 0" % len(replies), "done"]
-    return 0, "".join(it + "\n" for it in out), "".join(it + "\n" for it in items)
-
-
-def main(name, time="0"):
-    with open(name, "r+b") as file:
-        disk = Disk(file.read(), int(time))
-        status, out, trace = carried_out(disk, sys.stdin.read())
-        file.seek(0)
-        file.write(disk.data)
-    print(trace, out, "crc %08x" % crc32(disk.data), sep="--\n")
-    return status
-
-
-if __name__ == "__main__":
-    sys.exit(main(*sys.argv[1:]))

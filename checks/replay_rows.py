@@ -11,8 +11,8 @@ from zlib import crc32
 
 sys.dont_write_bytecode = True
 import new_image
-from journal_rows import Journal, descriptor, header, plain, u64
-from plain_calls import Disk, carried_out, spelled
+from journal_rows import Journal, header, plain
+from plain_calls import Disk, spelled
 from plain_log import Run, tree_of
 from rows import Image
 
@@ -39,12 +39,11 @@ def made(image):
 
 
 def after(data, *calls):
-    """The image after these calls, and the blocks that they changed."""
+    """The image after these calls, as it is where each changes it at once."""
     disk = Disk(bytearray(data), 0)
-    script = "".join(f"{it}\n" for it in ["nodes 1", "client c on 1", *(f"c: {call}" for call in calls)])
-    status, out, _ = carried_out(disk, script)
-    if status or any(not line.endswith("= ok") for line in out.splitlines() if line.startswith("c: ")):
-        raise ValueError(out)
+    for call in calls:
+        if disk.answer(call)[0] != "ok":
+            raise ValueError(call)
     return bytes(disk.data)
 
 
