@@ -1,5 +1,5 @@
 mod Chains
 mod Landing
 mod Steps
-mod Profiles
-mod Ending
+
+
