@@ -1,0 +1,4 @@
+mod Chains
+mod Landing
+mod Steps
+mod Profiles
