@@ -64,17 +64,17 @@ module _ (resting : ReplayedIsAtRest) (begin : RunsBeginSo) (keep : StepsKeep) (
     a = start_point replayed (view_of before.disk.size m) is.own is.plan time frames begun
 
     module _ (goes : GoesTo s time a count p q) where
-      rest : RestsAsMounted replayed m is.own plans before.disk.size frames time start is.from.mounted.layout
+      abbrev rest : RestsAsMounted replayed m is.own plans before.disk.size frames time start is.from.mounted.layout
       rest = rests resting s time frames before replayed m plans start is.own is.plan begun is.from is.is_own have sound is.few count p q
 
-      run : IsRun s.clients before m plans time start rest.owners rest.layout is.own.dinode a p q
-      run = is_run resting s time frames before replayed m plans start is.own is.plan begun is.from is.is_own have sound is.few count p q goes s.clients
+      its_run : IsRun s.clients before m plans time start rest.owners rest.layout is.own.dinode a p q
+      its_run = is_run resting s time frames before replayed m plans start is.own is.plan begun is.from is.is_own have sound is.few count p q goes s.clients
 
       abbrev v : Volume
       v = volume_of (image_of a.disk) rest.layout
 
       begins : BeginsAt v (begun_on (image_of a.disk) rest.owners rest.layout start) is.own.dinode s.clients a
-      begins = run_begins begin s.clients before m plans time start rest.owners rest.layout is.own.dinode a p q run
+      begins = run_begins begin s.clients before m plans time start rest.owners rest.layout is.own.dinode a p q its_run
 
       laid : IsLaid (image_of a.disk) rest.owners rest.layout
       laid = rest.rest.stands.laid
