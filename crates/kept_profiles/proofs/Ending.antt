@@ -9,7 +9,7 @@ use Rattle.image_model.specs.Claims.{every}
 use Rattle.image_model.specs.Image.{Image, image_of}
 use Rattle.image_model.specs.Owners.{Owners}
 use Rattle.image_model.specs.Profile.{IsInProfile}
-use Rattle.image_model.specs.Stands.{IsJournalAt, IsLaid}
+use Rattle.image_model.specs.Stands.{IsJournalAt, IsLaid, Layout}
 use Rattle.image_mount.specs.Mounted.{IsOfProfile}
 use Rattle.image_outcomes.specs.Outcomes.{IsLiveIn}
 use Rattle.journal_outcomes.specs.Disks.{flown_by}
@@ -44,6 +44,10 @@ none_some e = cc
 
 some_same : {A : Type 0} {x y : A} → Some x ≡ Some y → x ≡ y
 some_same e = cc
+
+-- of the profile, with this layout
+abbrev pub IsOfProfileBy : Layout → Image → Type 0
+IsOfProfileBy l im = (of : IsOfProfile im) × (of.layout ≡ l)
 
 next_inside : (n p : ℕ) → p < n → next n p < n
 next_inside n p inside = elim (cases_Bool (nat_lt (p + 1) n)) [
@@ -85,8 +89,8 @@ module _ (keep : StepsKeep) (told : HeadsAreTold) (system : StepsKeepTheSystem) 
       | inr other ↦ was.sequence j k head at (sym (head_still j k at other) ∙ is)
     ]
 
-    ended_of_profile : IsOfProfile left
-    ended_of_profile = record { owners = ended.owners; layout = v.layout; laid = ended.stands.laid; profile = profile_kept im o v.layout laid left ended.owners ended.stands.laid d keeps was heads_low }
+    ended_of_profile : IsOfProfileBy v.layout left
+    ended_of_profile = (record { owners = ended.owners; layout = v.layout; laid = ended.stands.laid; profile = profile_kept im o v.layout laid left ended.owners ended.stands.laid d keeps was heads_low }, refl)
 
   -- ---- nothing was ever written to its journal
 
@@ -97,7 +101,7 @@ module _ (keep : StepsKeep) (told : HeadsAreTold) (system : StepsKeepTheSystem) 
   sequence_of [] clean last = ap (λ (h : HeadTold). h.sequence) last
   sequence_of (h ∷ hs) clean last = absurd (let no : false ≡ true = clean in cc)
 
-  pub clean_of_profile : (head : LogHeader) → head_in (ring_at im d) ≡ Some head → head.sequence ≡ a.log.sequence → IsDone st → p.log.clean ≡ true → IsOfProfile (image_of p.disk)
+  pub clean_of_profile : (head : LogHeader) → head_in (ring_at im d) ≡ Some head → head.sequence ≡ a.log.sequence → IsDone st → p.log.clean ≡ true → IsOfProfileBy v.layout (image_of p.disk)
   clean_of_profile head headed number done clean =
       let heads = told time a p not_headed steps in
       let same = sequence_of heads.landed (sym heads.clean ∙ clean) heads.last in
@@ -161,5 +165,5 @@ module _ (keep : StepsKeep) (told : HeadsAreTold) (system : StepsKeepTheSystem) 
         left_keeps remain v s logged.world d st logged.is (λ b x e. flies_inside p.disk.count (p.disk.in_flight 1) b x (logged.sound.flights 1).within e) left refl refl blocks whole
         (λ j k at. (ended.places j k at).as_many) (λ j k q at low. (ended.places j k at).there q low) (λ j k at. (nothing_live (ring_at left k) (ended.clean j k at)).readable) others
 
-    pub landed_of_profile : after p.log.sequence < 2 ^ 63 → IsOfProfile left
+    pub landed_of_profile : after p.log.sequence < 2 ^ 63 → IsOfProfileBy v.layout left
     landed_of_profile low = ended_of_profile left (keeps_on v.layout d im (image_of p.disk) left kept keeps_last) (first_place p.log) (after p.log.sequence) ended low
