@@ -34,6 +34,7 @@ use Rattle.lone_runs.specs.LoggedScriptsRuns.{HasRun, IsBehind}
 use Rattle.lone_runs.specs.Points.{Point}
 use Rattle.lone_runs.specs.Beginning.{IsGiven, IsOwn, start_point}
 use Rattle.lone_runs.specs.Ends.{HasCause}
+use Rattle.kept_profiles.specs.Laws.{RunsKeepTheProfile}
 use Rattle.lone_runs.specs.Laws.{GainsAsTold, IsLineOfScript, IsOfImageThatStands, IsRunOf, NothingIsWritten, RunsAreLegal, RunsAreTold, RunsEnd, RunsMeetNoDamage, RunsRest, RunsStand, WritesNothing}
 use Rattle.lone_runs.specs.Runs as stages
 use Rattle.lone_runs.specs.Runs.{GoesSo, IsSameDisk}
@@ -66,6 +67,7 @@ use Rattle.cluster_program.specs.Mounting.{BeginEnds, IsImageOf, IsMisplaced, Is
 use Rattle.cluster_program.specs.Runs.{AreCleanOn, ArePlansOf, ChangesNothing, EndsEarly, HasCome, HasGone, HasWhatIsKept, HoldsTree, IfDamaged, IsDone, IsMountedAgain, IsToldBroken, LacksRoom, LeavesReplayed, MeetsDamage, NotBegun, NotCounted, RunEnds, Runs, beyond, first_line, itself, now_of}
 use Rattle.cluster_program.specs.World.{Inputs, KeepsDisk}
 use Rattle.cluster_program.proofs.Dirty.{none_by_items, none_left}
+use Rattle.cluster_program.proofs.Kept.{mountable_kept}
 use Rattle.cluster_program.proofs.Left.{clean_replayed, dinode_at, mountable_still}
 use Rattle.cluster_program.proofs.ReplayItems.{lines_told}
 
@@ -76,6 +78,7 @@ pub record RunLaws : Type 0 where
   pub told : RunsAreTold
   pub legal : RunsAreLegal
   pub end : RunsEnd
+  pub profile : RunsKeepTheProfile
   pub rest : RunsRest
   pub damage : RunsMeetNoDamage
   pub written : NothingIsWritten
@@ -256,6 +259,10 @@ module _ (laws : RunLaws) (given left : Inputs) (before : ℕ → ℕ) (s : Scri
     come so = record {
       ended = λ tree is mounted. laws.end s time (frames_of None) (now_of given) m plans tree (now_of left) items (run_of (Ok tt) ran begun tree is mounted) none;
       idle = laws.rest s time (frames_of None) (now_of given) (view_of given.disk.size m) m.journals plans own_is.0 own_is.1 (now_of left) items idle (ran.goes own_is.0 own_is.1 own_is.2) none;
+      still = λ may low sequences.
+          let it = run_of (Ok tt) ran begun may.tree may.is (on may.is.tells) in
+          mountable_kept s (now_of given) m may.tree (now_of left) items it.from.mounted.layout (subst IsTrue (sym ran.disk.tells) may.is.tells) (laws.end s time (frames_of None) (now_of given) m plans may.tree (now_of left) items it none)
+          (laws.profile s time (frames_of None) (now_of given) m plans may.tree (now_of left) items may.profile.layout may.profile.replayed it none may.profile.is may.profile.profile (low m (on may.is.tells)) sequences);
       unchanged = λ unchanged. record {
         plans = plans;
         planned = planned;

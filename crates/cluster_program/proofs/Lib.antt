@@ -1,6 +1,7 @@
 pub mod Mounts
 pub mod Heads
 pub mod Left
+mod Kept
 pub mod Placed
 pub mod Small
 pub mod Alone

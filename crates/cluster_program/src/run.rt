@@ -26,6 +26,7 @@ use image_recovery::{
     a_replay_leaves_its_image, what_a_replay_leaves_is_of_the_profile, what_a_replay_leaves_mounts,
     what_a_replay_leaves_stands,
 };
+use kept_profiles::runs_keep_the_profile;
 use lone_runs::{
     mounted_journals_serve, nothing_is_written, run_alone, runs_are_legal, runs_are_told, runs_end,
     runs_meet_no_damage, runs_rest, runs_see_their_damage, runs_stand, runs_tell_their_replays,
@@ -91,6 +92,7 @@ pub(crate) fn mount_and_run<D: SharedDisk>(
     runs_are_told();
     runs_are_legal();
     runs_end();
+    runs_keep_the_profile();
     runs_rest();
     runs_meet_no_damage();
     nothing_is_written();

@@ -41,6 +41,7 @@ module _ (g : Over) (c : goal.After-drop-journals g) where
     told = c.runs_are_told.ensures;
     legal = c.runs_are_legal.ensures;
     end = c.runs_end.ensures;
+    profile = c.runs_keep_the_profile.ensures;
     rest = c.runs_rest.ensures;
     damage = c.runs_meet_no_damage.ensures;
     written = c.nothing_is_written.ensures;
@@ -184,6 +185,7 @@ module _ (g : Over) (c : goal.After-drop-journals-2 g) where
     told = c.runs_are_told.ensures;
     legal = c.runs_are_legal.ensures;
     end = c.runs_end.ensures;
+    profile = c.runs_keep_the_profile.ensures;
     rest = c.runs_rest.ensures;
     damage = c.runs_meet_no_damage.ensures;
     written = c.nothing_is_written.ensures;
