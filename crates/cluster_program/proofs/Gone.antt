@@ -4,7 +4,7 @@ use Rattle.std.specs.Prelude.{◌≢◌, Contains, IfErr, IfSome, IsTrue, OnOk, 
 use Rattle.std.proofs.lemmas.Option.{slice_get_within}
 use Rattle.std.specs.List.{AllByRecursion}
 use Rattle.command_words.specs.Commands.{frames_of}
-use Rattle.cluster_history.specs.History.{Legal, tree_of}
+use Rattle.cluster_history.specs.History.{Legal}
 use Rattle.damage_laws.specs.Telling.{CallsTellExactly, HasRootInside, HasWholeGroups, IsOfMounted, IsPathOf, IsReadFrom, IsTold, IsToldOn, MountedAreRead, NeedsTell}
 use Rattle.disk_items.specs.Deeds.{AreTold}
 use Rattle.disk_turns.specs.Turns.{Moment, moment}
@@ -67,7 +67,7 @@ use Rattle.cluster_program.specs.Mounting.{BeginEnds, IsImageOf, IsMisplaced, Is
 use Rattle.cluster_program.specs.Runs.{AreCleanOn, ArePlansOf, ChangesNothing, EndsEarly, HasCome, HasGone, HasWhatIsKept, HoldsTree, IfDamaged, IsDone, IsMountedAgain, IsToldBroken, LacksRoom, LeavesReplayed, MeetsDamage, NotBegun, NotCounted, RunEnds, Runs, beyond, first_line, itself, now_of}
 use Rattle.cluster_program.specs.World.{Inputs, KeepsDisk}
 use Rattle.cluster_program.proofs.Counts.{none_by_items, none_left}
-use Rattle.cluster_program.proofs.Again.{mountable_again}
+use Rattle.cluster_program.proofs.Kept.{mountable_kept}
 use Rattle.cluster_program.proofs.Left.{clean_replayed, dinode_at, mountable_still}
 use Rattle.cluster_program.proofs.ReplayItems.{lines_told}
 
@@ -259,11 +259,10 @@ module _ (laws : RunLaws) (given left : Inputs) (before : ℕ → ℕ) (s : Scri
     come so = record {
       ended = λ tree is mounted. laws.end s time (frames_of None) (now_of given) m plans tree (now_of left) items (run_of (Ok tt) ran begun tree is mounted) none;
       idle = laws.rest s time (frames_of None) (now_of given) (view_of given.disk.size m) m.journals plans own_is.0 own_is.1 (now_of left) items idle (ran.goes own_is.0 own_is.1 own_is.2) none;
-      still = λ may low headers.
-          let its = run_of (Ok tt) ran begun may.tree may.is (on may.is.tells) in
-          let ended = laws.end s time (frames_of None) (now_of given) m plans may.tree (now_of left) items its none in
-          mountable_again left.disk (subst IsTrue (sym ran.disk.tells) may.is.tells) (tree_of (history_of s.clients items) may.tree) ended.replayed
-          (laws.profile s time (frames_of None) (now_of given) m plans may.tree (now_of left) items may.profile.layout may.profile.replayed its none may.profile.is may.profile.profile (low m (on may.is.tells)) headers);
+      still = λ may low sequences.
+          let it = run_of (Ok tt) ran begun may.tree may.is (on may.is.tells) in
+          mountable_kept s (now_of given) m may.tree (now_of left) items it.from.mounted.layout (subst IsTrue (sym ran.disk.tells) may.is.tells) (laws.end s time (frames_of None) (now_of given) m plans may.tree (now_of left) items it none)
+          (laws.profile s time (frames_of None) (now_of given) m plans may.tree (now_of left) items may.profile.layout may.profile.replayed it none may.profile.is may.profile.profile (low m (on may.is.tells)) sequences);
       unchanged = λ unchanged. record {
         plans = plans;
         planned = planned;

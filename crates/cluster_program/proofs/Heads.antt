@@ -75,3 +75,14 @@ module _ (im : Image) (o : Owners) (l : Layout) (laid : IsLaid im o l) (m : Moun
         | inl found ↦ (it.0, found.0, found.1, mounted.journals it.0 d found.0 it.1 found.1)
         | inr past ↦ let low = below_end mounted.layout.journals it.0 d it.1 in absurd (omega (arith, low, past, mounted.count))
       ]
+
+-- where the journals of an image's layout are clean, each journal that is mounted of it is
+module _ (im : Image) (o : Owners) (l : Layout) (laid : IsLaid im o l) where
+  pub clean_again : ((j a : ℕ) → IsJournalAt l j a → IsClean (ring_of (every im a))) → AreClean im
+  clean_again clean m mounted j journal there = elim (is_there mounted.layout.journals j) [
+    | inl it ↦
+        let is = mounted.journals j it.0 journal it.1 there in
+        let (head, head_is, is_clean) = clean j it.0 (of_layout im o l laid m mounted j it.0 it.1) in
+        ap is_clean_head (sym is.head ∙ head_is) ∙ is_clean
+    | inr past ↦ let low = below_end m.journals j journal there in absurd (omega (arith, low, past, mounted.count))
+  ]

@@ -1,7 +1,7 @@
 pub mod Mounts
 pub mod Heads
 pub mod Left
-pub mod Again
+mod Kept
 pub mod Placed
 pub mod Small
 pub mod Alone

@@ -17,8 +17,8 @@ use Rattle.image_mount.specs.Mounted.{Journal, MountedValue, IsMounted}
 use Rattle.image_recovery.specs.Left.{HaveLowHeads, IsLeft}
 use Rattle.image_recovery.specs.Recoveries.{HaveReplayed}
 use Rattle.image_replays.specs.Replays.{ArePlans, HavePlaces, IsWritable}
-use Rattle.log_layout.specs.declared.log_header.LogHeader.{LogHeader}
 use Rattle.kept_profiles.specs.Laws.{HaveLowSequences}
+use Rattle.log_layout.specs.declared.log_header.LogHeader.{LogHeader}
 use Rattle.lone_runs.specs.Faults.{IsDamagedFor}
 use Rattle.lone_runs.specs.Beginning.{IsOwn}
 use Rattle.lone_runs.specs.Ends.{HasCause}
@@ -167,8 +167,8 @@ pub record HasReplayed (given left : Inputs) (m : MountedValue) (time : ℕ) (it
   pub clean : IsTrue given.disk.tells → AreCleanOn left.disk m
   pub still : IsMountable given.disk → HasLowHeads (image_of given.disk) → IsMountableClean left.disk
 
--- Where all was done and no node stopped: the image stands, as it lies and with its journals replayed, for the tree of all that was answered, and each journal is clean. On every disk, that is at rest then. An image that could
--- be mounted can be mounted again, its journals clean, if no head that wasn't clean had the last sequence of the profile, and each header that the items tell has one of the profile.
+-- Where all was done and no node stopped: the image stands, as it lies and with its journals replayed, for the tree of all that was answered, and each journal is clean. On every disk, that is at rest then. An image that could be
+-- mounted can be mounted again, its journals clean, if no head that wasn't clean had the last sequence of the profile, and each header that the items tell has one of the profile.
 pub record HasCome (given left : Inputs) (m : MountedValue) (s : ScriptValue) (time : ℕ) (items : List TraceItem) : Type 0 where
   pub ended : (tree : Tree) → IsImageOf given.disk tree → (is : IsMounted (image_of given.disk) m) → HasEnded s (now_of given) m tree (now_of left) items is.layout
   pub idle : IsIdle left.disk

@@ -2,3 +2,5 @@ mod Chains
 mod Landing
 mod Steps
 mod Profiles
+mod Ending
+mod Runs

@@ -4,16 +4,33 @@
 ghost use Rattle.kept_profiles.specs.Keeping.{StepsKeepTheSystem};
 ghost use Rattle.kept_profiles.specs.Laws.{RunsKeepTheProfile};
 
-use lone_runs::its_runs_end;
+use image_changes::an_image_has_one_layout;
+use image_recovery::{a_replay_leaves_its_image, what_a_replay_leaves_is_of_the_profile};
+use logged_scripts::{a_run_begins, heads_are_told, replays_leave_a_disk_at_rest, steps_keep};
+use logged_steps::{it_has_ended, what_remains_of_it};
+use lone_logs::outcomes_are_the_machines;
 
 /// A law: no step of a node changes a block of the system files on its disk, but for places of its own journal.
 pub fn steps_keep_the_system()
     ensures { StepsKeepTheSystem }
-{}
+{
+    steps_keep();
+    what_remains_of_it();
+    outcomes_are_the_machines();
+}
 
 /// A law: the image that a run left which came to its end without a stop is of the profile, where the image that was mounted is once its journals are replayed.
 pub fn runs_keep_the_profile()
     ensures { RunsKeepTheProfile }
 {
+    replays_leave_a_disk_at_rest();
+    a_run_begins();
+    steps_keep();
+    heads_are_told();
     steps_keep_the_system();
+    what_remains_of_it();
+    it_has_ended();
+    a_replay_leaves_its_image();
+    what_a_replay_leaves_is_of_the_profile();
+    an_image_has_one_layout();
 }
