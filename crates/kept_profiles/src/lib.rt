@@ -6,9 +6,9 @@ ghost use Rattle.kept_profiles.specs.Laws.{RunsKeepTheProfile};
 
 use image_changes::an_image_has_one_layout;
 use image_recovery::{a_replay_leaves_its_image, what_a_replay_leaves_is_of_the_profile};
-use logged_scripts::{a_run_begins, heads_are_told, replays_leave_a_disk_at_rest, steps_keep};
-use logged_steps::{it_has_ended, what_remains_of_it};
+use logged_steps::{heads_are_told, it_has_ended, steps_keep, what_remains_of_it};
 use lone_logs::outcomes_are_the_machines;
+use whole_runs::{a_run_begins, replays_leave_a_disk_at_rest};
 
 /// A law: no step of a node changes a block of the system files on its disk, but for places of its own journal.
 pub fn steps_keep_the_system()
