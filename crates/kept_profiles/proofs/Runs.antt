@@ -44,7 +44,7 @@ use Rattle.shared_disk.specs.Disk.{DiskState, IsSound, Operation}
 use Rattle.trace_text.specs.declared.item.TraceItem.{TraceItem}
 use Rattle.trace_text.specs.declared.item.TraceItem.TheVariants as trace
 use Rattle.kept_profiles.specs.Keeping.{StepsKeepTheSystem}
-use Rattle.kept_profiles.specs.Laws.{HaveLowSequences, IsLeftOfProfile, RunsKeepTheProfile}
+use Rattle.kept_profiles.specs.Profiles.{HaveLowSequences, IsLeftOfProfile, RunsKeepTheProfile}
 use Rattle.kept_profiles.proofs.Ending.{IsOfProfileBy, clean_of_profile, landed_of_profile}
 
 err_ok : (e : RunEnd) → ◌≡◌ {A = Result (Unit {0}) RunEnd} (Err e) (Ok tt) → ⊥
