@@ -22,11 +22,11 @@ use Rattle.cluster_program.specs.Mounting.{BeginEnds, IsMisplaced, IsMountable, 
 use Rattle.cluster_program.specs.Runs as runs
 use Rattle.cluster_program.specs.Runs.{RunEnds, EndsEarly, IsDone, NotBegun, NotCounted, first_line}
 use Rattle.cluster_program.specs.EndStatuses.{status_of_run}
-use Rattle.lone_runs.specs.Ends.{HasCause}
-use Rattle.lone_runs.specs.Laws.{IsOfImageThatStands}
-use Rattle.lone_runs.specs.declared.ends.RunEnd.{RunEnd}
-use Rattle.lone_runs.specs.declared.ends.RunEnd.TheVariants as end
-use Rattle.lone_runs.specs.logged_scripts_ends.RunEnd.TheVariants as script_end
+use Rattle.kept_profiles.specs.Ends.{HasCause}
+use Rattle.kept_profiles.specs.Laws.{IsOfImageThatStands}
+use Rattle.kept_profiles.specs.lone_runs_ends.RunEnd.{RunEnd}
+use Rattle.kept_profiles.specs.lone_runs_ends.RunEnd.TheVariants as end
+use Rattle.kept_profiles.specs.logged_scripts_ends.RunEnd.TheVariants as script_end
 use Rattle.run_reports.specs.Report.{Becomes, Stays, WithoutMemory, Fails, Reports}
 use Rattle.cluster_program.specs.Command.{NoneRose, IsRunnable, IsReplayable, IsShowable, IsMakeable, IsWhole, IsComplete}
 use Rattle.mkgfs2_tool.specs.Order.{fits}

@@ -11,15 +11,15 @@ use Rattle.image_mount.specs.Mounted.{IsMounted, Journal, MountedValue}
 use Rattle.journal_reads.specs.Reading.{HasCause}
 use Rattle.journal_reads.specs.declared.faults.ReadFault.{ReadFault}
 use Rattle.journal_reads.specs.declared.faults.ReadFault.TheVariants as read
-use Rattle.lone_runs.specs.Starts.{IsOfReplay}
-use Rattle.lone_runs.specs.Telling.{EndsClean, IsNoCommit, TellsItsReplays, clean_header, no_commit}
+use Rattle.kept_profiles.specs.Starts.{IsOfReplay}
+use Rattle.kept_profiles.specs.Telling.{EndsClean, IsNoCommit, TellsItsReplays, clean_header, no_commit}
 use Rattle.peer_replay.specs.declared.planned.Plan.{Plan}
 use Rattle.run_rules.specs.History.{NoneStopped}
 use Rattle.script_lang.specs.Script.{ScriptValue}
 use Rattle.shared_disk.specs.Disk.{DiskState}
 use Rattle.trace_text.specs.declared.item.TraceItem.{TraceItem}
 use Rattle.trace_text.specs.declared.item.TraceItem.TheVariants as trace
-use Rattle.lone_runs.proofs.Items.{of_replays}
+use Rattle.kept_profiles.proofs.Items.{of_replays}
 use Rattle.run_reports.specs.Dirty.{dirty_by, is_left_dirty}
 use Rattle.run_reports.specs.Out.{is_stop}
 use Rattle.cluster_program.specs.Dirty.{IsCountLeft, IsUnreadHead, UnreadBlock, UnreadForMemory, dirty_in}

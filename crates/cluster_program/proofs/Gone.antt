@@ -24,25 +24,25 @@ use Rattle.glock_names.specs.Views.{HasBlock}
 use Rattle.glock_names.specs.declared.views.Group.{Group}
 use Rattle.image_model.specs.Flat.{Path}
 use Rattle.resource_groups.specs.Shown.{IsDataOf}
-use Rattle.lone_runs.specs.Faults.{IsDamagedFor, as_shown, leads_out, source_of}
+use Rattle.kept_profiles.specs.Faults.{IsDamagedFor, as_shown, leads_out, source_of}
 use Rattle.lone_fences.specs.Fencing.{EndsAt}
 use Rattle.lone_fences.specs.declared.ends.FenceEnd.{FenceEnd}
 use Rattle.lone_fences.specs.declared.ends.FenceEnd.TheVariants as fence_end
-use Rattle.lone_runs.specs.LoggedScriptsRuns as what
-use Rattle.lone_runs.specs.LoggedScriptsEnds.{IsEndAt, end_of}
-use Rattle.lone_runs.specs.LoggedScriptsRuns.{HasRun, IsBehind}
-use Rattle.lone_runs.specs.Points.{Point}
-use Rattle.lone_runs.specs.Beginning.{IsGiven, IsOwn, start_point}
-use Rattle.lone_runs.specs.Ends.{HasCause}
-use Rattle.kept_profiles.specs.Laws.{RunsKeepTheProfile}
-use Rattle.lone_runs.specs.Laws.{GainsAsTold, IsLineOfScript, IsOfImageThatStands, IsRunOf, NothingIsWritten, RunsAreLegal, RunsAreTold, RunsEnd, RunsMeetNoDamage, RunsRest, RunsStand, WritesNothing}
-use Rattle.lone_runs.specs.Runs as stages
-use Rattle.lone_runs.specs.Runs.{GoesSo, IsSameDisk}
-use Rattle.lone_runs.specs.Telling.{MountedJournalsServe, RunsSeeTheirDamage, RunsTellTheirReplays, SeesDamage, TellsItsReplays}
-use Rattle.lone_runs.specs.declared.ends.RunEnd.{RunEnd}
-use Rattle.lone_runs.specs.declared.ends.RunEnd.TheVariants as end
-use Rattle.lone_runs.specs.logged_scripts_ends.RunEnd.{RunEnd as ScriptEnd}
-use Rattle.lone_runs.specs.logged_scripts_ends.RunEnd.TheVariants as script_end
+use Rattle.kept_profiles.specs.LoggedScriptsRuns as what
+use Rattle.kept_profiles.specs.LoggedScriptsEnds.{IsEndAt, end_of}
+use Rattle.kept_profiles.specs.LoggedScriptsRuns.{HasRun, IsBehind}
+use Rattle.kept_profiles.specs.Points.{Point}
+use Rattle.kept_profiles.specs.Beginning.{IsGiven, IsOwn, start_point}
+use Rattle.kept_profiles.specs.Ends.{HasCause}
+use Rattle.kept_profiles.specs.Profiles.{RunsKeepTheProfile}
+use Rattle.kept_profiles.specs.Laws.{GainsAsTold, IsLineOfScript, IsOfImageThatStands, IsRunOf, NothingIsWritten, RunsAreLegal, RunsAreTold, RunsEnd, RunsMeetNoDamage, RunsRest, RunsStand, WritesNothing}
+use Rattle.kept_profiles.specs.Runs as stages
+use Rattle.kept_profiles.specs.Runs.{GoesSo, IsSameDisk}
+use Rattle.kept_profiles.specs.Telling.{MountedJournalsServe, RunsSeeTheirDamage, RunsTellTheirReplays, SeesDamage, TellsItsReplays}
+use Rattle.kept_profiles.specs.lone_runs_ends.RunEnd.{RunEnd}
+use Rattle.kept_profiles.specs.lone_runs_ends.RunEnd.TheVariants as end
+use Rattle.kept_profiles.specs.logged_scripts_ends.RunEnd.{RunEnd as ScriptEnd}
+use Rattle.kept_profiles.specs.logged_scripts_ends.RunEnd.TheVariants as script_end
 use Rattle.lone_scripts.specs.Laws.{AllAnsweredOrDown, LoneRunsAreNumbered, LoneRunsFollow, WholeLoneRunsAnswer}
 use Rattle.lone_scripts.specs.Runs.{IsLoneRun, IsWholeLoneRun, not_begun as not_begun_yet}
 use Rattle.lone_scripts.specs.Scripts.{IsForOne}
@@ -56,7 +56,7 @@ use Rattle.script_lang.specs.Script.{ScriptValue}
 use Rattle.shared_disk.specs.Disk.{DiskState, IsIdle, Operation}
 use Rattle.trace_text.specs.declared.item.TraceItem.{TraceItem}
 use Rattle.trace_text.specs.declared.item.TraceItem.TheVariants as trace
-use Rattle.lone_runs.specs.WholeRunsStarts.{IsStart, joined}
+use Rattle.kept_profiles.specs.WholeRunsStarts.{IsStart, joined}
 use Rattle.run_reports.specs.declared.status.Status.{Status}
 use Rattle.run_reports.specs.declared.status.Status.TheVariants as status
 use Rattle.cluster_program.specs.Beginning.{IsPrepared}

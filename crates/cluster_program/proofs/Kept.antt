@@ -9,9 +9,9 @@ use Rattle.image_model.specs.Image.{image_of}
 use Rattle.image_model.specs.Stands.{IsJournalAt, Layout}
 use Rattle.image_model.proofs.Replaying.{clean_stay, journals_of_standing}
 use Rattle.image_mount.specs.Mounted.{MountedValue}
-use Rattle.kept_profiles.specs.Laws.{IsLeftOfProfile}
+use Rattle.kept_profiles.specs.Profiles.{IsLeftOfProfile}
 use Rattle.log_layout.specs.Journal.{IsClean, ring_of}
-use Rattle.lone_runs.specs.Laws.{HasEnded}
+use Rattle.kept_profiles.specs.Laws.{HasEnded}
 use Rattle.run_rules.specs.Follows.{history_of}
 use Rattle.script_lang.specs.Script.{ScriptValue}
 use Rattle.trace_text.specs.declared.item.TraceItem.{TraceItem}

@@ -12,8 +12,8 @@ use Rattle.journal_replays.specs.Items.{items_of}
 use Rattle.journal_replays.specs.Replays.{IsReplayWith}
 use Rattle.log_layout.specs.declared.log_header.LogHeader.{LogHeader}
 use Rattle.peer_replay.specs.declared.planned.Plan.{Plan}
-use Rattle.lone_runs.specs.Telling.{IsNoRecovery, TellsItsReplays}
-use Rattle.lone_runs.specs.WholeRunsStarts.{joined}
+use Rattle.kept_profiles.specs.Telling.{IsNoRecovery, TellsItsReplays}
+use Rattle.kept_profiles.specs.WholeRunsStarts.{joined}
 use Rattle.run_reports.specs.Out.{replayed_line, replayed_lines, replayed_lines_behind}
 use Rattle.cluster_program.specs.Runs.{line_of_plan, lines_of_plans}
 

@@ -6,13 +6,13 @@ use Rattle.file_tree.specs.PathFaults.{IsBytes}
 use Rattle.file_tree.specs.declared.call.Call.{Call}
 use Rattle.file_tree.specs.declared.call.Call.TheVariants as calls
 use Rattle.call_locks.specs.WantLaws.{path_of}
-use Rattle.lone_runs.specs.Laws.{IsLineOfScript}
+use Rattle.kept_profiles.specs.Laws.{IsLineOfScript}
 use Rattle.script_lang.specs.Script.{ScriptValue}
 use Rattle.script_lang.specs.WellFormed.{IsAllowedCall, IsLine, IsWellFormed}
 use Rattle.script_lang.specs.declared.script.Line.{Line}
 use Rattle.script_lang.specs.declared.script.Line.TheVariants as line
 use Rattle.script_laws.specs.Printing.{HasCall, IsBytePath, IsCall}
-use Rattle.lone_runs.specs.Sizes.{IsOfScript}
+use Rattle.kept_profiles.specs.Sizes.{IsOfScript}
 use Rattle.image_model.proofs.Listing.{all_by_index}
 
 last_bytes : (path : List (List ℕ)) → AllByRecursion IsBytes path → IsBytes (last_of path)

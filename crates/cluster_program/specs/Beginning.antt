@@ -2,7 +2,7 @@
 use Rattle.std.specs.Prelude.{ℕ, ◌≡◌, ◌≤◌, List, length}
 use Rattle.damage_laws.specs.Telling.{HasRootInside}
 use Rattle.image_mount.specs.Mounted.{Journal, MountedValue}
-use Rattle.lone_runs.specs.Beginning.{IsGiven}
+use Rattle.kept_profiles.specs.Beginning.{IsGiven}
 use Rattle.lone_view.specs.Seeing.{Lone, seen_alone}
 use Rattle.mounted_views.specs.Views.{view_of}
 use Rattle.peer_replay.specs.declared.planned.Plan.{Plan}

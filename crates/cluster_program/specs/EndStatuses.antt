@@ -6,12 +6,12 @@ use Rattle.image_mount.specs.declared.fault.MountFault.{MountFault}
 use Rattle.image_mount.specs.declared.fault.MountFault.TheVariants as fault
 use Rattle.image_replays.specs.look_faults.LookFault.{LookFault}
 use Rattle.image_replays.specs.look_faults.LookFault.TheVariants as look
-use Rattle.lone_runs.specs.logged_scripts_ends.RunEnd.{RunEnd as ScriptEnd}
-use Rattle.lone_runs.specs.logged_scripts_ends.RunEnd.TheVariants as script_end
+use Rattle.kept_profiles.specs.logged_scripts_ends.RunEnd.{RunEnd as ScriptEnd}
+use Rattle.kept_profiles.specs.logged_scripts_ends.RunEnd.TheVariants as script_end
 use Rattle.journal_reads.specs.declared.faults.ReadFault.{ReadFault}
 use Rattle.journal_reads.specs.declared.faults.ReadFault.TheVariants as read
-use Rattle.lone_runs.specs.declared.ends.RunEnd.{RunEnd}
-use Rattle.lone_runs.specs.declared.ends.RunEnd.TheVariants as end
+use Rattle.kept_profiles.specs.lone_runs_ends.RunEnd.{RunEnd}
+use Rattle.kept_profiles.specs.lone_runs_ends.RunEnd.TheVariants as end
 use Rattle.disk_trees.specs.declared.faults.TreeFault.{TreeFault}
 use Rattle.disk_trees.specs.declared.faults.TreeFault.TheVariants as tree
 use Rattle.cluster_program.specs.declared.input.InputFault.{InputFault}

@@ -17,17 +17,17 @@ use Rattle.image_mount.specs.Mounted.{Journal, MountedValue, IsMounted}
 use Rattle.image_recovery.specs.Left.{HaveLowHeads, IsLeft}
 use Rattle.image_recovery.specs.Recoveries.{HaveReplayed}
 use Rattle.image_replays.specs.Replays.{ArePlans, HavePlaces, IsWritable}
-use Rattle.kept_profiles.specs.Laws.{HaveLowSequences}
+use Rattle.kept_profiles.specs.Profiles.{HaveLowSequences}
 use Rattle.log_layout.specs.declared.log_header.LogHeader.{LogHeader}
-use Rattle.lone_runs.specs.Faults.{IsDamagedFor}
-use Rattle.lone_runs.specs.Beginning.{IsOwn}
-use Rattle.lone_runs.specs.Ends.{HasCause}
-use Rattle.lone_runs.specs.Laws.{GainsAsTold, HasEnded, HasStood, HasTrueFence, IsOfImageThatStands}
-use Rattle.lone_runs.specs.Runs.{GoesSo, IsSameDisk}
-use Rattle.lone_runs.specs.declared.ends.RunEnd.{RunEnd}
-use Rattle.lone_runs.specs.declared.ends.RunEnd.TheVariants as end
-use Rattle.lone_runs.specs.logged_scripts_ends.RunEnd.TheVariants as script_end
-use Rattle.lone_runs.specs.LoggedScriptsRuns.{is_change}
+use Rattle.kept_profiles.specs.Faults.{IsDamagedFor}
+use Rattle.kept_profiles.specs.Beginning.{IsOwn}
+use Rattle.kept_profiles.specs.Ends.{HasCause}
+use Rattle.kept_profiles.specs.Laws.{GainsAsTold, HasEnded, HasStood, HasTrueFence, IsOfImageThatStands}
+use Rattle.kept_profiles.specs.Runs.{GoesSo, IsSameDisk}
+use Rattle.kept_profiles.specs.lone_runs_ends.RunEnd.{RunEnd}
+use Rattle.kept_profiles.specs.lone_runs_ends.RunEnd.TheVariants as end
+use Rattle.kept_profiles.specs.logged_scripts_ends.RunEnd.TheVariants as script_end
+use Rattle.kept_profiles.specs.LoggedScriptsRuns.{is_change}
 use Rattle.lone_scripts.specs.Laws.{AllAnsweredOrDown}
 use Rattle.lone_scripts.specs.Runs.{IsLoneRun, IsWholeLoneRun}
 use Rattle.lone_view.specs.Seeing.{Lone, seen_alone}
@@ -38,7 +38,7 @@ use Rattle.run_rules.specs.History.{AllPlaced, NoneStopped}
 use Rattle.script_lang.specs.Script.{ScriptValue}
 use Rattle.shared_disk.specs.Disk.{DiskState, IsIdle, Operation}
 use Rattle.trace_text.specs.declared.item.TraceItem.{TraceItem}
-use Rattle.lone_runs.specs.WholeRunsStarts.{joined}
+use Rattle.kept_profiles.specs.WholeRunsStarts.{joined}
 use Rattle.run_reports.specs.Out.{replayed_line, replayed_lines}
 use Rattle.run_reports.specs.declared.status.Status.{Status}
 use Rattle.run_reports.specs.declared.status.Status.TheVariants as status

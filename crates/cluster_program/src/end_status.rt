@@ -6,7 +6,7 @@ use disk_trees::TreeFault;
 use fault_counts::Rise;
 use image_mount::MountFault;
 use image_replays::LookFault;
-use lone_runs::{RunEnd, ScriptEnd};
+use kept_profiles::{RunEnd, ScriptEnd};
 use run_reports::{Status, Unbuilt};
 
 /// One whose mount failed.

@@ -1,6 +1,6 @@
 ghost use Rattle.std.specs.Prelude.{◌≡◌, ℕ, IfOk};
 ghost use Rattle.std.specs.List.{AllByRecursion};
-ghost use Rattle.lone_runs.specs.Laws.{IsLineOfScript};
+ghost use Rattle.kept_profiles.specs.Laws.{IsLineOfScript};
 ghost use Rattle.script_lang.specs.OneNode.{IsOneNode};
 ghost use Rattle.script_lang.specs.WellFormed.{IsWellFormed};
 ghost use Rattle.cluster_program.specs.Course.{replay_script as the_script};

@@ -1,6 +1,6 @@
 ghost use Rattle.std.specs.Prelude.{◌≡◌, ◌≤◌, ℕ, List, [], IfErr, IfOk, IsTrue, MatchResult, Option, false};
 ghost use Rattle.std.specs.List.{AllByRecursion};
-ghost use Rattle.lone_runs.specs.Laws.{IsLineOfScript};
+ghost use Rattle.kept_profiles.specs.Laws.{IsLineOfScript};
 ghost use Rattle.run_rules.specs.History.{NoneStopped};
 ghost use Rattle.shared_disk.specs.Disk.{IsIdle, ReadsOnly};
 ghost use Rattle.gfs2_layout.specs.Device.{IsBlockSize};
@@ -26,10 +26,10 @@ use image_recovery::{
     a_replay_leaves_its_image, what_a_replay_leaves_is_of_the_profile, what_a_replay_leaves_mounts,
     what_a_replay_leaves_stands,
 };
-use kept_profiles::runs_keep_the_profile;
-use lone_runs::{
+use kept_profiles::{
     mounted_journals_serve, nothing_is_written, run_alone, runs_are_legal, runs_are_told, runs_end,
-    runs_meet_no_damage, runs_rest, runs_see_their_damage, runs_stand, runs_tell_their_replays,
+    runs_keep_the_profile, runs_meet_no_damage, runs_rest, runs_see_their_damage, runs_stand,
+    runs_tell_their_replays,
 };
 use lone_scripts::{runs_of_one_node_follow, whole_runs_answer_all};
 use run_reports::{Status, runs_are_of_one_node};

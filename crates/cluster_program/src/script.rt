@@ -1,6 +1,6 @@
 ghost use Rattle.std.specs.Prelude.{◌≡◌, ◌≤◌, ℕ, List, IfOk, IfErr, None};
 ghost use Rattle.std.specs.List.{AllByRecursion};
-ghost use Rattle.lone_runs.specs.Laws.{IsLineOfScript};
+ghost use Rattle.kept_profiles.specs.Laws.{IsLineOfScript};
 ghost use Rattle.script_lang.specs.Grammar.{script_read, Script as TheScript};
 ghost use Rattle.script_lang.specs.OneNode.{IsOneNode};
 ghost use Rattle.script_lang.specs.WellFormed.{IsWellFormed};

@@ -21,15 +21,15 @@ use Rattle.log_layout.specs.Transactions.{after}
 use Rattle.log_layout.specs.declared.log_header.LogHeader.{LogHeader}
 use Rattle.log_layout.proofs.SamePlaces.{nothing_live, says_the_same}
 use Rattle.log_values.specs.Flushing.{block_at, first_place}
-use Rattle.logged_runs.specs.Starts.{BeginsAt}
-use Rattle.logged_scripts.specs.Points.{Point, state_of}
-use Rattle.logged_scripts.specs.States.{HasLandedAs, IsHeaded, NodeState, trees_on}
-use Rattle.logged_scripts.specs.StepEnds.{FliesClean, with_clean}
-use Rattle.logged_scripts.specs.StepLaws.{HeadsAreTold, IsLoggedAt, StepsKeep}
-use Rattle.logged_scripts.specs.Steps.{Steps}
+use Rattle.whole_runs.specs.LoggedRunsStarts.{BeginsAt}
+use Rattle.logged_steps.specs.Points.{Point, state_of}
+use Rattle.logged_steps.specs.States.{HasLandedAs, IsHeaded, NodeState, trees_on}
+use Rattle.logged_steps.specs.Ends.{FliesClean, with_clean}
+use Rattle.logged_steps.specs.Laws.{HeadsAreTold, IsLoggedAt, StepsKeep}
+use Rattle.logged_steps.specs.Steps.{Steps}
 use Rattle.logged_steps.specs.Heads.{HeadTold, clean_behind, head_of_log, last_head}
-use Rattle.lone_ends.specs.Ends.{CleanNodesHaveEnded, HasEnded, IsDone, ItsEndsLand}
-use Rattle.lone_logs.specs.Laws.{ItsOutcomesStand}
+use Rattle.logged_steps.specs.NodeEnds.{CleanNodesHaveEnded, HasEnded, IsDone, ItsEndsLand}
+use Rattle.logged_steps.specs.LoggedLaws.{ItsOutcomesStand}
 use Rattle.lone_machine.specs.Alone.{Begun}
 use Rattle.script_lang.specs.declared.script.Client.{Client}
 use Rattle.shared_disk.specs.Disk.{after_barrier}

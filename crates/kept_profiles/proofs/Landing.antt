@@ -22,10 +22,10 @@ use Rattle.log_layout.specs.Live.{IsReadable}
 use Rattle.log_layout.specs.declared.log_header.LogHeader.{LogHeader}
 use Rattle.log_layout.proofs.SamePlaces.{says_the_same}
 use Rattle.lone_logs.specs.Disks.{IsOutcomeOf}
-use Rattle.lone_logs.specs.Laws.{IsHeadLeft, ItsOutcomesStand, Remains, new, old}
+use Rattle.logged_steps.specs.LoggedLaws.{IsHeadLeft, ItsOutcomesStand, Remains, new, old}
 use Rattle.lone_logs.specs.Lone.{remaining}
 use Rattle.lone_logs.specs.Outcomes.{OutcomesAreTheMachines}
-use Rattle.lone_logs.specs.States.{HasLandedAs, IsLoggedNode, NodeState, trees_on}
+use Rattle.logged_steps.specs.States.{HasLandedAs, IsLoggedNode, NodeState, trees_on}
 use Rattle.lone_logs.proofs.Landed.{of}
 use Rattle.lone_machine.specs.Alone.{Begun}
 use Rattle.kept_profiles.specs.Keeping.{KeepsSystem}

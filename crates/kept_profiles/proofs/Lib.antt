@@ -4,3 +4,5 @@ mod Steps
 mod Profiles
 mod Ending
 mod Runs
+-- Passed on to the crates above.
+pub use Rattle.lone_runs.proofs.Items

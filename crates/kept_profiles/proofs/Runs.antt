@@ -14,20 +14,20 @@ use Rattle.image_recovery.specs.Left.{HaveLowHeads, LeftIsOfProfile, ReplayLeave
 use Rattle.image_recovery.specs.Recoveries.{HaveReplayed}
 use Rattle.log_layout.specs.Transactions.{after}
 use Rattle.log_layout.specs.declared.log_header.LogHeader.{LogHeader}
-use Rattle.logged_runs.specs.Starts.{BeginsAt}
-use Rattle.logged_scripts.specs.LoggedRunsLaws.{RunsBeginSo}
-use Rattle.logged_scripts.specs.Points.{Point}
-use Rattle.logged_scripts.specs.Resting.{ReplayedIsAtRest, RestsAsMounted}
-use Rattle.logged_scripts.specs.Runs.{GoesTo, HasRun, HasUnmounted, IsThrough, clean_still, crashed, unmounted, with_header}
-use Rattle.logged_scripts.specs.StepEnds.{clean_item}
-use Rattle.logged_scripts.specs.StepLaws.{HeadsAreTold, StepsKeep}
-use Rattle.logged_scripts.specs.WholeRunsStarts.{joined}
-use Rattle.logged_scripts.specs.Wholes.{IsRun}
-use Rattle.logged_scripts.specs.declared.ends.RunEnd.{RunEnd as ScriptEnd}
-use Rattle.logged_scripts.proofs.Running.{run_begins}
-use Rattle.lone_ends.specs.Ends.{CleanNodesHaveEnded, ItsEndsLand}
+use Rattle.whole_runs.specs.LoggedRunsStarts.{BeginsAt}
+use Rattle.whole_runs.specs.Laws.{RunsBeginSo}
+use Rattle.logged_steps.specs.Points.{Point}
+use Rattle.whole_runs.specs.Resting.{ReplayedIsAtRest, RestsAsMounted}
+use Rattle.lone_runs.specs.LoggedScriptsRuns.{GoesTo, HasRun, HasUnmounted, IsThrough, clean_still, crashed, unmounted, with_header}
+use Rattle.logged_steps.specs.Ends.{clean_item}
+use Rattle.logged_steps.specs.Laws.{HeadsAreTold, StepsKeep}
+use Rattle.lone_runs.specs.WholeRunsStarts.{joined}
+use Rattle.whole_runs.specs.Wholes.{IsRun}
+use Rattle.lone_runs.specs.logged_scripts_ends.RunEnd.{RunEnd as ScriptEnd}
+use Rattle.whole_runs.proofs.Running.{run_begins}
+use Rattle.logged_steps.specs.NodeEnds.{CleanNodesHaveEnded, ItsEndsLand}
 use Rattle.lone_images.specs.Lone.{begun_on}
-use Rattle.lone_logs.specs.Laws.{ItsOutcomesStand}
+use Rattle.logged_steps.specs.LoggedLaws.{ItsOutcomesStand}
 use Rattle.lone_runs.specs.Beginning.{start_point}
 use Rattle.lone_runs.specs.Laws.{IsRunOf}
 use Rattle.lone_runs.specs.Runs as stages
@@ -44,7 +44,7 @@ use Rattle.shared_disk.specs.Disk.{DiskState, IsSound, Operation}
 use Rattle.trace_text.specs.declared.item.TraceItem.{TraceItem}
 use Rattle.trace_text.specs.declared.item.TraceItem.TheVariants as trace
 use Rattle.kept_profiles.specs.Keeping.{StepsKeepTheSystem}
-use Rattle.kept_profiles.specs.Laws.{HaveLowSequences, IsLeftOfProfile, RunsKeepTheProfile}
+use Rattle.kept_profiles.specs.Profiles.{HaveLowSequences, IsLeftOfProfile, RunsKeepTheProfile}
 use Rattle.kept_profiles.proofs.Ending.{IsOfProfileBy, clean_of_profile, landed_of_profile}
 
 err_ok : (e : RunEnd) → ◌≡◌ {A = Result (Unit {0}) RunEnd} (Err e) (Ok tt) → ⊥

@@ -6,11 +6,11 @@ use Rattle.std.proofs.lemmas.Bool.{cases_Bool, cond-true, cond-false, eqb-true}
 use Rattle.image_machine.specs.Volumes.{Volume}
 use Rattle.image_model.specs.Image.{image_of}
 use Rattle.journal_outcomes.specs.Disks.{flown_by}
-use Rattle.logged_scripts.specs.Points.{Point, state_of}
-use Rattle.logged_scripts.specs.States.{HasLandedAs, trees_on}
-use Rattle.logged_scripts.specs.StepLaws.{IsLoggedAt, StepsKeep}
-use Rattle.logged_scripts.specs.Steps.{Answers, AnswersQuietly, BeginsFlush, BeginsHeader, Commits, EndsBlocks, EndsFlush, GoesHome, HasNoSpace, Here, Reads, Rests, Step, Steps, Syncs, TellsFull, Then, Unmounts, WritesHead, WritesLog}
-use Rattle.lone_logs.specs.Laws.{ItsOutcomesStand}
+use Rattle.logged_steps.specs.Points.{Point, state_of}
+use Rattle.logged_steps.specs.States.{HasLandedAs, trees_on}
+use Rattle.logged_steps.specs.Laws.{IsLoggedAt, StepsKeep}
+use Rattle.logged_steps.specs.Steps.{Answers, AnswersQuietly, BeginsFlush, BeginsHeader, Commits, EndsBlocks, EndsFlush, GoesHome, HasNoSpace, Here, Reads, Rests, Step, Steps, Syncs, TellsFull, Then, Unmounts, WritesHead, WritesLog}
+use Rattle.logged_steps.specs.LoggedLaws.{ItsOutcomesStand}
 use Rattle.lone_logs.specs.Outcomes.{OutcomesAreTheMachines}
 use Rattle.lone_machine.specs.Alone.{Begun}
 use Rattle.script_lang.specs.declared.script.Client.{Client}

@@ -7,10 +7,10 @@ use Rattle.image_model.specs.Image.{Image, image_of}
 use Rattle.image_model.specs.Stands.{IsJournalAt, Layout}
 use Rattle.image_model.specs.SystemFiles.{IsSystemBlock}
 use Rattle.journal_outcomes.specs.Images.{IsPlaceIn, ring_at}
-use Rattle.logged_scripts.specs.Points.{Point}
-use Rattle.logged_scripts.specs.StepLaws.{IsLoggedAt}
-use Rattle.logged_scripts.specs.States.{trees_on}
-use Rattle.logged_scripts.specs.Steps.{Steps}
+use Rattle.logged_steps.specs.Points.{Point}
+use Rattle.logged_steps.specs.Laws.{IsLoggedAt}
+use Rattle.logged_steps.specs.States.{trees_on}
+use Rattle.logged_steps.specs.Steps.{Steps}
 use Rattle.lone_machine.specs.Alone.{Begun}
 use Rattle.script_lang.specs.declared.script.Client.{Client}
 
