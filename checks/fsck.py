@@ -35,8 +35,8 @@ from struct import pack, unpack_from
 from zlib import crc32
 
 sys.dont_write_bytecode = True
-from new_image import crc32c_raw
-from plain_calls import Disk, carried_out, spelled
+from plain_calls import Disk, spelled
+from plain_log import Run, crc32c_raw, tree_of
 
 HERE = os.path.dirname(os.path.abspath(__file__))
 PROGRAM = os.environ.get("PROGRAM") or os.path.join(HERE, "..", "crates", "gfs2run", "out", "gfs2run")
@@ -275,7 +275,10 @@ class Copy:
     def is_log_header(self, at, place):
         """Whether a log header that isn't torn stands here, of this place of its journal."""
         head = bytes(self.data[at:at + 48])
-        return head[:8] == pack(">II", MAGIC, 8) and head[40:] == pack(">II", place, crc32(head[:44] + bytes(4)))
+        if head[:8] != pack(">II", MAGIC, 8) or head[40:] != pack(">II", place, crc32(head[:44] + bytes(4))):
+            return False
+        # A header that was torn behind its checksum doesn't count.
+        return self.word(at + 48, 4) in (0, crc32c_raw(self.data[at + 52:at + self.size]))
 
     def add_headers(self):
         """Puts a second log header into each journal that has one alone: of the sequence before, in the place before its tail."""
@@ -506,9 +509,11 @@ def alike(count):
 
 
 def some_script(random, disk):
-    """A script, and the status, output and trace that the plain calls give it. The disk is as it leaves it. In one of three scripts
-    one directory gets many names."""
-    paths, lines, before = ["/"], ["nodes 1", "client p on 1", "client q on 1"], disk.data[:]
+    """A script. In one of three scripts one directory gets many names; one of two has a crash, at a line or at a write."""
+    paths, lines = ["/"], ["nodes 1", "client p on 1", "client q on 1"]
+    crash = random.choice(("line", "write", "", ""))
+    if crash == "write":
+        lines.append("crash 1 at %d %s" % (random.choice((random.randint(1, 60), random.randint(1, 1500))), random.choice(("old", "new", "torn %d" % random.choice((1, 24, 40, 48, 52, 300, random.randint(1, 4095)))))))
     crowd, place = random.choice((0, 0, random.choice((40, 150, 600)))), random.choice(("/", "/e"))
     for _ in range(random.choice((20, 100, 400)) + 3 * crowd):
         if crowd and random.randrange(4):
@@ -525,15 +530,15 @@ def some_script(random, disk):
             paths = [other + it[len(path):] if (it + "/").startswith(path + "/") else it for it in paths if it != other]
         lines.append("%s: %s" % (random.choice("pq"), call))
         if random.randrange(20) == 0:
-            lines.append("wait")
-    disk.data = before
-    script = "".join(it + "\n" for it in lines)
-    return script, carried_out(disk, script)
+            lines.append(random.choice(("wait", "p: sync", "q: sync")))
+        if crash == "line" and random.randrange(400) == 0:
+            lines.append(random.choice(("crash 1", "crash all")))
+    return "".join(it + "\n" for it in lines)
 
 
-def shown(disk, journals):
-    """What `show` is to print."""
-    lines = ["journal %d clean" % i for i in range(journals)]
+def shown(disk, clean):
+    """What `show` is to print of a tree; `clean` says of each journal whether it was left so."""
+    lines = ["journal %d %s" % (i, "clean" if it else "dirty") for i, it in enumerate(clean)]
 
     def below(path, inode):
         lines.append("dir " + (path or "/"))
@@ -548,25 +553,42 @@ def shown(disk, journals):
     return "".join(it + "\n" for it in lines + ["done"])
 
 
-def compared(folder, image, time, script, disk, wanted):
-    """In what the run of a script differs from what is wanted of it: status, output and trace, and the disk's bytes."""
+def compared(folder, image, time, script):
+    """In what the run of a script differs from what is wanted of it: status, output and trace, the disk's bytes, and the tree that is shown, which is that
+    of the calls that are left."""
     names = [os.path.join(folder, it) for it in ("image", "trace")]
     with open(names[0], "wb") as file:
         file.write(image)
+    run = Run(image, script, time)
     ended = subprocess.run([PROGRAM, *names, "run", "--time", str(time)], input=script.encode(), stdout=subprocess.PIPE)
     with open(names[1]) as file:
         found = (ended.returncode, ended.stdout.decode(), file.read())
-    told = ["%s: wanted %.200r, found %.200r" % it for it in zip(("status", "output", "trace"), wanted, found) if it[1] != it[2]]
+    told = ["%s: %s" % (what, first_other(it, other)) for what, it, other in zip(("status", "output", "trace"), (run.status, run.out, run.trace), found) if it != other]
     with open(names[0], "rb") as file:
         left = file.read()
-    if left != disk.data:
-        told.append("the image is another, at the blocks %s" % differing(left, disk))
+    if left != run.image:
+        told.append("the image is another, at the blocks %s" % differing(left, Disk(run.image)))
+    wanted = shown(tree_of(image, run.left, time), run.clean)
+    if shown(tree_of(run.image), run.clean) != wanted:
+        told.append("the image stands for another tree than that of what remains")
     ended = subprocess.run([PROGRAM, *names, "show"], stdin=subprocess.DEVNULL, stdout=subprocess.PIPE)
-    if ended.stdout.decode() != shown(disk, len(Copy(left).journals)):
+    if ended.stdout.decode() != wanted:
         told.append("what is shown is another: %.300r" % ended.stdout)
     if FSCK:
+        if not all(run.clean):
+            subprocess.run([PROGRAM, *names, "replay"], stdin=subprocess.DEVNULL, stdout=subprocess.DEVNULL)
+            with open(names[0], "rb") as file:
+                left = file.read()
         told += ["fsck.gfs2: " + it for it in judged(left)]
-    return told
+    return told, run
+
+
+def first_other(wanted, found):
+    """The first lines of two texts that differ."""
+    if not isinstance(wanted, str):
+        return "wanted %r, found %r" % (wanted, found)
+    lines = wanted.splitlines() + ["(the end)"], found.splitlines() + ["(the end)"]
+    return "line %d: wanted %.100r, found %.100r" % next((at, *it) for at, it in enumerate(zip(*lines), 1) if it[0] != it[1])
 
 
 def tried(number, folder):
@@ -574,10 +596,9 @@ def tried(number, folder):
     random = Random(number)
     image, kind = new_image(random, folder)
     time = random.randrange(1 << 40)
-    disk = Disk(image, time)
-    script, wanted = some_script(random, disk)
-    told = compared(folder, image, time, script, disk, wanted)
-    return told, "%s, %d lines, status %d" % (kind, script.count("\n"), wanted[0])
+    script = some_script(random, Disk(image, time))
+    told, run = compared(folder, image, time, script)
+    return told, "%s, %d lines, %d flushes, %d crashes" % (kind, script.count("\n"), run.trace.count("\ncommit "), run.trace.count("\ncrash "))
 
 
 def deepest(folder):
@@ -592,8 +613,7 @@ def deepest(folder):
     calls = ["mkdir " + "/d" * level for level in range(1, 513)]
     calls += [it % ("/d" * 512) for it in ("stat %s", "rmdir %s", "create %s", "write %s 0 61", "read %s 0 9")] + ["list " + "/d" * 511]
     script = "nodes 1\nclient c on 1\n" + "".join("c: %s\n" % it for it in calls)
-    disk = Disk(image)
-    return compared(folder, image, 0, script, disk, carried_out(disk, script)), "the deepest tree"
+    return compared(folder, image, 0, script)[0], "the deepest tree"
 
 
 def try_scripts(count):
@@ -630,10 +650,9 @@ def replayed_wrong(folder, dirty):
         told += ["replay: wanted %.300r, found %.300r" % it for it in zip((0, *dirty.told), found) if it[0] != it[1]]
         if left != dirty.replayed:
             told.append("replay leaves other blocks: %s" % [at for at in range(len(left) // Copy(left).size) if block_of(left, at) != block_of(dirty.replayed, at)])
-        lines = shown(Disk(dirty.replayed), len(dirty.clean)).split("\n")
-        lines[:len(dirty.clean)] = ["journal %d %s" % (j, "clean" if it else "dirty") for j, it in enumerate(dirty.clean)]
+        lines = shown(Disk(dirty.replayed), dirty.clean)
         seen, same = commanded(folder, dirty.image, "show")
-        told += ["show: wanted %.300r, found %.300r" % it for it in zip((0, "\n".join(lines), ""), seen) if it[0] != it[1]]
+        told += ["show: wanted %.300r, found %.300r" % it for it in zip((0, lines, ""), seen) if it[0] != it[1]]
         if same != dirty.image:
             told.append("show changes the image")
     elif found[0]:

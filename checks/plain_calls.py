@@ -1,11 +1,9 @@
-"""Takes the calls of scripts on an image, plainly and slowly: a model of its own of what one node alone answers and leaves.
+"""Takes the calls of scripts on an image, plainly and slowly: a model of its own of what one node alone answers, and of the blocks that each call changes.
 
-It is written from docs/CALLS.md and docs/FORMAT.md, without any of the project's code, and serves checks/fsck.py, which compares
-the program with it, and whoever works out what a row is to want: `plain_calls.py IMAGE [TIME] <SCRIPT` carries a script out
-on a file and prints the trace, the output and the image's CRC-32.
+It is written from docs/CALLS.md and docs/FORMAT.md, without any of the project's code. Here each call changes the image at once; plain_log.py puts a node's log
+over it, and works out what a run tells and leaves.
 """
 import re
-import sys
 from struct import pack, unpack_from
 from zlib import crc32
 
@@ -62,6 +60,8 @@ class Disk:
 
     def __init__(self, data, time=0):
         self.data, self.time = bytearray(data), time
+        # Of blocks that were taken since: the inode, and whether a file's content goes there.
+        self.owners = {}
         self.size = self.word(65536 + 36, 4)
         self.root = self.word(65536 + 88, 8)
         master = self.word(65536 + 56, 8)
@@ -268,7 +268,7 @@ class Disk:
 
     def chain(self, directory, index):
         leaf, found = self.word(self.pointer(directory, index), 8), []
-        while leaf:
+        while leaf and leaf not in found:
             found.append(leaf)
             leaf = self.field(leaf, 32, 8)
         return found
@@ -454,8 +454,9 @@ class Disk:
                 count += pointer is None or self.word(pointer, 8) == 0
         return count
 
-    def take(self, inode):
+    def take(self, inode, is_content=False):
         block = self.least_free()
+        self.owners[block] = inode, is_content and not self.is_directory(inode)
         self.set_state(block, 1)
         self.count(block, -1, 0)
         self.put(inode, 64, self.field(inode, 64, 8) + 1, 8)
@@ -471,7 +472,7 @@ class Disk:
         area = inode * self.size + 232
         for old in range(self.field(inode, 138, 2), height):
             content = bytes(self.data[area:area + self.field(inode, 56, 8)] if old == 0 else self.data[area:area + (self.size - 232) // 8 * 8])
-            block = self.take(inode) if self.carries(inode) else 0
+            block = self.take(inode, old == 0) if self.carries(inode) else 0
             if block:
                 head = self.head_of_content(inode) if old == 0 else pack(">IIQII", MAGIC, 5, 0, 500, 0)
                 self.put(block, 0, (head + content).ljust(self.size, b"\0"))
@@ -484,19 +485,20 @@ class Disk:
         for level in range(height - 1, -1, -1):
             at = self.pointer_to(inode, height, level, index // self.span(level))
             if not self.word(at, 8):
-                block = self.take(inode)
+                block = self.take(inode, level == 0)
                 head = pack(">IIQII", MAGIC, 5, 0, 500, 0) if level else self.head_of_content(inode)
                 self.put(block, 0, head.ljust(self.size, b"\0"))
                 self.data[at:at + 8] = pack(">Q", block)
         return self.word(at, 8)
 
     def clear_end(self, inode):
-        """Zeros behind the end of a file in blocks."""
+        """Zeros behind the end of a file in blocks, where something else stands there."""
         size = self.field(inode, 56, 8)
         if size % self.size:
             at = self.pointer_to(inode, self.field(inode, 138, 2), 0, size // self.size)
-            if at is not None and self.word(at, 8):
-                self.put(self.word(at, 8), size % self.size, bytes(self.size - size % self.size))
+            block = self.word(at, 8) if at is not None else 0
+            if block and any(self.data[block * self.size + size % self.size:(block + 1) * self.size]):
+                self.put(block, size % self.size, bytes(self.size - size % self.size))
 
     def put_bytes(self, inode, at, content):
         """Writes bytes over a file's content, which has zeros between its end and their place."""
@@ -760,37 +762,3 @@ def written(call):
     if word == "write":
         others[2] = content_of(others[2]).hex()
     return " ".join([word, *others])
-
-
-def carried_out(disk, script):
-    """The status, the output and the trace of a script of one node."""
-    lines = script.splitlines()
-    clients = [it.split(" ")[1] for it in lines if it.startswith("client ")]
-    items, replies = ["join 1"], []
-    for line in lines:
-        client, _, call = line.partition(": ")
-        if not call:
-            continue
-        reply, full = disk.answer(call)
-        if full:
-            items.append("full 1 %d %d" % full)
-        replies.append((client, "%s: %s = %s" % (client, written(call), reply)))
-        items.append("call 1 %s %d %s = %s" % (client, len(replies), written(call), reply))
-    items.append("unmount 1")
-    out = [line for name in clients for client, line in replies if client == name]
-    out += ["calls %d lost 0 commits 0 crashes 0 dirty 0" % len(replies), "done"]
-    return 0, "".join(it + "\n" for it in out), "".join(it + "\n" for it in items)
-
-
-def main(name, time="0"):
-    with open(name, "r+b") as file:
-        disk = Disk(file.read(), int(time))
-        status, out, trace = carried_out(disk, sys.stdin.read())
-        file.seek(0)
-        file.write(disk.data)
-    print(trace, out, "crc %08x" % crc32(disk.data), sep="--\n")
-    return status
-
-
-if __name__ == "__main__":
-    sys.exit(main(*sys.argv[1:]))

@@ -357,6 +357,7 @@ run tree trace run <script
 check "a run that finds nothing" 0 "done"
 PROGRAM=$program python3 "$here/checks/fsck.py" --scripts 25 || failed=1
 PROGRAM=$program python3 "$here/checks/fsck.py" --replays 10 || failed=1
+PROGRAM=$program python3 "$here/checks/sweep.py" 2 40 || failed=1
 
 cmp -s image before || {
     echo "checks/program.sh: the image was changed" >&2

@@ -4,7 +4,6 @@ new_image.py and the plain calls of plain_calls.py work out, with what `show` pr
 
 usage: checks/replay_rows.py            writes crates/rows/data/replayed_images.rows
        checks/replay_rows.py --check    are the stored ones these?
-       checks/replay_rows.py --image FILE CALL..    writes an image in whose journal the changes of these calls are, none of them at home
 """
 import os
 import sys
@@ -12,8 +11,9 @@ from zlib import crc32
 
 sys.dont_write_bytecode = True
 import new_image
-from journal_rows import Journal, descriptor, header, plain, u64
-from plain_calls import Disk, carried_out, spelled
+from journal_rows import Journal, header, plain
+from plain_calls import Disk, spelled
+from plain_log import Run, tree_of
 from rows import Image
 
 ROWS = os.path.join(os.path.dirname(os.path.abspath(__file__)), "..", "crates", "rows", "data", "replayed_images.rows")
@@ -39,12 +39,11 @@ def made(image):
 
 
 def after(data, *calls):
-    """The image after these calls, and the blocks that they changed."""
+    """The image after these calls, as it is where each changes it at once."""
     disk = Disk(bytearray(data), 0)
-    script = "".join(f"{it}\n" for it in ["nodes 1", "client c on 1", *(f"c: {call}" for call in calls)])
-    status, out, _ = carried_out(disk, script)
-    if status or any(not line.endswith("= ok") for line in out.splitlines() if line.startswith("c: ")):
-        raise ValueError(out)
+    for call in calls:
+        if disk.answer(call)[0] != "ok":
+            raise ValueError(call)
     return bytes(disk.data)
 
 
@@ -165,16 +164,24 @@ class Row:
 
     def runs(self, data, calls, *homes):
         """A run replays these journals, and then answers these calls by this image; then so a second run, which has nothing to replay."""
-        disk, text = Disk(bytearray(data), 0), []
+        image, text, script = self.whole(), [], ["nodes 1", "client c on 1", *(f"c: {it}" for it in calls)]
         for first in (True, False):
-            script = ["nodes 1", "client c on 1", *(f"c: {it}" for it in calls)]
-            _, out, trace = carried_out(disk, "".join(it + "\n" for it in script))
-            items = trace.splitlines()
-            if first:
-                items[1:1] = self.items(homes)
-            text += ["  do run", "  script", *("    " + it for it in script), "  out", *("    " + it for it in out.splitlines()),
-                     "  trace", *("    " + it for it in items), "  shows", *("    " + it for it in shown(bytes(disk.data), [True] * len(homes)))]  # fmt: skip
+            run, wanted = Run(image, "".join(it + "\n" for it in script)), self.items(homes) if first else []
+            if run.items[1 : 1 + len(wanted)] != wanted or tree_of(image).data[: self.block("journal0.place0") * SIZE] != data[: self.block("journal0.place0") * SIZE] and first:
+                raise ValueError(f"{self.name}: the replay is another")
+            image = run.image
+            text += ["  do run", "  script", *("    " + it for it in script), "  out", *("    " + it for it in run.out.splitlines()),
+                     "  trace", *("    " + it for it in run.items), "  shows", *("    " + it for it in shown(image, [True] * len(homes)))]  # fmt: skip
         return self.text(*text)
+
+    def whole(self):
+        """The image with its journals."""
+        image = bytearray(self.base.data)
+        for j, journal in enumerate(self.journals):
+            for place, block in journal.blocks.items():
+                at = self.block(f"journal{j}.place{place}") * SIZE
+                image[at : at + SIZE] = block or image[at : at + SIZE]
+        return bytes(image)
 
     def shows(self, data, *homes):
         """The tree is that of this image, where of each journal these blocks go home, behind which its clean header has this place."""
@@ -409,21 +416,7 @@ def failing():
     yield row.unread(final, mounting + 201, "{journal0.place200}", [row.all_of(0, at)])
 
 
-def image_with(calls):
-    """An image as a node leaves it that took these calls, flushed its journal and stopped."""
-    row = Row("")
-    row.journals[0].write(1, 2, 1, **changed(row.data(), after(row.data(), *calls)))
-    for place, block in row.journals[0].blocks.items():
-        if block:
-            row.base.put(row.base.start(row.block(f"journal0.place{place}")), block.ljust(SIZE, b"\0"))
-    return row.data()
-
-
 def main():
-    if sys.argv[1:2] == ["--image"]:
-        with open(sys.argv[2], "wb") as it:
-            it.write(image_with(sys.argv[3:]))
-        return
     text = HEAD + "".join("\n" + it for part in (whole(), runs(), content(), broken(), failing()) for it in part)
     if sys.argv[1:] == ["--check"]:
         with open(ROWS, encoding="utf-8") as it:

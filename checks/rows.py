@@ -117,6 +117,13 @@ def expanded(image, lines):
     out = []
     for line in lines:
         times = 1
+        if line.startswith("\\at "):
+            _, sizes, line = line.split(" ", 2)
+            if str(image.size) not in sizes.split(","):
+                continue
+        if re.match(r"\\(log|home|head|clean) ", line):
+            out += logged(image, *line[1:].split(" "))
+            continue
         if line.startswith("\\times "):
             _, times, line = line.split(" ", 2)
             times = image.number(times)
@@ -131,6 +138,18 @@ def expanded(image, lines):
     return b"".join(out)
 
 
+def logged(image, word, *words):
+    """What node 1 writes with its log, in the first journal and at home, as lines of a trace."""
+    at = lambda place: image.number("journal0.place%d" % place)
+    if word in ("head", "clean"):
+        found = ["write 1 %s %d %s" % (word, at(image.number(words[0])), " ".join(words[1:])), "barrier 1"]
+        found += ["commit 1 " + " ".join(words[1:])] if word == "head" else []
+    else:
+        numbers = [it for part in words for it in image.range(part)]
+        found = ["write 1 %s %d" % (word, at(it) if word == "log" else it) for it in numbers] + ["barrier 1"]
+    return [b"%s\n" % it.encode() for it in found]
+
+
 def is_judged(command):
     lines = [line for _, block in command for line in block]
     return any(item[0] == "shows" for item in command) or any(re.match(r"\\times [0-9]{4} c:", line) for line in lines)
@@ -139,8 +158,9 @@ def is_judged(command):
 def braced(image, words, up, down):
     if words == "":
         return b""
-    if words in ("i", "d"):
-        return b"%d" % (up if words == "i" else down)
+    counted = re.fullmatch(r"([id])(?:\+([0-9]+))?", words)
+    if counted:
+        return b"%d" % ((up if counted[1] == "i" else down) + int(counted[2] or 0))
     count, of, text = words.partition(" of ")
     if of:
         return escaped(text) * image.number(count)
@@ -475,11 +495,13 @@ class Book:
         return told
 
     def judge(self, image):
-        """What fsck.gfs2 has against an image."""
+        """What fsck.gfs2 has against an image, once its journals are replayed."""
         if not fsck.FSCK:
             return []
         self.judged += 1
-        return ["fsck.gfs2: " + line for line in fsck.judged(image.data)]
+        copy = image.copy()
+        self.runner.carry(copy, ["replay"])
+        return ["fsck.gfs2: " + line for line in fsck.judged(copy.data)]
 
     def command(self, base, image, items):
         """In what a command differs."""
@@ -489,7 +511,7 @@ class Book:
         if taken_size(words, image) != image.size:
             raise Elsewhere
         names = (base or image).copy()
-        script, status, out, trace, later = b"", 0, b"", b"", []
+        script, status, out, trace, later, is_history = b"", 0, b"", b"", [], False
         for item, block in items[1:]:
             word, _, rest = item.partition(" ")
             if word == "script":
@@ -498,8 +520,8 @@ class Book:
                 status = int(rest)
             elif word == "out":
                 out = self.text(names, rest, block)
-            elif word == "trace":
-                trace = self.text(names, rest, block)
+            elif word in ("trace", "history"):
+                trace, is_history = self.text(names, rest, block), word == "history"
             elif word == "told":
                 number, line = rest.split(" ", 1)
                 status, out = int(number), expanded(names, [line])
@@ -509,6 +531,8 @@ class Book:
                 raise Wrong("no item of a row: " + item)
         before = bytes(image.data)
         found = self.runner.carry(image, words, script)
+        if is_history:
+            found = (*found[:2], re.sub(rb"(?m)^(write|barrier|commit) .*\n", b"", found[2]))
         told = [differ(*part) for part in zip(("status", "out", "trace"), (status, out, trace), found)]
         for word, rest, block in later:
             if word == "shows":

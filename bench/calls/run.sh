@@ -1,8 +1,8 @@
 #!/bin/sh
 # Times `gfs2run IMAGE TRACE run` with 9,930 calls (calls.py says which) on an image of 16,384 blocks of 4096 bytes (64 MiB), beside
 # `debugfs -w` (package e2fsprogs) doing the same on an ext4 image of that size, and prints microseconds a call; the aim is less than
-# debugfs's. gfs2run has each change on the device before it answers the next call, and debugfs writes what it keeps in memory when
-# it ends, so gfs2run is timed on a file in memory too, where /dev/shm is one. The least of five rounds counts. Needs Python 3, 256 MiB
+# debugfs's. Both keep changes in memory, gfs2run until its log has no room or it unmounts, debugfs until it ends. gfs2run is timed on a file
+# in memory too, where /dev/shm is one. log/run.sh has the same calls with syncs. The least of five rounds counts. Needs Python 3, 256 MiB
 # in TMPDIR (else /tmp) and GNU date; PROGRAM may name another program than the one that is built here.
 set -eu
 rounds=5

@@ -9,19 +9,25 @@ use Rattle.script_lang.specs.Script.{ScriptValue}
 use Rattle.script_lang.specs.Grammar.{script_read, Script, Bad}
 use Rattle.script_lang.specs.Foreign.{first_foreign}
 use Rattle.image_mount.specs.Mounted.{MountedValue}
-use Rattle.lone_node.specs.Turns.{Moment}
-use Rattle.cluster_program.specs.declared.output.Listing.{Listing}
-use Rattle.cluster_program.specs.declared.status.Status.{Status}
-use Rattle.cluster_program.specs.declared.status.Status.TheVariants as status
-use Rattle.cluster_program.specs.declared.status.WhichSink.{WhichSink}
-use Rattle.cluster_program.specs.World.{Inputs, Outputs}
+use Rattle.run_reports.specs.declared.output.Listing.{Listing}
+use Rattle.run_reports.specs.declared.status.Status.{Status}
+use Rattle.run_reports.specs.declared.status.Status.TheVariants as status
+use Rattle.run_reports.specs.declared.status.WhichSink.{WhichSink}
+use Rattle.run_reports.specs.Outputs.{Outputs}
+use Rattle.cluster_program.specs.World.{Inputs}
 use Rattle.cluster_program.specs.Course as course
 use Rattle.cluster_program.specs.Course.{Course, RefusesWords, MakesImage, NoScript, Makes, IsTooLarge, IsTooSmall, LacksMemory, HasFailed, HasMade, plan_for, RunsScript, LacksScript, SourceFailed, Refused, RefusedEarly, NotBuiltYet, NoRoom, Shows, HasShown, ShowsNone, TreeFailed, TreeDamaged, NothingHeld, ShowsImage, ReplaysImage}
 use Rattle.cluster_program.specs.Mounting as mounting
-use Rattle.cluster_program.specs.Mounting.{BeginEnds, IsMountable, MountEnds, DiskFails, IsStopped, LiesOutside, IsDamaged, LacksRoom, NotRead}
+use Rattle.cluster_program.specs.Mounting.{BeginEnds, IsMisplaced, IsMountable, MountEnds, DiskFails, IsStopped, LiesOutside, IsDamaged, LacksRoom, NotRead}
 use Rattle.cluster_program.specs.Runs as runs
-use Rattle.cluster_program.specs.Runs.{RunEnds, IsDone, NotBegun, ReplayFailed, ReplayLacksRoom, CallFailed, CallUnbuilt, CallDamaged}
-use Rattle.cluster_program.specs.Report.{Becomes, Stays, WithoutMemory, Fails, Reports}
+use Rattle.cluster_program.specs.Runs.{RunEnds, EndsEarly, IsDone, NotBegun, NotCounted, first_line}
+use Rattle.cluster_program.specs.EndStatuses.{status_of_run}
+use Rattle.kept_profiles.specs.Ends.{HasCause}
+use Rattle.kept_profiles.specs.Laws.{IsOfImageThatStands}
+use Rattle.kept_profiles.specs.lone_runs_ends.RunEnd.{RunEnd}
+use Rattle.kept_profiles.specs.lone_runs_ends.RunEnd.TheVariants as end
+use Rattle.kept_profiles.specs.logged_scripts_ends.RunEnd.TheVariants as script_end
+use Rattle.run_reports.specs.Report.{Becomes, Stays, WithoutMemory, Fails, Reports}
 use Rattle.cluster_program.specs.Command.{NoneRose, IsRunnable, IsReplayable, IsShowable, IsMakeable, IsWhole, IsComplete}
 use Rattle.mkgfs2_tool.specs.Order.{fits}
 use Rattle.command_words.specs.Commands.{words_read}
@@ -83,16 +89,28 @@ module _ (words : List (List ℕ)) (given left : Inputs) (sinks sinks_now : Outp
   of_begin may own (mounting.NotMounted own' ends) = of_mount may own ends
   of_begin may own (NotRead block x y mounted up within) = absurd (none.disk 0 (rose (given.disk_faults 0) (left.disk_faults 0) x y up))
   of_begin may own (IsStopped block rule why never) = absurd (never may.is.tells may.tree may.is.stands)
+  of_begin may own (IsMisplaced dinode untold) = absurd (untold may.is.tells)
 
-  of_run : IsMountable given.disk → (s : ScriptValue) (time : ℕ) (items : List TraceItem) (what : Option MountedValue) (replayed : Option Moment) (own : Status) → RunEnds given left s time items what replayed own → IsWhole own
-  of_run may s time items what replayed own (IsDone m r all placed whole) = inl refl
-  of_run may s time items what replayed own (NotBegun own' none_yet same ends) = of_begin may own ends
-  of_run may s time items what replayed own (ReplayFailed m plans block x y are up within failed stand) = absurd (none.disk 1 (rose (given.disk_faults 1) (left.disk_faults 1) x y up))
-  of_run may s time items what replayed own (ReplayLacksRoom m plans are some stand) = inr refl
-  of_run may s time items what replayed own (CallFailed m r block x y root up within at) = absurd (none.disk 1 (rose (given.disk_faults 1) (left.disk_faults 1) x y up))
-  of_run may s time items what replayed own (CallUnbuilt m r place never at) = absurd (never may.is.tells may.tree may.is.stands)
-  of_run may s time items what replayed own (CallDamaged m r block rule never at) = absurd (never may.is.tells may.tree may.is.stands)
-  of_run may s time items what replayed own (runs.NoRoom m r) = inr refl
+  -- an end of a run that a standing image may have is want of memory, or a disk that failed
+  of_end : (s : ScriptValue) (e : RunEnd) → IsOfImageThatStands e → (blocks : List ℕ) → HasCause given.disk.count blocks given.disk_faults left.disk_faults e → IsWhole (status_of_run (first_line s) e)
+  of_end s (end.Misplaced dinode) sound blocks cause = absurd sound
+  of_end s (end.ReplayFailed block rise) sound blocks cause = absurd (none.disk 1 (rose (given.disk_faults 1) (left.disk_faults 1) rise.before rise.after cause.0))
+  of_end s (end.Script (script_end.ReadFailed block rise)) sound blocks cause = absurd (none.disk 1 (rose (given.disk_faults 1) (left.disk_faults 1) rise.before rise.after cause.0))
+  of_end s (end.Script (script_end.WriteFailed block rise)) sound blocks cause = absurd (none.disk 1 (rose (given.disk_faults 1) (left.disk_faults 1) rise.before rise.after cause.0))
+  of_end s (end.Script (script_end.NotFenced rise)) sound blocks cause = absurd (none.disk 0 (rose (given.disk_faults 0) (left.disk_faults 0) rise.before rise.after cause))
+  of_end s (end.Script (script_end.HeadUnread block rise)) sound blocks cause = absurd (none.disk 0 (rose (given.disk_faults 0) (left.disk_faults 0) rise.before rise.after cause.0))
+  of_end s (end.Script (script_end.Damaged block rule)) sound blocks cause = absurd sound
+  of_end s (end.Script (script_end.NotBuilt line)) sound blocks cause = absurd sound
+  of_end s (end.Script (script_end.LogTooSmall line)) sound blocks cause = absurd sound
+  of_end s (end.Script (script_end.NotLoggable line)) sound blocks cause = absurd sound
+  of_end s (end.Script script_end.NoMemory) sound blocks cause = inr refl
+
+  of_run : IsMountable given.disk → (s : ScriptValue) (time : ℕ) (items : List TraceItem) (what : Option MountedValue) (own : Status) → RunEnds given left s time items what own → IsWhole own
+  of_run may s time items what own (IsDone m gone whole answered placed) = inl refl
+  of_run may s time items what own (NotCounted m journal block x y gone stopped has within up) = absurd (none.disk 0 (rose (given.disk_faults 0) (left.disk_faults 0) x y up))
+  of_run may s time items what own (NotBegun own' none_yet same ends) = of_begin may own ends
+  of_run may s time items what own (EndsEarly m e gone cause sound damaged) = of_end s e (sound may.tree may.is) gone.own.blocks cause
+  of_run may s time items what own (runs.LacksRoom m result gone) = inr refl
 
   -- an image that fits its device
   of_make : (make : MakeWords) → given.disk.count ≤ most_blocks → fits (plan_for given.disk make) ≡ true → (own : Status) → Makes make given left own → IsWhole own
@@ -131,7 +149,7 @@ module _ (words : List (List ℕ)) (given left : Inputs) (sinks sinks_now : Outp
   of_running may listing s items lines own (ReplaysImage items' own' asks script ran) = absurd (not_run_replay may.run.run may.run.read asks.read)
   of_running may listing s items lines own (course.LacksRoom asks same) = inr refl
   of_running may listing s items lines own (NoScript told asks lacks untouched same) = of_script may own lacks
-  of_running may listing s items lines own (RunsScript text s' items' own' asks read script built ran) = of_run may.mountable s asks.run.time items ran.value ran.replayed own ran.ends
+  of_running may listing s items lines own (RunsScript text s' items' own' asks read script built ran) = of_run may.mountable s asks.run.time items ran.value own ran.ends
 
   of_showing : IsShowable words given → (listing : Listing) (s : ScriptValue) (items : List TraceItem) (lines : List ℕ) (own : Status) → Course words given left listing s items lines own → IsWhole own
   of_showing may listing s items lines own (RefusesWords told refused untouched) = let both : None ≡ Some own = sym may.show.built ∙ refused in cc
@@ -146,7 +164,7 @@ module _ (words : List (List ℕ)) (given left : Inputs) (sinks sinks_now : Outp
   of_replaying may listing s items lines own (RefusesWords told refused untouched) = let both : None ≡ Some own = sym may.replay.built ∙ refused in cc
   of_replaying may listing s items lines own (MakesImage make own' asks makes) = absurd (not_make_replay make asks.read may.replay.read)
   of_replaying may listing s items lines own (ShowsImage lines' own' asks script disk shows) = absurd (not_show_replay asks.read may.replay.read)
-  of_replaying may listing s items lines own (ReplaysImage items' own' asks script ran) = of_run may.mountable s 0 items ran.value ran.replayed own ran.ends
+  of_replaying may listing s items lines own (ReplaysImage items' own' asks script ran) = of_run may.mountable s 0 items ran.value own ran.ends
   of_replaying may listing s items lines own (course.LacksRoom asks same) = inr refl
   of_replaying may listing s items lines own (NoScript told asks lacks untouched same) = absurd (not_run_replay asks.run asks.read may.replay.read)
   of_replaying may listing s items lines own (RunsScript text s' items' own' asks read script built ran) = absurd (not_run_replay asks.run asks.read may.replay.read)
@@ -167,15 +185,15 @@ module _ (words : List (List ℕ)) (given left : Inputs) (sinks sinks_now : Outp
   of_sink W bare which before now old new still (WithoutMemory without) whole = subst W (sym without) bare
   of_sink W bare which before now old new still (Fails x y not_told fails up) whole = absurd (still (rose before now x y up))
 
-  at_end : (W : Status → Type 0) → W status.NoMemory → (listing : Listing) (s : ScriptValue) (items : List TraceItem) (lines : List ℕ) (own answer : Status) → Reports sinks sinks_now listing s items lines 0 own answer → W own → W answer
-  at_end W bare listing s items lines own answer report whole =
+  at_end : (W : Status → Type 0) → W status.NoMemory → (listing : Listing) (s : ScriptValue) (items : List TraceItem) (lines : List ℕ) (dirty : ℕ) (own answer : Status) → Reports sinks sinks_now listing s items lines dirty own answer → W own → W answer
+  at_end W bare listing s items lines dirty own answer report whole =
       of_sink W bare _ _ _ report.told answer none.output report.answer_is (of_sink W bare _ _ _ own report.told none.trace report.told_is whole)
 
-pub complete : (given left : Inputs) (sinks sinks_now : Outputs) (words : List (List ℕ)) (listing : Listing) (s : ScriptValue) (items : List TraceItem) (lines : List ℕ) (own answer : Status) → Course words given left listing s items lines own
-    → Reports sinks sinks_now listing s items lines 0 own answer → IsComplete words given left sinks sinks_now answer
-complete given left sinks sinks_now words listing s items lines own answer course report = record {
-  run = λ none may. at_end words given left sinks sinks_now none IsWhole (inr refl) listing s items lines own answer report (of_running words given left sinks sinks_now none may listing s items lines own course);
-  replay = λ none may. at_end words given left sinks sinks_now none IsWhole (inr refl) listing s items lines own answer report (of_replaying words given left sinks sinks_now none may listing s items lines own course);
-  show = λ none may. at_end words given left sinks sinks_now none IsWhole (inr refl) listing s items lines own answer report (of_showing words given left sinks sinks_now none may listing s items lines own course);
-  make = λ none may. at_end words given left sinks sinks_now none IsWhole (inr refl) listing s items lines own answer report (of_making words given left sinks sinks_now none may listing s items lines own course);
+pub complete : (given left : Inputs) (sinks sinks_now : Outputs) (words : List (List ℕ)) (listing : Listing) (s : ScriptValue) (items : List TraceItem) (lines : List ℕ) (dirty : ℕ) (own answer : Status) → Course words given left listing s items lines own
+    → Reports sinks sinks_now listing s items lines dirty own answer → IsComplete words given left sinks sinks_now answer
+complete given left sinks sinks_now words listing s items lines dirty own answer course report = record {
+  run = λ none may. at_end words given left sinks sinks_now none IsWhole (inr refl) listing s items lines dirty own answer report (of_running words given left sinks sinks_now none may listing s items lines own course);
+  replay = λ none may. at_end words given left sinks sinks_now none IsWhole (inr refl) listing s items lines dirty own answer report (of_replaying words given left sinks sinks_now none may listing s items lines own course);
+  show = λ none may. at_end words given left sinks sinks_now none IsWhole (inr refl) listing s items lines dirty own answer report (of_showing words given left sinks sinks_now none may listing s items lines own course);
+  make = λ none may. at_end words given left sinks sinks_now none IsWhole (inr refl) listing s items lines dirty own answer report (of_making words given left sinks sinks_now none may listing s items lines own course);
 }

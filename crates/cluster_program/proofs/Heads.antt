@@ -12,7 +12,6 @@ use Rattle.image_model.specs.Stands.{Layout, IsJournalAt, IsLaid, flat_of}
 use Rattle.image_model.proofs.Facts.{jindex_is, leads_row, leads_child_of, child_leads}
 use Rattle.image_model.proofs.Held.{none_some, some_same}
 use Rattle.image_model.proofs.Lengths.{head_same, places_same}
-use Rattle.image_changes.specs.Changes.{SystemStays}
 use Rattle.image_mount.specs.Mounted.{Journal, MountedValue, IsMounted, IsJournalOf}
 use Rattle.cluster_program.specs.Mounting.{AreClean, is_clean_head}
 
@@ -77,21 +76,13 @@ module _ (im : Image) (o : Owners) (l : Layout) (laid : IsLaid im o l) (m : Moun
         | inr past ↦ let low = below_end mounted.layout.journals it.0 d it.1 in absurd (omega (arith, low, past, mounted.count))
       ]
 
--- ---- an image that stands by the same layout, with the same system files
-
-module _ (im im' : Image) (o o' : Owners) (l : Layout) (laid : IsLaid im o l) (laid' : IsLaid im' o' l) (stay : SystemStays im im' o o' l) where
-  pub head_kept : (j d : ℕ) → IsJournalAt l j d → head_in (ring_of (every im' d)) ≡ head_in (ring_of (every im d))
-  head_kept j d at = sym (by_own im' o' l laid' j d at) ∙ ap (λ (h : Holding). head_in (ring_of h)) (stay.rings j d at) ∙ by_own im o l laid j d at
-
-  pub places_kept : (j d : ℕ) → IsJournalAt l j d → (ring_of (every im' d)).places ≡ (ring_of (every im d)).places
-  places_kept j d at = sym (own_places im' o' l laid' j d at) ∙ ap (λ (h : Holding). (ring_of h).places) (stay.rings j d at) ∙ own_places im o l laid j d at
-
-  -- where the journals of the layout are clean, each journal that is mounted from the image that was left is
-  pub clean_again_by : ((j a : ℕ) → IsJournalAt l j a → IsClean (ring_of (every im' a))) → AreClean im'
-  clean_again_by clean m' mounted' j journal there = elim (is_there mounted'.layout.journals j) [
+-- where the journals of an image's layout are clean, each journal that is mounted of it is
+module _ (im : Image) (o : Owners) (l : Layout) (laid : IsLaid im o l) where
+  pub clean_again : ((j a : ℕ) → IsJournalAt l j a → IsClean (ring_of (every im a))) → AreClean im
+  clean_again clean m mounted j journal there = elim (is_there mounted.layout.journals j) [
     | inl it ↦
-        let is = mounted'.journals j it.0 journal it.1 there in
-        let (head, head_is, is_clean) = clean j it.0 (of_layout im' o' l laid' m' mounted' j it.0 it.1) in
+        let is = mounted.journals j it.0 journal it.1 there in
+        let (head, head_is, is_clean) = clean j it.0 (of_layout im o l laid m mounted j it.0 it.1) in
         ap is_clean_head (sym is.head ∙ head_is) ∙ is_clean
-    | inr past ↦ let low = below_end m'.journals j journal there in absurd (omega (arith, low, past, mounted'.count))
+    | inr past ↦ let low = below_end m.journals j journal there in absurd (omega (arith, low, past, mounted.count))
   ]

@@ -15,8 +15,8 @@ use Rattle.mkgfs2_tool.specs.declared.options.MakeFault.TheVariants as fault
 use Rattle.cluster_program.specs.Course as course
 use Rattle.cluster_program.specs.Course.{Makes, options_of}
 use Rattle.cluster_program.specs.World.{inputs, KeepsScript}
-use Rattle.cluster_program.specs.declared.status.Status.{Status}
-use Rattle.cluster_program.specs.declared.status.Status.TheVariants as status
+use Rattle.run_reports.specs.declared.status.Status.{Status}
+use Rattle.run_reports.specs.declared.status.Status.TheVariants as status
 use Rattle.cluster_program.proofs.Made.{made_mountable}
 
 -- the status that a result is told by; within the limits of the words no number is a bad option

@@ -4,6 +4,7 @@ use Rattle.std.specs.Prelude.{IsTrue}
 use Rattle.std.specs.FinMap.{empty, get, get-empty}
 use Rattle.std.specs.Ordering.{nat_cmp}
 use Rattle.std.proofs.lemmas.List.{length-map}
+use Rattle.fault_counts.specs.Causes.{WentUp}
 use Rattle.gfs2_layout.specs.Device.{IsBlockSize, superblock_place}
 use Rattle.glock_names.specs.Views.{group_of_entry}
 use Rattle.image_model.specs.Claims.{Claims, root}
@@ -22,14 +23,17 @@ use Rattle.image_mount.specs.declared.fault.MountFault.TheVariants as fault
 use Rattle.shared_disk.specs.Disk.{DiskState, IsSound}
 use Rattle.lone_view.specs.Groups.{AreGroupsOn}
 use Rattle.lone_view.specs.Seeing.{seen_alone}
-use Rattle.lone_node.specs.Standing.{IsOn}
 use Rattle.damage_laws.specs.Telling.{HasRootInside, IsOfMounted, MountedAreRead}
 use Rattle.cluster_program.specs.EndStatuses.{status_of_mount}
-use Rattle.cluster_program.specs.Mounting.{OfImage, IsMountedAlike, IsMountedOn, IsMountedReplayed, IsToldBySystem, BeginEnds, MountEnds, DiskFails, IsStopped, LiesOutside, IsDamaged, LacksRoom, NeverStands, NotMounted, NotRead}
-use Rattle.cluster_program.specs.Report.{IsSinkFault}
-use Rattle.cluster_program.specs.declared.status.Status.{Status}
-use Rattle.cluster_program.specs.Runs.{as_mounted}
-use Rattle.cluster_program.specs.declared.status.Status.TheVariants as status
+use Rattle.cluster_program.specs.Mounting.{OfImage, IsMountedAlike, IsMountedOn, IsMountedReplayed, IsToldBySystem, BeginEnds, MountEnds, DiskFails, IsMisplaced, IsStopped, LiesOutside, IsDamaged, LacksRoom, NeverStands, NotMounted, NotRead}
+use Rattle.run_reports.specs.Report.{IsSinkFault}
+use Rattle.run_reports.specs.declared.status.Status.{Status}
+use Rattle.mounted_views.specs.Views.{view_of}
+use Rattle.run_reports.specs.declared.status.Status.TheVariants as status
+
+-- a count went up within a longer time too
+pub longer : (first before now x y : ℕ) → first ≤ before → WentUp before now x y → WentUp first now x y
+longer first before now x y earlier up = record { from = omega (arith, earlier, up.from); rose = up.rose; to = up.to }
 
 -- what a mount that fails tells of each image of which the disk shows the system files
 pub record IsToldRightly (d : DiskState) (f : MountFault) : Type 0 where
@@ -56,17 +60,8 @@ image_there d sound four tells = record { block_size = four; whole = sound.sizes
 pub nothing_kept : (b : ℕ) (bytes : List ℕ) → get (empty {K = ℕ} {X = List ℕ} {R = nat_cmp}) b ≡ Some bytes → ⊥
 nothing_kept b bytes has = let never : None ≡ Some bytes = sym (get-empty {K = ℕ} {X = List ℕ} nat_cmp b) ∙ has in cc
 
-pub is_on : (d : DiskState) (m : MountedValue) → AreGroupsOn d.size d.count m.groups → IsOn d (as_mounted d m)
-is_on d m on = record {
-  size = refl;
-  some = on.some;
-  groups = on.inside;
-  inside = λ b bytes has. absurd (nothing_kept b bytes has);
-  agrees = λ tells b bytes has. absurd (nothing_kept b bytes has);
-}
-
 -- it may be read from an image, of which it has the groups, and no block
-pub of_mounted : (d : DiskState) (m : MountedValue) (im : Image) → im.size ≡ d.size → IsOfMounted (seen_alone (as_mounted d m)) im m
+pub of_mounted : (d : DiskState) (m : MountedValue) (im : Image) → im.size ≡ d.size → IsOfMounted (seen_alone (view_of d.size m)) im m
 of_mounted d m im size = record {
   size = size;
   root = refl;
@@ -90,12 +85,12 @@ module _ (d : DiskState) (m : MountedValue) (law : NothingBreaks) (keeps : Repla
           odd (record { some = some_groups d m mounted; are = (seen (image_of d) m mounted).0; inside = (seen (image_of d) m mounted).1 })
 
   -- a root that is in no group is told at the superblock, in each image from which the node may read
-  pub stray_root : MountedAreRead → ¬ (HasRootInside (seen_alone (as_mounted d m))) → (first now : ℕ → ℕ) → MountEnds d first now (status.Damaged (superblock_place d.size) 2)
+  pub stray_root : MountedAreRead → ¬ (HasRootInside (seen_alone (view_of d.size m))) → (first now : ℕ → ℕ) → MountEnds d first now (status.Damaged (superblock_place d.size) 2)
   stray_root read stray first now = IsDamaged (superblock_place d.size) 2 told shown never
     where
       breaks : (im : Image) → IsImage im → im.size ≡ d.size → IsMounted im m → Breaks im 2 (superblock_place d.size)
       breaks im image size mounted =
-          let from = (read (seen_alone (as_mounted d m)) im m image mounted (of_mounted d m im size)).0 in
+          let from = (read (seen_alone (view_of d.size m)) im m image mounted (of_mounted d m im size)).0 in
           let address : (superblock_in im).root.address ≡ m.superblock.root.address = from.root in
           let claims : Claims im (superblock_place im.size) m.superblock.root.address Root = subst (λ a. Claims im (superblock_place im.size) a Root) address root in
           beyond_groups (superblock_place d.size) m.superblock.root.address Root (subst (λ n. Claims im (superblock_place n) m.superblock.root.address Root) size claims)
@@ -138,8 +133,10 @@ pub begin_never_done : (disk : DiskState) (first now : ℕ → ℕ) (own : Statu
 begin_never_done disk first now own (NotMounted own' ends) is = mount_never_done disk first now own ends is
 begin_never_done disk first now own (NotRead block x y mounted up within) is = cc
 begin_never_done disk first now own (IsStopped block rule why never) is = cc
+begin_never_done disk first now own (IsMisplaced dinode untold) is = cc
 
 pub no_begin_fault : (d : DiskState) (first now : ℕ → ℕ) (own : Status) → BeginEnds d first now own → IsSinkFault own → ⊥
 no_begin_fault d first now own (NotMounted own' ends) never = no_mount_fault d first now own ends never
 no_begin_fault d first now own (NotRead block x y mounted up within) never = never
 no_begin_fault d first now own (IsStopped block rule why none) never = never
+no_begin_fault d first now own (IsMisplaced dinode untold) never = never

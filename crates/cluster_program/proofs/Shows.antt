@@ -14,11 +14,10 @@ use Rattle.disk_trees.specs.declared.faults.TreeFault.TheVariants as tree
 use Rattle.cluster_program.specs.Course.{clean_of, Shows, HasShown, ShowsNone, TreeFailed, TreeDamaged, NothingHeld}
 use Rattle.cluster_program.specs.EndStatuses.{status_of_tree}
 use Rattle.cluster_program.specs.Mounting.{HasMounted, OfImage, IsMountedOn}
-use Rattle.cluster_program.specs.Report.{IsSinkFault}
-use Rattle.cluster_program.specs.declared.status.Status.{Status}
-use Rattle.cluster_program.specs.declared.status.Status.TheVariants as status
-use Rattle.cluster_program.proofs.Mounts.{no_mount_fault}
-use Rattle.cluster_program.proofs.Runs.{longer}
+use Rattle.run_reports.specs.Report.{IsSinkFault}
+use Rattle.run_reports.specs.declared.status.Status.{Status}
+use Rattle.run_reports.specs.declared.status.Status.TheVariants as status
+use Rattle.cluster_program.proofs.Mounts.{longer, no_mount_fault}
 
 -- what is known of a disk whose tree was read, or wasn't
 pub record HasReadTree (d : DiskState) (m : MountedValue) (before now : ℕ → ℕ) (r : Result Tree TreeFault) : Type 0 where

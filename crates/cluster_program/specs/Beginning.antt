@@ -1,31 +1,25 @@
--- How a run begins: its image is mounted, and its journals are replayed.
-use Rattle.std.specs.Prelude.{ℕ, ◌≡◌, List}
-use Rattle.trace_text.specs.declared.item.TraceItem.{TraceItem}
+-- What a run begins with: its image is mounted, and the replays of its journals are planned.
+use Rattle.std.specs.Prelude.{ℕ, ◌≡◌, ◌≤◌, List, length}
 use Rattle.damage_laws.specs.Telling.{HasRootInside}
-use Rattle.image_mount.specs.Mounted.{MountedValue}
-use Rattle.image_recovery.specs.Recoveries.{HaveReplayed}
+use Rattle.image_mount.specs.Mounted.{Journal, MountedValue}
+use Rattle.kept_profiles.specs.Beginning.{IsGiven}
 use Rattle.lone_view.specs.Seeing.{Lone, seen_alone}
-use Rattle.lone_node.specs.Answering.{IsSameDisk}
-use Rattle.lone_node.specs.Items.{IsBegun}
-use Rattle.lone_node.specs.Standing.{IsOn}
-use Rattle.lone_node.specs.Turns.{Moment}
+use Rattle.mounted_views.specs.Views.{view_of}
 use Rattle.peer_replay.specs.declared.planned.Plan.{Plan}
-use Rattle.shared_disk.specs.Disk.{IsIdle}
-use Rattle.cluster_program.specs.Mounting.{IsMountedOn, IsMountedReplayed}
-use Rattle.cluster_program.specs.Runs.{ArePlansOf, LeavesReplayed, as_mounted, joined}
+use Rattle.shared_disk.specs.Disk.{DiskState}
+use Rattle.cluster_program.specs.Mounting.{IsMountedOn, IsMountedReplayed, ArePlaced}
+use Rattle.cluster_program.specs.Runs.{ArePlansOf}
 
--- Node 1 mounted the image of a disk, joined, and replayed the image's journals, and this is what it sees then: nothing of a block yet.
-pub record HasBegun (given replayed : Moment) (time : ℕ) (items : List TraceItem) (view : Lone) : Type 0 where
+-- The image of a disk was mounted, with its root in one of the groups; this is what node 1 sees of it, nothing of a block yet; these are its journals, at least one, each in blocks of the disk, and these the plans of their
+-- replays, which can be carried out.
+pub record IsPrepared (disk : DiskState) (view : Lone) (journals : List Journal) (plans : List Plan) : Type 0 where
   pub value : MountedValue
-  pub mounted : IsMountedOn given.disk value
-  pub mounted_so : IsMountedReplayed given.disk value
-  pub view_is : view ≡ as_mounted given.disk value
-  pub on : IsOn replayed.disk view
+  pub mounted : IsMountedOn disk value
+  pub mounted_so : IsMountedReplayed disk value
+  pub view_is : view ≡ view_of disk.size value
+  pub journals_are : journals ≡ value.journals
+  pub some : 1 ≤ length journals
+  pub placed : ArePlaced disk.count journals
   pub root : HasRootInside (seen_alone view)
-  pub plans : List Plan
-  pub planned : ArePlansOf given.disk value plans
-  pub replays : HaveReplayed 1 time given replayed value.journals plans joined items
-  pub begun : IsBegun items
-  pub left : LeavesReplayed given.disk value replayed.disk
-  pub same : IsSameDisk given.disk replayed.disk
-  pub idle : IsIdle replayed.disk
+  pub planned : ArePlansOf disk value plans
+  pub given : IsGiven disk view journals plans

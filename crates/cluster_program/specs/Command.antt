@@ -1,22 +1,23 @@
 -- What the top call promises.
-use Rattle.std.specs.Prelude.{ℕ, ◌≡◌, ◌≤◌, ◌⊎◌, true, ⊤, List, Some, None}
+use Rattle.std.specs.Prelude.{ℕ, ◌≡◌, ◌≢◌, ◌≤◌, ◌⊎◌, true, ⊤, List, [], Some, None}
 use Rattle.profile_limits.specs.Limits.{most_blocks}
 use Rattle.fault_counts.specs.Causes.{Rose, WentUp}
 use Rattle.script_lang.specs.Grammar.{script_read, Script}
 use Rattle.script_lang.specs.Foreign.{first_foreign}
 use Rattle.trace_text.specs.declared.item.TraceItem.{TraceItem}
 use Rattle.script_lang.specs.Script.{ScriptValue}
-use Rattle.cluster_program.specs.World.{Inputs, Outputs}
-use Rattle.cluster_program.specs.Report.{Reports}
+use Rattle.run_reports.specs.Outputs.{Outputs}
+use Rattle.run_reports.specs.Report.{Reports}
+use Rattle.cluster_program.specs.World.{Inputs}
 use Rattle.cluster_program.specs.Course.{Course, AsksToRun, AsksToReplay, AsksToShow, AsksToMake, plan_for}
 use Rattle.cluster_program.specs.Dirty.{IsDirtyCount}
 use Rattle.cluster_program.specs.Mounting.{IsMountable}
 use Rattle.command_words.specs.declared.command.MakeWords.{MakeWords}
 use Rattle.mkgfs2_tool.specs.Order.{fits}
-use Rattle.cluster_program.specs.declared.output.Listing.{Listing}
-use Rattle.cluster_program.specs.declared.status.Status.{Status}
-use Rattle.cluster_program.specs.declared.status.Status.TheVariants as status
-use Rattle.cluster_program.specs.declared.status.WhichSink.TheVariants as which
+use Rattle.run_reports.specs.declared.output.Listing.{Listing}
+use Rattle.run_reports.specs.declared.status.Status.{Status}
+use Rattle.run_reports.specs.declared.status.Status.TheVariants as status
+use Rattle.run_reports.specs.declared.status.WhichSink.TheVariants as which
 
 -- a fault is answered only where the count of what failed rose, from the first number to the second
 abbrev pub FaultHasCause : Inputs → Inputs → Outputs → Outputs → Status → Type 0
@@ -36,7 +37,7 @@ pub record Ends (words : List (List ℕ)) (given left : Inputs) (sinks sinks_now
   pub course : Course words given left listing script items lines own
   pub dirty : ℕ
   pub report : Reports sinks sinks_now listing script items lines dirty own answer
-  pub counted : IsDirtyCount given.disk left.disk script items report.told dirty
+  pub counted : own ≡ status.Done → items ≢ [] → IsDirtyCount given.disk left.disk script items dirty
 
 -- ---- when a command is carried out whole
 

@@ -28,12 +28,12 @@ use Rattle.image_mount.specs.Mounted.{IsMounted, Journal, MountedValue}
 use Rattle.show_text.specs.Show.{journal_lines, tree_lines}
 use Rattle.cluster_program.specs.Mounting.{HasMounted, OfImage, IsImageOf, IsMountableClean, NeverStands, MountEnds, IsMountedOn}
 use Rattle.cluster_program.specs.Runs.{Runs}
-use Rattle.cluster_program.specs.declared.output.Listing.{Listing}
-use Rattle.cluster_program.specs.declared.output.Listing.TheVariants.{Clients, Journals}
+use Rattle.run_reports.specs.declared.output.Listing.{Listing}
+use Rattle.run_reports.specs.declared.output.Listing.TheVariants.{Clients, Journals}
 use Rattle.cluster_program.specs.World.{Inputs, KeepsScript, KeepsDisk}
-use Rattle.cluster_program.specs.declared.status.Status.{Status}
-use Rattle.cluster_program.specs.declared.status.Status.TheVariants as status
-use Rattle.cluster_program.specs.declared.status.Unbuilt.TheVariants as part
+use Rattle.run_reports.specs.declared.status.Status.{Status}
+use Rattle.run_reports.specs.declared.status.Status.TheVariants as status
+use Rattle.run_reports.specs.declared.status.Unbuilt.TheVariants as part
 use Rattle.image_mount.specs.declared.field.Field.TheVariants as field
 
 -- ---- the words

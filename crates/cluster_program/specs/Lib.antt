@@ -1,16 +1,10 @@
 pub mod Input
 pub mod World
-pub mod Orders
-pub mod StatusText
-pub mod Out
-pub mod Report
 pub mod Mounting
 pub mod Runs
 pub mod Beginning
 pub mod Dirty
 pub mod Course
 pub mod Command
-pub mod Quiet
 pub mod EndStatuses
-pub mod Streams
 pub mod Tasks

@@ -1,5 +1,6 @@
 -- Which image can be mounted, and how a command ends that can't mount one.
-use Rattle.std.specs.Prelude.{ℕ, ◌≡◌, ◌<◌, Bool, false, true, IsTrue, Option, None, Some, slice_get}
+use Rattle.std.specs.Prelude.{ℕ, ◌≡◌, ◌<◌, ◌^◌, Bool, false, true, IsTrue, List, length, Option, None, Some, slice_get}
+use Rattle.std.specs.List.{All, AllByRecursion}
 use Rattle.fault_counts.specs.Causes.{WentUp}
 use Rattle.file_tree.specs.Tree.{Tree}
 use Rattle.image_model.specs.Claims.{every}
@@ -16,8 +17,8 @@ use Rattle.image_replays.specs.Replays.{IsReadPlace, Stops}
 use Rattle.log_layout.specs.Journal.{ring_of, head_in}
 use Rattle.log_layout.specs.declared.log_header.LogHeader.{LogHeader}
 use Rattle.shared_disk.specs.Disk.{DiskState}
-use Rattle.cluster_program.specs.declared.status.Status.{Status}
-use Rattle.cluster_program.specs.declared.status.Status.TheVariants as status
+use Rattle.run_reports.specs.declared.status.Status.{Status}
+use Rattle.run_reports.specs.declared.status.Status.TheVariants as status
 
 -- so of the image on a disk that tells its blocks
 abbrev pub OfImage : DiskState → (Image → Type 0) → Type 0
@@ -116,10 +117,18 @@ pub record IsStoppedAt (im : Image) (b rule : ℕ) : Type 0 where
   pub stops : Stops im mounted.layout rule b
   pub inside : b < im.count
 
+-- a journal has so many places as can be numbered, and these are blocks of a disk of so many
+abbrev pub IsPlaced : ℕ → Journal → Type 0
+IsPlaced count j = (length j.blocks < 2 ^ 32) × All (λ b. b < count) j.blocks
+
+abbrev pub ArePlaced : ℕ → List Journal → Type 0
+ArePlaced count journals = AllByRecursion (IsPlaced count) journals
+
 -- Why a run doesn't begin: the image isn't mounted; or it is, and, as its journals were read, the disk failed at a block of it, at a place of one of them
--- where it tells its blocks, or a block stops their replay.
+-- where it tells its blocks, or a block stops their replay; or, on a disk that tells nothing, a journal with its dinode in this block is none that a node can have there.
 pub data BeginEnds (disk : DiskState) (faults faults_now : ℕ → ℕ) : Status → Type 0 where
   NotMounted : (own : Status) → MountEnds disk faults faults_now own → BeginEnds disk faults faults_now own
   NotRead : (block x y : ℕ) → OfImage disk (λ im. HasReadPlace im block) → WentUp (faults 0) (faults_now 0) x y → block < disk.count
       → BeginEnds disk faults faults_now (status.DeviceFault 0 (Some block) x y)
   IsStopped : (block rule : ℕ) → OfImage disk (λ im. IsStoppedAt im block rule) → OfImage disk NeverStands → BeginEnds disk faults faults_now (status.Damaged block rule)
+  IsMisplaced : (dinode : ℕ) → (IsTrue disk.tells → ⊥) → BeginEnds disk faults faults_now (status.Damaged dinode 3)

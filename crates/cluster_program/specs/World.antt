@@ -1,4 +1,4 @@
--- What a command is given, and what it writes to, each as far as it tells, with the counts of their faults.
+-- What a command is given, as far as it tells, with the counts of its faults.
 use Rattle.std.specs.Prelude.{ℕ, ◌≡◌, List, Option}
 use Rattle.shared_disk.specs.Disk.{DiskState, Operation}
 
@@ -10,18 +10,8 @@ pub record Inputs : Type 0 where
   pub left : Option (List ℕ)
   pub script_faults : ℕ
 
--- what the sink of the trace and that of the output hold
-pub record Outputs : Type 0 where
-  pub trace : Option (List ℕ)
-  pub trace_faults : ℕ
-  pub output : Option (List ℕ)
-  pub output_faults : ℕ
-
 abbrev pub inputs : DiskState → Option (List Operation) → (ℕ → ℕ) → Option (List ℕ) → ℕ → Inputs
 inputs state list faults text failed = record { disk = state; disk_list = list; disk_faults = faults; left = text; script_faults = failed }
-
-abbrev pub outputs : Option (List ℕ) → ℕ → Option (List ℕ) → ℕ → Outputs
-outputs traced failed printed broken = record { trace = traced; trace_faults = failed; output = printed; output_faults = broken }
 
 -- ---- what stays as it was
 

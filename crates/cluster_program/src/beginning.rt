@@ -1,47 +1,56 @@
-ghost use Rattle.std.specs.Prelude.{◌≡◌, ◌≤◌, ℕ, List, [], IfOk, IfErr, IfSome, Option, None};
+ghost use Rattle.std.specs.Prelude.{◌≡◌, ◌↔◌, None, IfOk, IfErr, IsTrue};
 ghost use Rattle.gfs2_layout.specs.Device.{IsBlockSize};
-ghost use Rattle.image_mount.specs.Mounted.{MountedValue};
-ghost use Rattle.script_lang.specs.Script.{ScriptValue};
-ghost use Rattle.shared_disk.specs.Disk.{IsIdle};
-ghost use Rattle.lone_node.specs.Turns.{moment};
-ghost use Rattle.cluster_program.specs.Beginning.{HasBegun};
-ghost use Rattle.cluster_program.specs.Mounting.{IsMountedOn};
-ghost use Rattle.cluster_program.specs.Runs.{RunEnds};
-ghost use Rattle.cluster_program.specs.World.{inputs};
+ghost use Rattle.shared_disk.specs.Disk.{IsIdle, ReadsOnly};
+ghost use Rattle.cluster_program.specs.Beginning.{IsPrepared};
+ghost use Rattle.cluster_program.specs.Mounting.{ArePlaced, BeginEnds, IsPlaced};
 
-use crate::end_status::{not_planned, not_replayed};
+use crate::end_status::{misplaced, not_planned};
 use crate::mounting::{Ready, mount, ready_of};
-use crate::status::Status;
-use cut_replays::{failed_replays_stand, stopped_replays_stand};
-use image_recovery::{a_replay_leaves_its_image, planned_replays_can_be_made, replay_journals};
+use image_mount::{Field, JournalMap};
+use image_recovery::planned_replays_can_be_made;
 use image_replays::{plan_replay, stopped_images_have_no_replay};
-use lone_node::join;
 use lone_view::LoneView;
+use peer_replay::Plan;
+use run_reports::Status;
 use shared_disk::SharedDisk;
 use std::alloc::Global;
-use trace_text::TraceItem;
 
-/// Mounts the image of an idle disk, and, as node 1, joins and replays its journals by rising slot; then what the node sees. The time is that of the clean
-/// headers, in seconds. The items go behind `items`, which is empty. It costs what mounting costs, what `plan_replay` and `replay_journals` cost.
-pub(crate) fn begin<D: SharedDisk>(
-    alloc: Global,
-    disk: &mut D,
-    time: u64,
-    items: &mut Vec<TraceItem>,
-) -> Result<LoneView, Status>
+/// What a run of a mounted image is made of: what node 1 sees of it, its journals, and the plans of their replays.
+#[derive(Drop)]
+pub(crate) struct Prepared {
+    pub view: LoneView,
+    pub journals: Vec<JournalMap>,
+    pub plans: Vec<Plan>,
+}
+
+// Whether a journal has so many places as can be numbered, each in a block of a disk of so many.
+fn is_placed(journal: &JournalMap, count: u64) -> bool
+    ensures { IsTrue result ↔ IsPlaced count journal.now }
+{
+    journal.blocks.len() < 1 << 32 && journal.blocks.iter().all(|block| *block < count)
+}
+
+// The dinode of the first of these journals that isn't so.
+fn first_misplaced(journals: &[JournalMap], count: u64) -> Option<u64>
+    ensures { result ≡ None ↔ ArePlaced count journals.now }
+{
+    for journal in journals {
+        if !is_placed(journal, count) {
+            return Some(journal.dinode);
+        }
+    }
+    None
+}
+
+/// Mounts the image of an idle disk, and plans the replays of its journals; nothing is written. It costs what mounting and `plan_replay` cost.
+pub(crate) fn prepare<D: SharedDisk>(alloc: Global, disk: &mut D) -> Result<Prepared, Status>
     requires idle { IsIdle (D.state disk.old) }
     requires size { IsBlockSize (D.state disk.old).size }
-    requires none { items.old.items ≡ [] }
-    ensures begun { IfOk result (λ view. HasBegun (moment (D.state disk.old) (D.list disk.old)) (moment (D.state disk.new) (D.list disk.new)) time items.new.items view) }
-    ensures ends { IfErr result (λ own. (s : ScriptValue) (left left_now : Option (List ℕ)) (failed failed_now : ℕ) → (value : Option MountedValue)
-        × IfSome value (IsMountedOn (D.state disk.old))
-        × RunEnds (inputs (D.state disk.old) (D.list disk.old) (D.faults disk.old) left failed) (inputs (D.state disk.new) (D.list disk.new) (D.faults disk.new) left_now failed_now) s time items.new.items value None own) }
-    ensures later { (i : ℕ) → D.faults disk.old i ≤ D.faults disk.new i }
+    ensures prepared { IfOk result (λ it. IsPrepared (D.state disk.old) it.view it.journals.items it.plans.items) }
+    ensures ends { IfErr result (BeginEnds (D.state disk.old) (D.faults disk.old) (D.faults disk.new)) }
+    ensures reads { ReadsOnly (D.state disk.old) (D.state disk.new) (D.list disk.old) (D.list disk.new) (D.faults disk.old) (D.faults disk.new) }
 {
     planned_replays_can_be_made();
-    a_replay_leaves_its_image();
-    stopped_replays_stand();
-    failed_replays_stand();
     stopped_images_have_no_replay();
     let mounted = match mount(alloc, disk) {
         Ok(mounted) => mounted,
@@ -55,12 +64,18 @@ pub(crate) fn begin<D: SharedDisk>(
         Ok(ready) => ready,
         Err(own) => return Err(own),
     };
-    match join(items) {
-        Ok(()) => {}
-        Err(_) => return Err(Status::NoMemory),
+    if journals.is_empty() {
+        return Err(Status::NotProfile {
+            field: Field::Journals,
+            value: 0,
+        });
     }
-    match replay_journals(alloc, disk, 1, &journals, &plans, time, items) {
-        Ok(()) => Ok(view),
-        Err(fault) => Err(not_replayed(fault)),
+    match first_misplaced(&journals, disk.blocks()) {
+        Some(dinode) => Err(misplaced(dinode)),
+        None => Ok(Prepared {
+            view,
+            journals,
+            plans,
+        }),
     }
 }

@@ -4,14 +4,14 @@ ghost use Rattle.gfs2_layout.specs.Device.{IsBlockSize};
 ghost use Rattle.command_words.specs.Limits.{IsMakeWithin};
 ghost use Rattle.cluster_program.specs.Course.{Makes, options_of as options_asked};
 ghost use Rattle.cluster_program.specs.World.{inputs};
-ghost use Rattle.cluster_program.specs.Report.{IsSinkFault};
+ghost use Rattle.run_reports.specs.Report.{IsSinkFault};
 ghost use Rattle.profile_limits.specs.Limits.{most_blocks};
 
-use crate::status::Status;
 use command_words::MakeWords;
 use image_mount::Field;
 use mkgfs2_tool::{MakeFault, MakeOptions, make};
 use profile_limits::MOST_BLOCKS;
+use run_reports::Status;
 use shared_disk::SharedDisk;
 use std::alloc::Global;
 

@@ -1,16 +1,15 @@
 ghost use Rattle.std.specs.Prelude.{◌≡◌, ℕ, IfOk, IfErr};
 ghost use Rattle.gfs2_layout.specs.Device.{IsBlockSize};
 ghost use Rattle.image_model.specs.Image.{IsImage, image_of};
-ghost use Rattle.lone_node.specs.Standing.{IsOn};
+ghost use Rattle.lone_view.specs.Groups.{AreGroupsOn};
+ghost use Rattle.mounted_views.specs.Views.{view_of};
 ghost use Rattle.shared_disk.specs.Disk.{IsIdle};
 ghost use Rattle.shared_disk.specs.Disk.{ReadsOnly};
 ghost use Rattle.damage_laws.specs.Telling.{HasRootInside};
 ghost use Rattle.lone_view.specs.Seeing.{seen_alone};
 ghost use Rattle.cluster_program.specs.Mounting.{MountEnds, OfImage, IsMountedAlike, IsMountedOn, IsMountedReplayed};
-ghost use Rattle.cluster_program.specs.Runs.{as_mounted};
 
 use crate::end_status::not_mounted;
-use crate::status::Status;
 use damage_laws::views_may_be_read_from_mounted_images;
 use gfs2_layout::superblock_block;
 use image_model::{replays_keep_system_files, what_stands_breaks_nothing};
@@ -18,6 +17,7 @@ use image_mount::{JournalMap, Mounted, mount_image, mounted_groups_are_as_seen};
 use image_replays::replayed_images_have_the_same_system;
 use lone_view::{LoneView, are_groups};
 use resource_groups::group_of;
+use run_reports::Status;
 use shared_disk::SharedDisk;
 use std::alloc::Global;
 
@@ -58,9 +58,9 @@ pub(crate) fn ready_of<D: SharedDisk>(
     requires mounted { IsMountedOn (D.state disk.now) mounted }
     requires replayed { IsMountedReplayed (D.state disk.now) mounted }
     requires alike { IsMountedAlike (D.state disk.now) mounted }
-    ensures view { IfOk result (λ ready. ready.view ≡ as_mounted (D.state disk.now) mounted) }
+    ensures view { IfOk result (λ ready. ready.view ≡ view_of (D.state disk.now).size mounted) }
     ensures journals { IfOk result (λ ready. ready.journals.items ≡ mounted.journals) }
-    ensures on { IfOk result (λ ready. IsOn (D.state disk.now) ready.view) }
+    ensures on { IfOk result (λ _. AreGroupsOn (D.state disk.now).size (D.state disk.now).count mounted.groups) }
     ensures root { IfOk result (λ ready. HasRootInside (seen_alone ready.view)) }
     ensures image { OfImage (D.state disk.now) IsImage }
     ensures ends { IfErr result (λ own. (first now : ℕ → ℕ) → MountEnds (D.state disk.now) first now own) }

@@ -1,4 +1,6 @@
 ghost use Rattle.std.specs.Prelude.{◌≡◌, ◌≤◌, ℕ, List, IfOk, IfErr, None};
+ghost use Rattle.std.specs.List.{AllByRecursion};
+ghost use Rattle.kept_profiles.specs.Laws.{IsLineOfScript};
 ghost use Rattle.script_lang.specs.Grammar.{script_read, Script as TheScript};
 ghost use Rattle.script_lang.specs.OneNode.{IsOneNode};
 ghost use Rattle.script_lang.specs.WellFormed.{IsWellFormed};
@@ -7,8 +9,9 @@ ghost use Rattle.cluster_program.specs.Course.{HasRead, LacksScript};
 ghost use Rattle.cluster_program.specs.EndStatuses.{status_of_input, status_of_refusal};
 
 use crate::input::{InputFault, read_text};
-use crate::status::{Status, Unbuilt};
+use run_reports::{Status, Unbuilt};
 use script_lang::{Script, ScriptRefusal, first_foreign_line, limit_decides, parse};
+use script_laws::a_read_script_has_bytes;
 use std::alloc::Global;
 use stream_io::Source;
 
@@ -49,10 +52,12 @@ pub(crate) fn read_script<S: Source>(alloc: Global, source: &mut S) -> Result<Sc
         × (script_read text ≡ TheScript s)) }
     ensures built { IfOk result (λ s. (first_foreign s ≡ None) × IsOneNode s) }
     ensures well_formed { IfOk result IsWellFormed }
+    ensures small { IfOk result (λ s. AllByRecursion IsLineOfScript s.lines) }
     ensures none { IfErr result (LacksScript (S.left source.old) (S.left source.new) (S.faults source.old) (S.faults source.new)) }
     ensures later { S.faults source.old ≤ S.faults source.new }
 {
     limit_decides();
+    a_read_script_has_bytes();
     let text = match read_text(alloc, source) {
         Ok(text) => text,
         Err(fault) => return Err(unread(fault)),

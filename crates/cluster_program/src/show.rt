@@ -8,10 +8,10 @@ ghost use Rattle.cluster_program.specs.Course.{Shows};
 
 use crate::end_status::not_read;
 use crate::mounting::mount;
-use crate::status::Status;
 use disk_trees::read_mounted_tree;
 use image_mount::JournalMap;
 use no_memory::NoMemory;
+use run_reports::Status;
 use shared_disk::SharedDisk;
 use show_text::append_journal;
 use std::alloc::Global;

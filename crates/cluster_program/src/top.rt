@@ -1,23 +1,24 @@
-ghost use Rattle.std.specs.Prelude.{◌≡◌, ◌≤◌, ℕ, List, [], IfOk, Option, map, string_bytes};
+ghost use Rattle.std.specs.Prelude.{◌≡◌, ◌≢◌, ◌≤◌, ℕ, List, [], IfOk, Option, map, string_bytes};
 ghost use Rattle.shared_disk.specs.Disk.{IsIdle};
 ghost use Rattle.shared_disk.specs.Disk.{ReadsOnly};
 ghost use Rattle.script_lang.specs.Grammar.{nothing};
 ghost use Rattle.gfs2_layout.specs.Device.{IsBlockSize};
-ghost use Rattle.cluster_program.specs.World.{inputs, outputs};
+ghost use Rattle.run_reports.specs.Outputs.{outputs};
+ghost use Rattle.cluster_program.specs.World.{inputs};
 ghost use Rattle.cluster_program.specs.Course.{AsksToReplay, AsksToRun, Course, Shows};
-ghost use Rattle.cluster_program.specs.Report.{IsSinkFault};
+ghost use Rattle.run_reports.specs.Report.{IsSinkFault};
 ghost use Rattle.cluster_program.specs.Command.{Ends, FaultHasCause, IsComplete};
-ghost use Rattle.cluster_program.specs.Quiet.{IsQuiet};
+ghost use Rattle.run_reports.specs.OneNode.{IsOfOneNode};
+ghost use Rattle.cluster_program.specs.Dirty.{IsDirtyCount};
+ghost use Rattle.cluster_program.specs.Runs.{own_of};
 
 use crate::image::make_image;
-use crate::output::Listing;
 use crate::replay::replay_script;
-use crate::report::report;
 use crate::run::mount_and_run;
 use crate::script::read_script;
 use crate::show::show_image;
-use crate::status::Status;
 use crate::words::{Task, read_task};
+use run_reports::{Listing, Status, report, runs_are_of_one_node};
 use script_lang::Script;
 use shared_disk::SharedDisk;
 use std::alloc::Global;
@@ -34,13 +35,14 @@ pub struct Ended<D> {
 }
 
 // A command that was carried out: what it lists, the script that it ran, without anything in it where it ran none, the lines that it
-// shows, and its end.
+// shows, its end, and how many journals it left not clean, where all was done.
 #[derive(Drop)]
 struct Carried {
     listing: Listing,
     script: Script,
     lines: Vec<u8>,
     own: Status,
+    dirty: u64,
 }
 
 fn no_script(alloc: Global) -> Script
@@ -66,6 +68,28 @@ fn without_script(alloc: Global, own: Status) -> Carried
         script: no_script(alloc),
         lines: Vec::new(alloc),
         own,
+        dirty: 0,
+    }
+}
+
+// The end of one that ran this script, with so many journals that it left not clean, or so.
+fn carried_run(alloc: Global, listing: Listing, script: Script, run: Result<u64, Status>) -> Carried
+    ensures listing { result.listing ≡ listing }
+    ensures script { result.script ≡ script }
+    ensures lines { result.lines.items ≡ [] }
+    ensures own { result.own ≡ own_of run }
+    ensures dirty { IfOk run (λ dirty. result.dirty ≡ dirty) }
+{
+    let (own, dirty) = match run {
+        Ok(dirty) => (Status::Done, dirty),
+        Err(own) => (own, 0),
+    };
+    Carried {
+        listing,
+        script,
+        lines: Vec::new(alloc),
+        own,
+        dirty,
     }
 }
 
@@ -85,6 +109,7 @@ fn show<D: SharedDisk>(alloc: Global, disk: &mut D) -> Carried
             script: no_script(alloc),
             lines,
             own: Status::Done,
+            dirty: 0,
         },
         Err(own) => without_script(alloc, own),
     }
@@ -106,20 +131,17 @@ fn read_and_run<D: SharedDisk, S: Source>(
         (inputs (D.state disk.new) (D.list disk.new) (D.faults disk.new) (S.left source.new) (S.faults source.new))
         result.listing result.script items.new.items result.lines.items result.own }
     ensures own { IsSinkFault result.own → ⊥ }
-    ensures quiet { (told : Status) → (told ≡ Status.Done → result.own ≡ Status.Done) → IsQuiet result.script items.new.items told }
+    ensures one { IsOfOneNode result.script items.new.items }
+    ensures counted { result.own ≡ Status.Done → items.new.items ≢ [] → IsDirtyCount (D.state disk.old) (D.state disk.new) result.script items.new.items result.dirty }
     ensures later { ((j : ℕ) → D.faults disk.old j ≤ D.faults disk.new j) × (S.faults source.old ≤ S.faults source.new) }
 {
+    runs_are_of_one_node();
     let script = match read_script(alloc, source) {
         Ok(script) => script,
         Err(own) => return without_script(alloc, own),
     };
-    let own = mount_and_run(alloc, disk, &script, time, items);
-    Carried {
-        listing: Listing::Clients,
-        script,
-        lines: Vec::new(alloc),
-        own,
-    }
+    let run = mount_and_run(alloc, disk, &script, time, items);
+    carried_run(alloc, Listing::Clients, script, run)
 }
 
 // Replays the journals of the image. The items go behind `items`, which is empty.
@@ -131,20 +153,17 @@ fn replay<D: SharedDisk>(alloc: Global, disk: &mut D, items: &mut Vec<TraceItem>
         (inputs (D.state disk.old) (D.list disk.old) (D.faults disk.old) left failed) (inputs (D.state disk.new) (D.list disk.new) (D.faults disk.new) left failed)
         result.listing result.script items.new.items result.lines.items result.own }
     ensures own { IsSinkFault result.own → ⊥ }
-    ensures quiet { (told : Status) → (told ≡ Status.Done → result.own ≡ Status.Done) → IsQuiet result.script items.new.items told }
+    ensures one { IsOfOneNode result.script items.new.items }
+    ensures counted { result.own ≡ Status.Done → items.new.items ≢ [] → IsDirtyCount (D.state disk.old) (D.state disk.new) result.script items.new.items result.dirty }
     ensures later { (j : ℕ) → D.faults disk.old j ≤ D.faults disk.new j }
 {
+    runs_are_of_one_node();
     let script = match replay_script(alloc) {
         Ok(script) => script,
         Err(_) => return without_script(alloc, Status::NoMemory),
     };
-    let own = mount_and_run(alloc, disk, &script, 0, items);
-    Carried {
-        listing: Listing::Journals,
-        script,
-        lines: Vec::new(alloc),
-        own,
-    }
+    let run = mount_and_run(alloc, disk, &script, 0, items);
+    carried_run(alloc, Listing::Journals, script, run)
 }
 
 // Carries a command out. The items go behind `items`, which is empty.
@@ -163,9 +182,11 @@ fn carry_out<D: SharedDisk, S: Source>(
         (inputs (D.state disk.new) (D.list disk.new) (D.faults disk.new) (S.left source.new) (S.faults source.new))
         result.listing result.script items.new.items result.lines.items result.own }
     ensures own { IsSinkFault result.own → ⊥ }
-    ensures quiet { (told : Status) → (told ≡ Status.Done → result.own ≡ Status.Done) → IsQuiet result.script items.new.items told }
+    ensures one { IsOfOneNode result.script items.new.items }
+    ensures counted { result.own ≡ Status.Done → items.new.items ≢ [] → IsDirtyCount (D.state disk.old) (D.state disk.new) result.script items.new.items result.dirty }
     ensures later { ((j : ℕ) → D.faults disk.old j ≤ D.faults disk.new j) × (S.faults source.old ≤ S.faults source.new) }
 {
+    runs_are_of_one_node();
     match read_task(words, disk.block_size()) {
         Ok(Task::Make(words)) => {
             let own = make_image(alloc, disk, &words);
@@ -183,9 +204,9 @@ fn carry_out<D: SharedDisk, S: Source>(
 /// image, tells its journals and the tree for which it stands with what they say in place, and writes nothing; it costs a read of each block of the system
 /// files, of each place of a journal that isn't clean, and then of each block of the device, and memory for these, its tree and its lines. `replay` mounts the image,
 /// and puts home what its journals say; it costs what mounting costs, a read of each place of a journal that isn't clean and a write of each block that goes home.
-/// `run` reads a script from `script`, does what `replay` does, runs the script on the image, and tells each client's replies; it costs what a replay
-/// costs, memory for the script, the items and the blocks that its calls need, a read of each of these, a write of each block that a call changes and a
-/// barrier behind these, and a pass over the items for each client. It waits for nobody.
+/// `run` reads a script from `script`, does what `replay` does, runs the script on the image with a log in memory, crashes included, and tells each client's replies; it costs what a replay
+/// costs, memory for the script, the items, the log and the blocks that its calls need, a read of each of these, two writes of each block that a flush takes, one of them home, with the barriers of the flushes,
+/// and a pass over the items for each client; where the node stopped a read of each place of its journal, and then of each journal. It waits for nobody.
 pub fn gfs2run_alone<D: SharedDisk, S: Source, O: Sink, T: Sink>(
     alloc: Global,
     words: &[String],
@@ -222,8 +243,11 @@ pub fn gfs2run_alone<D: SharedDisk, S: Source, O: Sink, T: Sink>(
         script,
         lines,
         own,
+        dirty,
     } = carry_out(alloc, words, &mut disk, script, &mut items);
-    let status = report(alloc, trace, out, listing, &script, &items, lines, own);
+    let status = report(
+        alloc, trace, out, listing, &script, &items, lines, own, dirty,
+    );
     Ended { status, disk }
 }
 

@@ -2,8 +2,8 @@ ghost use Rattle.std.specs.Prelude.{◌≡◌, ℕ, List, IfOk, IfErr, MatchOpti
 ghost use Rattle.cluster_program.specs.Course.{is_built as counts_as_built, words_refusal};
 ghost use Rattle.cluster_program.specs.Tasks.{IsTaskOf, Asks};
 
-use crate::status::{Status, Unbuilt};
 use command_words::{Command, MakeWords, read_words};
+use run_reports::{Status, Unbuilt};
 
 /// What the words ask for, among the commands that are built.
 #[derive(Clone, Copy, Debug, PartialEq, Eq)]

@@ -4,3 +4,5 @@ pub mod Stopped
 pub use Rattle.image_outcomes.specs.CutShort
 pub use Rattle.image_recovery.specs.Recoveries
 pub use Rattle.image_recovery.specs.Left
+pub use Rattle.image_recovery.specs.Ended
+pub use Rattle.journal_reads.specs.Reading

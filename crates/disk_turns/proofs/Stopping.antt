@@ -16,7 +16,7 @@ use Rattle.disk_turns.proofs.Gaining.{gains_write}
 pub stopped_write : (node : ℕ) (d now next : DiskState) (a b c : Option (List Operation)) (ws : List Written) (i : ℕ) (w e : Written) (bytes : List ℕ) (rise : Rise) → RiseFrom 0 ws
     → i < length ws → w ≡ get_or ws i e → bytes ≡ w.bytes → AreInFlight node d now (flights_of (take i ws)) → Gains a b (writes_of node (take i ws))
     → ((next ≡ now) × (c ≡ b)) ⊎ ((next ≡ after_write now node w.block bytes) × Gains b c (Write node w.block bytes ∷ []))
-    → HasStoppedInAs node (moment d a) (moment next c) ws (record { block = Some w.block; rise = rise; on_disk = 0; in_flight = i })
+    → HasStoppedInAs node (moment d a) (moment next c) ws (record { block = Some w.block; rise = Some rise; on_disk = 0; in_flight = i })
 stopped_write node d now next a b c ws i w e bytes rise rises low is same fly gains (inl still) = record {
   stopped = record {
     wrote = take i ws;
@@ -26,6 +26,7 @@ stopped_write node d now next a b c ws i w e bytes rise rises low is same fly ga
     gains = subst (λ o. Gains a o (writes_of node (take i ws))) (sym still.1) gains;
   };
   in_flight = sym (length-take-le i ws (omega (arith, low)));
+  exactly = tt;
 }
 stopped_write node d now next a b c ws i w e bytes rise rises low is same fly gains (inr put) = record {
   stopped = record {
@@ -36,11 +37,12 @@ stopped_write node d now next a b c ws i w e bytes rise rises low is same fly ga
     gains = gains_write node a b c ws i w e bytes low is same gains put.1;
   };
   in_flight = sym (length-take-le i ws (omega (arith, low)));
+  exactly = tt;
 }
 
 -- behind a barrier that failed all are in flight
 pub stopped_barrier : (node : ℕ) (d now next : DiskState) (a b c : Option (List Operation)) (ws : List Written) (n : ℕ) (rise : Rise) → n ≡ length ws → AreInFlight node d now (flights_of ws)
-    → Gains a b (writes_of node ws) → (next ≡ now) × (c ≡ b) → HasStoppedInAs node (moment d a) (moment next c) ws (record { block = None; rise = rise; on_disk = 0; in_flight = n })
+    → Gains a b (writes_of node ws) → (next ≡ now) × (c ≡ b) → HasStoppedInAs node (moment d a) (moment next c) ws (record { block = None; rise = Some rise; on_disk = 0; in_flight = n })
 stopped_barrier node d now next a b c ws n rise count fly gains still = record {
   stopped = record {
     wrote = ws;
@@ -50,6 +52,7 @@ stopped_barrier node d now next a b c ws n rise count fly gains still = record {
     gains = subst (λ o. Gains a o (writes_of node ws)) (sym still.1) gains;
   };
   in_flight = count;
+  exactly = tt;
 }
 
 -- the next turn of blocks, of which there are some
@@ -103,6 +106,7 @@ stopped_behind node first between after blocks done some later parts turns whole
   stopped = record { done = done; some = some; later = later; parts = parts; turns = turns; whole = whole; next = next; between = between; brought = brought; stopped = is.stopped };
   on_disk = count;
   in_flight = is.in_flight;
+  exactly = is.exactly;
 }
 
 -- where a turn comes next, blocks are left

@@ -1,3 +1,4 @@
 pub mod Writing
 pub mod Turns
+pub mod Crashes
 pub mod Faults

@@ -71,6 +71,9 @@ pub record IsOutcomeOf (v : Volume) (d : Disk (Trees (images_of v))) (rings : Ri
   pub change : (b : ℕ) → MayChange im v.layout b → MayChange left v.layout b
   -- a header that has come to its place, with all else that flew to its journal, counts
   pub landed : (j k : ℕ) → IsJournalAt v.layout j k → HeaderFliesTo im k flying → HasLandedAt im k flying left → choice j ≡ true
+  -- each journal is in its blocks
+  pub many : (j k : ℕ) → IsJournalAt v.layout j k → (ring_at left k).places ≡ v.places k
+  pub there : (j k p : ℕ) → IsJournalAt v.layout j k → p < v.places k → content_block (every left k) p ≡ v.place k p
   -- each journal says what it said, or, where its new head is taken, what it says with that header in its place
   pub says : (j k : ℕ) → IsJournalAt v.layout j k → SaysAs (ring_at left k) (if choice j then landed_at im k flying else ring_at im k)
   -- and it is the machine's disk once all has settled so, with nothing in flight

@@ -1,4 +1,5 @@
 pub mod Recovered
+pub mod Crashing
 pub mod ReadBack
 pub mod Ending
 pub mod Left

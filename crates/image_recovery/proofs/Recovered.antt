@@ -19,7 +19,7 @@ use Rattle.image_recovery.specs.Recoveries.{AreHeadersRead, AreReplays, CanRepla
 use Rattle.journal_replays.specs.Faults.{IfDiskFailed, IfNoMemory}
 use Rattle.journal_replays.specs.Headers.{IsHeaderRead}
 use Rattle.journal_replays.specs.declared.faults.ReplayFault.{ReplayFault}
-use Rattle.journal_replays.specs.declared.faults.ReplayFault.TheVariants.{DiskFailed, NoMemory}
+use Rattle.journal_replays.specs.declared.faults.ReplayFault.TheVariants.{Crashed, DiskFailed, NoMemory}
 use Rattle.journal_replays.specs.Replays.{CanReplay, HasReplayed, IsReplayBy, IsSameDisk}
 use Rattle.log_layout.specs.declared.log_header.LogHeader.{LogHeader}
 use Rattle.peer_replay.specs.declared.planned.Plan.{Plan}
@@ -156,10 +156,12 @@ module _ (js : List Journal) (ps : List Plan) (i : ℕ) (j : Journal) (p : Plan)
 
 pub failed_next : (fault : ReplayFault) (P Q : Option ℕ → Type 0) → ((block : Option ℕ) → P block → Q block) → IfDiskFailed fault P → IfDiskFailed fault Q
 failed_next (DiskFailed block rise) P Q f is = f block is
+failed_next Crashed P Q f is = tt
 failed_next NoMemory P Q f is = tt
 
 pub starved_next : (fault : ReplayFault) {P Q : Type 0} → (P → Q) → IfNoMemory fault P → IfNoMemory fault Q
 starved_next (DiskFailed block rise) f is = tt
+starved_next Crashed f is = tt
 starved_next NoMemory f is = f is
 
 -- ---- what stands at a place

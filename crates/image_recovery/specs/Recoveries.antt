@@ -3,6 +3,7 @@ use Rattle.std.specs.Prelude.{ℕ, ◌≡◌, ◌+◌, ⊤, List, [], ◌∷◌,
 use Rattle.disk_items.specs.Deeds.{AreTold}
 use Rattle.disk_turns.specs.Turns.{Moment}
 use Rattle.image_mount.specs.Mounted.{Journal}
+use Rattle.journal_replays.specs.Crashes.{HasCrashed}
 use Rattle.journal_replays.specs.Headers.{IsHeaderRead}
 use Rattle.journal_replays.specs.Replays.{CanReplay, HasFailed, IsReplayBy}
 use Rattle.peer_replay.specs.declared.planned.Plan.{Plan}
@@ -54,3 +55,15 @@ pub record HaveFailed (node time : ℕ) (before after : Moment) (journals : List
   pub at_journal : slice_get journals count ≡ Some journal
   pub at_plan : slice_get plans count ≡ Some plan
   pub failed : HasFailed node (count + 1) journal.dinode journal.blocks time between after plan its_items items' block
+
+-- the first ones were, and in the replay of the next one the node crashed
+pub record HaveCrashed (node time : ℕ) (before after : Moment) (journals : List Journal) (plans : List Plan) (items items' : List TraceItem) : Type 0 where
+  pub count : ℕ
+  pub between : Moment
+  pub its_items : List TraceItem
+  pub replayed : HaveReplayed node time before between (take count journals) (take count plans) items its_items
+  pub journal : Journal
+  pub plan : Plan
+  pub at_journal : slice_get journals count ≡ Some journal
+  pub at_plan : slice_get plans count ≡ Some plan
+  pub crashed : HasCrashed node (count + 1) journal.dinode journal.blocks time between after plan its_items items'

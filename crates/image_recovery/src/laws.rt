@@ -1,7 +1,7 @@
 // What a plan has to be.
 ghost use Rattle.image_recovery.specs.Counts.{PlansPutWhatIsLive, ReplaysTellTheirCount};
 ghost use Rattle.image_recovery.specs.Ended.{ReplayedHaveEnded, ReplayedIsLeft};
-ghost use Rattle.image_recovery.specs.Laws.{PlannedCanBeReplayed, WritableCanBeReplayed};
+ghost use Rattle.image_recovery.specs.Laws.{CrashedAreAsFailed, PlannedCanBeReplayed, WritableCanBeReplayed};
 ghost use Rattle.image_recovery.specs.Left.{HeadsAreLeft, LeftIsMounted, LeftIsOfProfile, LeftMounts, LeftStands, LeftStandsBy, ReplayLeaves};
 
 use image_changes::{an_image_has_one_layout, places_of_journals_do_not_matter};
@@ -73,4 +73,9 @@ pub fn what_a_replay_leaves_mounts()
 pub fn replays_tell_how_much_goes_home()
     ensures live { PlansPutWhatIsLive }
     ensures told { ReplaysTellTheirCount }
+{}
+
+/// A law: a replay in which the node crashed is as one in which the disk failed next.
+pub fn crashed_replays_are_as_failed()
+    ensures { CrashedAreAsFailed }
 {}

@@ -1,14 +1,16 @@
 -- Items that are put turn by turn, and blocks that are brought with their items.
-use Rattle.std.proofs.Common.{◌≡◌, ℕ, List, [], ◌∷◌, ◌++◌, refl, sym, ap, subst, ◌∙◌}
+use Rattle.std.proofs.Common.{◌≡◌, ℕ, List, [], ◌∷◌, ◌++◌, Option, None, Some, refl, sym, ap, subst, ◌∙◌}
+use Rattle.std.specs.Prelude.{IfNone}
 use Rattle.std.proofs.lemmas.List.{append-nil}
 use Rattle.drafts.specs.declared.change.Written.{Written}
+use Rattle.fault_counts.specs.declared.Rise.{Rise}
 use Rattle.shared_disk.specs.Disk.{Operation}
 use Rattle.trace_text.specs.declared.item.TraceItem.{TraceItem}
 use Rattle.trace_text.specs.declared.item.TraceItem.TheVariants as trace
 use Rattle.disk_turns.specs.Faults.{HasStoppedAs}
 use Rattle.disk_turns.specs.Turns.{AreBrought, IsTurn, Moment, writes_of}
 use Rattle.disk_turns.specs.declared.faults.TurnFault.{TurnFault}
-use Rattle.journal_replays.specs.Bringing.{HasStoppedBringing}
+use Rattle.journal_replays.specs.Bringing.{HasCrashedBringing, HasStoppedBringing}
 use Rattle.journal_replays.specs.Items.{items_of}
 use Rattle.journal_replays.proofs.Inverted.{no_turn, split_turn}
 use Rattle.journal_replays.proofs.Told.{turn_more}
@@ -34,14 +36,34 @@ pub left_none : (node : ℕ) (rest : List Written) (first now : List TraceItem) 
 left_none node rest first now operations empty so =
     sym (so.are ∙ ap (λ (os : List Operation). now ++ items_of os) (no_turn node rest so.left so.brought empty) ∙ append-nil now)
 
--- what didn't fail has its items
-pub stopped_told : (node : ℕ) (before after : Moment) (blocks done wrote : List Written) (fault : TurnFault) (items items' : List TraceItem) (is : HasStoppedAs node before after blocks fault)
-    → done ≡ is.stopped.done → wrote ≡ is.stopped.stopped.wrote
-    → ((operations : List Operation) → AreBrought node done operations → items' ≡ items ++ (items_of operations ++ items_of (writes_of node wrote)))
-    → HasStoppedBringing node before after blocks items items' fault.block
-stopped_told node before after blocks done wrote fault items items' is same wrote_same put = record {
-  added = items_of is.stopped.brought.operations ++ items_of (writes_of node is.stopped.stopped.wrote);
-  are = put is.stopped.brought.operations (subst (λ (ws : List Written). AreBrought node ws is.stopped.brought.operations) (sym same) is.stopped.brought.brought)
-      ∙ ap (λ (ws : List Written). items ++ (items_of is.stopped.brought.operations ++ items_of (writes_of node ws))) wrote_same;
-  stops = record { stopped = is.stopped; told = refl };
-}
+-- the items of what didn't fail came behind those that were there
+module _ (node : ℕ) (before after : Moment) (blocks done wrote : List Written) (fault : TurnFault) (items items' : List TraceItem) (is : HasStoppedAs node before after blocks fault)
+    (same : done ≡ is.stopped.done) (wrote_same : wrote ≡ is.stopped.stopped.wrote)
+    (put : (operations : List Operation) → AreBrought node done operations → items' ≡ items ++ (items_of operations ++ items_of (writes_of node wrote))) where
+  pub told_behind : items' ≡ items ++ (items_of is.stopped.brought.operations ++ items_of (writes_of node is.stopped.stopped.wrote))
+  told_behind =
+      put is.stopped.brought.operations (subst (λ (ws : List Written). AreBrought node ws is.stopped.brought.operations) (sym same) is.stopped.brought.brought)
+      ∙ ap (λ (ws : List Written). items ++ (items_of is.stopped.brought.operations ++ items_of (writes_of node ws))) wrote_same
+
+  pub stopped_told : HasStoppedBringing node before after blocks items items' fault.block
+  stopped_told = record {
+    added = items_of is.stopped.brought.operations ++ items_of (writes_of node is.stopped.stopped.wrote);
+    are = told_behind;
+    stops = record { stopped = is.stopped; told = refl };
+  }
+
+  -- so where it crashed, with nothing else in flight
+  pub crashed_told : IfNone fault.rise (HasCrashedBringing node before after blocks items items')
+  crashed_told = by fault.rise is.exactly
+    where
+      by : (r : Option Rise) → IfNone r (is.stopped.stopped.flying ≡ is.stopped.stopped.wrote) → IfNone r (HasCrashedBringing node before after blocks items items')
+      by None exactly = record {
+        block = fault.block;
+        stopped = record {
+          added = items_of is.stopped.brought.operations ++ items_of (writes_of node is.stopped.stopped.wrote);
+          are = told_behind;
+          stops = record { stopped = is.stopped; told = refl };
+        };
+        exactly = exactly;
+      }
+      by (Some r) exactly = tt

@@ -2,4 +2,5 @@ pub mod Inverted
 pub mod Told
 pub mod Cut
 pub mod Brought
+pub mod Crashing
 pub mod Replayed

@@ -1,6 +1,6 @@
 -- A replay and its items, put together from its parts.
 use Rattle.std.proofs.Common.{◌≡◌, ℕ, ◌+◌, ◌<◌, List, [], ◌∷◌, ◌++◌, length, take, get_or, Option, None, Some, refl, sym, ap, subst, ◌∙◌, append_assoc, arith}
-use Rattle.std.specs.Prelude.{MatchOption}
+use Rattle.std.specs.Prelude.{IfNone, IfSome, MatchOption}
 use Rattle.std.proofs.lemmas.List.{append-nil}
 use Rattle.std.proofs.lemmas.Option.{slice_get-get_or, slice_get_within}
 use Rattle.drafts.specs.declared.change.Written.{Written}
@@ -11,10 +11,15 @@ use Rattle.trace_text.specs.declared.item.TraceItem.{TraceItem}
 use Rattle.trace_text.specs.declared.item.TraceItem.TheVariants as trace
 use Rattle.disk_items.specs.Deeds.{AreTold, AreToldButOne, but_one, each}
 use Rattle.disk_items.proofs.Going.{goes_on}
+use Rattle.fault_counts.specs.declared.Rise.{Rise}
+use Rattle.disk_turns.specs.Faults as turns
+use Rattle.disk_turns.specs.declared.faults.TurnFault.{TurnFault}
 use Rattle.disk_turns.specs.Turns.{Moment, StopsAt, at_barrier, before_it, behind_it, writes_of}
 use Rattle.disk_turns.specs.Writing.{AreOfDisk}
 use Rattle.disk_turns.proofs.Gaining.{gains_join, gains_none, writes_more}
-use Rattle.journal_replays.specs.Bringing.{HasBrought, HasStoppedBringing}
+use Rattle.journal_replays.specs.Bringing.{HasBrought, HasCrashedBringing, HasStoppedBringing}
+use Rattle.journal_replays.specs.Crashes.{HasCrashed, NoneFailed}
+use Rattle.journal_replays.specs.Faults.{HasCause, IfCrashed, IfDiskFailed, fault_of, stop_by}
 use Rattle.journal_replays.specs.Headers.{clean_block}
 use Rattle.journal_replays.specs.Items.{items_of}
 use Rattle.journal_replays.specs.Replays.{HasFailed, HasReplayed, IsReplayWith, StopsBringing, StopsReplay, at_header, at_home}
@@ -49,6 +54,18 @@ told_stopped node before after blocks block items is =
     subst (AreToldButOne node before.list after.list) (sym is.told)
     (told_on node before.list is.stopped.between.list after.list (items_of brought.operations) (items_of (writes_of node turn.wrote)) (brought.operations, done_items brought.operations, brought.gains)
     (told_turn node is.stopped.between.list after.list is.stopped.some block turn.wrote turn.flying turn.stops turn.gains))
+
+told_join : (a b c : Option (List Operation)) (xs ys : List TraceItem) → AreTold a b xs → AreTold b c ys → AreTold a c (xs ++ ys)
+told_join a b c xs ys first later = (first.0 ++ later.0, goes_on xs ys first.0 later.0 first.1 later.1, gains_join a b c first.0 later.0 first.2 later.2)
+
+-- without a write that failed the items tell of all
+told_crashed : (node : ℕ) (before after : Moment) (blocks : List Written) (block : Option ℕ) (items : List TraceItem) (is : StopsBringing node before after blocks block items) → NoneFailed is → AreTold before.list after.list items
+told_crashed node before after blocks block items is exactly =
+    let brought = is.stopped.brought in
+    let turn = is.stopped.stopped in
+    subst (AreTold before.list after.list) (sym is.told)
+    (told_join before.list is.stopped.between.list after.list (items_of brought.operations) (items_of (writes_of node turn.wrote)) (brought.operations, done_items brought.operations, brought.gains)
+    (writes_of node turn.wrote, done_items (writes_of node turn.wrote), subst (λ (ws : List Written). Gains is.stopped.between.list after.list (writes_of node ws)) exactly turn.gains))
 
 -- ---- the replay
 
@@ -104,6 +121,67 @@ module _ (node slot dinode : ℕ) (blocks : List ℕ) (time : ℕ) (before betwe
     told = told_on node before.list between.list after.list (items_of home.brings.operations) stop.added (home.brings.operations, done_items home.brings.operations, home.brings.gains)
         (told_stopped node between after (last ∷ []) block stop.added stop.stops);
   }
+
+  -- the node crashed on the way home
+  pub crashed_home : (items one : List TraceItem) → HasCrashedBringing node before after p.home.items items one → HasCrashed node slot dinode blocks time before after p items one
+  crashed_home items one stop = record {
+    block = stop.block;
+    header = header;
+    has = is;
+    added = stop.stopped.added;
+    are = stop.stopped.are;
+    stopped = at_home stop.stopped.stops;
+    exactly = stop.exactly;
+    told = told_crashed node before after p.home.items stop.block stop.stopped.added stop.stopped.stops stop.exactly;
+  }
+
+  -- or at the header
+  pub crashed_header : (items one two : List TraceItem) → HasBrought node before between p.home.items items one → HasCrashedBringing node between after (last ∷ []) one two → HasCrashed node slot dinode blocks time before after p items two
+  crashed_header items one two home stop = record {
+    block = stop.block;
+    header = header;
+    has = is;
+    added = items_of home.brings.operations ++ stop.stopped.added;
+    are = stop.stopped.are ∙ ap (λ (xs : List TraceItem). xs ++ stop.stopped.added) home.are ∙ append_assoc items (items_of home.brings.operations) stop.stopped.added;
+    stopped = at_header between home.brings stop.stopped.added stop.stopped.stops refl;
+    exactly = stop.exactly;
+    told = told_join before.list between.list after.list (items_of home.brings.operations) stop.stopped.added (home.brings.operations, done_items home.brings.operations, home.brings.gains)
+        (told_crashed node between after (last ∷ []) stop.block stop.stopped.added stop.stopped.stops stop.exactly);
+  }
+
+-- all that is known of a replay in which the disk failed is known of one in which the node crashed
+pub crashed_is_failed : (node slot dinode : ℕ) (blocks : List ℕ) (time : ℕ) (before after : Moment) (p : Plan) (items items' : List TraceItem)
+    → (is : HasCrashed node slot dinode blocks time before after p items items') → HasFailed node slot dinode blocks time before after p items items' is.block
+crashed_is_failed node slot dinode blocks time before after p items items' is = record {
+  added = is.added;
+  are = is.are;
+  stopped = subst (λ (c : Option LogHeader). MatchOption c ⊥ (λ (h : LogHeader). StopsReplay node before after p.home.items (clean_block before.disk.size (get_or blocks h.blkno 0) slot dinode time h) is.block is.added)) (sym is.has)
+      is.stopped;
+  told = each is.told;
+}
+
+-- ---- the fault
+
+pub if_failed : (fault : TurnFault) (P : Option ℕ → Type 0) → P fault.block → IfDiskFailed (fault_of fault) P
+if_failed fault P is = by fault.rise
+  where
+    by : (r : Option Rise) → IfDiskFailed (stop_by fault.block r) P
+    by None = tt
+    by (Some r) = is
+
+pub if_crashed : (fault : TurnFault) {P Q : Type 0} → (P → Q) → IfNone fault.rise P → IfCrashed (fault_of fault) Q
+if_crashed fault {P} {Q} f = by fault.rise
+  where
+    by : (r : Option Rise) → IfNone r P → IfCrashed (stop_by fault.block r) Q
+    by None is = f is
+    by (Some r) is = tt
+
+pub cause_of : (node count : ℕ) (before now : ℕ → ℕ) (fault : TurnFault) → turns.HasCause node count before now fault → HasCause node count before now (fault_of fault)
+cause_of node count before now fault = by fault.rise
+  where
+    by : (r : Option Rise) → IfSome r (turns.IsCause node count before now fault.block) → HasCause node count before now (stop_by fault.block r)
+    by None is = tt
+    by (Some r) is = (is.rise, is.block)
 
 -- nothing was done
 pub replayed_none : (node slot dinode : ℕ) (blocks : List ℕ) (time : ℕ) (m : Moment) (p : Plan) (items : List TraceItem) → p.clean ≡ None → HasReplayed node slot dinode blocks time m m p items items

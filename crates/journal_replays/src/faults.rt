@@ -9,6 +9,8 @@ use std::alloc::AllocError;
 pub enum ReplayFault {
     /// The disk failed in the write of this block, or, without one, in a barrier, and the node's count of faults rose so.
     DiskFailed { block: Option<u64>, rise: Rise },
+    /// The node crashed behind the write at which it was to.
+    Crashed,
     /// There was no memory.
     NoMemory,
 }

@@ -15,4 +15,6 @@ mod telling;
 
 pub use ends::CallEnd;
 pub use laws::{calls_are_loggable, calls_have_room};
+pub use logged_answers::nodes_work_on_an_image;
+pub use logged_node::{Node, Stop, begin_node, unmount};
 pub use taking::take_call;

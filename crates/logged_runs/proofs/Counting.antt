@@ -1,18 +1,20 @@
 -- The history of a run's items has as many calls as the node answered.
 use Rattle.std.proofs.Common.{◌≡◌, ℕ, suc, ◌+◌, List, [], ◌∷◌, ◌++◌, refl, sym, ap, subst, ◌∙◌, arith}
-use Rattle.cluster_history.specs.History.{IsNumbered, calls_of}
+use Rattle.cluster_history.specs.History.{IsNumbered, Legal, calls_of}
 use Rattle.cluster_history.specs.declared.Item.{Item}
 use Rattle.cluster_history.specs.declared.Item.TheVariants as item
 use Rattle.file_tree.specs.declared.call.Call.{Call}
 use Rattle.file_tree.specs.declared.call.Call.TheVariants as calls
 use Rattle.file_tree.specs.declared.reply.Reply.{Reply}
 use Rattle.file_tree.specs.declared.reply.Reply.TheVariants as replies
+use Rattle.image_machine.specs.Volumes.{images_of}
 use Rattle.logged_steps.specs.LoggedLaws.{ItsHistoryIsLegal}
 use Rattle.logged_steps.specs.States.{Numbers}
 use Rattle.run_rules.specs.Follows.{history_of}
 use Rattle.script_lang.specs.declared.script.Client.{Client}
 use Rattle.trace_text.specs.declared.item.TraceItem.{TraceItem}
 use Rattle.trace_text.specs.declared.item.TraceItem.TheVariants as trace
+use Rattle.tree_histories.specs.Trees.{TreeHeadline}
 use Rattle.logged_steps.specs.Laws.{IsLoggedAt, StepsKeep}
 use Rattle.logged_steps.specs.Points.{Point, call_item, state_of}
 use Rattle.logged_steps.specs.Steps.{Answers, AnswersQuietly, BeginsFlush, BeginsHeader, Commits, EndsBlocks, EndsFlush, GoesHome, HasNoSpace, Here, Reads, Rests, Step, Steps, Syncs, TellsFull, Then, Unmounts, WritesHead, WritesLog}
@@ -69,12 +71,16 @@ steps clients time p q (Then m r before last) counted = step clients time m q la
 
 pub calls_are_counted : StepsKeep → ItsHistoryIsLegal → CallsAreCounted
 calls_are_counted keep legal v s d clients time a p begins run = record {
-  numbered = subst IsNumbered (sym at.history) (legal v s at.world d (state_of p) at.is).numbered;
+  numbered = subst IsNumbered (sym at.history) told.numbered;
+  legal = subst (Legal (history_of clients p.items)) at.is.start (subst (λ is. Legal is at.world.book.start) (sym at.history) told.legal);
   count = steps clients time a p run first;
 }
   where
     at : IsLoggedAt v s d clients p
     at = keep v s d clients time a p begins.at run
+
+    told : TreeHeadline (images_of v) at.world
+    told = legal v s at.world d (state_of p) at.is
 
     first : Counted clients a
     first = ap (λ is. calls_of 1 (history_of clients is)) begins.items ∙ ap (calls_of 1) (no_calls clients begins.replays begins.of_replay) ∙ sym (ap (λ (n : Numbers). n.answered) begins.numbers)

@@ -43,10 +43,10 @@ module _ (keep : StepsKeep) (fails : FailedWritesKeep) (heads : HeadsAreTold) (t
     pub heads_are_there : HeadsAreThere
     heads_are_there v s d clients time a p q left begins steps (inl fail) may =
         let rem = (front_of_run keep fails heads tells legal v s d clients time a p q begins steps fail outcomes).remains left may in
-        (rem.head, rem.headed)
+        record { header = rem.head; headed = rem.headed; blocks = rem.blocks }
     heads_are_there v s d clients time a p q left begins steps (inr end) may =
         let rem = (front_of_end keep fails heads tells legal ends rest v s d clients time a p q begins steps end).remains left may in
-        (rem.head, rem.headed)
+        record { header = rem.head; headed = rem.headed; blocks = rem.blocks }
 
     pub stops_are_told : StopsAreTold
     stops_are_told v s d clients time a p q x disks left begins steps (inl fail) is_stop first may accepts =

@@ -14,6 +14,7 @@ pub mod Fronts
 pub mod Runs
 pub mod Endings
 pub mod Laws
+pub mod FencedHeads
 -- Passed on to the crates above.
 pub use Rattle.logged_steps.proofs.Telling as Telling
 pub use Rattle.logged_steps.proofs.Histories as Histories

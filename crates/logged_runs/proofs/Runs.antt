@@ -112,7 +112,7 @@ module _ (keep : StepsKeep) (fails : FailedWritesKeep) (heads : HeadsAreTold) (t
   pub history_is : run.history_of clients xs ≡ history_of (images_of v) at.world.items
   history_is = ap (run.history_of clients) (sym items_are) ∙ at.history
 
-  counted : HasItsCalls clients p
+  counted : HasItsCalls clients s.tree p
   counted = calls_are_counted keep legal v s d clients time a p begins steps
 
   pub numbered_is : IsNumbered (run.history_of clients xs)

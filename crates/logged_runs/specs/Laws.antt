@@ -20,6 +20,7 @@ use Rattle.logged_steps.specs.Disks.{disk_after, first_told}
 use Rattle.logged_steps.specs.Ends.{EndsTo, FliesClean, clean_item, with_clean}
 use Rattle.logged_steps.specs.Fails.{FailsTo}
 use Rattle.logged_steps.specs.Laws.{CameBy}
+use Rattle.logged_steps.specs.LoggedLaws.{IsInItsBlocks}
 use Rattle.logged_steps.specs.Points.{Point, state_of}
 use Rattle.logged_steps.specs.Starts.{IsAtRest, starting}
 use Rattle.logged_steps.specs.Steps.{Steps}
@@ -28,7 +29,7 @@ use Rattle.logged_steps.specs.States.{trees_on}
 use Rattle.lone_machine.specs.Alone.{Begun}
 use Rattle.run_rules.specs.Follows.{history_of}
 use Rattle.right_losses.specs.Kept.{kept_by}
-use Rattle.run_rules.specs.Lives.{DiskHeads, TraceKeptRight, remains, upto_of}
+use Rattle.run_rules.specs.Lives.{DiskHeads, TraceKeptRight, head_of, own_from, remains, upto_of}
 use Rattle.script_lang.specs.declared.script.Client.{Client}
 use Rattle.shared_disk.specs.Disk.{DiskState, Flight, IsOutcome, Operation, after_barrier, after_fence}
 use Rattle.trace_text.specs.declared.item.TraceItem.{TraceItem}
@@ -48,13 +49,14 @@ RunsBeginSo = (disk : DiskState) (o : Owners) (l : Layout) (t : Tree) (d : ℕ) 
 
 -- ---- its calls
 
--- The history of the items is numbered, and has as many calls as the node answered.
-pub record HasItsCalls (clients : List Client) (p : Point) : Type 0 where
+-- The history of the items is numbered, has as many calls as the node answered, and is legal.
+pub record HasItsCalls (clients : List Client) (start : Tree) (p : Point) : Type 0 where
   pub numbered : IsNumbered (history_of clients p.items)
+  pub legal : Legal (history_of clients p.items) start
   pub count : calls_of 1 (history_of clients p.items) ≡ p.numbers.answered
 
 abbrev pub CallsAreCounted : Type 0
-CallsAreCounted = (v : Volume) (s : Begun (trees_on v)) (d : ℕ) (clients : List Client) (time : ℕ) (a p : Point) → BeginsAt v s d clients a → Steps time a p → HasItsCalls clients p
+CallsAreCounted = (v : Volume) (s : Begun (trees_on v)) (d : ℕ) (clients : List Client) (time : ℕ) (a p : Point) → BeginsAt v s d clients a → Steps time a p → HasItsCalls clients s.tree p
 
 -- ---- an outcome
 
@@ -105,10 +107,16 @@ CleanRunsEnd = (v : Volume) (s : Begun (trees_on v)) (d : ℕ) (clients : List C
 
 -- ---- its head
 
--- wherever a run is, each outcome has an accepted head of the node's journal
+-- The node's journal is in its blocks in this image, and has an accepted head.
+pub record HasItsJournal (v : Volume) (d : ℕ) (left : Image) : Type 0 where
+  pub header : LogHeader
+  pub headed : head_in (ring_at left d) ≡ Some header
+  pub blocks : IsInItsBlocks v d left
+
+-- so it is, wherever a run is, in each outcome
 abbrev pub HeadsAreThere : Type 0
 HeadsAreThere = (v : Volume) (s : Begun (trees_on v)) (d : ℕ) (clients : List Client) (time : ℕ) (a p q : Point) (left : Image) → BeginsAt v s d clients a → Steps time a p → FailsTo time p q ⊎ EndsTo p q → MayLeave v q.disk left
-    → (header : LogHeader) × (head_in (ring_at left d) ≡ Some header)
+    → HasItsJournal v d left
 
 -- ---- behind its stop
 
@@ -157,3 +165,15 @@ FencesAreTold = (v : Volume) (s : Begun (trees_on v)) (d : ℕ) (clients : List 
     → IsStop x → IsOutcome q.disk 1 became → HasFirst v d a disks.behind
     → let left = image_of (after_fence q.disk 1 became) in
     NoFalseHeader (image_of q.disk) v.layout (flown_by q.disk 1) left → IsAcceptedIn v d left (disks.behind 1 (length (to_fence x q.items))) → StandsFenced v d clients disks x q.items s.tree left
+
+-- ---- the head that the loss goes by
+
+-- behind the fence the life's head is that which the disks have there; and where its own headers began they have one of this sequence
+pub record GoesByHead (disks : DiskHeads) (sequence : ℕ) (fenced : List TraceItem) : Type 0 where
+  pub head : head_of disks only_life fenced ≡ disks.behind 1 (length fenced)
+  pub first : (disks.behind 1 (own_from only_life fenced)).sequence ≡ sequence
+
+-- so it is of a run that stopped, with the sequence that its head had at the start
+abbrev pub LossesGoByHeads : Type 0
+LossesGoByHeads = (v : Volume) (s : Begun (trees_on v)) (d : ℕ) (clients : List Client) (time : ℕ) (a p q : Point) (x : TraceItem) (disks : DiskHeads) → BeginsAt v s d clients a → Steps time a p → FailsTo time p q ⊎ EndsTo p q
+    → IsStop x → HasFirst v d a disks.behind → GoesByHead disks a.log.sequence (to_fence x q.items)

@@ -12,5 +12,6 @@ pub use Rattle.logged_steps.specs.Fails as Fails
 pub use Rattle.logged_steps.specs.Ends as StepEnds
 pub use Rattle.logged_steps.specs.Starts as StepStarts
 pub use Rattle.logged_steps.specs.Laws as StepLaws
+pub use Rattle.logged_steps.specs.LoggedLaws
 pub use Rattle.logged_steps.specs.Ends as StepEnds
 pub use Rattle.logged_steps.specs.States

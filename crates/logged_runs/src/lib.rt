@@ -2,15 +2,15 @@
 //! nothing: their contracts are the laws.
 #![tactic(auto)]
 
-ghost use Rattle.logged_runs.specs.Laws.{CallsAreCounted, CleanRunsEnd, EndsAreTold, FencesAreTold, FrontsStand, HeadsAreThere, PrefixesStand, RunsBeginSo, RunsEnd, StopsAreTold, WhatRemainsIsTold};
+ghost use Rattle.logged_runs.specs.Laws.{CallsAreCounted, CleanRunsEnd, EndsAreTold, FencesAreTold, FrontsStand, HeadsAreThere, LossesGoByHeads, PrefixesStand, RunsBeginSo, RunsEnd, StopsAreTold, WhatRemainsIsTold};
 ghost use Rattle.logged_runs.specs.Mounted.{MountedIsAtRest};
 
 use image_mount::{mounted_groups_are_as_seen, mounted_images_stand_as_mounted};
 use journal_outcomes::fences_leave_outcomes;
-pub use logged_steps::steps_are_told;
+pub use logged_steps::{heads_are_told, steps_are_told, steps_keep};
 use logged_steps::{
-    failed_writes_keep, fences_leave_what_remains, heads_are_told, it_has_ended, runs_begin,
-    steps_keep, what_remains_at_its_end, what_remains_of_it,
+    failed_writes_keep, fences_leave_what_remains, it_has_ended, runs_begin,
+    what_remains_at_its_end, what_remains_of_it,
 };
 
 /// A law: a mounted image that stands for a tree, each journal clean, is at rest on its disk, for a node that has what mounting told and the first journal.
@@ -28,7 +28,7 @@ pub fn a_run_begins()
     runs_begin();
 }
 
-/// A law: the history of a run's items is numbered, and has as many calls as the node answered.
+/// A law: the history of a run's items is numbered, has as many calls as the node answered, and is legal.
 pub fn its_calls_are_counted()
     ensures { CallsAreCounted }
 {
@@ -86,10 +86,11 @@ pub fn runs_end()
     it_has_ended();
 }
 
-/// A law: so it is behind a crash or a withdraw, and behind the fence, of the disk that it leaves, also with a right loss.
+/// A law: so it is behind a crash or a withdraw, and behind the fence, of the disk that it leaves, also with a right loss; and a loss goes by the head that the disks have behind the fence, and by that of the start.
 pub fn stops_are_told()
     ensures stops { StopsAreTold }
     ensures fences { FencesAreTold }
+    ensures heads { LossesGoByHeads }
 {
     steps_keep();
     failed_writes_keep();

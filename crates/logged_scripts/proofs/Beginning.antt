@@ -9,13 +9,13 @@ use Rattle.script_lang.specs.Script.{ScriptValue}
 use Rattle.shared_disk.specs.Disk.{DiskState, Operation}
 use Rattle.trace_text.specs.declared.item.TraceItem.{TraceItem}
 use Rattle.trace_text.specs.declared.item.TraceItem.TheVariants as trace
-use Rattle.logged_runs.specs.Starts.{IsOfReplay}
-use Rattle.logged_runs.proofs.Starting.{no_calls}
-use Rattle.logged_runs.specs.Steps.{Here}
-use Rattle.logged_node.specs.Nodes.{IsBeforeCrash, crash_at, point_of, writes_in}
-use Rattle.logged_node.specs.declared.node.CallNumbers.{CallNumbers}
-use Rattle.logged_node.specs.declared.node.Node.{Node}
-use Rattle.logged_node.proofs.Arming.{before_crash}
+use Rattle.whole_runs.specs.LoggedRunsStarts.{IsOfReplay}
+use Rattle.whole_runs.proofs.LoggedRunsStarting.{no_calls}
+use Rattle.whole_runs.specs.Steps.{Here}
+use Rattle.logged_calls.specs.Nodes.{IsBeforeCrash, crash_at, point_of, writes_in}
+use Rattle.logged_calls.specs.node.CallNumbers.{CallNumbers}
+use Rattle.logged_calls.specs.node.Node.{Node}
+use Rattle.logged_calls.proofs.Arming.{before_crash}
 use Rattle.logged_calls.specs.Calls.{IsReady}
 use Rattle.logged_scripts.specs.Beginning.{HasBegun, IsUnderWay}
 use Rattle.logged_scripts.specs.Crashes.{first_crash}
@@ -29,11 +29,11 @@ replay_member (trace.Withdraw node before after) is = absurd is
 replay_member (trace.Lost node kept) is = absurd is
 replay_member _ is = tt
 
-members : (xs : List TraceItem) → AllByRecursion IsOfReplay xs → AllByRecursion IsOfMember xs
+pub members : (xs : List TraceItem) → AllByRecursion IsOfReplay xs → AllByRecursion IsOfMember xs
 members [] all = tt
 members (x ∷ xs) all = (replay_member x all.0, members xs all.1)
 
-no_call_lines : (xs : List TraceItem) → AllByRecursion IsOfReplay xs → filter is_call xs ≡ []
+pub no_call_lines : (xs : List TraceItem) → AllByRecursion IsOfReplay xs → filter is_call xs ≡ []
 no_call_lines [] all = refl
 no_call_lines (trace.Call i name number call reply ∷ xs) all = absurd all.0
 no_call_lines (x ∷ xs) all = no_call_lines xs all.1

@@ -1,9 +1,9 @@
 -- The causes of a halt.
 use Rattle.std.proofs.Common.{◌≡◌, ◌≤◌, ◌<◌, ℕ, List, Option, None, Some, subst, arith}
 use Rattle.std.specs.Prelude.{IfSome}
-use Rattle.logged_node.specs.Ends as node
-use Rattle.logged_node.specs.declared.ends.Stop.{Stop}
-use Rattle.logged_node.specs.declared.ends.Stop.TheVariants as stop
+use Rattle.logged_calls.specs.LoggedNodeEnds as node
+use Rattle.logged_calls.specs.logged_node_ends.Stop.{Stop}
+use Rattle.logged_calls.specs.logged_node_ends.Stop.TheVariants as stop
 use Rattle.logged_calls.specs.Ends as calls
 use Rattle.logged_calls.specs.declared.ends.CallEnd.{CallEnd}
 use Rattle.logged_calls.specs.declared.ends.CallEnd.TheVariants as call_end

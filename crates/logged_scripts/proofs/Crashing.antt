@@ -8,10 +8,10 @@ use Rattle.lone_scripts.specs.Runs.{Crashes, EndsWithWrite, IsNotPast, at_write}
 use Rattle.script_lang.specs.Script.{ScriptValue}
 use Rattle.script_lang.specs.declared.script.Armed.{Armed}
 use Rattle.trace_text.specs.declared.item.TraceItem.{TraceItem}
-use Rattle.logged_node.specs.Nodes.{IsAtCrash, IsBeforeCrash, StopsByCrash, writes_in}
-use Rattle.logged_node.specs.declared.ends.Stop.{Stop}
-use Rattle.logged_node.specs.declared.ends.Stop.TheVariants as stop
-use Rattle.logged_node.proofs.Blocks.{none_some, some_same}
+use Rattle.logged_calls.specs.Nodes.{IsAtCrash, IsBeforeCrash, StopsByCrash, writes_in}
+use Rattle.logged_calls.specs.logged_node_ends.Stop.{Stop}
+use Rattle.logged_calls.specs.logged_node_ends.Stop.TheVariants as stop
+use Rattle.logged_calls.proofs.Blocks.{none_some, some_same}
 use Rattle.logged_scripts.specs.Crashes.{first_crash, sooner}
 use Rattle.logged_scripts.proofs.Lists.{all_to}
 

@@ -1,13 +1,13 @@
 -- It stays the same disk.
 use Rattle.std.proofs.Common.{ℕ, List, refl}
 use Rattle.shared_disk.specs.Disk.{after_barrier, after_write}
-use Rattle.logged_runs.specs.StepEnds.{EndsTo, Landed, Said, Unsaid, with_clean}
-use Rattle.logged_runs.specs.Fails.{AsItWas, FailsTo, InAWrite}
-use Rattle.logged_runs.specs.Points.{Point}
-use Rattle.logged_runs.specs.Steps as by
-use Rattle.logged_runs.specs.Steps.{Here, Step, Steps, Then}
-use Rattle.logged_node.specs.Nodes.{IsSameDisk}
-use Rattle.logged_node.proofs.Disks.{same_barrier, same_disk, same_on, same_written}
+use Rattle.whole_runs.specs.StepEnds.{EndsTo, Landed, Said, Unsaid, with_clean}
+use Rattle.whole_runs.specs.Fails.{AsItWas, FailsTo, InAWrite}
+use Rattle.whole_runs.specs.Points.{Point}
+use Rattle.whole_runs.specs.Steps as by
+use Rattle.whole_runs.specs.Steps.{Here, Step, Steps, Then}
+use Rattle.logged_calls.specs.Nodes.{IsSameDisk}
+use Rattle.logged_calls.proofs.Disks.{same_barrier, same_disk, same_on, same_written}
 
 same_step : (time : ℕ) (p q : Point) → Step time p q → IsSameDisk p.disk q.disk
 same_step time p _ (by.Reads is b lock bytes asked absent whole told) = same_disk p.disk

@@ -14,14 +14,14 @@ use Rattle.script_lang.specs.Script.{ScriptValue}
 use Rattle.shared_disk.specs.Disk.{DiskState, Operation}
 use Rattle.trace_text.specs.declared.item.TraceItem.{TraceItem}
 use Rattle.trace_text.specs.declared.item.TraceItem.TheVariants as trace
-use Rattle.logged_runs.specs.Points.{Point}
-use Rattle.logged_node.specs.Nodes.{IsNodeOn, IsSameDisk, point_of}
-use Rattle.logged_node.specs.declared.node.Node.{Node}
+use Rattle.whole_runs.specs.Points.{Point}
+use Rattle.logged_calls.specs.Nodes.{IsNodeOn, IsSameDisk, point_of}
+use Rattle.logged_calls.specs.node.Node.{Node}
 use Rattle.logged_scripts.specs.declared.ends.RunEnd.{RunEnd}
 use Rattle.logged_scripts.specs.declared.ends.RunEnd.TheVariants as end
 use Rattle.logged_scripts.specs.declared.halts.Halt.{Halt}
 use Rattle.logged_scripts.specs.declared.halts.Halt.TheVariants as halt
-use Rattle.logged_scripts.specs.Ends.{EndsFenced, HasCause, IsEndAt, IsOwnEnd, end_of}
+use Rattle.logged_scripts.specs.Ends.{EndsFenced, HasCause, IsAtItsCrash, IsEndAt, IsOwnEnd, end_of}
 use Rattle.logged_scripts.specs.Runs.{HasHalted, HasRun, IsBehind, TellsUntil, crash, crashed, fence as fenced_behind, loss, nothing, unmounted}
 
 -- ---- items behind a crash
@@ -39,13 +39,13 @@ told_until (end.Damaged block rule) items items' own same = same
 told_until (end.NotBuilt line) items items' own same = same
 told_until (end.LogTooSmall line) items items' own same = same
 told_until (end.NotLoggable line) items items' own same = same
-told_until end.NoMemory items items' own same = tt
+told_until end.NoMemory items items' own same = inl same
 
 -- behind a crash it ended at the crash
-of_crash : (s : ScriptValue) (time : ℕ) (a : Point) (count : ℕ) (last left : Point) (e : FenceEnd) → Crashes s count left.items → IsEndAt s time a count last left (end_of e)
-of_crash s time a count last left (fence.NotFenced rise) crashes = crashes
-of_crash s time a count last left (fence.ReadFailed block rise) crashes = crashes
-of_crash s time a count last left fence.NoMemory crashes = tt
+of_crash : (s : ScriptValue) (time : ℕ) (a : Point) (count : ℕ) (last left : Point) (e : FenceEnd) → IsAtItsCrash s count last left → IsEndAt s time a count last left (end_of e)
+of_crash s time a count last left (fence.NotFenced rise) at = at
+of_crash s time a count last left (fence.ReadFailed block rise) at = at
+of_crash s time a count last left fence.NoMemory at = inr at
 
 -- ---- the run
 
@@ -77,7 +77,7 @@ module _ (s : ScriptValue) (time : ℕ) (a : Point) (d : DiskState) (l : Option 
   }
 
   -- it crashed
-  module _ (way : Halt) (h : HasHalted s time a d l items way) (crashes : Crashes s h.count h.left.items) (e : DiskState) (k : Option (List Operation)) (items' : List TraceItem) where
+  module _ (way : Halt) (h : HasHalted s time a d l items way) (at : IsAtItsCrash s h.count h.last h.left) (e : DiskState) (k : Option (List Operation)) (items' : List TraceItem) where
     -- by the disk, the list and the items that the node left
     at_left : (P : DiskState → Option (List Operation) → List TraceItem → Type 0) → P d l items → P h.left.disk h.left.list h.left.items
     at_left P p = subst (λ (x : DiskState). P x h.left.list h.left.items) (sym h.disk) (subst (λ (x : Option (List Operation)). P d x h.left.items) (sym h.listed) (subst (λ (x : List TraceItem). P d l x) (sym h.told) p))
@@ -86,7 +86,7 @@ module _ (s : ScriptValue) (time : ℕ) (a : Point) (d : DiskState) (l : Option 
     is_fenced = at_left (λ x y z. HasFenced x y z a.log.journal.places a.log.sequence e k items')
 
     lost : HasFenced d l items a.log.journal.places a.log.sequence e k items' → HasCrashed s h.count items'
-    lost has = (let is = is_fenced has in has_crashed s h.count h.left.items items' (trace.Fence 1 ∷ trace.Lost 1 is.kept ∷ []) h.goes.runs crashes (lone.lost is.kept) is.told)
+    lost has = (let is = is_fenced has in has_crashed s h.count h.left.items items' (trace.Fence 1 ∷ trace.Lost 1 is.kept ∷ []) h.goes.runs at.0 (lone.lost is.kept) is.told)
 
     runs_crashed : (u : Unit {0}) → HasFenced d l items a.log.journal.places a.log.sequence e k items' → HasRun s time a e k items' (Ok u)
     runs_crashed u has = record {
@@ -94,25 +94,25 @@ module _ (s : ScriptValue) (time : ℕ) (a : Point) (d : DiskState) (l : Option 
       last = h.last;
       left = h.left;
       goes = h.goes;
-      behind = loss (is_fenced has);
+      behind = loss at.1 (is_fenced has);
       run = lone.crashed h.count items' (lost has);
-      out = crashed crashes (is_fenced has);
+      out = crashed at (is_fenced has);
     }
 
     whole_crashed : HasFenced d l items a.log.journal.places a.log.sequence e k items' → IsWholeLoneRun s items'
     whole_crashed has = lone.stopped h.count (lost has)
 
     -- but wasn't fenced, or what it lost isn't told
-    left_here : IsUntouched h.left.disk h.left.list e k h.left.items items' → IsBehind a h.left e k items' × IsLoneRun s h.count items'
+    left_here : IsUntouched h.left.disk h.left.list e k h.left.items items' → IsBehind a h.last h.left e k items' × IsLoneRun s h.count items'
     left_here is = (nothing is.disk is.operations is.are, lone.running h.count items' (subst (Runs s h.count) (sym is.are) h.goes.runs))
 
-    crash_told : IsUntouched h.left.disk h.left.list e k (with_crash h.left.items) items' → IsBehind a h.left e k items' × IsLoneRun s h.count items'
-    crash_told is = (crash is.disk is.operations is.are, lone.crashed h.count items' (has_crashed s h.count h.left.items items' [] h.goes.runs crashes lone.nothing is.are))
+    crash_told : IsUntouched h.left.disk h.left.list e k (with_crash h.left.items) items' → IsBehind a h.last h.left e k items' × IsLoneRun s h.count items'
+    crash_told is = (crash at.1 is.disk is.operations is.are, lone.crashed h.count items' (has_crashed s h.count h.left.items items' [] h.goes.runs at.0 lone.nothing is.are))
 
-    fence_told : IsFencedLast h.left.disk h.left.list h.left.items e k items' → IsBehind a h.left e k items' × IsLoneRun s h.count items'
-    fence_told is = (fenced_behind is.fenced is.told, lone.crashed h.count items' (has_crashed s h.count h.left.items items' (trace.Fence 1 ∷ []) h.goes.runs crashes lone.fenced is.told))
+    fence_told : IsFencedLast h.left.disk h.left.list h.left.items e k items' → IsBehind a h.last h.left e k items' × IsLoneRun s h.count items'
+    fence_told is = (fenced_behind at.1 is.fenced is.told, lone.crashed h.count items' (has_crashed s h.count h.left.items items' (trace.Fence 1 ∷ []) h.goes.runs at.0 lone.fenced is.told))
 
-    behind_crash : (why : FenceEnd) → EndsAt h.left.disk h.left.list h.left.items e k items' why → IsBehind a h.left e k items' × IsLoneRun s h.count items'
+    behind_crash : (why : FenceEnd) → EndsAt h.left.disk h.left.list h.left.items e k items' why → IsBehind a h.last h.left e k items' × IsLoneRun s h.count items'
     behind_crash (fence.NotFenced rise) is = crash_told is
     behind_crash (fence.ReadFailed block rise) is = fence_told is
     behind_crash fence.NoMemory (inl is) = left_here is
@@ -121,7 +121,8 @@ module _ (s : ScriptValue) (time : ℕ) (a : Point) (d : DiskState) (l : Option 
     ends_told : (why : FenceEnd) → EndsAt h.left.disk h.left.list h.left.items e k items' why → TellsUntil (end_of why) h.left.items items'
     ends_told (fence.NotFenced rise) is = is.are
     ends_told (fence.ReadFailed block rise) is = is.told
-    ends_told fence.NoMemory is = tt
+    ends_told fence.NoMemory (inl is) = inl is.are
+    ends_told fence.NoMemory (inr is) = inr is.told
 
     runs_unfenced : (why : FenceEnd) → EndsAt d l items e k items' why → HasRun s time a e k items' (Err (end_of why))
     runs_unfenced why ends =
@@ -134,7 +135,7 @@ module _ (s : ScriptValue) (time : ℕ) (a : Point) (d : DiskState) (l : Option 
           goes = h.goes;
           behind = came.0;
           run = came.1;
-          out = (of_crash s time a h.count h.last h.left why crashes, ends_told why is);
+          out = (of_crash s time a h.count h.last h.left why at, ends_told why is);
         }
 
     -- so by the blocks and the sequence that the fence was given

@@ -8,31 +8,32 @@ use Rattle.script_lang.specs.Script.{ScriptValue}
 use Rattle.shared_disk.specs.Disk.{Barrier, DiskState, Operation, Write, after_barrier}
 use Rattle.trace_text.specs.declared.item.TraceItem.{TraceItem}
 use Rattle.trace_text.specs.declared.item.TraceItem.TheVariants as trace
-use Rattle.logged_runs.specs.StepEnds.{Landed, Said, Unsaid, clean_item, last_block, with_clean}
-use Rattle.logged_runs.specs.Fails.{AsItWas}
-use Rattle.logged_runs.specs.Points.{Point}
-use Rattle.logged_runs.specs.Steps.{Steps}
-use Rattle.logged_runs.proofs.Telling.{steps_go_on}
-use Rattle.logged_node.specs.Ends.{FailedAt, IsOfDisk}
-use Rattle.logged_node.specs.Leaving as leaving
-use Rattle.logged_node.specs.Leaving.{HasLastHeader, IsReady, StopsAtHeader, StopsLeaving, at_first, at_the_end, before_it, behind_it, bringing_in, going_home, in_it}
-use Rattle.logged_node.specs.Nodes.{IsBeforeCrash, IsLeftAs, IsLeftBy, StopsBehind, StopsByCrash, crash_at, point_of}
-use Rattle.logged_node.specs.declared.ends.Stop.{Stop}
-use Rattle.logged_node.specs.declared.ends.Stop.TheVariants as stop
-use Rattle.logged_node.specs.declared.node.Node.{Node}
-use Rattle.logged_node.proofs.Arming.{before_crash}
-use Rattle.logged_node.proofs.Blocks.{none_some}
-use Rattle.logged_node.proofs.Ended.{goes_behind}
-use Rattle.logged_node.proofs.Unmounting.{goes_leaving}
+use Rattle.whole_runs.specs.StepEnds.{Landed, Said, Unsaid, clean_item, last_block, with_clean}
+use Rattle.whole_runs.specs.Fails.{AsItWas}
+use Rattle.whole_runs.specs.Points.{Point}
+use Rattle.whole_runs.specs.Steps.{Steps}
+use Rattle.whole_runs.proofs.LoggedRunsTelling.{steps_go_on}
+use Rattle.logged_calls.specs.LoggedNodeEnds.{FailedAt, IsOfDisk}
+use Rattle.logged_calls.specs.Leaving as leaving
+use Rattle.logged_calls.specs.Leaving.{HasLastHeader, IsReady, StopsAtHeader, StopsLeaving, at_first, at_the_end, before_it, behind_it, bringing_in, going_home, in_it}
+use Rattle.logged_calls.specs.Nodes.{IsBeforeCrash, IsLeftBy, StopsBehind, StopsByCrash, crash_at, point_of}
+use Rattle.logged_calls.specs.logged_node_ends.Stop.{Stop}
+use Rattle.logged_calls.specs.logged_node_ends.Stop.TheVariants as stop
+use Rattle.logged_calls.specs.node.Node.{Node}
+use Rattle.logged_calls.proofs.Arming.{before_crash}
+use Rattle.logged_calls.proofs.Blocks.{none_some}
+use Rattle.logged_calls.proofs.Ended.{goes_behind}
+use Rattle.logged_calls.proofs.Unmounting.{goes_leaving}
 use Rattle.logged_calls.proofs.Untold.{failed_tells, quiet_steps}
 use Rattle.logged_scripts.specs.declared.halts.Halt.TheVariants as halt
 use Rattle.logged_scripts.specs.Beginning.{IsUnderWay}
 use Rattle.logged_scripts.specs.Crashes.{first_crash}
-use Rattle.logged_scripts.specs.Ends.{IsFailedBehind, behind_the_end, halt_of, in_a_step}
+use Rattle.logged_scripts.specs.Ends.{IsFailedBehind, at_the_header, behind_the_end, halt_of, in_a_step}
 use Rattle.logged_scripts.specs.Runs.{HaltsAt, HasHalted, HasUnmounted, clean_still, with_header}
+use Rattle.logged_scripts.proofs.Beginning.{before_first}
 use Rattle.logged_scripts.proofs.Crashing.{none_past, none_past_stopped}
-use Rattle.logged_scripts.proofs.Going.{RestsAtCrash, gains_both, goes_ending, goes_failing}
-use Rattle.logged_scripts.proofs.Taking.{crashed_by, halts_at}
+use Rattle.logged_scripts.proofs.Going.{LeavesAtEnd, RestsAtCrash, gains_both, goes_ending, goes_failing}
+use Rattle.logged_scripts.proofs.Taking.{halts_as, halts_at}
 use Rattle.logged_scripts.proofs.Lists.{none_behind}
 use Rattle.logged_scripts.proofs.Members.{runs_still}
 use Rattle.logged_scripts.proofs.Untouched.{IsFresh}
@@ -54,6 +55,9 @@ nothing_behind (x ∷ xs) = ap (λ (ys : List TraceItem). x ∷ ys) (nothing_beh
 
 -- the end of the lines, where the node is under way
 module _ (s : ScriptValue) (time : ℕ) (a : Point) (d : DiskState) (l : Option (List Operation)) (n : Node) (fresh : IsFresh a) (so : IsUnderWay s time a (length s.lines) d l n) where
+  all_lines : (last : Point) → LeavesAtEnd s (length s.lines) last
+  all_lines last unmounts = refl
+
   no_line : (left : Point) → RestsAtCrash s (length s.lines) left
   no_line left nodes is = absurd (none_some (sym (none_behind s.lines) ∙ is))
 
@@ -72,6 +76,9 @@ module _ (s : ScriptValue) (time : ℕ) (a : Point) (d : DiskState) (l : Option 
   past_same : (items items' : List TraceItem) → items' ≡ items → AllByRecursion (IsNotPast items) s.armed → AllByRecursion (IsNotPast items') s.armed
   past_same items items' same past = subst (λ (is : List TraceItem). AllByRecursion (IsNotPast is) s.armed) (sym same) past
 
+  by_items : (items items' : List TraceItem) (why : Stop) → StopsByCrash (first_crash s.armed) items why → items ≡ items' → StopsByCrash (first_crash s.armed) items' why
+  by_items items items' why crash same = subst (λ (is : List TraceItem). StopsByCrash (first_crash s.armed) is why) same crash
+
   -- ---- where it stops before its last header
 
   stops_behind : (most : ℕ) (e f : DiskState) (k h : Option (List Operation)) (m : Node) (items : List TraceItem) (why : Stop) → ((at : ℕ) → Steps at here (point_of e k m)) → m.numbers.answered ≡ n.numbers.answered → crash_at m ≡ crash_at n
@@ -81,11 +88,11 @@ module _ (s : ScriptValue) (time : ℕ) (a : Point) (d : DiskState) (l : Option 
     last = stops.last;
     left = stops.left;
     goes = goes_failing s time a (length s.lines) stops.last stops.left fresh (all_steps stops.last steps same)
-        (subst (Runs s (length s.lines)) (sym tells) (still_runs stops.last steps same (past_same items stops.last.items (sym tells ∙ stops.told) (none_past_stopped s.armed items why crash)))) (no_line stops.left) (stops.fails time);
+        (subst (Runs s (length s.lines)) (sym tells) (still_runs stops.last steps same (past_same items stops.last.items (sym tells ∙ stops.told) (none_past_stopped s.armed items why crash)))) (all_lines stops.last) (no_line stops.left) (stops.fails time);
     disk = stops.disk;
     listed = stops.listed;
     told = stops.told;
-    why = halts_at s time a (length s.lines) stops.last stops.left why (crashed_by s (length s.lines) items stops.left.items why crash stops.told) (λ block rise is. in_a_step block (subst (IsLeftAs stops.last stops.left) is stops.exactly));
+    why = halts_as s time a (length s.lines) stops.last stops.left items why crash stops.told stops.exactly;
   }
     where
       steps : Steps time here stops.last
@@ -105,11 +112,11 @@ module _ (s : ScriptValue) (time : ℕ) (a : Point) (d : DiskState) (l : Option 
     count = length s.lines;
     last = here;
     left = here;
-    goes = goes_failing s time a (length s.lines) here here fresh so.steps so.runs (no_line here) AsItWas;
+    goes = goes_failing s time a (length s.lines) here here fresh so.steps so.runs (all_lines here) (no_line here) AsItWas;
     disk = sym disk;
     listed = sym listed;
     told = sym told;
-    why = subst (λ (w : Stop). HaltsAt s time a (length s.lines) here here (halt_of w)) (sym is) (tt, tt);
+    why = subst (λ (w : Stop). HaltsAt s time a (length s.lines) here here (halt_of w)) (sym is) (tt, inl (refl, before_first n s so.crash d so.ready));
   }
 
   -- ---- behind all that is to be written
@@ -135,11 +142,11 @@ module _ (s : ScriptValue) (time : ℕ) (a : Point) (d : DiskState) (l : Option 
       count = length s.lines;
       last = last;
       left = last;
-      goes = goes_failing s time a (length s.lines) last last fresh steps_to runs_to (no_line last) AsItWas;
+      goes = goes_failing s time a (length s.lines) last last fresh steps_to runs_to (all_lines last) (no_line last) AsItWas;
       disk = refl;
       listed = refl;
       told = sym told;
-      why = (refl, clean_still ready.done clean refl);
+      why = (refl, clean_still ready.unmounts ready.done clean refl);
     }
 
     module _ (written : m.log.clean ≡ false) (f : DiskState) (h : Option (List Operation)) (items : List TraceItem) where
@@ -149,12 +156,12 @@ module _ (s : ScriptValue) (time : ℕ) (a : Point) (d : DiskState) (l : Option 
         count = length s.lines;
         last = last;
         left = left;
-        goes = goes_ending s time a (length s.lines) last left fresh steps_to (runs_with more (tt, (tt, tt)) refl (none_past s.armed left.items (subst (IsBeforeCrash (first_crash s.armed)) has.tells before))) (no_line left) more refl written
+        goes = goes_ending s time a (length s.lines) last left fresh steps_to (runs_with more (tt, (tt, tt)) refl (none_past s.armed left.items (subst (IsBeforeCrash (first_crash s.armed)) has.tells before))) (all_lines last) (no_line left) more refl written ready.unmounts
             (Landed has.bytes h has.flies.flies) (gains_both k has.told h (Write 1 (last_block last) has.bytes ∷ []) (Barrier 1 ∷ []) has.flies.gains has.gains);
         disk = ap (λ (x : DiskState). after_barrier x 1) (sym has.flies.disk) ∙ sym has.disk;
         listed = refl;
         told = sym has.tells;
-        why = (refl, with_header has.bytes h has.flies.flies refl);
+        why = (refl, with_header has.bytes h ready.unmounts has.flies.flies refl);
       }
         where
           more : List TraceItem
@@ -169,22 +176,23 @@ module _ (s : ScriptValue) (time : ℕ) (a : Point) (d : DiskState) (l : Option 
         count = length s.lines;
         last = last;
         left = last;
-        goes = goes_failing s time a (length s.lines) last last fresh steps_to runs_to (no_line last) AsItWas;
+        goes = goes_failing s time a (length s.lines) last last fresh steps_to runs_to (all_lines last) (no_line last) AsItWas;
         disk = sym disk;
         listed = sym listed;
         told = sym told;
-        why = halts_at s time a (length s.lines) last last why (λ is. absurd (off is)) (λ block rise is. in_a_step block (subst (IsLeftBy last last) (sym (its_block why (Some (last_block last)) block rise is at)) (inl refl)));
+        why = halts_at s time a (length s.lines) last last why (by_items items m.items.items why crash told) (λ is. absurd (off is))
+            (λ block rise is. in_a_step block (subst (IsLeftBy last last) (sym (its_block why (Some (last_block last)) block rise is at)) (inl refl))) (λ is. refl);
       }
       stops_header why crash (in_it bytes flies told of at before) = record {
         count = length s.lines;
         last = last;
         left = in_flight last h bytes;
-        goes = goes_ending s time a (length s.lines) last (in_flight last h bytes) fresh steps_to runs_to (no_line (in_flight last h bytes)) [] (sym (nothing_behind m.items.items)) written (Unsaid bytes h flies.flies) flies.gains;
+        goes = goes_ending s time a (length s.lines) last (in_flight last h bytes) fresh steps_to runs_to (all_lines last) (no_line (in_flight last h bytes)) [] (sym (nothing_behind m.items.items)) written ready.unmounts (Unsaid bytes h flies.flies) flies.gains;
         disk = sym flies.disk;
         listed = refl;
         told = sym told;
-        why = halts_at s time a (length s.lines) last (in_flight last h bytes) why (λ is. absurd (subst IsOfDisk is of))
-            (λ block rise is. in_a_step block (subst (IsLeftBy last (in_flight last h bytes)) (sym (its_block why (Some (last_block last)) block rise is at)) (inr (bytes, refl))));
+        why = halts_at s time a (length s.lines) last (in_flight last h bytes) why (by_items items m.items.items why crash told) (λ is. absurd (subst IsOfDisk is of))
+            (λ block rise is. in_a_step block (subst (IsLeftBy last (in_flight last h bytes)) (sym (its_block why (Some (last_block last)) block rise is at)) (inr (bytes, refl)))) (λ is. absurd (subst IsOfDisk is of));
       }
       stops_header why crash (behind_it bytes flies told off at crashes) = record {
         count = length s.lines;
@@ -192,12 +200,12 @@ module _ (s : ScriptValue) (time : ℕ) (a : Point) (d : DiskState) (l : Option 
         left = with_item last h bytes;
         goes = goes_ending s time a (length s.lines) last (with_item last h bytes) fresh steps_to
             (runs_with (clean_item last ∷ []) (tt, tt) refl (past_same items (m.items.items ++ clean_item last ∷ []) (sym told) (none_past_stopped s.armed items why crash)))
-            (no_line (with_item last h bytes)) (clean_item last ∷ []) refl written (Said bytes h flies.flies) flies.gains;
+            (all_lines last) (no_line (with_item last h bytes)) (clean_item last ∷ []) refl written ready.unmounts (Said bytes h flies.flies) flies.gains;
         disk = sym flies.disk;
         listed = refl;
         told = sym told;
-        why = halts_at s time a (length s.lines) last (with_item last h bytes) why (crashed_by s (length s.lines) items (m.items.items ++ clean_item last ∷ []) why crash (sym told))
-            (λ block rise is. subst (IsFailedBehind last (with_item last h bytes)) (sym (its_block why None block rise is at)) (behind_the_end refl));
+        why = halts_at s time a (length s.lines) last (with_item last h bytes) why (by_items items (m.items.items ++ clean_item last ∷ []) why crash told) (λ is. at_the_header bytes h flies.flies flies.gains refl)
+            (λ block rise is. subst (IsFailedBehind last (with_item last h bytes)) (sym (its_block why None block rise is at)) (behind_the_end refl)) (λ is. absurd (off is));
       }
 
   -- ---- all of it

@@ -20,10 +20,10 @@ use Rattle.lone_scripts.specs.Scripts.{IsForOne}
 use Rattle.lone_scripts.proofs.GoingOn.{calls_go_on, other_items_go_on}
 use Rattle.lone_scripts.proofs.Told.{history_filter, history_of-append}
 use Rattle.lone_view.specs.Seeing.{Lone}
-use Rattle.logged_runs.proofs.Counting.{calls_on}
-use Rattle.logged_runs.specs.Points.{IsOfRun, Point}
-use Rattle.logged_runs.specs.Steps.{Steps}
-use Rattle.logged_runs.proofs.Telling.{append_assoc, left_same, steps_are_told}
+use Rattle.whole_runs.proofs.Counting.{calls_on}
+use Rattle.whole_runs.specs.Points.{IsOfRun, Point}
+use Rattle.whole_runs.specs.Steps.{Steps}
+use Rattle.whole_runs.proofs.LoggedRunsTelling.{append_assoc, left_same, steps_are_told}
 use Rattle.logged_calls.specs.Calls.{IsAnswer, TellsCall, TellsNoCall, as_done, no_space}
 use Rattle.logged_scripts.proofs.Lists.{all_front, all_to}
 

@@ -1,13 +1,13 @@
 -- A line is taken, or the node halts at it.
-use Rattle.std.proofs.Common.{◌≡◌, ◌<◌, ◌≤◌, ◌+◌, ◌*◌, ℕ, suc, List, length, get_or, Option, Some, refl, sym, ap, ◌∙◌, subst, arith}
+use Rattle.std.proofs.Common.{◌≡◌, ◌<◌, ◌≤◌, ◌+◌, ◌*◌, ℕ, suc, inl, List, length, get_or, Option, Some, refl, sym, ap, ◌∙◌, subst, arith}
 use Rattle.std.specs.Prelude.{slice_get}
 use Rattle.std.specs.List.{AllByRecursion}
 use Rattle.fault_counts.specs.declared.Rise.{Rise}
-use Rattle.lone_answers.specs.Calls.{IsUnbuilt}
+use Rattle.logged_calls.specs.LoneAnswersCalls.{IsUnbuilt}
 use Rattle.file_tree.specs.declared.call.Call.{Call}
-use Rattle.lone_answers.specs.Faults.{IsDamagedFor, IsLackedBlock}
-use Rattle.lone_answers.specs.Reading.{WorksOnNone}
-use Rattle.lone_scripts.specs.Runs.{Crashes, IsNotPast, Runs, at_line, name_at}
+use Rattle.logged_calls.specs.Faults.{IsDamagedFor, IsLackedBlock}
+use Rattle.logged_calls.specs.Reading.{WorksOnNone}
+use Rattle.lone_scripts.specs.Runs.{IsNotPast, Runs, at_line, name_at}
 use Rattle.lone_scripts.specs.Scripts.{IsForOne, IsLoneLine}
 use Rattle.lone_scripts.proofs.GoingOn.{waits_go_on}
 use Rattle.lone_scripts.proofs.Lists.{all_at}
@@ -18,14 +18,14 @@ use Rattle.script_lang.specs.declared.script.Line.{Line}
 use Rattle.script_lang.specs.declared.script.Line.TheVariants as line
 use Rattle.shared_disk.specs.Disk.{DiskState, Operation}
 use Rattle.trace_text.specs.declared.item.TraceItem.{TraceItem}
-use Rattle.logged_runs.specs.Fails.{AsItWas}
-use Rattle.logged_runs.specs.Points.{Point}
-use Rattle.logged_runs.specs.Steps.{Steps}
-use Rattle.logged_runs.proofs.Telling.{steps_go_on}
-use Rattle.logged_node.specs.Nodes.{IsBeforeCrash, IsLeftAs, StopsByCrash, point_of}
-use Rattle.logged_node.specs.declared.ends.Stop.{Stop}
-use Rattle.logged_node.specs.declared.ends.Stop.TheVariants as stop
-use Rattle.logged_node.specs.declared.node.Node.{Node}
+use Rattle.whole_runs.specs.Fails.{AsItWas}
+use Rattle.whole_runs.specs.Points.{Point}
+use Rattle.whole_runs.specs.Steps.{Steps}
+use Rattle.whole_runs.proofs.LoggedRunsTelling.{steps_go_on}
+use Rattle.logged_calls.specs.Nodes.{IsBeforeCrash, IsLeftAs, StopsByCrash, point_of}
+use Rattle.logged_calls.specs.logged_node_ends.Stop.{Stop}
+use Rattle.logged_calls.specs.logged_node_ends.Stop.TheVariants as stop
+use Rattle.logged_calls.specs.node.Node.{Node}
 use Rattle.logged_calls.specs.Calls.{HasTaken, TellsNoCall}
 use Rattle.logged_calls.specs.Ends.{EndsBehind, EndsUntold, IfDamaged, IfNotBuilt, IfNotLoggable, IfReadFailed, IfTooSmall, IsTooSmallFor, IsUnloggableFor, StopsUntold}
 use Rattle.logged_calls.specs.declared.ends.CallEnd.{CallEnd}
@@ -36,11 +36,11 @@ use Rattle.logged_scripts.specs.declared.halts.Halt.{Halt}
 use Rattle.logged_scripts.specs.declared.halts.Halt.TheVariants as halt
 use Rattle.logged_scripts.specs.Beginning.{IsUnderWay}
 use Rattle.logged_scripts.specs.Crashes.{first_crash}
-use Rattle.logged_scripts.specs.Ends.{AtCall, IsFailedBehind, WorkedOnNone, halt_at, halt_of, in_a_step}
+use Rattle.logged_scripts.specs.Ends.{AtCall, AwaitsItsCrash, IsFailedBehind, NothingUntold, WorkedOnNone, at_the_point, halt_at, halt_of, in_a_step}
 use Rattle.logged_scripts.specs.Runs.{GoesTo, HaltsAt, HasHalted}
 use Rattle.logged_scripts.proofs.Beginning.{before_first}
 use Rattle.logged_scripts.proofs.Crashing.{crashes_there, none_past, none_past_stopped}
-use Rattle.logged_scripts.proofs.Going.{RestsAtCrash, goes_failing}
+use Rattle.logged_scripts.proofs.Going.{RestsAtCrash, goes_failing, still_mounted}
 use Rattle.logged_scripts.proofs.Lists.{slice_at}
 use Rattle.logged_scripts.proofs.Members.{IsLast, call_last, name_is, numbered_on, runs_on, runs_still}
 use Rattle.logged_scripts.proofs.Untouched.{IsFresh}
@@ -109,23 +109,26 @@ crash_line_halts s time a count d list n fresh so nodes next = record {
   count = count;
   last = point_of d list n;
   left = point_of d list n;
-  goes = goes_failing s time a count (point_of d list n) (point_of d list n) fresh so.steps so.runs (λ others is. so.ready.resting.none) AsItWas;
+  goes = goes_failing s time a count (point_of d list n) (point_of d list n) fresh so.steps so.runs (still_mounted s count (point_of d list n) so.ready.mounted) (λ others is. so.ready.resting.none) AsItWas;
   disk = refl;
   listed = refl;
   told = refl;
-  why = at_line nodes next;
+  why = (at_line nodes next, at_the_point refl);
 }
 
 -- where it stops, by what stands at each cause
-pub halts_at : (s : ScriptValue) (time : ℕ) (a : Point) (count : ℕ) (last left : Point) (why : Stop) → (why ≡ stop.Crashed → Crashes s count left.items)
-    → ((block : Option ℕ) (rise : Rise) → why ≡ stop.DiskFailed block rise → IsFailedBehind last left block) → HaltsAt s time a count last left (halt_of why)
-halts_at s time a count last left stop.Crashed crashed failed = crashed refl
-halts_at s time a count last left (stop.DiskFailed block rise) crashed failed = (tt, failed block rise refl)
-halts_at s time a count last left stop.NoMemory crashed failed = (tt, tt)
+pub halts_at : (s : ScriptValue) (time : ℕ) (a : Point) (count : ℕ) (last left : Point) (why : Stop) → StopsByCrash (first_crash s.armed) left.items why → (why ≡ stop.Crashed → NothingUntold last left)
+    → ((block : Option ℕ) (rise : Rise) → why ≡ stop.DiskFailed block rise → IsFailedBehind last left block) → (why ≡ stop.NoMemory → left ≡ last) → HaltsAt s time a count last left (halt_of why)
+halts_at s time a count last left stop.Crashed crash told failed still = (crashes_there s count left.items crash, told refl)
+halts_at s time a count last left (stop.DiskFailed block rise) crash told failed still = (tt, (failed block rise refl, crash))
+halts_at s time a count last left stop.NoMemory crash told failed still = (tt, inl (still refl, crash))
 
--- at its write, if it crashed
-pub crashed_by : (s : ScriptValue) (count : ℕ) (items items' : List TraceItem) (why : Stop) → StopsByCrash (first_crash s.armed) items why → items' ≡ items → why ≡ stop.Crashed → Crashes s count items'
-crashed_by s count items items' why crash same is = subst (Crashes s count) (sym same) (crashes_there s count items (subst (StopsByCrash (first_crash s.armed) items) is crash))
+-- so it does where it leaves a point as such a stop does
+pub halts_as : (s : ScriptValue) (time : ℕ) (a : Point) (count : ℕ) (last left : Point) (items : List TraceItem) (why : Stop) → StopsByCrash (first_crash s.armed) items why → left.items ≡ items → IsLeftAs last left why
+    → HaltsAt s time a count last left (halt_of why)
+halts_as s time a count last left items why crash told exactly =
+    halts_at s time a count last left why (subst (λ (is : List TraceItem). StopsByCrash (first_crash s.armed) is why) (sym told) crash) (λ is. at_the_point (subst (IsLeftAs last left) is exactly))
+    (λ block rise is. in_a_step block (subst (IsLeftAs last left) is exactly)) (λ is. subst (IsLeftAs last left) is exactly)
 
 module _ (s : ScriptValue) (time : ℕ) (a : Point) (count : ℕ) (d e : DiskState) (l k : Option (List Operation)) (n m : Node) (fresh : IsFresh a) (so : At s time a count d l n) (client : ℕ) (call : Call)
     (next : slice_get s.lines count ≡ Some (line.Call client call)) where
@@ -143,11 +146,11 @@ module _ (s : ScriptValue) (time : ℕ) (a : Point) (count : ℕ) (d e : DiskSta
     left = stops.left;
     goes = goes_failing s time a count stops.last stops.left fresh (steps_go_on time a (point_of d l n) stops.last so.steps (stops.steps time))
         (subst (Runs s count) (sym tells) (runs_still s time count (point_of d l n) stops.last (stops.steps time) so.runs (subst (TellsNoCall n.items.items) items_are stops.tells)
-        (subst (λ (is : List TraceItem). AllByRecursion (IsNotPast is) s.armed) items_are (none_past_stopped s.armed m.items.items why crash)))) (no_crash_line stops.left) (stops.fails time);
+        (subst (λ (is : List TraceItem). AllByRecursion (IsNotPast is) s.armed) items_are (none_past_stopped s.armed m.items.items why crash)))) (still_mounted s count stops.last stops.unmounts) (no_crash_line stops.left) (stops.fails time);
     disk = stops.disk;
     listed = stops.listed;
     told = stops.told;
-    why = halts_at s time a count stops.last stops.left why (crashed_by s count m.items.items stops.left.items why crash stops.told) (λ block rise is. in_a_step block (subst (IsLeftAs stops.last stops.left) is stops.exactly));
+    why = halts_as s time a count stops.last stops.left m.items.items why crash stops.told stops.exactly;
   }
     where
       tells : stops.left.items ≡ stops.last.items
@@ -167,9 +170,12 @@ module _ (s : ScriptValue) (time : ℕ) (a : Point) (count : ℕ) (d e : DiskSta
     steps : Steps time a there
     steps = steps_go_on time a (point_of d l n) there so.steps (ends.goes.steps time)
 
+    awaits : AwaitsItsCrash s there
+    awaits = before_first m s (ends.goes.armed ∙ so.crash) e ends.ready
+
     goes : GoesTo s time a count there there
-    goes = goes_failing s time a count there there fresh steps
-        (runs_still s time count (point_of d l n) there (ends.goes.steps time) so.runs ends.tells (none_past s.armed m.items.items (before_first m s (ends.goes.armed ∙ so.crash) e ends.ready))) (no_crash_line there) AsItWas
+    goes = goes_failing s time a count there there fresh steps (runs_still s time count (point_of d l n) there (ends.goes.steps time) so.runs ends.tells (none_past s.armed m.items.items awaits))
+        (still_mounted s count there ends.ready.mounted) (no_crash_line there) AsItWas
 
     halts : (h : Halt) → HaltsAt s time a count there there h → HasHalted s time a e k m.items.items h
     halts h why = record { count = count; last = there; left = there; goes = goes; disk = refl; listed = refl; told = refl; why = why }
@@ -189,16 +195,16 @@ module _ (s : ScriptValue) (time : ℕ) (a : Point) (count : ℕ) (d e : DiskSta
       → IfNotLoggable end (IsUnloggableFor (point_of e k m) time call) → HasHalted s time a e k m.items.items (halt_at count end)
   call_halts (call_end.Stopped why) ends failed damaged sound unbuilt built small unloggable = stopped why ends
   call_halts (call_end.ReadFailed block rise) ends failed damaged sound unbuilt built small unloggable =
-      halts ends (halt.Ended (run.ReadFailed block rise)) (tt, (refl, at ends (λ (c : Call). IsLackedBlock m.view e.count c block) (subst (λ (blocks : ℕ). IsLackedBlock m.view blocks call block) (same_count ends) failed)))
+      halts ends (halt.Ended (run.ReadFailed block rise)) (tt, (refl, at ends (λ (c : Call). IsLackedBlock m.view e.count c block) (subst (λ (blocks : ℕ). IsLackedBlock m.view blocks call block) (same_count ends) failed), awaits ends))
   call_halts (call_end.Damaged block rule) ends failed damaged sound unbuilt built small unloggable =
       halts ends (halt.Ended (run.Damaged block rule))
-      (tt, (refl, at ends (λ (c : Call). IsDamagedFor (seen_alone m.view) e.count c block rule) (subst (λ (blocks : ℕ). IsDamagedFor (seen_alone m.view) blocks call block rule) (same_count ends) damaged), on_none ends sound))
+      (tt, (refl, at ends (λ (c : Call). IsDamagedFor (seen_alone m.view) e.count c block rule) (subst (λ (blocks : ℕ). IsDamagedFor (seen_alone m.view) blocks call block rule) (same_count ends) damaged), on_none ends sound, awaits ends))
   call_halts call_end.NotBuilt ends failed damaged sound unbuilt built small unloggable =
-      halts ends (halt.Ended (run.NotBuilt count)) (tt, (refl, refl, at ends (λ (c : Call). IsUnbuilt (seen_alone m.view) c 1) unbuilt, on_none ends built))
+      halts ends (halt.Ended (run.NotBuilt count)) (tt, (refl, refl, at ends (λ (c : Call). IsUnbuilt (seen_alone m.view) c 1) unbuilt, on_none ends built, awaits ends))
   call_halts call_end.LogTooSmall ends failed damaged sound unbuilt built small unloggable =
-      halts ends (halt.Ended (run.LogTooSmall count)) (tt, (refl, refl, at ends (IsTooSmallFor (point_of e k m) time) small))
+      halts ends (halt.Ended (run.LogTooSmall count)) (tt, (refl, refl, at ends (IsTooSmallFor (point_of e k m) time) small, awaits ends))
   call_halts call_end.NotLoggable ends failed damaged sound unbuilt built small unloggable =
-      halts ends (halt.Ended (run.NotLoggable count)) (tt, (refl, refl, at ends (IsUnloggableFor (point_of e k m) time) unloggable))
+      halts ends (halt.Ended (run.NotLoggable count)) (tt, (refl, refl, at ends (IsUnloggableFor (point_of e k m) time) unloggable, awaits ends))
 
 -- ---- the line at a place
 

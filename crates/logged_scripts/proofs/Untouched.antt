@@ -17,12 +17,12 @@ use Rattle.lone_scripts.proofs.Lists.{all_both}
 use Rattle.shared_disk.specs.Disk.{DiskState}
 use Rattle.trace_text.specs.declared.item.TraceItem.{TraceItem}
 use Rattle.trace_text.specs.declared.item.TraceItem.TheVariants as trace
-use Rattle.logged_runs.specs.Fails.{AsItWas, FailsTo, InAWrite}
-use Rattle.logged_runs.specs.Points.{Point}
-use Rattle.logged_runs.specs.Steps as by
-use Rattle.logged_runs.specs.Steps.{Here, Step, Steps, Then, with_write}
-use Rattle.logged_runs.proofs.Telling.{steps_are_told}
-use Rattle.logged_node.proofs.Blocks.{none_some}
+use Rattle.whole_runs.specs.Fails.{AsItWas, FailsTo, InAWrite}
+use Rattle.whole_runs.specs.Points.{Point}
+use Rattle.whole_runs.specs.Steps as by
+use Rattle.whole_runs.specs.Steps.{Here, Step, Steps, Then, with_write}
+use Rattle.whole_runs.proofs.LoggedRunsTelling.{steps_are_told}
+use Rattle.logged_calls.proofs.Blocks.{none_some}
 use Rattle.logged_scripts.specs.Runs.{is_change}
 use Rattle.logged_scripts.proofs.Lists.{all_front, all_last}
 

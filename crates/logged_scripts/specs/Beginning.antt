@@ -9,12 +9,12 @@ use Rattle.script_lang.specs.Script.{ScriptValue}
 use Rattle.shared_disk.specs.Disk.{DiskState, Operation}
 use Rattle.trace_text.specs.declared.item.TraceItem.{TraceItem}
 use Rattle.trace_text.specs.declared.item.TraceItem.TheVariants as trace
-use Rattle.logged_runs.specs.Starts.{IsOfReplay}
-use Rattle.logged_runs.specs.Points.{Point}
-use Rattle.logged_runs.specs.Steps.{Steps}
-use Rattle.logged_node.specs.Beginning.{no_calls}
-use Rattle.logged_node.specs.Nodes.{IsResting, crash_at, point_of}
-use Rattle.logged_node.specs.declared.node.Node.{Node}
+use Rattle.whole_runs.specs.LoggedRunsStarts.{IsOfReplay}
+use Rattle.whole_runs.specs.Points.{Point}
+use Rattle.whole_runs.specs.Steps.{Steps}
+use Rattle.logged_calls.specs.Beginning.{no_calls}
+use Rattle.logged_calls.specs.Nodes.{IsResting, crash_at, point_of}
+use Rattle.logged_calls.specs.node.Node.{Node}
 use Rattle.logged_calls.specs.Calls.{IsReady, most_headers}
 use Rattle.logged_scripts.specs.Crashes.{first_crash}
 

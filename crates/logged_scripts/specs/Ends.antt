@@ -1,10 +1,10 @@
 -- Why a run ends before its script does, or isn't told to its end: the cause of each end, and its place.
-use Rattle.std.specs.Prelude.{ℕ, ◌≡◌, ◌++◌, ◌<◌, ⊤, Contains, IfSome, List, [], ◌∷◌, slice_get, Option, None, Some}
+use Rattle.std.specs.Prelude.{ℕ, ◌≡◌, ◌⊎◌, ◌++◌, ◌<◌, ⊤, Contains, IfSome, List, [], ◌∷◌, slice_get, Option, None, Some}
 use Rattle.fault_counts.specs.Causes.{WentUp}
-use Rattle.lone_answers.specs.Calls.{IsUnbuilt}
+use Rattle.logged_calls.specs.LoneAnswersCalls.{IsUnbuilt}
 use Rattle.file_tree.specs.declared.call.Call.{Call}
-use Rattle.lone_answers.specs.Faults.{IsDamagedFor, IsLackedBlock}
-use Rattle.lone_answers.specs.Reading.{WorksOnNone}
+use Rattle.logged_calls.specs.Faults.{IsDamagedFor, IsLackedBlock}
+use Rattle.logged_calls.specs.Reading.{WorksOnNone}
 use Rattle.lone_fences.specs.Fencing.{EndsAt}
 use Rattle.lone_fences.specs.declared.ends.FenceEnd.{FenceEnd}
 use Rattle.lone_fences.specs.declared.ends.FenceEnd.TheVariants as fence
@@ -12,17 +12,18 @@ use Rattle.lone_scripts.specs.Runs.{Crashes}
 use Rattle.lone_view.specs.Seeing.{seen_alone}
 use Rattle.script_lang.specs.Script.{ScriptValue}
 use Rattle.script_lang.specs.declared.script.Line.TheVariants as line
-use Rattle.shared_disk.specs.Disk.{DiskState, Operation}
+use Rattle.shared_disk.specs.Disk.{DiskState, Gains, Operation, Write}
 use Rattle.trace_text.specs.declared.item.TraceItem.{TraceItem}
-use Rattle.logged_runs.specs.StepEnds.{clean_item}
-use Rattle.logged_runs.specs.Points.{Point}
-use Rattle.logged_runs.specs.Steps.{Steps}
-use Rattle.logged_node.specs.Nodes.{IsLeftBy}
-use Rattle.logged_node.specs.declared.ends.Stop.{Stop}
-use Rattle.logged_node.specs.declared.ends.Stop.TheVariants as stop
+use Rattle.whole_runs.specs.StepEnds.{FliesClean, clean_item, last_block, with_clean}
+use Rattle.whole_runs.specs.Points.{Point}
+use Rattle.whole_runs.specs.Steps.{Steps}
+use Rattle.logged_calls.specs.Nodes.{IsBeforeCrash, IsLeftBy}
+use Rattle.logged_calls.specs.logged_node_ends.Stop.{Stop}
+use Rattle.logged_calls.specs.logged_node_ends.Stop.TheVariants as stop
 use Rattle.logged_calls.specs.Ends.{IsTooSmallFor, IsUnloggableFor}
 use Rattle.logged_calls.specs.declared.ends.CallEnd.{CallEnd}
 use Rattle.logged_calls.specs.declared.ends.CallEnd.TheVariants as call_end
+use Rattle.logged_scripts.specs.Crashes.{first_crash}
 use Rattle.logged_scripts.specs.declared.ends.RunEnd.{RunEnd}
 use Rattle.logged_scripts.specs.declared.ends.RunEnd.TheVariants as end
 use Rattle.logged_scripts.specs.declared.halts.Halt.{Halt}
@@ -77,6 +78,22 @@ abbrev pub IfEnded : Halt → (RunEnd → Type 0) → Type 0
 IfEnded (halt.Ended e) P = P e
 IfEnded h P = ⊤
 
+-- ---- its crash
+
+-- No write was begun that no item tells: it is at the point; or behind it the clean header is in flight, which its list and its items tell.
+pub data NothingUntold (last left : Point) : Type 0 where
+  at_the_point : left ≡ last → NothingUntold last left
+  at_the_header : (bytes : List ℕ) (list : Option (List Operation)) → FliesClean last bytes → Gains last.list list (Write 1 (last_block last) bytes ∷ [])
+      → left ≡ record last { disk = with_clean last bytes; list = list; items = last.items ++ clean_item last ∷ [] } → NothingUntold last left
+
+-- at the next line, or directly behind the write for which a crash waits, with no other one begun
+abbrev pub IsAtItsCrash : ScriptValue → (count : ℕ) (last left : Point) → Type 0
+IsAtItsCrash s count last left = Crashes s count left.items × NothingUntold last left
+
+-- the first write at which it is to crash is still to be made
+abbrev pub AwaitsItsCrash : ScriptValue → (left : Point) → Type 0
+AwaitsItsCrash s left = IsBeforeCrash (first_crash s.armed) left.items
+
 -- ---- places
 
 -- the next line is a call, of which this holds
@@ -97,15 +114,16 @@ pub data IsFailedBehind (last left : Point) : Option ℕ → Type 0 where
   in_a_step : (block : Option ℕ) → IsLeftBy last left block → IsFailedBehind last left block
   behind_the_end : left.items ≡ last.items ++ clean_item last ∷ [] → IsFailedBehind last left None
 
--- It ended so where so many lines were taken, at a point, and left another: the one that a failing write may have left, and else the point itself, at which the next line is a call that isn't answered for this;
--- or it had crashed.
+-- It ended so where so many lines were taken, at a point, before the write at which it was to crash, and left another point: the one that a failing write may have left, and else the same; and a call that wasn't
+-- answered for this is the next line. Or it had crashed, and ended in its fence, or behind that.
 abbrev pub IsEndAt : (s : ScriptValue) (time : ℕ) (a : Point) (count : ℕ) (last left : Point) → RunEnd → Type 0
-IsEndAt s time a count last left (end.ReadFailed block rise) = (left ≡ last) × AtCall s count (λ call. IsLackedBlock last.view last.disk.count call block)
-IsEndAt s time a count last left (end.WriteFailed block rise) = IsFailedBehind last left block
-IsEndAt s time a count last left (end.NotFenced rise) = Crashes s count left.items
-IsEndAt s time a count last left (end.HeadUnread block rise) = Crashes s count left.items
-IsEndAt s time a count last left (end.Damaged block rule) = (left ≡ last) × AtCall s count (λ call. IsDamagedFor (seen_alone last.view) last.disk.count call block rule) × WorkedOnNone time a
-IsEndAt s time a count last left (end.NotBuilt line) = (left ≡ last) × (line ≡ count) × AtCall s count (λ call. IsUnbuilt (seen_alone last.view) call 1) × WorkedOnNone time a
-IsEndAt s time a count last left (end.LogTooSmall line) = (left ≡ last) × (line ≡ count) × AtCall s count (IsTooSmallFor last time)
-IsEndAt s time a count last left (end.NotLoggable line) = (left ≡ last) × (line ≡ count) × AtCall s count (IsUnloggableFor last time)
-IsEndAt s time a count last left end.NoMemory = ⊤
+IsEndAt s time a count last left (end.ReadFailed block rise) = (left ≡ last) × AtCall s count (λ call. IsLackedBlock last.view last.disk.count call block) × AwaitsItsCrash s left
+IsEndAt s time a count last left (end.WriteFailed block rise) = IsFailedBehind last left block × AwaitsItsCrash s left
+IsEndAt s time a count last left (end.NotFenced rise) = IsAtItsCrash s count last left
+IsEndAt s time a count last left (end.HeadUnread block rise) = IsAtItsCrash s count last left
+IsEndAt s time a count last left (end.Damaged block rule) =
+    (left ≡ last) × AtCall s count (λ call. IsDamagedFor (seen_alone last.view) last.disk.count call block rule) × WorkedOnNone time a × AwaitsItsCrash s left
+IsEndAt s time a count last left (end.NotBuilt line) = (left ≡ last) × (line ≡ count) × AtCall s count (λ call. IsUnbuilt (seen_alone last.view) call 1) × WorkedOnNone time a × AwaitsItsCrash s left
+IsEndAt s time a count last left (end.LogTooSmall line) = (left ≡ last) × (line ≡ count) × AtCall s count (IsTooSmallFor last time) × AwaitsItsCrash s left
+IsEndAt s time a count last left (end.NotLoggable line) = (left ≡ last) × (line ≡ count) × AtCall s count (IsUnloggableFor last time) × AwaitsItsCrash s left
+IsEndAt s time a count last left end.NoMemory = ((left ≡ last) × AwaitsItsCrash s left) ⊎ IsAtItsCrash s count last left

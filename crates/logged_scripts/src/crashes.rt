@@ -3,7 +3,7 @@ ghost use Rattle.std.specs.Prelude.{◌≡◌, ◌<◌, List, Some};
 ghost use Rattle.std.specs.List.{AllByRecursion};
 ghost use Rattle.script_lang.specs.declared.script.Armed.{Armed as Waiting};
 ghost use Rattle.trace_text.specs.declared.item.TraceItem.{TraceItem as Item};
-ghost use Rattle.logged_node.specs.Nodes.{Awaits, crash_of, writes_in};
+ghost use Rattle.logged_calls.specs.Nodes.{Awaits, crash_of, writes_in};
 ghost use Rattle.logged_scripts.specs.Crashes.{fate_at, fate_of, first_crash, left_until, settle_of, sooner};
 
 use script_lang::{Armed, Fate};
@@ -67,8 +67,8 @@ fn settle_at(armed: &[Armed], write: u64) -> Settle
     Settle::Old
 }
 
-/// How a fence settles what is in flight of a node behind the first of these crashes.
-pub(crate) fn settle_first(armed: &[Armed]) -> Settle
+/// How a fence settles what is in flight of a node behind the first of these crashes; as it was before, where none is to come. Costs two passes over them.
+pub fn settle_first(armed: &[Armed]) -> Settle
     ensures { result ≡ fate_of armed.now (first_crash armed.now) }
 {
     match first_write(armed) {

@@ -6,13 +6,13 @@ ghost use Rattle.lone_fences.specs.Fencing.{HasFenced};
 ghost use Rattle.logged_scripts.specs.Ends.{EndsFenced, HasCause, end_of};
 
 use crate::ends::RunEnd;
-use logged_node::Node;
+use logged_calls::Node;
 use lone_fences::{FenceEnd, fence_crashed};
 use shared_disk::{Settle, SharedDisk};
 use std::alloc::Global;
 
-// How a run ends that comes to this end behind a crash.
-fn end_of_fence(end: FenceEnd) -> RunEnd
+/// How a run ends that comes to this end behind a crash.
+pub fn end_of_fence(end: FenceEnd) -> RunEnd
     ensures { result ≡ end_of end }
 {
     match end {

@@ -3,8 +3,7 @@ ghost use Rattle.std.specs.Prelude.{◌≡◌};
 ghost use Rattle.logged_scripts.specs.Ends.{halt_at, halt_of};
 
 use crate::ends::RunEnd;
-use logged_calls::CallEnd;
-use logged_node::Stop;
+use logged_calls::{CallEnd, Stop};
 
 /// Why no more lines of a script are taken.
 #[derive(Clone, Copy, Debug, PartialEq, Eq)]

@@ -1,15 +1,14 @@
 // The lines of a script, taken one by one.
 ghost use Rattle.std.specs.Prelude.{ℕ, ◌≡◌, ◌<◌, ◌≤◌, ◌^◌, length, OnOk, IfErr};
 ghost use Rattle.lone_scripts.specs.Scripts.{IsForOne};
-ghost use Rattle.logged_node.specs.Nodes.{point_of};
+ghost use Rattle.logged_calls.specs.Nodes.{point_of};
 ghost use Rattle.logged_scripts.specs.Beginning.{HasBegun, IsUnderWay};
 ghost use Rattle.logged_scripts.specs.Ends.{HasCause, IfEnded};
 ghost use Rattle.logged_scripts.specs.Runs.{HasHalted};
 
 use crate::halts::{Halt, halt_of_call, halt_of_stop};
 use drafts::Stamp;
-use logged_calls::take_call;
-use logged_node::{Node, unmount};
+use logged_calls::{Node, take_call, unmount};
 use script_lang::{Line, Script};
 use shared_disk::SharedDisk;
 use std::alloc::Global;

@@ -3,7 +3,7 @@ ghost use Rattle.std.specs.Prelude.{ℕ, ◌≡◌, ◌<◌, ◌≤◌, ◌^◌,
 ghost use Rattle.gfs2_layout.specs.Device.{IsBlockSize};
 ghost use Rattle.lone_scripts.specs.Runs.{IsWholeLoneRun};
 ghost use Rattle.lone_scripts.specs.Scripts.{IsForOne};
-ghost use Rattle.logged_node.specs.Nodes.{point_of};
+ghost use Rattle.logged_calls.specs.Nodes.{point_of};
 ghost use Rattle.logged_scripts.specs.Beginning.{HasBegun};
 ghost use Rattle.logged_scripts.specs.Ends.{HasCause};
 ghost use Rattle.logged_scripts.specs.Runs.{HasRun};
@@ -14,7 +14,7 @@ use crate::fences::fence;
 use crate::halts::Halt;
 use crate::lines::run_lines;
 use drafts::Stamp;
-use logged_node::Node;
+use logged_calls::Node;
 use script_lang::Script;
 use shared_disk::{Settle, SharedDisk};
 use std::alloc::Global;

@@ -196,7 +196,7 @@ module _ (v : Volume) (s : Begun (trees_on v)) (w : World (trees_on v)) (d : ℕ
           (head_left (of.choice 0) (of.says 0 d is.journal.is)) others
 
       pub remains_at_end : Remains v s w d st.numbers.answered left (IsHeadAtEnd st)
-      remains_at_end = (let r = in_ending_world in record { head = r.head; number = r.number; headed = r.headed; is = r.is; stands = r.stands; others = r.others })
+      remains_at_end = (let r = in_ending_world in record { head = r.head; number = r.number; headed = r.headed; blocks = r.blocks; is = r.is; stands = r.stands; others = r.others })
 
 pub its_ends_stand : OutcomesAreTheMachines → LoneOutcomesStand → ItsEndsStand
 its_ends_stand they_are stand v s w d st flying left is flies outcome no_false = remains_at_end v s w d st flying is flies they_are left outcome no_false stand

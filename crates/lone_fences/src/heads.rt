@@ -39,7 +39,7 @@ fn placed_head(journal: &JournalImage, blocks: &[u64]) -> LeftHead
 
 /// The accepted head of the journal with these blocks at its places, as the run reads it, which has no write in flight; where there is none, one that is older than any. It costs a read for
 /// each place, and memory for all of them.
-pub(crate) fn left_head<D: SharedDisk>(
+pub fn left_head<D: SharedDisk>(
     alloc: Global,
     disk: &mut D,
     blocks: &[u64],

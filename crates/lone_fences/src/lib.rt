@@ -7,3 +7,4 @@ mod heads;
 
 pub use crashes::fence_crashed;
 pub use ends::FenceEnd;
+pub use heads::left_head;

@@ -65,6 +65,7 @@ module _ (stand : LoneOutcomesStand) (v : Volume) (s : Begun (trees_on v)) (w : 
     head = (of.says 0 d at).head;
     number = (head_of (trees_on v) s w (of.choice 0)).cut;
     headed = (of.says 0 d at).headed;
+    blocks = record { many = of.many 0 d at; there = λ p low. of.there 0 d p at low };
     is = its_head;
     stands = λ k low high calm.
         subst (λ (t : Tree). history.Legal (remaining v s w k) t × StandsReplayed left (tree_of (remaining v s w k) t)) start

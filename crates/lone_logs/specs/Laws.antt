@@ -1,5 +1,5 @@
 -- Laws of one node alone on an image, with its log: one for each of its steps, and what remains of it.
-use Rattle.std.specs.Prelude.{ℕ, ◌≡◌, ◌≢◌, ◌≤◌, ◌++◌, Bool, true, false, suc, List, [], ◌∷◌, None, Some}
+use Rattle.std.specs.Prelude.{ℕ, ◌≡◌, ◌≢◌, ◌<◌, ◌≤◌, ◌++◌, Bool, true, false, suc, List, [], ◌∷◌, None, Some}
 use Rattle.std.specs.FinMap as table
 use Rattle.std.specs.Ordering.{nat_cmp}
 use Rattle.file_tree.specs.Tree.{Tree}
@@ -15,6 +15,8 @@ use Rattle.cluster_laws.specs.World.{World}
 use Rattle.glock_names.specs.Views.{Seen}
 use Rattle.glock_names.specs.declared.LockName.{LockName}
 use Rattle.drafts.specs.declared.change.Change.{Change}
+use Rattle.gfs2_layout.specs.Inode.{content_block}
+use Rattle.image_model.specs.Claims.{every}
 use Rattle.image_model.specs.Image.{Image}
 use Rattle.image_model.specs.Owners.{Owners}
 use Rattle.image_model.specs.Replays.{MayChange, StandsReplayed}
@@ -213,12 +215,18 @@ pub data IsHeadLeft (st : NodeState) (h : LogHeader) (n : ℕ) : Type 0 where
 abbrev pub RemainsWith : (v : Volume) → Begun (trees_on v) → World (trees_on v) → Image → ℕ → Type 0
 RemainsWith v s w left k = history.Legal (remaining v s w k) s.tree × StandsReplayed left (tree_of (remaining v s w k) s.tree)
 
--- What remains of a node that has answered so many calls, in an image that is left, where its journal's head and the number of the last call in that are such: with a loss that keeps the calls up to
+-- the journal with its dinode in block d is in its blocks in this image
+pub record IsInItsBlocks (v : Volume) (d : ℕ) (left : Image) : Type 0 where
+  pub many : (ring_at left d).places ≡ v.places d
+  pub there : (p : ℕ) → p < v.places d → content_block (every left d) p ≡ v.place d p
+
+-- What remains of a node that has answered so many calls, in an image that is left, where its journal, which is in its blocks, has a head; its head and the number of the last call in that are such: with a loss that keeps the calls up to
 -- this number, or more that change nothing, the image stands for the tree of the history; and each other journal is clean.
 pub record Remains (v : Volume) (s : Begun (trees_on v)) (w : World (trees_on v)) (d answered : ℕ) (left : Image) (IsHead : LogHeader → ℕ → Type 0) : Type 0 where
   pub head : LogHeader
   pub number : ℕ
   pub headed : head_in (ring_at left d) ≡ Some head
+  pub blocks : IsInItsBlocks v d left
   pub is : IsHead head number
   pub stands : (k : ℕ) → number ≤ k → k ≤ answered → Calm (trees_on v) w.book s.node number k → RemainsWith v s w left k
   pub others : (j k : ℕ) → IsJournalAt v.layout j k → k ≢ d → IsClean (ring_at left k)

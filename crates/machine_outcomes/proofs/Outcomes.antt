@@ -294,6 +294,8 @@ module _ (v : Volume) (u w : World (Trees (images_of v))) (rings : Rings (Trees 
     the_outcome = record {
       change = left_change;
       landed = choice_landed;
+      many = left_many;
+      there = left_there;
       says = choice_says;
       rests = at_rest;
       choice = choice;

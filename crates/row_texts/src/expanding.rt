@@ -1,7 +1,8 @@
 // Texts as they are written in rows: numbers and bytes in braces, bytes as `\xNN`, and lines that come several times.
 use crate::contents::{content_of, put_escaped};
 use crate::images::Image;
-use crate::numbers::next_word;
+use crate::logging::put_logged;
+use crate::numbers::{next_word, number_word};
 use crate::places::number_of;
 use anyhow::{Result, bail, ensure};
 use std::alloc::Global;
@@ -36,6 +37,17 @@ fn put_times(out: &mut Vec<u8>, count: u64, text: &str) -> Result<()> {
     Ok(())
 }
 
+// Which line this is, of those that come several times, as `i` and `d` say, or so many lines further on, as `i+9`.
+fn counted(count: Count, words: &str) -> Option<u64> {
+    let (word, more) = words.split_once('+').unwrap_or((words, "0"));
+    let number = match word {
+        "i" => count.up,
+        "d" => count.down,
+        _ => return None,
+    };
+    Some(number.saturating_add(number_word(more)?))
+}
+
 // Puts what the words in a pair of braces stand for.
 fn put_braced(
     alloc: Global,
@@ -44,11 +56,11 @@ fn put_braced(
     count: Count,
     words: &str,
 ) -> Result<()> {
-    match words {
-        "" => return Ok(()),
-        "i" => return put_decimal(alloc, out, count.up),
-        "d" => return put_decimal(alloc, out, count.down),
-        _ => {}
+    if words.is_empty() {
+        return Ok(());
+    }
+    if let Some(number) = counted(count, words) {
+        return put_decimal(alloc, out, number);
     }
     if let Some((times, text)) = words.split_once(" of ") {
         return put_times(out, number_of(image, times)?, text);
@@ -98,10 +110,24 @@ fn put_line(
     Ok(())
 }
 
+// Whether the image's blocks have one of these sizes.
+fn is_at(image: &Image, sizes: &str) -> bool {
+    sizes
+        .split(',')
+        .any(|size| number_word(size) == Some(u64::from(image.size)))
+}
+
 /// Puts these lines.
 pub fn put_lines(alloc: Global, out: &mut Vec<u8>, image: &Image, lines: &[&str]) -> Result<()> {
     for line in lines {
-        put_repeated(alloc, out, image, line)?;
+        match line.strip_prefix("\\at ") {
+            None => put_repeated(alloc, out, image, line)?,
+            Some(mut rest) => {
+                if is_at(image, next_word(&mut rest)) {
+                    put_repeated(alloc, out, image, rest)?;
+                }
+            }
+        }
     }
     Ok(())
 }
@@ -109,6 +135,9 @@ pub fn put_lines(alloc: Global, out: &mut Vec<u8>, image: &Image, lines: &[&str]
 // Puts a line, or behind `\times COUNT` that line so many times.
 fn put_repeated(alloc: Global, out: &mut Vec<u8>, image: &Image, line: &str) -> Result<()> {
     let Some(mut rest) = line.strip_prefix("\\times ") else {
+        if put_logged(alloc, out, image, line)? {
+            return Ok(());
+        }
         return put_line(alloc, out, image, Count { up: 1, down: 1 }, line);
     };
     let times = number_of(image, next_word(&mut rest))?;

@@ -8,6 +8,7 @@ mod expanding;
 mod fields;
 mod images;
 mod laying;
+mod logging;
 mod numbers;
 mod patches;
 mod places;

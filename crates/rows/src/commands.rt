@@ -138,6 +138,9 @@ impl<'a> Command<'a> {
             "status" => self.wanted.status = status_of(rest)?,
             "out" => self.wanted.out = sink_text(alloc, book, image, rest, block)?,
             "trace" => self.wanted.trace = sink_text(alloc, book, image, rest, block)?,
+            "history" => {
+                self.wanted.history = Some(sink_text(alloc, book, image, rest, block)?);
+            }
             "shows" => self.shows = Some(text_of(alloc, book, image, rest, block)?),
             "crc" => self.sum = u64::from_str_radix(rest, 16).ok(),
             "calls" => self.calls = number_word(rest),

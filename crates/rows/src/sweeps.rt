@@ -1,31 +1,25 @@
 // A disk that fails at each of its calls in turn.
 use crate::commands::Command;
-use crate::running::{Left, carry_out};
-use crate::wanted::{Text, Wanted, tell};
+use crate::running::{Fails, Given, Left, carry_out};
+use crate::wanted::{Text, Wanted, tell, text_of};
 use anyhow::{Context, Result, ensure};
-use row_texts::{Image, number_word, range_of};
+use row_texts::{Image, next_word, number_word, range_of};
 use std::alloc::Global;
 
-// A call of the disk: whose it is, the block, and how many lines are answered before.
+// A call of the disk: whose it is, the block, and how many lines of the trace come before it.
 #[derive(Clone, Copy, Drop)]
 struct Call {
     node: u64,
-    answered: u64,
+    lines: u64,
     block: Option<u64>,
 }
 
 // Adds the calls of a word: a block or a range of them, each block twice behind `x2`, or `-` for a barrier.
-fn add_word(
-    calls: &mut Vec<Call>,
-    image: &Image,
-    node: u64,
-    answered: u64,
-    word: &str,
-) -> Result<()> {
+fn add_word(calls: &mut Vec<Call>, image: &Image, node: u64, lines: u64, word: &str) -> Result<()> {
     if word == "-" {
         calls.push(Call {
             node,
-            answered,
+            lines,
             block: None,
         })?;
         return Ok(());
@@ -39,7 +33,7 @@ fn add_word(
         for _ in 0..times {
             calls.push(Call {
                 node,
-                answered,
+                lines,
                 block: Some(block),
             })?;
         }
@@ -47,8 +41,24 @@ fn add_word(
     Ok(())
 }
 
+// How many lines of a trace come until so many calls are answered; at least the first.
+fn lines_behind(trace: &str, answered: u64) -> u64 {
+    let mut lines = 0u64;
+    let mut count = 0u64;
+    for line in trace.lines() {
+        if count >= answered && lines > 0 {
+            return lines;
+        }
+        lines = lines.saturating_add(1);
+        if line.starts_with("call ") {
+            count = count.saturating_add(1);
+        }
+    }
+    lines
+}
+
 // Adds the calls of a line, as `node 0: BLOCKS` or `node 1 after 2: BLOCKS`.
-fn add_line(calls: &mut Vec<Call>, image: &Image, line: &str) -> Result<()> {
+fn add_line(calls: &mut Vec<Call>, image: &Image, trace: &str, line: &str) -> Result<()> {
     let (whose, blocks) = line.split_once(": ").context("a sweep without blocks")?;
     let whose = whose
         .strip_prefix("node ")
@@ -56,8 +66,48 @@ fn add_line(calls: &mut Vec<Call>, image: &Image, line: &str) -> Result<()> {
     let (node, answered) = whose.split_once(" after ").unwrap_or((whose, "0"));
     let node = number_word(node).context("no node")?;
     let answered = number_word(answered).context("no number of lines")?;
+    let lines = lines_behind(trace, answered);
     for word in blocks.split(' ') {
-        add_word(calls, image, node, answered, word)?;
+        add_word(calls, image, node, lines, word)?;
+    }
+    Ok(())
+}
+
+// Adds the write or the barrier that a line of a trace tells, before which so many lines come.
+fn add_item(calls: &mut Vec<Call>, lines: u64, line: &str) -> Result<()> {
+    let mut rest = line;
+    let word = next_word(&mut rest);
+    if word == "barrier" {
+        calls.push(Call {
+            node: 1,
+            lines,
+            block: None,
+        })?;
+    }
+    if word == "write" {
+        let _node = next_word(&mut rest);
+        let _kind = next_word(&mut rest);
+        let block = number_word(next_word(&mut rest));
+        calls.push(Call {
+            node: 1,
+            lines,
+            block,
+        })?;
+    }
+    Ok(())
+}
+
+// Adds the writes and barriers that a trace tells behind so many lines, and before the next call.
+fn add_writes(calls: &mut Vec<Call>, trace: &str, after: u64) -> Result<()> {
+    let mut lines = 0u64;
+    for line in trace.lines() {
+        if lines >= after {
+            if line.starts_with("call ") {
+                return Ok(());
+            }
+            add_item(calls, lines, line)?;
+        }
+        lines = lines.saturating_add(1);
     }
     Ok(())
 }
@@ -75,6 +125,40 @@ fn put_front(out: &mut Vec<u8>, text: &[u8], count: u64) -> Result<()> {
         }
     }
     Ok(())
+}
+
+// What the first lines of a trace tell: how many calls and commits, and whether the journal is left dirty.
+#[derive(Clone, Copy, Drop)]
+struct Told {
+    calls: u64,
+    commits: u64,
+    dirty: u64,
+}
+
+fn told_by(trace: &str, count: u64) -> Told {
+    let mut told = Told {
+        calls: 0,
+        commits: 0,
+        dirty: 0,
+    };
+    let mut lines = 0u64;
+    for line in trace.lines() {
+        if lines >= count {
+            return told;
+        }
+        lines = lines.saturating_add(1);
+        if line.starts_with("call ") {
+            told.calls = told.calls.saturating_add(1);
+        }
+        if line.starts_with("commit ") {
+            told.commits = told.commits.saturating_add(1);
+            told.dirty = 1;
+        }
+        if line.starts_with("write 1 clean ") {
+            told.dirty = 0;
+        }
+    }
+    told
 }
 
 fn fault_line(alloc: Global, call: &Call) -> Result<String> {
@@ -96,23 +180,21 @@ fn wanted_at(alloc: Global, whole: &Wanted, call: &Call) -> Result<Wanted> {
     let mut out = Vec::new(alloc);
     let mut trace = Vec::new(alloc);
     if call.node > 0 {
-        put_front(&mut out, &whole.out.bytes, call.answered)?;
+        let told = told_by(text_of(&whole.trace.bytes), call.lines);
+        put_front(&mut out, &whole.out.bytes, told.calls)?;
         let counts = format!(in alloc;
-            "calls {} lost 0 commits 0 crashes 0 dirty 0\n",
-            call.answered
+            "calls {} lost 0 commits {} crashes 0 dirty {}\n",
+            told.calls, told.commits, told.dirty
         )?;
         out.extend_from_slice(counts.as_bytes())?;
-        put_front(
-            &mut trace,
-            &whole.trace.bytes,
-            call.answered.saturating_add(1),
-        )?;
+        put_front(&mut trace, &whole.trace.bytes, call.lines)?;
     }
     out.extend_from_slice(fault_line(alloc, call)?.as_bytes())?;
     Ok(Wanted {
         status: 5,
         out: all_of(out),
         trace: all_of(trace),
+        history: None,
     })
 }
 
@@ -125,6 +207,35 @@ fn carry(
 ) -> Result<Left> {
     let fails = command.given.fails.with_disk(alloc, call)?;
     carry_out(alloc, image.size, bytes, &command.given, &fails)
+}
+
+// Carries out a command of these words alone.
+fn carry_words(alloc: Global, size: u32, bytes: Vec<u8>, words: &str) -> Result<Left> {
+    let given = Given {
+        words,
+        script: Vec::new(alloc),
+        fails: Fails::none(alloc),
+        outcomes: Vec::new(alloc),
+    };
+    carry_out(alloc, size, bytes, &given, &given.fails)
+}
+
+// Where a call failed behind a commit, a replay brings back all that the command did.
+fn check_replayed(
+    alloc: Global,
+    image: &Image,
+    left: Left,
+    made: &[u8],
+    report: &mut String,
+    before: &str,
+) -> Result<()> {
+    let left = carry_words(alloc, image.size, left.bytes, "replay")?;
+    let found = carry_words(alloc, image.size, left.bytes, "show")?;
+    let wanted = carry_words(alloc, image.size, made.to_vec(alloc)?, "show")?;
+    if found.out.bytes() != wanted.out.bytes() {
+        writeln!(report, "  {before}a replay brings another tree")?;
+    }
+    Ok(())
 }
 
 // Where a call failed, the command is carried out again on what was left, and ends as it should, with the image that it
@@ -145,18 +256,25 @@ fn check_again(
         &command.given,
         &command.given.fails,
     )?;
-    tell(report, before, &command.wanted, &left)?;
+    tell(alloc, report, before, &command.wanted, &left)?;
     if left.bytes.as_slice() != made {
         writeln!(report, "  {before}the image that is made again is another")?;
     }
     Ok(())
 }
 
-fn calls_of(alloc: Global, image: &Image, lines: &[&str]) -> Result<Vec<Call>> {
+fn calls_of(alloc: Global, image: &Image, trace: &str, lines: &[&str]) -> Result<Vec<Call>> {
     let mut calls = Vec::new(alloc);
     for line in lines {
-        if *line != "again" {
-            add_line(&mut calls, image, line)?;
+        if *line == "again" {
+            continue;
+        }
+        match line.strip_prefix("writes after ") {
+            Some(word) => {
+                let answered = number_word(word).context("no number of lines")?;
+                add_writes(&mut calls, trace, lines_behind(trace, answered))?;
+            }
+            None => add_line(&mut calls, image, trace, line)?,
         }
     }
     Ok(calls)
@@ -190,7 +308,8 @@ pub(crate) fn sweep(
     made: &[u8],
     report: &mut String,
 ) -> Result<()> {
-    let calls = calls_of(alloc, base, lines)?;
+    let trace = text_of(&command.wanted.trace.bytes);
+    let calls = calls_of(alloc, base, trace, lines)?;
     let is_again = says_again(lines);
     let mut number = 0u64;
     let mut bytes = image.bytes.to_vec(alloc)?;
@@ -199,9 +318,13 @@ pub(crate) fn sweep(
         let before = heading(alloc, image.size, number)?;
         let left = carry(alloc, image, bytes, command, number)?;
         let wanted = wanted_at(alloc, &command.wanted, call)?;
-        tell(report, before.as_str(), &wanted, &left)?;
+        tell(alloc, report, before.as_str(), &wanted, &left)?;
         bytes = if is_again {
-            check_again(alloc, image, command, left, made, report, before.as_str())?;
+            if told_by(trace, call.lines).commits > 0 && call.node > 0 {
+                check_replayed(alloc, image, left, made, report, before.as_str())?;
+            } else {
+                check_again(alloc, image, command, left, made, report, before.as_str())?;
+            }
             image.bytes.to_vec(alloc)?
         } else {
             bytes_of(left)
@@ -233,7 +356,7 @@ pub(crate) fn check_calls(
         command,
         count.saturating_add(1),
     )?;
-    tell(report, before.as_str(), &command.wanted, &left)?;
+    tell(alloc, report, before.as_str(), &command.wanted, &left)?;
     if count > 0 {
         let left = carry(alloc, image, image.bytes.to_vec(alloc)?, command, count)?;
         if left.status != 5 && command.given.fails.disk.is_empty() {

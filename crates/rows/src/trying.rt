@@ -94,7 +94,7 @@ fn check_show(
     let mut wanted = Wanted::nothing(alloc);
     wanted.out.bytes = shows.to_vec(alloc)?;
     let before = format!(in alloc; "at {}: the show afterwards: ", image.size)?;
-    tell(report, before.as_str(), &wanted, &left)
+    tell(alloc, report, before.as_str(), &wanted, &left)
 }
 
 // The image before a command, where it is needed afterwards.
@@ -164,7 +164,7 @@ fn try_command<'a>(
     let before = heading(alloc, image.size, command.given.words)?;
     let kept = keep(alloc, image, &command)?;
     let left = carry(alloc, image, &command.given)?;
-    tell(report, before.as_str(), &command.wanted, &left)?;
+    tell(alloc, report, before.as_str(), &command.wanted, &left)?;
     check_sum(image, command.sum, report)?;
     check_holds(alloc, base, image, &command.holds, report)?;
     check_show(alloc, image, command.shows.as_deref(), report)?;

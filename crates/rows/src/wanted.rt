@@ -1,6 +1,7 @@
 // What a command is to leave, and in what that which it left differs.
 use crate::running::Left;
 use anyhow::Result;
+use row_texts::next_word;
 use std::alloc::Global;
 
 /// What a sink is to have got: all of a text, or a front of it, of so many bytes at least, and not all.
@@ -10,12 +11,13 @@ pub(crate) struct Text {
     pub least: Option<u64>,
 }
 
-/// The status, the output and the trace of a command. Where no status is wanted, it is 0.
+/// The status, the output and the trace of a command, or of the trace the history alone. Where no status is wanted, it is 0.
 #[derive(Drop)]
 pub(crate) struct Wanted {
     pub status: u8,
     pub out: Text,
     pub trace: Text,
+    pub history: Option<Text>,
 }
 
 impl Wanted {
@@ -30,11 +32,27 @@ impl Wanted {
                 bytes: Vec::new(alloc),
                 least: None,
             },
+            history: None,
         }
     }
 }
 
-fn text_of(bytes: &[u8]) -> &str {
+// The lines of a trace but for those of writes, barriers and commits.
+fn history_of(alloc: Global, trace: &[u8]) -> Result<Vec<u8>> {
+    let mut history = Vec::new(alloc);
+    for line in text_of(trace).lines() {
+        let mut rest = line;
+        let word = next_word(&mut rest);
+        if word != "write" && word != "barrier" && word != "commit" {
+            history.extend_from_slice(line.as_bytes())?;
+            history.push(b'\n')?;
+        }
+    }
+    Ok(history)
+}
+
+/// Bytes as a text.
+pub(crate) fn text_of(bytes: &[u8]) -> &str {
     match str::from_utf8(bytes) {
         Ok(text) => text,
         Err(_) => "(no text)",
@@ -96,7 +114,13 @@ fn tell_text(
 }
 
 /// Tells in what this differs.
-pub(crate) fn tell(report: &mut String, before: &str, wanted: &Wanted, left: &Left) -> Result<()> {
+pub(crate) fn tell(
+    alloc: Global,
+    report: &mut String,
+    before: &str,
+    wanted: &Wanted,
+    left: &Left,
+) -> Result<()> {
     if wanted.status != left.status {
         writeln!(
             report,
@@ -105,5 +129,11 @@ pub(crate) fn tell(report: &mut String, before: &str, wanted: &Wanted, left: &Le
         )?;
     }
     tell_text(report, before, "out", &wanted.out, left.out.bytes())?;
-    tell_text(report, before, "trace", &wanted.trace, left.trace.bytes())
+    match &wanted.history {
+        Some(history) => {
+            let found = history_of(alloc, left.trace.bytes())?;
+            tell_text(report, before, "history", history, &found)
+        }
+        None => tell_text(report, before, "trace", &wanted.trace, left.trace.bytes()),
+    }
 }

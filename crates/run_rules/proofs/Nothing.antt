@@ -1,13 +1,9 @@
--- A run that has no items yet; and scripts without crash and join lines.
-use Rattle.std.proofs.Common.{◌≡◌, ℕ, zero, suc, ◌≤◌, min, List, [], ◌∷◌, length, Some, refl, subst, arith}
-use Rattle.std.specs.List.{AllByRecursion, slice_get}
+-- A run that has no items yet.
+use Rattle.std.proofs.Common.{◌≡◌, ℕ, zero, suc, ◌≤◌, min, [], Some, refl, arith}
+use Rattle.std.specs.List.{slice_get}
 use Rattle.trace_text.specs.declared.item.TraceItem.{TraceItem}
-use Rattle.script_lang.specs.declared.script.Line.{Line}
-use Rattle.script_lang.specs.declared.script.Line.TheVariants as line
-use Rattle.script_lang.specs.OneNode.{IsOneNode, IsOwnLine}
 use Rattle.script_lang.specs.Script.{ScriptValue}
-use Rattle.run_rules.specs.Follows.{Follows, ByLine, IsOrderLine, above}
-use Rattle.run_rules.specs.History.{AllPlaced}
+use Rattle.run_rules.specs.Follows.{Follows, ByLine, above}
 use Rattle.run_rules.specs.Laws.{NothingFollows, NothingIsLegal}
 
 pub nothing_is_legal : NothingIsLegal
@@ -42,24 +38,4 @@ nothing_follows s = record {
   follows = follows_none s;
   numbered = λ p node client number call reply is. absurd (none_at p _ is);
   synced = λ p q node client number kept before is lost. absurd (none_at p _ is);
-}
-
--- ---- a script of one node has no line that needs a place
-
-no_order : (n : ℕ) (l : Line) → IsOwnLine n l → IsOrderLine l → ⊥
-no_order n (line.Call c call) form order = order
-no_order n line.Wait form order = order
-no_order n (line.Crash nodes) form order = form
-no_order n (line.Join node) form order = form
-
-pub no_order_at : (n : ℕ) (ls : List Line) (l : ℕ) (x : Line) → AllByRecursion (IsOwnLine n) ls → slice_get ls l ≡ Some x → IsOrderLine x → ⊥
-no_order_at n [] l x own is order = absurd (none_at l x is)
-no_order_at n (y ∷ ys) zero x own is order = let same : y ≡ x = cc in no_order n x (subst (IsOwnLine n) same own.0) order
-no_order_at n (y ∷ ys) (suc l) x own is order = no_order_at n ys l x own.1 is order
-
-pub nothing_to_place : (s : ScriptValue) (items : List TraceItem) → IsOneNode s → AllPlaced items s
-nothing_to_place s items form = record {
-  place = λ l. 0;
-  placed = λ l order_line is is_order. absurd (no_order_at (length s.clients) s.lines l order_line form.lines is is_order);
-  rising = λ l later before. omega arith;
 }

@@ -1,5 +1,5 @@
 -- Which scripts one node runs whole.
-use Rattle.std.proofs.Common.{◌≡◌, ◌↔◌, ℕ, ◌+◌, ◌==◌, Bool, true, false, if◌then◌else◌, List, [], ◌∷◌, ◌++◌, length, map, Option, Some, None, refl, sym, ap, ◌∙◌, arith, eq-eqb}
+use Rattle.std.proofs.Common.{◌≡◌, ◌↔◌, ◌⊎◌, inl, inr, ℕ, ◌+◌, ◌-◌, ◌^◌, ◌==◌, Bool, true, false, if◌then◌else◌, List, [], ◌∷◌, ◌++◌, length, map, Option, Some, None, refl, sym, ap, ◌∙◌, arith, eq-eqb}
 use Rattle.std.specs.Prelude.{IsNone}
 use Rattle.std.specs.List.{AllByRecursion}
 use Rattle.std.proofs.lemmas.Bool.{eqb-true}
@@ -12,8 +12,8 @@ use Rattle.script_lang.specs.declared.script.Armed.{Armed}
 use Rattle.script_lang.specs.declared.script.Line.{Line}
 use Rattle.script_lang.specs.declared.script.Line.TheVariants as line
 use Rattle.script_lang.specs.Script.{ScriptValue}
-use Rattle.script_lang.specs.OneNode.{IsOneNode, IsOwnCall, IsOwnLine}
-use Rattle.script_lang.specs.WellFormed.{IsClient, IsLine, IsWellFormed}
+use Rattle.script_lang.specs.OneNode.{IsOneNode, IsOwnCall, IsOwnLine, node_one}
+use Rattle.script_lang.specs.WellFormed.{IsArmed, IsClient, IsLine, IsWellFormed}
 use Rattle.script_lang.specs.Foreign.{is_own_call, is_own_line, first_not, first_foreign}
 
 -- ---- the first line of several
@@ -69,16 +69,23 @@ own_call (calls.Write path at content) is = refl
 own_call (calls.Stat path) is = refl
 own_call calls.Sync is = refl
 
-one_node_line : (s : ScriptValue) (l : Line) → IsLine s l → is_own_line l ≡ true → IsOwnLine (length s.clients) l
-one_node_line s (line.Call client call) is own = (is.0, built_call call own)
-one_node_line s line.Wait is own = tt
-one_node_line s (line.Crash nodes) is own = cc
-one_node_line s (line.Join node) is own = cc
+-- where there is one node a crash is one of it alone, also one of all nodes
+crash_alone : (s : ScriptValue) → s.nodes ≡ 1 → (nodes : ℕ) → IsLine s (line.Crash nodes) → nodes ≡ node_one
+crash_alone s one nodes is = elim is [
+  | inl of ↦ (let it : of.0 ≡ 1 = omega (arith, of.1.0, of.1.1, one) in of.2 ∙ ap (λ (n : ℕ). 2 ^ n) it)
+  | inr all ↦ all ∙ ap (λ (n : ℕ). 2 ^ (n + 1) - 2) one
+]
+
+one_node_line : (s : ScriptValue) → s.nodes ≡ 1 → (l : Line) → IsLine s l → is_own_line l ≡ true → IsOwnLine (length s.clients) l
+one_node_line s one (line.Call client call) is own = (is.0, built_call call own)
+one_node_line s one line.Wait is own = tt
+one_node_line s one (line.Crash nodes) is own = crash_alone s one nodes is
+one_node_line s one (line.Join node) is own = cc
 
 own_line : (s : ScriptValue) (l : Line) → IsOwnLine (length s.clients) l → is_own_line l ≡ true
 own_line s (line.Call client call) is = own_call call is.1
 own_line s line.Wait is = refl
-own_line s (line.Crash nodes) is = absurd is
+own_line s (line.Crash nodes) is = refl
 own_line s (line.Join node) is = absurd is
 
 -- ---- all lines
@@ -95,10 +102,6 @@ pub no_items : {A : Type 0} (xs : List A) → length xs ≡ 0 → xs ≡ []
 no_items [] none = refl
 no_items (x ∷ xs) none = absurd (omega (arith, none))
 
-no_crash : (as' : List Armed) → AllPass (λ (a : Armed). false) as' → as' ≡ []
-no_crash [] all = refl
-no_crash (a ∷ as') all = cc
-
 all_own : (n : ℕ) (ls : List Line) → first_not n (map is_own_line ls) ≡ None → AllPass is_own_line ls
 all_own n ls is = (first_not-none is_own_line n ls [] (ap (first_not n) (append-nil (map is_own_line ls)) ∙ is)).0
 
@@ -106,45 +109,44 @@ module _ (s : ScriptValue) (well : IsWellFormed s) where
   abbrev on_one : Client → Bool
   on_one c = c.node == 1
 
+  abbrev stops_one : Armed → Bool
+  stops_one a = a.node == 1
+
   clients_on_one : s.nodes ≡ 1 → AllPass on_one s.clients
   clients_on_one one = all_map (IsClient s) (λ (c : Client). on_one c ≡ true) s.clients (λ c is. eq-eqb c.node 1 (omega (arith, is.1.0, is.1.1, one))) well.clients
 
-  behind_clients : s.nodes ≡ 1 → first_foreign s ≡ first_not (2 + length s.clients) (map (λ (a : Armed). false) s.armed ++ map is_own_line s.lines)
-  behind_clients one =
+  armed_on_one : s.nodes ≡ 1 → AllPass stops_one s.armed
+  armed_on_one one = all_map (IsArmed s) (λ (a : Armed). stops_one a ≡ true) s.armed (λ a is. eq-eqb a.node 1 (omega (arith, is.0.0, is.0.1, one))) well.armed
+
+  -- what is asked of a script of one node is asked of its lines
+  pub at_lines : s.nodes ≡ 1 → first_not (2 + length s.clients + length s.armed) (map is_own_line s.lines) ≡ first_foreign s
+  at_lines one =
       let is_one : (s.nodes == 1) ≡ true = eq-eqb s.nodes 1 one in
-      rw is_one (first_not-pass on_one 2 s.clients (map (λ (a : Armed). false) s.armed ++ map is_own_line s.lines) (clients_on_one one))
-
-  pub at_armed : s.nodes ≡ 1 → (length s.armed ≡ 0 → ⊥) → Some (2 + length s.clients) ≡ first_foreign s
-  at_armed one some = sym (behind_clients one ∙ by_list s.armed some)
-    where
-      by_list : (as' : List Armed) → (length as' ≡ 0 → ⊥) → first_not (2 + length s.clients) (map (λ (a : Armed). false) as' ++ map is_own_line s.lines) ≡ Some (2 + length s.clients)
-      by_list [] more = absurd (more refl)
-      by_list (a ∷ as') more = refl
-
-  pub at_lines : s.nodes ≡ 1 → s.armed ≡ [] → first_not (2 + length s.clients) (map is_own_line s.lines) ≡ first_foreign s
-  at_lines one none = sym (behind_clients one ∙ ap (λ (as' : List Armed). first_not (2 + length s.clients) (map (λ (a : Armed). false) as' ++ map is_own_line s.lines)) none)
+      let lines = map is_own_line s.lines in
+      sym (rw is_one (first_not-pass on_one 2 s.clients (map stops_one s.armed ++ lines) (clients_on_one one) ∙ first_not-pass stops_one (2 + length s.clients) s.armed lines (armed_on_one one)))
 
   to_form : first_foreign s ≡ None → IsOneNode s
   to_form is = by_nodes (s.nodes == 1) refl is
     where
-      by_nodes : (b : Bool) → (s.nodes == 1) ≡ b → (if b then first_not 2 (map on_one s.clients ++ (map (λ (a : Armed). false) s.armed ++ map is_own_line s.lines)) else Some 1) ≡ None → IsOneNode s
+      by_nodes : (b : Bool) → (s.nodes == 1) ≡ b → (if b then first_not 2 (map on_one s.clients ++ (map stops_one s.armed ++ map is_own_line s.lines)) else Some 1) ≡ None → IsOneNode s
       by_nodes false other e = cc
       by_nodes true is_one e =
           let one : s.nodes ≡ 1 = eqb-true s.nodes 1 is_one in
-          let heads = first_not-none on_one 2 s.clients (map (λ (a : Armed). false) s.armed ++ map is_own_line s.lines) e in
-          let crashes = first_not-none (λ (a : Armed). false) (2 + length s.clients) s.armed (map is_own_line s.lines) heads.1 in
+          let heads = first_not-none on_one 2 s.clients (map stops_one s.armed ++ map is_own_line s.lines) e in
+          let crashes = first_not-none stops_one (2 + length s.clients) s.armed (map is_own_line s.lines) heads.1 in
           let own : AllPass is_own_line s.lines = all_own _ s.lines crashes.1 in record {
             nodes = one;
             clients = all_map (λ (c : Client). on_one c ≡ true) (λ (c : Client). c.node ≡ 1) s.clients (λ c is. eqb-true c.node 1 is) heads.0;
             names = well.names;
-            armed = no_crash s.armed crashes.0;
-            lines = all_both (IsLine s) (λ (l : Line). is_own_line l ≡ true) (IsOwnLine (length s.clients)) s.lines (one_node_line s) well.lines own;
+            armed = all_map (λ (a : Armed). stops_one a ≡ true) (λ (a : Armed). a.node ≡ 1) s.armed (λ a is. eqb-true a.node 1 is) crashes.0;
+            lines = all_both (IsLine s) (λ (l : Line). is_own_line l ≡ true) (IsOwnLine (length s.clients)) s.lines (one_node_line s one) well.lines own;
           }
 
   from_form : IsOneNode s → first_foreign s ≡ None
   from_form form =
       let own : AllPass is_own_line s.lines = all_map (IsOwnLine (length s.clients)) (λ (l : Line). is_own_line l ≡ true) s.lines (own_line s) form.lines in
-      sym (at_lines form.nodes form.armed) ∙ ap (first_not (2 + length s.clients)) (sym (append-nil (map is_own_line s.lines))) ∙ first_not-pass is_own_line (2 + length s.clients) s.lines [] own
+      let first = 2 + length s.clients + length s.armed in
+      sym (at_lines form.nodes) ∙ ap (first_not first) (sym (append-nil (map is_own_line s.lines))) ∙ first_not-pass is_own_line first s.lines [] own
 
   pub form_of : (r : Option ℕ) → r ≡ first_foreign s → IsNone r ↔ IsOneNode s
   form_of None is = (λ none. to_form (sym is), λ form. refl)

@@ -21,7 +21,8 @@ fn runs_line(line: &Line) -> bool
     match line {
         Line::Call { client: _, call } => runs_call(call),
         Line::Wait => true,
-        _ => false,
+        Line::Crash(_) => true,
+        Line::Join(_) => false,
     }
 }
 
@@ -41,7 +42,7 @@ fn first_among(lines: &[Line], first: u32) -> Option<u32>
 }
 
 /// The number, from 1 as in its text, of the first line of a script that one node alone cannot run; `None` where
-/// it can run the whole. One node has clients of its own, whose calls are all but `dread`, and which wait. It goes over the script
+/// it can run the whole. One node has clients of its own, whose calls are all but `dread`, and which wait; and it may crash, once and for all. It goes over the script
 /// once.
 pub fn first_foreign_line(script: &Script) -> Option<u32>
     requires { IsWellFormed script.now }
@@ -51,9 +52,6 @@ pub fn first_foreign_line(script: &Script) -> Option<u32>
     if script.nodes != 1 {
         return Some(1);
     }
-    let behind_clients = 2 + script.clients.as_slice().len() as u32;
-    if !script.armed.as_slice().is_empty() {
-        return Some(behind_clients);
-    }
-    first_among(script.lines.as_slice(), behind_clients)
+    let above = 2 + script.clients.as_slice().len() as u32 + script.armed.as_slice().len() as u32;
+    first_among(script.lines.as_slice(), above)
 }

@@ -17,7 +17,7 @@ use Rattle.script_lang.specs.Grammar.{line_limit, nothing, has_byte_past_limit, 
 use Rattle.script_lang.specs.WellFormed.{IsWellFormed}
 use Rattle.script_lang.proofs.GotLaws.{AllGot, got-wrong, got-got, got-ends, got-later, got-if, got-a_word, number_limits}
 use Rattle.script_lang.proofs.WellFormedLaws.{IsSoFar, so_far-none, so_far-more}
-use Rattle.script_laws.specs.Printing.{HasCall, IsCall, ReadCanBePrinted}
+use Rattle.script_laws.specs.Printing.{HasCall, IsCall, ReadCanBePrinted, ReadHasBytes}
 use Rattle.script_laws.proofs.ReadParts.{call-got}
 use Rattle.script_laws.proofs.Texts.{all_both}
 
@@ -140,3 +140,6 @@ pub read_scripts : ReadCanBePrinted
 read_scripts text s is =
     let f = fine (lines_in text) (length text) 1 0 nothing s so_far-none (tt, tt) (omega arith) is in
     (f.0, λ short. record { calls = f.1.0; writes = f.1.1; few_bytes = short })
+
+pub read_bytes : ReadHasBytes
+read_bytes text s is = (fine (lines_in text) (length text) 1 0 nothing s so_far-none (tt, tt) (omega arith) is).1.0

@@ -97,3 +97,7 @@ ReadBack = (s : ScriptValue) → IsWellFormed s → CanBePrinted s → script_re
 -- and whatever a text is read as is well formed, and can be printed if that is not too long
 abbrev pub ReadCanBePrinted : Type 0
 ReadCanBePrinted = (text : List ℕ) (s : ScriptValue) → script_read text ≡ Script s → IsWellFormed s × (length (print_script s) ≤ script_limit → CanBePrinted s)
+
+-- the names of paths in it, and what is written, are of bytes
+abbrev pub ReadHasBytes : Type 0
+ReadHasBytes = (text : List ℕ) (s : ScriptValue) → script_read text ≡ Script s → AllByRecursion HasCall s.lines

@@ -2,7 +2,7 @@
 #![tactic(auto)]
 
 ghost use Rattle.script_laws.specs.Fills.{FillsBytes};
-ghost use Rattle.script_laws.specs.Printing.{ReadBack, ReadCanBePrinted};
+ghost use Rattle.script_laws.specs.Printing.{ReadBack, ReadCanBePrinted, ReadHasBytes};
 ghost use Rattle.script_laws.specs.Places.{FirstWrongIsTold};
 
 /// A law: a script that is printed is read back as the same script.
@@ -25,4 +25,9 @@ pub fn first_wrong_word_is_told()
 /// A law: whatever a text is read as is well formed, and can be printed where that is not too long for a script.
 pub fn a_read_script_can_be_printed()
     ensures { ReadCanBePrinted }
+{}
+
+/// A law: in whatever a text is read as the names of paths, and what is written, are of bytes.
+pub fn a_read_script_has_bytes()
+    ensures { ReadHasBytes }
 {}

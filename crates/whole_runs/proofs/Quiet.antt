@@ -34,7 +34,7 @@ lost_legal : (t : Tree) (k : ℕ) → Legal (item.Lost 1 k ∷ []) t
 lost_legal t k zero low = tt
 lost_legal t k (suc n) low = subst (λ is. AllAnswer (alive is) t) (sym (take_all n [] (omega arith))) tt
 
-none_legal : (t : Tree) → Legal [] t
+pub none_legal : (t : Tree) → Legal [] t
 none_legal t n low = subst (λ is. AllAnswer (alive is) t) (sym (take_all n [] (omega arith))) tt
 
 lost_synced : (k : ℕ) → KeepsSynced (item.Lost 1 k ∷ [])

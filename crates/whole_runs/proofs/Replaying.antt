@@ -2,14 +2,16 @@
 use Rattle.std.proofs.Common.{◌≡◌, ◌⊎◌, ℕ, zero, suc, ◌+◌, ◌-◌, ◌<◌, ◌≤◌, List, [], ◌∷◌, ◌++◌, length, take, drop, get_or, Option, None, Some, refl, sym, ap, subst, ◌∙◌, inl, inr, arith}
 use Rattle.std.specs.Prelude.{IsTrue, MatchOption, slice_get}
 use Rattle.std.specs.List.{AllByRecursion}
-use Rattle.std.proofs.lemmas.Bool.{cases_lt}
+use Rattle.std.proofs.lemmas.Bool.{cases_eq, cases_lt}
 use Rattle.std.proofs.lemmas.List.{append_assoc, length-append, take-append-drop}
+use Rattle.std.proofs.lemmas.Option.{slice_get_within}
 use Rattle.disk_items.specs.Deeds.{AreDoneBy, Deed, MadeBarrier, WasFenced, Wrote}
 use Rattle.disk_items.proofs.Going.{goes_on}
-use Rattle.disk_turns.specs.Turns.{AreBrought, BringsTo, HasStopped, Moment, StopsAt, at_barrier, before_it, behind_it, moment, turn, turn_of, writes_of}
-use Rattle.disk_turns.specs.Writing.{AreWritten, RiseFrom}
+use Rattle.disk_turns.specs.Turns.{AreBrought, BringsTo, HasStopped, HasStoppedIn, Moment, StopsAt, at_barrier, before_it, behind_it, moment, turn, turn_of, writes_of}
+use Rattle.disk_turns.specs.Writing.{AreInFlight, AreWritten, RiseFrom, flights_of}
 use Rattle.disk_turns.proofs.Flying.{idle_again}
 use Rattle.disk_turns.proofs.Gaining.{gains_join, gains_none}
+use Rattle.disk_turns.proofs.Rising.{back, front}
 use Rattle.drafts.specs.declared.change.Written.{Written}
 use Rattle.image_mount.specs.Mounted.{Journal}
 use Rattle.cut_replays.specs.Recoveries.{AreReplays}
@@ -20,10 +22,11 @@ use Rattle.log_layout.specs.declared.log_header.LogHeader.{LogHeader}
 use Rattle.logged_runs.specs.Disks.{disk_after}
 use Rattle.logged_runs.proofs.Telling.{append_nil, take_all, take_front}
 use Rattle.peer_replay.specs.declared.planned.Plan.{Plan}
-use Rattle.shared_disk.specs.Disk.{Barrier, DiskState, Fence, Gains, IsIdle, Operation, Write}
+use Rattle.shared_disk.specs.Disk.{Barrier, DiskState, Fence, Flight, Gains, IsIdle, Operation, Write}
 use Rattle.trace_text.specs.declared.item.TraceItem.{TraceItem}
 use Rattle.trace_text.specs.declared.item.TraceItem.TheVariants as trace
-use Rattle.whole_runs.proofs.Bringing.{after_on, all_written, brings, brought_on, can_be_brought, fails_in, take_behind}
+use Rattle.whole_runs.specs.Wholes.{IsOneWrite, no_write, one_write}
+use Rattle.whole_runs.proofs.Bringing.{after_on, all_written, brings, brought_on, can_be_brought, fails_in, flies, take_behind}
 
 -- ---- the operations of a replay
 
@@ -308,6 +311,43 @@ can_have size time slot (j ∷ js) (p ∷ ps) same = by (can_have size time (slo
 
 -- ---- the operations of a replay in which the disk failed
 
+-- ---- disks with the same in flight
+
+same_flying : (d x y : DiskState) (flights : List Flight) → AreInFlight 1 d x flights → AreInFlight 1 d y flights → x ≡ y
+same_flying d x y flights one two = λ i. record {
+  count = (one.count ∙ sym two.count) i;
+  size = (one.size ∙ sym two.size) i;
+  tells = (one.tells ∙ sym two.tells) i;
+  block_at = (one.blocks ∙ sym two.blocks) i;
+  in_flight = λ n. flying n (cases_eq n 1) i;
+  is_fenced = (one.fenced ∙ sym two.fenced) i;
+}
+  where
+    flying : (n : ℕ) → (n ≡ 1) ⊎ (n ≡ 1 → ⊥) → x.in_flight n ≡ y.in_flight n
+    flying n (inl same) = ap x.in_flight same ∙ one.own ∙ sym two.own ∙ ap y.in_flight (sym same)
+    flying n (inr other) = one.others n other ∙ sym (two.others n other)
+
+-- what flies of a turn that stopped is a front of it
+front_flies : (some : List Written) (block : Option ℕ) (wrote flying : List Written) → StopsAt some block wrote flying → (n : ℕ) × (n ≤ length some) × (flying ≡ take n some)
+front_flies some _ _ _ (before_it i w at) = (i, (let low = slice_get_within some i w at in omega (arith, low)), refl)
+front_flies some _ _ _ (behind_it i w at) = (i + 1, (let low = slice_get_within some i w at in omega (arith, low)), refl)
+front_flies some _ _ _ at_barrier = (length some, omega arith, sym (take_all (length some) some (omega arith)))
+
+turn_stopped : (before after : Moment) (some : List Written) (block : Option ℕ) → IsIdle before.disk → RiseFrom 0 some → (s : HasStoppedIn 1 before after some block) → after.disk ≡ disk_after before.disk (writes_of 1 s.flying)
+turn_stopped before after some block idle rise s =
+    let front = front_flies some block s.wrote s.flying s.stops in
+    same_flying before.disk after.disk (disk_after before.disk (writes_of 1 s.flying)) (flights_of s.flying) s.disk
+    (subst (λ ws. AreInFlight 1 before.disk (disk_after before.disk (writes_of 1 ws)) (flights_of ws)) (sym front.2) (flies before.disk idle some rise front.0 front.1))
+
+-- the disk on which bringing blocks stopped is as the operations have made it
+stopped_disk : (before after : Moment) (blocks : List Written) (block : Option ℕ) → (s : HasStopped 1 before after blocks block) → IsTrue before.disk.tells → IsIdle before.disk → RiseFrom 0 blocks
+    → after.disk ≡ disk_after before.disk (s.brought.operations ++ writes_of 1 s.stopped.flying)
+stopped_disk before after blocks block s tells idle rise =
+    let parts = subst (RiseFrom 0) s.parts rise in
+    turn_stopped s.between after s.some block (idle_again before.disk s.between.disk s.done idle s.brought.written) (front 0 s.some s.later (back 0 s.done (s.some ++ s.later) parts)) s.stopped
+    ∙ ap (λ d. disk_after d (writes_of 1 s.stopped.flying)) (brought_disk before s.between s.done tells idle (front 0 s.done (s.some ++ s.later) parts) s.brought)
+    ∙ sym (after_on before.disk s.brought.operations (writes_of 1 s.stopped.flying))
+
 -- What it told was done, and perhaps one write more; and these are the first of a whole replay's.
 pub record StoppedOps (before after : Moment) (home : List Written) (header : Written) (items : List TraceItem) : Type 0 where
   pub wrote : List Operation
@@ -320,6 +360,8 @@ pub record StoppedOps (before after : Moment) (home : List Written) (header : Wr
   pub whole : homes ++ heads ≡ wrote ++ rest
   pub done : AreDoneBy items wrote
   pub gains : Gains before.list after.list (wrote ++ further)
+  pub most : IsOneWrite further
+  pub disk : IsTrue before.disk.tells → IsIdle before.disk → RiseFrom 0 home → after.disk ≡ disk_after before.disk (wrote ++ further)
 
 writes_on : (xs ys : List Written) → writes_of 1 (xs ++ ys) ≡ writes_of 1 xs ++ writes_of 1 ys
 writes_on [] ys = refl
@@ -331,10 +373,11 @@ record StopsSo (some wrote flying : List Written) : Type 0 where
   parts : some ≡ wrote ++ left
   one : List Written
   flies : flying ≡ wrote ++ one
+  most : IsOneWrite (writes_of 1 one)
 
 stops_so : (some : List Written) (block : Option ℕ) (wrote flying : List Written) → StopsAt some block wrote flying → StopsSo some wrote flying
-stops_so some _ _ _ (before_it i w at) = record { left = drop i some; parts = sym (take-append-drop i some); one = []; flies = sym (append_nil (take i some)) }
-stops_so some _ _ _ (behind_it i w at) = record { left = drop i some; parts = sym (take-append-drop i some); one = w ∷ []; flies = next some i at }
+stops_so some _ _ _ (before_it i w at) = record { left = drop i some; parts = sym (take-append-drop i some); one = []; flies = sym (append_nil (take i some)); most = no_write }
+stops_so some _ _ _ (behind_it i w at) = record { left = drop i some; parts = sym (take-append-drop i some); one = w ∷ []; flies = next some i at; most = one_write w.block w.bytes }
   where
     next : (ws : List Written) (i : ℕ) → slice_get ws i ≡ Some w → take (i + 1) ws ≡ take i ws ++ w ∷ []
     next [] i at = absurd (none_some at)
@@ -346,7 +389,7 @@ stops_so some _ _ _ (behind_it i w at) = record { left = drop i some; parts = sy
         same : Some x ≡ Some w → x ≡ w
         same e = cc
     next (x ∷ ws) (suc i) at = ap (λ m. take m (x ∷ ws)) (let e : suc i + 1 ≡ suc (i + 1) = omega arith in e) ∙ ap (λ ys. x ∷ ys) (next ws i at)
-stops_so some _ _ _ at_barrier = record { left = []; parts = sym (append_nil some); one = []; flies = sym (append_nil some) }
+stops_so some _ _ _ at_barrier = record { left = []; parts = sym (append_nil some); one = []; flies = sym (append_nil some); most = no_write }
 
 -- the same of blocks
 record StoppedBringing (before after : Moment) (blocks : List Written) (items : List TraceItem) : Type 0 where
@@ -358,6 +401,8 @@ record StoppedBringing (before after : Moment) (blocks : List Written) (items : 
   whole : all ≡ wrote ++ rest
   done : AreDoneBy items wrote
   gains : Gains before.list after.list (wrote ++ further)
+  most : IsOneWrite further
+  disk : IsTrue before.disk.tells → IsIdle before.disk → RiseFrom 0 blocks → after.disk ≡ disk_after before.disk (wrote ++ further)
 
 bringing_stopped : (before after : Moment) (blocks : List Written) (block : Option ℕ) (items : List TraceItem) → StopsBringing 1 before after blocks block items → StoppedBringing before after blocks items
 bringing_stopped before after blocks block items is = record {
@@ -372,8 +417,9 @@ bringing_stopped before after blocks block items is = record {
       ∙ append_assoc (writes_of 1 wrote) (writes_of 1 so.left) (Barrier 1 ∷ later.0))
       ∙ sym (append_assoc first (writes_of 1 wrote) (writes_of 1 so.left ++ (Barrier 1 ∷ later.0)));
   done = subst (λ is. AreDoneBy is (first ++ writes_of 1 wrote)) (sym is.told) (goes_on (items_of first) (items_of (writes_of 1 wrote)) first (writes_of 1 wrote) (done_items first) (done_items (writes_of 1 wrote)));
-  gains = subst (Gains before.list after.list) (ap (λ os. first ++ os) (ap (writes_of 1) so.flies ∙ writes_on wrote so.one) ∙ sym (append_assoc first (writes_of 1 wrote) (writes_of 1 so.one)))
-      (gains_join before.list s.between.list after.list first (writes_of 1 s.stopped.flying) s.brought.gains s.stopped.gains);
+  gains = subst (Gains before.list after.list) in_flight (gains_join before.list s.between.list after.list first (writes_of 1 s.stopped.flying) s.brought.gains s.stopped.gains);
+  most = so.most;
+  disk = λ tells idle rise. stopped_disk before after blocks block s tells idle rise ∙ ap (disk_after before.disk) in_flight;
 }
   where
     s : HasStopped 1 before after blocks block
@@ -387,6 +433,9 @@ bringing_stopped before after blocks block items is = record {
 
     so : StopsSo s.some wrote s.stopped.flying
     so = stops_so s.some block wrote s.stopped.flying s.stopped.stops
+
+    in_flight : first ++ writes_of 1 s.stopped.flying ≡ (first ++ writes_of 1 wrote) ++ writes_of 1 so.one
+    in_flight = ap (λ os. first ++ os) (ap (writes_of 1) so.flies ∙ writes_on wrote so.one) ∙ sym (append_assoc first (writes_of 1 wrote) (writes_of 1 so.one))
 
     later : (operations : List Operation) × AreBrought 1 s.later operations
     later = can_be_brought s.later
@@ -408,6 +457,8 @@ replay_stopped before after home header block items (at_home is) = of_home (brin
           whole = ap (λ os. os ++ heads.0) s.whole ∙ append_assoc s.wrote s.rest heads.0;
           done = s.done;
           gains = s.gains;
+          most = s.most;
+          disk = s.disk;
         }
 replay_stopped before after home header block items (at_header between homes more is are) = of_header (bringing_stopped between after (header ∷ []) block more is)
   where
@@ -423,6 +474,11 @@ replay_stopped before after home header block items (at_header between homes mor
       whole = ap (λ os. homes.operations ++ os) s.whole ∙ sym (append_assoc homes.operations s.wrote s.rest);
       done = subst (λ is. AreDoneBy is (homes.operations ++ s.wrote)) (sym are) (goes_on (items_of homes.operations) more homes.operations s.wrote (done_items homes.operations) s.done);
       gains = subst (Gains before.list after.list) (sym (append_assoc homes.operations s.wrote s.further)) (gains_join before.list between.list after.list homes.operations (s.wrote ++ s.further) homes.gains s.gains);
+      most = s.most;
+      disk = λ tells idle rise.
+          s.disk (subst IsTrue (sym homes.written.tells) tells) (idle_again before.disk between.disk home idle homes.written) (omega arith, tt)
+          ∙ ap (λ d. disk_after d (s.wrote ++ s.further)) (brought_disk before between home tells idle rise homes)
+          ∙ sym (after_on before.disk homes.operations (s.wrote ++ s.further)) ∙ ap (disk_after before.disk) (sym (append_assoc homes.operations s.wrote s.further));
     }
 
 -- a replay leaves the disk its size

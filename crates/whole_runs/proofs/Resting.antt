@@ -1,5 +1,5 @@
 -- The disk that replays leave is at rest.
-use Rattle.std.proofs.Common.{◌≡◌, ℕ, ◌+◌, ◌^◌, ◌<◌, ◌≤◌, List, [], ◌∷◌, length, map, Option, None, Some, refl, sym, ap, subst, ◌∙◌, arith}
+use Rattle.std.proofs.Common.{◌≡◌, ℕ, ◌+◌, ◌^◌, ◌<◌, ◌≤◌, List, [], ◌∷◌, length, get_or, map, Option, None, Some, refl, sym, ap, subst, ◌∙◌, arith}
 use Rattle.std.specs.Prelude.{IsTrue, slice_get}
 use Rattle.cut_replays.proofs.Stopped as stopping
 use Rattle.disk_turns.specs.Turns.{Moment}
@@ -23,10 +23,16 @@ use Rattle.image_mount.specs.Mounted.{GroupsAreAsSeen, MountedValue}
 use Rattle.image_mount.specs.Mounted.{Journal as MountedJournal}
 use Rattle.cut_replays.specs.Left.{IsLeft, LeftStandsBy, ReplayLeaves}
 use Rattle.cut_replays.specs.Recoveries.{AreReplays, HaveReplayed}
+use Rattle.cut_replays.specs.Ended.{head_left}
 use Rattle.cut_replays.proofs.LeftStanding.{back, list_stays, super_stays, there}
+use Rattle.cut_replays.proofs.Mapped.{apart as apart_in, theirs}
+use Rattle.cut_replays.proofs.RecoveryEnding.{read_is, replayed_have_ended}
 use Rattle.journal_outcomes.specs.Images.{ring_at}
 use Rattle.journal_replays.specs.Replays.{IsReplayWith}
+use Rattle.cut_replays.specs.Reading.{ring_read}
 use Rattle.log_layout.specs.Journal.{IsClean, head_in}
+use Rattle.log_layout.specs.Laws.{HasSamePlaces}
+use Rattle.log_layout.proofs.SamePlaces.{says_the_same}
 use Rattle.log_layout.specs.declared.log_header.LogHeader.{LogHeader}
 use Rattle.log_values.specs.Laws.{IsJournal}
 use Rattle.logged_runs.specs.States.{ArePlacesApart, IsJournalOf}
@@ -127,6 +133,21 @@ module _ (leaves : ReplayLeaves) (by : LeftStandsBy) (groups : GroupsAreAsSeen) 
   head : IsClean (ring_at left own.dinode)
   head = x.clean 0 own.dinode at_own
 
+  -- it is the one that the journal's plan left
+  ring_left : HasSamePlaces (ring_read after.disk 1 own.blocks) (ring_at left own.dinode)
+  ring_left = record {
+    size = refl;
+    places = long ∙ sym (x.as_many 0 own.dinode at_own);
+    blocks = λ p low. read_is after.disk 1 (get_or own.blocks p 0) (idle.none_in_flight 1) ∙ ap after.disk.block_at (its_journal.place p (subst (λ n. p < n) (long ∙ sym (x.as_many 0 own.dinode at_own)) low));
+  }
+
+  head_is_left : (plan : Plan) → slice_get plans 0 ≡ Some plan → head.0 ≡ head_left before.disk.size 1 time own plan.clean own.head
+  head_is_left plan at_plan =
+      let ended = replayed_have_ended 1 time before after m.journals plans have.added is.tells (is.idle.none_in_flight 1) is.can (theirs before.disk 1 is.idle m is.mounted plans is.planned)
+      (apart_in before.disk 1 is.idle m is.mounted plans is.planned) is.read have.replays 0 own plan first at_plan in
+      let was = (says_the_same (ring_read before.disk 1 own.blocks) (ring_at im own.dinode) (its_ring before.disk m own is.idle is.mounted first)).head ∙ (its before.disk m own is.idle is.mounted first).1.head in
+      some_same (sym head.1 ∙ sym (says_the_same (ring_read after.disk 1 own.blocks) (ring_at left own.dinode) ring_left).head ∙ ended.headed own.head was)
+
   head_low : head.0.sequence ≤ 2 ^ 63
   head_low = by_head (its before.disk m own is.idle is.mounted first).1.head
     where
@@ -152,7 +173,7 @@ module _ (leaves : ReplayLeaves) (by : LeftStandsBy) (groups : GroupsAreAsSeen) 
     groups = groups_are;
   }
 
-  rests : IsSound after.disk → RestsAsMounted after m own frames time t
+  rests : IsSound after.disk → RestsAsMounted after m own plans before.disk.size frames time t is.mounted.layout
   rests sound = record {
     owners = o;
     layout = l;
@@ -170,6 +191,9 @@ module _ (leaves : ReplayLeaves) (by : LeftStandsBy) (groups : GroupsAreAsSeen) 
       volume = volume;
       empty = refl;
     };
+    journals = λ j k. (in_found j k, of_found j k);
+    groups = sym (list_stays im left m is.mounted x o l laid) ∙ is.mounted.found.groups.list.listed;
+    left = head_is_left;
     low = head_low;
     idle = idle;
   }

@@ -27,7 +27,8 @@ use Rattle.log_layout.specs.Journal.{head_in}
 use Rattle.log_layout.specs.Laws.{HeadersReadBack}
 use Rattle.logged_runs.specs.StepEnds.{EndsTo}
 use Rattle.logged_runs.specs.Heads.{HasFirst, IsAcceptedIn}
-use Rattle.logged_runs.specs.Laws.{EndsAreTold, FencesAreTold, FrontStands, FrontsStand, HeadsAreThere, IsStop, MayLeave, RunsBeginSo, StandsFenced, StopsAreTold, WhatRemainsIsTold, to_fence}
+use Rattle.logged_runs.specs.Laws.{EndsAreTold, FencesAreTold, FrontStands, FrontsStand, HeadsAreThere, IsStop, LossesGoByHeads, MayLeave, RunsBeginSo, StandsFenced, StopsAreTold, WhatRemainsIsTold, to_fence}
+use Rattle.logged_runs.specs.LoggedLaws.{IsInItsBlocks}
 use Rattle.logged_runs.specs.Standing.{StandsAsTold}
 use Rattle.logged_runs.specs.Starts.{BeginsAt, IsOfReplay, only_life}
 use Rattle.logged_runs.proofs.Staying.{no_end, stay_replays}
@@ -48,7 +49,7 @@ use Rattle.shared_disk.specs.Disk.{DiskState, Fence, Flight, Gains, IsOutcome, O
 use Rattle.trace_text.specs.declared.item.TraceItem.{TraceItem}
 use Rattle.trace_text.specs.declared.item.TraceItem.TheVariants as trace
 use Rattle.whole_runs.specs.Starts.{its_volume, joined}
-use Rattle.whole_runs.specs.Wholes.{Course, HasCourse, HasRunWhole, IsRun, WholeRunsStand, accepted_as, disk_behind, ends_with, head_at, heads_of, stopped_course}
+use Rattle.whole_runs.specs.Wholes.{Course, HasCourse, HasItsHeads, HasRunWhole, IsRun, WholeRunsStand, accepted_as, disk_behind, ends_with, going_on, head_at, heads_of, stopped_course}
 use Rattle.whole_runs.proofs.Bringing.{after_on}
 use Rattle.whole_runs.proofs.Heads.{finds, same_head}
 use Rattle.whole_runs.proofs.Items.{counted, fewer, of_replays}
@@ -94,8 +95,16 @@ failed_items : (time : ℕ) (p q : Point) → FailsTo time p q → q.items ≡ p
 failed_items time p q AsItWas = refl
 failed_items time p q (InAWrite b bytes list log item told step) = refl
 
+-- it begins as runs do
+pub run_begins : RunsBeginSo → (clients : List Client) (before : Moment) (m : MountedValue) (plans : List Plan) (time : ℕ) (start : Tree) (o : Owners) (l : Layout) (d : ℕ) (a p q : Point) → IsRun clients before m plans time start o l d a p q
+    → BeginsAt (volume_of (image_of a.disk) l) (begun_on (image_of a.disk) o l start) d clients a
+run_begins begin clients before m plans time start o l d a p q run =
+    let added = run.replays.added in
+    subst (BeginsAt (volume_of (image_of a.disk) l) (begun_on (image_of a.disk) o l start) d clients) (sym (run.begins ∙ ap (starting a.disk a.list run.journal run.head run.view) run.replays.are))
+    (begin a.disk o l start d run.journal run.head run.view clients a.list added run.rest (of_replays 1 time before (moment a.disk a.list) m.journals plans added run.replays.replays))
+
 module _ (given : HeadersReadBack) (failing : FailedReplaysStand) (stopping : StoppedReplaysStand) (leave : FencesLeaveOutcomes) (tells : StepsAreTold) (begin : RunsBeginSo) (remain : WhatRemainsIsTold) (fronts_stand : FrontsStand)
-    (ends_told : EndsAreTold) (stops_told : StopsAreTold) (fences_told : FencesAreTold) (heads_there : HeadsAreThere)
+    (ends_told : EndsAreTold) (stops_told : StopsAreTold) (fences_told : FencesAreTold) (loses : LossesGoByHeads) (heads_there : HeadsAreThere)
     (clients : List Client) (before : Moment) (m : MountedValue) (plans : List Plan) (time : ℕ) (start : Tree) (o : Owners) (l : Layout) (d : ℕ) (a p q : Point) (was operations : List Operation)
     (run : IsRun clients before m plans time start o l d a p q) (first : before.list ≡ Some was) (last : q.list ≡ Some (was ++ operations)) where
   abbrev v : Volume
@@ -114,8 +123,7 @@ module _ (given : HeadersReadBack) (failing : FailedReplaysStand) (stopping : St
   of_replay = of_replays 1 time before after m.journals plans added run.replays.replays
 
   begins : BeginsAt v s d clients a
-  begins = subst (BeginsAt v s d clients) (sym (run.begins ∙ ap (starting a.disk a.list run.journal run.head run.view) run.replays.are))
-      (begin a.disk o l start d run.journal run.head run.view clients a.list added run.rest of_replay)
+  begins = run_begins begin clients before m plans time start o l d a p q run
 
   -- ---- the replays
 
@@ -228,7 +236,7 @@ module _ (given : HeadersReadBack) (failing : FailedReplaysStand) (stopping : St
   q_tells : IsTrue q.disk.tells
   q_tells = subst IsTrue (sym (ap (λ (x : DiskState). x.tells) whole_disk ∙ tells_on before.disk whole_ops)) run.from.tells
 
-  has_course : HasCourse before q operations course
+  has_course : HasCourse before q.items q.disk operations course
   has_course = record {
     items = refl;
     all = in_two ∙ sym operations_are;
@@ -259,7 +267,7 @@ module _ (given : HeadersReadBack) (failing : FailedReplaysStand) (stopping : St
     }
 
     accepted : (p' r : Point) (left : Image) → Steps time a p' → FailsTo time p' r ⊎ EndsTo p' r → MayLeave v r.disk left → IsAcceptedIn v d left (head_at v d left)
-    accepted p' r left steps end may = (let h = heads_there v s d clients time a p' r left begins steps end may in record { header = h.0; headed = h.1; is = ap (accepted_as v d) h.1 })
+    accepted p' r left steps end may = (let h = heads_there v s d clients time a p' r left begins steps end may in record { header = h.header; headed = h.headed; is = ap (accepted_as v d) h.headed })
 
     -- wherever the run is
     at_point : (p' r : Point) (left : Image) → Steps time a p' → FailsTo time p' r ⊎ EndsTo p' r → MayLeave v r.disk left → StandsAsTold clients (heads_of v d before.disk c left) r.items start left
@@ -277,9 +285,9 @@ module _ (given : HeadersReadBack) (failing : FailedReplaysStand) (stopping : St
   start_count : told_count a.items ≡ length ops0
   start_count = counted a.items ops0 start_done
 
-  start_front : (count : ℕ) (left : Image) → count ≤ length a.items → MayLeave v (disk_behind before.disk course count) left → StandsAsTold clients (heads_of v d before.disk course left) (take count q.items) start left
-  start_front count left low may =
-      subst (λ is. StandsAsTold clients (heads_of v d before.disk course left) is start left) (sym front) (by count low (subst (λ x. MayLeave v x left) disk_is may))
+  start_front : (end : List TraceItem) (later : List Operation) (count : ℕ) (left : Image) → count ≤ length a.items → MayLeave v (disk_behind before.disk course count) left → StandsAsTold clients (heads_of v d before.disk (going_on course end later) left) (take count q.items) start left
+  start_front end later count left low may =
+      subst (λ is. StandsAsTold clients (heads_of v d before.disk (going_on course end later) left) is start left) (sym front) (by count low (subst (λ x. MayLeave v x left) disk_is may))
     where
       front : take count q.items ≡ take count a.items
       front = ap (take count) items_are ∙ take_front count a.items (does.more ++ last_ops.extra) low
@@ -287,21 +295,21 @@ module _ (given : HeadersReadBack) (failing : FailedReplaysStand) (stopping : St
       disk_is : disk_behind before.disk course count ≡ disk_after before.disk (first_told (take count a.items) ops0)
       disk_is = behind_first before.disk course count a.items (does.more ++ last_ops.extra) ops0 (ops2 ++ last_ops.operations) items_are refl low (let few = fewer count a.items in let all = start_count in omega (arith, few, all))
 
-      by : (count : ℕ) → count ≤ length a.items → MayLeave v (disk_after before.disk (first_told (take count a.items) ops0)) left → StandsAsTold clients (heads_of v d before.disk course left) (take count a.items) start left
+      by : (count : ℕ) → count ≤ length a.items → MayLeave v (disk_after before.disk (first_told (take count a.items) ops0)) left → StandsAsTold clients (heads_of v d before.disk (going_on course end later) left) (take count a.items) start left
       by zero low may =
           let same : left ≡ image_of before.disk = only_itself (image_of before.disk) left (flown_by before.disk 1) (λ b. ap (λ (fs : List Flight). flight_to fs b) (run.from.idle.none_in_flight 1)) may.outcome in
-          nothing_stands clients (heads_of v d before.disk course left) start left (subst (λ im. StandsReplayed im start) (sym same) run.from.stands)
+          nothing_stands clients (heads_of v d before.disk (going_on course end later) left) start left (subst (λ im. StandsReplayed im start) (sym same) run.from.stands)
       by (suc n) low may =
-          (replay_fronts_stand failing stopping leave clients (heads_of v d before.disk course left) before after m plans time start a.items was ops0 (suc n) run.from all_replayed first a_list (omega arith) low).told left
+          (replay_fronts_stand failing stopping leave clients (heads_of v d before.disk (going_on course end later) left) before after m plans time start a.items was ops0 (suc n) run.from all_replayed first a_list (omega arith) low).told left
           (may_there (disk_after before.disk (first_told (take (suc n) a.items) ops0)) left may)
 
   -- ---- among the steps
 
-  step_front : (count : ℕ) (left : Image) → length a.items ≤ count → count ≤ length p.items → MayLeave v (disk_behind before.disk course count) left
-      → StandsAsTold clients (heads_of v d before.disk course left) (take count q.items) start left
-  step_front count left low high may =
-      subst (λ is. StandsAsTold clients (heads_of v d before.disk course left) is start left) (sym front)
-      (stands.stands (heads_of v d before.disk course left) left (has_first course refl refl left) there (accepted course refl refl stands.came.point stands.came.point left stands.came.before (inl AsItWas) there)).stands
+  step_front : (end : List TraceItem) (later : List Operation) (count : ℕ) (left : Image) → length a.items ≤ count → count ≤ length p.items → MayLeave v (disk_behind before.disk course count) left
+      → StandsAsTold clients (heads_of v d before.disk (going_on course end later) left) (take count q.items) start left
+  step_front end later count left low high may =
+      subst (λ is. StandsAsTold clients (heads_of v d before.disk (going_on course end later) left) is start left) (sym front)
+      (stands.stands (heads_of v d before.disk (going_on course end later) left) left (has_first (going_on course end later) refl refl left) there (accepted (going_on course end later) refl refl stands.came.point stands.came.point left stands.came.before (inl AsItWas) there)).stands
     where
       stands : FrontStands v s d clients time a p count
       stands = fronts_stand v s d clients time a p count begins run.steps low high
@@ -349,9 +357,9 @@ module _ (given : HeadersReadBack) (failing : FailedReplaysStand) (stopping : St
   p_done = counted p.items (ops0 ++ ops2) (subst (λ is. AreDoneBy is (ops0 ++ ops2)) (sym does.items) (goes_on a.items does.more ops0 ops2 start_done does.told))
 
   -- behind so many items it had come to this point
-  end_at : (count : ℕ) (left : Image) → EndFront p q last_ops.extra last_ops.operations count → MayLeave v (disk_behind before.disk course count) left → StandsAsTold clients (heads_of v d before.disk course left) (take count q.items) start left
-  end_at count left f may =
-      subst (λ is. StandsAsTold clients (heads_of v d before.disk course left) is start left) (sym front) (at_point course refl refl p f.point left run.steps (inr f.ends) (subst (λ x. MayLeave v x left) disk_is may))
+  end_at : (end : List TraceItem) (later : List Operation) (count : ℕ) (left : Image) → EndFront p q last_ops.extra last_ops.operations count → MayLeave v (disk_behind before.disk course count) left → StandsAsTold clients (heads_of v d before.disk (going_on course end later) left) (take count q.items) start left
+  end_at end later count left f may =
+      subst (λ is. StandsAsTold clients (heads_of v d before.disk (going_on course end later) left) is start left) (sym front) (at_point (going_on course end later) refl refl p f.point left run.steps (inr f.ends) (subst (λ x. MayLeave v x left) disk_is may))
     where
       these : q.items ≡ (p.items ++ f.rest) ++ f.more
       these = last_ops.items ∙ ap (λ is. p.items ++ is) f.parts ∙ sym (append_assoc p.items f.rest f.more)
@@ -380,12 +388,12 @@ module _ (given : HeadersReadBack) (failing : FailedReplaysStand) (stopping : St
 
   -- ---- behind each front
 
-  each_front : (count : ℕ) (left : Image) → count ≤ length q.items → MayLeave v (disk_behind before.disk course count) left → StandsAsTold clients (heads_of v d before.disk course left) (take count q.items) start left
-  each_front count left high may = elim (cases_lt (length a.items) count) [
-    | inr not ↦ start_front count left (omega (arith, not)) may
+  each_front : (end : List TraceItem) (later : List Operation) (count : ℕ) (left : Image) → count ≤ length q.items → MayLeave v (disk_behind before.disk course count) left → StandsAsTold clients (heads_of v d before.disk (going_on course end later) left) (take count q.items) start left
+  each_front end later count left high may = elim (cases_lt (length a.items) count) [
+    | inr not ↦ start_front end later count left (omega (arith, not)) may
     | inl past ↦ elim (cases_lt (length p.items) count) [
-      | inr not ↦ step_front count left (omega (arith, past)) (omega (arith, not)) may
-      | inl at_end ↦ end_at count left (last_front count at_end high) may
+      | inr not ↦ step_front end later count left (omega (arith, past)) (omega (arith, not)) may
+      | inl at_end ↦ end_at end later count left (last_front count at_end high) may
     ]
   ]
 
@@ -394,13 +402,13 @@ module _ (given : HeadersReadBack) (failing : FailedReplaysStand) (stopping : St
   ends_so : FailsTo time p q ⊎ EndsTo p q
   ends_so = elim run.last [ inl fail ↦ inl fail | inr end ↦ inr end.0 ]
 
-  whole_left : (left : Image) → MayLeave v (disk_after before.disk (course.operations ++ course.further)) left → StandsAsTold clients (heads_of v d before.disk course left) q.items start left
-  whole_left left may = at_point course refl refl p q left run.steps ends_so (subst (λ x. MayLeave v x left) (sym q_disk) may)
+  whole_left : (end : List TraceItem) (later : List Operation) (left : Image) → MayLeave v (disk_after before.disk (course.operations ++ course.further)) left → StandsAsTold clients (heads_of v d before.disk (going_on course end later) left) q.items start left
+  whole_left end later left may = at_point (going_on course end later) refl refl p q left run.steps ends_so (subst (λ x. MayLeave v x left) (sym q_disk) may)
 
-  with_stop : (x : TraceItem) (left : Image) → IsStop x → MayLeave v (disk_after before.disk (course.operations ++ course.further)) left → StandsAsTold clients (heads_of v d before.disk course left) (q.items ++ x ∷ []) start left
-  with_stop x left is_stop may =
+  with_stop : (end : List TraceItem) (later : List Operation) (x : TraceItem) (left : Image) → IsStop x → MayLeave v (disk_after before.disk (course.operations ++ course.further)) left → StandsAsTold clients (heads_of v d before.disk (going_on course end later) left) (q.items ++ x ∷ []) start left
+  with_stop end later x left is_stop may =
       let there = subst (λ y. MayLeave v y left) (sym q_disk) may in
-      (stops_told v s d clients time a p q x (heads_of v d before.disk course left) left begins run.steps ends_so is_stop (has_first course refl refl left) there (accepted course refl refl p q left run.steps ends_so there)).stands
+      (stops_told v s d clients time a p q x (heads_of v d before.disk (going_on course end later) left) left begins run.steps ends_so is_stop (has_first (going_on course end later) refl refl left) there (accepted (going_on course end later) refl refl p q left run.steps ends_so there)).stands
 
   -- ---- behind the fence
 
@@ -439,6 +447,20 @@ module _ (given : HeadersReadBack) (failing : FailedReplaysStand) (stopping : St
         → StandsFenced v d clients (heads_of v d before.disk c (image_of (after_fence y 1 became))) x q.items start (image_of (after_fence y 1 became)))
         q_disk fenced_there
 
+    -- the head there is that by which the loss goes
+    its_heads : (left : Image) → HasItsHeads v d (heads_of v d before.disk c left) a.log.sequence (to_fence x q.items) (image_of (after_fence (disk_after before.disk (course.operations ++ course.further)) 1 became))
+    its_heads left =
+        let by = loses v s d clients time a p q x (heads_of v d before.disk c left) begins run.steps ends_so is_stop (has_first c refl refl left) in
+        record {
+          head = by.head ∙ ap (λ y. head_at v d (image_of y)) fence_disk ∙ ap (λ y. head_at v d (image_of (after_fence y 1 became))) q_disk;
+          first = by.first;
+        }
+
+  -- behind the fence the journal is in its blocks
+  placed_there : (became : List Flight) → IsOutcome q.disk 1 became → NoFalseHeader (image_of q.disk) l (flown_by q.disk 1) (image_of (after_fence q.disk 1 became)) → IsInItsBlocks v d (image_of (after_fence q.disk 1 became))
+  placed_there became settles no_false =
+      (heads_there v s d clients time a p q (image_of (after_fence q.disk 1 became)) begins run.steps ends_so (record { outcome = (leave q.disk 1 became q_tells settles).outcome; no_false = no_false })).blocks
+
   has_run_whole : HasRunWhole before o l d clients start a q operations
   has_run_whole = record {
     course = course;
@@ -449,9 +471,11 @@ module _ (given : HeadersReadBack) (failing : FailedReplaysStand) (stopping : St
       stops = with_stop;
       fences = λ x became more is_stop. fenced x became more is_stop;
     };
+    heads = λ x became more left is_stop. its_heads x became more is_stop left;
+    placed = λ became. subst (λ y. IsOutcome y 1 became → NoFalseHeader (image_of y) l (flown_by y 1) (image_of (after_fence y 1 became)) → IsInItsBlocks v d (image_of (after_fence y 1 became))) q_disk (placed_there became);
   }
 
-pub whole_runs_stand : HeadersReadBack → FailedReplaysStand → StoppedReplaysStand → FencesLeaveOutcomes → StepsAreTold → RunsBeginSo → WhatRemainsIsTold → FrontsStand → EndsAreTold → StopsAreTold → FencesAreTold → HeadsAreThere
+pub whole_runs_stand : HeadersReadBack → FailedReplaysStand → StoppedReplaysStand → FencesLeaveOutcomes → StepsAreTold → RunsBeginSo → WhatRemainsIsTold → FrontsStand → EndsAreTold → StopsAreTold → FencesAreTold → LossesGoByHeads → HeadsAreThere
     → WholeRunsStand
-whole_runs_stand given failing stopping leave tells begin remain fronts ends stops fences heads clients before m plans time start o l d a p q was operations run first last =
-    has_run_whole given failing stopping leave tells begin remain fronts ends stops fences heads clients before m plans time start o l d a p q was operations run first last
+whole_runs_stand given failing stopping leave tells begin remain fronts ends stops fences loses heads clients before m plans time start o l d a p q was operations run first last =
+    has_run_whole given failing stopping leave tells begin remain fronts ends stops fences loses heads clients before m plans time start o l d a p q was operations run first last

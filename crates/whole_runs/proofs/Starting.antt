@@ -83,7 +83,7 @@ module _ (fences : FencesLeaveOutcomes) (v : Volume) (clients : List Client) (di
 -- ---- from the operations to the laws of replays that are cut short
 
 -- items of a replay that stopped, and operations
-stopped_by : (slot time dinode : ℕ) (blocks : List ℕ) (before after : Moment) (p : Plan) (block : Option ℕ) (items : List TraceItem) → StopsReplayBy 1 slot dinode blocks time before after p block items
+pub stopped_by : (slot time dinode : ℕ) (blocks : List ℕ) (before after : Moment) (p : Plan) (block : Option ℕ) (items : List TraceItem) → StopsReplayBy 1 slot dinode blocks time before after p block items
     → (header : LogHeader) × (p.clean ≡ Some header) × StopsReplay 1 before after p.home.items (clean_block before.disk.size (get_or blocks header.blkno 0) slot dinode time header) block items
 stopped_by slot time dinode blocks before after p block items is = by p.clean refl is
   where

@@ -15,16 +15,18 @@ use Rattle.log_layout.specs.Journal.{head_in}
 use Rattle.log_layout.specs.declared.log_header.LogHeader.{LogHeader}
 use Rattle.log_values.specs.Log.{Journal}
 use Rattle.logged_runs.specs.StepEnds.{EndsTo, Landed, Said, Unsaid, last_block}
-use Rattle.logged_runs.specs.Laws.{IsStop, MayLeave, StandsFenced}
+use Rattle.logged_runs.specs.Laws.{IsStop, MayLeave, StandsFenced, to_fence}
+use Rattle.logged_runs.specs.LoggedLaws.{IsInItsBlocks}
 use Rattle.logged_runs.specs.Standing.{StandsAsTold}
 use Rattle.logged_runs.specs.Disks.{disk_after, first_told}
 use Rattle.logged_runs.specs.Fails.{FailsTo}
 use Rattle.logged_runs.specs.Points.{Point}
+use Rattle.logged_runs.specs.Starts.{only_life}
 use Rattle.logged_runs.specs.StepStarts.{IsAtRest, starting}
 use Rattle.logged_runs.specs.Steps.{Steps}
 use Rattle.lone_view.specs.Seeing.{Lone}
 use Rattle.peer_replay.specs.declared.planned.Plan.{Plan}
-use Rattle.run_rules.specs.Lives.{AcceptedHead, DiskHeads}
+use Rattle.run_rules.specs.Lives.{AcceptedHead, DiskHeads, head_of, own_from}
 use Rattle.script_lang.specs.declared.script.Client.{Client}
 use Rattle.shared_disk.specs.Disk.{Barrier, DiskState, Fence, Flight, Gains, IsOutcome, Operation, Write, after_fence}
 use Rattle.trace_text.specs.declared.item.TraceItem.{TraceItem}
@@ -93,34 +95,51 @@ RunsAreTold = (clients : List Client) (before : Moment) (m : MountedValue) (plan
 
 -- ---- what is left of one
 
--- its course, as far as its disk tells the operations: the items tell what was done, but for one write at most
-pub record HasCourse (before : Moment) (q : Point) (operations : List Operation) (c : Course) : Type 0 where
-  pub items : c.items ≡ q.items
+-- the course of these items and of these operations, which left this disk: the items tell what was done, but for one write at most
+pub record HasCourse (before : Moment) (its : List TraceItem) (left : DiskState) (operations : List Operation) (c : Course) : Type 0 where
+  pub items : c.items ≡ its
   pub all : c.operations ++ c.further ≡ operations
   pub told : AreDoneBy c.items c.operations
   pub one : IsOneWrite c.further
-  pub disk : q.disk ≡ disk_after before.disk operations
+  pub disk : left ≡ disk_after before.disk operations
+
+-- a course that goes on behind these items with others, and with what these tell
+abbrev pub going_on : Course → List TraceItem → List Operation → Course
+going_on c end later = record c { end = end; later = later }
 
 -- the same with a stop, the fence, and a loss
 abbrev pub stopped_course : Course → TraceItem → List Flight → List TraceItem → Course
-stopped_course c x became more = record c { end = x ∷ trace.Fence 1 ∷ more; later = Fence 1 became ∷ [] }
+stopped_course c x became more = going_on c (x ∷ trace.Fence 1 ∷ more) (Fence 1 became ∷ [])
 
 -- Behind each front of its items, whatever becomes of what is in flight stands as these tell; so it does on the disk that the run left, also with a stop behind its items; and behind the fence the image
--- stands so, also with a right loss: each by the heads of the disks that its operations made.
+-- stands so, also with a right loss: each by the heads of the disks that its operations made, whatever comes behind them.
 pub record StandsThroughout (v : Volume) (d : ℕ) (clients : List Client) (start : DiskState) (tree : Tree) (c : Course) : Type 0 where
-  pub fronts : (count : ℕ) (left : Image) → count ≤ length c.items → MayLeave v (disk_behind start c count) left → StandsAsTold clients (heads_of v d start c left) (take count c.items) tree left
-  pub whole : (left : Image) → MayLeave v (disk_after start (c.operations ++ c.further)) left → StandsAsTold clients (heads_of v d start c left) c.items tree left
-  pub stops : (x : TraceItem) (left : Image) → IsStop x → MayLeave v (disk_after start (c.operations ++ c.further)) left → StandsAsTold clients (heads_of v d start c left) (c.items ++ x ∷ []) tree left
+  pub fronts : (end : List TraceItem) (later : List Operation) (count : ℕ) (left : Image) → count ≤ length c.items → MayLeave v (disk_behind start c count) left
+      → StandsAsTold clients (heads_of v d start (going_on c end later) left) (take count c.items) tree left
+  pub whole : (end : List TraceItem) (later : List Operation) (left : Image) → MayLeave v (disk_after start (c.operations ++ c.further)) left → StandsAsTold clients (heads_of v d start (going_on c end later) left) c.items tree left
+  pub stops : (end : List TraceItem) (later : List Operation) (x : TraceItem) (left : Image) → IsStop x → MayLeave v (disk_after start (c.operations ++ c.further)) left
+      → StandsAsTold clients (heads_of v d start (going_on c end later) left) (c.items ++ x ∷ []) tree left
   pub fences : (x : TraceItem) (became : List Flight) (more : List TraceItem) → IsStop x → IsOutcome (disk_after start (c.operations ++ c.further)) 1 became
       → let left = image_of (after_fence (disk_after start (c.operations ++ c.further)) 1 became) in
       NoFalseHeader (image_of (disk_after start (c.operations ++ c.further))) v.layout (flown_by (disk_after start (c.operations ++ c.further)) 1) left
       → StandsFenced v d clients (heads_of v d start (stopped_course c x became more) left) x c.items tree left
 
--- So it is of each run whose list of operations is told.
+-- behind the fence the head of the life is that of the journal on the disk there; and where its own headers began the disks have one of this sequence
+pub record HasItsHeads (v : Volume) (d : ℕ) (disks : DiskHeads) (sequence : ℕ) (fenced : List TraceItem) (left : Image) : Type 0 where
+  pub head : head_of disks only_life fenced ≡ head_at v d left
+  pub first : (disks.behind 1 (own_from only_life fenced)).sequence ≡ sequence
+
+-- So it is of each run whose list of operations is told; and by these heads its loss is right.
 pub record HasRunWhole (before : Moment) (o : Owners) (l : Layout) (d : ℕ) (clients : List Client) (start : Tree) (a q : Point) (operations : List Operation) : Type 0 where
   pub course : Course
-  pub has : HasCourse before q operations course
+  pub has : HasCourse before q.items q.disk operations course
   pub stands : StandsThroughout (volume_of (image_of a.disk) l) d clients before.disk start course
+  pub heads : (x : TraceItem) (became : List Flight) (more : List TraceItem) (left : Image) → IsStop x
+      → HasItsHeads (volume_of (image_of a.disk) l) d (heads_of (volume_of (image_of a.disk) l) d before.disk (stopped_course course x became more) left) a.log.sequence (to_fence x course.items)
+      (image_of (after_fence (disk_after before.disk (course.operations ++ course.further)) 1 became))
+  -- and the journal is in its blocks there
+  pub placed : (became : List Flight) → let disk = disk_after before.disk (course.operations ++ course.further) in
+      IsOutcome disk 1 became → NoFalseHeader (image_of disk) l (flown_by disk 1) (image_of (after_fence disk 1 became)) → IsInItsBlocks (volume_of (image_of a.disk) l) d (image_of (after_fence disk 1 became))
 
 abbrev pub WholeRunsStand : Type 0
 WholeRunsStand = (clients : List Client) (before : Moment) (m : MountedValue) (plans : List Plan) (time : ℕ) (start : Tree) (o : Owners) (l : Layout) (d : ℕ) (a p q : Point) (was operations : List Operation)

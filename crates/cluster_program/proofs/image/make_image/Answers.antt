@@ -4,7 +4,7 @@ use Rattle.shared_disk.specs.Disk.{DiskState, Operation}
 use Rattle.command_words.specs.declared.command.MakeWords.{MakeWords}
 use Rattle.cluster_program.specs.Course.{Makes, IsTooLarge}
 use Rattle.cluster_program.specs.World.{inputs}
-use Rattle.cluster_program.specs.declared.status.Status.TheVariants as status
+use Rattle.run_reports.specs.declared.status.Status.TheVariants as status
 use Rattle.image_mount.specs.declared.field.Field.TheVariants as field
 use Rattle.cluster_program.proofs.image.make_image.Goals as goal
 

@@ -7,12 +7,11 @@ use Rattle.shared_disk.specs.Disk.{DiskState}
 use Rattle.resource_groups.specs.Putting.{HasDataBlock}
 use Rattle.lone_view.specs.Groups.{AreGroupsOn}
 use Rattle.lone_view.specs.Seeing.{Lone, seen_alone}
-use Rattle.lone_node.specs.Standing.{IsOn}
 use Rattle.damage_laws.specs.Telling.{HasRootInside}
 use Rattle.cluster_program.specs.Mounting.{MountEnds}
-use Rattle.cluster_program.specs.Runs.{as_mounted}
-use Rattle.cluster_program.specs.declared.status.Status.TheVariants as status
-use Rattle.cluster_program.proofs.Mounts.{image_there, is_on, odd_groups, stray_root}
+use Rattle.mounted_views.specs.Views.{view_of}
+use Rattle.run_reports.specs.declared.status.Status.TheVariants as status
+use Rattle.cluster_program.proofs.Mounts.{image_there, odd_groups, stray_root}
 use Rattle.cluster_program.proofs.mounting.ready_of.Given.{Over}
 use Rattle.cluster_program.proofs.mounting.ready_of.Goals as goal
 
@@ -41,15 +40,14 @@ pub returns-then-not-are_groups-clause-image : goal.returns-then-not-are_groups-
 returns-then-not-are_groups-clause-image g c = image_there (g.D.SharedDisk.state c.args.disk.now) c.blocks-2.ensures.sound c.requires.size
 
 module _ (g : Over) (c : goal.After-drop-mounted-inside-in-Some g) where
-  is : c.new-view.result ≡ as_mounted (g.D.SharedDisk.state c.args.disk.now) c.args.mounted
+  is : c.new-view.result ≡ view_of (g.D.SharedDisk.state c.args.disk.now).size c.args.mounted
   is = search rules
 
 pub returns-in-Some-clause-on : goal.returns-in-Some-clause-on
 returns-in-Some-clause-on g c =
     let d = g.D.SharedDisk.state c.args.disk.now in
     let groups = c.deref.ensures.value ∙ ap (λ (m : MountedValue). m.groups) c.mounted.view_is in
-    let on = on_disk d c.block_size-size.result c.blocks-2.result c.deref.result.now c.args.mounted.groups c.block_size-size.ensures c.blocks-2.ensures.value groups (c.are_groups.ensures.0 c.if-not-are_groups.false) in
-    subst (IsOn d) (sym (is g c)) (is_on d c.args.mounted on)
+    on_disk d c.block_size-size.result c.blocks-2.result c.deref.result.now c.args.mounted.groups c.block_size-size.ensures c.blocks-2.ensures.value groups (c.are_groups.ensures.0 c.if-not-are_groups.false)
 
 pub returns-in-Some-clause-image : goal.returns-in-Some-clause-image
 returns-in-Some-clause-image g c = image_there (g.D.SharedDisk.state c.args.disk.now) c.blocks-2.ensures.sound c.requires.size
@@ -58,14 +56,14 @@ pub returns-clause-image : goal.returns-clause-image
 returns-clause-image g c = image_there (g.D.SharedDisk.state c.args.disk.now) c.blocks-2.ensures.sound c.requires.size
 
 module _ (g : Over) (c : goal.After-drop-mounted-inside-2 g) where
-  is_too : c.new-view.result ≡ as_mounted (g.D.SharedDisk.state c.args.disk.now) c.args.mounted
+  is_too : c.new-view.result ≡ view_of (g.D.SharedDisk.state c.args.disk.now).size c.args.mounted
   is_too = search rules
 
 pub returns-clause-ends : goal.returns-clause-ends
 returns-clause-ends g c first now =
     let d = g.D.SharedDisk.state c.args.disk.now in
     let place = c.superblock_block-superblock.ensures ∙ ap superblock_place c.block_size-size.ensures in
-    let stray : ¬ (HasRootInside (seen_alone (as_mounted d c.args.mounted))) = λ inside.
+    let stray : ¬ (HasRootInside (seen_alone (view_of d.size c.args.mounted))) = λ inside.
     c.in-None.ensures.none (subst (HasDataBlock (seen_alone c.new-view.result)) (ap (λ (v : Lone). v.root) c.new-view.ensures) (subst (λ (v : Lone). HasRootInside (seen_alone v)) (sym (is_too g c)) inside)) in
     subst (λ (b : ℕ). MountEnds d first now (status.Damaged b 2)) (sym place)
     (stray_root d c.args.mounted c.what_stands_breaks_nothing.ensures c.replays_keep_system_files.ensures.kept (image_there d c.blocks-2.ensures.sound c.requires.size) c.requires.mounted c.requires.replayed c.requires.alike c.views_may_be_read_from_mounted_images.ensures stray first now)

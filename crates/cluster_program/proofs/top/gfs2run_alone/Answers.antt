@@ -1,19 +1,16 @@
 use Rattle.std.proofs.Common.{List, sym, subst, map}
 use Rattle.std.specs.Prelude.{string_bytes}
 use Rattle.trace_text.specs.declared.item.TraceItem.{TraceItem}
-use Rattle.cluster_program.specs.Quiet.{IsQuiet}
-use Rattle.cluster_program.specs.Report.{Reports}
-use Rattle.cluster_program.specs.World.{Outputs}
-use Rattle.cluster_program.proofs.Ends.{done_before, fault_has_cause}
-use Rattle.cluster_program.specs.declared.status.WhichSink.TheVariants as which
+use Rattle.run_reports.specs.OneNode.{IsOfOneNode}
+use Rattle.run_reports.specs.Report.{Reports}
+use Rattle.run_reports.specs.Outputs.{Outputs}
+use Rattle.cluster_program.proofs.Ends.{fault_has_cause}
 use Rattle.cluster_program.proofs.Complete.{complete}
-use Rattle.cluster_program.proofs.Dirty.{counted}
 use Rattle.cluster_program.proofs.top.gfs2run_alone.Given.{Over}
 use Rattle.cluster_program.proofs.top.gfs2run_alone.Goals as goal
 
-pub report-status-requires-clause-quiet : goal.report-status-requires-clause-quiet
-report-status-requires-clause-quiet g c told done =
-    subst (λ (items : List TraceItem). IsQuiet c.carry_out-listing.result.script items told) (sym c.deref.ensures.value) (c.carry_out-listing.ensures.quiet told done)
+pub report-status-requires-clause-one : goal.report-status-requires-clause-one
+report-status-requires-clause-one g c = subst (IsOfOneNode c.carry_out-listing.result.script) (sym c.deref.ensures.value) c.carry_out-listing.ensures.one
 
 module _ (g : Over) (c : goal.After-drop-items g) where
   abbrev sinks : Outputs
@@ -22,8 +19,8 @@ module _ (g : Over) (c : goal.After-drop-items g) where
   abbrev sinks_now : Outputs
   sinks_now = record { trace = g.T.Sink.contents c.report-status.new.trace; trace_faults = g.T.Sink.faults c.report-status.new.trace; output = g.O.Sink.contents c.report-status.new.out; output_faults = g.O.Sink.faults c.report-status.new.out }
 
-  reports : Reports sinks sinks_now c.carry_out-listing.result.listing c.carry_out-listing.result.script c.carry_out-listing.new.items.items c.carry_out-listing.result.lines.items 0 c.carry_out-listing.result.own c.report-status.result
-  reports = subst (λ (items : List TraceItem). Reports sinks sinks_now c.carry_out-listing.result.listing c.carry_out-listing.result.script items c.carry_out-listing.result.lines.items 0 c.carry_out-listing.result.own c.report-status.result) c.deref.ensures.value c.report-status.ensures.reports
+  reports : Reports sinks sinks_now c.carry_out-listing.result.listing c.carry_out-listing.result.script c.carry_out-listing.new.items.items c.carry_out-listing.result.lines.items c.carry_out-listing.result.dirty c.carry_out-listing.result.own c.report-status.result
+  reports = subst (λ (items : List TraceItem). Reports sinks sinks_now c.carry_out-listing.result.listing c.carry_out-listing.result.script items c.carry_out-listing.result.lines.items c.carry_out-listing.result.dirty c.carry_out-listing.result.own c.report-status.result) c.deref.ensures.value c.report-status.ensures.reports
 
 pub returns-clause-ends : goal.returns-clause-ends
 returns-clause-ends g c = record {
@@ -33,18 +30,17 @@ returns-clause-ends g c = record {
   lines = c.carry_out-listing.result.lines.items;
   own = c.carry_out-listing.result.own;
   course = c.carry_out-listing.ensures.course;
-  dirty = 0;
+  dirty = c.carry_out-listing.result.dirty;
   report = reports g c;
-  counted = counted _ _ (map string_bytes c.args.words.now) c.carry_out-listing.result.listing c.carry_out-listing.result.script c.carry_out-listing.new.items.items c.carry_out-listing.result.lines.items c.carry_out-listing.result.own c.carry_out-listing.ensures.course (reports g c).told
-      (done_before which.Trace _ _ c.carry_out-listing.result.own (reports g c).told (reports g c).told_is);
+  counted = c.carry_out-listing.ensures.counted;
 }
 
 pub returns-clause-fault : goal.returns-clause-fault
 returns-clause-fault g c =
-    fault_has_cause _ _ (sinks g c) (sinks_now g c) (map string_bytes c.args.words.now) c.carry_out-listing.result.listing c.carry_out-listing.result.script c.carry_out-listing.new.items.items c.carry_out-listing.result.lines.items c.carry_out-listing.result.own c.report-status.result
+    fault_has_cause _ _ (sinks g c) (sinks_now g c) (map string_bytes c.args.words.now) c.carry_out-listing.result.listing c.carry_out-listing.result.script c.carry_out-listing.new.items.items c.carry_out-listing.result.lines.items c.carry_out-listing.result.dirty c.carry_out-listing.result.own c.report-status.result
     c.carry_out-listing.ensures.course (reports g c)
 
 pub returns-clause-complete : goal.returns-clause-complete
 returns-clause-complete g c =
-    complete _ _ (sinks g c) (sinks_now g c) (map string_bytes c.args.words.now) c.carry_out-listing.result.listing c.carry_out-listing.result.script c.carry_out-listing.new.items.items c.carry_out-listing.result.lines.items c.carry_out-listing.result.own c.report-status.result
+    complete _ _ (sinks g c) (sinks_now g c) (map string_bytes c.args.words.now) c.carry_out-listing.result.listing c.carry_out-listing.result.script c.carry_out-listing.new.items.items c.carry_out-listing.result.lines.items c.carry_out-listing.result.dirty c.carry_out-listing.result.own c.report-status.result
     c.carry_out-listing.ensures.course (reports g c)

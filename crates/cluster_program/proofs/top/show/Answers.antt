@@ -1,5 +1,5 @@
 use Rattle.std.proofs.Common.{subst}
-use Rattle.cluster_program.specs.Report.{IsSinkFault}
+use Rattle.run_reports.specs.Report.{IsSinkFault}
 use Rattle.cluster_program.proofs.Shows.{no_sink_fault}
 use Rattle.cluster_program.proofs.top.show.Goals as goal
 

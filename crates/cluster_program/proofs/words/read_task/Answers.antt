@@ -4,8 +4,8 @@ use Rattle.command_words.specs.Limits.{IsWithinLimits}
 use Rattle.command_words.specs.declared.command.Command.{Command}
 use Rattle.cluster_program.specs.Course.{is_built, refusal_of, words_refusal}
 use Rattle.cluster_program.specs.Tasks.{IsTaskOf, Asks}
-use Rattle.cluster_program.specs.declared.status.Status.TheVariants as status
-use Rattle.cluster_program.specs.declared.status.Unbuilt.TheVariants as part
+use Rattle.run_reports.specs.declared.status.Status.TheVariants as status
+use Rattle.run_reports.specs.declared.status.Unbuilt.TheVariants as part
 use Rattle.cluster_program.specs.declared.words.Task.{Task}
 use Rattle.cluster_program.specs.declared.words.Task.TheVariants as task
 use Rattle.cluster_program.proofs.words.read_task.Goals as goal

@@ -1,9 +1,11 @@
-use Rattle.std.proofs.Common.{◌≡◌, ◌≢◌, ◌+◌, ◌++◌, List, [], refl, rules, sym, ap, ◌∙◌, subst, subst₂, arith, suc}
-use Rattle.std.proofs.lemmas.List.{append_assoc, append-nil}
+use Rattle.std.proofs.Common.{◌≡◌, ◌≢◌, ◌+◌, ◌++◌, List, [], length, refl, rules, sym, ap, ◌∙◌, subst, subst₂, arith, suc}
+use Rattle.std.proofs.lemmas.List.{append_assoc, append-nil, length-append}
 use Rattle.drafts.specs.declared.change.Written.{Written}
 use Rattle.shared_disk.specs.Disk.{Operation}
 use Rattle.disk_turns.specs.Turns.{AreBrought, moment, none, turn, turn_of}
 use Rattle.disk_turns.specs.Writing.{AreOfDisk, RiseFrom}
+use Rattle.disk_turns.specs.Crashes.{IsBefore, left_after}
+use Rattle.disk_turns.proofs.Crashing.{at_start, further}
 use Rattle.disk_turns.proofs.Gaining.{gains_join, gains_none}
 use Rattle.disk_turns.proofs.Rising.{front}
 use Rattle.disk_turns.proofs.Stopping.{front_none, full_turn, has_some, last_turn, left_of, nothing, one_more, rest_long, stopped_behind}
@@ -29,6 +31,7 @@ loop-rest-init g c = record {
   whole = λ left. refl;
   gains = gains_none (g.D.SharedDisk.list c.args.disk.now);
   none = λ is. (refl, refl);
+  before = at_start c.args.armed c.requires.awaits;
   later = λ i. omega arith;
 }
 
@@ -40,6 +43,7 @@ loop-rest-preserved g c =
     let some = c.first_turn.result.0.now in
     let later = c.first_turn.result.1.now in
     let next = c.first_turn.ensures.turn in
+    let behind = subst (IsBefore (length some)) (c.left_after.ensures ∙ ap (λ n. left_after n c.args.armed) (rest_long c.args.blocks.now so.done c.loop-rest.rest.now so.split)) in
     let whole : c.args.blocks.now ≡ (so.done ++ some) ++ later = so.split ∙ ap (λ (r : List Written). so.done ++ r) c.first_turn.ensures.parts ∙ sym (append_assoc so.done some later) in
     let left : c.loop-rest.rest.now ≢ [] = left_of c.loop-rest.rest.now some later c.first_turn.ensures.parts next in
     record {
@@ -56,6 +60,7 @@ loop-rest-preserved g c =
       whole = λ more_left. one_more so.done some so.turns (so.whole left) (next.whole more_left);
       gains = gains_join (g.D.SharedDisk.list c.args.disk.now) (g.D.SharedDisk.list c.loop-rest.disk) (g.D.SharedDisk.list c.write_turn.new.disk) so.operations _ so.gains c.in-Ok.ensures.gains;
       none = λ is. absurd (has_some so.done some next.not_none is);
+      before = subst (λ n. IsBefore n c.args.armed) (sym (length-append so.done some)) (further c.args.armed (length so.done) (length some) so.before (behind c.in-Ok.ensures.before));
       later = λ i. let before = so.later i in let more = c.in-Ok.ensures.later i in omega (arith, before, more);
     }
 

@@ -1,5 +1,5 @@
 use Rattle.std.proofs.Common.{ℕ, Some, sym, ap, ◌∙◌, arith}
-use Rattle.logged_node.specs.Nodes.{writes_in}
+use Rattle.logged_calls.specs.Nodes.{writes_in}
 use Rattle.logged_scripts.proofs.Crashing.{all_made, before_all}
 use Rattle.logged_scripts.proofs.crashes.writes_left.Goals as goal
 

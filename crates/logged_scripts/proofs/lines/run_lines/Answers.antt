@@ -1,6 +1,6 @@
 use Rattle.std.proofs.Common.{ℕ, Option, sym, ◌∙◌, subst}
-use Rattle.logged_node.specs.Nodes.{IsBeforeCrash, point_of}
-use Rattle.logged_node.proofs.Arming.{before_crash}
+use Rattle.logged_calls.specs.Nodes.{IsBeforeCrash, point_of}
+use Rattle.logged_calls.proofs.Arming.{before_crash}
 use Rattle.logged_scripts.specs.declared.halts.Halt.{Halt}
 use Rattle.logged_scripts.specs.Ends.{HasCause, IfEnded, halt_of}
 use Rattle.logged_scripts.specs.Runs.{HasHalted}

@@ -1,7 +1,7 @@
 use Rattle.std.proofs.Common.{sym, ap, ◌∙◌, subst, arith}
 use Rattle.script_lang.specs.Script.{ScriptValue}
 use Rattle.script_lang.specs.declared.script.Line.TheVariants as line
-use Rattle.logged_node.specs.Nodes.{point_of}
+use Rattle.logged_calls.specs.Nodes.{point_of}
 use Rattle.logged_scripts.specs.declared.halts.Halt.{Halt}
 use Rattle.logged_scripts.specs.Ends.{HasCause, IfEnded, halt_at}
 use Rattle.logged_scripts.specs.Runs.{HasHalted}

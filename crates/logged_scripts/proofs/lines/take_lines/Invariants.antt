@@ -1,5 +1,5 @@
 use Rattle.std.proofs.Common.{◌≤◌, ℕ}
-use Rattle.logged_node.specs.Nodes.{point_of}
+use Rattle.logged_calls.specs.Nodes.{point_of}
 use Rattle.logged_scripts.specs.Beginning.{IsUnderWay}
 use Rattle.logged_scripts.proofs.lines.take_lines.Given as goal
 

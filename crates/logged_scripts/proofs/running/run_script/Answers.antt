@@ -1,6 +1,6 @@
 use Rattle.std.proofs.Common.{ℕ, Bool, List, sym, ap, ◌∙◌, subst, arith}
 use Rattle.gfs2_layout.specs.Device.{IsBlockSize}
-use Rattle.logged_node.specs.Nodes.{point_of}
+use Rattle.logged_calls.specs.Nodes.{point_of}
 use Rattle.logged_scripts.specs.declared.halts.Halt.TheVariants as halt
 use Rattle.logged_scripts.specs.Ends.{HasCause}
 use Rattle.logged_scripts.proofs.Fenced.{cause_behind, fence_is_whole, fence_runs, journal_few, journal_inside, runs_out, runs_through, same_still, whole_through}

@@ -1,5 +1,0 @@
-use Rattle.cluster_program.proofs.Passing.{nothing_sent}
-use Rattle.cluster_program.proofs.output.put_replayed.Goals as goal
-
-pub returns-in-Err-clause-bytes : goal.returns-in-Err-clause-bytes
-returns-in-Err-clause-bytes g c = nothing_sent _ c.args.held.now.items _

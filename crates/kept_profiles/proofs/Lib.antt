@@ -1,0 +1,8 @@
+mod Chains
+mod Landing
+mod Steps
+mod Profiles
+mod Ending
+mod Runs
+-- Passed on to the crates above.
+pub use Rattle.lone_runs.proofs.Items

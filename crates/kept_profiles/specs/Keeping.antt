@@ -1,0 +1,29 @@
+-- What no step of one node changes of the image on its disk.
+use Rattle.std.specs.Prelude.{ℕ, ◌≡◌, ◌≢◌, ◌⊎◌, ◌<◌, ◌↔◌, List}
+use Rattle.gfs2_layout.specs.Inode.{content_block}
+use Rattle.image_machine.specs.Volumes.{Volume}
+use Rattle.image_model.specs.Claims.{every}
+use Rattle.image_model.specs.Image.{Image, image_of}
+use Rattle.image_model.specs.Stands.{IsJournalAt, Layout}
+use Rattle.image_model.specs.SystemFiles.{IsSystemBlock}
+use Rattle.journal_outcomes.specs.Images.{IsPlaceIn, ring_at}
+use Rattle.logged_steps.specs.Points.{Point}
+use Rattle.logged_steps.specs.Laws.{IsLoggedAt}
+use Rattle.logged_steps.specs.States.{trees_on}
+use Rattle.logged_steps.specs.Steps.{Steps}
+use Rattle.lone_machine.specs.Alone.{Begun}
+use Rattle.script_lang.specs.declared.script.Client.{Client}
+
+-- The other image has the same system files, with each journal in the same places; their blocks are the same, but for places of journals; and so are all places of each journal but the one with its dinode in block d.
+pub record KeepsSystem (l : Layout) (d : ℕ) (im other : Image) : Type 0 where
+  pub size : other.size ≡ im.size
+  pub count : other.count ≡ im.count
+  pub system : (b : ℕ) → IsSystemBlock other b ↔ IsSystemBlock im b
+  pub many : (j k : ℕ) → IsJournalAt l j k → (ring_at other k).places ≡ (ring_at im k).places
+  pub place : (j k p : ℕ) → IsJournalAt l j k → p < (ring_at im k).places → content_block (every other k) p ≡ content_block (every im k) p
+  pub same : (b : ℕ) → IsSystemBlock im b → (other.at b ≡ im.at b) ⊎ IsPlaceIn im l b
+  pub others : (j k p : ℕ) → IsJournalAt l j k → k ≢ d → p < (ring_at im k).places → (ring_at other k).at p ≡ (ring_at im k).at p
+
+-- so it is of the images on the node's disk at any two points of its run
+abbrev pub StepsKeepTheSystem : Type 0
+StepsKeepTheSystem = (v : Volume) (s : Begun (trees_on v)) (d : ℕ) (clients : List Client) (time : ℕ) (p q : Point) → IsLoggedAt v s d clients p → Steps time p q → KeepsSystem v.layout d (image_of p.disk) (image_of q.disk)

@@ -1,8 +1,0 @@
-use Rattle.std.proofs.Common.{◌≡◌, take}
-use Rattle.lone_node.specs.Keeping.{with_blocks}
-use Rattle.lone_node.proofs.kept_blocks.keep_all.Given as goal
-
-abbrev pub invariant-loop-written : goal.invariant-loop-written
-invariant-loop-written l = record {
-  kept : l.view ≡ record l.initial.view { blocks = with_blocks l.initial.view.blocks (take l.written-index l.blocks) };
-}

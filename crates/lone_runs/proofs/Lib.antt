@@ -1,0 +1,19 @@
+pub mod Apart
+pub mod Disks
+pub mod Members
+pub mod Allowed
+pub mod Begun
+pub mod Alone
+pub mod Told
+pub mod Others
+pub mod Ran
+pub mod Silent
+pub mod Standing
+pub mod StartStanding
+pub mod Damage
+pub mod Ended
+pub mod Resting
+pub mod Runs
+pub mod Telling
+-- Passed on to the crates above.
+pub use Rattle.logged_scripts.proofs.Items

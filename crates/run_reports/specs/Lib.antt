@@ -1,0 +1,10 @@
+pub mod Outputs
+pub mod Orders
+pub mod StatusText
+pub mod Out
+pub mod Dirty
+pub mod Streams
+pub mod Report
+pub mod OneNode
+pub mod Losses
+pub mod Laws
