@@ -110,7 +110,7 @@ module _ (words : List (List ℕ)) (given left : Inputs) (sinks sinks_now : Outp
   of_run may s time items what own (NotCounted m journal block x y gone stopped has within up) = absurd (none.disk 0 (rose (given.disk_faults 0) (left.disk_faults 0) x y up))
   of_run may s time items what own (NotBegun own' none_yet same ends) = of_begin may own ends
   of_run may s time items what own (EndsEarly m e gone cause sound damaged) = of_end s e (sound may.tree may.is) gone.own.blocks cause
-  of_run may s time items what own (runs.LacksRoom m result gone) = inr refl
+  of_run may s time items what own (runs.LacksRoom m gone stopped) = inr refl
 
   -- an image that fits its device
   of_make : (make : MakeWords) → given.disk.count ≤ most_blocks → fits (plan_for given.disk make) ≡ true → (own : Status) → Makes make given left own → IsWhole own

@@ -93,7 +93,7 @@ module _ (given left : Inputs) (sinks sinks_now : Outputs) where
   run_fault s time items what own (NotCounted m journal block x y gone stopped has within up) = up
   run_fault s time items what own (NotBegun own' none same ends) = begin_fault own ends
   run_fault s time items what own (EndsEarly m e gone cause sound damaged) = end_fault s e gone.own.blocks cause
-  run_fault s time items what own (runs.LacksRoom m result gone) = tt
+  run_fault s time items what own (runs.LacksRoom m gone stopped) = tt
 
   make_fault : (make : MakeWords) (own : Status) → Makes make given left own → FaultHasCause given left sinks sinks_now own
   make_fault make own (IsTooLarge many same) = tt
@@ -146,4 +146,4 @@ no_run_fault given left s time items what own (EndsEarly m e gone cause sound da
     of_end (end.Script (script_end.LogTooSmall line)) never = never
     of_end (end.Script (script_end.NotLoggable line)) never = never
     of_end (end.Script script_end.NoMemory) never = never
-no_run_fault given left s time items what own (runs.LacksRoom m result gone) never = never
+no_run_fault given left s time items what own (runs.LacksRoom m gone stopped) never = never

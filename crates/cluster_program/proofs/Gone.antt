@@ -378,7 +378,7 @@ module _ (laws : RunLaws) (given left : Inputs) (before : ℕ → ℕ) (s : Scri
     pub uncounted : (own : Status) → (NoneStopped items → ⊥) → IsUnreadHead m.journals (given.disk_faults 0) (left.disk_faults 0) own → Runs given left s time items own
     uncounted _ stopped (UnreadBlock journal block x y has within up) =
         runs_so (Ok tt) ran begun (status.DeviceFault 0 (Some block) x y) (λ is none. absurd (stopped none)) (NotCounted m journal block x y (gone (Ok tt) ran) stopped has within up)
-    uncounted _ stopped UnreadForMemory = runs_so (Ok tt) ran begun status.NoMemory (λ is none. absurd (stopped none)) (LacksRoom m (Ok tt) (gone (Ok tt) ran))
+    uncounted _ stopped UnreadForMemory = runs_so (Ok tt) ran begun status.NoMemory (λ is none. absurd (stopped none)) (LacksRoom m (gone (Ok tt) ran) stopped)
 
   -- ---- a run that ended early
 

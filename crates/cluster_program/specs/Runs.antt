@@ -108,8 +108,8 @@ IfDamaged e P = ⊤
 -- ---- how it ends
 
 -- How a run ends, of what was mounted, if anything was: it came to its end, so that each line is answered or its node has stopped, each crash line has its place, and the journals that aren't clean could be
--- counted; or they couldn't, since the disk failed as the run read a block of one, or there was no memory; the run didn't begin, before the first item; or it ended early, for a cause: on an image that stands for a
--- tree only for want of memory, or where the disk failed.
+-- counted; or, behind a stop, they couldn't, since the disk failed as the run read a block of one, or there was no memory; the run didn't begin, before the first item; or it ended early, for a cause: on an image that
+-- stands for a tree only for want of memory, or where the disk failed.
 pub data RunEnds (given left : Inputs) (s : ScriptValue) (time : ℕ) (items : List TraceItem) : Option MountedValue → Status → Type 0 where
   IsDone : (m : MountedValue) → HasGone given left m s time items (Ok tt) → IsWholeLoneRun s items → AllAnsweredOrDown items s → AllPlaced items s → RunEnds given left s time items (Some m) status.Done
   NotCounted : (m : MountedValue) (journal : Journal) (block x y : ℕ) → HasGone given left m s time items (Ok tt) → (NoneStopped items → ⊥) → Contains m.journals journal → Contains journal.blocks block
@@ -117,7 +117,7 @@ pub data RunEnds (given left : Inputs) (s : ScriptValue) (time : ℕ) (items : L
   NotBegun : (own : Status) → items ≡ [] → KeepsDisk given left → BeginEnds given.disk given.disk_faults left.disk_faults own → RunEnds given left s time items None own
   EndsEarly : (m : MountedValue) (e : RunEnd) → (gone : HasGone given left m s time items (Err e)) → HasCause given.disk.count gone.own.blocks given.disk_faults left.disk_faults e
       → ((tree : Tree) → IsImageOf given.disk tree → IsOfImageThatStands e) → IfDamaged e (MeetsDamage given.disk m) → RunEnds given left s time items (Some m) (status_of_run (first_line s) e)
-  LacksRoom : (m : MountedValue) (result : Result (Unit {0}) RunEnd) → HasGone given left m s time items result → RunEnds given left s time items (Some m) status.NoMemory
+  LacksRoom : (m : MountedValue) → HasGone given left m s time items (Ok tt) → (NoneStopped items → ⊥) → RunEnds given left s time items (Some m) status.NoMemory
 
 -- ---- what holds of it
 
