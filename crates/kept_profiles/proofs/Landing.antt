@@ -26,8 +26,8 @@ use Rattle.logged_steps.specs.LoggedLaws.{IsHeadLeft, ItsOutcomesStand, Remains,
 use Rattle.lone_logs.specs.Lone.{remaining}
 use Rattle.lone_logs.specs.Outcomes.{OutcomesAreTheMachines}
 use Rattle.logged_steps.specs.States.{HasLandedAs, IsLoggedNode, NodeState, trees_on}
-use Rattle.lone_logs.proofs.Landed.{of}
-use Rattle.lone_machine.specs.Alone.{Begun}
+use Rattle.lone_logs.proofs.Landed.{landed_outcome, landed_true}
+use Rattle.lone_machine.specs.Alone.{Begun, begun}
 use Rattle.kept_profiles.specs.Keeping.{KeepsSystem}
 
 module _ (remain : ItsOutcomesStand) (v : Volume) (s : Begun (trees_on v)) (w : World (trees_on v)) (d : ℕ) (st : NodeState) (is : IsLoggedNode v s w d st)
@@ -99,29 +99,33 @@ module _ (remain : ItsOutcomesStand) (v : Volume) (s : Begun (trees_on v)) (w : 
     pub left_keeps : KeepsSystem v.layout d im left
     left_keeps = record { size = size; count = count; system = found.system; many = found.many; place = found.place; same = same; others = places_same }
 
-  -- ---- with all that was in flight in its place
+  -- ---- an outcome of it
 
-  module _ (they_are : OutcomesAreTheMachines) (left : Image) (landed : HasLandedAs im st.flying left) where
-    outcome : IsOutcomeOf v w.disk is.rings im st.flying left
-    outcome = of they_are v s w d st is left landed
+  module _ (they_are : OutcomesAreTheMachines) (left : Image) (outcome : IsImageOutcome im st.flying left) (none_false : NoFalseHeader im v.layout st.flying left) where
+    machine : IsOutcomeOf v w.disk is.rings im st.flying left
+    machine = they_are v (begun (trees_on v) s) w is.rings im left st.flying is.alone.begins is.alone.run is.disk outcome none_false
 
-    blocks_landed : (b : ℕ) → (left.at b ≡ im.at b) ⊎ (IsPlaceIn im v.layout b ⊎ IsLiveIn im v.layout b)
-    blocks_landed b = each (st.flying b) refl
+    blocks_there : (b : ℕ) → (left.at b ≡ im.at b) ⊎ (IsPlaceIn im v.layout b ⊎ IsLiveIn im v.layout b)
+    blocks_there b = each (st.flying b) refl
       where
         each : (o : Option (List ℕ)) → st.flying b ≡ o → (left.at b ≡ im.at b) ⊎ (IsPlaceIn im v.layout b ⊎ IsLiveIn im v.layout b)
-        each None e = inl (landed.still b e)
+        each None e = inl (outcome.still b e)
         each (Some bytes) e = elim (is.disk.may.others b bytes e) [
           | inl place ↦ inr (inl place)
           | inr home ↦ inr (inr (record { journal = home.journal; dinode = home.dinode; bytes = bytes; at = home.at; live = home.live }))
         ]
 
-    whole_landed : (b : ℕ) → b < im.count → IsPlaceIn im v.layout b → length (left.at b) ≡ im.size
-    whole_landed b low place = each (st.flying b) refl
+    whole_there : (b : ℕ) → b < im.count → IsPlaceIn im v.layout b → length (left.at b) ≡ im.size
+    whole_there b low place = each (st.flying b) refl
       where
         each : (o : Option (List ℕ)) → st.flying b ≡ o → length (left.at b) ≡ im.size
-        each None e = ap length (landed.still b e) ∙ is.disk.has.whole b low
-        each (Some bytes) e = ap length (landed.new b bytes e) ∙ is.disk.may.whole b bytes e
+        each None e = ap length (outcome.still b e) ∙ is.disk.has.whole b low
+        each (Some bytes) e = outcome.whole b bytes e
 
-    pub landed_keeps : KeepsSystem v.layout d im left
-    landed_keeps = left_keeps left landed.size landed.count blocks_landed whole_landed outcome.many outcome.there (λ j k at. outcome.is.replayable.readable j k at)
-        (λ j k p at other low. landed.still (v.place k p) (is.elsewhere j k p at other low))
+    pub outcome_keeps : KeepsSystem v.layout d im left
+    outcome_keeps = left_keeps left outcome.size outcome.count blocks_there whole_there machine.many machine.there (λ j k at. machine.is.replayable.readable j k at)
+        (λ j k p at other low. outcome.still (v.place k p) (is.elsewhere j k p at other low))
+
+  -- so is the image with all that was in flight in its place
+  pub landed_keeps : OutcomesAreTheMachines → (left : Image) → HasLandedAs im st.flying left → KeepsSystem v.layout d im left
+  landed_keeps they_are left landed = outcome_keeps they_are left (landed_outcome im left st.flying is.disk.may.whole landed) (landed_true im left st.flying landed v.layout)

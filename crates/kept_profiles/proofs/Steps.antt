@@ -15,9 +15,9 @@ use Rattle.lone_logs.specs.Outcomes.{OutcomesAreTheMachines}
 use Rattle.lone_machine.specs.Alone.{Begun}
 use Rattle.script_lang.specs.declared.script.Client.{Client}
 use Rattle.shared_disk.specs.Disk.{DiskState, Flight, after_barrier, flight_to, settled, written}
-use Rattle.kept_profiles.specs.Keeping.{KeepsSystem, StepsKeepTheSystem}
+use Rattle.kept_profiles.specs.Keeping.{KeepsSystem, OutcomesKeepTheSystem, StepsKeepTheSystem}
 use Rattle.kept_profiles.proofs.Chains.{keeps_itself, keeps_on}
-use Rattle.kept_profiles.proofs.Landing.{landed_keeps}
+use Rattle.kept_profiles.proofs.Landing.{landed_keeps, outcome_keeps}
 
 -- what a barrier makes of a disk that tells its blocks
 pub all_landed : (d : DiskState) → IsTrue d.tells → HasLandedAs (image_of d) (flown_by d 1) (image_of (after_barrier d 1))
@@ -71,3 +71,7 @@ module _ (keep : StepsKeep) (remain : ItsOutcomesStand) (they_are : OutcomesAreT
 
 pub steps_keep_the_system : StepsKeep → ItsOutcomesStand → OutcomesAreTheMachines → StepsKeepTheSystem
 steps_keep_the_system keep remain they_are v s d clients time p q at steps = all keep remain they_are v s d clients time p q at steps
+
+pub outcomes_keep_the_system : ItsOutcomesStand → OutcomesAreTheMachines → OutcomesKeepTheSystem
+outcomes_keep_the_system remain they_are v s d clients p left at outcome none_false =
+    outcome_keeps remain v s at.world d (state_of p) at.is (λ b bytes e. flies_inside p.disk.count (p.disk.in_flight 1) b bytes (at.sound.flights 1).within e) they_are left outcome none_false

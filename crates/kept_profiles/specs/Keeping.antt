@@ -6,7 +6,8 @@ use Rattle.image_model.specs.Claims.{every}
 use Rattle.image_model.specs.Image.{Image, image_of}
 use Rattle.image_model.specs.Stands.{IsJournalAt, Layout}
 use Rattle.image_model.specs.SystemFiles.{IsSystemBlock}
-use Rattle.journal_outcomes.specs.Images.{IsPlaceIn, ring_at}
+use Rattle.journal_outcomes.specs.Disks.{flown_by}
+use Rattle.journal_outcomes.specs.Images.{IsImageOutcome, IsPlaceIn, NoFalseHeader, ring_at}
 use Rattle.logged_steps.specs.Points.{Point}
 use Rattle.logged_steps.specs.Laws.{IsLoggedAt}
 use Rattle.logged_steps.specs.States.{trees_on}
@@ -27,3 +28,8 @@ pub record KeepsSystem (l : Layout) (d : ℕ) (im other : Image) : Type 0 where
 -- so it is of the images on the node's disk at any two points of its run
 abbrev pub StepsKeepTheSystem : Type 0
 StepsKeepTheSystem = (v : Volume) (s : Begun (trees_on v)) (d : ℕ) (clients : List Client) (time : ℕ) (p q : Point) → IsLoggedAt v s d clients p → Steps time p q → KeepsSystem v.layout d (image_of p.disk) (image_of q.disk)
+
+-- and of each outcome, without a false header, of the writes that are in flight to its disk
+abbrev pub OutcomesKeepTheSystem : Type 0
+OutcomesKeepTheSystem = (v : Volume) (s : Begun (trees_on v)) (d : ℕ) (clients : List Client) (p : Point) (left : Image) → IsLoggedAt v s d clients p → IsImageOutcome (image_of p.disk) (flown_by p.disk 1) left
+    → NoFalseHeader (image_of p.disk) v.layout (flown_by p.disk 1) left → KeepsSystem v.layout d (image_of p.disk) left

@@ -1,7 +1,7 @@
 //! The image that a run of one node leaves is of the profile. The functions do nothing: their contracts are the laws.
 #![tactic(auto)]
 
-ghost use Rattle.kept_profiles.specs.Keeping.{StepsKeepTheSystem};
+ghost use Rattle.kept_profiles.specs.Keeping.{OutcomesKeepTheSystem, StepsKeepTheSystem};
 ghost use Rattle.kept_profiles.specs.Profiles.{RunsKeepTheProfile};
 
 use image_changes::an_image_has_one_layout;
@@ -15,9 +15,10 @@ pub use lone_runs::{
 };
 use whole_runs::{a_run_begins, replays_leave_a_disk_at_rest};
 
-/// A law: no step of a node changes a block of the system files on its disk, but for places of its own journal.
+/// A law: no step of a node changes a block of the system files on its disk, but for places of its own journal; nor does what becomes of its writes in flight.
 pub fn steps_keep_the_system()
-    ensures { StepsKeepTheSystem }
+    ensures steps { StepsKeepTheSystem }
+    ensures outcomes { OutcomesKeepTheSystem }
 {
     steps_keep();
     what_remains_of_it();
