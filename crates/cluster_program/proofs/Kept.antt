@@ -1,5 +1,5 @@
 -- What a run leaves that came to its end without a stop can be mounted again.
-use Rattle.std.proofs.Common.{◌≡◌, ℕ, List, sym, subst}
+use Rattle.std.proofs.Common.{ℕ, List}
 use Rattle.std.specs.Prelude.{IsTrue}
 use Rattle.cluster_history.specs.History.{tree_of}
 use Rattle.disk_turns.specs.Turns.{Moment}

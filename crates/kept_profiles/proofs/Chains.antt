@@ -1,10 +1,8 @@
 -- What is kept of the system files is kept from one image to the next.
-use Rattle.std.proofs.Common.{◌≡◌, ℕ, ◌<◌, inl, inr, refl, sym, ap, subst, ◌∙◌}
-use Rattle.gfs2_layout.specs.Inode.{content_block}
-use Rattle.image_model.specs.Claims.{every}
+use Rattle.std.proofs.Common.{ℕ, ◌<◌, inl, inr, refl, sym, subst, ◌∙◌}
 use Rattle.image_model.specs.Image.{Image}
 use Rattle.image_model.specs.Stands.{Layout}
-use Rattle.journal_outcomes.specs.Images.{IsPlaceIn, ring_at}
+use Rattle.journal_outcomes.specs.Images.{IsPlaceIn}
 use Rattle.kept_profiles.specs.Keeping.{KeepsSystem}
 
 pub keeps_itself : (l : Layout) (d : ℕ) (im : Image) → KeepsSystem l d im im
