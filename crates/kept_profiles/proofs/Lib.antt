@@ -1,6 +1,7 @@
 mod Chains
 mod Landing
 mod Steps
+mod Replayed
 mod Profiles
 mod Ending
 mod Runs

@@ -1,9 +1,13 @@
 -- What no step of one node changes of the image on its disk.
 use Rattle.std.specs.Prelude.{ℕ, ◌≡◌, ◌≢◌, ◌⊎◌, ◌<◌, ◌↔◌, List}
 use Rattle.gfs2_layout.specs.Inode.{content_block}
+use Rattle.file_tree.specs.Tree.{Tree}
+use Rattle.image_changes.specs.Instances.{StandsBy}
 use Rattle.image_machine.specs.Volumes.{Volume}
 use Rattle.image_model.specs.Claims.{every}
 use Rattle.image_model.specs.Image.{Image, image_of}
+use Rattle.image_model.specs.Owners.{Owners}
+use Rattle.image_model.specs.Replays.{HasItsJournals, Replayed}
 use Rattle.image_model.specs.Stands.{IsJournalAt, Layout}
 use Rattle.image_model.specs.SystemFiles.{IsSystemBlock}
 use Rattle.journal_outcomes.specs.Disks.{flown_by}
@@ -33,3 +37,7 @@ StepsKeepTheSystem = (v : Volume) (s : Begun (trees_on v)) (d : ℕ) (clients : 
 abbrev pub OutcomesKeepTheSystem : Type 0
 OutcomesKeepTheSystem = (v : Volume) (s : Begun (trees_on v)) (d : ℕ) (clients : List Client) (p : Point) (left : Image) → IsLoggedAt v s d clients p → IsImageOutcome (image_of p.disk) (flown_by p.disk 1) left
     → NoFalseHeader (image_of p.disk) v.layout (flown_by p.disk 1) left → KeepsSystem v.layout d (image_of p.disk) left
+
+-- and of the replayed image, where that stands, whichever journal is the node's
+abbrev pub ReplaysKeepTheSystem : Type 0
+ReplaysKeepTheSystem = (im replayed : Image) (l : Layout) (o : Owners) (m : Layout) (t : Tree) → HasItsJournals im l → Replayed im l replayed → StandsBy replayed o m t → (d : ℕ) → KeepsSystem l d im replayed

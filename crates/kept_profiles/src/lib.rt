@@ -1,7 +1,7 @@
 //! The image that a run of one node leaves is of the profile. The functions do nothing: their contracts are the laws.
 #![tactic(auto)]
 
-ghost use Rattle.kept_profiles.specs.Keeping.{OutcomesKeepTheSystem, StepsKeepTheSystem};
+ghost use Rattle.kept_profiles.specs.Keeping.{OutcomesKeepTheSystem, ReplaysKeepTheSystem, StepsKeepTheSystem};
 ghost use Rattle.kept_profiles.specs.Profiles.{RunsKeepTheProfile};
 
 use image_changes::an_image_has_one_layout;
@@ -24,6 +24,11 @@ pub fn steps_keep_the_system()
     what_remains_of_it();
     outcomes_are_the_machines();
 }
+
+/// A law: a replay keeps the blocks of the system files, and every place of a journal.
+pub fn replays_keep_the_system()
+    ensures { ReplaysKeepTheSystem }
+{}
 
 /// A law: the image that a run left which came to its end without a stop is of the profile, where the image that was mounted is once its journals are replayed.
 pub fn runs_keep_the_profile()
