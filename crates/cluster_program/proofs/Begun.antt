@@ -7,8 +7,9 @@ use Rattle.gfs2_layout.specs.Device.{IsBlockSize}
 use Rattle.glock_names.specs.Views.{end_of}
 use Rattle.image_model.proofs.Lengths.{size_large}
 use Rattle.image_model.proofs.Replaying.{replayed_by_any}
-use Rattle.image_model.specs.Image.{image_of}
+use Rattle.image_model.specs.Image.{Image, image_of}
 use Rattle.image_mount.specs.Mounted.{IsMounted, Journal, MountedValue}
+use Rattle.image_mount.specs.declared.field.Field.TheVariants as field
 use Rattle.image_recovery.proofs.ReadPlaces.{read_reached}
 use Rattle.image_recovery.specs.Laws.{PlannedCanBeReplayed}
 use Rattle.image_replays.proofs.System.{its_journals}
@@ -24,9 +25,10 @@ use Rattle.peer_replay.specs.declared.planned.Plan.{Plan}
 use Rattle.shared_disk.specs.Disk.{DiskState, IsIdle}
 use Rattle.cluster_program.specs.Beginning.{IsPrepared}
 use Rattle.cluster_program.specs.EndStatuses.{status_of_look}
-use Rattle.cluster_program.specs.Mounting.{ArePlaced, BeginEnds, IsMountedOn, IsMountedReplayed, IsStopped, LacksRoom, NotMounted, NotRead}
+use Rattle.cluster_program.specs.Mounting.{ArePlaced, BeginEnds, IsMisplaced, IsMountedAlike, IsMountedOn, IsMountedReplayed, IsStopped, LacksRoom, LiesOutside, NotMounted, NotRead}
 use Rattle.cluster_program.specs.Runs.{ArePlansOf}
 use Rattle.run_reports.specs.declared.status.Status.TheVariants as status
+use Rattle.cluster_program.proofs.Placed.{are_placed}
 
 -- ---- why a run doesn't begin
 
@@ -68,3 +70,17 @@ module _ (can : PlannedCanBeReplayed) (d : DiskState) (idle : IsIdle d) (sized :
         planned = planned;
         given = record { idle = idle; sized = sized; view_size = refl; empty = refl; some = groups.some; groups = groups.inside; can = can d m.journals plans planned.writable planned.headers; few = few };
       }))
+
+-- an image that is mounted has a journal
+module _ (d : DiskState) (m : MountedValue) (on : IsMountedOn d m) (alike : IsMountedAlike d m) (none : length m.journals ≡ 0) where
+  some_journal : (im : Image) → IsMounted im m → ⊥
+  some_journal im is = let some = is.profile.journals.some in let same = is.count in omega (arith, some, same, none)
+
+  pub no_journal : (first now : ℕ → ℕ) → BeginEnds d first now (status.NotProfile field.Journals 0)
+  no_journal first now =
+      NotMounted (status.NotProfile field.Journals 0)
+      (LiesOutside field.Journals 0 (λ tells. absurd (some_journal (image_of d) (on tells))) (λ other image shows. absurd (some_journal other (alike other shows))) (λ tells. absurd (some_journal (image_of d) (on tells))))
+
+-- where a journal isn't in blocks of the disk, that tells nothing
+pub misplaced_end : (d : DiskState) (m : MountedValue) (js : List Journal) → IsIdle d → IsMountedOn d m → js ≡ m.journals → (ArePlaced d.count js → ⊥) → (first now : ℕ → ℕ) (dinode : ℕ) → BeginEnds d first now (status.Damaged dinode 3)
+misplaced_end d m js idle on are bad first now dinode = IsMisplaced dinode (λ tells. bad (subst (ArePlaced d.count) (sym are) (are_placed d m idle (on tells))))

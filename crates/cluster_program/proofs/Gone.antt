@@ -66,7 +66,7 @@ use Rattle.cluster_program.specs.Mounting as mounting
 use Rattle.cluster_program.specs.Mounting.{BeginEnds, IsImageOf, IsMisplaced, IsMountedOn, IsMountedReplayed, NotMounted, is_clean_head}
 use Rattle.cluster_program.specs.Runs.{AreCleanOn, ArePlansOf, ChangesNothing, EndsEarly, HasCome, HasGone, HasWhatIsKept, HoldsTree, IfDamaged, IsDone, IsMountedAgain, IsToldBroken, LacksRoom, LeavesReplayed, MeetsDamage, NotBegun, NotCounted, RunEnds, Runs, beyond, first_line, itself, now_of}
 use Rattle.cluster_program.specs.World.{Inputs, KeepsDisk}
-use Rattle.cluster_program.proofs.Dirty.{none_by_items, none_left}
+use Rattle.cluster_program.proofs.Counts.{none_by_items, none_left}
 use Rattle.cluster_program.proofs.Kept.{mountable_kept}
 use Rattle.cluster_program.proofs.Left.{clean_replayed, dinode_at, mountable_still}
 use Rattle.cluster_program.proofs.ReplayItems.{lines_told}

@@ -14,5 +14,5 @@ pub mod Courses
 pub mod Made
 pub mod Images
 pub mod Ends
-pub mod Dirty
+pub mod Counts
 pub mod Complete

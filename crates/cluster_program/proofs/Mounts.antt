@@ -4,6 +4,7 @@ use Rattle.std.specs.Prelude.{IsTrue}
 use Rattle.std.specs.FinMap.{empty, get, get-empty}
 use Rattle.std.specs.Ordering.{nat_cmp}
 use Rattle.std.proofs.lemmas.List.{length-map}
+use Rattle.fault_counts.specs.Causes.{WentUp}
 use Rattle.gfs2_layout.specs.Device.{IsBlockSize, superblock_place}
 use Rattle.glock_names.specs.Views.{group_of_entry}
 use Rattle.image_model.specs.Claims.{Claims, root}
@@ -29,6 +30,10 @@ use Rattle.run_reports.specs.Report.{IsSinkFault}
 use Rattle.run_reports.specs.declared.status.Status.{Status}
 use Rattle.mounted_views.specs.Views.{view_of}
 use Rattle.run_reports.specs.declared.status.Status.TheVariants as status
+
+-- a count went up within a longer time too
+pub longer : (first before now x y : ℕ) → first ≤ before → WentUp before now x y → WentUp first now x y
+longer first before now x y earlier up = record { from = omega (arith, earlier, up.from); rose = up.rose; to = up.to }
 
 -- what a mount that fails tells of each image of which the disk shows the system files
 pub record IsToldRightly (d : DiskState) (f : MountFault) : Type 0 where

@@ -17,8 +17,7 @@ use Rattle.cluster_program.specs.Mounting.{HasMounted, OfImage, IsMountedOn}
 use Rattle.run_reports.specs.Report.{IsSinkFault}
 use Rattle.run_reports.specs.declared.status.Status.{Status}
 use Rattle.run_reports.specs.declared.status.Status.TheVariants as status
-use Rattle.cluster_program.proofs.Mounts.{no_mount_fault}
-use Rattle.cluster_program.proofs.Runs.{longer}
+use Rattle.cluster_program.proofs.Mounts.{longer, no_mount_fault}
 
 -- what is known of a disk whose tree was read, or wasn't
 pub record HasReadTree (d : DiskState) (m : MountedValue) (before now : ℕ → ℕ) (r : Result Tree TreeFault) : Type 0 where

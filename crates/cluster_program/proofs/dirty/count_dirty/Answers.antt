@@ -2,7 +2,7 @@ use Rattle.std.proofs.Common.{◌≡◌, ◌<◌, ℕ, List, length, rules, sym,
 use Rattle.std.proofs.lemmas.Bool.Decides.{nat_tests}
 use Rattle.journal_reads.specs.Reading.{HasCause}
 use Rattle.cluster_program.specs.Dirty.{IsUnreadHead}
-use Rattle.cluster_program.proofs.Dirty.{unread_head}
+use Rattle.cluster_program.proofs.Counts.{unread_head}
 use Rattle.cluster_program.proofs.dirty.count_dirty.Goals as goal
 
 pub returns-in-Err-clause-ends : goal.returns-in-Err-clause-ends

@@ -1,5 +1,5 @@
 use Rattle.std.proofs.Common.{◌≡◌, sym, ◌∙◌}
-use Rattle.cluster_program.proofs.Dirty.{no_stop, none_stopped}
+use Rattle.cluster_program.proofs.Counts.{no_stop, none_stopped}
 use Rattle.cluster_program.proofs.run.left_dirty.Goals as goal
 
 pub returns-then-not-has_stopped-clause-stopped : goal.returns-then-not-has_stopped-clause-stopped

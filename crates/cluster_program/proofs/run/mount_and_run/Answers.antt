@@ -8,7 +8,7 @@ use Rattle.cluster_program.specs.EndStatuses.{IfOfScript, IsPlacedEnd, status_of
 use Rattle.cluster_program.specs.World.{Inputs, inputs}
 use Rattle.cluster_program.proofs.Alone.{armed_so, for_one}
 use Rattle.cluster_program.proofs.Gone.{HasRunAlone, RunLaws, at_start, clean_so, done_so, early_never_done, early_so, found_so, not_prepared, placed_line, placed_so, uncounted_so}
-use Rattle.cluster_program.proofs.Dirty.{counted_none, counted_stopped, early_count, none_early, of_none, of_stopped, stopped_or_not, unread_early, unread_since}
+use Rattle.cluster_program.proofs.Counts.{counted_none, counted_stopped, early_count, none_early, of_none, of_stopped, stopped_or_not, unread_early, unread_since}
 use Rattle.cluster_program.proofs.Mounts.{begin_never_done}
 use Rattle.run_reports.specs.declared.status.Status.{Status}
 use Rattle.run_reports.specs.declared.status.Status.TheVariants as status

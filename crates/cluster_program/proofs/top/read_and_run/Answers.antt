@@ -9,7 +9,7 @@ use Rattle.run_reports.specs.OneNode.{IsOfOneNode}
 use Rattle.run_reports.specs.Report.{IsSinkFault}
 use Rattle.cluster_program.specs.Course.{NoScript, RunsScript}
 use Rattle.cluster_program.proofs.Courses.{as_carried, course_of, of_one_nothing}
-use Rattle.cluster_program.proofs.Dirty.{as_counted}
+use Rattle.cluster_program.proofs.Counts.{as_counted}
 use Rattle.cluster_program.proofs.Ends.{no_run_fault}
 use Rattle.cluster_program.proofs.top.read_and_run.Goals as goal
 

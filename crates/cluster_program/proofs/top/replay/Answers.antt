@@ -7,7 +7,7 @@ use Rattle.run_reports.specs.Report.{IsSinkFault}
 use Rattle.cluster_program.specs.World.{inputs}
 use Rattle.script_lang.specs.Script.{ScriptValue}
 use Rattle.cluster_program.proofs.Courses.{as_carried, course_of, of_one_nothing}
-use Rattle.cluster_program.proofs.Dirty.{as_counted}
+use Rattle.cluster_program.proofs.Counts.{as_counted}
 use Rattle.cluster_program.proofs.Ends.{no_run_fault}
 use Rattle.cluster_program.proofs.top.replay.Goals as goal
 
