@@ -33,13 +33,13 @@ use Rattle.logged_node.specs.declared.node.Node.{Node}
 use Rattle.logged_node.specs.Deeds.{MayBeWritten, a_write, no_write}
 use Rattle.logged_node.specs.Ends.{FailedAt, IfCrashed, IfFailed, IfMade, IsOfDisk}
 use Rattle.logged_node.specs.Homing.{GoesHomeward, HasGoneHome, IsHoming, MovesHome, SentSoFar, at_home, homes_in, waiting}
-use Rattle.logged_node.specs.Nodes.{Awaits, IsAtCrash, IsLogOf, IsNodeOn, IsResting, KeepsView, NoneGoesHome, StopsBehind, crash_at, crash_of, point_of}
+use Rattle.logged_node.specs.Nodes.{Awaits, IsAtCrash, IsLeftBy, IsLogOf, IsNodeOn, IsResting, KeepsView, NoneGoesHome, StopsBehind, WritesNext, crash_at, crash_of, point_of}
 use Rattle.logged_node.proofs.Arming.{before_still, crash_stays}
 use Rattle.logged_node.proofs.Blocks.{none_some, was_settled}
 use Rattle.logged_node.proofs.Disks.{flies_elsewhere, flies_some, length_with, same_barrier, same_disk, same_written}
 use Rattle.logged_node.proofs.Ended.{goes_behind}
 use Rattle.logged_node.proofs.Going.{on_still, small_on}
-use Rattle.logged_node.proofs.Onward.{FailsThere, as_it_was, if_crashed, if_failed, kept_here, left_same, map_err, stops_at}
+use Rattle.logged_node.proofs.Onward.{FailsThere, as_it_was, if_crashed, if_failed, kept_here, map_err, stops_at}
 use Rattle.logged_node.proofs.Ordering.{homes_more, order_none, order_on, order_sent, order_settled, so_far_same, so_far_sent}
 use Rattle.logged_node.proofs.Waiting.{one_fewer}
 
@@ -209,12 +209,23 @@ module _ (d d' : DiskState) (l l' : Option (List Operation)) (n m n' : Node) (lo
   steps : Written × Gained → (time : ℕ) → Steps time p (point_of d' l' n')
   steps both time = sends (point_of d' l' n') (q_is both.0) both.1 time
 
+  -- it comes next, on a disk whose list isn't told
+  next_write : WritesNext p b
+  next_write = record {
+    bytes = bytes;
+    list = None;
+    log = m.log;
+    item = trace.WriteHome 1 b;
+    told = refl;
+    step = λ time. GoesHome refl m.log lock b bytes None answer (record { inside = inside; whole = long ∙ at.on.block; free = free }) tt;
+  }
+
   fails : MayBeWritten d l b bytes d' l' → FailsThere p d' l' (Some b)
-  fails (no_write is same) = as_it_was p d' l' (Some b) is same
+  fails (no_write is same) = as_it_was p d' l' (Some b) (next_write, inl refl) is same
   fails (a_write is gains) = record {
     left = record p { disk = after_write d 1 b bytes; list = l'; log = m.log };
     fails = λ time. InAWrite b bytes l' m.log (trace.WriteHome 1 b) refl (GoesHome refl m.log lock b bytes l' answer (record { inside = inside; whole = long ∙ at.on.block; free = free }) gains);
-    exactly = inr (bytes, refl);
+    exactly = (next_write, inr refl);
     disk = sym is;
     listed = refl;
     told = refl;
@@ -330,13 +341,13 @@ module _ (d d' : DiskState) (l l' : Option (List Operation)) (n m k n' : Node) (
   m_at = ap (point_of d l) m_is ∙ ap (λ (is : List TraceItem). record (point_of d l n) { items = is }) items
 
   -- the disk failed
-  pub stops_resting : (why : Stop) → IsOfDisk why → d' ≡ d → l' ≡ l → k ≡ m → StopsBehind 0 d l n d' l' k.items.items why
-  stops_resting (stop.DiskFailed block rise) of disk list same = record {
+  pub stops_resting : (why : Stop) → IsOfDisk why → FailedAt why None → d' ≡ d → l' ≡ l → k ≡ m → StopsBehind 0 d l n d' l' k.items.items why
+  stops_resting (stop.DiskFailed block rise) of failed_at disk list same = record {
     last = point_of d l n;
     left = point_of d l n;
     steps = λ time. Here;
     fails = λ time. AsItWas;
-    exactly = left_same (point_of d l n) block;
+    exactly = subst (IsLeftBy (point_of d l n) (point_of d l n)) (sym failed_at) refl;
     disk = sym disk;
     listed = sym list;
     told = sym (ap (λ (x : Node). x.items.items) same ∙ items);
@@ -345,8 +356,8 @@ module _ (d d' : DiskState) (l l' : Option (List Operation)) (n m k n' : Node) (
     sequence = omega arith;
     crashes = before_still n.armed n.items.items k.items.items at.on.awaits (ap (λ (x : Node). x.items.items) same ∙ items);
   }
-  stops_resting stop.Crashed of disk list same = absurd of
-  stops_resting stop.NoMemory of disk list same = absurd of
+  stops_resting stop.Crashed of failed_at disk list same = absurd of
+  stops_resting stop.NoMemory of failed_at disk list same = absurd of
 
   -- it sends none home
   pub homes_resting : point_of d' l' k ≡ with_barrier (point_of d l m) l' m.log → homes_in k.items.items ≡ homes_in n.items.items

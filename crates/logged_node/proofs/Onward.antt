@@ -27,7 +27,7 @@ use Rattle.logged_node.specs.Ends.{FailedAt, IfCrashed, IfFailed, IfMade}
 use Rattle.logged_node.specs.Flushing.{FailsAt, HasComeTo, IsCarried, IsFlushing, MayCarry, block_of, steps_left}
 use Rattle.logged_node.specs.Flushing as carried
 use Rattle.logged_node.specs.Homing.{homes_in}
-use Rattle.logged_node.specs.Nodes.{Awaits, IsAtCrash, IsLeftBy, IsLogOf, IsNodeOn, IsSameDisk, KeepsCallsAt, KeepsView, StopsBehind, StopsByCrash, crash_at, crash_of, point_of}
+use Rattle.logged_node.specs.Nodes.{Awaits, IsAtCrash, IsLeftBy, IsLogOf, IsNodeOn, IsSameDisk, KeepsCallsAt, KeepsView, StopsBehind, StopsByCrash, WritesNext, crash_at, crash_of, point_of}
 use Rattle.logged_node.proofs.Arming.{before_still}
 use Rattle.logged_node.proofs.Blocks.{blocks_go_on, none_some}
 use Rattle.logged_node.proofs.Carried.{steps_by}
@@ -184,12 +184,9 @@ pub record FailsThere (p : Point) (d : DiskState) (l : Option (List Operation)) 
   pub listed : left.list ≡ l
   pub told : left.items ≡ p.items
 
-pub left_same : (p : Point) (at : Option ℕ) → IsLeftBy p p at
-left_same p None = refl
-left_same p (Some b) = inl refl
-
-pub as_it_was : (p : Point) (d : DiskState) (l : Option (List Operation)) (at : Option ℕ) → d ≡ p.disk → l ≡ p.list → FailsThere p d l at
-as_it_was p d l at disk list = record { left = p; fails = λ time. AsItWas; exactly = left_same p at; disk = sym disk; listed = sym list; told = refl }
+-- where it left nothing
+pub as_it_was : (p : Point) (d : DiskState) (l : Option (List Operation)) (at : Option ℕ) → IsLeftBy p p at → d ≡ p.disk → l ≡ p.list → FailsThere p d l at
+as_it_was p d l at exactly disk list = record { left = p; fails = λ time. AsItWas; exactly = exactly; disk = sym disk; listed = sym list; told = refl }
 
 -- At a deed: where it was made, and it crashed behind it, that is a step; where the disk failed, it stays where it was.
 pub stops_at : (most : ℕ) (d d' : DiskState) (l l' : Option (List Operation)) (n n' : Node) (r : Result (Unit {0}) Stop) (made : Type 0) → (made → (time : ℕ) → Steps time (point_of d l n) (point_of d' l' n')) → (made → KeepsView n n' × (n'.log.sequence ≤ n.log.sequence + most)) → Awaits n.armed → (at : Option ℕ)
@@ -295,30 +292,51 @@ module _ (law : WidthsAreNumbers) (start : Node) (d d' : DiskState) (l l' : Opti
   abbrev left_by : ℕ → Point
   left_by b = record p { disk = after_write d 1 b m.block.items; list = l'; log = m.log }
 
+  -- what comes next, on a disk whose list isn't told
+  log_next : (b : ℕ) → FlushStep n.log m.log f m.block.items (step.Write b) → MayCarry d (step.Write b) → WritesNext p b
+  log_next b made may = record {
+    bytes = m.block.items;
+    list = None;
+    log = m.log;
+    item = trace.WriteLog 1 b;
+    told = refl;
+    step = λ time. WritesLog m.log f b m.block.items None at.is its_numbers made (record { inside = may.0; whole = long ∙ at.on.block; free = may.1 }) tt;
+  }
+
+  head_next : (b sequence : ℕ) → FlushStep n.log m.log f m.block.items (step.Head b sequence) → MayCarry d (step.Head b sequence) → WritesNext p b
+  head_next b sequence made may = record {
+    bytes = m.block.items;
+    list = None;
+    log = m.log;
+    item = trace.WriteHead 1 b sequence p.numbers.begun;
+    told = refl;
+    step = λ time. WritesHead m.log f b sequence m.block.items None at.is its_numbers made (record { inside = may.0; whole = long ∙ at.on.block; free = may.1 }) tt;
+  }
+
   fails : FailsAt m.block.items (point_of d l m) d' l' s → FailsThere p d' l' (block_of s)
   fails = by s made may
     where
       by : (t : LogStep) → FlushStep n.log m.log f m.block.items t → MayCarry d t → FailsAt m.block.items (point_of d l m) d' l' t → FailsThere p d' l' (block_of t)
-      by (step.Write b) made _ (no_write is same) = as_it_was p d' l' (Some b) is same
+      by (step.Write b) made may (no_write is same) = as_it_was p d' l' (Some b) (log_next b made may, inl refl) is same
       by (step.Write b) made may (a_write is gains) = record {
         left = left_by b;
         fails = λ time. InAWrite b m.block.items l' m.log (trace.WriteLog 1 b) refl (WritesLog m.log f b m.block.items l' at.is its_numbers made (record { inside = may.0; whole = long ∙ at.on.block; free = may.1 }) gains);
-        exactly = inr (m.block.items, refl);
+        exactly = (log_next b made may, inr refl);
         disk = sym is;
         listed = refl;
         told = refl;
       }
-      by (step.Head b sequence) made _ (no_write is same) = as_it_was p d' l' (Some b) is same
+      by (step.Head b sequence) made may (no_write is same) = as_it_was p d' l' (Some b) (head_next b sequence made may, inl refl) is same
       by (step.Head b sequence) made may (a_write is gains) = record {
         left = left_by b;
         fails = λ time. InAWrite b m.block.items l' m.log (trace.WriteHead 1 b sequence p.numbers.begun) refl
             (WritesHead m.log f b sequence m.block.items l' at.is its_numbers made (record { inside = may.0; whole = long ∙ at.on.block; free = may.1 }) gains);
-        exactly = inr (m.block.items, refl);
+        exactly = (head_next b sequence made may, inr refl);
         disk = sym is;
         listed = refl;
         told = refl;
       }
-      by step.Barrier made _ both = as_it_was p d' l' None both.0 both.1
+      by step.Barrier made _ both = as_it_was p d' l' None refl both.0 both.1
       by step.NoRoom made _ never = absurd never
 
   pub armed_still : crash_at m ≡ crash_at n

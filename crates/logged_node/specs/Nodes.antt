@@ -2,6 +2,7 @@
 use Rattle.std.specs.Prelude.{ℕ, ◌≡◌, ◌⊎◌, ◌<◌, ◌≤◌, ◌+◌, ◌++◌, ⊤, true, false, List, [], ◌∷◌, length, Option, None, Some}
 use Rattle.std.specs.FinMap as table
 use Rattle.std.specs.List.{AllByRecursion, count_by}
+use Rattle.disk_items.specs.Deeds.{Wrote, deed_told}
 use Rattle.glock_names.specs.Views.{end_of}
 use Rattle.log_tables.specs.Versions.Way.{Flying}
 use Rattle.log_values.specs.Flushing.{block_at}
@@ -17,7 +18,7 @@ use Rattle.shared_disk.specs.Disk.{DiskState, Operation, after_write}
 use Rattle.trace_text.specs.declared.item.TraceItem.{TraceItem}
 use Rattle.logged_steps.specs.Fails.{FailsTo}
 use Rattle.logged_steps.specs.Points.{Anything, Point}
-use Rattle.logged_steps.specs.Steps.{Steps}
+use Rattle.logged_steps.specs.Steps.{Step, Steps, with_write}
 use Rattle.logged_node.specs.declared.ends.Stop.{Stop}
 use Rattle.logged_node.specs.declared.ends.Stop.TheVariants as stop
 use Rattle.logged_node.specs.declared.node.CallNumbers.{CallNumbers}
@@ -137,10 +138,19 @@ pub record KeepsCallsAt (n : Node) (p : Point) : Type 0 where
 
 -- ---- how it stops
 
--- a write that failed may have left this behind the point, if it was one: its block in flight; a barrier that failed leaves nothing
+-- what comes next at a point is a step that writes this block
+pub record WritesNext (p : Point) (b : ℕ) : Type 0 where
+  pub bytes : List ℕ
+  pub list : Option (List Operation)
+  pub log : LogValue
+  pub item : TraceItem
+  pub told : deed_told item ≡ Some (Wrote 1 b)
+  pub step : (time : ℕ) → Step time p (with_write p b bytes list log item)
+
+-- a write that failed is one that came next, and left nothing, or its block in flight; a barrier that failed leaves nothing
 abbrev pub IsLeftBy : Point → Point → Option ℕ → Type 0
 IsLeftBy p left None = left ≡ p
-IsLeftBy p left (Some b) = (left ≡ p) ⊎ ((bytes : List ℕ) × (left.disk ≡ after_write p.disk 1 b bytes))
+IsLeftBy p left (Some b) = (next : WritesNext p b) × ((left ≡ p) ⊎ (left.disk ≡ after_write p.disk 1 b next.bytes))
 
 -- so does a failed disk, by the block that is told; a crash and want of memory leave the point as it is
 abbrev pub IsLeftAs : Point → Point → Stop → Type 0

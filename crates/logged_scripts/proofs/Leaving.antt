@@ -16,7 +16,7 @@ use Rattle.logged_runs.proofs.Telling.{steps_go_on}
 use Rattle.logged_node.specs.Ends.{FailedAt, IsOfDisk}
 use Rattle.logged_node.specs.Leaving as leaving
 use Rattle.logged_node.specs.Leaving.{HasLastHeader, IsReady, StopsAtHeader, StopsLeaving, at_first, at_the_end, before_it, behind_it, bringing_in, going_home, in_it}
-use Rattle.logged_node.specs.Nodes.{IsBeforeCrash, IsLeftBy, StopsBehind, StopsByCrash, crash_at, point_of}
+use Rattle.logged_node.specs.Nodes.{IsBeforeCrash, StopsBehind, StopsByCrash, crash_at, point_of}
 use Rattle.logged_node.specs.declared.ends.Stop.{Stop}
 use Rattle.logged_node.specs.declared.ends.Stop.TheVariants as stop
 use Rattle.logged_node.specs.declared.node.Node.{Node}
@@ -28,7 +28,7 @@ use Rattle.logged_calls.proofs.Untold.{failed_tells, quiet_steps}
 use Rattle.logged_scripts.specs.declared.halts.Halt.TheVariants as halt
 use Rattle.logged_scripts.specs.Beginning.{IsUnderWay}
 use Rattle.logged_scripts.specs.Crashes.{first_crash}
-use Rattle.logged_scripts.specs.Ends.{IsFailedBehind, at_the_header, behind_the_end, halt_of, in_a_step}
+use Rattle.logged_scripts.specs.Ends.{IsFailedBehind, at_the_header, behind_the_end, halt_of, in_the_header}
 use Rattle.logged_scripts.specs.Runs.{HaltsAt, HasHalted, HasUnmounted, clean_still, with_header}
 use Rattle.logged_scripts.proofs.Beginning.{before_first}
 use Rattle.logged_scripts.proofs.Crashing.{none_past, none_past_stopped}
@@ -181,7 +181,7 @@ module _ (s : ScriptValue) (time : ℕ) (a : Point) (d : DiskState) (l : Option 
         listed = sym listed;
         told = sym told;
         why = halts_at s time a (length s.lines) last last why (by_items items m.items.items why crash told) (λ is. absurd (off is))
-            (λ block rise is. in_a_step block (subst (IsLeftBy last last) (sym (its_block why (Some (last_block last)) block rise is at)) (inl refl))) (λ is. refl);
+            (λ block rise is. subst (IsFailedBehind last last) (sym (its_block why (Some (last_block last)) block rise is at)) (in_the_header ready.unmounts ready.done (inl refl))) (λ is. refl);
       }
       stops_header why crash (in_it bytes flies told of at before) = record {
         count = length s.lines;
@@ -192,7 +192,7 @@ module _ (s : ScriptValue) (time : ℕ) (a : Point) (d : DiskState) (l : Option 
         listed = refl;
         told = sym told;
         why = halts_at s time a (length s.lines) last (in_flight last h bytes) why (by_items items m.items.items why crash told) (λ is. absurd (subst IsOfDisk is of))
-            (λ block rise is. in_a_step block (subst (IsLeftBy last (in_flight last h bytes)) (sym (its_block why (Some (last_block last)) block rise is at)) (inr (bytes, refl)))) (λ is. absurd (subst IsOfDisk is of));
+            (λ block rise is. subst (IsFailedBehind last (in_flight last h bytes)) (sym (its_block why (Some (last_block last)) block rise is at)) (in_the_header ready.unmounts ready.done (inr (bytes, flies.flies, refl)))) (λ is. absurd (subst IsOfDisk is of));
       }
       stops_header why crash (behind_it bytes flies told off at crashes) = record {
         count = length s.lines;

@@ -1,10 +1,11 @@
 -- Why a run ends before its script does, or isn't told to its end: the cause of each end, and its place.
-use Rattle.std.specs.Prelude.{ℕ, ◌≡◌, ◌⊎◌, ◌++◌, ◌<◌, ⊤, Contains, IfSome, List, [], ◌∷◌, slice_get, Option, None, Some}
+use Rattle.std.specs.Prelude.{ℕ, ◌≡◌, ◌⊎◌, ◌++◌, ◌<◌, ⊤, true, Contains, IfSome, List, [], ◌∷◌, slice_get, Option, None, Some}
 use Rattle.fault_counts.specs.Causes.{WentUp}
 use Rattle.lone_answers.specs.Calls.{IsUnbuilt}
 use Rattle.file_tree.specs.declared.call.Call.{Call}
 use Rattle.lone_answers.specs.Faults.{IsDamagedFor, IsLackedBlock}
 use Rattle.lone_answers.specs.Reading.{WorksOnNone}
+use Rattle.lone_ends.specs.Ends.{IsDone}
 use Rattle.lone_fences.specs.Fencing.{EndsAt}
 use Rattle.lone_fences.specs.declared.ends.FenceEnd.{FenceEnd}
 use Rattle.lone_fences.specs.declared.ends.FenceEnd.TheVariants as fence
@@ -15,7 +16,7 @@ use Rattle.script_lang.specs.declared.script.Line.TheVariants as line
 use Rattle.shared_disk.specs.Disk.{DiskState, Gains, Operation, Write}
 use Rattle.trace_text.specs.declared.item.TraceItem.{TraceItem}
 use Rattle.logged_runs.specs.StepEnds.{FliesClean, clean_item, last_block, with_clean}
-use Rattle.logged_runs.specs.Points.{Point}
+use Rattle.logged_runs.specs.Points.{Point, state_of}
 use Rattle.logged_runs.specs.Steps.{Steps}
 use Rattle.logged_node.specs.Nodes.{IsBeforeCrash, IsLeftBy}
 use Rattle.logged_node.specs.declared.ends.Stop.{Stop}
@@ -109,9 +110,11 @@ pub record WorkedOnNone (time : ℕ) (a : Point) : Type 0 where
   pub steps : Steps time a point
   pub none : WorksOnNone point.disk point.view
 
--- A write of this block failed that came next at a point, and may be in flight; or (no block) a barrier did: of a step, or that behind the clean header, which is in flight.
+-- A write of this block failed that came next at a point, and may be in flight; or (no block) a barrier did. It was one of a step; or, of a node that unmounts and has nothing more to write, that of the clean header,
+-- or the barrier behind it.
 pub data IsFailedBehind (last left : Point) : Option ℕ → Type 0 where
   in_a_step : (block : Option ℕ) → IsLeftBy last left block → IsFailedBehind last left block
+  in_the_header : last.unmounts ≡ true → IsDone (state_of last) → (left ≡ last) ⊎ ((bytes : List ℕ) × FliesClean last bytes × (left.disk ≡ with_clean last bytes)) → IsFailedBehind last left (Some (last_block last))
   behind_the_end : left.items ≡ last.items ++ clean_item last ∷ [] → IsFailedBehind last left None
 
 -- It ended so where so many lines were taken, at a point, before the write at which it was to crash, and left another point: the one that a failing write may have left, and else the same; and a call that wasn't

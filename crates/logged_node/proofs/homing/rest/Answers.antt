@@ -17,7 +17,7 @@ returns-in-Err-clause-stopped g c = stops_here 0 (g.D.SharedDisk.state c.args.di
 pub returns-in-Err-put_barrier-clause-stopped : goal.returns-in-Err-put_barrier-clause-stopped
 returns-in-Err-put_barrier-clause-stopped g c =
     let left = c.in-Err-put_barrier.ensures.failed in
-    stops_resting (g.D.SharedDisk.state c.args.disk.now) (g.D.SharedDisk.state c.put_barrier.new.disk) (g.D.SharedDisk.list c.args.disk.now) (g.D.SharedDisk.list c.put_barrier.new.disk) c.args.node.now c.have_room.new.node c.put_barrier.new.node c.put_barrier.new.node c.requires.homing c.have_room.ensures.node c.have_room.ensures.items c.in-Err-put_barrier.why c.in-Err-put_barrier.ensures.why left.0 left.1 left.2
+    stops_resting (g.D.SharedDisk.state c.args.disk.now) (g.D.SharedDisk.state c.put_barrier.new.disk) (g.D.SharedDisk.list c.args.disk.now) (g.D.SharedDisk.list c.put_barrier.new.disk) c.args.node.now c.have_room.new.node c.put_barrier.new.node c.put_barrier.new.node c.requires.homing c.have_room.ensures.node c.have_room.ensures.items c.in-Err-put_barrier.why c.in-Err-put_barrier.ensures.why c.in-Err-put_barrier.ensures.at left.0 left.1 left.2
 
 pub returns-clause-rested : goal.returns-clause-rested
 returns-clause-rested g c =
